@@ -1,0 +1,129 @@
+ghost use Rattle.std.specs.Prelude.{◌≡◌, ◌↔◌, ◌+◌, ◌-◌, ◌*◌, ◌^◌, ◌<◌, ◌≤◌, ◌&&◌, nat_le, nat_lt, List, IfSome, IsSome, IsTrue};
+ghost use Rattle.std.specs.Bool.{OnTrue};
+ghost use Rattle.mc_task.specs.declared.task.Task.{Task};
+ghost use Rattle.mc_task.specs.declared.task.Rule.TheVariants.{Virtual};
+ghost use Rattle.mc_model.specs.Test.{rule_of, test};
+ghost use Rattle.mc_model.specs.Holds.{Holds, HoldsOver, Fits, IsThreeQuarters, IsThreeQuartersOver, TestRuleHolds, AdmittedIfHolds, ThreeQuartersLaw};
+ghost use Rattle.load_sum.specs.Belong.{BelongTo, AreOfSomeSet};
+
+use load_sum::Loads;
+use mc_task::Rule;
+use tick_frac::Ratio;
+
+/// The rule of the published test, or `None` exactly where the test admits nothing: EDF where
+/// `U_LL + U_HH <= 1`, else EDF-VD with `x = U_HL / (1 - U_LL)` where `U_LL < 1` and `x*U_LL + U_HH <= 1`.
+pub fn admit(loads: &Loads) -> Option<Rule>
+    requires { AreOfSomeSet loads.now }
+    ensures test { (set : List Task) → BelongTo set loads.now → result ≡ test set }
+    ensures fits { IfSome result Fits }
+    ensures holds { IfSome result (λ rule. (set : List Task) → BelongTo set loads.now → Holds set rule) }
+    ensures law { TestRuleHolds }
+{
+    rule_over(
+        u128::from(loads.lcm),
+        loads.low_low,
+        loads.high_low,
+        loads.high_high,
+    )
+}
+
+/// Whether EDF-VD with the scale `p/q` holds for the loads: `U_LL + U_HL/x <= 1` and `x*U_LL + U_HH <= 1`.
+/// A set for which it does is admitted by the test.
+pub fn holds_for(loads: &Loads, p: u64, q: u64) -> bool
+    requires loads { AreOfSomeSet loads.now }
+    requires above { 1 ≤ p }
+    requires order { p ≤ q }
+    requires small { q ≤ 2 ^ 60 }
+    ensures exactly { (set : List Task) → BelongTo set loads.now → (IsTrue result ↔ Holds set (Virtual p q)) }
+    ensures admitted { (set : List Task) → BelongTo set loads.now → OnTrue result (IsSome (test set)) }
+    ensures law { AdmittedIfHolds }
+{
+    let p = u128::from(p);
+    let q = u128::from(q);
+    holds_over(
+        u128::from(loads.lcm),
+        loads.low_low,
+        loads.high_low,
+        loads.high_high,
+        p,
+        q,
+    )
+}
+
+/// Whether `U_LL + U_HL <= 3/4` and `U_HH <= 3/4`. A set for which it does is admitted by the test.
+pub fn three_quarters(loads: &Loads) -> bool
+    requires { AreOfSomeSet loads.now }
+    ensures exactly { (set : List Task) → BelongTo set loads.now → (IsTrue result ↔ IsThreeQuarters set) }
+    ensures admitted { (set : List Task) → BelongTo set loads.now → OnTrue result (IsSome (test set)) }
+    ensures law { ThreeQuartersLaw }
+{
+    is_three_quarters_over(
+        u128::from(loads.lcm),
+        loads.low_low,
+        loads.high_low,
+        loads.high_high,
+    )
+}
+
+// Below, U_LL is `a/n`, U_HL is `b/n` and U_HH is `c/n`. A numerator may be far above `n`, so each is compared
+// with it before anything is multiplied: no product then passes 128 bits.
+
+fn rule_over(n: u128, a: u128, b: u128, c: u128) -> Option<Rule>
+    requires n { n ≤ 2 ^ 60 }
+    requires order { b ≤ c }
+    requires high { 0 < c → 0 < b }
+    ensures rule { result ≡ rule_of n a b c }
+    ensures fits { IfSome result Fits }
+{
+    if is_plain(n, a, c) {
+        Some(Rule::Plain)
+    } else if is_virtual(n, a, b, c) {
+        let x = Ratio::new(b, n - a);
+        Some(Rule::Virtual {
+            p: x.num() as u64,
+            q: x.den() as u64,
+        })
+    } else {
+        None
+    }
+}
+
+fn is_plain(n: u128, a: u128, c: u128) -> bool
+    ensures { result ≡ nat_le (a + c) n }
+{
+    a <= n && c <= n - a
+}
+
+fn is_virtual(n: u128, a: u128, b: u128, c: u128) -> bool
+    requires n { n ≤ 2 ^ 60 }
+    requires order { b ≤ c }
+    ensures { result ≡ (nat_lt a n && nat_le (a * b + c * (n - a)) (n * (n - a))) }
+{
+    if n <= a || n < c {
+        return false;
+    }
+    a * b + c * (n - a) <= n * (n - a)
+}
+
+fn holds_over(n: u128, a: u128, b: u128, c: u128, p: u128, q: u128) -> bool
+    requires n { n ≤ 2 ^ 60 }
+    requires above { 1 ≤ p }
+    requires order { p ≤ q }
+    requires small { q ≤ 2 ^ 60 }
+    ensures { IsTrue result ↔ HoldsOver n a b c (Virtual p q) }
+{
+    if n < a || n < b || n < c {
+        return false;
+    }
+    p * a + q * b <= p * n && p * a + q * c <= q * n
+}
+
+fn is_three_quarters_over(n: u128, a: u128, b: u128, c: u128) -> bool
+    requires { n ≤ 2 ^ 60 }
+    ensures { IsTrue result ↔ IsThreeQuartersOver n a b c }
+{
+    if n < a || n < b || n < c {
+        return false;
+    }
+    4 * (a + b) <= 3 * n && 4 * c <= 3 * n
+}

@@ -1,0 +1,146 @@
+ghost use Rattle.std.specs.Prelude.{IfOk};
+ghost use Rattle.load_sum.specs.Belong.{AreOfSomeSet};
+
+use crate::{admit, holds_for, three_quarters};
+use load_sum::{Loads, sum_loads};
+use mc_task::Level::{High, Low};
+use mc_task::{Level, Name, Rule, Task, TaskSet};
+use std::alloc::Global;
+use std::test::Fail;
+
+// A task's name, level, period, low budget and high budget.
+type Line = (&'static str, Level, u32, u32, u32);
+
+const CONTROL: [Line; 2] = [("ctl", High, 10, 2, 6), ("log", Low, 10, 5, 5)];
+
+const AVIONICS: [Line; 8] = [
+    ("attitude", High, 5000, 400, 900),
+    ("gyro", High, 10000, 600, 1500),
+    ("engine", High, 20000, 1500, 4000),
+    ("nav", High, 50000, 3000, 7000),
+    ("display", Low, 16667, 2500, 2500),
+    ("radio", Low, 25000, 2000, 2000),
+    ("log", Low, 100000, 8000, 8000),
+    ("maint", Low, 200000, 10000, 10000),
+];
+
+fn loads_of(alloc: Global, lines: &[Line]) -> Result<Loads, Fail>
+    ensures { IfOk result AreOfSomeSet }
+{
+    let mut tasks = Vec::new(alloc);
+    for (name, level, period, low, high) in lines {
+        tasks.push(Task {
+            name: Name::new(name.as_bytes()).ok_or("name")?,
+            level: *level,
+            period: *period,
+            low: *low,
+            high: *high,
+        })?;
+    }
+    let set = TaskSet::new(tasks)?;
+    Ok(sum_loads(&set)?)
+}
+
+#[test]
+fn admits_by_the_published_test(rt: HostRuntime) -> Result<(), Fail> {
+    let cases: [(&str, &[Line], Option<Rule>); 9] = [
+        ("control", &CONTROL, Some(Rule::Virtual { p: 2, q: 5 })),
+        (
+            "the scaled load is exactly 1",
+            &[("tap", Low, 2, 1, 1), ("arm", High, 4, 1, 3)],
+            Some(Rule::Virtual { p: 1, q: 2 }),
+        ),
+        (
+            "the scaled load is above 1",
+            &[("tap", Low, 2, 1, 1), ("arm", High, 4, 1, 4)],
+            None,
+        ),
+        (
+            "low tasks take all time",
+            &[("tap", Low, 2, 2, 2), ("arm", High, 4, 1, 1)],
+            None,
+        ),
+        (
+            "one low task takes all time",
+            &[("tap", Low, 2, 2, 2)],
+            Some(Rule::Plain),
+        ),
+        (
+            "a small scale",
+            &[("a", Low, 5, 3, 3), ("b", High, 10, 1, 6)],
+            Some(Rule::Virtual { p: 1, q: 4 }),
+        ),
+        (
+            "two high tasks",
+            &[
+                ("ctl", High, 10, 2, 6),
+                ("fix", High, 10, 1, 1),
+                ("log", Low, 10, 4, 4),
+            ],
+            Some(Rule::Virtual { p: 1, q: 2 }),
+        ),
+        (
+            "the load of EDF is exactly 1",
+            &[("hi", High, 4, 1, 2), ("lo", Low, 4, 2, 2)],
+            Some(Rule::Plain),
+        ),
+        (
+            "avionics",
+            &AVIONICS,
+            Some(Rule::Virtual {
+                p: 916685,
+                q: 2133386,
+            }),
+        ),
+    ];
+    for (name, lines, want) in cases {
+        let loads = loads_of(rt.alloc(), lines)?;
+        assert_eq!(rt; admit(&loads), want, "{name}");
+    }
+    Ok(())
+}
+
+#[test]
+fn a_scale_holds_within_its_two_bounds(rt: HostRuntime) -> Result<(), Fail> {
+    let loads = loads_of(rt.alloc(), &CONTROL)?;
+    // From U_HL / (1 - U_LL) to (1 - U_HH) / U_LL, that is from 2/5 to 4/5.
+    let cases = [
+        (39, 100, false),
+        (2, 5, true),
+        (4, 10, true),
+        (4, 5, true),
+        (81, 100, false),
+        (1, 1, false),
+    ];
+    for (p, q, want) in cases {
+        assert_eq!(rt; holds_for(&loads, p, q), want, "{p}/{q}");
+    }
+    Ok(())
+}
+
+#[test]
+fn three_quarters_is_within(rt: HostRuntime) -> Result<(), Fail> {
+    let cases: [(&str, &[Line], bool); 4] = [
+        (
+            "both are exactly 3/4",
+            &[("tap", Low, 2, 1, 1), ("arm", High, 4, 1, 3)],
+            true,
+        ),
+        (
+            "U_HH is above 3/4",
+            &[("tap", Low, 2, 1, 1), ("arm", High, 100, 25, 76)],
+            false,
+        ),
+        (
+            "U_LL + U_HL is above 3/4",
+            &[("tap", Low, 2, 1, 1), ("arm", High, 100, 26, 75)],
+            false,
+        ),
+        ("avionics", &AVIONICS, true),
+    ];
+    for (name, lines, want) in cases {
+        let loads = loads_of(rt.alloc(), lines)?;
+        assert_eq!(rt; three_quarters(&loads), want, "{name}");
+    }
+    Ok(())
+}

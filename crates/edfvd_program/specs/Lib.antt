@@ -1,0 +1,6 @@
+pub mod Reply
+pub mod Command
+pub mod CommandView
+pub mod Lines
+pub mod Answer
+pub mod Outcome

@@ -1,0 +1,54 @@
+// The top call.
+ghost use Rattle.std.specs.Prelude.{◌≡◌, ℕ, List, ◌<◌, ◌≤◌, map, string_bytes, length, Some, IfOk};
+ghost use Rattle.mc_world.specs.Count.{Rose};
+ghost use Rattle.mc_world.specs.Shelf.{Files};
+ghost use Rattle.edfvd_program.specs.Answer.{answer};
+ghost use Rattle.edfvd_program.specs.Command.{command_of, file_names};
+ghost use Rattle.edfvd_program.specs.Outcome.{Tells, AskedFirst, IsReply, Outcome, Answers};
+
+use crate::check::check;
+use crate::command::{Command, command_of};
+use crate::lines::usage_line;
+use crate::reply::Reply;
+use mc_world::{Shelf, Sink};
+use std::alloc::{AllocError, Global};
+
+/// Does what the words after the program's name ask, and answers the status that the program ends with.
+pub fn edfvd<R, S: Shelf, K: Sink>(
+    _rt: &R,
+    alloc: Global,
+    words: &[String],
+    shelf: &mut S,
+    out: &mut K,
+) -> u8
+    ensures outcome { Outcome (command_of (map (λ w. string_bytes w) words.now)) (S.state shelf.old) (S.state shelf.new)
+        (K.state out.old) (K.state out.new) result }
+
+    // With the files told and no fault, status and text are the answer, or memory was wanting and nothing was written.
+    ensures answer { let asked = map (λ w. string_bytes w) words.now in (files : Files) (old : List ℕ)
+        → Tells (command_of asked) files (S.state shelf.old) (S.state shelf.new)
+        → (K.state out.old).written ≡ Some old → (Rose (K.state out.old).faults (K.state out.new).faults → ⊥)
+        → Answers (answer asked files) old result (K.state out.new).written }
+
+    // A write fault is told exactly where the sink failed.
+    ensures write_fault { result ≡ 8 → Rose (K.state out.old).faults (K.state out.new).faults }
+    ensures no_write_fault { (K.state out.old).faults < (K.state out.new).faults → result ≡ 8 }
+
+    // No file is asked for but the command's, in their order.
+    ensures asked { (n : ℕ) × AskedFirst n (command_of (map (λ w. string_bytes w) words.now)) (S.state shelf.old) (S.state shelf.new) }
+{
+    match reply_to(alloc, words, shelf) {
+        Ok(reply) => reply.deliver(out),
+        Err(AllocError) => 9,
+    }
+}
+
+fn reply_to<S: Shelf>(alloc: Global, words: &[String], shelf: &mut S) -> Result<Reply, AllocError>
+    ensures reply { IfOk result (IsReply (command_of (map (λ w. string_bytes w) words.now)) (S.state shelf.old) (S.state shelf.new)) }
+    ensures asked { (n : ℕ) × AskedFirst n (command_of (map (λ w. string_bytes w) words.now)) (S.state shelf.old) (S.state shelf.new) }
+{
+    match command_of(words) {
+        Some(Command::Check { tasks }) => check(alloc, tasks, shelf),
+        None => Ok(Reply::new(2, usage_line(alloc)?)),
+    }
+}

@@ -1,0 +1,150 @@
+use crate::edfvd::edfvd;
+use mc_world::{MemoryShelf, MemorySink};
+use std::alloc::{AllocError, Global};
+use std::test::Fail;
+
+const CONTROL: &str =
+    "[[task]]\nname = \"ctl\"\nlevel = \"high\"\nperiod = 10\nlow = 2\nhigh = 6\n\n[[task]]\nname = \"log\"\nlevel = \"low\"\nperiod = 10\nlow = 5\n";
+
+const CONTROL_TEXT: &str = "tasks 2\nU_LL 1/2\nU_HL 1/5\nU_HH 3/5\nrule virtual\nx 2/5\n";
+
+fn words_of(alloc: Global, words: &[&str]) -> Result<Vec<String>, AllocError> {
+    let mut list = Vec::new(alloc);
+    for word in words {
+        list.push(String::from_str(alloc, word)?)?;
+    }
+    Ok(list)
+}
+
+// A shelf that holds these bytes under the name `tasks.toml`, and fails at these fetches.
+fn shelf_of(alloc: Global, bytes: &[u8], fails: &[u64]) -> Result<MemoryShelf, AllocError> {
+    let mut files = Vec::new(alloc);
+    let name = String::from_str(alloc, "tasks.toml")?;
+    files.push((name, bytes.to_vec(alloc)?))?;
+    Ok(MemoryShelf::new(alloc, files, fails.to_vec(alloc)?))
+}
+
+#[test]
+fn task_files_get_their_status_and_text(rt: HostRuntime) -> Result<(), Fail> {
+    let alloc = rt.alloc();
+    let words = words_of(alloc, &["check", "tasks.toml"])?;
+    let cases = [
+        (CONTROL, 0, CONTROL_TEXT),
+        ("", 3, "task file: no tasks\n"),
+        (
+            "task = [{name='one', level='low', period=2, low=2}]",
+            0,
+            "tasks 1\nU_LL 1/1\nU_HL 0/1\nU_HH 0/1\nrule plain\n",
+        ),
+        (
+            "task = [{name='tap', level='low', period=2, low=1}, {name='arm', level='high', period=4, low=1, high=3}]",
+            0,
+            "tasks 2\nU_LL 1/2\nU_HL 1/4\nU_HH 3/4\nrule virtual\nx 1/2\n",
+        ),
+        (
+            "task = [{name='tap', level='low', period=2, low=1}, {name='arm', level='high', period=4, low=1, high=4}]",
+            1,
+            "not admitted: U_LL 1/2 U_HL 1/4 U_HH 1/1\n",
+        ),
+        (
+            "task = [{name='tap', level='low', period=2, low=2}, {name='arm', level='high', period=4, low=1, high=1}]",
+            1,
+            "not admitted: U_LL 1/1 U_HL 1/4 U_HH 1/4\n",
+        ),
+        (
+            "task = [{name='a', level='low', period=4294967295, low=1}, {name='b', level='low', period=4294967294, low=1}]",
+            3,
+            "task file: task 2: periods out of range\n",
+        ),
+        (
+            "task = [{name='a', level='low', period=2147483648, low=1}, {name='b', level='low', period=387420489, low=1}]",
+            0,
+            "tasks 2\nU_LL 2534904137/831979165027663872\nU_HL 0/1\nU_HH 0/1\nrule plain\n",
+        ),
+        (
+            "task = [{name='a', level='low', period=2147483648, low=1}, {name='b', level='low', period=387420489, low=1}, {name='c', level='low', period=5, low=1}]",
+            3,
+            "task file: task 3: periods out of range\n",
+        ),
+    ];
+    for (file, status, text) in cases {
+        let mut shelf = shelf_of(alloc, file.as_bytes(), &[])?;
+        let mut sink = MemorySink::new(alloc, 1000, 1000, Vec::new(alloc))
+            .ok()
+            .ok_or("memory")?;
+        let ended = edfvd(&rt, alloc, &words, &mut shelf, &mut sink);
+        assert_eq!(rt; ended, status, "{file}");
+        assert_eq!(rt; sink.written(), text.as_bytes(), "{file}");
+    }
+    Ok(())
+}
+
+#[test]
+fn faults_and_limits_have_their_own_status(rt: HostRuntime) -> Result<(), Fail> {
+    let alloc = rt.alloc();
+    let words = words_of(alloc, &["check", "tasks.toml"])?;
+    let absent = words_of(alloc, &["check", "absent.toml"])?;
+    let long = vec![in alloc; b'\n'; 16_777_217]?;
+    let control = CONTROL.as_bytes();
+    let none: [u64; 0] = [];
+    let cases = [
+        (
+            &words,
+            control,
+            [1].as_slice(),
+            none.as_slice(),
+            7,
+            "read fault on file 1\n",
+        ),
+        (
+            &words,
+            control,
+            [2].as_slice(),
+            none.as_slice(),
+            0,
+            CONTROL_TEXT,
+        ),
+        (
+            &absent,
+            control,
+            none.as_slice(),
+            none.as_slice(),
+            7,
+            "read fault on file 1\n",
+        ),
+        (
+            &words,
+            long.as_slice(),
+            none.as_slice(),
+            none.as_slice(),
+            7,
+            "file 1 is longer than 16777216 bytes\n",
+        ),
+        (
+            &words,
+            &long[1..],
+            none.as_slice(),
+            none.as_slice(),
+            3,
+            "task file: no tasks\n",
+        ),
+        (
+            &words,
+            control,
+            none.as_slice(),
+            [2].as_slice(),
+            8,
+            "tasks 2\n",
+        ),
+    ];
+    for (words, bytes, fetch_fails, write_fails, status, text) in cases {
+        let mut shelf = shelf_of(alloc, bytes, fetch_fails)?;
+        let mut sink = MemorySink::new(alloc, 1000, 8, write_fails.to_vec(alloc)?)
+            .ok()
+            .ok_or("memory")?;
+        let ended = edfvd(&rt, alloc, words, &mut shelf, &mut sink);
+        assert_eq!(rt; ended, status, "{text}");
+        assert_eq!(rt; sink.written(), text.as_bytes());
+    }
+    Ok(())
+}

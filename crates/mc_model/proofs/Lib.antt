@@ -1,0 +1,10 @@
+pub mod HighLoads
+pub mod HoldsAdmitted
+pub mod Hyperperiod
+pub mod Loads
+pub mod RuleCases
+pub mod RuleHolds
+pub mod ScaledHolds
+pub mod Tests
+pub mod ThreeQuarters
+pub mod Walk

@@ -1,0 +1,4 @@
+pub mod Loads
+pub mod Test
+pub mod Holds
+pub mod CheckText

@@ -1,0 +1,10 @@
+//! The model of EDF-VD that contracts cite: loads, the test, and the rows of a trace.
+#![tactic(auto)]
+
+mod row;
+mod verdict;
+mod work;
+
+pub use row::{How, Row};
+pub use verdict::{Verdict, Why};
+pub use work::WorkRow;

@@ -1,0 +1,68 @@
+-- Tasks in which there is no fault are in order.
+use Rattle.std.proofs.Common.{All, ◌≡◌, ℕ, suc, ◌+◌, ◌≤◌, Bool, true, false, ◌==◌, nat_lt, cond, List, [], ◌∷◌, ◌++◌, ◌≢◌, Option, Some, None, option_map, refl, sym, ◌∙◌, append_assoc, arith, length}
+use Rattle.std.specs.Str.{bytes_eq}
+use Rattle.std.proofs.lemmas.Bool.Decides.{nat_tests}
+use Rattle.std.proofs.lemmas.Bool.{false≢true}
+use Rattle.std.proofs.lemmas.Slice.Eq.{bytes_eq-Decides}
+use Rattle.std.specs.List.{AllByRecursion}
+use Rattle.mc_task.specs.declared.task.Task.{Task}
+use Rattle.mc_task.specs.declared.set.SetFault.{SetFault}
+use Rattle.mc_task.specs.declared.set.SetFault.TheVariants.{Empty, TooMany}
+use Rattle.mc_task.specs.TaskSet.{IsTask, IsSet, Distinct, names_of}
+use Rattle.mc_task.specs.Faults.{or_else, number_fault_from, first_fault, same_name_from, named_from}
+
+parts : (a b : Option SetFault) → or_else a b ≡ None → (a ≡ None) × (b ≡ None)
+parts None b h = (refl, h)
+parts (Some e) b h = absurd (cc)
+
+chosen : (x y : Bool) (e f : SetFault) (rest : Option SetFault) → cond x (Some e) (cond y (Some f) rest) ≡ None → (x ≡ false) × (y ≡ false) × (rest ≡ None)
+chosen true y e f rest h = absurd (cc)
+chosen false true e f rest h = absurd (cc)
+chosen false false e f rest h = (refl, refl, h)
+
+-- a fact on each element, element by element
+pub each_of_all : {X : Type 0} (P : X → Type 0) (xs : List X) → All P xs → AllByRecursion P xs
+each_of_all P [] h = tt
+each_of_all P (x ∷ xs) h = (h 0 x (omega arith), each_of_all P xs (λ k d lt. h (suc k) d (omega arith)))
+
+none_chosen : (b : Bool) (n : ℕ) (rest : Option ℕ) → cond b (Some n) rest ≡ None → b ≡ false
+none_chosen true n rest h = absurd (cc)
+none_chosen false n rest h = refl
+
+none_rest : (b : Bool) (n : ℕ) (rest : Option ℕ) → cond b (Some n) rest ≡ None → rest ≡ None
+none_rest true n rest h = absurd (cc)
+none_rest false n rest h = h
+
+none_mapped : {A B : Type 0} (f : A → B) (o : Option A) → option_map f o ≡ None → o ≡ None
+none_mapped f None h = refl
+none_mapped f (Some x) h = absurd (cc)
+
+differs : (a b : List ℕ) → bytes_eq a b ≡ false → a ≢ b
+differs a b h e = false≢true (sym h ∙ (bytes_eq-Decides a b).1 e)
+
+-- a name that no task has is not that of a task there
+not_there : (n : ℕ) (name : List ℕ) (u : Task) (xs ys : List Task) → named_from n name (xs ++ u ∷ ys) ≡ None → bytes_eq u.name name ≡ false
+not_there n name u [] ys h = none_chosen (bytes_eq u.name name) n _ h
+not_there n name u (x ∷ xs) ys h = not_there (n + 1) name u xs ys (none_rest (bytes_eq x.name name) n _ h)
+
+-- no task of the rest has the name of one before it
+fresh : (u : Task) (xs ys ts : List Task) → same_name_from (xs ++ u ∷ ys) ts ≡ None → AllByRecursion (λ n. u.name ≢ n) (names_of ts)
+fresh u xs ys [] h = tt
+fresh u xs ys (t ∷ ts) h =
+    let p = parts _ _ h in
+    let other : bytes_eq u.name t.name ≡ false = not_there 1 t.name u xs ys (none_mapped _ _ (p.0)) in
+    (differs u.name t.name other, fresh u xs (ys ++ t ∷ []) ts (rw append_assoc at (p.1)))
+
+distinct : (before ts : List Task) → same_name_from before ts ≡ None → Distinct (names_of ts)
+distinct before [] h = tt
+distinct before (t ∷ ts) h =
+    let p = parts _ _ h in
+    (fresh t before [] ts (p.1), distinct (before ++ t ∷ []) ts (p.1))
+
+pub IsSet-right : (ts : List Task) → All IsTask ts → first_fault ts ≡ None → IsSet ts
+IsSet-right ts each h =
+    let p = chosen (length ts == 0) (nat_lt 128 (length ts)) Empty (TooMany (length ts)) (or_else (number_fault_from 0 ts) (same_name_from [] ts)) h in
+    let q = parts (number_fault_from 0 ts) (same_name_from [] ts) (p.2) in
+    let some : 1 ≤ length ts = grind (arith, nat_tests, p.0) in
+    let few : length ts ≤ 128 = grind (arith, nat_tests, p.1) in
+    record { some = some; few = few; each = each_of_all IsTask ts each; names = distinct [] ts (q.1) }

@@ -1,0 +1,4 @@
+pub mod NameForm
+pub mod Name
+pub mod TaskSet
+pub mod Faults

@@ -1,0 +1,49 @@
+-- What a task set is: dual-criticality sporadic tasks with implicit deadlines (Baruah et al., ECRTS 2012).
+-- That a low task has one budget, and how many tasks and how large numbers there may be, is this profile's.
+use Rattle.std.specs.Prelude.{◌≡◌, ◌≢◌, ℕ, ◌-◌, ◌<◌, ◌≤◌, ◌^◌, ◌==◌, if◌then◌else◌, List, [], ◌∷◌, length, map, slice_get, Option, None, IsTrue}
+use Rattle.std.specs.List.{AllByRecursion}
+use Rattle.mc_task.specs.NameForm.{is_name}
+use Rattle.mc_task.specs.declared.task.Task.{Task}
+use Rattle.mc_task.specs.declared.task.Level.{Level}
+use Rattle.mc_task.specs.declared.task.Level.TheVariants.{Low, High}
+
+-- a period or a budget: 1 to 4,294,967,295 ticks
+abbrev pub IsTickCount : ℕ → Type 0
+IsTickCount n = (1 ≤ n) × (n < 2 ^ 32)
+
+-- a high task's low budget is at most its high one; a low task has one budget
+abbrev pub InOrder : Level → ℕ → ℕ → Type 0
+InOrder Low low high = low ≡ high
+InOrder High low high = low ≤ high
+
+-- one task: its name, its period, and its budgets in order
+pub record IsTask (t : Task) : Type 0 where
+  pub name : IsTrue (is_name t.name)
+  pub period : IsTickCount t.period
+  pub low : IsTickCount t.low
+  pub high : IsTickCount t.high
+  pub budgets : InOrder t.level t.low t.high
+
+-- the names of the list differ
+abbrev pub Distinct : List (List ℕ) → Type 0
+Distinct [] = Unit {0}
+Distinct (n ∷ ns) = AllByRecursion (λ m. n ≢ m) ns × Distinct ns
+
+-- the tasks' names, in order
+abbrev pub names_of : List Task → List (List ℕ)
+names_of tasks = map (λ t. t.name) tasks
+
+-- a set: 1 to 128 tasks with different names
+pub record IsSet (tasks : List Task) : Type 0 where
+  pub some : 1 ≤ length tasks
+  pub few : length tasks ≤ 128
+  pub each : AllByRecursion IsTask tasks
+  pub names : Distinct (names_of tasks)
+
+-- task number k is in the set: the numbers run from 1 in the order of the list
+abbrev pub IsIn : List Task → ℕ → Type 0
+IsIn tasks k = (1 ≤ k) × (k ≤ length tasks)
+
+-- task number k
+abbrev pub task_at : List Task → ℕ → Option Task
+task_at tasks k = if k == 0 then None else slice_get tasks (k - 1)

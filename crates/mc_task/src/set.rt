@@ -1,0 +1,172 @@
+ghost use Rattle.std.specs.Prelude.{◌≡◌, ◌≤◌, ◌↔◌, length, IfOk, IfErr, IfNone, All, IsSome, option_map, Some, None, []};
+ghost use Rattle.mc_task.specs.TaskSet.{IsSet, IsTask, IsIn, task_at};
+ghost use Rattle.mc_task.specs.Faults.{first_fault, same_name_from, number_fault, number_fault_from, named};
+
+use crate::{Level, Task, TaskNo};
+use std::alloc::Global;
+use std::marker::Model;
+
+/// Want of memory.
+#[derive(Clone, Copy, Debug, PartialEq, Eq)]
+pub struct Memory;
+
+/// Why a list of tasks is no set, in the order in which the faults are looked for.
+#[derive(Clone, Copy, Debug, PartialEq, Eq)]
+pub enum SetFault {
+    /// There is no task.
+    Empty,
+    /// There are more than 128 tasks.
+    TooMany { count: u64 },
+    /// The task's period or a budget of it is 0.
+    ZeroNumber { task: TaskNo },
+    /// The task's low budget is above its high one, or it is a low task with two budgets.
+    BudgetOrder { task: TaskNo },
+    /// Two tasks have one name: the least second that has the name of a task before it.
+    SameName { first: TaskNo, second: TaskNo },
+}
+
+/// A set of 1 to 128 tasks with different names and budgets in order. Contracts see the list.
+#[derive(Debug, Drop)]
+pub struct TaskSet {
+    tasks: Vec<Task>,
+}
+
+impl Model for TaskSet {
+    ghost use Rattle.std.specs.Prelude.{List};
+    ghost use Rattle.mc_task.specs.declared.task.Task.{Task};
+    ghost use Rattle.mc_task.specs.TaskSet.{IsSet};
+
+    ghost Value = { List Task };
+
+    ghost view = { λ a. a.tasks.items };
+
+    ghost invariant = { λ a. IsSet a.tasks.items };
+}
+
+impl TaskSet {
+    /// The set of these tasks, or the first fault. On a fault the list is dropped.
+    pub fn new(tasks: Vec<Task>) -> Result<TaskSet, SetFault>
+        ensures fault { IfErr result (λ e. first_fault tasks.items ≡ Some e) }
+        ensures ok { IfOk result (λ set. (first_fault tasks.items ≡ None) × (set ≡ tasks.items)) }
+    {
+        match fault_of(&tasks) {
+            Some(fault) => Err(fault),
+            None => Ok(TaskSet { tasks }),
+        }
+    }
+
+    /// How many tasks there are.
+    pub fn len(&self) -> u32
+        ensures count { result ≡ length self.now }
+        ensures set { IsSet self.now }
+    {
+        self.tasks.len() as u32
+    }
+
+    /// The task with this number, or `None` exactly where the set has none.
+    pub fn get(&self, task: TaskNo) -> Option<Task>
+        ensures value { result ≡ task_at self.now task.0 }
+        ensures found { IsSome result ↔ IsIn self.now task.0 }
+    {
+        if task.0 == 0 {
+            return None;
+        }
+        self.tasks.get(task.0 as usize - 1).copied()
+    }
+
+    /// The number of the task with this name, or `None` exactly where no task has it.
+    pub fn find(&self, name: &[u8]) -> Option<TaskNo>
+        ensures { option_map (λ task. task.0) result ≡ named name.now self.now }
+    {
+        numbered(&self.tasks, name)
+    }
+
+    /// An equal set.
+    pub fn copy(&self, alloc: Global) -> Result<TaskSet, Memory>
+        ensures { IfOk result (λ set. set ≡ self.now) }
+    {
+        match self.tasks.to_vec(alloc) {
+            Ok(tasks) => Ok(TaskSet { tasks }),
+            Err(_) => Err(Memory),
+        }
+    }
+}
+
+fn fault_of(tasks: &[Task]) -> Option<SetFault>
+    ensures fault { result ≡ first_fault tasks.now }
+    ensures tasks { IfNone result (All IsTask tasks.now) }
+{
+    if tasks.is_empty() {
+        return Some(SetFault::Empty);
+    }
+    if tasks.len() > 128 {
+        return Some(SetFault::TooMany {
+            count: tasks.len() as u64,
+        });
+    }
+    match number_fault_of(tasks) {
+        Some(fault) => Some(fault),
+        None => same_name(tasks),
+    }
+}
+
+fn number_fault_of(tasks: &[Task]) -> Option<SetFault>
+    requires { length tasks.now ≤ 128 }
+    ensures fault { result ≡ number_fault_from 0 tasks.now }
+    ensures tasks { IfNone result (All IsTask tasks.now) }
+{
+    for (i, t) in tasks.iter().enumerate() {
+        if let Some(fault) = number_fault(t, TaskNo(i as u32 + 1)) {
+            return Some(fault);
+        }
+    }
+    None
+}
+
+// The fault of the numbers of the task with this number.
+fn number_fault(t: &Task, task: TaskNo) -> Option<SetFault>
+    ensures fault { result ≡ number_fault task.0 t.now }
+    ensures task { IfNone result (IsTask t.now) }
+{
+    let _is_name = t.name.bytes();
+    if t.period == 0 || t.low == 0 || t.high == 0 {
+        return Some(SetFault::ZeroNumber { task });
+    }
+    let out_of_order = match t.level {
+        Level::Low => t.low != t.high,
+        Level::High => t.low > t.high,
+    };
+    if out_of_order {
+        Some(SetFault::BudgetOrder { task })
+    } else {
+        None
+    }
+}
+
+fn same_name(tasks: &[Task]) -> Option<SetFault>
+    requires { length tasks.now ≤ 128 }
+    ensures { result ≡ same_name_from [] tasks.now }
+{
+    for (second, t) in tasks.iter().enumerate() {
+        if let Some(first) = numbered(&tasks[..second], t.name.bytes()) {
+            return Some(SetFault::SameName {
+                first,
+                second: TaskNo(second as u32 + 1),
+            });
+        }
+    }
+    None
+}
+
+// The number of the first task with this name.
+fn numbered(tasks: &[Task], name: &[u8]) -> Option<TaskNo>
+    requires { length tasks.now ≤ 128 }
+    ensures { option_map (λ task. task.0) result ≡ named name.now tasks.now }
+{
+    for (i, t) in tasks.iter().enumerate() {
+        if t.name.bytes() == name {
+            return Some(TaskNo(i as u32 + 1));
+        }
+    }
+    None
+}

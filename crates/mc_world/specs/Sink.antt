@@ -1,0 +1,11 @@
+-- What a write does to the bytes written.
+use Rattle.std.specs.Prelude.{◌≡◌, ℕ, List, ◌++◌, take, Option, option_map}
+
+-- the first n bytes of the piece stand at the end, where the sink tells
+abbrev pub Appends : Option (List ℕ) → Option (List ℕ) → List ℕ → ℕ → Type 0
+Appends old new piece n = new ≡ option_map (λ bytes. bytes ++ take n piece) old
+
+-- what a sink is seen as: the bytes written, where it tells them, and how often a write has failed
+pub record SinkState : Type 0 where
+  pub written : Option (List ℕ)
+  pub faults : ℕ

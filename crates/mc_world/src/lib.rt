@@ -1,0 +1,20 @@
+//! The outside as the program sees it: a shelf of files, and a sink for bytes.
+#![tactic(auto)]
+
+mod file_shelf;
+mod memory_shelf;
+mod memory_sink;
+mod shelf;
+mod sink;
+mod stdout_sink;
+
+pub use file_shelf::FileShelf;
+pub use memory_shelf::MemoryShelf;
+pub use memory_sink::MemorySink;
+pub use shelf::{FetchFault, Shelf};
+pub use sink::{Sink, SinkFault};
+pub use stdout_sink::StdoutSink;
+
+/// Want of memory.
+#[derive(Clone, Copy, Debug, PartialEq, Eq)]
+pub struct Memory;

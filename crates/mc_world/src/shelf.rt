@@ -1,0 +1,46 @@
+ghost use Rattle.std.specs.Prelude.{◌≡◌, ◌<◌, ◌≤◌, ◌^◌, ◌++◌, [], ◌∷◌, List, ℕ, length, Option, Some, None, option_map, IfOk, OnOk, IfSome, IsSomeAnd, IsErrOf, ◌⊎◌};
+ghost use Rattle.mc_world.specs.Count.{Rose, RoseByMoreThan};
+ghost use Rattle.mc_world.specs.Shelf.{ShelfState};
+
+use std::alloc::Global;
+
+/// Why no bytes come.
+#[derive(Clone, Copy, Debug, PartialEq, Eq)]
+pub enum FetchFault {
+    Failed,
+    TooLong,
+    Memory,
+}
+
+/// Files by name.
+pub trait Shelf {
+    /// The files, the names asked, the faults and the bytes read.
+    ghost state: { Self → ShelfState };
+
+    /// The bytes under a name, of which there are at most `limit`.
+    fn fetch(&mut self, alloc: Global, name: &str, limit: usize) -> Result<Vec<u8>, FetchFault>
+        requires { limit < 2 ^ 40 }
+
+        // Ok is the bytes held, where it tells.
+        ensures bytes { IfOk result (λ bytes. IfSome (state self.old).holds (λ files.
+            files name.now ≡ Some bytes.items)) }
+        ensures short { IfOk result (λ bytes. length bytes.items ≤ limit) }
+
+        // A failure comes only where the count rose, and the count rises with no other answer.
+        ensures failed { IsErrOf result FetchFault.Failed → Rose (state self.old).faults (state self.new).faults }
+        ensures never_falls { (state self.old).faults ≤ (state self.new).faults }
+        ensures no_fault { ((state self.new).faults ≡ (state self.old).faults) ⊎ IsErrOf result FetchFault.Failed }
+
+        // The file is too long, or where it does not tell, more bytes were read.
+        ensures long { IsErrOf result FetchFault.TooLong → IfSome (state self.old).holds (λ files.
+            IsSomeAnd (files name.now) (λ bytes. limit < length bytes)) }
+        ensures long_untold { IsErrOf result FetchFault.TooLong → (state self.old).holds ≡ None
+            → RoseByMoreThan limit (state self.old).bytes_read (state self.new).bytes_read }
+        ensures more_read { (state self.old).bytes_read ≤ (state self.new).bytes_read }
+
+        // What is held stays.
+        ensures same { (state self.new).holds ≡ (state self.old).holds }
+        ensures memory { IsErrOf result FetchFault.Memory → (state self.new).asked ≡ (state self.old).asked }
+        ensures asks { IsErrOf result FetchFault.Memory
+            ⊎ ((state self.new).asked ≡ option_map (λ names. names ++ name.now ∷ []) (state self.old).asked) };
+}

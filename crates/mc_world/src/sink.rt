@@ -1,0 +1,25 @@
+ghost use Rattle.std.specs.Prelude.{◌≡◌, ◌<◌, ◌≤◌, List, ℕ, length, Option, IfOk, OnErr};
+ghost use Rattle.mc_world.specs.Count.{Rose};
+ghost use Rattle.mc_world.specs.Sink.{Appends, SinkState};
+
+/// A write failed.
+#[derive(Clone, Copy, Debug, PartialEq, Eq)]
+pub struct SinkFault;
+
+/// A place for bytes.
+pub trait Sink {
+    /// The bytes written, and the faults.
+    ghost state: { Self → SinkState };
+
+    /// Writes some bytes of the piece, from its front, and answers how many.
+    fn write(&mut self, piece: &[u8]) -> Result<usize, SinkFault>
+        ensures count { IfOk result (λ n. n ≤ length piece.now) }
+        ensures appends { IfOk result (λ n. Appends (state self.old).written (state self.new).written piece.now n) }
+        ensures refused { OnErr result ((state self.new).written ≡ (state self.old).written) }
+
+        // A refusal, and 0 bytes of a piece that has some, come only where the count rose, and it rises with nothing else.
+        ensures cause { OnErr result (Rose (state self.old).faults (state self.new).faults) }
+        ensures cause_none { IfOk result (λ n. n ≡ 0 → 0 < length piece.now → Rose (state self.old).faults (state self.new).faults) }
+        ensures no_fault { IfOk result (λ n. 0 < n → (state self.new).faults ≡ (state self.old).faults) }
+        ensures never_falls { (state self.old).faults ≤ (state self.new).faults };
+}

@@ -1,0 +1,21 @@
+-- Fractions in lowest terms, and how they are printed.
+use Rattle.std.specs.Prelude.{◌≡◌, ℕ, ◌/◌, ◌<◌, List, ◌++◌, codes, decimal}
+use Rattle.tick_frac.specs.Numbers.{gcd}
+
+-- a numerator and a denominator
+pub record Fraction : Type 0 where
+  pub num : ℕ
+  pub den : ℕ
+
+-- num/den in lowest terms
+unfoldable pub lowest : ℕ → ℕ → Fraction
+lowest num den = record { num = num / gcd num den; den = den / gcd num den }
+
+-- the denominator is above 0, and nothing but 1 divides both
+pub record IsLowest (f : Fraction) : Type 0 where
+  pub den : 0 < f.den
+  pub coprime : gcd f.num f.den ≡ 1
+
+-- `num/den`
+abbrev pub fraction_text : Fraction → List ℕ
+fraction_text f = decimal f.num ++ (codes "/" ++ decimal f.den)

@@ -1,0 +1,24 @@
+-- The greatest common divisor and the least common multiple (Euclid, Elements VII, 2 and 34).
+-- They compute; that they are the greatest and the least is a clause of `gcd` and of `lcm_within`.
+use Rattle.std.specs.Prelude.{ℕ, zero, suc, ◌*◌, ◌/◌, ◌%◌}
+use Prim.Native.Nat.{◌∣◌}
+
+-- Euclid's steps, of which n are enough where n is above b
+unfoldable pub gcd_steps : ℕ → ℕ → ℕ → ℕ
+gcd_steps zero a b = a
+gcd_steps (suc n) a zero = a
+gcd_steps (suc n) a (suc b) = gcd_steps n (suc b) (a % suc b)
+
+-- the greatest common divisor
+unfoldable pub gcd : ℕ → ℕ → ℕ
+gcd a b = gcd_steps (suc b) a b
+
+-- the least common multiple
+unfoldable pub lcm : ℕ → ℕ → ℕ
+lcm a b = a * (b / gcd a b)
+
+-- m is a multiple of both, and divides each common multiple
+pub record IsLcm (a b m : ℕ) : Type 0 where
+  pub first : a ∣ m
+  pub second : b ∣ m
+  pub least : (k : ℕ) → a ∣ k → b ∣ k → m ∣ k
