@@ -3,7 +3,6 @@ use Rattle.std.specs.Prelude.{ℕ, List, [], ◌++◌, codes, decimal}
 use Rattle.mc_task.specs.declared.set.SetFault.{SetFault}
 use Rattle.mc_task.specs.declared.set.SetFault.TheVariants.{Empty, TooMany, ZeroNumber, BudgetOrder, SameName}
 use Rattle.task_file.specs.Keys.{key_bytes}
-use Rattle.task_file.specs.declared.key.KeyName.{KeyName}
 use Rattle.task_file.specs.declared.fault.TaskFault.{TaskFault}
 use Rattle.task_file.specs.declared.fault.TaskFault.TheVariants.{Memory, NotToml, TopKey, BadVersion, NoTasks, KeyMissing, KeyUnknown, WrongKind, OutOfRange, BadName, HighOnLow, Set}
 

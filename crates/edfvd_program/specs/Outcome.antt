@@ -1,5 +1,5 @@
 -- What a call of the program leaves behind: the reply it gives, the names it asked and the bytes it wrote.
-use Rattle.std.specs.Prelude.{◌≡◌, ◌⊎◌, ◌↔◌, ℕ, ◌<◌, ◌≤◌, List, ◌++◌, length, take, Option, None, Some, option_map, IfSome, IsSomeAnd}
+use Rattle.std.specs.Prelude.{◌≡◌, ◌⊎◌, ℕ, ◌<◌, ◌≤◌, List, ◌++◌, length, take, Option, None, Some, option_map, IfSome, IsSomeAnd}
 use Rattle.mc_world.specs.Count.{Rose, RoseByMoreThan}
 use Rattle.mc_world.specs.Shelf.{Files, ShelfState}
 use Rattle.mc_world.specs.Sink.{SinkState}
@@ -27,10 +27,16 @@ abbrev pub IsLongerTaskFile : Option Command → ShelfState → ShelfState → T
 IsLongerTaskFile None before after = ⊥
 IsLongerTaskFile (Some (check tasks)) before after = IsLonger tasks most_task_bytes before after
 
+-- these files hold what the command names, and are those that the shelf tells, where it tells some
+pub record MayHold (command : Option Command) (before : ShelfState) (files : Files) : Type 0 where
+  pub told : (held : Files) → before.holds ≡ Some held → files ≡ held
+  pub held : AreHeld command files
+
 -- the reply that a command gets: the answer, or the line of a read fault
 pub record IsReply (command : Option Command) (before after : ShelfState) (reply : Reply) : Type 0 where
-  -- with the files told and no fault, it is the answer
-  pub answer : (files : Files) → Tells command files before after → reply ≡ command_answer command files
+  -- it is the line of a read fault, or the answer to files that the shelf may hold
+  pub source : ((reply ≡ read_fault 1) × Rose before.faults after.faults)
+      ⊎ ((may_hold : Files) × MayHold command before may_hold × (reply ≡ command_answer command may_hold))
   -- without a command it is the usage line, and status 2 comes with nothing else
   pub usage : command ≡ None → reply ≡ usage
   pub only_usage : reply.status ≡ 2 → command ≡ None

@@ -12,21 +12,25 @@ mod text;
 
 use edfvd::edfvd;
 use mc_world::{FileShelf, StdoutSink};
-use std::env;
+use std::alloc::AllocError;
 use std::process::ExitCode;
+use std::rt::Env;
+use std::{env, io};
 
 fn main(rt: HostRuntime) -> ExitCode {
-    let alloc = rt.alloc();
+    let Ok(words) = words_of(&rt) else {
+        return ExitCode::from(9);
+    };
     let mut shelf = FileShelf::new(&rt);
     let mut out = StdoutSink::new(&rt);
-    let mut words = Vec::new(alloc);
-    // Arguments that are no text are none of the forms, as no words are.
-    if let Ok(args) = env::args(&rt) {
-        for word in args.skip(1) {
-            if words.push(word).is_err() {
-                return ExitCode::from(9);
-            }
-        }
+    ExitCode::from(edfvd(&rt, rt.alloc(), &words, &mut shelf, &mut out))
+}
+
+// The words after the program's name. Where they are no text there are none, and that is no form of the command line.
+fn words_of<R: Env + AllocGlobal>(rt: &R) -> Result<Vec<String>, AllocError> {
+    match env::args(rt) {
+        Ok(args) => args.skip(1).collect(rt.alloc()),
+        Err(error) if error.kind() == io::ErrorKind::OutOfMemory => Err(AllocError),
+        Err(_) => Ok(Vec::new(rt.alloc())),
     }
-    ExitCode::from(edfvd(&rt, alloc, &words, &mut shelf, &mut out))
 }

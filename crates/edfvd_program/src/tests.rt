@@ -8,6 +8,17 @@ const CONTROL: &str =
 
 const CONTROL_TEXT: &str = "tasks 2\nU_LL 1/2\nU_HL 1/5\nU_HH 3/5\nrule virtual\nx 2/5\n";
 
+const AVIONICS: &str = "task = [
+    {name='attitude', level='high', period=5000, low=400, high=900},
+    {name='gyro', level='high', period=10000, low=600, high=1500},
+    {name='engine', level='high', period=20000, low=1500, high=4000},
+    {name='nav', level='high', period=50000, low=3000, high=7000},
+    {name='display', level='low', period=16667, low=2500},
+    {name='radio', level='low', period=25000, low=2000},
+    {name='log', level='low', period=100000, low=8000},
+    {name='maint', level='low', period=200000, low=10000},
+]";
+
 fn words_of(alloc: Global, words: &[&str]) -> Result<Vec<String>, AllocError> {
     let mut list = Vec::new(alloc);
     for word in words {
@@ -30,7 +41,6 @@ fn task_files_get_their_status_and_text(rt: HostRuntime) -> Result<(), Fail> {
     let words = words_of(alloc, &["check", "tasks.toml"])?;
     let cases = [
         (CONTROL, 0, CONTROL_TEXT),
-        ("", 3, "task file: no tasks\n"),
         (
             "task = [{name='one', level='low', period=2, low=2}]",
             0,
@@ -66,12 +76,65 @@ fn task_files_get_their_status_and_text(rt: HostRuntime) -> Result<(), Fail> {
             3,
             "task file: task 3: periods out of range\n",
         ),
+        (
+            AVIONICS,
+            0,
+            "tasks 8\nU_LL 600007/1666700\nU_HL 11/40\nU_HH 67/100\nrule virtual\nx 916685/2133386\n",
+        ),
+        ("", 3, "task file: no tasks\n"),
+        ("task", 3, "task file: not TOML\n"),
+        ("\"\u{e9}\" = 1", 3, "task file: unknown key ??\n"),
+        ("version = 3", 3, "task file: unknown version\n"),
+        ("task = 3", 3, "task file: task 0: wrong kind of task\n"),
+        (
+            "task = [{name='a', period=1, low=1}]",
+            3,
+            "task file: task 1: missing key level\n",
+        ),
+        (
+            "task = [{name='a', level='high', period=1, low=1}]",
+            3,
+            "task file: task 1: missing key high\n",
+        ),
+        (
+            "task = [{name='a', level='low', period=1, low=1, due=1}]",
+            3,
+            "task file: task 1: unknown key due\n",
+        ),
+        (
+            "task = [{name='a', level='low', period=1.5, low=1}]",
+            3,
+            "task file: task 1: wrong kind of period\n",
+        ),
+        (
+            "task = [{name='a', level='low', period=1, low=0}]",
+            3,
+            "task file: task 1: out of range low\n",
+        ),
+        (
+            "task = [{name='a b', level='low', period=1, low=1}]",
+            3,
+            "task file: task 1: bad name\n",
+        ),
+        (
+            "task = [{name='a', level='low', period=1, low=1, high=1}]",
+            3,
+            "task file: task 1: high budget on a low task\n",
+        ),
+        (
+            "task = [{name='a', level='high', period=9, low=3, high=2}]",
+            3,
+            "task file: task 1: high budget below low budget\n",
+        ),
+        (
+            "task = [{name='a', level='low', period=1, low=1}, {name='a', level='low', period=1, low=1}]",
+            3,
+            "task file: tasks 1 and 2 have one name\n",
+        ),
     ];
     for (file, status, text) in cases {
         let mut shelf = shelf_of(alloc, file.as_bytes(), &[])?;
-        let mut sink = MemorySink::new(alloc, 1000, 1000, Vec::new(alloc))
-            .ok()
-            .ok_or("memory")?;
+        let mut sink = MemorySink::new(alloc, 1000, 1000, Vec::new(alloc))?;
         let ended = edfvd(&rt, alloc, &words, &mut shelf, &mut sink);
         assert_eq!(rt; ended, status, "{file}");
         assert_eq!(rt; sink.written(), text.as_bytes(), "{file}");
@@ -139,12 +202,54 @@ fn faults_and_limits_have_their_own_status(rt: HostRuntime) -> Result<(), Fail> 
     ];
     for (words, bytes, fetch_fails, write_fails, status, text) in cases {
         let mut shelf = shelf_of(alloc, bytes, fetch_fails)?;
-        let mut sink = MemorySink::new(alloc, 1000, 8, write_fails.to_vec(alloc)?)
-            .ok()
-            .ok_or("memory")?;
+        let mut sink = MemorySink::new(alloc, 1000, 8, write_fails.to_vec(alloc)?)?;
         let ended = edfvd(&rt, alloc, words, &mut shelf, &mut sink);
         assert_eq!(rt; ended, status, "{text}");
         assert_eq!(rt; sink.written(), text.as_bytes());
+    }
+    Ok(())
+}
+
+#[test]
+fn a_file_with_129_tasks_is_told_their_number(rt: HostRuntime) -> Result<(), Fail> {
+    let alloc = rt.alloc();
+    let words = words_of(alloc, &["check", "tasks.toml"])?;
+    let mut file = String::new(alloc);
+    for k in 0..129u32 {
+        let task = format!(in alloc;
+            "[[task]]\nname = 't{k}'\nlevel = 'low'\nperiod = 10\nlow = 1\n"
+        )?;
+        file.push_str(task.as_str())?;
+    }
+    let mut shelf = shelf_of(alloc, file.as_bytes(), &[])?;
+    let mut sink = MemorySink::new(alloc, 1000, 1000, Vec::new(alloc))?;
+    assert_eq!(rt; edfvd(&rt, alloc, &words, &mut shelf, &mut sink), 3);
+    assert_eq!(rt;
+        sink.written(),
+        b"task file: 129 tasks, at most 128\n".as_slice()
+    );
+    Ok(())
+}
+
+#[test]
+fn words_of_no_form_get_the_usage_line(rt: HostRuntime) -> Result<(), Fail> {
+    let alloc = rt.alloc();
+    let usage =
+        "usage: check TASKS | run TASKS WORK TICKS | judge TASKS TRACE [P Q] | chart TASKS TRACE | report TASKS TRACE | soak NUMBER TASKCOUNT TICKS\n";
+    let lines = [
+        [].as_slice(),
+        &["check"],
+        &["check", "tasks.toml", "tasks.toml"],
+        &["Check", "tasks.toml"],
+        &["run", "tasks.toml", "work.csv", "10"],
+        &["--help"],
+    ];
+    for words in lines {
+        let words = words_of(alloc, words)?;
+        let mut shelf = shelf_of(alloc, CONTROL.as_bytes(), &[1])?;
+        let mut sink = MemorySink::new(alloc, 1000, 1000, Vec::new(alloc))?;
+        assert_eq!(rt; edfvd(&rt, alloc, &words, &mut shelf, &mut sink), 2);
+        assert_eq!(rt; sink.written(), usage.as_bytes());
     }
     Ok(())
 }

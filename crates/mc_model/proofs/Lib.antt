@@ -8,3 +8,4 @@ pub mod ScaledHolds
 pub mod Tests
 pub mod ThreeQuarters
 pub mod Walk
+pub mod WorkedRows

@@ -4,6 +4,8 @@
 mod name;
 mod set;
 mod task;
+#[cfg(test)]
+mod tests;
 
 pub use name::Name;
 pub use set::{Memory, SetFault, TaskSet};

@@ -1,11 +1,13 @@
--- What a write does to the bytes written.
+-- What a sink is seen as, and what a write does to the bytes written.
 use Rattle.std.specs.Prelude.{◌≡◌, ℕ, List, ◌++◌, take, Option, option_map}
 
 -- the first n bytes of the piece stand at the end, where the sink tells
 abbrev pub Appends : Option (List ℕ) → Option (List ℕ) → List ℕ → ℕ → Type 0
 Appends old new piece n = new ≡ option_map (λ bytes. bytes ++ take n piece) old
 
--- what a sink is seen as: the bytes written, where it tells them, and how often a write has failed
+-- what a sink is seen as
 pub record SinkState : Type 0 where
+  -- the bytes written so far, where the sink tells them
   pub written : Option (List ℕ)
+  -- how many writes have failed
   pub faults : ℕ

@@ -4,9 +4,13 @@ use crate::{FetchFault, Shelf};
 use std::alloc::Global;
 use std::fs::File;
 use std::io::Read;
+use std::marker::Model;
 use std::rt::Files;
 
-/// The files of the system.
+const PIECE_BYTES: usize = 8192;
+
+/// The system's files, by their paths. It tells no content. A file that cannot be opened or read, as
+/// a directory or a path that leads nowhere, is a fault.
 #[derive(Drop)]
 pub struct FileShelf<'a, R: Files> {
     rt: &'a R,
@@ -14,8 +18,20 @@ pub struct FileShelf<'a, R: Files> {
     bytes_read: u64,
 }
 
+impl<'a, R: Files> Model for FileShelf<'a, R> {
+    ghost use Rattle.mc_world.specs.FileShelfState.{FileShelfState};
+
+    ghost Value = { FileShelfState };
+
+    ghost view = { λ s. record { faults = s.faults; bytes_read = s.bytes_read } };
+}
+
 impl<'a, R: Files> FileShelf<'a, R> {
-    pub fn new(rt: &'a R) -> FileShelf<'a, R> {
+    /// A shelf that has read nothing so far. Contracts see it as its two counts.
+    pub fn new(rt: &'a R) -> FileShelf<'a, R>
+        ensures no_fault { result.faults ≡ 0 }
+        ensures nothing_read { result.bytes_read ≡ 0 }
+    {
         FileShelf {
             rt,
             faults: 0,
@@ -25,7 +41,12 @@ impl<'a, R: Files> FileShelf<'a, R> {
 }
 
 impl<R: Files> Shelf for FileShelf<'_, R> {
-    ghost state = { λ s. record { holds = None; asked = None; faults = s.faults; bytes_read = s.bytes_read } };
+    ghost state = { λ s. record {
+      holds = None;
+      asked = None;
+      faults = s.faults;
+      bytes_read = s.bytes_read;
+    } };
 
     fn fetch(&mut self, alloc: Global, name: &str, limit: usize) -> Result<Vec<u8>, FetchFault> {
         let mut bytes = Vec::new(alloc);
@@ -33,9 +54,10 @@ impl<R: Files> Shelf for FileShelf<'_, R> {
             self.faults = self.faults.saturating_add(1);
             return Err(FetchFault::Failed);
         };
-        let mut buffer = [0; 4096];
+        let mut buffer = [0; PIECE_BYTES];
+        // One byte past the limit is asked for, since only that byte shows that the file is too long.
         'pieces: while bytes.len() <= limit {
-            let room = (limit + 1 - bytes.len()).min(4096);
+            let room = (limit + 1 - bytes.len()).min(PIECE_BYTES);
             match file.read(&mut buffer[..room]) {
                 Ok(0) => return Ok(bytes),
                 Ok(n) => {
@@ -51,5 +73,49 @@ impl<R: Files> Shelf for FileShelf<'_, R> {
             }
         }
         Err(FetchFault::TooLong)
+    }
+}
+
+#[cfg(test)]
+mod tests {
+    use super::*;
+    use std::fs;
+    use std::test::Fail;
+
+    const NAME: &str = "file_shelf_test";
+
+    #[test]
+    fn reads_a_file_of_more_than_two_pieces(rt: HostRuntime) -> Result<(), Fail> {
+        let alloc = rt.alloc();
+        let content = vec![in alloc; 7u8; 20_000]?;
+        fs::write(&rt, NAME, content.as_slice())?;
+        let mut shelf = FileShelf::new(&rt);
+        assert_eq!(rt;
+            shelf.fetch(alloc, NAME, 20_000)?.as_slice(),
+            content.as_slice()
+        );
+        assert_eq!(rt; shelf.bytes_read, 20_000);
+        assert_eq!(rt;
+            shelf.fetch(alloc, NAME, 19_999).err(),
+            Some(FetchFault::TooLong)
+        );
+        assert_eq!(rt; (shelf.bytes_read, shelf.faults), (40_000, 0));
+        fs::remove_file(&rt, NAME)?;
+        Ok(())
+    }
+
+    #[test]
+    fn what_cannot_be_read_is_a_fault(rt: HostRuntime) -> Result<(), Fail> {
+        let alloc = rt.alloc();
+        let mut shelf = FileShelf::new(&rt);
+        for (name, faults) in [("no such file", 1), (".", 2), ("", 3)] {
+            assert_eq!(rt;
+                shelf.fetch(alloc, name, 100).err(),
+                Some(FetchFault::Failed),
+                "at {name}"
+            );
+            assert_eq!(rt; shelf.faults, faults);
+        }
+        Ok(())
     }
 }

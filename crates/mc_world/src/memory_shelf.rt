@@ -1,75 +1,99 @@
-ghost use Rattle.std.specs.Prelude.{◌≡◌, ◌<◌, ◌≤◌, Some, IfOk, option_map, length, IfSome, IsSomeAnd, IsErrOf, OnErr};
-ghost use Rattle.mc_world.specs.Shelf.{files_of, names_of, file_at};
+ghost use Rattle.std.specs.Prelude.{◌≡◌, Some};
+ghost use Rattle.mc_world.specs.MemoryShelfState.{Answers, files_of, new_shelf, answer_of, next_answer, after_fetch};
+ghost use Rattle.mc_world.specs.Shelf.{NamesDiffer, file_at};
 
 use crate::{FetchFault, Shelf};
 use std::alloc::Global;
+use std::marker::Model;
 
-/// Files in memory. It fails at the fetches that it is told, and at a name that it lacks.
+/// Files in memory. It fails at the fetches that it is told to, and at a name that it lacks. A fetch
+/// that finds no memory leaves it as it was and has no number, so the next one takes that number.
 #[derive(Debug, Drop)]
 pub struct MemoryShelf {
     alloc: Global,
     files: Vec<(String, Vec<u8>)>,
     fails: Vec<u64>,
     asked: Vec<String>,
-    fetches: u64,
     faults: u64,
-    bytes_read: u64,
+}
+
+impl Model for MemoryShelf {
+    ghost use Rattle.std.specs.Prelude.{◌≤◌, length};
+    ghost use Rattle.mc_world.specs.Shelf.{NamesDiffer};
+    ghost use Rattle.mc_world.specs.MemoryShelfState.{MemoryShelfState, files_of, names_of};
+
+    ghost Value = { MemoryShelfState };
+
+    ghost view = { λ s. record {
+      files = files_of s.files.items;
+      fails = s.fails.items;
+      asked = names_of s.asked.items;
+      faults = s.faults;
+    } };
+
+    ghost invariant = { λ s. NamesDiffer (files_of s.files.items) × (s.faults ≤ length s.asked.items) };
 }
 
 impl MemoryShelf {
-    /// A shelf with these files, which fails at these fetches, from 1.
+    /// A shelf with these files, each a name and its bytes, which fails at these fetches, counted
+    /// from 1.
     pub fn new(alloc: Global, files: Vec<(String, Vec<u8>)>, fails: Vec<u64>) -> MemoryShelf
-        ensures { result.files.items ≡ files.items }
+        requires { NamesDiffer (files_of files.items) }
+        ensures { result ≡ new_shelf (files_of files.items) fails.items }
     {
         MemoryShelf {
             alloc,
             files,
             fails,
             asked: Vec::new(alloc),
-            fetches: 0,
             faults: 0,
-            bytes_read: 0,
         }
     }
 }
 
 impl Shelf for MemoryShelf {
-    ghost state = { λ s. record { holds = Some (λ name. file_at name (files_of s.files.items)); asked = Some (names_of s.asked.items); faults = s.faults; bytes_read = s.bytes_read } };
+    // It tells its files, so that nothing rests on this count.
+    ghost state = { λ s. record {
+      holds = Some (λ name. file_at name s.files);
+      asked = Some s.asked;
+      faults = s.faults;
+      bytes_read = 0;
+    } };
 
-    fn fetch(&mut self, alloc: Global, name: &str, limit: usize) -> Result<Vec<u8>, FetchFault> {
-        let fetch = self.fetches.saturating_add(1);
+    fn fetch(&mut self, alloc: Global, name: &str, limit: usize) -> Result<Vec<u8>, FetchFault>
+        // Memory aside, one answer is right, and from these two clauses the trait's follow.
+        ensures answer { Answers result (next_answer self.old name.now limit) }
+        ensures leaves { self.new ≡ after_fetch self.old name.now result }
+    {
         let Ok(copy) = String::from_str(self.alloc, name) else {
             return Err(FetchFault::Memory);
         };
-        let found = if self.fails.contains(&fetch) {
+        let answer = if self.fails.contains(&(self.asked.len() as u64 + 1)) {
             Err(FetchFault::Failed)
         } else {
             found(alloc, &self.files, name, limit)
         };
-        if let Err(FetchFault::Memory) = found {
-            return found;
+        if let Err(FetchFault::Memory) = answer {
+            return answer;
         }
         if self.asked.push(copy).is_err() {
             return Err(FetchFault::Memory);
         }
-        self.fetches = fetch;
-        if let Err(FetchFault::Failed) = found {
-            self.faults = self.faults.saturating_add(1);
+        if let Err(FetchFault::Failed) = answer {
+            self.faults += 1;
         }
-        found
+        answer
     }
 }
 
-// The bytes under a name.
+// What is answered where the fetch is not a listed one.
 fn found(
     alloc: Global,
     files: &[(String, Vec<u8>)],
     name: &str,
     limit: usize,
 ) -> Result<Vec<u8>, FetchFault>
-    ensures bytes { IfOk result (λ v. file_at name.now (files_of files.now) ≡ Some v.items) }
-    ensures short { IfOk result (λ v. length v.items ≤ limit) }
-    ensures long { IsErrOf result FetchFault.TooLong → IsSomeAnd (file_at name.now (files_of files.now)) (λ bytes. limit < length bytes) }
+    ensures { Answers result (answer_of (file_at name.now (files_of files.now)) limit) }
 {
     for (key, bytes) in files {
         if key.as_str() == name {
@@ -79,14 +103,14 @@ fn found(
     Err(FetchFault::Failed)
 }
 
-pub fn copied(alloc: Global, bytes: &[u8], limit: usize) -> Result<Vec<u8>, FetchFault>
-    ensures bytes { IfOk result (λ v. v.items ≡ bytes.now) }
-    ensures short { IfOk result (λ v. length v.items ≤ limit) }
-    ensures long { IsErrOf result FetchFault.TooLong → limit < length bytes.now }
-    ensures calm { IsErrOf result FetchFault.Failed → ⊥ }
+fn copied(alloc: Global, bytes: &[u8], limit: usize) -> Result<Vec<u8>, FetchFault>
+    ensures { Answers result (answer_of (Some bytes.now) limit) }
 {
     if bytes.len() > limit {
         return Err(FetchFault::TooLong);
     }
     bytes.to_vec(alloc).map_err(|_| FetchFault::Memory)
 }
+
+#[cfg(test)]
+mod tests;

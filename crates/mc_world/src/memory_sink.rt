@@ -1,11 +1,14 @@
-ghost use Rattle.std.specs.Prelude.{◌≡◌, ◌≤◌, ◌<◌, ◌+◌, ◌-◌, ◌⊎◌, ◌↔◌, [], IfOk, IsErr, IsTrue, OnErr, Some, Contains, length, min, vec_len, vec_capacity};
+ghost use Rattle.std.specs.Prelude.{◌≡◌, ◌≤◌, ◌<◌, ◌+◌, ◌⊎◌, ◌↔◌, IfOk, IsErr, IsTrue, OnErr, Some, Contains, length};
 ghost use Rattle.mc_world.specs.Count.{Rose};
+ghost use Rattle.mc_world.specs.MemorySinkState.{new_sink, next_count, after_write, after_fault};
 ghost use Rattle.mc_world.specs.Sink.{Appends};
 
 use crate::{Memory, Sink, SinkFault};
 use std::alloc::Global;
+use std::marker::Model;
 
-/// A sink in memory, which fails as it is told to.
+/// A sink in memory, with a fixed room. It fails at the writes that it is told to, and where it is
+/// full. The number of a write, from 1, stands still at the last `u64`.
 #[derive(Debug, Drop)]
 pub struct MemorySink {
     bytes: Vec<u8>,
@@ -14,13 +17,30 @@ pub struct MemorySink {
     fails: Vec<u64>,
     writes: u64,
     faults: u64,
-    ghost fits: { vec_len bytes ≤ room },
-    ghost reserved: { room ≤ vec_capacity bytes },
-    ghost takes_some: { 1 ≤ most },
+}
+
+impl Model for MemorySink {
+    ghost use Rattle.std.specs.Prelude.{◌≤◌, vec_len, vec_capacity};
+    ghost use Rattle.mc_world.specs.MemorySinkState.{MemorySinkState};
+
+    ghost Value = { MemorySinkState };
+
+    ghost view = { λ s. record {
+      written = s.bytes.items;
+      room = s.room;
+      most = s.most;
+      fails = s.fails.items;
+      writes = s.writes;
+      faults = s.faults;
+    } };
+
+    ghost invariant = { λ s. (vec_len s.bytes ≤ s.room) × (s.room ≤ vec_capacity s.bytes)
+        × (1 ≤ s.most) };
 }
 
 impl MemorySink {
-    /// A sink with room for so many bytes, which takes at most `most` at once and fails at these writes, from 1.
+    /// A sink with room for that many bytes, which takes at most `most` of them in one write and
+    /// fails at these writes, counted from 1. It takes the memory for all its room here.
     pub fn new(
         alloc: Global,
         room: usize,
@@ -28,11 +48,7 @@ impl MemorySink {
         fails: Vec<u64>,
     ) -> Result<MemorySink, Memory>
         requires { 1 ≤ most }
-        ensures empty { IfOk result (λ sink. sink.bytes.items ≡ []) }
-        ensures room { IfOk result (λ sink. sink.room ≡ room) }
-        ensures most { IfOk result (λ sink. sink.most ≡ most) }
-        ensures fails { IfOk result (λ sink. sink.fails.items ≡ fails.items) }
-        ensures counts { IfOk result (λ sink. (sink.writes ≡ 0) × (sink.faults ≡ 0)) }
+        ensures { IfOk result (λ sink. sink ≡ new_sink room most fails.items) }
     {
         match Vec::with_capacity(alloc, room) {
             Ok(bytes) => Ok(MemorySink {
@@ -47,29 +63,31 @@ impl MemorySink {
         }
     }
 
+    /// The bytes written so far.
     pub fn written(&self) -> &[u8]
-        ensures { result.now ≡ self.now.bytes.items }
+        ensures { result.now ≡ self.now.written }
     {
         &self.bytes
     }
 }
 
 impl Sink for MemorySink {
-    ghost state = { λ s. record { written = Some s.bytes.items; faults = s.faults } };
+    ghost state = { λ s. record { written = Some s.written; faults = s.faults } };
 
     fn write(&mut self, piece: &[u8]) -> Result<usize, SinkFault>
-        ensures count { IfOk result (λ n. n ≤ length piece.now) }
-        ensures appends { IfOk result (λ n. Appends (Some self.old.bytes.items) (Some self.new.bytes.items) piece.now n) }
-        ensures refused { OnErr result (Some self.new.bytes.items ≡ Some self.old.bytes.items) }
-        ensures cause { OnErr result (Rose self.old.faults self.new.faults) }
-        ensures cause_none { IfOk result (λ n. n ≡ 0 → 0 < length piece.now → Rose self.old.faults self.new.faults) }
-        ensures no_fault { IfOk result (λ n. 0 < n → self.new.faults ≡ self.old.faults) }
-        ensures never_falls { self.old.faults ≤ self.new.faults }
+        // It fails exactly at the listed writes, and where no room is left for a piece with bytes.
+        ensures fails { IsErr result ↔ (Contains self.old.fails self.new.writes
+            ⊎ ((0 < length piece.now) × (self.old.room ≤ length self.old.written))) }
+        ensures takes { IfOk result (λ n. n ≡ next_count self.old piece.now) }
 
-        // It takes as much as it may, and fails exactly as it was told and where no room is left.
-        ensures takes { IfOk result (λ n. n ≡ min (min (length piece.now) self.old.most) (self.old.room - vec_len self.old.bytes)) }
-        ensures fails { IsErr result ↔ (Contains self.old.fails.items self.new.writes
-            ⊎ ((0 < length piece.now) × (self.old.room ≤ vec_len self.old.bytes))) }
+        // Each write is counted, and each that fails is a fault.
+        ensures taken { IfOk result (λ n. self.new ≡ after_write self.old piece.now n) }
+        ensures fault { OnErr result (self.new ≡ after_fault self.old) }
+
+        // These two of the trait's clauses do not follow from those above.
+        ensures cause_none { IfOk result (λ n. n ≡ 0 → 0 < length piece.now
+            → Rose self.old.faults self.new.faults) }
+        ensures never_falls { self.old.faults ≤ self.new.faults }
     {
         self.writes = self.writes.saturating_add(1);
         let left = self.room.saturating_sub(self.bytes.len());
@@ -80,6 +98,7 @@ impl Sink for MemorySink {
         }
         match self.bytes.extend_from_slice(&piece[..count]) {
             Ok(()) => Ok(count),
+            // The room was reserved by `new`.
             Err(_) => unreachable!(),
         }
     }
@@ -89,4 +108,43 @@ fn is_listed(writes: &[u64], write: u64) -> bool
     ensures { IsTrue result ↔ Contains writes.now write }
 {
     writes.contains(&write)
+}
+
+#[cfg(test)]
+mod tests {
+    use super::*;
+    use std::test::Fail;
+
+    // A write as a program makes it, which knows no more than that there is a sink.
+    fn write_to<K: Sink>(sink: &mut K, piece: &[u8]) -> Result<usize, SinkFault> {
+        sink.write(piece)
+    }
+
+    #[test]
+    fn a_failed_second_write_leaves_the_first_eight_bytes(rt: HostRuntime) -> Result<(), Fail> {
+        let alloc = rt.alloc();
+        let mut sink = MemorySink::new(alloc, 100, 8, vec![in alloc; 2]?)?;
+        assert_eq!(rt; write_to(&mut sink, b"tasks 2\nU_LL 1/2\n"), Ok(8));
+        assert_eq!(rt; write_to(&mut sink, b"U_LL 1/2\n"), Err(SinkFault));
+        assert_eq!(rt; sink.written(), b"tasks 2\n".as_slice());
+        assert_eq!(rt; (sink.writes, sink.faults), (2, 1));
+        Ok(())
+    }
+
+    #[test]
+    fn fails_where_it_is_full(rt: HostRuntime) -> Result<(), Fail> {
+        let alloc = rt.alloc();
+        let mut sink = MemorySink::new(alloc, 3, 8, Vec::new(alloc))?;
+        assert_eq!(rt; write_to(&mut sink, b"abcd"), Ok(3));
+        assert_eq!(rt;
+            write_to(&mut sink, b""),
+            Ok(0),
+            "an empty piece needs no room"
+        );
+        assert_eq!(rt; sink.faults, 0);
+        assert_eq!(rt; write_to(&mut sink, b"d"), Err(SinkFault));
+        assert_eq!(rt; sink.written(), b"abc".as_slice());
+        assert_eq!(rt; sink.faults, 1);
+        Ok(())
+    }
 }

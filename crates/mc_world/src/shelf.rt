@@ -1,27 +1,30 @@
-ghost use Rattle.std.specs.Prelude.{◌≡◌, ◌<◌, ◌≤◌, ◌^◌, ◌++◌, [], ◌∷◌, List, ℕ, length, Option, Some, None, option_map, IfOk, OnOk, IfSome, IsSomeAnd, IsErrOf, ◌⊎◌};
+ghost use Rattle.std.specs.Prelude.{◌≡◌, ◌<◌, ◌≤◌, ◌^◌, ◌++◌, [], ◌∷◌, List, ℕ, length, Option, Some, None, option_map, IfOk, IfSome, IsSomeAnd, IsErrOf, ◌⊎◌};
 ghost use Rattle.mc_world.specs.Count.{Rose, RoseByMoreThan};
 ghost use Rattle.mc_world.specs.Shelf.{ShelfState};
 
 use std::alloc::Global;
 
-/// Why no bytes come.
+/// Why a fetch gives no bytes.
 #[derive(Clone, Copy, Debug, PartialEq, Eq)]
 pub enum FetchFault {
+    /// The shelf failed, as where it has no file of that name.
     Failed,
+    /// The file has more bytes than the limit.
     TooLong,
+    /// There was no memory for the bytes, or for what the shelf keeps.
     Memory,
 }
 
-/// Files by name.
+/// Files, which are fetched by name and whole.
 pub trait Shelf {
-    /// The files, the names asked, the faults and the bytes read.
+    /// What it holds, where it tells that, and its counts.
     ghost state: { Self → ShelfState };
 
-    /// The bytes under a name, of which there are at most `limit`.
+    /// The bytes of the file of that name, if there are at most `limit`.
     fn fetch(&mut self, alloc: Global, name: &str, limit: usize) -> Result<Vec<u8>, FetchFault>
         requires { limit < 2 ^ 40 }
 
-        // Ok is the bytes held, where it tells.
+        // Ok is the bytes held, where the shelf tells.
         ensures bytes { IfOk result (λ bytes. IfSome (state self.old).holds (λ files.
             files name.now ≡ Some bytes.items)) }
         ensures short { IfOk result (λ bytes. length bytes.items ≤ limit) }
@@ -31,14 +34,14 @@ pub trait Shelf {
         ensures never_falls { (state self.old).faults ≤ (state self.new).faults }
         ensures no_fault { ((state self.new).faults ≡ (state self.old).faults) ⊎ IsErrOf result FetchFault.Failed }
 
-        // The file is too long, or where it does not tell, more bytes were read.
+        // The bytes held are longer than the limit, or where the shelf does not tell, more were read.
         ensures long { IsErrOf result FetchFault.TooLong → IfSome (state self.old).holds (λ files.
             IsSomeAnd (files name.now) (λ bytes. limit < length bytes)) }
         ensures long_untold { IsErrOf result FetchFault.TooLong → (state self.old).holds ≡ None
             → RoseByMoreThan limit (state self.old).bytes_read (state self.new).bytes_read }
         ensures more_read { (state self.old).bytes_read ≤ (state self.new).bytes_read }
 
-        // What is held stays.
+        // What is held stays, and each call that has the memory adds its name to those asked.
         ensures same { (state self.new).holds ≡ (state self.old).holds }
         ensures memory { IsErrOf result FetchFault.Memory → (state self.new).asked ≡ (state self.old).asked }
         ensures asks { IsErrOf result FetchFault.Memory

@@ -1,27 +1,40 @@
-ghost use Rattle.std.specs.Prelude.{None};
+ghost use Rattle.std.specs.Prelude.{◌≡◌, None};
 
 use crate::{Sink, SinkFault};
 use std::io;
 use std::io::Write;
+use std::marker::Model;
 
-/// Standard output.
+/// Standard output. It tells no content.
 #[derive(Drop)]
 pub struct StdoutSink<'a, R: Print> {
     rt: &'a R,
     faults: u64,
 }
 
+impl<'a, R: Print> Model for StdoutSink<'a, R> {
+    ghost use Rattle.std.specs.Prelude.{ℕ};
+
+    ghost Value = { ℕ };
+
+    ghost view = { λ s. s.faults };
+}
+
 impl<'a, R: Print> StdoutSink<'a, R> {
-    pub fn new(rt: &'a R) -> StdoutSink<'a, R> {
+    /// Standard output with no fault so far. Contracts see it as the count of its faults.
+    pub fn new(rt: &'a R) -> StdoutSink<'a, R>
+        ensures no_fault { result ≡ 0 }
+    {
         StdoutSink { rt, faults: 0 }
     }
 }
 
 impl<R: Print> Sink for StdoutSink<'_, R> {
-    ghost state = { λ s. record { written = None; faults = s.faults } };
+    ghost state = { λ faults. record { written = None; faults = faults } };
 
     fn write(&mut self, piece: &[u8]) -> Result<usize, SinkFault> {
         let mut out = io::writer(self.rt);
+        // What waits in a buffer has not been printed, so a failed flush is a fault too.
         if let Ok(n) = out.write(piece)
             && (0 < n || piece.is_empty())
             && out.flush().is_ok()
@@ -30,5 +43,46 @@ impl<R: Print> Sink for StdoutSink<'_, R> {
         }
         self.faults = self.faults.saturating_add(1);
         Err(SinkFault)
+    }
+}
+
+#[cfg(test)]
+mod tests {
+    use super::*;
+    use std::fmt::Display;
+    use std::test::Fail;
+
+    // An output that nobody reads.
+    struct ClosedOutput;
+
+    impl Print for ClosedOutput {
+        fn print<D: Display + Drop>(&self, _value: D) -> io::Result<()> {
+            Err(io::Error::from(io::ErrorKind::BrokenPipe))
+        }
+
+        fn println<D: Display + Drop>(&self, _value: D) -> io::Result<()> {
+            Err(io::Error::from(io::ErrorKind::BrokenPipe))
+        }
+
+        fn write_all(&self, _bytes: &[u8]) -> io::Result<()> {
+            Err(io::Error::from(io::ErrorKind::BrokenPipe))
+        }
+    }
+
+    #[test]
+    fn prints_and_counts_no_fault(rt: HostRuntime) -> Result<(), Fail> {
+        let mut sink = StdoutSink::new(&rt);
+        assert_eq!(rt; sink.write(b"printed by a sink\n"), Ok(18));
+        assert_eq!(rt; sink.write(b""), Ok(0));
+        assert_eq!(rt; sink.faults, 0);
+        Ok(())
+    }
+
+    #[test]
+    fn a_failed_write_is_counted(rt: HostRuntime) -> Result<(), Fail> {
+        let mut sink = StdoutSink::new(&ClosedOutput);
+        assert_eq!(rt; sink.write(b"lost\n"), Err(SinkFault));
+        assert_eq!(rt; sink.faults, 1);
+        Ok(())
     }
 }

@@ -1,0 +1,11 @@
+use Rattle.std.proofs.Common.{rules, ◌≡◌, map, string_bytes, None}
+use Rattle.edfvd_program.specs.Command.{command_of}
+use Rattle.edfvd_program.specs.Answer.{usage}
+use Rattle.edfvd_program.proofs.Replies.{IsReply-none}
+use Rattle.edfvd_program.proofs.edfvd.reply_to.Goals as goal
+
+pub returns-in_ok-usage_line-in-None-clause-reply : goal.returns-in_ok-usage_line-in-None-clause-reply
+returns-in_ok-usage_line-in-None-clause-reply g c =
+    let none : command_of (map (λ w. string_bytes w) c.args.words.now) ≡ None = search rules in
+    let is : c.new.result ≡ usage = search rules in
+    IsReply-none (command_of (map (λ w. string_bytes w) c.args.words.now)) (g.S.Shelf.state c.args.shelf.now) c.new.result none is

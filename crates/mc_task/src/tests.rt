@@ -1,0 +1,81 @@
+use crate::{Level, Name, SetFault, Task, TaskNo, TaskSet};
+use std::alloc::{AllocError, Global};
+use std::test::Fail;
+
+fn task(name: &[u8], level: Level, period: u32, low: u32, high: u32) -> Option<Task> {
+    let name = Name::new(name)?;
+    Some(Task {
+        name,
+        level,
+        period,
+        low,
+        high,
+    })
+}
+
+// Tasks by these lines of a name, a level, a period and two budgets.
+fn tasks(alloc: Global, lines: &[(&[u8], Level, u32, u32, u32)]) -> Result<Vec<Task>, AllocError> {
+    let mut tasks = Vec::new(alloc);
+    for (name, level, period, low, high) in lines {
+        if let Some(task) = task(name, *level, *period, *low, *high) {
+            tasks.push(task)?;
+        }
+    }
+    Ok(tasks)
+}
+
+#[test]
+fn the_first_fault_of_a_list_is_told(rt: HostRuntime) -> Result<(), Fail> {
+    let alloc = rt.alloc();
+    let a = (b"a".as_slice(), Level::Low, 4, 1, 1);
+    let b = (b"b".as_slice(), Level::High, 4, 1, 1);
+    let zero = (b"a".as_slice(), Level::High, 4, 0, 1);
+    let order = (b"a".as_slice(), Level::High, 4, 2, 1);
+    let two_budgets = (b"c".as_slice(), Level::Low, 4, 1, 2);
+    let cases = [
+        (&[][..], SetFault::Empty),
+        (
+            &[a, order, zero][..],
+            SetFault::BudgetOrder { task: TaskNo(2) },
+        ),
+        (&[a, a, zero][..], SetFault::ZeroNumber { task: TaskNo(3) }),
+        (
+            &[b, two_budgets, b][..],
+            SetFault::BudgetOrder { task: TaskNo(2) },
+        ),
+        (
+            &[b, a, a, b][..],
+            SetFault::SameName {
+                first: TaskNo(2),
+                second: TaskNo(3),
+            },
+        ),
+    ];
+    for (lines, fault) in cases {
+        let refused = TaskSet::new(tasks(alloc, lines)?);
+        assert_eq!(rt; refused.err(), Some(fault));
+    }
+    Ok(())
+}
+
+#[test]
+fn a_copy_has_the_same_tasks(rt: HostRuntime) -> Result<(), Fail> {
+    let alloc = rt.alloc();
+    let lines = [
+        (b"ctl".as_slice(), Level::High, 10, 2, 6),
+        (b"log".as_slice(), Level::Low, 10, 5, 5),
+    ];
+    let set = TaskSet::new(tasks(alloc, &lines)?).ok().ok_or("a set")?;
+    let copy = set.copy(alloc)?;
+    assert_eq!(rt;
+        (copy.len(), copy.find(b"log"), copy.find(b"lo")),
+        (2, Some(TaskNo(2)), None)
+    );
+    for (number, (name, level, period, low, high)) in [1, 2].into_iter().zip(lines) {
+        let wanted = task(name, level, period, low, high);
+        assert_eq!(rt; copy.get(TaskNo(number)), wanted);
+        assert_eq!(rt; set.get(TaskNo(number)), wanted);
+    }
+    assert_eq!(rt; (copy.get(TaskNo(0)), copy.get(TaskNo(3))), (None, None));
+    Ok(())
+}

@@ -1,0 +1,79 @@
+-- The tree of a printed task file, value by value.
+use Rattle.std.proofs.Common.{◌≡◌, ℕ, zero, suc, ◌+◌, ◌-◌, ◌==◌, ◌<◌, true, false, take, slice_get, map, ◌++◌, Some, sym, ap, Ordering, Less, Equal, Greater, List, [], ◌∷◌, get_or, IsTrue, String, Global, string_bytes, refl, ◌∙◌, arith}
+use Rattle.std.specs.List.{list_all}
+use Rattle.std.specs.Ordering.{match_ordering}
+use Rattle.std.specs.BTreeMap.{insert_entry}
+use Rattle.std.specs.Str.{IsUtf8}
+use Rattle.std.specs.String.{string_cmp}
+use Rattle.std.proofs.lemmas.Bool.{and_parts}
+use Rattle.std.proofs.lemmas.Bool.Decides.{nat_tests}
+use Rattle.std.proofs.lemmas.Str.{IsUtf8-from_ascii}
+use Rattle.std.proofs.lemmas.List.{take_more, map-append}
+use Rattle.std.proofs.lemmas.Option.{slice_get_within, get_or_from_slice_get}
+use Rattle.toml.specs.Data.{Data, table, Members, no_members, member}
+use Rattle.toml.specs.View.{view, members_view}
+use Rattle.toml.specs.declared.value.Value.{Value}
+use Rattle.toml.proofs.Views.{Entry}
+use Rattle.mc_task.specs.NameForm.{is_name, is_name_byte}
+use Rattle.task_file.specs.Keys.{key_bytes}
+use Rattle.task_file.specs.Printed.{put_member, task_members, task_tables}
+use Rattle.mc_task.specs.TaskSet.{task_at}
+use Rattle.mc_task.specs.declared.task.Task.{Task}
+use Rattle.task_file.specs.declared.key.KeyName.TheVariants as key
+
+match_members : (o : Ordering) (a b c : List Entry) → members_view (match_ordering o a b c) ≡ match_ordering o (members_view a) (members_view b) (members_view c)
+match_members Less a b c = refl
+match_members Equal a b c = refl
+match_members Greater a b c = refl
+
+-- an insert into the map of a table
+pub members_view-insert : (k : String Global) (v : Value) (es : List Entry) → members_view (insert_entry string_cmp es k v) ≡ put_member (string_bytes k) (view v) (members_view es)
+unfolding put_member
+members_view-insert k v [] = refl
+members_view-insert k v (e ∷ es) = match_members (string_cmp k e.0) _ _ _ ∙ rw (members_view-insert k v es)
+
+-- the first member
+pub put_first : (k : List ℕ) (d : Data) → put_member k d no_members ≡ member k d no_members
+unfolding put_member
+put_first k d = refl
+
+-- the four members in order, put one by one
+pub put_common : (name level period low : Data)
+    → put_member (key_bytes key.Low) low (put_member (key_bytes key.Period) period (put_member (key_bytes key.Level) level (put_member (key_bytes key.Name) name no_members)))
+    ≡ member (key_bytes key.Level) level (member (key_bytes key.Low) low (member (key_bytes key.Name) name (member (key_bytes key.Period) period no_members)))
+unfolding put_member
+put_common name level period low = refl
+
+-- the high budget goes before them
+pub put_high : (high level : Data) (ms : Members) → put_member (key_bytes key.High) high (member (key_bytes key.Level) level ms) ≡ member (key_bytes key.High) high (member (key_bytes key.Level) level ms)
+unfolding put_member
+put_high high level ms = refl
+
+-- a name is ASCII
+name_byte_ascii : (b : ℕ) → is_name_byte b ≡ true → b < 128
+name_byte_ascii b h = grind (arith, nat_tests, h)
+
+name_bytes_ascii : (bs : List ℕ) → list_all is_name_byte bs ≡ true → (i : ℕ) → get_or bs i 0 < 128
+name_bytes_ascii [] h i = omega arith
+name_bytes_ascii (b ∷ bs) h zero = name_byte_ascii b ((and_parts (is_name_byte b) (list_all is_name_byte bs) h).0)
+name_bytes_ascii (b ∷ bs) h (suc i) = name_bytes_ascii bs ((and_parts (is_name_byte b) (list_all is_name_byte bs) h).1) i
+
+-- a name is a text
+pub IsUtf8-name : (name : List ℕ) → IsTrue (is_name name) → IsUtf8 name
+IsUtf8-name name h = IsUtf8-from_ascii name (name_bytes_ascii name ((and_parts _ (list_all is_name_byte name) h).1))
+
+-- the numbers of tasks run from 1
+task_at_next : (ts : List Task) (k : ℕ) → task_at ts (k + 1) ≡ slice_get ts k
+task_at_next ts k =
+    let same : k + 1 - 1 ≡ k = omega arith in
+    let above : (k + 1 == 0) ≡ false = grind (arith, nat_tests) in
+    rw (above, same)
+
+-- one more task, as its table
+pub tables_more : (ts : List Task) (k : ℕ) (t : Task) (vs : List Value) (v : Value) → map view vs ≡ task_tables (take k ts) → task_at ts (k + 1) ≡ Some t → view v ≡ table (task_members t)
+    → map view (vs ++ v ∷ []) ≡ task_tables (take (k + 1) ts)
+tables_more ts k t vs v same at is =
+    let there : slice_get ts k ≡ Some t = sym (task_at_next ts k) ∙ at in
+    map-append view vs (v ∷ []) ∙ ap (λ ds. ds ++ view v ∷ []) same ∙ ap (λ d. task_tables (take k ts) ++ d ∷ []) is
+    ∙ sym (map-append (λ u. table (task_members u)) (take k ts) (t ∷ []))
+    ∙ sym (ap task_tables (take_more ts k t (slice_get_within ts k t there) ∙ ap (λ u. take k ts ++ u ∷ []) (get_or_from_slice_get ts k t t there)))

@@ -1,0 +1,55 @@
+// What a table has at a key, and the keys that a table may have.
+ghost use Rattle.std.specs.Prelude.{◌≡◌, option_map, option_copied, find, not, string_bytes};
+ghost use Rattle.std.specs.BTreeMap.{keys};
+ghost use Rattle.toml.specs.Data.{get_member};
+ghost use Rattle.toml.specs.View.{view, table_view};
+ghost use Rattle.task_file.specs.Keys.{is_top_key, is_task_key};
+ghost use Rattle.task_file.specs.TaskTable.{first_other};
+
+use toml::{Table, Value};
+
+// What the table has at the key.
+#[tactic(auto, using(toml::proofs::Views::table_get))]
+pub fn member<'a>(table: &'a Table, key: &str) -> Option<&'a Value>
+    ensures { option_map (λ x. view x.now) result ≡ get_member key.now (table_view table.now) }
+{
+    table.get(key)
+}
+
+// The first key, in the order of the bytes, that no document has.
+pub fn other_top_key(table: &Table) -> Option<&String>
+    ensures { option_map (λ key. string_bytes key.now) result ≡ first_other is_top_key (table_view table.now) }
+{
+    find_top_other(table)
+}
+
+fn find_top_other(table: &Table) -> Option<&String>
+    ensures { option_copied result ≡ find (λ key. not (is_top_key (string_bytes key))) (keys table.now) }
+{
+    table.keys().find(|key| !is_top_key(key.as_str()))
+}
+
+// The first key, in the order of the bytes, that no task has.
+pub fn other_task_key(table: &Table) -> Option<&String>
+    ensures { option_map (λ key. string_bytes key.now) result ≡ first_other is_task_key (table_view table.now) }
+{
+    find_task_other(table)
+}
+
+fn find_task_other(table: &Table) -> Option<&String>
+    ensures { option_copied result ≡ find (λ key. not (is_task_key (string_bytes key))) (keys table.now) }
+{
+    table.keys().find(|key| !is_task_key(key.as_str()))
+}
+
+fn is_top_key(key: &str) -> bool
+    ensures { result ≡ is_top_key key.now }
+{
+    key == "version" || key == "task"
+}
+
+fn is_task_key(key: &str) -> bool
+    ensures { result ≡ is_task_key key.now }
+{
+    key == "name" || key == "level" || key == "period" || key == "low" || key == "high"
+}

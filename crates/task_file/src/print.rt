@@ -1,0 +1,116 @@
+ghost use Rattle.std.specs.Prelude.{◌≡◌, pos, Ok, IfOk, string_bytes};
+ghost use Rattle.toml.specs.Data.{string, integer};
+ghost use Rattle.toml.specs.View.{view, table_view, array_view, items_of};
+ghost use Rattle.mc_task.specs.TaskSet.{IsSet};
+ghost use Rattle.task_file.specs.Keys.{key_bytes};
+ghost use Rattle.task_file.specs.TaskTable.{level_bytes};
+ghost use Rattle.task_file.specs.TaskFile.{task_file};
+ghost use Rattle.task_file.specs.Printed.{put_member, common_members, task_members, task_tables, file_members};
+
+use crate::KeyName;
+use mc_task::{Level, Memory, Name, Task, TaskNo, TaskSet};
+use std::alloc::{AllocError, Global};
+use toml::value::Array;
+use toml::{Table, Value};
+
+/// Prints a task file that says the set: `read_tasks` of it gives an equal set, or want of memory.
+///
+/// The only error is want of memory.
+pub fn print_tasks(alloc: Global, set: &TaskSet) -> Result<Vec<u8>, Memory>
+    ensures { IfOk result (λ bytes. task_file bytes.items ≡ Ok set.now) }
+{
+    let Ok(table) = file_table(alloc, set) else {
+        return Err(Memory);
+    };
+    match toml::table_to_string(alloc, &table) {
+        Ok(text) => Ok(text.into_bytes()),
+        Err(_) => Err(Memory),
+    }
+}
+
+// The document, whose only key is `task`.
+fn file_table(alloc: Global, set: &TaskSet) -> Result<Table, AllocError>
+    ensures tree { IfOk result (λ table. table_view table ≡ file_members set.now) }
+    ensures set { IsSet set.now }
+{
+    // The contract of `len` says what a set is.
+    let _count = set.len();
+    let mut table = Table::new(alloc);
+    let items = task_array(alloc, set)?;
+    put(alloc, &mut table, KeyName::Task, Value::from(items))?;
+    Ok(table)
+}
+
+// The tasks in order, each as a table.
+fn task_array(alloc: Global, set: &TaskSet) -> Result<Array, AllocError>
+    ensures { IfOk result (λ items. array_view items ≡ items_of (task_tables set.now)) }
+{
+    let mut items = Vec::new(alloc);
+    for k in 0..set.len() {
+        if let Some(task) = set.get(TaskNo(k + 1)) {
+            let table = task_table(alloc, &task)?;
+            items.push(Value::from(table))?;
+        }
+    }
+    Ok(items)
+}
+
+fn task_table(alloc: Global, task: &Task) -> Result<Table, AllocError>
+    ensures { IfOk result (λ table. table_view table ≡ task_members task.now) }
+{
+    let mut table = common_table(alloc, task)?;
+    match task.level {
+        Level::Low => Ok(table),
+        Level::High => {
+            put(alloc, &mut table, KeyName::High, Value::from(task.high))?;
+            Ok(table)
+        }
+    }
+}
+
+// What a task of either level has.
+fn common_table(alloc: Global, task: &Task) -> Result<Table, AllocError>
+    ensures { IfOk result (λ table. table_view table ≡ common_members task.now) }
+{
+    let mut table = Table::new(alloc);
+    put(
+        alloc,
+        &mut table,
+        KeyName::Name,
+        name_value(alloc, &task.name)?,
+    )?;
+    put(
+        alloc,
+        &mut table,
+        KeyName::Level,
+        level_value(alloc, task.level)?,
+    )?;
+    put(alloc, &mut table, KeyName::Period, Value::from(task.period))?;
+    put(alloc, &mut table, KeyName::Low, Value::from(task.low))?;
+    Ok(table)
+}
+
+// Puts the value at the key.
+fn put(alloc: Global, table: &mut Table, key: KeyName, value: Value) -> Result<(), AllocError>
+    ensures { IfOk result (λ _. table_view table.new ≡ put_member (key_bytes key) (view value) (table_view table.old)) }
+{
+    let key = String::from_str(alloc, key.text())?;
+    table.insert(key, value)?;
+    Ok(())
+}
+
+fn name_value(alloc: Global, name: &Name) -> Result<Value, AllocError>
+    ensures { IfOk result (λ v. view v ≡ string name.now) }
+{
+    let text = String::from_utf8_lossy(alloc, name.bytes())?;
+    Ok(Value::from(text))
+}
+
+fn level_value(alloc: Global, level: Level) -> Result<Value, AllocError>
+    ensures { IfOk result (λ v. view v ≡ string (level_bytes level)) }
+{
+    match level {
+        Level::Low => Value::string(alloc, "low"),
+        Level::High => Value::string(alloc, "high"),
+    }
+}
