@@ -33,11 +33,11 @@ says() {
     printf '%s\n' "$work/line"
 }
 
-# The program's stored run is the first example.
-for file in tasks.toml; do
-    cmp "control/$file" "../crates/edfvd_program/data/$file" || failed=$((failed + 1))
+# The program's stored run is that of the overrun.
+for file in tasks.toml work.csv; do
+    cmp "overrun/$file" "../crates/edfvd_program/data/$file" || failed=$((failed + 1))
 done
-cmp control/check.txt ../crates/edfvd_program/stdout || failed=$((failed + 1))
+cmp overrun/run.txt ../crates/edfvd_program/stdout || failed=$((failed + 1))
 
 expect 0 control/check.txt check control/tasks.toml
 (cd control && "$edfvd" check tasks.toml) >"$work/out"
@@ -45,6 +45,9 @@ judge 0 $? control/check.txt 'check, from another folder'
 for file in refused/*.toml; do
     expect "$(cat "${file%.toml}.status")" "${file%.toml}.txt" check "$file"
 done
+
+expect 0 overrun/run.txt run overrun/tasks.toml overrun/work.csv 12
+expect 0 overrun/run.txt run overrun/tasks.toml overrun/work.csv 00000000000000000012
 
 # Words that are none of the forms.
 usage='usage: check TASKS | run TASKS WORK TICKS | judge TASKS TRACE [P Q] | chart TASKS TRACE | report TASKS TRACE | soak NUMBER TASKCOUNT TICKS'
@@ -54,6 +57,9 @@ expect 2 "$(says "$usage")" check control/tasks.toml again
 expect 2 "$(says "$usage")" --help
 expect 2 "$(says "$usage")" Check control/tasks.toml
 expect 2 "$(says "$usage")" check "$(printf '\377')"
+for ticks in '' 0 -1 +1 1.0 1000001 18446744073709551617 000000000000000000012; do
+    expect 2 "$(says "$usage")" run overrun/tasks.toml overrun/work.csv "$ticks"
+done
 
 # Files: absent, a folder, at the limit and past it, bytes that are no text.
 expect 7 "$(says 'read fault on file 1')" check "$work/absent.toml"
@@ -65,6 +71,38 @@ echo >>"$work/full.toml"
 expect 7 "$(says 'file 1 is longer than 16777216 bytes')" check "$work/full.toml"
 printf 'a = "\377"\n' >"$work/bytes.toml"
 expect 3 "$(says 'task file: not TOML')" check "$work/bytes.toml"
+
+# Work files: absent, hostile bytes, lines that a reader can go to, a million ticks.
+header='task,release,need'
+# refuses LINE TEXT: a work file of this text is refused with this line
+refuses() {
+    # shellcheck disable=SC2059
+    printf "$2" >"$work/work.csv"
+    expect 4 "$(says "work file line $1")" run overrun/tasks.toml "$work/work.csv" 10
+}
+expect 7 "$(says 'read fault on file 2')" run overrun/tasks.toml "$work/absent.csv" 12
+expect 7 "$(says 'read fault on file 1')" run "$work/absent.toml" "$work/absent.csv" 12
+refuses '1: header is not task,release,need' ''
+refuses '1: header is not task,release,need' 'ctl,0,6\n'
+refuses '2: unknown task' "$header\nbob,0,1\n"
+refuses '3: too soon, next 10' "$header\nctl,0,6\nctl,9,1\n"
+refuses '2: need is 0' "$header\nctl,0,0\n"
+refuses '3: release before the last one' "$header\nlog,5,1\nctl,4,1\n"
+refuses '2: not three fields' "$header\nctl,0\n"
+refuses '2: bad number' "$header\nctl,4294967296,1\n"
+refuses '2: bad number' "$header\nctl,00000000001,1\n"
+refuses '2: unknown task' "$header\n\377,0,1\n"
+printf '\357\273\277%s\r\n\r\n"ctl",0,"6"\r\nlog,0,0000000005\r\nlog,10,5' "$header" >"$work/work.csv"
+expect 0 overrun/run.txt run overrun/tasks.toml "$work/work.csv" 12
+printf '%s\n' "$header" >"$work/work.csv"
+"$edfvd" run overrun/tasks.toml "$work/work.csv" 1000000 >"$work/idle"
+wc -c <"$work/idle" | tr -d ' ' >"$work/out"
+judge 0 0 "$(says 14888914)" 'run, a million idle ticks'
+{ printf '%s\n' "$header"; head -c 16777200 /dev/zero | tr '\0' '\n'; } >"$work/work.csv"
+expect 7 "$(says 'file 2 is longer than 16777216 bytes')" run overrun/tasks.toml "$work/work.csv" 12
+{ printf 'task = [{name="a", level="low", period=1, low=1}]\n'; } >"$work/tasks.toml"
+{ printf '%s\n' "$header"; awk 'BEGIN { for (i = 0; i <= 1000000; i++) print "a," i ",1" }'; } >"$work/work.csv"
+expect 4 "$(says 'work file line 1000002: more than 1000000 rows')" run "$work/tasks.toml" "$work/work.csv" 10
 
 # Output that takes nothing.
 : >"$work/out"

@@ -49,6 +49,8 @@ for file in refused/*.toml; do
     growths check "$file"
 done
 growths check absent.toml
+growths run overrun/tasks.toml overrun/work.csv 12
+growths run overrun/tasks.toml absent.csv 12
 growths
 echo "growths: $failed failed"
 [ "$failed" -eq 0 ]

@@ -1,4 +1,9 @@
 pub mod Written
 pub mod Texts
+pub mod Statuses
+pub mod Contents
 pub mod Replies
+pub mod RunReplies
+pub mod Fetches
+pub mod Traced
 pub mod Outcomes

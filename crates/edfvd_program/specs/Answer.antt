@@ -1,21 +1,27 @@
--- The answer to the words and the files: the first of these that applies.
-use Rattle.std.specs.Prelude.{ℕ, ◌^◌, nat_lt, if◌then◌else◌, List, [], length, Option, Some, None, Result, Ok, Err, unwrap_or, IsSome}
+-- The answer to a command and the files: for each reply, whether it is the answer. The first case that applies decides.
+use Rattle.std.specs.Prelude.{◌≡◌, ◌^◌, ℕ, nat_lt, if◌then◌else◌, MatchBool, List, [], ◌∷◌, length, map, reverse, Option, Some, None, Result, Ok, Err, unwrap_or, IsSome}
 use Rattle.std.specs.List.{AllByRecursion}
 use Rattle.mc_task.specs.declared.task.Task.{Task}
 use Rattle.mc_task.specs.declared.task.Rule.{Rule}
 use Rattle.mc_world.specs.Shelf.{Files}
+use Rattle.mc_model.specs.declared.row.Row.{Row}
+use Rattle.mc_model.specs.declared.work.WorkRow.{WorkRow}
 use Rattle.mc_model.specs.Loads.{range_fault}
 use Rattle.mc_model.specs.Test.{test}
 use Rattle.mc_model.specs.CheckText.{check_text, not_admitted_text}
+use Rattle.mc_model.specs.TraceText.{trace_text}
+use Rattle.mc_model.specs.Follows.{Follows}
 use Rattle.task_file.specs.TaskFile.{task_file}
 use Rattle.task_file.specs.declared.fault.TaskFault.{TaskFault}
+use Rattle.work_file.specs.WorkFile.{work_in}
+use Rattle.work_file.specs.declared.fault.WorkFault.{WorkFault}
 use Rattle.edfvd_program.specs.Reply.{Reply, reply_of}
-use Rattle.edfvd_program.specs.Command.{Command, check, command_of, file_names}
-use Rattle.edfvd_program.specs.Lines.{usage_line, longer_line, range_line, task_fault_line, read_fault_line}
+use Rattle.edfvd_program.specs.Command.{Command, check, run, file_names}
+use Rattle.edfvd_program.specs.Lines.{usage_line, longer_line, range_line, task_fault_line, work_fault_line, read_fault_line}
 
--- the most bytes of a task file
-abbrev pub most_task_bytes : ℕ
-most_task_bytes = 2 ^ 24
+-- the most bytes of a task file, and of a work file
+abbrev pub most_table_bytes : ℕ
+most_table_bytes = 2 ^ 24
 
 -- status 2: the words are none of the forms
 abbrev pub usage : Reply
@@ -41,41 +47,70 @@ out_of_range task = reply_of 3 (range_line task)
 abbrev pub not_admitted : List Task → Reply
 not_admitted set = reply_of 1 (not_admitted_text set)
 
--- status 0: the loads and the rule
+-- status 4: the work file is refused
+abbrev pub work_file_refused : WorkFault → Reply
+work_file_refused fault = reply_of 4 (work_fault_line fault)
+
+-- status 0 of `check`: the loads and the rule
 abbrev pub checked : List Task → Rule → Reply
 checked set rule = reply_of 0 (check_text set rule)
 
+-- status 0 of `run`: the trace, whose newest row stands first here
+abbrev pub traced : List Task → List Row → Reply
+traced set h = reply_of 0 (trace_text set (reverse h))
+
+-- what a command answers for an admitted set under its rule
+abbrev pub Next : Type 1
+Next = List Task → Rule → Reply → Type 0
+
 -- by the rule that the test gives
-abbrev pub answer_for_rule : List Task → Option Rule → Reply
-answer_for_rule set None = not_admitted set
-answer_for_rule set (Some rule) = checked set rule
+abbrev pub AnswersRule : Next → List Task → Option Rule → Reply → Type 0
+AnswersRule Then set None reply = reply ≡ not_admitted set
+AnswersRule Then set (Some rule) reply = Then set rule reply
 
 -- by the task that takes the periods out of range
-abbrev pub answer_for_range : List Task → Option ℕ → Reply
-answer_for_range set (Some task) = out_of_range task
-answer_for_range set None = answer_for_rule set (test set)
+abbrev pub AnswersRange : Next → List Task → Option ℕ → Reply → Type 0
+AnswersRange Then set (Some task) reply = reply ≡ out_of_range task
+AnswersRange Then set None reply = AnswersRule Then set (test set) reply
 
 -- by what the task file says
-abbrev pub answer_for_file : Result (List Task) TaskFault → Reply
-answer_for_file (Err fault) = task_file_refused fault
-answer_for_file (Ok set) = answer_for_range set (range_fault set)
+abbrev pub AnswersFile : Next → Result (List Task) TaskFault → Reply → Type 0
+AnswersFile Then (Err fault) reply = reply ≡ task_file_refused fault
+AnswersFile Then (Ok set) reply = AnswersRange Then set (range_fault set) reply
 
--- of `check`, by the bytes of the task file
-unfoldable pub check_answer : List ℕ → Reply
-check_answer bytes = if nat_lt most_task_bytes (length bytes) then longer 1 most_task_bytes else answer_for_file (task_file bytes)
+-- by the bytes of the task file
+abbrev pub AnswersTasks : Next → List ℕ → Reply → Type 0
+AnswersTasks Then bytes reply =
+    MatchBool (nat_lt most_table_bytes (length bytes)) (reply ≡ longer 1 most_table_bytes) (AnswersFile Then (task_file bytes) reply)
 
--- the bytes under a name, none where it is not held
-abbrev pub bytes_at : Files → List ℕ → List ℕ
-bytes_at files name = unwrap_or (files name) []
+-- of `check`
+abbrev pub Checks : Next
+Checks set rule reply = reply ≡ checked set rule
 
--- of a command
-abbrev pub command_answer : Option Command → Files → Reply
-command_answer None files = usage
-command_answer (Some (check tasks)) files = check_answer (bytes_at files tasks)
+-- by what the work file says: the trace that follows
+abbrev pub AnswersWork : ℕ → List Task → Rule → Result (List WorkRow) WorkFault → Reply → Type 0
+AnswersWork ticks set rule (Err fault) reply = reply ≡ work_file_refused fault
+AnswersWork ticks set rule (Ok work) reply = (h : List Row) × Follows set rule work ticks h × (reply ≡ traced set h)
 
--- the status and the text that the words get with these files
-abbrev pub answer : List (List ℕ) → Files → Reply
-answer words files = command_answer (command_of words) files
+-- by the bytes of the work file
+abbrev pub AnswersWorkFile : ℕ → List Task → Rule → List ℕ → Reply → Type 0
+AnswersWorkFile ticks set rule bytes reply = AnswersWork ticks set rule (work_in set bytes) reply
+
+-- of `run`, by the bytes of the work file
+abbrev pub Runs : List ℕ → ℕ → Next
+Runs bytes ticks set rule reply =
+    MatchBool (nat_lt most_table_bytes (length bytes)) (reply ≡ longer 2 most_table_bytes) (AnswersWorkFile ticks set rule bytes reply)
+
+-- the reply is the answer to the command, by the bytes of its files in order
+abbrev pub IsAnswer : Option Command → List (List ℕ) → Reply → Type 0
+IsAnswer None contents reply = reply ≡ usage
+IsAnswer (Some (check tasks)) (bytes ∷ contents) reply = AnswersTasks Checks bytes reply
+IsAnswer (Some (run tasks work ticks)) (bytes ∷ work_bytes ∷ contents) reply = AnswersTasks (Runs work_bytes ticks) bytes reply
+IsAnswer command contents reply = ⊥
+
+-- the bytes of the command's files in order, none for one that is not held
+abbrev pub contents_of : Option Command → Files → List (List ℕ)
+contents_of command files = map (λ name. unwrap_or (files name) []) (file_names command)
 
 -- the files that the command names are held
 abbrev pub AreHeld : Option Command → Files → Type 0

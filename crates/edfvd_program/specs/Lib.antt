@@ -4,3 +4,5 @@ pub mod CommandView
 pub mod Lines
 pub mod Answer
 pub mod Outcome
+pub mod Tested
+pub mod Fetched

@@ -1,11 +1,11 @@
 -- What a call of the program leaves behind: the reply it gives, the names it asked and the bytes it wrote.
-use Rattle.std.specs.Prelude.{◌≡◌, ◌⊎◌, ℕ, ◌<◌, ◌≤◌, List, ◌++◌, length, take, Option, None, Some, option_map, IfSome, IsSomeAnd}
+use Rattle.std.specs.Prelude.{◌≡◌, ◌⊎◌, ℕ, ◌-◌, ◌<◌, ◌≤◌, List, ◌++◌, length, take, Option, None, Some, option_map, IfSome, IsSomeAnd, slice_get}
 use Rattle.mc_world.specs.Count.{Rose, RoseByMoreThan}
 use Rattle.mc_world.specs.Shelf.{Files, ShelfState}
 use Rattle.mc_world.specs.Sink.{SinkState}
 use Rattle.edfvd_program.specs.Reply.{Reply}
-use Rattle.edfvd_program.specs.Command.{Command, check, file_names}
-use Rattle.edfvd_program.specs.Answer.{command_answer, AreHeld, usage, read_fault, longer, most_task_bytes}
+use Rattle.edfvd_program.specs.Command.{Command, file_names}
+use Rattle.edfvd_program.specs.Answer.{IsAnswer, contents_of, AreHeld, usage, read_fault, longer, most_table_bytes}
 
 -- the shelf tells that it holds these files, the command's among them, and its count of faults does not rise
 pub record Tells (command : Option Command) (files : Files) (before after : ShelfState) : Type 0 where
@@ -18,35 +18,31 @@ abbrev pub AskedFirst : ℕ → Option Command → ShelfState → ShelfState →
 AskedFirst n command before after = after.asked ≡ option_map (λ names. names ++ take n (file_names command)) before.asked
 
 -- the file is longer than its limit, where the shelf tells; otherwise more bytes than that were read
-pub record IsLonger (name : List ℕ) (limit : ℕ) (before after : ShelfState) : Type 0 where
-  pub told : IfSome before.holds (λ files. IsSomeAnd (files name) (λ bytes. limit < length bytes))
-  pub untold : before.holds ≡ None → RoseByMoreThan limit before.bytes_read after.bytes_read
+pub record IsLonger (name : List ℕ) (before after : ShelfState) : Type 0 where
+  pub told : IfSome before.holds (λ files. IsSomeAnd (files name) (λ bytes. most_table_bytes < length bytes))
+  pub untold : before.holds ≡ None → RoseByMoreThan most_table_bytes before.bytes_read after.bytes_read
 
--- the task file is longer than its limit
-abbrev pub IsLongerTaskFile : Option Command → ShelfState → ShelfState → Type 0
-IsLongerTaskFile None before after = ⊥
-IsLongerTaskFile (Some (check tasks)) before after = IsLonger tasks most_task_bytes before after
+-- file number n of the command is longer than its limit
+abbrev pub IsLongFile : Option Command → ℕ → ShelfState → ShelfState → Type 0
+IsLongFile command n before after = (name : List ℕ) × (slice_get (file_names command) (n - 1) ≡ Some name) × IsLonger name before after
 
--- these files hold what the command names, and are those that the shelf tells, where it tells some
-pub record MayHold (command : Option Command) (before : ShelfState) (files : Files) : Type 0 where
-  pub told : (held : Files) → before.holds ≡ Some held → files ≡ held
-  pub held : AreHeld command files
-
--- the reply that a command gets: the answer, or the line of a read fault
+-- the reply that a command gets
 pub record IsReply (command : Option Command) (before after : ShelfState) (reply : Reply) : Type 0 where
-  -- it is the line of a read fault, or the answer to files that the shelf may hold
-  pub source : ((reply ≡ read_fault 1) × Rose before.faults after.faults)
-      ⊎ ((may_hold : Files) × MayHold command before may_hold × (reply ≡ command_answer command may_hold))
+  -- the command's first files, so many, were asked for in their order, and nothing else
+  pub count : ℕ
+  pub few : count ≤ length (file_names command)
+  pub asked : AskedFirst count command before after
+  -- it tells that the last file asked could not be read; or it is the answer, by contents that are those told where they are
+  pub source : ((reply ≡ read_fault count) × Rose before.faults after.faults)
+      ⊎ ((contents : List (List ℕ)) × IfSome before.holds (λ files. contents ≡ contents_of command files) × IsAnswer command contents reply)
   -- without a command it is the usage line, and status 2 comes with nothing else
   pub usage : command ≡ None → reply ≡ usage
   pub only_usage : reply.status ≡ 2 → command ≡ None
-  -- status 7 has its cause
+  -- status 7 has its cause in the last file asked
   pub cause : reply.status ≡ 7
-      → ((reply ≡ read_fault 1) × Rose before.faults after.faults) ⊎ ((reply ≡ longer 1 most_task_bytes) × IsLongerTaskFile command before after)
+      → ((reply ≡ read_fault count) × Rose before.faults after.faults) ⊎ ((reply ≡ longer count most_table_bytes) × IsLongFile command count before after)
   -- a fault of the shelf is told
-  pub fault : before.faults < after.faults → reply ≡ read_fault 1
-  -- the command's files were asked for, and nothing else
-  pub asked : AskedFirst (length (file_names command)) command before after
+  pub fault : before.faults < after.faults → reply ≡ read_fault count
   pub status : reply.status < 8
 
 -- the first n bytes of the text were written, where the sink tells
@@ -78,6 +74,8 @@ Outcome command shelf_before shelf_after sink_before sink_after ended =
     × IsReply command shelf_before shelf_after reply
     × (IsWritten reply ended sink_before sink_after ⊎ IsCutShort reply ended sink_before sink_after))
 
--- this reply was written whole behind these bytes, or memory was wanting and nothing was written
-abbrev pub Answers : Reply → List ℕ → ℕ → Option (List ℕ) → Type 0
-Answers reply old ended new = ((ended ≡ 9) × (new ≡ Some old)) ⊎ ((ended ≡ reply.status) × (new ≡ Some (old ++ reply.text)))
+-- the answer was written whole behind these bytes, or memory was wanting and nothing was written
+abbrev pub Answers : Option Command → Files → List ℕ → ℕ → Option (List ℕ) → Type 0
+Answers command files old ended new =
+    ((ended ≡ 9) × (new ≡ Some old))
+    ⊎ ((reply : Reply) × IsAnswer command (contents_of command files) reply × (ended ≡ reply.status) × (new ≡ Some (old ++ reply.text)))

@@ -2,7 +2,6 @@
 ghost use Rattle.std.specs.Prelude.{◌≡◌, ℕ, List, ◌<◌, ◌≤◌, map, string_bytes, length, Some, IfOk};
 ghost use Rattle.mc_world.specs.Count.{Rose};
 ghost use Rattle.mc_world.specs.Shelf.{Files};
-ghost use Rattle.edfvd_program.specs.Answer.{answer};
 ghost use Rattle.edfvd_program.specs.Command.{command_of, file_names};
 ghost use Rattle.edfvd_program.specs.Outcome.{Tells, AskedFirst, IsReply, Outcome, Answers};
 
@@ -10,6 +9,7 @@ use crate::check::check;
 use crate::command::{Command, command_of};
 use crate::lines::usage_line;
 use crate::reply::Reply;
+use crate::run::run;
 use mc_world::{Shelf, Sink};
 use std::alloc::{AllocError, Global};
 
@@ -28,7 +28,7 @@ pub fn edfvd<R, S: Shelf, K: Sink>(
     ensures answer { let asked = map (λ w. string_bytes w) words.now in (files : Files) (old : List ℕ)
         → Tells (command_of asked) files (S.state shelf.old) (S.state shelf.new)
         → (K.state out.old).written ≡ Some old → (Rose (K.state out.old).faults (K.state out.new).faults → ⊥)
-        → Answers (answer asked files) old result (K.state out.new).written }
+        → Answers (command_of asked) files old result (K.state out.new).written }
 
     // A write fault is told exactly where the sink failed.
     ensures write_fault { result ≡ 8 → Rose (K.state out.old).faults (K.state out.new).faults }
@@ -49,6 +49,7 @@ fn reply_to<S: Shelf>(alloc: Global, words: &[String], shelf: &mut S) -> Result<
 {
     match command_of(words) {
         Some(Command::Check { tasks }) => check(alloc, tasks, shelf),
+        Some(Command::Run { tasks, work, ticks }) => run(alloc, tasks, work, ticks, shelf),
         None => Ok(Reply::new(2, usage_line(alloc)?)),
     }
 }

@@ -1,4 +1,4 @@
-//! edfvd: tests task sets for EDF with virtual deadlines.
+//! edfvd: tests and schedules task sets by EDF with virtual deadlines.
 #![tactic(auto)]
 
 mod check;
@@ -6,6 +6,8 @@ mod command;
 mod edfvd;
 mod lines;
 mod reply;
+mod run;
+mod tested;
 #[cfg(test)]
 mod tests;
 mod text;

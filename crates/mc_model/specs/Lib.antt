@@ -2,3 +2,14 @@ pub mod Loads
 pub mod Test
 pub mod Holds
 pub mod CheckText
+pub mod TaskNumbers
+pub mod Rows
+pub mod Mode
+pub mod Pending
+pub mod Key
+pub mod Legal
+pub mod Late
+pub mod Work
+pub mod Follows
+pub mod Core
+pub mod TraceText

@@ -1,0 +1,15 @@
+pub mod Releases
+pub mod Keys
+pub mod Sums
+pub mod LowDemand
+pub mod LowMode
+pub mod Share
+pub mod Before
+pub mod LowPhase
+pub mod HighPhase
+pub mod Switch
+pub mod OneLive
+pub mod Reached
+pub mod Laws
+pub mod NoOver
+pub mod WorkedTraces

@@ -1,0 +1,3 @@
+pub mod Laws
+pub mod OneLive
+pub mod NoOver

@@ -1,0 +1,19 @@
+-- How many jobs of a task are pending. The newest row stands first.
+use Rattle.std.specs.Prelude.{◌≡◌, ℕ, ◌+◌, ◌≤◌, List, [], ◌∷◌, cond, ◌==◌}
+use Rattle.mc_task.specs.declared.task.Task.{Task}
+use Rattle.mc_model.specs.Rows.{ticks, next_release}
+use Rattle.mc_model.specs.Pending.{Live, pending}
+use Rattle.mc_model.specs.declared.row.Row.{Row}
+
+-- how many of these jobs are of task number k
+abbrev pub pending_of : ℕ → List Live → ℕ
+pending_of k [] = 0
+pending_of k (i ∷ is) = cond (i.job.task.0 == k) 1 0 + pending_of k is
+
+-- each task has at most one pending job
+abbrev pub AtMostOne : List Task → List Row → Type 0
+AtMostOne set h = (k : ℕ) → pending_of k (pending set h) ≤ 1
+
+-- each task has none where its next release may come: before its first one, and where its last one is a period ago
+abbrev pub NoneAtRelease : List Task → List Row → Type 0
+NoneAtRelease set h = (k : ℕ) → next_release set h k ≤ ticks h → pending_of k (pending set h) ≡ 0

@@ -1,0 +1,78 @@
+ghost use Rattle.std.specs.Prelude.{◌≡◌, true, false, reverse};
+ghost use Rattle.mc_task.specs.declared.task.Rule.TheVariants.{Plain};
+ghost use Rattle.mc_model.specs.Holds.{Fits, Holds};
+ghost use Rattle.mc_model.specs.Mode.{is_virtual, high_mode};
+ghost use Rattle.mc_model.specs.Legal.{Legal};
+ghost use Rattle.demand_law.specs.Laws.{Everywhere, NoneLate, NoneDue};
+ghost use Rattle.demand_law.specs.OneLive.{AtMostOne, NoneAtRelease};
+ghost use Rattle.demand_law.specs.NoOver.{NoOver, NoDrop, EndedInTime};
+
+use mc_model::Row;
+use mc_task::{Rule, TaskSet};
+
+/// Under plain EDF no job is late. It is the case of EDF-VD in which no deadline is scaled (Baruah et al., ECRTS 2012).
+pub fn plain_law(set: &TaskSet, rule: Rule, rows: &[Row])
+    requires plain { rule ≡ Plain }
+    requires fits { Fits rule }
+    requires holds { Holds set.now rule }
+    requires legal { Legal set.now rule (reverse rows.now) }
+    ensures here { NoneLate set.now (reverse rows.now) }
+    ensures everywhere { Everywhere rule NoneLate }
+{
+    let _is_set = set.len();
+}
+
+/// Under EDF-VD no virtual deadline of a pending job has come in low mode, by the condition on the low budgets
+/// (Baruah et al., ECRTS 2012).
+pub fn low_mode_law(set: &TaskSet, rule: Rule, rows: &[Row])
+    requires scaled { is_virtual rule ≡ true }
+    requires fits { Fits rule }
+    requires holds { Holds set.now rule }
+    requires legal { Legal set.now rule (reverse rows.now) }
+    requires low { high_mode rule (reverse rows.now) ≡ false }
+    ensures here { NoneDue set.now rule (reverse rows.now) }
+    ensures everywhere { Everywhere rule (λ tasks h. high_mode rule h ≡ false → NoneDue tasks rule h) }
+{
+    let _is_set = set.len();
+}
+
+/// Under EDF-VD no job is late: in low mode, across an overrun, by the condition on the high budgets (Baruah et al.,
+/// ECRTS 2012), and after an idle tick has brought low mode back.
+pub fn switch_law(set: &TaskSet, rule: Rule, rows: &[Row])
+    requires scaled { is_virtual rule ≡ true }
+    requires fits { Fits rule }
+    requires holds { Holds set.now rule }
+    requires legal { Legal set.now rule (reverse rows.now) }
+    ensures here { NoneLate set.now (reverse rows.now) }
+    ensures everywhere { Everywhere rule NoneLate }
+{
+    let _is_set = set.len();
+}
+
+/// Each task has at most one pending job, and none where its next release may come, since each deadline is the
+/// earliest time of the next release.
+pub fn one_live_law(set: &TaskSet, rule: Rule, rows: &[Row])
+    requires fits { Fits rule }
+    requires holds { Holds set.now rule }
+    requires legal { Legal set.now rule (reverse rows.now) }
+    ensures one { AtMostOne set.now (reverse rows.now) }
+    ensures none { NoneAtRelease set.now (reverse rows.now) }
+    ensures one_everywhere { Everywhere rule AtMostOne }
+    ensures none_everywhere { Everywhere rule NoneAtRelease }
+{
+    let _is_set = set.len();
+}
+
+/// With no overrun no release is dropped, and each kept job whose deadline has come was ended by it, low jobs too.
+pub fn no_over_law(set: &TaskSet, rule: Rule, rows: &[Row])
+    requires fits { Fits rule }
+    requires holds { Holds set.now rule }
+    requires legal { Legal set.now rule (reverse rows.now) }
+    requires calm { NoOver (reverse rows.now) }
+    ensures kept { NoDrop (reverse rows.now) }
+    ensures ended { EndedInTime set.now (reverse rows.now) }
+    ensures kept_everywhere { Everywhere rule (λ tasks h. NoOver h → NoDrop h) }
+    ensures ended_everywhere { Everywhere rule (λ tasks h. NoOver h → EndedInTime tasks h) }
+{
+    let _is_set = set.len();
+}

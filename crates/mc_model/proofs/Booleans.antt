@@ -1,0 +1,42 @@
+-- What an `and`, an `or` or a `not` says of its parts.
+use Rattle.std.proofs.Common.{◌≡◌, ℕ, Bool, true, false, not, ◌&&◌, ◌||◌, ◌==◌, ◌≢◌, refl}
+use Rattle.std.proofs.lemmas.Bool.Decides.{nat_tests}
+use Rattle.std.proofs.Common.{arith}
+
+-- both parts of an `and` are true
+pub and_both : (a b : Bool) → (a && b) ≡ true → (a ≡ true) × (b ≡ true)
+and_both true true h = (refl, refl)
+and_both true false h = cc
+and_both false b h = cc
+
+-- both parts of an `or` that is false are false
+pub or_none : (a b : Bool) → (a || b) ≡ false → (a ≡ false) × (b ≡ false)
+or_none true b h = cc
+or_none false true h = cc
+or_none false false h = (refl, refl)
+
+-- the first of them is
+pub or_left : (a b : Bool) → (a || b) ≡ false → a ≡ false
+or_left a b h = (or_none a b h).0
+
+-- the second of them is
+pub or_right : (a b : Bool) → (a || b) ≡ false → b ≡ false
+or_right a b h = (or_none a b h).1
+
+-- an `or` is true where its second part is
+pub or_true : (a b : Bool) → b ≡ true → (a || b) ≡ true
+or_true true b h = refl
+or_true false b h = h
+
+-- what is not true is false
+pub not_true : (b : Bool) → not b ≡ true → b ≡ false
+not_true true h = cc
+not_true false h = refl
+
+-- numbers whose test of equality fails differ
+pub eqb-false : (a b : ℕ) → (a == b) ≡ false → a ≢ b
+eqb-false a b h = grind (arith, nat_tests)
+
+-- a number is equal to itself, by the test
+pub eqb-refl : (n : ℕ) → (n == n) ≡ true
+eqb-refl n = grind (arith, nat_tests)

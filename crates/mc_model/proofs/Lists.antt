@@ -1,0 +1,106 @@
+-- Facts on each element of a list, filters, and sums over lists.
+use Rattle.std.proofs.Common.{◌≡◌, ℕ, ◌+◌, ◌≤◌, Bool, true, false, ◌&&◌, ◌||◌, List, [], ◌∷◌, cond, filter, refl, ap, arith}
+use Rattle.std.specs.List.{AllByRecursion}
+
+-- each element of the list has the property
+abbrev pub Each : {X : Type 0} → (X → Type 0) → List X → Type 0
+Each P xs = AllByRecursion P xs
+
+-- the sum of a number of each element
+abbrev pub total : {X : Type 0} → (X → ℕ) → List X → ℕ
+total f [] = 0
+total f (x ∷ xs) = f x + total f xs
+
+-- an element passes the test
+abbrev pub any : {X : Type 0} → (X → Bool) → List X → Bool
+any p [] = false
+any p (x ∷ xs) = p x || any p xs
+
+-- a property that follows from another, element by element
+pub Each-map : {X : Type 0} {P Q : X → Type 0} → ((x : X) → P x → Q x) → (xs : List X) → Each P xs → Each Q xs
+Each-map f [] h = tt
+Each-map f (x ∷ xs) h = (f x h.0, Each-map f xs h.1)
+
+-- a property that follows from two others
+pub Each-both : {X : Type 0} {P Q R : X → Type 0} → ((x : X) → P x → Q x → R x) → (xs : List X) → Each P xs → Each Q xs → Each R xs
+Each-both f [] h k = tt
+Each-both f (x ∷ xs) h k = (f x h.0 k.0, Each-both f xs h.1 k.1)
+
+-- a property of all values
+pub Each-all : {X : Type 0} {P : X → Type 0} → ((x : X) → P x) → (xs : List X) → Each P xs
+Each-all f [] = tt
+Each-all f (x ∷ xs) = (f x, Each-all f xs)
+
+-- a filter keeps a property
+pub Each-filter : {X : Type 0} (P : X → Type 0) (p : X → Bool) → (xs : List X) → Each P xs → Each P (filter p xs)
+Each-filter P p [] h = tt
+Each-filter P p (x ∷ xs) h =
+    elim (p x) as (λ b. Each P (cond b (x ∷ filter p xs) (filter p xs)))
+    [ true ↦ (h.0, Each-filter P p xs h.1) | false ↦ Each-filter P p xs h.1 ]
+
+-- what a filter keeps has a property that follows from its test
+pub Each-filter_if : {X : Type 0} (P : X → Type 0) (p : X → Bool) → (xs : List X) → Each (λ x. p x ≡ true → P x) xs → Each P (filter p xs)
+Each-filter_if P p [] h = tt
+Each-filter_if P p (x ∷ xs) h = go (Each-filter_if P p xs h.1) (p x) refl
+  where
+    go : Each P (filter p xs) → (b : Bool) → p x ≡ b → Each P (cond b (x ∷ filter p xs) (filter p xs))
+    go ih true m = (h.0 m, ih)
+    go ih false m = ih
+
+-- tests that agree on each element keep the same elements
+pub filter_ext : {X : Type 0} (p q : X → Bool) → (xs : List X) → Each (λ x. p x ≡ q x) xs → filter p xs ≡ filter q xs
+filter_ext p q [] h = refl
+filter_ext p q (x ∷ xs) h = rw h.0 (ap (λ ys. cond (q x) (x ∷ ys) ys) (filter_ext p q xs h.1))
+
+-- two filters are one, by both tests
+pub filter-filter : {X : Type 0} (p q : X → Bool) → (xs : List X) → filter p (filter q xs) ≡ filter (λ x. q x && p x) xs
+filter-filter p q [] = refl
+filter-filter p q (x ∷ xs) = go (filter-filter p q xs) (q x) refl
+  where
+    go : filter p (filter q xs) ≡ filter (λ x. q x && p x) xs → (b : Bool) → q x ≡ b → filter p (cond b (x ∷ filter q xs) (filter q xs)) ≡ cond (b && p x) (x ∷ filter (λ x. q x && p x) xs) (filter (λ x. q x && p x) xs)
+    go ih true m = ap (λ ys. cond (p x) (x ∷ ys) ys) ih
+    go ih false m = ih
+
+-- where no element passes, a filter leaves nothing
+pub filter_none : {X : Type 0} (p : X → Bool) → (xs : List X) → Each (λ x. p x ≡ false) xs → filter p xs ≡ []
+filter_none p [] h = refl
+filter_none p (x ∷ xs) h = rw h.0 (filter_none p xs h.1)
+
+-- what a filter keeps, at less, is less
+pub total-filter : {X : Type 0} (f g : X → ℕ) (p : X → Bool) → (xs : List X) → Each (λ x. g x ≤ f x) xs → total g (filter p xs) ≤ total f xs
+total-filter f g p [] h = omega arith
+total-filter f g p (x ∷ xs) h =
+    let ih : total g (filter p xs) ≤ total f xs = total-filter f g p xs h.1 in
+    let here : g x ≤ f x = h.0 in
+    elim (p x) as (λ b. total g (cond b (x ∷ filter p xs) (filter p xs)) ≤ f x + total f xs)
+    [ true ↦ omega arith | false ↦ omega arith ]
+
+-- where one element, the one that is meant, loses at least one, so does the sum
+pub total_spend :
+    {X : Type 0} (f g : X → ℕ) (p mine : X → Bool) → (xs : List X) → Each (λ x. g x ≤ f x) xs →
+    Each (λ x. mine x ≡ true → g x + 1 ≤ f x) xs → any mine xs ≡ true → total g (filter p xs) + 1 ≤ total f xs
+total_spend f g p mine [] h k e = grind arith
+total_spend f g p mine (x ∷ xs) h k e = here (total_spend f g p mine xs h.1 k.1) (mine x) refl
+  where
+    rest : total g (filter p xs) ≤ total f xs
+    rest = total-filter f g p xs h.1
+
+    here : (any mine xs ≡ true → total g (filter p xs) + 1 ≤ total f xs) → (b : Bool) → mine x ≡ b → total g (cond (p x) (x ∷ filter p xs) (filter p xs)) + 1 ≤ f x + total f xs
+    here ih true m =
+        let spent : g x + 1 ≤ f x = k.0 m in
+        let r : total g (filter p xs) ≤ total f xs = rest in
+        elim (p x) as (λ b. total g (cond b (x ∷ filter p xs) (filter p xs)) + 1 ≤ f x + total f xs)
+        [ true ↦ omega arith | false ↦ omega arith ]
+    here ih false m =
+        let e' : any mine xs ≡ true = rw m at e in
+        let less : total g (filter p xs) + 1 ≤ total f xs = ih e' in
+        let same : g x ≤ f x = h.0 in
+        elim (p x) as (λ b. total g (cond b (x ∷ filter p xs) (filter p xs)) + 1 ≤ f x + total f xs)
+        [ true ↦ omega arith | false ↦ omega arith ]
+
+-- less of each element is a lesser sum
+pub total-mono : {X : Type 0} (f g : X → ℕ) → (xs : List X) → Each (λ x. g x ≤ f x) xs → total g xs ≤ total f xs
+total-mono f g [] h = omega arith
+total-mono f g (x ∷ xs) h =
+    let ih : total g xs ≤ total f xs = total-mono f g xs h.1 in
+    let here : g x ≤ f x = h.0 in omega arith

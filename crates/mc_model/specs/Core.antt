@@ -1,0 +1,117 @@
+-- The scheduler's state, and the words for it. Rows and held releases stand with the newest first.
+use Rattle.std.specs.Prelude.{◌≡◌, ℕ, ◌+◌, Bool, not, ◌&&◌, ◌||◌, List, [], ◌∷◌, Option, Some, None, length, cond, nat_lt, ◌==◌, option_map}
+use Rattle.mc_task.specs.declared.task.Rule.{Rule}
+use Rattle.mc_task.specs.declared.task.Task.{Task}
+use Rattle.mc_task.specs.declared.task.JobId.{JobId}
+use Rattle.mc_task.specs.TaskSet.{task_at}
+use Rattle.mc_model.specs.TaskNumbers.{period_in, is_high_in}
+use Rattle.mc_model.specs.Rows.{ticks, used, releases, next_release}
+use Rattle.mc_model.specs.Mode.{high_mode}
+use Rattle.mc_model.specs.Pending.{Live, pending}
+use Rattle.mc_model.specs.Key.{key}
+use Rattle.mc_model.specs.Legal.{how_of, Legal}
+use Rattle.mc_model.specs.declared.row.How.{How}
+use Rattle.mc_model.specs.declared.row.How.TheVariants.{Done}
+use Rattle.mc_model.specs.declared.row.Row.{Row}
+use Rattle.mc_model.specs.declared.row.Row.TheVariants.{Release, Tick}
+
+-- the rows, the job whose tick is out, and the releases that are held until its outcome
+pub record State : Type 0 where
+  pub set : List Task
+  pub rule : Rule
+  pub places : ℕ
+  pub rows : List Row
+  pub out : Option JobId
+  pub held : List JobId
+
+-- i runs before j: its key is less, or they are equal and its task's number is lower
+abbrev pub runs_before : List Task → Rule → Bool → Live → Live → Bool
+runs_before set rule high i j =
+    nat_lt (key set rule high i) (key set rule high j)
+    || ((key set rule high i == key set rule high j) && nat_lt i.job.task.0 j.job.task.0)
+
+-- the one of the two that runs first, where there are two
+abbrev pub first_of_two : List Task → Rule → Bool → Live → Option Live → Live
+first_of_two set rule high i None = i
+first_of_two set rule high i (Some j) = cond (runs_before set rule high j i) j i
+
+-- the job that runs first
+abbrev pub first_to_run : List Task → Rule → Bool → List Live → Option Live
+first_to_run set rule high [] = None
+first_to_run set rule high (i ∷ is) = Some (first_of_two set rule high i (first_to_run set rule high is))
+
+-- the pending job with the least key, of equal keys the lowest task number
+abbrev pub chosen : List Task → Rule → List Row → Option JobId
+chosen set rule h = option_map (λ i. i.job) (first_to_run set rule (high_mode rule h) (pending set h))
+
+-- 1 with a tick out
+abbrev pub tick_out : Option JobId → ℕ
+tick_out None = 0
+tick_out (Some j) = 1
+
+-- the ticks that were begun
+abbrev pub begun : State → ℕ
+begun s = ticks s.rows + tick_out s.out
+
+-- the places that are used: a tick that is out keeps one for its row
+abbrev pub places_used : State → ℕ
+places_used s = length s.rows + length s.held + tick_out s.out
+
+-- how many of these jobs are of task number k
+abbrev pub jobs_of : ℕ → List JobId → ℕ
+jobs_of k [] = 0
+jobs_of k (j ∷ js) = cond (j.task.0 == k) 1 0 + jobs_of k js
+
+-- the releases of task number k, those that are held among them
+abbrev pub released_so_far : State → ℕ → ℕ
+released_so_far s k = releases s.rows k + jobs_of k s.held
+
+-- 0 before the first release of task number k, otherwise its last release time plus its period; a held release counts from the next boundary
+abbrev pub next_after : List Task → List Row → List JobId → ℕ → ℕ
+next_after set rows [] k = next_release set rows k
+next_after set rows (j ∷ js) k = cond (j.task.0 == k) (ticks rows + 1 + period_in (task_at set k)) (next_after set rows js k)
+
+-- the boundary from which task number k may be released
+abbrev pub next : State → ℕ → ℕ
+next s k = next_after s.set s.rows s.held k
+
+-- the job that a release of task number k makes
+abbrev pub next_job : State → ℕ → JobId
+next_job s k = record { task = record { 0 = k }; count = released_so_far s k + 1 }
+
+-- a release after these rows is kept, except of a low task in high mode
+abbrev pub keeps : List Task → Rule → List Row → ℕ → Bool
+keeps set rule g k = is_high_in (task_at set k) || not (high_mode rule g)
+
+-- the row of a release of the job after these rows
+abbrev pub release_row : List Task → Rule → JobId → List Row → Row
+release_row set rule j g = Release j (keeps set rule g j.task.0)
+
+-- the outcome of the job's next tick
+abbrev pub outcome_of : List Task → Rule → List Row → JobId → Bool → How
+outcome_of set rule g j done = cond done Done (how_of set rule g j (used g j + 1))
+
+-- the rows with the held releases behind them
+abbrev pub add_held : List Task → Rule → List JobId → List Row → List Row
+add_held set rule [] g = g
+add_held set rule (j ∷ js) g = let h = add_held set rule js g in release_row set rule j h ∷ h
+
+-- the rows once this job's tick has its outcome, and then the held releases
+abbrev pub settled : List Task → Rule → Bool → List Row → Option JobId → List JobId → List Row
+settled set rule done rows None held = rows
+settled set rule done rows (Some j) held = add_held set rule held (Tick j (outcome_of set rule rows j done) ∷ rows)
+
+-- the rows once the tick that is out has its outcome: its row, then the held releases
+abbrev pub settle : State → Bool → List Row
+settle s done = settled s.set s.rule done s.rows s.out s.held
+
+-- without a tick out nothing is held; with one it is the chosen job's
+abbrev pub IsOut : List Task → Rule → List Row → Option JobId → List JobId → Type 0
+IsOut set rule rows None held = held ≡ []
+IsOut set rule rows (Some j) held = chosen set rule rows ≡ Some j
+
+-- what every event keeps
+pub record Good (s : State) : Type 0 where
+  pub legal : Legal s.set s.rule s.rows
+  pub out : IsOut s.set s.rule s.rows s.out s.held
+  pub settled : (done : Bool) → Legal s.set s.rule (settle s done)

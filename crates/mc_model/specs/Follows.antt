@@ -1,0 +1,70 @@
+-- When a trace is the one of a work list and a number of ticks. The newest row stands first.
+use Rattle.std.specs.Prelude.{◌≡◌, ℕ, ◌+◌, ◌-◌, Bool, true, false, not, ◌&&◌, ◌||◌, List, [], ◌∷◌, cond, nat_lt, ◌==◌, filter, map, reverse}
+use Rattle.std.specs.List.{list_all}
+use Rattle.mc_task.specs.declared.task.Rule.{Rule}
+use Rattle.mc_task.specs.declared.task.Task.{Task}
+use Rattle.mc_task.specs.declared.task.JobId.{JobId}
+use Rattle.mc_model.specs.Rows.{ticks, same_job, used}
+use Rattle.mc_model.specs.Mode.{high_mode}
+use Rattle.mc_model.specs.Pending.{Live, pending}
+use Rattle.mc_model.specs.Key.{key}
+use Rattle.mc_model.specs.Legal.{same_bool, is_done, Legal}
+use Rattle.mc_model.specs.declared.row.Row.{Row}
+use Rattle.mc_model.specs.declared.row.Row.TheVariants.{Release, Tick, Idle}
+use Rattle.mc_model.specs.declared.work.WorkRow.{WorkRow}
+
+-- a task number and a release time
+pub record Arrival : Type 0 where
+  pub task : ℕ
+  pub at : ℕ
+
+-- the releases of the trace, the newest first
+abbrev pub arrivals : List Row → List Arrival
+arrivals [] = []
+arrivals (Release j kept ∷ g) = record { task = j.task.0; at = ticks g } ∷ arrivals g
+arrivals (Tick j how ∷ g) = arrivals g
+arrivals (Idle ∷ g) = arrivals g
+
+-- the releases that the work asks for before boundary n, in its order
+abbrev pub planned : List WorkRow → ℕ → List Arrival
+planned work n = map (λ w. record { task = w.task.0; at = w.release }) (filter (λ w. nat_lt w.release n) work)
+
+-- the need of the c-th row of the job's task; 0 where there is none
+abbrev pub need_of : List WorkRow → ℕ → ℕ → ℕ
+need_of [] k c = 0
+need_of (w ∷ ws) k c = cond (w.task.0 == k) (cond (c == 1) w.need (need_of ws k (c - 1))) (need_of ws k c)
+
+-- the trace does not end in a release
+abbrev pub ends_in_tick : List Row → Bool
+ends_in_tick [] = false
+ends_in_tick (Release j kept ∷ g) = false
+ends_in_tick (Tick j how ∷ g) = true
+ends_in_tick (Idle ∷ g) = true
+
+-- each tick is Done exactly where its job has had its need
+abbrev pub done_by_need : List WorkRow → List Row → Bool
+done_by_need work [] = true
+done_by_need work (Release j kept ∷ g) = done_by_need work g
+done_by_need work (Tick j how ∷ g) = same_bool (is_done how) (used g j + 1 == need_of work j.task.0 j.count) && done_by_need work g
+done_by_need work (Idle ∷ g) = done_by_need work g
+
+-- no pending job of a lower task number has the key that the job has
+abbrev pub is_lowest : List Task → Rule → Bool → List Live → JobId → Bool
+is_lowest set rule high now j =
+    list_all (λ i. not (same_job j i.job) || list_all (λ x. not ((key set rule high x == key set rule high i) && nat_lt x.job.task.0 j.task.0)) now) now
+
+-- of equal keys each tick takes the lowest task number
+abbrev pub lowest_first : List Task → Rule → List Row → Bool
+lowest_first set rule [] = true
+lowest_first set rule (Release j kept ∷ g) = lowest_first set rule g
+lowest_first set rule (Tick j how ∷ g) = is_lowest set rule (high_mode rule g) (pending set g) j && lowest_first set rule g
+lowest_first set rule (Idle ∷ g) = lowest_first set rule g
+
+-- the trace is the one that the set, the rule, the work and the number of ticks determine
+pub record Follows (set : List Task) (rule : Rule) (work : List WorkRow) (n : ℕ) (h : List Row) : Type 0 where
+  pub legal : Legal set rule h
+  pub ticks : ticks h ≡ n
+  pub ends : ends_in_tick h ≡ true
+  pub releases : reverse (arrivals h) ≡ planned work n
+  pub done : done_by_need work h ≡ true
+  pub lowest : lowest_first set rule h ≡ true

@@ -1,0 +1,43 @@
+-- The held releases are written one after another.
+use Rattle.std.proofs.Common.{◌≡◌, ℕ, ◌+◌, ◌<◌, ◌≤◌, List, [], ◌∷◌, ◌++◌, take, drop, reverse, length, get_or, refl, sym, ap, ◌∙◌, subst, arith}
+use Rattle.std.proofs.lemmas.List.{reverse-append, take-append-drop, length-reverse, length-take-le, take_more}
+use Rattle.mc_task.specs.declared.task.Rule.{Rule}
+use Rattle.mc_task.specs.declared.task.Task.{Task}
+use Rattle.mc_task.specs.declared.task.JobId.{JobId}
+use Rattle.mc_model.specs.declared.row.Row.{Row}
+use Rattle.mc_model.specs.Legal.{Legal}
+use Rattle.mode_core.proofs.Held.{length-held}
+use Rattle.mc_model.specs.Core.{add_held, release_row}
+
+-- the releases of two lists, one after the other
+held-append : (set : List Task) (rule : Rule) (xs ys : List JobId) (g : List Row) → add_held set rule (xs ++ ys) g ≡ add_held set rule xs (add_held set rule ys g)
+held-append set rule [] ys g = refl
+held-append set rule (x ∷ xs) ys g = ap (λ h. release_row set rule x h ∷ h) (held-append set rule xs ys g)
+
+-- what stands before legal rows is legal
+legal-before : (set : List Task) (rule : Rule) (xs : List JobId) (g : List Row) → Legal set rule (add_held set rule xs g) → Legal set rule g
+legal-before set rule [] g l = l
+legal-before set rule (x ∷ xs) g l = legal-before set rule xs g l.2
+
+-- one more, with the newest first
+reverse-more : (js : List JobId) (i : ℕ) (d : JobId) → i < length js → reverse (take (i + 1) js) ≡ get_or js i d ∷ reverse (take i js)
+reverse-more js i d h = ap reverse (take_more js i d h) ∙ reverse-append (take i js) (get_or js i d ∷ [])
+
+-- one more release is one more row
+pub add_one : (set : List Task) (rule : Rule) (js : List JobId) (i : ℕ) (d : JobId) (g : List Row) → i < length js →
+    add_held set rule (reverse (take (i + 1) js)) g ≡ release_row set rule (get_or js i d) (add_held set rule (reverse (take i js)) g) ∷ add_held set rule (reverse (take i js)) g
+add_one set rule js i d g h = ap (λ xs. add_held set rule xs g) (reverse-more js i d h)
+
+-- and that row fits
+pub legal_one : (set : List Task) (rule : Rule) (js : List JobId) (i : ℕ) (d : JobId) (g : List Row) → i < length js → Legal set rule (add_held set rule (reverse js) g) →
+    Legal set rule (release_row set rule (get_or js i d) (add_held set rule (reverse (take i js)) g) ∷ add_held set rule (reverse (take i js)) g)
+legal_one set rule js i d g h l =
+    let split : add_held set rule (reverse js) g ≡ add_held set rule (reverse (drop (i + 1) js)) (add_held set rule (reverse (take (i + 1) js)) g) =
+    ap (λ xs. add_held set rule (reverse xs) g) (sym (take-append-drop (i + 1) js)) ∙ (ap (λ xs. add_held set rule xs g) (reverse-append (take (i + 1) js) (drop (i + 1) js)) ∙ held-append set rule (reverse (drop (i + 1) js)) (reverse (take (i + 1) js)) g) in
+    subst (Legal set rule) (add_one set rule js i d g h) (legal-before set rule (reverse (drop (i + 1) js)) (add_held set rule (reverse (take (i + 1) js)) g) (subst (Legal set rule) split l))
+
+-- and there is room for it
+pub room_one : (set : List Task) (rule : Rule) (js : List JobId) (i n : ℕ) (g : List Row) → i < length js → length g + length js ≤ n → length (add_held set rule (reverse (take i js)) g) < n
+room_one set rule js i n g h r =
+    let t : length (take i js) ≡ i = length-take-le i js (omega (arith, h)) in
+    omega (arith, length-held set rule (reverse (take i js)) g, length-reverse (take i js), t, h, r)

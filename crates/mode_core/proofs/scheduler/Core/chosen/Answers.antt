@@ -1,0 +1,16 @@
+use Rattle.std.proofs.Common.{Some, None, subst}
+use Rattle.mc_model.specs.Core.{State}
+use Rattle.mode_core.specs.Choice.{IsChoice}
+use Rattle.mode_core.proofs.ChoiceLaw.{choice_of}
+use Rattle.mode_core.proofs.CoreSteps.{first_job, no_job_first}
+use Rattle.mode_core.proofs.scheduler.Core.chosen.Goals as goal
+
+pub returns-in-Some-clause-law : goal.returns-in-Some-clause-law
+returns-in-Some-clause-law c =
+    subst (λ (s : State). IsChoice s.set s.rule s.rows (Some c.in-Some.x.job)) c.self.view_is
+    (choice_of c.self.inside.book.set c.self.inside.book.rule c.self.inside.book.rows (Some c.in-Some.x.job) (first_job c.self.inside.book.rows _ c.in-Some.x c.in-Some.ensures))
+
+pub returns-in-None-clause-law : goal.returns-in-None-clause-law
+returns-in-None-clause-law c =
+    subst (λ (s : State). IsChoice s.set s.rule s.rows None) c.self.view_is
+    (choice_of c.self.inside.book.set c.self.inside.book.rule c.self.inside.book.rows None (no_job_first c.self.inside.book.rows _ c.in-None.ensures))

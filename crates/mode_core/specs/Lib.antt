@@ -1,0 +1,6 @@
+pub mod Events
+pub mod Written
+pub mod Entries
+pub mod Kept
+pub mod Shape
+pub mod Choice

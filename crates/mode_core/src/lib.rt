@@ -1,0 +1,13 @@
+//! The scheduler's core: EDF with Virtual Deadlines, one call an event.
+#![tactic(auto)]
+
+mod answers;
+mod book;
+mod pending;
+mod scheduler;
+mod steps;
+#[cfg(test)]
+mod tests;
+
+pub use answers::{GrantFault, Granted, IdleFault, NotOut, ReleaseFault, Released};
+pub use scheduler::Core;

@@ -1,0 +1,169 @@
+// The scheduler's state, and what can be read of it.
+ghost use Rattle.std.specs.Prelude.{◌≡◌, ◌<◌, ◌^◌, reverse, replicate, IfOk};
+ghost use Rattle.mc_model.specs.Holds.{Fits, Holds};
+ghost use Rattle.mc_model.specs.Rows.{ticks};
+ghost use Rattle.mc_model.specs.Mode.{high_mode};
+ghost use Rattle.mc_model.specs.Core.{begun, chosen};
+ghost use Rattle.mode_core.specs.Choice.{IsChoice};
+ghost use Rattle.mode_core.specs.Events.{empty_state, is_full};
+
+mod release;
+mod tick;
+
+use crate::book::Book;
+use mc_model::Row;
+use mc_task::{JobId, Memory, Rule, TaskSet};
+use std::alloc::{AllocError, Global};
+use std::marker::Model;
+
+// What is kept of a task's releases: how many there were, and the first boundary at which the next may come.
+#[derive(Clone, Copy, Debug, PartialEq, Eq)]
+struct Slot {
+    count: u32,
+    next: u64,
+}
+
+/// A schedule as it grows, one event a call. Contracts see the set, the rule, the number of places, the rows, the job
+/// whose tick is out, and the releases that are held until its outcome.
+#[derive(Debug, Drop)]
+pub struct Core {
+    book: Book,
+    slots: Vec<Slot>,
+    held: Vec<JobId>,
+    out: Option<JobId>,
+}
+
+impl Model for Core {
+    ghost use Rattle.mc_model.specs.Core.{State};
+
+    ghost Value = { State };
+
+    ghost use Rattle.mode_core.specs.Shape.{state_of, IsCore};
+
+    ghost view = { state_of };
+
+    ghost invariant = { IsCore };
+}
+
+impl Core {
+    ghost use Rattle.mode_core.specs.Shape.{IsSound};
+
+    /// A core with no rows, in low mode, with no tick out and nothing held. On want of memory the set is dropped.
+    ///
+    /// `places` is how many rows there is room for, held releases and a tick that is out among them. No later call
+    /// takes memory.
+    pub fn new(alloc: Global, set: TaskSet, rule: Rule, places: usize) -> Result<Core, Memory>
+        requires fits { Fits rule }
+        requires holds { Holds set rule }
+        requires places { places < 2 ^ 32 }
+        ensures { IfOk result (λ core. core ≡ empty_state set rule places) }
+    {
+        let count = set.len() as usize;
+        let Ok(slots) = fresh_slots(alloc, count) else {
+            return Err(Memory);
+        };
+        let Ok(held) = Vec::with_capacity(alloc, count) else {
+            return Err(Memory);
+        };
+        match Book::new(alloc, set, rule, places) {
+            Ok(book) => Ok(Core {
+                book,
+                slots,
+                held,
+                out: None,
+            }),
+            Err(_) => Err(Memory),
+        }
+    }
+
+    /// The rows, the oldest first.
+    pub fn rows(&self) -> &[Row]
+        ensures { result.now ≡ reverse self.now.rows }
+    {
+        self.book.rows()
+    }
+
+    /// The job whose tick is out.
+    pub fn out(&self) -> Option<JobId>
+        ensures { result ≡ self.now.out }
+    {
+        self.out
+    }
+
+    /// How many ticks the rows tell.
+    pub fn ticks(&self) -> u64
+        ensures value { result ≡ ticks self.now.rows }
+        ensures sound { IsSound self.now }
+    {
+        self.book.ticks()
+    }
+
+    /// How many ticks were begun: those of the rows, and the one that is out.
+    pub fn ticks_begun(&self) -> u64
+        ensures { result ≡ begun self.now }
+    {
+        match self.out {
+            Some(_) => self.book.ticks() + 1,
+            None => self.book.ticks(),
+        }
+    }
+
+    /// Whether the mode is high, by the rows.
+    pub fn high_mode(&self) -> bool
+        ensures { result ≡ high_mode self.now.rule self.now.rows }
+    {
+        self.book.high_mode()
+    }
+
+    /// The pending job with the least key, of equal keys the one of the lowest task number; `None` exactly where
+    /// nothing is pending.
+    pub fn chosen(&self) -> Option<JobId>
+        ensures value { result ≡ chosen self.now.set self.now.rule self.now.rows }
+        ensures law { IsChoice self.now.set self.now.rule self.now.rows result }
+    {
+        match self.book.first() {
+            Some(x) => Some(x.job),
+            None => None,
+        }
+    }
+
+    /// How many rows there is room for.
+    pub fn places(&self) -> usize
+        ensures value { result ≡ self.now.places }
+        ensures sound { IsSound self.now }
+    {
+        self.book.places()
+    }
+
+    /// The task set.
+    pub fn set(&self) -> &TaskSet
+        ensures { result.now ≡ self.now.set }
+    {
+        self.book.set()
+    }
+
+    /// The rule.
+    pub fn rule(&self) -> Rule
+        ensures { result ≡ self.now.rule }
+    {
+        self.book.rule()
+    }
+
+    // Whether each place is used.
+    fn is_full(&self) -> bool
+        ensures { result ≡ is_full self.now }
+    {
+        let out = match self.out {
+            Some(_) => 1,
+            None => 0,
+        };
+        self.book.len() + self.held.len() + out == self.book.places()
+    }
+}
+
+// A slot for each task, with no release.
+fn fresh_slots(alloc: Global, count: usize) -> Result<Vec<Slot>, AllocError>
+    ensures { IfOk result (λ v. v.items ≡ replicate count (record { count = 0; next = 0 })) }
+{
+    vec![in alloc; Slot { count: 0, next: 0 }; count]
+}

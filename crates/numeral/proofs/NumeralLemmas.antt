@@ -1,0 +1,59 @@
+-- Values of digits, and decimal texts.
+use Rattle.std.proofs.Common.{◌≡◌, ℕ, ◌+◌, ◌-◌, ◌*◌, ◌^◌, ◌<◌, ◌≤◌, Bool, true, false, ◌&&◌, nat_le, List, ◌∷◌, length, Some, IsTrue, refl, sym, ap, ◌∙◌, arith, rules, decimal}
+use Rattle.std.specs.List.{list_all}
+use Rattle.std.proofs.lemmas.Bool.Decides.{nat_tests}
+use Rattle.std.proofs.lemmas.Grind.{pow_more}
+use Rattle.std.proofs.lemmas.Fmt.{digits_decimal, digits_value-decimal, decimal_nonempty, length-decimal-le}
+use Rattle.std.proofs.lemmas.Str.Parse.{IsNumeralModel, numerals_by_weight}
+use Rattle.numeral.specs.Numeral.{is_digit, is_numeral, value, numeral, number, in_range}
+
+both : (a b : Bool) → (a && b) ≡ true → (a ≡ true) × (b ≡ true)
+both true true h = (refl, refl)
+both false b h = cc
+both true false h = cc
+
+spread : (v e p r n : ℕ) → v * (p * 10) + (e * p + r) ≡ n → (v * 10 + e) * p + r ≡ n
+spread v e p r n h = omega arith
+
+-- a digit more, after so many of the value v: what it makes of them, and what is left
+pub record Taken (v d : ℕ) (ds : List ℕ) (k n : ℕ) : Type 0 where
+  pub below : v * 10 + (d - 48) < 10 ^ (k + 1)
+  pub digits : IsTrue (list_all is_digit ds)
+  pub value : (v * 10 + (d - 48)) * 10 ^ length ds + value ds ≡ n
+
+pub taken : (v d : ℕ) (ds : List ℕ) (k n : ℕ) → v < 10 ^ k → IsTrue (list_all is_digit (d ∷ ds)) → v * 10 ^ length (d ∷ ds) + value (d ∷ ds) ≡ n → Taken v d ds k n
+taken v d ds k n below digits same =
+    let p = both (is_digit d) (list_all is_digit ds) digits in
+    let one : length (d ∷ ds) ≡ length ds + 1 = omega arith in
+    let more : 10 ^ length (d ∷ ds) ≡ 10 ^ length ds * 10 = ap (λ (k : ℕ). 10 ^ k) one ∙ pow_more 10 (length ds) in
+    let small : d ≤ 57 = grind (arith, nat_tests, p.0) in
+    record {
+      below = omega (arith, pow_more 10 k);
+      digits = p.1;
+      value = spread v (d - 48) (10 ^ length ds) (value ds) n (ap (λ (x : ℕ). v * x + ((d - 48) * 10 ^ length ds + value ds)) (sym more) ∙ same);
+    }
+
+own : IsNumeralModel (λ ds. list_all is_digit ds ≡ true) value
+own = numerals_by_weight _ (search rules) value (search rules)
+
+-- the decimal text of a number has digits only
+pub digits-decimal : (n : ℕ) → n < 2 ^ 64 → list_all is_digit (decimal n) ≡ true
+digits-decimal n h = digits_decimal own n h
+
+-- the decimal text of a number is read as the number
+pub number-decimal : (n : ℕ) → n < 2 ^ 32 → number (decimal n) ≡ Some n
+unfolding number numeral
+number-decimal n h =
+    let wide : n < 2 ^ 64 = omega arith in
+    let digits : list_all is_digit (decimal n) ≡ true = digits_decimal own n wide in
+    let same : value (decimal n) ≡ n = digits_value-decimal own n wide in
+    let some : 0 < length (decimal n) = decimal_nonempty n wide in
+    let few : length (decimal n) ≤ 10 = length-decimal-le 10 n (omega arith) (omega arith) wide in
+    let form : is_numeral 10 (decimal n) ≡ true = has_form (length (decimal n)) (list_all is_digit (decimal n)) some few digits in
+    rw (form, same) (fits n h)
+  where
+    has_form : (k : ℕ) (b : Bool) → 0 < k → k ≤ 10 → b ≡ true → ((nat_le 1 k && nat_le k 10) && b) ≡ true
+    has_form k b x y z = grind (arith, nat_tests)
+
+    fits : (n : ℕ) → n < 2 ^ 32 → in_range n ≡ Some n
+    fits n h = grind (arith, nat_tests)

@@ -1,0 +1,33 @@
+-- Numbers as decimal digits.
+use Rattle.std.specs.Prelude.{ℕ, ◌+◌, ◌-◌, ◌*◌, ◌^◌, Bool, ◌&&◌, nat_le, nat_lt, List, [], ◌∷◌, length, Option, Some, None, if◌then◌else◌}
+use Rattle.std.specs.List.{list_all}
+
+-- an ASCII digit
+abbrev pub is_digit : ℕ → Bool
+is_digit b = nat_le 48 b && nat_le b 57
+
+-- 1 to so many digits
+abbrev pub is_numeral : ℕ → List ℕ → Bool
+is_numeral most bytes = (nat_le 1 (length bytes) && nat_le (length bytes) most) && list_all is_digit bytes
+
+-- the value of digits, each by the weight of its place
+abbrev pub value : List ℕ → ℕ
+value [] = 0
+value (d ∷ ds) = (d - 48) * 10 ^ length ds + value ds
+
+-- the value of 1 to so many digits
+unfoldable pub numeral : ℕ → List ℕ → Option ℕ
+numeral most bytes = if is_numeral most bytes then Some (value bytes) else None
+
+-- the value, if it is below 2^32
+abbrev pub in_range : ℕ → Option ℕ
+in_range n = if nat_lt n (2 ^ 32) then Some n else None
+
+-- the same, where there is a value
+abbrev pub in_range_of : Option ℕ → Option ℕ
+in_range_of None = None
+in_range_of (Some n) = in_range n
+
+-- the value of 1 to 10 digits, if it is below 2^32
+unfoldable pub number : List ℕ → Option ℕ
+number bytes = in_range_of (numeral 10 bytes)

@@ -1,0 +1,6 @@
+//! Numbers as decimal digits.
+#![tactic(auto)]
+
+mod digits;
+
+pub use digits::{number, numeral};

@@ -1,0 +1,234 @@
+-- A trace that follows adds at each row what the plan adds.
+use Rattle.std.proofs.Common.{◌≡◌, ℕ, ◌+◌, ◌<◌, ◌≤◌, Bool, true, false, ◌&&◌, ◌||◌, List, [], ◌∷◌, ◌++◌, Option, Some, None, length, cond, filter, map, reverse, slice_get, nat_lt, nat_le, ◌==◌, refl, sym, ap, ap₂, ◌∙◌, subst, arith, ltb-true, ltb-false, ◌-◌, option_map, le_refl, le-leb, zero, suc, append_assoc}
+use Rattle.std.proofs.lemmas.Option.{same_Some}
+use Rattle.std.proofs.lemmas.List.{append-nil, length-reverse}
+use Rattle.std.proofs.lemmas.Grind.{reverse_onto}
+use Rattle.std.proofs.lemmas.Bool.Decides.{nat_tests}
+use Rattle.mc_task.specs.declared.task.Rule.{Rule}
+use Rattle.mc_task.specs.declared.task.Task.{Task}
+use Rattle.mc_task.specs.declared.task.JobId.{JobId}
+use Rattle.std.specs.List.{AllByRecursion}
+use Rattle.mc_task.specs.TaskSet.{IsTask}
+use Rattle.mc_model.specs.declared.row.How.{How}
+use Rattle.mc_model.specs.declared.row.How.TheVariants.{More, Done, Stop, Over}
+use Rattle.mc_model.specs.declared.row.Row.{Row}
+use Rattle.mc_model.specs.declared.row.Row.TheVariants.{Release, Tick, Idle}
+use Rattle.mc_model.specs.declared.verdict.Why.{Why}
+use Rattle.mc_model.specs.declared.work.WorkRow.{WorkRow}
+use Rattle.mc_model.specs.Holds.{Fits}
+use Rattle.mc_model.specs.Pending.{Live, pending}
+use Rattle.mc_model.specs.Rows.{ticks, used}
+use Rattle.mc_model.specs.Mode.{high_mode}
+use Rattle.mc_model.specs.Legal.{same_bool, same_how, is_done, is_empty, is_allowed_how, how_of, first_of_parts, Legal}
+use Rattle.mc_model.specs.Core.{chosen, keeps, release_row, outcome_of, first_to_run}
+use Rattle.mc_model.specs.Follows.{Arrival, arrivals, planned, done_by_need, lowest_first, Follows}
+use Rattle.mc_model.proofs.Lists.{Each}
+use Rattle.mc_model.proofs.Booleans.{and_both, eqb-refl}
+use Rattle.mc_model.proofs.Steps.{release_fits}
+use Rattle.timetable.specs.Ticks.{is_last, tick_row}
+use Rattle.timetable.proofs.NextRow.{first_job, row_now, next_row, Runs}
+use Rattle.timetable.proofs.OneChosen.{chosen_is}
+
+-- the arrivals that are still to come are at t or later
+abbrev pub Later : ℕ → List Arrival → Type 0
+Later t [] = Unit {0}
+Later t (a ∷ xs) = (t ≤ a.at) × Later t xs
+
+-- what is to come at a later time is to come at an earlier one
+pub Later-less : (t u : ℕ) (xs : List Arrival) → t ≤ u → Later u xs → Later t xs
+Later-less t u [] h l = tt
+Later-less t u (a ∷ xs) h l = let d = l.0 in (omega (arith, h, d), Later-less t u xs h l.1)
+
+-- the entry after so many
+get_at : (xs : List Arrival) (a : Arrival) (ys : List Arrival) → slice_get (xs ++ a ∷ ys) (length xs) ≡ Some a
+get_at [] a ys = refl
+get_at (x ∷ xs) a ys = get_at xs a ys
+
+-- there is none at the end
+get_past : (xs : List Arrival) → slice_get xs (length xs) ≡ None
+get_past [] = refl
+get_past (x ∷ xs) = get_past xs
+
+-- what is planned stands before n
+pub planned_each : (work : List WorkRow) (n : ℕ) → Each (λ a. a.at < n) (planned work n)
+planned_each [] n = tt
+planned_each (w ∷ ws) n = go (planned_each ws n) (nat_lt w.release n) refl
+  where
+    go : Each (λ a. a.at < n) (planned ws n) → (b : Bool) → nat_lt w.release n ≡ b → Each (λ (a : Arrival). a.at < n) (map (λ (v : WorkRow). record { task = v.task.0; at = v.release }) (cond b (w ∷ filter (λ v. nat_lt v.release n) ws) (filter (λ v. nat_lt v.release n) ws)))
+    go ih true m = (ltb-true _ _ m, ih)
+    go ih false m = ih
+
+-- what holds of each holds of one
+each_get : (P : Arrival → Type 0) (xs : List Arrival) (i : ℕ) (a : Arrival) → Each P xs → slice_get xs i ≡ Some a → P a
+each_get P [] i a h e = cc
+each_get P (x ∷ xs) zero a h e = let d : x ≡ a = cc in subst P d h.0
+each_get P (x ∷ xs) (suc i) a h e = each_get P xs i a h.1 e
+
+-- by the test of two truth values
+same_bool-is : (a b : Bool) → same_bool a b ≡ true → a ≡ b
+same_bool-is true true h = refl
+same_bool-is true false h = cc
+same_bool-is false false h = refl
+same_bool-is false true h = cc
+
+-- the one how that is done
+how_done : (h : How) → is_done h ≡ true → h ≡ Done
+how_done More e = cc
+how_done Done e = refl
+how_done Stop e = cc
+how_done Over e = cc
+
+-- by the test of two hows
+how_same : (h k : How) → same_how h k ≡ true → h ≡ k
+how_same More More e = refl
+how_same Done Done e = refl
+how_same Stop Stop e = refl
+how_same Over Over e = refl
+how_same More Done e = cc
+how_same More Stop e = cc
+how_same More Over e = cc
+how_same Done More e = cc
+how_same Done Stop e = cc
+how_same Done Over e = cc
+how_same Stop More e = cc
+how_same Stop Done e = cc
+how_same Stop Over e = cc
+how_same Over More e = cc
+how_same Over Done e = cc
+how_same Over Stop e = cc
+
+-- the how of a tick is fixed by whether it is done
+how_is : (set : List Task) (rule : Rule) (g : List Row) (j : JobId) (how : How) (d : Bool) → is_allowed_how set rule g j how ≡ true → is_done how ≡ d → how ≡ outcome_of set rule g j d
+how_is set rule g j how true a e = how_done how e
+how_is set rule g j how false a e = how_same how (how_of set rule g j (used g j + 1)) (pick (is_done how) _ _ e a)
+  where
+    pick : (b c d : Bool) → b ≡ false → ((b && c) || d) ≡ true → d ≡ true
+    pick true c d e h = cc
+    pick false c d e h = h
+
+-- what a row says of the prefix before it
+
+-- tests of numbers
+lt_test : (m n : ℕ) → m < n → nat_le n m ≡ false
+lt_test m n h = grind (arith, nat_tests)
+
+apart_test : (m n : ℕ) → n + 1 ≤ m → (m == n) ≡ false
+apart_test m n h = grind (arith, nat_tests)
+
+-- where no part fails, the three are true
+parts_three : (a b c : Bool) (u v w : Why) → first_of_parts ((a, u) ∷ (b, v) ∷ (c, w) ∷ []) ≡ None → (a ≡ true) × (b ≡ true) × (c ≡ true)
+parts_three true true true u v w h = (refl, refl, refl)
+parts_three false b c u v w h = cc
+parts_three true false c u v w h = cc
+parts_three true true false u v w h = cc
+
+-- where no part fails, the one part is true
+parts_one : (a : Bool) (u : Why) → first_of_parts ((a, u) ∷ []) ≡ None → a ≡ true
+parts_one true u h = refl
+parts_one false u h = cc
+
+-- the next row, by the first release that was not taken
+pub next_at : (set : List Task) (rule : Rule) (work : List WorkRow) (n : ℕ) (g : List Row) (o : Option Arrival) → ticks g < n → slice_get (planned work n) (length (arrivals g)) ≡ o → next_row set rule work n g ≡ Some (row_now set rule work g o)
+next_at set rule work n g o h e = let t = lt_test (ticks g) n h in rw (t, e) refl
+
+-- a release that the trace has is the one that is due
+release_next : (set : List Task) (rule : Rule) (work : List WorkRow) (n : ℕ) (j : JobId) (kept : Bool) (g : List Row) (rest : List Arrival) →
+    Legal set rule (Release j kept ∷ g) → reverse (arrivals g) ++ record { task = j.task.0; at = ticks g } ∷ rest ≡ planned work n → next_row set rule work n g ≡ Some (Release j kept)
+release_next set rule work n j kept g rest l e =
+    let a : Arrival = record { task = j.task.0; at = ticks g } in
+    let found : slice_get (planned work n) (length (arrivals g)) ≡ Some a =
+    subst (λ xs. slice_get xs (length (arrivals g)) ≡ Some a) e (subst (λ (i : ℕ). slice_get (reverse (arrivals g) ++ a ∷ rest) i ≡ Some a) (length-reverse (arrivals g)) (get_at (reverse (arrivals g)) a rest)) in
+    let soon : ticks g < n = each_get (λ (x : Arrival). x.at < n) (planned work n) (length (arrivals g)) a (planned_each work n) found in
+    let fits = release_fits set rule j kept g l.1 in
+    let k : kept ≡ keeps set rule g j.task.0 = same_bool-is kept (keeps set rule g j.task.0) fits.kept_so in
+    let job : first_job g j.task.0 ≡ j = ap (λ (c : ℕ). let x : JobId = record { task = j.task; count = c } in x) (sym fits.count) in
+    let t = eqb-refl (ticks g) in
+    next_at set rule work n g (Some a) soon found ∙ rw t (ap (λ (x : JobId). Some (release_row set rule x g)) job ∙ ap (λ (b : Bool). Some (Release j b)) (sym k))
+
+-- no release is due before a tick
+not_due : (set : List Task) (rule : Rule) (work : List WorkRow) (n : ℕ) (g : List Row) (rest : List Arrival) → ticks g < n → reverse (arrivals g) ++ rest ≡ planned work n → Later (ticks g + 1) rest → next_row set rule work n g ≡ Some (tick_row set rule work g (chosen set rule g))
+not_due set rule work n g [] h e l =
+    next_at set rule work n g None h
+    (subst (λ xs. slice_get xs (length (arrivals g)) ≡ None) (sym (append-nil (reverse (arrivals g))) ∙ e) (subst (λ (i : ℕ). slice_get (reverse (arrivals g)) i ≡ None) (length-reverse (arrivals g)) (get_past (reverse (arrivals g)))))
+not_due set rule work n g (a ∷ rest) h e l =
+    let found : slice_get (planned work n) (length (arrivals g)) ≡ Some a =
+    subst (λ xs. slice_get xs (length (arrivals g)) ≡ Some a) e (subst (λ (i : ℕ). slice_get (reverse (arrivals g) ++ a ∷ rest) i ≡ Some a) (length-reverse (arrivals g)) (get_at (reverse (arrivals g)) a rest)) in
+    let t = apart_test a.at (ticks g) l.0 in
+    next_at set rule work n g (Some a) h found ∙ rw t refl
+
+-- the newest arrival stands last in the order of time
+pub reverse-move : (a : Arrival) (xs ys : List Arrival) → reverse (a ∷ xs) ++ ys ≡ reverse xs ++ a ∷ ys
+reverse-move a xs ys = ap (λ zs. zs ++ ys) (reverse_onto xs a []) ∙ append_assoc (reverse xs) (a ∷ []) ys
+
+-- where nothing is pending, none is chosen
+nothing_chosen : (set : List Task) (rule : Rule) (g : List Row) → is_empty (pending set g) ≡ true → chosen set rule g ≡ None
+nothing_chosen set rule g e = ap (λ (xs : List Live). option_map (λ (i : Live). i.job) (first_to_run set rule (high_mode rule g) xs)) (none (pending set g) e)
+  where
+    none : (xs : List Live) → is_empty xs ≡ true → xs ≡ []
+    none [] m = refl
+    none (x ∷ xs) m = cc
+
+-- each row of a trace that follows, up to its releases that are still to come, is the one that the plan adds
+pub determined : (set : List Task) (rule : Rule) (work : List WorkRow) (n : ℕ) (h : List Row) (rest : List Arrival) → AllByRecursion IsTask set → Fits rule → Legal set rule h → ticks h ≤ n → reverse (arrivals h) ++ rest ≡ planned work n → Later (ticks h) rest →
+    done_by_need work h ≡ true → lowest_first set rule h ≡ true → Runs set rule work n h
+determined set rule work n [] rest s f l t e r d o = tt
+determined set rule work n (Release j kept ∷ g) rest s f l t e r d o =
+    let e' = sym (reverse-move (record { task = j.task.0; at = ticks g }) (arrivals g) rest) ∙ e in
+    (release_next set rule work n j kept g rest l e', determined set rule work n g (record { task = j.task.0; at = ticks g } ∷ rest) s f l.2 t e' (le_refl _, r) d o)
+determined set rule work n (Tick j how ∷ g) rest s f l t e r d o =
+    let p = parts_three _ _ _ _ _ _ l.1 in
+    let c : chosen set rule g ≡ Some j = chosen_is set rule g j s f l.2 p.0 p.1 (and_both _ _ o).0 in
+    let w : how ≡ outcome_of set rule g j (is_last work g j) = how_is set rule g j how (is_last work g j) p.2 (same_bool-is _ _ (and_both _ _ d).0) in (
+      not_due set rule work n g rest (omega (arith, t)) e r ∙ (ap (λ (x : Option JobId). Some (tick_row set rule work g x)) c ∙ ap (λ (x : How). Some (Tick j x)) (sym w)),
+      determined set rule work n g rest s f l.2 (omega (arith, t)) e (Later-less (ticks g) (ticks g + 1) rest (omega arith) r) (and_both _ _ d).1 (and_both _ _ o).1,
+    )
+determined set rule work n (Idle ∷ g) rest s f l t e r d o =
+    let c : chosen set rule g ≡ None = nothing_chosen set rule g (parts_one _ _ l.1) in (
+      not_due set rule work n g rest (omega (arith, t)) e r ∙ ap (λ (x : Option JobId). Some (tick_row set rule work g x)) c,
+      determined set rule work n g rest s f l.2 (omega (arith, t)) e (Later-less (ticks g) (ticks g + 1) rest (omega arith) r) d o,
+    )
+
+-- two lists of rows that the plan adds are one
+
+-- of one length they are one
+same_length : (set : List Task) (rule : Rule) (work : List WorkRow) (n : ℕ) (h k : List Row) → length h ≡ length k → Runs set rule work n h → Runs set rule work n k → h ≡ k
+same_length set rule work n [] [] e a b = refl
+same_length set rule work n [] (r ∷ k) e a b = absurd (omega (arith, e))
+same_length set rule work n (q ∷ h) [] e a b = absurd (omega (arith, e))
+same_length set rule work n (q ∷ h) (r ∷ k) e a b =
+    let same : h ≡ k = same_length set rule work n h k (omega (arith, e)) a.1 b.1 in
+    let next : q ≡ r = same_Some q r (sym a.0 ∙ (ap (next_row set rule work n) same ∙ b.0)) in
+    ap₂ (λ (x : Row) (xs : List Row). x ∷ xs) next same
+
+-- none is longer than one to which the plan adds no row
+longer : (set : List Task) (rule : Rule) (work : List WorkRow) (n m : ℕ) (k h : List Row) → length k ≡ m + 1 + length h → Runs set rule work n k → Runs set rule work n h → next_row set rule work n h ≡ None → ⊥
+longer set rule work n m [] h e a b f = omega (arith, e)
+longer set rule work n m (r ∷ k) h e a b f = go (λ i d. longer set rule work n i k h d a.1 b f) m e
+  where
+    no : (x : Row) (o : Option Row) → o ≡ None → o ≡ Some x → ⊥
+    no x o p q = cc
+
+    go : ((i : ℕ) → length k ≡ i + 1 + length h → ⊥) → (m : ℕ) → length (r ∷ k) ≡ m + 1 + length h → ⊥
+    go more zero e = no r (next_row set rule work n h) f (ap (next_row set rule work n) (sym (same_length set rule work n k h (omega (arith, e)) a.1 b)) ∙ a.0)
+    go more (suc m) e = more m (omega (arith, e))
+
+-- two to which the plan adds no row are one
+pub one : (set : List Task) (rule : Rule) (work : List WorkRow) (n : ℕ) (h k : List Row) → Runs set rule work n h → Runs set rule work n k → next_row set rule work n h ≡ None → next_row set rule work n k ≡ None → h ≡ k
+one set rule work n h k a b c d = go (nat_lt (length h) (length k)) refl (nat_lt (length k) (length h)) refl
+  where
+    go : (x : Bool) → nat_lt (length h) (length k) ≡ x → (y : Bool) → nat_lt (length k) (length h) ≡ y → h ≡ k
+    go true m y p = let q : length h < length k = ltb-true _ _ m in absurd (longer set rule work n (length k - length h - 1) k h (omega (arith, q)) b a c)
+    go false m true p = let q : length k < length h = ltb-true _ _ p in absurd (longer set rule work n (length h - length k - 1) h k (omega (arith, q)) a b d)
+    go false m false p = same_length set rule work n h k (let x = ltb-false _ _ m in let y = ltb-false _ _ p in omega (arith, x, y)) a b
+
+-- a trace that follows is one that the plan adds
+pub follows_runs : (set : List Task) (rule : Rule) (work : List WorkRow) (n : ℕ) (h : List Row) → AllByRecursion IsTask set → Fits rule → Follows set rule work n h → Runs set rule work n h
+follows_runs set rule work n h s f x = determined set rule work n h [] s f x.legal (let t = x.ticks in omega (arith, t)) (append-nil (reverse (arrivals h)) ∙ x.releases) tt x.done x.lowest
+
+-- and the plan adds no more to it
+pub follows_ends : (set : List Task) (rule : Rule) (work : List WorkRow) (n : ℕ) (h : List Row) → Follows set rule work n h → next_row set rule work n h ≡ None
+follows_ends set rule work n h x = let t : nat_le n (ticks h) ≡ true = le-leb _ _ (let y = x.ticks in omega (arith, y)) in rw t refl
+
+-- at most one trace follows
+pub one_follows : (set : List Task) (rule : Rule) (work : List WorkRow) (n : ℕ) (h k : List Row) → AllByRecursion IsTask set → Fits rule → Follows set rule work n h → Follows set rule work n k → h ≡ k
+one_follows set rule work n h k s f x y = one set rule work n h k (follows_runs set rule work n h s f x) (follows_runs set rule work n k s f y) (follows_ends set rule work n h x) (follows_ends set rule work n k y)

@@ -1,0 +1,330 @@
+-- Rows that the plan adds, until it adds none, follow.
+use Rattle.std.proofs.Common.{◌≡◌, ◌≢◌, ℕ, ◌+◌, ◌<◌, ◌≤◌, Bool, true, false, not, ◌&&◌, ◌||◌, List, [], ◌∷◌, ◌++◌, Option, Some, None, length, cond, filter, map, reverse, slice_get, nat_lt, nat_le, ◌==◌, refl, sym, ap, ap₂, ◌∙◌, subst, arith, leb-false, eqb-true}
+use Rattle.std.specs.List.{list_all, AllByRecursion}
+use Rattle.std.proofs.lemmas.Option.{same_Some}
+use Rattle.std.proofs.lemmas.List.{append-nil, length-reverse}
+use Rattle.std.proofs.lemmas.Bool.Decides.{nat_tests}
+use Rattle.mc_task.specs.declared.task.Rule.{Rule}
+use Rattle.mc_task.specs.declared.task.Task.{Task}
+use Rattle.mc_task.specs.declared.task.JobId.{JobId}
+use Rattle.mc_task.specs.TaskSet.{IsTask}
+use Rattle.mc_model.specs.declared.row.How.{How}
+use Rattle.mc_model.specs.declared.row.How.TheVariants.{More, Stop, Over}
+use Rattle.mc_model.specs.declared.row.Row.{Row}
+use Rattle.mc_model.specs.declared.row.Row.TheVariants.{Release, Tick, Idle}
+use Rattle.mc_model.specs.declared.work.WorkRow.{WorkRow}
+use Rattle.mc_model.specs.Pending.{Live, pending}
+use Rattle.mc_model.specs.Rows.{ticks, same_job}
+use Rattle.mc_model.specs.Mode.{high_mode}
+use Rattle.mc_model.specs.Legal.{same_bool, is_done, Legal}
+use Rattle.mc_model.specs.Key.{key}
+use Rattle.mc_model.specs.Core.{chosen, release_row, outcome_of, runs_before}
+use Rattle.mc_model.specs.Follows.{Arrival, arrivals, planned, ends_in_tick, done_by_need, lowest_first, is_lowest, Follows}
+use Rattle.mc_model.proofs.Booleans.{or_true, eqb-false}
+use Rattle.mc_model.proofs.Lists.{Each, Each-map}
+use Rattle.mode_core.proofs.Apart.{pending_apart, only}
+use Rattle.mode_core.proofs.Chosen.{Choice, choice, IsFirst, is_first}
+use Rattle.timetable.specs.Ticks.{is_last, tick_row}
+use Rattle.timetable.proofs.NextRow.{first_job, row_now, next_row, Runs}
+use Rattle.mc_model.specs.Work.{AllFollow, IsWork}
+use Rattle.timetable.proofs.Determined.{Later, Later-less, planned_each, reverse-move}
+
+-- what is added
+
+-- a row that is added, with what was the first release that was not taken
+pub record Added (set : List Task) (rule : Rule) (work : List WorkRow) (n : ℕ) (g : List Row) (row : Row) : Type 0 where
+  pub head : Option Arrival
+  pub head_is : slice_get (planned work n) (length (arrivals g)) ≡ head
+  pub row_is : row_now set rule work g head ≡ row
+  pub soon : ticks g < n
+
+-- a row that the plan adds
+pub added : (set : List Task) (rule : Rule) (work : List WorkRow) (n : ℕ) (g : List Row) (row : Row) → next_row set rule work n g ≡ Some row → Added set rule work n g row
+added set rule work n g row e = go (nat_le n (ticks g)) refl e
+  where
+    go : (b : Bool) → nat_le n (ticks g) ≡ b → cond b None (Some (row_now set rule work g (slice_get (planned work n) (length (arrivals g))))) ≡ Some row → Added set rule work n g row
+    go true m k = cc
+    go false m k = record {
+      head = slice_get (planned work n) (length (arrivals g));
+      head_is = refl;
+      row_is = same_Some _ row k;
+      soon = leb-false _ _ m;
+    }
+
+-- whether the head is due decides between a release and a tick
+pub record IsTickRow (set : List Task) (rule : Rule) (work : List WorkRow) (g : List Row) (head : Option Arrival) (row : Row) : Type 0 where
+  pub row_is : tick_row set rule work g (chosen set rule g) ≡ row
+  pub not_due : (a : Arrival) → head ≡ Some a → a.at ≢ ticks g
+
+-- of a tick
+tick_rows : (set : List Task) (rule : Rule) (work : List WorkRow) (g : List Row) (o : Option Arrival) (j : JobId) (how : How) → row_now set rule work g o ≡ Tick j how → IsTickRow set rule work g o (Tick j how)
+tick_rows set rule work g None j how e = record { row_is = e; not_due = λ a k. cc }
+tick_rows set rule work g (Some a) j how e = go (a.at == ticks g) refl e
+  where
+    go : (b : Bool) → (a.at == ticks g) ≡ b → cond b (release_row set rule (first_job g a.task) g) (tick_row set rule work g (chosen set rule g)) ≡ Tick j how → IsTickRow set rule work g (Some a) (Tick j how)
+    go true m k = cc
+    go false m k = record { row_is = k; not_due = λ x d. subst (λ (y : Arrival). y.at ≢ ticks g) (same_Some a x d) (eqb-false _ _ m) }
+
+-- of an idle tick
+idle_rows : (set : List Task) (rule : Rule) (work : List WorkRow) (g : List Row) (o : Option Arrival) → row_now set rule work g o ≡ Idle → IsTickRow set rule work g o Idle
+idle_rows set rule work g None e = record { row_is = e; not_due = λ a k. cc }
+idle_rows set rule work g (Some a) e = go (a.at == ticks g) refl e
+  where
+    go : (b : Bool) → (a.at == ticks g) ≡ b → cond b (release_row set rule (first_job g a.task) g) (tick_row set rule work g (chosen set rule g)) ≡ Idle → IsTickRow set rule work g (Some a) Idle
+    go true m k = cc
+    go false m k = record { row_is = k; not_due = λ x d. subst (λ (y : Arrival). y.at ≢ ticks g) (same_Some a x d) (eqb-false _ _ m) }
+
+-- an arrival of task number k at t
+abbrev arrival : ℕ → ℕ → Arrival
+arrival k t = record { task = k; at = t }
+
+-- a release that is added is the head, at this boundary
+release_rows : (set : List Task) (rule : Rule) (work : List WorkRow) (g : List Row) (o : Option Arrival) (j : JobId) (kept : Bool) → row_now set rule work g o ≡ Release j kept → o ≡ Some (arrival j.task.0 (ticks g))
+release_rows set rule work g None j kept e = no (chosen set rule g) e
+  where
+    no : (c : Option JobId) → tick_row set rule work g c ≡ Release j kept → None ≡ Some (arrival j.task.0 (ticks g))
+    no None k = cc
+    no (Some i) k = cc
+release_rows set rule work g (Some a) j kept e = go (a.at == ticks g) refl e
+  where
+    no : (c : Option JobId) → tick_row set rule work g c ≡ Release j kept → Some a ≡ Some (arrival j.task.0 (ticks g))
+    no None k = cc
+    no (Some i) k = cc
+
+    go : (b : Bool) → (a.at == ticks g) ≡ b → cond b (release_row set rule (first_job g a.task) g) (tick_row set rule work g (chosen set rule g)) ≡ Release j kept → Some a ≡ Some (arrival j.task.0 (ticks g))
+    go true m k =
+        let d : first_job g a.task ≡ j = cc in
+        let t : a.task ≡ j.task.0 = ap (λ (x : JobId). x.task.0) d in
+        let u : a.at ≡ ticks g = eqb-true _ _ m in
+        ap (λ (x : Arrival). Some x) (two a (arrival j.task.0 (ticks g)) t u)
+      where
+        two : (x y : Arrival) → x.task ≡ y.task → x.at ≡ y.at → x ≡ y
+        two x y p q = ap₂ {C = Arrival} (λ (k t : ℕ). record { task = k; at = t }) p q
+    go false m k = no (chosen set rule g) k
+
+-- the job and the how of a tick that is added
+pub record IsChosenTick (set : List Task) (rule : Rule) (work : List WorkRow) (g : List Row) (j : JobId) (how : How) : Type 0 where
+  pub chosen_is : chosen set rule g ≡ Some j
+  pub how_is : how ≡ outcome_of set rule g j (is_last work g j)
+
+-- a tick is of the chosen job, with the how that its need gives
+chosen_tick : (set : List Task) (rule : Rule) (work : List WorkRow) (g : List Row) (j : JobId) (how : How) → tick_row set rule work g (chosen set rule g) ≡ Tick j how → IsChosenTick set rule work g j how
+chosen_tick set rule work g j how e = go (chosen set rule g) refl e
+  where
+    go : (c : Option JobId) → chosen set rule g ≡ c → tick_row set rule work g c ≡ Tick j how → IsChosenTick set rule work g j how
+    go None m k = cc
+    go (Some i) m k =
+        let d : i ≡ j = cc in
+        let h : outcome_of set rule g i (is_last work g i) ≡ how = cc in
+        record { chosen_is = m ∙ ap (λ (x : JobId). Some x) d; how_is = sym (subst (λ (x : JobId). outcome_of set rule g x (is_last work g x) ≡ how) d h) }
+
+-- the parts of following
+
+-- a how that is determined is never done
+never_done : (b c : Bool) → is_done (cond b Stop (cond c Over More)) ≡ false
+never_done true c = refl
+never_done false true = refl
+never_done false false = refl
+
+-- an outcome is done as it is told
+done_as : (set : List Task) (rule : Rule) (g : List Row) (j : JobId) (d : Bool) → is_done (outcome_of set rule g j d) ≡ d
+done_as set rule g j true = refl
+done_as set rule g j false = never_done _ _
+
+-- tests of truth values
+same_bool-refl : (b : Bool) → same_bool b b ≡ true
+same_bool-refl true = refl
+same_bool-refl false = refl
+
+both : (a b : Bool) → a ≡ true → b ≡ true → (a && b) ≡ true
+both true true p q = refl
+both true false p q = cc
+both false b p q = cc
+
+-- a test that each passes is passed by all
+all_from : (p : Live → Bool) (xs : List Live) → Each (λ x. p x ≡ true) xs → list_all p xs ≡ true
+all_from p [] h = refl
+all_from p (x ∷ xs) h = let a = h.0 in rw a (all_from p xs h.1)
+
+-- of a key that is not before another, the number is not lower at an equal key
+not_lower : (kx ki tx ti : ℕ) → (nat_lt kx ki || ((kx == ki) && nat_lt tx ti)) ≡ false → not ((kx == ki) && nat_lt tx ti) ≡ true
+not_lower kx ki tx ti h = grind (arith, nat_tests)
+
+-- no pending job of a lower number has the chosen job's key
+lowest : (set : List Task) (rule : Rule) (g : List Row) (j : JobId) → AllByRecursion IsTask set → Legal set rule g → chosen set rule g ≡ Some j → is_lowest set rule (high_mode rule g) (pending set g) j ≡ true
+lowest set rule g j s l e = subst (λ (k : JobId). is_lowest set rule (high_mode rule g) (pending set g) k ≡ true) c.job of_live
+  where
+    c : Choice set rule g j
+    c = choice set rule g j e
+
+    high : Bool
+    high = high_mode rule g
+
+    f : IsFirst set rule high (pending set g) c.live
+    f = is_first set rule high (pending set g) c.live c.first
+
+    of_one : list_all (λ z. not ((key set rule high z == key set rule high c.live) && nat_lt z.job.task.0 c.live.job.task.0)) (pending set g) ≡ true
+    of_one = all_from (λ z. not ((key set rule high z == key set rule high c.live) && nat_lt z.job.task.0 c.live.job.task.0)) (pending set g)
+        (Each-map {P = λ z. runs_before set rule high z c.live ≡ false} (λ z r. not_lower (key set rule high z) (key set rule high c.live) z.job.task.0 c.live.job.task.0 r) (pending set g) f.none_before)
+
+    at : (i : Live) → (same_job c.live.job i.job ≡ true → i ≡ c.live) → (b : Bool) → same_job c.live.job i.job ≡ b →
+        (not (same_job c.live.job i.job) || list_all (λ z. not ((key set rule high z == key set rule high i) && nat_lt z.job.task.0 c.live.job.task.0)) (pending set g)) ≡ true
+    at i o true m = or_true _ _ (subst (λ (w : Live). list_all (λ z. not ((key set rule high z == key set rule high w) && nat_lt z.job.task.0 c.live.job.task.0)) (pending set g) ≡ true) (sym (o m)) of_one)
+    at i o false m = rw m refl
+
+    of_live : is_lowest set rule high (pending set g) c.live.job ≡ true
+    of_live = all_from (λ i. not (same_job c.live.job i.job) || list_all (λ z. not ((key set rule high z == key set rule high i) && nat_lt z.job.task.0 c.live.job.task.0)) (pending set g)) (pending set g)
+        (Each-map {P = λ i. same_job c.live.job i.job ≡ true → i ≡ c.live} (λ i o. at i o (same_job c.live.job i.job) refl) (pending set g) (only c.live (pending set g) (pending_apart set rule g s l) f.inside))
+
+-- the arrivals that are planned never fall
+abbrev pub Sorted : List Arrival → Type 0
+Sorted [] = Unit {0}
+Sorted (a ∷ xs) = Later a.at xs × Sorted xs
+
+-- what is planned behind a work row is not before it
+pub later_planned : (set : List Task) (w : WorkRow) (ws : List WorkRow) (n : ℕ) → AllFollow set w ws → Later w.release (planned ws n)
+later_planned set w [] n f = tt
+later_planned set w (v ∷ vs) n f = go (later_planned set w vs n f.1) (nat_lt v.release n)
+  where
+    go : Later w.release (planned vs n) → (b : Bool) → Later w.release (map (λ (x : WorkRow). record { task = x.task.0; at = x.release }) (cond b (v ∷ filter (λ x. nat_lt x.release n) vs) (filter (λ x. nat_lt x.release n) vs)))
+    go ih true = (f.0.order, ih)
+    go ih false = ih
+
+-- what is planned never falls
+pub planned_sorted : (set : List Task) (work : List WorkRow) (n : ℕ) → IsWork set work → Sorted (planned work n)
+planned_sorted set [] n w = tt
+planned_sorted set (v ∷ vs) n w = go (planned_sorted set vs n w.2) (nat_lt v.release n)
+  where
+    go : Sorted (planned vs n) → (b : Bool) → Sorted (map (λ (x : WorkRow). record { task = x.task.0; at = x.release }) (cond b (v ∷ filter (λ x. nat_lt x.release n) vs) (filter (λ x. nat_lt x.release n) vs)))
+    go ih true = (later_planned set v vs n w.1, ih)
+    go ih false = ih
+
+-- all is at 0 or later
+Later-any : (xs : List Arrival) → Later 0 xs
+Later-any [] = tt
+Later-any (a ∷ xs) = (omega arith, Later-any xs)
+
+-- what is still to come
+pub record Rest (work : List WorkRow) (n : ℕ) (h : List Row) : Type 0 where
+  pub rest : List Arrival
+  pub split : reverse (arrivals h) ++ rest ≡ planned work n
+  pub later : Later (ticks h) rest
+  pub sorted : Sorted rest
+  pub within : ticks h ≤ n
+
+-- the first of the rest
+head_of : (xs : List Arrival) (rest : List Arrival) → slice_get (xs ++ rest) (length xs) ≡ slice_get rest 0
+head_of [] rest = refl
+head_of (x ∷ xs) rest = head_of xs rest
+
+-- the first release that was not taken
+pub head_at : (work : List WorkRow) (n : ℕ) (g : List Row) (rest : List Arrival) → reverse (arrivals g) ++ rest ≡ planned work n → slice_get (planned work n) (length (arrivals g)) ≡ slice_get rest 0
+head_at work n g rest e =
+    subst (λ xs. slice_get xs (length (arrivals g)) ≡ slice_get rest 0) e (subst (λ (i : ℕ). slice_get (reverse (arrivals g) ++ rest) i ≡ slice_get rest 0) (length-reverse (arrivals g)) (head_of (reverse (arrivals g)) rest))
+
+-- where the first is not due, all are later
+later_more : (t : ℕ) (rest : List Arrival) → Later t rest → Sorted rest → ((a : Arrival) → slice_get rest 0 ≡ Some a → a.at ≢ t) → Later (t + 1) rest
+later_more t [] l s d = tt
+later_more t (a ∷ xs) l s d =
+    let n : a.at ≢ t = d a refl in
+    let k = l.0 in
+    (omega (arith, n, k), Later-less (t + 1) a.at xs (omega (arith, n, k)) s.0)
+
+-- what the plan adds leaves a rest that is still to come
+pub rest_of : (set : List Task) (rule : Rule) (work : List WorkRow) (n : ℕ) (h : List Row) → IsWork set work → Runs set rule work n h → Rest work n h
+rest_of set rule work n [] w r = record { rest = planned work n; split = refl; later = Later-any (planned work n); sorted = planned_sorted set work n w; within = omega arith }
+rest_of set rule work n (Release j kept ∷ g) w r =
+    let ih : Rest work n g = rest_of set rule work n g w r.1 in
+    let x = added set rule work n g (Release j kept) r.0 in
+    let a : Arrival = record { task = j.task.0; at = ticks g } in
+    let e : slice_get ih.rest 0 ≡ Some a = sym (head_at work n g ih.rest ih.split) ∙ (x.head_is ∙ release_rows set rule work g x.head j kept x.row_is) in
+    taken ih.rest a ih.split ih.later ih.sorted ih.within e
+  where
+    taken : (rest : List Arrival) (a : Arrival) → reverse (arrivals g) ++ rest ≡ planned work n → Later (ticks g) rest → Sorted rest → ticks g ≤ n → slice_get rest 0 ≡ Some (record { task = j.task.0; at = ticks g }) → Rest work n (Release j kept ∷ g)
+    taken [] a p l s t e = cc
+    taken (b ∷ xs) a p l s t e =
+        let d : b ≡ record { task = j.task.0; at = ticks g } = same_Some b _ e in
+        record {
+          rest = xs;
+          split = reverse-move (record { task = j.task.0; at = ticks g }) (arrivals g) xs ∙ (ap (λ (y : Arrival). reverse (arrivals g) ++ y ∷ xs) (sym d) ∙ p);
+          later = l.1;
+          sorted = s.1;
+          within = t;
+        }
+rest_of set rule work n (Tick j how ∷ g) w r =
+    let ih : Rest work n g = rest_of set rule work n g w r.1 in
+    let x = added set rule work n g (Tick j how) r.0 in
+    let t = tick_rows set rule work g x.head j how x.row_is in
+    let s = x.soon in
+    record {
+      rest = ih.rest;
+      split = ih.split;
+      later = later_more (ticks g) ih.rest ih.later ih.sorted (λ a e. t.not_due a (sym x.head_is ∙ (head_at work n g ih.rest ih.split ∙ e)));
+      sorted = ih.sorted;
+      within = omega (arith, s);
+    }
+rest_of set rule work n (Idle ∷ g) w r =
+    let ih : Rest work n g = rest_of set rule work n g w r.1 in
+    let x = added set rule work n g Idle r.0 in
+    let t = idle_rows set rule work g x.head x.row_is in
+    let s = x.soon in
+    record {
+      rest = ih.rest;
+      split = ih.split;
+      later = later_more (ticks g) ih.rest ih.later ih.sorted (λ a e. t.not_due a (sym x.head_is ∙ (head_at work n g ih.rest ih.split ∙ e)));
+      sorted = ih.sorted;
+      within = omega (arith, s);
+    }
+
+-- each tick that the plan adds is done by its need
+done_parts : (set : List Task) (rule : Rule) (work : List WorkRow) (n : ℕ) (h : List Row) → Runs set rule work n h → done_by_need work h ≡ true
+done_parts set rule work n [] r = refl
+done_parts set rule work n (Release j kept ∷ g) r = done_parts set rule work n g r.1
+done_parts set rule work n (Idle ∷ g) r = done_parts set rule work n g r.1
+done_parts set rule work n (Tick j how ∷ g) r =
+    let x = added set rule work n g (Tick j how) r.0 in
+    let c = chosen_tick set rule work g j how (tick_rows set rule work g x.head j how x.row_is).row_is in
+    let d : is_done how ≡ is_last work g j = ap is_done c.how_is ∙ done_as set rule g j (is_last work g j) in
+    both _ _ (subst (λ (b : Bool). same_bool b (is_last work g j) ≡ true) (sym d) (same_bool-refl (is_last work g j))) (done_parts set rule work n g r.1)
+
+-- each tick that the plan adds takes the lowest number
+lowest_parts : (set : List Task) (rule : Rule) (work : List WorkRow) (n : ℕ) (h : List Row) → AllByRecursion IsTask set → Legal set rule h → Runs set rule work n h → lowest_first set rule h ≡ true
+lowest_parts set rule work n [] s l r = refl
+lowest_parts set rule work n (Release j kept ∷ g) s l r = lowest_parts set rule work n g s l.2 r.1
+lowest_parts set rule work n (Idle ∷ g) s l r = lowest_parts set rule work n g s l.2 r.1
+lowest_parts set rule work n (Tick j how ∷ g) s l r =
+    let x = added set rule work n g (Tick j how) r.0 in
+    let c = chosen_tick set rule work g j how (tick_rows set rule work g x.head j how x.row_is).row_is in
+    both _ _ (lowest set rule g j s l.2 c.chosen_is) (lowest_parts set rule work n g s l.2 r.1)
+
+-- after n ticks the last row is of a tick
+ends : (set : List Task) (rule : Rule) (work : List WorkRow) (n : ℕ) (h : List Row) → 1 ≤ n → n ≤ ticks h → Runs set rule work n h → ends_in_tick h ≡ true
+ends set rule work n [] p e r = absurd (omega (arith, p, e))
+ends set rule work n (Release j kept ∷ g) p e r = let s = (added set rule work n g (Release j kept) r.0).soon in absurd (omega (arith, s, e))
+ends set rule work n (Tick j how ∷ g) p e r = refl
+ends set rule work n (Idle ∷ g) p e r = refl
+
+-- after n ticks nothing is to come
+nothing_left : (n : ℕ) (rest front : List Arrival) → Later n rest → Each (λ a. a.at < n) (front ++ rest) → rest ≡ []
+nothing_left n [] front l e = refl
+nothing_left n (a ∷ xs) front l e = let x = l.0 in let y = last front e in absurd (omega (arith, x, y))
+  where
+    last : (front : List Arrival) → Each (λ a. a.at < n) (front ++ a ∷ xs) → a.at < n
+    last [] e = e.0
+    last (b ∷ bs) e = last bs e.1
+
+-- rows that the plan adds, n ticks long, follow
+pub runs_follow : (set : List Task) (rule : Rule) (work : List WorkRow) (n : ℕ) (h : List Row) → AllByRecursion IsTask set → IsWork set work → 1 ≤ n → Legal set rule h → Runs set rule work n h → n ≤ ticks h → Follows set rule work n h
+runs_follow set rule work n h s w p l r e =
+    let x : Rest work n h = rest_of set rule work n h w r in
+    let t = x.within in
+    let full : ticks h ≡ n = omega (arith, t, e) in
+    let none : x.rest ≡ [] = nothing_left n x.rest (reverse (arrivals h)) (subst (λ (i : ℕ). Later i x.rest) full x.later) (subst (Each (λ (a : Arrival). a.at < n)) (sym x.split) (planned_each work n)) in
+    record {
+      legal = l;
+      ticks = full;
+      ends = ends set rule work n h p e r;
+      releases = sym (append-nil (reverse (arrivals h))) ∙ subst (λ xs. reverse (arrivals h) ++ xs ≡ planned work n) none x.split;
+      done = done_parts set rule work n h r;
+      lowest = lowest_parts set rule work n h s l r;
+    }

@@ -1,0 +1,7 @@
+pub mod NameLemmas
+pub mod FoundLemmas
+pub mod FileLemmas
+pub mod RecordLemmas
+pub mod TickLemmas
+pub mod LineLemmas
+pub mod WrittenLemmas

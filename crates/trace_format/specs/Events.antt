@@ -1,0 +1,39 @@
+-- What the words of a record tell.
+use Rattle.std.specs.Prelude.{ℕ, true, false, ◌&&◌, ◌==◌, if◌then◌else◌, List, [], codes, length, Option, Some, None, unwrap_or}
+use Rattle.std.specs.Str.{bytes_eq}
+use Rattle.csv.specs.Records.{field_at}
+use Rattle.mc_model.specs.declared.row.How.TheVariants.{More, Done, Stop, Over}
+use Rattle.trace_format.specs.declared.event.Event.{Event}
+use Rattle.trace_format.specs.declared.event.Event.TheVariants.{Release, Tick, Idle}
+
+-- the field at a place, from 0; empty where there is none
+abbrev pub field : List (List ℕ) → ℕ → List ℕ
+field fields i = unwrap_or (field_at fields i) []
+
+-- the release that the last field tells
+unfoldable pub release_event : List ℕ → Option Event
+release_event how =
+    if bytes_eq how (codes "kept") then Some (Release true)
+    else if bytes_eq how (codes "dropped") then Some (Release false)
+    else None
+
+-- the tick that the last field tells
+unfoldable pub tick_event : List ℕ → Option Event
+tick_event how =
+    if bytes_eq how (codes "more") then Some (Tick More)
+    else if bytes_eq how (codes "done") then Some (Tick Done)
+    else if bytes_eq how (codes "stop") then Some (Tick Stop)
+    else if bytes_eq how (codes "over") then Some (Tick Over)
+    else None
+
+-- nothing pending, where the task, the job and the last field are empty
+unfoldable pub idle_event : List ℕ → List ℕ → List ℕ → Option Event
+idle_event task job how = if (length task == 0 && length job == 0) && length how == 0 then Some Idle else None
+
+-- what the record tells, by its first field and its last
+unfoldable pub event_of : List (List ℕ) → Option Event
+event_of fields =
+    if bytes_eq (field fields 0) (codes "release") then release_event (field fields 4)
+    else if bytes_eq (field fields 0) (codes "tick") then tick_event (field fields 4)
+    else if bytes_eq (field fields 0) (codes "idle") then idle_event (field fields 2) (field fields 3) (field fields 4)
+    else None

@@ -1,0 +1,13 @@
+use Rattle.std.proofs.Common.{◌≡◌, ◌≤◌, take, drop}
+use Rattle.mc_model.specs.Work.{IsWork}
+use Rattle.work_file.specs.Rows.{first_bad, first_bad_after}
+use Rattle.work_file.specs.Tracks.{Tracks}
+use Rattle.work_file.proofs.work.first_bad.Given as goal
+
+abbrev pub invariant-loop-index : goal.invariant-loop-index
+invariant-loop-index l = record {
+  bad : first_bad_after l.set (take l.index l.rows) (drop l.index l.rows) ≡ first_bad l.set l.rows;
+  tracks : Tracks l.set (take l.index l.rows) l.next;
+  work : IsWork l.set (take l.index l.rows);
+  few : l.index ≤ 1000000;
+}

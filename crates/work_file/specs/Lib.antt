@@ -1,0 +1,7 @@
+pub mod Numbers
+pub mod Rows
+pub mod Tracks
+pub mod WorkFile
+pub mod Gives
+pub mod Records
+pub mod Reading

@@ -1,0 +1,72 @@
+-- What the records of a work file say: its rows, or the first refusal.
+use Rattle.std.specs.Prelude.{ℕ, ◌+◌, Bool, ◌&&◌, ◌==◌, nat_le, if◌then◌else◌, List, [], ◌∷◌, ◌++◌, codes, length, Option, Some, None, unwrap_or, Result, Ok, Err}
+use Rattle.std.specs.Str.{bytes_eq}
+use Rattle.csv.specs.Reading.{default_config, records, strip_bom}
+use Rattle.csv.specs.Records.{field_at}
+use Rattle.mc_task.specs.declared.task.Task.{Task}
+use Rattle.mc_task.specs.Faults.{named}
+use Rattle.mc_model.specs.declared.work.WorkRow.{WorkRow}
+use Rattle.work_file.specs.declared.fault.WorkCause.{WorkCause}
+use Rattle.work_file.specs.declared.fault.WorkCause.TheVariants.{BadRecord, Header, UnknownTask, BadNumber, TooMany}
+use Rattle.work_file.specs.declared.fault.WorkFault.{WorkFault}
+use Rattle.work_file.specs.declared.fault.WorkFault.TheVariants.{At}
+use Rattle.work_file.specs.Numbers.{number}
+use Rattle.work_file.specs.Rows.{time_fault}
+
+-- the field at a place, from 0; empty where there is none
+abbrev pub field : List (List ℕ) → ℕ → List ℕ
+field fields i = unwrap_or (field_at fields i) []
+
+-- the record is `task,release,need`
+abbrev pub is_header : List (List ℕ) → Bool
+is_header fields = length fields == 3 && (bytes_eq (field fields 0) (codes "task") && (bytes_eq (field fields 1) (codes "release") && bytes_eq (field fields 2) (codes "need")))
+
+-- the row of a task, a release and a need, where both are numbers
+abbrev pub numbered_row : ℕ → Option ℕ → Option ℕ → Result WorkRow WorkCause
+numbered_row task None need = Err BadNumber
+numbered_row task (Some release) None = Err BadNumber
+numbered_row task (Some release) (Some need) = Ok (record { task = record { 0 = task }; release = release; need = need })
+
+-- the row of a task, or of none, with the release and the need in these fields
+abbrev pub named_row : Option ℕ → List (List ℕ) → Result WorkRow WorkCause
+named_row None fields = Err UnknownTask
+named_row (Some task) fields = numbered_row task (number (field fields 1)) (number (field fields 2))
+
+-- the row that three fields say
+abbrev pub row_of : List Task → List (List ℕ) → Result WorkRow WorkCause
+row_of set fields = named_row (named (field fields 0) set) fields
+
+-- the row, where nothing is wrong
+abbrev pub unless : Option WorkCause → WorkRow → Result WorkRow WorkCause
+unless None w = Ok w
+unless (Some cause) w = Err cause
+
+-- the row, where its need and its release may stand after these rows
+abbrev pub in_time : List Task → List WorkRow → Result WorkRow WorkCause → Result WorkRow WorkCause
+in_time set before (Err cause) = Err cause
+in_time set before (Ok w) = unless (time_fault set before w) w
+
+-- the row of a record after these rows
+unfoldable pub record_row : List Task → List WorkRow → List (List ℕ) → Result WorkRow WorkCause
+record_row set before fields =
+    if nat_le 1000000 (length before) then Err TooMany
+    else if length fields == 3 then in_time set before (row_of set fields) else Err BadRecord
+
+-- the refusal of a record after these rows and the header, or what the file says with its row
+abbrev pub rows_with : List WorkRow → (List WorkRow → Result (List WorkRow) WorkFault) → Result WorkRow WorkCause → Result (List WorkRow) WorkFault
+rows_with before more (Err cause) = Err (At (length before + 2) cause)
+rows_with before more (Ok w) = more (before ++ w ∷ [])
+
+-- these rows and then those of the records, or the first refusal
+abbrev pub rows_from : List Task → List (List (List ℕ)) → List WorkRow → Result (List WorkRow) WorkFault
+rows_from set [] before = Ok before
+rows_from set (f ∷ fs) before = rows_with before (rows_from set fs) (record_row set before f)
+
+-- the rows of a file with these records, or the first refusal
+abbrev pub work_file : List Task → List (List (List ℕ)) → Result (List WorkRow) WorkFault
+work_file set [] = Err (At 1 Header)
+work_file set (f ∷ fs) = if is_header f then rows_from set fs [] else Err (At 1 Header)
+
+-- the rows that a file of these bytes says, or the first refusal
+abbrev pub work_in : List Task → List ℕ → Result (List WorkRow) WorkFault
+work_in set bytes = work_file set (records default_config (strip_bom bytes))

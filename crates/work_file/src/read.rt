@@ -1,0 +1,110 @@
+ghost use Rattle.std.specs.Prelude.{◌≡◌, ◌<◌, ◌≤◌, List, [], IfOk, OnOk, IfErr, length};
+ghost use Rattle.csv.specs.Reading.{owned_rows_left, owned_rows_reader, reader_state, strip_bom};
+ghost use Rattle.csv.specs.Records.{fields_of};
+ghost use Rattle.csv.specs.declared.parser.State.TheVariants as st;
+ghost use Rattle.mc_task.specs.declared.task.Task.{Task};
+ghost use Rattle.mc_model.specs.Work.{IsWork};
+ghost use Rattle.work_file.specs.Gives.{Gives};
+ghost use Rattle.work_file.specs.Reading.{Adds, AreRead, IsRefused};
+ghost use Rattle.work_file.specs.Records.{StandsAt};
+ghost use Rattle.work_file.specs.WorkFile.{work_in};
+
+use crate::next::NextReleases;
+use crate::record::{is_header, record_row};
+use crate::{Work, WorkCause, WorkFault};
+use csv::{ByteRecord, ByteRecordsIntoIter, ReaderBuilder};
+use mc_model::WorkRow;
+use mc_task::TaskSet;
+use std::alloc::Global;
+
+/// Reads a work file: records of three fields, the first of them the header `task,release,need`, each other one a
+/// task's name, its release and its need in ticks. Records are as csv's reader gives them, with commas and double
+/// quotes.
+///
+/// An error but `Memory`, which may come at any point, is the file's first refusal: `Header` at line 1, and then for
+/// each record in turn `TooMany`, the 1,000,001st row; `BadRecord`; `UnknownTask`; `BadNumber`; `ZeroNeed`;
+/// `Unsorted`; `TooSoon`.
+pub fn read_work(alloc: Global, set: &TaskSet, bytes: &[u8]) -> Result<Work, WorkFault>
+    ensures file { Gives result (work_in set.now bytes.now) }
+    ensures work { IfOk result (λ work. IsWork set.now work) }
+    ensures few { IfOk result (λ work. length work ≤ 1000000) }
+{
+    let mut records = records_of(alloc, bytes);
+    match records.next() {
+        None => return Err(NO_HEADER),
+        Some(Err(_)) => return Err(WorkFault::Memory),
+        Some(Ok(fields)) => {
+            if !is_header(&fields) {
+                return Err(NO_HEADER);
+            }
+        }
+    }
+    let mut reading = Reading::new(alloc);
+    for record in records {
+        match record {
+            Err(_) => return Err(WorkFault::Memory),
+            Ok(fields) => {
+                if let Err(fault) = reading.take(set, &fields) {
+                    return Err(fault);
+                }
+            }
+        }
+    }
+    Ok(Work::from_rows(reading.rows))
+}
+
+const NO_HEADER: WorkFault = WorkFault::At {
+    line: 1,
+    cause: WorkCause::Header,
+};
+
+// The records of a file, from the first on.
+fn records_of(alloc: Global, bytes: &[u8]) -> ByteRecordsIntoIter<&[u8]>
+    ensures stands { StandsAt (owned_rows_reader result) (strip_bom bytes.now) }
+    ensures state { reader_state (owned_rows_reader result) ≡ st.StartRecord }
+    ensures left { 0 < owned_rows_left result }
+{
+    let rdr = ReaderBuilder::new()
+        .has_headers(false)
+        .flexible(true)
+        .from_reader(alloc, bytes);
+    rdr.into_byte_records()
+}
+
+// The rows so far.
+#[derive(Drop)]
+struct Reading {
+    rows: Vec<WorkRow>,
+    next: NextReleases,
+}
+
+impl Reading {
+    fn new(alloc: Global) -> Reading
+        ensures rows { result.rows.items ≡ [] }
+        ensures read { (set : List Task) → AreRead set result }
+    {
+        Reading {
+            rows: Vec::new(alloc),
+            next: NextReleases::new(),
+        }
+    }
+
+    // Reads one more record.
+    fn take(&mut self, set: &TaskSet, fields: &ByteRecord) -> Result<(), WorkFault>
+        requires { AreRead set.now self.old }
+        ensures ok { OnOk result (Adds set.now (fields_of fields.now) self.old.rows.items self.new.rows.items) }
+        ensures err { IfErr result (λ e. IsRefused set.now (fields_of fields.now) self.old.rows.items e) }
+        ensures read { OnOk result (AreRead set.now self.new) }
+    {
+        match record_row(&mut self.next, set, &self.rows, fields) {
+            Err(cause) => Err(WorkFault::At {
+                line: self.rows.len() as u32 + 2,
+                cause,
+            }),
+            Ok(row) => match self.rows.push(row) {
+                Ok(()) => Ok(()),
+                Err(_) => Err(WorkFault::Memory),
+            },
+        }
+    }
+}

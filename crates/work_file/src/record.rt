@@ -1,0 +1,89 @@
+// A record as a row.
+ghost use Rattle.std.specs.Prelude.{◌≡◌, ◌<◌, ◌++◌, ◌∷◌, [], IfOk, OnOk, length};
+ghost use Rattle.std.specs.Str.{bytes_eq};
+ghost use Rattle.csv.specs.Records.{fields_of};
+ghost use Rattle.mc_task.specs.TaskSet.{IsIn};
+ghost use Rattle.mc_model.specs.Work.{IsWork};
+ghost use Rattle.work_file.specs.WorkFile as file;
+ghost use Rattle.work_file.specs.Tracks.{Tracks};
+
+use crate::WorkCause;
+use crate::next::NextReleases;
+use crate::number::number;
+use csv::ByteRecord;
+use mc_model::WorkRow;
+use mc_task::TaskSet;
+
+// Whether the record is `task,release,need`.
+pub fn is_header(fields: &ByteRecord) -> bool
+    ensures { result ≡ file.is_header (fields_of fields.now) }
+{
+    fields.len() == 3
+        && (is(field(fields, 0), "task")
+            && (is(field(fields, 1), "release") && is(field(fields, 2), "need")))
+}
+
+fn is(field: &[u8], word: &str) -> bool
+    ensures { result ≡ bytes_eq field.now word.now }
+{
+    field == word.as_bytes()
+}
+
+// The field at this place, from 0; empty where there is none.
+fn field(fields: &ByteRecord, place: usize) -> &[u8]
+    ensures { result.now ≡ file.field (fields_of fields.now) place }
+{
+    match fields.get(place) {
+        Some(field) => field,
+        None => b"",
+    }
+}
+
+// The row of a record after the rows before it. From then on it is one of them.
+#[tactic(auto, unfolding(crate::specs::WorkFile::record_row))]
+pub fn record_row(
+    next: &mut NextReleases,
+    set: &TaskSet,
+    before: &[WorkRow],
+    fields: &ByteRecord,
+) -> Result<WorkRow, WorkCause>
+    requires tracks { Tracks set.now before.now next.old }
+    ensures row { result ≡ file.record_row set.now before.now (fields_of fields.now) }
+    ensures tracks { IfOk result (λ row. Tracks set.now (before.now ++ row ∷ []) next.new) }
+    ensures work { IsWork set.now before.now → IfOk result (λ row. IsWork set.now (before.now ++ row ∷ [])) }
+    ensures few { OnOk result (length before.now < 1000000) }
+{
+    if before.len() >= 1_000_000 {
+        return Err(WorkCause::TooMany);
+    }
+    if fields.len() != 3 {
+        return Err(WorkCause::BadRecord);
+    }
+    let row = row_of(set, fields)?;
+    match next.take(set, before, row) {
+        Some(cause) => Err(cause),
+        None => Ok(row),
+    }
+}
+
+// The row that three fields say.
+#[tactic(auto, using(crate::proofs::NameLemmas::found))]
+fn row_of(set: &TaskSet, fields: &ByteRecord) -> Result<WorkRow, WorkCause>
+    ensures row { result ≡ file.row_of set.now (fields_of fields.now) }
+    ensures task { IfOk result (λ row. IsIn set.now row.task.0) }
+{
+    let Some(task) = set.find(field(fields, 0)) else {
+        return Err(WorkCause::UnknownTask);
+    };
+    let Some(release) = number(field(fields, 1)) else {
+        return Err(WorkCause::BadNumber);
+    };
+    let Some(need) = number(field(fields, 2)) else {
+        return Err(WorkCause::BadNumber);
+    };
+    Ok(WorkRow {
+        task,
+        release,
+        need,
+    })
+}
