@@ -1,5 +1,5 @@
 #!/bin/sh
-# Measures `check` on files at the limits, beside `wc -l` of the same file: time, peak memory and processor time.
+# Measures `check` on files at the limits, beside `wc -l` of the same file, and `run`: time, peak memory and instructions.
 cd "$(dirname -- "$0")" || exit 1
 work=$(mktemp -d) || exit 1
 trap 'rm -rf "$work"' EXIT
@@ -35,3 +35,39 @@ measure 'check, 16 MiB of comments' 20 "$program" check "$work/comments.toml"
 measure 'wc -l, 16 MiB of comments' 20 wc -l "$work/comments.toml"
 measure 'check, 128 tasks' 200 "$program" check "$work/tasks.toml"
 measure 'wc -l, 128 tasks' 200 wc -l "$work/tasks.toml"
+
+# The avionics set, with each task's jobs at every period and needs of their low budgets.
+avionics='attitude high 5000 400 900
+gyro high 10000 600 1500
+engine high 20000 1500 4000
+nav high 50000 3000 7000
+display low 16667 2500
+radio low 25000 2000
+log low 100000 8000
+maint low 200000 10000'
+echo "$avionics" | awk '{ printf "[[task]]\nname = \"%s\"\nlevel = \"%s\"\nperiod = %d\nlow = %d\n", $1, $2, $3, $4
+    if ($2 == "high") printf "high = %d\n", $5 }' >"$work/avionics.toml"
+{
+    echo task,release,need
+    echo "$avionics" | awk '{ for (t = 0; t < 1000000; t += $3) printf "%s,%d,%d\n", $1, t, $4 }' | sort -s -t, -k2,2n
+} >"$work/avionics.csv"
+
+# 128 tasks that are all released at each 128th tick: 999,936 jobs of one tick, and up to 128 pending ones.
+awk 'BEGIN { for (i = 0; i < 128; i++) printf "[[task]]\nname = \"t%d\"\nlevel = \"low\"\nperiod = 128\nlow = 1\n", i }' >"$work/full.toml"
+awk 'BEGIN { print "task,release,need"; for (t = 0; t + 128 <= 1000000; t += 128) for (i = 0; i < 128; i++) print "t" i "," t ",1" }' >"$work/full.csv"
+
+# instructions WORDS..: how many the program takes, by callgrind, which repeats exactly
+instructions() {
+    if command -v valgrind >/dev/null 2>&1; then
+        valgrind --tool=callgrind --callgrind-out-file=/dev/null "$program" "$@" 2>&1 >/dev/null | sed -n 's/.*Collected : /instructions: /p'
+    fi
+}
+
+measure 'run, avionics, 1,000,000 ticks' 5 "$program" run "$work/avionics.toml" "$work/avionics.csv" 1000000
+measure 'run, 128 tasks, 999,936 jobs' 5 "$program" run "$work/full.toml" "$work/full.csv" 1000000
+for ticks in 100000 200000; do
+    echo "avionics, $ticks ticks: $(instructions run "$work/avionics.toml" "$work/avionics.csv" $ticks)"
+    head -n $((ticks + 1)) "$work/full.csv" >"$work/part.csv"
+    echo "128 tasks, $ticks ticks: $(instructions run "$work/full.toml" "$work/part.csv" $ticks)"
+done
+echo "128 tasks, 1 tick, 999,936 rows: $(instructions run "$work/full.toml" "$work/full.csv" 1)"
