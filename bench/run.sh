@@ -1,5 +1,6 @@
 #!/bin/sh
-# Measures `check` on files at the limits, beside `wc -l` of the same file, and `run`: time, peak memory and instructions.
+# Measures `check` on files at the limits, beside `wc -l` of the same file, `run` and `judge`: time, peak memory and
+# instructions.
 cd "$(dirname -- "$0")" || exit 1
 work=$(mktemp -d) || exit 1
 trap 'rm -rf "$work"' EXIT
@@ -28,7 +29,7 @@ measure() {
     /usr/bin/time -f '%M' "$@" 2>"$work/memory" >"$work/out"
     # shellcheck disable=SC2016
     seconds=$(runs=$runs /usr/bin/time -f '%e' sh -c 'n=0; while [ $n -lt $runs ]; do "$@" >/dev/null; n=$((n + 1)); done' sh "$@" 2>&1)
-    echo "$name: $runs runs in $seconds s, $(cat "$work/memory") KiB; $(head -n 1 "$work/out")"
+    echo "$name: $runs runs in $seconds s, $(tail -n 1 "$work/memory") KiB; $(head -n 1 "$work/out")"
 }
 
 measure 'check, 16 MiB of comments' 20 "$program" check "$work/comments.toml"
@@ -71,3 +72,21 @@ for ticks in 100000 200000; do
     echo "128 tasks, $ticks ticks: $(instructions run "$work/full.toml" "$work/part.csv" $ticks)"
 done
 echo "128 tasks, 1 tick, 999,936 rows: $(instructions run "$work/full.toml" "$work/full.csv" 1)"
+
+# Traces: the avionics run, 2,000,000 idle rows, and half a million pending jobs at a time.
+"$program" run "$work/avionics.toml" "$work/avionics.csv" 1000000 >"$work/avionics_trace.csv"
+awk 'BEGIN { print "event,tick,task,job,how"; for (t = 0; t < 2000000; t++) print "idle," t ",,," }' >"$work/idle_trace.csv"
+printf 'task = [{name="a", level="low", period=1, low=1}, {name="b", level="low", period=1, low=1}]\n' >"$work/two.toml"
+awk 'BEGIN { print "event,tick,task,job,how"; for (t = 0; t < 500000; t++) {
+    print "release," t ",a," t + 1 ",kept"; print "release," t ",b," t + 1 ",kept"
+    print "tick," t "," (t % 2 ? "b" : "a") "," int(t / 2) + 1 ",done" } }' >"$work/two_trace.csv"
+
+measure 'judge, avionics, 1,000,000 ticks' 5 "$program" judge "$work/avionics.toml" "$work/avionics_trace.csv"
+measure 'judge, 2,000,000 idle rows' 5 "$program" judge "$work/avionics.toml" "$work/idle_trace.csv"
+measure 'judge, 1,500,000 rows, half a million pending jobs' 5 "$program" judge "$work/two.toml" "$work/two_trace.csv" 1 1
+for trace in avionics idle; do
+    for rows in 100000 200000; do
+        head -n $((rows + 1)) "$work/${trace}_trace.csv" >"$work/part.csv"
+        echo "judge, $trace, $rows rows: $(instructions judge "$work/avionics.toml" "$work/part.csv")"
+    done
+done

@@ -49,6 +49,12 @@ done
 expect 0 overrun/run.txt run overrun/tasks.toml overrun/work.csv 12
 expect 0 overrun/run.txt run overrun/tasks.toml overrun/work.csv 00000000000000000012
 
+expect 0 judged/legal.txt judge judged/tasks.toml judged/legal.csv
+expect 6 judged/illegal.txt judge judged/tasks.toml judged/illegal.csv
+expect 6 judged/late.txt judge judged/tasks.toml judged/late.csv 1 1
+expect 6 "$(says 'illegal row 3 not_least')" judge judged/tasks.toml judged/late.csv
+expect 0 judged/legal.txt judge overrun/tasks.toml overrun/run.txt
+
 # Words that are none of the forms.
 usage='usage: check TASKS | run TASKS WORK TICKS | judge TASKS TRACE [P Q] | chart TASKS TRACE | report TASKS TRACE | soak NUMBER TASKCOUNT TICKS'
 expect 2 "$(says "$usage")"
@@ -103,6 +109,24 @@ expect 7 "$(says 'file 2 is longer than 16777216 bytes')" run overrun/tasks.toml
 { printf 'task = [{name="a", level="low", period=1, low=1}]\n'; } >"$work/tasks.toml"
 { printf '%s\n' "$header"; awk 'BEGIN { for (i = 0; i <= 1000000; i++) print "a," i ",1" }'; } >"$work/work.csv"
 expect 4 "$(says 'work file line 1000002: more than 1000000 rows')" run "$work/tasks.toml" "$work/work.csv" 10
+
+# Traces: absent, cut, past the limit of bytes; and half a million pending jobs at a time.
+header='event,tick,task,job,how'
+expect 7 "$(says 'read fault on file 2')" judge judged/tasks.toml "$work/absent.csv"
+printf '%s\nrelease,0,ctl,1,kept\ntick,0,ct' "$header" >"$work/trace.csv"
+expect 5 "$(says 'trace line 3: not five fields')" judge judged/tasks.toml "$work/trace.csv"
+{ printf '%s\n' "$header"; head -c 134217704 /dev/zero | tr '\0' '\n'; } >"$work/trace.csv"
+expect 0 judged/legal.txt judge judged/tasks.toml "$work/trace.csv"
+echo >>"$work/trace.csv"
+expect 7 "$(says 'file 2 is longer than 134217728 bytes')" judge judged/tasks.toml "$work/trace.csv"
+printf 'task = [{name="a", level="low", period=1, low=1}, {name="b", level="low", period=1, low=1}]\n' >"$work/tasks.toml"
+{
+    printf '%s\n' "$header"
+    awk 'BEGIN { for (t = 0; t < 500000; t++) {
+        print "release," t ",a," t + 1 ",kept"; print "release," t ",b," t + 1 ",kept"
+        print "tick," t "," (t % 2 ? "b" : "a") "," int(t / 2) + 1 ",done" } }'
+} >"$work/trace.csv"
+expect 6 "$(says 'legal late 999999 first b 1')" judge "$work/tasks.toml" "$work/trace.csv" 1 1
 
 # Output that takes nothing.
 : >"$work/out"

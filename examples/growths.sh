@@ -51,6 +51,8 @@ done
 growths check absent.toml
 growths run overrun/tasks.toml overrun/work.csv 12
 growths run overrun/tasks.toml absent.csv 12
+growths judge judged/tasks.toml judged/legal.csv
+growths judge judged/tasks.toml judged/late.csv 1 1
 growths
 echo "growths: $failed failed"
 [ "$failed" -eq 0 ]

@@ -11,5 +11,5 @@ pub mod Switch
 pub mod OneLive
 pub mod Reached
 pub mod Laws
+pub mod Promise
 pub mod NoOver
-pub mod WorkedTraces

@@ -1,8 +1,9 @@
 -- The bytes of a command's files: those that a shelf tells, where it tells them.
-use Rattle.std.proofs.Common.{◌≡◌, ℕ, ◌+◌, ◌<◌, List, [], ◌∷◌, replicate, length, Option, Some, None, IfSome, IsSomeAnd, unwrap_or, refl, ap, arith, sym, ◌∙◌, subst}
+use Rattle.std.proofs.Common.{◌≡◌, ℕ, ◌+◌, ◌<◌, List, [], ◌∷◌, replicate, length, Option, Some, None, IfSome, IsSomeAnd, unwrap_or, refl, ap, arith, sym, ◌∙◌}
 use Rattle.std.proofs.lemmas.List.{length-replicate}
 use Rattle.mc_world.specs.Shelf.{Files}
-use Rattle.edfvd_program.specs.Command.{Command, check, run}
+use Rattle.edfvd_program.specs.declared.verb.Verb.{Verb}
+use Rattle.edfvd_program.specs.Command.{Command, check, two_files}
 use Rattle.edfvd_program.specs.Answer.{contents_of}
 
 -- the bytes are those told under the name, none where none are held
@@ -43,7 +44,7 @@ pub contents-check : (holds : Option Files) (name bytes : List ℕ) → AreOf ho
 contents-check None name bytes h = tt
 contents-check (Some files) name bytes h = ap (λ b. b ∷ []) h
 
-pub contents-run : (holds : Option Files) (tasks work bytes work_bytes : List ℕ) (ticks : ℕ) → AreOf holds tasks bytes → AreOf holds work work_bytes
-    → AreContents (Some (run tasks work ticks)) holds (bytes ∷ work_bytes ∷ [])
-contents-run None tasks work bytes work_bytes ticks h k = tt
-contents-run (Some files) tasks work bytes work_bytes ticks h k = ap (λ b. b ∷ work_bytes ∷ []) h ∙ ap (λ w. unwrap_or (files tasks) [] ∷ w ∷ []) k
+pub contents-two : (holds : Option Files) (verb : Verb) (tasks second bytes more : List ℕ) → AreOf holds tasks bytes → AreOf holds second more
+    → AreContents (Some (two_files verb tasks second)) holds (bytes ∷ more ∷ [])
+contents-two None verb tasks second bytes more h k = tt
+contents-two (Some files) verb tasks second bytes more h k = ap (λ b. b ∷ more ∷ []) h ∙ ap (λ w. unwrap_or (files tasks) [] ∷ w ∷ []) k

@@ -1,15 +1,13 @@
 -- What a fetch leaves, by its answer.
-use Rattle.std.proofs.Common.{◌≡◌, ◌≢◌, ◌⊎◌, inl, inr, ℕ, List, [], ◌∷◌, ◌++◌, length, Option, Some, None, option_map, Result, Ok, Err, refl, sym, subst}
+use Rattle.std.proofs.Common.{◌≡◌, ◌≢◌, ◌⊎◌, inl, inr, ℕ, List, Result, Ok, Err, refl, sym, subst}
 use Rattle.std.specs.Prelude.{IsErrOf, IsErr, IfOk}
 use Rattle.std.specs.declared.alloc.AllocError.{AllocError}
 use Rattle.std.proofs.lemmas.Bool.{false≢true}
-use Rattle.mc_world.specs.Count.{Rose}
 use Rattle.mc_world.specs.Shelf.{ShelfState}
 use Rattle.mc_world.specs.declared.shelf.FetchFault.{FetchFault}
 use Rattle.mc_world.specs.declared.shelf.FetchFault.TheVariants.{Failed, TooLong, Memory as NoMemory}
 use Rattle.edfvd_program.specs.Reply.{Reply}
-use Rattle.edfvd_program.specs.Answer.{longer, read_fault, most_table_bytes}
-use Rattle.edfvd_program.specs.Outcome.{IsLonger}
+use Rattle.edfvd_program.specs.Refusals.{longer, read_fault}
 use Rattle.edfvd_program.specs.Fetched.{Asked}
 
 -- a fetch asks for its name, unless memory is wanting
@@ -35,11 +33,11 @@ pub asked_or_not : {T : Type 0} (result : Result T FetchFault) (name : List ℕ)
 asked_or_not result name before after none asks = elim asks [ inl h ↦ inl (none h) | inr same ↦ inr same ]
 
 -- the reply to a fetch without bytes, by what is so of the reply to a failure and to a file that is too long
-pub on_fault : (P : Reply → Type 0) (file : ℕ) (fault : FetchFault) (answered : Result Reply AllocError)
-    → (fault ≡ Failed → P (read_fault file)) → (fault ≡ TooLong → P (longer file most_table_bytes))
-    → (fault ≡ Failed → IfOk answered (λ reply. reply ≡ read_fault file)) → (fault ≡ TooLong → IfOk answered (λ reply. reply ≡ longer file most_table_bytes))
+pub on_fault : (P : Reply → Type 0) (file limit : ℕ) (fault : FetchFault) (answered : Result Reply AllocError)
+    → (fault ≡ Failed → P (read_fault file)) → (fault ≡ TooLong → P (longer file limit))
+    → (fault ≡ Failed → IfOk answered (λ reply. reply ≡ read_fault file)) → (fault ≡ TooLong → IfOk answered (λ reply. reply ≡ longer file limit))
     → (fault ≡ NoMemory → IsErr answered) → IfOk answered P
-on_fault P file fault (Err e) on_failed on_longer failed long memory = tt
-on_fault P file Failed (Ok reply) on_failed on_longer failed long memory = subst P (sym (failed refl)) (on_failed refl)
-on_fault P file TooLong (Ok reply) on_failed on_longer failed long memory = subst P (sym (long refl)) (on_longer refl)
-on_fault P file NoMemory (Ok reply) on_failed on_longer failed long memory = absurd (false≢true (memory refl))
+on_fault P file limit fault (Err e) on_failed on_longer failed long memory = tt
+on_fault P file limit Failed (Ok reply) on_failed on_longer failed long memory = subst P (sym (failed refl)) (on_failed refl)
+on_fault P file limit TooLong (Ok reply) on_failed on_longer failed long memory = subst P (sym (long refl)) (on_longer refl)
+on_fault P file limit NoMemory (Ok reply) on_failed on_longer failed long memory = absurd (false≢true (memory refl))

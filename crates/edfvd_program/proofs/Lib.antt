@@ -3,7 +3,9 @@ pub mod Texts
 pub mod Statuses
 pub mod Contents
 pub mod Replies
-pub mod RunReplies
+pub mod TwoFiles
 pub mod Fetches
 pub mod Traced
 pub mod Outcomes
+pub mod Cases
+pub mod Headlines

@@ -1,5 +1,5 @@
 -- What a call answers, from its reply and what became of it.
-use Rattle.std.proofs.Common.{◌≡◌, ◌⊎◌, inl, inr, ℕ, List, ◌++◌, Option, Some, IfSome, ap, subst, ◌∙◌}
+use Rattle.std.proofs.Common.{◌≡◌, ◌⊎◌, inl, inr, ℕ, List, Option, Some, IfSome, subst}
 use Rattle.mc_world.specs.Count.{Rose}
 use Rattle.mc_world.specs.Shelf.{Files, ShelfState}
 use Rattle.mc_world.specs.Sink.{SinkState}

@@ -1,31 +1,28 @@
 -- Replies by their causes.
-use Rattle.std.proofs.Common.{◌≡◌, ◌≢◌, ◌⊎◌, inl, inr, ℕ, ◌+◌, ◌<◌, ◌≤◌, List, [], ◌∷◌, ◌++◌, take, length, Option, Some, None, IfSome, IsSomeAnd, option_map, Result, Ok, Err, refl, ap, arith, sym, ◌∙◌, subst, le-leb}
-use Rattle.std.specs.Prelude.{IsErrOf, IsErr, IfOk, MatchBool, nat_lt, slice_get}
-use Rattle.std.specs.declared.alloc.AllocError.{AllocError}
-use Rattle.std.proofs.lemmas.Bool.{lt-leb, false≢true}
+use Rattle.std.proofs.Common.{◌≡◌, ◌≢◌, ◌⊎◌, inl, inr, ℕ, ◌<◌, ◌≤◌, List, [], ◌∷◌, ◌++◌, take, length, Option, Some, None, option_map, refl, ap, arith, sym, ◌∙◌, subst, le-leb}
+use Rattle.std.specs.Prelude.{MatchBool, nat_lt}
+use Rattle.std.proofs.lemmas.Bool.{lt-leb}
 use Rattle.std.proofs.lemmas.List.{append-nil}
-use Rattle.mc_task.specs.declared.task.Task.{Task}
-use Rattle.mc_task.specs.declared.task.Rule.{Rule}
 use Rattle.mc_world.specs.Count.{Rose}
-use Rattle.mc_world.specs.Shelf.{Files, ShelfState}
-use Rattle.mc_world.specs.declared.shelf.FetchFault.{FetchFault}
-use Rattle.mc_world.specs.declared.shelf.FetchFault.TheVariants.{Failed, TooLong, Memory as NoMemory}
+use Rattle.mc_world.specs.Shelf.{ShelfState}
 use Rattle.task_file.specs.TaskFile.{task_file}
 use Rattle.edfvd_program.specs.Reply.{Reply}
 use Rattle.edfvd_program.specs.Command.{Command, check, file_names}
-use Rattle.edfvd_program.specs.Answer.{Next, AnswersFile, AnswersTasks, Checks, IsAnswer, longer, read_fault, usage, most_table_bytes}
+use Rattle.edfvd_program.specs.Limits.{most_table_bytes}
+use Rattle.edfvd_program.specs.Refusals.{longer, read_fault, usage}
+use Rattle.edfvd_program.specs.Answer.{AnswersFile, UnderTest, Checks, IsAnswer}
 use Rattle.edfvd_program.specs.Outcome.{AskedFirst, IsLonger, IsLongFile, IsReply}
 use Rattle.edfvd_program.specs.Fetched.{Asked, IsFetched}
-use Rattle.edfvd_program.proofs.Statuses.{IsOfFiles, of_file, of_checks}
+use Rattle.edfvd_program.proofs.Statuses.{IsOfFiles, of_file, of_check}
 use Rattle.edfvd_program.proofs.Contents.{AreContents, of_told, long_bytes, contents-none, contents-check}
 
 -- bytes within the limit
-pub within : (P Q : Type 0) (bytes : List ℕ) → length bytes ≤ most_table_bytes → Q → MatchBool (nat_lt most_table_bytes (length bytes)) P Q
-within P Q bytes short h = subst (λ b. MatchBool b P Q) (sym (lt-leb _ _ (omega arith))) h
+pub within : (P Q : Type 0) (limit : ℕ) (bytes : List ℕ) → length bytes ≤ limit → Q → MatchBool (nat_lt limit (length bytes)) P Q
+within P Q limit bytes short h = subst (λ b. MatchBool b P Q) (sym (lt-leb _ _ (omega arith))) h
 
 -- and past it
-pub past : (P Q : Type 0) (bytes : List ℕ) → most_table_bytes < length bytes → P → MatchBool (nat_lt most_table_bytes (length bytes)) P Q
-past P Q bytes long h = subst (λ b. MatchBool b P Q) (sym (le-leb _ _ long)) h
+pub past : (P Q : Type 0) (limit : ℕ) (bytes : List ℕ) → limit < length bytes → P → MatchBool (nat_lt limit (length bytes)) P Q
+past P Q limit bytes long h = subst (λ b. MatchBool b P Q) (sym (le-leb _ _ long)) h
 
 -- the reply is the answer to these contents, and no fault rose
 pub IsReply-files : (command : Option Command) (before after : ShelfState) (reply : Reply) (count : ℕ) (contents : List (List ℕ)) → command ≢ None → count ≤ length (file_names command)
@@ -60,16 +57,16 @@ IsReply-failed command before after count some few asked rose = record {
 
 -- a file is longer than its limit
 pub IsReply-longer : (command : Option Command) (before after : ShelfState) (count : ℕ) (contents : List (List ℕ)) → command ≢ None → count ≤ length (file_names command)
-    → AskedFirst count command before after → AreContents command before.holds contents → IsAnswer command contents (longer count most_table_bytes) → after.faults ≡ before.faults
-    → IsLongFile command count before after → IsReply command before after (longer count most_table_bytes)
-IsReply-longer command before after count contents some few asked told is calm long = record {
+    → AskedFirst count command before after → AreContents command before.holds contents → (limit : ℕ) → IsAnswer command contents (longer count limit) → after.faults ≡ before.faults
+    → IsLongFile command count limit before after → IsReply command before after (longer count limit)
+IsReply-longer command before after count contents some few asked told limit is calm long = record {
   count = count;
   few = few;
   asked = asked;
   source = inr (contents, told, is);
   usage = λ h. absurd (some h);
   only_usage = λ h. absurd (omega (arith, h));
-  cause = λ h. inr (refl, long);
+  cause = λ h. inr (limit, refl, long);
   fault = λ h. absurd (omega (arith, h, calm));
   status = omega arith;
 }
@@ -99,22 +96,22 @@ pub IsReply-none : (command : Option Command) (state : ShelfState) (reply : Repl
 IsReply-none command state reply none is = rw (none, is) (IsReply-usage state)
 
 -- the reply to `check` for the bytes of its file
-pub IsReply-check : (name bytes : List ℕ) (before after : ShelfState) (reply : Reply) → IsFetched name bytes before after → Asked name before after
-    → AnswersFile Checks (task_file bytes) reply → IsReply (Some (check name)) before after reply
+pub IsReply-check : (name bytes : List ℕ) (before after : ShelfState) (reply : Reply) → IsFetched most_table_bytes name bytes before after → Asked name before after
+    → AnswersFile (UnderTest Checks) (task_file bytes) reply → IsReply (Some (check name)) before after reply
 IsReply-check name bytes before after reply f asked h =
     IsReply-files (Some (check name)) before after reply 1 (bytes ∷ []) (λ e. absurd (cc)) (omega arith) asked
     (contents-check before.holds name bytes (of_told before.holds name bytes f.told))
-    (within (reply ≡ longer 1 most_table_bytes) (AnswersFile Checks (task_file bytes) reply) bytes f.short h)
-    f.calm (of_file Checks of_checks (task_file bytes) reply h)
+    (within (reply ≡ longer 1 most_table_bytes) (AnswersFile (UnderTest Checks) (task_file bytes) reply) most_table_bytes bytes f.short h)
+    f.calm (of_file (UnderTest Checks) of_check (task_file bytes) reply h)
 
-pub IsReply-check-longer : (name : List ℕ) (before after : ShelfState) → IsLonger name before after → after.faults ≡ before.faults → Asked name before after
+pub IsReply-check-longer : (name : List ℕ) (before after : ShelfState) → IsLonger most_table_bytes name before after → after.faults ≡ before.faults → Asked name before after
     → IsReply (Some (check name)) before after (longer 1 most_table_bytes)
 IsReply-check-longer name before after long calm asked =
     let (bytes, of, past_it) = long_bytes most_table_bytes before.holds name long.told in
     IsReply-longer (Some (check name)) before after 1 (bytes ∷ []) (λ e. absurd (cc)) (omega arith) asked
-    (contents-check before.holds name bytes of)
-    (past (longer 1 most_table_bytes ≡ longer 1 most_table_bytes) (AnswersFile Checks (task_file bytes) (longer 1 most_table_bytes)) bytes past_it refl)
-    calm (name, refl, long)
+    (contents-check before.holds name bytes of) most_table_bytes
+    (past (longer 1 most_table_bytes ≡ longer 1 most_table_bytes) (AnswersFile (UnderTest Checks) (task_file bytes) (longer 1 most_table_bytes)) most_table_bytes bytes past_it refl)
+    calm (name, refl, refl, long)
 
 -- the names asked, whatever came of it
 pub asked-check : (name : List ℕ) (before after : ShelfState) → (after.asked ≡ before.asked) ⊎ Asked name before after → (n : ℕ) × AskedFirst n (Some (check name)) before after

@@ -1,5 +1,5 @@
 -- The statuses that answers have.
-use Rattle.std.proofs.Common.{◌≡◌, ◌≢◌, ℕ, ◌<◌, List, length, Option, Some, None, Result, Ok, Err, ap, sym, ◌∙◌, arith}
+use Rattle.std.proofs.Common.{◌≡◌, ◌≢◌, ℕ, ◌<◌, Bool, true, false, cond, List, reverse, Option, Some, None, Result, Ok, Err, ap, sym, ◌∙◌, subst, arith}
 use Rattle.mc_task.specs.declared.task.Task.{Task}
 use Rattle.mc_task.specs.declared.task.Rule.{Rule}
 use Rattle.mc_model.specs.Loads.{range_fault}
@@ -8,7 +8,15 @@ use Rattle.mc_model.specs.declared.work.WorkRow.{WorkRow}
 use Rattle.task_file.specs.declared.fault.TaskFault.{TaskFault}
 use Rattle.work_file.specs.declared.fault.WorkFault.{WorkFault}
 use Rattle.edfvd_program.specs.Reply.{Reply}
-use Rattle.edfvd_program.specs.Answer.{Next, AnswersRule, AnswersRange, AnswersFile, Checks, AnswersWork}
+use Rattle.mc_model.specs.Verdict.{verdict}
+use Rattle.mc_model.specs.declared.row.Row.{Row}
+use Rattle.mc_model.specs.declared.verdict.Verdict.{Verdict}
+use Rattle.trace_format.specs.TraceFile.{trace_file}
+use Rattle.trace_format.specs.declared.fault.TraceFault.{TraceFault}
+use Rattle.work_file.specs.WorkFile.{work_in}
+use Rattle.edfvd_program.specs.declared.verb.Verb.{Verb}
+use Rattle.edfvd_program.specs.declared.verb.Verb.TheVariants.{Run, Judge, JudgeBy}
+use Rattle.edfvd_program.specs.Answer.{Next, OfSet, AnswersRule, AnswersRange, UnderTest, UnderRule, AnswersFile, Checks, Runs, Judges, judged, is_good, Does}
 
 -- it tells no fault of a shelf, and not that the words are none of the forms
 pub record IsOfFiles (reply : Reply) : Type 0 where
@@ -30,16 +38,48 @@ of_range : (Then : Next) → AreOfFiles Then → (set : List Task) (fault : Opti
 of_range Then all set (Some task) reply h = of_status reply 3 (ap (λ r. r.status) h) (omega arith) (λ e. absurd (omega (arith, e)))
 of_range Then all set None reply h = of_rule Then all set (test set) reply h
 
-pub of_file : (Then : Next) → AreOfFiles Then → (read : Result (List Task) TaskFault) (reply : Reply) → AnswersFile Then read reply → IsOfFiles reply
-of_file Then all (Err fault) reply h = of_status reply 3 (ap (λ r. r.status) h) (omega arith) (λ e. absurd (omega (arith, e)))
-of_file Then all (Ok set) reply h = of_range Then all set (range_fault set) reply h
+-- so does what the command answers for each set
+abbrev pub IsOfSets : OfSet → Type 0
+IsOfSets Of = (set : List Task) (reply : Reply) → Of set reply → IsOfFiles reply
 
-pub of_checks : AreOfFiles Checks
+of_test : (Then : Next) → AreOfFiles Then → IsOfSets (UnderTest Then)
+of_test Then all set reply h = of_range Then all set (range_fault set) reply h
+
+pub of_under : (verb : Verb) (Then : Next) → AreOfFiles Then → IsOfSets (UnderRule verb Then)
+of_under (Run ticks) Then all set reply h = of_test Then all set reply h
+of_under Judge Then all set reply h = of_test Then all set reply h
+of_under (JudgeBy p q) Then all set reply h = all set _ reply h
+
+pub of_file : (Of : OfSet) → IsOfSets Of → (read : Result (List Task) TaskFault) (reply : Reply) → AnswersFile Of read reply → IsOfFiles reply
+of_file Of all (Err fault) reply h = of_status reply 3 (ap (λ r. r.status) h) (omega arith) (λ e. absurd (omega (arith, e)))
+of_file Of all (Ok set) reply h = all set reply h
+
+of_checks : AreOfFiles Checks
 of_checks set rule reply h = of_status reply 0 (ap (λ r. r.status) h) (omega arith) (λ e. absurd (omega (arith, e)))
 
-pub of_work : (ticks : ℕ) (set : List Task) (rule : Rule) (read : Result (List WorkRow) WorkFault) (reply : Reply) → AnswersWork ticks set rule read reply → IsOfFiles reply
-of_work ticks set rule (Err fault) reply h = of_status reply 4 (ap (λ r. r.status) h) (omega arith) (λ e. absurd (omega (arith, e)))
-of_work ticks set rule (Ok work) reply h = of_status reply 0 (ap (λ r. r.status) h.2) (omega arith) (λ e. absurd (omega (arith, e)))
+pub of_check : IsOfSets (UnderTest Checks)
+of_check = of_test Checks of_checks
+
+of_runs : (ticks : ℕ) (set : List Task) (rule : Rule) (read : Result (List WorkRow) WorkFault) (reply : Reply) → Runs ticks set rule read reply → IsOfFiles reply
+of_runs ticks set rule (Err fault) reply h = of_status reply 4 (ap (λ r. r.status) h) (omega arith) (λ e. absurd (omega (arith, e)))
+of_runs ticks set rule (Ok work) reply h = of_status reply 0 (ap (λ r. r.status) h.2) (omega arith) (λ e. absurd (omega (arith, e)))
+
+of_judged : (set : List Task) (v : Verdict) → IsOfFiles (judged set v)
+of_judged set v = go (is_good v)
+  where
+    go : (b : Bool) → IsOfFiles (record { status = cond b 0 6; text = (judged set v).text })
+    go true = record { small = omega arith; other = λ e. absurd (omega (arith, e)) }
+    go false = record { small = omega arith; other = λ e. absurd (omega (arith, e)) }
+
+of_judges : (set : List Task) (rule : Rule) (read : Result (List Row) TraceFault) (reply : Reply) → Judges set rule read reply → IsOfFiles reply
+of_judges set rule (Err fault) reply h = of_status reply 5 (ap (λ r. r.status) h) (omega arith) (λ e. absurd (omega (arith, e)))
+of_judges set rule (Ok rows) reply h = subst IsOfFiles (sym h) (of_judged set (verdict set rule (reverse rows)))
+
+-- what is done with a second file
+pub of_does : (verb : Verb) (bytes : List ℕ) → AreOfFiles (Does verb bytes)
+of_does (Run ticks) bytes set rule reply h = of_runs ticks set rule (work_in set bytes) reply h
+of_does Judge bytes set rule reply h = of_judges set rule (trace_file set bytes) reply h
+of_does (JudgeBy p q) bytes set rule reply h = of_judges set rule (trace_file set bytes) reply h
 
 -- nothing comes next
 pub of_none : AreOfFiles (λ set rule reply. ⊥)

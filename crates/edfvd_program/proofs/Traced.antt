@@ -1,25 +1,18 @@
 -- The rows of a legal trace are of its set.
-use Rattle.std.proofs.Common.{ℕ, List, [], ◌∷◌, ◌++◌, All, reverse, ◌≡◌, subst, sym}
-use Rattle.std.proofs.lemmas.List.{reverse-append}
-use Rattle.std.proofs.lemmas.List.Elements.{All-nil, All-cons, All-append}
+use Rattle.std.proofs.Common.{ℕ, List, All, reverse, ◌≡◌, subst}
 use Rattle.mc_task.specs.declared.task.Task.{Task}
 use Rattle.mc_task.specs.declared.task.Rule.{Rule}
 use Rattle.mc_model.specs.declared.row.Row.{Row}
 use Rattle.mc_model.specs.Legal.{Legal, IsOfSet}
+use Rattle.mc_model.proofs.Traces.{rows_of_legal}
 use Rattle.mc_model.specs.Follows.{Follows}
 use Rattle.mc_model.specs.declared.work.WorkRow.{WorkRow}
 use Rattle.edfvd_program.specs.Reply.{Reply}
 use Rattle.edfvd_program.specs.Answer.{traced}
 
-pub rows_of_set : (set : List Task) (rule : Rule) (h : List Row) → Legal set rule h → All (IsOfSet set) (reverse h)
-rows_of_set set rule [] legal = All-nil (IsOfSet set)
-rows_of_set set rule (row ∷ g) legal =
-    subst (All (IsOfSet set)) (sym (reverse-append (row ∷ []) g))
-    (All-append (IsOfSet set) (reverse g) (row ∷ []) (rows_of_set set rule g legal.2) (All-cons (IsOfSet set) row [] legal.0 (All-nil (IsOfSet set))))
-
--- as of a set that is equal
+-- the set may be another that is equal
 pub rows_of_same : (set other : List Task) (rule : Rule) (h : List Row) → other ≡ set → Legal other rule h → All (IsOfSet set) (reverse h)
-rows_of_same set other rule h same legal = subst (λ s. All (IsOfSet s) (reverse h)) same (rows_of_set other rule h legal)
+rows_of_same set other rule h same legal = subst (λ s. All (IsOfSet s) (reverse h)) same (rows_of_legal other rule h legal)
 
 -- a trace that follows, with its text
 pub is_traced : (set other : List Task) (rule given : Rule) (work : List WorkRow) (ticks : ℕ) (h : List Row) (reply : Reply) → other ≡ set → given ≡ rule

@@ -1,12 +1,8 @@
--- The lines of refusals.
+-- The lines of refusals before any row: of the words, of a fetch, and of a task file.
 use Rattle.std.specs.Prelude.{ℕ, List, [], ◌++◌, codes, decimal}
 use Rattle.mc_task.specs.declared.set.SetFault.{SetFault}
 use Rattle.mc_task.specs.declared.set.SetFault.TheVariants.{Empty, TooMany, ZeroNumber, BudgetOrder, SameName}
 use Rattle.task_file.specs.Keys.{key_bytes}
-use Rattle.work_file.specs.declared.fault.WorkCause.{WorkCause}
-use Rattle.work_file.specs.declared.fault.WorkCause.TheVariants as cause
-use Rattle.work_file.specs.declared.fault.WorkFault.{WorkFault}
-use Rattle.work_file.specs.declared.fault.WorkFault.TheVariants as work
 use Rattle.task_file.specs.declared.fault.TaskFault.{TaskFault}
 use Rattle.task_file.specs.declared.fault.TaskFault.TheVariants.{Memory, NotToml, TopKey, BadVersion, NoTasks, KeyMissing, KeyUnknown, WrongKind, OutOfRange, BadName, HighOnLow, Set}
 
@@ -57,19 +53,3 @@ task_fault_line (OutOfRange n key) = task_line n (codes ": out of range ") (key_
 task_fault_line (BadName n) = short_task_line n (codes ": bad name\n")
 task_fault_line (HighOnLow n) = short_task_line n (codes ": high budget on a low task\n")
 task_fault_line (Set fault) = set_fault_line fault
-
--- why a record of a work file is refused
-abbrev pub work_cause_words : WorkCause → List ℕ
-work_cause_words cause.BadRecord = codes "not three fields\n"
-work_cause_words cause.Header = codes "header is not task,release,need\n"
-work_cause_words cause.UnknownTask = codes "unknown task\n"
-work_cause_words cause.BadNumber = codes "bad number\n"
-work_cause_words cause.ZeroNeed = codes "need is 0\n"
-work_cause_words cause.Unsorted = codes "release before the last one\n"
-work_cause_words (cause.TooSoon next) = codes "too soon, next " ++ (decimal next ++ codes "\n")
-work_cause_words cause.TooMany = codes "more than 1000000 rows\n"
-
--- the work file is refused; Memory is no refusal and has no line
-abbrev pub work_fault_line : WorkFault → List ℕ
-work_fault_line work.Memory = []
-work_fault_line (work.At line cause) = codes "work file line " ++ (decimal line ++ (codes ": " ++ work_cause_words cause))

@@ -5,7 +5,9 @@ use Rattle.mc_world.specs.Shelf.{Files, ShelfState}
 use Rattle.mc_world.specs.Sink.{SinkState}
 use Rattle.edfvd_program.specs.Reply.{Reply}
 use Rattle.edfvd_program.specs.Command.{Command, file_names}
-use Rattle.edfvd_program.specs.Answer.{IsAnswer, contents_of, AreHeld, usage, read_fault, longer, most_table_bytes}
+use Rattle.edfvd_program.specs.Limits.{limits_of}
+use Rattle.edfvd_program.specs.Refusals.{usage, read_fault, longer}
+use Rattle.edfvd_program.specs.Answer.{IsAnswer, contents_of, AreHeld}
 
 -- the shelf tells that it holds these files, the command's among them, and its count of faults does not rise
 pub record Tells (command : Option Command) (files : Files) (before after : ShelfState) : Type 0 where
@@ -18,13 +20,17 @@ abbrev pub AskedFirst : ℕ → Option Command → ShelfState → ShelfState →
 AskedFirst n command before after = after.asked ≡ option_map (λ names. names ++ take n (file_names command)) before.asked
 
 -- the file is longer than its limit, where the shelf tells; otherwise more bytes than that were read
-pub record IsLonger (name : List ℕ) (before after : ShelfState) : Type 0 where
-  pub told : IfSome before.holds (λ files. IsSomeAnd (files name) (λ bytes. most_table_bytes < length bytes))
-  pub untold : before.holds ≡ None → RoseByMoreThan most_table_bytes before.bytes_read after.bytes_read
+pub record IsLonger (limit : ℕ) (name : List ℕ) (before after : ShelfState) : Type 0 where
+  pub told : IfSome before.holds (λ files. IsSomeAnd (files name) (λ bytes. limit < length bytes))
+  pub untold : before.holds ≡ None → RoseByMoreThan limit before.bytes_read after.bytes_read
 
--- file number n of the command is longer than its limit
-abbrev pub IsLongFile : Option Command → ℕ → ShelfState → ShelfState → Type 0
-IsLongFile command n before after = (name : List ℕ) × (slice_get (file_names command) (n - 1) ≡ Some name) × IsLonger name before after
+-- file number n of the command is longer than this, its limit
+abbrev pub IsLongFile : Option Command → ℕ → ℕ → ShelfState → ShelfState → Type 0
+IsLongFile command n limit before after =
+    (name : List ℕ)
+    × (slice_get (file_names command) (n - 1) ≡ Some name)
+    × (slice_get (limits_of command) (n - 1) ≡ Some limit)
+    × IsLonger limit name before after
 
 -- the reply that a command gets
 pub record IsReply (command : Option Command) (before after : ShelfState) (reply : Reply) : Type 0 where
@@ -40,7 +46,8 @@ pub record IsReply (command : Option Command) (before after : ShelfState) (reply
   pub only_usage : reply.status ≡ 2 → command ≡ None
   -- status 7 has its cause in the last file asked
   pub cause : reply.status ≡ 7
-      → ((reply ≡ read_fault count) × Rose before.faults after.faults) ⊎ ((reply ≡ longer count most_table_bytes) × IsLongFile command count before after)
+      → ((reply ≡ read_fault count) × Rose before.faults after.faults)
+      ⊎ ((limit : ℕ) × (reply ≡ longer count limit) × IsLongFile command count limit before after)
   -- a fault of the shelf is told
   pub fault : before.faults < after.faults → reply ≡ read_fault count
   pub status : reply.status < 8

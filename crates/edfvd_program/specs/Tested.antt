@@ -7,7 +7,7 @@ use Rattle.mc_model.specs.Test.{test}
 use Rattle.mc_model.specs.Holds.{Holds, Fits}
 use Rattle.load_sum.specs.Belong.{BelongTo}
 use Rattle.task_file.specs.declared.fault.TaskFault.{TaskFault}
-use Rattle.edfvd_program.specs.Answer.{not_admitted, out_of_range, task_file_refused}
+use Rattle.edfvd_program.specs.Refusals.{not_admitted, out_of_range, task_file_refused}
 use Rattle.edfvd_program.specs.declared.tested.Tested.{Tested}
 use Rattle.edfvd_program.specs.declared.tested.Tested.TheVariants.{Admitted, Refused}
 

@@ -1,7 +1,7 @@
 // The command `check`.
 ghost use Rattle.std.specs.Prelude.{◌≡◌, ℕ, Some, IfOk};
 ghost use Rattle.task_file.specs.TaskFile.{task_file};
-ghost use Rattle.edfvd_program.specs.Answer.{AnswersFile, Checks};
+ghost use Rattle.edfvd_program.specs.Answer.{AnswersFile, UnderTest, Checks};
 ghost use Rattle.edfvd_program.specs.Command.{check};
 ghost use Rattle.edfvd_program.specs.Outcome.{IsReply, AskedFirst};
 
@@ -18,12 +18,12 @@ pub fn check<S: Shelf>(alloc: Global, tasks: &str, shelf: &mut S) -> Result<Repl
 {
     match shelf.fetch(alloc, tasks, MOST_TABLE_BYTES) {
         Ok(bytes) => check_file(alloc, &bytes),
-        Err(fault) => fetch_fault_reply(alloc, fault, 1),
+        Err(fault) => fetch_fault_reply(alloc, fault, 1, MOST_TABLE_BYTES),
     }
 }
 
 fn check_file(alloc: Global, bytes: &[u8]) -> Result<Reply, AllocError>
-    ensures { IfOk result (AnswersFile Checks (task_file bytes.now)) }
+    ensures { IfOk result (AnswersFile (UnderTest Checks) (task_file bytes.now)) }
 {
     match tested_file(alloc, bytes)? {
         Tested::Admitted { set, loads, rule } => {

@@ -1,8 +1,10 @@
 // What the words of the command line ask for.
 ghost use Rattle.std.specs.Prelude.{◌≡◌, map, option_map, string_bytes, IfSome};
-ghost use Rattle.edfvd_program.specs.Command.{command_of, ticks_word};
-ghost use Rattle.edfvd_program.specs.CommandView.{command_view, IsInRange};
+ghost use Rattle.numeral.specs.Numeral as numbers;
+ghost use Rattle.edfvd_program.specs.Command as spec;
+ghost use Rattle.edfvd_program.specs.CommandView.{command_view, AreInRange, IsInRange};
 
+use crate::verb::Verb;
 use numeral::numeral;
 
 /// The most ticks of a run.
@@ -14,39 +16,91 @@ pub enum Command<'a> {
     Check {
         tasks: &'a str,
     },
-    Run {
+    TwoFiles {
+        verb: Verb,
         tasks: &'a str,
-        work: &'a str,
-        ticks: u64,
+        second: &'a str,
     },
 }
 
 /// The form that the words have, if any.
 pub fn command_of(words: &[String]) -> Option<Command<'_>>
-    ensures form { option_map command_view result ≡ command_of (map (λ w. string_bytes w) words.now) }
-    ensures ticks { IfSome result IsInRange }
+    ensures form { option_map command_view result ≡ spec.command_of (map (λ w. string_bytes w) words.now) }
+    ensures range { IfSome result AreInRange }
 {
-    match words {
-        [word, tasks] if word.as_str() == "check" => Some(Command::Check {
-            tasks: tasks.as_str(),
-        }),
-        [word, tasks, work, ticks] if word.as_str() == "run" => {
-            let ticks = ticks_word(ticks.as_str())?;
-            Some(Command::Run {
+    let (verb, tasks, second) = match words {
+        [word, tasks] => {
+            if word.as_str() != "check" {
+                return None;
+            }
+            return Some(Command::Check {
                 tasks: tasks.as_str(),
-                work: work.as_str(),
-                ticks,
-            })
+            });
         }
-        _ => None,
+        [word, tasks, second] => (plain_verb(word.as_str())?, tasks, second),
+        [word, tasks, second, ticks] => {
+            (counted_verb(word.as_str(), ticks.as_str())?, tasks, second)
+        }
+        [word, tasks, second, p, q] => {
+            (
+                scaled_verb(word.as_str(), p.as_str(), q.as_str())?,
+                tasks,
+                second,
+            )
+        }
+        _ => return None,
+    };
+    Some(Command::TwoFiles {
+        verb,
+        tasks: tasks.as_str(),
+        second: second.as_str(),
+    })
+}
+
+fn plain_verb(word: &str) -> Option<Verb>
+    ensures form { result ≡ spec.plain_verb word.now }
+    ensures range { IfSome result IsInRange }
+{
+    if word == "judge" {
+        Some(Verb::Judge)
+    } else {
+        None
     }
 }
 
-fn ticks_word(word: &str) -> Option<u64>
-    ensures { result ≡ ticks_word word.now }
+fn counted_verb(word: &str, ticks: &str) -> Option<Verb>
+    ensures form { result ≡ spec.counted_verb word.now ticks.now }
+    ensures range { IfSome result IsInRange }
+{
+    if word != "run" {
+        return None;
+    }
+    let ticks = number_word(ticks, MOST_TICKS)?;
+    Some(Verb::Run { ticks })
+}
+
+fn scaled_verb(word: &str, p: &str, q: &str) -> Option<Verb>
+    ensures form { result ≡ spec.scaled_verb word.now p.now q.now }
+    ensures range { IfSome result IsInRange }
+{
+    if word != "judge" {
+        return None;
+    }
+    let p = number_word(p, u64::from(u32::MAX))?;
+    let q = number_word(q, u64::from(u32::MAX))?;
+    if p <= q {
+        Some(Verb::JudgeBy { p, q })
+    } else {
+        None
+    }
+}
+
+// A number from 1 to `most`.
+fn number_word(word: &str, most: u64) -> Option<u64>
+    ensures { result ≡ spec.within 1 most (numbers.numeral 20 word.now) }
 {
     match numeral(word.as_bytes(), 20) {
-        Some(ticks) if 1 <= ticks && ticks <= u128::from(MOST_TICKS) => Some(ticks as u64),
+        Some(number) if 1 <= number && number <= u128::from(most) => Some(number as u64),
         _ => None,
     }
 }

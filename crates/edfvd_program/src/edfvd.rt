@@ -3,13 +3,14 @@ ghost use Rattle.std.specs.Prelude.{◌≡◌, ℕ, List, ◌<◌, ◌≤◌, ma
 ghost use Rattle.mc_world.specs.Count.{Rose};
 ghost use Rattle.mc_world.specs.Shelf.{Files};
 ghost use Rattle.edfvd_program.specs.Command.{command_of, file_names};
+ghost use Rattle.edfvd_program.specs.Headline.{Headline};
 ghost use Rattle.edfvd_program.specs.Outcome.{Tells, AskedFirst, IsReply, Outcome, Answers};
 
 use crate::check::check;
 use crate::command::{Command, command_of};
 use crate::lines::usage_line;
 use crate::reply::Reply;
-use crate::run::run;
+use crate::two_files::two_files;
 use mc_world::{Shelf, Sink};
 use std::alloc::{AllocError, Global};
 
@@ -30,6 +31,12 @@ pub fn edfvd<R, S: Shelf, K: Sink>(
         → (K.state out.old).written ≡ Some old → (Rose (K.state out.old).faults (K.state out.new).faults → ⊥)
         → Answers (command_of asked) files old result (K.state out.new).written }
 
+    // A set is scheduled exactly where the published test holds, and each trace written or found legal keeps the deadlines.
+    ensures headline { let asked = map (λ w. string_bytes w) words.now in (files : Files) (old : List ℕ)
+        → Tells (command_of asked) files (S.state shelf.old) (S.state shelf.new)
+        → (K.state out.old).written ≡ Some old → (Rose (K.state out.old).faults (K.state out.new).faults → ⊥)
+        → Headline (command_of asked) files old result (K.state out.new).written }
+
     // A write fault is told exactly where the sink failed.
     ensures write_fault { result ≡ 8 → Rose (K.state out.old).faults (K.state out.new).faults }
     ensures no_write_fault { (K.state out.old).faults < (K.state out.new).faults → result ≡ 8 }
@@ -49,7 +56,13 @@ fn reply_to<S: Shelf>(alloc: Global, words: &[String], shelf: &mut S) -> Result<
 {
     match command_of(words) {
         Some(Command::Check { tasks }) => check(alloc, tasks, shelf),
-        Some(Command::Run { tasks, work, ticks }) => run(alloc, tasks, work, ticks, shelf),
+        Some(
+            Command::TwoFiles {
+                verb,
+                tasks,
+                second,
+            },
+        ) => two_files(alloc, verb, tasks, second, shelf),
         None => Ok(Reply::new(2, usage_line(alloc)?)),
     }
 }

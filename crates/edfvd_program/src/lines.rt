@@ -1,11 +1,10 @@
-// The lines of refusals.
+// The lines of refusals before any row: of the words, of a fetch, and of a task file.
 ghost use Rattle.std.specs.Prelude.{◌≡◌, ◌++◌, IfOk, IsErr, codes, string_bytes};
 ghost use Rattle.edfvd_program.specs.Lines as lines;
 
 use mc_task::{SetFault, TaskNo};
 use std::alloc::{AllocError, Global};
 use task_file::{KeyText, TaskFault};
-use work_file::{WorkCause, WorkFault};
 
 /// The one line that names every form of the command line.
 pub fn usage_line(alloc: Global) -> Result<Vec<u8>, AllocError>
@@ -124,42 +123,12 @@ fn short_task_line(alloc: Global, task: u64, words: &str) -> Result<Vec<u8>, All
     Ok(line.into_bytes())
 }
 
-// The front, the text, and a line feed.
-fn finished(front: Vec<u8>, text: &[u8]) -> Result<Vec<u8>, AllocError>
+/// The front, the text, and a line feed.
+pub fn finished(front: Vec<u8>, text: &[u8]) -> Result<Vec<u8>, AllocError>
     ensures { IfOk result (λ line. line.items ≡ front.items ++ (text.now ++ codes "\n")) }
 {
     let mut line = front;
     line.extend_from_slice(text)?;
     line.push(b'\n')?;
     Ok(line)
-}
-
-/// The work file is refused. Want of memory is no refusal, and has no line.
-pub fn work_fault_line(alloc: Global, fault: &WorkFault) -> Result<Vec<u8>, AllocError>
-    ensures line { IfOk result (λ line. line.items ≡ lines.work_fault_line fault.now) }
-    ensures memory { fault.now ≡ WorkFault.Memory → IsErr result }
-{
-    match *fault {
-        WorkFault::Memory => Err(AllocError),
-        WorkFault::At { line, cause } => {
-            let words = work_cause_words(alloc, cause)?;
-            let text = format!(in alloc; "work file line {line}: {words}")?;
-            Ok(text.into_bytes())
-        }
-    }
-}
-
-fn work_cause_words(alloc: Global, cause: WorkCause) -> Result<String, AllocError>
-    ensures { IfOk result (λ words. string_bytes words ≡ lines.work_cause_words cause) }
-{
-    match cause {
-        WorkCause::BadRecord => String::from_str(alloc, "not three fields\n"),
-        WorkCause::Header => String::from_str(alloc, "header is not task,release,need\n"),
-        WorkCause::UnknownTask => String::from_str(alloc, "unknown task\n"),
-        WorkCause::BadNumber => String::from_str(alloc, "bad number\n"),
-        WorkCause::ZeroNeed => String::from_str(alloc, "need is 0\n"),
-        WorkCause::Unsorted => String::from_str(alloc, "release before the last one\n"),
-        WorkCause::TooSoon { next } => format!(in alloc; "too soon, next {next}\n"),
-        WorkCause::TooMany => String::from_str(alloc, "more than 1000000 rows\n"),
-    }
 }

@@ -4,13 +4,19 @@
 mod check;
 mod command;
 mod edfvd;
+mod judge;
 mod lines;
 mod reply;
+mod row_lines;
+mod ruled;
 mod run;
 mod tested;
 #[cfg(test)]
 mod tests;
 mod text;
+mod two_files;
+mod verb;
+mod verdict_line;
 
 use edfvd::edfvd;
 use mc_world::{FileShelf, StdoutSink};

@@ -5,7 +5,7 @@ ghost use Rattle.mc_model.specs.Loads.{range_fault};
 ghost use Rattle.mc_model.specs.Test.{test};
 ghost use Rattle.task_file.specs.Gives.{Fails};
 ghost use Rattle.task_file.specs.TaskFile.{task_file};
-ghost use Rattle.edfvd_program.specs.Answer as spec;
+ghost use Rattle.edfvd_program.specs.Refusals as spec;
 ghost use Rattle.edfvd_program.specs.Tested.{IsTestedFile, IsTestedSet, IsTestedLoads};
 
 use crate::lines::{longer_line, range_line, read_fault_line, task_fault_line};
@@ -83,14 +83,19 @@ fn tested_loads(alloc: Global, set: TaskSet, loads: Loads) -> Result<Tested, All
 }
 
 /// The reply where file number `file` of the command gives no bytes. Want of memory is no reply.
-pub fn fetch_fault_reply(alloc: Global, fault: FetchFault, file: u32) -> Result<Reply, AllocError>
+pub fn fetch_fault_reply(
+    alloc: Global,
+    fault: FetchFault,
+    file: u32,
+    limit: usize,
+) -> Result<Reply, AllocError>
     ensures failed { fault ≡ FetchFault.Failed → IfOk result (λ reply. reply ≡ spec.read_fault file) }
-    ensures longer { fault ≡ FetchFault.TooLong → IfOk result (λ reply. reply ≡ spec.longer file spec.most_table_bytes) }
+    ensures longer { fault ≡ FetchFault.TooLong → IfOk result (λ reply. reply ≡ spec.longer file limit) }
     ensures memory { fault ≡ FetchFault.Memory → IsErr result }
 {
     match fault {
         FetchFault::Failed => Ok(Reply::new(7, read_fault_line(alloc, file)?)),
-        FetchFault::TooLong => Ok(Reply::new(7, longer_line(alloc, file, MOST_TABLE_BYTES)?)),
+        FetchFault::TooLong => Ok(Reply::new(7, longer_line(alloc, file, limit)?)),
         FetchFault::Memory => Err(AllocError),
     }
 }

@@ -1,6 +1,7 @@
 pub mod Booleans
 pub mod Bridge
 pub mod Counts
+pub mod Decided
 pub mod Fold
 pub mod HighLoads
 pub mod HoldsAdmitted
@@ -16,5 +17,10 @@ pub mod Steps
 pub mod Tasks
 pub mod Tests
 pub mod ThreeQuarters
+pub mod Ticks
+pub mod Traces
+pub mod Verdicts
 pub mod Walk
 pub mod WorkedRows
+pub mod WorkedSets
+pub mod WorkedTraces

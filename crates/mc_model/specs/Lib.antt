@@ -13,3 +13,7 @@ pub mod Work
 pub mod Follows
 pub mod Core
 pub mod TraceText
+pub mod Traces
+pub mod Promise
+pub mod Verdict
+pub mod VerdictText

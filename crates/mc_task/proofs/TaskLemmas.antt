@@ -1,15 +1,17 @@
 -- Tasks in which there is no fault are in order.
-use Rattle.std.proofs.Common.{All, ◌≡◌, ℕ, suc, ◌+◌, ◌≤◌, Bool, true, false, ◌==◌, nat_lt, cond, List, [], ◌∷◌, ◌++◌, ◌≢◌, Option, Some, None, option_map, refl, sym, ◌∙◌, append_assoc, arith, length}
+use Rattle.std.proofs.Common.{All, ◌≡◌, ℕ, suc, ◌+◌, ◌≤◌, Bool, true, false, ◌==◌, ◌||◌, nat_lt, cond, List, [], ◌∷◌, ◌++◌, ◌≢◌, Option, Some, None, option_map, refl, sym, ◌∙◌, append_assoc, arith, length}
 use Rattle.std.specs.Str.{bytes_eq}
 use Rattle.std.proofs.lemmas.Bool.Decides.{nat_tests}
 use Rattle.std.proofs.lemmas.Bool.{false≢true}
 use Rattle.std.proofs.lemmas.Slice.Eq.{bytes_eq-Decides}
 use Rattle.std.specs.List.{AllByRecursion}
 use Rattle.mc_task.specs.declared.task.Task.{Task}
+use Rattle.mc_task.specs.declared.task.Level.{Level}
+use Rattle.mc_task.specs.declared.task.Level.TheVariants.{Low, High}
 use Rattle.mc_task.specs.declared.set.SetFault.{SetFault}
 use Rattle.mc_task.specs.declared.set.SetFault.TheVariants.{Empty, TooMany}
-use Rattle.mc_task.specs.TaskSet.{IsTask, IsSet, Distinct, names_of}
-use Rattle.mc_task.specs.Faults.{or_else, number_fault_from, first_fault, same_name_from, named_from}
+use Rattle.mc_task.specs.TaskSet.{IsTask, IsSet, InOrder, Distinct, names_of}
+use Rattle.mc_task.specs.Faults.{or_else, out_of_order, number_fault, number_fault_from, first_fault, same_name_from, named_from}
 
 parts : (a b : Option SetFault) → or_else a b ≡ None → (a ≡ None) × (b ≡ None)
 parts None b h = (refl, h)
@@ -59,10 +61,41 @@ distinct before (t ∷ ts) h =
     let p = parts _ _ h in
     (fresh t before [] ts (p.1), distinct (before ++ t ∷ []) ts (p.1))
 
-pub IsSet-right : (ts : List Task) → All IsTask ts → first_fault ts ≡ None → IsSet ts
-IsSet-right ts each h =
+-- budgets that are not out of order are in order
+in_order : (l : Level) (low high : ℕ) → out_of_order l low high ≡ false → InOrder l low high
+in_order Low low high h = grind (arith, nat_tests, h)
+in_order High low high h = grind (arith, nat_tests, h)
+
+in_order_from : (before : ℕ) (ts : List Task) → number_fault_from before ts ≡ None → AllByRecursion (λ t. InOrder t.level t.low t.high) ts
+in_order_from before [] h = tt
+in_order_from before (t ∷ ts) h =
+    let p = parts (number_fault (before + 1) t) (number_fault_from (before + 1) ts) h in
+    let q = chosen ((t.period == 0 || t.low == 0) || t.high == 0) (out_of_order t.level t.low t.high) _ _ None (p.0) in
+    (in_order t.level t.low t.high (q.1), in_order_from (before + 1) ts (p.1))
+
+-- what a list without a fault passes: it has 1 to 128 tasks, none with a fault of its numbers or the name of another
+record Faultless (ts : List Task) : Type 0 where
+  some : 1 ≤ length ts
+  few : length ts ≤ 128
+  numbers : number_fault_from 0 ts ≡ None
+  names : same_name_from [] ts ≡ None
+
+faultless : (ts : List Task) → first_fault ts ≡ None → Faultless ts
+faultless ts h =
     let p = chosen (length ts == 0) (nat_lt 128 (length ts)) Empty (TooMany (length ts)) (or_else (number_fault_from 0 ts) (same_name_from [] ts)) h in
     let q = parts (number_fault_from 0 ts) (same_name_from [] ts) (p.2) in
     let some : 1 ≤ length ts = grind (arith, nat_tests, p.0) in
     let few : length ts ≤ 128 = grind (arith, nat_tests, p.1) in
-    record { some = some; few = few; each = each_of_all IsTask ts each; names = distinct [] ts (q.1) }
+    record { some = some; few = few; numbers = q.0; names = q.1 }
+
+-- each task of such a list has its budgets in order
+pub each_in_order : (ts : List Task) → first_fault ts ≡ None → AllByRecursion (λ t. InOrder t.level t.low t.high) ts
+each_in_order ts h = in_order_from 0 ts ((faultless ts h).numbers)
+
+pub IsSet-each : (ts : List Task) → AllByRecursion IsTask ts → first_fault ts ≡ None → IsSet ts
+IsSet-each ts each h =
+    let f = faultless ts h in
+    record { some = f.some; few = f.few; each = each; names = distinct [] ts (f.names) }
+
+pub IsSet-right : (ts : List Task) → All IsTask ts → first_fault ts ≡ None → IsSet ts
+IsSet-right ts each h = IsSet-each ts (each_of_all IsTask ts each) h

@@ -11,3 +11,4 @@ pub mod Writes
 pub mod CoreSteps
 pub mod ChoiceLaw
 pub mod FewHeld
+pub mod Timely

@@ -4,3 +4,5 @@ pub mod Entries
 pub mod Kept
 pub mod Shape
 pub mod Choice
+pub mod Timely
+pub mod OneLive

@@ -47,6 +47,8 @@ impl Model for Core {
 
 impl Core {
     ghost use Rattle.mode_core.specs.Shape.{IsSound};
+    ghost use Rattle.mode_core.specs.Timely.{IsTimely};
+    ghost use Rattle.mode_core.specs.OneLive.{IsOneLive};
 
     /// A core with no rows, in low mode, with no tick out and nothing held. On want of memory the set is dropped.
     ///
@@ -56,7 +58,8 @@ impl Core {
         requires fits { Fits rule }
         requires holds { Holds set rule }
         requires places { places < 2 ^ 32 }
-        ensures { IfOk result (λ core. core ≡ empty_state set rule places) }
+        ensures state { IfOk result (λ core. core ≡ empty_state set rule places) }
+        ensures timely { IfOk result IsTimely }
     {
         let count = set.len() as usize;
         let Ok(slots) = fresh_slots(alloc, count) else {
@@ -76,9 +79,11 @@ impl Core {
         }
     }
 
-    /// The rows, the oldest first.
+    /// The rows, the oldest first. No job is late in them, and no task has two pending jobs.
     pub fn rows(&self) -> &[Row]
-        ensures { result.now ≡ reverse self.now.rows }
+        ensures value { result.now ≡ reverse self.now.rows }
+        ensures timely { IsTimely self.now }
+        ensures one_live { IsOneLive self.now }
     {
         self.book.rows()
     }

@@ -1,5 +1,5 @@
--- The core's calls between two rows of a plan are not refused.
-use Rattle.std.proofs.Common.{◌≡◌, ℕ, ◌<◌, ◌≤◌, Bool, true, false, not, List, [], ◌∷◌, Option, Some, None, Result, Ok, length, cond, nat_lt, ◌==◌, slice_get, option_map, refl, sym, ap, ap₂, ◌∙◌, subst, arith, le-ltb, lt-ltb}
+-- The core's calls are not refused where no tick is out, and which row a plan adds next.
+use Rattle.std.proofs.Common.{◌≡◌, ℕ, ◌<◌, ◌≤◌, Bool, true, false, not, List, [], ◌∷◌, Option, Some, None, Result, Ok, length, cond, nat_lt, ◌==◌, slice_get, option_map, refl, sym, ap, ap₂, ◌∙◌, arith, le-ltb, lt-ltb}
 use Rattle.std.proofs.lemmas.Bool.Decides.{nat_tests}
 use Rattle.mc_task.specs.declared.task.Rule.{Rule}
 use Rattle.mc_task.specs.declared.task.Task.{Task}
@@ -18,17 +18,17 @@ use Rattle.mode_core.specs.declared.answers.ReleaseFault.{ReleaseFault}
 use Rattle.mode_core.specs.declared.answers.IdleFault.{IdleFault}
 use Rattle.mode_core.specs.Events.{or_else, refused_if, answer, unless, running, is_full, with_release, after_release, grant_refusal, grant_answer, after_grant, granted, job_in, is_of_task, chosen_now, after_outcome, after_idle}
 use Rattle.timetable.specs.Ticks.{tick_row}
-use Rattle.timetable.proofs.NextRow.{first_job, row_now, next_row, IsPlanned}
-use Rattle.timetable.specs.Progress.{due_row}
+use Rattle.timetable.specs.Shape.{first_job, row_now, next_row}
+use Rattle.timetable.specs.Floor.{due_row}
 use Rattle.mc_model.specs.Work.{IsWork}
 use Rattle.timetable.proofs.Determined.{next_at}
-use Rattle.timetable.proofs.Due.{arrival_of, due_before, due_index, length-rows, taken-few}
+use Rattle.timetable.proofs.Due.{arrival_of, due_before, due_index}
 use Rattle.mode_core.specs.declared.answers.GrantFault.TheVariants as grant_fault
 use Rattle.mode_core.specs.declared.answers.ReleaseFault.TheVariants as release_fault
 use Rattle.mode_core.specs.declared.answers.IdleFault.TheVariants as idle_fault
 
 -- with a place left the core is not full
-not_full : (s : State) → places_used s < s.places → is_full s ≡ false
+pub not_full : (s : State) → places_used s < s.places → is_full s ≡ false
 not_full s r = apart (places_used s) s.places r
   where
     apart : (a b : ℕ) → a < b → (a == b) ≡ false
@@ -108,14 +108,6 @@ released s k o h n r =
 
 -- the plan's next row
 
--- before n ticks there is a place left
-pub room_for : (s : State) (work : List WorkRow) (n taken : ℕ) → IsWork s.set work → IsPlanned work n taken s → ticks s.rows < n → places_used s < s.places
-room_for s work n taken w p h =
-    let a : tick_out s.out ≡ 0 = ap tick_out p.out in
-    let b : length s.held ≡ 0 = ap length p.held in
-    let c = p.room in
-    omega (arith, a, b, c, h, length-rows s.rows, taken-few s.set s.rule work n s.rows w p.runs)
-
 -- where the work's row is due, it is what is planned
 pub due_planned : (set : List Task) (rule : Rule) (work : List WorkRow) (n i : ℕ) (w : WorkRow) (g : List Row) → IsWork set work → slice_get work i ≡ Some w → w.release ≡ ticks g → ticks g < n → slice_get (planned work n) i ≡ Some (arrival_of w)
 due_planned set rule work n i w g k e t h =
@@ -146,7 +138,3 @@ tick_row_next set rule work n g k d h =
         go true true m k = cc
         go true false m k = rw m refl
         go false e m k = refl
-
--- with the next row the state is between two rows of the plan again
-pub planned_after : (s t : State) (work : List WorkRow) (n taken more : ℕ) (row : Row) → IsPlanned work n taken s → next_row s.set s.rule work n s.rows ≡ Some row → t ≡ record s { rows = row ∷ s.rows } → more ≡ length (arrivals (row ∷ s.rows)) → IsPlanned work n more t
-planned_after s t work n taken more row p e f m = subst (IsPlanned work n more) (sym f) (record { out = p.out; held = p.held; runs = (e, p.runs); taken_are = m; room = p.room })

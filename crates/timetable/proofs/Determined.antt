@@ -26,7 +26,7 @@ use Rattle.mc_model.proofs.Lists.{Each}
 use Rattle.mc_model.proofs.Booleans.{and_both, eqb-refl}
 use Rattle.mc_model.proofs.Steps.{release_fits}
 use Rattle.timetable.specs.Ticks.{is_last, tick_row}
-use Rattle.timetable.proofs.NextRow.{first_job, row_now, next_row, Runs}
+use Rattle.timetable.specs.Shape.{first_job, row_now, next_row, Runs}
 use Rattle.timetable.proofs.OneChosen.{chosen_is}
 
 -- the arrivals that are still to come are at t or later

@@ -12,7 +12,7 @@ use Rattle.mc_model.specs.TaskNumbers.{period_in}
 use Rattle.mc_model.specs.Rows.{ticks, next_release}
 use Rattle.mc_model.specs.Follows.{Arrival, arrivals, planned}
 use Rattle.mc_model.proofs.Lists.{Each}
-use Rattle.timetable.proofs.NextRow.{Runs}
+use Rattle.timetable.specs.Shape.{Runs}
 use Rattle.mc_model.specs.Work.{AllFollow, IsNeed, IsWork}
 use Rattle.timetable.proofs.Determined.{Later, planned_each}
 use Rattle.timetable.proofs.RunsFollow.{Rest, rest_of, head_at, later_planned}

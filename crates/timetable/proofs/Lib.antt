@@ -1,8 +1,13 @@
-pub mod NextRow
 pub mod OneChosen
 pub mod Determined
 pub mod RunsFollow
 pub mod Due
 pub mod Calls
-pub mod Advances
-pub mod ProgressLemmas
+pub mod Steps
+pub mod NeedsLemmas
+pub mod Latest
+pub mod Extends
+pub mod CallTable
+pub mod Kept
+pub mod NextActs
+pub mod InTime

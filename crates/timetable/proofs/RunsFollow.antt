@@ -25,7 +25,7 @@ use Rattle.mc_model.proofs.Lists.{Each, Each-map}
 use Rattle.mode_core.proofs.Apart.{pending_apart, only}
 use Rattle.mode_core.proofs.Chosen.{Choice, choice, IsFirst, is_first}
 use Rattle.timetable.specs.Ticks.{is_last, tick_row}
-use Rattle.timetable.proofs.NextRow.{first_job, row_now, next_row, Runs}
+use Rattle.timetable.specs.Shape.{first_job, row_now, next_row, Runs}
 use Rattle.mc_model.specs.Work.{AllFollow, IsWork}
 use Rattle.timetable.proofs.Determined.{Later, Later-less, planned_each, reverse-move}
 
@@ -75,11 +75,11 @@ idle_rows set rule work g (Some a) e = go (a.at == ticks g) refl e
     go false m k = record { row_is = k; not_due = λ x d. subst (λ (y : Arrival). y.at ≢ ticks g) (same_Some a x d) (eqb-false _ _ m) }
 
 -- an arrival of task number k at t
-abbrev arrival : ℕ → ℕ → Arrival
+abbrev pub arrival : ℕ → ℕ → Arrival
 arrival k t = record { task = k; at = t }
 
 -- a release that is added is the head, at this boundary
-release_rows : (set : List Task) (rule : Rule) (work : List WorkRow) (g : List Row) (o : Option Arrival) (j : JobId) (kept : Bool) → row_now set rule work g o ≡ Release j kept → o ≡ Some (arrival j.task.0 (ticks g))
+pub release_rows : (set : List Task) (rule : Rule) (work : List WorkRow) (g : List Row) (o : Option Arrival) (j : JobId) (kept : Bool) → row_now set rule work g o ≡ Release j kept → o ≡ Some (arrival j.task.0 (ticks g))
 release_rows set rule work g None j kept e = no (chosen set rule g) e
   where
     no : (c : Option JobId) → tick_row set rule work g c ≡ Release j kept → None ≡ Some (arrival j.task.0 (ticks g))

@@ -1,3 +1,6 @@
 pub mod Ticks
-pub mod Progress
+pub mod Floor
+pub mod Plans
+pub mod Needs
+pub mod Shape
 pub mod OneTrace

@@ -1,9 +1,13 @@
-//! A plan over the core: a list of work and a number of ticks, run on one thread.
+//! A floor: the scheduler's core with a plan, a list of work and a number of ticks, and the plan's next act.
 #![tactic(auto)]
 
-mod progress;
-mod run;
+mod acts;
+mod floor;
+mod needs;
+mod plan;
 #[cfg(test)]
 mod tests;
 
-pub use run::run_plan;
+pub use acts::{Act, ActFault, PlanFault};
+pub use floor::Floor;
+pub use plan::Plan;

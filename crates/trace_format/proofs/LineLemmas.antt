@@ -20,7 +20,7 @@ use Rattle.mc_model.specs.declared.row.Row.{Row}
 use Rattle.mc_model.specs.declared.row.Row.TheVariants.{Release, Tick, Idle}
 use Rattle.trace_format.specs.Writable.{IsWritable}
 use Rattle.trace_format.proofs.FoundLemmas.{found_by_name}
-use Rattle.trace_format.proofs.TickLemmas.{ticks-append}
+use Rattle.mc_model.proofs.Ticks.{ticks-append}
 
 -- the fields of a row's line
 abbrev pub row_fields : List Task → ℕ → Row → List (List ℕ)

@@ -5,20 +5,7 @@ use Rattle.mc_task.specs.declared.task.Task.{Task}
 use Rattle.mc_model.specs.Rows.{ticks}
 use Rattle.mc_model.specs.TraceText.{row_line, lines_after}
 use Rattle.mc_model.specs.declared.row.Row.{Row}
-use Rattle.mc_model.specs.declared.row.Row.TheVariants.{Release, Tick, Idle}
-
-pub ticks-append : (g h : List Row) → ticks (g ++ h) ≡ ticks g + ticks h
-ticks-append [] h = omega arith
-ticks-append (Release j kept ∷ g) h = ticks-append g h
-ticks-append (Tick j how ∷ g) h = let more : ticks (g ++ h) ≡ ticks g + ticks h = ticks-append g h in omega arith
-ticks-append (Idle ∷ g) h = let more : ticks (g ++ h) ≡ ticks g + ticks h = ticks-append g h in omega arith
-
--- at most one for each row
-pub ticks-le : (g : List Row) → ticks g ≤ length g
-ticks-le [] = omega arith
-ticks-le (Release j kept ∷ g) = let less : ticks g ≤ length g = ticks-le g in omega arith
-ticks-le (Tick j how ∷ g) = let less : ticks g ≤ length g = ticks-le g in omega arith
-ticks-le (Idle ∷ g) = let less : ticks g ≤ length g = ticks-le g in omega arith
+use Rattle.mc_model.proofs.Ticks.{ticks-append}
 
 -- the ticks of one row more
 pub ticks-more : (rows : List Row) (i t s : ℕ) (d : Row) → i < length rows → t ≡ ticks (take i rows) → s ≡ t + ticks (get_or rows i d ∷ []) → s ≡ ticks (take (i + 1) rows)

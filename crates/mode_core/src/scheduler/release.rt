@@ -11,6 +11,7 @@ use mc_task::{JobId, TaskNo};
 
 impl Core {
     ghost use Rattle.mode_core.specs.Shape.{IsSound};
+    ghost use Rattle.mode_core.specs.Timely.{IsTimely};
 
     /// Releases the task's next job. The release time is the number of ticks that were begun.
     ///
@@ -20,6 +21,7 @@ impl Core {
         requires in_set { IsIn self.old.set task.0 }
         ensures answer { result ≡ release_answer self.old task.0 }
         ensures state { self.new ≡ after_release self.old task.0 }
+        ensures timely { IsTimely self.new }
     {
         match self.release_fault(task) {
             Some(fault) => Err(fault),

@@ -14,6 +14,7 @@ use mc_task::{JobId, TaskNo};
 
 impl Core {
     ghost use Rattle.mode_core.specs.Shape.{IsSound};
+    ghost use Rattle.mode_core.specs.Timely.{IsTimely};
 
     /// Puts the tick of the chosen job out, which has to be of this task, and keeps a place for its row.
     ///
@@ -22,6 +23,7 @@ impl Core {
         requires in_set { IsIn self.old.set task.0 }
         ensures answer { result ≡ grant_answer self.old task.0 }
         ensures state { self.new ≡ after_grant self.old task.0 }
+        ensures timely { IsTimely self.new }
     {
         match self.grant_fault(task) {
             Some(fault) => Err(fault),
@@ -74,6 +76,7 @@ impl Core {
     pub fn outcome(&mut self, job: JobId, done: bool) -> Result<How, NotOut>
         ensures answer { result ≡ outcome_answer self.old job done }
         ensures state { self.new ≡ after_outcome self.old job done }
+        ensures timely { IsTimely self.new }
     {
         match self.outcome_fault(job) {
             Some(fault) => Err(fault),
@@ -133,6 +136,7 @@ impl Core {
     pub fn idle(&mut self) -> Result<u64, IdleFault>
         ensures answer { result ≡ idle_answer self.old }
         ensures state { self.new ≡ after_idle self.old }
+        ensures timely { IsTimely self.new }
     {
         match self.idle_fault() {
             Some(fault) => Err(fault),

@@ -1,12 +1,11 @@
-use Rattle.std.proofs.Common.{◌≡◌, ◌⊎◌, inl, inr, ℕ, Some, Err, ap, sym, arith}
+use Rattle.std.proofs.Common.{Some, Err, ap, sym, arith}
 use Rattle.std.proofs.lemmas.Result.{IfOk-weaker}
-use Rattle.mc_world.specs.Shelf.{ShelfState}
 use Rattle.task_file.specs.TaskFile.{task_file}
 use Rattle.edfvd_program.specs.Reply.{Reply}
 use Rattle.edfvd_program.specs.Command.{check}
-use Rattle.edfvd_program.specs.Answer.{AnswersFile, Checks}
-use Rattle.edfvd_program.specs.Outcome.{IsReply, AskedFirst}
-use Rattle.edfvd_program.specs.Fetched.{Asked}
+use Rattle.edfvd_program.specs.Answer.{AnswersFile, UnderTest, Checks}
+use Rattle.edfvd_program.specs.Limits.{most_table_bytes}
+use Rattle.edfvd_program.specs.Outcome.{IsReply}
 use Rattle.edfvd_program.proofs.Fetches.{asked_ok, calm_ok, asked_fault, calm_fault, on_fault, asked_or_not}
 use Rattle.edfvd_program.proofs.Replies.{IsReply-check, IsReply-check-longer, IsReply-failed, asked-check}
 use Rattle.edfvd_program.proofs.check.check.Goals as goal
@@ -15,7 +14,7 @@ pub returns-in-Ok-clause-reply : goal.returns-in-Ok-clause-reply
 returns-in-Ok-clause-reply g c =
     let before = g.S.Shelf.state c.args.shelf.now in
     let after = g.S.Shelf.state c.fetch.new.self in
-    let P : Reply → Type 0 = λ r. AnswersFile Checks (task_file c.deref.result.now) r in
+    let P : Reply → Type 0 = λ r. AnswersFile (UnderTest Checks) (task_file c.deref.result.now) r in
     let Q : Reply → Type 0 = λ r. IsReply (Some (check c.args.tasks.now)) before after r in
     let bytes = c.in-Ok.bytes.items in
     IfOk-weaker c.check_file.result P Q
@@ -34,7 +33,7 @@ returns-in-Err-clause-reply g c =
     let before = g.S.Shelf.state c.args.shelf.now in
     let after = g.S.Shelf.state c.fetch.new.self in
     let name = c.args.tasks.now in
-    on_fault (λ r. IsReply (Some (check name)) before after r) 1 c.in-Err.fault c.fetch_fault_reply.result
+    on_fault (λ r. IsReply (Some (check name)) before after r) 1 most_table_bytes c.in-Err.fault c.fetch_fault_reply.result
     (λ h. IsReply-failed (Some (check name)) before after 1 (λ e. absurd (cc)) (omega arith)
     (asked_fault c.fetch.result c.in-Err.fault name before after c.in-Err.is (λ other. absurd (cc)) c.fetch.ensures.asks) (c.in-Err.ensures.failed (ap (λ e. Err e) h)))
     (λ h. IsReply-check-longer name before after

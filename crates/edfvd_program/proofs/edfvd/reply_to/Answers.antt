@@ -1,6 +1,6 @@
 use Rattle.std.proofs.Common.{rules, ◌≡◌, map, string_bytes, None}
 use Rattle.edfvd_program.specs.Command.{command_of}
-use Rattle.edfvd_program.specs.Answer.{usage}
+use Rattle.edfvd_program.specs.Refusals.{usage}
 use Rattle.edfvd_program.proofs.Replies.{IsReply-none}
 use Rattle.edfvd_program.proofs.edfvd.reply_to.Goals as goal
 

@@ -3,7 +3,7 @@ use Rattle.std.proofs.lemmas.List.Elements.{All-push}
 use Rattle.mc_model.specs.Legal.{IsOfSet}
 use Rattle.mc_model.specs.Rows.{ticks}
 use Rattle.mc_model.specs.declared.row.Row.{Row}
-use Rattle.trace_format.proofs.TickLemmas.{ticks-append, ticks-le}
+use Rattle.mc_model.proofs.Ticks.{ticks-append, ticks-le}
 use Rattle.trace_format.proofs.read.take.Goals as goal
 
 pub tick_after-reading-requires : goal.tick_after-reading-requires

@@ -2,7 +2,8 @@ use Rattle.std.proofs.Common.{arith, ◌≡◌, ◌≤◌, ◌<◌, length, take
 use Rattle.std.proofs.lemmas.List.{length-take-le}
 use Rattle.std.proofs.lemmas.List.Elements.{All-more}
 use Rattle.trace_format.specs.Writable.{IsWritable}
-use Rattle.trace_format.proofs.TickLemmas.{ticks-le, ticks-more, lines-more}
+use Rattle.trace_format.proofs.TickLemmas.{ticks-more, lines-more}
+use Rattle.mc_model.proofs.Ticks.{ticks-le}
 use Rattle.trace_format.proofs.write.trace_text.Goals as goal
 
 pub tick_after-tick-requires : goal.tick_after-tick-requires

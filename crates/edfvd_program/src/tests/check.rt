@@ -1,0 +1,237 @@
+use super::{AVIONICS, CONTROL, shelf_of, words_of};
+use crate::edfvd::edfvd;
+use mc_world::MemorySink;
+use std::test::Fail;
+
+const CONTROL_TEXT: &str = "tasks 2\nU_LL 1/2\nU_HL 1/5\nU_HH 3/5\nrule virtual\nx 2/5\n";
+
+#[test]
+fn task_files_get_their_status_and_text(rt: HostRuntime) -> Result<(), Fail> {
+    let alloc = rt.alloc();
+    let words = words_of(alloc, &["check", "tasks.toml"])?;
+    let cases = [
+        (CONTROL, 0, CONTROL_TEXT),
+        (
+            "task = [{name='one', level='low', period=2, low=2}]",
+            0,
+            "tasks 1\nU_LL 1/1\nU_HL 0/1\nU_HH 0/1\nrule plain\n",
+        ),
+        (
+            "task = [{name='tap', level='low', period=2, low=1}, {name='arm', level='high', period=4, low=1, high=3}]",
+            0,
+            "tasks 2\nU_LL 1/2\nU_HL 1/4\nU_HH 3/4\nrule virtual\nx 1/2\n",
+        ),
+        (
+            "task = [{name='tap', level='low', period=2, low=1}, {name='arm', level='high', period=4, low=1, high=4}]",
+            1,
+            "not admitted: U_LL 1/2 U_HL 1/4 U_HH 1/1\n",
+        ),
+        (
+            "task = [{name='tap', level='low', period=2, low=2}, {name='arm', level='high', period=4, low=1, high=1}]",
+            1,
+            "not admitted: U_LL 1/1 U_HL 1/4 U_HH 1/4\n",
+        ),
+        (
+            "task = [{name='a', level='low', period=4294967295, low=1}, {name='b', level='low', period=4294967294, low=1}]",
+            3,
+            "task file: task 2: periods out of range\n",
+        ),
+        (
+            "task = [{name='a', level='low', period=2147483648, low=1}, {name='b', level='low', period=387420489, low=1}]",
+            0,
+            "tasks 2\nU_LL 2534904137/831979165027663872\nU_HL 0/1\nU_HH 0/1\nrule plain\n",
+        ),
+        (
+            "task = [{name='a', level='low', period=2147483648, low=1}, {name='b', level='low', period=387420489, low=1}, {name='c', level='low', period=5, low=1}]",
+            3,
+            "task file: task 3: periods out of range\n",
+        ),
+        (
+            AVIONICS,
+            0,
+            "tasks 8\nU_LL 600007/1666700\nU_HL 11/40\nU_HH 67/100\nrule virtual\nx 916685/2133386\n",
+        ),
+        ("", 3, "task file: no tasks\n"),
+        ("task", 3, "task file: not TOML\n"),
+        ("\"\u{e9}\" = 1", 3, "task file: unknown key ??\n"),
+        ("version = 3", 3, "task file: unknown version\n"),
+        ("task = 3", 3, "task file: task 0: wrong kind of task\n"),
+        (
+            "task = [{name='a', period=1, low=1}]",
+            3,
+            "task file: task 1: missing key level\n",
+        ),
+        (
+            "task = [{name='a', level='high', period=1, low=1}]",
+            3,
+            "task file: task 1: missing key high\n",
+        ),
+        (
+            "task = [{name='a', level='low', period=1, low=1, due=1}]",
+            3,
+            "task file: task 1: unknown key due\n",
+        ),
+        (
+            "task = [{name='a', level='low', period=1.5, low=1}]",
+            3,
+            "task file: task 1: wrong kind of period\n",
+        ),
+        (
+            "task = [{name='a', level='low', period=1, low=0}]",
+            3,
+            "task file: task 1: out of range low\n",
+        ),
+        (
+            "task = [{name='a b', level='low', period=1, low=1}]",
+            3,
+            "task file: task 1: bad name\n",
+        ),
+        (
+            "task = [{name='a', level='low', period=1, low=1, high=1}]",
+            3,
+            "task file: task 1: high budget on a low task\n",
+        ),
+        (
+            "task = [{name='a', level='high', period=9, low=3, high=2}]",
+            3,
+            "task file: task 1: high budget below low budget\n",
+        ),
+        (
+            "task = [{name='a', level='low', period=1, low=1}, {name='a', level='low', period=1, low=1}]",
+            3,
+            "task file: tasks 1 and 2 have one name\n",
+        ),
+    ];
+    for (file, status, text) in cases {
+        let mut shelf = shelf_of(alloc, file.as_bytes(), &[])?;
+        let mut sink = MemorySink::new(alloc, 1000, 1000, Vec::new(alloc))?;
+        let ended = edfvd(&rt, alloc, &words, &mut shelf, &mut sink);
+        assert_eq!(rt; ended, status, "{file}");
+        assert_eq!(rt; sink.written(), text.as_bytes(), "{file}");
+    }
+    Ok(())
+}
+
+#[test]
+fn faults_and_limits_have_their_own_status(rt: HostRuntime) -> Result<(), Fail> {
+    let alloc = rt.alloc();
+    let words = words_of(alloc, &["check", "tasks.toml"])?;
+    let absent = words_of(alloc, &["check", "absent.toml"])?;
+    let long = vec![in alloc; b'\n'; 16_777_217]?;
+    let control = CONTROL.as_bytes();
+    let none: [u64; 0] = [];
+    let cases = [
+        (
+            &words,
+            control,
+            [1].as_slice(),
+            none.as_slice(),
+            7,
+            "read fault on file 1\n",
+        ),
+        (
+            &words,
+            control,
+            [2].as_slice(),
+            none.as_slice(),
+            0,
+            CONTROL_TEXT,
+        ),
+        (
+            &absent,
+            control,
+            none.as_slice(),
+            none.as_slice(),
+            7,
+            "read fault on file 1\n",
+        ),
+        (
+            &words,
+            long.as_slice(),
+            none.as_slice(),
+            none.as_slice(),
+            7,
+            "file 1 is longer than 16777216 bytes\n",
+        ),
+        (
+            &words,
+            &long[1..],
+            none.as_slice(),
+            none.as_slice(),
+            3,
+            "task file: no tasks\n",
+        ),
+        (
+            &words,
+            control,
+            none.as_slice(),
+            [2].as_slice(),
+            8,
+            "tasks 2\n",
+        ),
+    ];
+    for (words, bytes, fetch_fails, write_fails, status, text) in cases {
+        let mut shelf = shelf_of(alloc, bytes, fetch_fails)?;
+        let mut sink = MemorySink::new(alloc, 1000, 8, write_fails.to_vec(alloc)?)?;
+        let ended = edfvd(&rt, alloc, words, &mut shelf, &mut sink);
+        assert_eq!(rt; ended, status, "{text}");
+        assert_eq!(rt; sink.written(), text.as_bytes());
+    }
+    Ok(())
+}
+
+#[test]
+fn a_file_with_129_tasks_is_told_their_number(rt: HostRuntime) -> Result<(), Fail> {
+    let alloc = rt.alloc();
+    let words = words_of(alloc, &["check", "tasks.toml"])?;
+    let mut file = String::new(alloc);
+    for k in 0..129u32 {
+        let task = format!(in alloc;
+            "[[task]]\nname = 't{k}'\nlevel = 'low'\nperiod = 10\nlow = 1\n"
+        )?;
+        file.push_str(task.as_str())?;
+    }
+    let mut shelf = shelf_of(alloc, file.as_bytes(), &[])?;
+    let mut sink = MemorySink::new(alloc, 1000, 1000, Vec::new(alloc))?;
+    assert_eq!(rt; edfvd(&rt, alloc, &words, &mut shelf, &mut sink), 3);
+    assert_eq!(rt;
+        sink.written(),
+        b"task file: 129 tasks, at most 128\n".as_slice()
+    );
+    Ok(())
+}
+
+#[test]
+fn words_of_no_form_get_the_usage_line(rt: HostRuntime) -> Result<(), Fail> {
+    let alloc = rt.alloc();
+    let usage =
+        "usage: check TASKS | run TASKS WORK TICKS | judge TASKS TRACE [P Q] | chart TASKS TRACE | report TASKS TRACE | soak NUMBER TASKCOUNT TICKS\n";
+    let lines = [
+        [].as_slice(),
+        &["check"],
+        &["check", "tasks.toml", "tasks.toml"],
+        &["Check", "tasks.toml"],
+        &["run", "tasks.toml", "work.csv"],
+        &["run", "tasks.toml", "work.csv", "0"],
+        &["run", "tasks.toml", "work.csv", "1000001"],
+        &["run", "tasks.toml", "work.csv", "18446744073709551617"],
+        &["run", "tasks.toml", "work.csv", "1e3"],
+        &["run", "tasks.toml", "work.csv", ""],
+        &["judge", "tasks.toml"],
+        &["judge", "tasks.toml", "trace.csv", "1"],
+        &["judge", "tasks.toml", "trace.csv", "0", "1"],
+        &["judge", "tasks.toml", "trace.csv", "2", "1"],
+        &["judge", "tasks.toml", "trace.csv", "1", "4294967296"],
+        &["judge", "tasks.toml", "trace.csv", "1", "1", "1"],
+        &["Judge", "tasks.toml", "trace.csv"],
+        &["--help"],
+    ];
+    for words in lines {
+        let words = words_of(alloc, words)?;
+        let mut shelf = shelf_of(alloc, CONTROL.as_bytes(), &[1])?;
+        let mut sink = MemorySink::new(alloc, 1000, 1000, Vec::new(alloc))?;
+        assert_eq!(rt; edfvd(&rt, alloc, &words, &mut shelf, &mut sink), 2);
+        assert_eq!(rt; sink.written(), usage.as_bytes());
+    }
+    Ok(())
+}

@@ -1,0 +1,184 @@
+use super::{CONTROL, PLAIN_PAIR, QUARTER_SCALE, TAP_AND_ARM, TWO_HIGH_TASKS, two_files, words_of};
+use crate::edfvd::edfvd;
+use mc_world::MemorySink;
+use std::test::Fail;
+
+const OVERRUN: &str = "release,0,ctl,1,kept
+release,0,log,1,kept
+tick,0,ctl,1,more
+tick,1,ctl,1,over
+tick,2,ctl,1,more
+tick,3,ctl,1,more
+tick,4,ctl,1,more
+tick,5,ctl,1,done
+idle,6,,,
+idle,7,,,
+idle,8,,,
+idle,9,,,
+release,10,log,2,kept
+tick,10,log,2,more
+tick,11,log,2,more
+";
+
+#[test]
+fn runs_write_the_traces_of_the_worked_examples(rt: HostRuntime) -> Result<(), Fail> {
+    let alloc = rt.alloc();
+    // The set, the work, the ticks, and the trace without its header.
+    let cases = [
+        (CONTROL, "ctl,0,6\nlog,0,5\nlog,10,5\n", "12", OVERRUN),
+        (
+            QUARTER_SCALE,
+            "a,0,3\nb,2,1\n",
+            "5",
+            "release,0,a,1,kept\ntick,0,a,1,more\ntick,1,a,1,more\nrelease,2,b,1,kept\ntick,2,b,1,done\ntick,3,a,1,done\nidle,4,,,\n",
+        ),
+        (
+            TAP_AND_ARM,
+            "tap,0,1\narm,0,3\ntap,2,1\ntap,4,1\n",
+            "5",
+            "release,0,tap,1,kept\nrelease,0,arm,1,kept\ntick,0,tap,1,done\ntick,1,arm,1,over\nrelease,2,tap,2,dropped\ntick,2,arm,1,more\ntick,3,arm,1,done\nrelease,4,tap,3,dropped\nidle,4,,,\n",
+        ),
+        (
+            TWO_HIGH_TASKS,
+            "fix,0,5\nlog,0,9\n",
+            "6",
+            "release,0,fix,1,kept\nrelease,0,log,1,kept\ntick,0,fix,1,stop\ntick,1,log,1,more\ntick,2,log,1,more\ntick,3,log,1,more\ntick,4,log,1,stop\nidle,5,,,\n",
+        ),
+        (
+            CONTROL,
+            "ctl,0,6\nlog,2,5\n",
+            "4",
+            "release,0,ctl,1,kept\ntick,0,ctl,1,more\ntick,1,ctl,1,over\nrelease,2,log,1,dropped\ntick,2,ctl,1,more\ntick,3,ctl,1,more\n",
+        ),
+        (
+            PLAIN_PAIR,
+            "hi,0,2\nlo,0,2\n",
+            "4",
+            "release,0,hi,1,kept\nrelease,0,lo,1,kept\ntick,0,hi,1,more\ntick,1,hi,1,done\ntick,2,lo,1,more\ntick,3,lo,1,done\n",
+        ),
+    ];
+    for (tasks, jobs, ticks, rows) in cases {
+        let words = words_of(alloc, &["run", "tasks.toml", "second.csv", ticks])?;
+        let work = format!(in alloc; "task,release,need\n{jobs}")?;
+        let text = format!(in alloc; "event,tick,task,job,how\n{rows}")?;
+        let mut shelf = two_files(alloc, tasks.as_bytes(), work.as_bytes(), &[])?;
+        let mut sink = MemorySink::new(alloc, 1000, 1000, Vec::new(alloc))?;
+        assert_eq!(rt;
+            edfvd(&rt, alloc, &words, &mut shelf, &mut sink),
+            0,
+            "{jobs}"
+        );
+        assert_eq!(rt; sink.written(), text.as_bytes(), "{jobs}");
+    }
+    Ok(())
+}
+
+#[test]
+fn work_files_are_refused_by_name_and_line(rt: HostRuntime) -> Result<(), Fail> {
+    let alloc = rt.alloc();
+    let words = words_of(alloc, &["run", "tasks.toml", "second.csv", "10"])?;
+    let cases = [
+        ("", "work file line 1: header is not task,release,need\n"),
+        (
+            "task,release,need\nctl,0,6\nctl,9,1\n",
+            "work file line 3: too soon, next 10\n",
+        ),
+        (
+            "task,release,need\nbob,0,1\n",
+            "work file line 2: unknown task\n",
+        ),
+        (
+            "task,release,need\nctl,0,0\n",
+            "work file line 2: need is 0\n",
+        ),
+        (
+            "task,release,need\nlog,5,1\nctl,4,1\n",
+            "work file line 3: release before the last one\n",
+        ),
+        (
+            "task,release,need\nctl,0\n",
+            "work file line 2: not three fields\n",
+        ),
+        (
+            "task,release,need\nctl,-1,2\n",
+            "work file line 2: bad number\n",
+        ),
+    ];
+    for (work, text) in cases {
+        let mut shelf = two_files(alloc, CONTROL.as_bytes(), work.as_bytes(), &[])?;
+        let mut sink = MemorySink::new(alloc, 1000, 1000, Vec::new(alloc))?;
+        assert_eq!(rt;
+            edfvd(&rt, alloc, &words, &mut shelf, &mut sink),
+            4,
+            "{work}"
+        );
+        assert_eq!(rt; sink.written(), text.as_bytes());
+    }
+    Ok(())
+}
+
+#[test]
+fn runs_have_the_faults_and_limits_of_both_files(rt: HostRuntime) -> Result<(), Fail> {
+    let alloc = rt.alloc();
+    let words = words_of(alloc, &["run", "tasks.toml", "second.csv", "1"])?;
+    let long = vec![in alloc; b'\n'; 16_777_217]?;
+    let header = b"task,release,need\n";
+    let none: [u64; 0] = [];
+    let cases = [
+        (
+            header.as_slice(),
+            none.as_slice(),
+            0,
+            "event,tick,task,job,how\nidle,0,,,\n",
+        ),
+        (
+            header.as_slice(),
+            [1].as_slice(),
+            7,
+            "read fault on file 1\n",
+        ),
+        (
+            header.as_slice(),
+            [2].as_slice(),
+            7,
+            "read fault on file 2\n",
+        ),
+        (
+            long.as_slice(),
+            none.as_slice(),
+            7,
+            "file 2 is longer than 16777216 bytes\n",
+        ),
+    ];
+    for (work, fails, status, text) in cases {
+        let mut shelf = two_files(alloc, CONTROL.as_bytes(), work, fails)?;
+        let mut sink = MemorySink::new(alloc, 1000, 1000, Vec::new(alloc))?;
+        assert_eq!(rt;
+            edfvd(&rt, alloc, &words, &mut shelf, &mut sink),
+            status,
+            "{text}"
+        );
+        assert_eq!(rt; sink.written(), text.as_bytes());
+    }
+    // A set that is not admitted is refused before the work file is asked for.
+    let refused = "task = [{name='a', level='low', period=1, low=2}]";
+    let mut shelf = two_files(alloc, refused.as_bytes(), header, &[2])?;
+    let mut sink = MemorySink::new(alloc, 1000, 1000, Vec::new(alloc))?;
+    assert_eq!(rt; edfvd(&rt, alloc, &words, &mut shelf, &mut sink), 1);
+    assert_eq!(rt;
+        sink.written(),
+        b"not admitted: U_LL 2/1 U_HL 0/1 U_HH 0/1\n".as_slice()
+    );
+    Ok(())
+}
+
+#[test]
+fn a_million_idle_ticks_are_written(rt: HostRuntime) -> Result<(), Fail> {
+    let alloc = rt.alloc();
+    let words = words_of(alloc, &["run", "tasks.toml", "second.csv", "1000000"])?;
+    let mut shelf = two_files(alloc, CONTROL.as_bytes(), b"task,release,need\n", &[])?;
+    let mut sink = MemorySink::new(alloc, 20_000_000, 20_000_000, Vec::new(alloc))?;
+    assert_eq!(rt; edfvd(&rt, alloc, &words, &mut shelf, &mut sink), 0);
+    assert_eq!(rt; sink.written().len(), 14_888_914);
+    Ok(())
+}

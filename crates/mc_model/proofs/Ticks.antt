@@ -1,0 +1,44 @@
+-- The ticks of rows, and of their first part.
+use Rattle.std.proofs.Common.{◌≡◌, ℕ, ◌+◌, ◌≤◌, ◌<◌, List, [], ◌∷◌, ◌++◌, length, get_or, take, drop, reverse, ap, sym, ◌∙◌, arith}
+use Rattle.std.proofs.lemmas.List.{reverse-append, take-append-drop, take_more}
+use Rattle.mc_model.specs.declared.row.Row.{Row}
+use Rattle.mc_model.specs.declared.row.Row.TheVariants.{Release, Tick, Idle}
+use Rattle.mc_model.specs.Rows.{ticks}
+
+pub ticks-append : (g h : List Row) → ticks (g ++ h) ≡ ticks g + ticks h
+ticks-append [] h = omega arith
+ticks-append (Release j kept ∷ g) h = ticks-append g h
+ticks-append (Tick j how ∷ g) h = let more : ticks (g ++ h) ≡ ticks g + ticks h = ticks-append g h in omega arith
+ticks-append (Idle ∷ g) h = let more : ticks (g ++ h) ≡ ticks g + ticks h = ticks-append g h in omega arith
+
+-- at most one for each row
+pub ticks-le : (g : List Row) → ticks g ≤ length g
+ticks-le [] = omega arith
+ticks-le (Release j kept ∷ g) = let less : ticks g ≤ length g = ticks-le g in omega arith
+ticks-le (Tick j how ∷ g) = let less : ticks g ≤ length g = ticks-le g in omega arith
+ticks-le (Idle ∷ g) = let less : ticks g ≤ length g = ticks-le g in omega arith
+
+-- as many in the other order
+pub ticks-reverse : (g : List Row) → ticks (reverse g) ≡ ticks g
+ticks-reverse [] = omega arith
+ticks-reverse (row ∷ g) =
+    let turned : ticks (reverse (row ∷ g)) ≡ ticks (reverse g) + ticks (row ∷ []) = ap ticks (reverse-append (row ∷ []) g) ∙ ticks-append (reverse g) (row ∷ []) in
+    let whole : ticks (row ∷ g) ≡ ticks (row ∷ []) + ticks g = ticks-append (row ∷ []) g in
+    let rest : ticks (reverse g) ≡ ticks g = ticks-reverse g in
+    omega arith
+
+-- the first rows have at most the ticks of all
+pub ticks-take-le : (rows : List Row) (i n : ℕ) → n ≡ ticks (reverse rows) → ticks (reverse (take i rows)) ≤ n
+ticks-take-le rows i n whole =
+    let first : ticks (reverse (take i rows)) ≡ ticks (take i rows) = ticks-reverse (take i rows) in
+    let all : ticks (reverse rows) ≡ ticks rows = ticks-reverse rows in
+    let parts : ticks rows ≡ ticks (take i rows) + ticks (drop i rows) = ap ticks (sym (take-append-drop i rows)) ∙ ticks-append (take i rows) (drop i rows) in
+    omega arith
+
+-- and with the next one too
+pub ticks-next-le : (rows : List Row) (i t n : ℕ) (d : Row) → i < length rows → ticks (reverse (take i rows)) ≡ t → n ≡ ticks (reverse rows) → t + ticks (get_or rows i d ∷ []) ≤ n
+ticks-next-le rows i t n d inside was whole =
+    let more : ticks (reverse (take (i + 1) rows)) ≤ n = ticks-take-le rows (i + 1) n whole in
+    let next : ticks (reverse (take (i + 1) rows)) ≡ ticks (reverse (take i rows)) + ticks (get_or rows i d ∷ []) =
+    ticks-reverse (take (i + 1) rows) ∙ (ap ticks (take_more rows i d inside) ∙ (ticks-append (take i rows) (get_or rows i d ∷ []) ∙ ap (λ (m : ℕ). m + ticks (get_or rows i d ∷ [])) (sym (ticks-reverse (take i rows))))) in
+    omega arith

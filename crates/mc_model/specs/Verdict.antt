@@ -1,0 +1,37 @@
+-- The verdict on a trace: the first row that does not fit the rows before it, or else who is late. The newest row stands first.
+use Rattle.std.specs.Prelude.{◌≡◌, ℕ, ◌+◌, List, [], ◌∷◌, Option, Some, None, length, option_map, slice_get}
+use Rattle.mc_task.specs.declared.task.Task.{Task}
+use Rattle.mc_task.specs.declared.task.Rule.{Rule}
+use Rattle.mc_task.specs.declared.task.JobId.{JobId}
+use Rattle.mc_task.specs.Faults.{or_else}
+use Rattle.mc_model.specs.Legal.{fault}
+use Rattle.mc_model.specs.Late.{late}
+use Rattle.mc_model.specs.declared.row.Row.{Row}
+use Rattle.mc_model.specs.declared.verdict.Why.{Why}
+use Rattle.mc_model.specs.declared.verdict.Verdict.{Verdict}
+use Rattle.mc_model.specs.declared.verdict.Verdict.TheVariants.{Legal, Illegal}
+
+-- a row that does not fit: its number, from 1, and the first of its parts that fails
+pub record RowFault : Type 0 where
+  pub place : ℕ
+  pub why : Why
+
+-- the oldest row that does not fit the rows before it
+abbrev pub first_fault : List Task → Rule → List Row → Option RowFault
+first_fault set rule [] = None
+first_fault set rule (row ∷ g) =
+    or_else (first_fault set rule g) (option_map (λ why. record { place = length g + 1; why = why }) (fault set rule row g))
+
+-- where each row fits, how many jobs are late and which of them was released first
+abbrev pub verdict_of : Option RowFault → List JobId → Verdict
+verdict_of (Some f) lates = Illegal f.place f.why
+verdict_of None lates = Legal (length lates) (slice_get lates 0)
+
+-- the verdict on a trace of the set under the rule
+abbrev pub verdict : List Task → Rule → List Row → Verdict
+verdict set rule h = verdict_of (first_fault set rule h) (late set h)
+
+-- where each row fits, no job is late
+abbrev pub HasNoLate : Verdict → Type 0
+HasNoLate (Legal late first) = (late ≡ 0) × (first ≡ None)
+HasNoLate (Illegal place why) = Unit {0}

@@ -1,0 +1,136 @@
+-- What a task file says is a set.
+use Rattle.std.proofs.Common.{◌≡◌, ℕ, ◌+◌, pos, negsuc, Bool, true, false, cond, List, [], ◌∷◌, Option, Some, None, Result, Ok, Err, IsTrue, refl, subst, arith}
+use Rattle.std.specs.List.{AllByRecursion}
+use Rattle.std.proofs.lemmas.Bool.Decides.{nat_tests}
+use Rattle.toml.specs.Data.{Data, integer, string, float, boolean, datetime, array, table, Items, no_items, item, Members}
+use Rattle.mc_task.specs.declared.task.Task.{Task}
+use Rattle.mc_task.specs.declared.task.Level.{Level}
+use Rattle.mc_task.specs.declared.task.Level.TheVariants.{Low, High}
+use Rattle.mc_task.specs.declared.set.SetFault.{SetFault}
+use Rattle.mc_task.specs.NameForm.{is_name}
+use Rattle.mc_task.specs.TaskSet.{IsSet, IsTask, IsTickCount, InOrder}
+use Rattle.mc_task.specs.Faults.{first_fault}
+use Rattle.mc_task.proofs.TaskLemmas.{each_in_order, IsSet-each}
+use Rattle.task_file.specs.Refusals.{◌>>=◌, or_refuse, want, refuse_key}
+use Rattle.task_file.specs.TaskTable.{Fields, text_of, name_of, level_of, number_of, number_if_some, high_of, is_tick_count, task_of_fields, task_of, table_of, first_other, at_key, fields_of, kinds_of}
+use Rattle.task_file.specs.TaskFile.{tasks_from, set_of, tree_set, document, task_file, task_items, is_version}
+use Rattle.task_file.specs.Keys.{is_task_key, is_top_key}
+use Rattle.task_file.specs.declared.key.KeyName.{KeyName}
+use Rattle.task_file.specs.declared.key.KeyName.TheVariants as key
+use Rattle.task_file.specs.declared.fault.TaskFault.{TaskFault}
+use Rattle.task_file.specs.declared.fault.TaskFault.TheVariants.{NotToml, TopKey, BadVersion, BadName, OutOfRange, KeyUnknown}
+
+-- where the whole is there, so is the first, and the second after it
+after_first : {A B : Type 0} (first : Result A TaskFault) (then : A → Result B TaskFault) (b : B) → (first >>= then) ≡ Ok b → (a : A) × (first ≡ Ok a) × (then a ≡ Ok b)
+after_first (Ok a) then b h = (a, refl, h)
+after_first (Err e) then b h = absurd (cc)
+
+-- a value that passes a test
+passed : {A : Type 0} (b : Bool) (x y : A) (e : TaskFault) → cond b (Ok x) (Err e) ≡ Ok y → (b ≡ true) × (x ≡ y)
+passed true x y e h = (refl, cc)
+passed false x y e h = absurd (cc)
+
+-- a name that is taken has the form of a name
+name_taken : (n : ℕ) (d : Data) (name : List ℕ) → name_of n d ≡ Ok name → IsTrue (is_name name)
+name_taken n d name h =
+    let p = passed (is_name (text_of d)) (text_of d) name (BadName n) h in
+    subst (λ m. IsTrue (is_name m)) (p.1) (p.0)
+
+IsTickCount-from_is_tick_count : (m : ℕ) → is_tick_count m ≡ true → IsTickCount m
+IsTickCount-from_is_tick_count m h = (grind (arith, nat_tests, h), grind (arith, nat_tests, h))
+
+-- a number that is taken is a period or a budget
+number_taken : (n : ℕ) (k : KeyName) (d : Data) (m : ℕ) → number_of n k d ≡ Ok m → IsTickCount m
+number_taken n k (integer (pos i)) m h =
+    let p = passed (is_tick_count i) i m (OutOfRange n k) h in
+    subst IsTickCount (p.1) (IsTickCount-from_is_tick_count i (p.0))
+number_taken n k (integer (negsuc i)) m h = absurd (cc)
+number_taken n k (string s) m h = absurd (cc)
+number_taken n k (float x) m h = absurd (cc)
+number_taken n k (boolean b) m h = absurd (cc)
+number_taken n k (datetime t) m h = absurd (cc)
+number_taken n k (array ds) m h = absurd (cc)
+number_taken n k (table ms) m h = absurd (cc)
+
+-- the high budget that is taken is the low one or what stands at its key, and both are budgets
+high_taken : (n : ℕ) (level : Level) (low : ℕ) (d : Option Data) (given : Option ℕ) (high : ℕ) → IsTickCount low
+    → number_if_some n key.High d ≡ Ok given → high_of n level low given ≡ Ok high → IsTickCount high
+high_taken n Low low d None high is g h = let same : low ≡ high = cc in subst IsTickCount same is
+high_taken n Low low d (Some x) high is g h = absurd (cc)
+high_taken n High low d None high is g h = absurd (cc)
+high_taken n High low None (Some x) high is g h = absurd (cc)
+high_taken n High low (Some d) (Some x) high is g h =
+    let p = after_first (number_of n key.High d) (λ m. Ok (Some m)) (Some x) g in
+    let same : p.0 ≡ high = cc in
+    subst IsTickCount same (number_taken n key.High d p.0 p.1)
+
+-- a name of the form and three numbers of ticks: a task but for the order of its budgets
+record IsRead (t : Task) : Type 0 where
+  name : IsTrue (is_name t.name)
+  period : IsTickCount t.period
+  low : IsTickCount t.low
+  high : IsTickCount t.high
+
+fields_read : (n : ℕ) (f : Fields) (t : Task) → task_of_fields n f ≡ Ok t → IsRead t
+unfolding task_of_fields
+fields_read n f t h =
+    let name = after_first (name_of n f.name) _ t h in
+    let level = after_first (level_of n f.level) _ t (name.2) in
+    let period = after_first (number_of n key.Period f.period) _ t (level.2) in
+    let low = after_first (number_of n key.Low f.low) _ t (period.2) in
+    let given = after_first (number_if_some n key.High f.high) _ t (low.2) in
+    let high = after_first (high_of n level.0 low.0 given.0) _ t (given.2) in
+    let is_low : IsTickCount low.0 = number_taken n key.Low f.low low.0 (low.1) in
+    let said : Task = record { name = name.0; level = level.0; period = period.0; low = low.0; high = high.0 } in
+    let is : IsRead said = record { name = name_taken n f.name name.0 (name.1); period = number_taken n key.Period f.period period.0 (period.1); low = is_low; high = high_taken n level.0 low.0 f.high given.0 high.0 is_low (given.1) (high.1) } in
+    let same : said ≡ t = cc in
+    subst IsRead same is
+
+task_read : (n : ℕ) (d : Data) (t : Task) → task_of n d ≡ Ok t → IsRead t
+unfolding task_of
+task_read n d t h =
+    let ms = after_first (table_of n d) _ t h in
+    let known = after_first (refuse_key (KeyUnknown n) (first_other is_task_key ms.0)) _ t (ms.2) in
+    let fields = after_first (fields_of n ms.0) _ t (known.2) in
+    let kinds = after_first (kinds_of n fields.0) _ t (fields.2) in
+    fields_read n fields.0 t (kinds.2)
+
+tasks_read : (n : ℕ) (ds : Items) (ts : List Task) → tasks_from n ds ≡ Ok ts → AllByRecursion IsRead ts
+unfolding tasks_from
+tasks_read n no_items ts h = let none : [] ≡ ts = cc in subst (AllByRecursion IsRead) none tt
+tasks_read n (item d ds) ts h =
+    let one = after_first (task_of n d) _ ts h in
+    let more = after_first (tasks_from (n + 1) ds) _ ts (one.2) in
+    let same : one.0 ∷ more.0 ≡ ts = cc in
+    subst (AllByRecursion IsRead) same (task_read n d one.0 (one.1), tasks_read (n + 1) ds more.0 (more.1))
+
+-- with their budgets in order they are tasks
+each_task : (ts : List Task) → AllByRecursion IsRead ts → AllByRecursion (λ t. InOrder t.level t.low t.high) ts → AllByRecursion IsTask ts
+each_task [] read order = tt
+each_task (t ∷ ts) read order =
+    let r = read.0 in
+    let is : IsTask t = record { name = r.name; period = r.period; low = r.low; high = r.high; budgets = order.0 } in
+    (is, each_task ts read.1 order.1)
+
+-- a list that has no fault is taken as it is
+no_fault : (ts set : List Task) (fault : Option SetFault) → set_of ts fault ≡ Ok set → (ts ≡ set) × (fault ≡ None)
+no_fault ts set None h = (cc, refl)
+no_fault ts set (Some e) h = absurd (cc)
+
+tree_says_set : (ms : Members) (set : List Task) → tree_set ms ≡ Ok set → IsSet set
+unfolding tree_set
+tree_says_set ms set h =
+    let known = after_first (refuse_key TopKey (first_other is_top_key ms)) _ set h in
+    let version = after_first (want BadVersion (is_version (at_key key.Version ms))) _ set (known.2) in
+    let items = after_first (task_items (at_key key.Task ms)) _ set (version.2) in
+    let tasks = after_first (tasks_from 1 items.0) _ set (items.2) in
+    let whole = no_fault tasks.0 set (first_fault tasks.0) (tasks.2) in
+    let each = each_task tasks.0 (tasks_read 1 items.0 tasks.0 (tasks.1)) (each_in_order tasks.0 (whole.1)) in
+    subst IsSet (whole.0) (IsSet-each tasks.0 each (whole.1))
+
+-- what a task file says is a set
+pub says_set : (bytes : List ℕ) (set : List Task) → task_file bytes ≡ Ok set → IsSet set
+unfolding task_file
+says_set bytes set h =
+    let tree = after_first (or_refuse NotToml (document bytes)) tree_set set h in
+    tree_says_set tree.0 set (tree.2)

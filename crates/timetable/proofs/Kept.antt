@@ -1,0 +1,268 @@
+-- What is kept of a plan is kept by each of the floor's calls, and the core's refusals that never come under a plan.
+use Rattle.std.proofs.Common.{◌≡◌, ℕ, ◌+◌, ◌<◌, Bool, true, false, not, List, ◌∷◌, Option, Some, None, Ok, Err, cond, nat_lt, ◌==◌, slice_get, option_map, refl, sym, ap, ◌∙◌, subst, arith, eqb-true, le-ltb, lt-ltb}
+use Rattle.mc_task.specs.declared.task.JobId.{JobId}
+use Rattle.mc_model.specs.declared.row.Row.TheVariants.{Idle}
+use Rattle.mc_model.specs.declared.work.WorkRow.{WorkRow}
+use Rattle.mc_model.specs.Rows.{used}
+use Rattle.mc_model.specs.Core.{State, begun, next, next_job}
+use Rattle.mc_model.proofs.Booleans.{eqb-false}
+use Rattle.mc_model.proofs.Jobs.{job_eq}
+use Rattle.mode_core.specs.declared.answers.Released.{Released}
+use Rattle.mode_core.specs.declared.answers.Granted.{Granted}
+use Rattle.mode_core.specs.declared.answers.ReleaseFault.{ReleaseFault}
+use Rattle.mode_core.specs.declared.answers.ReleaseFault.TheVariants as release_fault
+use Rattle.mode_core.specs.declared.answers.GrantFault.{GrantFault}
+use Rattle.mode_core.specs.declared.answers.GrantFault.TheVariants as grant_fault
+use Rattle.mode_core.specs.declared.answers.IdleFault.{IdleFault}
+use Rattle.mode_core.specs.declared.answers.IdleFault.TheVariants as idle_fault
+use Rattle.mode_core.specs.Events as core_event
+use Rattle.mode_core.specs.Events.{or_else, refused_if, answer, unless, running, is_full, is_of_task, is_out, chosen_now, job_in, granted, with_release}
+use Rattle.mode_core.specs.Shape.{IsSound}
+use Rattle.mode_core.proofs.Keep.{neither, not_if, no_map}
+use Rattle.mode_core.proofs.Sound.{MayGrant, may_grant}
+use Rattle.timetable.specs.declared.plan.Plan.{Plan}
+use Rattle.timetable.specs.declared.plan.Plan.TheVariants.{Free, Rows}
+use Rattle.timetable.specs.declared.needs.Needs.{Needs}
+use Rattle.timetable.specs.declared.acts.PlanFault.{PlanFault}
+use Rattle.timetable.specs.declared.acts.PlanFault.TheVariants as plan_fault
+use Rattle.timetable.specs.Floor.{is_planned, due_at, due_row, ends_at, done_by, not_due}
+use Rattle.timetable.specs.Needs.{Tracks, latest_need}
+use Rattle.timetable.specs.Plans.{IsOnPlan}
+use Rattle.timetable.specs.Ticks.{is_last}
+use Rattle.timetable.specs.Shape.{IsRun, IsTold, IsKept, IsKeptBy}
+use Rattle.timetable.proofs.Calls.{not_full}
+use Rattle.timetable.proofs.Steps.{IsDueRow, due_is, MayTake, may_take, IsTickTime, within, room_for, run_grant, run_idle, run_outcome}
+use Rattle.timetable.proofs.Latest.{told_by_need}
+use Rattle.timetable.proofs.Extends.{keeps_plan}
+
+-- what an answer says of the refusal
+
+-- an answer that is no refusal
+ok_none : {T E : Type 0} → (o : Option E) (t x : T) → answer o t ≡ Ok x → o ≡ None
+ok_none None t x e = refl
+ok_none (Some f) t x e = cc
+
+-- a refusal
+err_some : {T E : Type 0} → (o : Option E) (t : T) (f : E) → answer o t ≡ Err f → o ≡ Some f
+err_some None t f e = cc
+err_some (Some g) t f e = cc
+
+-- a negated test that does not hold
+yes : (b : Bool) → not b ≡ false → b ≡ true
+yes true h = refl
+yes false h = cc
+
+-- a release
+
+-- the row is due, of this task
+record IsDueOf (work : List WorkRow) (n taken t k : ℕ) : Type 0 where
+  row : WorkRow
+  found : due_at (Rows work n) taken t ≡ Some row
+  due : IsDueRow work n taken t row
+  task : row.task.0 ≡ k
+
+-- so it is where the plan refuses nothing
+due_of : (work : List WorkRow) (n taken t k : ℕ) → not_due (Rows work n) (due_at (Rows work n) taken t) k ≡ None → IsDueOf work n taken t k
+due_of work n taken t k e = go (due_at (Rows work n) taken t) refl e
+  where
+    go : (o : Option WorkRow) → due_at (Rows work n) taken t ≡ o → not_due (Rows work n) o k ≡ None → IsDueOf work n taken t k
+    go None m r = cc
+    go (Some w) m r = record { row = w; found = m; due = due_is work n taken t w m; task = eqb-true _ _ (yes _ (not_if _ _ r)) }
+
+-- the due release may come
+may_of : (s : State) (work : List WorkRow) (n taken k : ℕ) → IsSound s → IsRun s work n taken → IsDueOf work n taken (begun s) k → MayTake s work n taken k
+may_of s work n taken k sound r d = subst (MayTake s work n taken) d.task (may_take s work n taken d.row sound r d.due)
+
+-- a release leaves what is told of the tick that is out
+told_release : (work : List WorkRow) (s : State) (o : Option JobId) (i : JobId) (last : Bool) → s.out ≡ o → IsTold work s.rows s.out last → IsTold work (with_release s o i).rows (with_release s o i).out last
+told_release work s None i last e t = subst (λ (x : Option JobId). IsTold work (with_release s None i).rows x last) (sym e) tt
+told_release work s (Some j) i last e t = t
+
+-- the needs after one more row of the work
+abbrev pub Notes : Needs → Needs → WorkRow → Type 0
+Notes old new w = (work : List WorkRow) (taken : ℕ) → Tracks work taken old → slice_get work taken ≡ Some w → Tracks work (taken + 1) new
+
+-- after the due release
+pub kept_release : (plan : Plan) (s t : State) (taken k : ℕ) (old new : Needs) (last : Bool) (w : WorkRow) (x : Released) → IsSound s → IsKeptBy plan s taken old last → due_at plan taken (begun s) ≡ Some w → not_due plan (due_at plan taken (begun s)) k ≡ None →
+    core_event.release_answer s k ≡ Ok x → t ≡ core_event.after_release s k → Notes old new w → IsKeptBy plan t (taken + 1) new last
+kept_release Free s t taken k old new last w x sound kept d r a e notes = cc
+kept_release (Rows work n) s t taken k old new last w x sound kept d r a e notes =
+    let by : IsDueOf work n taken (begun s) k = due_of work n taken (begun s) k r in
+    let may : MayTake s work n taken k = may_of s work n taken k sound kept.run by in
+    let row : slice_get work taken ≡ Some w = (due_is work n taken (begun s) w d).row in
+    let none : core_event.release_refusal s k ≡ None = ok_none _ _ x a in
+    let after : t ≡ with_release s s.out (next_job s k) = e ∙ ap (λ (o : Option ReleaseFault). unless o (with_release s s.out (next_job s k)) s) none in
+    subst (λ (u : State). IsKept u work n (taken + 1) new last) (sym after) (record {
+      run = may.run;
+      tracks = notes work taken kept.tracks row;
+      told = told_release work s s.out (next_job s k) last refl kept.told;
+    })
+
+-- a release is refused where its task's tick is out alone
+pub record IsRunning (f : ReleaseFault) : Type 0 where
+  pub job : JobId
+  pub is : f ≡ release_fault.Running job
+
+-- where it is not too soon, and there is a place
+only_running : (o : Option JobId) (b f : Bool) (n : ℕ) (g : ReleaseFault) → b ≡ false → f ≡ false → or_else (option_map release_fault.Running o) (or_else (refused_if b (release_fault.TooSoon n)) (refused_if f release_fault.Full)) ≡ Some g → IsRunning g
+only_running None false false n g p q e = cc
+only_running None true f n g p q e = cc
+only_running None false true n g p q e = cc
+only_running (Some j) b f n g p q e = record { job = j; is = cc }
+
+-- so it is under a plan
+pub release_faults : (plan : Plan) (s : State) (taken k : ℕ) (needs : Needs) (last : Bool) (f : ReleaseFault) → is_planned plan ≡ true → IsSound s → IsKeptBy plan s taken needs last → not_due plan (due_at plan taken (begun s)) k ≡ None → core_event.release_answer s k ≡ Err f → IsRunning f
+release_faults Free s taken k needs last f p sound kept r a = cc
+release_faults (Rows work n) s taken k needs last f p sound kept r a =
+    let may : MayTake s work n taken k = may_of s work n taken k sound kept.run (due_of work n taken (begun s) k r) in
+    only_running (running s.out k) (nat_lt (begun s) (next s k)) (is_full s) (next s k) f (le-ltb _ _ may.soon) (not_full s may.room) (err_some _ _ f a)
+
+-- a tick
+
+-- why a plan of which so many releases were taken refuses a tick at boundary t
+abbrev pub refused : Plan → ℕ → ℕ → Option PlanFault
+refused plan taken t = or_else (option_map (λ (w : WorkRow). plan_fault.Due w.task) (due_at plan taken t)) (refused_if (ends_at plan t) plan_fault.Finished)
+
+-- it is time for one where the plan refuses nothing
+tick_time : (s : State) (work : List WorkRow) (n taken : ℕ) → IsSound s → IsRun s work n taken → refused (Rows work n) taken (begun s) ≡ None → IsTickTime s work n taken
+tick_time s work n taken sound r e =
+    let p = neither _ _ e in
+    let none : due_at (Rows work n) taken (begun s) ≡ None = no_map _ _ p.0 in
+    let before : (begun s == n) ≡ false = not_if _ _ p.1 in
+    let apart = eqb-false (begun s) n before in
+    let less = within s work n taken sound r in
+    let soon : begun s < n = omega (arith, apart, less) in
+    record { none = found (nat_lt (begun s) n) (lt-ltb _ _ soon) none; soon = soon }
+  where
+    found : (b : Bool) → b ≡ true → cond b (due_row (slice_get work taken) (begun s)) None ≡ None → due_row (slice_get work taken) (begun s) ≡ None
+    found true m k = k
+    found false m k = cc
+
+-- a grant that is not refused is to the chosen job's task
+grant_task : (s : State) (k : ℕ) (j : JobId) → chosen_now s ≡ Some j → core_event.grant_refusal s k ≡ None → j.task.0 ≡ k
+grant_task s k j c m =
+    let p = neither _ _ (neither _ _ m).1 in
+    let is : is_of_task (chosen_now s) k ≡ true = yes _ (not_if _ _ p.0) in
+    eqb-true _ _ (subst (λ (o : Option JobId). is_of_task o k ≡ true) c is)
+
+-- the answer, where nothing is refused
+ok_is : {T E : Type 0} → (o : Option E) (t x : T) → answer o t ≡ Ok x → t ≡ x
+ok_is None t x e = cc
+ok_is (Some f) t x e = cc
+
+-- after a grant to the chosen job's task
+pub kept_grant : (plan : Plan) (s t : State) (taken k need : ℕ) (needs : Needs) (last : Bool) (x : Granted) → IsSound s → IsKeptBy plan s taken needs last → refused plan taken (begun s) ≡ None →
+    core_event.grant_answer s k ≡ Ok x → t ≡ core_event.after_grant s k → ((work : List WorkRow) (taken : ℕ) → Tracks work taken needs → need ≡ latest_need work taken k) → IsKeptBy plan t taken needs (x.before + 1 == need)
+kept_grant Free s t taken k need needs last x sound kept r a e at = kept
+kept_grant (Rows work n) s t taken k need needs last x sound kept r a e at =
+    let none : core_event.grant_refusal s k ≡ None = ok_none _ _ x a in
+    let may : MayGrant s = may_grant s k sound none in
+    let time : IsTickTime s work n taken = tick_time s work n taken sound kept.run r in
+    let after : t ≡ record s { out = chosen_now s } = e ∙ ap (λ (o : Option GrantFault). unless o (record s { out = chosen_now s }) s) none in
+    let given : x ≡ granted s may.job = sym (ok_is _ _ x a) ∙ ap (λ (o : Option JobId). granted s (job_in o)) may.chosen in
+    let task : may.job.task.0 ≡ k = grant_task s k may.job may.chosen none in
+    let told : (x.before + 1 == need) ≡ is_last work s.rows may.job =
+    ap (λ (y : Granted). y.before + 1 == need) given
+    ∙ (ap (λ (m : ℕ). used s.rows may.job + 1 == m) (at work taken kept.tracks ∙ ap (λ (i : ℕ). latest_need work taken i) (sym task))
+    ∙ told_by_need s work n taken may.job sound kept.run may.out may.chosen) in
+    subst (λ (u : State). IsKept u work n taken needs (x.before + 1 == need)) (sym after) (record {
+      run = run_grant s work n taken may.job sound kept.run may.out may.chosen time;
+      tracks = kept.tracks;
+      told = subst (λ (o : Option JobId). IsTold work s.rows o (x.before + 1 == need)) (sym may.chosen) told;
+    })
+
+-- after an idle tick
+pub kept_idle : (plan : Plan) (s t : State) (taken : ℕ) (needs : Needs) (last : Bool) → IsSound s → IsKeptBy plan s taken needs last → refused plan taken (begun s) ≡ None →
+    t ≡ core_event.after_idle s → IsKeptBy plan t taken needs last
+kept_idle Free s t taken needs last sound kept r e = kept
+kept_idle (Rows work n) s t taken needs last sound kept r e = subst (λ (u : State). IsKept u work n taken needs last) (sym e) (go (core_event.idle_refusal s) refl)
+  where
+    time : IsTickTime s work n taken
+    time = tick_time s work n taken sound kept.run r
+
+    go : (o : Option IdleFault) → core_event.idle_refusal s ≡ o → IsKept (unless o (record s { rows = Idle ∷ s.rows }) s) work n taken needs last
+    go (Some f) m = kept
+    go None m =
+        let p = neither _ _ m in
+        let q = neither _ _ p.1 in
+        let out : s.out ≡ None = no_map _ _ p.0 in
+        record {
+          run = run_idle s work n taken kept.run out (no_map _ _ q.0) time;
+          tracks = kept.tracks;
+          told = subst (λ (o : Option JobId). IsTold work (Idle ∷ s.rows) o last) (sym out) tt;
+        }
+
+-- a grant is not refused for want of a place under a plan
+pub grant_not_full : (plan : Plan) (s : State) (taken k : ℕ) (needs : Needs) (last : Bool) → is_planned plan ≡ true → IsSound s → IsKeptBy plan s taken needs last → refused plan taken (begun s) ≡ None →
+    core_event.grant_answer s k ≡ Err grant_fault.Full → ⊥
+grant_not_full Free s taken k needs last p sound kept r a = cc
+grant_not_full (Rows work n) s taken k needs last p sound kept r a =
+    no s.out (is_of_task (chosen_now s) k) (chosen_now s) (is_full s) (not_full s (room_for s work n taken sound kept.run (tick_time s work n taken sound kept.run r).soon)) (err_some _ _ grant_fault.Full a)
+  where
+    no : (o : Option JobId) (b : Bool) (c : Option JobId) (f : Bool) → f ≡ false → or_else (option_map grant_fault.TickOut o) (or_else (refused_if (not b) (grant_fault.NotChosen c)) (refused_if f grant_fault.Full)) ≡ Some grant_fault.Full → ⊥
+    no (Some j) b c f m e = cc
+    no None false c f m e = cc
+    no None true c true m e = cc
+    no None true c false m e = cc
+
+-- nor is an idle tick
+pub idle_not_full : (plan : Plan) (s : State) (taken : ℕ) (needs : Needs) (last : Bool) → is_planned plan ≡ true → IsSound s → IsKeptBy plan s taken needs last → refused plan taken (begun s) ≡ None →
+    core_event.idle_answer s ≡ Err idle_fault.Full → ⊥
+idle_not_full Free s taken needs last p sound kept r a = cc
+idle_not_full (Rows work n) s taken needs last p sound kept r a =
+    no s.out (chosen_now s) (is_full s) (not_full s (room_for s work n taken sound kept.run (tick_time s work n taken sound kept.run r).soon)) (err_some _ _ idle_fault.Full a)
+  where
+    no : (o c : Option JobId) (f : Bool) → f ≡ false → or_else (option_map idle_fault.TickOut o) (or_else (option_map idle_fault.Pending c) (refused_if f idle_fault.Full)) ≡ Some idle_fault.Full → ⊥
+    no (Some j) c f m e = cc
+    no None (Some i) f m e = cc
+    no None None true m e = cc
+    no None None false m e = cc
+
+-- an outcome
+
+-- what is told of the tick that is out is what the plan says of it
+done_is : (plan : Plan) (s : State) (taken : ℕ) (needs : Needs) (last told d : Bool) (j : JobId) → IsKeptBy plan s taken needs last → s.out ≡ Some j → d ≡ cond (is_planned plan) last told → d ≡ done_by plan s.rows j told
+done_is Free s taken needs last told d j kept o e = e
+done_is (Rows work n) s taken needs last told d j kept o e = e ∙ subst (λ (x : Option JobId). IsTold work s.rows x last) o kept.told
+
+-- an outcome with what is told is one with what the plan says, as it is refused where the tick is not the job's
+pub same_outcome : (plan : Plan) (s : State) (taken : ℕ) (needs : Needs) (last told d : Bool) (j : JobId) → IsKeptBy plan s taken needs last → d ≡ cond (is_planned plan) last told →
+    (core_event.outcome_answer s j d ≡ core_event.outcome_answer s j (done_by plan s.rows j told)) × (core_event.after_outcome s j d ≡ core_event.after_outcome s j (done_by plan s.rows j told))
+same_outcome plan s taken needs last told d j kept e = go (is_out s.out j) refl
+  where
+    go : (b : Bool) → is_out s.out j ≡ b → (core_event.outcome_answer s j d ≡ core_event.outcome_answer s j (done_by plan s.rows j told)) × (core_event.after_outcome s j d ≡ core_event.after_outcome s j (done_by plan s.rows j told))
+    go false m = (rw m refl, rw m refl)
+    go true m =
+        let same : d ≡ done_by plan s.rows j told = done_is plan s taken needs last told d j kept (out_is s.out m) e in
+        (ap (λ (x : Bool). core_event.outcome_answer s j x) same, ap (λ (x : Bool). core_event.after_outcome s j x) same)
+      where
+        out_is : (o : Option JobId) → is_out o j ≡ true → o ≡ Some j
+        out_is None k = cc
+        out_is (Some i) k = ap (λ (x : JobId). Some x) (job_eq i j k)
+
+-- after an outcome
+pub kept_outcome : (plan : Plan) (s t : State) (taken : ℕ) (needs : Needs) (last told : Bool) (j : JobId) → IsKeptBy plan s taken needs last → t ≡ core_event.after_outcome s j (done_by plan s.rows j told) → IsKeptBy plan t taken needs last
+kept_outcome Free s t taken needs last told j kept e = kept
+kept_outcome (Rows work n) s t taken needs last told j kept e = subst (λ (u : State). IsKept u work n taken needs last) (sym e) (go (is_out s.out j) refl)
+  where
+    go : (b : Bool) → is_out s.out j ≡ b → IsKept (core_event.after_outcome s j (is_last work s.rows j)) work n taken needs last
+    go false m = rw m kept
+    go true m = rw m (record { run = run_outcome s work n taken j kept.run (out_is s.out m); tracks = kept.tracks; told = tt })
+      where
+        out_is : (o : Option JobId) → is_out o j ≡ true → o ≡ Some j
+        out_is None k = cc
+        out_is (Some i) k = ap (λ (x : JobId). Some x) (job_eq i j k)
+
+-- the core keeps to its plan
+pub on_plan : (plan : Plan) (s : State) (taken : ℕ) (needs : Needs) (last : Bool) → IsSound s → IsKeptBy plan s taken needs last → IsOnPlan plan taken s
+on_plan Free s taken needs last sound kept = kept
+on_plan (Rows work n) s taken needs last sound kept = keeps_plan s work n taken sound kept.run
+
+-- a choice by a test that holds, and by one that does not
+pub picked_then : (b x y d : Bool) → b ≡ true → d ≡ x → d ≡ cond b x y
+picked_then true x y d m e = e
+picked_then false x y d m e = cc
+
+pub picked_else : (b x y d : Bool) → b ≡ false → d ≡ y → d ≡ cond b x y
+picked_else true x y d m e = cc
+picked_else false x y d m e = e

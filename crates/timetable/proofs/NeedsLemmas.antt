@@ -1,0 +1,120 @@
+-- What is kept of each task's needs, at the start and after one more row.
+use Rattle.std.proofs.Common.{◌≡◌, ◌≢◌, ℕ, zero, suc, ◌+◌, ◌-◌, ◌<◌, ◌≤◌, Bool, true, false, List, [], ◌∷◌, Some, length, cond, slice_get, set, get_or, get_or-set_same, get_or-set_other, take, replicate, ◌==◌, refl, sym, ap, ◌∙◌, subst, arith, eqb-true}
+use Rattle.std.proofs.lemmas.Bool.Decides.{nat_tests}
+use Rattle.std.proofs.lemmas.List.{length-set}
+use Rattle.std.proofs.lemmas.Option.{slice_get-get_or, get_or_from_slice_get}
+use Rattle.mc_model.specs.declared.work.WorkRow.{WorkRow}
+use Rattle.mc_model.specs.Follows.{need_of}
+use Rattle.mc_model.proofs.Booleans.{eqb-refl, eqb-false}
+use Rattle.timetable.specs.Needs.{rows_of, latest_need}
+
+-- at the start
+
+-- each entry of a list of equal ones
+get-replicate : (n i x : ℕ) → i < n → slice_get (replicate n x) i ≡ Some x
+get-replicate zero i x h = absurd (omega (arith, h))
+get-replicate (suc n) zero x h = refl
+get-replicate (suc n) (suc i) x h = get-replicate n i x (omega (arith, h))
+
+-- no row, no count
+pub rows-none : (work : List WorkRow) (k : ℕ) → rows_of k (take 0 work) ≡ 0
+rows-none [] k = refl
+rows-none (w ∷ ws) k = refl
+
+-- no job has the count 0
+need-none : (work : List WorkRow) (k : ℕ) → need_of work k 0 ≡ 0
+need-none [] k = refl
+need-none (w ∷ ws) k = go (need-none ws k) (w.task.0 == k)
+  where
+    go : need_of ws k 0 ≡ 0 → (b : Bool) → cond b (need_of ws k 0) (need_of ws k 0) ≡ 0
+    go ih true = ih
+    go ih false = ih
+
+-- what is kept before the first row
+pub tracks_start : (work : List WorkRow) (i : ℕ) → i < 128 → slice_get (replicate 128 0) i ≡ Some (latest_need work 0 (i + 1))
+tracks_start work i h =
+    get-replicate 128 i 0 h ∙ sym (ap (λ (c : ℕ). Some (need_of work (i + 1) c)) (rows-none work (i + 1)) ∙ ap (λ (n : ℕ). Some n) (need-none work (i + 1)))
+
+-- one more row
+
+-- the rows of a task are one more with a row of it
+pub rows-more : (work : List WorkRow) (i k : ℕ) (w : WorkRow) → slice_get work i ≡ Some w → rows_of k (take (suc i) work) ≡ cond (w.task.0 == k) 1 0 + rows_of k (take i work)
+rows-more [] i k w e = cc
+rows-more (v ∷ vs) zero k w e =
+    let d : v ≡ w = cc in
+    subst (λ (x : WorkRow). cond (v.task.0 == k) 1 0 + rows_of k (take 0 vs) ≡ cond (x.task.0 == k) 1 0 + 0) d (ap (λ (n : ℕ). cond (v.task.0 == k) 1 0 + n) (rows-none vs k))
+rows-more (v ∷ vs) (suc i) k w e =
+    let ih : rows_of k (take (suc i) vs) ≡ cond (w.task.0 == k) 1 0 + rows_of k (take i vs) = rows-more vs i k w e in
+    omega (arith, ih)
+
+-- its need is that of the job of its count
+need-more : (work : List WorkRow) (i k : ℕ) (w : WorkRow) → slice_get work i ≡ Some w → w.task.0 ≡ k → need_of work k (rows_of k (take i work) + 1) ≡ w.need
+need-more [] i k w e t = cc
+need-more (v ∷ vs) zero k w e t =
+    let d : v ≡ w = cc in
+    let m : (v.task.0 == k) ≡ true = subst (λ (x : WorkRow). (x.task.0 == k) ≡ true) (sym d) (subst (λ (n : ℕ). (w.task.0 == n) ≡ true) t (eqb-refl w.task.0)) in
+    rw m (ap (λ (x : WorkRow). x.need) d)
+need-more (v ∷ vs) (suc i) k w e t = go (need-more vs i k w e t) (v.task.0 == k)
+  where
+    not_one : (r : ℕ) → ((1 + r) + 1 == 1) ≡ false
+    not_one r = grind (arith, nat_tests)
+
+    back : (r : ℕ) → ((1 + r) + 1) - 1 ≡ r + 1
+    back r = omega arith
+
+    same : (r : ℕ) → (0 + r) + 1 ≡ r + 1
+    same r = omega arith
+
+    go : need_of vs k (rows_of k (take i vs) + 1) ≡ w.need → (b : Bool) →
+        cond b (cond (((cond b 1 0 + rows_of k (take i vs)) + 1) == 1) v.need (need_of vs k (((cond b 1 0 + rows_of k (take i vs)) + 1) - 1))) (need_of vs k ((cond b 1 0 + rows_of k (take i vs)) + 1)) ≡ w.need
+    go ih true =
+        let n = not_one (rows_of k (take i vs)) in
+        rw n (ap (need_of vs k) (back (rows_of k (take i vs))) ∙ ih)
+    go ih false = ap (need_of vs k) (same (rows_of k (take i vs))) ∙ ih
+
+-- what is kept after so many rows, in a list by the tasks' numbers
+abbrev pub Tracked : List WorkRow → ℕ → List ℕ → Type 0
+Tracked work taken kept = (i : ℕ) → i < 128 → slice_get kept i ≡ Some (latest_need work taken (i + 1))
+
+-- what is kept of a task
+pub kept_need : (work : List WorkRow) (taken k : ℕ) (kept : List ℕ) (d : ℕ) → Tracked work taken kept → 1 ≤ k → k ≤ 128 → get_or kept (k - 1) d ≡ latest_need work taken k
+kept_need work taken k kept d tracks p q =
+    let e : (k - 1) + 1 ≡ k = omega (arith, p) in
+    get_or_from_slice_get kept (k - 1) (latest_need work taken ((k - 1) + 1)) d (tracks (k - 1) (omega (arith, p, q))) ∙ ap (λ (j : ℕ). latest_need work taken j) e
+
+-- what is kept after one more row
+pub tracks_noted : (work : List WorkRow) (taken : ℕ) (w : WorkRow) (kept : List ℕ) → length kept ≡ 128 → Tracked work taken kept → slice_get work taken ≡ Some w → 1 ≤ w.task.0 → w.task.0 ≤ 128 → Tracked work (taken + 1) (set kept (w.task.0 - 1) w.need)
+tracks_noted work taken w kept len tracks e p q i h = by (w.task.0 == i + 1) refl
+  where
+    place : ℕ
+    place = w.task.0 - 1
+
+    inside : slice_get (set kept place w.need) i ≡ Some (get_or (set kept place w.need) i w.need)
+    inside = slice_get-get_or (set kept place w.need) i w.need (omega (arith, length-set kept place w.need, len, h))
+
+    one : taken + 1 ≡ suc taken
+    one = omega arith
+
+    more : (b : Bool) → w.task.0 == i + 1 ≡ b → rows_of (i + 1) (take (taken + 1) work) ≡ cond b 1 0 + rows_of (i + 1) (take taken work)
+    more b m =
+        ap (λ (n : ℕ). rows_of (i + 1) (take n work)) one
+        ∙ (rows-more work taken (i + 1) w e ∙ ap (λ (x : Bool). cond x 1 0 + rows_of (i + 1) (take taken work)) m)
+
+    by : (b : Bool) → w.task.0 == i + 1 ≡ b → slice_get (set kept place w.need) i ≡ Some (latest_need work (taken + 1) (i + 1))
+    by true m =
+        let same : w.task.0 ≡ i + 1 = eqb-true _ _ m in
+        let at : i ≡ place = omega (arith, same) in
+        let need : w.need ≡ need_of work (i + 1) (rows_of (i + 1) (take taken work) + 1) = sym (need-more work taken (i + 1) w e same) in
+        let rows : rows_of (i + 1) (take taken work) + 1 ≡ rows_of (i + 1) (take (taken + 1) work) = let r = more true m in omega (arith, r) in
+        inside
+        ∙ ap (λ (x : ℕ). Some x)
+        (subst (λ (j : ℕ). get_or (set kept place w.need) j w.need ≡ w.need) (sym at) (get_or-set_same kept place w.need w.need (omega (arith, len, p, q)))
+        ∙ (need ∙ ap (λ (c : ℕ). need_of work (i + 1) c) rows))
+    by false m =
+        let apart : w.task.0 ≢ i + 1 = eqb-false _ _ m in
+        let other : i ≢ place = λ (x : i ≡ place). apart (omega (arith, x, p)) in
+        let rows : rows_of (i + 1) (take taken work) ≡ rows_of (i + 1) (take (taken + 1) work) = let r = more false m in omega (arith, r) in
+        inside
+        ∙ (ap (λ (x : ℕ). Some x) (get_or-set_other kept place i w.need w.need other)
+        ∙ (sym (slice_get-get_or kept i w.need (omega (arith, len, h)))
+        ∙ (tracks i h ∙ ap (λ (c : ℕ). Some (need_of work (i + 1) c)) rows)))

@@ -1,0 +1,80 @@
+-- How a floor is kept.
+use Rattle.std.specs.Prelude.{◌≡◌, ℕ, ◌+◌, ◌<◌, Bool, List, [], ◌∷◌, Option, Some, None, length, cond, slice_get, nat_le, ◌==◌}
+use Rattle.mc_task.specs.declared.task.Rule.{Rule}
+use Rattle.mc_task.specs.declared.task.Task.{Task}
+use Rattle.mc_task.specs.declared.task.JobId.{JobId}
+use Rattle.mc_model.specs.declared.row.Row.{Row}
+use Rattle.mc_model.specs.declared.work.WorkRow.{WorkRow}
+use Rattle.mc_model.specs.Rows.{ticks, releases}
+use Rattle.mc_model.specs.Core.{State, chosen, release_row}
+use Rattle.mc_model.specs.Follows.{Arrival, arrivals, planned}
+use Rattle.timetable.specs.declared.plan.Plan.{Plan}
+use Rattle.timetable.specs.declared.plan.Plan.TheVariants.{Free, Rows}
+use Rattle.timetable.specs.declared.needs.Needs.{Needs}
+use Rattle.timetable.specs.declared.floor.Floor.TheInside.{Inside}
+use Rattle.timetable.specs.Ticks.{is_last, tick_row}
+use Rattle.timetable.specs.Floor.{FloorState}
+use Rattle.timetable.specs.Needs.{Tracks}
+use Rattle.timetable.specs.Plans.{IsSchedule, settled_by}
+
+-- the job that a release of task number k makes where none is held
+abbrev pub first_job : List Row → ℕ → JobId
+first_job g k = record { task = record { 0 = k }; count = releases g k + 1 }
+
+-- the release, if there is one and it is due; otherwise a tick of the chosen job, or idle
+abbrev pub row_now : List Task → Rule → List WorkRow → List Row → Option Arrival → Row
+row_now set rule work g None = tick_row set rule work g (chosen set rule g)
+row_now set rule work g (Some a) =
+    cond (a.at == ticks g) (release_row set rule (first_job g a.task) g) (tick_row set rule work g (chosen set rule g))
+
+-- the row after these: of the first release that was not taken, if it is due, otherwise of a tick; and none after n ticks
+abbrev pub next_row : List Task → Rule → List WorkRow → ℕ → List Row → Option Row
+next_row set rule work n g =
+    cond (nat_le n (ticks g)) None (Some (row_now set rule work g (slice_get (planned work n) (length (arrivals g)))))
+
+-- each row is the one that the plan adds
+abbrev pub Runs : List Task → Rule → List WorkRow → ℕ → List Row → Type 0
+Runs set rule work n [] = Unit {0}
+Runs set rule work n (row ∷ g) = (next_row set rule work n g ≡ Some row) × Runs set rule work n g
+
+-- a core with its work: each row is the one that the plan adds, and so are those of the tick that is out and of the held
+-- releases
+pub record IsRun (s : State) (work : List WorkRow) (n taken : ℕ) : Type 0 where
+  pub schedule : IsSchedule s work n
+  pub runs : Runs s.set s.rule work n (settled_by work s)
+  pub taken_are : taken ≡ length (arrivals (settled_by work s))
+
+-- a core with its plan; of a free one nothing is asked
+abbrev pub IsRunBy : Plan → State → ℕ → Type 0
+IsRunBy Free s taken = Unit {0}
+IsRunBy (Rows work n) s taken = IsRun s work n taken
+
+-- where a tick is out, it is told whether it is the last that its job needs
+abbrev pub IsTold : List WorkRow → List Row → Option JobId → Bool → Type 0
+IsTold work g None last = Unit {0}
+IsTold work g (Some j) last = last ≡ is_last work g j
+
+-- the state, by the fields
+abbrev pub floor_of : Inside → FloorState
+floor_of a = record { core = a.core; plan = a.plan; taken = a.taken }
+
+-- what is kept of a plan
+pub record IsKept (s : State) (work : List WorkRow) (n taken : ℕ) (needs : Needs) (last : Bool) : Type 0 where
+  pub run : IsRun s work n taken
+  pub tracks : Tracks work taken needs
+  pub told : IsTold work s.rows s.out last
+
+-- of a free plan nothing is kept
+abbrev pub IsKeptBy : Plan → State → ℕ → Needs → Bool → Type 0
+IsKeptBy Free s taken needs last = taken ≡ 0
+IsKeptBy (Rows work n) s taken needs last = IsKept s work n taken needs last
+
+-- the core, its plan, and what is kept of it
+abbrev pub IsFloor : Inside → Type 0
+IsFloor a = IsKeptBy a.plan a.core a.taken a.needs a.last
+
+-- there was a place for one more row, the floor has it, and the rest is as it was but for the releases that were taken
+pub record AddsRow (old new : FloorState) : Type 0 where
+  pub room : length old.core.rows < old.core.places
+  pub row : Row
+  pub after : new ≡ record old { core = record old.core { rows = row ∷ old.core.rows }; taken = new.taken }

@@ -1,0 +1,111 @@
+// Ticks, as the plan and the core give them.
+ghost use Rattle.std.specs.Prelude.{◌≡◌, ◌≢◌, true, None, Err};
+ghost use Rattle.mc_task.specs.TaskSet.{IsIn};
+ghost use Rattle.mode_core.specs.Events as core_event;
+ghost use Rattle.mode_core.specs.declared.answers.GrantFault.TheVariants as grant_fault;
+ghost use Rattle.mode_core.specs.declared.answers.IdleFault.TheVariants as idle_fault;
+ghost use Rattle.timetable.specs.declared.acts.ActFault.TheVariants as act_fault;
+ghost use Rattle.timetable.specs.Floor.{is_planned, tick_refusal, grant_answer, after_grant, outcome_answer, after_outcome, idle_answer, after_idle, of_core};
+
+use super::Floor;
+use crate::{ActFault, PlanFault};
+use mc_model::How;
+use mc_task::{JobId, TaskNo};
+use mode_core::{GrantFault, Granted, IdleFault, NotOut};
+
+impl Floor {
+    /// Puts the tick of the chosen job out, which has to be of this task.
+    ///
+    /// It is refused with `Due` where a release is due, and with `Finished` where the plan's ticks were begun. Otherwise
+    /// the answer is the core's. A refusal changes nothing.
+    pub fn grant(&mut self, task: TaskNo) -> Result<Granted, ActFault<GrantFault>>
+        requires in_set { IsIn self.old.core.set task.0 }
+        ensures answer { result ≡ grant_answer self.old task.0 }
+        ensures state { self.new ≡ after_grant self.old task.0 }
+        // A planned tick finds a place.
+        ensures no_full { is_planned self.old.plan ≡ true → result ≢ Err (act_fault.Core grant_fault.Full) }
+    {
+        match self.tick_fault() {
+            Some(fault) => Err(ActFault::Plan(fault)),
+            None => self.grant_now(task),
+        }
+    }
+
+    // Why the plan refuses a tick.
+    fn tick_fault(&self) -> Option<PlanFault>
+        ensures { result ≡ tick_refusal self.now }
+    {
+        match self.due() {
+            Some(row) => Some(PlanFault::Due { task: row.task }),
+            None => {
+                if self.is_finished() {
+                    Some(PlanFault::Finished)
+                } else {
+                    None
+                }
+            }
+        }
+    }
+
+    // A grant that the plan does not refuse.
+    fn grant_now(&mut self, task: TaskNo) -> Result<Granted, ActFault<GrantFault>>
+        requires in_set { IsIn self.old.core.set task.0 }
+        requires none { tick_refusal self.old ≡ None }
+        ensures answer { result ≡ of_core (core_event.grant_answer self.old.core task.0) }
+        ensures state { self.new ≡ record self.old { core = core_event.after_grant self.old.core task.0 } }
+        ensures no_full { is_planned self.old.plan ≡ true → result ≢ Err (act_fault.Core grant_fault.Full) }
+    {
+        let _sound = self.core.ticks();
+        match self.core.grant(task) {
+            Ok(granted) => {
+                let need = self.needs.of(task);
+                self.last = u64::from(granted.before) + 1 == u64::from(need);
+                Ok(granted)
+            }
+            Err(fault) => Err(ActFault::Core(fault)),
+        }
+    }
+
+    /// Writes the row of the tick that is out, and then those of the held releases.
+    ///
+    /// Under `Rows` the job is done where this tick is the last that its row of the work needs, and `done` is not read.
+    /// The answer is the core's. A refusal changes nothing.
+    pub fn outcome(&mut self, job: JobId, done: bool) -> Result<How, NotOut>
+        ensures answer { result ≡ outcome_answer self.old job done }
+        ensures state { self.new ≡ after_outcome self.old job done }
+    {
+        let _sound = self.core.ticks();
+        let done = if self.is_planned() { self.last } else { done };
+        self.core.outcome(job, done)
+    }
+
+    /// Writes an idle tick and answers its number.
+    ///
+    /// It is refused with `Due` and `Finished` as a grant is. Otherwise the answer is the core's. A refusal changes
+    /// nothing.
+    pub fn idle(&mut self) -> Result<u64, ActFault<IdleFault>>
+        ensures answer { result ≡ idle_answer self.old }
+        ensures state { self.new ≡ after_idle self.old }
+        // A planned tick finds a place.
+        ensures no_full { is_planned self.old.plan ≡ true → result ≢ Err (act_fault.Core idle_fault.Full) }
+    {
+        match self.tick_fault() {
+            Some(fault) => Err(ActFault::Plan(fault)),
+            None => self.idle_now(),
+        }
+    }
+
+    // An idle tick that the plan does not refuse.
+    fn idle_now(&mut self) -> Result<u64, ActFault<IdleFault>>
+        requires none { tick_refusal self.old ≡ None }
+        ensures answer { result ≡ of_core (core_event.idle_answer self.old.core) }
+        ensures state { self.new ≡ record self.old { core = core_event.after_idle self.old.core } }
+        ensures no_full { is_planned self.old.plan ≡ true → result ≢ Err (act_fault.Core idle_fault.Full) }
+    {
+        let _sound = self.core.ticks();
+        match self.core.idle() {
+            Ok(tick) => Ok(tick),
+            Err(fault) => Err(ActFault::Core(fault)),
+        }
+    }
+}

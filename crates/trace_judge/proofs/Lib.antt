@@ -1,0 +1,15 @@
+pub mod Totals
+pub mod Same
+pub mod Entries
+pub mod Edits
+pub mod Noted
+pub mod Placed
+pub mod LateTotal
+pub mod Faults
+pub mod KeepsRelease
+pub mod KeepsTick
+pub mod KeepsSwitch
+pub mod Ticks
+pub mod FirstLate
+pub mod Verdicts
+pub mod Reading

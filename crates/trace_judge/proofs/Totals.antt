@@ -1,0 +1,57 @@
+-- Sums over lists.
+use Rattle.std.proofs.Common.{[], ◌≡◌, ℕ, ◌+◌, ◌≤◌, Bool, true, false, not, List, ◌∷◌, ◌++◌, cond, filter, map, refl, ap, arith, length}
+use Rattle.mc_model.proofs.Lists.{Each}
+use Rattle.trace_judge.specs.Total.{total, when}
+
+-- of two lists joined
+pub total-append : {X : Type 0} (f : X → ℕ) → (xs ys : List X) → total f (xs ++ ys) ≡ total f xs + total f ys
+total-append f [] ys = omega arith
+total-append f (x ∷ xs) ys = let ih : total f (xs ++ ys) ≡ total f xs + total f ys = total-append f xs ys in omega arith
+
+-- of a list mapped
+pub total-map : {X Y : Type 0} (f : Y → ℕ) (g : X → Y) → (xs : List X) → total f (map g xs) ≡ total (λ x. f (g x)) xs
+total-map f g [] = refl
+total-map f g (x ∷ xs) = ap (λ n. f (g x) + n) (total-map f g xs)
+
+-- of a part of the list
+pub total-filter : {X : Type 0} (f : X → ℕ) (p : X → Bool) → (xs : List X) → total f (filter p xs) ≡ total (when p f) xs
+total-filter f p [] = refl
+total-filter f p (x ∷ xs) =
+    let ih : total f (filter p xs) ≡ total (when p f) xs = total-filter f p xs in
+    elim (p x) as (λ b. total f (cond b (x ∷ filter p xs) (filter p xs)) ≡ cond b (f x) 0 + total (when p f) xs)
+    [ true ↦ ap (λ n. f x + n) ih | false ↦ omega arith ]
+
+-- of numbers that are the same at each element
+pub total-ext : {X : Type 0} (f g : X → ℕ) → (xs : List X) → Each (λ x. f x ≡ g x) xs → total f xs ≡ total g xs
+total-ext f g [] h = refl
+total-ext f g (x ∷ xs) h = let here : f x ≡ g x = h.0 in let ih : total f xs ≡ total g xs = total-ext f g xs h.1 in omega arith
+
+-- of numbers that are the same at all values
+pub total-same : {X : Type 0} (f g : X → ℕ) → ((x : X) → f x ≡ g x) → (xs : List X) → total f xs ≡ total g xs
+total-same f g h [] = refl
+total-same f g h (x ∷ xs) = let here : f x ≡ g x = h x in let ih : total f xs ≡ total g xs = total-same f g h xs in omega arith
+
+-- of two numbers at each element
+pub total-add : {X : Type 0} (f g : X → ℕ) → (xs : List X) → total (λ x. f x + g x) xs ≡ total f xs + total g xs
+total-add f g [] = omega arith
+total-add f g (x ∷ xs) = let ih : total (λ x. f x + g x) xs ≡ total f xs + total g xs = total-add f g xs in omega arith
+
+-- a part comes to no more than the whole
+pub less_filtered : {X : Type 0} (f : X → ℕ) (p : X → Bool) → (xs : List X) → total f (filter p xs) ≤ total f xs
+less_filtered f p [] = omega arith
+less_filtered f p (x ∷ xs) =
+    let ih : total f (filter p xs) ≤ total f xs = less_filtered f p xs in
+    elim (p x) as (λ b. total f (cond b (x ∷ filter p xs) (filter p xs)) ≤ f x + total f xs) [ true ↦ omega arith | false ↦ omega arith ]
+
+-- each counts 1
+abbrev pub one : {X : Type 0} → X → ℕ
+one x = 1
+
+-- the test fails
+abbrev pub other : {X : Type 0} → (X → Bool) → X → Bool
+other p x = not (p x)
+
+-- of ones, the length
+pub total-one : {X : Type 0} (xs : List X) → total one xs ≡ length xs
+total-one [] = refl
+total-one (x ∷ xs) = let ih : total one xs ≡ length xs = total-one xs in omega arith

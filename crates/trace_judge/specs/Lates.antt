@@ -1,0 +1,29 @@
+-- How many jobs were late and which was released first, as they are found in any order.
+use Rattle.std.specs.Prelude.{◌≡◌, ℕ, ◌+◌, ◌-◌, ◌^◌, ◌≤◌, Bool, ◌&&◌, ◌==◌, Option, Some, None, cond, nat_lt, min}
+use Rattle.mc_model.specs.Rows.{same_job}
+use Rattle.trace_judge.specs.declared.lates.LateJob.{LateJob}
+use Rattle.trace_judge.specs.declared.lates.Lates.{Lates}
+
+-- the one of the two that was released first, where there are two
+abbrev pub earlier : Option LateJob → LateJob → Option LateJob
+earlier None late = Some late
+earlier (Some first) late = cond (nat_lt late.place first.place) (Some late) (Some first)
+
+-- with one more late job, as far as a count can go
+abbrev pub noted : Lates → LateJob → Lates
+noted s late = record { count = min (s.count + 1) (2 ^ 32 - 1); first = earlier s.first late }
+
+-- the two are one job, released at one place
+abbrev pub same_late : LateJob → LateJob → Bool
+same_late m x = (x.place == m.place) && same_job x.job m.job
+
+-- some late jobs are known by what they sum up to: `weigh f` is the sum of `f` over them. This is one of them, and
+-- none of them stands before it; or there is none
+abbrev pub IsEarliest : Option LateJob → ((LateJob → ℕ) → ℕ) → Type 0
+IsEarliest None weigh = weigh (λ x. 1) ≡ 0
+IsEarliest (Some m) weigh = (1 ≤ weigh (λ x. cond (same_late m x) 1 0)) × (weigh (λ x. cond (nat_lt x.place m.place) 1 0) ≡ 0)
+
+-- these are so many, and this is the first of them
+pub record Counts (s : Lates) (weigh : (LateJob → ℕ) → ℕ) : Type 0 where
+  pub count : s.count ≡ min (weigh (λ x. 1)) (2 ^ 32 - 1)
+  pub first : IsEarliest s.first weigh

@@ -1,0 +1,51 @@
+-- The pending jobs and the late ones with their places in the trace. The newest row stands first.
+use Rattle.std.specs.Prelude.{ℕ, Bool, not, ◌&&◌, ◌||◌, List, [], ◌∷◌, ◌++◌, length, cond, nat_le, filter}
+use Rattle.mc_task.specs.declared.task.Task.{Task}
+use Rattle.mc_task.specs.declared.task.JobId.{JobId}
+use Rattle.mc_task.specs.TaskSet.{task_at}
+use Rattle.mc_model.specs.declared.row.How.{How}
+use Rattle.mc_model.specs.declared.row.Row.{Row}
+use Rattle.mc_model.specs.declared.row.Row.TheVariants.{Release, Tick, Idle}
+use Rattle.mc_model.specs.TaskNumbers.{is_high_in}
+use Rattle.mc_model.specs.Rows.{same_job, ticks}
+use Rattle.mc_model.specs.Mode.{is_over}
+use Rattle.mc_model.specs.Pending.{Live, is_end}
+use Rattle.mc_model.specs.Late.{deadline}
+
+-- a kept release, and the number of rows before it
+pub record Placed : Type 0 where
+  pub live : Live
+  pub place : ℕ
+
+-- a release of the job behind these rows
+abbrev pub new_one : JobId → List Row → Placed
+new_one j g = record { live = record { job = j; release = ticks g }; place = length g }
+
+-- the kept releases, the newest first
+abbrev pub placed : List Row → List Placed
+placed [] = []
+placed (Release j kept ∷ g) = cond kept (new_one j g ∷ placed g) (placed g)
+placed (Tick j how ∷ g) = placed g
+placed (Idle ∷ g) = placed g
+
+-- what a tick with this outcome leaves pending: an end takes its job out, an overrun the low jobs
+abbrev pub stays : List Task → JobId → How → Placed → Bool
+stays set j how x = not (is_end how && same_job j x.live.job) && (not (is_over how) || is_high_in (task_at set x.live.job.task.0))
+
+-- the pending ones of them
+abbrev pub waiting : List Task → List Row → List Placed
+waiting set [] = []
+waiting set (Release j kept ∷ g) = cond kept (new_one j g ∷ waiting set g) (waiting set g)
+waiting set (Tick j how ∷ g) = filter (stays set j how) (waiting set g)
+waiting set (Idle ∷ g) = waiting set g
+
+-- the deadline has come
+abbrev pub is_due : List Task → ℕ → Placed → Bool
+is_due set now x = nat_le (deadline set x.live) now
+
+-- the jobs that ended or were discarded at a tick behind their deadlines
+abbrev pub gone_late : List Task → List Row → List Placed
+gone_late set [] = []
+gone_late set (Release j kept ∷ g) = gone_late set g
+gone_late set (Tick j how ∷ g) = filter (λ x. not (stays set j how x) && is_due set (ticks g) x) (waiting set g) ++ gone_late set g
+gone_late set (Idle ∷ g) = gone_late set g

@@ -1,0 +1,80 @@
+-- What a row does to what is kept: the state before it and after it.
+use Rattle.std.specs.Prelude.{◌≡◌, ℕ, ◌+◌, ◌-◌, Bool, false, not, ◌||◌, ◌==◌, nat_lt, List, [], ◌∷◌, Option, None, slice_set, slice_index_or, cond, replicate}
+use Rattle.std.specs.Map.{remove_entry}
+use Rattle.std.specs.BTreeMap.{insert_entry, is_at}
+use Rattle.mc_task.specs.declared.task.Rule.{Rule}
+use Rattle.mc_task.specs.declared.task.Task.{Task}
+use Rattle.mc_task.specs.declared.task.JobId.{JobId}
+use Rattle.mc_model.specs.declared.verdict.Why.{Why}
+use Rattle.mc_model.specs.declared.verdict.Why.TheVariants.{TooSoon, WrongCount, WrongKept}
+use Rattle.mc_model.specs.TaskNumbers.{period_in, is_high_in}
+use Rattle.mc_model.specs.Key.{key_of}
+use Rattle.mc_model.specs.Legal.{first_of_parts, same_bool}
+use Rattle.trace_judge.specs.declared.waiting.Pending.{Pending}
+use Rattle.trace_judge.specs.declared.state.TaskNote.{TaskNote}
+use Rattle.trace_judge.specs.declared.state.State.{State}
+use Rattle.trace_judge.specs.Lates.{noted}
+use Rattle.trace_judge.specs.Entries.{Rank, rank_cmp, spent, late_job}
+use Rattle.trace_judge.specs.Rules.{is_due_at}
+
+-- the note of task number k
+abbrev pub note_at : List TaskNote → ℕ → TaskNote
+note_at notes k = slice_index_or notes (k - 1) (record { releases = 0; next = 0 })
+
+-- the first part of a release of a job of task t that does not fit, by the task's note
+abbrev pub release_why : ℕ → Bool → TaskNote → Option Task → JobId → Bool → Option Why
+release_why now high note t j kept =
+    first_of_parts (
+    (not (nat_lt now note.next), TooSoon)
+    ∷ (j.count == note.releases + 1, WrongCount)
+    ∷ (same_bool kept (is_high_in t || not high), WrongKept)
+    ∷ []
+    )
+
+-- nothing was read yet, of a set of so many tasks
+pub record IsNew (count : ℕ) (s : State) : Type 0 where
+  pub ticks : s.ticks ≡ 0
+  pub place : s.place ≡ 0
+  pub mode : s.high_mode ≡ false
+  pub tasks : s.tasks.items ≡ replicate count (record { releases = 0; next = 0 })
+  pub waiting : s.waiting.entries ≡ []
+  pub count_zero : s.lates.count ≡ 0
+  pub first : s.lates.first ≡ None
+
+-- a release of a job of task t: its note is renewed, and the job waits where it is kept
+pub record Releases (rule : Rule) (t : Option Task) (j : JobId) (kept : Bool) (old new : State) : Type 0 where
+  pub ticks : new.ticks ≡ old.ticks
+  pub place : new.place ≡ old.place + 1
+  pub mode : new.high_mode ≡ old.high_mode
+  pub tasks : new.tasks.items ≡ slice_set old.tasks.items (j.task.0 - 1) (record { releases = j.count; next = old.ticks + period_in t })
+  pub waiting :
+      new.waiting.entries
+      ≡ cond kept (insert_entry rank_cmp old.waiting.entries (key_of rule old.high_mode t old.ticks, j.task.0, j.count) (record { release = old.ticks; used = 0; place = old.place })) old.waiting.entries
+  pub lates : new.lates ≡ old.lates
+
+-- one more tick, and one more row
+pub record Moves (old new : State) : Type 0 where
+  pub ticks : new.ticks ≡ old.ticks + 1
+  pub place : new.place ≡ old.place + 1
+  pub tasks : new.tasks.items ≡ old.tasks.items
+
+-- a tick of the job at this rank, which goes on
+pub record GoesOn (at : Rank) (old new : State) : Type 0 where
+  pub moves : Moves old new
+  pub mode : new.high_mode ≡ old.high_mode
+  pub waiting : new.waiting.entries ≡ spent at old.waiting.entries
+  pub lates : new.lates ≡ old.lates
+
+-- the last tick of the job of task t at this rank: it goes, and is late where its deadline came before
+pub record Ends (t : Option Task) (at : Rank) (p : Pending) (old new : State) : Type 0 where
+  pub moves : Moves old new
+  pub mode : new.high_mode ≡ old.high_mode
+  pub waiting : new.waiting.entries ≡ remove_entry (is_at (rank_cmp at)) old.waiting.entries
+  pub lates : new.lates ≡ cond (is_due_at t p.release old.ticks) (noted old.lates (late_job at p)) old.lates
+
+-- an idle tick
+pub record Rests (old new : State) : Type 0 where
+  pub moves : Moves old new
+  pub mode : new.high_mode ≡ false
+  pub waiting : new.waiting.entries ≡ old.waiting.entries
+  pub lates : new.lates ≡ old.lates

@@ -1,0 +1,40 @@
+-- What is kept of the rows so far, against the definitions over whole lists. The newest row stands first.
+use Rattle.std.specs.Prelude.{◌≡◌, ℕ, ◌+◌, ◌<◌, List, ◌∷◌, Option, Some, None, length, slice_get}
+use Rattle.mc_task.specs.declared.task.Rule.{Rule}
+use Rattle.mc_task.specs.declared.task.Task.{Task}
+use Rattle.mc_model.specs.declared.row.Row.{Row}
+use Rattle.mc_model.specs.declared.verdict.Why.{Why}
+use Rattle.mc_model.specs.Rows.{ticks, used, releases, next_release}
+use Rattle.mc_model.specs.Mode.{high_mode}
+use Rattle.mc_model.specs.Key.{key}
+use Rattle.mc_model.specs.Legal.{Legal, fault}
+use Rattle.trace_judge.specs.declared.lates.LateJob.{LateJob}
+use Rattle.trace_judge.specs.declared.state.State.{State}
+use Rattle.trace_judge.specs.Total.{total}
+use Rattle.trace_judge.specs.Placed.{Placed, waiting, gone_late}
+use Rattle.trace_judge.specs.Lates.{Counts}
+use Rattle.trace_judge.specs.Entries.{Entry}
+
+-- the entry of a pending job behind these rows
+abbrev pub entry_of : List Task → Rule → List Row → Placed → Entry
+entry_of set rule g x =
+    ((key set rule (high_mode rule g) x.live, x.live.job.task.0, x.live.job.count), record { release = x.live.release; used = used g x.live.job; place = x.place })
+
+-- the job, as a late one
+abbrev pub late_job_in : Placed → LateJob
+late_job_in x = record { place = x.place; job = x.live.job }
+
+-- what is kept is what the definitions say of these rows
+pub record Tracks (set : List Task) (rule : Rule) (g : List Row) (s : State) : Type 0 where
+  pub ticks : s.ticks ≡ ticks g
+  pub place : s.place ≡ length g
+  pub mode : s.high_mode ≡ high_mode rule g
+  pub count : length s.tasks.items ≡ length set
+  pub tasks : (k : ℕ) → k < length set → slice_get s.tasks.items k ≡ Some (record { releases = releases g (k + 1); next = next_release set g (k + 1) })
+  pub waiting : (f : Entry → ℕ) → total f s.waiting.entries ≡ total (λ x. f (entry_of set rule g x)) (waiting set g)
+  pub lates : Counts s.lates (λ f. total (λ x. f (late_job_in x)) (gone_late set g))
+
+-- this is the first part of the row that does not fit, and where there is none, what is kept follows the row
+abbrev pub IsStep : List Task → Rule → Row → State → Option Why → State → Type 0
+IsStep set rule row old why new =
+    (g : List Row) → Legal set rule g → Tracks set rule g old → (why ≡ fault set rule row g) × (why ≡ None → Tracks set rule (row ∷ g) new)

@@ -1,0 +1,45 @@
+// The late jobs, as they are found.
+ghost use Rattle.std.specs.Prelude.{◌≡◌};
+ghost use Rattle.trace_judge.specs.Lates.{noted, earlier};
+
+use mc_task::JobId;
+
+/// A late job, and the number of rows before its release.
+#[derive(Clone, Copy, Debug, PartialEq, Eq)]
+pub struct LateJob {
+    pub place: u32,
+    pub job: JobId,
+}
+
+/// How many jobs were late, and which of them was released first.
+#[derive(Clone, Copy, Debug, PartialEq, Eq)]
+pub struct Lates {
+    pub count: u32,
+    pub first: Option<LateJob>,
+}
+
+impl Lates {
+    /// Counts one more late job.
+    pub fn note(&mut self, late: LateJob)
+        ensures { self.new ≡ noted self.old late }
+    {
+        self.count = self.count.saturating_add(1);
+        self.first = earlier(self.first, late);
+    }
+}
+
+// The one of the two that was released first, where there are two.
+fn earlier(first: Option<LateJob>, late: LateJob) -> Option<LateJob>
+    ensures { result ≡ earlier first late }
+{
+    match first {
+        None => Some(late),
+        Some(first) => {
+            if late.place < first.place {
+                Some(late)
+            } else {
+                Some(first)
+            }
+        }
+    }
+}

@@ -1,0 +1,13 @@
+//! The judge of a trace: the first row that is not one of EDF-VD (Baruah et al., ECRTS 2012), or else who was late.
+#![tactic(auto)]
+
+mod lates;
+mod rules;
+mod state;
+mod step;
+#[cfg(test)]
+mod tests;
+mod verdict;
+mod waiting;
+
+pub use verdict::judge;

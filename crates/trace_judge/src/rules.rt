@@ -1,0 +1,56 @@
+// What the rules allow at a tick, and when a deadline has come.
+ghost use Rattle.std.specs.Prelude.{◌≡◌, ◌+◌, Some};
+ghost use Rattle.mc_model.specs.TaskNumbers.{is_high_in};
+ghost use Rattle.mc_model.specs.Mode.{is_virtual};
+ghost use Rattle.trace_judge.specs.Rules.{allows, overruns, is_due_at};
+
+use mc_model::How;
+use mc_task::{Level, Rule, Task};
+
+/// Whether the task is a high one.
+pub fn is_high(task: &Task) -> bool
+    ensures { result ≡ is_high_in (Some task.now) }
+{
+    match task.level {
+        Level::Low => false,
+        Level::High => true,
+    }
+}
+
+// Whether the rule is EDF-VD, and not plain EDF.
+fn is_virtual(rule: Rule) -> bool
+    ensures { result ≡ is_virtual rule }
+{
+    match rule {
+        Rule::Plain => false,
+        Rule::Virtual { .. } => true,
+    }
+}
+
+// Whether a tick with which the job has had so many is an overrun.
+fn overruns(rule: Rule, high_mode: bool, task: &Task, used: u64) -> bool
+    ensures { result ≡ overruns rule high_mode (Some task.now) used }
+{
+    is_high(task) && is_virtual(rule) && !high_mode && used == u64::from(task.low)
+}
+
+/// Whether the next tick of a job of the task may end so, where it has had so many ticks.
+pub fn is_allowed(rule: Rule, high_mode: bool, task: &Task, used: u32, how: How) -> bool
+    ensures { result ≡ allows rule high_mode (Some task.now) (used + 1) how }
+{
+    let used = u64::from(used) + 1;
+    let own = u64::from(task.high);
+    match how {
+        How::Done => used <= own,
+        How::Stop => used == own,
+        How::Over => used != own && overruns(rule, high_mode, task, used),
+        How::More => used != own && !overruns(rule, high_mode, task, used),
+    }
+}
+
+/// Whether the deadline of a job of the task that was released at this boundary has come at boundary `now`.
+pub fn is_due(task: &Task, release: u32, now: u32) -> bool
+    ensures { result ≡ is_due_at (Some task.now) release now }
+{
+    u64::from(release) + u64::from(task.period) <= u64::from(now)
+}

@@ -1,0 +1,270 @@
+// What is kept of the rows so far, and what each kind of row does to it.
+ghost use Rattle.std.specs.Prelude.{◌≡◌, ◌+◌, ◌-◌, ◌^◌, ◌<◌, ◌≤◌, OnOk, IfOk, Some, length, []};
+ghost use Rattle.mc_task.specs.TaskSet.{task_at};
+ghost use Rattle.mc_model.specs.Holds.{Fits};
+ghost use Rattle.mc_model.specs.TaskNumbers.{is_high_in};
+ghost use Rattle.trace_judge.specs.Rules.{is_due_at};
+ghost use Rattle.trace_judge.specs.Entries.{late_job};
+ghost use Rattle.trace_judge.specs.Steps.{IsNew, note_at, release_why, Releases, GoesOn, Ends, Rests};
+ghost use Rattle.trace_judge.specs.Switch.{Ticks, rekeyed, switched, Overruns, noted_each, is_due_entry, is_discarded_late};
+
+use crate::lates::{LateJob, Lates};
+use crate::rules::{is_due, is_high};
+use crate::waiting::{Pending, Rank, Waiting, put, spend, take_out};
+use mc_model::{How, Why};
+use mc_task::{JobId, Memory, Rule, Task, TaskNo, TaskSet};
+use std::alloc::Global;
+use std::collections::BTreeMap;
+use virtual_key::key;
+
+/// What is kept of a task: how many releases there were, and the first boundary at which the next may come.
+#[derive(Clone, Copy, Debug, PartialEq, Eq)]
+pub struct TaskNote {
+    pub releases: u32,
+    pub next: u64,
+}
+
+/// What is kept of the rows so far: their ticks, their number, the mode, a note of each task, the pending jobs, and
+/// the jobs that ended or were discarded late.
+#[derive(Drop)]
+pub struct State {
+    pub ticks: u32,
+    pub place: u32,
+    pub high_mode: bool,
+    pub tasks: Vec<TaskNote>,
+    pub waiting: Waiting,
+    pub lates: Lates,
+}
+
+impl State {
+    /// What is kept before the first row, for so many tasks.
+    pub fn new(alloc: Global, count: u32) -> Result<State, Memory>
+        ensures { IfOk result (IsNew count) }
+    {
+        let mut tasks = Vec::new(alloc);
+        for _ in 0..count {
+            let note = TaskNote {
+                releases: 0,
+                next: 0,
+            };
+            if tasks.push(note).is_err() {
+                return Err(Memory);
+            }
+        }
+        Ok(State {
+            ticks: 0,
+            place: 0,
+            high_mode: false,
+            tasks,
+            waiting: BTreeMap::new(alloc),
+            lates: Lates {
+                count: 0,
+                first: None,
+            },
+        })
+    }
+
+    /// The first part of a release that does not fit.
+    pub fn release_why(&self, task: &Task, job: JobId, kept: bool) -> Option<Why>
+        requires first { 1 ≤ job.task.0 }
+        requires last { job.task.0 ≤ length self.now.tasks.items }
+        ensures { result ≡ release_why self.now.ticks self.now.high_mode (note_at self.now.tasks.items job.task.0) (Some task.now) job kept }
+    {
+        let note = self.tasks[job.task.0 as usize - 1];
+        if u64::from(self.ticks) < note.next {
+            return Some(Why::TooSoon);
+        }
+        if job.count == 0 || job.count - 1 != note.releases {
+            return Some(Why::WrongCount);
+        }
+        if kept != (is_high(task) || !self.high_mode) {
+            return Some(Why::WrongKept);
+        }
+        None
+    }
+
+    /// Follows a release that fits.
+    pub fn release(&mut self, rule: Rule, task: &Task, job: JobId, kept: bool) -> Result<(), Memory>
+        requires fits { Fits rule }
+        requires first { 1 ≤ job.task.0 }
+        requires last { job.task.0 ≤ length self.old.tasks.items }
+        requires room { self.old.place < 2 ^ 32 - 1 }
+        ensures { OnOk result (Releases rule (Some task.now) job kept self.old self.new) }
+    {
+        if kept {
+            let key = key(rule, self.high_mode, task, u64::from(self.ticks));
+            let pending = Pending {
+                release: self.ticks,
+                used: 0,
+                place: self.place,
+            };
+            put(&mut self.waiting, (key, job.task.0, job.count), pending)?;
+        }
+        self.tasks[job.task.0 as usize - 1] = TaskNote {
+            releases: job.count,
+            next: u64::from(self.ticks) + u64::from(task.period),
+        };
+        self.place += 1;
+        Ok(())
+    }
+
+    /// Follows an idle tick.
+    pub fn rest(&mut self)
+        requires room { self.old.place < 2 ^ 32 - 1 }
+        requires time { self.old.ticks < 2 ^ 32 - 1 }
+        ensures { Rests self.old self.new }
+    {
+        self.ticks += 1;
+        self.place += 1;
+        self.high_mode = false;
+    }
+
+    /// Follows a tick of the job of the task at this rank that ended so.
+    pub fn tick(
+        &mut self,
+        alloc: Global,
+        set: &TaskSet,
+        rule: Rule,
+        task: &Task,
+        at: Rank,
+        pending: Pending,
+        how: How,
+    ) -> Result<(), Memory>
+        requires fits { Fits rule }
+        requires room { self.old.place < 2 ^ 32 - 1 }
+        requires time { self.old.ticks < 2 ^ 32 - 1 }
+        ensures { OnOk result (Ticks set.now rule (Some task.now) at pending how self.old self.new) }
+    {
+        match how {
+            How::More => self.go_on(at),
+            How::Done => self.end(task, at, pending),
+            How::Stop => self.end(task, at, pending),
+            How::Over => return self.overrun(alloc, set, rule, at),
+        }
+        Ok(())
+    }
+
+    // A tick after which the job goes on.
+    fn go_on(&mut self, at: Rank)
+        requires room { self.old.place < 2 ^ 32 - 1 }
+        requires time { self.old.ticks < 2 ^ 32 - 1 }
+        ensures { GoesOn at self.old self.new }
+    {
+        spend(&mut self.waiting, at);
+        self.ticks += 1;
+        self.place += 1;
+    }
+
+    // The last tick of a job, which is late where its deadline came before this tick.
+    fn end(&mut self, task: &Task, at: Rank, pending: Pending)
+        requires room { self.old.place < 2 ^ 32 - 1 }
+        requires time { self.old.ticks < 2 ^ 32 - 1 }
+        ensures { Ends (Some task.now) at pending self.old self.new }
+    {
+        take_out(&mut self.waiting, at);
+        if is_due(task, pending.release, self.ticks) {
+            self.lates.note(late_job(at, pending));
+        }
+        self.ticks += 1;
+        self.place += 1;
+    }
+
+    // An overrun.
+    fn overrun(&mut self, alloc: Global, set: &TaskSet, rule: Rule, at: Rank) -> Result<(), Memory>
+        requires fits { Fits rule }
+        requires room { self.old.place < 2 ^ 32 - 1 }
+        requires time { self.old.ticks < 2 ^ 32 - 1 }
+        ensures { OnOk result (Overruns set.now rule at self.old self.new) }
+    {
+        spend(&mut self.waiting, at);
+        self.switch(alloc, set, rule)?;
+        self.high_mode = true;
+        self.ticks += 1;
+        self.place += 1;
+        Ok(())
+    }
+
+    // Discards the low jobs, and gives the high ones their keys of high mode. A job that is discarded is late where
+    // its deadline came before this tick.
+    fn switch(&mut self, alloc: Global, set: &TaskSet, rule: Rule) -> Result<(), Memory>
+        requires { Fits rule }
+        ensures waiting { OnOk result (self.new.waiting.entries ≡ switched set.now rule [] self.old.waiting.entries) }
+        ensures lates { OnOk result (self.new.lates ≡ noted_each (is_discarded_late set.now self.old.ticks) self.old.lates self.old.waiting.entries) }
+        ensures ticks { OnOk result (self.new.ticks ≡ self.old.ticks) }
+        ensures place { OnOk result (self.new.place ≡ self.old.place) }
+        ensures tasks { OnOk result (self.new.tasks.items ≡ self.old.tasks.items) }
+    {
+        let mut kept = BTreeMap::new(alloc);
+        while let Some((at, pending)) = self.waiting.pop_first() {
+            let task = set.get(TaskNo(at.1));
+            if is_high_task(&task) {
+                put(&mut kept, rekeyed(rule, &task, at, pending), pending)?;
+            } else if is_due_task(&task, pending.release, self.ticks) {
+                self.lates.note(late_job(at, pending));
+            }
+        }
+        self.waiting = kept;
+        Ok(())
+    }
+
+    /// The late jobs of the whole trace: those so far, and the pending ones whose deadlines have come.
+    pub fn finish(mut self, set: &TaskSet) -> Lates
+        ensures { result ≡ noted_each (is_due_entry set.now self.ticks) self.lates self.waiting.entries }
+    {
+        while let Some((at, pending)) = self.waiting.pop_first() {
+            let task = set.get(TaskNo(at.1));
+            if is_due_task(&task, pending.release, self.ticks) {
+                self.lates.note(late_job(at, pending));
+            }
+        }
+        self.lates
+    }
+}
+
+// The job at this rank, as a late one.
+fn late_job(at: Rank, pending: Pending) -> LateJob
+    ensures { result ≡ late_job at pending }
+{
+    LateJob {
+        place: pending.place,
+        job: JobId {
+            task: TaskNo(at.1),
+            count: at.2,
+        },
+    }
+}
+
+// Whether the task is a high one.
+fn is_high_task(task: &Option<Task>) -> bool
+    ensures { result ≡ is_high_in task.now }
+{
+    match task {
+        None => false,
+        Some(task) => is_high(task),
+    }
+}
+
+// Whether the deadline of a job of the task has come.
+fn is_due_task(task: &Option<Task>, release: u32, now: u32) -> bool
+    ensures { result ≡ is_due_at task.now release now }
+{
+    match task {
+        None => release <= now,
+        Some(task) => is_due(task, release, now),
+    }
+}
+
+// The rank of a high job in high mode.
+fn rekeyed(rule: Rule, task: &Option<Task>, at: Rank, pending: Pending) -> Rank
+    requires { Fits rule }
+    ensures { result ≡ rekeyed rule task.now at pending }
+{
+    match task {
+        None => at,
+        Some(task) => (
+            key(rule, true, task, u64::from(pending.release)),
+            at.1,
+            at.2,
+        ),
+    }
+}

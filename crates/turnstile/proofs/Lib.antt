@@ -1,0 +1,11 @@
+pub mod Lists
+pub mod Histories
+pub mod Views
+pub mod Homes
+pub mod Drawing
+pub mod Looking
+pub mod Passing
+pub mod Seating
+pub mod Joining
+pub mod Ending
+pub mod Counting

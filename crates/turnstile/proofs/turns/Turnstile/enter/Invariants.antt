@@ -1,0 +1,12 @@
+use Rattle.std.proofs.Common.{◌≡◌, ◌%◌, ◌^◌, []}
+use Rattle.turnstile.specs.Steps.{IsWaiting}
+use Rattle.turnstile.specs.Views.{drawn_view}
+use Rattle.turnstile.proofs.turns.Turnstile.enter.Given as goal
+
+abbrev pub invariant-loop : goal.invariant-loop
+invariant-loop g l = record {
+  table : l.place.table_id ≡ l.self.board.shared.table_id;
+  waits : IsWaiting l.place.me;
+  same : l.place.me ≡ (drawn_view l.fn.seat.place.me.0 l.place.me.0.ticket, []);
+  ticket : l.place.me.0.ticket % 2 ^ 64 ≡ l.ticket;
+}

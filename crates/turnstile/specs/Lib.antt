@@ -1,0 +1,8 @@
+pub mod History
+pub mod Views
+pub mod Rule
+pub mod Steps
+pub mod Seats
+pub mod Joined
+pub mod Lending
+pub mod Counting

@@ -1,0 +1,89 @@
+-- The rule, which every step keeps: tickets, the history, what each seat knows of it, and where the state is.
+use Rattle.std.specs.Prelude.{◌≡◌, ◌⊎◌, ℕ, ◌+◌, ◌%◌, ◌^◌, ◌<◌, ◌≤◌, List, [], ◌∷◌, length, Option, Some, Bool, true, false}
+use mathlib.Core.Option.{some}
+use mathlib.Core.Option as maybe
+use lib.ListN.{get_elem?}
+use Rattle.atomic_table.specs.Table.{State}
+use Rattle.turnstile.specs.declared.board.View.{View}
+use Rattle.turnstile.specs.declared.board.Report.{Report}
+use Rattle.turnstile.specs.declared.kept.Kept.{Ghosts}
+use Rattle.turnstile.specs.History.{StartsWith, made_by}
+use Rattle.turnstile.specs.Views.{spent_view}
+
+-- 1 for what is so
+abbrev pub one_if : Bool → ℕ
+one_if true = 1
+one_if false = 0
+
+-- the history begins with what a seat told, and has, of the entries with its number, just those that it told
+abbrev pub HasAllOf : {E : Type 0} → (E → ℕ) → List E → Report E → Type 0
+HasAllOf by history r = StartsWith history r.seen × (r.mine ≡ made_by by r.number history)
+
+module _ {E F : Type 0} where
+  -- how many seats have a ticket
+  abbrev pub tickets_out : List (View E F) → ℕ
+  tickets_out [] = 0
+  tickets_out (v ∷ vs) = one_if v.has_ticket + tickets_out vs
+
+  -- two seats with one ticket are one seat
+  abbrev pub TicketsDiffer : List (View E F) → Type 0
+  TicketsDiffer views = (i j : ℕ) (v w : View E F) → get_elem? views i ≡ some v → get_elem? views j ≡ some w
+      → v.has_ticket ≡ true → w.has_ticket ≡ true → v.ticket ≡ w.ticket → i ≡ j
+
+  -- each ticket from the served one up to the next to be drawn is in hand
+  abbrev pub AllInHand : ℕ → ℕ → List (View E F) → Type 0
+  AllInHand serving next views = (t : ℕ) → serving ≤ t → t < next
+      → (id : ℕ) × (v : View E F) × (get_elem? views id ≡ some v) × (v.has_ticket ≡ true) × (v.ticket ≡ t)
+
+  -- the seat of this report was joined into another, and told a beginning of the history, and its own entries in it
+  abbrev pub IsTold : (E → ℕ) → List E → List (View E F) → Report E → Type 0
+  IsTold by history views r = (get_elem? views r.number ≡ some spent_view) × HasAllOf by history r
+
+  -- each report that some seat keeps is one of these
+  abbrev pub AllTold : (E → ℕ) → List E → List (View E F) → Type 0
+  AllTold by history views = (id k : ℕ) (v : View E F) (r : Report E) → get_elem? views id ≡ some v → get_elem? v.joined k ≡ some r → IsTold by history views r
+
+  -- the state is out with a seat that is served
+  abbrev pub IsAway : List (View E F) → Type 0
+  IsAway views = (id : ℕ) × (v : View E F) × (get_elem? views id ≡ some v) × (v.served ≡ true)
+
+module _ {E F : Type 0} (by : E → ℕ) (fixed : F) (seats drawn : ℕ) (history : List E) (made : ℕ) (id : ℕ) (v : View E F) where
+  -- what is so of the seat in place id among those that were made, where so many tickets were drawn
+  pub record Fits : Type 0 where
+    -- its number is its place, and it knows the turnstile's fixed part and how many seats there are to be
+    pub told : v.live ≡ true → (v.number ≡ id) × (v.fixed ≡ Some fixed) × (v.seats ≡ seats)
+    -- its ticket is the served one, or will be
+    pub range : v.has_ticket ≡ true → (length history ≤ v.ticket) × (v.ticket < drawn)
+    -- a seat that is served has the ticket that is served, and has seen the whole history
+    pub turn : v.served ≡ true → (v.has_ticket ≡ true) × (v.ticket ≡ length history) × (v.seen ≡ history)
+    -- what it saw is a beginning of the history, in which the entries with its number are those that it made
+    pub seen : v.live ≡ true → StartsWith history v.seen
+    pub mine : v.live ≡ true → v.mine ≡ made_by by id history
+    -- the seat that makes the next one is the last that was made
+    pub newest : v.is_newest ≡ true → (id + 1 ≡ made) × (v.next_number ≡ made)
+
+module _ {S E F : Type 0} (kept : Ghosts S E F) (fixed : F) (seats : ℕ) where
+  -- no seat is served, and the state is in its slot and stands for the history
+  abbrev pub IsAtHome : List E → List (maybe.Option (Option S)) → List (View E F) → Type 0
+  IsAtHome history homes views = (x : S) × (homes ≡ some (Some x) ∷ []) × kept.stands 0 history x × (kept.fixed x ≡ fixed)
+      × ((id : ℕ) (v : View E F) → get_elem? views id ≡ some v → v.served ≡ false)
+
+  -- what is so between any two steps
+  pub record Orderly (s : State (Option S) (View E F)) : Type 0 where
+    -- how many tickets were drawn. They are numbered from 0, without a bound
+    pub drawn : ℕ
+    -- the entries of the turns that were passed on, as many as tickets were served to the end
+    pub history : List E
+    -- the words count them modulo 2 ^ 64
+    pub words : s.words ≡ (drawn % 2 ^ 64) ∷ (length history % 2 ^ 64) ∷ []
+    pub few : (length s.views ≤ seats) × (seats ≤ 128)
+    -- each ticket that was drawn was served to the end, or is in hand
+    pub count : drawn ≡ length history + tickets_out s.views
+    pub each : (id : ℕ) (v : View E F) → get_elem? s.views id ≡ some v → Fits kept.by fixed seats drawn history (length s.views) id v
+    -- tickets in hand are distinct, and are the numbers from the served one up to the next to be drawn
+    pub differ : TicketsDiffer s.views
+    pub in_hand : AllInHand (length history) drawn s.views
+    -- a seat that is not made yet has made no entry
+    pub later : (k : ℕ) → length s.views ≤ k → made_by kept.by k history ≡ []
+    pub reports : AllTold kept.by history s.views
+    pub slot : IsAtHome history s.homes s.views ⊎ IsAway s.views

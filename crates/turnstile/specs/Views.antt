@@ -1,0 +1,84 @@
+-- What a seat knows: its view of the turnstile, and what becomes of it at each step.
+use Rattle.std.specs.Prelude.{ℕ, ◌+◌, List, [], ◌∷◌, ◌++◌, Some, None, true, false}
+use Rattle.turnstile.specs.declared.board.View.{View}
+use Rattle.turnstile.specs.declared.board.Report.{Report}
+
+module _ {E F : Type 0} where
+  -- A seat that was made last, with number k. It has no ticket, and has seen and made nothing
+  abbrev pub newest_view : F → ℕ → ℕ → View E F
+  newest_view fixed seats k = record {
+    number = k;
+    live = true;
+    has_ticket = false;
+    served = false;
+    ticket = 0;
+    is_newest = true;
+    next_number = k + 1;
+    seen = [];
+    mine = [];
+    joined = [];
+    seats = seats;
+    fixed = Some fixed;
+  }
+
+  -- one more seat is made: the seat that made it is the newest no more
+  abbrev pub older_view : View E F → View E F
+  older_view v = record v { is_newest = false }
+
+  -- and the new seat has the next number
+  abbrev pub next_view : View E F → View E F
+  next_view v = record {
+    number = v.next_number;
+    live = true;
+    has_ticket = false;
+    served = false;
+    ticket = 0;
+    is_newest = true;
+    next_number = v.next_number + 1;
+    seen = [];
+    mine = [];
+    joined = [];
+    seats = v.seats;
+    fixed = v.fixed;
+  }
+
+  -- the seat drew a ticket
+  abbrev pub drawn_view : View E F → ℕ → View E F
+  drawn_view v t = record v { has_ticket = true; ticket = t }
+
+  -- its ticket is served, and it has seen the whole history
+  abbrev pub served_view : View E F → List E → View E F
+  served_view v history = record v { served = true; seen = history }
+
+  -- it passed the turn on, with one entry more
+  abbrev pub left_view : View E F → E → View E F
+  left_view v e = record v { has_ticket = false; served = false; seen = v.seen ++ e ∷ []; mine = v.mine ++ e ∷ [] }
+
+  -- what the seat tells when it is joined into another
+  abbrev pub report_of : View E F → Report E
+  report_of v = record { number = v.number; seen = v.seen; mine = v.mine }
+
+  -- the seat with these reports of joined seats
+  abbrev pub with_reports : View E F → List (Report E) → View E F
+  with_reports v reports = record v { joined = reports }
+
+  -- the first seat took in the second
+  abbrev pub both_views : View E F → View E F → View E F
+  both_views v w = with_reports v (report_of w ∷ v.joined)
+
+  -- what is left of a seat that was joined into another
+  abbrev pub spent_view : View E F
+  spent_view = record {
+    number = 0;
+    live = false;
+    has_ticket = false;
+    served = false;
+    ticket = 0;
+    is_newest = false;
+    next_number = 0;
+    seen = [];
+    mine = [];
+    joined = [];
+    seats = 0;
+    fixed = None;
+  }

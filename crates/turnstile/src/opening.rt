@@ -1,0 +1,95 @@
+//! How a turnstile is made, with its seats.
+ghost use Rattle.std.specs.Prelude.{◌≡◌, ◌<◌, ◌≤◌, ◌∷◌, [], vec_len, vec_capacity, IfOk, IfErr, All, Some};
+ghost use Rattle.turnstile.specs.Views.{newest_view};
+ghost use Rattle.turnstile.specs.Seats.{IsOf, seats_of, fixed_part, AreFresh};
+ghost use Rattle.turnstile.specs.declared.opening.NewFault.TheVariants.{Memory};
+
+use crate::board::{Opening, Place};
+use crate::kept::Kept;
+use crate::plays::OneMore;
+use crate::tokens::Seat;
+use crate::turns::Turnstile;
+use atomic_table::{Refused, Table};
+use std::alloc::Global;
+use std::snapshot::Snapshot;
+
+/// Why a turnstile could not be made.
+#[derive(Drop)]
+pub enum NewFault<S> {
+    /// There was no memory. The state comes back.
+    Memory(S),
+}
+
+impl<S: Kept> Turnstile<S> {
+    /// A turnstile with 1 to 128 seats, numbered from 0. This takes memory, and no later call does.
+    pub fn new(
+        alloc: Global,
+        state: S,
+        seats: u32,
+    ) -> Result<(Turnstile<S>, Vec<Seat<S>>), NewFault<S>>
+        requires seats { (0 < seats) × (seats ≤ 128) }
+        requires stands { S.stands 0 [] state }
+        ensures turnstile { IfOk result (λ r. (fixed_part S.fixed r.0 ≡ S.fixed state) × (seats_of r.0 ≡ seats)) }
+        ensures seats { IfOk result (λ r. (vec_len r.1 ≡ seats) × AreFresh r.1.items × All (λ s. IsOf r.0 s) r.1.items) }
+
+        // An emptied list has room for the seats when they come back.
+        ensures room { IfOk result (λ r. seats ≤ vec_capacity r.1) }
+        ensures memory { IfErr result (λ e. e ≡ Memory state) }
+    {
+        let Ok(mut list) = Vec::with_capacity(alloc, seats as usize) else {
+            return Err(NewFault::Memory(state));
+        };
+        let (turnstile, place) = Turnstile::set_up(alloc, state, seats)?;
+        turnstile.seat_all(place, seats, &mut list);
+        Ok((turnstile, list))
+    }
+
+    // The turnstile, and the place of its first seat.
+    fn set_up(alloc: Global, state: S, seats: u32) -> Result<(Turnstile<S>, Place<S>), NewFault<S>>
+        requires seats { (0 < seats) × (seats ≤ 128) }
+        requires stands { S.stands 0 [] state }
+        ensures turnstile { IfOk result (λ r. (fixed_part S.fixed r.0 ≡ S.fixed state) × (seats_of r.0 ≡ seats)) }
+        ensures place { IfOk result (λ r. (r.1.table_id ≡ r.0.board.shared.table_id) × (r.1.me ≡ (newest_view (S.fixed state) seats 0, []))) }
+        ensures memory { IfErr result (λ e. e ≡ Memory state) }
+    {
+        let Ok(mut slots) = Vec::with_capacity(alloc, 1) else {
+            return Err(NewFault::Memory(state));
+        };
+        let about = Opening {
+            seats: seats as u64,
+            state: Snapshot::of(&state),
+        };
+        slots.push_reserved(Some(state));
+        match Table::new(alloc, &[0, 0], slots, &about) {
+            Ok((board, place)) => Ok((Turnstile { board }, place)),
+            Err(Refused { slots }) => Err(NewFault::Memory(given_back(slots))),
+        }
+    }
+
+    // Makes a seat of each number, each by a split of the one before it.
+    fn seat_all(&self, place: Place<S>, seats: u32, list: &mut Vec<Seat<S>>)
+        requires table { place.table_id ≡ self.now.board.shared.table_id }
+        requires place { place.me ≡ (newest_view (fixed_part S.fixed self.now) seats 0, []) }
+        requires room { (list.old.items ≡ []) × (seats ≤ vec_capacity list.old) × (0 < seats) }
+        ensures seats { (vec_len list.new ≡ seats) × AreFresh list.new.items × All (λ s. IsOf self.now s) list.new.items }
+        ensures room { vec_capacity list.new ≡ vec_capacity list.old }
+    {
+        let mut place = place;
+        for i in 1..seats {
+            let next = self.board.shared.split_seat::<OneMore>(&mut place);
+            list.push_reserved(Seat::of(place));
+            place = next;
+        }
+        list.push_reserved(Seat::of(place));
+    }
+}
+
+// The state in the one slot that could not be laid.
+fn given_back<S>(mut slots: Vec<Option<S>>) -> S
+    requires { (x : S) × (slots.items ≡ Some x ∷ []) }
+    ensures { slots.items ≡ Some result ∷ [] }
+{
+    let state = slots.pop().unwrap().unwrap();
+    slots.destroy_empty();
+    state
+}

@@ -1,0 +1,65 @@
+//! What threads hold: seats, and turns.
+ghost use Rattle.std.specs.Prelude.{◌≡◌};
+ghost use Rattle.turnstile.specs.Steps.{IsIdle, IsServed};
+
+use crate::board::Place;
+use crate::kept::Kept;
+use crate::turns::Turnstile;
+use std::marker::PhantomData;
+
+/// The right to take turns at one turnstile. Contracts see its number and two lists of entries: `seen`, a beginning of the
+/// history, and `mine`, the entries that this seat made. It has no bytes. A turnstile of which a seat was let go cannot be
+/// closed.
+pub struct Seat<S: Kept> {
+    pub(crate) place: Place<S>,
+    ghost idle: { IsIdle place.me },
+}
+
+// A seat that is served. It stands apart from the state, which can be lent without it.
+pub(crate) struct Claim<S: Kept> {
+    pub(crate) place: Place<S>,
+    ghost served: { IsServed place.me },
+}
+
+/// A turn: the state, out of its turnstile, and the seat. It is spent by `Turnstile::leave` alone.
+pub struct Turn<'a, S: Kept> {
+    pub(crate) claim: Claim<S>,
+    pub(crate) state: S,
+    pub(crate) of: PhantomData<&'a Turnstile<S>>,
+}
+
+impl<S: Kept> Drop for Seat<S> {
+    fn drop(self) {
+        let Seat { place: _ } = self;
+    }
+}
+
+impl<S: Kept> Seat<S> {
+    pub(crate) fn of(place: Place<S>) -> Seat<S>
+        requires { IsIdle place.me }
+        ensures { result.place ≡ place }
+    {
+        Seat { place }
+    }
+
+    pub(crate) fn into_place(self) -> Place<S>
+        ensures { (result ≡ self.place) × IsIdle result.me }
+    {
+        let Seat { place } = self;
+        place
+    }
+}
+
+impl<'a, S: Kept> Turn<'a, S> {
+    ghost use Rattle.std.specs.Borrow.{sem};
+    ghost use Rattle.turnstile.specs.Lending.{LendsState};
+    ghost use Rattle.turnstile.specs.Seats.{state_of};
+
+    /// The state, to read and to write.
+    pub fn state(&mut self) -> &mut S
+        ensures* writes_back { sem 𝓛 (LendsState S.row S.Entry.row S.Fixed.row S.Kept self.entry result) }
+        ensures value { result.now ≡ state_of self.old }
+    {
+        &mut self.state
+    }
+}

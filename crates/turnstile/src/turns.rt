@@ -1,0 +1,112 @@
+//! The turnstile, and how a turn begins and ends.
+ghost use Rattle.std.specs.Prelude.{◌≡◌, ◌+◌, ◌%◌, ◌^◌, ◌<◌, [], ◌∷◌, ◌++◌, IfSome, IfNone, None};
+ghost use Rattle.turnstile.specs.History.{StartsWith, made_by};
+ghost use Rattle.turnstile.specs.Views.{drawn_view};
+ghost use Rattle.turnstile.specs.Steps.{IsIdle, IsWaiting, Serves};
+
+use crate::board::{Board, Place};
+use crate::kept::{Added, Kept};
+use crate::plays::{Draw, Look, PassOn};
+use crate::tokens::{Claim, Seat, Turn};
+use crossbeam_utils::Backoff;
+use std::marker::PhantomData;
+use std::sync::Wait;
+
+// The words of the table: the next ticket, and the ticket that is served.
+const NEXT: usize = 0;
+
+const SERVING: usize = 1;
+
+/// A state that is taken in ticket order. It is ended by `close` alone.
+pub struct Turnstile<S: Kept> {
+    pub(crate) board: Board<S>,
+    ghost sized: { (board.shared.table_id.words ≡ 2) × (board.shared.table_id.slots ≡ 1) },
+    ghost some: { 0 < board.shared.key.seats },
+}
+
+impl<S: Kept> Turnstile<S> {
+    ghost use Rattle.turnstile.specs.Seats.{IsOf, IsTurnOf, number, seen, mine, history, state_of, turn_number, turn_mine, fixed_part};
+
+    /// Draws a ticket, looks until it is served, and takes the state. It may wait for other turns to end, and nothing is said of
+    /// how long. After a look that finds another ticket it backs off, and may yield the processor.
+    pub fn enter<R: Wait>(&self, rt: &R, seat: Seat<S>) -> Turn<'_, S>
+        requires of { IsOf self.now seat }
+        ensures of { IsTurnOf self.now result }
+        ensures seat { (turn_number result ≡ number seat) × (turn_mine result ≡ mine seat) }
+
+        // There is one history: it begins with what the seat saw, and its entries of the seat's number are those that it made.
+        ensures begins { StartsWith (history result) (seen seat) }
+        ensures own { mine seat ≡ made_by S.by (number seat) (history result) }
+        ensures stands { S.stands 0 (history result) (state_of result) }
+        ensures fixed { S.fixed (state_of result) ≡ fixed_part S.fixed self.now }
+    {
+        let mut place = seat.into_place();
+        let ticket = self.draw(&mut place);
+        let backoff = Backoff::new();
+        for _ in rt.forever() {
+            if let Some(state) = self.look(&mut place, ticket) {
+                return Turn {
+                    claim: Claim { place },
+                    state,
+                    of: PhantomData,
+                };
+            }
+            backoff.snooze();
+        }
+        unreachable!()
+    }
+
+    /// Puts the state back, which stands for one more entry, of this seat, and passes the turn on. It waits for nobody and
+    /// takes no memory.
+    pub fn leave<E: Added<S::Entry>>(&self, turn: Turn<'_, S>) -> Seat<S>
+        requires of { IsTurnOf self.now turn }
+        requires by { S.by E.entry ≡ turn_number turn }
+        requires stands { S.stands 0 (history turn ++ E.entry ∷ []) (state_of turn) }
+        requires fixed { S.fixed (state_of turn) ≡ fixed_part S.fixed self.now }
+        ensures of { IsOf self.now result }
+        ensures number { number result ≡ turn_number turn.entry }
+        ensures seen { seen result ≡ history turn.entry ++ E.entry ∷ [] }
+        ensures mine { mine result ≡ turn_mine turn.entry ++ E.entry ∷ [] }
+    {
+        let Turn {
+            claim,
+            state,
+            of: _,
+        } = turn;
+        let Claim { mut place } = claim;
+        let shared = &self.board.shared;
+        let empty = shared.exchange(&mut place, 0, Some(state));
+        let None = empty else { unreachable!() };
+        shared.fetch_add::<PassOn<E>>(&mut place, SERVING, 1);
+        Seat::of(place)
+    }
+
+    // Draws a ticket.
+    fn draw(&self, place: &mut Place<S>) -> u64
+        requires table { place.old.table_id ≡ self.now.board.shared.table_id }
+        requires idle { IsIdle place.old.me }
+        ensures table { place.new.table_id ≡ place.old.table_id }
+        ensures waits { IsWaiting place.new.me }
+        ensures drawn { place.new.me ≡ (drawn_view place.old.me.0 place.new.me.0.ticket, []) }
+        ensures ticket { place.new.me.0.ticket % 2 ^ 64 ≡ result }
+    {
+        self.board.shared.fetch_add::<Draw>(place, NEXT, 1)
+    }
+
+    // Takes the state, where the ticket is served.
+    fn look(&self, place: &mut Place<S>, ticket: u64) -> Option<S>
+        requires table { place.old.table_id ≡ self.now.board.shared.table_id }
+        requires waits { IsWaiting place.old.me }
+        requires ticket { place.old.me.0.ticket % 2 ^ 64 ≡ ticket }
+        ensures table { place.new.table_id ≡ place.old.table_id }
+        ensures none { IfNone result (place.new.me ≡ place.old.me) }
+        ensures some { IfSome result (λ x. Serves S.Kept None place.old.me x place.new.me) }
+    {
+        let shared = &self.board.shared;
+        if shared.load::<Look>(place, SERVING) == ticket {
+            Some(shared.exchange(place, 0, None).unwrap())
+        } else {
+            None
+        }
+    }
+}
