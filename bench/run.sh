@@ -29,7 +29,7 @@ measure() {
     /usr/bin/time -f '%M' "$@" 2>"$work/memory" >"$work/out"
     # shellcheck disable=SC2016
     seconds=$(runs=$runs /usr/bin/time -f '%e' sh -c 'n=0; while [ $n -lt $runs ]; do "$@" >/dev/null; n=$((n + 1)); done' sh "$@" 2>&1)
-    echo "$name: $runs runs in $seconds s, $(tail -n 1 "$work/memory") KiB; $(head -n 1 "$work/out")"
+    echo "$name: $runs runs in $seconds s, $(tail -n 1 "$work/memory") KiB; $(head -n 1 "$work/out" | cut -c 1-60)"
 }
 
 measure 'check, 16 MiB of comments' 20 "$program" check "$work/comments.toml"
@@ -84,9 +84,17 @@ awk 'BEGIN { print "event,tick,task,job,how"; for (t = 0; t < 500000; t++) {
 measure 'judge, avionics, 1,000,000 ticks' 5 "$program" judge "$work/avionics.toml" "$work/avionics_trace.csv"
 measure 'judge, 2,000,000 idle rows' 5 "$program" judge "$work/avionics.toml" "$work/idle_trace.csv"
 measure 'judge, 1,500,000 rows, half a million pending jobs' 5 "$program" judge "$work/two.toml" "$work/two_trace.csv" 1 1
+measure 'chart, avionics, 1,000,000 ticks' 5 "$program" chart "$work/avionics.toml" "$work/avionics_trace.csv"
+measure 'report, avionics, 1,000,000 ticks' 5 "$program" report "$work/avionics.toml" "$work/avionics_trace.csv"
+measure 'soak 1 32 1000000' 5 "$program" soak 1 32 1000000
+for ticks in 100000 200000; do
+    echo "soak 1 32, $ticks ticks: $(instructions soak 1 32 $ticks)"
+done
 for trace in avionics idle; do
     for rows in 100000 200000; do
         head -n $((rows + 1)) "$work/${trace}_trace.csv" >"$work/part.csv"
-        echo "judge, $trace, $rows rows: $(instructions judge "$work/avionics.toml" "$work/part.csv")"
+        for command in judge chart report; do
+            echo "$command, $trace, $rows rows: $(instructions $command "$work/avionics.toml" "$work/part.csv")"
+        done
     done
 done

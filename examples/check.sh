@@ -54,6 +54,20 @@ expect 6 judged/illegal.txt judge judged/tasks.toml judged/illegal.csv
 expect 6 judged/late.txt judge judged/tasks.toml judged/late.csv 1 1
 expect 6 "$(says 'illegal row 3 not_least')" judge judged/tasks.toml judged/late.csv
 expect 0 judged/legal.txt judge overrun/tasks.toml overrun/run.txt
+expect 0 overrun/chart.txt chart overrun/tasks.toml overrun/run.txt
+expect 0 overrun/report.txt report overrun/tasks.toml overrun/run.txt
+expect 6 judged/illegal.txt chart judged/tasks.toml judged/illegal.csv
+expect 6 judged/illegal.txt report judged/tasks.toml judged/illegal.csv
+
+# A workload, as another program worked it out from the rules.
+cat >"$work/soak.txt" <<'END'
+soak 1 16 20000
+rule virtual x 1727/10064
+released 432 kept 430 dropped 2 discarded 0 done 430 stopped 0
+ticks 6410 idle 13590 switches 5
+legal late 0
+END
+expect 0 "$work/soak.txt" soak 1 16 20000
 
 # Words that are none of the forms.
 usage='usage: check TASKS | run TASKS WORK TICKS | judge TASKS TRACE [P Q] | chart TASKS TRACE | report TASKS TRACE | soak NUMBER TASKCOUNT TICKS'

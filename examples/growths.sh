@@ -53,6 +53,9 @@ growths run overrun/tasks.toml overrun/work.csv 12
 growths run overrun/tasks.toml absent.csv 12
 growths judge judged/tasks.toml judged/legal.csv
 growths judge judged/tasks.toml judged/late.csv 1 1
+growths chart overrun/tasks.toml overrun/run.txt
+growths report overrun/tasks.toml overrun/run.txt
+growths soak 7 8 2000
 growths
 echo "growths: $failed failed"
 [ "$failed" -eq 0 ]

@@ -8,4 +8,10 @@ pub mod Fetches
 pub mod Traced
 pub mod Outcomes
 pub mod Cases
+pub mod Soaked
+pub mod Bounds
+pub mod Promised
+pub mod Scheduled
+pub mod Judged
+pub mod GoodTrace
 pub mod Headlines

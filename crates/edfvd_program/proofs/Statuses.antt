@@ -7,16 +7,16 @@ use Rattle.mc_model.specs.Test.{test}
 use Rattle.mc_model.specs.declared.work.WorkRow.{WorkRow}
 use Rattle.task_file.specs.declared.fault.TaskFault.{TaskFault}
 use Rattle.work_file.specs.declared.fault.WorkFault.{WorkFault}
-use Rattle.edfvd_program.specs.Reply.{Reply}
+use Rattle.edfvd_program.specs.Reply.{Reply, reply_of}
 use Rattle.mc_model.specs.Verdict.{verdict}
+use Rattle.mc_model.specs.VerdictText.{verdict_line}
 use Rattle.mc_model.specs.declared.row.Row.{Row}
-use Rattle.mc_model.specs.declared.verdict.Verdict.{Verdict}
 use Rattle.trace_format.specs.TraceFile.{trace_file}
 use Rattle.trace_format.specs.declared.fault.TraceFault.{TraceFault}
 use Rattle.work_file.specs.WorkFile.{work_in}
 use Rattle.edfvd_program.specs.declared.verb.Verb.{Verb}
-use Rattle.edfvd_program.specs.declared.verb.Verb.TheVariants.{Run, Judge, JudgeBy}
-use Rattle.edfvd_program.specs.Answer.{Next, OfSet, AnswersRule, AnswersRange, UnderTest, UnderRule, AnswersFile, Checks, Runs, Judges, judged, is_good, Does}
+use Rattle.edfvd_program.specs.declared.verb.Verb.TheVariants.{Run, Judge, JudgeBy, Chart, Report}
+use Rattle.edfvd_program.specs.Answer.{Next, OfSet, AnswersRule, AnswersRange, UnderTest, UnderRule, AnswersFile, Checks, Runs, Telling, tells, Judges, judged, is_good, Does}
 
 -- it tells no fault of a shelf, and not that the words are none of the forms
 pub record IsOfFiles (reply : Reply) : Type 0 where
@@ -45,10 +45,9 @@ IsOfSets Of = (set : List Task) (reply : Reply) → Of set reply → IsOfFiles r
 of_test : (Then : Next) → AreOfFiles Then → IsOfSets (UnderTest Then)
 of_test Then all set reply h = of_range Then all set (range_fault set) reply h
 
-pub of_under : (verb : Verb) (Then : Next) → AreOfFiles Then → IsOfSets (UnderRule verb Then)
-of_under (Run ticks) Then all set reply h = of_test Then all set reply h
-of_under Judge Then all set reply h = of_test Then all set reply h
-of_under (JudgeBy p q) Then all set reply h = all set _ reply h
+pub of_under : (given : Option Rule) (Then : Next) → AreOfFiles Then → IsOfSets (UnderRule given Then)
+of_under (Some rule) Then all set reply h = all set rule reply h
+of_under None Then all set reply h = of_test Then all set reply h
 
 pub of_file : (Of : OfSet) → IsOfSets Of → (read : Result (List Task) TaskFault) (reply : Reply) → AnswersFile Of read reply → IsOfFiles reply
 of_file Of all (Err fault) reply h = of_status reply 3 (ap (λ r. r.status) h) (omega arith) (λ e. absurd (omega (arith, e)))
@@ -64,22 +63,24 @@ of_runs : (ticks : ℕ) (set : List Task) (rule : Rule) (read : Result (List Wor
 of_runs ticks set rule (Err fault) reply h = of_status reply 4 (ap (λ r. r.status) h) (omega arith) (λ e. absurd (omega (arith, e)))
 of_runs ticks set rule (Ok work) reply h = of_status reply 0 (ap (λ r. r.status) h.2) (omega arith) (λ e. absurd (omega (arith, e)))
 
-of_judged : (set : List Task) (v : Verdict) → IsOfFiles (judged set v)
-of_judged set v = go (is_good v)
+of_judged : (tell : Telling) (set : List Task) (rule : Rule) (h : List Row) → IsOfFiles (judged tell set rule h)
+of_judged tell set rule h = go (is_good (verdict set rule h))
   where
-    go : (b : Bool) → IsOfFiles (record { status = cond b 0 6; text = (judged set v).text })
+    go : (b : Bool) → IsOfFiles (cond b (reply_of 0 (tell set rule h)) (reply_of 6 (verdict_line set (verdict set rule h))))
     go true = record { small = omega arith; other = λ e. absurd (omega (arith, e)) }
     go false = record { small = omega arith; other = λ e. absurd (omega (arith, e)) }
 
-of_judges : (set : List Task) (rule : Rule) (read : Result (List Row) TraceFault) (reply : Reply) → Judges set rule read reply → IsOfFiles reply
-of_judges set rule (Err fault) reply h = of_status reply 5 (ap (λ r. r.status) h) (omega arith) (λ e. absurd (omega (arith, e)))
-of_judges set rule (Ok rows) reply h = subst IsOfFiles (sym h) (of_judged set (verdict set rule (reverse rows)))
+of_judges : (tell : Telling) (set : List Task) (rule : Rule) (read : Result (List Row) TraceFault) (reply : Reply) → Judges tell set rule read reply → IsOfFiles reply
+of_judges tell set rule (Err fault) reply h = of_status reply 5 (ap (λ r. r.status) h) (omega arith) (λ e. absurd (omega (arith, e)))
+of_judges tell set rule (Ok rows) reply h = subst IsOfFiles (sym h) (of_judged tell set rule (reverse rows))
 
 -- what is done with a second file
 pub of_does : (verb : Verb) (bytes : List ℕ) → AreOfFiles (Does verb bytes)
 of_does (Run ticks) bytes set rule reply h = of_runs ticks set rule (work_in set bytes) reply h
-of_does Judge bytes set rule reply h = of_judges set rule (trace_file set bytes) reply h
-of_does (JudgeBy p q) bytes set rule reply h = of_judges set rule (trace_file set bytes) reply h
+of_does Judge bytes set rule reply h = of_judges (tells Judge) set rule (trace_file set bytes) reply h
+of_does (JudgeBy p q) bytes set rule reply h = of_judges (tells (JudgeBy p q)) set rule (trace_file set bytes) reply h
+of_does Chart bytes set rule reply h = of_judges (tells Chart) set rule (trace_file set bytes) reply h
+of_does Report bytes set rule reply h = of_judges (tells Report) set rule (trace_file set bytes) reply h
 
 -- nothing comes next
 pub of_none : AreOfFiles (λ set rule reply. ⊥)

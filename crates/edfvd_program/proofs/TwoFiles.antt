@@ -9,14 +9,13 @@ use Rattle.mc_model.specs.Test.{test}
 use Rattle.task_file.specs.TaskFile.{task_file}
 use Rattle.task_file.specs.declared.fault.TaskFault.{TaskFault}
 use Rattle.edfvd_program.specs.declared.verb.Verb.{Verb}
-use Rattle.edfvd_program.specs.declared.verb.Verb.TheVariants.{Run, Judge, JudgeBy}
 use Rattle.edfvd_program.specs.Reply.{Reply}
 use Rattle.edfvd_program.specs.Command.{two_files}
 use Rattle.edfvd_program.specs.Limits.{most_table_bytes, most_second_bytes}
 use Rattle.edfvd_program.specs.Refusals.{longer}
-use Rattle.edfvd_program.specs.Answer.{Next, AnswersRule, AnswersRange, UnderTest, UnderRule, AnswersFile, AnswersSecond, Does, IsAnswer}
+use Rattle.edfvd_program.specs.Answer.{Next, AnswersRule, AnswersRange, UnderTest, given_rule, UnderRule, AnswersFile, AnswersSecond, Does, IsAnswer}
 use Rattle.edfvd_program.specs.Outcome.{AskedFirst, IsLonger, IsReply}
-use Rattle.edfvd_program.specs.Ruled.{GoesOn, Refuses, IsTests}
+use Rattle.edfvd_program.specs.Ruled.{GoesOn, Refuses, IsTests, IsRuleOf}
 use Rattle.edfvd_program.specs.Fetched.{Asked, IsFetched, IsSecondReply, IsFileReply}
 use Rattle.edfvd_program.proofs.Statuses.{of_file, of_under, of_does, of_none}
 use Rattle.edfvd_program.proofs.Contents.{of_told, some_bytes, long_bytes, contents-two}
@@ -30,37 +29,34 @@ refuses_range : (Then : Next) (set : List Task) (fault : Option ℕ) (reply : Re
 refuses_range Then set (Some task) reply h = h
 refuses_range Then set None reply h = refuses_rule Then set (test set) reply h
 
-refuses_under : (verb : Verb) (Then : Next) (set : List Task) (reply : Reply) → UnderRule verb (λ s r p. ⊥) set reply → UnderRule verb Then set reply
-refuses_under (Run ticks) Then set reply h = refuses_range Then set (range_fault set) reply h
-refuses_under Judge Then set reply h = refuses_range Then set (range_fault set) reply h
-refuses_under (JudgeBy p q) Then set reply h = absurd h
+refuses_under : (given : Option Rule) (Then : Next) (set : List Task) (reply : Reply) → UnderRule given (λ s r p. ⊥) set reply → UnderRule given Then set reply
+refuses_under (Some rule) Then set reply h = absurd h
+refuses_under None Then set reply h = refuses_range Then set (range_fault set) reply h
 
 -- a refusal is the answer whatever would come next
-refuses_file : (verb : Verb) (Then : Next) (read : Result (List Task) TaskFault) (reply : Reply) → Refuses verb read reply → AnswersFile (UnderRule verb Then) read reply
-refuses_file verb Then (Err fault) reply h = h
-refuses_file verb Then (Ok set) reply h = refuses_under verb Then set reply h
+refuses_file : (given : Option Rule) (Then : Next) (read : Result (List Task) TaskFault) (reply : Reply) → Refuses given read reply → AnswersFile (UnderRule given Then) read reply
+refuses_file given Then (Err fault) reply h = h
+refuses_file given Then (Ok set) reply h = refuses_under given Then set reply h
 
 tests_under : (Then : Next) (set : List Task) (rule : Rule) (reply : Reply) → IsTests set rule → Then set rule reply → UnderTest Then set reply
 tests_under Then set rule reply is h =
     subst (λ f. AnswersRange Then set f reply) (sym is.0) (subst (λ o. AnswersRule Then set o reply) (sym is.1) h)
 
-under_rule : (verb : Verb) (Then : Next) (read : Result (List Task) TaskFault) (set : List Task) (rule : Rule) (reply : Reply) → GoesOn verb read set rule → Then set rule reply
-    → UnderRule verb Then set reply
-under_rule (Run ticks) Then read set rule reply g h = tests_under Then set rule reply g.under h
-under_rule Judge Then read set rule reply g h = tests_under Then set rule reply g.under h
-under_rule (JudgeBy p q) Then read set rule reply g h = subst (λ r. Then set r reply) g.under h
+under_rule : (given : Option Rule) (Then : Next) (set : List Task) (rule : Rule) (reply : Reply) → IsRuleOf given set rule → Then set rule reply → UnderRule given Then set reply
+under_rule (Some given) Then set rule reply is h = subst (λ r. Then set r reply) is h
+under_rule None Then set rule reply is h = tests_under Then set rule reply is h
 
 -- where the command goes on, the answer is that of what comes next
-goes_on : (verb : Verb) (Then : Next) (read : Result (List Task) TaskFault) (set : List Task) (rule : Rule) (reply : Reply) → GoesOn verb read set rule → Then set rule reply
-    → AnswersFile (UnderRule verb Then) read reply
-goes_on verb Then read set rule reply g h =
-    subst (λ r. AnswersFile (UnderRule verb Then) r reply) (sym g.file) (under_rule verb Then read set rule reply g h)
+goes_on : (given : Option Rule) (Then : Next) (read : Result (List Task) TaskFault) (set : List Task) (rule : Rule) (reply : Reply) → GoesOn given read set rule → Then set rule reply
+    → AnswersFile (UnderRule given Then) read reply
+goes_on given Then read set rule reply g h =
+    subst (λ r. AnswersFile (UnderRule given Then) r reply) (sym g.file) (under_rule given Then set rule reply g.under h)
 
 -- the answer by the bytes of the files
-answers_two : (verb : Verb) (tasks second bytes more : List ℕ) (reply : Reply) → length bytes ≤ most_table_bytes → AnswersFile (UnderRule verb (AnswersSecond verb more)) (task_file bytes) reply
+answers_two : (verb : Verb) (tasks second bytes more : List ℕ) (reply : Reply) → length bytes ≤ most_table_bytes → AnswersFile (UnderRule (given_rule verb) (AnswersSecond verb more)) (task_file bytes) reply
     → IsAnswer (Some (two_files verb tasks second)) (bytes ∷ more ∷ []) reply
 answers_two verb tasks second bytes more reply short h =
-    within (reply ≡ longer 1 most_table_bytes) (AnswersFile (UnderRule verb (AnswersSecond verb more)) (task_file bytes) reply) most_table_bytes bytes short h
+    within (reply ≡ longer 1 most_table_bytes) (AnswersFile (UnderRule (given_rule verb) (AnswersSecond verb more)) (task_file bytes) reply) most_table_bytes bytes short h
 
 two_names : (tasks second : List ℕ) (o : Option (List (List ℕ)))
     → option_map (λ names. names ++ second ∷ []) (option_map (λ names. names ++ tasks ∷ []) o) ≡ option_map (λ names. names ++ tasks ∷ second ∷ []) o
@@ -88,14 +84,14 @@ pub record IsFirst (tasks bytes : List ℕ) (before mid : ShelfState) : Type 0 w
   pub more : before.bytes_read ≤ mid.bytes_read
 
 -- the task file refuses the command
-reply-refused : (verb : Verb) (tasks second bytes : List ℕ) (before mid : ShelfState) (reply : Reply) → IsFirst tasks bytes before mid → Refuses verb (task_file bytes) reply
+reply-refused : (verb : Verb) (tasks second bytes : List ℕ) (before mid : ShelfState) (reply : Reply) → IsFirst tasks bytes before mid → Refuses (given_rule verb) (task_file bytes) reply
     → IsReply (Some (two_files verb tasks second)) before mid reply
 reply-refused verb tasks second bytes before mid reply first h =
     let (more, of) = some_bytes before.holds second in
     IsReply-files (Some (two_files verb tasks second)) before mid reply 1 (bytes ∷ more ∷ []) (λ e. absurd (cc)) (omega arith) first.asked
     (contents-two before.holds verb tasks second bytes more (of_told before.holds tasks bytes first.fetched.told) of)
-    (answers_two verb tasks second bytes more reply first.fetched.short (refuses_file verb (AnswersSecond verb more) (task_file bytes) reply h))
-    first.fetched.calm (of_file (UnderRule verb (λ s r p. ⊥)) (of_under verb (λ s r p. ⊥) of_none) (task_file bytes) reply h)
+    (answers_two verb tasks second bytes more reply first.fetched.short (refuses_file (given_rule verb) (AnswersSecond verb more) (task_file bytes) reply h))
+    first.fetched.calm (of_file (UnderRule (given_rule verb) (λ s r p. ⊥)) (of_under (given_rule verb) (λ s r p. ⊥) of_none) (task_file bytes) reply h)
 
 -- the task file is longer than its limit
 pub reply-longer : (verb : Verb) (tasks second : List ℕ) (before after : ShelfState) → IsLonger most_table_bytes tasks before after → after.faults ≡ before.faults → Asked tasks before after
@@ -105,12 +101,12 @@ reply-longer verb tasks second before after long calm asked =
     let (more, more_of) = some_bytes before.holds second in
     IsReply-longer (Some (two_files verb tasks second)) before after 1 (bytes ∷ more ∷ []) (λ e. absurd (cc)) (omega arith) asked
     (contents-two before.holds verb tasks second bytes more of more_of) most_table_bytes
-    (past (longer 1 most_table_bytes ≡ longer 1 most_table_bytes) (AnswersFile (UnderRule verb (AnswersSecond verb more)) (task_file bytes) (longer 1 most_table_bytes)) most_table_bytes bytes past_it refl)
+    (past (longer 1 most_table_bytes ≡ longer 1 most_table_bytes) (AnswersFile (UnderRule (given_rule verb) (AnswersSecond verb more)) (task_file bytes) (longer 1 most_table_bytes)) most_table_bytes bytes past_it refl)
     calm (tasks, refl, refl, long)
 
 -- the second file is longer than its limit
 reply-long-second : (verb : Verb) (tasks second bytes : List ℕ) (set : List Task) (rule : Rule) (before mid after : ShelfState) → IsFirst tasks bytes before mid
-    → GoesOn verb (task_file bytes) set rule → IsLonger (most_second_bytes verb) second mid after → after.faults ≡ mid.faults → Asked second mid after
+    → GoesOn (given_rule verb) (task_file bytes) set rule → IsLonger (most_second_bytes verb) second mid after → after.faults ≡ mid.faults → Asked second mid after
     → IsReply (Some (two_files verb tasks second)) before after (longer 2 (most_second_bytes verb))
 reply-long-second verb tasks second bytes set rule before mid after first g long calm asked =
     let limit : ℕ = most_second_bytes verb in
@@ -120,13 +116,13 @@ reply-long-second verb tasks second bytes set rule before mid after first g long
     (asked_both verb tasks second before mid after first.asked asked)
     (contents-two before.holds verb tasks second bytes more (of_told before.holds tasks bytes first.fetched.told) of) (most_second_bytes verb)
     (answers_two verb tasks second bytes more (longer 2 (most_second_bytes verb)) first.fetched.short
-    (goes_on verb (AnswersSecond verb more) (task_file bytes) set rule (longer 2 (most_second_bytes verb)) g
+    (goes_on (given_rule verb) (AnswersSecond verb more) (task_file bytes) set rule (longer 2 (most_second_bytes verb)) g
     (past (longer 2 (most_second_bytes verb) ≡ longer 2 (most_second_bytes verb)) (Does verb more set rule (longer 2 (most_second_bytes verb))) (most_second_bytes verb) more past_it refl)))
     (calm ∙ first.fetched.calm) (second, refl, refl, since)
 
 -- both files were read
 reply-done : (verb : Verb) (tasks second bytes more : List ℕ) (set : List Task) (rule : Rule) (before mid after : ShelfState) (reply : Reply) → IsFirst tasks bytes before mid
-    → GoesOn verb (task_file bytes) set rule → IsFetched (most_second_bytes verb) second more mid after → Asked second mid after → Does verb more set rule reply
+    → GoesOn (given_rule verb) (task_file bytes) set rule → IsFetched (most_second_bytes verb) second more mid after → Asked second mid after → Does verb more set rule reply
     → IsReply (Some (two_files verb tasks second)) before after reply
 reply-done verb tasks second bytes more set rule before mid after reply first g f asked h =
     IsReply-files (Some (two_files verb tasks second)) before after reply 2 (bytes ∷ more ∷ []) (λ e. absurd (cc)) (omega arith)
@@ -134,13 +130,13 @@ reply-done verb tasks second bytes more set rule before mid after reply first g 
     (contents-two before.holds verb tasks second bytes more (of_told before.holds tasks bytes first.fetched.told)
     (of_told before.holds second more (subst (λ o. IfSome o (λ files. files second ≡ Some more)) first.same f.told)))
     (answers_two verb tasks second bytes more reply first.fetched.short
-    (goes_on verb (AnswersSecond verb more) (task_file bytes) set rule reply g
+    (goes_on (given_rule verb) (AnswersSecond verb more) (task_file bytes) set rule reply g
     (within (reply ≡ longer 2 (most_second_bytes verb)) (Does verb more set rule reply) (most_second_bytes verb) more f.short h)))
     (f.calm ∙ first.fetched.calm) (of_does verb more set rule reply h)
 
 -- from the fetch of the second file on
 reply-set : (verb : Verb) (tasks second bytes : List ℕ) (set : List Task) (rule : Rule) (before mid after : ShelfState) (reply : Reply) → IsFirst tasks bytes before mid
-    → GoesOn verb (task_file bytes) set rule → IsSecondReply verb second set rule mid after reply → IsReply (Some (two_files verb tasks second)) before after reply
+    → GoesOn (given_rule verb) (task_file bytes) set rule → IsSecondReply verb second set rule mid after reply → IsReply (Some (two_files verb tasks second)) before after reply
 reply-set verb tasks second bytes set rule before mid after reply first g r =
     elim r.case [
       | inl failed ↦

@@ -16,6 +16,8 @@ use Rattle.mc_model.specs.TraceText.{trace_text}
 use Rattle.mc_model.specs.Follows.{Follows}
 use Rattle.mc_model.specs.Verdict.{verdict}
 use Rattle.mc_model.specs.VerdictText.{verdict_line}
+use Rattle.sched_chart.specs.ChartText.{chart_text}
+use Rattle.sched_report.specs.ReportText.{report_text}
 use Rattle.task_file.specs.TaskFile.{task_file}
 use Rattle.task_file.specs.declared.fault.TaskFault.{TaskFault}
 use Rattle.work_file.specs.WorkFile.{work_in}
@@ -23,9 +25,10 @@ use Rattle.work_file.specs.declared.fault.WorkFault.{WorkFault}
 use Rattle.trace_format.specs.TraceFile.{trace_file}
 use Rattle.trace_format.specs.declared.fault.TraceFault.{TraceFault}
 use Rattle.edfvd_program.specs.declared.verb.Verb.{Verb}
-use Rattle.edfvd_program.specs.declared.verb.Verb.TheVariants.{Run, Judge, JudgeBy}
+use Rattle.edfvd_program.specs.declared.verb.Verb.TheVariants.{Run, JudgeBy, Chart, Report}
 use Rattle.edfvd_program.specs.Reply.{Reply, reply_of}
-use Rattle.edfvd_program.specs.Command.{Command, check, two_files, file_names}
+use Rattle.edfvd_program.specs.Command.{Command, check, two_files, soak, file_names}
+use Rattle.edfvd_program.specs.Soak.{Soaks}
 use Rattle.edfvd_program.specs.Limits.{most_table_bytes, most_second_bytes}
 use Rattle.edfvd_program.specs.Refusals.{usage, longer, task_file_refused, out_of_range, not_admitted, work_file_refused, trace_refused}
 
@@ -51,20 +54,34 @@ abbrev pub is_good : Verdict → Bool
 is_good (Legal late first) = late == 0
 is_good (Illegal place why) = false
 
--- the line of the verdict, with status 0 where it is good, and otherwise 6
-abbrev pub judged : List Task → Verdict → Reply
-judged set v = reply_of (if is_good v then 0 else 6) (verdict_line set v)
+-- what is told of a trace of a set, under its rule, whose verdict is good; its newest row stands first
+abbrev pub Telling : Type 0
+Telling = List Task → Rule → List Row → List ℕ
 
--- of `judge`, by what the trace says
-abbrev pub Judges : List Task → Rule → Result (List Row) TraceFault → Reply → Type 0
-Judges set rule (Err fault) reply = reply ≡ trace_refused fault
-Judges set rule (Ok rows) reply = reply ≡ judged set (verdict set rule (reverse rows))
+-- of `judge`: the line of the verdict
+abbrev pub judge_text : Telling
+judge_text set rule h = verdict_line set (verdict set rule h)
+
+-- by the verdict: status 0 and what is told where it is good, and otherwise 6 and its line
+abbrev pub judged : Telling → List Task → Rule → List Row → Reply
+judged tell set rule h =
+    if is_good (verdict set rule h) then reply_of 0 (tell set rule h) else reply_of 6 (verdict_line set (verdict set rule h))
+
+-- of a command that judges, by what the trace says
+abbrev pub Judges : Telling → List Task → Rule → Result (List Row) TraceFault → Reply → Type 0
+Judges tell set rule (Err fault) reply = reply ≡ trace_refused fault
+Judges tell set rule (Ok rows) reply = reply ≡ judged tell set rule (reverse rows)
+
+-- what each verb tells of a good trace
+abbrev pub tells : Verb → Telling
+tells Chart set rule h = chart_text set h
+tells Report set rule h = report_text set h
+tells verb set rule h = judge_text set rule h
 
 -- by the bytes of the second file
 abbrev pub Does : Verb → List ℕ → Next
 Does (Run ticks) bytes set rule reply = Runs ticks set rule (work_in set bytes) reply
-Does Judge bytes set rule reply = Judges set rule (trace_file set bytes) reply
-Does (JudgeBy p q) bytes set rule reply = Judges set rule (trace_file set bytes) reply
+Does verb bytes set rule reply = Judges (tells verb) set rule (trace_file set bytes) reply
 
 -- so, unless the second file is too long
 abbrev pub AnswersSecond : Verb → List ℕ → Next
@@ -89,11 +106,15 @@ OfSet = List Task → Reply → Type 0
 abbrev pub UnderTest : Next → OfSet
 UnderTest Then set reply = AnswersRange Then set (range_fault set) reply
 
--- under the test's rule, or the scale that the words give
-abbrev pub UnderRule : Verb → Next → OfSet
-UnderRule (JudgeBy p q) Then set reply = Then set (Virtual p q) reply
-UnderRule (Run ticks) Then set reply = UnderTest Then set reply
-UnderRule Judge Then set reply = UnderTest Then set reply
+-- the rule that the words give: `judge` with a scale
+abbrev pub given_rule : Verb → Option Rule
+given_rule (JudgeBy p q) = Some (Virtual p q)
+given_rule verb = None
+
+-- under the rule that the words give, or else the test's
+abbrev pub UnderRule : Option Rule → Next → OfSet
+UnderRule (Some rule) Then set reply = Then set rule reply
+UnderRule None Then set reply = UnderTest Then set reply
 
 -- by what the task file says
 abbrev pub AnswersFile : OfSet → Result (List Task) TaskFault → Reply → Type 0
@@ -109,7 +130,8 @@ AnswersTasks Of bytes reply =
 abbrev pub IsAnswer : Option Command → List (List ℕ) → Reply → Type 0
 IsAnswer None contents reply = reply ≡ usage
 IsAnswer (Some (check tasks)) (bytes ∷ contents) reply = AnswersTasks (UnderTest Checks) bytes reply
-IsAnswer (Some (two_files verb tasks second)) (bytes ∷ more ∷ contents) reply = AnswersTasks (UnderRule verb (AnswersSecond verb more)) bytes reply
+IsAnswer (Some (two_files verb tasks second)) (bytes ∷ more ∷ contents) reply = AnswersTasks (UnderRule (given_rule verb) (AnswersSecond verb more)) bytes reply
+IsAnswer (Some (soak number tasks ticks)) contents reply = Soaks number tasks ticks reply
 IsAnswer command contents reply = ⊥
 
 -- the bytes of the command's files in order, none for one that is not held

@@ -9,7 +9,7 @@ use Rattle.edfvd_program.specs.declared.verb.Verb.{Verb}
 use Rattle.edfvd_program.specs.Reply.{Reply}
 use Rattle.edfvd_program.specs.Limits.{most_second_bytes}
 use Rattle.edfvd_program.specs.Refusals.{read_fault, longer}
-use Rattle.edfvd_program.specs.Answer.{Does}
+use Rattle.edfvd_program.specs.Answer.{given_rule, Does}
 use Rattle.edfvd_program.specs.Outcome.{IsLonger}
 use Rattle.edfvd_program.specs.Ruled.{GoesOn, Refuses}
 
@@ -33,5 +33,5 @@ pub record IsSecondReply (verb : Verb) (name : List ℕ) (set : List Task) (rule
 -- its reply from the bytes of the task file on
 abbrev pub IsFileReply : Verb → List ℕ → List ℕ → ShelfState → ShelfState → Reply → Type 0
 IsFileReply verb bytes name before after reply =
-    ((after ≡ before) × Refuses verb (task_file bytes) reply)
-    ⊎ ((set : List Task) × (rule : Rule) × GoesOn verb (task_file bytes) set rule × IsSecondReply verb name set rule before after reply)
+    ((after ≡ before) × Refuses (given_rule verb) (task_file bytes) reply)
+    ⊎ ((set : List Task) × (rule : Rule) × GoesOn (given_rule verb) (task_file bytes) set rule × IsSecondReply verb name set rule before after reply)

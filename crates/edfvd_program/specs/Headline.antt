@@ -16,8 +16,9 @@ use Rattle.mc_model.specs.Promise.{KeepsDeadlines}
 use Rattle.task_file.specs.TaskFile.{task_file}
 use Rattle.work_file.specs.WorkFile.{work_in}
 use Rattle.trace_format.specs.TraceFile.{trace_file}
-use Rattle.edfvd_program.specs.declared.verb.Verb.TheVariants.{Run, Judge, JudgeBy}
-use Rattle.edfvd_program.specs.Command.{Command, check, two_files}
+use Rattle.edfvd_program.specs.declared.verb.Verb.TheVariants.{Run, Judge, JudgeBy, Chart, Report}
+use Rattle.edfvd_program.specs.Command.{Command, check, two_files, soak}
+use Rattle.edfvd_program.specs.Soak.{workload_set, soak_text, IsSoaked}
 use Rattle.edfvd_program.specs.Limits.{most_table_bytes, most_trace_bytes}
 
 -- the bytes under a name, none where none are held
@@ -64,7 +65,7 @@ pub record Schedules (bytes more old : List ℕ) (ended : ℕ) (new : Option (Li
   pub complete : (set : List Task) (rule : Rule) (work : List WorkRow) → IsAdmitted bytes set rule → length more ≤ most_table_bytes → work_in set more ≡ Ok work
       → Succeeds ended
 
--- what `judge` promises under the test's rule
+-- what `judge`, `chart` and `report` promise under the test's rule
 pub record Finds (bytes more : List ℕ) (ended : ℕ) : Type 0 where
   -- every trace that it finds legal keeps the deadlines
   pub finds : ended ≡ 0 → (set : List Task) × (rule : Rule) × (rows : List Row) × IsAdmitted bytes set rule × SaysRows more set rows
@@ -80,6 +81,15 @@ abbrev pub FindsBy : Rule → List ℕ → List ℕ → ℕ → Type 0
 FindsBy rule bytes more ended =
     (set : List Task) (rows : List Row) → SaysSet bytes set → SaysRows more set rows → Legal set rule (reverse rows) → late set (reverse rows) ≡ [] → Succeeds ended
 
+-- what `soak` promises
+pub record Soaked (number tasks ticks : ℕ) (old : List ℕ) (ended : ℕ) (new : Option (List ℕ)) : Type 0 where
+  -- every trace that it sums up keeps the deadlines
+  pub sums : ended ≡ 0 → (rule : Rule) × (h : List Row) × IsSoaked number tasks ticks rule h
+      × (new ≡ Some (old ++ soak_text number tasks ticks (workload_set number tasks) rule h))
+      × Legal (workload_set number tasks) rule h × KeepsDeadlines (workload_set number tasks) rule h
+  -- each workload is admitted, and run
+  pub complete : Succeeds ended
+
 -- the headline, by what the files hold, what was written before, the status and what is written after
 abbrev pub Headline : Option Command → Files → List ℕ → ℕ → Option (List ℕ) → Type 0
 Headline None files old ended new = Unit {0}
@@ -88,5 +98,10 @@ Headline (Some (two_files (Run ticks) tasks work)) files old ended new =
     SchedulesExactly (bytes_of files tasks) ended × Schedules (bytes_of files tasks) (bytes_of files work) old ended new
 Headline (Some (two_files Judge tasks trace)) files old ended new =
     SchedulesExactly (bytes_of files tasks) ended × Finds (bytes_of files tasks) (bytes_of files trace) ended
+Headline (Some (two_files Chart tasks trace)) files old ended new =
+    SchedulesExactly (bytes_of files tasks) ended × Finds (bytes_of files tasks) (bytes_of files trace) ended
+Headline (Some (two_files Report tasks trace)) files old ended new =
+    SchedulesExactly (bytes_of files tasks) ended × Finds (bytes_of files tasks) (bytes_of files trace) ended
+Headline (Some (soak number tasks ticks)) files old ended new = Soaked number tasks ticks old ended new
 Headline (Some (two_files (JudgeBy p q) tasks trace)) files old ended new =
     FindsBy (Virtual p q) (bytes_of files tasks) (bytes_of files trace) ended

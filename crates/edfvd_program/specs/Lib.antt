@@ -5,9 +5,11 @@ pub mod Limits
 pub mod Lines
 pub mod RowLines
 pub mod Refusals
+pub mod Soak
 pub mod Answer
 pub mod Outcome
 pub mod Headline
 pub mod Tested
 pub mod Ruled
 pub mod Fetched
+pub mod Planned

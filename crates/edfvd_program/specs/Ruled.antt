@@ -1,14 +1,11 @@
 -- The rule under which a command with two files goes on.
-use Rattle.std.specs.Prelude.{◌≡◌, List, Some, None, Result, Ok}
+use Rattle.std.specs.Prelude.{◌≡◌, List, Option, Some, None, Result, Ok}
 use Rattle.mc_task.specs.declared.task.Task.{Task}
 use Rattle.mc_task.specs.declared.task.Rule.{Rule}
-use Rattle.mc_task.specs.declared.task.Rule.TheVariants.{Virtual}
 use Rattle.mc_model.specs.Loads.{range_fault}
 use Rattle.mc_model.specs.Test.{test}
 use Rattle.mc_model.specs.Holds.{Holds, Fits}
 use Rattle.task_file.specs.declared.fault.TaskFault.{TaskFault}
-use Rattle.edfvd_program.specs.declared.verb.Verb.{Verb}
-use Rattle.edfvd_program.specs.declared.verb.Verb.TheVariants.{Run, Judge, JudgeBy}
 use Rattle.edfvd_program.specs.declared.ruled.Ruled.{Ruled}
 use Rattle.edfvd_program.specs.declared.ruled.Ruled.TheVariants.{Set, Refused}
 use Rattle.edfvd_program.specs.Reply.{Reply}
@@ -18,28 +15,26 @@ use Rattle.edfvd_program.specs.Answer.{AnswersFile, UnderRule}
 abbrev pub IsTests : List Task → Rule → Type 0
 IsTests set rule = (range_fault set ≡ None) × (test set ≡ Some rule)
 
--- it is the test's rule, or the scale that the words give
-abbrev pub IsRuleOf : Verb → List Task → Rule → Type 0
-IsRuleOf (JudgeBy p q) set rule = rule ≡ Virtual p q
-IsRuleOf (Run ticks) set rule = IsTests set rule
-IsRuleOf Judge set rule = IsTests set rule
+-- it is the rule that the words give, or else the test's
+abbrev pub IsRuleOf : Option Rule → List Task → Rule → Type 0
+IsRuleOf (Some given) set rule = rule ≡ given
+IsRuleOf None set rule = IsTests set rule
 
 -- the task file says this set, and the command goes on under this rule
-pub record GoesOn (verb : Verb) (read : Result (List Task) TaskFault) (set : List Task) (rule : Rule) : Type 0 where
+pub record GoesOn (given : Option Rule) (read : Result (List Task) TaskFault) (set : List Task) (rule : Rule) : Type 0 where
   pub file : read ≡ Ok set
-  pub under : IsRuleOf verb set rule
+  pub under : IsRuleOf given set rule
 
 -- the task file refuses the command: whatever would come next, this is the answer
-abbrev pub Refuses : Verb → Result (List Task) TaskFault → Reply → Type 0
-Refuses verb read reply = AnswersFile (UnderRule verb (λ _ _ _. ⊥)) read reply
+abbrev pub Refuses : Option Rule → Result (List Task) TaskFault → Reply → Type 0
+Refuses given read reply = AnswersFile (UnderRule given (λ _ _ _. ⊥)) read reply
 
--- a rule of the test holds for the set; a given scale need not
-abbrev pub HoldsUnder : Verb → List Task → Rule → Type 0
-HoldsUnder (JudgeBy p q) set rule = Unit {0}
-HoldsUnder (Run ticks) set rule = Holds set rule
-HoldsUnder Judge set rule = Holds set rule
+-- a rule of the test holds for the set; one that the words give need not
+abbrev pub HoldsUnder : Option Rule → List Task → Rule → Type 0
+HoldsUnder (Some given) set rule = Unit {0}
+HoldsUnder None set rule = Holds set rule
 
 -- what the bytes of the task file give the command: a set and a rule, or the reply
-abbrev pub IsRuled : Verb → Result (List Task) TaskFault → Ruled → Type 0
-IsRuled verb read (Set set rule) = GoesOn verb read set rule × Fits rule × HoldsUnder verb set rule
-IsRuled verb read (Refused reply) = Refuses verb read reply
+abbrev pub IsRuled : Option Rule → Result (List Task) TaskFault → Ruled → Type 0
+IsRuled given read (Set set rule) = GoesOn given read set rule × Fits rule × HoldsUnder given set rule
+IsRuled given read (Refused reply) = Refuses given read reply

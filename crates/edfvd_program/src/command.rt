@@ -10,6 +10,9 @@ use numeral::numeral;
 /// The most ticks of a run.
 const MOST_TICKS: u64 = 1_000_000;
 
+/// The most tasks of a workload.
+const MOST_TASKS: u64 = 32;
+
 /// A form of the command line, with its words.
 #[derive(Drop)]
 pub enum Command<'a> {
@@ -20,6 +23,11 @@ pub enum Command<'a> {
         verb: Verb,
         tasks: &'a str,
         second: &'a str,
+    },
+    Soak {
+        number: u64,
+        tasks: u32,
+        ticks: u64,
     },
 }
 
@@ -38,6 +46,9 @@ pub fn command_of(words: &[String]) -> Option<Command<'_>>
             });
         }
         [word, tasks, second] => (plain_verb(word.as_str())?, tasks, second),
+        [word, first, second, third] if word.as_str() == "soak" => {
+            return soak_of(first.as_str(), second.as_str(), third.as_str());
+        }
         [word, tasks, second, ticks] => {
             (counted_verb(word.as_str(), ticks.as_str())?, tasks, second)
         }
@@ -61,10 +72,11 @@ fn plain_verb(word: &str) -> Option<Verb>
     ensures form { result ≡ spec.plain_verb word.now }
     ensures range { IfSome result IsInRange }
 {
-    if word == "judge" {
-        Some(Verb::Judge)
-    } else {
-        None
+    match word {
+        "judge" => Some(Verb::Judge),
+        "chart" => Some(Verb::Chart),
+        "report" => Some(Verb::Report),
+        _ => None,
     }
 }
 
@@ -75,7 +87,7 @@ fn counted_verb(word: &str, ticks: &str) -> Option<Verb>
     if word != "run" {
         return None;
     }
-    let ticks = number_word(ticks, MOST_TICKS)?;
+    let ticks = number_word(ticks, 1, MOST_TICKS)?;
     Some(Verb::Run { ticks })
 }
 
@@ -86,8 +98,8 @@ fn scaled_verb(word: &str, p: &str, q: &str) -> Option<Verb>
     if word != "judge" {
         return None;
     }
-    let p = number_word(p, u64::from(u32::MAX))?;
-    let q = number_word(q, u64::from(u32::MAX))?;
+    let p = number_word(p, 1, u64::from(u32::MAX))?;
+    let q = number_word(q, 1, u64::from(u32::MAX))?;
     if p <= q {
         Some(Verb::JudgeBy { p, q })
     } else {
@@ -95,12 +107,28 @@ fn scaled_verb(word: &str, p: &str, q: &str) -> Option<Verb>
     }
 }
 
-// A number from 1 to `most`.
-fn number_word(word: &str, most: u64) -> Option<u64>
-    ensures { result ≡ spec.within 1 most (numbers.numeral 20 word.now) }
+fn soak_of<'a>(number: &str, tasks: &str, ticks: &str) -> Option<Command<'a>>
+    ensures form { option_map command_view result ≡ spec.workload (spec.number_word number.now) (spec.count_word tasks.now) (spec.ticks_word ticks.now) }
+    ensures range { IfSome result AreInRange }
+{
+    let number = number_word(number, 0, u64::MAX)?;
+    let tasks = number_word(tasks, 2, MOST_TASKS)?;
+    let ticks = number_word(ticks, 1, MOST_TICKS)?;
+    Some(Command::Soak {
+        number,
+        tasks: tasks as u32,
+        ticks,
+    })
+}
+
+// A number from `least` to `most`.
+fn number_word(word: &str, least: u64, most: u64) -> Option<u64>
+    ensures { result ≡ spec.within least most (numbers.numeral 20 word.now) }
 {
     match numeral(word.as_bytes(), 20) {
-        Some(number) if 1 <= number && number <= u128::from(most) => Some(number as u64),
+        Some(number) if u128::from(least) <= number && number <= u128::from(most) => {
+            Some(number as u64)
+        }
         _ => None,
     }
 }

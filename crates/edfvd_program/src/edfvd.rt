@@ -10,6 +10,7 @@ use crate::check::check;
 use crate::command::{Command, command_of};
 use crate::lines::usage_line;
 use crate::reply::Reply;
+use crate::soak::soak;
 use crate::two_files::two_files;
 use mc_world::{Shelf, Sink};
 use std::alloc::{AllocError, Global};
@@ -63,6 +64,13 @@ fn reply_to<S: Shelf>(alloc: Global, words: &[String], shelf: &mut S) -> Result<
                 second,
             },
         ) => two_files(alloc, verb, tasks, second, shelf),
+        Some(
+            Command::Soak {
+                number,
+                tasks,
+                ticks,
+            },
+        ) => soak(alloc, number, tasks, ticks),
         None => Ok(Reply::new(2, usage_line(alloc)?)),
     }
 }

@@ -6,10 +6,12 @@ mod command;
 mod edfvd;
 mod judge;
 mod lines;
+mod planned;
 mod reply;
 mod row_lines;
 mod ruled;
 mod run;
+mod soak;
 mod tested;
 #[cfg(test)]
 mod tests;

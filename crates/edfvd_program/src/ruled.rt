@@ -1,9 +1,10 @@
 // The set that a task file says, and the rule under which a command with two files goes on.
-ghost use Rattle.std.specs.Prelude.{◌≤◌, ◌<◌, ◌^◌, IfOk};
+ghost use Rattle.std.specs.Prelude.{◌≡◌, Some, IfOk, IfSome};
+ghost use Rattle.mc_model.specs.Holds.{Fits};
 ghost use Rattle.task_file.specs.TaskFile.{task_file};
+ghost use Rattle.edfvd_program.specs.Answer.{given_rule};
 ghost use Rattle.edfvd_program.specs.CommandView.{IsInRange};
 ghost use Rattle.edfvd_program.specs.Ruled.{IsRuled};
-ghost use Rattle.edfvd_program.specs.declared.verb.Verb.TheVariants.{JudgeBy};
 
 use crate::lines::task_fault_line;
 use crate::reply::Reply;
@@ -20,31 +21,38 @@ pub enum Ruled {
     Refused { reply: Reply },
 }
 
-/// What the bytes of a task file give the command: under the test's rule, or under the scale that its words give.
-pub fn ruled_file(alloc: Global, verb: Verb, bytes: &[u8]) -> Result<Ruled, AllocError>
+/// The rule that the words give, if they do.
+pub fn given_rule(verb: Verb) -> Option<Rule>
     requires { IsInRange verb }
-    ensures { IfOk result (IsRuled verb (task_file bytes.now)) }
+    ensures rule { result ≡ given_rule verb }
+    ensures fits { IfSome result Fits }
 {
     match verb {
-        Verb::JudgeBy { p, q } => scaled_file(alloc, p, q, bytes),
-        Verb::Run { .. } | Verb::Judge => match tested_file(alloc, bytes)? {
-            Tested::Admitted { set, rule, .. } => Ok(Ruled::Set { set, rule }),
-            Tested::Refused { reply } => Ok(Ruled::Refused { reply }),
-        },
+        Verb::JudgeBy { p, q } => Some(Rule::Virtual { p, q }),
+        Verb::Run { .. } | Verb::Judge | Verb::Chart | Verb::Report => None,
     }
 }
 
-fn scaled_file(alloc: Global, p: u64, q: u64, bytes: &[u8]) -> Result<Ruled, AllocError>
-    requires some { 1 ≤ p }
-    requires order { p ≤ q }
-    requires most { q < 2 ^ 32 }
-    ensures { IfOk result (IsRuled (JudgeBy p q) (task_file bytes.now)) }
+/// What the bytes of a task file give the command: under the rule that its words give, or else the test's.
+pub fn ruled_file(alloc: Global, given: Option<Rule>, bytes: &[u8]) -> Result<Ruled, AllocError>
+    requires { IfSome given Fits }
+    ensures { IfOk result (IsRuled given (task_file bytes.now)) }
+{
+    if let Some(rule) = given {
+        return given_file(alloc, rule, bytes);
+    }
+    match tested_file(alloc, bytes)? {
+        Tested::Admitted { set, rule, .. } => Ok(Ruled::Set { set, rule }),
+        Tested::Refused { reply } => Ok(Ruled::Refused { reply }),
+    }
+}
+
+fn given_file(alloc: Global, rule: Rule, bytes: &[u8]) -> Result<Ruled, AllocError>
+    requires { Fits rule }
+    ensures { IfOk result (IsRuled (Some rule) (task_file bytes.now)) }
 {
     match read_tasks(alloc, bytes) {
-        Ok(set) => Ok(Ruled::Set {
-            set,
-            rule: Rule::Virtual { p, q },
-        }),
+        Ok(set) => Ok(Ruled::Set { set, rule }),
         Err(fault) => {
             let line = task_fault_line(alloc, &fault)?;
             Ok(Ruled::Refused {

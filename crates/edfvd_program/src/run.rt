@@ -1,11 +1,10 @@
 // What `run` does with a work file.
-ghost use Rattle.std.specs.Prelude.{◌≡◌, ◌<◌, ◌≤◌, ◌^◌, ℕ, List, IfOk, Result, All, length, reverse};
+ghost use Rattle.std.specs.Prelude.{◌≡◌, ◌≤◌, ℕ, List, IfOk, Result, All, length, reverse};
 ghost use Rattle.mc_task.specs.declared.task.Task.{Task};
 ghost use Rattle.mc_task.specs.declared.task.Rule.{Rule};
 ghost use Rattle.mc_model.specs.Follows.{Follows};
 ghost use Rattle.mc_model.specs.Legal.{IsOfSet};
 ghost use Rattle.mc_model.specs.TraceText.{trace_text};
-ghost use Rattle.mode_core.specs.Events.{empty_state};
 ghost use Rattle.mc_model.specs.Holds.{Fits, Holds};
 ghost use Rattle.mc_model.specs.Work.{IsWork};
 ghost use Rattle.mc_model.specs.declared.row.Row.{Row};
@@ -15,12 +14,12 @@ ghost use Rattle.work_file.specs.WorkFile.{work_in};
 ghost use Rattle.work_file.specs.declared.fault.WorkFault.{WorkFault};
 ghost use Rattle.edfvd_program.specs.Answer.{Runs, traced};
 
+use crate::planned::planned;
 use crate::reply::Reply;
 use crate::row_lines::work_fault_line;
 use mc_task::{Rule, TaskSet};
 use mode_core::Core;
 use std::alloc::{AllocError, Global};
-use timetable::{Floor, Plan};
 use trace_format::write_trace;
 use work_file::{Work, WorkFault, read_work};
 
@@ -67,38 +66,17 @@ fn traced(
     requires most { ticks ≤ 1000000 }
     ensures { IfOk result (λ reply. (h : List Row) × Follows set.now rule work ticks h × (reply ≡ traced set.now h)) }
 {
-    let places = ticks as usize + work.rows().len();
-    let core = core_of(alloc, set, rule, places)?;
-    let mut floor = Floor::new(core, Plan::Rows { work, ticks });
-    floor.finish();
+    let floor = planned(alloc, set, rule, work, ticks)?;
     let text = text_of(alloc, set, floor.core())?;
     Ok(Reply::new(0, text))
-}
-
-// A core with no rows.
-fn core_of(alloc: Global, set: &TaskSet, rule: Rule, places: usize) -> Result<Core, AllocError>
-    requires fits { Fits rule }
-    requires holds { Holds set.now rule }
-    requires places { places < 2 ^ 32 }
-    ensures { IfOk result (λ core. core ≡ empty_state set.now rule places) }
-{
-    let Ok(copy) = set.copy(alloc) else {
-        return Err(AllocError);
-    };
-    match Core::new(alloc, copy, rule, places) {
-        Ok(core) => Ok(core),
-        Err(_) => Err(AllocError),
-    }
 }
 
 // The text of the core's rows.
 fn text_of(alloc: Global, set: &TaskSet, core: &Core) -> Result<Vec<u8>, AllocError>
     requires tasks { All (IsOfSet set.now) (reverse core.now.rows) }
-    requires few { core.now.places ≤ 2000000 }
+    requires few { length core.now.rows ≤ 2000000 }
     ensures { IfOk result (λ text. text.items ≡ trace_text set.now (reverse core.now.rows)) }
 {
-    // Each row has its place.
-    let _places = core.places();
     match write_trace(alloc, set, core.rows()) {
         Ok(text) => Ok(text),
         Err(_) => Err(AllocError),

@@ -1,9 +1,11 @@
 use mc_world::MemoryShelf;
 use std::alloc::{AllocError, Global};
 
+mod chart;
 mod check;
 mod judge;
 mod run;
+mod soak;
 
 const CONTROL: &str =
     "[[task]]\nname = \"ctl\"\nlevel = \"high\"\nperiod = 10\nlow = 2\nhigh = 6\n\n[[task]]\nname = \"log\"\nlevel = \"low\"\nperiod = 10\nlow = 5\n";
@@ -39,6 +41,57 @@ const PLAIN_PAIR: &str = "task = [
     {name='hi', level='high', period=4, low=1, high=2},
     {name='lo', level='low', period=4, low=2},
 ]";
+
+const HEADER: &str = "event,tick,task,job,how\n";
+
+const OVERRUN: &str = "release,0,ctl,1,kept
+release,0,log,1,kept
+tick,0,ctl,1,more
+tick,1,ctl,1,over
+tick,2,ctl,1,more
+tick,3,ctl,1,more
+tick,4,ctl,1,more
+tick,5,ctl,1,done
+idle,6,,,
+idle,7,,,
+idle,8,,,
+idle,9,,,
+release,10,log,2,kept
+tick,10,log,2,more
+tick,11,log,2,more
+";
+
+// Both jobs are released at 0, and the low task runs first.
+const LOW_FIRST: &str = "release,0,ctl,1,kept
+release,0,log,1,kept
+tick,0,log,1,more
+tick,1,log,1,more
+tick,2,log,1,more
+tick,3,log,1,more
+tick,4,log,1,done
+tick,5,ctl,1,more
+tick,6,ctl,1,over
+tick,7,ctl,1,more
+tick,8,ctl,1,more
+tick,9,ctl,1,more
+tick,10,ctl,1,done
+";
+
+const AVIONICS_WORK: &str = "task,release,need
+attitude,0,400
+gyro,0,600
+engine,0,1500
+nav,0,3000
+display,0,2500
+radio,0,2000
+log,0,8000
+maint,0,10000
+attitude,5000,400
+attitude,10000,400
+gyro,10000,600
+attitude,15000,400
+display,16667,2500
+";
 
 fn words_of(alloc: Global, words: &[&str]) -> Result<Vec<String>, AllocError> {
     let mut list = Vec::new(alloc);

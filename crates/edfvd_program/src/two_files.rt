@@ -1,7 +1,7 @@
 // The commands with two files.
 ghost use Rattle.std.specs.Prelude.{◌≡◌, ◌⊎◌, ℕ, Some, IfOk};
 ghost use Rattle.mc_model.specs.Holds.{Fits};
-ghost use Rattle.edfvd_program.specs.Answer.{Does};
+ghost use Rattle.edfvd_program.specs.Answer.{given_rule, Does};
 ghost use Rattle.edfvd_program.specs.Command.{two_files};
 ghost use Rattle.edfvd_program.specs.CommandView.{IsInRange};
 ghost use Rattle.edfvd_program.specs.Fetched.{Asked, IsSecondReply, IsFileReply};
@@ -11,7 +11,7 @@ ghost use Rattle.edfvd_program.specs.Ruled.{HoldsUnder};
 
 use crate::judge::judge_trace;
 use crate::reply::Reply;
-use crate::ruled::{Ruled, ruled_file};
+use crate::ruled::{Ruled, given_rule, ruled_file};
 use crate::run::run_work;
 use crate::tested::{MOST_TABLE_BYTES, fetch_fault_reply};
 use crate::verb::Verb;
@@ -51,7 +51,7 @@ fn with_tasks<S: Shelf>(
     ensures reply { IfOk result (IsFileReply verb bytes.now second.now (S.state shelf.old) (S.state shelf.new)) }
     ensures asked { ((S.state shelf.new).asked ≡ (S.state shelf.old).asked) ⊎ Asked second.now (S.state shelf.old) (S.state shelf.new) }
 {
-    match ruled_file(alloc, verb, bytes)? {
+    match ruled_file(alloc, given_rule(verb), bytes)? {
         Ruled::Set { set, rule } => with_set(alloc, verb, &set, rule, second, shelf),
         Ruled::Refused { reply } => Ok(reply),
     }
@@ -67,7 +67,7 @@ fn with_set<S: Shelf>(
 ) -> Result<Reply, AllocError>
     requires range { IsInRange verb }
     requires fits { Fits rule }
-    requires holds { HoldsUnder verb set.now rule }
+    requires holds { HoldsUnder (given_rule verb) set.now rule }
     ensures reply { IfOk result (IsSecondReply verb second.now set.now rule (S.state shelf.old) (S.state shelf.new)) }
     ensures asked { ((S.state shelf.new).asked ≡ (S.state shelf.old).asked) ⊎ Asked second.now (S.state shelf.old) (S.state shelf.new) }
 {
@@ -83,7 +83,7 @@ fn most_second_bytes(verb: Verb) -> usize
 {
     match verb {
         Verb::Run { .. } => MOST_TABLE_BYTES,
-        Verb::Judge | Verb::JudgeBy { .. } => MOST_TRACE_BYTES,
+        Verb::Judge | Verb::JudgeBy { .. } | Verb::Chart | Verb::Report => MOST_TRACE_BYTES,
     }
 }
 
@@ -96,11 +96,13 @@ fn done(
 ) -> Result<Reply, AllocError>
     requires range { IsInRange verb }
     requires fits { Fits rule }
-    requires holds { HoldsUnder verb set.now rule }
+    requires holds { HoldsUnder (given_rule verb) set.now rule }
     ensures { IfOk result (Does verb bytes.now set.now rule) }
 {
     match verb {
         Verb::Run { ticks } => run_work(alloc, set, rule, bytes, ticks),
-        Verb::Judge | Verb::JudgeBy { .. } => judge_trace(alloc, set, rule, bytes),
+        Verb::Judge | Verb::JudgeBy { .. } | Verb::Chart | Verb::Report => {
+            judge_trace(alloc, verb, set, rule, bytes)
+        }
     }
 }

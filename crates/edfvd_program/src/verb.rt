@@ -9,4 +9,8 @@ pub enum Verb {
     Judge,
     /// Judges the trace in it under EDF-VD with the scale `p/q`, also for a set that the test refuses.
     JudgeBy { p: u64, q: u64 },
+    /// Judges the trace in it under the test's rule, and draws it.
+    Chart,
+    /// Judges the trace in it under the test's rule, and counts it up.
+    Report,
 }

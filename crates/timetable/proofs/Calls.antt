@@ -5,7 +5,7 @@ use Rattle.mc_task.specs.declared.task.Rule.{Rule}
 use Rattle.mc_task.specs.declared.task.Task.{Task}
 use Rattle.mc_task.specs.declared.task.JobId.{JobId}
 use Rattle.mc_model.specs.declared.row.Row.{Row}
-use Rattle.mc_model.specs.declared.row.Row.TheVariants.{Tick, Idle}
+use Rattle.mc_model.specs.declared.row.Row.TheVariants.{Tick}
 use Rattle.mc_model.specs.declared.work.WorkRow.{WorkRow}
 use Rattle.mc_model.specs.Rows.{ticks, next_release}
 use Rattle.mc_model.specs.Core.{State, begun, places_used, next, next_after, next_job, chosen, release_row, outcome_of, settle, tick_out}
@@ -15,8 +15,7 @@ use Rattle.mc_model.proofs.Jobs.{same_job-refl}
 use Rattle.mode_core.specs.declared.answers.Granted.{Granted}
 use Rattle.mode_core.specs.declared.answers.GrantFault.{GrantFault}
 use Rattle.mode_core.specs.declared.answers.ReleaseFault.{ReleaseFault}
-use Rattle.mode_core.specs.declared.answers.IdleFault.{IdleFault}
-use Rattle.mode_core.specs.Events.{or_else, refused_if, answer, unless, running, is_full, with_release, after_release, grant_refusal, grant_answer, after_grant, granted, job_in, is_of_task, chosen_now, after_outcome, after_idle}
+use Rattle.mode_core.specs.Events.{or_else, refused_if, answer, unless, running, is_full, with_release, after_release, grant_refusal, grant_answer, after_grant, granted, job_in, is_of_task, chosen_now, after_outcome}
 use Rattle.timetable.specs.Ticks.{tick_row}
 use Rattle.timetable.specs.Shape.{first_job, row_now, next_row}
 use Rattle.timetable.specs.Floor.{due_row}
@@ -25,7 +24,6 @@ use Rattle.timetable.proofs.Determined.{next_at}
 use Rattle.timetable.proofs.Due.{arrival_of, due_before, due_index}
 use Rattle.mode_core.specs.declared.answers.GrantFault.TheVariants as grant_fault
 use Rattle.mode_core.specs.declared.answers.ReleaseFault.TheVariants as release_fault
-use Rattle.mode_core.specs.declared.answers.IdleFault.TheVariants as idle_fault
 
 -- with a place left the core is not full
 pub not_full : (s : State) → places_used s < s.places → is_full s ≡ false
@@ -66,21 +64,6 @@ given s j done o h c r =
     let e5 : record g { rows = settle g done; out = None; held = [] } ≡ record s { rows = Tick j (outcome_of s.set s.rule s.rows j done) ∷ s.rows } =
     ap₂ (λ (x : Option JobId) (y : List JobId). let t : State = record s { rows = Tick j (outcome_of s.set s.rule s.rows j done) ∷ s.rows; out = x; held = y } in t) (sym o) (sym h) in
     ap (λ (x : State). after_outcome x j done) (e1 ∙ (e2 ∙ e3)) ∙ (e4 ∙ e5)
-
--- an idle tick
-
--- why an idle tick is refused, by its parts
-idle_parts : Option JobId → Option JobId → Bool → Option IdleFault
-idle_parts o c f = or_else (option_map idle_fault.TickOut o) (or_else (option_map idle_fault.Pending c) (refused_if f idle_fault.Full))
-
--- where nothing is chosen an idle tick adds its row
-pub idled : (s : State) → s.out ≡ None → chosen_now s ≡ None → places_used s < s.places → after_idle s ≡ record s { rows = Idle ∷ s.rows }
-unfolding idle_parts
-idled s o c r =
-    let e1 : idle_parts s.out (chosen_now s) (is_full s) ≡ idle_parts None (chosen_now s) (is_full s) = ap (λ (x : Option JobId). idle_parts x (chosen_now s) (is_full s)) o in
-    let e2 : idle_parts None (chosen_now s) (is_full s) ≡ idle_parts None None (is_full s) = ap (λ (x : Option JobId). idle_parts None x (is_full s)) c in
-    let e3 : idle_parts None None (is_full s) ≡ None = ap (λ (x : Bool). idle_parts None None x) (not_full s r) in
-    ap (λ (x : Option IdleFault). unless x (record s { rows = Idle ∷ s.rows }) s) (e1 ∙ (e2 ∙ e3))
 
 -- a release
 

@@ -128,7 +128,7 @@ length-rows (Tick j how ∷ g) = let ih = length-rows g in omega (arith, ih)
 length-rows (Idle ∷ g) = let ih = length-rows g in omega (arith, ih)
 
 -- no more is planned than the work has rows
-planned-few : (work : List WorkRow) (n : ℕ) → length (planned work n) ≤ length work
+pub planned-few : (work : List WorkRow) (n : ℕ) → length (planned work n) ≤ length work
 planned-few [] n = omega arith
 planned-few (w ∷ ws) n = go (planned-few ws n) (nat_lt w.release n)
   where

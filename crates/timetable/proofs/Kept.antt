@@ -220,6 +220,11 @@ idle_not_full (Rows work n) s taken needs last p sound kept r a =
 
 -- an outcome
 
+-- the tick that is out is the job's
+out_is : (o : Option JobId) (j : JobId) → is_out o j ≡ true → o ≡ Some j
+out_is None j k = cc
+out_is (Some i) j k = ap (λ (x : JobId). Some x) (job_eq i j k)
+
 -- what is told of the tick that is out is what the plan says of it
 done_is : (plan : Plan) (s : State) (taken : ℕ) (needs : Needs) (last told d : Bool) (j : JobId) → IsKeptBy plan s taken needs last → s.out ≡ Some j → d ≡ cond (is_planned plan) last told → d ≡ done_by plan s.rows j told
 done_is Free s taken needs last told d j kept o e = e
@@ -233,12 +238,8 @@ same_outcome plan s taken needs last told d j kept e = go (is_out s.out j) refl
     go : (b : Bool) → is_out s.out j ≡ b → (core_event.outcome_answer s j d ≡ core_event.outcome_answer s j (done_by plan s.rows j told)) × (core_event.after_outcome s j d ≡ core_event.after_outcome s j (done_by plan s.rows j told))
     go false m = (rw m refl, rw m refl)
     go true m =
-        let same : d ≡ done_by plan s.rows j told = done_is plan s taken needs last told d j kept (out_is s.out m) e in
+        let same : d ≡ done_by plan s.rows j told = done_is plan s taken needs last told d j kept (out_is s.out j m) e in
         (ap (λ (x : Bool). core_event.outcome_answer s j x) same, ap (λ (x : Bool). core_event.after_outcome s j x) same)
-      where
-        out_is : (o : Option JobId) → is_out o j ≡ true → o ≡ Some j
-        out_is None k = cc
-        out_is (Some i) k = ap (λ (x : JobId). Some x) (job_eq i j k)
 
 -- after an outcome
 pub kept_outcome : (plan : Plan) (s t : State) (taken : ℕ) (needs : Needs) (last told : Bool) (j : JobId) → IsKeptBy plan s taken needs last → t ≡ core_event.after_outcome s j (done_by plan s.rows j told) → IsKeptBy plan t taken needs last
@@ -247,11 +248,7 @@ kept_outcome (Rows work n) s t taken needs last told j kept e = subst (λ (u : S
   where
     go : (b : Bool) → is_out s.out j ≡ b → IsKept (core_event.after_outcome s j (is_last work s.rows j)) work n taken needs last
     go false m = rw m kept
-    go true m = rw m (record { run = run_outcome s work n taken j kept.run (out_is s.out m); tracks = kept.tracks; told = tt })
-      where
-        out_is : (o : Option JobId) → is_out o j ≡ true → o ≡ Some j
-        out_is None k = cc
-        out_is (Some i) k = ap (λ (x : JobId). Some x) (job_eq i j k)
+    go true m = rw m (record { run = run_outcome s work n taken j kept.run (out_is s.out j m); tracks = kept.tracks; told = tt })
 
 -- the core keeps to its plan
 pub on_plan : (plan : Plan) (s : State) (taken : ℕ) (needs : Needs) (last : Bool) → IsSound s → IsKeptBy plan s taken needs last → IsOnPlan plan taken s

@@ -2,7 +2,7 @@
 use Rattle.std.proofs.Common.{◌≡◌, ◌≢◌, ℕ, zero, suc, ◌+◌, ◌-◌, ◌<◌, ◌≤◌, Bool, true, false, List, [], ◌∷◌, Some, length, cond, slice_get, set, get_or, get_or-set_same, get_or-set_other, take, replicate, ◌==◌, refl, sym, ap, ◌∙◌, subst, arith, eqb-true}
 use Rattle.std.proofs.lemmas.Bool.Decides.{nat_tests}
 use Rattle.std.proofs.lemmas.List.{length-set}
-use Rattle.std.proofs.lemmas.Option.{slice_get-get_or, get_or_from_slice_get}
+use Rattle.std.proofs.lemmas.Option.{slice_get-get_or}
 use Rattle.mc_model.specs.declared.work.WorkRow.{WorkRow}
 use Rattle.mc_model.specs.Follows.{need_of}
 use Rattle.mc_model.proofs.Booleans.{eqb-refl, eqb-false}
@@ -75,12 +75,6 @@ need-more (v ∷ vs) (suc i) k w e t = go (need-more vs i k w e t) (v.task.0 == 
 -- what is kept after so many rows, in a list by the tasks' numbers
 abbrev pub Tracked : List WorkRow → ℕ → List ℕ → Type 0
 Tracked work taken kept = (i : ℕ) → i < 128 → slice_get kept i ≡ Some (latest_need work taken (i + 1))
-
--- what is kept of a task
-pub kept_need : (work : List WorkRow) (taken k : ℕ) (kept : List ℕ) (d : ℕ) → Tracked work taken kept → 1 ≤ k → k ≤ 128 → get_or kept (k - 1) d ≡ latest_need work taken k
-kept_need work taken k kept d tracks p q =
-    let e : (k - 1) + 1 ≡ k = omega (arith, p) in
-    get_or_from_slice_get kept (k - 1) (latest_need work taken ((k - 1) + 1)) d (tracks (k - 1) (omega (arith, p, q))) ∙ ap (λ (j : ℕ). latest_need work taken j) e
 
 -- what is kept after one more row
 pub tracks_noted : (work : List WorkRow) (taken : ℕ) (w : WorkRow) (kept : List ℕ) → length kept ≡ 128 → Tracked work taken kept → slice_get work taken ≡ Some w → 1 ≤ w.task.0 → w.task.0 ≤ 128 → Tracked work (taken + 1) (set kept (w.task.0 - 1) w.need)

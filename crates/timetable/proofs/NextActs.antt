@@ -1,5 +1,5 @@
 -- The next act of a plan that is not finished adds a row, where no tick is out, and a finished plan has its trace.
-use Rattle.std.proofs.Common.{◌≡◌, ℕ, ◌-◌, ◌<◌, ◌≤◌, Bool, true, false, List, [], ◌∷◌, Option, Some, None, Result, Ok, Err, length, cond, nat_lt, option_map, refl, sym, ap, ◌∙◌, subst, arith, eqb-true}
+use Rattle.std.proofs.Common.{◌≡◌, ℕ, ◌<◌, ◌≤◌, Bool, true, false, List, [], ◌∷◌, Option, Some, None, Result, Ok, Err, length, cond, nat_lt, option_map, refl, sym, ap, ◌∙◌, subst, arith, eqb-true}
 use Rattle.std.proofs.lemmas.List.{length-reverse}
 use Rattle.mc_task.specs.declared.task.TaskNo.{TaskNo}
 use Rattle.mc_task.specs.declared.task.JobId.{JobId}
@@ -220,7 +220,3 @@ ended s (Rows work n) taken p o f sound run = record { trace = trace; taken = al
 
     next : next_act (floor s (Rows work n) taken) ≡ act.Finished
     next = is_over (due (floor s (Rows work n) taken)) s.out (is_finished (floor s (Rows work n) taken)) (chosen_now s) (let m = late (begun s) n full in rw m refl) o f
-
--- with one row more fewer places are left
-pub smaller : (f g : FloorState) → AddsRow f g → g.core.places - length g.core.rows < f.core.places - length f.core.rows
-smaller f g a = subst (λ (x : FloorState). x.core.places - length x.core.rows < f.core.places - length f.core.rows) (sym a.after) (let r = a.room in omega (arith, r))

@@ -18,7 +18,7 @@ use Rattle.mode_core.proofs.Keep.{state, no_held}
 use Rattle.timetable.specs.declared.plan.Plan.TheVariants.{Rows}
 use Rattle.timetable.specs.Ticks.{is_last, tick_row}
 use Rattle.timetable.specs.Floor.{due_row, due_at}
-use Rattle.timetable.specs.Plans.{IsSchedule, settled_by}
+use Rattle.timetable.specs.Plans.{settled_by}
 use Rattle.timetable.specs.Shape.{first_job, next_row, Runs, IsRun}
 use Rattle.timetable.proofs.Due.{arrival_of, due_allowed, length-rows, taken-few}
 use Rattle.timetable.proofs.RunsFollow.{Rest, rest_of}
@@ -176,10 +176,6 @@ tick_next s work n taken r o t =
     let due : due_row (slice_get work (length (arrivals s.rows))) (ticks s.rows) ≡ None = subst (λ (i : ℕ). due_row (slice_get work i) (ticks s.rows) ≡ None) taken_are (subst (λ (u : ℕ). due_row (slice_get work taken) u ≡ None) now t.none) in
     tick_row_next s.set s.rule work n s.rows r.schedule.is_work due (omega (arith, now, soon))
 
--- how many were taken, by the rows
-rows_taken : (s : State) (work : List WorkRow) (n taken : ℕ) → IsRun s work n taken → s.out ≡ None → taken ≡ length (arrivals s.rows)
-rows_taken s work n taken r o = r.taken_are ∙ ap (λ (g : List Row). length (arrivals g)) (settled_none work s o)
-
 -- the tick of the chosen job is the next row
 pub run_grant : (s : State) (work : List WorkRow) (n taken : ℕ) (j : JobId) → IsSound s → IsRun s work n taken → s.out ≡ None → chosen_now s ≡ Some j → IsTickTime s work n taken → IsRun (record s { out = chosen_now s }) work n taken
 run_grant s work n taken j sound r o c t = subst (λ (x : Option JobId). IsRun (record s { out = x }) work n taken) (sym c) (subst (λ (js : List JobId). IsRun (record s { out = Some j; held = js }) work n taken) (sym none) made)
@@ -216,14 +212,3 @@ run_outcome s work n taken j r o = record {
   where
     rows : settled_by work s ≡ settle s (is_last work s.rows j)
     rows = ap (λ (x : Option JobId). settle s (is_last work s.rows (job_in x))) o
-
--- a core with no rows is at its plan's beginning
-pub run_start : (s : State) (work : List WorkRow) (n : ℕ) → IsSchedule s work n → s.rows ≡ [] → s.out ≡ None → IsRun s work n 0
-run_start s work n k e o = record {
-  schedule = k;
-  runs = subst (λ (g : List Row). Runs s.set s.rule work n g) (sym rows) tt;
-  taken_are = sym (ap (λ (g : List Row). length (arrivals g)) rows);
-}
-  where
-    rows : settled_by work s ≡ []
-    rows = settled_none work s o ∙ e

@@ -224,6 +224,13 @@ fn words_of_no_form_get_the_usage_line(rt: HostRuntime) -> Result<(), Fail> {
         &["judge", "tasks.toml", "trace.csv", "1", "4294967296"],
         &["judge", "tasks.toml", "trace.csv", "1", "1", "1"],
         &["Judge", "tasks.toml", "trace.csv"],
+        &["chart", "tasks.toml"],
+        &["soak", "7", "1", "100"],
+        &["soak", "7", "33", "100"],
+        &["soak", "7", "8", "0"],
+        &["soak", "18446744073709551616", "8", "100"],
+        &["soak", "7", "8"],
+        &["report", "tasks.toml", "trace.csv", "1"],
         &["--help"],
     ];
     for words in lines {

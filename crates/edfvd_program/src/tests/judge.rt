@@ -1,25 +1,7 @@
-use super::{AVIONICS, CONTROL, two_files, words_of};
+use super::{AVIONICS, AVIONICS_WORK, CONTROL, HEADER, LOW_FIRST, two_files, words_of};
 use crate::edfvd::edfvd;
 use mc_world::MemorySink;
 use std::test::Fail;
-
-const HEADER: &str = "event,tick,task,job,how\n";
-
-// Both jobs are released at 0, and the low task runs first.
-const LOW_FIRST: &str = "release,0,ctl,1,kept
-release,0,log,1,kept
-tick,0,log,1,more
-tick,1,log,1,more
-tick,2,log,1,more
-tick,3,log,1,more
-tick,4,log,1,done
-tick,5,ctl,1,more
-tick,6,ctl,1,over
-tick,7,ctl,1,more
-tick,8,ctl,1,more
-tick,9,ctl,1,more
-tick,10,ctl,1,done
-";
 
 #[test]
 fn traces_get_their_verdict(rt: HostRuntime) -> Result<(), Fail> {
@@ -215,22 +197,6 @@ fn only_a_given_scale_judges_sets_that_the_test_refuses(rt: HostRuntime) -> Resu
     }
     Ok(())
 }
-
-const AVIONICS_WORK: &str = "task,release,need
-attitude,0,400
-gyro,0,600
-engine,0,1500
-nav,0,3000
-display,0,2500
-radio,0,2000
-log,0,8000
-maint,0,10000
-attitude,5000,400
-attitude,10000,400
-gyro,10000,600
-attitude,15000,400
-display,16667,2500
-";
 
 #[test]
 fn the_trace_of_an_avionics_set_is_judged_legal(rt: HostRuntime) -> Result<(), Fail> {

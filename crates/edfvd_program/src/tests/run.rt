@@ -1,24 +1,10 @@
-use super::{CONTROL, PLAIN_PAIR, QUARTER_SCALE, TAP_AND_ARM, TWO_HIGH_TASKS, two_files, words_of};
+use super::{
+    CONTROL, HEADER, OVERRUN, PLAIN_PAIR, QUARTER_SCALE, TAP_AND_ARM, TWO_HIGH_TASKS, two_files,
+    words_of,
+};
 use crate::edfvd::edfvd;
 use mc_world::MemorySink;
 use std::test::Fail;
-
-const OVERRUN: &str = "release,0,ctl,1,kept
-release,0,log,1,kept
-tick,0,ctl,1,more
-tick,1,ctl,1,over
-tick,2,ctl,1,more
-tick,3,ctl,1,more
-tick,4,ctl,1,more
-tick,5,ctl,1,done
-idle,6,,,
-idle,7,,,
-idle,8,,,
-idle,9,,,
-release,10,log,2,kept
-tick,10,log,2,more
-tick,11,log,2,more
-";
 
 #[test]
 fn runs_write_the_traces_of_the_worked_examples(rt: HostRuntime) -> Result<(), Fail> {
@@ -60,7 +46,7 @@ fn runs_write_the_traces_of_the_worked_examples(rt: HostRuntime) -> Result<(), F
     for (tasks, jobs, ticks, rows) in cases {
         let words = words_of(alloc, &["run", "tasks.toml", "second.csv", ticks])?;
         let work = format!(in alloc; "task,release,need\n{jobs}")?;
-        let text = format!(in alloc; "event,tick,task,job,how\n{rows}")?;
+        let text = format!(in alloc; "{HEADER}{rows}")?;
         let mut shelf = two_files(alloc, tasks.as_bytes(), work.as_bytes(), &[])?;
         let mut sink = MemorySink::new(alloc, 1000, 1000, Vec::new(alloc))?;
         assert_eq!(rt;

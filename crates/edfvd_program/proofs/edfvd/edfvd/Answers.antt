@@ -1,6 +1,7 @@
 use Rattle.std.proofs.Common.{map, string_bytes}
 use Rattle.edfvd_program.specs.Command.{command_of}
 use Rattle.edfvd_program.proofs.Outcomes.{Answers-written}
+use Rattle.edfvd_program.proofs.Bounds.{in_bounds}
 use Rattle.edfvd_program.proofs.Headlines.{headline}
 use Rattle.edfvd_program.proofs.edfvd.edfvd.Goals as goal
 
@@ -11,5 +12,5 @@ returns-in-Ok-clause-answer g c =
 
 pub returns-in-Ok-clause-headline : goal.returns-in-Ok-clause-headline
 returns-in-Ok-clause-headline g c files old tells told calm =
-    headline (command_of (map (λ w. string_bytes w) c.args.words.now)) files old c.deliver.result (g.K.Sink.state c.deliver.new.out).written
+    headline (command_of (map (λ w. string_bytes w) c.args.words.now)) (in_bounds (map (λ w. string_bytes w) c.args.words.now)) files old c.deliver.result (g.K.Sink.state c.deliver.new.out).written
     (returns-in-Ok-clause-answer g c files old tells told calm)

@@ -1,0 +1,18 @@
+use Rattle.std.proofs.Common.{rules, ◌≡◌, ◌≤◌, length, subst}
+use Rattle.timetable.specs.declared.plan.Plan.TheVariants.{Rows}
+use Rattle.timetable.specs.declared.plan.Plan.{Plan}
+use Rattle.timetable.specs.Plans.{IsTraceOfPlan}
+use Rattle.edfvd_program.proofs.Traced.{follows_same}
+use Rattle.edfvd_program.proofs.planned.planned.Goals as goal
+
+pub returns : goal.returns
+returns c =
+    let plan : c.finish.new.self.plan ≡ Rows c.args.work c.args.ticks = search rules in
+    let t = subst (λ (p : Plan). IsTraceOfPlan p c.finish.new.self.core) plan c.finish.ensures.trace in
+    let same : c.finish.new.self.core.set ≡ c.args.set.now = search rules in
+    let is : c.finish.new.self.core.rule ≡ c.args.rule = search rules in
+    let few : length c.finish.new.self.core.rows ≤ 2000000 = search rules in
+    record {
+      follows = follows_same c.args.set.now c.finish.new.self.core.set c.args.rule c.finish.new.self.core.rule c.args.work c.args.ticks c.finish.new.self.core.rows same is t.follows;
+      few = few;
+    }

@@ -1,0 +1,52 @@
+// A plan, run to its end.
+ghost use Rattle.std.specs.Prelude.{◌≡◌, ◌<◌, ◌≤◌, ◌^◌, IfOk};
+ghost use Rattle.mode_core.specs.Events.{empty_state};
+ghost use Rattle.mc_model.specs.Holds.{Fits, Holds};
+ghost use Rattle.mc_model.specs.Work.{IsWork};
+ghost use Rattle.edfvd_program.specs.Planned.{IsPlanned};
+
+use mc_task::{Rule, TaskSet};
+use mode_core::Core;
+use std::alloc::{AllocError, Global};
+use timetable::{Floor, Plan};
+use work_file::Work;
+
+/// The floor with the one trace of this many ticks that set, rule and work determine.
+pub fn planned(
+    alloc: Global,
+    set: &TaskSet,
+    rule: Rule,
+    work: Work,
+    ticks: u64,
+) -> Result<Floor, AllocError>
+    requires fits { Fits rule }
+    requires holds { Holds set.now rule }
+    requires work { IsWork set.now work }
+    requires some { 1 ≤ ticks }
+    requires most { ticks ≤ 1000000 }
+    ensures { IfOk result (IsPlanned set.now rule work ticks) }
+{
+    let places = ticks as usize + work.rows().len();
+    let core = core_of(alloc, set, rule, places)?;
+    let mut floor = Floor::new(core, Plan::Rows { work, ticks });
+    floor.finish();
+    // Each row has its place.
+    let _places = floor.core().places();
+    Ok(floor)
+}
+
+// A core with no rows.
+fn core_of(alloc: Global, set: &TaskSet, rule: Rule, places: usize) -> Result<Core, AllocError>
+    requires fits { Fits rule }
+    requires holds { Holds set.now rule }
+    requires places { places < 2 ^ 32 }
+    ensures { IfOk result (λ core. core ≡ empty_state set.now rule places) }
+{
+    let Ok(copy) = set.copy(alloc) else {
+        return Err(AllocError);
+    };
+    match Core::new(alloc, copy, rule, places) {
+        Ok(core) => Ok(core),
+        Err(_) => Err(AllocError),
+    }
+}

@@ -1,0 +1,4 @@
+pub mod Filled
+pub mod Lines
+pub mod ChartedMode
+pub mod WorkedCharts

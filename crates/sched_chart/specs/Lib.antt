@@ -1,0 +1,2 @@
+pub mod ChartText
+pub mod Sheet

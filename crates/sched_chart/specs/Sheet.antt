@@ -1,0 +1,38 @@
+-- A chart that is filled in tick by tick, and how its lines lie in it. The newest row stands first.
+use Rattle.std.specs.Prelude.{ℕ, ◌+◌, ◌-◌, ◌*◌, ◌≤◌, List, [], ◌∷◌, ◌++◌, replicate, codes}
+use Rattle.mc_task.specs.declared.task.Task.{Task}
+use Rattle.mc_model.specs.Rows.{ticks}
+use Rattle.sched_chart.specs.ChartText.{task_marks, mode_marks, name_width, chart_line}
+use Rattle.mc_model.specs.declared.row.Row.{Row}
+use Rattle.sched_chart.specs.declared.sheet.Sheet.{Sheet}
+
+-- the widest name and the most ticks
+pub record IsSheet (s : Sheet) : Type 0 where
+  pub width : s.width ≤ 32
+  pub ticks : s.ticks ≤ 2000000
+
+-- a name of this width, a space, n characters and a line feed
+abbrev pub line_length : ℕ → ℕ → ℕ
+line_length width n = width + n + 2
+
+-- where the character of a tick stands: behind so many lines, a name and a space
+abbrev pub place : ℕ → ℕ → ℕ → ℕ → ℕ
+place width n line tick = line * line_length width n + (width + 1 + tick)
+
+-- the lines of these tasks, the first of which is number k, with the characters that are given for each number
+abbrev pub lines_with : (ℕ → List ℕ) → ℕ → ℕ → List Task → List ℕ
+lines_with marks width k [] = []
+lines_with marks width k (t ∷ ts) = chart_line width t.name (marks k) ++ lines_with marks width (k + 1) ts
+
+-- the characters of task number k after these rows, and a dot for each tick that is still to come, of n
+abbrev pub task_marks_to : ℕ → List Row → ℕ → List ℕ
+task_marks_to n h k = task_marks k h ++ replicate (n - ticks h) 46
+
+-- the characters of the mode after these rows, and an L for each tick that is still to come, of n
+abbrev pub mode_marks_to : ℕ → List Row → List ℕ
+mode_marks_to n h = mode_marks h ++ replicate (n - ticks h) 76
+
+-- the chart of n ticks, as far as these rows go
+unfoldable pub chart_to : List Task → ℕ → List Row → List ℕ
+chart_to set n h =
+    lines_with (task_marks_to n h) (name_width set) 1 set ++ chart_line (name_width set) (codes "(mode)") (mode_marks_to n h)

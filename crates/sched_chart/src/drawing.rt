@@ -1,0 +1,110 @@
+// The chart, drawn on a text of blank ticks.
+ghost use Rattle.std.specs.Prelude.{◌≡◌, ◌+◌, ◌^◌, ◌++◌, ◌<◌, ◌≤◌, [], IfOk, OnOk, Some, length, replicate, reverse, slice_get, vec_len};
+ghost use Rattle.sched_chart.specs.ChartText.{chart_line, chart_text, name_width, ChartedModeLaw};
+ghost use Rattle.mc_model.specs.Rows.{ticks};
+ghost use Rattle.mc_model.specs.Traces.{IsTraceOf};
+ghost use Rattle.sched_chart.specs.Sheet.{chart_to, line_length, IsSheet};
+
+use crate::marks::{mark_rows, tick_after};
+use crate::sheet::Sheet;
+use mc_model::Row;
+use mc_task::{Memory, Task, TaskNo, TaskSet};
+use std::alloc::{AllocError, Global};
+
+/// The chart of a trace: a line for each task in order, with a character for each tick, and a last line of the mode.
+///
+/// A tick is `#`, `D`, `S` or `O` in the line of its task, as it ended with more to do, done, stopped or over its low
+/// budget, and `.` in the other lines. The mode is that before the tick, `H` or `L`.
+pub fn chart(alloc: Global, set: &TaskSet, rows: &[Row]) -> Result<Vec<u8>, Memory>
+    requires trace { IsTraceOf set.now (reverse rows.now) }
+    requires few { length rows.now ≤ 2000000 }
+    ensures text { IfOk result (λ text. text.items ≡ chart_text set.now (reverse rows.now)) }
+    // The mode of the chart is that of each rule under which the rows are legal.
+    ensures mode { ChartedModeLaw }
+{
+    match drawn(alloc, set, rows) {
+        Ok(text) => Ok(text),
+        Err(_) => Err(Memory),
+    }
+}
+
+fn drawn(alloc: Global, set: &TaskSet, rows: &[Row]) -> Result<Vec<u8>, AllocError>
+    requires trace { IsTraceOf set.now (reverse rows.now) }
+    requires few { length rows.now ≤ 2000000 }
+    ensures { IfOk result (λ text. text.items ≡ chart_text set.now (reverse rows.now)) }
+{
+    let sheet = Sheet {
+        width: name_width(set),
+        ticks: count_ticks(rows),
+    };
+    let mut text = blank(alloc, set, sheet)?;
+    mark_rows(&mut text, set, sheet, rows);
+    Ok(text)
+}
+
+// The greater of 6 and the length of the longest name.
+fn name_width(set: &TaskSet) -> usize
+    ensures width { result ≡ name_width set.now }
+    ensures most { result ≤ 32 }
+{
+    let mut width = 6;
+    for i in 0..set.len() {
+        let length = task_at(set, i).name.bytes().len();
+        if length > width {
+            width = length;
+        }
+    }
+    width
+}
+
+fn count_ticks(rows: &[Row]) -> usize
+    requires { length rows.now ≤ 2000000 }
+    ensures ticks { result ≡ ticks (reverse rows.now) }
+    ensures most { result ≤ 2000000 }
+{
+    let mut tick = 0;
+    for row in rows {
+        tick = tick_after(tick, *row);
+    }
+    tick
+}
+
+// The chart with no tick filled in.
+fn blank(alloc: Global, set: &TaskSet, sheet: Sheet) -> Result<Vec<u8>, AllocError>
+    requires sheet { IsSheet sheet }
+    requires width { sheet.width ≡ name_width set.now }
+    ensures { IfOk result (λ text. text.items ≡ chart_to set.now sheet.ticks []) }
+{
+    let count = set.len();
+    let mut text = Vec::with_capacity(alloc, sheet.lines(count as usize + 1))?;
+    for i in 0..count {
+        let task = task_at(set, i);
+        push_line(&mut text, sheet, task.name.bytes(), b'.')?;
+    }
+    push_line(&mut text, sheet, b"(mode)", b'L')?;
+    Ok(text)
+}
+
+fn task_at(set: &TaskSet, i: u32) -> Task
+    requires within { i < length set.now }
+    requires few { i < 128 }
+    ensures { slice_get set.now i ≡ Some result }
+{
+    set.get(TaskNo(i + 1)).unwrap()
+}
+
+// A line with one character at all its ticks.
+fn push_line(text: &mut Vec<u8>, sheet: Sheet, name: &[u8], mark: u8) -> Result<(), AllocError>
+    requires sheet { IsSheet sheet }
+    requires name { length name.now ≤ sheet.width }
+    requires room { vec_len text.old ≤ 2 ^ 32 }
+    ensures line { OnOk result (text.new.items ≡ text.old.items ++ chart_line sheet.width name.now (replicate sheet.ticks mark)) }
+    ensures length { OnOk result (vec_len text.new ≤ vec_len text.old + 2000034) }
+{
+    let start = text.len() + sheet.width + 1;
+    text.extend_from_slice(name)?;
+    text.resize(start, b' ')?;
+    text.resize(start + sheet.ticks, mark)?;
+    text.push(b'\n')?;
+    Ok(())
+}

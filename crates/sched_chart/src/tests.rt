@@ -1,0 +1,169 @@
+ghost use Rattle.std.specs.Prelude.{◌≡◌, ◌∷◌, [], IfOk, IfSome, codes, List};
+
+use crate::chart;
+use mc_model::{How, Row};
+use mc_task::{JobId, Level, Name, Task, TaskNo, TaskSet};
+use std::alloc::Global;
+use std::test::Fail;
+
+// A task of this name and level, with a period of 10.
+fn task(name: &[u8], level: Level, low: u32, high: u32) -> Option<Task>
+    ensures { IfSome result (λ task. task ≡ record { name = name.now; level = level; period = 10; low = low; high = high }) }
+{
+    let name = Name::new(name)?;
+    Some(Task {
+        name,
+        level,
+        period: 10,
+        low,
+        high,
+    })
+}
+
+// A high task and a low one, of these names.
+fn pair(alloc: Global, high: &[u8], low: &[u8]) -> Result<TaskSet, Fail>
+    ensures { IfOk result (λ set. set
+        ≡ record { name = high.now; level = Level.High; period = 10; low = 2; high = 6 }
+        ∷ record { name = low.now; level = Level.Low; period = 10; low = 5; high = 5 } ∷ []) }
+{
+    let mut tasks = Vec::new(alloc);
+    tasks.push(task(high, Level::High, 2, 6).ok_or("a high task")?)?;
+    tasks.push(task(low, Level::Low, 5, 5).ok_or("a low task")?)?;
+    Ok(TaskSet::new(tasks).ok().ok_or("a set")?)
+}
+
+const CTL: JobId = JobId {
+    task: TaskNo(1),
+    count: 1,
+};
+
+const LOG: JobId = JobId {
+    task: TaskNo(2),
+    count: 1,
+};
+
+const NEXT_LOG: JobId = JobId {
+    task: TaskNo(2),
+    count: 2,
+};
+
+// A job of ctl runs over its low budget and on to its end; log's job is discarded, and its next one runs.
+#[test]
+fn the_chart_of_an_overrun(rt: HostRuntime) -> Result<(), Fail> {
+    let alloc = rt.alloc();
+    let set = pair(alloc, b"ctl", b"log")?;
+    let rows = [
+        Row::Release {
+            job: CTL,
+            kept: true,
+        },
+        Row::Release {
+            job: LOG,
+            kept: true,
+        },
+        Row::Tick {
+            job: CTL,
+            how: How::More,
+        },
+        Row::Tick {
+            job: CTL,
+            how: How::Over,
+        },
+        Row::Tick {
+            job: CTL,
+            how: How::More,
+        },
+        Row::Tick {
+            job: CTL,
+            how: How::More,
+        },
+        Row::Tick {
+            job: CTL,
+            how: How::More,
+        },
+        Row::Tick {
+            job: CTL,
+            how: How::Done,
+        },
+        Row::Idle,
+        Row::Idle,
+        Row::Idle,
+        Row::Idle,
+        Row::Release {
+            job: NEXT_LOG,
+            kept: true,
+        },
+        Row::Tick {
+            job: NEXT_LOG,
+            how: How::More,
+        },
+        Row::Tick {
+            job: NEXT_LOG,
+            how: How::More,
+        },
+    ];
+    let text = chart(alloc, &set, &rows)?;
+    assert_eq!(rt;
+        text.as_slice(),
+        b"\
+ctl    #O###D......
+log    ..........##
+(mode) LLHHHHHLLLLL
+"
+            .as_slice()
+    );
+    Ok(())
+}
+
+#[test]
+fn no_rows_leave_lines_of_names(rt: HostRuntime) -> Result<(), Fail> {
+    let alloc = rt.alloc();
+    let set = pair(alloc, b"ctl", b"log")?;
+    let text = chart(alloc, &set, &[])?;
+    assert_eq!(rt; text.as_slice(), b"ctl    \nlog    \n(mode) \n".as_slice());
+    Ok(())
+}
+
+#[test]
+fn the_longest_name_is_the_width(rt: HostRuntime) -> Result<(), Fail> {
+    let alloc = rt.alloc();
+    let set = pair(alloc, b"c", b"log_of_thirty-two_bytes_12345678")?;
+    let rows = [
+        Row::Release {
+            job: LOG,
+            kept: true,
+        },
+        Row::Tick {
+            job: LOG,
+            how: How::More,
+        },
+        Row::Tick {
+            job: LOG,
+            how: How::More,
+        },
+        Row::Tick {
+            job: LOG,
+            how: How::More,
+        },
+        Row::Tick {
+            job: LOG,
+            how: How::More,
+        },
+        Row::Tick {
+            job: LOG,
+            how: How::Stop,
+        },
+        Row::Idle,
+    ];
+    let text = chart(alloc, &set, &rows)?;
+    assert_eq!(rt;
+        text.as_slice(),
+        b"\
+c                                ......
+log_of_thirty-two_bytes_12345678 ####S.
+(mode)                           LLLLLL
+"
+            .as_slice()
+    );
+    Ok(())
+}

@@ -1,0 +1,170 @@
+-- What a row adds to the tally of a task. The newest row stands first.
+use Rattle.std.proofs.Common.{◌≡◌, ℕ, ◌+◌, ◌-◌, Bool, true, false, not, ◌&&◌, ◌||◌, ◌==◌, List, ◌∷◌, Option, Some, None, cond, refl, sym, ap, subst, ◌∙◌, arith, eqb-true}
+use Rattle.mc_task.specs.declared.task.Rule.{Rule}
+use Rattle.mc_task.specs.declared.task.Task.{Task}
+use Rattle.mc_task.specs.declared.task.JobId.{JobId}
+use Rattle.mc_task.specs.TaskSet.{task_at}
+use Rattle.mc_model.specs.declared.row.How.{How}
+use Rattle.mc_model.specs.declared.row.How.TheVariants.{More, Done, Stop, Over}
+use Rattle.mc_model.specs.declared.row.Row.{Row}
+use Rattle.mc_model.specs.declared.row.Row.TheVariants.{Release, Tick, Idle}
+use Rattle.mc_model.specs.TaskNumbers.{is_high, is_high_in}
+use Rattle.mc_model.specs.Pending.{Live, released, is_end, is_live, ended}
+use Rattle.mc_model.specs.Rows.{ticks}
+use Rattle.mc_model.specs.Mode.{is_over}
+use Rattle.mc_model.specs.Legal.{Legal, same_how}
+use Rattle.sched_report.specs.ReportText.{how_many, is_of, is_drop_of, is_tick_of, is_how_of, is_discarded, greatest}
+use Rattle.mc_model.proofs.Lists.{Each-all}
+use Rattle.sched_report.specs.declared.task_tally.TaskTally.{TaskTally}
+use Rattle.sched_report.specs.TaskTally.{level_in, tally_of, with_release, with_tick, with_response, with_switch}
+use Rattle.sched_report.proofs.HowMany.{one, how_many-cons, how_many_none, how_many-filter}
+use Rattle.sched_report.proofs.Released.{release_of}
+use Rattle.sched_report.proofs.AddUp.{discarded, discarded-release, discarded-idle, discarded-tick, live, ended-tick, none_of, counts_add_up}
+use Rattle.sched_report.proofs.Responses.{responses-release, responses-tick, responses-other, responses-end}
+
+-- tallies are equal where their parts are
+tally_eq : (a b : TaskTally) → a.level ≡ b.level → a.released ≡ b.released → a.kept ≡ b.kept → a.dropped ≡ b.dropped → a.discarded ≡ b.discarded → a.done ≡ b.done → a.stopped ≡ b.stopped → a.ticks ≡ b.ticks → a.response ≡ b.response → a ≡ b
+tally_eq a b level released kept dropped discarded done stopped ticks response = λ i. record {
+  level = level i;
+  released = released i;
+  kept = kept i;
+  dropped = dropped i;
+  discarded = discarded i;
+  done = done i;
+  stopped = stopped i;
+  ticks = ticks i;
+  response = response i;
+}
+
+-- the kept jobs of a task after a release
+kept-release : (j : JobId) (kept : Bool) (g : List Row) (k : ℕ) → how_many (is_of k) (released (Release j kept ∷ g)) ≡ one ((j.task.0 == k) && kept) + how_many (is_of k) (released g)
+kept-release j false g k = omega (arith, none_of (j.task.0 == k))
+kept-release j true g k = omega (arith, whole (j.task.0 == k), how_many-cons (is_of k) (record { job = j; release = ticks g }) (released g))
+  where
+    whole : (b : Bool) → one (b && true) ≡ one b
+    whole b = grind arith
+
+-- and the dropped releases
+dropped-release : (j : JobId) (kept : Bool) (g : List Row) (k : ℕ) → how_many (is_drop_of k) (Release j kept ∷ g) ≡ one ((j.task.0 == k) && not kept) + how_many (is_drop_of k) g
+dropped-release j kept g k = how_many-cons (is_drop_of k) (Release j kept) g
+
+-- a release of the task
+pub release-mine : (set : List Task) (rule : Rule) (j : JobId) (kept : Bool) (g : List Row) (k : ℕ) → Legal set rule (Release j kept ∷ g) → (j.task.0 == k) ≡ true
+    → tally_of set (Release j kept ∷ g) k ≡ with_release kept (tally_of set g k)
+release-mine set rule j kept g k l o =
+    tally_eq (tally_of set (Release j kept ∷ g) k) (with_release kept (tally_of set g k)) refl
+    (omega (arith, ap one o)) (kept_so kept) (dropped_so kept) (discarded-release set rule j kept g k l) refl refl refl (ap greatest (responses-release set rule j kept g k l))
+  where
+    kept_so : (kept : Bool) → how_many (is_of k) (released (Release j kept ∷ g)) ≡ how_many (is_of k) (released g) + cond kept 1 0
+    kept_so kept = let e = kept-release j kept g k in let f : one ((j.task.0 == k) && kept) ≡ cond kept 1 0 = rw o refl in omega (arith, e, f)
+
+    dropped_so : (kept : Bool) → how_many (is_drop_of k) (Release j kept ∷ g) ≡ how_many (is_drop_of k) g + cond kept 0 1
+    dropped_so true = let e = dropped-release j true g k in let f : one ((j.task.0 == k) && false) ≡ 0 = rw o refl in omega (arith, e, f)
+    dropped_so false = let e = dropped-release j false g k in let f : one ((j.task.0 == k) && true) ≡ 1 = rw o refl in omega (arith, e, f)
+
+-- and of another one
+pub release-other : (set : List Task) (rule : Rule) (j : JobId) (kept : Bool) (g : List Row) (k : ℕ) → Legal set rule (Release j kept ∷ g) → (j.task.0 == k) ≡ false
+    → tally_of set (Release j kept ∷ g) k ≡ tally_of set g k
+release-other set rule j kept g k l o =
+    tally_eq (tally_of set (Release j kept ∷ g) k) (tally_of set g k) refl
+    (omega (arith, ap one o))
+    (let e = kept-release j kept g k in let f : one ((j.task.0 == k) && kept) ≡ 0 = rw o refl in omega (arith, e, f))
+    (let e = dropped-release j kept g k in let f : one ((j.task.0 == k) && not kept) ≡ 0 = rw o refl in omega (arith, e, f))
+    (discarded-release set rule j kept g k l) refl refl refl (ap greatest (responses-release set rule j kept g k l))
+
+-- the ticks of a task after one more
+ticks-tick : (j : JobId) (how : How) (g : List Row) (k : ℕ) → how_many (is_tick_of k) (Tick j how ∷ g) ≡ one (j.task.0 == k) + how_many (is_tick_of k) g
+ticks-tick j how g k = how_many-cons (is_tick_of k) (Tick j how) g
+
+ended-mine : (j : JobId) (how kind : How) (g : List Row) (k : ℕ) → (j.task.0 == k) ≡ true → how_many (is_how_of k kind) (Tick j how ∷ g) ≡ how_many (is_how_of k kind) g + cond (same_how how kind) 1 0
+ended-mine j how kind g k o = let e = ended-tick j how kind g k in let f : one ((j.task.0 == k) && same_how how kind) ≡ cond (same_how how kind) 1 0 = rw o refl in omega (arith, e, f)
+
+ended-other : (j : JobId) (how kind : How) (g : List Row) (k : ℕ) → (j.task.0 == k) ≡ false → how_many (is_how_of k kind) (Tick j how ∷ g) ≡ how_many (is_how_of k kind) g
+ended-other j how kind g k o = let e = ended-tick j how kind g k in let f : one ((j.task.0 == k) && same_how how kind) ≡ 0 = rw o refl in omega (arith, e, f)
+
+-- a tick of the task after which the job has more to do
+pub more-mine : (set : List Task) (j : JobId) (g : List Row) (k : ℕ) → (j.task.0 == k) ≡ true → tally_of set (Tick j More ∷ g) k ≡ with_tick More (tally_of set g k)
+more-mine set j g k o =
+    tally_eq (tally_of set (Tick j More ∷ g) k) (with_tick More (tally_of set g k)) refl refl refl refl (discarded-tick set j More g k refl)
+    (ended-mine j More Done g k o) (ended-mine j More Stop g k o) (omega (arith, ticks-tick j More g k, ap one o)) (ap greatest (responses-tick j More g k refl))
+
+-- a job's last tick, of the task
+pub end-mine : (set : List Task) (rule : Rule) (j : JobId) (how : How) (g : List Row) (k : ℕ) → is_end how ≡ true → is_over how ≡ false → Legal set rule (Tick j how ∷ g) → (j.task.0 == k) ≡ true
+    → tally_of set (Tick j how ∷ g) k ≡ with_response (ticks g + 1 - release_of g j) (with_tick how (tally_of set g k))
+end-mine set rule j how g k e v l o =
+    tally_eq (tally_of set (Tick j how ∷ g) k) (with_response (ticks g + 1 - release_of g j) (with_tick how (tally_of set g k))) refl refl refl refl (discarded-tick set j how g k v)
+    (ended-mine j how Done g k o) (ended-mine j how Stop g k o) (omega (arith, ticks-tick j how g k, ap one o)) (responses-end set rule j how g k e o l)
+
+-- a tick of another task, which is no overrun
+pub tick-other : (set : List Task) (j : JobId) (how : How) (g : List Row) (k : ℕ) → is_over how ≡ false → (j.task.0 == k) ≡ false → tally_of set (Tick j how ∷ g) k ≡ tally_of set g k
+tick-other set j how g k v o =
+    tally_eq (tally_of set (Tick j how ∷ g) k) (tally_of set g k) refl refl refl refl (discarded-tick set j how g k v)
+    (ended-other j how Done g k o) (ended-other j how Stop g k o) (omega (arith, ticks-tick j how g k, ap one o)) (ap greatest (responses-other j how g k o))
+
+pub level-high : (t : Option Task) → is_high (level_in t) ≡ is_high_in t
+level-high None = refl
+level-high (Some t) = refl
+
+-- of a high task no job is discarded
+discarded-high : (set : List Task) (h : List Row) (k : ℕ) → is_high_in (task_at set k) ≡ true → discarded set h k ≡ 0
+discarded-high set h k high = how_many_none (λ i. is_of k i && is_discarded set h i) (released h) (Each-all each (released h))
+  where
+    each : (x : Live) → (is_of k x && is_discarded set h x) ≡ false
+    each x = go (is_of k x) refl
+      where
+        go : (b : Bool) → is_of k x ≡ b → (is_of k x && is_discarded set h x) ≡ false
+        go false m = rw m refl
+        go true m =
+            let so : is_high_in (task_at set x.job.task.0) ≡ true = subst (λ n. is_high_in (task_at set n) ≡ true) (sym (eqb-true _ _ m)) high in
+            rw (m, so) refl
+
+-- after an overrun no job of a low task is pending
+live-low : (set : List Task) (j : JobId) (g : List Row) (k : ℕ) → is_high_in (task_at set k) ≡ false → live set (Tick j Over ∷ g) k ≡ 0
+live-low set j g k low = how_many-filter (is_of k) (is_live set (Tick j Over ∷ g)) (released g) ∙ how_many_none (λ x. is_live set (Tick j Over ∷ g) x && is_of k x) (released g) (Each-all each (released g))
+  where
+    none : (a : Bool) → (a && (false || not (true || false))) ≡ false
+    none a = grind arith
+
+    drop : (a : Bool) → (a && false) ≡ false
+    drop a = grind arith
+
+    each : (x : Live) → (is_live set (Tick j Over ∷ g) x && is_of k x) ≡ false
+    each x = go (is_of k x) refl
+      where
+        go : (b : Bool) → is_of k x ≡ b → (is_live set (Tick j Over ∷ g) x && is_of k x) ≡ false
+        go false m = rw m (drop (is_live set (Tick j Over ∷ g) x))
+        go true m =
+            let so : is_high_in (task_at set x.job.task.0) ≡ false = subst (λ n. is_high_in (task_at set n) ≡ false) (sym (eqb-true _ _ m)) low in
+            rw (m, so) (rw (drop (not (ended g x.job))) refl)
+
+-- what an overrun leaves discarded
+discarded-so : (set : List Task) (rule : Rule) (j : JobId) (g : List Row) (k : ℕ) → Legal set rule (Tick j Over ∷ g)
+    → discarded set (Tick j Over ∷ g) k ≡ cond (is_high (level_in (task_at set k))) (discarded set g k) (how_many (is_of k) (released g) - how_many (is_how_of k Done) g - how_many (is_how_of k Stop) g)
+discarded-so set rule j g k l = go (is_high_in (task_at set k)) refl
+  where
+    go : (b : Bool) → is_high_in (task_at set k) ≡ b
+        → discarded set (Tick j Over ∷ g) k ≡ cond (is_high (level_in (task_at set k))) (discarded set g k) (how_many (is_of k) (released g) - how_many (is_how_of k Done) g - how_many (is_how_of k Stop) g)
+    go true m = rw (level-high (task_at set k), m) (discarded-high set (Tick j Over ∷ g) k m ∙ sym (discarded-high set g k m))
+    go false m =
+        let all = counts_add_up set rule (Tick j Over ∷ g) k l in
+        rw (level-high (task_at set k), m)
+        (omega (arith, all, live-low set j g k m, ended-tick j Over Done g k, ended-tick j Over Stop g k, none_of (j.task.0 == k)))
+
+-- an overrun of the task
+pub over-mine : (set : List Task) (rule : Rule) (j : JobId) (g : List Row) (k : ℕ) → Legal set rule (Tick j Over ∷ g) → (j.task.0 == k) ≡ true
+    → tally_of set (Tick j Over ∷ g) k ≡ with_switch (with_tick Over (tally_of set g k))
+over-mine set rule j g k l o =
+    tally_eq (tally_of set (Tick j Over ∷ g) k) (with_switch (with_tick Over (tally_of set g k))) refl refl refl refl
+    (discarded-so set rule j g k l ∙ ap (λ n. cond (is_high (level_in (task_at set k))) (discarded set g k) n) (omega arith))
+    (ended-mine j Over Done g k o) (ended-mine j Over Stop g k o) (omega (arith, ticks-tick j Over g k, ap one o)) (ap greatest (responses-tick j Over g k refl))
+
+-- and of another one
+pub over-other : (set : List Task) (rule : Rule) (j : JobId) (g : List Row) (k : ℕ) → Legal set rule (Tick j Over ∷ g) → (j.task.0 == k) ≡ false
+    → tally_of set (Tick j Over ∷ g) k ≡ with_switch (tally_of set g k)
+over-other set rule j g k l o =
+    tally_eq (tally_of set (Tick j Over ∷ g) k) (with_switch (tally_of set g k)) refl refl refl refl (discarded-so set rule j g k l)
+    (ended-other j Over Done g k o) (ended-other j Over Stop g k o) (omega (arith, ticks-tick j Over g k, ap one o)) (ap greatest (responses-tick j Over g k refl))
+
+-- an idle tick
+pub idle-same : (set : List Task) (g : List Row) (k : ℕ) → tally_of set (Idle ∷ g) k ≡ tally_of set g k
+idle-same set g k = tally_eq (tally_of set (Idle ∷ g) k) (tally_of set g k) refl refl refl refl (discarded-idle set g k) refl refl refl refl

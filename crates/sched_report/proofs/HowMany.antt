@@ -1,0 +1,46 @@
+-- How many elements of a list pass a test.
+use Rattle.std.proofs.Common.{◌≡◌, ℕ, ◌+◌, ◌≤◌, Bool, true, false, ◌&&◌, List, [], ◌∷◌, cond, filter, length, refl, ap, arith}
+use Rattle.sched_report.specs.ReportText.{how_many}
+use Rattle.mc_model.proofs.Lists.{Each, filter_ext, filter_none, filter-filter}
+
+-- 1 where it passes
+abbrev pub one : Bool → ℕ
+one b = cond b 1 0
+
+pub how_many-cons : {X : Type 0} (p : X → Bool) → (x : X) (xs : List X) → how_many p (x ∷ xs) ≡ one (p x) + how_many p xs
+how_many-cons p x xs = elim (p x) as (λ b. length (cond b (x ∷ filter p xs) (filter p xs)) ≡ one b + how_many p xs) [ true ↦ omega arith | false ↦ omega arith ]
+
+-- tests that agree on each element pass as many
+pub how_many_same : {X : Type 0} (p q : X → Bool) → (xs : List X) → Each (λ x. p x ≡ q x) xs → how_many p xs ≡ how_many q xs
+how_many_same p q xs h = ap length (filter_ext p q xs h)
+
+-- and none where no element passes
+pub how_many_none : {X : Type 0} (p : X → Bool) → (xs : List X) → Each (λ x. p x ≡ false) xs → how_many p xs ≡ 0
+how_many_none p xs h = ap length (filter_none p xs h)
+
+-- where each element counts as often in two tests as in two others, so do all
+pub how_many_both : {X : Type 0} (p q r s : X → Bool) → (xs : List X) → Each (λ x. one (p x) + one (q x) ≡ one (r x) + one (s x)) xs → how_many p xs + how_many q xs ≡ how_many r xs + how_many s xs
+how_many_both p q r s [] h = refl
+how_many_both p q r s (x ∷ xs) h =
+    let ih : how_many p xs + how_many q xs ≡ how_many r xs + how_many s xs = how_many_both p q r s xs h.1 in
+    let here : one (p x) + one (q x) ≡ one (r x) + one (s x) = h.0 in
+    omega (arith, ih, here, how_many-cons p x xs, how_many-cons q x xs, how_many-cons r x xs, how_many-cons s x xs)
+
+-- of those that another test keeps
+pub how_many-filter : {X : Type 0} (p q : X → Bool) → (xs : List X) → how_many p (filter q xs) ≡ how_many (λ x. q x && p x) xs
+how_many-filter p q xs = ap length (filter-filter p q xs)
+
+pub how_many-le : {X : Type 0} (p : X → Bool) → (xs : List X) → how_many p xs ≤ length xs
+how_many-le p [] = omega arith
+how_many-le p (x ∷ xs) =
+    let ih : how_many p xs ≤ length xs = how_many-le p xs in
+    let few : one (p x) ≤ 1 = elim (p x) as (λ b. one b ≤ 1) [ true ↦ omega arith | false ↦ omega arith ] in
+    omega (arith, ih, few, how_many-cons p x xs)
+
+-- fewer pass a test that another implies
+pub how_many-mono : {X : Type 0} (p q : X → Bool) → (xs : List X) → Each (λ x. one (p x) ≤ one (q x)) xs → how_many p xs ≤ how_many q xs
+how_many-mono p q [] h = omega arith
+how_many-mono p q (x ∷ xs) h =
+    let ih : how_many p xs ≤ how_many q xs = how_many-mono p q xs h.1 in
+    let here : one (p x) ≤ one (q x) = h.0 in
+    omega (arith, ih, here, how_many-cons p x xs, how_many-cons q x xs)

@@ -1,0 +1,10 @@
+pub mod AddUp
+pub mod Bounds
+pub mod Counted
+pub mod HowMany
+pub mod Keys
+pub mod Numbered
+pub mod Released
+pub mod Responses
+pub mod Steps
+pub mod Texts

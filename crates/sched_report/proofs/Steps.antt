@@ -1,0 +1,172 @@
+-- The tally after one more row of a legal trace is that of its rows. The newest row stands first.
+use Rattle.std.proofs.Common.{◌≡◌, ◌≢◌, ℕ, ◌+◌, ◌-◌, ◌≤◌, Bool, true, false, not, ◌&&◌, ◌||◌, ◌==◌, List, ◌∷◌, Some, cond, length, map, set, slice_get, refl, sym, ap, subst, ◌∙◌, arith}
+use Rattle.std.proofs.lemmas.Bool.Decides.{nat_tests}
+use Rattle.mc_task.specs.declared.task.Rule.{Rule}
+use Rattle.mc_task.specs.declared.task.Task.{Task}
+use Rattle.mc_task.specs.declared.task.JobId.{JobId}
+use Rattle.mc_task.specs.declared.task.Level.{Level}
+use Rattle.mc_task.specs.declared.task.Level.TheVariants.{Low, High}
+use Rattle.mc_task.specs.TaskSet.{task_at, IsIn}
+use Rattle.mc_model.specs.declared.row.How.{How}
+use Rattle.mc_model.specs.declared.row.How.TheVariants.{More, Over}
+use Rattle.mc_model.specs.declared.row.Row.{Row}
+use Rattle.mc_model.specs.declared.row.Row.TheVariants.{Release, Tick, Idle}
+use Rattle.mc_model.specs.TaskNumbers.{is_high}
+use Rattle.mc_model.specs.Pending.{Live, released, pending, is_end, is_live}
+use Rattle.mc_model.specs.Rows.{same_job}
+use Rattle.mc_model.specs.Mode.{is_over}
+use Rattle.mc_model.specs.Legal.{Legal}
+use Rattle.mc_model.proofs.Fold.{stays}
+use Rattle.mc_model.proofs.Booleans.{eqb-refl}
+use Rattle.mc_model.proofs.Lists.{Each, Each-map, Each-both, Each-filter, Each-filter_if}
+use Rattle.sched_report.specs.declared.task_tally.TaskTally.{TaskTally}
+use Rattle.sched_report.specs.declared.tally.Tally.{Tally}
+use Rattle.sched_report.specs.declared.waiting.Waiting.{Waiting}
+use Rattle.sched_report.specs.TaskTally.{level_in, tally_of, with_tick, with_response, with_switch}
+use Rattle.sched_report.specs.Waiting.{release_in, ChangesOnly}
+use Rattle.sched_report.specs.Tally.{numbered, Tallies, Stays, Releases, GoesOn, Ends, Overruns, Idles}
+use Rattle.sched_report.proofs.Numbered.{get-numbered, set-numbered, map-numbered, numbered_same}
+use Rattle.sched_report.proofs.Released.{none_of_next, release_of, release_is, pending-release, pending-tick, ticks_pending, at_pending}
+use Rattle.sched_report.proofs.Counted.{release-mine, release-other, more-mine, end-mine, tick-other, over-mine, over-other, idle-same, level-high}
+
+-- the tally of one task
+pub found : (tasks : List Task) (g : List Row) (k : ℕ) (old : List TaskTally) → IsIn tasks k → old ≡ numbered (tally_of tasks g) 1 tasks → slice_get old (k - 1) ≡ Some (tally_of tasks g k)
+found tasks g k old inside is =
+    let first : 1 ≤ k = inside.0 in
+    let last : k ≤ length tasks = inside.1 in
+    let number : 1 + (k - 1) ≡ k = omega (arith, first) in
+    ap (λ l. slice_get l (k - 1)) is ∙ (get-numbered (tally_of tasks g) 1 (k - 1) tasks (omega (arith, first, last)) ∙ ap (λ m. Some (tally_of tasks g m)) number)
+
+-- the tallies with that of one task changed
+changed : (f g : ℕ → TaskTally) (tasks : List Task) (k : ℕ) (x : TaskTally) (old : List TaskTally) → IsIn tasks k → old ≡ numbered f 1 tasks → g k ≡ x → ((m : ℕ) → (k == m) ≡ false → g m ≡ f m) → set old (k - 1) x ≡ numbered g 1 tasks
+changed f g tasks k x old inside is here others =
+    let first : 1 ≤ k = inside.0 in
+    let last : k ≤ length tasks = inside.1 in
+    let number : 1 + (k - 1) ≡ k = omega (arith, first) in
+    ap (λ l. set l (k - 1) x) is ∙ set-numbered f g 1 (k - 1) x tasks (omega (arith, first, last)) (ap g number ∙ here) (λ m a. others m (apart m (λ s. a (s ∙ sym number))))
+  where
+    apart : (m : ℕ) → m ≢ k → (k == m) ≡ false
+    apart m a = grind (arith, nat_tests, a)
+
+-- each of these jobs has its release time at hand
+abbrev pub Held : List Task → Waiting → List Live → Type 0
+Held tasks w now = Each (λ i. release_in w (level_in (task_at tasks i.job.task.0)) i.job ≡ Some i.release) now
+
+held-stays : (tasks : List Task) (old new : Waiting) (now : List Live) → Stays old new → Held tasks old now → Held tasks new now
+held-stays tasks old new now same h = Each-map {P = λ i. release_in old (level_in (task_at tasks i.job.task.0)) i.job ≡ Some i.release} (λ x p. same _ x.job ∙ p) now h
+
+-- the release time of the job of a tick
+pub held_at : (tasks : List Task) (rule : Rule) (j : JobId) (how : How) (g : List Row) (w : Waiting) → Legal tasks rule (Tick j how ∷ g) → Held tasks w (pending tasks g)
+    → release_in w (level_in (task_at tasks j.task.0)) j ≡ Some (release_of g j)
+held_at tasks rule j how g w l h =
+    at_pending (λ i r. release_in w (level_in (task_at tasks i.task.0)) i ≡ Some r) j (release_of g j) (pending tasks g) (ticks_pending tasks rule j how g l)
+    (Each-filter (λ x. same_job j x.job ≡ true → x.release ≡ release_of g j) (is_live tasks g) (released g) (release_is tasks rule g j l.2)) h
+
+-- after a release
+pub release_step : (tasks : List Task) (rule : Rule) (j : JobId) (kept : Bool) (g : List Row) (old new : Tally) → Legal tasks rule (Release j kept ∷ g) → Tallies tasks g old
+    → Releases j kept (tally_of tasks g j.task.0) old new → Tallies tasks (Release j kept ∷ g) new
+release_step tasks rule j kept g old new l t s = record {
+  tasks = s.tasks ∙ changed (tally_of tasks g) (tally_of tasks (Release j kept ∷ g)) tasks j.task.0 _ old.tasks.items l.0 t.tasks (release-mine tasks rule j kept g j.task.0 l (eqb-refl j.task.0)) (λ m o. release-other tasks rule j kept g m l o);
+  tick = s.tick ∙ t.tick;
+  idle = s.idle ∙ t.idle;
+  switches = s.switches ∙ t.switches;
+  waiting = waits kept l s;
+}
+  where
+    waits : (kept : Bool) → Legal tasks rule (Release j kept ∷ g) → Releases j kept (tally_of tasks g j.task.0) old new → Held tasks new.waiting (pending tasks (Release j kept ∷ g))
+    waits false l s = subst (Held tasks new.waiting) (sym (pending-release tasks rule j false g l)) (held-stays tasks old.waiting new.waiting (pending tasks g) s.waiting t.waiting)
+    waits true l s =
+        let w : ChangesOnly old.waiting new.waiting (level_in (task_at tasks j.task.0)) j (Some old.tick) = s.waiting in
+        let apart : Each (λ x. same_job j x.job ≡ false) (pending tasks g) = Each-filter (λ x. same_job j x.job ≡ false) (is_live tasks g) (released g) (none_of_next tasks rule j true g l) in
+        subst (Held tasks new.waiting) (sym (pending-release tasks rule j true g l))
+        (w.here ∙ ap Some t.tick, Each-both (λ x a p. w.others _ x.job a ∙ p) (pending tasks g) apart t.waiting)
+
+-- after a tick that leaves its job more to do
+pub more_step : (tasks : List Task) (rule : Rule) (j : JobId) (g : List Row) (old new : Tally) → Legal tasks rule (Tick j More ∷ g) → Tallies tasks g old
+    → GoesOn j (tally_of tasks g j.task.0) old new → Tallies tasks (Tick j More ∷ g) new
+more_step tasks rule j g old new l t s = record {
+  tasks = s.tasks ∙ changed (tally_of tasks g) (tally_of tasks (Tick j More ∷ g)) tasks j.task.0 _ old.tasks.items l.0 t.tasks (more-mine tasks j g j.task.0 (eqb-refl j.task.0)) (λ m o. tick-other tasks j More g m refl o);
+  tick = s.tick ∙ ap (λ n. n + 1) t.tick;
+  idle = s.idle ∙ t.idle;
+  switches = s.switches ∙ t.switches;
+  waiting = held-stays tasks old.waiting new.waiting (pending tasks g) s.waiting t.waiting;
+}
+
+-- after a job's last tick
+pub end_step : (tasks : List Task) (rule : Rule) (j : JobId) (how : How) (g : List Row) (old new : Tally) → is_end how ≡ true → is_over how ≡ false → Legal tasks rule (Tick j how ∷ g) → Tallies tasks g old
+    → Ends j how (tally_of tasks g j.task.0) (release_of g j) old new → Tallies tasks (Tick j how ∷ g) new
+end_step tasks rule j how g old new e v l t s = record {
+  tasks = s.tasks ∙ changed (tally_of tasks g) (tally_of tasks (Tick j how ∷ g)) tasks j.task.0 _ old.tasks.items l.0 t.tasks mine (λ m o. tick-other tasks j how g m v o);
+  tick = s.tick ∙ ap (λ n. n + 1) t.tick;
+  idle = s.idle ∙ t.idle;
+  switches = rw v (s.switches ∙ t.switches);
+  waiting = subst (Held tasks new.waiting) (sym (pending-tick tasks rule j how g l)) (Each-filter_if (λ i. release_in new.waiting (level_in (task_at tasks i.job.task.0)) i.job ≡ Some i.release) (stays tasks j how) (pending tasks g) kept);
+}
+  where
+    mine : tally_of tasks (Tick j how ∷ g) j.task.0 ≡ with_response (old.tick + 1 - release_of g j) (with_tick how (tally_of tasks g j.task.0))
+    mine = end-mine tasks rule j how g j.task.0 e v l (eqb-refl j.task.0) ∙ ap (λ n. with_response (n + 1 - release_of g j) (with_tick how (tally_of tasks g j.task.0))) (sym t.tick)
+
+    apart : (a b : Bool) → (not (true && a) && b) ≡ true → a ≡ false
+    apart true b h = cc
+    apart false b h = refl
+
+    kept : Each (λ i. stays tasks j how i ≡ true → release_in new.waiting (level_in (task_at tasks i.job.task.0)) i.job ≡ Some i.release) (pending tasks g)
+    kept =
+        Each-map {P = λ i. release_in old.waiting (level_in (task_at tasks i.job.task.0)) i.job ≡ Some i.release}
+        (λ x p st. s.waiting.others _ x.job (apart (same_job j x.job) _ (rw e at st)) ∙ p) (pending tasks g) t.waiting
+
+-- the tallies before an overrun discards jobs, with its tick at task number k
+abbrev with_over : (ℕ → TaskTally) → ℕ → ℕ → TaskTally
+with_over f k m = cond (k == m) (with_tick Over (f m)) (f m)
+
+over_at : (f : ℕ → TaskTally) (k m : ℕ) → (k == m) ≡ true → with_over f k m ≡ with_tick Over (f m)
+over_at f k m o = rw o refl
+
+over_apart : (f : ℕ → TaskTally) (k m : ℕ) → (k == m) ≡ false → with_over f k m ≡ f m
+over_apart f k m o = rw o refl
+
+-- after an overrun
+pub over_step : (tasks : List Task) (rule : Rule) (j : JobId) (g : List Row) (old new : Tally) → Legal tasks rule (Tick j Over ∷ g) → Tallies tasks g old
+    → Overruns j (tally_of tasks g j.task.0) old new → Tallies tasks (Tick j Over ∷ g) new
+over_step tasks rule j g old new l t s = record {
+  tasks =
+      s.tasks ∙ (ap (map with_switch) (changed (tally_of tasks g) (with_over (tally_of tasks g) j.task.0) tasks j.task.0 _ old.tasks.items l.0 t.tasks (over_at (tally_of tasks g) j.task.0 j.task.0 (eqb-refl j.task.0)) (over_apart (tally_of tasks g) j.task.0))
+      ∙ (map-numbered (with_over (tally_of tasks g) j.task.0) with_switch 1 tasks
+      ∙ numbered_same (λ m. with_switch (with_over (tally_of tasks g) j.task.0 m)) (tally_of tasks (Tick j Over ∷ g)) 1 tasks (λ m a. switched m)));
+  tick = s.tick ∙ ap (λ n. n + 1) t.tick;
+  idle = s.idle ∙ t.idle;
+  switches = omega (arith, s.switches, t.switches);
+  waiting = subst (Held tasks new.waiting) (sym (pending-tick tasks rule j Over g l)) (Each-filter_if (λ i. release_in new.waiting (level_in (task_at tasks i.job.task.0)) i.job ≡ Some i.release) (stays tasks j Over) (pending tasks g) kept);
+}
+  where
+    switched : (m : ℕ) → with_switch (with_over (tally_of tasks g) j.task.0 m) ≡ tally_of tasks (Tick j Over ∷ g) m
+    switched m = go (j.task.0 == m) refl
+      where
+        go : (b : Bool) → (j.task.0 == m) ≡ b → with_switch (with_over (tally_of tasks g) j.task.0 m) ≡ tally_of tasks (Tick j Over ∷ g) m
+        go true o = ap with_switch (over_at (tally_of tasks g) j.task.0 m o) ∙ sym (over-mine tasks rule j g m l o)
+        go false o = ap with_switch (over_apart (tally_of tasks g) j.task.0 m o) ∙ sym (over-other tasks rule j g m l o)
+
+    high_left : (a b : Bool) → (not (false && a) && (not true || b)) ≡ true → b ≡ true
+    high_left a true h = refl
+    high_left a false h = cc
+
+    at_high : (level : Level) → is_high level ≡ true → level ≡ High
+    at_high High h = refl
+    at_high Low h = cc
+
+    kept : Each (λ i. stays tasks j Over i ≡ true → release_in new.waiting (level_in (task_at tasks i.job.task.0)) i.job ≡ Some i.release) (pending tasks g)
+    kept =
+        Each-map {P = λ i. release_in old.waiting (level_in (task_at tasks i.job.task.0)) i.job ≡ Some i.release}
+        (λ x p st.
+        let high : level_in (task_at tasks x.job.task.0) ≡ High = at_high _ (level-high (task_at tasks x.job.task.0) ∙ high_left (same_job j x.job) _ st) in
+        rw high (s.waiting x.job ∙ (rw high at p))) (pending tasks g) t.waiting
+
+-- after an idle tick
+pub idle_step : (tasks : List Task) (g : List Row) (old new : Tally) → Tallies tasks g old → Idles old new → Tallies tasks (Idle ∷ g) new
+idle_step tasks g old new t s = record {
+  tasks = s.tasks ∙ (t.tasks ∙ numbered_same (tally_of tasks g) (tally_of tasks (Idle ∷ g)) 1 tasks (λ m a. sym (idle-same tasks g m)));
+  tick = s.tick ∙ ap (λ n. n + 1) t.tick;
+  idle = omega (arith, s.idle, t.idle);
+  switches = s.switches ∙ t.switches;
+  waiting = held-stays tasks old.waiting new.waiting (pending tasks g) s.waiting t.waiting;
+}

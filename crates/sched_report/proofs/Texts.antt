@@ -1,0 +1,128 @@
+-- Texts that grow piece by piece, and sums that grow task by task.
+use Rattle.std.proofs.Common.{◌≡◌, ℕ, ◌+◌, ◌*◌, ◌^◌, ◌<◌, List, [], ◌∷◌, ◌++◌, Some, length, get_or, drop, take, reverse, slice_get, refl, sym, ap, subst, ◌∙◌, arith, append_assoc}
+use Rattle.std.specs.List.{concat}
+use Rattle.std.proofs.lemmas.List.{append-nil, drop_more, reverse-append, take_more, take-append-drop}
+use Rattle.std.proofs.lemmas.Option.{get_or_from_slice_get}
+use Rattle.mc_task.specs.declared.task.Rule.{Rule}
+use Rattle.mc_task.specs.declared.task.Task.{Task}
+use Rattle.mc_model.specs.declared.row.Row.{Row}
+use Rattle.mc_model.specs.Legal.{Legal}
+use Rattle.sched_report.specs.ReportText.{Counts, plus, sum_counts, report_line, report_lines}
+use Rattle.mc_model.proofs.Walk.{drop_at}
+use Rattle.sched_report.specs.declared.task_tally.TaskTally.{TaskTally}
+use Rattle.sched_report.specs.TaskTally.{tally_of, IsSmall}
+use Rattle.sched_report.specs.Tally.{numbered}
+use Rattle.sched_report.specs.declared.counts.Counts as mine
+use Rattle.sched_report.specs.Counts.{counts_in, counts_of_tally, sum_tallies, tally_line, AreAtMost}
+use Rattle.sched_report.proofs.Numbered.{get-numbered}
+
+-- six words with their numbers, one behind the other
+pub six_counts :
+    (t0 t1 t2 t3 t4 t5 t6 w1 n1 w2 n2 w3 n3 w4 n4 w5 n5 w6 n6 : List ℕ) → t1 ≡ t0 ++ (w1 ++ n1) → t2 ≡ t1 ++ (w2 ++ n2) → t3 ≡ t2 ++ (w3 ++ n3) → t4 ≡ t3 ++ (w4 ++ n4) → t5 ≡ t4 ++ (w5 ++ n5)
+    → t6 ≡ t5 ++ (w6 ++ n6) → t6 ≡ t0 ++ concat (w1 ∷ n1 ∷ w2 ∷ n2 ∷ w3 ∷ n3 ∷ w4 ∷ n4 ∷ w5 ∷ n5 ∷ w6 ∷ n6 ∷ [])
+six_counts t0 t1 t2 t3 t4 t5 t6 w1 n1 w2 n2 w3 n3 w4 n4 w5 n5 w6 n6 i1 i2 i3 i4 i5 i6 = rw (i6, i5, i4, i3, i2, i1) (simp (append_assoc, append-nil) refl)
+
+-- the pieces of a task's line
+pub line_pieces :
+    (t0 t1 t2 t3 t4 t5 t6 t7 task name gap counts w1 n1 w2 n2 end : List ℕ) → t1 ≡ t0 ++ task → t2 ≡ t1 ++ name → t3 ≡ t2 ++ gap → t4 ≡ t3 ++ counts → t5 ≡ t4 ++ (w1 ++ n1)
+    → t6 ≡ t5 ++ (w2 ++ n2) → t7 ≡ t6 ++ end → t7 ≡ t0 ++ concat (task ∷ name ∷ gap ∷ counts ∷ w1 ∷ n1 ∷ w2 ∷ n2 ∷ end ∷ [])
+line_pieces t0 t1 t2 t3 t4 t5 t6 t7 task name gap counts w1 n1 w2 n2 end i1 i2 i3 i4 i5 i6 i7 = rw (i7, i6, i5, i4, i3, i2, i1) (simp (append_assoc, append-nil) refl)
+
+-- two words with their numbers, and an end
+pub two_counts : (t0 t1 t2 t3 w1 n1 w2 n2 end : List ℕ) → t1 ≡ t0 ++ (w1 ++ n1) → t2 ≡ t1 ++ (w2 ++ n2) → t3 ≡ t2 ++ end → t3 ≡ t0 ++ concat (w1 ∷ n1 ∷ w2 ∷ n2 ∷ end ∷ [])
+two_counts t0 t1 t2 t3 w1 n1 w2 n2 end i1 i2 i3 = rw (i3, i2, i1) (simp (append_assoc, append-nil) refl)
+
+-- counts, three words with their numbers, and an end
+pub summary_pieces :
+    (t0 t1 t2 t3 t4 t5 counts w1 n1 w2 n2 w3 n3 end : List ℕ) → t0 ≡ [] → t1 ≡ t0 ++ counts → t2 ≡ t1 ++ (w1 ++ n1) → t3 ≡ t2 ++ (w2 ++ n2) → t4 ≡ t3 ++ (w3 ++ n3) → t5 ≡ t4 ++ end
+    → t5 ≡ concat (counts ∷ w1 ∷ n1 ∷ w2 ∷ n2 ∷ w3 ∷ n3 ∷ end ∷ [])
+summary_pieces t0 t1 t2 t3 t4 t5 counts w1 n1 w2 n2 w3 n3 end i0 i1 i2 i3 i4 i5 = rw (i5, i4, i3, i2, i1, i0) (simp (append_assoc, append-nil) refl)
+
+-- the rows before a row of a legal trace are legal
+legal_behind : (set : List Task) (rule : Rule) (g h : List Row) → Legal set rule (g ++ h) → Legal set rule h
+legal_behind set rule [] h l = l
+legal_behind set rule (row ∷ g) h l = legal_behind set rule g h l.2
+
+-- the first rows of a trace that is written with the oldest first
+pub first_rows : (rows : List Row) (i : ℕ) (d : Row) → i < length rows → reverse (take (i + 1) rows) ≡ get_or rows i d ∷ reverse (take i rows)
+first_rows rows i d inside = ap reverse (take_more rows i d inside) ∙ reverse-append (take i rows) (get_or rows i d ∷ [])
+
+pub legal_first : (set : List Task) (rule : Rule) (rows : List Row) (i : ℕ) → Legal set rule (reverse rows) → Legal set rule (reverse (take i rows))
+legal_first set rule rows i l =
+    legal_behind set rule (reverse (drop i rows)) (reverse (take i rows))
+    (subst (Legal set rule) (ap reverse (sym (take-append-drop i rows)) ∙ reverse-append (take i rows) (drop i rows)) l)
+
+-- the line of a task, by its tally
+line_is : (set : List Task) (h : List Row) (k : ℕ) (name : List ℕ) → report_line set h k name ≡ tally_line name (tally_of set h k)
+unfolding report_line tally_line
+line_is set h k name = refl
+
+-- one line more
+pub line_more : (set : List Task) (h : List Row) (i : ℕ) (t : Task) (text longer last whole : List ℕ) (s : TaskTally) → slice_get set i ≡ Some t → s ≡ tally_of set h (i + 1) → longer ≡ text ++ tally_line t.name s
+    → text ++ (report_lines set h (i + 1) (drop i set) ++ last) ≡ whole → longer ++ (report_lines set h (i + 1 + 1) (drop (i + 1) set) ++ last) ≡ whole
+line_more set h i t text longer last whole s found is longer_is inv =
+    let rest : List ℕ = report_lines set h (i + 1 + 1) (drop (i + 1) set) ++ last in
+    let line : List ℕ = report_line set h (i + 1) t.name in
+    let next : report_lines set h (i + 1) (drop i set) ++ last ≡ line ++ rest =
+    ap (λ (l : List Task). report_lines set h (i + 1) l ++ last) (drop_at set i t found) ∙ append_assoc line (report_lines set h (i + 1 + 1) (drop (i + 1) set)) last in
+    let same : longer ≡ text ++ line = longer_is ∙ ap (λ l. text ++ l) (ap (tally_line t.name) is ∙ sym (line_is set h (i + 1) t.name)) in
+    ap (λ l. l ++ rest) same ∙ (append_assoc text line rest ∙ (ap (λ l. text ++ l) (sym next) ∙ inv))
+
+-- counts are equal where their parts are
+counts_eq : (a b : Counts) → a.released ≡ b.released → a.kept ≡ b.kept → a.dropped ≡ b.dropped → a.discarded ≡ b.discarded → a.done ≡ b.done → a.stopped ≡ b.stopped → a ≡ b
+counts_eq a b released kept dropped discarded done stopped = λ i. record { released = released i; kept = kept i; dropped = dropped i; discarded = discarded i; done = done i; stopped = stopped i }
+
+plus_assoc : (a b c : Counts) → plus (plus a b) c ≡ plus a (plus b c)
+plus_assoc a b c = counts_eq (plus (plus a b) c) (plus a (plus b c)) (omega arith) (omega arith) (omega arith) (omega arith) (omega arith) (omega arith)
+
+-- nothing
+abbrev pub no_counts : Counts
+no_counts = record { released = 0; kept = 0; dropped = 0; discarded = 0; done = 0; stopped = 0 }
+
+pub plus-none : (a : Counts) → plus a no_counts ≡ a
+plus-none a = counts_eq (plus a no_counts) a (omega arith) (omega arith) (omega arith) (omega arith) (omega arith) (omega arith)
+
+pub none-plus : (a : Counts) → plus no_counts a ≡ a
+none-plus a = counts_eq (plus no_counts a) a (omega arith) (omega arith) (omega arith) (omega arith) (omega arith) (omega arith)
+
+-- the sum with one tally more
+pub sum_more : (ts : List TaskTally) (i : ℕ) (d : TaskTally) (sum more whole : Counts) → i < length ts → more ≡ plus sum (counts_of_tally (get_or ts i d))
+    → plus sum (sum_tallies (drop i ts)) ≡ whole → plus more (sum_tallies (drop (i + 1) ts)) ≡ whole
+sum_more ts i d sum more whole inside is inv =
+    ap (λ c. plus c (sum_tallies (drop (i + 1) ts))) is
+    ∙ (plus_assoc sum (counts_of_tally (get_or ts i d)) (sum_tallies (drop (i + 1) ts))
+    ∙ (ap (λ (l : List TaskTally). plus sum (sum_tallies l)) (sym (drop_more ts i d inside)) ∙ inv))
+
+-- the sum of all is that of the model
+pub sum_is : (set : List Task) (h : List Row) (k : ℕ) (ts : List Task) → sum_tallies (numbered (tally_of set h) k ts) ≡ sum_counts set h k ts
+sum_is set h k [] = refl
+sum_is set h k (t ∷ ts) = ap (plus (counts_of_tally (tally_of set h k))) (sum_is set h (k + 1) ts)
+
+-- the tally at an index is that of the next number
+pub tally_at : (set : List Task) (h : List Row) (s : List TaskTally) (i : ℕ) (x : TaskTally) → s ≡ numbered (tally_of set h) 1 set → i < length set → x ≡ get_or s i x → x ≡ tally_of set h (i + 1)
+tally_at set h s i x is inside read =
+    let next : 1 + i ≡ i + 1 = omega arith in
+    let found : slice_get s i ≡ Some (tally_of set h (i + 1)) = ap (λ l. slice_get l i) is ∙ (get-numbered (tally_of set h) 1 i set inside ∙ ap (λ m. Some (tally_of set h m)) next) in
+    read ∙ get_or_from_slice_get s i (tally_of set h (i + 1)) x found
+
+-- the counts of a small tally are small
+pub small_counts : (t : TaskTally) (c : mine.Counts) → counts_in c ≡ counts_of_tally t → IsSmall t → AreAtMost (2 ^ 24) c
+small_counts t c is s = record {
+  released = let e = ap (λ (x : Counts). x.released) is in omega (arith, e, s.released);
+  kept = let e = ap (λ (x : Counts). x.kept) is in omega (arith, e, s.kept);
+  dropped = let e = ap (λ (x : Counts). x.dropped) is in omega (arith, e, s.dropped);
+  discarded = let e = ap (λ (x : Counts). x.discarded) is in omega (arith, e, s.discarded);
+  done = let e = ap (λ (x : Counts). x.done) is in omega (arith, e, s.done);
+  stopped = let e = ap (λ (x : Counts). x.stopped) is in omega (arith, e, s.stopped);
+}
+
+-- and their sum with others grows by as much
+pub sum_grows : (i : ℕ) (a b c : mine.Counts) → counts_in c ≡ plus (counts_in a) (counts_in b) → AreAtMost (i * 2 ^ 24) a → AreAtMost (2 ^ 24) b → AreAtMost ((i + 1) * 2 ^ 24) c
+sum_grows i a b c is s t = record {
+  released = let e = ap (λ (x : Counts). x.released) is in omega (arith, e, s.released, t.released);
+  kept = let e = ap (λ (x : Counts). x.kept) is in omega (arith, e, s.kept, t.kept);
+  dropped = let e = ap (λ (x : Counts). x.dropped) is in omega (arith, e, s.dropped, t.dropped);
+  discarded = let e = ap (λ (x : Counts). x.discarded) is in omega (arith, e, s.discarded, t.discarded);
+  done = let e = ap (λ (x : Counts). x.done) is in omega (arith, e, s.done, t.done);
+  stopped = let e = ap (λ (x : Counts). x.stopped) is in omega (arith, e, s.stopped, t.stopped);
+}

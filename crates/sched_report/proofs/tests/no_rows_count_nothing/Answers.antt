@@ -1,0 +1,10 @@
+use Rattle.std.proofs.Common.{refl, lit≤}
+use Rattle.mc_task.specs.declared.task.Rule.TheVariants.{Virtual}
+use Rattle.mc_model.proofs.Decided.{decided_trace}
+use Rattle.sched_report.proofs.tests.no_rows_count_nothing.Goals as goal
+
+pub report-requires-clause-trace : goal.report-requires-clause-trace
+report-requires-clause-trace g c = rw c.in_ok-set.ensures (decided_trace _ (Virtual 2 5) _ (lit≤ tt, lit≤ tt, lit≤ tt) refl)
+
+pub summary-requires-clause-trace : goal.summary-requires-clause-trace
+summary-requires-clause-trace g c = rw c.in_ok-set.ensures (decided_trace _ (Virtual 2 5) _ (lit≤ tt, lit≤ tt, lit≤ tt) refl)

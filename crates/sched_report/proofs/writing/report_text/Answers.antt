@@ -1,0 +1,39 @@
+use Rattle.std.proofs.Common.{◌≡◌, ◌+◌, ◌<◌, length, reverse, refl, ap, ◌∙◌, arith}
+use Rattle.std.proofs.lemmas.List.{length-reverse}
+use Rattle.sched_report.specs.ReportText.{report_text}
+use Rattle.sched_report.specs.TaskTally.{tally_of}
+use Rattle.sched_report.proofs.Bounds.{few_done, few_stopped}
+use Rattle.sched_report.proofs.Numbered.{length-numbered}
+use Rattle.sched_report.proofs.Texts.{tally_at, line_more}
+use Rattle.sched_report.proofs.writing.report_text.Goals as goal
+
+pub loop-i-init : goal.loop-i-init
+unfolding report_text
+loop-i-init c = rw c.new-text.ensures.items refl
+
+pub index-requires : goal.index-requires
+index-requires c =
+    let long : length c.in_ok-tally.tally.tasks.items ≡ length c.args.set.now = ap length c.in_ok-tally.ensures.tasks ∙ length-numbered _ 1 c.args.set.now in
+    omega (arith, long, c.in_ok-tally.tally.tasks.ok.0, c.loop-i-test.true, c.len-i-end.ensures.count)
+
+pub push_task-requires-clause-done : goal.push_task-requires-clause-done
+push_task-requires-clause-done c =
+    let h = reverse c.args.rows.now in
+    let inside : c.loop-i.i < length c.args.set.now = omega (arith, c.loop-i-test.true, c.len-i-end.ensures.count) in
+    let is : c.index.result.now ≡ tally_of c.args.set.now h (c.loop-i.i + 1) = tally_at c.args.set.now h c.in_ok-tally.tally.tasks.items c.loop-i.i c.index.result.now c.in_ok-tally.ensures.tasks inside c.index.ensures in
+    rw is (few_done c.args.set.now h (c.loop-i.i + 1) (omega (arith, c.requires.few, length-reverse c.args.rows.now)))
+
+pub push_task-requires-clause-stopped : goal.push_task-requires-clause-stopped
+push_task-requires-clause-stopped c =
+    let h = reverse c.args.rows.now in
+    let inside : c.loop-i.i < length c.args.set.now = omega (arith, c.loop-i-test.true, c.len-i-end.ensures.count) in
+    let is : c.index.result.now ≡ tally_of c.args.set.now h (c.loop-i.i + 1) = tally_at c.args.set.now h c.in_ok-tally.tally.tasks.items c.loop-i.i c.index.result.now c.in_ok-tally.ensures.tasks inside c.index.ensures in
+    rw is (few_stopped c.args.set.now h (c.loop-i.i + 1) (omega (arith, c.requires.few, length-reverse c.args.rows.now)))
+
+pub loop-i-preserved : goal.loop-i-preserved
+loop-i-preserved c =
+    let h = reverse c.args.rows.now in
+    let inside : c.loop-i.i < length c.args.set.now = omega (arith, c.loop-i-test.true, c.len-i-end.ensures.count) in
+    let is : c.index.result.now ≡ tally_of c.args.set.now h (c.loop-i.i + 1) = tally_at c.args.set.now h c.in_ok-tally.tally.tasks.items c.loop-i.i c.index.result.now c.in_ok-tally.ensures.tasks inside c.index.ensures in
+    line_more c.args.set.now h c.loop-i.i c.task_at-task.result c.loop-i.text.items c.push_task.new.text.items _ _ c.index.result.now c.task_at-task.ensures is
+    (rw c.bytes.ensures.value at c.in_ok-push_task.ensures) c.loop-i.invariant

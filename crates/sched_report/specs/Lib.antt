@@ -1,0 +1,5 @@
+pub mod ReportText
+pub mod Waiting
+pub mod TaskTally
+pub mod Tally
+pub mod Counts

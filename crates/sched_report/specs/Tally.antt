@@ -1,0 +1,95 @@
+-- What is counted of all rows, and what a row changes of it. The newest row stands first.
+use Rattle.std.specs.Prelude.{◌≡◌, ℕ, ◌+◌, ◌-◌, ◌<◌, ◌≤◌, ◌^◌, Bool, true, false, All, List, [], ◌∷◌, Some, None, map, slice_set}
+use Rattle.std.specs.List.{AllByRecursion}
+use Rattle.mc_task.specs.declared.task.JobId.{JobId}
+use Rattle.mc_task.specs.declared.task.Level.{Level}
+use Rattle.mc_task.specs.declared.task.Level.TheVariants.{High}
+use Rattle.mc_task.specs.declared.task.Task.{Task}
+use Rattle.mc_task.specs.TaskSet.{task_at}
+use Rattle.mc_model.specs.Rows.{ticks}
+use Rattle.mc_model.specs.Pending.{pending}
+use Rattle.sched_report.specs.ReportText.{how_many, is_idle, is_switch}
+use Rattle.mc_model.specs.declared.row.How.{How}
+use Rattle.mc_model.specs.declared.row.How.TheVariants.{More, Over}
+use Rattle.mc_model.specs.declared.row.Row.{Row}
+use Rattle.mc_model.specs.declared.row.Row.TheVariants.{Release, Tick, Idle}
+use Rattle.sched_report.specs.declared.task_tally.TaskTally.{TaskTally}
+use Rattle.sched_report.specs.declared.tally.Tally.{Tally}
+use Rattle.sched_report.specs.declared.waiting.Waiting.{Waiting}
+use Rattle.sched_report.specs.TaskTally.{level_in, tally_of, with_release, with_tick, with_response, with_switch, IsSmall}
+use Rattle.sched_report.specs.Waiting.{release_in, ChangesOnly}
+
+-- one of each number from k on, as many as there are tasks
+abbrev pub numbered : {X : Type 0} → (ℕ → X) → ℕ → List Task → List X
+numbered f k [] = []
+numbered f k (t ∷ ts) = f k ∷ numbered f (k + 1) ts
+
+-- the tally is that of the rows, and the release time of each pending job is at hand
+pub record Tallies (set : List Task) (h : List Row) (s : Tally) : Type 0 where
+  pub tasks : s.tasks.items ≡ numbered (tally_of set h) 1 set
+  pub tick : s.tick ≡ ticks h
+  pub idle : s.idle ≡ how_many is_idle h
+  pub switches : s.switches ≡ how_many is_switch h
+  pub waiting : AllByRecursion (λ i. release_in s.waiting (level_in (task_at set i.job.task.0)) i.job ≡ Some i.release) (pending set h)
+
+-- the row's task is one of so many
+abbrev pub IsAmong : ℕ → Row → Type 0
+IsAmong n (Release j kept) = (1 ≤ j.task.0) × (j.task.0 ≤ n)
+IsAmong n (Tick j how) = (1 ≤ j.task.0) × (j.task.0 ≤ n)
+IsAmong n Idle = Unit {0}
+
+-- there is room to count on
+pub record HasRoom (s : Tally) : Type 0 where
+  pub tasks : All IsSmall s.tasks.items
+  pub tick : s.tick < 2 ^ 31
+  pub idle : s.idle < 2 ^ 31
+  pub switches : s.switches < 2 ^ 31
+
+-- no release time is changed
+abbrev pub Stays : Waiting → Waiting → Type 0
+Stays old new = (l : Level) (j : JobId) → release_in new l j ≡ release_in old l j
+
+-- a kept job waits from now on; a dropped one changes nothing
+abbrev pub Waits : Bool → Waiting → Waiting → Level → JobId → ℕ → Type 0
+Waits true old new level j now = ChangesOnly old new level j (Some now)
+Waits false old new level j now = Stays old new
+
+-- after a release of the job, whose task has this tally
+pub record Releases (j : JobId) (kept : Bool) (t : TaskTally) (old new : Tally) : Type 0 where
+  pub tasks : new.tasks.items ≡ slice_set old.tasks.items (j.task.0 - 1) (with_release kept t)
+  pub waiting : Waits kept old.waiting new.waiting t.level j old.tick
+  pub tick : new.tick ≡ old.tick
+  pub idle : new.idle ≡ old.idle
+  pub switches : new.switches ≡ old.switches
+
+-- after a tick of the job that leaves it more to do
+pub record GoesOn (j : JobId) (t : TaskTally) (old new : Tally) : Type 0 where
+  pub tasks : new.tasks.items ≡ slice_set old.tasks.items (j.task.0 - 1) (with_tick More t)
+  pub waiting : Stays old.waiting new.waiting
+  pub tick : new.tick ≡ old.tick + 1
+  pub idle : new.idle ≡ old.idle
+  pub switches : new.switches ≡ old.switches
+
+-- after the job's last tick, where it was released at r
+pub record Ends (j : JobId) (how : How) (t : TaskTally) (r : ℕ) (old new : Tally) : Type 0 where
+  pub tasks : new.tasks.items ≡ slice_set old.tasks.items (j.task.0 - 1) (with_response (old.tick + 1 - r) (with_tick how t))
+  pub waiting : ChangesOnly old.waiting new.waiting t.level j None
+  pub tick : new.tick ≡ old.tick + 1
+  pub idle : new.idle ≡ old.idle
+  pub switches : new.switches ≡ old.switches
+
+-- after a tick of the job that overran
+pub record Overruns (j : JobId) (t : TaskTally) (old new : Tally) : Type 0 where
+  pub tasks : new.tasks.items ≡ map with_switch (slice_set old.tasks.items (j.task.0 - 1) (with_tick Over t))
+  pub waiting : (i : JobId) → release_in new.waiting High i ≡ release_in old.waiting High i
+  pub tick : new.tick ≡ old.tick + 1
+  pub idle : new.idle ≡ old.idle
+  pub switches : new.switches ≡ old.switches + 1
+
+-- after an idle tick
+pub record Idles (old new : Tally) : Type 0 where
+  pub tasks : new.tasks.items ≡ old.tasks.items
+  pub waiting : Stays old.waiting new.waiting
+  pub tick : new.tick ≡ old.tick + 1
+  pub idle : new.idle ≡ old.idle + 1
+  pub switches : new.switches ≡ old.switches

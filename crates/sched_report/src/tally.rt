@@ -1,0 +1,161 @@
+// What is counted of the rows of a trace, row by row.
+ghost use Rattle.std.specs.Prelude.{◌≡◌, ◌-◌, ◌≤◌, ◌∷◌, ℕ, [], IfOk, OnOk, Some, List, slice_get, vec_len};
+ghost use Rattle.mc_task.specs.declared.task.Rule.{Rule};
+ghost use Rattle.mc_task.specs.declared.task.Task.{Task};
+ghost use Rattle.mc_model.specs.declared.row.Row.{Row};
+ghost use Rattle.mc_model.specs.declared.row.Row.TheVariants as row;
+ghost use Rattle.mc_model.specs.Legal.{Legal};
+ghost use Rattle.sched_report.specs.declared.task_tally.TaskTally.{TaskTally};
+ghost use Rattle.sched_report.specs.Waiting.{release_in};
+ghost use Rattle.sched_report.specs.Tally.{Tallies, IsAmong, HasRoom, Releases, GoesOn, Ends, Overruns, Idles};
+
+use crate::task_tally::TaskTally;
+use crate::waiting::Waiting;
+use mc_model::{How, Row};
+use mc_task::{JobId, Task, TaskNo, TaskSet};
+use std::alloc::{AllocError, Global};
+
+// `tick` is the number of the next tick. Task number k stands at place k - 1.
+#[derive(Drop)]
+pub struct Tally {
+    pub tasks: Vec<TaskTally>,
+    pub tick: u32,
+    pub idle: u32,
+    pub switches: u32,
+    waiting: Waiting,
+}
+
+impl Tally {
+    // With no row counted.
+    pub fn new(alloc: Global, set: &TaskSet) -> Result<Tally, AllocError>
+        ensures { IfOk result (λ tally. Tallies set.now [] tally) }
+    {
+        let count = set.len();
+        let mut tasks = Vec::with_capacity(alloc, count as usize)?;
+        for i in 0..count {
+            let task = task_at(set, i);
+            tasks.push(TaskTally::new(task.level))?;
+        }
+        Ok(Tally {
+            tasks,
+            tick: 0,
+            idle: 0,
+            switches: 0,
+            waiting: Waiting::new(alloc),
+        })
+    }
+
+    // Counts one more row of a legal trace.
+    pub fn count(&mut self, row: Row) -> Result<(), AllocError>
+        requires task { IsAmong (vec_len self.old.tasks) row }
+        requires room { HasRoom self.old }
+        ensures { OnOk result ((set : List Task) (rule : Rule) (g : List Row) → Legal set rule (row ∷ g) → Tallies set g self.old → Tallies set (row ∷ g) self.new) }
+    {
+        match row {
+            Row::Release { job, kept } => self.release(job, kept)?,
+            Row::Tick { job, how } => self.tick(job, how),
+            Row::Idle => self.rest(),
+        }
+        Ok(())
+    }
+
+    fn tick(&mut self, job: JobId, how: How)
+        requires first { 1 ≤ job.task.0 }
+        requires last { job.task.0 ≤ vec_len self.old.tasks }
+        requires room { HasRoom self.old }
+        ensures { (set : List Task) (rule : Rule) (g : List Row) → Legal set rule (row.Tick job how ∷ g) → Tallies set g self.old → Tallies set (row.Tick job how ∷ g) self.new }
+    {
+        match how {
+            How::More => self.go_on(job),
+            How::Done | How::Stop => self.end(job, how),
+            How::Over => self.overrun(job),
+        }
+    }
+
+    // A release, which is kept or dropped.
+    fn release(&mut self, job: JobId, kept: bool) -> Result<(), AllocError>
+        requires first { 1 ≤ job.task.0 }
+        requires last { job.task.0 ≤ vec_len self.old.tasks }
+        requires room { HasRoom self.old }
+        ensures { OnOk result ((t : TaskTally) → slice_get self.old.tasks.items (job.task.0 - 1) ≡ Some t → Releases job kept t self.old self.new) }
+    {
+        let place = job.task.0 as usize - 1;
+        let task = self.tasks[place];
+        if kept {
+            self.waiting.put(task.level, job, self.tick)?;
+        }
+        self.tasks[place] = task.with_release(kept);
+        Ok(())
+    }
+
+    // A tick after which the job has more to do.
+    fn go_on(&mut self, job: JobId)
+        requires first { 1 ≤ job.task.0 }
+        requires last { job.task.0 ≤ vec_len self.old.tasks }
+        requires room { HasRoom self.old }
+        ensures { (t : TaskTally) → slice_get self.old.tasks.items (job.task.0 - 1) ≡ Some t → GoesOn job t self.old self.new }
+    {
+        let place = job.task.0 as usize - 1;
+        self.tasks[place] = self.tasks[place].with_tick(How::More);
+        self.tick += 1;
+    }
+
+    // The last tick of a job.
+    fn end(&mut self, job: JobId, how: How)
+        requires first { 1 ≤ job.task.0 }
+        requires last { job.task.0 ≤ vec_len self.old.tasks }
+        requires room { HasRoom self.old }
+        ensures { (t : TaskTally) (r : ℕ) → slice_get self.old.tasks.items (job.task.0 - 1) ≡ Some t → release_in self.old.waiting t.level job ≡ Some r → Ends job how t r self.old self.new }
+    {
+        let place = job.task.0 as usize - 1;
+        let task = self.tasks[place].with_tick(how);
+        let release = self.waiting.take(task.level, job).unwrap_or(0);
+        let response = (self.tick + 1).saturating_sub(release);
+        self.tasks[place] = task.with_response(response);
+        self.tick += 1;
+    }
+
+    // A tick of a job that ran over its low budget.
+    fn overrun(&mut self, job: JobId)
+        requires first { 1 ≤ job.task.0 }
+        requires last { job.task.0 ≤ vec_len self.old.tasks }
+        requires room { HasRoom self.old }
+        ensures { (t : TaskTally) → slice_get self.old.tasks.items (job.task.0 - 1) ≡ Some t → Overruns job t self.old self.new }
+    {
+        let place = job.task.0 as usize - 1;
+        self.tasks[place] = self.tasks[place].with_tick(How::Over);
+        switch_all(&mut self.tasks);
+        self.waiting.discard();
+        self.tick += 1;
+        self.switches += 1;
+    }
+
+    // A tick in which nothing was pending.
+    fn rest(&mut self)
+        requires { HasRoom self.old }
+        ensures { Idles self.old self.new }
+    {
+        self.tick += 1;
+        self.idle += 1;
+    }
+}
+
+ghost use Rattle.std.specs.Prelude.{◌<◌, length, map};
+ghost use Rattle.sched_report.specs.TaskTally.{with_switch};
+
+// The task at this index of the set.
+pub fn task_at(set: &TaskSet, i: u32) -> Task
+    requires within { i < length set.now }
+    requires few { i < 128 }
+    ensures { slice_get set.now i ≡ Some result }
+{
+    set.get(TaskNo(i + 1)).unwrap()
+}
+
+fn switch_all(tasks: &mut [TaskTally])
+    ensures { tasks.new ≡ map with_switch tasks.old }
+{
+    for task in tasks.iter_mut() {
+        *task = task.with_switch();
+    }
+}

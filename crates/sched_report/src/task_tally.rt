@@ -1,0 +1,87 @@
+// What is counted of a task.
+ghost use Rattle.std.specs.Prelude.{◌≡◌, ◌<◌, ◌^◌};
+ghost use Rattle.sched_report.specs.TaskTally as model;
+
+use mc_model::How;
+use mc_task::Level;
+
+// `response` is the greatest response in ticks so far, 0 where no job ended.
+#[derive(Clone, Copy, Debug, PartialEq, Eq)]
+pub struct TaskTally {
+    pub level: Level,
+    pub released: u32,
+    pub kept: u32,
+    pub dropped: u32,
+    pub discarded: u32,
+    pub done: u32,
+    pub stopped: u32,
+    pub ticks: u32,
+    pub response: u32,
+}
+
+impl TaskTally {
+    pub fn new(level: Level) -> TaskTally
+        ensures { result ≡ record { level = level; released = 0; kept = 0; dropped = 0; discarded = 0; done = 0; stopped = 0; ticks = 0; response = 0 } }
+    {
+        TaskTally {
+            level,
+            released: 0,
+            kept: 0,
+            dropped: 0,
+            discarded: 0,
+            done: 0,
+            stopped: 0,
+            ticks: 0,
+            response: 0,
+        }
+    }
+
+    // With one more release, kept or dropped.
+    pub fn with_release(mut self, kept: bool) -> TaskTally
+        requires { model.IsSmall self }
+        ensures { result ≡ model.with_release kept self }
+    {
+        self.released += 1;
+        if kept {
+            self.kept += 1;
+        } else {
+            self.dropped += 1;
+        }
+        self
+    }
+
+    // With one more tick, which ended so for its job.
+    pub fn with_tick(mut self, how: How) -> TaskTally
+        requires { model.IsSmall self }
+        ensures { result ≡ model.with_tick how self }
+    {
+        self.ticks += 1;
+        match how {
+            How::Done => self.done += 1,
+            How::Stop => self.stopped += 1,
+            How::More | How::Over => {}
+        }
+        self
+    }
+
+    // With the response of one more job, in ticks.
+    pub fn with_response(mut self, response: u32) -> TaskTally
+        ensures { result ≡ model.with_response response self }
+    {
+        self.response = self.response.max(response);
+        self
+    }
+
+    // After an overrun, which discards the jobs of a low task that were kept and have not ended.
+    pub fn with_switch(mut self) -> TaskTally
+        ensures { result ≡ model.with_switch self }
+    {
+        if self.level == Level::Low {
+            self.discarded = self
+                .kept
+                .saturating_sub(self.done)
+                .saturating_sub(self.stopped);
+        }
+        self
+    }
+}

@@ -1,0 +1,129 @@
+// The texts of a trace's numbers.
+ghost use Rattle.std.specs.Prelude.{◌≡◌, ◌≤◌, ◌++◌, IfOk, OnOk, codes, length, reverse};
+ghost use Rattle.sched_report.specs.ReportText.{report_text, summary_text, CountsAddUp};
+ghost use Rattle.mc_model.specs.Traces.{IsTraceOf};
+ghost use Rattle.sched_report.specs.Counts.{counts_in, response_of_tally, sum_tallies, tally_line};
+ghost use Rattle.sched_report.specs.Tally.{Tallies};
+
+use crate::counts::{Counts, push_count};
+use crate::tally::{Tally, task_at};
+use crate::task_tally::TaskTally;
+use mc_model::Row;
+use mc_task::{Memory, TaskSet};
+use std::alloc::{AllocError, Global};
+
+/// The report of a trace: for each task in order how many jobs were released, kept, dropped, discarded, done and
+/// stopped, its ticks and its greatest response in ticks, and then the idle ticks and the switches to high mode.
+pub fn report(alloc: Global, set: &TaskSet, rows: &[Row]) -> Result<Vec<u8>, Memory>
+    requires trace { IsTraceOf set.now (reverse rows.now) }
+    requires few { length rows.now ≤ 2000000 }
+    ensures text { IfOk result (λ text. text.items ≡ report_text set.now (reverse rows.now)) }
+    // The counts of each task add up.
+    ensures law { CountsAddUp }
+{
+    match report_text(alloc, set, rows) {
+        Ok(text) => Ok(text),
+        Err(_) => Err(Memory),
+    }
+}
+
+/// The sums of a report over all tasks, in one line, and the ticks of jobs, the idle ticks and the switches in another.
+pub fn summary(alloc: Global, set: &TaskSet, rows: &[Row]) -> Result<Vec<u8>, Memory>
+    requires trace { IsTraceOf set.now (reverse rows.now) }
+    requires few { length rows.now ≤ 2000000 }
+    ensures { IfOk result (λ text. text.items ≡ summary_text set.now (reverse rows.now)) }
+{
+    match summary_text(alloc, set, rows) {
+        Ok(text) => Ok(text),
+        Err(_) => Err(Memory),
+    }
+}
+
+fn report_text(alloc: Global, set: &TaskSet, rows: &[Row]) -> Result<Vec<u8>, AllocError>
+    requires trace { IsTraceOf set.now (reverse rows.now) }
+    requires few { length rows.now ≤ 2000000 }
+    ensures { IfOk result (λ text. text.items ≡ report_text set.now (reverse rows.now)) }
+{
+    let tally = tally_of(alloc, set, rows)?;
+    let mut text = Vec::new(alloc);
+    for i in 0..set.len() {
+        let task = task_at(set, i);
+        push_task(&mut text, task.name.bytes(), &tally.tasks[i as usize])?;
+    }
+    push_count(&mut text, "idle ", tally.idle)?;
+    push_count(&mut text, "\nswitches ", tally.switches)?;
+    text.extend_from_slice(b"\n")?;
+    Ok(text)
+}
+
+fn summary_text(alloc: Global, set: &TaskSet, rows: &[Row]) -> Result<Vec<u8>, AllocError>
+    requires trace { IsTraceOf set.now (reverse rows.now) }
+    requires few { length rows.now ≤ 2000000 }
+    ensures { IfOk result (λ text. text.items ≡ summary_text set.now (reverse rows.now)) }
+{
+    let _is_set = set.len();
+    let tally = tally_of(alloc, set, rows)?;
+    let mut text = Vec::new(alloc);
+    sum_of(&tally).push_to(&mut text)?;
+    push_count(&mut text, "\nticks ", tally.tick - tally.idle)?;
+    push_count(&mut text, " idle ", tally.idle)?;
+    push_count(&mut text, " switches ", tally.switches)?;
+    text.extend_from_slice(b"\n")?;
+    Ok(text)
+}
+
+fn tally_of(alloc: Global, set: &TaskSet, rows: &[Row]) -> Result<Tally, AllocError>
+    requires trace { IsTraceOf set.now (reverse rows.now) }
+    requires few { length rows.now ≤ 2000000 }
+    ensures { IfOk result (λ tally. Tallies set.now (reverse rows.now) tally) }
+{
+    let mut tally = Tally::new(alloc, set)?;
+    for row in rows {
+        tally.count(*row)?;
+    }
+    Ok(tally)
+}
+
+fn push_task(text: &mut Vec<u8>, name: &[u8], task: &TaskTally) -> Result<(), AllocError>
+    requires done { task.now.done ≤ 2000000 }
+    requires stopped { task.now.stopped ≤ 2000000 }
+    ensures { OnOk result (text.new.items ≡ text.old.items ++ tally_line name.now task.now) }
+{
+    text.extend_from_slice(b"task ")?;
+    text.extend_from_slice(name)?;
+    text.extend_from_slice(b" ")?;
+    Counts::of(task).push_to(text)?;
+    push_count(text, " ticks ", task.ticks)?;
+    push_response(text, task)?;
+    text.extend_from_slice(b"\n")?;
+    Ok(())
+}
+
+// A dash where no job was done or stopped.
+fn push_response(text: &mut Vec<u8>, task: &TaskTally) -> Result<(), AllocError>
+    requires done { task.now.done ≤ 2000000 }
+    requires stopped { task.now.stopped ≤ 2000000 }
+    ensures { OnOk result (text.new.items ≡ text.old.items ++ (codes " response " ++ response_of_tally task.now)) }
+{
+    if task.done + task.stopped == 0 {
+        text.extend_from_slice(b" response -")?;
+        return Ok(());
+    }
+    push_count(text, " response ", task.response)
+}
+
+ghost use Rattle.std.specs.Prelude.{All, ◌<◌};
+ghost use Rattle.sched_report.specs.TaskTally.{IsSmall};
+
+// The sums of the counts over all tasks.
+fn sum_of(tally: &Tally) -> Counts
+    requires few { length tally.now.tasks.items ≤ 128 }
+    requires small { All IsSmall tally.now.tasks.items }
+    ensures { counts_in result ≡ sum_tallies tally.now.tasks.items }
+{
+    let mut sum = Counts::none();
+    for task in &tally.tasks {
+        sum = sum.plus(Counts::of(task));
+    }
+    sum
+}

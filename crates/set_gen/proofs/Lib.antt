@@ -1,0 +1,15 @@
+pub mod WordLemmas
+pub mod Ranges
+pub mod Periods
+pub mod MadeTasks
+pub mod Utilisations
+pub mod Admitted
+pub mod Plans
+pub mod JobRows
+pub mod ReleaseCount
+pub mod Accepted
+pub mod Scans
+pub mod Gaps
+pub mod Taken
+pub mod Draws
+mod WorkedWorkloads

@@ -1,0 +1,178 @@
+-- The tasks that are made, one by one, and the set of them.
+use Rattle.std.proofs.Common.{◌≡◌, ◌≢◌, ℕ, zero, suc, ◌+◌, ◌-◌, ◌*◌, ◌/◌, ◌%◌, ◌^◌, ◌<◌, ◌≤◌, Bool, true, false, ◌&&◌, ◌==◌, nat_le, cond, List, ◌∷◌, map, length, Some, IsTrue, refl, ap, sym, ◌∙◌, arith, decimal}
+use Rattle.std.specs.List.{range_with_len, AllByRecursion, list_all}
+use Rattle.std.proofs.lemmas.Bool.Decides.{nat_tests}
+use Rattle.std.proofs.lemmas.Fmt.{decimal_injective, decimal_by_steps, decimal_nonempty, length-decimal-le}
+use Rattle.std.proofs.lemmas.List.Folds.{list_all-append}
+use Rattle.std.proofs.Math.Nat.{div-le_self, div-mul-le_self}
+use Rattle.std.proofs.lemmas.Nat.{le-div}
+use Rattle.std.proofs.lemmas.List.FromFn.{length-map-range_with_len}
+use Rattle.rand_pcg.specs.Lcg.{Lcg}
+use Rattle.mc_task.specs.NameForm.{is_name, is_name_byte}
+use Rattle.mc_task.specs.declared.task.Task.{Task}
+use Rattle.mc_task.specs.TaskSet.{IsTask, IsSet, Distinct, names_of, task_at}
+use Rattle.mc_model.proofs.Tasks.{task_at-in}
+use Rattle.set_gen.specs.Words.{word, rest}
+use Rattle.set_gen.specs.MadeSet.{period, is_odd, high_tasks, low_tasks, task_name, high_task, low_task, made_task, made_gap, stretch, words_taken, words_for, made_set}
+use Rattle.set_gen.proofs.Periods.{IsPeriod, period-IsPeriod}
+use Rattle.set_gen.proofs.Ranges.{each-map-range, slice_get-map-range}
+
+-- what is so of a high task and of a low task, by the number of the task, is so of the task that is made
+pub by_parity : (P : Task → Type 0) (words : Lcg) (n i : ℕ)
+    → (is_odd i ≡ true → P (high_task (task_name i) (period (word words)) (high_tasks n) (word (rest words))))
+    → (is_odd i ≡ false → P (low_task (task_name i) (period (word words)) (low_tasks n)))
+    → P (made_task words n i)
+unfolding made_task
+by_parity P words n i high low = go (is_odd i) refl
+  where
+    go : (b : Bool) → is_odd i ≡ b → P (cond b (high_task (task_name i) (period (word words)) (high_tasks n) (word (rest words))) (low_task (task_name i) (period (word words)) (low_tasks n)))
+    go true e = high e
+    go false e = low e
+
+-- a quotient by at most 64 of at least 200
+quotient : (p d : ℕ) → 200 ≤ p → 1 ≤ d → d ≤ 64 → 3 ≤ p / d
+quotient p d least some few = le-div 3 p d some (omega arith)
+
+-- its name
+pub made_task-name : (words : Lcg) (n i : ℕ) → (made_task words n i).name ≡ task_name i
+made_task-name words n i = by_parity (λ t. t.name ≡ task_name i) words n i (λ e. unfold high_task in refl) (λ e. unfold low_task in refl)
+
+letters : (ds : List ℕ) → list_all is_name_byte ds ≡ true → 0 < length ds → length ds ≤ 10 → IsTrue (is_name (116 ∷ ds))
+letters ds all some few = go (list_all is_name_byte ds) all
+  where
+    go : (b : Bool) → b ≡ true → ((nat_le 1 (length (116 ∷ ds)) && nat_le (length (116 ∷ ds)) 32) && (is_name_byte 116 && b)) ≡ true
+    go b e = grind (arith, nat_tests)
+
+digit : (b : ℕ) → b < 10 → is_name_byte (48 + b) ≡ true
+digit b h = grind (arith, nat_tests)
+
+digits : (n : ℕ) → n < 2 ^ 64 → list_all is_name_byte (decimal n) ≡ true
+digits = decimal_by_steps (λ m ds. list_all is_name_byte ds ≡ true)
+    (λ m l. rw (digit m l) refl)
+    (λ m ds l h. rw (list_all-append, h, digit (m % 10) (omega arith)) refl)
+
+-- a name is made of `t` and digits
+pub task_name-is_name : (i : ℕ) → i < 2 ^ 32 → IsTrue (is_name (task_name i))
+unfolding task_name
+task_name-is_name i h =
+    let wide : i < 2 ^ 64 = omega arith in
+    letters (decimal i) (digits i wide) (decimal_nonempty i wide) (length-decimal-le 10 i (omega arith) (omega arith) wide)
+
+-- names differ where the numbers do
+task_name-differ : (i j : ℕ) → i < j → j < 2 ^ 32 → task_name i ≢ task_name j
+unfolding task_name
+task_name-differ i j less small e =
+    let same : i ≡ j = decimal_injective i j (omega arith) (omega arith) (cc) in
+    omega arith
+
+-- how many tasks of a kind there may be, where there are 2 to 32 in all
+some_of : (n : ℕ) → 2 ≤ n → n ≤ 32 → (1 ≤ high_tasks n) × (high_tasks n ≤ 16) × (1 ≤ low_tasks n) × (low_tasks n ≤ 16)
+some_of n some few = (omega arith, omega arith, omega arith, omega arith)
+
+high-IsTask : (name : List ℕ) (p k w : ℕ) → IsTrue (is_name name) → IsPeriod p → 1 ≤ k → k ≤ 16 → IsTask (high_task name p k w)
+unfolding high_task
+high-IsTask name p k w is period some few =
+    let least : 200 ≤ p = period.least in
+    let most : p ≤ 10000 = period.most in
+    let share : 3 ≤ p / (4 * k) = quotient p (4 * k) least (omega arith) (omega arith) in
+    let below : w % (p / (4 * k)) < p / (4 * k) = omega arith in
+    let within : p / (4 * k) ≤ p = div-le_self p (4 * k) in
+    let three : (3 * p) / (4 * k) ≤ 3 * p = div-le_self (3 * p) (4 * k) in
+    let order : p / (4 * k) ≤ (3 * p) / (4 * k) = le-div (p / (4 * k)) (3 * p) (4 * k) (omega arith) (omega (arith, div-mul-le_self p (4 * k))) in
+    record {
+      name = is;
+      period = (omega arith, omega arith);
+      low = (omega arith, omega arith);
+      high = (omega arith, omega arith);
+      budgets = omega arith;
+    }
+
+low-IsTask : (name : List ℕ) (p m : ℕ) → IsTrue (is_name name) → IsPeriod p → 1 ≤ m → m ≤ 16 → IsTask (low_task name p m)
+unfolding low_task
+low-IsTask name p m is period some few =
+    let least : 200 ≤ p = period.least in
+    let most : p ≤ 10000 = period.most in
+    let share : 3 ≤ p / (2 * m) = quotient p (2 * m) least (omega arith) (omega arith) in
+    let within : p / (2 * m) ≤ p = div-le_self p (2 * m) in
+    record {
+      name = is;
+      period = (omega arith, omega arith);
+      low = (omega arith, omega arith);
+      high = (omega arith, omega arith);
+      budgets = refl;
+    }
+
+-- each task is one
+pub made_task-IsTask : (words : Lcg) (n i : ℕ) → 2 ≤ n → n ≤ 32 → i < 2 ^ 32 → IsTask (made_task words n i)
+made_task-IsTask words n i some few small =
+    let counts = some_of n some few in
+    by_parity IsTask words n i
+    (λ e. high-IsTask (task_name i) (period (word words)) (high_tasks n) (word (rest words)) (task_name-is_name i small) (period-IsPeriod (word words)) counts.0 counts.1)
+    (λ e. low-IsTask (task_name i) (period (word words)) (low_tasks n) (task_name-is_name i small) (period-IsPeriod (word words)) counts.2 counts.3)
+
+-- its period
+pub made_task-period : (words : Lcg) (n i : ℕ) → (made_task words n i).period ≡ period (word words)
+made_task-period words n i = by_parity (λ t. t.period ≡ period (word words)) words n i (λ e. unfold high_task in refl) (λ e. unfold low_task in refl)
+
+-- the names of a set of tasks with names of this form differ
+distinct : (f : ℕ → Task) (a n : ℕ) → a + n < 2 ^ 32 → ((i : ℕ) → (f i).name ≡ task_name i) → Distinct (names_of (map f (range_with_len a n)))
+distinct f a zero small named = tt
+distinct f a (suc n) small named = (others (a + 1) n (omega arith) (omega arith), distinct f (a + 1) n (omega arith) named)
+  where
+    others : (b m : ℕ) → a < b → b + m < 2 ^ 32 → AllByRecursion (λ name. (f a).name ≢ name) (names_of (map f (range_with_len b m)))
+    others b zero less most = tt
+    others b (suc m) less most = (λ same. task_name-differ a b less (omega arith) (sym (named a) ∙ same ∙ named b), others (b + 1) m (omega arith) (omega arith))
+
+-- the set is one
+pub made_set-length : (words : Lcg) (n : ℕ) → length (made_set words n) ≡ n
+unfolding made_set
+made_set-length words n = length-map-range_with_len (λ i. made_task (words_for words i) n i) 1 n
+
+pub made_set-each : (P : Task → Type 0) (words : Lcg) (n : ℕ) → ((i : ℕ) → 1 ≤ i → i ≤ n → P (made_task (words_for words i) n i)) → AllByRecursion P (made_set words n)
+unfolding made_set
+made_set-each P words n h = each-map-range P (λ i. made_task (words_for words i) n i) 1 n (λ i first last. h i first (omega arith))
+
+pub made_set-IsSet : (words : Lcg) (n : ℕ) → 2 ≤ n → n ≤ 32 → IsSet (made_set words n)
+unfolding made_set
+made_set-IsSet words n some few =
+    let count : length (made_set words n) ≡ n = made_set-length words n in
+    record {
+      some = omega arith;
+      few = omega arith;
+      each = made_set-each IsTask words n (λ i first last. made_task-IsTask (words_for words i) n i some few (omega arith));
+      names = distinct (λ i. made_task (words_for words i) n i) 1 n (omega arith) (λ i. made_task-name (words_for words i) n i);
+    }
+
+-- task number i of it
+pub made_set-at : (words : Lcg) (n i : ℕ) → 1 ≤ i → i ≤ n → task_at (made_set words n) i ≡ Some (made_task (words_for words i) n i)
+unfolding made_set
+made_set-at words n i first last =
+    let e : 1 + (i - 1) ≡ i = omega arith in
+    task_at-in (made_set words n) i first ∙ slice_get-map-range (λ j. made_task (words_for words j) n j) 1 n (i - 1) (omega arith)
+    ∙ ap (λ j. Some (made_task (words_for words j) n j)) e
+
+-- what a high task, by its number, takes, and a low one
+pub made_task-high : (words : Lcg) (n i : ℕ) → i % 2 ≡ 1 → made_task words n i ≡ high_task (task_name i) (period (word words)) (high_tasks n) (word (rest words))
+unfolding made_task is_odd
+made_task-high words n i odd = let yes : (i % 2 == 1) ≡ true = grind (arith, nat_tests) in rw yes refl
+
+pub made_task-low : (words : Lcg) (n i : ℕ) → i % 2 ≢ 1 → made_task words n i ≡ low_task (task_name i) (period (word words)) (low_tasks n)
+unfolding made_task is_odd
+made_task-low words n i even = let no : (i % 2 == 1) ≡ false = grind (arith, nat_tests) in rw no refl
+
+pub words_taken-high : (i : ℕ) → i % 2 ≡ 1 → words_taken i ≡ 3
+unfolding words_taken is_odd
+words_taken-high i odd = let yes : (i % 2 == 1) ≡ true = grind (arith, nat_tests) in rw yes refl
+
+pub words_taken-low : (i : ℕ) → i % 2 ≢ 1 → words_taken i ≡ 2
+unfolding words_taken is_odd
+words_taken-low i even = let no : (i % 2 == 1) ≡ false = grind (arith, nat_tests) in rw no refl
+
+-- and the gap, by the word for the stretch
+pub made_gap-high : (words : Lcg) (i : ℕ) → i % 2 ≡ 1 → made_gap words i ≡ period (word words) + word (rest (rest words)) % 16
+unfolding made_gap stretch
+made_gap-high words i odd = rw (words_taken-high i odd) refl
+
+pub made_gap-low : (words : Lcg) (i : ℕ) → i % 2 ≢ 1 → made_gap words i ≡ period (word words) + word (rest words) % 16
+unfolding made_gap stretch
+made_gap-low words i even = rw (words_taken-low i even) refl

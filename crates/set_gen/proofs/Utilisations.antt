@@ -1,0 +1,141 @@
+-- What the tasks that are made ask for at most.
+use Rattle.std.proofs.Common.{◌≡◌, ℕ, zero, suc, ◌+◌, ◌*◌, ◌/◌, ◌%◌, ◌<◌, ◌≤◌, ◌⊎◌, inl, inr, true, false, cond, List, [], ◌∷◌, map, refl, ap, sym, subst, ◌∙◌, arith}
+use Prim.Native.Nat.{◌∣◌}
+use Rattle.std.specs.List.{range_with_len, AllByRecursion}
+use Rattle.std.proofs.lemmas.Bool.Decides.{eqb_tells}
+use Rattle.std.proofs.lemmas.Nat.{le-div}
+use Rattle.std.proofs.lemmas.Nat.Gcd.{dvd_trans}
+use Rattle.std.proofs.lemmas.List.FromFn.{map-range_with_len_more}
+use Rattle.std.proofs.Math.Nat.{mul-div_cancel', mul-le-mul_right, mul-le-mul_left, mul-div-le, mul_assoc, le_of_mul-le-mul_left}
+use Rattle.rand_pcg.specs.Lcg.{Lcg}
+use Rattle.mc_task.specs.declared.task.Task.{Task}
+use Rattle.mc_model.specs.Loads.{product, load, load_ll, load_hl, load_hh, low_low, high_low, high_high, by_level, lcm_from}
+use Rattle.mc_model.proofs.Lists.{total, Each-map}
+use Rattle.mc_model.proofs.Hyperperiod.{periods-dvd, lcm_from-dvd}
+use Rattle.set_gen.specs.Words.{word, rest}
+use Rattle.set_gen.specs.MadeSet.{period, is_odd, high_tasks, low_tasks, high_task, low_task, made_task, words_for, made_set}
+use Rattle.set_gen.proofs.Periods.{period-IsPeriod}
+use Rattle.set_gen.proofs.Ranges.{total-append}
+use Rattle.set_gen.proofs.MadeTasks.{by_parity, made_set-each}
+
+-- the budget is at most share parts of the period, each part a c-th
+abbrev IsShare : (Task → ℕ) → (Task → ℕ) → ℕ → Task → Type 0
+IsShare budget share c t = c * budget t ≤ share t * t.period
+
+-- and so the load is at most as many parts of all time as the tasks have together
+load-share : (budget share : Task → ℕ) (c n : ℕ) (ts : List Task) → AllByRecursion (λ t. t.period ∣ n) ts → AllByRecursion (IsShare budget share c) ts
+    → c * load budget n ts ≤ total share ts * n
+load-share budget share c n [] divides shares = omega arith
+load-share budget share c n (t ∷ ts) divides shares =
+    let here : (c * budget t) * (n / t.period) ≤ (share t * t.period) * (n / t.period) = mul-le-mul_right (n / t.period) shares.0 in
+    let whole : t.period * (n / t.period) ≡ n = mul-div_cancel' t.period divides.0 in
+    let all : (share t * t.period) * (n / t.period) ≡ share t * n = mul_assoc (share t) t.period (n / t.period) ∙ ap (λ z. share t * z) whole in
+    let others : c * load budget n ts ≤ total share ts * n = load-share budget share c n ts divides.1 shares.1 in
+    let first : c * (budget t * (n / t.period)) ≡ (c * budget t) * (n / t.period) = sym (mul_assoc c (budget t) (n / t.period)) in
+    omega arith
+
+-- the periods divide their product
+divide_product : (ts : List Task) → AllByRecursion (λ t. t.period ∣ product ts) ts
+divide_product ts =
+    let all : lcm_from 1 ts ∣ product ts = subst (λ z. lcm_from 1 ts ∣ z) (omega arith) (lcm_from-dvd 1 ts) in
+    Each-map (λ t h. dvd_trans t.period h all) ts (periods-dvd 1 ts)
+
+-- one number for each low task and another for each high one
+abbrev parts : ℕ → ℕ → Task → ℕ
+parts low high t = by_level t.level low high
+
+made-parts : (low high : ℕ) (words : Lcg) (n i : ℕ) → parts low high (made_task words n i) ≡ cond (is_odd i) high low
+made-parts low high words n i =
+    by_parity (λ t. parts low high t ≡ cond (is_odd i) high low) words n i
+    (λ e. unfold high_task in rw e refl)
+    (λ e. unfold low_task in rw e refl)
+
+-- the next number is one more of its kind
+parity : (j : ℕ) → ((is_odd (1 + j) ≡ true) × (high_tasks (suc j) ≡ high_tasks j + 1) × (low_tasks (suc j) ≡ low_tasks j))
+    ⊎ ((is_odd (1 + j) ≡ false) × (high_tasks (suc j) ≡ high_tasks j) × (low_tasks (suc j) ≡ low_tasks j + 1))
+unfolding is_odd
+parity j = elim (eqb_tells ((1 + j) % 2) 1) [ inl t ↦ inl (t.0, omega (arith, t.1), omega (arith, t.1)) | inr t ↦ inr (t.0, omega (arith, t.1), omega (arith, t.1)) ]
+
+-- the first j tasks have so many parts
+made-total : (low high : ℕ) (words : Lcg) (n j : ℕ) → total (parts low high) (map (λ i. made_task (words_for words i) n i) (range_with_len 1 j)) ≡ low * low_tasks j + high * high_tasks j
+made-total low high words n zero = omega arith
+made-total low high words n (suc j) =
+    let f : ℕ → Task = λ i. made_task (words_for words i) n i in
+    let e : suc j ≡ j + 1 = omega arith in
+    let before : total (parts low high) (map f (range_with_len 1 j)) ≡ low * low_tasks j + high * high_tasks j = made-total low high words n j in
+    let more : total (parts low high) (map f (range_with_len 1 (suc j))) ≡ total (parts low high) (map f (range_with_len 1 j)) + (parts low high (f (1 + j)) + 0) =
+    ap (λ k. total (parts low high) (map f (range_with_len 1 k))) e ∙ ap (total (parts low high)) (map-range_with_len_more f 1 j (1 + j) refl)
+    ∙ total-append (parts low high) (map f (range_with_len 1 j)) (f (1 + j) ∷ []) in
+    let one : parts low high (f (1 + j)) ≡ cond (is_odd (1 + j)) high low = made-parts low high (words_for words (1 + j)) n (1 + j) in
+    elim (parity j) [
+      | inl p ↦
+          let is : parts low high (f (1 + j)) ≡ high = rw (p.0) at one in
+          let highs : high * high_tasks (suc j) ≡ high * (high_tasks j + 1) = ap (λ z. high * z) (p.1) in
+          let lows : low * low_tasks (suc j) ≡ low * low_tasks j = ap (λ z. low * z) (p.2) in
+          more ∙ omega arith
+      | inr p ↦
+          let is : parts low high (f (1 + j)) ≡ low = rw (p.0) at one in
+          let highs : high * high_tasks (suc j) ≡ high * high_tasks j = ap (λ z. high * z) (p.1) in
+          let lows : low * low_tasks (suc j) ≡ low * (low_tasks j + 1) = ap (λ z. low * z) (p.2) in
+          more ∙ omega arith
+    ]
+
+set-total : (low high : ℕ) (words : Lcg) (n : ℕ) → total (parts low high) (made_set words n) ≡ low * low_tasks n + high * high_tasks n
+unfolding made_set
+set-total low high words n = made-total low high words n n
+
+-- each task's part
+low_low-share : (words : Lcg) (n i : ℕ) → IsShare low_low (parts 1 0) (2 * low_tasks n) (made_task words n i)
+low_low-share words n i =
+    by_parity (IsShare low_low (parts 1 0) (2 * low_tasks n)) words n i
+    (λ e. unfold high_task in omega arith)
+    (λ e. unfold low_task in omega (arith, mul-div-le (period (word words)) (2 * low_tasks n)))
+
+quarter : (p k w : ℕ) → 200 ≤ p → 1 ≤ k → k ≤ 16 → (4 * k) * (1 + w % (p / (4 * k))) ≤ 1 * p
+quarter p k w least some few =
+    let share : 3 ≤ p / (4 * k) = le-div 3 p (4 * k) (omega arith) (omega arith) in
+    let below : w % (p / (4 * k)) < p / (4 * k) = omega arith in
+    let budget : 1 + w % (p / (4 * k)) ≤ p / (4 * k) = omega arith in
+    let most : (4 * k) * (1 + w % (p / (4 * k))) ≤ (4 * k) * (p / (4 * k)) = mul-le-mul_left (4 * k) budget in
+    let all : (4 * k) * (p / (4 * k)) ≤ p = mul-div-le p (4 * k) in
+    omega arith
+
+high_low-share : (words : Lcg) (n i : ℕ) → 2 ≤ n → n ≤ 32 → IsShare high_low (parts 0 1) (4 * high_tasks n) (made_task words n i)
+high_low-share words n i some few =
+    by_parity (IsShare high_low (parts 0 1) (4 * high_tasks n)) words n i
+    (λ e. unfold high_task in quarter (period (word words)) (high_tasks n) (word (rest words)) (period-IsPeriod (word words)).least (omega arith) (omega arith))
+    (λ e. unfold low_task in omega arith)
+
+high_high-share : (words : Lcg) (n i : ℕ) → IsShare high_high (parts 0 3) (4 * high_tasks n) (made_task words n i)
+high_high-share words n i =
+    by_parity (IsShare high_high (parts 0 3) (4 * high_tasks n)) words n i
+    (λ e. unfold high_task in mul-div-le (3 * period (word words)) (4 * high_tasks n))
+    (λ e. unfold low_task in omega arith)
+
+-- what so many tasks of a kind have in common is left out
+common : (a b k l p : ℕ) → 1 ≤ k → (a * k) * l ≤ (b * k) * p → a * l ≤ b * p
+common a b k l p some h = let apart : k * (a * l) ≤ k * (b * p) = omega arith in le_of_mul-le-mul_left apart some
+
+-- the three utilisations
+pub made-low_low : (words : Lcg) (n : ℕ) → 2 ≤ n → n ≤ 32 → 2 * load_ll (made_set words n) ≤ product (made_set words n)
+made-low_low words n some few =
+    let set : List Task = made_set words n in
+    let parts_of : total (parts 1 0) set ≡ 1 * low_tasks n = set-total 1 0 words n ∙ omega arith in
+    let shares = load-share low_low (parts 1 0) (2 * low_tasks n) (product set) set (divide_product set) (made_set-each (IsShare low_low (parts 1 0) (2 * low_tasks n)) words n (λ i first last. low_low-share (words_for words i) n i)) in
+    let all : 2 * load_ll set ≤ 1 * product set = common 2 1 (low_tasks n) (load_ll set) (product set) (omega arith) (rw parts_of at shares) in
+    omega arith
+
+pub made-high_low : (words : Lcg) (n : ℕ) → 2 ≤ n → n ≤ 32 → 4 * load_hl (made_set words n) ≤ product (made_set words n)
+made-high_low words n some few =
+    let set : List Task = made_set words n in
+    let parts_of : total (parts 0 1) set ≡ 1 * high_tasks n = set-total 0 1 words n ∙ omega arith in
+    let shares = load-share high_low (parts 0 1) (4 * high_tasks n) (product set) set (divide_product set) (made_set-each (IsShare high_low (parts 0 1) (4 * high_tasks n)) words n (λ i first last. high_low-share (words_for words i) n i some few)) in
+    let all : 4 * load_hl set ≤ 1 * product set = common 4 1 (high_tasks n) (load_hl set) (product set) (omega arith) (rw parts_of at shares) in
+    omega arith
+
+pub made-high_high : (words : Lcg) (n : ℕ) → 2 ≤ n → n ≤ 32 → 4 * load_hh (made_set words n) ≤ 3 * product (made_set words n)
+made-high_high words n some few =
+    let set : List Task = made_set words n in
+    let parts_of : total (parts 0 3) set ≡ 3 * high_tasks n = set-total 0 3 words n ∙ omega arith in
+    let shares = load-share high_high (parts 0 3) (4 * high_tasks n) (product set) set (divide_product set) (made_set-each (IsShare high_high (parts 0 3) (4 * high_tasks n)) words n (λ i first last. high_high-share (words_for words i) n i)) in
+    common 4 3 (high_tasks n) (load_hh set) (product set) (omega arith) (rw parts_of at shares)

@@ -1,0 +1,75 @@
+-- The set of n tasks that words make. Odd task numbers are high tasks and even ones low tasks, so that
+-- U_HL is at most 1/4, U_LL at most 1/2 and U_HH at most 3/4.
+use Rattle.std.specs.Prelude.{ℕ, zero, suc, ◌+◌, ◌-◌, ◌*◌, ◌/◌, ◌%◌, ◌==◌, Bool, if◌then◌else◌, List, [], ◌∷◌, ◌++◌, map, slice_index, codes, decimal}
+use Rattle.std.specs.List.{range_with_len}
+use Rattle.rand_pcg.specs.Lcg.{Lcg}
+use Rattle.mc_task.specs.declared.task.Task.{Task}
+use Rattle.mc_task.specs.declared.task.Level.TheVariants.{Low, High}
+use Rattle.set_gen.specs.Words.{word, rest, after}
+
+-- the periods, in ticks, numbered from 0; their least common multiple is 20000
+unfoldable pub periods : List ℕ
+periods = 200 ∷ 250 ∷ 400 ∷ 500 ∷ 800 ∷ 1000 ∷ 1250 ∷ 2000 ∷ 2500 ∷ 4000 ∷ 5000 ∷ 10000 ∷ []
+
+-- the period that a word picks
+unfoldable pub period : ℕ → ℕ
+period w = slice_index periods (w % 12)
+
+-- a task of an odd number is high
+unfoldable pub is_odd : ℕ → Bool
+is_odd i = i % 2 == 1
+
+-- how many of n tasks are high, and how many are low
+abbrev pub high_tasks : ℕ → ℕ
+high_tasks n = (n + 1) / 2
+
+abbrev pub low_tasks : ℕ → ℕ
+low_tasks n = n / 2
+
+-- the name of task number i: `t` and the number
+unfoldable pub task_name : ℕ → List ℕ
+task_name i = codes "t" ++ decimal i
+
+-- one of k high tasks: its low budget is 1 to a k-th of a quarter of its period, its high budget a k-th of three quarters
+unfoldable pub high_task : List ℕ → ℕ → ℕ → ℕ → Task
+high_task name period k w =
+    record { name = name; level = High; period = period; low = 1 + w % (period / (4 * k)); high = (3 * period) / (4 * k) }
+
+-- one of m low tasks: its budget is an m-th of half its period
+unfoldable pub low_task : List ℕ → ℕ → ℕ → Task
+low_task name period m = record { name = name; level = Low; period = period; low = period / (2 * m); high = period / (2 * m) }
+
+-- task number i of n, made with the words that are left: the first is for its period, and of a high task the next for its low budget
+unfoldable pub made_task : Lcg → ℕ → ℕ → Task
+made_task words n i =
+    if is_odd i then high_task (task_name i) (period (word words)) (high_tasks n) (word (rest words))
+    else low_task (task_name i) (period (word words)) (low_tasks n)
+
+-- how many words task number i takes: the last is for its stretch
+unfoldable pub words_taken : ℕ → ℕ
+words_taken i = if is_odd i then 3 else 2
+
+-- how much longer than its period the releases of task number i stand apart, made with the words that are left: 0 to 15 ticks
+unfoldable pub stretch : Lcg → ℕ → ℕ
+stretch words i = word (after (words_taken i - 1) words) % 16
+
+-- how far the releases of task number i stand apart
+unfoldable pub made_gap : Lcg → ℕ → ℕ
+made_gap words i = period (word words) + stretch words i
+
+-- how many words the first n tasks take
+abbrev pub words_before : ℕ → ℕ
+words_before zero = 0
+words_before (suc i) = words_before i + words_taken (i + 1)
+
+-- the words that are left once the tasks before number i have theirs
+abbrev pub words_for : Lcg → ℕ → Lcg
+words_for words i = after (words_before (i - 1)) words
+
+-- the set of n tasks
+unfoldable pub made_set : Lcg → ℕ → List Task
+made_set words n = map (λ i. made_task (words_for words i) n i) (range_with_len 1 n)
+
+-- how far the releases of each of the n tasks stand apart, in ticks
+unfoldable pub made_gaps : Lcg → ℕ → List ℕ
+made_gaps words n = map (λ i. made_gap (words_for words i) i) (range_with_len 1 n)

@@ -1,0 +1,12 @@
+//! Workloads from a number: a set that the test admits, and work for it.
+#![tactic(auto)]
+
+mod jobs;
+mod made;
+mod tasks;
+mod words;
+
+pub use made::{Made, make};
+
+#[cfg(test)]
+mod tests;

@@ -1,0 +1,113 @@
+// A workload as a whole.
+ghost use Rattle.std.specs.Prelude.{◌≡◌, ◌≤◌, length, IfOk, Some};
+ghost use Rattle.mc_task.specs.TaskSet.{IsSet};
+ghost use Rattle.mc_model.specs.Test.{test};
+ghost use Rattle.mc_model.specs.Holds.{Holds, Fits};
+ghost use Rattle.mc_model.specs.Work.{IsWork};
+ghost use Rattle.set_gen.specs.Words as spec;
+ghost use Rattle.set_gen.specs.MadeSet.{made_set};
+ghost use Rattle.set_gen.specs.MadeWork.{made_work};
+ghost use Rattle.set_gen.specs.Laws.{IsAdmitted, IsTaken, MadeSetsAreAdmitted, MadeWorkIsTaken};
+
+use crate::jobs::jobs_of;
+use crate::tasks::{Drawn, draw};
+use crate::words::words_of;
+use admission::admit;
+use load_sum::sum_loads;
+use mc_model::WorkRow;
+use mc_task::{Memory, Rule, Task, TaskSet};
+use std::alloc::{AllocError, Global};
+use work_file::Work;
+
+/// A set of tasks that the test admits, the rule that it gives the set, and work for it.
+#[derive(Debug, Drop)]
+pub struct Made {
+    pub set: TaskSet,
+    pub rule: Rule,
+    pub work: Work,
+}
+
+/// The workload of a number: so many tasks, 2 to 32, and their jobs below so many ticks, 1 to 1,000,000. The same
+/// numbers give the same workload, whatever the machine.
+///
+/// Odd task numbers are high tasks and even ones low tasks, with periods of 200 to 10,000 ticks, U_HL at most 1/4, U_LL
+/// at most 1/2 and U_HH at most 3/4, so that the test admits each set (Baruah et al., ECRTS 2012). The only error is want
+/// of memory.
+pub fn make(alloc: Global, number: u64, tasks: u32, ticks: u64) -> Result<Made, Memory>
+    requires some { 2 ≤ tasks }
+    requires few { tasks ≤ 32 }
+    requires first { 1 ≤ ticks }
+    requires last { ticks ≤ 1000000 }
+    ensures set { IfOk result (λ made. made.set ≡ made_set (spec.words_of number) tasks) }
+    ensures rule { IfOk result (λ made. test made.set ≡ Some made.rule) }
+    ensures work { IfOk result (λ made. made.work ≡ made_work (spec.words_of number) tasks ticks) }
+    ensures admitted { IfOk result (λ made. IsAdmitted made.set) }
+    ensures fits { IfOk result (λ made. Fits made.rule) }
+    ensures holds { IfOk result (λ made. Holds made.set made.rule) }
+    ensures is_work { IfOk result (λ made. IsWork made.set made.work) }
+    ensures sets { MadeSetsAreAdmitted }
+    ensures works { MadeWorkIsTaken }
+{
+    match make_all(alloc, number, tasks, ticks as u32) {
+        Ok(made) => Ok(made),
+        Err(_) => Err(Memory),
+    }
+}
+
+fn make_all(alloc: Global, number: u64, count: u32, ticks: u32) -> Result<Made, AllocError>
+    requires some { 2 ≤ count }
+    requires few { count ≤ 32 }
+    requires last { ticks ≤ 1000000 }
+    ensures set { IfOk result (λ made. made.set ≡ made_set (spec.words_of number) count) }
+    ensures rule { IfOk result (λ made. test made.set ≡ Some made.rule) }
+    ensures work { IfOk result (λ made. made.work ≡ made_work (spec.words_of number) count ticks) }
+    ensures fits { IfOk result (λ made. Fits made.rule) }
+    ensures holds { IfOk result (λ made. Holds made.set made.rule) }
+{
+    let mut words = words_of(number);
+    let Drawn { tasks, gaps } = draw(alloc, &mut words, count)?;
+    let set = set_of(tasks);
+    let rule = rule_of(&set);
+    let rows = jobs_of(alloc, words, &set, &gaps, ticks)?;
+    let work = work_of(&set, rows);
+    Ok(Made { set, rule, work })
+}
+
+// The set of these tasks.
+fn set_of(tasks: Vec<Task>) -> TaskSet
+    requires { IsSet tasks.items }
+    ensures { result ≡ tasks.items }
+{
+    match TaskSet::new(tasks) {
+        Ok(set) => set,
+        Err(_) => unreachable!(),
+    }
+}
+
+// The rule of the test.
+fn rule_of(set: &TaskSet) -> Rule
+    requires { IsAdmitted set.now }
+    ensures rule { test set.now ≡ Some result }
+    ensures fits { Fits result }
+    ensures holds { Holds set.now result }
+{
+    match sum_loads(set) {
+        Ok(loads) => match admit(&loads) {
+            Some(rule) => rule,
+            None => unreachable!(),
+        },
+        Err(_) => unreachable!(),
+    }
+}
+
+// These rows as work.
+fn work_of(set: &TaskSet, rows: Vec<WorkRow>) -> Work
+    requires { IsTaken set.now rows.items }
+    ensures { result ≡ rows.items }
+{
+    let _is_set = set.len();
+    match Work::new(set, rows) {
+        Ok(work) => work,
+        Err(_) => unreachable!(),
+    }
+}

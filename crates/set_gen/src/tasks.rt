@@ -1,0 +1,118 @@
+// The tasks of a set, and how far their releases stand apart.
+ghost use Rattle.std.specs.Prelude.{◌≡◌, ◌≤◌, IfOk, OnOk};
+ghost use Rattle.set_gen.specs.Words.{after};
+ghost use Rattle.set_gen.specs.MadeSet as spec;
+
+use crate::words::take;
+use mc_task::{Level, Name, Task};
+use rand_pcg::Lcg64Xsh32;
+use std::alloc::{AllocError, Global};
+
+// In ticks. Their least common multiple is 20000.
+const PERIODS: [u32; 12] = [
+    200, 250, 400, 500, 800, 1000, 1250, 2000, 2500, 4000, 5000, 10000,
+];
+
+// The tasks by their numbers, and for each how many ticks its releases stand apart.
+#[derive(Drop)]
+pub struct Drawn {
+    pub tasks: Vec<Task>,
+    pub gaps: Vec<u32>,
+}
+
+// Makes so many tasks.
+pub fn draw(alloc: Global, words: &mut Lcg64Xsh32, count: u32) -> Result<Drawn, AllocError>
+    requires some { 2 ≤ count }
+    requires few { count ≤ 32 }
+    ensures tasks { IfOk result (λ drawn. drawn.tasks.items ≡ spec.made_set words.old count) }
+    ensures gaps { IfOk result (λ drawn. drawn.gaps.items ≡ spec.made_gaps words.old count) }
+    ensures words { OnOk result (words.new ≡ after (spec.words_before count) words.old) }
+{
+    let mut tasks = Vec::new(alloc);
+    let mut gaps = Vec::new(alloc);
+    for i in 0..count {
+        let (task, gap) = draw_one(alloc, words, count, i + 1)?;
+        tasks.push(task)?;
+        gaps.push(gap)?;
+    }
+    Ok(Drawn { tasks, gaps })
+}
+
+// Makes the task of this number, and its gap.
+fn draw_one(
+    alloc: Global,
+    words: &mut Lcg64Xsh32,
+    count: u32,
+    number: u32,
+) -> Result<(Task, u32), AllocError>
+    requires some { 2 ≤ count }
+    requires few { count ≤ 32 }
+    ensures task { IfOk result (λ drawn. drawn.0 ≡ spec.made_task words.old count number) }
+    ensures gap { IfOk result (λ drawn. drawn.1 ≡ spec.made_gap words.old number) }
+    ensures words { OnOk result (words.new ≡ after (spec.words_taken number) words.old) }
+{
+    let name = name_of(alloc, number)?;
+    let period = period(take(words));
+    let task = if number % 2 == 1 {
+        high_task(name, period, count.div_ceil(2), take(words))
+    } else {
+        low_task(name, period, count / 2)
+    };
+    let stretch = take(words) % 16;
+    Ok((task, period + stretch))
+}
+
+#[tactic(auto, unfolding(crate::specs::MadeSet::task_name))]
+fn name_of(alloc: Global, number: u32) -> Result<Name, AllocError>
+    ensures { IfOk result (λ name. name ≡ spec.task_name number) }
+{
+    let text = format!(in alloc; "t{number}")?;
+    match Name::new(text.as_bytes()) {
+        Some(name) => Ok(name),
+        None => unreachable!(),
+    }
+}
+
+#[tactic(auto, unfolding(crate::specs::MadeSet::period, crate::specs::MadeSet::periods))]
+fn period(word: u32) -> u32
+    ensures value { result ≡ spec.period word }
+    ensures least { 200 ≤ result }
+    ensures most { result ≤ 10000 }
+{
+    PERIODS[(word % 12) as usize]
+}
+
+// One of `count` high tasks.
+#[tactic(auto, unfolding(crate::specs::MadeSet::high_task))]
+fn high_task(name: Name, period: u32, count: u32, word: u32) -> Task
+    requires least { 200 ≤ period }
+    requires most { period ≤ 10000 }
+    requires some { 1 ≤ count }
+    requires few { count ≤ 16 }
+    ensures { result ≡ spec.high_task name period count word }
+{
+    Task {
+        name,
+        level: Level::High,
+        period,
+        low: 1 + word % (period / (4 * count)),
+        high: 3 * period / (4 * count),
+    }
+}
+
+// One of `count` low tasks.
+#[tactic(auto, unfolding(crate::specs::MadeSet::low_task))]
+fn low_task(name: Name, period: u32, count: u32) -> Task
+    requires some { 1 ≤ count }
+    requires few { count ≤ 16 }
+    ensures { result ≡ spec.low_task name period count }
+{
+    let budget = period / (2 * count);
+    Task {
+        name,
+        level: Level::Low,
+        period,
+        low: budget,
+        high: budget,
+    }
+}
