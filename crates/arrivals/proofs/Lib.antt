@@ -1,0 +1,3 @@
+pub mod InTurn
+pub mod Slots
+pub mod CallerLemmas

@@ -1,0 +1,36 @@
+-- The ticks of the live jobs, and the budgets against which they count (Baruah et al., ECRTS 2012; that a job stops at its
+-- own budget is this profile's).
+use Rattle.std.specs.Prelude.{ℕ, ◌-◌, ◌≤◌, ◌==◌, if◌then◌else◌, List, length, slice_index, slice_index_or, slice_set}
+use Rattle.mc_task.specs.declared.task.Task.{Task}
+use Rattle.budget_ledger.specs.declared.used.Budget.{Budget}
+use Rattle.budget_ledger.specs.declared.used.Spent.{Spent}
+use Rattle.budget_ledger.specs.declared.used.Spent.TheVariants.{Below, AtLow, AtOwn}
+
+-- task by task, the budgets and the ticks that the live job has had
+pub record Ledger : Type 0 where
+  pub budgets : List Budget
+  pub ticks : List ℕ
+
+-- the budgets of a task; its own one is its high budget
+abbrev pub budget : Task → Budget
+budget t = record { low = t.low; own = t.high }
+
+-- the ledger has task number k
+abbrev pub HasTask : Ledger → ℕ → Type 0
+HasTask ledger k = (1 ≤ k) × (k ≤ length ledger.ticks)
+
+-- the budgets of task number k
+abbrev pub budget_of : Ledger → ℕ → Budget
+budget_of ledger k = slice_index_or ledger.budgets (k - 1) (record { low = 0; own = 0 })
+
+-- the ticks of its live job
+abbrev pub ticks_of : Ledger → ℕ → ℕ
+ticks_of ledger k = slice_index ledger.ticks (k - 1)
+
+-- the ledger with so many ticks of it
+abbrev pub with_ticks : Ledger → ℕ → ℕ → Ledger
+with_ticks ledger k ticks = record ledger { ticks = slice_set ledger.ticks (k - 1) ticks }
+
+-- where so many ticks stand
+abbrev pub spent : Budget → ℕ → Spent
+spent b ticks = if ticks == b.own then AtOwn else if ticks == b.low then AtLow else Below

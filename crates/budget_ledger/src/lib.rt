@@ -1,0 +1,8 @@
+//! How many ticks each task's live job has had, against the task's budgets.
+#![tactic(auto)]
+
+#[cfg(test)]
+mod tests;
+mod used;
+
+pub use used::{Spent, Used};

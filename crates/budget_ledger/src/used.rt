@@ -1,0 +1,113 @@
+// The ticks of each task's live job.
+ghost use Rattle.std.specs.Prelude.{◌≡◌, ◌+◌, ◌-◌, ◌<◌, map, replicate, length, slice_set, IfOk};
+ghost use Rattle.budget_ledger.specs.Ledger.{budget};
+
+use mc_task::{Memory, TaskNo, TaskSet};
+use std::alloc::{AllocError, Global};
+use std::marker::Model;
+
+// The two budgets of a task, in ticks. Its own one is that of high mode, at which its jobs stop.
+#[derive(Clone, Copy, Debug, PartialEq, Eq)]
+struct Budget {
+    low: u32,
+    own: u32,
+}
+
+/// How far a job's ticks have come.
+#[derive(Clone, Copy, Debug, PartialEq, Eq)]
+pub enum Spent {
+    /// They are at neither budget.
+    Below,
+    /// They are at the low budget, and that is not the task's own.
+    AtLow,
+    /// They are at the task's own budget.
+    AtOwn,
+}
+
+/// The ticks that the live job of each task of a set has had. Contracts see them task by task, with the tasks' budgets.
+#[derive(Debug, Drop)]
+pub struct Used {
+    budgets: Vec<Budget>,
+    ticks: Vec<u32>,
+}
+
+impl Model for Used {
+    ghost use Rattle.std.specs.Prelude.{◌≡◌, length};
+    ghost use Rattle.budget_ledger.specs.Ledger.{Ledger};
+
+    ghost Value = { Ledger };
+
+    ghost view = { λ a. record { budgets = a.budgets.items; ticks = a.ticks.items } };
+
+    ghost invariant = { λ a. length a.budgets.items ≡ length a.ticks.items };
+}
+
+impl Used {
+    ghost use Rattle.budget_ledger.specs.Ledger.{budget, budget_of, ticks_of, with_ticks, spent, HasTask};
+
+    /// The tasks of the set, with no ticks. Only this call takes memory.
+    pub fn new(alloc: Global, set: &TaskSet) -> Result<Used, Memory>
+        ensures { IfOk result (λ used. used ≡ record { budgets = map budget set.now; ticks = replicate (length set.now) 0 }) }
+    {
+        let Ok(budgets) = budgets_of(alloc, set) else {
+            return Err(Memory);
+        };
+        match vec![in alloc; 0; set.len() as usize] {
+            Ok(ticks) => Ok(Used { budgets, ticks }),
+            Err(_) => Err(Memory),
+        }
+    }
+
+    /// Begins a job of the task, which has had no ticks.
+    pub fn start(&mut self, task: TaskNo)
+        requires { HasTask self.old task.0 }
+        ensures { self.new ≡ with_ticks self.old task.0 0 }
+    {
+        self.ticks[task.0 as usize - 1] = 0;
+    }
+
+    /// The ticks of the task's live job.
+    pub fn used(&self, task: TaskNo) -> u32
+        requires { HasTask self.now task.0 }
+        ensures { result ≡ ticks_of self.now task.0 }
+    {
+        self.ticks[task.0 as usize - 1]
+    }
+
+    /// Counts one more tick of the task's live job, and tells whether it is now at a budget, the task's own one first.
+    pub fn spend(&mut self, task: TaskNo) -> Spent
+        requires in_set { HasTask self.old task.0 }
+        requires below { ticks_of self.old task.0 < (budget_of self.old task.0).own }
+        ensures answer { result ≡ spent (budget_of self.old task.0) (ticks_of self.old task.0 + 1) }
+        ensures state { self.new ≡ with_ticks self.old task.0 (ticks_of self.old task.0 + 1) }
+    {
+        let place = task.0 as usize - 1;
+        let Budget { low, own } = self.budgets[place];
+        let ticks = self.ticks[place] + 1;
+        self.ticks[place] = ticks;
+        if ticks == own {
+            Spent::AtOwn
+        } else if ticks == low {
+            Spent::AtLow
+        } else {
+            Spent::Below
+        }
+    }
+}
+
+// The budgets of each task.
+fn budgets_of(alloc: Global, set: &TaskSet) -> Result<Vec<Budget>, AllocError>
+    ensures { IfOk result (λ budgets. budgets.items ≡ map budget set.now) }
+{
+    let mut budgets = Vec::with_capacity(alloc, set.len() as usize)?;
+    for k in 0..set.len() {
+        let Some(task) = set.get(TaskNo(k + 1)) else {
+            unreachable!();
+        };
+        budgets.push_reserved(Budget {
+            low: task.low,
+            own: task.high,
+        });
+    }
+    Ok(budgets)
+}

@@ -1,0 +1,5 @@
+pub mod Histories
+pub mod Counting
+pub mod Adding
+pub mod Once
+pub mod Closings

@@ -1,0 +1,17 @@
+use Rattle.std.proofs.Common.{rules, ◌≤◌, ◌<◌, length, subst, sym, ◌∙◌}
+use Rattle.executive.specs.Passes.{floor_of}
+use Rattle.executive.proofs.Closings.{of_seats, each_seat, closed}
+use Rattle.executive.proofs.executive.Executive.shut.Goals as goal
+
+pub close-floor-requires-clause-of : goal.close-floor-requires-clause-of
+close-floor-requires-clause-of c = of_seats c.args.self c.args.passes.items c.give_seats.new.list.items c.give_seats.ensures c.requires.of
+
+pub close-floor-requires-clause-each : goal.close-floor-requires-clause-each
+close-floor-requires-clause-each c = λ k lt.
+    each_seat c.args.self c.args.passes.items c.give_seats.new.list.items c.give_seats.ensures c.requires.each k (subst (λ n. k < n) (sym c.args.self.seats ∙ c.args.self.set) lt)
+
+pub returns : goal.returns
+returns c =
+    let h = c.close-floor.ensures in
+    let few : length c.args.passes.items ≤ length (floor_of c.args.self).core.set = search rules in
+    closed c.args.self c.args.passes.items c.give_seats.new.list.items c.close-floor.result h.log few c.give_seats.ensures c.requires.of c.requires.each h.stands.legal h.stands.leaves h.stands.kept h.fixed h.each

@@ -1,0 +1,11 @@
+use Rattle.std.proofs.Common.{sym, ◌∙◌}
+use Rattle.executive.specs.Seats.{lists}
+use Rattle.executive.proofs.Histories.{still_out, runs_is}
+use Rattle.executive.specs.Histories.{after}
+use Rattle.executive.proofs.pass.Grant.granted.Goals as goal
+
+pub returns-clause-out : goal.returns-clause-out
+returns-clause-out c = λ log legal begins same.
+    let t = c.args.self.now in
+    let l = lists t.held.seat in
+    (runs_is (after l.opening log).core.out t.held.task.0 t.granted.job (still_out t.held.task.0 l.opening l.seen log begins legal (sym t.held.whole ∙ same) ∙ t.out)).0

@@ -1,0 +1,66 @@
+-- What it takes to close an executive, and what is left of it.
+use Rattle.std.specs.Prelude.{◌≡◌, ℕ, ◌<◌, ◌≤◌, ◌==◌, List, Option, Some, None, All, Bool, true, false, []}
+use Rattle.std.specs.List.{list_any}
+use Rattle.mc_task.specs.TaskSet.{IsIn}
+use Rattle.mc_task.specs.declared.task.Task.{Task}
+use Rattle.mc_model.specs.Rows.{releases}
+use Rattle.turnstile.specs.History.{StartsWith}
+use Rattle.turnstile.specs.declared.tokens.Seat.{Seat}
+use Rattle.timetable.specs.Floor.{FloorState}
+use Rattle.executive.specs.contracts.state.StateKept.TheImpl.{ghosts}
+use Rattle.executive.specs.declared.state.State.{State}
+use Rattle.executive.specs.declared.entry.Entry.{Entry}
+use Rattle.executive.specs.declared.pass.Resting.{Resting}
+use Rattle.executive.specs.declared.pass.TaskPass.{TaskPass}
+use Rattle.executive.specs.Histories.{after, IsLegal, calls_of}
+use Rattle.executive.specs.Counts.{ticks_of, ends_of, idle_ticks, total}
+use Rattle.executive.specs.Stands.{IsKept, opening_of}
+use Rattle.executive.specs.Passes.{PassState, of_pass}
+
+-- the list has a pass of task number k
+abbrev pub has_pass : List TaskPass → ℕ → Bool
+has_pass passes k = list_any (λ p. (of_pass p).task == k) passes
+
+-- it has one of each task of the set
+abbrev pub HasEach : List TaskPass → List Task → Type 0
+HasEach passes set = (k : ℕ) → IsIn set k → has_pass passes k ≡ true
+
+-- of task number k, which is in the set, it has none, and of each lower one it has one
+pub record IsMissing (passes : List TaskPass) (set : List Task) (k : ℕ) : Type 0 where
+  pub in_set : IsIn set k
+  pub none : has_pass passes k ≡ false
+  pub lowest : (j : ℕ) → 1 ≤ j → j < k → has_pass passes j ≡ true
+
+-- the history begins with what the pass saw, and has, of the calls of its task, just those that the pass made
+pub record IsPartOf (log : List Entry) (p : PassState) : Type 0 where
+  pub begins : StartsWith log p.lists.seen
+  pub own : p.lists.mine ≡ calls_of p.task log
+
+-- the floor has as many rows of each kind of the task as its pass counts
+pub record AgreesWith (f : FloorState) (p : PassState) : Type 0 where
+  pub releases : p.count.releases ≡ releases f.core.rows p.task
+  pub ticks : p.count.ticks ≡ ticks_of p.task f.core.rows
+  pub ends : p.count.ends ≡ ends_of p.task f.core.rows
+
+-- one legal history leaves the floor, and each of the passes is in it
+pub record Closes (opening : FloorState) (passes : List TaskPass) (f : FloorState) : Type 0 where
+  pub log : List Entry
+  pub legal : IsLegal opening log
+  pub leaves : f ≡ after opening log
+  pub each : All (λ p. IsPartOf log (of_pass p)) passes
+  -- its set, rule, places and plan are those that the executive was made with, no tick is out, and it keeps its laws
+  pub same : opening_of f ≡ opening
+  pub none_out : f.core.out ≡ None
+  pub none_held : f.core.held ≡ []
+  pub kept : IsKept f
+  -- the counts of the passes are those of its rows, and there are no other idle ticks
+  pub counts : All (λ p. AgreesWith f (of_pass p)) passes
+  pub idles : total (λ p. (of_pass p).count.idles) passes ≡ idle_ticks f.core.rows
+
+-- the seat of a pass
+abbrev pub seat_of_resting : Option Resting → Option (Seat State Entry FloorState ghosts)
+seat_of_resting (Some r) = Some r.held.seat
+seat_of_resting None = None
+
+abbrev pub seat_of : TaskPass → Option (Seat State Entry FloorState ghosts)
+seat_of p = seat_of_resting p.resting

@@ -1,0 +1,131 @@
+-- What contracts see of passes and grants, and what a call of one promises.
+use Rattle.std.specs.Prelude.{◌≡◌, ℕ, List, [], ◌∷◌, ◌++◌, Option, Some, None, IfSome, Ok, Err}
+use Rattle.mc_task.specs.declared.task.JobId.{JobId}
+use Rattle.mc_task.specs.TaskSet.{IsIn}
+use Rattle.mode_core.specs.Events.{running}
+use Rattle.timetable.specs.Floor.{FloorState}
+use Rattle.turnstile.specs.History.{StartsWith}
+use Rattle.turnstile.specs.Seats.{IsOf, fixed_part}
+use Rattle.executive.specs.declared.count.Count.{Count}
+use Rattle.executive.specs.declared.entry.Call.{Call}
+use Rattle.executive.specs.declared.entry.Call.TheVariants as call
+use Rattle.executive.specs.declared.entry.Answer.{Answer}
+use Rattle.executive.specs.declared.entry.Answer.TheVariants as answer
+use Rattle.executive.specs.declared.entry.Entry.{Entry}
+use Rattle.executive.specs.declared.pass.Held.{Held}
+use Rattle.executive.specs.declared.pass.Resting.{Resting}
+use Rattle.executive.specs.declared.pass.TaskPass.{TaskPass}
+use Rattle.executive.specs.declared.pass.Grant.{Grant}
+use Rattle.executive.specs.declared.executive.Executive.{Executive}
+use Rattle.executive.specs.declared.calls.Taken.{Taken}
+use Rattle.executive.specs.declared.calls.Taken.TheVariants.{Given, NotNow}
+use Rattle.executive.specs.Histories.{entry, after, IsLegal, answer_to, calls_of}
+use Rattle.executive.specs.Counts.{with_answer}
+use Rattle.executive.specs.Stands.{IsKept, opening_of}
+use Rattle.executive.specs.Seats.{Lists, no_floor, lists, job_out}
+
+-- a pass or a grant, as contracts see it: its task's number, what it was answered, and what it knows of the history
+pub record PassState : Type 0 where
+  pub task : ℕ
+  pub count : Count
+  pub lists : Lists
+
+-- what is held of a task
+abbrev pub of_held : Held → PassState
+of_held h = record { task = h.task.0; count = h.count; lists = lists h.seat }
+
+-- a pass of no task
+abbrev pub no_pass : PassState
+no_pass = record {
+  task = 0;
+  count = record { releases = 0; ticks = 0; ends = 0; idles = 0 };
+  lists = record { opening = no_floor; seen = []; mine = [] };
+}
+
+-- what is held, where something is
+abbrev pub of_resting : Option Resting → PassState
+of_resting (Some r) = of_held r.held
+of_resting None = no_pass
+
+-- a pass
+abbrev pub of_pass : TaskPass → PassState
+of_pass p = of_resting p.resting
+
+-- a grant
+abbrev pub of_grant : Grant → PassState
+of_grant t = of_held t.held
+
+-- the floor that the executive was made with, as it was before any call
+abbrev pub floor_of : Executive → FloorState
+floor_of e = fixed_part (λ s. opening_of s.floor) e.turns
+
+-- what is held is of this executive, and of a task of its set
+abbrev pub IsHeldOf : Executive → Held → Type 0
+IsHeldOf e h = IsOf e.turns h.seat × IsIn (floor_of e).core.set h.task.0
+
+-- the pass is one of this executive
+abbrev pub IsPassOf : Executive → TaskPass → Type 0
+IsPassOf e p = IfSome p.resting (λ r. IsHeldOf e r.held)
+
+-- the grant is one of this executive
+abbrev pub IsGrantOf : Executive → Grant → Type 0
+IsGrantOf e t = IsHeldOf e t.held
+
+-- the job of task number k whose tick is out after a call of the task, by its answer
+abbrev pub job_then : Answer → Option JobId → Option JobId
+job_then (answer.Taken (Ok x)) was = Some x.job
+job_then (answer.Taken (Err e)) was = was
+job_then (answer.Told (Ok how)) was = None
+job_then (answer.Told (Err e)) was = was
+job_then (answer.Released r) was = was
+job_then (answer.Idled r) was = was
+job_then (answer.Next a) was = was
+
+-- there is one legal history that begins with what was seen and ends with this entry, and it is seen now. The task's calls
+-- in it are those that were made before, and this one
+pub record Adds (e : Entry) (old new : Lists) : Type 0 where
+  pub opened : new.opening ≡ old.opening
+  -- the history before this entry
+  pub before : List Entry
+  pub begins : StartsWith before old.seen
+  pub sees : new.seen ≡ before ++ e ∷ []
+  pub makes : new.mine ≡ old.mine ++ e ∷ []
+  pub legal : IsLegal old.opening new.seen
+  pub own : new.mine ≡ calls_of e.task.0 new.seen
+  -- the answer is the floor's, after the entries before
+  pub answered : e.answer ≡ answer_to (after old.opening before) e.task.0 e.call
+  -- calls of other tasks left it as it was whether the task's tick is out, and so did this one but by its answer
+  pub stays : running (after old.opening before).core.out e.task.0 ≡ job_out e.task.0 old
+  pub out : job_out e.task.0 new ≡ job_then e.answer (job_out e.task.0 old)
+  -- the floor that it leaves keeps its laws
+  pub kept : IsKept (after old.opening new.seen)
+
+-- the task made this call, was answered so, and counts the answer
+pub record Calls (call : Call) (answer : Answer) (old new : PassState) : Type 0 where
+  pub task : new.task ≡ old.task
+  pub count : new.count ≡ with_answer old.count answer
+  pub adds : Adds (entry old.task call answer) old.lists new.lists
+
+-- what `take` hands out is of this executive
+abbrev pub IsTakenOf : Executive → Taken → Type 0
+IsTakenOf e (Given t) = IsGrantOf e t
+IsTakenOf e (NotNow p f) = IsPassOf e p
+
+-- the pass called `take`; a grant has what the floor granted, and a pass comes back with the floor's refusal
+abbrev pub Takes : PassState → Taken → Type 0
+Takes old (Given t) = Calls call.Take (answer.Taken (Ok t.granted)) old (of_grant t)
+Takes old (NotNow p f) = Calls call.Take (answer.Taken (Err f)) old (of_pass p)
+
+-- in each legal history that goes on from what the grant saw, with no other call of its task, the tick of its job is out
+abbrev pub IsOut : Grant → Type 0
+IsOut t = (log : List Entry) → IsLegal (of_grant t).lists.opening log → StartsWith log (of_grant t).lists.seen
+    → (of_grant t).lists.mine ≡ calls_of (of_grant t).task log
+    → (after (of_grant t).lists.opening log).core.out ≡ Some t.granted.job
+
+-- puts no tick out, and ends none
+abbrev pub IsQuiet : Call → Type 0
+IsQuiet call.Release = Unit {0}
+IsQuiet call.Take = ⊥
+IsQuiet (call.Outcome done) = ⊥
+IsQuiet call.Idle = Unit {0}
+IsQuiet call.Look = Unit {0}

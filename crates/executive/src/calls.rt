@@ -1,0 +1,105 @@
+//! The calls of passes and grants.
+ghost use Rattle.std.specs.Prelude.{◌≡◌, ◌≢◌, ℕ, Ok, Err, None};
+ghost use Rattle.mc_task.specs.declared.task.JobId.{JobId};
+ghost use Rattle.mode_core.specs.declared.answers.ReleaseFault.TheVariants as release_fault;
+ghost use Rattle.timetable.specs.declared.acts.ActFault.TheVariants as act_fault;
+ghost use Rattle.timetable.specs.Floor.{FloorState};
+ghost use Rattle.executive.specs.declared.entry.Call.TheVariants as call;
+ghost use Rattle.executive.specs.declared.entry.Answer.TheVariants as answer;
+ghost use Rattle.executive.specs.Histories.{answer_to};
+ghost use Rattle.executive.specs.Seats.{job_out};
+ghost use Rattle.executive.specs.Passes.{IsQuiet, IsPassOf, IsGrantOf, IsTakenOf, of_pass, of_grant, Calls, Takes};
+
+use crate::entry::{Answer, Call};
+use crate::executive::Executive;
+use crate::pass::{Grant, Resting, TaskPass};
+use mc_model::How;
+use mode_core::{GrantFault, IdleFault, ReleaseFault, Released};
+use std::sync::Wait;
+use timetable::{Act, ActFault};
+
+/// The answer to `take`.
+pub enum Taken {
+    /// The task's tick is out.
+    Given(Grant),
+    /// The floor refuses the tick, and the pass comes back.
+    NotNow(TaskPass, ActFault<GrantFault>),
+}
+
+impl Executive {
+    /// Releases the pass's task, as `Floor::release`. It may wait for other calls.
+    pub fn release<R: Wait>(
+        &self,
+        rt: &R,
+        pass: &mut TaskPass,
+    ) -> Result<Released, ActFault<ReleaseFault>>
+        requires { IsPassOf self.now pass.old }
+        ensures of { IsPassOf self.now pass.new }
+        ensures calls { Calls call.Release (answer.Released result) (of_pass pass.old) (of_pass pass.new) }
+        // A task whose tick is out has no pass.
+        ensures not_running { (j : JobId) → result ≢ Err (act_fault.Core (release_fault.Running j)) }
+    {
+        self.call_at_rest(rt, pass, Call::Release).into_released()
+    }
+
+    /// Puts the task's tick out, as `Floor::grant`. It may wait for other calls.
+    pub fn take<R: Wait>(&self, rt: &R, pass: TaskPass) -> Taken
+        requires { IsPassOf self.now pass }
+        ensures of { IsTakenOf self.now result }
+        ensures calls { Takes (of_pass pass) result }
+    {
+        let (held, answer) = self.call(rt, pass.into_held(), Call::Take);
+        match answer.into_taken() {
+            Ok(granted) => Taken::Given(Grant { held, granted }),
+            Err(fault) => Taken::NotNow(held.at_rest(), fault),
+        }
+    }
+
+    /// Ends the granted tick, as `Floor::outcome`; under `Rows` the plan tells whether the job is done. It may wait for other
+    /// calls.
+    pub fn outcome<R: Wait>(&self, rt: &R, grant: Grant, done: bool) -> (TaskPass, How)
+        requires { IsGrantOf self.now grant }
+        ensures of { IsPassOf self.now result.0 }
+        ensures calls { Calls (call.Outcome done) (answer.Told (Ok result.1)) (of_grant grant) (of_pass result.0) }
+    {
+        let Grant { held, granted: _ } = grant;
+        let (held, answer) = self.call(rt, held, Call::Outcome(done));
+        match answer.into_told() {
+            Ok(how) => (held.at_rest(), how),
+            Err(_) => unreachable!(),
+        }
+    }
+
+    /// Writes an idle tick, as `Floor::idle`, and answers its number. It may wait for other calls.
+    pub fn idle<R: Wait>(&self, rt: &R, pass: &mut TaskPass) -> Result<u64, ActFault<IdleFault>>
+        requires { IsPassOf self.now pass.old }
+        ensures of { IsPassOf self.now pass.new }
+        ensures calls { Calls call.Idle (answer.Idled result) (of_pass pass.old) (of_pass pass.new) }
+    {
+        self.call_at_rest(rt, pass, Call::Idle).into_idled()
+    }
+
+    /// The floor's next act. It changes nothing there, and may wait for other calls.
+    pub fn look<R: Wait>(&self, rt: &R, pass: &mut TaskPass) -> Act
+        requires { IsPassOf self.now pass.old }
+        ensures of { IsPassOf self.now pass.new }
+        ensures calls { Calls call.Look (answer.Next result) (of_pass pass.old) (of_pass pass.new) }
+    {
+        self.call_at_rest(rt, pass, Call::Look).into_next()
+    }
+
+    // A call that puts no tick out, and ends none.
+    fn call_at_rest<R: Wait>(&self, rt: &R, pass: &mut TaskPass, call: Call) -> Answer
+        requires of { IsPassOf self.now pass.old }
+        requires quiet { IsQuiet call }
+        ensures of { IsPassOf self.now pass.new }
+        ensures calls { Calls call result (of_pass pass.old) (of_pass pass.new) }
+        ensures kind { (f : FloorState) × (k : ℕ) × (result ≡ answer_to f k call) }
+        ensures none_out { job_out (of_pass pass.old).task (of_pass pass.old).lists ≡ None }
+    {
+        let Resting { held } = pass.resting.take().unwrap();
+        let (held, answer) = self.call(rt, held, call);
+        pass.resting = Some(Resting { held });
+        answer
+    }
+}

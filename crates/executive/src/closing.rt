@@ -1,0 +1,98 @@
+//! How an executive is closed.
+ghost use Rattle.std.specs.Prelude.{◌≡◌, ◌≤◌, IfSome, IfOk, IfErr, IfNone, All, map, Some, vec_len, vec_capacity, length, List};
+ghost use Rattle.mc_task.specs.declared.task.Task.{Task};
+ghost use Rattle.executive.specs.Closing.{has_pass, HasEach, IsMissing, seat_of, Closes};
+ghost use Rattle.executive.specs.Passes.{IsPassOf, floor_of};
+
+use crate::executive::{Executive, Reserved};
+use crate::pass::{Held, TaskPass};
+use crate::state::State;
+use mc_task::TaskNo;
+use std::sync::Wait;
+use timetable::Floor;
+use turnstile::Seat;
+
+/// The list has no pass of this task, and it is the lowest such task. The executive and the list come back.
+pub struct Unclosed {
+    pub executive: Executive,
+    pub passes: Vec<TaskPass>,
+    pub task: TaskNo,
+}
+
+impl Executive {
+    /// Ends the executive, takes each pass back, and gives the floor that all calls leave. It takes no memory.
+    ///
+    /// It is refused exactly where the list has no pass of some task.
+    pub fn close<R: Wait>(self, rt: &R, passes: Vec<TaskPass>) -> Result<Floor, Unclosed>
+        requires of { All (λ p. IsPassOf self p) passes.items }
+        requires few { vec_len passes ≤ length (floor_of self).core.set }
+        ensures missing { IfErr result (λ u. IsMissing passes.items (floor_of self).core.set u.task.0) }
+        ensures back { IfErr result (λ u. (u.executive ≡ self) × (u.passes ≡ passes)) }
+        ensures each { IfOk result (λ f. HasEach passes.items (floor_of self).core.set) }
+        ensures floor { IfOk result (λ f. Closes (floor_of self) passes.items f) }
+    {
+        let _ = rt;
+        if let Some(task) = missing(passes.as_slice(), self.tasks) {
+            return Err(Unclosed {
+                executive: self,
+                passes,
+                task,
+            });
+        }
+        Ok(self.shut(passes))
+    }
+
+    // Ends the executive, where there is a pass of each task.
+    fn shut(self, passes: Vec<TaskPass>) -> Floor
+        requires of { All (λ p. IsPassOf self p) passes.items }
+        requires few { vec_len passes ≤ length (floor_of self).core.set }
+        requires each { HasEach passes.items (floor_of self).core.set }
+        ensures { Closes (floor_of self) passes.items result }
+    {
+        let Executive {
+            turns,
+            reserved,
+            tasks: _,
+        } = self;
+        let Reserved { mut list } = reserved.into_inner();
+        give_seats(passes, &mut list);
+        let State { floor, last: _ } = turns.close(list);
+        floor
+    }
+}
+
+// The lowest of so many tasks of which the list has no pass.
+fn missing(passes: &[TaskPass], tasks: u32) -> Option<TaskNo>
+    requires { tasks ≤ 128 }
+    ensures some { IfSome result (λ k. (set : List Task) → length set ≡ tasks → IsMissing passes.now set k.0) }
+    ensures none { IfNone result ((set : List Task) → length set ≡ tasks → HasEach passes.now set) }
+{
+    for task in 1..=tasks {
+        if !has_pass(passes, TaskNo(task)) {
+            return Some(TaskNo(task));
+        }
+    }
+    None
+}
+
+// Whether the list has a pass of the task.
+fn has_pass(passes: &[TaskPass], task: TaskNo) -> bool
+    ensures { result ≡ has_pass passes.now task.0 }
+{
+    passes.iter().any(|pass| pass.task() == task)
+}
+
+// The seats of the passes, in order.
+fn give_seats(passes: Vec<TaskPass>, list: &mut Vec<Seat<State>>)
+    requires { (vec_len list.old ≡ 0) × (vec_len passes ≤ vec_capacity list.old) }
+    ensures { map (λ s. Some s) list.new.items ≡ map seat_of passes.items }
+{
+    for pass in passes {
+        let Held {
+            task: _,
+            count: _,
+            seat,
+        } = pass.into_held();
+        list.push_reserved(seat);
+    }
+}

@@ -1,0 +1,28 @@
+//! What a caller may learn of the threads that take the ticks of a floor.
+use crate::pass::{Grant, TaskPass};
+
+/// Is told of what task threads do. The calls lend what only an executive gives, and change nothing of it.
+///
+/// `task` is the task's number, from 1.
+pub trait Gate {
+    /// The task's thread begins, before its first look.
+    fn enter(&self, task: u32, pass: &TaskPass);
+
+    /// A release of the task was taken.
+    fn released(&self, task: u32, pass: &TaskPass);
+
+    /// A tick of the task is out: its step runs during this call.
+    fn step(&self, task: u32, grant: &Grant);
+}
+
+/// A gate that does nothing.
+#[derive(Clone, Copy, Debug)]
+pub struct QuietGate;
+
+impl Gate for QuietGate {
+    fn enter(&self, _task: u32, _pass: &TaskPass) {}
+
+    fn released(&self, _task: u32, _pass: &TaskPass) {}
+
+    fn step(&self, _task: u32, _grant: &Grant) {}
+}

@@ -1,0 +1,95 @@
+//! How an executive is made, with its passes.
+ghost use Rattle.std.specs.Prelude.{◌≡◌, ◌-◌, ◌≤◌, [], None, IfOk, IfErr, vec_len, vec_capacity, All, length};
+ghost use Rattle.turnstile.specs.Seats.{IsOf};
+ghost use Rattle.turnstile.specs.Seats as turn_seats;
+ghost use Rattle.executive.specs.Counts.{tally};
+ghost use Rattle.executive.specs.Opening.{AreFresh};
+ghost use Rattle.executive.specs.Passes.{floor_of};
+
+use crate::count::Count;
+use crate::entry::Entry;
+use crate::executive::{Executive, Reserved};
+use crate::pass::{Held, TaskPass};
+use crate::state::State;
+use mc_task::TaskNo;
+use std::alloc::Global;
+use std::sync::{Mutex, Wait};
+use timetable::Floor;
+use turnstile::{NewFault, Seat, Turnstile};
+
+/// There was no memory. The floor comes back.
+#[derive(Drop)]
+pub struct NoMemory {
+    pub floor: Floor,
+}
+
+impl Executive {
+    /// An executive over a floor with no rows and no tick out, and a pass for each task, in the order of their numbers. It
+    /// takes memory, and no later call does.
+    pub fn new<R: Wait>(
+        rt: &R,
+        alloc: Global,
+        floor: Floor,
+    ) -> Result<(Executive, Vec<TaskPass>), NoMemory>
+        requires rows { floor.core.rows ≡ [] }
+        requires out { floor.core.out ≡ None }
+        ensures floor { IfOk result (λ r. floor_of r.0 ≡ floor) }
+        ensures passes { IfOk result (λ r. (vec_len r.1 ≡ length floor.core.set) × AreFresh r.0 r.1.items) }
+        ensures memory { IfErr result (λ e. e.floor ≡ floor) }
+    {
+        let _ = rt;
+        let _sound = floor.core().ticks();
+        let tasks = floor.core().set().len();
+        let Ok(list) = Vec::with_capacity(alloc, 128) else {
+            return Err(NoMemory { floor });
+        };
+        let Ok(mut passes) = Vec::with_capacity(alloc, tasks as usize) else {
+            return Err(NoMemory { floor });
+        };
+        let state = State {
+            floor,
+            last: Entry::NONE,
+        };
+        match Turnstile::new(alloc, state, tasks) {
+            Ok((turns, seats)) => {
+                let executive = Executive {
+                    turns,
+                    reserved: Mutex::new(Reserved { list }),
+                    tasks,
+                };
+                executive.make_passes(seats, &mut passes);
+                Ok((executive, passes))
+            }
+            Err(NewFault::Memory(state)) => {
+                let State { floor, last: _ } = state;
+                Err(NoMemory { floor })
+            }
+        }
+    }
+
+    // A pass over each seat.
+    fn make_passes(&self, seats: Vec<Seat<State>>, passes: &mut Vec<TaskPass>)
+        requires seats { (vec_len seats ≡ self.now.tasks) × turn_seats.AreFresh seats.items × All (λ s. IsOf self.now.turns s) seats.items }
+        requires room { (vec_len passes.old ≡ 0) × (self.now.tasks ≤ vec_capacity passes.old) }
+        ensures { (vec_len passes.new ≡ self.now.tasks) × AreFresh self.now passes.new.items }
+    {
+        let mut task = 0;
+        for seat in seats {
+            task += 1;
+            passes.push_reserved(new_held(TaskNo(task), seat).at_rest());
+        }
+    }
+}
+
+// A task that made no call.
+fn new_held(task: TaskNo, seat: Seat<State>) -> Held
+    requires some { 1 ≤ task.0 }
+    requires seat { turn_seats.IsFresh (task.0 - 1) seat }
+    ensures { (result.task ≡ task) × (result.seat ≡ seat) × (result.count ≡ tally []) }
+{
+    Held {
+        task,
+        count: Count::ZERO,
+        seat,
+    }
+}

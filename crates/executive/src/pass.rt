@@ -1,0 +1,117 @@
+//! Passes and grants: the right of a task to call, and a tick that is out.
+ghost use Rattle.std.specs.Prelude.{◌≡◌, ◌-◌, ◌≤◌, IsSome, Some, None};
+ghost use Rattle.turnstile.specs.Seats.{number, mine, seen};
+ghost use Rattle.executive.specs.Histories.{calls_of};
+ghost use Rattle.executive.specs.Counts.{tally, IsAtMost};
+ghost use Rattle.executive.specs.Seats.{lists, job_out};
+
+use crate::count::Count;
+use crate::state::State;
+use mc_task::TaskNo;
+use mode_core::Granted;
+use turnstile::Seat;
+
+// The seat of a task, with the count of its answers.
+#[derive(Drop)]
+pub(crate) struct Held {
+    pub(crate) task: TaskNo,
+    pub(crate) count: Count,
+    pub(crate) seat: Seat<State>,
+    ghost some: { 1 ≤ task.0 },
+    ghost number: { number seat ≡ task.0 - 1 },
+    ghost whole: { mine seat ≡ calls_of task.0 (seen seat) },
+    ghost counts: { count ≡ tally (mine seat) },
+    ghost few: { IsAtMost count (lists seat).opening.core.places },
+}
+
+// A task with no tick out.
+#[derive(Drop)]
+pub(crate) struct Resting {
+    pub(crate) held: Held,
+    ghost none_out: { job_out held.task.0 (lists held.seat) ≡ None },
+}
+
+/// The right of one task to call, of which there is one. Only an executive makes it.
+///
+/// Contracts see the task, the count of what it was answered, the beginning of the history that it saw, and the calls that
+/// it made. An executive of which a pass was let go cannot be closed.
+#[derive(Drop)]
+pub struct TaskPass {
+    // It is taken out for the time of a call.
+    pub(crate) resting: Option<Resting>,
+    ghost there: { IsSome resting },
+}
+
+/// A tick that is out. It holds its task's pass, and is spent by `Executive::outcome` alone.
+pub struct Grant {
+    pub(crate) held: Held,
+    pub(crate) granted: Granted,
+    ghost out: { job_out held.task.0 (lists held.seat) ≡ Some granted.job },
+}
+
+impl Held {
+    ghost use Rattle.executive.specs.Passes.{of_held, of_pass};
+    ghost use Rattle.std.specs.Prelude.{IfSome};
+
+    // A task with no tick out, as a pass.
+    pub(crate) fn at_rest(self) -> TaskPass
+        requires { job_out self.task.0 (lists self.seat) ≡ None }
+        ensures same { IfSome result.resting (λ r. r.held ≡ self) }
+        ensures state { of_pass result ≡ of_held self }
+    {
+        TaskPass {
+            resting: Some(Resting { held: self }),
+        }
+    }
+}
+
+impl TaskPass {
+    ghost use Rattle.executive.specs.Passes.{of_held, of_pass};
+    ghost use Rattle.std.specs.Prelude.{IfSome};
+
+    // What the pass holds.
+    pub(crate) fn into_held(self) -> Held
+        ensures same { IfSome self.resting (λ r. r.held ≡ result) }
+        ensures state { of_held result ≡ of_pass self }
+        ensures none_out { job_out result.task.0 (lists result.seat) ≡ None }
+    {
+        let TaskPass { resting } = self;
+        let Resting { held } = resting.unwrap();
+        held
+    }
+
+    /// The task.
+    pub fn task(&self) -> TaskNo
+        ensures { result.0 ≡ (of_pass self.now).task }
+    {
+        match &self.resting {
+            Some(resting) => resting.held.task,
+            None => unreachable!(),
+        }
+    }
+
+    /// What its calls were answered, in numbers.
+    pub fn count(&self) -> Count
+        ensures value { result ≡ (of_pass self.now).count }
+        // It is that of the answers to the calls that it made.
+        ensures answers { result ≡ tally (of_pass self.now).lists.mine }
+        ensures few { IsAtMost result (of_pass self.now).lists.opening.core.places }
+    {
+        match &self.resting {
+            Some(resting) => resting.held.count,
+            None => unreachable!(),
+        }
+    }
+}
+
+impl Grant {
+    ghost use Rattle.executive.specs.Passes.{IsOut};
+
+    /// What the floor granted.
+    pub fn granted(&self) -> Granted
+        ensures value { result ≡ self.now.granted }
+        ensures out { IsOut self.now }
+    {
+        self.granted
+    }
+}

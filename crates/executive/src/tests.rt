@@ -1,0 +1,266 @@
+//! An executive over two tasks, on one thread.
+ghost use Rattle.std.specs.Prelude.{◌≡◌, ◌≤◌, ◌+◌, [], None, All, IfOk, length, vec_len, vec_capacity};
+ghost use Rattle.executive.specs.Passes.{IsPassOf, floor_of};
+ghost use Rattle.executive.specs.Opening.{AreFresh};
+
+use crate::{Count, Executive, Taken, TaskPass, Unclosed};
+use admission::admit;
+use load_sum::sum_loads;
+use mc_model::{How, Row, WorkRow};
+use mc_task::Level::{High, Low};
+use mc_task::{JobId, Level, Name, Task, TaskNo, TaskSet};
+use mode_core::{Core, GrantFault, Granted, IdleFault, ReleaseFault, Released};
+use std::alloc::Global;
+use std::sync::Wait;
+use std::test::Fail;
+use timetable::{Act, ActFault, Floor, Plan, PlanFault};
+use work_file::Work;
+
+fn task(name: &str, level: Level, low: u32, high: u32) -> Result<Task, Fail> {
+    Ok(Task {
+        name: Name::new(name.as_bytes()).ok_or("name")?,
+        level,
+        period: 10,
+        low,
+        high,
+    })
+}
+
+// A high task with budgets 2 and 6, and a low task with budget 5, both with period 10.
+fn control_set(alloc: Global) -> Result<TaskSet, Fail> {
+    let mut tasks = Vec::new(alloc);
+    tasks.push(task("ctl", High, 2, 6)?)?;
+    tasks.push(task("log", Low, 5, 5)?)?;
+    Ok(TaskSet::new(tasks)?)
+}
+
+// A floor with the first job at boundary 0, the second task's at boundary 2, and four ticks.
+fn planned(alloc: Global) -> Result<Floor, Fail>
+    ensures { IfOk result (λ f. (f.core.rows ≡ []) × (f.core.out ≡ None)) }
+{
+    let set = control_set(alloc)?;
+    let rule = admit(&sum_loads(&set)?).ok_or("not admitted")?;
+    let mut rows = Vec::new(alloc);
+    for (task, release, need) in [(1, 0, 6), (2, 2, 5)] {
+        rows.push(WorkRow {
+            task: TaskNo(task),
+            release,
+            need,
+        })?;
+    }
+    let work = Work::new(&set, rows)?;
+    let places = 4 + work.rows().len();
+    let core = Core::new(alloc, set, rule, places)?;
+    Ok(Floor::new(core, Plan::Rows { work, ticks: 4 }))
+}
+
+// A floor without a plan, with four places.
+fn free(alloc: Global) -> Result<Floor, Fail>
+    ensures { IfOk result (λ f. (f.core.rows ≡ []) × (f.core.out ≡ None)) }
+{
+    let set = control_set(alloc)?;
+    let rule = admit(&sum_loads(&set)?).ok_or("not admitted")?;
+    let core = Core::new(alloc, set, rule, 4)?;
+    Ok(Floor::new(core, Plan::Free))
+}
+
+fn job(task: u32, count: u32) -> JobId {
+    JobId {
+        task: TaskNo(task),
+        count,
+    }
+}
+
+fn count(releases: u64, ticks: u64, ends: u64, idles: u64) -> Count {
+    Count {
+        releases,
+        ticks,
+        ends,
+        idles,
+    }
+}
+
+// The passes of the two tasks, out of their list.
+fn two_of(executive: &Executive, passes: &mut Vec<TaskPass>) -> (TaskPass, TaskPass)
+    requires { (vec_len passes.old ≡ 2) × AreFresh executive.now passes.old.items }
+    ensures passes { IsPassOf executive.now result.0 × IsPassOf executive.now result.1 }
+    ensures list { (passes.new.items ≡ []) × (2 ≤ vec_capacity passes.new) }
+{
+    let _ = executive;
+    let second = passes.pop().unwrap();
+    let first = passes.pop().unwrap();
+    (first, second)
+}
+
+// A pass goes back into the list.
+fn put(executive: &Executive, passes: &mut Vec<TaskPass>, pass: TaskPass)
+    requires list { All (λ p. IsPassOf executive.now p) passes.old.items × IsPassOf executive.now pass }
+    requires room { 1 + vec_len passes.old ≤ vec_capacity passes.old }
+    ensures list { All (λ p. IsPassOf executive.now p) passes.new.items }
+    ensures room { (vec_len passes.new ≡ 1 + vec_len passes.old) × (vec_capacity passes.new ≡ vec_capacity passes.old) }
+{
+    let _ = executive;
+    passes.push_reserved(pass);
+}
+
+// Why the task gets no tick, with its pass.
+fn refused<R: Wait>(
+    rt: &R,
+    executive: &Executive,
+    pass: TaskPass,
+) -> (TaskPass, Option<ActFault<GrantFault>>)
+    requires { IsPassOf executive.now pass }
+    ensures { IsPassOf executive.now result.0 }
+{
+    match executive.take(rt, pass) {
+        Taken::NotNow(pass, fault) => (pass, Some(fault)),
+        Taken::Given(grant) => {
+            let (pass, _how) = executive.outcome(rt, grant, false);
+            (pass, None)
+        }
+    }
+}
+
+#[test]
+fn close_wants_a_pass_of_each_task(rt: HostRuntime) -> Result<(), Fail> {
+    let floor = planned(rt.alloc())?;
+    let Ok((executive, mut passes)) = Executive::new(&rt, rt.alloc(), floor) else {
+        return Err("memory".into());
+    };
+    assert!(rt; passes.len() == 2);
+    let (first, second) = two_of(&executive, &mut passes);
+    assert_eq!(rt; first.task(), TaskNo(1));
+    assert_eq!(rt; second.task(), TaskNo(2));
+    assert_eq!(rt; first.count(), count(0, 0, 0, 0));
+    assert_eq!(rt; second.count(), count(0, 0, 0, 0));
+    let (second, fault) = refused(&rt, &executive, second);
+    let due = PlanFault::Due { task: TaskNo(1) };
+    assert_eq!(rt; fault, Some(ActFault::Plan(due)));
+    put(&executive, &mut passes, first);
+    match executive.close(&rt, passes) {
+        Ok(_floor) => panic!(rt; "it was closed"),
+        Err(unclosed) => {
+            let Unclosed {
+                executive,
+                mut passes,
+                task,
+            } = unclosed;
+            assert_eq!(rt; task, TaskNo(2));
+            assert!(rt; passes.len() == 1);
+            put(&executive, &mut passes, second);
+            match executive.close(&rt, passes) {
+                Ok(floor) => assert!(rt; floor.core().rows().is_empty()),
+                Err(_unclosed) => panic!(rt; "a pass is missing"),
+            }
+        }
+    }
+    Ok(())
+}
+
+#[test]
+fn a_planned_tick_is_taken_and_ended(rt: HostRuntime) -> Result<(), Fail> {
+    let floor = planned(rt.alloc())?;
+    let Ok((executive, mut passes)) = Executive::new(&rt, rt.alloc(), floor) else {
+        return Err("memory".into());
+    };
+    assert!(rt; passes.len() == 2);
+    let (mut first, mut second) = two_of(&executive, &mut passes);
+    let kept = Released::Kept {
+        job: job(1, 1),
+        at: 0,
+    };
+    assert_eq!(rt; executive.release(&rt, &mut first), Ok(kept));
+    let mut first = match executive.take(&rt, first) {
+        Taken::Given(grant) => {
+            let granted = Granted {
+                job: job(1, 1),
+                at: 0,
+                before: 0,
+            };
+            assert_eq!(rt; grant.granted(), granted);
+            let (first, how) = executive.outcome(&rt, grant, false);
+            assert_eq!(rt; how, How::More);
+            first
+        }
+        Taken::NotNow(_first, _fault) => panic!(rt; "it was not given"),
+    };
+    assert_eq!(rt; executive.look(&rt, &mut first), Act::Grant(TaskNo(1)));
+    let pending = IdleFault::Pending { job: job(1, 1) };
+    assert_eq!(rt;
+        executive.idle(&rt, &mut first),
+        Err(ActFault::Core(pending))
+    );
+    assert_eq!(rt;
+        executive.release(&rt, &mut second),
+        Err(ActFault::Plan(PlanFault::NotPlanned))
+    );
+    assert_eq!(rt; first.count(), count(1, 1, 0, 0));
+    assert_eq!(rt; second.count(), count(0, 0, 0, 0));
+    put(&executive, &mut passes, first);
+    put(&executive, &mut passes, second);
+    match executive.close(&rt, passes) {
+        Ok(floor) => {
+            let rows = [
+                Row::Release {
+                    job: job(1, 1),
+                    kept: true,
+                },
+                Row::Tick {
+                    job: job(1, 1),
+                    how: How::More,
+                },
+            ];
+            assert!(rt; floor.core().rows() == rows.as_slice());
+        }
+        Err(_unclosed) => panic!(rt; "a pass is missing"),
+    }
+    Ok(())
+}
+
+#[test]
+fn other_tasks_are_answered_while_a_tick_is_out(rt: HostRuntime) -> Result<(), Fail> {
+    let floor = free(rt.alloc())?;
+    let Ok((executive, mut passes)) = Executive::new(&rt, rt.alloc(), floor) else {
+        return Err("memory".into());
+    };
+    assert!(rt; passes.len() == 2);
+    let (mut first, mut second) = two_of(&executive, &mut passes);
+    assert_eq!(rt; executive.idle(&rt, &mut first), Ok(0));
+    assert!(rt; executive.release(&rt, &mut first).is_ok());
+    let too_soon = ReleaseFault::TooSoon { next: 11 };
+    assert_eq!(rt;
+        executive.release(&rt, &mut first),
+        Err(ActFault::Core(too_soon))
+    );
+    let first = match executive.take(&rt, first) {
+        Taken::Given(grant) => {
+            let out = GrantFault::TickOut { job: job(1, 1) };
+            let (mut other, fault) = refused(&rt, &executive, second);
+            assert_eq!(rt; fault, Some(ActFault::Core(out)));
+            let out = IdleFault::TickOut { job: job(1, 1) };
+            assert_eq!(rt; executive.idle(&rt, &mut other), Err(ActFault::Core(out)));
+            let held = Released::Held {
+                job: job(2, 1),
+                at: 2,
+            };
+            assert_eq!(rt; executive.release(&rt, &mut other), Ok(held));
+            assert_eq!(rt; executive.look(&rt, &mut other), Act::Wait(job(1, 1)));
+            second = other;
+            let (first, how) = executive.outcome(&rt, grant, false);
+            assert_eq!(rt; how, How::More);
+            first
+        }
+        Taken::NotNow(_first, _fault) => panic!(rt; "it was not given"),
+    };
+    let (first, fault) = refused(&rt, &executive, first);
+    assert_eq!(rt; fault, Some(ActFault::Core(GrantFault::Full)));
+    assert_eq!(rt; first.count(), count(1, 1, 0, 1));
+    assert_eq!(rt; second.count(), count(1, 0, 0, 0));
+    put(&executive, &mut passes, first);
+    put(&executive, &mut passes, second);
+    match executive.close(&rt, passes) {
+        Ok(floor) => assert!(rt; floor.core().rows().len() == 4),
+        Err(_unclosed) => panic!(rt; "a pass is missing"),
+    }
+    Ok(())
+}

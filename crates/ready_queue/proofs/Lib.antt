@@ -1,0 +1,6 @@
+pub mod Matches
+pub mod Trees
+pub mod Leaves
+pub mod Firsts
+pub mod Keep
+pub mod CallerLemmas

@@ -1,0 +1,10 @@
+use Rattle.std.proofs.Common.{[], subst, sym, ap, ◌∙◌}
+use Rattle.ready_queue.specs.Kept.{AreNodes, items_at}
+use Rattle.ready_queue.proofs.Keep.{kept_new, items_new, with_items_of}
+use Rattle.ready_queue.proofs.queue.ReadyQueue.new.Goals as goal
+
+pub invariant_of-result : goal.invariant_of-result
+invariant_of-result c = subst (AreNodes c.args.places) (sym c.in-Ok.ensures) (kept_new c.args.places c.requires.some c.requires.few)
+
+pub returns-in-Ok : goal.returns-in-Ok
+returns-in-Ok c = ap (with_items_of (record { places = c.args.places; items = [] })) (ap (items_at c.args.places) c.in-Ok.ensures ∙ items_new c.args.places)

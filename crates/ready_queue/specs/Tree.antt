@@ -1,0 +1,30 @@
+-- A winner tree in one array.
+use Rattle.std.specs.Prelude.{◌≡◌, ◌≢◌, ℕ, ◌+◌, ◌*◌, ◌<◌, ◌≤◌, cond, List, length, slice_index_or, Option, Some, None}
+use Rattle.ready_queue.specs.declared.item.Item.{Item}
+use Rattle.ready_queue.specs.Items.{first_of_two, by_real}
+
+-- the one of the two that comes first; the other where one of them is none
+abbrev pub winner : Option Item → Option Item → Option Item
+winner None b = b
+winner (Some i) b = Some (first_of_two i b)
+
+-- what is left of it in high mode
+abbrev pub rekeyed : Option Item → Option Item
+rekeyed None = None
+rekeyed (Some i) = cond i.high (Some (by_real i)) None
+
+-- what stands at place k
+abbrev pub node : List (Option Item) → ℕ → Option Item
+node nodes k = slice_index_or nodes k None
+
+-- place k holds the winner of the two below it
+abbrev pub IsPlayed : List (Option Item) → ℕ → Type 0
+IsPlayed nodes k = node nodes k ≡ winner (node nodes (2 * k)) (node nodes (2 * k + 1))
+
+-- so does each place that has two below it, except perhaps this one
+abbrev pub IsTreeBut : ℕ → List (Option Item) → Type 0
+IsTreeBut except nodes = (k : ℕ) → 1 ≤ k → 2 * k + 1 < length nodes → k ≢ except → IsPlayed nodes k
+
+-- so does each place that has two below it
+abbrev pub IsTree : List (Option Item) → Type 0
+IsTree nodes = (k : ℕ) → 1 ≤ k → 2 * k + 1 < length nodes → IsPlayed nodes k

@@ -1,0 +1,71 @@
+// A winner tree in one array (Knuth, The Art of Computer Programming, volume 3, section 5.4.1): the last half are the
+// leaves, and place k holds the winner of the places 2k and 2k + 1. Place 0 is not used.
+ghost use Rattle.std.specs.Prelude.{◌≡◌, ◌+◌, ◌*◌, ◌/◌, ◌<◌, ◌≤◌, ℕ, length, drop, map, slice_set, replicate, None, IfOk};
+ghost use Rattle.ready_queue.specs.Tree.{rekeyed, IsTree, IsTreeBut};
+
+use crate::item::{Item, rekeyed, winner};
+use std::alloc::{AllocError, Global};
+
+/// A tree with no item.
+pub fn no_items(alloc: Global, places: usize) -> Result<Vec<Option<Item>>, AllocError>
+    requires { places ≤ 128 }
+    ensures { IfOk result (λ nodes. nodes.items ≡ replicate (2 * places) None) }
+{
+    vec![in alloc; None; 2 * places]
+}
+
+/// Puts an item at a leaf, or none, and plays the matches on the way from there to the root.
+pub fn put(nodes: &mut [Option<Item>], places: usize, leaf: usize, item: Option<Item>)
+    requires places { length nodes.old ≡ 2 * places }
+    requires leaf { leaf < places }
+    requires tree { IsTree nodes.old }
+    ensures tree { IsTree nodes.new }
+    ensures leaves { drop places nodes.new ≡ slice_set (drop places nodes.old) leaf item }
+{
+    nodes[places + leaf] = item;
+    climb(nodes, places + leaf);
+}
+
+// Plays the matches on the way from a place, which was changed, to the root.
+fn climb(nodes: &mut [Option<Item>], from: usize)
+    requires pair { 2 * (from / 2) + 1 < length nodes.old }
+    requires tree { IsTreeBut (from / 2) nodes.old }
+    ensures tree { IsTree nodes.new }
+    ensures leaves { (p : ℕ) → length nodes.old ≤ 2 * p → drop p nodes.new ≡ drop p nodes.old }
+{
+    let mut at = from / 2;
+    while at > 0 {
+        nodes[at] = winner(nodes[2 * at], nodes[2 * at + 1]);
+        at /= 2;
+    }
+}
+
+/// Goes over to high mode at each leaf, and plays all matches.
+pub fn rekey(nodes: &mut [Option<Item>], places: usize)
+    requires { length nodes.old ≡ 2 * places }
+    ensures tree { IsTree nodes.new }
+    ensures leaves { drop places nodes.new ≡ map rekeyed (drop places nodes.old) }
+{
+    rekey_leaves(&mut nodes[places..]);
+    play_all(nodes, places);
+}
+
+// Lets the low ones go, and orders the high ones by their real deadlines.
+fn rekey_leaves(leaves: &mut [Option<Item>])
+    ensures { leaves.new ≡ map rekeyed leaves.old }
+{
+    for leaf in leaves.iter_mut() {
+        *leaf = rekeyed(*leaf);
+    }
+}
+
+// Plays all matches, the ones next to the leaves first.
+fn play_all(nodes: &mut [Option<Item>], places: usize)
+    requires { length nodes.old ≡ 2 * places }
+    ensures tree { IsTree nodes.new }
+    ensures leaves { drop places nodes.new ≡ drop places nodes.old }
+{
+    for at in (1..places).rev() {
+        nodes[at] = winner(nodes[2 * at], nodes[2 * at + 1]);
+    }
+}
