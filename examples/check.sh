@@ -69,6 +69,21 @@ legal late 0
 END
 expect 0 "$work/soak.txt" soak 1 16 20000
 
+# A hundred times over, with 2 threads and with 32: the bytes are the same.
+cat >"$work/soak.txt" <<'END'
+soak 18446744073709551615 32 20000
+rule virtual x 3160/10067
+released 609 kept 602 dropped 7 discarded 10 done 592 stopped 0
+ticks 6078 idle 13922 switches 5
+legal late 0
+END
+times=0
+while [ "$times" -lt 100 ]; do
+    expect 0 overrun/run.txt run overrun/tasks.toml overrun/work.csv 12
+    expect 0 "$work/soak.txt" soak 18446744073709551615 32 20000
+    times=$((times + 1))
+done
+
 # Words that are none of the forms.
 usage='usage: check TASKS | run TASKS WORK TICKS | judge TASKS TRACE [P Q] | chart TASKS TRACE | report TASKS TRACE | soak NUMBER TASKCOUNT TICKS'
 expect 2 "$(says "$usage")"

@@ -11,7 +11,7 @@ work=$(mktemp -d) || exit 1
 trap 'rm -rf "$work"' EXIT
 cc -O1 -shared -fPIC -o "$work/growths.so" growths.c -ldl || exit 1
 "$edfvd" >/dev/null
-program=../crates/edfvd_program/out/edfvd_program
+program=${PROGRAM:-../crates/edfvd_program/out/edfvd_program}
 failed=0
 
 # run NUMBER WORDS..: with that growth refused; the status is in $status, the output in $work/out

@@ -3,7 +3,7 @@ use Rattle.std.proofs.Common.{◌≡◌, ℕ, ◌+◌, ◌<◌, List, [], ◌∷
 use Rattle.std.proofs.lemmas.List.{length-replicate}
 use Rattle.mc_world.specs.Shelf.{Files}
 use Rattle.edfvd_program.specs.declared.verb.Verb.{Verb}
-use Rattle.edfvd_program.specs.Command.{Command, check, two_files}
+use Rattle.edfvd_program.specs.Command.{Command, check, two_files, soak}
 use Rattle.edfvd_program.specs.Answer.{contents_of}
 
 -- the bytes are those told under the name, none where none are held
@@ -39,6 +39,10 @@ AreContents command holds contents = IfSome holds (λ files. contents ≡ conten
 pub contents-none : (holds : Option Files) → AreContents None holds []
 contents-none None = tt
 contents-none (Some files) = refl
+
+pub contents-soak : (holds : Option Files) (number tasks ticks : ℕ) → AreContents (Some (soak number tasks ticks)) holds []
+contents-soak None number tasks ticks = tt
+contents-soak (Some files) number tasks ticks = refl
 
 pub contents-check : (holds : Option Files) (name bytes : List ℕ) → AreOf holds name bytes → AreContents (Some (check name)) holds (bytes ∷ [])
 contents-check None name bytes h = tt

@@ -1,5 +1,5 @@
 -- Replies by their causes.
-use Rattle.std.proofs.Common.{◌≡◌, ◌≢◌, ◌⊎◌, inl, inr, ℕ, ◌<◌, ◌≤◌, List, [], ◌∷◌, ◌++◌, take, length, Option, Some, None, option_map, refl, ap, arith, sym, ◌∙◌, subst, le-leb}
+use Rattle.std.proofs.Common.{◌≡◌, ◌≢◌, ◌⊎◌, inl, inr, ℕ, ◌<◌, ◌≤◌, List, [], ◌∷◌, ◌++◌, take, length, Option, Some, None, option_map, Result, Ok, Err, IfOk, refl, ap, arith, sym, ◌∙◌, subst, le-leb}
 use Rattle.std.specs.Prelude.{MatchBool, nat_lt}
 use Rattle.std.proofs.lemmas.Bool.{lt-leb}
 use Rattle.std.proofs.lemmas.List.{append-nil}
@@ -7,14 +7,15 @@ use Rattle.mc_world.specs.Count.{Rose}
 use Rattle.mc_world.specs.Shelf.{ShelfState}
 use Rattle.task_file.specs.TaskFile.{task_file}
 use Rattle.edfvd_program.specs.Reply.{Reply}
-use Rattle.edfvd_program.specs.Command.{Command, check, file_names}
+use Rattle.edfvd_program.specs.Command.{Command, check, soak, file_names}
 use Rattle.edfvd_program.specs.Limits.{most_table_bytes}
 use Rattle.edfvd_program.specs.Refusals.{longer, read_fault, usage}
+use Rattle.edfvd_program.specs.Soak.{Soaks}
 use Rattle.edfvd_program.specs.Answer.{AnswersFile, UnderTest, Checks, IsAnswer}
 use Rattle.edfvd_program.specs.Outcome.{AskedFirst, IsLonger, IsLongFile, IsReply}
 use Rattle.edfvd_program.specs.Fetched.{Asked, IsFetched}
-use Rattle.edfvd_program.proofs.Statuses.{IsOfFiles, of_file, of_check}
-use Rattle.edfvd_program.proofs.Contents.{AreContents, of_told, long_bytes, contents-none, contents-check}
+use Rattle.edfvd_program.proofs.Statuses.{IsOfFiles, of_status, of_file, of_check}
+use Rattle.edfvd_program.proofs.Contents.{AreContents, of_told, long_bytes, contents-none, contents-soak, contents-check}
 
 -- bytes within the limit
 pub within : (P Q : Type 0) (limit : ℕ) (bytes : List ℕ) → length bytes ≤ limit → Q → MatchBool (nat_lt limit (length bytes)) P Q
@@ -94,6 +95,19 @@ IsReply-usage state = record {
 
 pub IsReply-none : (command : Option Command) (state : ShelfState) (reply : Reply) → command ≡ None → reply ≡ usage → IsReply command state state reply
 IsReply-none command state reply none is = rw (none, is) (IsReply-usage state)
+
+-- the reply to `soak`, which asks for no file
+soak_reply : (number tasks ticks : ℕ) (state : ShelfState) (reply : Reply) → Soaks number tasks ticks reply → IsReply (Some (soak number tasks ticks)) state state reply
+soak_reply number tasks ticks state reply h =
+    let (rule, rows, soaked, is) = h in
+    IsReply-files (Some (soak number tasks ticks)) state state reply 0 [] (λ e. absurd (cc)) (omega arith) (AskedFirst-none (Some (soak number tasks ticks)) state state refl)
+    (contents-soak state.holds number tasks ticks) h refl (of_status reply 0 (ap (λ r. r.status) is) (omega arith) (λ e. absurd (omega (arith, e))))
+
+-- where there is one
+pub IsReply-soak : {E : Type 0} (command : Option Command) (number tasks ticks : ℕ) (state : ShelfState) (result : Result Reply E) → command ≡ Some (soak number tasks ticks)
+    → IfOk result (Soaks number tasks ticks) → IfOk result (IsReply command state state)
+IsReply-soak command number tasks ticks state (Err e) is h = tt
+IsReply-soak command number tasks ticks state (Ok reply) is h = rw is (soak_reply number tasks ticks state reply h)
 
 -- the reply to `check` for the bytes of its file
 pub IsReply-check : (name bytes : List ℕ) (before after : ShelfState) (reply : Reply) → IsFetched most_table_bytes name bytes before after → Asked name before after

@@ -27,7 +27,7 @@ pub record IsOfFiles (reply : Reply) : Type 0 where
 abbrev pub AreOfFiles : Next → Type 0
 AreOfFiles Then = (set : List Task) (rule : Rule) (reply : Reply) → Then set rule reply → IsOfFiles reply
 
-of_status : (reply : Reply) (n : ℕ) → reply.status ≡ n → n < 7 → n ≢ 2 → IsOfFiles reply
+pub of_status : (reply : Reply) (n : ℕ) → reply.status ≡ n → n < 7 → n ≢ 2 → IsOfFiles reply
 of_status reply n is small other = record { small = omega (arith, is, small); other = λ h. other (sym is ∙ h) }
 
 of_rule : (Then : Next) → AreOfFiles Then → (set : List Task) (rule : Option Rule) (reply : Reply) → AnswersRule Then set rule reply → IsOfFiles reply

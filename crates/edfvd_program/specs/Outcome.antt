@@ -1,5 +1,5 @@
 -- What a call of the program leaves behind: the reply it gives, the names it asked and the bytes it wrote.
-use Rattle.std.specs.Prelude.{◌≡◌, ◌⊎◌, ℕ, ◌-◌, ◌<◌, ◌≤◌, List, ◌++◌, length, take, Option, None, Some, option_map, IfSome, IsSomeAnd, slice_get}
+use Rattle.std.specs.Prelude.{◌≡◌, ◌≢◌, ◌⊎◌, ℕ, ◌-◌, ◌<◌, ◌≤◌, List, ◌++◌, length, take, Option, None, Some, option_map, IfSome, IsSomeAnd, slice_get}
 use Rattle.mc_world.specs.Count.{Rose, RoseByMoreThan}
 use Rattle.mc_world.specs.Shelf.{Files, ShelfState}
 use Rattle.mc_world.specs.Sink.{SinkState}
@@ -79,6 +79,19 @@ Outcome command shelf_before shelf_after sink_before sink_after ended =
     IsGivenUp ended sink_before sink_after
     ⊎ ((reply : Reply)
     × IsReply command shelf_before shelf_after reply
+    × (IsWritten reply ended sink_before sink_after ⊎ IsCutShort reply ended sink_before sink_after))
+
+-- the reply tells no read fault
+abbrev pub TellsNoFault : Reply → Type 0
+TellsNoFault reply = (k : ℕ) → reply ≢ read_fault k
+
+-- a call in which no fetch failed: memory was wanting, or a reply that tells no read fault was written, whole or up to a fault
+abbrev pub CalmOutcome : Option Command → ShelfState → ShelfState → SinkState → SinkState → ℕ → Type 0
+CalmOutcome command shelf_before shelf_after sink_before sink_after ended =
+    IsGivenUp ended sink_before sink_after
+    ⊎ ((reply : Reply)
+    × IsReply command shelf_before shelf_after reply
+    × TellsNoFault reply
     × (IsWritten reply ended sink_before sink_after ⊎ IsCutShort reply ended sink_before sink_after))
 
 -- the answer was written whole behind these bytes, or memory was wanting and nothing was written

@@ -1,10 +1,10 @@
 // The top call.
-ghost use Rattle.std.specs.Prelude.{◌≡◌, ℕ, List, ◌<◌, ◌≤◌, map, string_bytes, length, Some, IfOk};
+ghost use Rattle.std.specs.Prelude.{◌≡◌, ◌≢◌, ℕ, List, ◌<◌, ◌≤◌, map, string_bytes, length, Some, IfOk};
 ghost use Rattle.mc_world.specs.Count.{Rose};
 ghost use Rattle.mc_world.specs.Shelf.{Files};
 ghost use Rattle.edfvd_program.specs.Command.{command_of, file_names};
 ghost use Rattle.edfvd_program.specs.Headline.{Headline};
-ghost use Rattle.edfvd_program.specs.Outcome.{Tells, AskedFirst, IsReply, Outcome, Answers};
+ghost use Rattle.edfvd_program.specs.Outcome.{Tells, AskedFirst, IsReply, Outcome, CalmOutcome, Answers};
 
 use crate::check::check;
 use crate::command::{Command, command_of};
@@ -12,16 +12,23 @@ use crate::lines::usage_line;
 use crate::reply::Reply;
 use crate::soak::soak;
 use crate::two_files::two_files;
+use executive::Gate;
 use mc_world::{Shelf, Sink};
 use std::alloc::{AllocError, Global};
+use std::sync::Wait;
+use std::thread::Threads;
 
 /// Does what the words after the program's name ask, and answers the status that the program ends with.
-pub fn edfvd<R, S: Shelf, K: Sink>(
-    _rt: &R,
+///
+/// `run` and `soak` run a thread for each task, and tell the gate of it: they may wait, and all clauses hold where they
+/// return, however the threads interleave.
+pub fn edfvd<R: Threads + Wait + Sync, S: Shelf, K: Sink, G: Gate + Sync>(
+    rt: &R,
     alloc: Global,
     words: &[String],
     shelf: &mut S,
     out: &mut K,
+    gate: &G,
 ) -> u8
     ensures outcome { Outcome (command_of (map (λ w. string_bytes w) words.now)) (S.state shelf.old) (S.state shelf.new)
         (K.state out.old) (K.state out.new) result }
@@ -42,16 +49,27 @@ pub fn edfvd<R, S: Shelf, K: Sink>(
     ensures write_fault { result ≡ 8 → Rose (K.state out.old).faults (K.state out.new).faults }
     ensures no_write_fault { (K.state out.old).faults < (K.state out.new).faults → result ≡ 8 }
 
+    // Over a shelf and a sink that never fail, as the calm ones, there is no read fault and no write fault.
+    ensures calm_shelf { (S.state shelf.new).faults ≡ 0 → CalmOutcome (command_of (map (λ w. string_bytes w) words.now))
+        (S.state shelf.old) (S.state shelf.new) (K.state out.old) (K.state out.new) result }
+    ensures calm_sink { (K.state out.new).faults ≡ 0 → result ≢ 8 }
+
     // No file is asked for but the command's, in their order.
     ensures asked { (n : ℕ) × AskedFirst n (command_of (map (λ w. string_bytes w) words.now)) (S.state shelf.old) (S.state shelf.new) }
 {
-    match reply_to(alloc, words, shelf) {
+    match reply_to(rt, alloc, words, shelf, gate) {
         Ok(reply) => reply.deliver(out),
         Err(AllocError) => 9,
     }
 }
 
-fn reply_to<S: Shelf>(alloc: Global, words: &[String], shelf: &mut S) -> Result<Reply, AllocError>
+fn reply_to<R: Threads + Wait + Sync, S: Shelf, G: Gate + Sync>(
+    rt: &R,
+    alloc: Global,
+    words: &[String],
+    shelf: &mut S,
+    gate: &G,
+) -> Result<Reply, AllocError>
     ensures reply { IfOk result (IsReply (command_of (map (λ w. string_bytes w) words.now)) (S.state shelf.old) (S.state shelf.new)) }
     ensures asked { (n : ℕ) × AskedFirst n (command_of (map (λ w. string_bytes w) words.now)) (S.state shelf.old) (S.state shelf.new) }
 {
@@ -63,14 +81,14 @@ fn reply_to<S: Shelf>(alloc: Global, words: &[String], shelf: &mut S) -> Result<
                 tasks,
                 second,
             },
-        ) => two_files(alloc, verb, tasks, second, shelf),
+        ) => two_files(rt, alloc, verb, tasks, second, shelf, gate),
         Some(
             Command::Soak {
                 number,
                 tasks,
                 ticks,
             },
-        ) => soak(alloc, number, tasks, ticks),
+        ) => soak(rt, alloc, number, tasks, ticks, gate),
         None => Ok(Reply::new(2, usage_line(alloc)?)),
     }
 }

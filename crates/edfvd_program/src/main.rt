@@ -21,6 +21,7 @@ mod verb;
 mod verdict_line;
 
 use edfvd::edfvd;
+use executive::QuietGate;
 use mc_world::{FileShelf, StdoutSink};
 use std::alloc::AllocError;
 use std::process::ExitCode;
@@ -33,7 +34,8 @@ fn main(rt: HostRuntime) -> ExitCode {
     };
     let mut shelf = FileShelf::new(&rt);
     let mut out = StdoutSink::new(&rt);
-    ExitCode::from(edfvd(&rt, rt.alloc(), &words, &mut shelf, &mut out))
+    let alloc = rt.alloc();
+    ExitCode::from(edfvd(&rt, alloc, &words, &mut shelf, &mut out, &QuietGate))
 }
 
 // The words after the program's name. Where they are no text there are none, and that is no form of the command line.

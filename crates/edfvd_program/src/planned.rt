@@ -5,19 +5,25 @@ ghost use Rattle.mc_model.specs.Holds.{Fits, Holds};
 ghost use Rattle.mc_model.specs.Work.{IsWork};
 ghost use Rattle.edfvd_program.specs.Planned.{IsPlanned};
 
+use executive::Gate;
 use mc_task::{Rule, TaskSet};
 use mode_core::Core;
 use std::alloc::{AllocError, Global};
+use std::sync::Wait;
+use std::thread::Threads;
+use task_threads::run_threads;
 use timetable::{Floor, Plan};
 use work_file::Work;
 
-/// The floor with the one trace of this many ticks that set, rule and work determine.
-pub fn planned(
+/// The floor with the one trace of this many ticks that set, rule and work determine, run in a thread for each task.
+pub fn planned<R: Threads + Wait + Sync, G: Gate + Sync>(
+    rt: &R,
     alloc: Global,
     set: &TaskSet,
     rule: Rule,
     work: Work,
     ticks: u64,
+    gate: &G,
 ) -> Result<Floor, AllocError>
     requires fits { Fits rule }
     requires holds { Holds set.now rule }
@@ -28,8 +34,10 @@ pub fn planned(
 {
     let places = ticks as usize + work.rows().len();
     let core = core_of(alloc, set, rule, places)?;
-    let mut floor = Floor::new(core, Plan::Rows { work, ticks });
-    floor.finish();
+    let floor = Floor::new(core, Plan::Rows { work, ticks });
+    let Ok(floor) = run_threads(rt, alloc, floor, gate) else {
+        return Err(AllocError);
+    };
     // Each row has its place.
     let _places = floor.core().places();
     Ok(floor)

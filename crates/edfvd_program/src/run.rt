@@ -17,19 +17,24 @@ ghost use Rattle.edfvd_program.specs.Answer.{Runs, traced};
 use crate::planned::planned;
 use crate::reply::Reply;
 use crate::row_lines::work_fault_line;
+use executive::Gate;
 use mc_task::{Rule, TaskSet};
 use mode_core::Core;
 use std::alloc::{AllocError, Global};
+use std::sync::Wait;
+use std::thread::Threads;
 use trace_format::write_trace;
 use work_file::{Work, WorkFault, read_work};
 
 /// The reply to `run` for the bytes of a work file, and this many ticks.
-pub fn run_work(
+pub fn run_work<R: Threads + Wait + Sync, G: Gate + Sync>(
+    rt: &R,
     alloc: Global,
     set: &TaskSet,
     rule: Rule,
     bytes: &[u8],
     ticks: u64,
+    gate: &G,
 ) -> Result<Reply, AllocError>
     requires fits { Fits rule }
     requires holds { Holds set.now rule }
@@ -38,7 +43,7 @@ pub fn run_work(
     ensures { IfOk result (Runs ticks set.now rule (work_in set.now bytes.now)) }
 {
     match read_work(alloc, set, bytes) {
-        Ok(work) => traced(alloc, set, rule, work, ticks),
+        Ok(work) => traced(rt, alloc, set, rule, work, ticks, gate),
         Err(fault) => refused_work(alloc, &fault),
     }
 }
@@ -52,12 +57,14 @@ fn refused_work(alloc: Global, fault: &WorkFault) -> Result<Reply, AllocError>
 }
 
 // The trace that follows.
-fn traced(
+fn traced<R: Threads + Wait + Sync, G: Gate + Sync>(
+    rt: &R,
     alloc: Global,
     set: &TaskSet,
     rule: Rule,
     work: Work,
     ticks: u64,
+    gate: &G,
 ) -> Result<Reply, AllocError>
     requires fits { Fits rule }
     requires holds { Holds set.now rule }
@@ -66,7 +73,7 @@ fn traced(
     requires most { ticks ≤ 1000000 }
     ensures { IfOk result (λ reply. (h : List Row) × Follows set.now rule work ticks h × (reply ≡ traced set.now h)) }
 {
-    let floor = planned(alloc, set, rule, work, ticks)?;
+    let floor = planned(rt, alloc, set, rule, work, ticks, gate)?;
     let text = text_of(alloc, set, floor.core())?;
     Ok(Reply::new(0, text))
 }

@@ -10,15 +10,25 @@ ghost use Rattle.edfvd_program.specs.Soak as spec;
 use crate::planned::planned;
 use crate::reply::Reply;
 use crate::verdict_line::verdict_line;
+use executive::Gate;
 use mc_model::Row;
 use mc_task::{Rule, TaskSet};
 use sched_report::summary;
 use set_gen::{Made, make};
 use std::alloc::{AllocError, Global};
+use std::sync::Wait;
+use std::thread::Threads;
 use trace_judge::judge;
 
 /// The reply to `soak` with these numbers: the workload that they make is run, judged and summed up.
-pub fn soak(alloc: Global, number: u64, tasks: u32, ticks: u64) -> Result<Reply, AllocError>
+pub fn soak<R: Threads + Wait + Sync, G: Gate + Sync>(
+    rt: &R,
+    alloc: Global,
+    number: u64,
+    tasks: u32,
+    ticks: u64,
+    gate: &G,
+) -> Result<Reply, AllocError>
     requires some { 2 ≤ tasks }
     requires few { tasks ≤ 32 }
     requires first { 1 ≤ ticks }
@@ -28,7 +38,7 @@ pub fn soak(alloc: Global, number: u64, tasks: u32, ticks: u64) -> Result<Reply,
     let Ok(Made { set, rule, work }) = make(alloc, number, tasks, ticks) else {
         return Err(AllocError);
     };
-    let floor = planned(alloc, &set, rule, work, ticks)?;
+    let floor = planned(rt, alloc, &set, rule, work, ticks, gate)?;
     let front = front_of(alloc, number, tasks, ticks, rule)?;
     let text = with_sums(alloc, front, &set, rule, floor.core().rows())?;
     Ok(Reply::new(0, text))

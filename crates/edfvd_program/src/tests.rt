@@ -3,12 +3,18 @@ use std::alloc::{AllocError, Global};
 
 mod chart;
 mod check;
+mod faults;
+mod gates;
 mod judge;
 mod run;
 mod soak;
+mod threads;
 
 const CONTROL: &str =
     "[[task]]\nname = \"ctl\"\nlevel = \"high\"\nperiod = 10\nlow = 2\nhigh = 6\n\n[[task]]\nname = \"log\"\nlevel = \"low\"\nperiod = 10\nlow = 5\n";
+
+// What `check` writes of it, 54 bytes.
+const CONTROL_TEXT: &str = "tasks 2\nU_LL 1/2\nU_HL 1/5\nU_HH 3/5\nrule virtual\nx 2/5\n";
 
 const AVIONICS: &str = "task = [
     {name='attitude', level='high', period=5000, low=400, high=900},

@@ -15,55 +15,64 @@ use crate::ruled::{Ruled, given_rule, ruled_file};
 use crate::run::run_work;
 use crate::tested::{MOST_TABLE_BYTES, fetch_fault_reply};
 use crate::verb::Verb;
+use executive::Gate;
 use mc_task::{Rule, TaskSet};
 use mc_world::Shelf;
 use std::alloc::{AllocError, Global};
+use std::sync::Wait;
+use std::thread::Threads;
 
 /// The most bytes of a trace.
 const MOST_TRACE_BYTES: usize = 1 << 27;
 
 /// The reply of a command with a task file and a second file of these names.
-pub fn two_files<S: Shelf>(
+pub fn two_files<R: Threads + Wait + Sync, S: Shelf, G: Gate + Sync>(
+    rt: &R,
     alloc: Global,
     verb: Verb,
     tasks: &str,
     second: &str,
     shelf: &mut S,
+    gate: &G,
 ) -> Result<Reply, AllocError>
     requires { IsInRange verb }
     ensures reply { IfOk result (IsReply (Some (two_files verb tasks.now second.now)) (S.state shelf.old) (S.state shelf.new)) }
     ensures asked { (n : ℕ) × AskedFirst n (Some (two_files verb tasks.now second.now)) (S.state shelf.old) (S.state shelf.new) }
 {
     match shelf.fetch(alloc, tasks, MOST_TABLE_BYTES) {
-        Ok(bytes) => with_tasks(alloc, verb, &bytes, second, shelf),
+        Ok(bytes) => with_tasks(rt, alloc, verb, &bytes, second, shelf, gate),
         Err(fault) => fetch_fault_reply(alloc, fault, 1, MOST_TABLE_BYTES),
     }
 }
 
-fn with_tasks<S: Shelf>(
+fn with_tasks<R: Threads + Wait + Sync, S: Shelf, G: Gate + Sync>(
+    rt: &R,
     alloc: Global,
     verb: Verb,
     bytes: &[u8],
     second: &str,
     shelf: &mut S,
+    gate: &G,
 ) -> Result<Reply, AllocError>
     requires { IsInRange verb }
     ensures reply { IfOk result (IsFileReply verb bytes.now second.now (S.state shelf.old) (S.state shelf.new)) }
     ensures asked { ((S.state shelf.new).asked ≡ (S.state shelf.old).asked) ⊎ Asked second.now (S.state shelf.old) (S.state shelf.new) }
 {
     match ruled_file(alloc, given_rule(verb), bytes)? {
-        Ruled::Set { set, rule } => with_set(alloc, verb, &set, rule, second, shelf),
+        Ruled::Set { set, rule } => with_set(rt, alloc, verb, &set, rule, second, shelf, gate),
         Ruled::Refused { reply } => Ok(reply),
     }
 }
 
-fn with_set<S: Shelf>(
+fn with_set<R: Threads + Wait + Sync, S: Shelf, G: Gate + Sync>(
+    rt: &R,
     alloc: Global,
     verb: Verb,
     set: &TaskSet,
     rule: Rule,
     second: &str,
     shelf: &mut S,
+    gate: &G,
 ) -> Result<Reply, AllocError>
     requires range { IsInRange verb }
     requires fits { Fits rule }
@@ -73,7 +82,7 @@ fn with_set<S: Shelf>(
 {
     let limit = most_second_bytes(verb);
     match shelf.fetch(alloc, second, limit) {
-        Ok(bytes) => done(alloc, verb, set, rule, &bytes),
+        Ok(bytes) => done(rt, alloc, verb, set, rule, &bytes, gate),
         Err(fault) => fetch_fault_reply(alloc, fault, 2, limit),
     }
 }
@@ -87,12 +96,14 @@ fn most_second_bytes(verb: Verb) -> usize
     }
 }
 
-fn done(
+fn done<R: Threads + Wait + Sync, G: Gate + Sync>(
+    rt: &R,
     alloc: Global,
     verb: Verb,
     set: &TaskSet,
     rule: Rule,
     bytes: &[u8],
+    gate: &G,
 ) -> Result<Reply, AllocError>
     requires range { IsInRange verb }
     requires fits { Fits rule }
@@ -100,7 +111,7 @@ fn done(
     ensures { IfOk result (Does verb bytes.now set.now rule) }
 {
     match verb {
-        Verb::Run { ticks } => run_work(alloc, set, rule, bytes, ticks),
+        Verb::Run { ticks } => run_work(rt, alloc, set, rule, bytes, ticks, gate),
         Verb::Judge | Verb::JudgeBy { .. } | Verb::Chart | Verb::Report => {
             judge_trace(alloc, verb, set, rule, bytes)
         }

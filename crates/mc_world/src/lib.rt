@@ -1,6 +1,8 @@
 //! The outside as the program sees it: a shelf of files, and a sink for bytes.
 #![tactic(auto)]
 
+mod calm_shelf;
+mod calm_sink;
 mod file_shelf;
 mod memory_shelf;
 mod memory_sink;
@@ -8,6 +10,8 @@ mod shelf;
 mod sink;
 mod stdout_sink;
 
+pub use calm_shelf::CalmShelf;
+pub use calm_sink::CalmSink;
 pub use file_shelf::FileShelf;
 pub use memory_shelf::MemoryShelf;
 pub use memory_sink::MemorySink;

@@ -103,7 +103,8 @@ fn found(
     Err(FetchFault::Failed)
 }
 
-fn copied(alloc: Global, bytes: &[u8], limit: usize) -> Result<Vec<u8>, FetchFault>
+// What is answered of a file with these bytes.
+pub(crate) fn copied(alloc: Global, bytes: &[u8], limit: usize) -> Result<Vec<u8>, FetchFault>
     ensures { Answers result (answer_of (Some bytes.now) limit) }
 {
     if bytes.len() > limit {

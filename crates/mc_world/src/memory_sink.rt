@@ -1,4 +1,4 @@
-ghost use Rattle.std.specs.Prelude.{◌≡◌, ◌≤◌, ◌<◌, ◌+◌, ◌⊎◌, ◌↔◌, IfOk, IsErr, IsTrue, OnErr, Some, Contains, length};
+ghost use Rattle.std.specs.Prelude.{◌≡◌, ◌≤◌, ◌<◌, ◌+◌, ◌⊎◌, ◌↔◌, IfOk, IsErr, IsTrue, OnErr, Some, Contains, [], length};
 ghost use Rattle.mc_world.specs.Count.{Rose};
 ghost use Rattle.mc_world.specs.MemorySinkState.{new_sink, next_count, after_write, after_fault};
 ghost use Rattle.mc_world.specs.Sink.{Appends};
@@ -8,13 +8,15 @@ use std::alloc::Global;
 use std::marker::Model;
 
 /// A sink in memory, with a fixed room. It fails at the writes that it is told to, and where it is
-/// full. The number of a write, from 1, stands still at the last `u64`.
+/// full. Other writes it may be told to answer with 0, which is a fault too. The number of a write,
+/// from 1, stands still at the last `u64`.
 #[derive(Debug, Drop)]
 pub struct MemorySink {
     bytes: Vec<u8>,
     room: usize,
     most: usize,
     fails: Vec<u64>,
+    stops: Vec<u64>,
     writes: u64,
     faults: u64,
 }
@@ -30,6 +32,7 @@ impl Model for MemorySink {
       room = s.room;
       most = s.most;
       fails = s.fails.items;
+      stops = s.stops.items;
       writes = s.writes;
       faults = s.faults;
     } };
@@ -48,7 +51,22 @@ impl MemorySink {
         fails: Vec<u64>,
     ) -> Result<MemorySink, Memory>
         requires { 1 ≤ most }
-        ensures { IfOk result (λ sink. sink ≡ new_sink room most fails.items) }
+        ensures { IfOk result (λ sink. sink ≡ new_sink room most fails.items []) }
+    {
+        MemorySink::with_stops(alloc, room, most, fails, Vec::new(alloc))
+    }
+
+    /// As `new`, and the writes of the second list, counted from 1, take nothing and answer 0. One
+    /// that would fail without that list fails.
+    pub fn with_stops(
+        alloc: Global,
+        room: usize,
+        most: usize,
+        fails: Vec<u64>,
+        stops: Vec<u64>,
+    ) -> Result<MemorySink, Memory>
+        requires { 1 ≤ most }
+        ensures { IfOk result (λ sink. sink ≡ new_sink room most fails.items stops.items) }
     {
         match Vec::with_capacity(alloc, room) {
             Ok(bytes) => Ok(MemorySink {
@@ -56,6 +74,7 @@ impl MemorySink {
                 room,
                 most,
                 fails,
+                stops,
                 writes: 0,
                 faults: 0,
             }),
@@ -78,13 +97,21 @@ impl Sink for MemorySink {
         // It fails exactly at the listed writes, and where no room is left for a piece with bytes.
         ensures fails { IsErr result ↔ (Contains self.old.fails self.new.writes
             ⊎ ((0 < length piece.now) × (self.old.room ≤ length self.old.written))) }
-        ensures takes { IfOk result (λ n. n ≡ next_count self.old piece.now) }
 
-        // Each write is counted, and each that fails is a fault.
-        ensures taken { IfOk result (λ n. self.new ≡ after_write self.old piece.now n) }
+        // The other writes that it is told to stop at take nothing, and the rest take what they can.
+        ensures stops { Contains self.old.stops self.new.writes → IfOk result (λ n. n ≡ 0) }
+        ensures takes { (Contains self.old.stops self.new.writes → ⊥) → IfOk result (λ n. n ≡ next_count self.old piece.now) }
+
+        // Each write is counted, and each that fails or is told to take nothing is a fault.
         ensures fault { OnErr result (self.new ≡ after_fault self.old) }
+        ensures stopped { Contains self.old.stops self.new.writes → self.new ≡ after_fault self.old }
+        ensures taken { (Contains self.old.stops self.new.writes → ⊥)
+            → IfOk result (λ n. self.new ≡ after_write self.old piece.now n) }
 
-        // These two of the trait's clauses do not follow from those above.
+        // These of the trait's clauses do not follow from those above.
+        ensures count { IfOk result (λ n. n ≤ length piece.now) }
+        ensures appends { IfOk result (λ n. Appends (Some self.old.written) (Some self.new.written) piece.now n) }
+        ensures no_fault { IfOk result (λ n. 0 < n → self.new.faults ≡ self.old.faults) }
         ensures cause_none { IfOk result (λ n. n ≡ 0 → 0 < length piece.now
             → Rose self.old.faults self.new.faults) }
         ensures never_falls { self.old.faults ≤ self.new.faults }
@@ -95,6 +122,10 @@ impl Sink for MemorySink {
         if is_listed(&self.fails, self.writes) || (count == 0 && !piece.is_empty()) {
             self.faults = self.faults.saturating_add(1);
             return Err(SinkFault);
+        }
+        if is_listed(&self.stops, self.writes) {
+            self.faults = self.faults.saturating_add(1);
+            return Ok(0);
         }
         match self.bytes.extend_from_slice(&piece[..count]) {
             Ok(()) => Ok(count),
@@ -128,6 +159,26 @@ mod tests {
         assert_eq!(rt; write_to(&mut sink, b"U_LL 1/2\n"), Err(SinkFault));
         assert_eq!(rt; sink.written(), b"tasks 2\n".as_slice());
         assert_eq!(rt; (sink.writes, sink.faults), (2, 1));
+        Ok(())
+    }
+
+    #[test]
+    fn a_stop_takes_nothing_and_is_a_fault(rt: HostRuntime) -> Result<(), Fail> {
+        let alloc = rt.alloc();
+        let stops = vec![in alloc; 2, 3, 5]?;
+        let mut sink = MemorySink::with_stops(alloc, 12, 8, vec![in alloc; 3]?, stops)?;
+        let writes = [
+            ("tasks 2\nU_LL 1/2\n", Ok(8), 0),
+            ("U_LL 1/2\n", Ok(0), 1),
+            ("U_LL 1/2\n", Err(SinkFault), 2),
+            ("U_LL 1/2\n", Ok(4), 2),
+            (" 1/2\n", Err(SinkFault), 3),
+        ];
+        for (piece, answer, faults) in writes {
+            assert_eq!(rt; write_to(&mut sink, piece.as_bytes()), answer);
+            assert_eq!(rt; sink.faults, faults);
+        }
+        assert_eq!(rt; sink.written(), b"tasks 2\nU_LL".as_slice());
         Ok(())
     }
 

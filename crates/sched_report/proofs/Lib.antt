@@ -8,3 +8,4 @@ pub mod Released
 pub mod Responses
 pub mod Steps
 pub mod Texts
+pub mod WorkedReports

@@ -1,4 +1,4 @@
--- The words of a number: those of PCG's 32-bit generator (XSH RR 64/32) made by `new(NUMBER, 54)`, one after the other.
+-- The words of a number: those of PCG's 32-bit generator (O'Neill's XSH RR 64/32) made by `new(NUMBER, 54)`, one after the other.
 use Rattle.std.specs.Prelude.{ℕ, zero, suc}
 use Rattle.rand_pcg.specs.Lcg.{Lcg, started, increment_of}
 use Rattle.rand_pcg.specs.Pcg.{multiplier_64, pcg32}

@@ -1,4 +1,3 @@
-pub mod NumberLemmas
 pub mod NameLemmas
 pub mod RowLemmas
 pub mod NextLemmas

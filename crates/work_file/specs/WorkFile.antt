@@ -10,7 +10,7 @@ use Rattle.work_file.specs.declared.fault.WorkCause.{WorkCause}
 use Rattle.work_file.specs.declared.fault.WorkCause.TheVariants.{BadRecord, Header, UnknownTask, BadNumber, TooMany}
 use Rattle.work_file.specs.declared.fault.WorkFault.{WorkFault}
 use Rattle.work_file.specs.declared.fault.WorkFault.TheVariants.{At}
-use Rattle.work_file.specs.Numbers.{number}
+use Rattle.numeral.specs.Numeral.{number}
 use Rattle.work_file.specs.Rows.{time_fault}
 
 -- the field at a place, from 0; empty where there is none

@@ -3,7 +3,6 @@
 
 mod fault;
 mod next;
-mod number;
 mod read;
 mod record;
 mod work;

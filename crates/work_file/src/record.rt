@@ -9,10 +9,10 @@ ghost use Rattle.work_file.specs.Tracks.{Tracks};
 
 use crate::WorkCause;
 use crate::next::NextReleases;
-use crate::number::number;
 use csv::ByteRecord;
 use mc_model::WorkRow;
 use mc_task::TaskSet;
+use numeral::number;
 
 // Whether the record is `task,release,need`.
 pub fn is_header(fields: &ByteRecord) -> bool

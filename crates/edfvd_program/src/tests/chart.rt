@@ -1,5 +1,6 @@
 use super::{AVIONICS, AVIONICS_WORK, CONTROL, HEADER, LOW_FIRST, OVERRUN, two_files, words_of};
 use crate::edfvd::edfvd;
+use executive::QuietGate;
 use mc_world::MemorySink;
 use std::test::Fail;
 
@@ -37,7 +38,7 @@ fn traces_are_drawn_and_counted_up(rt: HostRuntime) -> Result<(), Fail> {
         let mut shelf = two_files(alloc, CONTROL.as_bytes(), trace.as_bytes(), &[])?;
         let mut sink = MemorySink::new(alloc, 1000, 1000, Vec::new(alloc))?;
         assert_eq!(rt;
-            edfvd(&rt, alloc, &words, &mut shelf, &mut sink),
+            edfvd(&rt, alloc, &words, &mut shelf, &mut sink, &QuietGate),
             status,
             "{command} {rows}"
         );
@@ -66,10 +67,16 @@ fn the_trace_of_an_avionics_set_is_counted_up(rt: HostRuntime) -> Result<(), Fai
     let report = words_of(alloc, &["report", "tasks.toml", "second.csv"])?;
     let mut shelf = two_files(alloc, AVIONICS.as_bytes(), AVIONICS_WORK.as_bytes(), &[])?;
     let mut trace = MemorySink::new(alloc, 1_000_000, 1_000_000, Vec::new(alloc))?;
-    assert_eq!(rt; edfvd(&rt, alloc, &run, &mut shelf, &mut trace), 0);
+    assert_eq!(rt;
+        edfvd(&rt, alloc, &run, &mut shelf, &mut trace, &QuietGate),
+        0
+    );
     let mut shelf = two_files(alloc, AVIONICS.as_bytes(), trace.written(), &[])?;
     let mut sink = MemorySink::new(alloc, 2000, 2000, Vec::new(alloc))?;
-    assert_eq!(rt; edfvd(&rt, alloc, &report, &mut shelf, &mut sink), 0);
+    assert_eq!(rt;
+        edfvd(&rt, alloc, &report, &mut shelf, &mut sink, &QuietGate),
+        0
+    );
     assert_eq!(rt; sink.written(), AVIONICS_REPORT.as_bytes());
     Ok(())
 }

@@ -1,9 +1,8 @@
-use super::{AVIONICS, CONTROL, shelf_of, words_of};
+use super::{AVIONICS, CONTROL, CONTROL_TEXT, shelf_of, words_of};
 use crate::edfvd::edfvd;
+use executive::QuietGate;
 use mc_world::MemorySink;
 use std::test::Fail;
-
-const CONTROL_TEXT: &str = "tasks 2\nU_LL 1/2\nU_HL 1/5\nU_HH 3/5\nrule virtual\nx 2/5\n";
 
 #[test]
 fn task_files_get_their_status_and_text(rt: HostRuntime) -> Result<(), Fail> {
@@ -105,7 +104,7 @@ fn task_files_get_their_status_and_text(rt: HostRuntime) -> Result<(), Fail> {
     for (file, status, text) in cases {
         let mut shelf = shelf_of(alloc, file.as_bytes(), &[])?;
         let mut sink = MemorySink::new(alloc, 1000, 1000, Vec::new(alloc))?;
-        let ended = edfvd(&rt, alloc, &words, &mut shelf, &mut sink);
+        let ended = edfvd(&rt, alloc, &words, &mut shelf, &mut sink, &QuietGate);
         assert_eq!(rt; ended, status, "{file}");
         assert_eq!(rt; sink.written(), text.as_bytes(), "{file}");
     }
@@ -173,7 +172,7 @@ fn faults_and_limits_have_their_own_status(rt: HostRuntime) -> Result<(), Fail> 
     for (words, bytes, fetch_fails, write_fails, status, text) in cases {
         let mut shelf = shelf_of(alloc, bytes, fetch_fails)?;
         let mut sink = MemorySink::new(alloc, 1000, 8, write_fails.to_vec(alloc)?)?;
-        let ended = edfvd(&rt, alloc, words, &mut shelf, &mut sink);
+        let ended = edfvd(&rt, alloc, words, &mut shelf, &mut sink, &QuietGate);
         assert_eq!(rt; ended, status, "{text}");
         assert_eq!(rt; sink.written(), text.as_bytes());
     }
@@ -193,7 +192,10 @@ fn a_file_with_129_tasks_is_told_their_number(rt: HostRuntime) -> Result<(), Fai
     }
     let mut shelf = shelf_of(alloc, file.as_bytes(), &[])?;
     let mut sink = MemorySink::new(alloc, 1000, 1000, Vec::new(alloc))?;
-    assert_eq!(rt; edfvd(&rt, alloc, &words, &mut shelf, &mut sink), 3);
+    assert_eq!(rt;
+        edfvd(&rt, alloc, &words, &mut shelf, &mut sink, &QuietGate),
+        3
+    );
     assert_eq!(rt;
         sink.written(),
         b"task file: 129 tasks, at most 128\n".as_slice()
@@ -237,7 +239,10 @@ fn words_of_no_form_get_the_usage_line(rt: HostRuntime) -> Result<(), Fail> {
         let words = words_of(alloc, words)?;
         let mut shelf = shelf_of(alloc, CONTROL.as_bytes(), &[1])?;
         let mut sink = MemorySink::new(alloc, 1000, 1000, Vec::new(alloc))?;
-        assert_eq!(rt; edfvd(&rt, alloc, &words, &mut shelf, &mut sink), 2);
+        assert_eq!(rt;
+            edfvd(&rt, alloc, &words, &mut shelf, &mut sink, &QuietGate),
+            2
+        );
         assert_eq!(rt; sink.written(), usage.as_bytes());
     }
     Ok(())

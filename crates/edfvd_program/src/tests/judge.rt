@@ -1,5 +1,6 @@
 use super::{AVIONICS, AVIONICS_WORK, CONTROL, HEADER, LOW_FIRST, two_files, words_of};
 use crate::edfvd::edfvd;
+use executive::QuietGate;
 use mc_world::MemorySink;
 use std::test::Fail;
 
@@ -42,7 +43,7 @@ fn traces_get_their_verdict(rt: HostRuntime) -> Result<(), Fail> {
         let mut shelf = two_files(alloc, CONTROL.as_bytes(), trace.as_bytes(), &[])?;
         let mut sink = MemorySink::new(alloc, 1000, 1000, Vec::new(alloc))?;
         assert_eq!(rt;
-            edfvd(&rt, alloc, &words, &mut shelf, &mut sink),
+            edfvd(&rt, alloc, &words, &mut shelf, &mut sink, &QuietGate),
             status,
             "{rows}"
         );
@@ -93,7 +94,7 @@ fn traces_are_refused_by_line(rt: HostRuntime) -> Result<(), Fail> {
         let mut shelf = two_files(alloc, CONTROL.as_bytes(), trace.as_bytes(), &[])?;
         let mut sink = MemorySink::new(alloc, 1000, 1000, Vec::new(alloc))?;
         assert_eq!(rt;
-            edfvd(&rt, alloc, &words, &mut shelf, &mut sink),
+            edfvd(&rt, alloc, &words, &mut shelf, &mut sink, &QuietGate),
             5,
             "{trace}"
         );
@@ -108,7 +109,7 @@ fn traces_are_refused_by_line(rt: HostRuntime) -> Result<(), Fail> {
         let mut shelf = two_files(alloc, CONTROL.as_bytes(), trace.as_bytes(), &[])?;
         let mut sink = MemorySink::new(alloc, 1000, 1000, Vec::new(alloc))?;
         assert_eq!(rt;
-            edfvd(&rt, alloc, &words, &mut shelf, &mut sink),
+            edfvd(&rt, alloc, &words, &mut shelf, &mut sink, &QuietGate),
             0,
             "{trace}"
         );
@@ -189,7 +190,7 @@ fn only_a_given_scale_judges_sets_that_the_test_refuses(rt: HostRuntime) -> Resu
         let mut shelf = two_files(alloc, tasks.as_bytes(), HEADER.as_bytes(), fails)?;
         let mut sink = MemorySink::new(alloc, 1000, 1000, Vec::new(alloc))?;
         assert_eq!(rt;
-            edfvd(&rt, alloc, &words, &mut shelf, &mut sink),
+            edfvd(&rt, alloc, &words, &mut shelf, &mut sink, &QuietGate),
             status,
             "{text}"
         );
@@ -205,7 +206,10 @@ fn the_trace_of_an_avionics_set_is_judged_legal(rt: HostRuntime) -> Result<(), F
     let judge = words_of(alloc, &["judge", "tasks.toml", "second.csv"])?;
     let mut shelf = two_files(alloc, AVIONICS.as_bytes(), AVIONICS_WORK.as_bytes(), &[])?;
     let mut trace = MemorySink::new(alloc, 1_000_000, 1_000_000, Vec::new(alloc))?;
-    assert_eq!(rt; edfvd(&rt, alloc, &run, &mut shelf, &mut trace), 0);
+    assert_eq!(rt;
+        edfvd(&rt, alloc, &run, &mut shelf, &mut trace, &QuietGate),
+        0
+    );
     let lines = trace
         .written()
         .iter()
@@ -214,7 +218,10 @@ fn the_trace_of_an_avionics_set_is_judged_legal(rt: HostRuntime) -> Result<(), F
     assert_eq!(rt; lines, 20_014);
     let mut shelf = two_files(alloc, AVIONICS.as_bytes(), trace.written(), &[])?;
     let mut sink = MemorySink::new(alloc, 1000, 1000, Vec::new(alloc))?;
-    assert_eq!(rt; edfvd(&rt, alloc, &judge, &mut shelf, &mut sink), 0);
+    assert_eq!(rt;
+        edfvd(&rt, alloc, &judge, &mut shelf, &mut sink, &QuietGate),
+        0
+    );
     assert_eq!(rt; sink.written(), b"legal late 0\n".as_slice());
     Ok(())
 }
@@ -230,12 +237,18 @@ fn two_million_rows_are_taken_and_one_more_is_not(rt: HostRuntime) -> Result<(),
     }
     let mut shelf = two_files(alloc, CONTROL.as_bytes(), trace.as_bytes(), &[])?;
     let mut sink = MemorySink::new(alloc, 1000, 1000, Vec::new(alloc))?;
-    assert_eq!(rt; edfvd(&rt, alloc, &words, &mut shelf, &mut sink), 0);
+    assert_eq!(rt;
+        edfvd(&rt, alloc, &words, &mut shelf, &mut sink, &QuietGate),
+        0
+    );
     assert_eq!(rt; sink.written(), b"legal late 0\n".as_slice());
     trace.push_str("idle,2000000,,,\n")?;
     let mut shelf = two_files(alloc, CONTROL.as_bytes(), trace.as_bytes(), &[])?;
     let mut sink = MemorySink::new(alloc, 1000, 1000, Vec::new(alloc))?;
-    assert_eq!(rt; edfvd(&rt, alloc, &words, &mut shelf, &mut sink), 5);
+    assert_eq!(rt;
+        edfvd(&rt, alloc, &words, &mut shelf, &mut sink, &QuietGate),
+        5
+    );
     assert_eq!(rt;
         sink.written(),
         b"trace line 2000002: more than 2000000 rows\n".as_slice()

@@ -3,6 +3,7 @@ use super::{
     words_of,
 };
 use crate::edfvd::edfvd;
+use executive::QuietGate;
 use mc_world::MemorySink;
 use std::test::Fail;
 
@@ -50,7 +51,7 @@ fn runs_write_the_traces_of_the_worked_examples(rt: HostRuntime) -> Result<(), F
         let mut shelf = two_files(alloc, tasks.as_bytes(), work.as_bytes(), &[])?;
         let mut sink = MemorySink::new(alloc, 1000, 1000, Vec::new(alloc))?;
         assert_eq!(rt;
-            edfvd(&rt, alloc, &words, &mut shelf, &mut sink),
+            edfvd(&rt, alloc, &words, &mut shelf, &mut sink, &QuietGate),
             0,
             "{jobs}"
         );
@@ -94,7 +95,7 @@ fn work_files_are_refused_by_name_and_line(rt: HostRuntime) -> Result<(), Fail> 
         let mut shelf = two_files(alloc, CONTROL.as_bytes(), work.as_bytes(), &[])?;
         let mut sink = MemorySink::new(alloc, 1000, 1000, Vec::new(alloc))?;
         assert_eq!(rt;
-            edfvd(&rt, alloc, &words, &mut shelf, &mut sink),
+            edfvd(&rt, alloc, &words, &mut shelf, &mut sink, &QuietGate),
             4,
             "{work}"
         );
@@ -140,7 +141,7 @@ fn runs_have_the_faults_and_limits_of_both_files(rt: HostRuntime) -> Result<(), 
         let mut shelf = two_files(alloc, CONTROL.as_bytes(), work, fails)?;
         let mut sink = MemorySink::new(alloc, 1000, 1000, Vec::new(alloc))?;
         assert_eq!(rt;
-            edfvd(&rt, alloc, &words, &mut shelf, &mut sink),
+            edfvd(&rt, alloc, &words, &mut shelf, &mut sink, &QuietGate),
             status,
             "{text}"
         );
@@ -150,7 +151,10 @@ fn runs_have_the_faults_and_limits_of_both_files(rt: HostRuntime) -> Result<(), 
     let refused = "task = [{name='a', level='low', period=1, low=2}]";
     let mut shelf = two_files(alloc, refused.as_bytes(), header, &[2])?;
     let mut sink = MemorySink::new(alloc, 1000, 1000, Vec::new(alloc))?;
-    assert_eq!(rt; edfvd(&rt, alloc, &words, &mut shelf, &mut sink), 1);
+    assert_eq!(rt;
+        edfvd(&rt, alloc, &words, &mut shelf, &mut sink, &QuietGate),
+        1
+    );
     assert_eq!(rt;
         sink.written(),
         b"not admitted: U_LL 2/1 U_HL 0/1 U_HH 0/1\n".as_slice()
@@ -164,7 +168,10 @@ fn a_million_idle_ticks_are_written(rt: HostRuntime) -> Result<(), Fail> {
     let words = words_of(alloc, &["run", "tasks.toml", "second.csv", "1000000"])?;
     let mut shelf = two_files(alloc, CONTROL.as_bytes(), b"task,release,need\n", &[])?;
     let mut sink = MemorySink::new(alloc, 20_000_000, 20_000_000, Vec::new(alloc))?;
-    assert_eq!(rt; edfvd(&rt, alloc, &words, &mut shelf, &mut sink), 0);
+    assert_eq!(rt;
+        edfvd(&rt, alloc, &words, &mut shelf, &mut sink, &QuietGate),
+        0
+    );
     assert_eq!(rt; sink.written().len(), 14_888_914);
     Ok(())
 }

@@ -1,15 +1,22 @@
 use super::words_of;
 use crate::edfvd::edfvd;
+use executive::QuietGate;
 use mc_world::{MemoryShelf, MemorySink};
 use std::alloc::Global;
+use std::sync::Wait;
 use std::test::Fail;
+use std::thread::Threads;
 
 // The status of these words, and what is written with it.
-fn soaked<R>(rt: &R, alloc: Global, words: &[&str]) -> Result<(u8, String), Fail> {
+fn soaked<R: Threads + Wait + Sync>(
+    rt: &R,
+    alloc: Global,
+    words: &[&str],
+) -> Result<(u8, String), Fail> {
     let words = words_of(alloc, words)?;
     let mut shelf = MemoryShelf::new(alloc, Vec::new(alloc), Vec::new(alloc));
     let mut sink = MemorySink::new(alloc, 1000, 1000, Vec::new(alloc))?;
-    let status = edfvd(rt, alloc, &words, &mut shelf, &mut sink);
+    let status = edfvd(rt, alloc, &words, &mut shelf, &mut sink, &QuietGate);
     Ok((status, String::from_utf8(sink.written().to_vec(alloc)?)?))
 }
 

@@ -6,13 +6,13 @@ use Rattle.edfvd_program.proofs.Traced.{follows_same}
 use Rattle.edfvd_program.proofs.planned.planned.Goals as goal
 
 pub returns : goal.returns
-returns c =
-    let plan : c.finish.new.self.plan ≡ Rows c.args.work c.args.ticks = search rules in
-    let t = subst (λ (p : Plan). IsTraceOfPlan p c.finish.new.self.core) plan c.finish.ensures.trace in
-    let same : c.finish.new.self.core.set ≡ c.args.set.now = search rules in
-    let is : c.finish.new.self.core.rule ≡ c.args.rule = search rules in
-    let few : length c.finish.new.self.core.rows ≤ 2000000 = search rules in
+returns g c =
+    let plan : c.in-Ok.floor.plan ≡ Rows c.args.work c.args.ticks = search rules in
+    let t = subst (λ (p : Plan). IsTraceOfPlan p c.in-Ok.floor.core) plan c.in-Ok.ensures.trace in
+    let same : c.in-Ok.floor.core.set ≡ c.args.set.now = search rules in
+    let is : c.in-Ok.floor.core.rule ≡ c.args.rule = search rules in
+    let few : length c.in-Ok.floor.core.rows ≤ 2000000 = search rules in
     record {
-      follows = follows_same c.args.set.now c.finish.new.self.core.set c.args.rule c.finish.new.self.core.rule c.args.work c.args.ticks c.finish.new.self.core.rows same is t.follows;
+      follows = follows_same c.args.set.now c.in-Ok.floor.core.set c.args.rule c.in-Ok.floor.core.rule c.args.work c.args.ticks c.in-Ok.floor.core.rows same is t.follows;
       few = few;
     }

@@ -8,7 +8,7 @@ use Rattle.edfvd_program.proofs.Soaked.{is_soaked, soak_text-pieces}
 use Rattle.edfvd_program.proofs.soak.soak.Goals as goal
 
 pub returns : goal.returns
-returns c =
+returns g c =
     let set : c.in-Ok.field-0.set ≡ workload_set c.args.number c.args.tasks = search rules in
     let work : c.in-Ok.field-0.work ≡ workload_work c.args.number c.args.tasks c.args.ticks = search rules in
     let rule : test c.in-Ok.field-0.set ≡ Some c.in-Ok.field-0.rule = search rules in

@@ -1,0 +1,204 @@
+//! Gates for tests of threads: two hold calls until another call came, and one counts its calls.
+use executive::{Gate, Grant, TaskPass};
+use std::alloc::{AllocError, Global};
+use std::sync::atomic::Ordering::SeqCst;
+use std::sync::atomic::{AtomicBool, AtomicU64};
+use std::thread::yield_now;
+
+// How often a held call looks, at most, for the call that it waits for.
+const LOOKS: u32 = 20_000_000;
+
+// A call that others wait for.
+#[derive(Drop)]
+struct Awaited {
+    came: AtomicBool,
+    missed: AtomicBool,
+}
+
+impl Awaited {
+    fn new() -> Awaited {
+        Awaited {
+            came: AtomicBool::new(false),
+            missed: AtomicBool::new(false),
+        }
+    }
+
+    // The call comes.
+    fn comes(&self) {
+        self.came.store(true, SeqCst);
+    }
+
+    // Holds the caller until the call came. Where it does not come in so many looks, it is missed.
+    fn hold(&self) {
+        for _look in 0..LOOKS {
+            if self.came.load(SeqCst) {
+                return;
+            }
+            yield_now();
+        }
+        self.missed.store(true, SeqCst);
+    }
+
+    // Whether the call came before a caller gave up.
+    fn is_kept(&self) -> bool {
+        self.came.load(SeqCst) && !self.missed.load(SeqCst)
+    }
+}
+
+/// Holds the first task's thread until the second's is there, and the second's until the first's is.
+#[derive(Drop)]
+pub struct MeetingGate {
+    first: Awaited,
+    second: Awaited,
+}
+
+impl MeetingGate {
+    pub fn new() -> MeetingGate {
+        MeetingGate {
+            first: Awaited::new(),
+            second: Awaited::new(),
+        }
+    }
+
+    /// Whether both came, and neither gave up.
+    pub fn is_kept(&self) -> bool {
+        self.first.is_kept() && self.second.is_kept()
+    }
+}
+
+impl Gate for MeetingGate {
+    fn enter(&self, task: u32, _pass: &TaskPass) {
+        match task {
+            1 => {
+                self.first.comes();
+                self.second.hold();
+            }
+            2 => {
+                self.second.comes();
+                self.first.hold();
+            }
+            _ => {}
+        }
+    }
+
+    fn released(&self, _task: u32, _pass: &TaskPass) {}
+
+    fn step(&self, _task: u32, _grant: &Grant) {}
+}
+
+/// Holds the second tick of the first task's first job until the second task's first release was taken.
+#[derive(Drop)]
+pub struct StepGate {
+    release: Awaited,
+}
+
+impl StepGate {
+    pub fn new() -> StepGate {
+        StepGate {
+            release: Awaited::new(),
+        }
+    }
+
+    /// Whether the release came before the step gave up.
+    pub fn is_kept(&self) -> bool {
+        self.release.is_kept()
+    }
+}
+
+impl Gate for StepGate {
+    fn enter(&self, _task: u32, _pass: &TaskPass) {}
+
+    fn released(&self, task: u32, pass: &TaskPass) {
+        if task == 2 && pass.count().releases == 1 {
+            self.release.comes();
+        }
+    }
+
+    fn step(&self, task: u32, grant: &Grant) {
+        let granted = grant.granted();
+        if task == 1 && granted.job.count == 1 && granted.before == 1 {
+            self.release.hold();
+        }
+    }
+}
+
+// A job as a trace has it: its task, its count, and how many ticks it had.
+#[derive(Clone, Copy)]
+pub struct TracedJob {
+    pub task: u32,
+    pub count: u32,
+    pub ticks: u32,
+}
+
+// How often the gate was told of the release of a job, and of each of its ticks.
+#[derive(Drop)]
+struct Line {
+    job: TracedJob,
+    releases: AtomicU64,
+    steps: Vec<AtomicU64>,
+}
+
+/// Counts how often it is told of each release and each tick of a trace's jobs, and of anything else.
+#[derive(Drop)]
+pub struct CountingGate {
+    lines: Vec<Line>,
+    others: AtomicU64,
+}
+
+impl CountingGate {
+    pub fn new(alloc: Global, jobs: &[TracedJob]) -> Result<CountingGate, AllocError> {
+        let mut lines = Vec::new(alloc);
+        for job in jobs {
+            let mut steps = Vec::new(alloc);
+            for _before in 0..job.ticks {
+                steps.push(AtomicU64::new(0))?;
+            }
+            lines.push(Line {
+                job: *job,
+                releases: AtomicU64::new(0),
+                steps,
+            })?;
+        }
+        Ok(CountingGate {
+            lines,
+            others: AtomicU64::new(0),
+        })
+    }
+
+    /// Whether it was told of each once, and of nothing else.
+    pub fn was_told_each_once(&self) -> bool {
+        let once = |times: &AtomicU64| times.load(SeqCst) == 1;
+        let each = self
+            .lines
+            .iter()
+            .all(|line| once(&line.releases) && line.steps.iter().all(once));
+        each && self.others.load(SeqCst) == 0
+    }
+
+    fn line(&self, task: u32, count: u64) -> Option<&Line> {
+        self.lines.iter().find(|line| line.job.task == task && u64::from(line.job.count) == count)
+    }
+}
+
+impl Gate for CountingGate {
+    fn enter(&self, _task: u32, _pass: &TaskPass) {}
+
+    fn released(&self, task: u32, pass: &TaskPass) {
+        match self.line(task, pass.count().releases) {
+            Some(line) => line.releases.fetch_add(1, SeqCst),
+            None => self.others.fetch_add(1, SeqCst),
+        };
+    }
+
+    fn step(&self, task: u32, grant: &Grant) {
+        let granted = grant.granted();
+        let line = match granted.job.task.0 == task {
+            true => self.line(task, u64::from(granted.job.count)),
+            false => None,
+        };
+        match line.and_then(|line| line.steps.get(granted.before as usize)) {
+            Some(times) => times.fetch_add(1, SeqCst),
+            None => self.others.fetch_add(1, SeqCst),
+        };
+    }
+}

@@ -1,0 +1,31 @@
+-- What contracts see of a calm shelf in memory, and what its fetches answer.
+use Rattle.std.specs.Prelude.{ℕ, ◌++◌, List, [], ◌∷◌, Option, Some, Result, Err, Vec, unwrap_or}
+use Rattle.std.specs.Prelude.{ℕ, ◌++◌, List, [], ◌∷◌, Option, Some, Result, Err, Vec, unwrap_or}
+use Rattle.std.specs.declared.alloc.Global.{Global}
+use Rattle.mc_world.specs.Shelf.{Files, file_at}
+use Rattle.mc_world.specs.declared.shelf.FetchFault.{FetchFault}
+use Rattle.mc_world.specs.declared.shelf.FetchFault.TheVariants.{Memory}
+
+-- a calm shelf in memory: its files, and what was asked of it
+pub record CalmShelfState : Type 0 where
+  -- the files, each a name and its bytes
+  pub files : List (List ℕ × List ℕ)
+  -- the names asked, the first one first
+  pub asked : List (List ℕ)
+
+-- a calm shelf of which nothing has been asked
+abbrev pub new_calm_shelf : List (List ℕ × List ℕ) → CalmShelfState
+new_calm_shelf files = record { files = files; asked = [] }
+
+-- the bytes under a name: none at all where the list lacks it
+abbrev pub bytes_at : List ℕ → List (List ℕ × List ℕ) → List ℕ
+bytes_at name files = unwrap_or (file_at name files) []
+
+-- what it holds: each name has bytes
+abbrev pub calm_files : List (List ℕ × List ℕ) → Files
+calm_files files name = Some (bytes_at name files)
+
+-- the calm shelf after a fetch of that name with that answer
+abbrev pub after_calm_fetch : CalmShelfState → List ℕ → Result (Vec ℕ Global) FetchFault → CalmShelfState
+after_calm_fetch s name (Err Memory) = s
+after_calm_fetch s name _ = record s { asked = s.asked ++ name ∷ [] }

@@ -1,0 +1,121 @@
+ghost use Rattle.std.specs.Prelude.{◌≡◌, Some};
+ghost use Rattle.mc_world.specs.CalmShelfState.{new_calm_shelf, bytes_at, calm_files, after_calm_fetch};
+ghost use Rattle.mc_world.specs.MemoryShelfState.{Answers, files_of, answer_of};
+ghost use Rattle.mc_world.specs.Shelf.{NamesDiffer};
+
+use crate::memory_shelf::copied;
+use crate::{FetchFault, Shelf};
+use std::alloc::Global;
+use std::marker::Model;
+
+/// Files in memory, which never fails: a name that it lacks holds no bytes, and its count of faults
+/// is always 0. A fetch that finds no memory leaves it as it was.
+#[derive(Debug, Drop)]
+pub struct CalmShelf {
+    alloc: Global,
+    files: Vec<(String, Vec<u8>)>,
+    asked: Vec<String>,
+}
+
+impl Model for CalmShelf {
+    ghost use Rattle.mc_world.specs.Shelf.{NamesDiffer};
+    ghost use Rattle.mc_world.specs.CalmShelfState.{CalmShelfState};
+    ghost use Rattle.mc_world.specs.MemoryShelfState.{files_of, names_of};
+
+    ghost Value = { CalmShelfState };
+
+    ghost view = { λ s. record { files = files_of s.files.items; asked = names_of s.asked.items } };
+
+    ghost invariant = { λ s. NamesDiffer (files_of s.files.items) };
+}
+
+impl CalmShelf {
+    /// A shelf with these files, each a name and its bytes.
+    pub fn new(alloc: Global, files: Vec<(String, Vec<u8>)>) -> CalmShelf
+        requires { NamesDiffer (files_of files.items) }
+        ensures { result ≡ new_calm_shelf (files_of files.items) }
+    {
+        CalmShelf {
+            alloc,
+            files,
+            asked: Vec::new(alloc),
+        }
+    }
+}
+
+impl Shelf for CalmShelf {
+    // It tells its files, so that nothing rests on the count of bytes read.
+    ghost state = { λ s. record {
+      holds = Some (calm_files s.files);
+      asked = Some s.asked;
+      faults = 0;
+      bytes_read = 0;
+    } };
+
+    fn fetch(&mut self, alloc: Global, name: &str, limit: usize) -> Result<Vec<u8>, FetchFault>
+        // Memory aside, one answer is right, and from these two clauses the trait's follow.
+        ensures answer { Answers result (answer_of (Some (bytes_at name.now self.old.files)) limit) }
+        ensures leaves { self.new ≡ after_calm_fetch self.old name.now result }
+    {
+        let Ok(copy) = String::from_str(self.alloc, name) else {
+            return Err(FetchFault::Memory);
+        };
+        let answer = copied(alloc, held(&self.files, name), limit);
+        if let Err(FetchFault::Memory) = answer {
+            return answer;
+        }
+        if self.asked.push(copy).is_err() {
+            return Err(FetchFault::Memory);
+        }
+        answer
+    }
+}
+
+// The bytes under the name.
+fn held<'a>(files: &'a [(String, Vec<u8>)], name: &str) -> &'a [u8]
+    ensures { result.now ≡ bytes_at name.now (files_of files.now) }
+{
+    for (key, bytes) in files {
+        if key.as_str() == name {
+            return bytes;
+        }
+    }
+    &[]
+}
+
+#[cfg(test)]
+mod tests {
+    use super::*;
+    use std::test::Fail;
+
+    // A fetch as a program calls it, which knows no more than that there is a shelf.
+    fn fetch_from<S: Shelf>(
+        shelf: &mut S,
+        alloc: Global,
+        name: &str,
+        limit: u32,
+    ) -> Result<Vec<u8>, FetchFault> {
+        shelf.fetch(alloc, name, limit as usize)
+    }
+
+    #[test]
+    fn an_absent_name_holds_no_bytes(rt: HostRuntime) -> Result<(), Fail> {
+        let alloc = rt.alloc();
+        let mut files = Vec::new(alloc);
+        files.push((String::from_str(alloc, "s.toml")?, b"abcd".to_vec(alloc)?))?;
+        let mut shelf = CalmShelf::new(alloc, files);
+        for (name, bytes) in [("s.toml", "abcd"), ("s", ""), ("s.toml", "abcd")] {
+            assert_eq!(rt;
+                fetch_from(&mut shelf, alloc, name, 4)?.as_slice(),
+                bytes.as_bytes(),
+                "at {name}"
+            );
+        }
+        assert_eq!(rt;
+            fetch_from(&mut shelf, alloc, "s.toml", 3).err(),
+            Some(FetchFault::TooLong)
+        );
+        assert_eq!(rt; shelf.asked.len(), 4);
+        Ok(())
+    }
+}

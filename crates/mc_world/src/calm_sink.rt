@@ -1,0 +1,45 @@
+ghost use Rattle.std.specs.Prelude.{◌≡◌, None, Ok, length};
+
+use crate::{Sink, SinkFault};
+
+/// A sink that takes every piece whole and keeps none of it. It tells no content, and its count of
+/// faults is always 0.
+#[derive(Clone, Copy, Debug)]
+pub struct CalmSink;
+
+impl CalmSink {
+    /// The calm sink, which has nothing to remember.
+    pub fn new() -> CalmSink {
+        CalmSink
+    }
+}
+
+impl Sink for CalmSink {
+    ghost state = { λ s. record { written = None; faults = 0 } };
+
+    fn write(&mut self, piece: &[u8]) -> Result<usize, SinkFault>
+        ensures whole { result ≡ Ok (length piece.now) }
+    {
+        Ok(piece.len())
+    }
+}
+
+#[cfg(test)]
+mod tests {
+    use super::*;
+    use std::test::Fail;
+
+    // A write as a program makes it, which knows no more than that there is a sink.
+    fn write_to<K: Sink>(sink: &mut K, piece: &[u8]) -> Result<usize, SinkFault> {
+        sink.write(piece)
+    }
+
+    #[test]
+    fn takes_every_piece_whole(rt: HostRuntime) -> Result<(), Fail> {
+        let mut sink = CalmSink::new();
+        for (piece, count) in [("tasks 2\n", 8), ("", 0), ("x 2/5\n", 6)] {
+            assert_eq!(rt; write_to(&mut sink, piece.as_bytes()), Ok(count));
+        }
+        Ok(())
+    }
+}

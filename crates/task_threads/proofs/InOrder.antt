@@ -1,0 +1,45 @@
+-- Lists of passes and of starts, by their tasks.
+use Rattle.std.proofs.Common.{arith, ℕ, ◌≡◌, ◌<◌, ◌+◌, ◌-◌, ◌==◌, ◌||◌, ◌∙◌, zero, suc, List, [], ◌∷◌, Bool, true, false, length, ap, sym, subst}
+use Rattle.std.specs.List.{slice_index_or, slice_set}
+use Rattle.std.proofs.lemmas.Bool.{eq-eqb}
+use Rattle.std.proofs.lemmas.List.{get_or-set_same, get_or-set_other, length-set}
+use mathlib.Core.Logic.{dite}
+use native.Mathlib.Decide.{ℕ_discrete}
+use Rattle.mc_model.proofs.Booleans.{or_true}
+use Rattle.executive.specs.declared.pass.TaskPass.{TaskPass}
+use Rattle.executive.specs.declared.executive.Executive.{Executive}
+use Rattle.executive.specs.Opening.{AreFresh}
+use Rattle.executive.specs.Passes.{of_pass, floor_of}
+use Rattle.executive.specs.Closing.{has_pass, IsMissing}
+use Rattle.task_threads.specs.declared.starts.Start.{Start}
+use Rattle.task_threads.specs.Passes.{AreInOrder}
+use Rattle.task_threads.specs.Starts.{IsStartOf, GoDown}
+
+-- passes that were just made are in order
+pub from_fresh : (e : Executive) (ps : List TaskPass) → AreFresh e ps → AreInOrder e ps
+from_fresh e ps fresh i d lt = ((fresh i d lt).of, (fresh i d lt).task)
+
+-- a list that has a pass of the task at some place has one
+has_at : (ps : List TaskPass) (k i : ℕ) → i < length ps → ((d : TaskPass) → (of_pass (slice_index_or ps i d)).task ≡ k) → has_pass ps k ≡ true
+has_at [] k i lt h = absurd (omega arith)
+has_at (p ∷ ps) k zero lt h = ap (λ (b : Bool). b || has_pass ps k) (eq-eqb (of_pass p).task k (h p))
+has_at (p ∷ ps) k (suc i) lt h = or_true ((of_pass p).task == k) (has_pass ps k) (has_at ps k i (omega arith) h)
+
+both_ways : (b : Bool) → b ≡ true → b ≡ false → ⊥
+both_ways b t f = cc
+
+-- of as many passes in order as there are tasks, none is missing
+pub none_missing : (e : Executive) (ps : List TaskPass) (k : ℕ) → AreInOrder e ps → IsMissing ps (floor_of e).core.set k → length ps ≡ length (floor_of e).core.set → ⊥
+none_missing e ps k order missing all =
+    let a = missing.in_set.0 in
+    let b = missing.in_set.1 in
+    let lt : k - 1 < length ps = omega (arith, a, b, all) in
+    let is : k - 1 + 1 ≡ k = omega (arith, a) in
+    both_ways (has_pass ps k) (has_at ps k (k - 1) lt (λ d. (order (k - 1) d lt).1 ∙ is)) missing.none
+
+-- a start is replaced by one of the same task
+pub replaced : (e : Executive) (n : ℕ) (ss : List Start) (k : ℕ) (s : Start) → k < length ss → GoDown e n ss → IsStartOf e (n - k) s → GoDown e n (slice_set ss k s)
+replaced e n ss k s inside down is i d lt =
+    dite (ℕ_discrete i k)
+    (λ same. subst (λ (j : ℕ). IsStartOf e (n - j) (slice_index_or (slice_set ss k s) j d)) (sym same) (subst (IsStartOf e (n - k)) (sym (get_or-set_same ss k s d inside)) is))
+    (λ other. subst (IsStartOf e (n - i)) (sym (get_or-set_other ss k i s d other)) (down i d (subst (λ (m : ℕ). i < m) (length-set ss k s) lt)))

@@ -1,0 +1,6 @@
+use Rattle.std.proofs.Common.{◌≡◌, vec_len}
+use Rattle.task_threads.specs.Starts.{GoDown}
+use Rattle.task_threads.proofs.refused.serve_each.Given as goal
+
+abbrev pub invariant-loop-place : goal.invariant-loop-place
+invariant-loop-place g l = (l.tasks ≡ vec_len l.fn.starts) × (vec_len l.starts ≡ vec_len l.fn.starts) × GoDown l.executive (vec_len l.fn.starts) l.starts.items
