@@ -28,8 +28,8 @@ measure() {
     shift 2
     /usr/bin/time -f '%M' "$@" 2>"$work/memory" >"$work/out"
     # shellcheck disable=SC2016
-    seconds=$(runs=$runs /usr/bin/time -f '%e' sh -c 'n=0; while [ $n -lt $runs ]; do "$@" >/dev/null; n=$((n + 1)); done' sh "$@" 2>&1)
-    echo "$name: $runs runs in $seconds s, $(tail -n 1 "$work/memory") KiB; $(head -n 1 "$work/out" | cut -c 1-60)"
+    seconds=$(runs=$runs /usr/bin/time -f '%e s (processor: %U s, and %S s in the system)' sh -c 'n=0; while [ $n -lt $runs ]; do "$@" >/dev/null; n=$((n + 1)); done' sh "$@" 2>&1)
+    echo "$name: $runs runs in $seconds, $(tail -n 1 "$work/memory") KiB; $(head -n 1 "$work/out" | cut -c 1-60)"
 }
 
 measure 'check, 16 MiB of comments' 20 "$program" check "$work/comments.toml"
@@ -97,4 +97,8 @@ for trace in avionics idle; do
             echo "$command, $trace, $rows rows: $(instructions $command "$work/avionics.toml" "$work/part.csv")"
         done
     done
+done
+for rows in 300000 600000; do
+    head -n $((rows + 1)) "$work/two_trace.csv" >"$work/part.csv"
+    echo "judge, two tasks, $rows rows: $(instructions judge "$work/two.toml" "$work/part.csv" 1 1)"
 done
