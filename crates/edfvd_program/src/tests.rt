@@ -1,11 +1,10 @@
-use mc_world::MemoryShelf;
-use std::alloc::{AllocError, Global};
-
 mod chart;
 mod check;
 mod faults;
 mod gates;
+mod hostile;
 mod judge;
+mod outside;
 mod run;
 mod soak;
 mod threads;
@@ -98,34 +97,3 @@ gyro,10000,600
 attitude,15000,400
 display,16667,2500
 ";
-
-fn words_of(alloc: Global, words: &[&str]) -> Result<Vec<String>, AllocError> {
-    let mut list = Vec::new(alloc);
-    for word in words {
-        list.push(String::from_str(alloc, word)?)?;
-    }
-    Ok(list)
-}
-
-// A shelf that holds a task file and a second file of these bytes, and fails at these fetches.
-fn two_files(
-    alloc: Global,
-    tasks: &[u8],
-    second: &[u8],
-    fails: &[u64],
-) -> Result<MemoryShelf, AllocError> {
-    let mut files = Vec::new(alloc);
-    let tasks_name = String::from_str(alloc, "tasks.toml")?;
-    files.push((tasks_name, tasks.to_vec(alloc)?))?;
-    let second_name = String::from_str(alloc, "second.csv")?;
-    files.push((second_name, second.to_vec(alloc)?))?;
-    Ok(MemoryShelf::new(alloc, files, fails.to_vec(alloc)?))
-}
-
-// A shelf that holds these bytes under the name `tasks.toml`, and fails at these fetches.
-fn shelf_of(alloc: Global, bytes: &[u8], fails: &[u64]) -> Result<MemoryShelf, AllocError> {
-    let mut files = Vec::new(alloc);
-    let name = String::from_str(alloc, "tasks.toml")?;
-    files.push((name, bytes.to_vec(alloc)?))?;
-    Ok(MemoryShelf::new(alloc, files, fails.to_vec(alloc)?))
-}

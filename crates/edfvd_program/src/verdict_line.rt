@@ -1,7 +1,6 @@
 // The line of a verdict.
 ghost use Rattle.std.specs.Prelude.{◌≡◌, ◌++◌, IfOk, codes, decimal, string_bytes};
-ghost use Rattle.mc_task.specs.TaskSet.{task_at};
-ghost use Rattle.mc_model.specs.TraceText.{name_in};
+ghost use Rattle.mc_task.specs.TaskSet.{task_at, name_in};
 ghost use Rattle.mc_model.specs.VerdictText as spec;
 
 use crate::lines::finished;

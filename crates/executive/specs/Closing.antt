@@ -57,10 +57,11 @@ pub record Closes (opening : FloorState) (passes : List TaskPass) (f : FloorStat
   pub counts : All (λ p. AgreesWith f (of_pass p)) passes
   pub idles : total (λ p. (of_pass p).count.idles) passes ≡ idle_ticks f.core.rows
 
--- the seat of a pass
+-- the seat of a task with no tick out, where one is held
 abbrev pub seat_of_resting : Option Resting → Option (Seat State Entry FloorState ghosts)
 seat_of_resting (Some r) = Some r.held.seat
 seat_of_resting None = None
 
+-- the seat of a pass
 abbrev pub seat_of : TaskPass → Option (Seat State Entry FloorState ghosts)
 seat_of p = seat_of_resting p.resting

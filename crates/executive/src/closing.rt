@@ -57,7 +57,7 @@ impl Executive {
         let Reserved { mut list } = reserved.into_inner();
         give_seats(passes, &mut list);
         let State { floor, last: _ } = turns.close(list);
-        floor
+        floor.into_floor()
     }
 }
 

@@ -7,6 +7,7 @@ mod count;
 mod entry;
 mod executive;
 mod gate;
+mod heap_floor;
 mod opening;
 mod pass;
 mod state;

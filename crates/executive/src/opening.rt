@@ -9,6 +9,7 @@ ghost use Rattle.executive.specs.Passes.{floor_of};
 use crate::count::Count;
 use crate::entry::Entry;
 use crate::executive::{Executive, Reserved};
+use crate::heap_floor::HeapFloor;
 use crate::pass::{Held, TaskPass};
 use crate::state::State;
 use mc_task::TaskNo;
@@ -46,6 +47,10 @@ impl Executive {
         let Ok(mut passes) = Vec::with_capacity(alloc, tasks as usize) else {
             return Err(NoMemory { floor });
         };
+        let floor = match HeapFloor::new(alloc, floor) {
+            Ok(floor) => floor,
+            Err(floor) => return Err(NoMemory { floor }),
+        };
         let state = State {
             floor,
             last: Entry::NONE,
@@ -62,7 +67,9 @@ impl Executive {
             }
             Err(NewFault::Memory(state)) => {
                 let State { floor, last: _ } = state;
-                Err(NoMemory { floor })
+                Err(NoMemory {
+                    floor: floor.into_floor(),
+                })
             }
         }
     }

@@ -5,6 +5,7 @@ ghost use Rattle.executive.specs.Histories.{MayCall, answer_to, after_call, entr
 ghost use Rattle.executive.specs.Stands.{IsKept};
 
 use crate::entry::{Answer, Call, Entry};
+use crate::heap_floor::HeapFloor;
 use mc_task::TaskNo;
 use std::marker::Brand;
 use timetable::Floor;
@@ -13,7 +14,7 @@ use turnstile::{Added, Kept};
 /// The floor, and the last entry of the history.
 #[derive(Drop)]
 pub struct State {
-    pub(crate) floor: Floor,
+    pub(crate) floor: HeapFloor,
     pub(crate) last: Entry,
 }
 
@@ -48,28 +49,8 @@ impl State {
         ensures last { self.new.last ≡ entry task.0 call result }
         ensures kept { IsKept self.new.floor }
     {
-        let answer = answered(&mut self.floor, task, call);
-        let _sound = self.floor.core().ticks();
+        let answer = self.floor.answer(task, call);
         self.last = Entry { task, call, answer };
         answer
-    }
-}
-
-// The floor's answer.
-fn answered(floor: &mut Floor, task: TaskNo, call: Call) -> Answer
-    requires in_set { IsIn floor.old.core.set task.0 }
-    requires may { MayCall floor.old task.0 call }
-    ensures answer { result ≡ answer_to floor.old task.0 call }
-    ensures floor { floor.new ≡ after_call floor.old task.0 call }
-{
-    match call {
-        Call::Release => Answer::Released(floor.release(task)),
-        Call::Take => Answer::Taken(floor.grant(task)),
-        Call::Outcome(done) => match floor.core().out() {
-            Some(job) => Answer::Told(floor.outcome(job, done)),
-            None => unreachable!(),
-        },
-        Call::Idle => Answer::Idled(floor.idle()),
-        Call::Look => Answer::Next(floor.next_act()),
     }
 }

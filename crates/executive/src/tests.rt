@@ -1,5 +1,6 @@
 //! An executive over two tasks, on one thread.
-ghost use Rattle.std.specs.Prelude.{◌≡◌, ◌≤◌, ◌+◌, [], None, All, IfOk, length, vec_len, vec_capacity};
+ghost use Rattle.std.specs.Prelude.{◌≡◌, ◌≤◌, ◌+◌, [], true, None, All, IfOk, length, vec_len, vec_capacity};
+ghost use Rattle.timetable.specs.Floor.{is_planned};
 ghost use Rattle.executive.specs.Passes.{IsPassOf, floor_of};
 ghost use Rattle.executive.specs.Opening.{AreFresh};
 
@@ -34,24 +35,29 @@ fn control_set(alloc: Global) -> Result<TaskSet, Fail> {
     Ok(TaskSet::new(tasks)?)
 }
 
-// A floor with the first job at boundary 0, the second task's at boundary 2, and four ticks.
-fn planned(alloc: Global) -> Result<Floor, Fail>
-    ensures { IfOk result (λ f. (f.core.rows ≡ []) × (f.core.out ≡ None)) }
+// A floor whose plan is the jobs, each a task's number, a release and a need.
+fn planned(alloc: Global, jobs: &[(u32, u32, u32)], ticks: u32) -> Result<Floor, Fail>
+    ensures rows { IfOk result (λ f. (f.core.rows ≡ []) × (f.core.out ≡ None)) }
+    ensures plan { IfOk result (λ f. is_planned f.plan ≡ true) }
 {
+    if ticks == 0 || ticks > 1000 {
+        return Err("ticks".into());
+    }
     let set = control_set(alloc)?;
     let rule = admit(&sum_loads(&set)?).ok_or("not admitted")?;
     let mut rows = Vec::new(alloc);
-    for (task, release, need) in [(1, 0, 6), (2, 2, 5)] {
+    for (task, release, need) in jobs {
         rows.push(WorkRow {
-            task: TaskNo(task),
-            release,
-            need,
+            task: TaskNo(*task),
+            release: *release,
+            need: *need,
         })?;
     }
     let work = Work::new(&set, rows)?;
-    let places = 4 + work.rows().len();
+    let places = ticks as usize + work.rows().len();
     let core = Core::new(alloc, set, rule, places)?;
-    Ok(Floor::new(core, Plan::Rows { work, ticks: 4 }))
+    let ticks = u64::from(ticks);
+    Ok(Floor::new(core, Plan::Rows { work, ticks }))
 }
 
 // A floor without a plan, with four places.
@@ -68,6 +74,20 @@ fn job(task: u32, count: u32) -> JobId {
     JobId {
         task: TaskNo(task),
         count,
+    }
+}
+
+fn kept(task: u32, count: u32) -> Row {
+    Row::Release {
+        job: job(task, count),
+        kept: true,
+    }
+}
+
+fn tick(task: u32, count: u32, how: How) -> Row {
+    Row::Tick {
+        job: job(task, count),
+        how,
     }
 }
 
@@ -103,27 +123,27 @@ fn put(executive: &Executive, passes: &mut Vec<TaskPass>, pass: TaskPass)
     passes.push_reserved(pass);
 }
 
-// Why the task gets no tick, with its pass.
-fn refused<R: Wait>(
+// A tick of the task that is not its job's last, or why there is none, with the pass.
+fn ticked<R: Wait>(
     rt: &R,
     executive: &Executive,
     pass: TaskPass,
-) -> (TaskPass, Option<ActFault<GrantFault>>)
+) -> (TaskPass, Result<How, ActFault<GrantFault>>)
     requires { IsPassOf executive.now pass }
     ensures { IsPassOf executive.now result.0 }
 {
     match executive.take(rt, pass) {
-        Taken::NotNow(pass, fault) => (pass, Some(fault)),
+        Taken::NotNow(pass, fault) => (pass, Err(fault)),
         Taken::Given(grant) => {
-            let (pass, _how) = executive.outcome(rt, grant, false);
-            (pass, None)
+            let (pass, how) = executive.outcome(rt, grant, false);
+            (pass, Ok(how))
         }
     }
 }
 
 #[test]
 fn close_wants_a_pass_of_each_task(rt: HostRuntime) -> Result<(), Fail> {
-    let floor = planned(rt.alloc())?;
+    let floor = planned(rt.alloc(), &[(1, 0, 6), (2, 2, 5)], 4)?;
     let Ok((executive, mut passes)) = Executive::new(&rt, rt.alloc(), floor) else {
         return Err("memory".into());
     };
@@ -133,9 +153,9 @@ fn close_wants_a_pass_of_each_task(rt: HostRuntime) -> Result<(), Fail> {
     assert_eq!(rt; second.task(), TaskNo(2));
     assert_eq!(rt; first.count(), count(0, 0, 0, 0));
     assert_eq!(rt; second.count(), count(0, 0, 0, 0));
-    let (second, fault) = refused(&rt, &executive, second);
+    let (second, fault) = ticked(&rt, &executive, second);
     let due = PlanFault::Due { task: TaskNo(1) };
-    assert_eq!(rt; fault, Some(ActFault::Plan(due)));
+    assert_eq!(rt; fault, Err(ActFault::Plan(due)));
     put(&executive, &mut passes, first);
     match executive.close(&rt, passes) {
         Ok(_floor) => panic!(rt; "it was closed"),
@@ -159,17 +179,17 @@ fn close_wants_a_pass_of_each_task(rt: HostRuntime) -> Result<(), Fail> {
 
 #[test]
 fn a_planned_tick_is_taken_and_ended(rt: HostRuntime) -> Result<(), Fail> {
-    let floor = planned(rt.alloc())?;
+    let floor = planned(rt.alloc(), &[(1, 0, 6), (2, 2, 5)], 4)?;
     let Ok((executive, mut passes)) = Executive::new(&rt, rt.alloc(), floor) else {
         return Err("memory".into());
     };
     assert!(rt; passes.len() == 2);
     let (mut first, mut second) = two_of(&executive, &mut passes);
-    let kept = Released::Kept {
+    let released = Released::Kept {
         job: job(1, 1),
         at: 0,
     };
-    assert_eq!(rt; executive.release(&rt, &mut first), Ok(kept));
+    assert_eq!(rt; executive.release(&rt, &mut first), Ok(released));
     let mut first = match executive.take(&rt, first) {
         Taken::Given(grant) => {
             let granted = Granted {
@@ -200,16 +220,7 @@ fn a_planned_tick_is_taken_and_ended(rt: HostRuntime) -> Result<(), Fail> {
     put(&executive, &mut passes, second);
     match executive.close(&rt, passes) {
         Ok(floor) => {
-            let rows = [
-                Row::Release {
-                    job: job(1, 1),
-                    kept: true,
-                },
-                Row::Tick {
-                    job: job(1, 1),
-                    how: How::More,
-                },
-            ];
+            let rows = [kept(1, 1), tick(1, 1, How::More)];
             assert!(rt; floor.core().rows() == rows.as_slice());
         }
         Err(_unclosed) => panic!(rt; "a pass is missing"),
@@ -235,8 +246,8 @@ fn other_tasks_are_answered_while_a_tick_is_out(rt: HostRuntime) -> Result<(), F
     let first = match executive.take(&rt, first) {
         Taken::Given(grant) => {
             let out = GrantFault::TickOut { job: job(1, 1) };
-            let (mut other, fault) = refused(&rt, &executive, second);
-            assert_eq!(rt; fault, Some(ActFault::Core(out)));
+            let (mut other, fault) = ticked(&rt, &executive, second);
+            assert_eq!(rt; fault, Err(ActFault::Core(out)));
             let out = IdleFault::TickOut { job: job(1, 1) };
             assert_eq!(rt; executive.idle(&rt, &mut other), Err(ActFault::Core(out)));
             let held = Released::Held {
@@ -252,14 +263,59 @@ fn other_tasks_are_answered_while_a_tick_is_out(rt: HostRuntime) -> Result<(), F
         }
         Taken::NotNow(_first, _fault) => panic!(rt; "it was not given"),
     };
-    let (first, fault) = refused(&rt, &executive, first);
-    assert_eq!(rt; fault, Some(ActFault::Core(GrantFault::Full)));
+    let (first, fault) = ticked(&rt, &executive, first);
+    assert_eq!(rt; fault, Err(ActFault::Core(GrantFault::Full)));
     assert_eq!(rt; first.count(), count(1, 1, 0, 1));
     assert_eq!(rt; second.count(), count(1, 0, 0, 0));
     put(&executive, &mut passes, first);
     put(&executive, &mut passes, second);
     match executive.close(&rt, passes) {
         Ok(floor) => assert!(rt; floor.core().rows().len() == 4),
+        Err(_unclosed) => panic!(rt; "a pass is missing"),
+    }
+    Ok(())
+}
+
+#[test]
+fn a_plan_whose_executive_was_closed_is_finished(rt: HostRuntime) -> Result<(), Fail> {
+    let jobs = [(1, 0, 6), (2, 0, 5), (2, 10, 5)];
+    let rows = [
+        kept(1, 1),
+        kept(2, 1),
+        tick(1, 1, How::More),
+        tick(1, 1, How::Over),
+        tick(1, 1, How::More),
+        tick(1, 1, How::More),
+        tick(1, 1, How::More),
+        tick(1, 1, How::Done),
+        Row::Idle,
+        Row::Idle,
+        Row::Idle,
+        Row::Idle,
+        kept(2, 2),
+        tick(2, 2, How::More),
+        tick(2, 2, How::More),
+    ];
+    let floor = planned(rt.alloc(), &jobs, 12)?;
+    let Ok((executive, mut passes)) = Executive::new(&rt, rt.alloc(), floor) else {
+        return Err("memory".into());
+    };
+    assert!(rt; passes.len() == 2);
+    let (mut first, mut second) = two_of(&executive, &mut passes);
+    assert!(rt; executive.release(&rt, &mut first).is_ok());
+    assert!(rt; executive.release(&rt, &mut second).is_ok());
+    let (first, how) = ticked(&rt, &executive, first);
+    assert_eq!(rt; how, Ok(How::More));
+    let (first, how) = ticked(&rt, &executive, first);
+    assert_eq!(rt; how, Ok(How::Over));
+    put(&executive, &mut passes, first);
+    put(&executive, &mut passes, second);
+    match executive.close(&rt, passes) {
+        Ok(mut floor) => {
+            assert!(rt; floor.core().rows() == &rows[..4]);
+            floor.finish();
+            assert!(rt; floor.core().rows() == rows.as_slice());
+        }
         Err(_unclosed) => panic!(rt; "a pass is missing"),
     }
     Ok(())

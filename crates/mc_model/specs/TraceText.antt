@@ -1,7 +1,7 @@
 -- The text of a trace: a header line, and a line for each row. Rows stand in the order of the text, THE OLDEST FIRST.
 use Rattle.std.specs.Prelude.{ℕ, Bool, true, false, List, [], ◌∷◌, ◌++◌, Option, Some, None, codes, decimal}
 use Rattle.mc_task.specs.declared.task.Task.{Task}
-use Rattle.mc_task.specs.TaskSet.{task_at}
+use Rattle.mc_task.specs.TaskSet.{task_at, name_in}
 use Rattle.mc_model.specs.Rows.{ticks}
 use Rattle.mc_model.specs.declared.row.How.{How}
 use Rattle.mc_model.specs.declared.row.How.TheVariants.{More, Done, Stop, Over}
@@ -19,11 +19,6 @@ how_word Over = codes "over"
 abbrev pub kept_word : Bool → List ℕ
 kept_word true = codes "kept"
 kept_word false = codes "dropped"
-
--- the task's name; nothing where there is no task
-abbrev pub name_in : Option Task → List ℕ
-name_in None = []
-name_in (Some t) = t.name
 
 -- five fields joined by commas, and a line feed
 abbrev pub line_of : List ℕ → List ℕ → List ℕ → List ℕ → List ℕ → List ℕ

@@ -1,6 +1,6 @@
 -- What a task set is: dual-criticality sporadic tasks with implicit deadlines (Baruah et al., ECRTS 2012).
 -- That a low task has one budget, and how many tasks and how large numbers there may be, is this profile's.
-use Rattle.std.specs.Prelude.{◌≡◌, ◌≢◌, ℕ, ◌-◌, ◌<◌, ◌≤◌, ◌^◌, ◌==◌, if◌then◌else◌, List, [], ◌∷◌, length, map, slice_get, Option, None, IsTrue}
+use Rattle.std.specs.Prelude.{◌≡◌, ◌≢◌, ℕ, ◌-◌, ◌<◌, ◌≤◌, ◌^◌, ◌==◌, if◌then◌else◌, List, [], ◌∷◌, length, map, slice_get, Option, Some, None, IsTrue}
 use Rattle.std.specs.List.{AllByRecursion}
 use Rattle.mc_task.specs.NameForm.{is_name}
 use Rattle.mc_task.specs.declared.task.Task.{Task}
@@ -47,3 +47,8 @@ IsIn tasks k = (1 ≤ k) × (k ≤ length tasks)
 -- task number k
 abbrev pub task_at : List Task → ℕ → Option Task
 task_at tasks k = if k == 0 then None else slice_get tasks (k - 1)
+
+-- the name of a task, where there is one
+abbrev pub name_in : Option Task → List ℕ
+name_in None = []
+name_in (Some t) = t.name

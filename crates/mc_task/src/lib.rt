@@ -2,6 +2,7 @@
 #![tactic(auto)]
 
 mod name;
+mod places;
 mod set;
 mod task;
 #[cfg(test)]

@@ -1,7 +1,8 @@
-ghost use Rattle.std.specs.Prelude.{◌≡◌, ◌≤◌, ◌↔◌, length, IfOk, IfErr, IfNone, All, IsSome, option_map, Some, None, []};
+ghost use Rattle.std.specs.Prelude.{◌≡◌, ◌≤◌, ◌↔◌, length, IfOk, IfErr, IfSome, IfNone, All, IsSome, option_map, Some, None, []};
 ghost use Rattle.mc_task.specs.TaskSet.{IsSet, IsTask, IsIn, task_at};
 ghost use Rattle.mc_task.specs.Faults.{first_fault, same_name_from, number_fault, number_fault_from, named};
 
+use crate::places::{Places, numbered_task};
 use crate::{Level, Task, TaskNo};
 use std::alloc::Global;
 use std::marker::Model;
@@ -29,6 +30,7 @@ pub enum SetFault {
 #[derive(Debug, Drop)]
 pub struct TaskSet {
     tasks: Vec<Task>,
+    places: Places,
 }
 
 impl Model for TaskSet {
@@ -51,7 +53,10 @@ impl TaskSet {
     {
         match fault_of(&tasks) {
             Some(fault) => Err(fault),
-            None => Ok(TaskSet { tasks }),
+            None => Ok(TaskSet {
+                places: Places::new(&tasks),
+                tasks,
+            }),
         }
     }
 
@@ -68,17 +73,18 @@ impl TaskSet {
         ensures value { result ≡ task_at self.now task.0 }
         ensures found { IsSome result ↔ IsIn self.now task.0 }
     {
-        if task.0 == 0 {
-            return None;
-        }
-        self.tasks.get(task.0 as usize - 1).copied()
+        numbered_task(&self.tasks, task)
     }
 
     /// The number of the task with this name, or `None` exactly where no task has it.
     pub fn find(&self, name: &[u8]) -> Option<TaskNo>
-        ensures { option_map (λ task. task.0) result ≡ named name.now self.now }
+        ensures number { option_map (λ task. task.0) result ≡ named name.now self.now }
+        ensures inside { IfSome result (λ task. IsIn self.now task.0) }
     {
-        numbered(&self.tasks, name)
+        match self.places.find(&self.tasks, name) {
+            Some(task) => Some(task),
+            None => numbered(&self.tasks, name),
+        }
     }
 
     /// An equal set.
@@ -86,7 +92,10 @@ impl TaskSet {
         ensures { IfOk result (λ set. set ≡ self.now) }
     {
         match self.tasks.to_vec(alloc) {
-            Ok(tasks) => Ok(TaskSet { tasks }),
+            Ok(tasks) => Ok(TaskSet {
+                places: self.places,
+                tasks,
+            }),
             Err(_) => Err(Memory),
         }
     }
@@ -161,7 +170,8 @@ fn same_name(tasks: &[Task]) -> Option<SetFault>
 // The number of the first task with this name.
 fn numbered(tasks: &[Task], name: &[u8]) -> Option<TaskNo>
     requires { length tasks.now ≤ 128 }
-    ensures { option_map (λ task. task.0) result ≡ named name.now tasks.now }
+    ensures number { option_map (λ task. task.0) result ≡ named name.now tasks.now }
+    ensures inside { IfSome result (λ task. IsIn tasks.now task.0) }
 {
     for (i, t) in tasks.iter().enumerate() {
         if t.name.bytes() == name {

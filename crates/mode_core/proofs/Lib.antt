@@ -1,14 +1,22 @@
 mod CallTable
 pub mod Apart
+pub mod ByTask
 pub mod Chosen
 pub mod Fits
 pub mod Held
+pub mod Noted
 pub mod Keep
 pub mod Pendings
+pub mod Tally
+pub mod FirstJob
+pub mod Queued
+pub mod Changes
+pub mod FirstItem
 pub mod Opened
 pub mod Sound
 pub mod Writes
 pub mod CoreSteps
+pub mod Releasing
 pub mod ChoiceLaw
 pub mod FewHeld
 pub mod Timely

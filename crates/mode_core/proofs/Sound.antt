@@ -1,27 +1,38 @@
--- Each event leaves a sound state, and what is kept of each task's releases after it.
-use Rattle.std.proofs.Common.{◌≡◌, ◌≢◌, ℕ, ◌+◌, ◌-◌, ◌<◌, ◌≤◌, Bool, true, false, not, List, [], ◌∷◌, Option, Some, None, length, ◌==◌, slice_get, set, get_or, get_or-set_same, get_or-set_other, refl, sym, ap, ap₂, ◌∙◌, subst, arith, ltb-false, eqb-true}
-use Rattle.std.proofs.lemmas.Option.{slice_get-get_or}
-use Rattle.std.proofs.lemmas.List.{length-set}
-use Rattle.std.proofs.lemmas.Bool.Decides.{nat_tests}
+use Rattle.std.proofs.Common.{◌≡◌, ◌≢◌, ℕ, ◌+◌, ◌<◌, ◌≤◌, ◌^◌, Bool, true, false, not, List, [], ◌∷◌, Option, Some, None, refl, sym, ap, ◌∙◌, subst, arith, ltb-false}
+-- Each event leaves a sound state, and what is noted of releases after it.
 use Rattle.mc_task.specs.declared.task.JobId.{JobId}
 use Rattle.mc_model.specs.declared.row.Row.TheVariants.{Tick}
-use Rattle.mode_core.specs.declared.scheduler.Slot.{Slot}
-use Rattle.mode_core.specs.Events.{is_full, release_refusal, grant_refusal, outcome_refusal, is_of_task, is_out, chosen_now}
-use Rattle.mode_core.specs.Shape.{IsSound, AreSlots, slot}
+use Rattle.mode_core.specs.Events.{empty_state, is_full, release_refusal, grant_refusal, outcome_refusal, is_of_task, is_out, chosen_now}
+use Rattle.mode_core.specs.Shape.{IsSound}
+use Rattle.mode_core.specs.Noted.{notes_of}
 use Rattle.mode_core.proofs.Fits.{Chooses, chooses, tick_legal}
 use Rattle.mode_core.proofs.Held.{IsSettled, settled_words}
-use Rattle.mode_core.proofs.Keep.{good_release, good_grant, good_outcome, no_held, neither, not_if, no_map}
-use Rattle.mc_task.specs.TaskSet.{task_at, IsIn}
-use Rattle.mc_model.specs.TaskNumbers.{period_in}
+use Rattle.mode_core.proofs.Keep.{good_start, good_release, good_grant, good_outcome, no_held, neither, not_if, no_map}
+use Rattle.mc_task.specs.declared.task.Task.{Task}
+use Rattle.mc_task.specs.declared.task.Rule.{Rule}
+use Rattle.mc_task.specs.TaskSet.{IsSet, IsIn}
+use Rattle.mc_model.specs.Holds.{Fits, Holds}
+use Rattle.mode_core.proofs.Noted.{notes_settled}
 use Rattle.mc_model.specs.Rows.{ticks}
 use Rattle.mc_model.specs.Legal.{Legal}
-use Rattle.mc_model.specs.Core.{State, Good, begun, next, next_job, places_used, released_so_far, tick_out, release_row, add_held, outcome_of, settle, settled, IsOut}
-use Rattle.mc_model.proofs.Booleans.{eqb-false, eqb-refl}
+use Rattle.mc_model.specs.Core.{State, Good, begun, next, next_job, places_used, tick_out, release_row, add_held, outcome_of, settle, settled, IsOut}
+use Rattle.mc_model.proofs.Booleans.{eqb-false}
 use Rattle.mc_model.proofs.Jobs.{job_eq}
 
 -- a place is left where not each is used
 pub room_left : (s : State) → IsSound s → is_full s ≡ false → places_used s < s.places
 room_left s k f = let n : places_used s ≢ s.places = eqb-false _ _ f in let r = k.room in omega (arith, n, r)
+
+-- with no rows the state is sound
+pub sound_start : (set : List Task) (rule : Rule) (places : ℕ) → IsSet set → Fits rule → Holds set rule → places < 2 ^ 32 → IsSound (empty_state set rule places)
+sound_start set rule places tasks fits holds range = record {
+  tasks = tasks;
+  fits = fits;
+  holds = holds;
+  good = good_start set rule places;
+  range = range;
+  room = omega arith;
+}
 
 -- what no refusal of a release says
 pub record MayRelease (s : State) (k : ℕ) : Type 0 where
@@ -69,62 +80,6 @@ sound_write s k sound o inside e = record {
   where
     made : Good (writing (record s { out = None }) (next_job s k))
     made = good_release s.set s.rule s.places s.rows None s.held k (subst (λ (x : Option JobId). Good (record s { out = x })) o sound.good) inside (subst (λ (x : Option JobId). next s k ≤ ticks s.rows + tick_out x) o (may_release s k sound e).soon)
-
--- one slot changes, and the others are as they were
-pub slots_after : (s t : State) (slots : List Slot) (k : ℕ) (new : Slot) → AreSlots s slots → IsIn s.set k → t.set ≡ s.set → new ≡ slot t k → ((i : ℕ) → i ≢ k → slot t i ≡ slot s i) → AreSlots t (set slots (k - 1) new)
-slots_after s t slots k new are inside same here others = record { each_task = length-set slots (k - 1) new ∙ (are.each_task ∙ sym (ap length same)); as_released = each }
-  where
-    len : length t.set ≡ length s.set
-    len = ap length same
-
-    at : (i : ℕ) → i < length slots → slice_get (set slots (k - 1) new) i ≡ Some (get_or (set slots (k - 1) new) i new)
-    at i h = slice_get-get_or (set slots (k - 1) new) i new (omega (arith, length-set slots (k - 1) new, h))
-
-    less : (m n : ℕ) → m ≢ n → 1 ≤ m → 1 ≤ n → m - 1 ≢ n - 1
-    less m n h p q = omega arith
-
-    each : (i : ℕ) → 1 ≤ i → i ≤ length t.set → slice_get (set slots (k - 1) new) (i - 1) ≡ Some (slot t i)
-    each i p q =
-        let l = are.each_task in
-        let h : i - 1 < length slots = omega (arith, l, len, p, q) in
-        elim (i == k) as (λ v. (i == k) ≡ v → slice_get (set slots (k - 1) new) (i - 1) ≡ Some (slot t i)) [
-          | true ↦ λ m.
-              let e : i ≡ k = eqb-true _ _ m in
-              at (i - 1) h ∙ ap (λ (x : Slot). Some x) (subst (λ j. get_or (set slots (k - 1) new) (j - 1) new ≡ new) (sym e) (get_or-set_same slots (k - 1) new new (subst (λ j. j - 1 < length slots) e h)) ∙ (here ∙ ap (slot t) (sym e)))
-          | false ↦ λ m.
-              let d : i ≢ k = eqb-false i k m in
-              let d' : i - 1 ≢ k - 1 = less i k d p inside.0 in
-              at (i - 1) h ∙ (ap (λ (x : Slot). Some x) (get_or-set_other slots (k - 1) (i - 1) new new d') ∙ (sym (slice_get-get_or slots (i - 1) new h) ∙ (are.as_released i p (omega (arith, len, q)) ∙ ap (λ (x : Slot). Some x) (sym (others i d)))))
-        ]
-        refl
-
--- the slot of a task of which a release was held
-pub slot_held : (s : State) (k : ℕ) → slot (holding s (next_job s k)) k ≡ record { count = released_so_far s k + 1; next = ticks s.rows + 1 + period_in (task_at s.set k) }
-slot_held s k = let e : (k == k) ≡ true = eqb-refl k in rw e (ap (λ (c : ℕ). record { count = c; next = ticks s.rows + 1 + period_in (task_at s.set k) }) (omega arith))
-
--- numbers that differ, by the test
-apart : (m n : ℕ) → n ≢ m → (m == n) ≡ false
-apart m n h = grind (arith, nat_tests)
-
--- the slots of the others
-pub slot_held_other : (s : State) (k i : ℕ) → i ≢ k → slot (holding s (next_job s k)) i ≡ slot s i
-slot_held_other s k i d = let e : (k == i) ≡ false = apart k i d in rw e (ap (λ (c : ℕ). record { count = c; next = next s i }) (omega arith))
-
--- the slot of a task of which a release was written
-pub slot_written : (s : State) (k : ℕ) → s.held ≡ [] → slot (writing s (next_job s k)) k ≡ record { count = released_so_far s k + 1; next = ticks s.rows + period_in (task_at s.set k) }
-slot_written s k h = at s.held h
-  where
-    at : (js : List JobId) → js ≡ [] → slot (writing (record s { held = js }) (next_job s k)) k ≡ record { count = released_so_far (record s { held = js }) k + 1; next = ticks s.rows + period_in (task_at s.set k) }
-    at [] e = let e : (k == k) ≡ true = eqb-refl k in rw e (ap (λ (c : ℕ). record { count = c; next = ticks s.rows + period_in (task_at s.set k) }) (omega arith))
-    at (j ∷ js) e = cc
-
--- the slots of the others
-pub slot_written_other : (s : State) (k i : ℕ) → s.held ≡ [] → i ≢ k → slot (writing s (next_job s k)) i ≡ slot s i
-slot_written_other s k i h d = at s.held h
-  where
-    at : (js : List JobId) → js ≡ [] → slot (writing (record s { held = js }) (next_job s k)) i ≡ slot (record s { held = js }) i
-    at [] e = let e : (k == i) ≡ false = apart k i d in rw e (ap (λ (c : ℕ). record { count = c; next = next (record s { held = [] }) i }) (omega arith))
-    at (j ∷ js) e = cc
 
 -- a tick that is put out
 abbrev pub giving : State → State
@@ -211,8 +166,6 @@ sound_end s done sound =
       room = let r = sound.room in let p = w.places in omega (arith, r, p);
     }
 
--- and the slots are as they were
-pub slot_ended : (s : State) (done : Bool) → IsSound s → (k : ℕ) → slot (ended s done) k ≡ slot s k
-slot_ended s done sound k =
-    let w : IsSettled s.set s.rule s.rows s.out s.held done = settled_words s.set s.rule s.rows s.out s.held done sound.good.out in
-    ap₂ {C = Slot} (λ (c n : ℕ). record { count = c; next = n }) (let r = w.releases k in omega (arith, r)) (w.next k)
+-- and the notes are as they were
+pub notes_ended : (s : State) (done : Bool) → IsSound s → notes_of (ended s done) ≡ notes_of s
+notes_ended s done sound = notes_settled s.set s.rule s.rows s.out s.held done sound.good.out

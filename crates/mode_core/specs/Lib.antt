@@ -1,7 +1,9 @@
 pub mod Events
 pub mod Written
 pub mod Entries
+pub mod Slots
 pub mod Kept
+pub mod Noted
 pub mod Shape
 pub mod Choice
 pub mod Timely

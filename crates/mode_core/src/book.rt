@@ -1,31 +1,29 @@
-// The rows of a schedule, and what the scheduler keeps of them: its clock, its mode and its pending jobs.
-ghost use Rattle.std.specs.Prelude.{◌≡◌, ◌&&◌, ◌||◌, ◌<◌, ◌≤◌, ◌^◌, ◌∷◌, [], length, reverse, option_map, IfOk};
+// The rows of a schedule, and what the scheduler keeps of them: its clock, its mode and the live job of each task.
+ghost use Rattle.std.specs.Prelude.{◌≡◌, ◌<◌, ◌≤◌, ◌^◌, ◌∷◌, [], length, reverse, option_map, IfOk};
 ghost use Rattle.mc_model.specs.declared.row.Row.TheVariants as row;
 ghost use Rattle.mode_core.specs.Entries.{entry};
-ghost use Rattle.mc_model.specs.Holds.{Fits};
+ghost use Rattle.mc_model.specs.Holds.{Fits, Holds};
 ghost use Rattle.mc_task.specs.TaskSet.{IsSet};
 ghost use Rattle.mc_model.specs.Legal.{Legal};
 ghost use Rattle.mc_model.specs.Rows.{ticks};
-ghost use Rattle.mc_model.specs.Mode.{high_mode, is_virtual, is_over};
+ghost use Rattle.mc_model.specs.Mode.{high_mode};
 ghost use Rattle.mc_model.specs.Pending.{pending};
-ghost use Rattle.mc_model.specs.Core.{first_to_run};
+ghost use Rattle.mc_model.specs.Core.{first_to_run, outcome_of};
 
-use crate::pending::{Pending, count_tick, first_of, retain_after};
+use crate::live::LiveJobs;
+use crate::pending::Pending;
 use mc_model::{How, Row};
-use mc_task::{JobId, Rule, TaskSet};
-use std::alloc::{AllocError, Global};
+use mc_task::{JobId, Memory, Rule, TaskSet};
+use std::alloc::Global;
 use std::marker::Model;
 
 /// The rows of a schedule with room for a number of them. Contracts see the set, the rule, the room and the rows.
 #[derive(Debug, Drop)]
 pub struct Book {
-    set: TaskSet,
-    rule: Rule,
     places: usize,
     rows: Vec<Row>,
-    pending: Vec<Pending>,
     ticks: u64,
-    high: bool,
+    live: LiveJobs,
 }
 
 impl Model for Book {
@@ -42,21 +40,23 @@ impl Model for Book {
 
 impl Book {
     /// A book with no rows, and with memory for all that will be written.
-    pub fn new(alloc: Global, set: TaskSet, rule: Rule, places: usize) -> Result<Book, AllocError>
+    pub fn new(alloc: Global, set: TaskSet, rule: Rule, places: usize) -> Result<Book, Memory>
         requires fits { Fits rule }
+        requires holds { Holds set rule }
         requires places { places < 2 ^ 32 }
         ensures { IfOk result (λ book. book ≡ record { set = set; rule = rule; places = places; rows = [] }) }
     {
         let _count = set.len();
-        Ok(Book {
-            set,
-            rule,
-            places,
-            rows: Vec::with_capacity(alloc, places)?,
-            pending: Vec::with_capacity(alloc, places)?,
-            ticks: 0,
-            high: false,
-        })
+        let live = LiveJobs::new(alloc, set, rule)?;
+        match Vec::with_capacity(alloc, places) {
+            Ok(rows) => Ok(Book {
+                places,
+                rows,
+                ticks: 0,
+                live,
+            }),
+            Err(_) => Err(Memory),
+        }
     }
 
     /// The rows, the oldest first.
@@ -87,7 +87,7 @@ impl Book {
     pub fn high_mode(&self) -> bool
         ensures { result ≡ high_mode self.now.rule self.now.rows }
     {
-        self.high
+        self.live.high_mode()
     }
 
     /// Writes an idle tick, after which the mode is low.
@@ -98,10 +98,10 @@ impl Book {
     {
         self.rows.push_reserved(Row::Idle);
         self.ticks += 1;
-        self.high = false;
+        self.live.calm();
     }
 
-    /// Writes a release. One that is kept makes its job pending.
+    /// Writes a release. The job of one that is kept becomes the live one of its task.
     pub fn push_release(&mut self, job: JobId, kept: bool)
         requires legal { Legal self.old.set self.old.rule (row.Release job kept ∷ self.old.rows) }
         requires room { length self.old.rows < self.old.places }
@@ -109,25 +109,25 @@ impl Book {
     {
         self.rows.push_reserved(Row::Release { job, kept });
         if kept {
-            self.pending.push_reserved(Pending {
-                job,
-                release: self.ticks,
-                used: 0,
-            });
+            self.live.begin(job, self.ticks);
         }
     }
 
-    /// Writes a tick of the job. An end takes the job out, and an overrun the low jobs.
-    pub fn push_tick(&mut self, job: JobId, how: How)
-        requires legal { Legal self.old.set self.old.rule (row.Tick job how ∷ self.old.rows) }
+    /// Writes a tick of the job, and answers how it ends.
+    pub fn push_tick(&mut self, job: JobId, done: bool) -> How
+        requires legal { Legal self.old.set self.old.rule
+            (row.Tick job (outcome_of self.old.set self.old.rule self.old.rows job done) ∷ self.old.rows) }
         requires room { length self.old.rows < self.old.places }
-        ensures { self.new ≡ record self.old { rows = row.Tick job how ∷ self.old.rows } }
+        ensures answer { result ≡ outcome_of self.old.set self.old.rule self.old.rows job done }
+        ensures state { self.new ≡ record self.old {
+          rows = row.Tick job (outcome_of self.old.set self.old.rule self.old.rows job done) ∷ self.old.rows;
+        } }
     {
-        count_tick(&mut self.pending, job);
-        retain_after(&mut self.pending, &self.set, job, how);
+        let how = self.live.tick(job, done);
+        self.live.clear_after(job.task, how);
         self.rows.push_reserved(Row::Tick { job, how });
         self.ticks += 1;
-        self.high = mode_after(self.rule, how, self.high);
+        how
     }
 
     /// The pending job that runs first.
@@ -136,7 +136,7 @@ impl Book {
             (first_to_run self.now.set self.now.rule (high_mode self.now.rule self.now.rows)
             (pending self.now.set self.now.rows)) }
     {
-        first_of(&self.set, self.rule, self.high, &self.pending)
+        self.live.first()
     }
 
     /// The task set.
@@ -144,14 +144,14 @@ impl Book {
         ensures value { result.now ≡ self.now.set }
         ensures tasks { IsSet self.now.set }
     {
-        &self.set
+        self.live.set()
     }
 
     /// The rule.
     pub fn rule(&self) -> Rule
         ensures { result ≡ self.now.rule }
     {
-        self.rule
+        self.live.rule()
     }
 
     /// How many rows there is room for.
@@ -159,15 +159,5 @@ impl Book {
         ensures { result ≡ self.now.places }
     {
         self.places
-    }
-}
-
-// Whether the mode is high after a tick with this outcome.
-fn mode_after(rule: Rule, how: How, high: bool) -> bool
-    ensures { result ≡ ((is_virtual rule && is_over how) || high) }
-{
-    match (rule, how) {
-        (Rule::Virtual { .. }, How::Over) => true,
-        _ => high,
     }
 }

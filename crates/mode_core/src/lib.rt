@@ -3,6 +3,7 @@
 
 mod answers;
 mod book;
+mod live;
 mod pending;
 mod scheduler;
 mod steps;

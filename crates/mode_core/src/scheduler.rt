@@ -1,5 +1,5 @@
 // The scheduler's state, and what can be read of it.
-ghost use Rattle.std.specs.Prelude.{◌≡◌, ◌<◌, ◌^◌, reverse, replicate, IfOk};
+ghost use Rattle.std.specs.Prelude.{◌≡◌, ◌<◌, ◌^◌, reverse, IfOk};
 ghost use Rattle.mc_model.specs.Holds.{Fits, Holds};
 ghost use Rattle.mc_model.specs.Rows.{ticks};
 ghost use Rattle.mc_model.specs.Mode.{high_mode};
@@ -11,24 +11,18 @@ mod release;
 mod tick;
 
 use crate::book::Book;
+use arrivals::Arrivals;
 use mc_model::Row;
 use mc_task::{JobId, Memory, Rule, TaskSet};
-use std::alloc::{AllocError, Global};
+use std::alloc::Global;
 use std::marker::Model;
-
-// What is kept of a task's releases: how many there were, and the first boundary at which the next may come.
-#[derive(Clone, Copy, Debug, PartialEq, Eq)]
-struct Slot {
-    count: u32,
-    next: u64,
-}
 
 /// A schedule as it grows, one event a call. Contracts see the set, the rule, the number of places, the rows, the job
 /// whose tick is out, and the releases that are held until its outcome.
 #[derive(Debug, Drop)]
 pub struct Core {
     book: Book,
-    slots: Vec<Slot>,
+    arrivals: Arrivals,
     held: Vec<JobId>,
     out: Option<JobId>,
 }
@@ -62,21 +56,17 @@ impl Core {
         ensures timely { IfOk result IsTimely }
     {
         let count = set.len() as usize;
-        let Ok(slots) = fresh_slots(alloc, count) else {
-            return Err(Memory);
-        };
+        let arrivals = Arrivals::new(alloc, &set)?;
         let Ok(held) = Vec::with_capacity(alloc, count) else {
             return Err(Memory);
         };
-        match Book::new(alloc, set, rule, places) {
-            Ok(book) => Ok(Core {
-                book,
-                slots,
-                held,
-                out: None,
-            }),
-            Err(_) => Err(Memory),
-        }
+        let book = Book::new(alloc, set, rule, places)?;
+        Ok(Core {
+            book,
+            arrivals,
+            held,
+            out: None,
+        })
     }
 
     /// The rows, the oldest first. No job is late in them, and no task has two pending jobs.
@@ -164,11 +154,4 @@ impl Core {
         };
         self.book.len() + self.held.len() + out == self.book.places()
     }
-}
-
-// A slot for each task, with no release.
-fn fresh_slots(alloc: Global, count: usize) -> Result<Vec<Slot>, AllocError>
-    ensures { IfOk result (λ v. v.items ≡ replicate count (record { count = 0; next = 0 })) }
-{
-    vec![in alloc; Slot { count: 0, next: 0 }; count]
 }

@@ -1,23 +1,26 @@
 // The parts of the core's steps that need no whole core.
-ghost use Rattle.std.specs.Prelude.{◌≡◌, ◌≤◌, ◌+◌, length, reverse};
+ghost use Rattle.std.specs.Prelude.{◌≡◌, ◌≤◌, ◌+◌, ◌∷◌, length, reverse};
+ghost use Rattle.arrivals.specs.Arrived.{arrived, count_of, ForNotes};
+ghost use Rattle.mode_core.specs.Noted.{MayNote};
 ghost use Rattle.mode_core.specs.Events.{is_of_task};
-ghost use Rattle.mc_task.specs.TaskSet.{task_at, IsIn};
-ghost use Rattle.mc_model.specs.TaskNumbers.{period_in};
-ghost use Rattle.mc_model.specs.Legal.{Legal, how_of};
+ghost use Rattle.mc_model.specs.Legal.{Legal};
 ghost use Rattle.mc_model.specs.Core.{keeps, add_held};
 
 use crate::book::Book;
 use crate::pending::is_high;
-use mc_model::How;
-use mc_task::{JobId, Level, Rule, TaskNo, TaskSet};
+use arrivals::Arrivals;
+use mc_task::{JobId, TaskNo};
 
-/// The period of the task, in ticks.
-pub fn period_of(set: &TaskSet, task: TaskNo) -> u32
-    ensures { result ≡ period_in (task_at set.now task.0) }
+/// Notes a release of the task, which is allowed, and answers its job.
+pub fn note_release(arrivals: &mut Arrivals, task: TaskNo, at: u64) -> JobId
+    requires { MayNote arrivals.old task.0 at }
+    ensures job { result ≡ record { task = task; count = count_of arrivals.old task.0 + 1 } }
+    ensures notes { ForNotes arrivals.old (λ set notes.
+        arrivals.new ≡ arrived set (record { task = task.0; at = at } ∷ notes)) }
 {
-    match set.get(task) {
-        Some(t) => t.period,
-        None => 0,
+    match arrivals.note(task, at) {
+        Ok(count) => JobId { task, count },
+        Err(_) => unreachable!(),
     }
 }
 
@@ -36,25 +39,6 @@ pub fn keeps(book: &Book, task: TaskNo) -> bool
     ensures { result ≡ keeps book.now.set book.now.rule book.now.rows task.0 }
 {
     is_high(book.set(), task) || !book.high_mode()
-}
-
-/// How the job's next tick ends, which is its u-th, where the job is not done.
-pub fn how_of(book: &Book, job: JobId, u: u32) -> How
-    requires { IsIn book.now.set job.task.0 }
-    ensures { result ≡ how_of book.now.set book.now.rule book.now.rows job u }
-{
-    let Some(t) = book.set().get(job.task) else {
-        unreachable!()
-    };
-    if u == t.high {
-        return How::Stop;
-    }
-    let scaled = book.rule() != Rule::Plain;
-    if t.level == Level::High && scaled && !book.high_mode() && u == t.low {
-        How::Over
-    } else {
-        How::More
-    }
 }
 
 /// Writes the held releases, in the order in which they were taken.

@@ -1,5 +1,5 @@
 -- Values of digits, and decimal texts.
-use Rattle.std.proofs.Common.{◌≡◌, ℕ, ◌+◌, ◌-◌, ◌*◌, ◌^◌, ◌<◌, ◌≤◌, Bool, true, false, ◌&&◌, nat_le, List, ◌∷◌, length, Some, IsTrue, refl, sym, ap, ◌∙◌, arith, rules, decimal}
+use Rattle.std.proofs.Common.{◌≡◌, ℕ, ◌+◌, ◌-◌, ◌*◌, ◌^◌, ◌<◌, ◌≤◌, Bool, true, ◌&&◌, nat_le, List, ◌∷◌, length, Some, sym, ap, ◌∙◌, arith, rules, decimal}
 use Rattle.std.specs.List.{list_all}
 use Rattle.std.proofs.lemmas.Bool.Decides.{nat_tests}
 use Rattle.std.proofs.lemmas.Grind.{pow_more}
@@ -7,29 +7,23 @@ use Rattle.std.proofs.lemmas.Fmt.{digits_decimal, digits_value-decimal, decimal_
 use Rattle.std.proofs.lemmas.Str.Parse.{IsNumeralModel, numerals_by_weight}
 use Rattle.numeral.specs.Numeral.{is_digit, is_numeral, value, numeral, number, in_range}
 
-both : (a b : Bool) → (a && b) ≡ true → (a ≡ true) × (b ≡ true)
-both true true h = (refl, refl)
-both false b h = cc
-both true false h = cc
-
 spread : (v e p r n : ℕ) → v * (p * 10) + (e * p + r) ≡ n → (v * 10 + e) * p + r ≡ n
 spread v e p r n h = omega arith
 
--- a digit more, after so many of the value v: what it makes of them, and what is left
-pub record Taken (v d : ℕ) (ds : List ℕ) (k n : ℕ) : Type 0 where
+-- a digit more, after so many of the value v: what it makes of them, and what is left of digits that are `all` digits or not
+pub record Taken (v d : ℕ) (ds : List ℕ) (k n : ℕ) (all : Bool) : Type 0 where
   pub below : v * 10 + (d - 48) < 10 ^ (k + 1)
-  pub digits : IsTrue (list_all is_digit ds)
+  pub digits : list_all is_digit ds ≡ all
   pub value : (v * 10 + (d - 48)) * 10 ^ length ds + value ds ≡ n
 
-pub taken : (v d : ℕ) (ds : List ℕ) (k n : ℕ) → v < 10 ^ k → IsTrue (list_all is_digit (d ∷ ds)) → v * 10 ^ length (d ∷ ds) + value (d ∷ ds) ≡ n → Taken v d ds k n
-taken v d ds k n below digits same =
-    let p = both (is_digit d) (list_all is_digit ds) digits in
+pub taken : (v d : ℕ) (ds : List ℕ) (k n : ℕ) (all : Bool) → v < 10 ^ k → is_digit d ≡ true → list_all is_digit (d ∷ ds) ≡ all → v * 10 ^ length (d ∷ ds) + value (d ∷ ds) ≡ n → Taken v d ds k n all
+taken v d ds k n all below digit digits same =
     let one : length (d ∷ ds) ≡ length ds + 1 = omega arith in
     let more : 10 ^ length (d ∷ ds) ≡ 10 ^ length ds * 10 = ap (λ (k : ℕ). 10 ^ k) one ∙ pow_more 10 (length ds) in
-    let small : d ≤ 57 = grind (arith, nat_tests, p.0) in
+    let small : d ≤ 57 = grind (arith, nat_tests, digit) in
     record {
       below = omega (arith, pow_more 10 k);
-      digits = p.1;
+      digits = ap (λ (b : Bool). b && list_all is_digit ds) (sym digit) ∙ digits;
       value = spread v (d - 48) (10 ^ length ds) (value ds) n (ap (λ (x : ℕ). v * x + ((d - 48) * 10 ^ length ds + value ds)) (sym more) ∙ same);
     }
 

@@ -1,4 +1,4 @@
-ghost use Rattle.std.specs.Prelude.{◌≡◌, ◌≤◌, length, IsTrue};
+ghost use Rattle.std.specs.Prelude.{◌≡◌, ◌≤◌, length, if◌then◌else◌, Some, None};
 ghost use Rattle.std.specs.List.{list_all};
 ghost use Rattle.numeral.specs.Numeral as text;
 
@@ -9,10 +9,10 @@ pub fn numeral(bytes: &[u8], most_digits: usize) -> Option<u128>
     requires { most_digits ≤ 20 }
     ensures { result ≡ text.numeral most_digits bytes.now }
 {
-    if !is_numeral(bytes, most_digits) {
+    if bytes.len() < 1 || bytes.len() > most_digits {
         return None;
     }
-    Some(value_of(bytes))
+    value_of(bytes)
 }
 
 /// The value of 1 to 10 ASCII digits, or `None` exactly where the bytes have another form or the value is past 32 bits.
@@ -35,32 +35,23 @@ fn in_range(value: u128) -> Option<u32>
     Some(value as u32)
 }
 
-fn is_numeral(bytes: &[u8], most_digits: usize) -> bool
-    ensures { result ≡ text.is_numeral most_digits bytes.now }
-{
-    1 <= bytes.len() && bytes.len() <= most_digits && are_digits(bytes)
-}
-
-fn are_digits(bytes: &[u8]) -> bool
-    ensures { result ≡ list_all text.is_digit bytes.now }
-{
-    bytes.iter().all(|b| is_digit(*b))
-}
-
 fn is_digit(b: u8) -> bool
     ensures { result ≡ text.is_digit b }
 {
     b'0' <= b && b <= b'9'
 }
 
-fn value_of(bytes: &[u8]) -> u128
-    requires digits { IsTrue (list_all text.is_digit bytes.now) }
-    requires few { length bytes.now ≤ 20 }
-    ensures { result ≡ text.value bytes.now }
+// The value of digits, or `None` exactly where one of the bytes is none.
+fn value_of(bytes: &[u8]) -> Option<u128>
+    requires { length bytes.now ≤ 20 }
+    ensures { result ≡ if list_all text.is_digit bytes.now then Some (text.value bytes.now) else None }
 {
     let mut value = 0u128;
     for b in bytes {
+        if !is_digit(*b) {
+            return None;
+        }
         value = value * 10 + (*b - b'0') as u128;
     }
-    value
+    Some(value)
 }

@@ -106,7 +106,7 @@ not_earlier [] x k others = refl
 not_earlier (j ∷ items) x k others = elim (j.task.0 == k) as (λ (b : Bool). beats (cond b (Some j) (item_of items k)) (Some x) ≡ false) [ true ↦ others.0 | false ↦ not_earlier items x k others.1 ]
 
 -- the least is the item of its task
-least_item : (items : List Item) (x : Item) → OnePerTask items → least items ≡ Some x → item_of items x.task.0 ≡ Some x
+pub least_item : (items : List Item) (x : Item) → OnePerTask items → least items ≡ Some x → item_of items x.task.0 ≡ Some x
 least_item [] x one e = cc
 least_item (i ∷ items) x one e = go (least items) (λ (y : Item) (m : least items ≡ Some y). least_item items y one.1 m) refl e
   where
@@ -131,7 +131,7 @@ least_item (i ∷ items) x one e = go (least items) (λ (y : Item) (m : least it
     go (Some y) ih m h = chosen y (ih y m) (before y i) h
 
 -- nothing of the list comes before the least
-least_others : (items : List Item) (x : Item) → least items ≡ Some x → AllByRecursion (λ j. before j x ≡ false) items
+pub least_others : (items : List Item) (x : Item) → least items ≡ Some x → AllByRecursion (λ j. before j x ≡ false) items
 least_others [] x e = tt
 least_others (i ∷ items) x e =
     let f : IsFirst (i ∷ items) (first_of_two i (least items)) = least_first i items in

@@ -19,10 +19,11 @@ period w = slice_index periods (w % 12)
 unfoldable pub is_odd : ℕ → Bool
 is_odd i = i % 2 == 1
 
--- how many of n tasks are high, and how many are low
+-- how many of n tasks are high
 abbrev pub high_tasks : ℕ → ℕ
 high_tasks n = (n + 1) / 2
 
+-- how many of n tasks are low
 abbrev pub low_tasks : ℕ → ℕ
 low_tasks n = n / 2
 

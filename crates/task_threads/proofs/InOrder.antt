@@ -37,9 +37,11 @@ none_missing e ps k order missing all =
     let is : k - 1 + 1 ≡ k = omega (arith, a) in
     both_ways (has_pass ps k) (has_at ps k (k - 1) lt (λ d. (order (k - 1) d lt).1 ∙ is)) missing.none
 
--- a start is replaced by one of the same task
-pub replaced : (e : Executive) (n : ℕ) (ss : List Start) (k : ℕ) (s : Start) → k < length ss → GoDown e n ss → IsStartOf e (n - k) s → GoDown e n (slice_set ss k s)
-replaced e n ss k s inside down is i d lt =
+-- of n starts one is replaced by another of its task
+pub replaced : (e : Executive) (n m : ℕ) (ss : List Start) (k : ℕ) (s : Start) → m ≡ n → length ss ≡ n → k < m → GoDown e n ss → IsStartOf e (m - k) s → GoDown e n (slice_set ss k s)
+replaced e n m ss k s same_number len below down is i d lt =
+    let inside : k < length ss = omega (arith, same_number, len, below) in
+    let here : IsStartOf e (n - k) s = subst (λ (l : ℕ). IsStartOf e (l - k) s) same_number is in
     dite (ℕ_discrete i k)
-    (λ same. subst (λ (j : ℕ). IsStartOf e (n - j) (slice_index_or (slice_set ss k s) j d)) (sym same) (subst (IsStartOf e (n - k)) (sym (get_or-set_same ss k s d inside)) is))
+    (λ same. subst (λ (j : ℕ). IsStartOf e (n - j) (slice_index_or (slice_set ss k s) j d)) (sym same) (subst (IsStartOf e (n - k)) (sym (get_or-set_same ss k s d inside)) here))
     (λ other. subst (IsStartOf e (n - i)) (sym (get_or-set_other ss k i s d other)) (down i d (subst (λ (m : ℕ). i < m) (length-set ss k s) lt)))

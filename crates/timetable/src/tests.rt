@@ -1,6 +1,9 @@
 ghost use Rattle.std.specs.Prelude.{◌≡◌, true, None, IfOk};
 ghost use Rattle.timetable.specs.Floor.{is_planned};
 
+mod plain_core;
+mod side_by_side;
+
 use crate::{Act, ActFault, Floor, Plan, PlanFault};
 use admission::admit;
 use load_sum::sum_loads;

@@ -1,12 +1,12 @@
 -- The rows of a trace, by its first record and by any list of its records.
-use Rattle.std.proofs.Common.{◌≡◌, ℕ, Bool, true, false, cond, List, [], ◌∷◌, Result, Ok, Err, ap}
+use Rattle.std.proofs.Common.{◌≡◌, ℕ, Bool, true, false, cond, List, [], ◌∷◌, Err, ap}
 use Rattle.csv.specs.Reading.{AreRecords, default_config, records, strip_bom}
 use Rattle.csv.specs.declared.parser.State.TheVariants as st
 use Rattle.mc_task.specs.declared.task.Task.{Task}
 use Rattle.trace_format.specs.declared.fault.TraceCause.TheVariants.{Header}
 use Rattle.trace_format.specs.declared.fault.TraceFault.TheVariants.{At}
 use Rattle.trace_format.specs.TraceFile.{is_header, rows_from, rows_of, trace_file}
-use Rattle.trace_format.proofs.RecordLemmas.{records_are, same_records}
+use Rattle.csv_records.proofs.RecordLemmas.{records_are, same_records}
 
 -- another first record is refused
 pub no_header : (set : List Task) (f : List (List ℕ)) (fs : List (List (List ℕ))) → is_header f ≡ false → rows_of set (f ∷ fs) ≡ Err (At 1 Header)

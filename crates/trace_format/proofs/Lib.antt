@@ -1,7 +1,4 @@
-pub mod NameLemmas
-pub mod FoundLemmas
 pub mod FileLemmas
-pub mod RecordLemmas
 pub mod RowsOfSet
 pub mod TickLemmas
 pub mod LineLemmas

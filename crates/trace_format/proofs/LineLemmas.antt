@@ -1,5 +1,5 @@
 -- The records of a written text.
-use Rattle.std.proofs.Common.{◌≡◌, ℕ, ◌+◌, ◌^◌, ◌≤◌, ◌<◌, Bool, true, false, ◌&&◌, ◌||◌, ◌==◌, nat_le, List, [], ◌∷◌, ◌++◌, Option, Some, All, IsTrue, refl, sym, ap, ◌∙◌, subst, arith, length, append_assoc, decimal, codes}
+use Rattle.std.proofs.Common.{◌≡◌, ℕ, ◌+◌, ◌^◌, ◌≤◌, ◌<◌, Bool, true, false, ◌&&◌, nat_le, List, [], ◌∷◌, ◌++◌, Some, IsTrue, refl, sym, ap, ◌∙◌, arith, length, append_assoc, decimal, codes}
 use Rattle.std.proofs.lemmas.Bool.Decides.{nat_tests}
 use Rattle.std.specs.List.{list_any, list_all, AllByRecursion}
 use Rattle.csv.specs.Machine.{next_record}
@@ -11,15 +11,15 @@ use Rattle.numeral.specs.Numeral.{is_digit}
 use Rattle.numeral.proofs.NumeralLemmas.{digits-decimal}
 use Rattle.mc_task.specs.declared.task.Task.{Task}
 use Rattle.mc_task.specs.NameForm.{is_name, is_name_byte}
-use Rattle.mc_task.specs.TaskSet.{IsSet, task_at}
+use Rattle.mc_task.specs.TaskSet.{IsSet, name_in, task_at}
 use Rattle.mc_model.specs.Rows.{ticks}
-use Rattle.mc_model.specs.TraceText.{how_word, kept_word, name_in, line_of, row_line, lines_after, trace_text}
+use Rattle.mc_model.specs.TraceText.{how_word, kept_word, line_of, row_line, lines_after, trace_text}
 use Rattle.mc_model.specs.declared.row.How.{How}
 use Rattle.mc_model.specs.declared.row.How.TheVariants.{More, Done, Stop, Over}
 use Rattle.mc_model.specs.declared.row.Row.{Row}
 use Rattle.mc_model.specs.declared.row.Row.TheVariants.{Release, Tick, Idle}
 use Rattle.trace_format.specs.Writable.{IsWritable}
-use Rattle.trace_format.proofs.FoundLemmas.{found_by_name}
+use Rattle.mc_task.proofs.NamedLemmas.{found_by_name}
 use Rattle.mc_model.proofs.Ticks.{ticks-append}
 
 -- the fields of a row's line

@@ -16,11 +16,10 @@ use Rattle.trace_format.specs.declared.event.Event.{Event}
 use Rattle.trace_format.specs.declared.event.Event.TheVariants as event
 use Rattle.trace_format.specs.declared.fault.TraceCause.{TraceCause}
 use Rattle.trace_format.specs.declared.fault.TraceCause.TheVariants.{BadRecord, Header, WrongTick, TooMany}
-use Rattle.trace_format.specs.declared.fault.TraceFault.{TraceFault}
 use Rattle.trace_format.specs.declared.fault.TraceFault.TheVariants.{At}
 use Rattle.trace_format.specs.Events.{field, event_of}
 use Rattle.trace_format.specs.TraceFile.{is_header, numbered_job, named_job, job_of, row_with, idle_row, event_row, record_row, rows_with, rows_from, rows_of, trace_file}
-use Rattle.trace_format.proofs.NameLemmas.{found}
+use Rattle.mc_task.proofs.NamedLemmas.{found}
 
 -- a numbered job is of its task
 numbered : (due task : ℕ) (tick count : Option ℕ) (j : JobId) → numbered_job due task tick count ≡ Ok j → j.task.0 ≡ task

@@ -1,5 +1,5 @@
 -- The records of a written text give its rows.
-use Rattle.std.proofs.Common.{◌≡◌, ℕ, ◌+◌, ◌^◌, ◌≤◌, ◌<◌, Bool, true, false, ◌==◌, nat_le, List, [], ◌∷◌, ◌++◌, Option, Some, Result, Ok, Err, All, refl, sym, ap, ◌∙◌, subst, arith, length, append_assoc, decimal, codes}
+use Rattle.std.proofs.Common.{◌≡◌, ℕ, ◌+◌, ◌^◌, ◌≤◌, ◌<◌, true, false, ◌==◌, nat_le, List, [], ◌∷◌, ◌++◌, Ok, All, refl, sym, ap, ◌∙◌, arith, length, append_assoc}
 use Rattle.std.proofs.lemmas.Bool.Decides.{nat_tests}
 use Rattle.std.proofs.lemmas.List.{append-nil, length-append}
 use Rattle.std.proofs.lemmas.List.Elements.{recursion_from_All}
@@ -11,15 +11,14 @@ use Rattle.mc_task.specs.declared.task.Task.{Task}
 use Rattle.mc_task.specs.TaskSet.{IsSet}
 use Rattle.mc_model.specs.Rows.{ticks}
 use Rattle.mc_model.specs.TraceText.{trace_text}
-use Rattle.mc_model.specs.declared.row.How.{How}
 use Rattle.mc_model.specs.declared.row.How.TheVariants.{More, Done, Stop, Over}
 use Rattle.mc_model.specs.declared.row.Row.{Row}
 use Rattle.mc_model.specs.declared.row.Row.TheVariants.{Release, Tick, Idle}
 use Rattle.trace_format.specs.Events.{event_of, release_event, tick_event, idle_event}
 use Rattle.trace_format.specs.TraceFile.{event_row, record_row, rows_with, rows_from, rows_of, trace_file}
 use Rattle.trace_format.specs.Writable.{IsWritable}
-use Rattle.trace_format.proofs.FoundLemmas.{found_by_name}
-use Rattle.trace_format.proofs.RecordLemmas.{same_records, records_are}
+use Rattle.mc_task.proofs.NamedLemmas.{found_by_name}
+use Rattle.csv_records.proofs.RecordLemmas.{same_records, records_are}
 use Rattle.trace_format.proofs.LineLemmas.{row_fields, fields_after, header_fields, ticks-one, written_records}
 
 same_tick : (n : ℕ) → (n == n) ≡ true

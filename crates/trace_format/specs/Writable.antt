@@ -1,5 +1,5 @@
 -- Which rows can be written for a set.
-use Rattle.std.specs.Prelude.{ℕ, ◌<◌, ◌^◌, List}
+use Rattle.std.specs.Prelude.{◌<◌, ◌^◌, List}
 use Rattle.mc_task.specs.declared.task.Task.{Task}
 use Rattle.mc_task.specs.TaskSet.{IsIn}
 use Rattle.mc_model.specs.declared.row.Row.{Row}

@@ -1,4 +1,4 @@
-ghost use Rattle.std.specs.Prelude.{◌≡◌, ◌≤◌, ℕ, List, [], ◌∷◌, All, IfOk, OnOk, IfErr, length};
+ghost use Rattle.std.specs.Prelude.{◌≡◌, ◌≤◌, ◌+◌, ℕ, List, [], ◌∷◌, All, IfOk, OnOk, IfErr, length};
 ghost use Rattle.csv.specs.Records.{fields_of};
 ghost use Rattle.mc_task.specs.declared.task.Task.{Task};
 ghost use Rattle.mc_model.specs.Legal.{IsOfSet};
@@ -9,7 +9,8 @@ ghost use Rattle.trace_format.specs.Reading.{AreRead};
 use crate::record::{is_header, record_row};
 use crate::write::tick_after;
 use crate::{TraceCause, TraceFault};
-use csv::{ByteRecord, ReaderBuilder};
+use csv::ByteRecord;
+use csv_records::Records;
 use mc_model::Row;
 use mc_task::TaskSet;
 use std::alloc::Global;
@@ -25,32 +26,30 @@ pub fn read_trace(alloc: Global, set: &TaskSet, bytes: &[u8]) -> Result<Vec<Row>
     ensures tasks { IfOk result (λ rows. All (IsOfSet set.now) rows.items) }
     ensures few { IfOk result (λ rows. length rows.items ≤ 2000000) }
 {
-    let rdr = ReaderBuilder::new()
-        .has_headers(false)
-        .flexible(true)
-        .from_reader(alloc, bytes);
-    let mut records = rdr.into_byte_records();
-    match records.next() {
-        None => return Err(NO_HEADER),
-        Some(Err(_)) => return Err(TraceFault::Memory),
-        Some(Ok(fields)) => {
+    let mut records = Records::new(alloc, bytes);
+    // One record for all of them, so that a row takes no memory beside its place in the list.
+    let mut fields = ByteRecord::new(alloc);
+    match records.next(&mut fields) {
+        Err(_) => return Err(TraceFault::Memory),
+        Ok(false) => return Err(NO_HEADER),
+        Ok(true) => {
             if !is_header(&fields) {
                 return Err(NO_HEADER);
             }
         }
     }
     let mut reading = Reading::new(alloc);
-    for record in records {
-        match record {
+    'records: loop {
+        match records.next(&mut fields) {
             Err(_) => return Err(TraceFault::Memory),
-            Ok(fields) => {
+            Ok(false) => return Ok(reading.rows),
+            Ok(true) => {
                 if let Err(fault) = take(&mut reading, set, &fields) {
                     return Err(fault);
                 }
             }
         }
     }
-    Ok(reading.rows)
 }
 
 const NO_HEADER: TraceFault = TraceFault::At {
@@ -83,6 +82,7 @@ fn take(reading: &mut Reading, set: &TaskSet, fields: &ByteRecord) -> Result<(),
     ensures ok { OnOk result ((fs : List (List (List ℕ))) → file.rows_from set.now fs reading.new.rows.items ≡ file.rows_from set.now (fields_of fields.now ∷ fs) reading.old.rows.items) }
     ensures err { IfErr result (λ e. (fs : List (List (List ℕ))) → Fails e (file.rows_from set.now (fields_of fields.now ∷ fs) reading.old.rows.items)) }
     ensures read { OnOk result (AreRead set.now reading.new) }
+    ensures one { OnOk result (length reading.new.rows.items ≡ length reading.old.rows.items + 1) }
 {
     match record_row(set, &reading.rows, reading.due, fields) {
         Err(cause) => Err(TraceFault::At {

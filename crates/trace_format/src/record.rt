@@ -101,7 +101,6 @@ fn idle_row(due: u32, tick: Option<u32>) -> Result<Row, TraceCause>
     Ok(Row::Idle)
 }
 
-#[tactic(auto, using(crate::proofs::NameLemmas::found))]
 fn job_of(set: &TaskSet, due: u32, fields: &ByteRecord) -> Result<JobId, TraceCause>
     ensures job { result ≡ file.job_of set.now due (fields_of fields.now) }
     ensures task { IfOk result (λ job. IsIn set.now job.task.0) }

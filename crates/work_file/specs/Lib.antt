@@ -2,5 +2,4 @@ pub mod Rows
 pub mod Tracks
 pub mod WorkFile
 pub mod Gives
-pub mod Records
 pub mod Reading

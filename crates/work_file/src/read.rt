@@ -1,18 +1,16 @@
-ghost use Rattle.std.specs.Prelude.{◌≡◌, ◌<◌, ◌≤◌, List, [], IfOk, OnOk, IfErr, length};
-ghost use Rattle.csv.specs.Reading.{owned_rows_left, owned_rows_reader, reader_state, strip_bom};
+ghost use Rattle.std.specs.Prelude.{◌≡◌, ◌≤◌, List, [], IfOk, OnOk, IfErr, length};
 ghost use Rattle.csv.specs.Records.{fields_of};
-ghost use Rattle.csv.specs.declared.parser.State.TheVariants as st;
 ghost use Rattle.mc_task.specs.declared.task.Task.{Task};
 ghost use Rattle.mc_model.specs.Work.{IsWork};
 ghost use Rattle.work_file.specs.Gives.{Gives};
 ghost use Rattle.work_file.specs.Reading.{Adds, AreRead, IsRefused};
-ghost use Rattle.work_file.specs.Records.{StandsAt};
 ghost use Rattle.work_file.specs.WorkFile.{work_in};
 
 use crate::next::NextReleases;
 use crate::record::{is_header, record_row};
 use crate::{Work, WorkCause, WorkFault};
-use csv::{ByteRecord, ByteRecordsIntoIter, ReaderBuilder};
+use csv::ByteRecord;
+use csv_records::Records;
 use mc_model::WorkRow;
 use mc_task::TaskSet;
 use std::alloc::Global;
@@ -29,47 +27,36 @@ pub fn read_work(alloc: Global, set: &TaskSet, bytes: &[u8]) -> Result<Work, Wor
     ensures work { IfOk result (λ work. IsWork set.now work) }
     ensures few { IfOk result (λ work. length work ≤ 1000000) }
 {
-    let mut records = records_of(alloc, bytes);
-    match records.next() {
-        None => return Err(NO_HEADER),
-        Some(Err(_)) => return Err(WorkFault::Memory),
-        Some(Ok(fields)) => {
+    let mut records = Records::new(alloc, bytes);
+    // One record for all of them, so that a row takes no memory beside its place in the list.
+    let mut fields = ByteRecord::new(alloc);
+    match records.next(&mut fields) {
+        Err(_) => return Err(WorkFault::Memory),
+        Ok(false) => return Err(NO_HEADER),
+        Ok(true) => {
             if !is_header(&fields) {
                 return Err(NO_HEADER);
             }
         }
     }
     let mut reading = Reading::new(alloc);
-    for record in records {
-        match record {
+    'records: loop {
+        match records.next(&mut fields) {
             Err(_) => return Err(WorkFault::Memory),
-            Ok(fields) => {
+            Ok(false) => return Ok(Work::from_rows(reading.rows)),
+            Ok(true) => {
                 if let Err(fault) = reading.take(set, &fields) {
                     return Err(fault);
                 }
             }
         }
     }
-    Ok(Work::from_rows(reading.rows))
 }
 
 const NO_HEADER: WorkFault = WorkFault::At {
     line: 1,
     cause: WorkCause::Header,
 };
-
-// The records of a file, from the first on.
-fn records_of(alloc: Global, bytes: &[u8]) -> ByteRecordsIntoIter<&[u8]>
-    ensures stands { StandsAt (owned_rows_reader result) (strip_bom bytes.now) }
-    ensures state { reader_state (owned_rows_reader result) ≡ st.StartRecord }
-    ensures left { 0 < owned_rows_left result }
-{
-    let rdr = ReaderBuilder::new()
-        .has_headers(false)
-        .flexible(true)
-        .from_reader(alloc, bytes);
-    rdr.into_byte_records()
-}
 
 // The rows so far.
 #[derive(Drop)]

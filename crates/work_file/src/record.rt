@@ -67,7 +67,6 @@ pub fn record_row(
 }
 
 // The row that three fields say.
-#[tactic(auto, using(crate::proofs::NameLemmas::found))]
 fn row_of(set: &TaskSet, fields: &ByteRecord) -> Result<WorkRow, WorkCause>
     ensures row { result ≡ file.row_of set.now (fields_of fields.now) }
     ensures task { IfOk result (λ row. IsIn set.now row.task.0) }

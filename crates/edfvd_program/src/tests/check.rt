@@ -1,13 +1,12 @@
-use super::{AVIONICS, CONTROL, CONTROL_TEXT, shelf_of, words_of};
-use crate::edfvd::edfvd;
-use executive::QuietGate;
-use mc_world::MemorySink;
+use super::outside::{Outside, assert_ends};
+use super::{AVIONICS, CONTROL, CONTROL_TEXT};
+use std::alloc::{AllocError, Global};
 use std::test::Fail;
+
+const CHECK: [&str; 2] = ["check", "tasks.toml"];
 
 #[test]
 fn task_files_get_their_status_and_text(rt: HostRuntime) -> Result<(), Fail> {
-    let alloc = rt.alloc();
-    let words = words_of(alloc, &["check", "tasks.toml"])?;
     let cases = [
         (CONTROL, 0, CONTROL_TEXT),
         (
@@ -102,110 +101,93 @@ fn task_files_get_their_status_and_text(rt: HostRuntime) -> Result<(), Fail> {
         ),
     ];
     for (file, status, text) in cases {
-        let mut shelf = shelf_of(alloc, file.as_bytes(), &[])?;
-        let mut sink = MemorySink::new(alloc, 1000, 1000, Vec::new(alloc))?;
-        let ended = edfvd(&rt, alloc, &words, &mut shelf, &mut sink, &QuietGate);
-        assert_eq!(rt; ended, status, "{file}");
-        assert_eq!(rt; sink.written(), text.as_bytes(), "{file}");
+        assert_ends(
+            &rt,
+            rt.alloc(),
+            &CHECK,
+            &Outside::new(file, ""),
+            status,
+            text,
+        )?;
     }
     Ok(())
 }
 
 #[test]
 fn faults_and_limits_have_their_own_status(rt: HostRuntime) -> Result<(), Fail> {
-    let alloc = rt.alloc();
-    let words = words_of(alloc, &["check", "tasks.toml"])?;
-    let absent = words_of(alloc, &["check", "absent.toml"])?;
-    let long = vec![in alloc; b'\n'; 16_777_217]?;
-    let control = CONTROL.as_bytes();
-    let none: [u64; 0] = [];
-    let cases = [
-        (
-            &words,
-            control,
-            [1].as_slice(),
-            none.as_slice(),
-            7,
-            "read fault on file 1\n",
-        ),
-        (
-            &words,
-            control,
-            [2].as_slice(),
-            none.as_slice(),
-            0,
-            CONTROL_TEXT,
-        ),
-        (
-            &absent,
-            control,
-            none.as_slice(),
-            none.as_slice(),
-            7,
-            "read fault on file 1\n",
-        ),
-        (
-            &words,
-            long.as_slice(),
-            none.as_slice(),
-            none.as_slice(),
-            7,
-            "file 1 is longer than 16777216 bytes\n",
-        ),
-        (
-            &words,
-            &long[1..],
-            none.as_slice(),
-            none.as_slice(),
-            3,
-            "task file: no tasks\n",
-        ),
-        (
-            &words,
-            control,
-            none.as_slice(),
-            [2].as_slice(),
-            8,
-            "tasks 2\n",
-        ),
-    ];
-    for (words, bytes, fetch_fails, write_fails, status, text) in cases {
-        let mut shelf = shelf_of(alloc, bytes, fetch_fails)?;
-        let mut sink = MemorySink::new(alloc, 1000, 8, write_fails.to_vec(alloc)?)?;
-        let ended = edfvd(&rt, alloc, words, &mut shelf, &mut sink, &QuietGate);
-        assert_eq!(rt; ended, status, "{text}");
-        assert_eq!(rt; sink.written(), text.as_bytes());
-    }
-    Ok(())
+    let long = vec![in rt.alloc(); b'\n'; 16_777_217]?;
+    let set = Outside::new(CONTROL, "");
+    let fails = Outside {
+        failed_fetches: &[1],
+        ..set
+    };
+    assert_ends(&rt, rt.alloc(), &CHECK, &fails, 7, "read fault on file 1\n")?;
+    let fails = Outside {
+        failed_fetches: &[2],
+        ..set
+    };
+    assert_ends(&rt, rt.alloc(), &CHECK, &fails, 0, CONTROL_TEXT)?;
+    assert_ends(
+        &rt,
+        rt.alloc(),
+        &["check", "absent.toml"],
+        &set,
+        7,
+        "read fault on file 1\n",
+    )?;
+    let longer = Outside {
+        tasks: &long,
+        ..set
+    };
+    assert_ends(
+        &rt,
+        rt.alloc(),
+        &CHECK,
+        &longer,
+        7,
+        "file 1 is longer than 16777216 bytes\n",
+    )?;
+    let empty = Outside {
+        tasks: &long[1..],
+        ..set
+    };
+    assert_ends(&rt, rt.alloc(), &CHECK, &empty, 3, "task file: no tasks\n")?;
+    let stuck = Outside {
+        most: 8,
+        failed_writes: &[2],
+        ..set
+    };
+    assert_ends(&rt, rt.alloc(), &CHECK, &stuck, 8, "tasks 2\n")
 }
 
-#[test]
-fn a_file_with_129_tasks_is_told_their_number(rt: HostRuntime) -> Result<(), Fail> {
-    let alloc = rt.alloc();
-    let words = words_of(alloc, &["check", "tasks.toml"])?;
+// A file of so many tasks.
+fn many_tasks(alloc: Global, count: u32) -> Result<String, AllocError> {
     let mut file = String::new(alloc);
-    for k in 0..129u32 {
+    for k in 0..count {
         let task = format!(in alloc;
             "[[task]]\nname = 't{k}'\nlevel = 'low'\nperiod = 10\nlow = 1\n"
         )?;
         file.push_str(task.as_str())?;
     }
-    let mut shelf = shelf_of(alloc, file.as_bytes(), &[])?;
-    let mut sink = MemorySink::new(alloc, 1000, 1000, Vec::new(alloc))?;
-    assert_eq!(rt;
-        edfvd(&rt, alloc, &words, &mut shelf, &mut sink, &QuietGate),
-        3
-    );
-    assert_eq!(rt;
-        sink.written(),
-        b"task file: 129 tasks, at most 128\n".as_slice()
-    );
-    Ok(())
+    Ok(file)
+}
+
+#[test]
+fn a_file_with_129_tasks_is_told_their_number(rt: HostRuntime) -> Result<(), Fail> {
+    let file = many_tasks(rt.alloc(), 129)?;
+    let refusal = "task file: 129 tasks, at most 128\n";
+    assert_ends(
+        &rt,
+        rt.alloc(),
+        &CHECK,
+        &Outside::new(&file, ""),
+        3,
+        refusal,
+    )
 }
 
 #[test]
 fn words_of_no_form_get_the_usage_line(rt: HostRuntime) -> Result<(), Fail> {
-    let alloc = rt.alloc();
     let usage =
         "usage: check TASKS | run TASKS WORK TICKS | judge TASKS TRACE [P Q] | chart TASKS TRACE | report TASKS TRACE | soak NUMBER TASKCOUNT TICKS\n";
     let lines = [
@@ -235,15 +217,12 @@ fn words_of_no_form_get_the_usage_line(rt: HostRuntime) -> Result<(), Fail> {
         &["report", "tasks.toml", "trace.csv", "1"],
         &["--help"],
     ];
+    let outside = Outside {
+        failed_fetches: &[1],
+        ..Outside::new(CONTROL, "")
+    };
     for words in lines {
-        let words = words_of(alloc, words)?;
-        let mut shelf = shelf_of(alloc, CONTROL.as_bytes(), &[1])?;
-        let mut sink = MemorySink::new(alloc, 1000, 1000, Vec::new(alloc))?;
-        assert_eq!(rt;
-            edfvd(&rt, alloc, &words, &mut shelf, &mut sink, &QuietGate),
-            2
-        );
-        assert_eq!(rt; sink.written(), usage.as_bytes());
+        assert_ends(&rt, rt.alloc(), words, &outside, 2, usage)?;
     }
     Ok(())
 }

@@ -1,13 +1,25 @@
-use super::{AVIONICS, AVIONICS_WORK, CONTROL, HEADER, LOW_FIRST, two_files, words_of};
-use crate::edfvd::edfvd;
-use executive::QuietGate;
-use mc_world::MemorySink;
+use super::outside::{Outside, assert_ends, ended};
+use super::{AVIONICS, AVIONICS_WORK, CONTROL, HEADER, LOW_FIRST};
 use std::test::Fail;
+
+const JUDGE: [&str; 3] = ["judge", "tasks.toml", "second.csv"];
+
+const UNDER_HALF: [&str; 5] = ["judge", "tasks.toml", "second.csv", "1", "2"];
+
+const TOO_HIGH: &str = "task = [
+    {name='tap', level='low', period=2, low=1},
+    {name='arm', level='high', period=4, low=1, high=4},
+]";
+
+const LONG_PERIODS: &str = "task = [
+    {name='a', level='low', period=4294967295, low=1},
+    {name='b', level='low', period=4294967294, low=1},
+]";
 
 #[test]
 fn traces_get_their_verdict(rt: HostRuntime) -> Result<(), Fail> {
     let alloc = rt.alloc();
-    let plain = ["judge", "tasks.toml", "second.csv"];
+    let plain = JUDGE;
     let scaled = ["judge", "tasks.toml", "second.csv", "1", "1"];
     let cases = [
         (
@@ -38,16 +50,15 @@ fn traces_get_their_verdict(rt: HostRuntime) -> Result<(), Fail> {
         ),
     ];
     for (words, rows, status, text) in cases {
-        let words = words_of(alloc, words)?;
         let trace = format!(in alloc; "{HEADER}{rows}")?;
-        let mut shelf = two_files(alloc, CONTROL.as_bytes(), trace.as_bytes(), &[])?;
-        let mut sink = MemorySink::new(alloc, 1000, 1000, Vec::new(alloc))?;
-        assert_eq!(rt;
-            edfvd(&rt, alloc, &words, &mut shelf, &mut sink, &QuietGate),
+        assert_ends(
+            &rt,
+            rt.alloc(),
+            words,
+            &Outside::new(CONTROL, &trace),
             status,
-            "{rows}"
-        );
-        assert_eq!(rt; sink.written(), text.as_bytes(), "{rows}");
+            text,
+        )?;
     }
     Ok(())
 }
@@ -55,7 +66,6 @@ fn traces_get_their_verdict(rt: HostRuntime) -> Result<(), Fail> {
 #[test]
 fn traces_are_refused_by_line(rt: HostRuntime) -> Result<(), Fail> {
     let alloc = rt.alloc();
-    let words = words_of(alloc, &["judge", "tasks.toml", "second.csv"])?;
     let cases = [
         ("", "1: header is not event,tick,task,job,how\n"),
         ("idle,0,,,\n", "1: header is not event,tick,task,job,how\n"),
@@ -91,14 +101,14 @@ fn traces_are_refused_by_line(rt: HostRuntime) -> Result<(), Fail> {
     ];
     for (trace, end) in cases {
         let text = format!(in alloc; "trace line {end}")?;
-        let mut shelf = two_files(alloc, CONTROL.as_bytes(), trace.as_bytes(), &[])?;
-        let mut sink = MemorySink::new(alloc, 1000, 1000, Vec::new(alloc))?;
-        assert_eq!(rt;
-            edfvd(&rt, alloc, &words, &mut shelf, &mut sink, &QuietGate),
+        assert_ends(
+            &rt,
+            rt.alloc(),
+            &JUDGE,
+            &Outside::new(CONTROL, trace),
             5,
-            "{trace}"
-        );
-        assert_eq!(rt; sink.written(), text.as_bytes());
+            &text,
+        )?;
     }
     // A number of ten digits is taken, and a header without its line feed.
     let good = [
@@ -106,152 +116,102 @@ fn traces_are_refused_by_line(rt: HostRuntime) -> Result<(), Fail> {
         "event,tick,task,job,how",
     ];
     for trace in good {
-        let mut shelf = two_files(alloc, CONTROL.as_bytes(), trace.as_bytes(), &[])?;
-        let mut sink = MemorySink::new(alloc, 1000, 1000, Vec::new(alloc))?;
-        assert_eq!(rt;
-            edfvd(&rt, alloc, &words, &mut shelf, &mut sink, &QuietGate),
+        assert_ends(
+            &rt,
+            rt.alloc(),
+            &JUDGE,
+            &Outside::new(CONTROL, trace),
             0,
-            "{trace}"
-        );
-        assert_eq!(rt; sink.written(), b"legal late 0\n".as_slice());
+            "legal late 0\n",
+        )?;
     }
     Ok(())
 }
 
-const TOO_HIGH: &str = "task = [
-    {name='tap', level='low', period=2, low=1},
-    {name='arm', level='high', period=4, low=1, high=4},
-]";
-
-const LONG_PERIODS: &str = "task = [
-    {name='a', level='low', period=4294967295, low=1},
-    {name='b', level='low', period=4294967294, low=1},
-]";
-
 #[test]
 fn only_a_given_scale_judges_sets_that_the_test_refuses(rt: HostRuntime) -> Result<(), Fail> {
-    let alloc = rt.alloc();
-    let plain = ["judge", "tasks.toml", "second.csv"];
-    let scaled = ["judge", "tasks.toml", "second.csv", "1", "2"];
-    let none: [u64; 0] = [];
-    let cases = [
-        (
-            plain.as_slice(),
-            TOO_HIGH,
-            [2].as_slice(),
-            1,
-            "not admitted: U_LL 1/2 U_HL 1/4 U_HH 1/1\n",
-        ),
-        (
-            scaled.as_slice(),
-            TOO_HIGH,
-            none.as_slice(),
-            0,
-            "legal late 0\n",
-        ),
-        (
-            plain.as_slice(),
-            LONG_PERIODS,
-            [2].as_slice(),
-            3,
-            "task file: task 2: periods out of range\n",
-        ),
-        (
-            scaled.as_slice(),
-            LONG_PERIODS,
-            none.as_slice(),
-            0,
-            "legal late 0\n",
-        ),
-        (
-            scaled.as_slice(),
-            "",
-            none.as_slice(),
-            3,
-            "task file: no tasks\n",
-        ),
-        (
-            plain.as_slice(),
-            CONTROL,
-            [1].as_slice(),
-            7,
-            "read fault on file 1\n",
-        ),
-        (
-            scaled.as_slice(),
-            CONTROL,
-            [2].as_slice(),
-            7,
-            "read fault on file 2\n",
-        ),
-    ];
-    for (words, tasks, fails, status, text) in cases {
-        let words = words_of(alloc, words)?;
-        let mut shelf = two_files(alloc, tasks.as_bytes(), HEADER.as_bytes(), fails)?;
-        let mut sink = MemorySink::new(alloc, 1000, 1000, Vec::new(alloc))?;
-        assert_eq!(rt;
-            edfvd(&rt, alloc, &words, &mut shelf, &mut sink, &QuietGate),
-            status,
-            "{text}"
-        );
-        assert_eq!(rt; sink.written(), text.as_bytes());
-    }
-    Ok(())
+    let too_high = Outside::new(TOO_HIGH, HEADER);
+    assert_ends(&rt, rt.alloc(), &UNDER_HALF, &too_high, 0, "legal late 0\n")?;
+    let long_periods = Outside::new(LONG_PERIODS, HEADER);
+    assert_ends(
+        &rt,
+        rt.alloc(),
+        &UNDER_HALF,
+        &long_periods,
+        0,
+        "legal late 0\n",
+    )?;
+    let no_tasks = Outside::new("", HEADER);
+    assert_ends(
+        &rt,
+        rt.alloc(),
+        &UNDER_HALF,
+        &no_tasks,
+        3,
+        "task file: no tasks\n",
+    )?;
+    // Without a scale the second file is not asked for.
+    let fails = Outside {
+        failed_fetches: &[2],
+        ..too_high
+    };
+    assert_ends(
+        &rt,
+        rt.alloc(),
+        &JUDGE,
+        &fails,
+        1,
+        "not admitted: U_LL 1/2 U_HL 1/4 U_HH 1/1\n",
+    )?;
+    let fails = Outside {
+        failed_fetches: &[2],
+        ..long_periods
+    };
+    assert_ends(
+        &rt,
+        rt.alloc(),
+        &JUDGE,
+        &fails,
+        3,
+        "task file: task 2: periods out of range\n",
+    )?;
+    let control = Outside::new(CONTROL, HEADER);
+    let fails = Outside {
+        failed_fetches: &[1],
+        ..control
+    };
+    assert_ends(&rt, rt.alloc(), &JUDGE, &fails, 7, "read fault on file 1\n")?;
+    let fails = Outside {
+        failed_fetches: &[2],
+        ..control
+    };
+    assert_ends(
+        &rt,
+        rt.alloc(),
+        &UNDER_HALF,
+        &fails,
+        7,
+        "read fault on file 2\n",
+    )
 }
 
 #[test]
 fn the_trace_of_an_avionics_set_is_judged_legal(rt: HostRuntime) -> Result<(), Fail> {
-    let alloc = rt.alloc();
-    let run = words_of(alloc, &["run", "tasks.toml", "second.csv", "20000"])?;
-    let judge = words_of(alloc, &["judge", "tasks.toml", "second.csv"])?;
-    let mut shelf = two_files(alloc, AVIONICS.as_bytes(), AVIONICS_WORK.as_bytes(), &[])?;
-    let mut trace = MemorySink::new(alloc, 1_000_000, 1_000_000, Vec::new(alloc))?;
-    assert_eq!(rt;
-        edfvd(&rt, alloc, &run, &mut shelf, &mut trace, &QuietGate),
-        0
-    );
-    let lines = trace
-        .written()
-        .iter()
-        .filter(|byte| **byte == b'\n')
-        .count();
-    assert_eq!(rt; lines, 20_014);
-    let mut shelf = two_files(alloc, AVIONICS.as_bytes(), trace.written(), &[])?;
-    let mut sink = MemorySink::new(alloc, 1000, 1000, Vec::new(alloc))?;
-    assert_eq!(rt;
-        edfvd(&rt, alloc, &judge, &mut shelf, &mut sink, &QuietGate),
-        0
-    );
-    assert_eq!(rt; sink.written(), b"legal late 0\n".as_slice());
-    Ok(())
-}
-
-#[test]
-fn two_million_rows_are_taken_and_one_more_is_not(rt: HostRuntime) -> Result<(), Fail> {
-    let alloc = rt.alloc();
-    let words = words_of(alloc, &["judge", "tasks.toml", "second.csv"])?;
-    let mut trace = String::from_str(alloc, HEADER)?;
-    for tick in 0..2_000_000u32 {
-        let line = format!(in alloc; "idle,{tick},,,\n")?;
-        trace.push_str(line.as_str())?;
-    }
-    let mut shelf = two_files(alloc, CONTROL.as_bytes(), trace.as_bytes(), &[])?;
-    let mut sink = MemorySink::new(alloc, 1000, 1000, Vec::new(alloc))?;
-    assert_eq!(rt;
-        edfvd(&rt, alloc, &words, &mut shelf, &mut sink, &QuietGate),
-        0
-    );
-    assert_eq!(rt; sink.written(), b"legal late 0\n".as_slice());
-    trace.push_str("idle,2000000,,,\n")?;
-    let mut shelf = two_files(alloc, CONTROL.as_bytes(), trace.as_bytes(), &[])?;
-    let mut sink = MemorySink::new(alloc, 1000, 1000, Vec::new(alloc))?;
-    assert_eq!(rt;
-        edfvd(&rt, alloc, &words, &mut shelf, &mut sink, &QuietGate),
-        5
-    );
-    assert_eq!(rt;
-        sink.written(),
-        b"trace line 2000002: more than 2000000 rows\n".as_slice()
-    );
-    Ok(())
+    let words = ["run", "tasks.toml", "second.csv", "20000"];
+    let outside = Outside {
+        room: 1_000_000,
+        most: 1_000_000,
+        ..Outside::new(AVIONICS, AVIONICS_WORK)
+    };
+    let (status, trace) = ended(&rt, rt.alloc(), &words, &outside)?;
+    assert_eq!(rt; status, 0);
+    assert_eq!(rt; trace.as_str().lines().count(), 20_014);
+    assert_ends(
+        &rt,
+        rt.alloc(),
+        &JUDGE,
+        &Outside::new(AVIONICS, &trace),
+        0,
+        "legal late 0\n",
+    )
 }

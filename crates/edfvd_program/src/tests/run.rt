@@ -1,11 +1,8 @@
-use super::{
-    CONTROL, HEADER, OVERRUN, PLAIN_PAIR, QUARTER_SCALE, TAP_AND_ARM, TWO_HIGH_TASKS, two_files,
-    words_of,
-};
-use crate::edfvd::edfvd;
-use executive::QuietGate;
-use mc_world::MemorySink;
+use super::outside::{Outside, assert_ends, ended};
+use super::{CONTROL, HEADER, OVERRUN, PLAIN_PAIR, QUARTER_SCALE, TAP_AND_ARM, TWO_HIGH_TASKS};
 use std::test::Fail;
+
+const WORK_HEADER: &str = "task,release,need\n";
 
 #[test]
 fn runs_write_the_traces_of_the_worked_examples(rt: HostRuntime) -> Result<(), Fail> {
@@ -45,25 +42,24 @@ fn runs_write_the_traces_of_the_worked_examples(rt: HostRuntime) -> Result<(), F
         ),
     ];
     for (tasks, jobs, ticks, rows) in cases {
-        let words = words_of(alloc, &["run", "tasks.toml", "second.csv", ticks])?;
-        let work = format!(in alloc; "task,release,need\n{jobs}")?;
+        let words = ["run", "tasks.toml", "second.csv", ticks];
+        let work = format!(in alloc; "{WORK_HEADER}{jobs}")?;
         let text = format!(in alloc; "{HEADER}{rows}")?;
-        let mut shelf = two_files(alloc, tasks.as_bytes(), work.as_bytes(), &[])?;
-        let mut sink = MemorySink::new(alloc, 1000, 1000, Vec::new(alloc))?;
-        assert_eq!(rt;
-            edfvd(&rt, alloc, &words, &mut shelf, &mut sink, &QuietGate),
+        assert_ends(
+            &rt,
+            rt.alloc(),
+            &words,
+            &Outside::new(tasks, &work),
             0,
-            "{jobs}"
-        );
-        assert_eq!(rt; sink.written(), text.as_bytes(), "{jobs}");
+            &text,
+        )?;
     }
     Ok(())
 }
 
 #[test]
 fn work_files_are_refused_by_name_and_line(rt: HostRuntime) -> Result<(), Fail> {
-    let alloc = rt.alloc();
-    let words = words_of(alloc, &["run", "tasks.toml", "second.csv", "10"])?;
+    let words = ["run", "tasks.toml", "second.csv", "10"];
     let cases = [
         ("", "work file line 1: header is not task,release,need\n"),
         (
@@ -92,86 +88,83 @@ fn work_files_are_refused_by_name_and_line(rt: HostRuntime) -> Result<(), Fail> 
         ),
     ];
     for (work, text) in cases {
-        let mut shelf = two_files(alloc, CONTROL.as_bytes(), work.as_bytes(), &[])?;
-        let mut sink = MemorySink::new(alloc, 1000, 1000, Vec::new(alloc))?;
-        assert_eq!(rt;
-            edfvd(&rt, alloc, &words, &mut shelf, &mut sink, &QuietGate),
+        assert_ends(
+            &rt,
+            rt.alloc(),
+            &words,
+            &Outside::new(CONTROL, work),
             4,
-            "{work}"
-        );
-        assert_eq!(rt; sink.written(), text.as_bytes());
+            text,
+        )?;
     }
     Ok(())
 }
 
 #[test]
 fn runs_have_the_faults_and_limits_of_both_files(rt: HostRuntime) -> Result<(), Fail> {
-    let alloc = rt.alloc();
-    let words = words_of(alloc, &["run", "tasks.toml", "second.csv", "1"])?;
-    let long = vec![in alloc; b'\n'; 16_777_217]?;
-    let header = b"task,release,need\n";
-    let none: [u64; 0] = [];
-    let cases = [
-        (
-            header.as_slice(),
-            none.as_slice(),
-            0,
-            "event,tick,task,job,how\nidle,0,,,\n",
-        ),
-        (
-            header.as_slice(),
-            [1].as_slice(),
-            7,
-            "read fault on file 1\n",
-        ),
-        (
-            header.as_slice(),
-            [2].as_slice(),
-            7,
-            "read fault on file 2\n",
-        ),
-        (
-            long.as_slice(),
-            none.as_slice(),
-            7,
-            "file 2 is longer than 16777216 bytes\n",
-        ),
-    ];
-    for (work, fails, status, text) in cases {
-        let mut shelf = two_files(alloc, CONTROL.as_bytes(), work, fails)?;
-        let mut sink = MemorySink::new(alloc, 1000, 1000, Vec::new(alloc))?;
-        assert_eq!(rt;
-            edfvd(&rt, alloc, &words, &mut shelf, &mut sink, &QuietGate),
-            status,
-            "{text}"
-        );
-        assert_eq!(rt; sink.written(), text.as_bytes());
-    }
+    let words = ["run", "tasks.toml", "second.csv", "1"];
+    let long = vec![in rt.alloc(); b'\n'; 16_777_217]?;
+    let idle = Outside::new(CONTROL, WORK_HEADER);
+    assert_ends(
+        &rt,
+        rt.alloc(),
+        &words,
+        &idle,
+        0,
+        "event,tick,task,job,how\nidle,0,,,\n",
+    )?;
+    let fails = Outside {
+        failed_fetches: &[1],
+        ..idle
+    };
+    assert_ends(&rt, rt.alloc(), &words, &fails, 7, "read fault on file 1\n")?;
+    let fails = Outside {
+        failed_fetches: &[2],
+        ..idle
+    };
+    assert_ends(&rt, rt.alloc(), &words, &fails, 7, "read fault on file 2\n")?;
+    let longer = Outside {
+        second: &long,
+        ..idle
+    };
+    assert_ends(
+        &rt,
+        rt.alloc(),
+        &words,
+        &longer,
+        7,
+        "file 2 is longer than 16777216 bytes\n",
+    )?;
     // A set that is not admitted is refused before the work file is asked for.
-    let refused = "task = [{name='a', level='low', period=1, low=2}]";
-    let mut shelf = two_files(alloc, refused.as_bytes(), header, &[2])?;
-    let mut sink = MemorySink::new(alloc, 1000, 1000, Vec::new(alloc))?;
-    assert_eq!(rt;
-        edfvd(&rt, alloc, &words, &mut shelf, &mut sink, &QuietGate),
-        1
+    let full = Outside::new(
+        "task = [{name='a', level='low', period=1, low=2}]",
+        WORK_HEADER,
     );
-    assert_eq!(rt;
-        sink.written(),
-        b"not admitted: U_LL 2/1 U_HL 0/1 U_HH 0/1\n".as_slice()
-    );
-    Ok(())
+    let fails = Outside {
+        failed_fetches: &[2],
+        ..full
+    };
+    assert_ends(
+        &rt,
+        rt.alloc(),
+        &words,
+        &fails,
+        1,
+        "not admitted: U_LL 2/1 U_HL 0/1 U_HH 0/1\n",
+    )
 }
 
 #[test]
 fn a_million_idle_ticks_are_written(rt: HostRuntime) -> Result<(), Fail> {
     let alloc = rt.alloc();
-    let words = words_of(alloc, &["run", "tasks.toml", "second.csv", "1000000"])?;
-    let mut shelf = two_files(alloc, CONTROL.as_bytes(), b"task,release,need\n", &[])?;
-    let mut sink = MemorySink::new(alloc, 20_000_000, 20_000_000, Vec::new(alloc))?;
-    assert_eq!(rt;
-        edfvd(&rt, alloc, &words, &mut shelf, &mut sink, &QuietGate),
-        0
-    );
-    assert_eq!(rt; sink.written().len(), 14_888_914);
+    let words = ["run", "tasks.toml", "second.csv", "1000000"];
+    let outside = Outside {
+        room: 20_000_000,
+        most: 20_000_000,
+        ..Outside::new(CONTROL, WORK_HEADER)
+    };
+    let (status, written) = ended(&rt, alloc, &words, &outside)?;
+    assert_eq!(rt; status, 0);
+    assert_eq!(rt; written.len(), 14_888_914);
     Ok(())
 }

@@ -1,29 +1,11 @@
-use super::words_of;
-use crate::edfvd::edfvd;
-use executive::QuietGate;
-use mc_world::{MemoryShelf, MemorySink};
-use std::alloc::Global;
-use std::sync::Wait;
+use super::outside::{Outside, assert_ends, ended};
 use std::test::Fail;
-use std::thread::Threads;
-
-// The status of these words, and what is written with it.
-fn soaked<R: Threads + Wait + Sync>(
-    rt: &R,
-    alloc: Global,
-    words: &[&str],
-) -> Result<(u8, String), Fail> {
-    let words = words_of(alloc, words)?;
-    let mut shelf = MemoryShelf::new(alloc, Vec::new(alloc), Vec::new(alloc));
-    let mut sink = MemorySink::new(alloc, 1000, 1000, Vec::new(alloc))?;
-    let status = edfvd(rt, alloc, &words, &mut shelf, &mut sink, &QuietGate);
-    Ok((status, String::from_utf8(sink.written().to_vec(alloc)?)?))
-}
 
 #[test]
 fn a_workload_is_run_and_judged(rt: HostRuntime) -> Result<(), Fail> {
     let alloc = rt.alloc();
-    let (status, text) = soaked(&rt, alloc, &["soak", "7", "8", "20000"])?;
+    let no_files = Outside::new("", "");
+    let (status, text) = ended(&rt, alloc, &["soak", "7", "8", "20000"], &no_files)?;
     assert_eq!(rt; status, 0);
     let mut lines = text.as_str().lines();
     assert_eq!(rt; lines.next(), Some("soak 7 8 20000"));
@@ -35,14 +17,13 @@ fn a_workload_is_run_and_judged(rt: HostRuntime) -> Result<(), Fail> {
     let idle: u64 = numbers.nth(1).unwrap_or("").parse()?;
     assert_eq!(rt; ticks.checked_add(idle), Some(20000));
     // The same call writes the same bytes.
-    let (_, again) = soaked(&rt, alloc, &["soak", "00007", "08", "20000"])?;
+    let (_, again) = ended(&rt, alloc, &["soak", "00007", "08", "20000"], &no_files)?;
     assert_eq!(rt; again.as_str(), text.as_str());
     Ok(())
 }
 
 #[test]
 fn workloads_are_those_of_the_generator(rt: HostRuntime) -> Result<(), Fail> {
-    let alloc = rt.alloc();
     // The texts are those of another program, a plain simulation in fractions, written from the rules alone.
     let cases = [
         (
@@ -63,9 +44,7 @@ fn workloads_are_those_of_the_generator(rt: HostRuntime) -> Result<(), Fail> {
         ),
     ];
     for (words, text) in cases {
-        let (status, written) = soaked(&rt, alloc, &words)?;
-        assert_eq!(rt; status, 0);
-        assert_eq!(rt; written.as_str(), text);
+        assert_ends(&rt, rt.alloc(), &words, &Outside::new("", ""), 0, text)?;
     }
     Ok(())
 }

@@ -1,11 +1,12 @@
 // Releases: written at once, or held while a tick is out.
-ghost use Rattle.std.specs.Prelude.{◌≡◌, ◌∷◌, IsSome, None};
+ghost use Rattle.std.specs.Prelude.{◌≡◌, ◌∷◌, cond, IsSome, None};
 ghost use Rattle.mc_task.specs.TaskSet.{IsIn};
-ghost use Rattle.mc_model.specs.Core.{next_job, keeps, release_row};
+ghost use Rattle.mc_model.specs.Core.{begun, next, next_job, release_row};
+ghost use Rattle.mode_core.specs.declared.answers.Released.TheVariants as released;
 ghost use Rattle.mode_core.specs.Events.{release_refusal, release_answer, after_release, taken, with_release};
 
-use super::{Core, Slot};
-use crate::steps::{keeps, period_of};
+use super::Core;
+use crate::steps::{keeps, note_release};
 use crate::{ReleaseFault, Released};
 use mc_task::{JobId, TaskNo};
 
@@ -40,7 +41,7 @@ impl Core {
                 return Some(ReleaseFault::Running { job });
             }
         }
-        let next = self.slots[task.0 as usize - 1].next;
+        let next = self.next_allowed(task);
         if self.ticks_begun() < next {
             return Some(ReleaseFault::TooSoon { next });
         }
@@ -51,6 +52,14 @@ impl Core {
         }
     }
 
+    // The boundary from which the task may be released.
+    fn next_allowed(&self, task: TaskNo) -> u64
+        requires in_set { IsIn self.now.set task.0 }
+        ensures { result ≡ next self.now task.0 }
+    {
+        self.arrivals.next_allowed(task)
+    }
+
     // A release that is not refused.
     fn take_release(&mut self, task: TaskNo) -> Released
         requires in_set { IsIn self.old.set task.0 }
@@ -59,73 +68,53 @@ impl Core {
         ensures state { self.new ≡ with_release self.old self.old.out (next_job self.old task.0) }
         ensures sound { IsSound self.new }
     {
-        let at = self.ticks_begun();
-        let job = self.next_job(task);
         match self.out {
-            Some(_) => {
-                self.hold(job);
-                Released::Held { job, at }
-            }
-            None => {
-                if self.write(job) {
-                    Released::Kept { job, at }
-                } else {
-                    Released::Dropped { job, at }
-                }
-            }
-        }
-    }
-
-    // The job that a release of the task makes.
-    fn next_job(&self, task: TaskNo) -> JobId
-        requires in_set { IsIn self.now.set task.0 }
-        requires none { release_refusal self.now task.0 ≡ None }
-        ensures { result ≡ next_job self.now task.0 }
-    {
-        JobId {
-            task,
-            count: self.slots[task.0 as usize - 1].count + 1,
+            Some(_) => self.hold(task),
+            None => self.write(task),
         }
     }
 
     // Keeps the release until the tick that is out has its outcome.
-    fn hold(&mut self, job: JobId)
-        requires in_set { IsIn self.old.set job.task.0 }
-        requires none { release_refusal self.old job.task.0 ≡ None }
-        requires is_next { job ≡ next_job self.old job.task.0 }
+    fn hold(&mut self, task: TaskNo) -> Released
+        requires in_set { IsIn self.old.set task.0 }
+        requires none { release_refusal self.old task.0 ≡ None }
         requires out { IsSome self.old.out }
-        ensures state { self.new ≡ record self.old { held = job ∷ self.old.held } }
+        ensures answer { result ≡ released.Held (next_job self.old task.0) (begun self.old) }
+        ensures state { self.new ≡ record self.old { held = next_job self.old task.0 ∷ self.old.held } }
         ensures sound { IsSound self.new }
     {
-        let period = period_of(self.book.set(), job.task);
         let at = self.book.ticks() + 1;
-        self.slots[job.task.0 as usize - 1] = Slot {
-            count: job.count,
-            next: at + u64::from(period),
-        };
+        let job = note_release(&mut self.arrivals, task, at);
         self.held.push_reserved(job);
+        Released::Held { job, at }
     }
 
-    // Writes the row of a release, and answers whether it is kept.
-    fn write(&mut self, job: JobId) -> bool
-        requires in_set { IsIn self.old.set job.task.0 }
-        requires none { release_refusal self.old job.task.0 ≡ None }
-        requires is_next { job ≡ next_job self.old job.task.0 }
+    // Writes the row of the release, which is kept or dropped.
+    fn write(&mut self, task: TaskNo) -> Released
+        requires in_set { IsIn self.old.set task.0 }
+        requires none { release_refusal self.old task.0 ≡ None }
         requires out { self.old.out ≡ None }
-        ensures answer { result ≡ keeps self.old.set self.old.rule self.old.rows job.task.0 }
+        ensures answer { result ≡ taken self.old None task.0 }
         ensures state { self.new ≡ record self.old {
-          rows = release_row self.old.set self.old.rule job self.old.rows ∷ self.old.rows;
+          rows = release_row self.old.set self.old.rule (next_job self.old task.0) self.old.rows ∷ self.old.rows;
         } }
         ensures sound { IsSound self.new }
     {
-        let period = period_of(self.book.set(), job.task);
         let at = self.book.ticks();
-        self.slots[job.task.0 as usize - 1] = Slot {
-            count: job.count,
-            next: at + u64::from(period),
-        };
-        let kept = keeps(&self.book, job.task);
+        let job = note_release(&mut self.arrivals, task, at);
+        let kept = keeps(&self.book, task);
         self.book.push_release(job, kept);
-        kept
+        kept_or_dropped(kept, job, at)
+    }
+}
+
+// A release whose row is written.
+fn kept_or_dropped(kept: bool, job: JobId, at: u64) -> Released
+    ensures { result ≡ cond kept (released.Kept job at) (released.Dropped job at) }
+{
+    if kept {
+        Released::Kept { job, at }
+    } else {
+        Released::Dropped { job, at }
     }
 }

@@ -7,7 +7,7 @@ ghost use Rattle.mc_model.specs.Core.{outcome_of, settle};
 ghost use Rattle.mode_core.specs.Events.{grant_refusal, grant_answer, after_grant, granted, chosen_now, job_in, outcome_refusal, outcome_answer, after_outcome, idle_refusal, idle_answer, after_idle};
 
 use super::Core;
-use crate::steps::{how_of, is_of_task, write_held};
+use crate::steps::{is_of_task, write_held};
 use crate::{GrantFault, Granted, IdleFault, NotOut};
 use mc_model::How;
 use mc_task::{JobId, TaskNo};
@@ -110,26 +110,11 @@ impl Core {
         ensures state { self.new ≡ record self.old { rows = settle self.old done; out = None; held = [] } }
         ensures sound { IsSound self.new }
     {
-        let how = self.how(job, done);
         self.out = None;
-        self.book.push_tick(job, how);
+        let how = self.book.push_tick(job, done);
         write_held(&mut self.book, &self.held);
         self.held.clear();
         how
-    }
-
-    // How the tick that is out ends.
-    fn how(&self, job: JobId, done: bool) -> How
-        requires none { outcome_refusal self.now job ≡ None }
-        ensures { result ≡ outcome_of self.now.set self.now.rule self.now.rows job done }
-    {
-        if done {
-            return How::Done;
-        }
-        match self.book.first() {
-            Some(x) => how_of(&self.book, job, x.used + 1),
-            None => unreachable!(),
-        }
     }
 
     /// Writes an idle tick and answers its number. The mode is low behind it. A refusal changes nothing.

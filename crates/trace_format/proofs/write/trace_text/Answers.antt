@@ -1,4 +1,4 @@
-use Rattle.std.proofs.Common.{arith, ◌≡◌, ◌≤◌, ◌<◌, length, take, All}
+use Rattle.std.proofs.Common.{arith, take}
 use Rattle.std.proofs.lemmas.List.{length-take-le}
 use Rattle.std.proofs.lemmas.List.Elements.{All-more}
 use Rattle.trace_format.specs.Writable.{IsWritable}

@@ -1,10 +1,14 @@
-use Rattle.std.proofs.Common.{All, subst, sym, ap, ◌∙◌, reverse}
-use Rattle.mode_core.specs.Entries.{IsReady, first_entry}
-use Rattle.mode_core.proofs.Opened.{all_ready, first_is}
+use Rattle.std.proofs.Common.{◌≡◌, option_map, subst}
+use Rattle.mc_model.specs.Mode.{high_mode}
+use Rattle.mc_model.specs.Pending.{pending}
+use Rattle.mc_model.specs.Core.{first_to_run}
+use Rattle.mode_core.specs.Entries.{entry}
+use Rattle.mode_core.specs.Written.{Written}
+use Rattle.std.proofs.Common.{reverse}
+use Rattle.mode_core.proofs.FirstJob.{first_told}
 use Rattle.mode_core.proofs.book.Book.first.Goals as goal
 
-pub first_of-requires-clause-ready : goal.first_of-requires-clause-ready
-first_of-requires-clause-ready c = subst (All (IsReady c.self.inside.set)) (sym c.deref.ensures.value) (all_ready c.self.inside c.self.invariant)
-
 pub returns : goal.returns
-returns c = first_is c.self.inside c.args.self.now c.first_of.result c.self.invariant c.self.view_is (c.first_of.ensures ∙ ap (λ ps. first_entry c.self.inside.set c.self.inside.rule c.self.inside.high (reverse ps)) c.deref.ensures.value)
+returns c =
+    subst (λ (w : Written). c.first.result ≡ option_map (entry w.rows) (first_to_run w.set w.rule (high_mode w.rule w.rows) (pending w.set w.rows))) c.self.view_is
+    (first_told (reverse c.self.inside.rows.items) c.self.inside.live c.self.inside.ticks c.first.result c.self.invariant.tasks.each c.self.invariant.holds c.self.invariant.tally c.first.ensures.first c.first.ensures.none)

@@ -1,42 +1,54 @@
-use Rattle.std.proofs.Common.{arith}
+use Rattle.std.proofs.Common.{◌∷◌, Bool, reverse, refl, sym, ap, ◌∙◌, subst, arith}
 use Rattle.mc_model.specs.declared.row.Row.TheVariants as row
-use Rattle.mode_core.proofs.Pendings.{pushed, tally_kept, tally_dropped}
-use Rattle.mode_core.proofs.Opened.{opened_legal, opened_room, waiting_small}
+use Rattle.mc_model.specs.Legal.{Legal}
+use Rattle.mode_core.specs.declared.book.Book.TheInside.{Inside}
+use Rattle.mode_core.specs.Slots.{Slots, waiting}
+use Rattle.mode_core.specs.Written.{Written}
+use Rattle.mode_core.specs.Kept.{IsTally}
+use Rattle.mode_core.proofs.Tally.{slot_free, began, tally_dropped}
+use Rattle.mode_core.proofs.Opened.{opened_legal, opened_room, clock_small, one_more_seen, one_more_kept}
 use Rattle.mode_core.proofs.book.Book.push_release.Goals as goal
 
-pub push_reserved-requires-then-kept : goal.push_reserved-requires-then-kept
-push_reserved-requires-then-kept c =
-    let r = opened_room c.self.inside c.args.self.now c.self.view_is c.requires.room in
-    let s = waiting_small c.self.inside c.self.invariant in
-    let m = c.self.invariant.waiting_room in
-    omega (arith, r, s, m, c.self.inside.pending.ok.0)
+pub begin-requires-clause-in_set : goal.begin-requires-clause-in_set
+begin-requires-clause-in_set c = (opened_legal c.self.inside c.args.self.now (λ w. row.Release c.args.job c.args.kept) c.self.view_is c.requires.legal).0
+
+pub begin-requires-clause-range : goal.begin-requires-clause-range
+begin-requires-clause-range c = let t = clock_small c.self.inside c.self.invariant in omega (arith, t)
+
+pub begin-requires-clause-free : goal.begin-requires-clause-free
+begin-requires-clause-free c =
+    let a = c.self.inside in
+    slot_free a.live.set a.live.rule (reverse a.rows.items) a.ticks a.live.high (waiting a.live) c.args.job c.args.kept c.self.invariant.tasks.each c.self.invariant.holds
+    (opened_legal a c.args.self.now (λ w. row.Release c.args.job c.args.kept) c.self.view_is c.requires.legal) c.self.invariant.tally
 
 pub invariant_of-self : goal.invariant_of-self
 invariant_of-self c =
-    let r = opened_room c.self.inside c.args.self.now c.self.view_is c.requires.room in
-    let l = opened_legal c.self.inside c.args.self.now (row.Release c.args.job c.args.kept) c.self.view_is c.requires.legal in
+    let a = c.self.inside in
+    let s : Slots = a.live in
+    let l = opened_legal a c.args.self.now (λ w. row.Release c.args.job c.args.kept) c.self.view_is c.requires.legal in
     let k = c.if-kept.true in
-    record {
-      tasks = c.self.invariant.tasks;
-      fits = c.self.invariant.fits;
-      tally = tally_kept _ _ _ _ _ _ _ _ c.args.job (rw k at l) (rw k at (pushed (row.Release c.args.job c.args.kept) c.self.inside.rows.items c.push_reserved.new.self.items c.push_reserved.ensures.items)) c.push_reserved-then-kept.ensures.items c.self.invariant.tally;
-      range = c.self.invariant.range;
-      few = omega (arith, r, c.push_reserved.ensures.len, c.push_reserved.new.self.ok.0, c.self.inside.rows.ok.0);
-      room = let m = c.self.invariant.room in omega (arith, m, c.push_reserved.ensures.capacity);
-      waiting_room = let m = c.self.invariant.waiting_room in omega (arith, m, c.push_reserved-then-kept.ensures.capacity);
-    }
+    let e = c.begin.ensures in
+    one_more_kept a _ (row.Release c.args.job c.args.kept) c.self.invariant (opened_room a c.args.self.now c.self.view_is c.requires.room)
+    (record { set = e.same_set; rule = e.same_rule; places = refl; rows = c.push_reserved.ensures.items })
+    c.push_reserved.ensures.capacity
+    (subst (λ (b : Bool). IsTally s.set s.rule (row.Release c.args.job b ∷ reverse a.rows.items) a.ticks c.begin.new.self.high (waiting c.begin.new.self)) (sym k)
+    (began s c.begin.new.self (reverse a.rows.items) a.ticks c.args.job (subst (λ (b : Bool). Legal s.set s.rule (row.Release c.args.job b ∷ reverse a.rows.items)) k l) e c.self.invariant.tally))
+
+pub returns-then-kept : goal.returns-then-kept
+returns-then-kept c =
+    let e = c.begin.ensures in
+    let b : Inside = record c.self.inside { rows = c.push_reserved.new.self; live = c.begin.new.self } in
+    one_more_seen c.self.inside b (row.Release c.args.job c.args.kept) (record { set = e.same_set; rule = e.same_rule; places = refl; rows = c.push_reserved.ensures.items })
+    ∙ ap (λ (w : Written). let v : Written = record w { rows = row.Release c.args.job c.args.kept ∷ w.rows } in v) c.self.view_is
 
 pub invariant_of-self-else-kept : goal.invariant_of-self-else-kept
 invariant_of-self-else-kept c =
-    let r = opened_room c.self.inside c.args.self.now c.self.view_is c.requires.room in
-    let l = opened_legal c.self.inside c.args.self.now (row.Release c.args.job c.args.kept) c.self.view_is c.requires.legal in
+    let a = c.self.inside in
+    let s : Slots = a.live in
+    let l = opened_legal a c.args.self.now (λ w. row.Release c.args.job c.args.kept) c.self.view_is c.requires.legal in
     let k = c.if-kept.false in
-    record {
-      tasks = c.self.invariant.tasks;
-      fits = c.self.invariant.fits;
-      tally = tally_dropped _ _ _ _ _ _ _ c.args.job (rw k at l) (rw k at (pushed (row.Release c.args.job c.args.kept) c.self.inside.rows.items c.push_reserved.new.self.items c.push_reserved.ensures.items)) c.self.invariant.tally;
-      range = c.self.invariant.range;
-      few = omega (arith, r, c.push_reserved.ensures.len, c.push_reserved.new.self.ok.0, c.self.inside.rows.ok.0);
-      room = let m = c.self.invariant.room in omega (arith, m, c.push_reserved.ensures.capacity);
-      waiting_room = c.self.invariant.waiting_room;
-    }
+    one_more_kept a _ (row.Release c.args.job c.args.kept) c.self.invariant (opened_room a c.args.self.now c.self.view_is c.requires.room)
+    (record { set = refl; rule = refl; places = refl; rows = c.push_reserved.ensures.items })
+    c.push_reserved.ensures.capacity
+    (subst (λ (b : Bool). IsTally s.set s.rule (row.Release c.args.job b ∷ reverse a.rows.items) a.ticks s.high (waiting s)) (sym k)
+    (tally_dropped s.set s.rule (reverse a.rows.items) a.ticks s.high (waiting s) c.args.job (subst (λ (b : Bool). Legal s.set s.rule (row.Release c.args.job b ∷ reverse a.rows.items)) k l) c.self.invariant.tally))

@@ -1,32 +1,81 @@
-use Rattle.std.proofs.Common.{◌<◌, ◌^◌, ◌-◌, All, filter, map, reverse, arith, rules, subst, sym, ap, ◌∙◌}
-use Rattle.std.proofs.lemmas.List.{with_items_is}
+use Rattle.std.proofs.Common.{◌≡◌, ◌+◌, ◌≤◌, List, ◌∷◌, Bool, reverse, refl, sym, ap, ◌∙◌, subst, arith, rules}
+use Rattle.mc_task.specs.declared.task.JobId.{JobId}
+use Rattle.mc_task.specs.declared.task.Task.{Task}
+use Rattle.mc_task.specs.TaskSet.{IsIn, task_at}
+use Rattle.mc_model.specs.declared.row.How.{How}
+use Rattle.mc_model.specs.declared.row.Row.{Row}
 use Rattle.mc_model.specs.declared.row.Row.TheVariants as row
-use Rattle.mode_core.specs.Entries.{counted, remains}
-use Rattle.mode_core.proofs.Pendings.{pushed, tally_tick}
-use Rattle.mode_core.proofs.Opened.{opened_legal, opened_room, clock_small, used_small}
+use Rattle.mc_model.specs.TaskNumbers.{own_in}
+use Rattle.mc_model.specs.Rows.{used}
+use Rattle.mc_model.specs.Legal.{Legal}
+use Rattle.mc_model.specs.Core.{outcome_of}
+use Rattle.mode_core.specs.declared.book.Book.TheInside.{Inside}
+use Rattle.mode_core.specs.Slots.{Slots, ticks_at, IsOutcome}
+use Rattle.mode_core.specs.Written.{Written}
+use Rattle.mode_core.specs.Kept.{written, IsBook}
+use Rattle.mode_core.proofs.Tally.{ticking_own, ticking_line, ticked}
+use Rattle.mode_core.proofs.Opened.{opened_legal, opened_room, clock_small, one_more_seen, one_more_kept}
 use Rattle.mode_core.proofs.book.Book.push_tick.Goals as goal
 
-pub count_tick-requires : goal.count_tick-requires
-count_tick-requires c = subst (All (λ p. p.used < 2 ^ 32 - 1)) (sym c.deref_mut.ensures.value) (used_small c.self.inside c.self.invariant (opened_room c.self.inside c.args.self.now c.self.view_is c.requires.room))
+-- the row of this tick
+abbrev tick_row : JobId → Bool → Written → Row
+tick_row j done w = row.Tick j (outcome_of w.set w.rule w.rows j done)
+
+-- the ticks of the job are counted
+line : (a : Inside) (j : JobId) (done : Bool) → IsBook a → Legal a.live.set a.live.rule (tick_row j done (written a) ∷ reverse a.rows.items) → used (reverse a.rows.items) j ≡ ticks_at a.live j.task.0
+line a j done k l = ticking_line a.live (reverse a.rows.items) a.ticks a.live.high j (outcome_of a.live.set a.live.rule (reverse a.rows.items) j done) k.tasks.each k.holds l k.tally
+
+-- the outcome by the slots is that by the rows
+outcome : (a : Inside) (j : JobId) (done : Bool) (how : How) → IsBook a → Legal a.live.set a.live.rule (tick_row j done (written a) ∷ reverse a.rows.items) → IsOutcome a.live j done how →
+    how ≡ outcome_of a.live.set a.live.rule (reverse a.rows.items) j done
+outcome a j done how k l o = o (reverse a.rows.items) (sym k.tally.mode_is) (line a j done k l)
+
+pub tick-how-requires-clause-in_set : goal.tick-how-requires-clause-in_set
+tick-how-requires-clause-in_set c = (opened_legal c.self.inside c.args.self.now (tick_row c.args.job c.args.done) c.self.view_is c.requires.legal).0
+
+pub tick-how-requires-clause-below : goal.tick-how-requires-clause-below
+tick-how-requires-clause-below c =
+    let a = c.self.inside in
+    let l = opened_legal a c.args.self.now (tick_row c.args.job c.args.done) c.self.view_is c.requires.legal in
+    let own : used (reverse a.rows.items) c.args.job + 1 ≤ own_in (task_at a.live.set c.args.job.task.0) =
+    ticking_own a.live.set a.live.rule (reverse a.rows.items) c.args.job (outcome_of a.live.set a.live.rule (reverse a.rows.items) c.args.job c.args.done) c.self.invariant.tasks.each c.self.invariant.holds l in
+    omega (arith, own, line a c.args.job c.args.done c.self.invariant l)
+
+pub clear_after-requires : goal.clear_after-requires
+clear_after-requires c =
+    subst (λ (ts : List Task). IsIn ts c.args.job.task.0) (sym c.tick-how.ensures.state.same_set) (opened_legal c.self.inside c.args.self.now (tick_row c.args.job c.args.done) c.self.view_is c.requires.legal).0
 
 pub overflow_add-self : goal.overflow_add-self
 overflow_add-self c = let t = clock_small c.self.inside c.self.invariant in search (rules, t)
 
 pub invariant_of-self : goal.invariant_of-self
 invariant_of-self c =
-    let r = opened_room c.self.inside c.args.self.now c.self.view_is c.requires.room in
-    record {
-      tasks = c.self.invariant.tasks;
-      fits = c.self.invariant.fits;
-      tally =
-          tally_tick c.self.inside.set c.self.inside.rule (reverse c.self.inside.rows.items) (reverse c.push_reserved.new.self.items) c.self.inside.pending.items c.retain_after.new.pending.items c.self.inside.ticks c.self.inside.high c.mode_after-self-inside.result c.args.job c.args.how
-          (opened_legal c.self.inside c.args.self.now (row.Tick c.args.job c.args.how) c.self.view_is c.requires.legal)
-          (pushed (row.Tick c.args.job c.args.how) c.self.inside.rows.items c.push_reserved.new.self.items c.push_reserved.ensures.items)
-          (c.retain_after.ensures.items ∙ ap (filter (remains c.self.inside.set c.args.job c.args.how)) (with_items_is c.self.inside.pending c.count_tick.new.pending (omega (arith, c.count_tick.auto.pending, c.deref_mut.ensures.len)) ∙ (c.count_tick.ensures ∙ ap (map (counted c.args.job)) c.deref_mut.ensures.value)))
-          c.mode_after-self-inside.ensures
-          c.self.invariant.tally;
-      range = c.self.invariant.range;
-      few = omega (arith, r, c.push_reserved.ensures.len, c.push_reserved.new.self.ok.0, c.self.inside.rows.ok.0);
-      room = let m = c.self.invariant.room in omega (arith, m, c.push_reserved.ensures.capacity);
-      waiting_room = let m = c.self.invariant.waiting_room in let n = c.retain_after.ensures.capacity in omega (arith, m, n);
-    }
+    let a = c.self.inside in
+    let s : Slots = a.live in
+    let l = opened_legal a c.args.self.now (tick_row c.args.job c.args.done) c.self.view_is c.requires.legal in
+    let how = outcome a c.args.job c.args.done c.tick-how.result c.self.invariant l c.tick-how.ensures.answer in
+    let e = c.tick-how.ensures.state in
+    let f = c.clear_after.ensures in
+    one_more_kept a _ (row.Tick c.args.job c.tick-how.result) c.self.invariant (opened_room a c.args.self.now c.self.view_is c.requires.room)
+    (record { set = f.same_set ∙ e.same_set; rule = f.same_rule ∙ e.same_rule; places = refl; rows = c.push_reserved.ensures.items })
+    c.push_reserved.ensures.capacity
+    (ticked s c.tick-how.new.self c.clear_after.new.self (reverse a.rows.items) a.ticks c.args.job c.tick-how.result c.self.invariant.tasks.each c.self.invariant.holds
+    (subst (λ (h : How). Legal s.set s.rule (row.Tick c.args.job h ∷ reverse a.rows.items)) (sym how) l) e f c.self.invariant.tally)
+
+pub returns-clause-answer : goal.returns-clause-answer
+returns-clause-answer c =
+    let a = c.self.inside in
+    let l = opened_legal a c.args.self.now (tick_row c.args.job c.args.done) c.self.view_is c.requires.legal in
+    subst (λ (w : Written). c.tick-how.result ≡ outcome_of w.set w.rule w.rows c.args.job c.args.done) c.self.view_is
+    (outcome a c.args.job c.args.done c.tick-how.result c.self.invariant l c.tick-how.ensures.answer)
+
+pub returns-clause-state : goal.returns-clause-state
+returns-clause-state c =
+    let a = c.self.inside in
+    let l = opened_legal a c.args.self.now (tick_row c.args.job c.args.done) c.self.view_is c.requires.legal in
+    let e = c.tick-how.ensures.state in
+    let f = c.clear_after.ensures in
+    let b : Inside = record a { rows = c.push_reserved.new.self; ticks = a.ticks + 1; live = c.clear_after.new.self } in
+    one_more_seen a b (row.Tick c.args.job c.tick-how.result) (record { set = f.same_set ∙ e.same_set; rule = f.same_rule ∙ e.same_rule; places = refl; rows = c.push_reserved.ensures.items })
+    ∙ ap (λ (h : How). let v : Written = record (written a) { rows = row.Tick c.args.job h ∷ reverse a.rows.items } in v) (outcome a c.args.job c.args.done c.tick-how.result c.self.invariant l c.tick-how.ensures.answer)
+    ∙ ap (λ (w : Written). let v : Written = record w { rows = tick_row c.args.job c.args.done w ∷ w.rows } in v) c.self.view_is

@@ -1,43 +1,37 @@
 use Rattle.std.proofs.Common.{◌≡◌, None, subst, sym, ap, ◌∙◌, refl}
 use Rattle.mode_core.specs.Events.{outcome_refusal}
-use Rattle.std.proofs.Common.{◌∷◌}
-use Rattle.mc_model.specs.declared.row.How.{How}
-use Rattle.mc_model.specs.declared.row.Row.TheVariants.{Tick}
 use Rattle.mode_core.specs.Shape.{state_of}
 use Rattle.mode_core.proofs.Sound.{ticking, ended}
 use Rattle.mode_core.proofs.CoreSteps.{end_book, held_legal, end_state, core_end}
 use Rattle.mode_core.proofs.scheduler.Core.end_tick.Goals as goal
 use Rattle.mc_model.specs.Core.{State, outcome_of}
-use Rattle.mc_model.specs.Legal.{Legal}
 
-pub push_tick-requires-clause-legal : goal.push_tick-requires-clause-legal
-push_tick-requires-clause-legal c =
+pub push_tick-how-requires-clause-legal : goal.push_tick-how-requires-clause-legal
+push_tick-how-requires-clause-legal c =
     let r = subst (λ (s : State). outcome_refusal s c.args.job ≡ None) (sym c.self.view_is) c.requires.none in
-    let hw : c.how-how.result ≡ outcome_of c.self.inside.book.set c.self.inside.book.rule c.self.inside.book.rows c.args.job c.args.done = subst (λ (s : State). c.how-how.result ≡ outcome_of s.set s.rule s.rows c.args.job c.args.done) (sym c.self.view_is) c.how-how.ensures in
-    let t = ticking (state_of c.self.inside) c.args.job c.self.invariant.sound r in
-    subst (λ (h : How). Legal c.self.inside.book.set c.self.inside.book.rule (Tick c.args.job h ∷ c.self.inside.book.rows)) (sym hw) (t.legal c.args.done)
+    (ticking (state_of c.self.inside) c.args.job c.self.invariant.sound r).legal c.args.done
 
 pub write_held-requires-clause-legal : goal.write_held-requires-clause-legal
 write_held-requires-clause-legal c =
     let r = subst (λ (s : State). outcome_refusal s c.args.job ≡ None) (sym c.self.view_is) c.requires.none in
-    let hw : c.how-how.result ≡ outcome_of c.self.inside.book.set c.self.inside.book.rule c.self.inside.book.rows c.args.job c.args.done = subst (λ (s : State). c.how-how.result ≡ outcome_of s.set s.rule s.rows c.args.job c.args.done) (sym c.self.view_is) c.how-how.ensures in
     let t = ticking (state_of c.self.inside) c.args.job c.self.invariant.sound r in
-    held_legal c.self.inside c.args.job c.how-how.result c.args.done c.push_tick.new.self c.deref.result.now c.self.invariant t hw c.push_tick.ensures c.deref.ensures.value
+    held_legal c.self.inside c.args.job c.args.done c.push_tick-how.new.self c.deref.result.now c.self.invariant t c.push_tick-how.ensures.state c.deref.ensures.value
 
 pub invariant_of-self : goal.invariant_of-self
 invariant_of-self c =
     let r = subst (λ (s : State). outcome_refusal s c.args.job ≡ None) (sym c.self.view_is) c.requires.none in
-    let hw : c.how-how.result ≡ outcome_of c.self.inside.book.set c.self.inside.book.rule c.self.inside.book.rows c.args.job c.args.done = subst (λ (s : State). c.how-how.result ≡ outcome_of s.set s.rule s.rows c.args.job c.args.done) (sym c.self.view_is) c.how-how.ensures in
     let t = ticking (state_of c.self.inside) c.args.job c.self.invariant.sound r in
-    let b = end_book c.self.inside c.args.job c.how-how.result c.args.done c.push_tick.new.self c.write_held.new.book c.deref.result.now t hw c.push_tick.ensures c.deref.ensures.value c.write_held.ensures in
+    let b = end_book c.self.inside c.args.job c.args.done c.push_tick-how.new.self c.write_held.new.book c.deref.result.now t c.push_tick-how.ensures.state c.deref.ensures.value c.write_held.ensures in
     core_end c.self.inside _ c.args.done c.self.invariant b refl c.clear.ensures.items c.clear.ensures.capacity refl
+
+pub returns-clause-answer : goal.returns-clause-answer
+returns-clause-answer c = subst (λ (s : State). c.push_tick-how.result ≡ outcome_of s.set s.rule s.rows c.args.job c.args.done) c.self.view_is c.push_tick-how.ensures.answer
 
 pub returns-clause-state : goal.returns-clause-state
 returns-clause-state c =
     let r = subst (λ (s : State). outcome_refusal s c.args.job ≡ None) (sym c.self.view_is) c.requires.none in
-    let hw : c.how-how.result ≡ outcome_of c.self.inside.book.set c.self.inside.book.rule c.self.inside.book.rows c.args.job c.args.done = subst (λ (s : State). c.how-how.result ≡ outcome_of s.set s.rule s.rows c.args.job c.args.done) (sym c.self.view_is) c.how-how.ensures in
     let t = ticking (state_of c.self.inside) c.args.job c.self.invariant.sound r in
-    let b = end_book c.self.inside c.args.job c.how-how.result c.args.done c.push_tick.new.self c.write_held.new.book c.deref.result.now t hw c.push_tick.ensures c.deref.ensures.value c.write_held.ensures in
+    let b = end_book c.self.inside c.args.job c.args.done c.push_tick-how.new.self c.write_held.new.book c.deref.result.now t c.push_tick-how.ensures.state c.deref.ensures.value c.write_held.ensures in
     end_state c.self.inside (record c.self.inside { book = c.write_held.new.book; held = c.clear.new.self; out = None }) c.args.done b refl c.clear.ensures.items ∙ ap (λ (s : State). ended s c.args.done) c.self.view_is
 
 pub returns-clause-sound : goal.returns-clause-sound

@@ -1,33 +1,45 @@
-use Rattle.std.proofs.Common.{◌≡◌, ℕ, ◌+◌, ◌-◌, List, None, set, subst, sym, ap, refl, arith}
-use Rattle.mc_task.specs.declared.task.Task.{Task}
-use Rattle.mode_core.specs.Events.{release_refusal}
-use Rattle.mode_core.proofs.CoreSteps.{core_write, write_legal}
-use Rattle.mode_core.proofs.scheduler.Core.write.Goals as goal
-use Rattle.mc_task.specs.TaskSet.{task_at, IsIn}
-use Rattle.mc_model.specs.TaskNumbers.{period_in}
+use Rattle.std.proofs.Common.{None, ap, ◌∙◌, refl}
 use Rattle.mc_model.specs.Rows.{ticks}
 use Rattle.mc_model.specs.Core.{State, next_job}
+use Rattle.mode_core.specs.Events.{taken}
+use Rattle.mode_core.specs.Shape.{state_of}
+use Rattle.mode_core.proofs.Sound.{writing}
+use Rattle.mode_core.proofs.Releasing.{takes, begun_in, may_note, job_is, notes_after, row_is, write_legal, write_answer, write_state, core_write}
+use Rattle.mode_core.proofs.scheduler.Core.write.Goals as goal
+
+pub note_release-job-requires : goal.note_release-job-requires
+note_release-job-requires c =
+    may_note c.self.inside c.args.task.0 c.ticks-at.result (takes c.self.inside _ c.args.task.0 c.self.invariant c.self.view_is c.requires.in_set c.requires.none)
+    (c.ticks-at.ensures.value ∙ begun_in (state_of c.self.inside) (ap (λ (s : State). s.out) c.self.view_is ∙ c.requires.out))
 
 pub push_release-requires-clause-legal : goal.push_release-requires-clause-legal
 push_release-requires-clause-legal c =
-    write_legal c.self.inside c.args.job c.keeps-kept.result c.self.invariant
-    (subst (λ (s : State). s.out ≡ None) (sym c.self.view_is) c.requires.out)
-    (subst (λ (s : State). IsIn s.set c.args.job.task.0) (sym c.self.view_is) c.requires.in_set)
-    (subst (λ (s : State). release_refusal s c.args.job.task.0 ≡ None) (sym c.self.view_is) c.requires.none)
-    (subst (λ (s : State). c.args.job ≡ next_job s c.args.job.task.0) (sym c.self.view_is) c.requires.is_next)
-    c.keeps-kept.ensures
+    let take = takes c.self.inside _ c.args.task.0 c.self.invariant c.self.view_is c.requires.in_set c.requires.none in
+    write_legal c.self.inside c.args.task.0 _ take (ap (λ (s : State). s.out) c.self.view_is ∙ c.requires.out)
+    (row_is c.self.inside c.args.task.0 _ _ (job_is c.self.inside c.args.task _ take c.note_release-job.ensures.job) c.keeps-kept.ensures)
 
 pub invariant_of-self : goal.invariant_of-self
 invariant_of-self c =
-    core_write c.self.inside _ c.args.job c.keeps-kept.result c.self.invariant
-    (subst (λ (s : State). s.out ≡ None) (sym c.self.view_is) c.requires.out)
-    (subst (λ (s : State). IsIn s.set c.args.job.task.0) (sym c.self.view_is) c.requires.in_set)
-    (subst (λ (s : State). release_refusal s c.args.job.task.0 ≡ None) (sym c.self.view_is) c.requires.none)
-    (subst (λ (s : State). c.args.job ≡ next_job s c.args.job.task.0) (sym c.self.view_is) c.requires.is_next)
-    c.keeps-kept.ensures c.push_release.ensures refl refl refl
-    (let e : c.ticks-at.result + c.from.result ≡ ticks c.self.inside.book.rows + period_in (task_at c.self.inside.book.set c.args.job.task.0) =
-    omega (arith, c.ticks-at.ensures.value, c.from.ensures, c.period_of-period.ensures, ap (λ (ts : List Task). period_in (task_at ts c.args.job.task.0)) c.set.ensures.value) in
-    ap (λ (n : ℕ). set c.self.inside.slots.items (c.args.job.task.0 - 1) (record { count = c.args.job.count; next = n })) e)
+    let take = takes c.self.inside _ c.args.task.0 c.self.invariant c.self.view_is c.requires.in_set c.requires.none in
+    core_write c.self.inside _ c.args.task.0 _ take (ap (λ (s : State). s.out) c.self.view_is ∙ c.requires.out)
+    (row_is c.self.inside c.args.task.0 _ _ (job_is c.self.inside c.args.task _ take c.note_release-job.ensures.job) c.keeps-kept.ensures)
+    c.push_release.ensures refl refl refl
+    (notes_after c.self.inside c.note_release-job.new.arrivals c.args.task.0 c.ticks-at.result (ticks c.self.inside.book.rows) c.self.invariant c.note_release-job.ensures.notes c.ticks-at.ensures.value)
+
+pub returns-clause-answer : goal.returns-clause-answer
+returns-clause-answer c =
+    let take = takes c.self.inside _ c.args.task.0 c.self.invariant c.self.view_is c.requires.in_set c.requires.none in
+    c.kept_or_dropped.ensures
+    ∙ write_answer c.self.inside c.args.task.0 c.note_release-job.result c.keeps-kept.result c.ticks-at.result (job_is c.self.inside c.args.task _ take c.note_release-job.ensures.job) c.keeps-kept.ensures
+    (c.ticks-at.ensures.value ∙ begun_in (state_of c.self.inside) (ap (λ (s : State). s.out) c.self.view_is ∙ c.requires.out))
+    ∙ ap (λ (s : State). taken s None c.args.task.0) c.self.view_is
+
+pub returns-clause-state : goal.returns-clause-state
+returns-clause-state c =
+    let take = takes c.self.inside _ c.args.task.0 c.self.invariant c.self.view_is c.requires.in_set c.requires.none in
+    write_state c.self.inside (record c.self.inside { book = c.push_release.new.self; arrivals = c.note_release-job.new.arrivals }) c.args.task.0 _
+    (row_is c.self.inside c.args.task.0 _ _ (job_is c.self.inside c.args.task _ take c.note_release-job.ensures.job) c.keeps-kept.ensures) c.push_release.ensures refl refl
+    ∙ ap (λ (s : State). writing s (next_job s c.args.task.0)) c.self.view_is
 
 pub returns-clause-sound : goal.returns-clause-sound
 returns-clause-sound c = (invariant_of-self c).sound

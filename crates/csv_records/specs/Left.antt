@@ -1,0 +1,32 @@
+-- The records that a reader of a text has left.
+use Rattle.std.specs.Prelude.{◌≡◌, ℕ, ◌+◌, Bool, true, false, List, [], length, Option, Some, None, IsSome}
+use Rattle.std.specs.Borrow.{Bor}
+use Rattle.csv.specs.Reading.{Ready, default_config, records_from, source_of}
+use Rattle.csv.specs.declared.parser.State.{State}
+use Rattle.csv.specs.declared.reader.Reader.{Reader}
+use Rattle.csv.specs.declared.reader.Trim.TheVariants as trim
+
+-- the bytes that a slice has left
+abbrev pub bytes_left : Bor (List ℕ) → Option (List ℕ)
+bytes_left s = Some s.now
+
+-- the records of these bytes, from a state of csv's machine on
+abbrev pub records_after : State → Option (List ℕ) → List (List (List ℕ))
+records_after s None = []
+records_after s (Some bytes) = records_from default_config (length bytes + 1) s bytes
+
+-- the records that a reader has left, if it was not let go
+abbrev pub records_left : Bool → Reader (Bor (List ℕ)) → List (List (List ℕ))
+records_left true r = []
+records_left false r = records_after r.state (source_of bytes_left r)
+
+-- it gives the records of the bytes that are left, as they are
+pub record GivesRecords (r : Reader (Bor (List ℕ))) : Type 0 where
+  pub trim : r.trim ≡ trim.None
+  pub ready : Ready r
+  pub config : r.config ≡ default_config
+  pub source : IsSome (source_of bytes_left r)
+
+-- so does a reader that was not let go
+abbrev pub ReadsText : Bool → Reader (Bor (List ℕ)) → Type 0
+ReadsText let_go r = let_go ≡ false → GivesRecords r

@@ -1,0 +1,73 @@
+// Where tasks are looked for by their names.
+ghost use Rattle.std.specs.Prelude.{◌≡◌, ◌≤◌, ◌↔◌, length, IfSome, IsSome};
+ghost use Rattle.mc_task.specs.TaskSet.{IsIn, task_at, name_in};
+
+use crate::{Task, TaskNo};
+
+/// The numbers of at most 128 tasks, each at the first free place from that of its name on, and 0 at the other places. A
+/// number tells where to look: the name there is compared before it is believed.
+#[derive(Clone, Copy, Debug)]
+pub struct Places {
+    numbers: [u8; 256],
+}
+
+impl Places {
+    /// The places of these tasks.
+    pub fn new(tasks: &[Task]) -> Places
+        requires { length tasks.now ≤ 128 }
+    {
+        let mut places = Places { numbers: [0; 256] };
+        for (i, t) in tasks.iter().enumerate() {
+            places.put(i as u8 + 1, t.name.bytes());
+        }
+        places
+    }
+
+    fn put(&mut self, number: u8, name: &[u8]) {
+        let first = place_of(name);
+        for step in 0..=255u8 {
+            let place = first.wrapping_add(step) as usize;
+            if self.numbers[place] == 0 {
+                self.numbers[place] = number;
+                return;
+            }
+        }
+    }
+
+    /// A task with this name, if one is found by the places.
+    pub fn find(&self, tasks: &[Task], name: &[u8]) -> Option<TaskNo>
+        requires { length tasks.now ≤ 128 }
+        ensures inside { IfSome result (λ task. IsIn tasks.now task.0) }
+        ensures name { IfSome result (λ task. name_in (task_at tasks.now task.0) ≡ name.now) }
+    {
+        let first = place_of(name);
+        for step in 0..=255u8 {
+            let task = TaskNo(self.numbers[first.wrapping_add(step) as usize] as u32);
+            let known = numbered_task(tasks, task)?;
+            if known.name.bytes() == name {
+                return Some(task);
+            }
+        }
+        None
+    }
+}
+
+/// The task with this number, or `None` exactly where there is none.
+pub fn numbered_task(tasks: &[Task], task: TaskNo) -> Option<Task>
+    ensures value { result ≡ task_at tasks.now task.0 }
+    ensures found { IsSome result ↔ IsIn tasks.now task.0 }
+{
+    if task.0 == 0 {
+        return None;
+    }
+    tasks.get(task.0 as usize - 1).copied()
+}
+
+// The place at which a name is looked for first.
+fn place_of(name: &[u8]) -> u8 {
+    let mut place = 0u8;
+    for b in name {
+        place = place.wrapping_mul(31).wrapping_add(*b);
+    }
+    place
+}

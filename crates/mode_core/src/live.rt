@@ -1,0 +1,231 @@
+// The live job of each task, and which of them runs first.
+ghost use Rattle.std.specs.Prelude.{◌≡◌, ◌<◌, ◌≤◌, ◌^◌, ◌&&◌, ◌==◌, ℕ, not, length, replicate, cond, false, option_map, Some, None, IfOk, IfSome, IfNone};
+ghost use Rattle.mc_task.specs.TaskSet.{IsSet, IsIn, task_at};
+ghost use Rattle.mc_model.specs.Holds.{Fits};
+ghost use Rattle.mc_model.specs.TaskNumbers.{is_high_in, own_in};
+ghost use Rattle.mc_model.specs.Mode.{is_virtual};
+ghost use Rattle.mc_model.specs.declared.row.How.TheVariants.{More, Done, Stop, Over};
+ghost use Rattle.budget_ledger.specs.Ledger.{spent};
+ghost use Rattle.mode_core.specs.Slots.{job_at, ticks_at, told, waiting, free_slots, one_more, ChangesOnly, GoesHigh, IsLeft, IsOutcome, IsQuiet, RunsFirst};
+
+use crate::pending::{Pending, is_high, item};
+use budget_ledger::{Spent, Used};
+use mc_model::How;
+use mc_task::{JobId, Memory, Rule, TaskNo, TaskSet};
+use ready_queue::ReadyQueue;
+use std::alloc::{AllocError, Global};
+use std::marker::Model;
+
+// A task's live job: which of its releases it is, and when that was.
+#[derive(Clone, Copy, Debug, PartialEq, Eq)]
+struct LiveJob {
+    count: u32,
+    release: u64,
+}
+
+/// The live job of each task of a set, at most one of each. Contracts see the set, the rule, whether the mode is high, and
+/// task by task the live job and the ticks that are counted.
+#[derive(Debug, Drop)]
+pub struct LiveJobs {
+    set: TaskSet,
+    rule: Rule,
+    high: bool,
+    jobs: Vec<Option<LiveJob>>,
+    queue: ReadyQueue,
+    used: Used,
+}
+
+impl Model for LiveJobs {
+    ghost use Rattle.mode_core.specs.Slots.{Slots};
+
+    ghost Value = { Slots };
+
+    ghost use Rattle.mode_core.specs.Kept.{slots_of, IsLiveJobs};
+
+    ghost view = { slots_of };
+
+    ghost invariant = { IsLiveJobs };
+}
+
+impl LiveJobs {
+    /// No live job of any task, in low mode. Only this call takes memory.
+    pub fn new(alloc: Global, set: TaskSet, rule: Rule) -> Result<LiveJobs, Memory>
+        requires { Fits rule }
+        ensures { IfOk result (λ live. live ≡ free_slots set rule) }
+    {
+        let queue = ReadyQueue::new(alloc, set.len())?;
+        let used = Used::new(alloc, &set)?;
+        match no_jobs(alloc, set.len() as usize) {
+            Ok(jobs) => Ok(LiveJobs {
+                set,
+                rule,
+                high: false,
+                jobs,
+                queue,
+                used,
+            }),
+            Err(_) => Err(Memory),
+        }
+    }
+
+    /// The job becomes the live one of its task, released at this boundary.
+    pub fn begin(&mut self, job: JobId, release: u64)
+        requires in_set { IsIn self.old.set job.task.0 }
+        requires range { release ≤ 2 ^ 62 }
+        requires free { waiting self.old job.task.0 ≡ None }
+        ensures { ChangesOnly self.old self.new job.task.0 (Some (record { job = job; release = release; used = 0 })) }
+    {
+        let JobId { task, count } = job;
+        self.queue
+            .insert(item(&self.set, self.rule, self.high, task, release));
+        self.used.start(task);
+        self.jobs[task.0 as usize - 1] = Some(LiveJob { count, release });
+    }
+
+    /// Counts one more tick of the job, which is its task's live one, and answers how that tick ends.
+    pub fn tick(&mut self, job: JobId, done: bool) -> How
+        requires in_set { IsIn self.old.set job.task.0 }
+        requires below { ticks_at self.old job.task.0 < own_in (task_at self.old.set job.task.0) }
+        ensures answer { IsOutcome self.old job done result }
+        ensures state { ChangesOnly self.old self.new job.task.0 (option_map one_more (waiting self.old job.task.0)) }
+    {
+        let may_switch = self.may_switch(job.task);
+        let reached = self.used.spend(job.task);
+        outcome(reached, may_switch, done)
+    }
+
+    // Whether the mode becomes high where a job of the task passes its low budget.
+    fn may_switch(&self, task: TaskNo) -> bool
+        ensures { result ≡ ((is_high_in (task_at self.now.set task.0) && is_virtual self.now.rule) && not self.now.high) }
+    {
+        self.rule != Rule::Plain && !self.high && is_high(&self.set, task)
+    }
+
+    /// Clears the slots that a tick of the task with this outcome clears: at an end its own, and at an overrun those of low
+    /// tasks, for the mode is high then.
+    pub fn clear_after(&mut self, task: TaskNo, how: How)
+        requires { IsIn self.old.set task.0 }
+        ensures { IsLeft self.old self.new task.0 how }
+    {
+        match how {
+            How::More => (),
+            How::Over => self.switch(),
+            How::Done | How::Stop => self.end(task),
+        }
+    }
+
+    // Ends the task's live job.
+    fn end(&mut self, task: TaskNo)
+        requires { IsIn self.old.set task.0 }
+        ensures { ChangesOnly self.old self.new task.0 None }
+    {
+        self.jobs[task.0 as usize - 1] = None;
+        self.queue.remove(task);
+    }
+
+    // Makes the mode high: the live jobs of low tasks go, and the others run by their real deadlines.
+    fn switch(&mut self)
+        ensures { GoesHigh self.old self.new }
+    {
+        // No task has two items, as the call's contract says.
+        let _first = self.queue.least();
+        clear_low(&mut self.jobs, &self.set);
+        self.queue.rekey_high();
+        self.high = true;
+    }
+
+    /// Makes the mode low.
+    pub fn calm(&mut self)
+        requires { IsQuiet self.old }
+        ensures { self.new ≡ record self.old { high = false } }
+    {
+        self.high = false;
+    }
+
+    /// The live job that runs first, where there is one.
+    pub fn first(&self) -> Option<Pending>
+        ensures first { IfSome result (RunsFirst self.now) }
+        ensures none { IfNone result (IsQuiet self.now) }
+    {
+        let task = self.queue.least()?;
+        match self.jobs[task.0 as usize - 1] {
+            Some(job) => Some(told(task, job, self.used.used(task))),
+            None => unreachable!(),
+        }
+    }
+
+    /// The task set.
+    pub fn set(&self) -> &TaskSet
+        ensures value { result.now ≡ self.now.set }
+        ensures tasks { IsSet self.now.set }
+    {
+        &self.set
+    }
+
+    /// The rule.
+    pub fn rule(&self) -> Rule
+        ensures { result ≡ self.now.rule }
+    {
+        self.rule
+    }
+
+    /// Whether the mode is high.
+    pub fn high_mode(&self) -> bool
+        ensures { result ≡ self.now.high }
+    {
+        self.high
+    }
+}
+
+// The task's live job, with so many ticks.
+fn told(task: TaskNo, job: LiveJob, used: u32) -> Pending
+    ensures { result ≡ told task.0 used job }
+{
+    Pending {
+        job: JobId {
+            task,
+            count: job.count,
+        },
+        release: job.release,
+        used,
+    }
+}
+
+// A free slot for each task.
+fn no_jobs(alloc: Global, count: usize) -> Result<Vec<Option<LiveJob>>, AllocError>
+    ensures { IfOk result (λ jobs. jobs.items ≡ replicate count None) }
+{
+    vec![in alloc; None; count]
+}
+
+// How a tick ends that brings its job to this budget, or to none.
+fn outcome(reached: Spent, may_switch: bool, done: bool) -> How
+    ensures { (low own u : ℕ) → reached ≡ spent (record { low = low; own = own }) u →
+        result ≡ cond done Done (cond (u == own) Stop (cond (may_switch && (u == low)) Over More)) }
+{
+    if done {
+        return How::Done;
+    }
+    match reached {
+        Spent::AtOwn => How::Stop,
+        Spent::AtLow if may_switch => How::Over,
+        _ => How::More,
+    }
+}
+
+// Clears the slots of the low tasks.
+fn clear_low(jobs: &mut [Option<LiveJob>], set: &TaskSet)
+    requires { length jobs.old ≤ 128 }
+    ensures { (k : ℕ) → 1 ≤ k → job_at jobs.new k ≡ cond (is_high_in (task_at set.now k)) (job_at jobs.old k) None }
+{
+    for k in 0..jobs.len() {
+        jobs[k] = if_high(set, TaskNo(k as u32 + 1), jobs[k]);
+    }
+}
+
+// The job, where the task is a high one.
+fn if_high(set: &TaskSet, task: TaskNo, job: Option<LiveJob>) -> Option<LiveJob>
+    ensures { result ≡ cond (is_high_in (task_at set.now task.0)) job None }
+{
+    if is_high(set, task) { job } else { None }
+}

@@ -1,0 +1,170 @@
+// The core beside a plain one, on the same calls.
+ghost use Rattle.std.specs.Prelude.{◌≡◌, ◌<◌, ℕ};
+
+use super::plain_core::PlainCore;
+use admission::admit;
+use load_sum::sum_loads;
+use mc_model::{How, Row};
+use mc_task::{JobId, Level, Name, Rule, Task, TaskNo, TaskSet};
+use mode_core::{Core, GrantFault, Granted, IdleFault, NotOut, ReleaseFault, Released};
+use std::alloc::Global;
+use std::test::Fail;
+
+const TASKS: u32 = 128;
+
+const CALLS: u32 = 16000;
+
+const PLACES: usize = 4000;
+
+// Their least common multiple is 25,200.
+const PERIODS: [u32; 8] = [200, 210, 240, 252, 280, 300, 350, 360];
+
+// Numbers by a linear congruence.
+#[derive(Debug, Drop)]
+struct Numbers {
+    last: u64,
+}
+
+impl Numbers {
+    fn below(&mut self, limit: u32) -> u32
+        requires { 0 < limit }
+        ensures { result < limit }
+    {
+        let next = self.last.wrapping_mul(6364136223846793005);
+        self.last = next.wrapping_add(1442695040888963407);
+        (self.last >> 32) as u32 % limit
+    }
+}
+
+#[derive(Clone, Copy, Debug, PartialEq, Eq)]
+enum Call {
+    Release(TaskNo),
+    Grant(TaskNo),
+    Outcome(JobId, bool),
+    Idle,
+}
+
+#[derive(Clone, Copy, Debug, PartialEq, Eq)]
+enum Answer {
+    Release(Result<Released, ReleaseFault>),
+    Grant(Result<Granted, GrantFault>),
+    Outcome(Result<How, NotOut>),
+    Idle(Result<u64, IdleFault>),
+}
+
+// The next call: often the one that brings the schedule on, often a release, and now and then any other.
+fn next_call(numbers: &mut Numbers, core: &PlainCore) -> Call {
+    let task = TaskNo(1 + numbers.below(TASKS));
+    match numbers.below(16) {
+        0..8 => Call::Release(task),
+        8 => Call::Grant(task),
+        9 => Call::Outcome(JobId { task, count: 1 }, true),
+        10 => Call::Idle,
+        _ => match (core.out(), core.chosen()) {
+            (Some(job), _) => Call::Outcome(job, numbers.below(8) > 0),
+            (None, Some(job)) => Call::Grant(job.task),
+            (None, None) => Call::Idle,
+        },
+    }
+}
+
+// What is seen after a call: the answer, the job whose tick is out, the chosen one, the ticks begun, and whether the mode is
+// high.
+#[derive(Clone, Copy, Debug, PartialEq, Eq)]
+struct Seen {
+    answer: Answer,
+    out: Option<JobId>,
+    chosen: Option<JobId>,
+    begun: u64,
+    high: bool,
+}
+
+// What the core shows after this call, where the task is in the set.
+fn ask(core: &mut Core, call: Call) -> Option<Seen> {
+    let answer = match call {
+        Call::Release(task) => {
+            core.set().get(task)?;
+            Answer::Release(core.release(task))
+        }
+        Call::Grant(task) => {
+            core.set().get(task)?;
+            Answer::Grant(core.grant(task))
+        }
+        Call::Outcome(job, done) => Answer::Outcome(core.outcome(job, done)),
+        Call::Idle => Answer::Idle(core.idle()),
+    };
+    Some(Seen {
+        answer,
+        out: core.out(),
+        chosen: core.chosen(),
+        begun: core.ticks_begun(),
+        high: core.high_mode(),
+    })
+}
+
+// What the plain core shows after it.
+fn ask_plain(core: &mut PlainCore, call: Call) -> Option<Seen> {
+    let answer = match call {
+        Call::Release(task) => Answer::Release(core.release(task)?),
+        Call::Grant(task) => Answer::Grant(core.grant(task)),
+        Call::Outcome(job, done) => Answer::Outcome(core.outcome(job, done)?),
+        Call::Idle => Answer::Idle(core.idle()?),
+    };
+    Some(Seen {
+        answer,
+        out: core.out(),
+        chosen: core.chosen(),
+        begun: core.ticks_begun(),
+        high: core.high_mode(),
+    })
+}
+
+// 128 tasks: each second one is high, with the low budget 1 and this high one, and the others have the budget 1 or 2.
+fn made_set(alloc: Global, high: u32, numbers: &mut Numbers) -> Result<TaskSet, Fail> {
+    let mut tasks = Vec::new(alloc);
+    for k in 0..TASKS {
+        let budget = 1 + numbers.below(2);
+        let (level, low, high) = if k % 2 == 0 {
+            (Level::High, 1, high)
+        } else {
+            (Level::Low, budget, budget)
+        };
+        tasks.push(Task {
+            name: Name::new(format!(in alloc; "t{k}")?.as_bytes()).ok_or("a name")?,
+            level,
+            period: PERIODS[numbers.below(8) as usize],
+            low,
+            high,
+        })?;
+    }
+    Ok(TaskSet::new(tasks)?)
+}
+
+// The two cores over the same set, under the rule of the test.
+fn both(alloc: Global, set: TaskSet) -> Result<(Core, PlainCore), Fail> {
+    let rule = admit(&sum_loads(&set)?).ok_or("not admitted")?;
+    let plain = PlainCore::new(alloc, set.copy(alloc)?, rule, PLACES)?;
+    Ok((Core::new(alloc, set, rule, PLACES)?, plain))
+}
+
+#[test]
+fn the_core_answers_as_a_plain_one(rt: HostRuntime) -> Result<(), Fail> {
+    let alloc = rt.alloc();
+    for (seed, high) in [(1, 1), (2, 3), (3, 3)] {
+        let mut numbers = Numbers { last: seed };
+        let (mut core, mut plain) = both(alloc, made_set(alloc, high, &mut numbers)?)?;
+        for k in 0..CALLS {
+            let call = next_call(&mut numbers, &plain);
+            let seen = ask(&mut core, call).ok_or("a task")?;
+            let wanted = ask_plain(&mut plain, call).ok_or("memory")?;
+            assert_eq!(rt; seen, wanted, "call {k} from {seed}: {call:?}");
+        }
+        let rows = core.rows();
+        assert_eq!(rt; rows, plain.rows());
+        assert_eq!(rt; rows.len(), PLACES);
+        // Only the first set is run without a switch.
+        let over = |row: &Row| matches!(row, Row::Tick { how: How::Over, .. });
+        assert_eq!(rt; rows.iter().any(over), high > 1);
+    }
+    Ok(())
+}
