@@ -37,25 +37,7 @@ measure 'wc -l, 16 MiB of comments' 20 wc -l "$work/comments.toml"
 measure 'check, 128 tasks' 200 "$program" check "$work/tasks.toml"
 measure 'wc -l, 128 tasks' 200 wc -l "$work/tasks.toml"
 
-# The avionics set, with each task's jobs at every period and needs of their low budgets.
-avionics='attitude high 5000 400 900
-gyro high 10000 600 1500
-engine high 20000 1500 4000
-nav high 50000 3000 7000
-display low 16667 2500
-radio low 25000 2000
-log low 100000 8000
-maint low 200000 10000'
-echo "$avionics" | awk '{ printf "[[task]]\nname = \"%s\"\nlevel = \"%s\"\nperiod = %d\nlow = %d\n", $1, $2, $3, $4
-    if ($2 == "high") printf "high = %d\n", $5 }' >"$work/avionics.toml"
-{
-    echo task,release,need
-    echo "$avionics" | awk '{ for (t = 0; t < 1000000; t += $3) printf "%s,%d,%d\n", $1, t, $4 }' | sort -s -t, -k2,2n
-} >"$work/avionics.csv"
-
-# 128 tasks that are all released at each 128th tick: 999,936 jobs of one tick, and up to 128 pending ones.
-awk 'BEGIN { for (i = 0; i < 128; i++) printf "[[task]]\nname = \"t%d\"\nlevel = \"low\"\nperiod = 128\nlow = 1\n", i }' >"$work/full.toml"
-awk 'BEGIN { print "task,release,need"; for (t = 0; t + 128 <= 1000000; t += 128) for (i = 0; i < 128; i++) print "t" i "," t ",1" }' >"$work/full.csv"
+. ./workloads.sh
 
 # instructions WORDS..: how many the program takes, by callgrind, which repeats exactly
 instructions() {
@@ -65,16 +47,19 @@ instructions() {
 }
 
 measure 'run, avionics, 1,000,000 ticks' 5 "$program" run "$work/avionics.toml" "$work/avionics.csv" 1000000
-measure 'run, 128 tasks, 999,936 jobs' 5 "$program" run "$work/full.toml" "$work/full.csv" 1000000
+measure 'run, 128 tasks, 999,936 jobs' 5 "$program" run "$work/crowd.toml" "$work/crowd.csv" 1000000
 for ticks in 100000 200000; do
-    echo "avionics, $ticks ticks: $(instructions run "$work/avionics.toml" "$work/avionics.csv" $ticks)"
-    head -n $((ticks + 1)) "$work/full.csv" >"$work/part.csv"
-    echo "128 tasks, $ticks ticks: $(instructions run "$work/full.toml" "$work/part.csv" $ticks)"
+    echo "run, avionics, $ticks ticks: $(instructions run "$work/avionics.toml" "$work/avionics.csv" $ticks)"
 done
-echo "128 tasks, 1 tick, 999,936 rows: $(instructions run "$work/full.toml" "$work/full.csv" 1)"
+# Rows of work: of a run of one tick, which no thread has to wait in.
+for rows in 499968 999936; do
+    head -n $((rows + 1)) "$work/crowd.csv" >"$work/part.csv"
+    echo "run, 128 tasks, 1 tick, $rows rows of work: $(instructions run "$work/crowd.toml" "$work/part.csv" 1)"
+done
 
-# Traces: the avionics run, 2,000,000 idle rows, and half a million pending jobs at a time.
+# Traces: the avionics run, that of 128 tasks that take turns, 2,000,000 idle rows, and half a million pending jobs at a time.
 "$program" run "$work/avionics.toml" "$work/avionics.csv" 1000000 >"$work/avionics_trace.csv"
+"$program" run "$work/crowd.toml" "$work/crowd.csv" 1000000 >"$work/crowd_trace.csv"
 awk 'BEGIN { print "event,tick,task,job,how"; for (t = 0; t < 2000000; t++) print "idle," t ",,," }' >"$work/idle_trace.csv"
 printf 'task = [{name="a", level="low", period=1, low=1}, {name="b", level="low", period=1, low=1}]\n' >"$work/two.toml"
 awk 'BEGIN { print "event,tick,task,job,how"; for (t = 0; t < 500000; t++) {
@@ -82,6 +67,7 @@ awk 'BEGIN { print "event,tick,task,job,how"; for (t = 0; t < 500000; t++) {
     print "tick," t "," (t % 2 ? "b" : "a") "," int(t / 2) + 1 ",done" } }' >"$work/two_trace.csv"
 
 measure 'judge, avionics, 1,000,000 ticks' 5 "$program" judge "$work/avionics.toml" "$work/avionics_trace.csv"
+measure 'judge, 128 tasks in turn, 1,999,936 rows' 5 "$program" judge "$work/crowd.toml" "$work/crowd_trace.csv"
 measure 'judge, 2,000,000 idle rows' 5 "$program" judge "$work/avionics.toml" "$work/idle_trace.csv"
 measure 'judge, 1,500,000 rows, half a million pending jobs' 5 "$program" judge "$work/two.toml" "$work/two_trace.csv" 1 1
 measure 'chart, avionics, 1,000,000 ticks' 5 "$program" chart "$work/avionics.toml" "$work/avionics_trace.csv"
@@ -90,11 +76,12 @@ measure 'soak 1 32 1000000' 5 "$program" soak 1 32 1000000
 for ticks in 100000 200000; do
     echo "soak 1 32, $ticks ticks: $(instructions soak 1 32 $ticks)"
 done
-for trace in avionics idle; do
+cp "$work/avionics.toml" "$work/idle.toml"
+for trace in avionics crowd idle; do
     for rows in 100000 200000; do
         head -n $((rows + 1)) "$work/${trace}_trace.csv" >"$work/part.csv"
         for command in judge chart report; do
-            echo "$command, $trace, $rows rows: $(instructions $command "$work/avionics.toml" "$work/part.csv")"
+            echo "$command, $trace, $rows rows: $(instructions $command "$work/$trace.toml" "$work/part.csv")"
         done
     done
 done

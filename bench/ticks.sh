@@ -1,51 +1,32 @@
 #!/bin/sh
-# Counts the instructions that `run` takes for a tick, with 8 and with 128 tasks. The word is a built program to measure in
+# Counts the instructions of a tick in the core and the floor: those of the floor's calls for releases, grants, outcomes and
+# idle ticks, with all that these call, in the thread of whichever task makes them. The word is a built program to measure in
 # place of this one.
 program=$(readlink -f -- "${1:-$(dirname -- "$0")/../crates/edfvd_program/out/edfvd_program}")
 cd "$(dirname -- "$0")" || exit 1
+if ! command -v valgrind >/dev/null 2>&1; then
+    echo "ticks: skipped, there is no valgrind"
+    exit 0
+fi
 work=$(mktemp -d) || exit 1
 trap 'rm -rf "$work"' EXIT
 [ $# -gt 0 ] || ../edfvd check ../examples/control/tasks.toml >"$work/out" || exit 1
+. ./workloads.sh
 
-# The avionics set: 8 tasks.
-echo 'attitude high 5000 400 900
-gyro high 10000 600 1500
-engine high 20000 1500 4000
-nav high 50000 3000 7000
-display low 16667 2500
-radio low 25000 2000
-log low 100000 8000
-maint low 200000 10000' >"$work/8"
-
-# 128 tasks with periods of 1,000 to 2,500 ticks and a load of about 1/200 each; each second one is high, with 5/2 of its
-# low budget. The test gives a scale.
-awk 'BEGIN {
-    count = split("1000 1050 1120 1200 1250 1400 1500 1600 1680 1750 1800 2000 2100 2250 2400 2500", periods, " ")
-    for (i = 0; i < 128; i++) {
-        period = periods[int(i / 2) % count + 1]; low = int(period / 200 + 0.5)
-        print "t" i, i % 2 ? "low" : "high", period, low, i % 2 ? "" : int(low * 5 / 2)
-    } }' >"$work/128"
-
-# 128 tasks that are all released at each 128th tick, each for one: 64 pending jobs on average.
-awk 'BEGIN { for (i = 0; i < 128; i++) print "t" i, "low", 128, 1 }' >"$work/crowd"
-
-for tasks in 8 128 crowd; do
-    awk '{ printf "[[task]]\nname = \"%s\"\nlevel = \"%s\"\nperiod = %d\nlow = %d\n", $1, $2, $3, $4
-        if ($2 == "high") printf "high = %d\n", $5 }' "$work/$tasks" >"$work/$tasks.toml"
-    {
-        echo task,release,need
-        awk '{ for (t = 0; t < 200000; t += $3) printf "%s,%d,%d\n", $1, t, $4 }' "$work/$tasks" | sort -s -t, -k2,2n
-    } >"$work/$tasks.csv"
-done
-
-# instructions WORDS..: how many the program takes, by callgrind, which repeats exactly
+# instructions NAME TICKS: how many the floor's calls take in so many ticks of the workload, which repeats exactly
 instructions() {
-    valgrind --tool=callgrind --callgrind-out-file=/dev/null "$program" "$@" 2>&1 >"$work/trace" | sed -n 's/.*Collected : //p'
+    valgrind --tool=callgrind --callgrind-out-file=/dev/null --collect-atstart=no '--toggle-collect=timetable::floor::Floor::*' \
+        "$program" run "$work/$1.toml" "$work/$1.csv" "$2" 2>&1 >/dev/null | sed -n 's/.*Collected : //p'
 }
 
-for tasks in 8 128 crowd; do
-    "$program" check "$work/$tasks.toml" | sed -n "s/^rule/$tasks: rule/p"
-    first=$(instructions run "$work/$tasks.toml" "$work/$tasks.csv" 100000)
-    second=$(instructions run "$work/$tasks.toml" "$work/$tasks.csv" 200000)
-    echo "$tasks: $(((second - first) / 100000)) instructions a tick, $(grep -c . "$work/trace") lines"
-done
+# ticks NAME FIRST SECOND: those of a tick, as the difference of two runs. With many tasks a run takes long, since valgrind
+# runs one thread at a time.
+ticks() {
+    first=$(instructions "$1" "$2")
+    second=$(instructions "$1" "$3")
+    echo "$1: $(((second - first) / ($3 - $2))) instructions a tick, by runs of $2 and $3"
+}
+
+ticks avionics 100000 200000
+ticks light 1000 6000
+ticks crowd 1000 3000

@@ -55,7 +55,7 @@ growths judge judged/tasks.toml judged/legal.csv
 growths judge judged/tasks.toml judged/late.csv 1 1
 growths chart overrun/tasks.toml overrun/run.txt
 growths report overrun/tasks.toml overrun/run.txt
-growths soak 7 8 2000
+growths soak 7 8 20000
 growths
 echo "growths: $failed failed"
 [ "$failed" -eq 0 ]

@@ -15,7 +15,9 @@ use Rattle.mc_model.specs.Mode.{high_mode}
 use Rattle.mc_model.specs.Key.{key}
 use Rattle.mc_model.specs.Late.{deadline}
 use Rattle.mc_model.proofs.Fold.{pending, stays}
-use Rattle.mc_model.proofs.Lists.{Each, Each-all, Each-both, total, total_spend}
+use Rattle.mc_model.specs.Sums.{total}
+use Rattle.mc_model.proofs.Lists.{Each, Each-all, Each-both}
+use Rattle.mc_model.proofs.Sums.{total_spend}
 use Rattle.mc_model.proofs.Steps.{TickFits}
 use Rattle.mc_model.proofs.Live.{IsLiveOk}
 use Rattle.demand_law.proofs.Keys.{weight_falls, any_pending, least_low}

@@ -14,7 +14,9 @@ use Rattle.mc_model.specs.Legal.{none_below}
 use Rattle.mc_model.specs.Mode.{high_mode, is_over}
 use Rattle.mc_model.specs.Key.{key}
 use Rattle.mc_model.proofs.Fold.{pending, stays, Legal}
-use Rattle.mc_model.proofs.Lists.{Each, Each-all, Each-both, Each-filter, total, total_spend, Each-filter_if}
+use Rattle.mc_model.specs.Sums.{total}
+use Rattle.mc_model.proofs.Lists.{Each, Each-all, Each-both, Each-filter, Each-filter_if}
+use Rattle.mc_model.proofs.Sums.{total_spend}
 use Rattle.mc_model.proofs.Steps.{ReleaseFits, release_fits, TickFits}
 use Rattle.mc_model.proofs.Tasks.{IsKnown}
 use Rattle.mc_model.proofs.Live.{IsLiveOk}

@@ -15,7 +15,9 @@ use Rattle.mc_model.specs.Legal.{none_below}
 use Rattle.mc_model.specs.Mode.{high_mode}
 use Rattle.mc_model.specs.Key.{key, scale, low_offset}
 use Rattle.mc_model.proofs.Fold.{pending, stays, Legal}
-use Rattle.mc_model.proofs.Lists.{Each, Each-all, Each-both, total, total_spend}
+use Rattle.mc_model.specs.Sums.{total}
+use Rattle.mc_model.proofs.Lists.{Each, Each-all, Each-both}
+use Rattle.mc_model.proofs.Sums.{total_spend}
 use Rattle.mc_model.proofs.Steps.{ReleaseFits, release_fits, TickFits, tick_fits, idle_fits}
 use Rattle.mc_model.proofs.Live.{IsLiveOk, live_ok, low_budget}
 use Rattle.demand_law.proofs.Sums.{sum_tasks, added, sum-added}

@@ -16,7 +16,9 @@ use Rattle.mc_model.specs.Mode.{high_mode}
 use Rattle.mc_model.specs.Key.{key}
 use Rattle.mc_model.proofs.Fold.{pending, stays, Legal}
 use Rattle.mc_model.proofs.Jobs.{same_live, is_in, live_eq}
-use Rattle.mc_model.proofs.Lists.{Each, Each-all, total, total-filter}
+use Rattle.mc_model.specs.Sums.{total}
+use Rattle.mc_model.proofs.Lists.{Each, Each-all}
+use Rattle.mc_model.proofs.Sums.{total-filter_less}
 use Rattle.mc_model.proofs.Steps.{ReleaseFits, release_fits, TickFits, tick_fits, idle_fits}
 use Rattle.mc_model.proofs.Tasks.{IsKnown, known}
 use Rattle.mc_model.proofs.Live.{IsLiveOk, live_ok}
@@ -82,7 +84,7 @@ low_tick set p q e x j how g mark ok fits low (inr w) c = go (none_below set (Vi
     go false m = ledger_tick set p q e x.release j how g (owed set p q e x.release (Tick j how ∷ g)) (owed set p q e x.release g) (busy_tick set p q e x.release j how g mark.pos mark.scale mark.order ok fits low m) c
     go true m =
         let z : total (owes set p q e x.release g) (pending set g) ≡ 0 = none_owed set p q e x.release g g w (pending set g) ok m in
-        let f = total-filter (owes set p q e x.release g) (owes set p q e x.release (Tick j how ∷ g)) (stays set j how) (pending set g) (Each-all (λ y. weight_falls _ _ _ _) (pending set g)) in
+        let f = total-filter_less (owes set p q e x.release g) (owes set p q e x.release (Tick j how ∷ g)) (stays set j how) (pending set g) (Each-all (λ y. weight_falls _ _ _ _) (pending set g)) in
         ledger_less set p q e x.release (Tick j how ∷ g) (owed set p q e x.release (Tick j how ∷ g)) 0 (omega (arith, z, f)) (ledger_fresh set p q e x.release (Tick j how ∷ g) w)
 
 -- a release that counts, counts in one of the three ways

@@ -10,11 +10,11 @@ use Rattle.mc_model.specs.declared.row.Row.TheVariants.{Release, Tick, Idle}
 use Rattle.mc_model.specs.Holds.{Holds}
 use Rattle.mc_model.specs.TaskNumbers.{is_high_in}
 use Rattle.mc_model.specs.Mode.{high_mode}
-use Rattle.mc_model.specs.Pending.{Live, released, ended, over_since, is_live}
+use Rattle.mc_model.specs.Pending.{Live, released, ended, over_since}
 use Rattle.mc_model.specs.Rows.{ticks}
 use Rattle.mc_model.specs.Legal.{Legal, same_bool}
 use Rattle.mc_model.specs.Late.{up_to, deadline, is_late}
-use Rattle.mc_model.specs.Promise.{rows_at, OneAtATime, EndsInTime, IsDiscarded, MeetsDeadline, DropsByOverrun, KeepsDeadlines}
+use Rattle.mc_model.specs.Promise.{rows_at, OneAtATime, MeetsDeadline, DropsByOverrun, KeepsDeadlines}
 use Rattle.mc_model.proofs.Booleans.{eqb-false}
 use Rattle.mc_model.proofs.Lists.{Each-map}
 use Rattle.mc_model.proofs.Bridge.{IsBridged, bridge}

@@ -19,7 +19,9 @@ use Rattle.mc_model.specs.Mode.{high_mode}
 use Rattle.mc_model.specs.Key.{key}
 use Rattle.mc_model.proofs.Fold.{pending, Legal}
 use Rattle.mc_model.proofs.Jobs.{is_in, same_live-refl, each_in}
-use Rattle.mc_model.proofs.Lists.{Each, Each-map, Each-both, total, total-mono}
+use Rattle.mc_model.specs.Sums.{total}
+use Rattle.mc_model.proofs.Lists.{Each, Each-map, Each-both}
+use Rattle.mc_model.proofs.Sums.{total-mono}
 use Rattle.mc_model.proofs.Steps.{release_fits, tick_fits}
 use Rattle.mc_model.proofs.Tasks.{known, at_index}
 use Rattle.mc_model.proofs.Live.{IsLiveOk, live_ok}

@@ -1,7 +1,5 @@
 -- Rows with a good verdict are a trace.
-use Rattle.std.proofs.Common.{◌≡◌, true, List, [], ◌∷◌, ◌++◌, All, reverse, subst, sym}
-use Rattle.std.specs.List.{AllByRecursion}
-use Rattle.std.proofs.lemmas.List.{reverse-append}
+use Rattle.std.proofs.Common.{◌≡◌, true, List, All, reverse}
 use Rattle.mc_task.specs.declared.task.Rule.{Rule}
 use Rattle.mc_task.specs.declared.task.Task.{Task}
 use Rattle.mc_task.proofs.TaskLemmas.{each_of_all}
@@ -11,22 +9,15 @@ use Rattle.mc_model.specs.Legal.{IsOfSet}
 use Rattle.mc_model.specs.Late.{late}
 use Rattle.mc_model.specs.Traces.{IsTraceOf}
 use Rattle.mc_model.specs.Verdict.{verdict, first_fault}
+use Rattle.mc_model.proofs.Lists.{Each-reverse}
 use Rattle.mc_model.proofs.Verdicts.{legal_by_verdict}
 use Rattle.edfvd_program.specs.Answer.{is_good}
 use Rattle.edfvd_program.proofs.Judged.{no_fault_in}
-
-each_append : {X : Type 0} (P : X → Type 0) (xs ys : List X) → AllByRecursion P xs → AllByRecursion P ys → AllByRecursion P (xs ++ ys)
-each_append P [] ys h k = k
-each_append P (x ∷ xs) ys h k = (h.0, each_append P xs ys h.1 k)
-
-each_reverse : {X : Type 0} (P : X → Type 0) (xs : List X) → AllByRecursion P xs → AllByRecursion P (reverse xs)
-each_reverse P [] h = tt
-each_reverse P (x ∷ xs) h = subst (AllByRecursion P) (sym (reverse-append (x ∷ []) xs)) (each_append P (reverse xs) (x ∷ []) (each_reverse P xs h.1) (h.0, tt))
 
 pub good_trace : (set : List Task) (rule : Rule) (rows : List Row) → Fits rule → All (IsOfSet set) rows → is_good (verdict set rule (reverse rows)) ≡ true → IsTraceOf set (reverse rows)
 good_trace set rule rows fits of good = record {
   rule = rule;
   fits = fits;
-  legal = legal_by_verdict set rule (reverse rows) (each_reverse (IsOfSet set) rows (each_of_all (IsOfSet set) rows of))
+  legal = legal_by_verdict set rule (reverse rows) (Each-reverse (IsOfSet set) rows (each_of_all (IsOfSet set) rows of))
       (no_fault_in (first_fault set rule (reverse rows)) (late set (reverse rows)) good);
 }

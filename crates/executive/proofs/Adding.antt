@@ -10,13 +10,15 @@ use Rattle.executive.specs.declared.entry.Call.{Call}
 use Rattle.executive.specs.declared.entry.Answer.{Answer}
 use Rattle.executive.specs.declared.entry.Entry.{Entry}
 use Rattle.executive.specs.Histories.{MayCall, answer_to, after_call, after, IsLegalEntry, IsLegal, calls_of, seat_number}
-use Rattle.executive.specs.Counts.{released, ticked, ended, idled, total, tally, with_answer, IsAtMost}
+use Rattle.mc_model.specs.Sums.{total}
+use Rattle.executive.specs.Counts.{released, ticked, ended, idled, tally, with_answer, IsAtMost}
 use Rattle.executive.specs.Stands.{opening_of, IsKept, Stands}
 use Rattle.executive.specs.Seats.{Lists, floor_seen, job_out}
 use Rattle.executive.specs.declared.executive.Executive.{Executive}
 use Rattle.executive.specs.Passes.{Adds, job_then, floor_of}
 use Rattle.executive.proofs.Histories.{opening_call, opening_after, after_more, legal_more, out_own, still_out, may_still, own_calls}
-use Rattle.executive.proofs.Counting.{IsEmpty, AreFew, are_few, total-append}
+use Rattle.mc_model.proofs.Sums.{total-append}
+use Rattle.executive.proofs.Counting.{IsEmpty, AreFew, are_few}
 
 -- the calls of the task up to this turn are those that it made
 pub still_own : (f : FloorState) (log mine : List Entry) (n k : ℕ) → IsLegal f log → 1 ≤ k → n ≡ k - 1 → mine ≡ made_by seat_number n log → mine ≡ calls_of k log

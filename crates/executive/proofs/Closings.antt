@@ -24,7 +24,8 @@ use Rattle.executive.specs.declared.pass.TaskPass.{TaskPass}
 use Rattle.executive.specs.declared.pass.Resting.{Resting}
 use Rattle.executive.specs.declared.executive.Executive.{Executive}
 use Rattle.executive.specs.Histories.{IsLegal, after, calls_of, seat_number}
-use Rattle.executive.specs.Counts.{total, idled, tally, ticks_of, ends_of, idle_ticks}
+use Rattle.mc_model.specs.Sums.{total}
+use Rattle.executive.specs.Counts.{idled, tally, ticks_of, ends_of, idle_ticks}
 use Rattle.executive.specs.Stands.{opening_of, IsKept}
 use Rattle.executive.specs.Seats.{lists, job_out, floor_or_none}
 use Rattle.executive.specs.Passes.{of_pass, of_resting, floor_of, IsPassOf}

@@ -1,5 +1,5 @@
 -- The rows of a task, with the releases that are held, are as many as the answers to its calls say.
-use Rattle.std.proofs.Common.{◌≡◌, ℕ, ◌≤◌, ◌+◌, ◌==◌, List, [], ◌∷◌, ◌++◌, length, Bool, true, false, Option, Some, None, Ok, Err, refl, ap, sym, ◌∙◌, arith, cond}
+use Rattle.std.proofs.Common.{◌≡◌, ℕ, ◌≤◌, ◌+◌, ◌==◌, List, [], ◌∷◌, length, Bool, true, false, Option, Some, None, Ok, Err, refl, ap, sym, ◌∙◌, arith, cond}
 use Rattle.std.proofs.lemmas.Bool.{eqb-true}
 use Rattle.mc_task.specs.declared.task.Task.{Task}
 use Rattle.mc_task.specs.declared.task.Rule.{Rule}
@@ -25,12 +25,9 @@ use Rattle.executive.specs.declared.entry.Call.TheVariants.{Release, Take, Outco
 use Rattle.executive.specs.declared.entry.Answer.{Answer}
 use Rattle.executive.specs.declared.entry.Answer.TheVariants.{Released, Taken, Told, Idled, Next}
 use Rattle.executive.specs.Histories.{MayCall, answer_to, after_call, after, IsLegal, calls_of}
-use Rattle.executive.specs.Counts.{released, ticked, ended, idled, total, ticks_of, ends_of, idle_ticks}
+use Rattle.mc_model.specs.Sums.{total}
+use Rattle.executive.specs.Counts.{released, ticked, ended, idled, ticks_of, ends_of, idle_ticks}
 use Rattle.executive.proofs.Histories.{with_core, of_both, of_both_cores, of_both_rows}
-
-pub total-append : {A : Type 0} (f : A → ℕ) (xs ys : List A) → total f (xs ++ ys) ≡ total f xs + total f ys
-total-append f [] ys = omega arith
-total-append f (x ∷ xs) ys = omega (arith, total-append f xs ys)
 
 -- the answers in a history that count for one number are those to its own calls
 pub total_own : (by : Entry → ℕ) (f : Answer → ℕ) (k : ℕ) (log : List Entry) → total (λ (e : Entry). cond (by e == k) (f e.answer) 0) log ≡ total (λ (e : Entry). f e.answer) (made_by by k log)

@@ -8,7 +8,7 @@ use Rattle.timetable.specs.Floor.{FloorState}
 use Rattle.executive.specs.declared.entry.Entry.{Entry}
 use Rattle.executive.specs.declared.entry.Answer.{Answer}
 use Rattle.executive.specs.Histories.{after_call, IsLegal, seat_number}
-use Rattle.executive.specs.Counts.{total}
+use Rattle.mc_model.specs.Sums.{total}
 use Rattle.executive.proofs.Histories.{opening_call}
 use Rattle.executive.proofs.Counting.{total_own}
 

@@ -13,7 +13,8 @@ use Rattle.executive.specs.declared.entry.Entry.{Entry}
 use Rattle.executive.specs.declared.pass.Resting.{Resting}
 use Rattle.executive.specs.declared.pass.TaskPass.{TaskPass}
 use Rattle.executive.specs.Histories.{after, IsLegal, calls_of}
-use Rattle.executive.specs.Counts.{ticks_of, ends_of, idle_ticks, total}
+use Rattle.mc_model.specs.Sums.{total}
+use Rattle.executive.specs.Counts.{ticks_of, ends_of, idle_ticks}
 use Rattle.executive.specs.Stands.{IsKept, opening_of}
 use Rattle.executive.specs.Passes.{PassState, of_pass}
 

@@ -3,6 +3,7 @@ use Rattle.std.specs.Prelude.{ℕ, ◌+◌, ◌≤◌, ◌==◌, List, [], ◌�
 use Rattle.mc_model.specs.declared.row.Row.{Row}
 use Rattle.mc_model.specs.declared.row.Row.TheVariants as row
 use Rattle.mc_model.specs.Pending.{is_end}
+use Rattle.mc_model.specs.Sums.{total}
 use Rattle.executive.specs.declared.count.Count.{Count}
 use Rattle.executive.specs.declared.entry.Entry.{Entry}
 use Rattle.executive.specs.declared.entry.Answer.{Answer}
@@ -43,11 +44,6 @@ idled (Released r) = 0
 idled (Taken r) = 0
 idled (Told r) = 0
 idled (Next a) = 0
-
--- what each element counts, added up
-abbrev pub total : {A : Type 0} → (A → ℕ) → List A → ℕ
-total f [] = 0
-total f (x ∷ xs) = f x + total f xs
 
 -- what the answers of these calls count
 abbrev pub tally : List Entry → Count

@@ -14,6 +14,7 @@ pub mod RuleCases
 pub mod RuleHolds
 pub mod ScaledHolds
 pub mod Steps
+pub mod Sums
 pub mod Tasks
 pub mod Tests
 pub mod ThreeQuarters

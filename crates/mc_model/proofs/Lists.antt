@@ -1,15 +1,11 @@
--- Facts on each element of a list, filters, and sums over lists.
-use Rattle.std.proofs.Common.{◌≡◌, ℕ, ◌+◌, ◌≤◌, Bool, true, false, ◌&&◌, ◌||◌, List, [], ◌∷◌, cond, filter, refl, ap, arith}
+-- Facts on each element of a list, and filters.
+use Rattle.std.proofs.Common.{◌≡◌, Bool, true, false, ◌&&◌, ◌||◌, List, [], ◌∷◌, ◌++◌, cond, filter, reverse, refl, sym, ap, subst}
 use Rattle.std.specs.List.{AllByRecursion}
+use Rattle.std.proofs.lemmas.List.{reverse-append}
 
 -- each element of the list has the property
 abbrev pub Each : {X : Type 0} → (X → Type 0) → List X → Type 0
 Each P xs = AllByRecursion P xs
-
--- the sum of a number of each element
-abbrev pub total : {X : Type 0} → (X → ℕ) → List X → ℕ
-total f [] = 0
-total f (x ∷ xs) = f x + total f xs
 
 -- an element passes the test
 abbrev pub any : {X : Type 0} → (X → Bool) → List X → Bool
@@ -66,41 +62,12 @@ pub filter_none : {X : Type 0} (p : X → Bool) → (xs : List X) → Each (λ x
 filter_none p [] h = refl
 filter_none p (x ∷ xs) h = rw h.0 (filter_none p xs h.1)
 
--- what a filter keeps, at less, is less
-pub total-filter : {X : Type 0} (f g : X → ℕ) (p : X → Bool) → (xs : List X) → Each (λ x. g x ≤ f x) xs → total g (filter p xs) ≤ total f xs
-total-filter f g p [] h = omega arith
-total-filter f g p (x ∷ xs) h =
-    let ih : total g (filter p xs) ≤ total f xs = total-filter f g p xs h.1 in
-    let here : g x ≤ f x = h.0 in
-    elim (p x) as (λ b. total g (cond b (x ∷ filter p xs) (filter p xs)) ≤ f x + total f xs)
-    [ true ↦ omega arith | false ↦ omega arith ]
+-- what is so of the elements of two lists is so of those of one behind the other
+pub Each-append : {X : Type 0} (P : X → Type 0) (xs ys : List X) → Each P xs → Each P ys → Each P (xs ++ ys)
+Each-append P [] ys h k = k
+Each-append P (x ∷ xs) ys h k = (h.0, Each-append P xs ys h.1 k)
 
--- where one element, the one that is meant, loses at least one, so does the sum
-pub total_spend :
-    {X : Type 0} (f g : X → ℕ) (p mine : X → Bool) → (xs : List X) → Each (λ x. g x ≤ f x) xs →
-    Each (λ x. mine x ≡ true → g x + 1 ≤ f x) xs → any mine xs ≡ true → total g (filter p xs) + 1 ≤ total f xs
-total_spend f g p mine [] h k e = grind arith
-total_spend f g p mine (x ∷ xs) h k e = here (total_spend f g p mine xs h.1 k.1) (mine x) refl
-  where
-    rest : total g (filter p xs) ≤ total f xs
-    rest = total-filter f g p xs h.1
-
-    here : (any mine xs ≡ true → total g (filter p xs) + 1 ≤ total f xs) → (b : Bool) → mine x ≡ b → total g (cond (p x) (x ∷ filter p xs) (filter p xs)) + 1 ≤ f x + total f xs
-    here ih true m =
-        let spent : g x + 1 ≤ f x = k.0 m in
-        let r : total g (filter p xs) ≤ total f xs = rest in
-        elim (p x) as (λ b. total g (cond b (x ∷ filter p xs) (filter p xs)) + 1 ≤ f x + total f xs)
-        [ true ↦ omega arith | false ↦ omega arith ]
-    here ih false m =
-        let e' : any mine xs ≡ true = rw m at e in
-        let less : total g (filter p xs) + 1 ≤ total f xs = ih e' in
-        let same : g x ≤ f x = h.0 in
-        elim (p x) as (λ b. total g (cond b (x ∷ filter p xs) (filter p xs)) + 1 ≤ f x + total f xs)
-        [ true ↦ omega arith | false ↦ omega arith ]
-
--- less of each element is a lesser sum
-pub total-mono : {X : Type 0} (f g : X → ℕ) → (xs : List X) → Each (λ x. g x ≤ f x) xs → total g xs ≤ total f xs
-total-mono f g [] h = omega arith
-total-mono f g (x ∷ xs) h =
-    let ih : total g xs ≤ total f xs = total-mono f g xs h.1 in
-    let here : g x ≤ f x = h.0 in omega arith
+-- and so of the elements turned round
+pub Each-reverse : {X : Type 0} (P : X → Type 0) (xs : List X) → Each P xs → Each P (reverse xs)
+Each-reverse P [] h = tt
+Each-reverse P (x ∷ xs) h = subst (Each P) (sym (reverse-append (x ∷ []) xs)) (Each-append P (reverse xs) (x ∷ []) (Each-reverse P xs h.1) (h.0, tt))

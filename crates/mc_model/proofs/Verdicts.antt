@@ -7,7 +7,6 @@ use Rattle.mc_task.specs.declared.task.JobId.{JobId}
 use Rattle.mc_task.specs.Faults.{or_else}
 use Rattle.mc_model.specs.declared.row.Row.{Row}
 use Rattle.mc_model.specs.declared.verdict.Why.{Why}
-use Rattle.mc_model.specs.declared.verdict.Verdict.{Verdict}
 use Rattle.mc_model.specs.Late.{late}
 use Rattle.mc_model.specs.Legal.{Legal, IsOfSet, fault}
 use Rattle.mc_model.specs.Verdict.{RowFault, first_fault, verdict, verdict_of}

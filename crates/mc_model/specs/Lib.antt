@@ -17,3 +17,4 @@ pub mod Traces
 pub mod Promise
 pub mod Verdict
 pub mod VerdictText
+pub mod Sums

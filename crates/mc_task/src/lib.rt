@@ -2,7 +2,7 @@
 #![tactic(auto)]
 
 mod name;
-mod places;
+mod name_table;
 mod set;
 mod task;
 #[cfg(test)]

@@ -2,7 +2,7 @@ ghost use Rattle.std.specs.Prelude.{◌≡◌, ◌≤◌, ◌↔◌, length, IfO
 ghost use Rattle.mc_task.specs.TaskSet.{IsSet, IsTask, IsIn, task_at};
 ghost use Rattle.mc_task.specs.Faults.{first_fault, same_name_from, number_fault, number_fault_from, named};
 
-use crate::places::{Places, numbered_task};
+use crate::name_table::{NameTable, numbered_task};
 use crate::{Level, Task, TaskNo};
 use std::alloc::Global;
 use std::marker::Model;
@@ -30,7 +30,7 @@ pub enum SetFault {
 #[derive(Debug, Drop)]
 pub struct TaskSet {
     tasks: Vec<Task>,
-    places: Places,
+    names: NameTable,
 }
 
 impl Model for TaskSet {
@@ -54,7 +54,7 @@ impl TaskSet {
         match fault_of(&tasks) {
             Some(fault) => Err(fault),
             None => Ok(TaskSet {
-                places: Places::new(&tasks),
+                names: NameTable::new(&tasks),
                 tasks,
             }),
         }
@@ -81,7 +81,7 @@ impl TaskSet {
         ensures number { option_map (λ task. task.0) result ≡ named name.now self.now }
         ensures inside { IfSome result (λ task. IsIn self.now task.0) }
     {
-        match self.places.find(&self.tasks, name) {
+        match self.names.find(&self.tasks, name) {
             Some(task) => Some(task),
             None => numbered(&self.tasks, name),
         }
@@ -93,7 +93,7 @@ impl TaskSet {
     {
         match self.tasks.to_vec(alloc) {
             Ok(tasks) => Ok(TaskSet {
-                places: self.places,
+                names: self.names,
                 tasks,
             }),
             Err(_) => Err(Memory),

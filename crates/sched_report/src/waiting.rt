@@ -1,7 +1,8 @@
 // The release times of the pending jobs.
 ghost use Rattle.std.specs.Prelude.{◌≡◌, OnOk, Some, None};
 ghost use Rattle.mc_task.specs.declared.task.JobId.{JobId};
-ghost use Rattle.mc_task.specs.declared.task.Level.TheVariants.{High};
+ghost use Rattle.mc_task.specs.declared.task.Level.{Level};
+ghost use Rattle.mc_task.specs.declared.task.Level.TheVariants.{Low, High};
 ghost use Rattle.sched_report.specs.Waiting.{release_in, ChangesOnly};
 
 use mc_task::{JobId, Level};
@@ -16,7 +17,10 @@ pub struct Waiting {
 }
 
 impl Waiting {
-    pub fn new(alloc: Global) -> Waiting {
+    // No job is pending.
+    pub fn new(alloc: Global) -> Waiting
+        ensures { (level : Level) (job : JobId) → release_in result level job ≡ None }
+    {
         Waiting {
             low: BTreeMap::new(alloc),
             high: BTreeMap::new(alloc),
@@ -49,7 +53,8 @@ impl Waiting {
 
     // Discards the jobs of low tasks.
     pub fn discard(&mut self)
-        ensures { (job : JobId) → release_in self.new High job ≡ release_in self.old High job }
+        ensures low { (job : JobId) → release_in self.new Low job ≡ None }
+        ensures high { (job : JobId) → release_in self.new High job ≡ release_in self.old High job }
     {
         self.low.clear();
     }

@@ -10,7 +10,8 @@ use Rattle.mc_model.specs.TaskNumbers.{period_in}
 use Rattle.mc_model.specs.Follows.{Arrival}
 use Rattle.mc_model.proofs.Lists.{Each, Each-map, Each-filter_if}
 use Rattle.set_gen.specs.MadeWork.{is_released, releases_at, releases_below}
-use Rattle.set_gen.proofs.Ranges.{each-map, each-range, each-append}
+use Rattle.set_gen.proofs.Ranges.{each-map, each-range}
+use Rattle.mc_model.proofs.Lists.{Each-append}
 
 -- of two multiples of a gap the later one is at least the gap later
 pub later_multiple : (gap a b : ℕ) → 1 ≤ gap → a % gap ≡ 0 → b % gap ≡ 0 → a < b → a + gap ≤ b
@@ -31,7 +32,7 @@ IsPlan set (a ∷ more) = IsIn set a.task × Each (Apart set a) more × IsPlan s
 
 plan-append : (set : List Task) (xs ys : List Arrival) → IsPlan set xs → IsPlan set ys → Each (λ x. Each (Apart set x) ys) xs → IsPlan set (xs ++ ys)
 plan-append set [] ys h k across = k
-plan-append set (x ∷ xs) ys h k across = (h.0, each-append (Apart set x) xs ys h.1 across.0, plan-append set xs ys h.2 k across.1)
+plan-append set (x ∷ xs) ys h k across = (h.0, Each-append (Apart set x) xs ys h.1 across.0, plan-append set xs ys h.2 k across.1)
 
 -- the gaps of a set: each is at least its task's period, which is not 0
 pub record AreFar (set : List Task) (gaps : List ℕ) : Type 0 where
@@ -61,7 +62,7 @@ at_boundary gaps r =
 pub below_boundary : (gaps : List ℕ) (r : ℕ) → Each (λ a. IsRelease gaps a × (a.at < r)) (releases_below gaps r)
 below_boundary gaps zero = tt
 below_boundary gaps (suc r) =
-    each-append (λ a. IsRelease gaps a × (a.at < suc r)) (releases_below gaps r) (releases_at gaps r)
+    Each-append (λ a. IsRelease gaps a × (a.at < suc r)) (releases_below gaps r) (releases_at gaps r)
     (Each-map (λ a h. (h.0, (let less : a.at < r = h.1 in omega arith))) (releases_below gaps r) (below_boundary gaps r))
     (Each-map (λ a h. (h.0, (let same : a.at ≡ r = h.1 in omega arith))) (releases_at gaps r) (at_boundary gaps r))
 

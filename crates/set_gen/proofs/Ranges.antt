@@ -1,7 +1,7 @@
 -- Lists that are made from consecutive numbers.
 use Rattle.std.proofs.Common.{◌≡◌, ℕ, zero, suc, ◌+◌, ◌*◌, ◌<◌, ◌≤◌, Bool, true, false, cond, filter, List, [], ◌∷◌, ◌++◌, map, length, Some, slice_get, refl, ap, ◌∙◌, arith}
 use Rattle.std.specs.List.{range_with_len, AllByRecursion}
-use Rattle.mc_model.proofs.Lists.{total}
+use Rattle.mc_model.specs.Sums.{total}
 
 -- what is so of f at each of the numbers is so of each element
 pub each-map-range : {X : Type 0} (P : X → Type 0) (f : ℕ → X) (a n : ℕ) → ((i : ℕ) → a ≤ i → i < a + n → P (f i)) → AllByRecursion P (map f (range_with_len a n))
@@ -21,25 +21,10 @@ slice_get-map-range f a (suc n) (suc i) h =
     let e : (a + 1) + i ≡ a + suc i = omega arith in
     slice_get-map-range f (a + 1) n i (omega arith) ∙ ap (λ k. Some (f k)) e
 
--- a sum over two lists
-pub total-append : {X : Type 0} (g : X → ℕ) (xs ys : List X) → total g (xs ++ ys) ≡ total g xs + total g ys
-total-append g [] ys = omega arith
-total-append g (x ∷ xs) ys = let more : total g (xs ++ ys) ≡ total g xs + total g ys = total-append g xs ys in omega arith
-
 -- what is so of f at each element is so of each element that f makes
 pub each-map : {X Y : Type 0} (P : Y → Type 0) (f : X → Y) (xs : List X) → AllByRecursion (λ x. P (f x)) xs → AllByRecursion P (map f xs)
 each-map P f [] h = tt
 each-map P f (x ∷ xs) h = (h.0, each-map P f xs h.1)
-
--- what is so of the elements of two lists is so of those of one behind the other
-pub each-append : {X : Type 0} (P : X → Type 0) (xs ys : List X) → AllByRecursion P xs → AllByRecursion P ys → AllByRecursion P (xs ++ ys)
-each-append P [] ys h k = k
-each-append P (x ∷ xs) ys h k = (h.0, each-append P xs ys h.1 k)
-
--- sums that are added
-pub total-add : {X : Type 0} (f g : X → ℕ) (xs : List X) → total f xs + total g xs ≡ total (λ x. f x + g x) xs
-total-add f g [] = omega arith
-total-add f g (x ∷ xs) = let more : total f xs + total g xs ≡ total (λ x. f x + g x) xs = total-add f g xs in omega arith
 
 -- a sum of zeros
 pub total-zero : {X : Type 0} (xs : List X) → total (λ x. 0) xs ≡ 0

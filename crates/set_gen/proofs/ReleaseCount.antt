@@ -6,9 +6,10 @@ use Rattle.std.proofs.lemmas.List.{length-map}
 use Rattle.std.proofs.lemmas.List.FromFn.{length-range_with_len}
 use Rattle.std.proofs.lemmas.Nat.Gcd.{dvd_of_mod-eq-zero}
 use Rattle.std.proofs.Math.Nat.{mul-div_cancel', mul-le-mul_right}
-use Rattle.mc_model.proofs.Lists.{total}
+use Rattle.mc_model.specs.Sums.{total}
+use Rattle.mc_model.proofs.Sums.{total-add}
 use Rattle.set_gen.specs.MadeWork.{is_released, releases_at, releases_below}
-use Rattle.set_gen.proofs.Ranges.{each-range, total-add, total-zero, total-most, length-filter}
+use Rattle.set_gen.proofs.Ranges.{each-range, total-zero, total-most, length-filter}
 
 -- how many multiples of a gap are below r
 times : ℕ → ℕ → ℕ
@@ -56,7 +57,7 @@ below gaps (suc r) =
     length-append (releases_below gaps r) (releases_at gaps r)
     ∙ ap (λ z. z + length (releases_at gaps r)) (below gaps r)
     ∙ ap (λ z. total (λ i. times (slice_index gaps (i - 1)) r) (range_with_len 1 (length gaps)) + z) (one_boundary gaps r)
-    ∙ total-add (λ i. times (slice_index gaps (i - 1)) r) (λ i. cond (r % slice_index gaps (i - 1) == 0) 1 0) (range_with_len 1 (length gaps))
+    ∙ sym (total-add (λ i. times (slice_index gaps (i - 1)) r) (λ i. cond (r % slice_index gaps (i - 1) == 0) 1 0) (range_with_len 1 (length gaps)))
 
 -- gaps of at least 200 ticks: below 1,000,000 ticks each task has at most 5,000 releases
 pub few_releases : (gaps : List ℕ) (r : ℕ) → ((i : ℕ) → 1 ≤ i → i ≤ length gaps → 200 ≤ slice_index gaps (i - 1)) → length gaps ≤ 32 → r ≤ 1000000 → length (releases_below gaps r) ≤ 1000000

@@ -10,12 +10,13 @@ use Rattle.std.proofs.Math.Nat.{mul-div_cancel', mul-le-mul_right, mul-le-mul_le
 use Rattle.rand_pcg.specs.Lcg.{Lcg}
 use Rattle.mc_task.specs.declared.task.Task.{Task}
 use Rattle.mc_model.specs.Loads.{product, load, load_ll, load_hl, load_hh, low_low, high_low, high_high, by_level, lcm_from}
-use Rattle.mc_model.proofs.Lists.{total, Each-map}
+use Rattle.mc_model.specs.Sums.{total}
+use Rattle.mc_model.proofs.Lists.{Each-map}
 use Rattle.mc_model.proofs.Hyperperiod.{periods-dvd, lcm_from-dvd}
 use Rattle.set_gen.specs.Words.{word, rest}
 use Rattle.set_gen.specs.MadeSet.{period, is_odd, high_tasks, low_tasks, high_task, low_task, made_task, words_for, made_set}
 use Rattle.set_gen.proofs.Periods.{period-IsPeriod}
-use Rattle.set_gen.proofs.Ranges.{total-append}
+use Rattle.mc_model.proofs.Sums.{total-append}
 use Rattle.set_gen.proofs.MadeTasks.{by_parity, made_set-each}
 
 -- the budget is at most share parts of the period, each part a c-th

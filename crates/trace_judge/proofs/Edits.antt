@@ -13,11 +13,11 @@ use Rattle.mc_task.specs.declared.task.Task.{Task}
 use Rattle.mc_task.specs.TaskSet.{task_at}
 use Rattle.mc_model.specs.TaskNumbers.{is_high_in}
 use Rattle.mc_model.proofs.Booleans.{or_left, or_right}
-use Rattle.trace_judge.specs.Total.{total, when}
+use Rattle.mc_model.specs.Sums.{total, when}
 use Rattle.trace_judge.specs.declared.waiting.Pending.{Pending}
 use Rattle.trace_judge.specs.Entries.{Rank, Entry, rank_cmp, is_of, pending_in, ticked, spent, spent_from}
 use Rattle.trace_judge.specs.Switch.{switched, rekeyed}
-use Rattle.trace_judge.proofs.Totals.{one}
+use Rattle.mc_model.proofs.Sums.{one}
 use Rattle.trace_judge.proofs.Entries.{same_rank, rank_of, pair, triple, found_positive, none_pending}
 
 -- one entry more

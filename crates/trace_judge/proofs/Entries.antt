@@ -11,10 +11,10 @@ use Rattle.std.specs.declared.cmp.Ordering.TheVariants.{Less, Equal, Greater}
 use Rattle.std.specs.List.Sorted.{IsStrictlySortedBy}
 use Rattle.mc_task.specs.declared.task.JobId.{JobId}
 use Rattle.mc_model.proofs.Booleans.{and_both, or_true}
-use Rattle.trace_judge.specs.Total.{total, when}
+use Rattle.mc_model.specs.Sums.{total, when}
 use Rattle.trace_judge.specs.declared.waiting.Pending.{Pending}
 use Rattle.trace_judge.specs.Entries.{Rank, Entry, rank_cmp, is_key_of, is_of, pending_in, least_in, first_rank}
-use Rattle.trace_judge.proofs.Totals.{one}
+use Rattle.mc_model.proofs.Sums.{one}
 
 -- the job has an entry where one of the ranks is its own
 pub any_keys : (j : JobId) (es : List Entry) → list_any (is_key_of j) (keys_of es) ≡ list_any (is_of j) es

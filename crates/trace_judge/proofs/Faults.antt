@@ -20,7 +20,7 @@ use Rattle.mc_model.specs.Mode.{high_mode, is_virtual}
 use Rattle.mc_model.specs.Key.{key}
 use Rattle.mc_model.specs.Legal.{Legal, is_pending, is_least, is_empty, none_below, fault, fault_among, first_of_parts, same_how}
 use Rattle.mc_model.proofs.Jobs.{job_eq}
-use Rattle.trace_judge.specs.Total.{total, when}
+use Rattle.mc_model.specs.Sums.{total, when}
 use Rattle.trace_judge.specs.declared.waiting.Pending.{Pending}
 use Rattle.trace_judge.specs.Entries.{Entry, rank_cmp, is_of, pending_in, least_in, Stands}
 use Rattle.trace_judge.specs.declared.state.TaskNote.{TaskNote}
@@ -30,7 +30,7 @@ use Rattle.trace_judge.specs.Steps.{release_why, note_at}
 use Rattle.trace_judge.specs.Rules.{allows}
 use Rattle.trace_judge.specs.Tracks.{Tracks, entry_of}
 use Rattle.trace_judge.specs.declared.waiting.Standing.TheVariants as standing
-use Rattle.trace_judge.proofs.Totals.{one, total-one}
+use Rattle.mc_model.proofs.Sums.{one, total-one}
 use Rattle.trace_judge.proofs.Same.{list_all-same, list_all-true, list_any-map, list_all-map, same_any, same_all}
 use Rattle.trace_judge.proofs.Entries.{found_passes, found_pending, found_least}
 use Rattle.trace_judge.proofs.Placed.{live_of, pending_is, one_waiting}

@@ -12,7 +12,7 @@ use Rattle.mc_model.specs.Rows.{same_job}
 use Rattle.mc_model.specs.Pending.{Live}
 use Rattle.mc_model.proofs.Jobs.{job_eq}
 use Rattle.mc_model.specs.Late.{is_late, late}
-use Rattle.trace_judge.specs.Total.{total}
+use Rattle.mc_model.specs.Sums.{total}
 use Rattle.trace_judge.specs.Placed.{Placed, placed}
 use Rattle.trace_judge.specs.Tracks.{late_job_in}
 use Rattle.trace_judge.specs.declared.lates.LateJob.{LateJob}

@@ -16,7 +16,7 @@ use Rattle.mc_model.specs.Key.{key_of}
 use Rattle.mc_model.specs.Legal.{Legal}
 use Rattle.mc_model.proofs.Bridge.{IsBridged, bridge}
 use Rattle.mc_model.proofs.Counts.{counted}
-use Rattle.trace_judge.specs.Total.{total, when}
+use Rattle.mc_model.specs.Sums.{total, when}
 use Rattle.trace_judge.specs.declared.waiting.Pending.{Pending}
 use Rattle.trace_judge.specs.Entries.{Entry, rank_cmp, is_of, pending_in}
 use Rattle.trace_judge.specs.declared.state.TaskNote.{TaskNote}
@@ -25,7 +25,7 @@ use Rattle.trace_judge.specs.Placed.{Placed, new_one, placed, waiting, gone_late
 use Rattle.trace_judge.specs.Steps.{Releases}
 use Rattle.trace_judge.specs.Tracks.{Tracks, entry_of, late_job_in}
 use Rattle.trace_judge.specs.Lates.{Counts}
-use Rattle.trace_judge.proofs.Totals.{less_filtered, one}
+use Rattle.mc_model.proofs.Sums.{less_filtered, one}
 use Rattle.trace_judge.proofs.Entries.{none_pending}
 use Rattle.trace_judge.proofs.Edits.{total-insert}
 use Rattle.trace_judge.proofs.Placed.{placed_count, release_count, waiting_is, none_placed}

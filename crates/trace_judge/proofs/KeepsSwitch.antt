@@ -15,7 +15,7 @@ use Rattle.mc_model.specs.Rows.{same_job, ticks, used}
 use Rattle.mc_model.specs.Mode.{high_mode, is_virtual}
 use Rattle.mc_model.specs.Key.{key, key_of}
 use Rattle.mc_model.specs.Legal.{Legal}
-use Rattle.trace_judge.specs.Total.{total, when}
+use Rattle.mc_model.specs.Sums.{total, when}
 use Rattle.trace_judge.specs.declared.waiting.Pending.{Pending}
 use Rattle.trace_judge.specs.Entries.{Entry, rank_cmp, is_of, spent, late_job_of}
 use Rattle.trace_judge.specs.declared.state.State.{State}
@@ -24,7 +24,7 @@ use Rattle.trace_judge.specs.Tracks.{Tracks, entry_of, late_job_in}
 use Rattle.trace_judge.specs.declared.lates.LateJob.{LateJob}
 use Rattle.trace_judge.specs.Switch.{switched, rekeyed, noted_each, Overruns, is_discarded_late}
 use Rattle.trace_judge.specs.Lates.{Counts}
-use Rattle.trace_judge.proofs.Totals.{total-same, one}
+use Rattle.mc_model.proofs.Sums.{total-same, one}
 use Rattle.trace_judge.proofs.Edits.{ticked_at, total-spent, moved, total-kept}
 use Rattle.trace_judge.proofs.Noted.{counts_same, counts_all}
 use Rattle.trace_judge.proofs.Faults.{apart}

@@ -19,7 +19,7 @@ use Rattle.mc_model.specs.Key.{key}
 use Rattle.mc_model.specs.Legal.{Legal}
 use Rattle.mc_model.proofs.Bridge.{IsBridged, bridge}
 use Rattle.mc_model.proofs.Steps.{idle_fits}
-use Rattle.trace_judge.specs.Total.{total, when}
+use Rattle.mc_model.specs.Sums.{total, when}
 use Rattle.trace_judge.specs.declared.waiting.Pending.{Pending}
 use Rattle.trace_judge.specs.Entries.{Entry, rank_cmp, is_of, late_job_of, late_job}
 use Rattle.trace_judge.specs.declared.state.State.{State}
@@ -29,7 +29,7 @@ use Rattle.trace_judge.specs.Rules.{is_due_at}
 use Rattle.trace_judge.specs.Tracks.{Tracks, entry_of, late_job_in}
 use Rattle.trace_judge.specs.declared.lates.LateJob.{LateJob}
 use Rattle.trace_judge.specs.Lates.{noted, Counts}
-use Rattle.trace_judge.proofs.Totals.{total-append, total-map, total-filter, total-ext}
+use Rattle.mc_model.proofs.Sums.{total-append, total-map, total-filter, total-ext}
 use Rattle.trace_judge.proofs.Edits.{ticked_at, taken_at, total-spent, total-remove, total-found}
 use Rattle.trace_judge.proofs.Noted.{IsSum, counts_same, counts_note}
 use Rattle.trace_judge.proofs.Placed.{live_of, pending_is}

@@ -14,9 +14,9 @@ use Rattle.mc_model.specs.Legal.{Legal}
 use Rattle.mc_model.proofs.Bridge.{IsBridged, bridge}
 use Rattle.mc_model.proofs.Steps.{release_fits}
 use Rattle.mc_model.specs.Late.{up_to, deadline, is_late, late}
-use Rattle.trace_judge.specs.Total.{total, when}
+use Rattle.mc_model.specs.Sums.{total, when}
 use Rattle.trace_judge.specs.Placed.{Placed, new_one, placed, waiting, stays, is_due, gone_late}
-use Rattle.trace_judge.proofs.Totals.{total-append, total-filter, total-ext, total-same, total-add}
+use Rattle.mc_model.proofs.Sums.{total-append, total-filter, total-ext, total-same, total-add}
 use Rattle.trace_judge.proofs.Placed.{others_live, new_live, waiting_is}
 
 -- whether a job is live in one or another trace

@@ -1,4 +1,3 @@
-pub mod Totals
 pub mod Same
 pub mod Entries
 pub mod Edits

@@ -16,10 +16,10 @@ use Rattle.mc_model.proofs.Jobs.{job_eq, same_job-refl}
 use Rattle.mc_model.proofs.Bridge.{IsBridged, bridge, other_job, tick_live, not_ended, or_not}
 use Rattle.mc_model.proofs.Steps.{release_fits}
 use Rattle.mc_model.proofs.Counts.{counted, grows, one_more}
-use Rattle.trace_judge.specs.Total.{total, when}
+use Rattle.mc_model.specs.Sums.{total, when}
 use Rattle.trace_judge.specs.Placed.{Placed, new_one, placed, waiting, stays}
 use Rattle.mc_model.proofs.Fold
-use Rattle.trace_judge.proofs.Totals.{less_filtered, one}
+use Rattle.mc_model.proofs.Sums.{less_filtered, one}
 use Rattle.trace_judge.proofs.Same.{filter-map}
 
 -- each kept release is one of the releases

@@ -2,8 +2,8 @@
 use Rattle.std.proofs.Common.{[], ◌≡◌, ℕ, ◌+◌, Bool, true, false, not, ◌&&◌, ◌||◌, List, ◌∷◌, cond, filter, map, refl, sym, ap, ◌∙◌, arith, ◌==◌, nat_lt}
 use Rattle.std.proofs.lemmas.Bool.Decides.{nat_tests}
 use Rattle.std.specs.List.{list_any, list_all}
-use Rattle.trace_judge.specs.Total.{total, when}
-use Rattle.trace_judge.proofs.Totals.{one, other}
+use Rattle.mc_model.specs.Sums.{total, when}
+use Rattle.mc_model.proofs.Sums.{one, other}
 
 -- some element passes where those that pass are counted above 0
 pub any_total : {X : Type 0} (p : X → Bool) → (xs : List X) → list_any p xs ≡ nat_lt 0 (total (when p one) xs)

@@ -1,5 +1,5 @@
 -- The verdict at the end.
-use Rattle.std.proofs.Common.{[], ◌≡◌, ◌+◌, ◌≤◌, List, ◌∷◌, ◌++◌, filter, map, refl, sym, ap, ◌∙◌, arith, ◌<◌, Some, None, subst, slice_get, length, ◌-◌, ◌^◌, min, option_map, reverse}
+use Rattle.std.proofs.Common.{[], ◌≡◌, ◌+◌, ◌≤◌, List, ◌∷◌, ◌++◌, filter, map, refl, sym, ap, ◌∙◌, arith, ◌<◌, Some, subst, slice_get, length, ◌-◌, ◌^◌, min, option_map, reverse}
 use Rattle.std.specs.List.{AllByRecursion}
 use Rattle.std.proofs.lemmas.List.{length-reverse, length-map}
 use Rattle.mc_task.specs.declared.task.Rule.{Rule}
@@ -15,7 +15,7 @@ use Rattle.mc_model.specs.Holds.{Holds}
 use Rattle.mc_model.specs.Verdict.{RowFault, first_fault, verdict, verdict_of, HasNoLate}
 use Rattle.mc_model.proofs.Verdicts.{no_fault}
 use Rattle.demand_law.proofs.Laws.{none_late}
-use Rattle.trace_judge.specs.Total.{total, when}
+use Rattle.mc_model.specs.Sums.{total, when}
 use Rattle.trace_judge.specs.Entries.{late_job_of}
 use Rattle.trace_judge.specs.declared.state.State.{State}
 use Rattle.trace_judge.specs.Placed.{Placed, placed, waiting, is_due}
@@ -25,7 +25,7 @@ use Rattle.trace_judge.specs.declared.lates.Lates.{Lates}
 use Rattle.trace_judge.specs.Switch.{noted_each, is_due_entry}
 use Rattle.trace_judge.specs.Lates.{Counts}
 use Rattle.mc_model.specs.declared.verdict.Verdict.TheVariants as verdicts
-use Rattle.trace_judge.proofs.Totals.{total-filter, total-same, less_filtered, total-one}
+use Rattle.mc_model.proofs.Sums.{total-filter, total-same, less_filtered, total-one}
 use Rattle.trace_judge.proofs.Noted.{counts_same, counts_all}
 use Rattle.trace_judge.proofs.Placed.{live_of, placed_le}
 use Rattle.trace_judge.proofs.LateTotal.{late_total}

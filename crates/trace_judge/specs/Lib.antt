@@ -1,4 +1,3 @@
-pub mod Total
 pub mod Rules
 pub mod Lates
 pub mod Entries

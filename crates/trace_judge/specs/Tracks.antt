@@ -10,7 +10,7 @@ use Rattle.mc_model.specs.Key.{key}
 use Rattle.mc_model.specs.Legal.{Legal, fault}
 use Rattle.trace_judge.specs.declared.lates.LateJob.{LateJob}
 use Rattle.trace_judge.specs.declared.state.State.{State}
-use Rattle.trace_judge.specs.Total.{total}
+use Rattle.mc_model.specs.Sums.{total}
 use Rattle.trace_judge.specs.Placed.{Placed, waiting, gone_late}
 use Rattle.trace_judge.specs.Lates.{Counts}
 use Rattle.trace_judge.specs.Entries.{Entry}

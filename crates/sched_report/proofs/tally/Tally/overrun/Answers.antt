@@ -15,7 +15,7 @@ returns c = λ t f.
           ∙ (c.switch_all.ensures
           ∙ ap (map with_switch) c.deref_mut.ensures.value
           ∙ ap (λ x. map with_switch (set c.args.self.now.tasks.items (c.args.job.task.0 - 1) x)) (c.with_tick.ensures ∙ ap (with_tick Over) here));
-      waiting = c.discard.ensures;
+      waiting = c.discard.ensures.high;
       tick = refl;
       idle = refl;
       switches = refl;

@@ -7,20 +7,20 @@ use crate::{Task, TaskNo};
 /// The numbers of at most 128 tasks, each at the first free place from that of its name on, and 0 at the other places. A
 /// number tells where to look: the name there is compared before it is believed.
 #[derive(Clone, Copy, Debug)]
-pub struct Places {
+pub struct NameTable {
     numbers: [u8; 256],
 }
 
-impl Places {
-    /// The places of these tasks.
-    pub fn new(tasks: &[Task]) -> Places
+impl NameTable {
+    /// The table of these tasks.
+    pub fn new(tasks: &[Task]) -> NameTable
         requires { length tasks.now ≤ 128 }
     {
-        let mut places = Places { numbers: [0; 256] };
+        let mut table = NameTable { numbers: [0; 256] };
         for (i, t) in tasks.iter().enumerate() {
-            places.put(i as u8 + 1, t.name.bytes());
+            table.put(i as u8 + 1, t.name.bytes());
         }
-        places
+        table
     }
 
     fn put(&mut self, number: u8, name: &[u8]) {
@@ -34,7 +34,7 @@ impl Places {
         }
     }
 
-    /// A task with this name, if one is found by the places.
+    /// A task with this name, where the table has it.
     pub fn find(&self, tasks: &[Task], name: &[u8]) -> Option<TaskNo>
         requires { length tasks.now ≤ 128 }
         ensures inside { IfSome result (λ task. IsIn tasks.now task.0) }

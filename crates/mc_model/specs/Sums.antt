@@ -1,7 +1,7 @@
--- Sums over lists. Two lists have the same elements where each sum over them is the same.
+-- Sums over lists.
 use Rattle.std.specs.Prelude.{ℕ, ◌+◌, Bool, cond, List, [], ◌∷◌}
 
--- the sum of f over the list
+-- the sum of a number of each element
 abbrev pub total : {X : Type 0} → (X → ℕ) → List X → ℕ
 total f [] = 0
 total f (x ∷ xs) = f x + total f xs

@@ -1,7 +1,7 @@
 -- Sums over lists.
 use Rattle.std.proofs.Common.{[], ◌≡◌, ℕ, ◌+◌, ◌≤◌, Bool, true, false, not, List, ◌∷◌, ◌++◌, cond, filter, map, refl, ap, arith, length}
-use Rattle.mc_model.proofs.Lists.{Each}
-use Rattle.trace_judge.specs.Total.{total, when}
+use Rattle.mc_model.specs.Sums.{total, when}
+use Rattle.mc_model.proofs.Lists.{Each, Each-all, any}
 
 -- of two lists joined
 pub total-append : {X : Type 0} (f : X → ℕ) → (xs ys : List X) → total f (xs ++ ys) ≡ total f xs + total f ys
@@ -36,12 +36,48 @@ pub total-add : {X : Type 0} (f g : X → ℕ) → (xs : List X) → total (λ x
 total-add f g [] = omega arith
 total-add f g (x ∷ xs) = let ih : total (λ x. f x + g x) xs ≡ total f xs + total g xs = total-add f g xs in omega arith
 
+-- what a filter keeps, at less, is less
+pub total-filter_less : {X : Type 0} (f g : X → ℕ) (p : X → Bool) → (xs : List X) → Each (λ x. g x ≤ f x) xs → total g (filter p xs) ≤ total f xs
+total-filter_less f g p [] h = omega arith
+total-filter_less f g p (x ∷ xs) h =
+    let ih : total g (filter p xs) ≤ total f xs = total-filter_less f g p xs h.1 in
+    let here : g x ≤ f x = h.0 in
+    elim (p x) as (λ b. total g (cond b (x ∷ filter p xs) (filter p xs)) ≤ f x + total f xs)
+    [ true ↦ omega arith | false ↦ omega arith ]
+
+-- where one element, the one that is meant, loses at least one, so does the sum
+pub total_spend :
+    {X : Type 0} (f g : X → ℕ) (p mine : X → Bool) → (xs : List X) → Each (λ x. g x ≤ f x) xs →
+    Each (λ x. mine x ≡ true → g x + 1 ≤ f x) xs → any mine xs ≡ true → total g (filter p xs) + 1 ≤ total f xs
+total_spend f g p mine [] h k e = grind arith
+total_spend f g p mine (x ∷ xs) h k e = here (total_spend f g p mine xs h.1 k.1) (mine x) refl
+  where
+    rest : total g (filter p xs) ≤ total f xs
+    rest = total-filter_less f g p xs h.1
+
+    here : (any mine xs ≡ true → total g (filter p xs) + 1 ≤ total f xs) → (b : Bool) → mine x ≡ b → total g (cond (p x) (x ∷ filter p xs) (filter p xs)) + 1 ≤ f x + total f xs
+    here ih true m =
+        let spent : g x + 1 ≤ f x = k.0 m in
+        let r : total g (filter p xs) ≤ total f xs = rest in
+        elim (p x) as (λ b. total g (cond b (x ∷ filter p xs) (filter p xs)) + 1 ≤ f x + total f xs)
+        [ true ↦ omega arith | false ↦ omega arith ]
+    here ih false m =
+        let e' : any mine xs ≡ true = rw m at e in
+        let less : total g (filter p xs) + 1 ≤ total f xs = ih e' in
+        let same : g x ≤ f x = h.0 in
+        elim (p x) as (λ b. total g (cond b (x ∷ filter p xs) (filter p xs)) + 1 ≤ f x + total f xs)
+        [ true ↦ omega arith | false ↦ omega arith ]
+
+-- less of each element is a lesser sum
+pub total-mono : {X : Type 0} (f g : X → ℕ) → (xs : List X) → Each (λ x. g x ≤ f x) xs → total g xs ≤ total f xs
+total-mono f g [] h = omega arith
+total-mono f g (x ∷ xs) h =
+    let ih : total g xs ≤ total f xs = total-mono f g xs h.1 in
+    let here : g x ≤ f x = h.0 in omega arith
+
 -- a part comes to no more than the whole
 pub less_filtered : {X : Type 0} (f : X → ℕ) (p : X → Bool) → (xs : List X) → total f (filter p xs) ≤ total f xs
-less_filtered f p [] = omega arith
-less_filtered f p (x ∷ xs) =
-    let ih : total f (filter p xs) ≤ total f xs = less_filtered f p xs in
-    elim (p x) as (λ b. total f (cond b (x ∷ filter p xs) (filter p xs)) ≤ f x + total f xs) [ true ↦ omega arith | false ↦ omega arith ]
+less_filtered f p xs = total-filter_less f f p xs (Each-all (λ x. omega arith) xs)
 
 -- each counts 1
 abbrev pub one : {X : Type 0} → X → ℕ
