@@ -2,8 +2,13 @@
 # Measures `check` on files at the limits, beside `wc -l` of the same file, `run` and `judge`: time, peak memory and
 # instructions.
 cd "$(dirname -- "$0")" || exit 1
+if ! [ -x /usr/bin/time ]; then
+    echo 'bench: skipped, there is no /usr/bin/time'
+    exit 0
+fi
 work=$(mktemp -d) || exit 1
 trap 'rm -rf "$work"' EXIT
+trap 'exit 1' HUP INT TERM
 program=../crates/edfvd_program/out/edfvd_program
 ../edfvd check ../examples/control/tasks.toml >"$work/out" || exit 1
 

@@ -2,14 +2,20 @@
 # Counts the instructions of a tick in the core and the floor: those of the floor's calls for releases, grants, outcomes and
 # idle ticks, with all that these call, in the thread of whichever task makes them. The word is a built program to measure in
 # place of this one.
-program=$(readlink -f -- "${1:-$(dirname -- "$0")/../crates/edfvd_program/out/edfvd_program}")
-cd "$(dirname -- "$0")" || exit 1
+if [ $# -gt 0 ]; then
+    program=$(readlink -f -- "$1") || exit 1
+    cd "$(dirname -- "$0")" || exit 1
+else
+    cd "$(dirname -- "$0")" || exit 1
+    program=$PWD/../crates/edfvd_program/out/edfvd_program
+fi
 if ! command -v valgrind >/dev/null 2>&1; then
     echo "ticks: skipped, there is no valgrind"
     exit 0
 fi
 work=$(mktemp -d) || exit 1
 trap 'rm -rf "$work"' EXIT
+trap 'exit 1' HUP INT TERM
 [ $# -gt 0 ] || ../edfvd check ../examples/control/tasks.toml >"$work/out" || exit 1
 . ./workloads.sh
 

@@ -1,3 +1,4 @@
+# shellcheck shell=sh
 # Sourced by run.sh and ticks.sh: writes task files and work files into the folder $work, work for 1,000,000 ticks.
 
 # workload NAME: lines of a name, a level, a period, a low and a high budget become NAME.toml and NAME.csv. Each task has a

@@ -1,37 +1,10 @@
 #!/bin/sh
-# Runs the built program on the examples, on files at the limits and against real faults,
+# Runs the program on the examples and on files at the limits, and the page for callers beside the code that it quotes,
 # and compares each status and text with what is written here or beside the example.
 cd "$(dirname -- "$0")" || exit 1
-edfvd=$PWD/../edfvd
-work=$(mktemp -d) || exit 1
-trap 'rm -rf "$work"' EXIT
-runs=0
-failed=0
-
-# expect STATUS TEXT WORDS..: the words give this status, and the text in this file
-expect() {
-    want=$1
-    text=$2
-    shift 2
-    "$edfvd" "$@" >"$work/out"
-    judge "$want" $? "$text" "$*"
-}
-
-# judge WANTED STATUS TEXT WORDS: notes one run, whose output is in $work/out
-judge() {
-    runs=$((runs + 1))
-    if [ "$2" -ne "$1" ] || ! cmp -s "$work/out" "$3"; then
-        failed=$((failed + 1))
-        echo "edfvd $4: status $2, wanted $1; the text wanted (<) and written (>):"
-        diff "$3" "$work/out"
-    fi
-}
-
-# says TEXT: a file with this one line
-says() {
-    printf '%s\n' "$1" >"$work/line"
-    printf '%s\n' "$work/line"
-}
+. ./expect.sh
+# By the words that a user writes.
+program=$edfvd
 
 # The program's stored run is that of the overrun.
 for file in tasks.toml work.csv; do
@@ -58,6 +31,14 @@ expect 0 overrun/chart.txt chart overrun/tasks.toml overrun/run.txt
 expect 0 overrun/report.txt report overrun/tasks.toml overrun/run.txt
 expect 6 judged/illegal.txt chart judged/tasks.toml judged/illegal.csv
 expect 6 judged/illegal.txt report judged/tasks.toml judged/illegal.csv
+
+expect 0 avionics/check.txt check avionics/tasks.toml
+"$edfvd" run avionics/tasks.toml avionics/work.csv 20000 >"$work/avionics.csv"
+status=$?
+wc -l <"$work/avionics.csv" | tr -d ' ' >"$work/out"
+judge 0 "$status" "$(says 20014)" 'run, the avionics set'
+expect 0 judged/legal.txt judge avionics/tasks.toml "$work/avionics.csv"
+expect 0 avionics/report.txt report avionics/tasks.toml "$work/avionics.csv"
 
 # A workload, as another program worked it out from the rules.
 cat >"$work/soak.txt" <<'END'
@@ -131,8 +112,9 @@ printf '\357\273\277%s\r\n\r\n"ctl",0,"6"\r\nlog,0,0000000005\r\nlog,10,5' "$hea
 expect 0 overrun/run.txt run overrun/tasks.toml "$work/work.csv" 12
 printf '%s\n' "$header" >"$work/work.csv"
 "$edfvd" run overrun/tasks.toml "$work/work.csv" 1000000 >"$work/idle"
+status=$?
 wc -c <"$work/idle" | tr -d ' ' >"$work/out"
-judge 0 0 "$(says 14888914)" 'run, a million idle ticks'
+judge 0 "$status" "$(says 14888914)" 'run, a million idle ticks'
 { printf '%s\n' "$header"; head -c 16777200 /dev/zero | tr '\0' '\n'; } >"$work/work.csv"
 expect 7 "$(says 'file 2 is longer than 16777216 bytes')" run overrun/tasks.toml "$work/work.csv" 12
 { printf 'task = [{name="a", level="low", period=1, low=1}]\n'; } >"$work/tasks.toml"
@@ -149,23 +131,32 @@ expect 0 judged/legal.txt judge judged/tasks.toml "$work/trace.csv"
 echo >>"$work/trace.csv"
 expect 7 "$(says 'file 2 is longer than 134217728 bytes')" judge judged/tasks.toml "$work/trace.csv"
 printf 'task = [{name="a", level="low", period=1, low=1}, {name="b", level="low", period=1, low=1}]\n' >"$work/tasks.toml"
-{
-    printf '%s\n' "$header"
-    awk 'BEGIN { for (t = 0; t < 500000; t++) {
-        print "release," t ",a," t + 1 ",kept"; print "release," t ",b," t + 1 ",kept"
-        print "tick," t "," (t % 2 ? "b" : "a") "," int(t / 2) + 1 ",done" } }'
-} >"$work/trace.csv"
+half_served >"$work/trace.csv"
 expect 6 "$(says 'legal late 999999 first b 1')" judge "$work/tasks.toml" "$work/trace.csv" 1 1
 
-# Output that takes nothing.
-: >"$work/out"
-: >"$work/empty"
-if [ -w /dev/full ]; then
-    "$edfvd" check control/tasks.toml >/dev/full
-    judge 8 $? "$work/empty" 'check, to a full device'
-fi
-"$edfvd" check control/tasks.toml >&-
-judge 8 $? "$work/empty" 'check, to a closed output'
+# quotes PAGE: each block of Rust in the page stands in a file of the callers' crate, line for line, and there is one
+quotes() {
+    awk '
+        FNR == 1 { source = NR > 1 }
+        source { text[FILENAME] = text[FILENAME] $0 "\n"; next }
+        fence && /^```$/ { fence = 0; next }
+        fence { if (rust) block[blocks] = block[blocks] $0 "\n"; next }
+        /^```/ { fence = 1; rust = /^```rust$/; if (rust) at[++blocks] = FNR }
+        END {
+            bad = fence || !blocks
+            for (b = 1; b <= blocks; b++) {
+                found = 0
+                for (file in text) if (index("\n" text[file], "\n" block[b])) found = 1
+                if (!found) { bad = 1; print "the block at line " at[b] " stands in no file of calling_examples" }
+            }
+            exit bad
+        }
+    ' "$1" ../crates/calling_examples/src/*.rt
+}
 
-echo "examples: $runs runs, $failed failed"
-[ "$failed" -eq 0 ]
+# The page for callers quotes what is proved, and a page with another line is found out.
+quotes ../docs/CALLING.md || failed=$((failed + 1))
+sed 's/core\.chosen()/core.out()/' ../docs/CALLING.md >"$work/spoilt.md"
+quotes "$work/spoilt.md" >/dev/null && failed=$((failed + 1))
+
+ends examples

@@ -9,6 +9,7 @@ with the same status and text: one of those that docs/FORMATS.md and docs/COMMAN
 on standard error. A trace that `run` writes is judged legal. Files with another answer are kept, and named.
 """
 
+import atexit
 import glob
 import os
 import random
@@ -384,8 +385,11 @@ class Runner:
                 file.write(content)
             names.append(name)
         self.runs += 1
-        ended = subprocess.run(
-            [self.program, command] + names + words, stdin=subprocess.DEVNULL, capture_output=True, preexec_fn=limit, timeout=60)
+        try:
+            ended = subprocess.run(
+                [self.program, command] + names + words, stdin=subprocess.DEVNULL, capture_output=True, preexec_fn=limit, timeout=60)
+        except subprocess.TimeoutExpired:
+            return 124, b'', b''
         return ended.returncode, ended.stdout, ended.stderr
 
     def fault(self, command, contents, words):
@@ -406,7 +410,7 @@ class Runner:
 
 def main():
     program = os.path.abspath(sys.argv[1])
-    count = int(sys.argv[2]) if len(sys.argv) > 2 else 300
+    count = int(sys.argv[2]) if len(sys.argv) > 2 else 3000
     seed = int(sys.argv[3]) if len(sys.argv) > 3 else 1
     files = {}
     for _, names, _ in EXAMPLES:
@@ -414,6 +418,7 @@ def main():
             with open(name, 'rb') as file:
                 files[name] = file.read()
     folder = tempfile.mkdtemp()
+    atexit.register(shutil.rmtree, folder, ignore_errors=True)
     runner = Runner(program, folder)
     answers = {form: {} for form in FORMS}
     failed = 0
@@ -427,7 +432,6 @@ def main():
                 with open(os.path.join(kept, f'file{which}'), 'wb') as file:
                     file.write(content)
             print(f'case {number}, {command} {" ".join(words)}: {fault}; its files are in {kept}')
-    shutil.rmtree(folder)
     for form, statuses in answers.items():
         told = ', '.join(f'{times} of status {status}' for status, times in sorted(statuses.items()))
         print(f'{form}: {told}')

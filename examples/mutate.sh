@@ -1,5 +1,5 @@
 #!/bin/sh
-# Spoils the example files by a fixed seed, 300 cases or as many as are asked for, and asserts that each answer is one of
+# Spoils the example files by a fixed seed, 3000 cases or as many as are asked for, and asserts that each answer is one of
 # the named ones, twice the same, in bounded time and memory.
 # usage: mutate.sh [CASES [SEED]]
 cd "$(dirname -- "$0")" || exit 1
@@ -7,5 +7,5 @@ if ! command -v python3 >/dev/null 2>&1; then
     echo "mutate: skipped, there is no python3"
     exit 0
 fi
-../edfvd >/dev/null
+[ -n "${PROGRAM:-}" ] || ../edfvd >/dev/null
 exec python3 mutate.py "${PROGRAM:-../crates/edfvd_program/out/edfvd_program}" "$@"

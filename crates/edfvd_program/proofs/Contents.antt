@@ -1,5 +1,5 @@
 -- The bytes of a command's files: those that a shelf tells, where it tells them.
-use Rattle.std.proofs.Common.{◌≡◌, ℕ, ◌+◌, ◌<◌, List, [], ◌∷◌, replicate, length, Option, Some, None, IfSome, IsSomeAnd, unwrap_or, refl, ap, arith, sym, ◌∙◌}
+use Rattle.std.proofs.Common.{◌≡◌, ℕ, ◌+◌, ◌<◌, List, [], ◌∷◌, replicate, take, length, Option, Some, None, IfSome, IsSomeAnd, unwrap_or, refl, ap, arith, sym, ◌∙◌}
 use Rattle.std.proofs.lemmas.List.{length-replicate}
 use Rattle.mc_world.specs.Shelf.{Files}
 use Rattle.edfvd_program.specs.declared.verb.Verb.{Verb}
@@ -52,3 +52,15 @@ pub contents-two : (holds : Option Files) (verb : Verb) (tasks second bytes more
     → AreContents (Some (two_files verb tasks second)) holds (bytes ∷ more ∷ [])
 contents-two None verb tasks second bytes more h k = tt
 contents-two (Some files) verb tasks second bytes more h k = ap (λ b. b ∷ more ∷ []) h ∙ ap (λ w. unwrap_or (files tasks) [] ∷ w ∷ []) k
+
+-- the bytes of the files before the one that could not be read
+abbrev pub AreBefore : Option Command → Option Files → List (List ℕ) → Type 0
+AreBefore command holds contents = IfSome holds (λ files. contents ≡ take (length contents) (contents_of command files))
+
+pub before-first : (command : Option Command) (holds : Option Files) → AreBefore command holds []
+before-first command None = tt
+before-first command (Some files) = refl
+
+pub before-second : (holds : Option Files) (verb : Verb) (tasks second bytes : List ℕ) → AreOf holds tasks bytes → AreBefore (Some (two_files verb tasks second)) holds (bytes ∷ [])
+before-second None verb tasks second bytes h = tt
+before-second (Some files) verb tasks second bytes h = ap (λ b. b ∷ []) h

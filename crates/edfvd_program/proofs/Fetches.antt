@@ -1,36 +1,50 @@
 -- What a fetch leaves, by its answer.
-use Rattle.std.proofs.Common.{◌≡◌, ◌≢◌, ◌⊎◌, inl, inr, ℕ, List, Result, Ok, Err, refl, sym, subst}
+use Rattle.std.proofs.Common.{◌≡◌, ◌⊎◌, inl, inr, ℕ, true, List, Result, Ok, Err, refl, sym, subst}
 use Rattle.std.specs.Prelude.{IsErrOf, IsErr, IfOk}
 use Rattle.std.specs.declared.alloc.AllocError.{AllocError}
 use Rattle.std.proofs.lemmas.Bool.{false≢true}
-use Rattle.mc_world.specs.Shelf.{ShelfState}
+use Rattle.mc_world.specs.Shelf.{ShelfState, is_failed}
 use Rattle.mc_world.specs.declared.shelf.FetchFault.{FetchFault}
 use Rattle.mc_world.specs.declared.shelf.FetchFault.TheVariants.{Failed, TooLong, Memory as NoMemory}
 use Rattle.edfvd_program.specs.Reply.{Reply}
 use Rattle.edfvd_program.specs.Refusals.{longer, read_fault}
-use Rattle.edfvd_program.specs.Fetched.{Asked}
+use Rattle.edfvd_program.specs.Fetched.{AddsFetch, AddsAtMost, IsCalmFetch}
 
--- a fetch asks for its name, unless memory is wanting
-pub asked_ok : {T : Type 0} (bytes : T) (name : List ℕ) (before after : ShelfState)
-    → IsErrOf {T = T} {E = FetchFault} (Ok bytes) NoMemory ⊎ Asked name before after → Asked name before after
-asked_ok bytes name before after asks = elim asks [ inl h ↦ absurd (cc) | inr same ↦ same ]
+-- what each fetch says of the fetches: one more of its name, unless memory was wanting
+abbrev pub Adds : {T : Type 0} → Result T FetchFault → List ℕ → ShelfState → ShelfState → Type 0
+Adds result name before after = IsErrOf result NoMemory ⊎ AddsFetch name (is_failed result) before after
 
--- and its count of faults stands, unless it failed
-pub calm_ok : {T : Type 0} (bytes : T) (before after : ShelfState) → (after.faults ≡ before.faults) ⊎ IsErrOf {T = T} {E = FetchFault} (Ok bytes) Failed → after.faults ≡ before.faults
-calm_ok bytes before after faults = elim faults [ inl same ↦ same | inr h ↦ absurd (cc) ]
+-- and of its count of faults
+abbrev pub NoFault : {T : Type 0} → Result T FetchFault → ShelfState → ShelfState → Type 0
+NoFault result before after = (after.faults ≡ before.faults) ⊎ IsErrOf result Failed
 
-pub calm_fault : {T : Type 0} (result : Result T FetchFault) (fault : FetchFault) (before after : ShelfState) → result ≡ Err fault → fault ≢ Failed
-    → (after.faults ≡ before.faults) ⊎ IsErrOf result Failed → after.faults ≡ before.faults
-calm_fault result fault before after is other faults = elim faults [ inl same ↦ same | inr h ↦ absurd (other (cc)) ]
+adds : {T : Type 0} (result : Result T FetchFault) (name : List ℕ) (before after : ShelfState) → (IsErrOf result NoMemory → ⊥) → Adds result name before after
+    → AddsFetch name (is_failed result) before after
+adds result name before after some h = elim h [ inl none ↦ absurd (some none) | inr same ↦ same ]
 
-pub asked_fault : {T : Type 0} (result : Result T FetchFault) (fault : FetchFault) (name : List ℕ) (before after : ShelfState) → result ≡ Err fault → fault ≢ NoMemory
-    → IsErrOf result NoMemory ⊎ Asked name before after → Asked name before after
-asked_fault result fault name before after is other asks = elim asks [ inl h ↦ absurd (other (cc)) | inr same ↦ same ]
+-- a fetch that gave bytes
+pub calm_ok : {T : Type 0} (bytes : T) (name : List ℕ) (before after : ShelfState) → NoFault (Ok bytes) before after → Adds (Ok bytes) name before after → IsCalmFetch name before after
+calm_ok {T = T} bytes name before after faults h = record {
+  calm = elim faults [ inl same ↦ same | inr e ↦ absurd (cc) ];
+  adds = adds {T = T} (Ok bytes) name before after (λ e. cc) h;
+}
 
--- the name was asked for, or nothing was
-pub asked_or_not : {T : Type 0} (result : Result T FetchFault) (name : List ℕ) (before after : ShelfState) → (IsErrOf result NoMemory → after.asked ≡ before.asked)
-    → IsErrOf result NoMemory ⊎ Asked name before after → (after.asked ≡ before.asked) ⊎ Asked name before after
-asked_or_not result name before after none asks = elim asks [ inl h ↦ inl (none h) | inr same ↦ inr same ]
+-- one that was too long
+pub calm_long : {T : Type 0} (result : Result T FetchFault) (name : List ℕ) (before after : ShelfState) → result ≡ Err TooLong → NoFault result before after → Adds result name before after
+    → IsCalmFetch name before after
+calm_long {T = T} result name before after is faults h = record {
+  calm = elim faults [ inl same ↦ same | inr e ↦ absurd (cc) ];
+  adds = adds {T = T} (Err TooLong) name before after (λ e. cc) (subst (λ r. Adds r name before after) is h);
+}
+
+-- and one that failed
+pub adds_failed : {T : Type 0} (result : Result T FetchFault) (name : List ℕ) (before after : ShelfState) → result ≡ Err Failed → Adds result name before after → AddsFetch name true before after
+adds_failed {T = T} result name before after is h = adds {T = T} (Err Failed) name before after (λ e. cc) (subst (λ r. Adds r name before after) is h)
+
+-- whatever came of it
+pub adds_at_most : {T : Type 0} (result : Result T FetchFault) (name : List ℕ) (before after : ShelfState) → (IsErrOf result NoMemory → after.fetches ≡ before.fetches)
+    → Adds result name before after → AddsAtMost name before after
+adds_at_most result name before after none h = elim h [ inl e ↦ inl (none e) | inr same ↦ inr (is_failed result, same) ]
 
 -- the reply to a fetch without bytes, by what is so of the reply to a failure and to a file that is too long
 pub on_fault : (P : Reply → Type 0) (file limit : ℕ) (fault : FetchFault) (answered : Result Reply AllocError)

@@ -1,5 +1,6 @@
 -- What a call answers, from its reply and what became of it.
-use Rattle.std.proofs.Common.{◌≡◌, ◌≢◌, ◌⊎◌, inl, inr, ℕ, ◌<◌, ◌∷◌, [], List, Option, Some, IfSome, ap, sym, ◌∙◌, subst, arith}
+use Rattle.std.proofs.Common.{◌≡◌, ◌≢◌, ◌⊎◌, inl, inr, ℕ, ◌<◌, true, ◌∷◌, [], List, Option, Some, IfSome, ap, sym, ◌∙◌, subst, arith}
+use Rattle.std.proofs.lemmas.Bool.{false≢true}
 use Rattle.mc_world.specs.Count.{Rose}
 use Rattle.mc_world.specs.Shelf.{Files, ShelfState}
 use Rattle.mc_world.specs.Sink.{SinkState}
@@ -15,10 +16,10 @@ is_answer : (command : Option Command) (before after : ShelfState) (reply : Repl
     → (files : Files) → Tells command files before after → IsAnswer command (contents_of command files) reply
 is_answer command before after reply r files t =
     elim r.source [
-      | inl fault ↦ absurd (t.calm fault.1)
+      | inl fault ↦ absurd (t.calm fault.1.rose)
       | inr answer ↦
           subst (λ contents. IsAnswer command contents reply)
-          (subst (λ o. IfSome o (λ held. answer.0 ≡ contents_of command held)) t.told answer.1) answer.2
+          (subst (λ o. IfSome o (λ held. answer.1.0 ≡ contents_of command held)) t.told answer.1.1) answer.1.2
     ]
 
 -- and where it was written whole, that is what was written
@@ -48,11 +49,16 @@ first_byte (c ∷ cs) = c
 not_longer : (k n limit : ℕ) → read_fault k ≢ longer n limit
 not_longer k n limit same = let e : 114 ≡ 102 = ap (λ r. first_byte r.text) same in absurd (omega (arith, e))
 
--- over a shelf whose count is 0 no reply tells a read fault
+-- over a shelf whose count is 0 no fetch failed
+none_failed : (command : Option Command) (before after : ShelfState) (reply : Reply) (r : IsReply command before after reply) → after.faults ≡ 0 → r.failed ≢ true
+none_failed command before after reply r zero failed =
+    elim r.source [ inl fault ↦ absurd (never_rose before.faults after.faults zero fault.1.rose) | inr answer ↦ absurd (false≢true (sym answer.0 ∙ failed)) ]
+
+-- and no reply tells a read fault
 tells_no_fault : (command : Option Command) (before after : ShelfState) (reply : Reply) → IsReply command before after reply → after.faults ≡ 0 → TellsNoFault reply
 tells_no_fault command before after reply r zero k is =
     elim (r.cause (ap (λ r. r.status) is)) [
-      | inl fault ↦ absurd (never_rose before.faults after.faults zero fault.1)
+      | inl failed ↦ absurd (none_failed command before after reply r zero failed)
       | inr long ↦ absurd (not_longer k r.count long.0 (sym is ∙ long.1))
     ]
 

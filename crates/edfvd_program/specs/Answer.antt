@@ -30,7 +30,7 @@ use Rattle.edfvd_program.specs.Reply.{Reply, reply_of}
 use Rattle.edfvd_program.specs.Command.{Command, check, two_files, soak, file_names}
 use Rattle.edfvd_program.specs.Soak.{Soaks}
 use Rattle.edfvd_program.specs.Limits.{most_table_bytes, most_second_bytes}
-use Rattle.edfvd_program.specs.Refusals.{usage, longer, task_file_refused, out_of_range, not_admitted, work_file_refused, trace_refused}
+use Rattle.edfvd_program.specs.Refusals.{usage, read_fault, longer, task_file_refused, out_of_range, not_admitted, work_file_refused, trace_refused}
 
 -- what a command answers for a set under a rule
 abbrev pub Next : Type 1
@@ -133,6 +133,13 @@ IsAnswer (Some (check tasks)) (bytes ∷ contents) reply = AnswersTasks (UnderTe
 IsAnswer (Some (two_files verb tasks second)) (bytes ∷ more ∷ contents) reply = AnswersTasks (UnderRule (given_rule verb) (AnswersSecond verb more)) bytes reply
 IsAnswer (Some (soak number tasks ticks)) contents reply = Soaks number tasks ticks reply
 IsAnswer command contents reply = ⊥
+
+-- the reply where the file behind those of these bytes could not be read: no earlier case applies
+abbrev pub IsReadFault : Option Command → List (List ℕ) → Reply → Type 0
+IsReadFault (Some (check tasks)) [] reply = reply ≡ read_fault 1
+IsReadFault (Some (two_files verb tasks second)) [] reply = reply ≡ read_fault 1
+IsReadFault (Some (two_files verb tasks second)) (bytes ∷ []) reply = AnswersTasks (UnderRule (given_rule verb) (λ set rule r. r ≡ read_fault 2)) bytes reply
+IsReadFault command contents reply = ⊥
 
 -- the bytes of the command's files in order, none for one that is not held
 abbrev pub contents_of : Option Command → Files → List (List ℕ)

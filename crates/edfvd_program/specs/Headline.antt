@@ -11,6 +11,7 @@ use Rattle.mc_model.specs.Loads.{range_fault}
 use Rattle.mc_model.specs.Test.{test}
 use Rattle.mc_model.specs.Legal.{Legal}
 use Rattle.mc_model.specs.Late.{late}
+use Rattle.mc_model.specs.Follows.{Follows}
 use Rattle.mc_model.specs.TraceText.{trace_text}
 use Rattle.mc_model.specs.Promise.{KeepsDeadlines}
 use Rattle.task_file.specs.TaskFile.{task_file}
@@ -56,10 +57,16 @@ pub record SchedulesExactly (bytes : List ℕ) (ended : ℕ) : Type 0 where
 abbrev pub Admits : List ℕ → ℕ → Type 0
 Admits bytes ended = (set : List Task) (rule : Rule) → IsAdmitted bytes set rule → Succeeds ended
 
+-- the trace is that of the work in the work file, under the rule
+pub record IsScheduled (ticks : ℕ) (more : List ℕ) (set : List Task) (rule : Rule) (h : List Row) : Type 0 where
+  pub work : List WorkRow
+  pub says : work_in set more ≡ Ok work
+  pub follows : Follows set rule work ticks h
+
 -- what `run` promises
-pub record Schedules (bytes more old : List ℕ) (ended : ℕ) (new : Option (List ℕ)) : Type 0 where
+pub record Schedules (ticks : ℕ) (bytes more old : List ℕ) (ended : ℕ) (new : Option (List ℕ)) : Type 0 where
   -- every trace that it writes keeps the deadlines
-  pub writes : ended ≡ 0 → (set : List Task) × (rule : Rule) × (h : List Row) × IsAdmitted bytes set rule
+  pub writes : ended ≡ 0 → (set : List Task) × (rule : Rule) × (h : List Row) × IsAdmitted bytes set rule × IsScheduled ticks more set rule h
       × (new ≡ Some (old ++ trace_text set (reverse h))) × Legal set rule h × KeepsDeadlines set rule h
   -- it writes one for each admitted set and each work file
   pub complete : (set : List Task) (rule : Rule) (work : List WorkRow) → IsAdmitted bytes set rule → length more ≤ most_table_bytes → work_in set more ≡ Ok work
@@ -95,7 +102,7 @@ abbrev pub Headline : Option Command → Files → List ℕ → ℕ → Option (
 Headline None files old ended new = Unit {0}
 Headline (Some (check tasks)) files old ended new = SchedulesExactly (bytes_of files tasks) ended × Admits (bytes_of files tasks) ended
 Headline (Some (two_files (Run ticks) tasks work)) files old ended new =
-    SchedulesExactly (bytes_of files tasks) ended × Schedules (bytes_of files tasks) (bytes_of files work) old ended new
+    SchedulesExactly (bytes_of files tasks) ended × Schedules ticks (bytes_of files tasks) (bytes_of files work) old ended new
 Headline (Some (two_files Judge tasks trace)) files old ended new =
     SchedulesExactly (bytes_of files tasks) ended × Finds (bytes_of files tasks) (bytes_of files trace) ended
 Headline (Some (two_files Chart tasks trace)) files old ended new =

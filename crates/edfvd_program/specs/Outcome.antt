@@ -1,13 +1,13 @@
--- What a call of the program leaves behind: the reply it gives, the names it asked and the bytes it wrote.
-use Rattle.std.specs.Prelude.{◌≡◌, ◌≢◌, ◌⊎◌, ℕ, ◌-◌, ◌<◌, ◌≤◌, List, ◌++◌, length, take, Option, None, Some, option_map, IfSome, IsSomeAnd, slice_get}
+-- What a call of the program leaves behind: the reply it gives, the files it fetched and the bytes it wrote.
+use Rattle.std.specs.Prelude.{◌≡◌, ◌≢◌, ◌⊎◌, ℕ, ◌+◌, ◌-◌, ◌<◌, ◌≤◌, Bool, true, false, List, [], ◌∷◌, ◌++◌, length, take, Option, None, Some, option_map, IfSome, IsSomeAnd, slice_get}
 use Rattle.mc_world.specs.Count.{Rose, RoseByMoreThan}
-use Rattle.mc_world.specs.Shelf.{Files, ShelfState}
+use Rattle.mc_world.specs.Shelf.{Files, Fetch, fetch_of, ShelfState}
 use Rattle.mc_world.specs.Sink.{SinkState}
 use Rattle.edfvd_program.specs.Reply.{Reply}
 use Rattle.edfvd_program.specs.Command.{Command, file_names}
 use Rattle.edfvd_program.specs.Limits.{limits_of}
 use Rattle.edfvd_program.specs.Refusals.{usage, read_fault, longer}
-use Rattle.edfvd_program.specs.Answer.{IsAnswer, contents_of, AreHeld}
+use Rattle.edfvd_program.specs.Answer.{IsAnswer, IsReadFault, contents_of, AreHeld}
 
 -- the shelf tells that it holds these files, the command's among them, and its count of faults does not rise
 pub record Tells (command : Option Command) (files : Files) (before after : ShelfState) : Type 0 where
@@ -15,9 +15,19 @@ pub record Tells (command : Option Command) (files : Files) (before after : Shel
   pub held : AreHeld command files
   pub calm : Rose before.faults after.faults → ⊥
 
--- where the shelf tells the names asked, n more are: the command's first n file names
-abbrev pub AskedFirst : ℕ → Option Command → ShelfState → ShelfState → Type 0
-AskedFirst n command before after = after.asked ≡ option_map (λ names. names ++ take n (file_names command)) before.asked
+-- fetches of these names, of which the last one failed or none
+abbrev pub fetches_of : Bool → List (List ℕ) → List Fetch
+fetches_of failed [] = []
+fetches_of failed (name ∷ []) = fetch_of name failed ∷ []
+fetches_of failed (name ∷ more) = fetch_of name false ∷ fetches_of failed more
+
+-- where the shelf tells its fetches, n more were answered: of the command's first n files, of which the last one failed or none
+abbrev pub FetchedFirst : ℕ → Bool → Option Command → ShelfState → ShelfState → Type 0
+FetchedFirst n failed command before after = after.fetches ≡ option_map (λ fetches. fetches ++ fetches_of failed (take n (file_names command))) before.fetches
+
+-- no file was asked for but the command's first, in their order, and none behind one that failed
+abbrev pub AskedInOrder : Option Command → ShelfState → ShelfState → Type 0
+AskedInOrder command before after = (n : ℕ) × (failed : Bool) × FetchedFirst n failed command before after
 
 -- the file is longer than its limit, where the shelf tells; otherwise more bytes than that were read
 pub record IsLonger (limit : ℕ) (name : List ℕ) (before after : ShelfState) : Type 0 where
@@ -32,24 +42,36 @@ IsLongFile command n limit before after =
     × (slice_get (limits_of command) (n - 1) ≡ Some limit)
     × IsLonger limit name before after
 
+-- the reply tells that file number n could not be read: the shelf failed, and by the contents of the files before it, which
+-- are those told where they are, no earlier case applies
+pub record TellsFault (command : Option Command) (n : ℕ) (before after : ShelfState) (reply : Reply) : Type 0 where
+  pub line : reply ≡ read_fault n
+  pub rose : Rose before.faults after.faults
+  pub contents : List (List ℕ)
+  pub number : n ≡ length contents + 1
+  pub told : IfSome before.holds (λ files. contents ≡ take (length contents) (contents_of command files))
+  pub reached : IsReadFault command contents reply
+
+-- the reply is the answer, by contents that are those told where they are
+abbrev pub TellsAnswer : Option Command → ShelfState → Reply → Type 0
+TellsAnswer command before reply = (contents : List (List ℕ)) × IfSome before.holds (λ files. contents ≡ contents_of command files) × IsAnswer command contents reply
+
 -- the reply that a command gets
 pub record IsReply (command : Option Command) (before after : ShelfState) (reply : Reply) : Type 0 where
-  -- the command's first files, so many, were asked for in their order, and nothing else
+  -- the command's first files, so many, were fetched in their order, and nothing else; the last fetch failed, or none did
   pub count : ℕ
+  pub failed : Bool
   pub few : count ≤ length (file_names command)
-  pub asked : AskedFirst count command before after
-  -- it tells that the last file asked could not be read; or it is the answer, by contents that are those told where they are
-  pub source : ((reply ≡ read_fault count) × Rose before.faults after.faults)
-      ⊎ ((contents : List (List ℕ)) × IfSome before.holds (λ files. contents ≡ contents_of command files) × IsAnswer command contents reply)
+  pub fetched : FetchedFirst count failed command before after
+  -- where it failed, the reply tells that; otherwise it is the answer
+  pub source : ((failed ≡ true) × TellsFault command count before after reply) ⊎ ((failed ≡ false) × TellsAnswer command before reply)
   -- without a command it is the usage line, and status 2 comes with nothing else
   pub usage : command ≡ None → reply ≡ usage
   pub only_usage : reply.status ≡ 2 → command ≡ None
-  -- status 7 has its cause in the last file asked
-  pub cause : reply.status ≡ 7
-      → ((reply ≡ read_fault count) × Rose before.faults after.faults)
-      ⊎ ((limit : ℕ) × (reply ≡ longer count limit) × IsLongFile command count limit before after)
+  -- status 7 has its cause in the last file fetched
+  pub cause : reply.status ≡ 7 → (failed ≡ true) ⊎ ((limit : ℕ) × (reply ≡ longer count limit) × IsLongFile command count limit before after)
   -- a fault of the shelf is told
-  pub fault : before.faults < after.faults → reply ≡ read_fault count
+  pub fault : before.faults < after.faults → failed ≡ true
   pub status : reply.status < 8
 
 -- the first n bytes of the text were written, where the sink tells

@@ -1,9 +1,9 @@
 // The command `check`.
-ghost use Rattle.std.specs.Prelude.{◌≡◌, ℕ, Some, IfOk};
+ghost use Rattle.std.specs.Prelude.{Some, IfOk};
 ghost use Rattle.task_file.specs.TaskFile.{task_file};
 ghost use Rattle.edfvd_program.specs.Answer.{AnswersFile, UnderTest, Checks};
 ghost use Rattle.edfvd_program.specs.Command.{check};
-ghost use Rattle.edfvd_program.specs.Outcome.{IsReply, AskedFirst};
+ghost use Rattle.edfvd_program.specs.Outcome.{IsReply, AskedInOrder};
 
 use crate::reply::Reply;
 use crate::tested::{MOST_TABLE_BYTES, Tested, fetch_fault_reply, tested_file};
@@ -14,7 +14,7 @@ use std::alloc::{AllocError, Global};
 /// The reply to `check` for the task file of this name.
 pub fn check<S: Shelf>(alloc: Global, tasks: &str, shelf: &mut S) -> Result<Reply, AllocError>
     ensures reply { IfOk result (IsReply (Some (check tasks.now)) (S.state shelf.old) (S.state shelf.new)) }
-    ensures asked { (n : ℕ) × AskedFirst n (Some (check tasks.now)) (S.state shelf.old) (S.state shelf.new) }
+    ensures asked { AskedInOrder (Some (check tasks.now)) (S.state shelf.old) (S.state shelf.new) }
 {
     match shelf.fetch(alloc, tasks, MOST_TABLE_BYTES) {
         Ok(bytes) => check_file(alloc, &bytes),

@@ -1,10 +1,10 @@
 // The top call.
-ghost use Rattle.std.specs.Prelude.{◌≡◌, ◌≢◌, ℕ, List, ◌<◌, ◌≤◌, map, string_bytes, length, Some, IfOk};
+ghost use Rattle.std.specs.Prelude.{◌≡◌, ◌≢◌, ℕ, List, ◌<◌, map, string_bytes, Some, IfOk};
 ghost use Rattle.mc_world.specs.Count.{Rose};
 ghost use Rattle.mc_world.specs.Shelf.{Files};
-ghost use Rattle.edfvd_program.specs.Command.{command_of, file_names};
+ghost use Rattle.edfvd_program.specs.Command.{command_of};
 ghost use Rattle.edfvd_program.specs.Headline.{Headline};
-ghost use Rattle.edfvd_program.specs.Outcome.{Tells, AskedFirst, IsReply, Outcome, CalmOutcome, Answers};
+ghost use Rattle.edfvd_program.specs.Outcome.{Tells, AskedInOrder, IsReply, Outcome, CalmOutcome, Answers};
 
 use crate::check::check;
 use crate::command::{Command, command_of};
@@ -54,8 +54,8 @@ pub fn edfvd<R: Threads + Wait + Sync, S: Shelf, K: Sink, G: Gate + Sync>(
         (S.state shelf.old) (S.state shelf.new) (K.state out.old) (K.state out.new) result }
     ensures calm_sink { (K.state out.new).faults ≡ 0 → result ≢ 8 }
 
-    // No file is asked for but the command's, in their order.
-    ensures asked { (n : ℕ) × AskedFirst n (command_of (map (λ w. string_bytes w) words.now)) (S.state shelf.old) (S.state shelf.new) }
+    // No file is asked for but the command's, in their order, and none behind one that failed.
+    ensures asked { AskedInOrder (command_of (map (λ w. string_bytes w) words.now)) (S.state shelf.old) (S.state shelf.new) }
 {
     match reply_to(rt, alloc, words, shelf, gate) {
         Ok(reply) => reply.deliver(out),
@@ -71,7 +71,7 @@ fn reply_to<R: Threads + Wait + Sync, S: Shelf, G: Gate + Sync>(
     gate: &G,
 ) -> Result<Reply, AllocError>
     ensures reply { IfOk result (IsReply (command_of (map (λ w. string_bytes w) words.now)) (S.state shelf.old) (S.state shelf.new)) }
-    ensures asked { (n : ℕ) × AskedFirst n (command_of (map (λ w. string_bytes w) words.now)) (S.state shelf.old) (S.state shelf.new) }
+    ensures asked { AskedInOrder (command_of (map (λ w. string_bytes w) words.now)) (S.state shelf.old) (S.state shelf.new) }
 {
     match command_of(words) {
         Some(Command::Check { tasks }) => check(alloc, tasks, shelf),

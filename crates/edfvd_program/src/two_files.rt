@@ -1,12 +1,12 @@
 // The commands with two files.
-ghost use Rattle.std.specs.Prelude.{◌≡◌, ◌⊎◌, ℕ, Some, IfOk};
+ghost use Rattle.std.specs.Prelude.{◌≡◌, Some, IfOk};
 ghost use Rattle.mc_model.specs.Holds.{Fits};
 ghost use Rattle.edfvd_program.specs.Answer.{given_rule, Does};
 ghost use Rattle.edfvd_program.specs.Command.{two_files};
 ghost use Rattle.edfvd_program.specs.CommandView.{IsInRange};
-ghost use Rattle.edfvd_program.specs.Fetched.{Asked, IsSecondReply, IsFileReply};
+ghost use Rattle.edfvd_program.specs.Fetched.{AddsAtMost, IsSecondReply, IsFileReply};
 ghost use Rattle.edfvd_program.specs.Limits.{most_second_bytes};
-ghost use Rattle.edfvd_program.specs.Outcome.{IsReply, AskedFirst};
+ghost use Rattle.edfvd_program.specs.Outcome.{IsReply, AskedInOrder};
 ghost use Rattle.edfvd_program.specs.Ruled.{HoldsUnder};
 
 use crate::judge::judge_trace;
@@ -37,7 +37,7 @@ pub fn two_files<R: Threads + Wait + Sync, S: Shelf, G: Gate + Sync>(
 ) -> Result<Reply, AllocError>
     requires { IsInRange verb }
     ensures reply { IfOk result (IsReply (Some (two_files verb tasks.now second.now)) (S.state shelf.old) (S.state shelf.new)) }
-    ensures asked { (n : ℕ) × AskedFirst n (Some (two_files verb tasks.now second.now)) (S.state shelf.old) (S.state shelf.new) }
+    ensures asked { AskedInOrder (Some (two_files verb tasks.now second.now)) (S.state shelf.old) (S.state shelf.new) }
 {
     match shelf.fetch(alloc, tasks, MOST_TABLE_BYTES) {
         Ok(bytes) => with_tasks(rt, alloc, verb, &bytes, second, shelf, gate),
@@ -56,7 +56,7 @@ fn with_tasks<R: Threads + Wait + Sync, S: Shelf, G: Gate + Sync>(
 ) -> Result<Reply, AllocError>
     requires { IsInRange verb }
     ensures reply { IfOk result (IsFileReply verb bytes.now second.now (S.state shelf.old) (S.state shelf.new)) }
-    ensures asked { ((S.state shelf.new).asked ≡ (S.state shelf.old).asked) ⊎ Asked second.now (S.state shelf.old) (S.state shelf.new) }
+    ensures asked { AddsAtMost second.now (S.state shelf.old) (S.state shelf.new) }
 {
     match ruled_file(alloc, given_rule(verb), bytes)? {
         Ruled::Set { set, rule } => with_set(rt, alloc, verb, &set, rule, second, shelf, gate),
@@ -78,7 +78,7 @@ fn with_set<R: Threads + Wait + Sync, S: Shelf, G: Gate + Sync>(
     requires fits { Fits rule }
     requires holds { HoldsUnder (given_rule verb) set.now rule }
     ensures reply { IfOk result (IsSecondReply verb second.now set.now rule (S.state shelf.old) (S.state shelf.new)) }
-    ensures asked { ((S.state shelf.new).asked ≡ (S.state shelf.old).asked) ⊎ Asked second.now (S.state shelf.old) (S.state shelf.new) }
+    ensures asked { AddsAtMost second.now (S.state shelf.old) (S.state shelf.new) }
 {
     let limit = most_second_bytes(verb);
     match shelf.fetch(alloc, second, limit) {

@@ -1,8 +1,8 @@
 -- What contracts see of a shelf in memory, and what its fetches answer.
-use Rattle.std.specs.Prelude.{◌≡◌, ⊤, ℕ, ◌+◌, ◌++◌, List, [], ◌∷◌, length, map, if◌then◌else◌, nat_eq, nat_lt, Option, Some, None, Result, Ok, Err, String, string_bytes, Vec}
+use Rattle.std.specs.Prelude.{◌≡◌, ⊤, ℕ, Bool, true, false, ◌+◌, ◌++◌, List, [], ◌∷◌, length, map, if◌then◌else◌, nat_eq, nat_lt, Option, Some, None, Result, Ok, Err, String, string_bytes, Vec}
 use Rattle.std.specs.List.{list_any}
 use Rattle.std.specs.declared.alloc.Global.{Global}
-use Rattle.mc_world.specs.Shelf.{file_at}
+use Rattle.mc_world.specs.Shelf.{Fetch, fetch_of, file_at}
 use Rattle.mc_world.specs.declared.shelf.FetchFault.{FetchFault}
 use Rattle.mc_world.specs.declared.shelf.FetchFault.TheVariants.{Failed, TooLong, Memory}
 
@@ -12,8 +12,8 @@ pub record MemoryShelfState : Type 0 where
   pub files : List (List ℕ × List ℕ)
   -- the fetches that are to fail, counted from 1
   pub fails : List ℕ
-  -- the names asked, the first one first
-  pub asked : List (List ℕ)
+  -- the fetches that were answered, the first one first
+  pub fetches : List Fetch
   -- the fetches that failed
   pub faults : ℕ
 
@@ -21,13 +21,13 @@ pub record MemoryShelfState : Type 0 where
 abbrev pub files_of : List (String Global × Vec ℕ Global) → List (List ℕ × List ℕ)
 files_of files = map (λ f. (string_bytes f.0, f.1.items)) files
 
--- the bytes of each name of a list in memory
-abbrev pub names_of : List (String Global) → List (List ℕ)
-names_of names = map (λ n. string_bytes n) names
+-- the fetches of a list in memory
+abbrev pub fetches_of : List (String Global × Bool) → List Fetch
+fetches_of fetches = map (λ f. fetch_of (string_bytes f.0) f.1) fetches
 
 -- a shelf of which nothing has been asked
 abbrev pub new_shelf : List (List ℕ × List ℕ) → List ℕ → MemoryShelfState
-new_shelf files fails = record { files = files; fails = fails; asked = []; faults = 0 }
+new_shelf files fails = record { files = files; fails = fails; fetches = []; faults = 0 }
 
 -- what is answered of a file, if there is one
 abbrev pub answer_of : Option (List ℕ) → ℕ → Result (List ℕ) FetchFault
@@ -37,7 +37,7 @@ answer_of (Some bytes) limit = if nat_lt limit (length bytes) then Err TooLong e
 -- what the next fetch answers, where it has the memory; the first fetch is number 1
 abbrev pub next_answer : MemoryShelfState → List ℕ → ℕ → Result (List ℕ) FetchFault
 next_answer s name limit =
-    if list_any (nat_eq (length s.asked + 1)) s.fails then Err Failed else answer_of (file_at name s.files) limit
+    if list_any (nat_eq (length s.fetches + 1)) s.fails then Err Failed else answer_of (file_at name s.files) limit
 
 -- this is the answer, or memory was wanting
 abbrev pub Answers : Result (Vec ℕ Global) FetchFault → Result (List ℕ) FetchFault → Type 0
@@ -48,5 +48,5 @@ Answers (Ok bytes) answer = answer ≡ Ok bytes.items
 -- the shelf after a fetch of that name with that answer
 abbrev pub after_fetch : MemoryShelfState → List ℕ → Result (Vec ℕ Global) FetchFault → MemoryShelfState
 after_fetch s name (Err Memory) = s
-after_fetch s name (Err Failed) = record s { asked = s.asked ++ name ∷ []; faults = s.faults + 1 }
-after_fetch s name _ = record s { asked = s.asked ++ name ∷ [] }
+after_fetch s name (Err Failed) = record s { fetches = s.fetches ++ fetch_of name true ∷ []; faults = s.faults + 1 }
+after_fetch s name _ = record s { fetches = s.fetches ++ fetch_of name false ∷ [] }

@@ -1,17 +1,33 @@
 -- What a shelf is seen as, and what it holds.
-use Rattle.std.specs.Prelude.{◌≢◌, ℕ, List, [], ◌∷◌, if◌then◌else◌, Option, Some, None, AllPairs}
+use Rattle.std.specs.Prelude.{◌≢◌, ℕ, Bool, true, false, List, [], ◌∷◌, if◌then◌else◌, Option, Some, None, Result, Err, AllPairs}
 use Rattle.std.specs.Str.{bytes_eq}
+use Rattle.mc_world.specs.declared.shelf.FetchFault.{FetchFault}
+use Rattle.mc_world.specs.declared.shelf.FetchFault.TheVariants.{Failed}
 
 -- the bytes under each name that has some
 abbrev pub Files : Type 0
 Files = List ℕ → Option (List ℕ)
 
+-- a fetch that was answered: the name asked, and whether it failed
+pub record Fetch : Type 0 where
+  pub name : List ℕ
+  pub failed : Bool
+
+-- the fetch of this name
+abbrev pub fetch_of : List ℕ → Bool → Fetch
+fetch_of name failed = record { name = name; failed = failed }
+
+-- the answer is that it failed
+abbrev pub is_failed : {T : Type 0} → Result T FetchFault → Bool
+is_failed (Err Failed) = true
+is_failed answer = false
+
 -- what a shelf is seen as
 pub record ShelfState : Type 0 where
   -- the bytes under each name that has some, where the shelf tells them
   pub holds : Option Files
-  -- the names asked, the first one first, where the shelf tells them
-  pub asked : Option (List (List ℕ))
+  -- the fetches that were answered, the first one first, where the shelf tells them
+  pub fetches : Option (List Fetch)
   -- how many fetches have failed
   pub faults : ℕ
   -- how many bytes have been read, over all fetches

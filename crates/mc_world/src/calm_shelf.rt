@@ -19,12 +19,12 @@ pub struct CalmShelf {
 
 impl Model for CalmShelf {
     ghost use Rattle.mc_world.specs.Shelf.{NamesDiffer};
-    ghost use Rattle.mc_world.specs.CalmShelfState.{CalmShelfState};
-    ghost use Rattle.mc_world.specs.MemoryShelfState.{files_of, names_of};
+    ghost use Rattle.mc_world.specs.CalmShelfState.{CalmShelfState, calm_fetches};
+    ghost use Rattle.mc_world.specs.MemoryShelfState.{files_of};
 
     ghost Value = { CalmShelfState };
 
-    ghost view = { λ s. record { files = files_of s.files.items; asked = names_of s.asked.items } };
+    ghost view = { λ s. record { files = files_of s.files.items; fetches = calm_fetches s.asked.items } };
 
     ghost invariant = { λ s. NamesDiffer (files_of s.files.items) };
 }
@@ -47,7 +47,7 @@ impl Shelf for CalmShelf {
     // It tells its files, so that nothing rests on the count of bytes read.
     ghost state = { λ s. record {
       holds = Some (calm_files s.files);
-      asked = Some s.asked;
+      fetches = Some s.fetches;
       faults = 0;
       bytes_read = 0;
     } };

@@ -43,7 +43,7 @@ impl<'a, R: Files> FileShelf<'a, R> {
 impl<R: Files> Shelf for FileShelf<'_, R> {
     ghost state = { λ s. record {
       holds = None;
-      asked = None;
+      fetches = None;
       faults = s.faults;
       bytes_read = s.bytes_read;
     } };
@@ -101,6 +101,23 @@ mod tests {
         );
         assert_eq!(rt; (shelf.bytes_read, shelf.faults), (40_000, 0));
         fs::remove_file(&rt, NAME)?;
+        Ok(())
+    }
+
+    #[test]
+    fn keeps_the_order_of_pieces_and_a_last_byte(rt: HostRuntime) -> Result<(), Fail> {
+        let alloc = rt.alloc();
+        let mut content = Vec::new(alloc);
+        for place in 0..8193u32 {
+            content.push((place % 251) as u8)?;
+        }
+        fs::write(&rt, "pieces", content.as_slice())?;
+        let mut shelf = FileShelf::new(&rt);
+        assert_eq!(rt;
+            shelf.fetch(alloc, "pieces", 8193)?.as_slice(),
+            content.as_slice()
+        );
+        fs::remove_file(&rt, "pieces")?;
         Ok(())
     }
 

@@ -13,25 +13,26 @@ pub struct MemoryShelf {
     alloc: Global,
     files: Vec<(String, Vec<u8>)>,
     fails: Vec<u64>,
-    asked: Vec<String>,
+    // The name of each fetch, and whether it failed.
+    fetches: Vec<(String, bool)>,
     faults: u64,
 }
 
 impl Model for MemoryShelf {
     ghost use Rattle.std.specs.Prelude.{◌≤◌, length};
     ghost use Rattle.mc_world.specs.Shelf.{NamesDiffer};
-    ghost use Rattle.mc_world.specs.MemoryShelfState.{MemoryShelfState, files_of, names_of};
+    ghost use Rattle.mc_world.specs.MemoryShelfState.{MemoryShelfState, files_of, fetches_of};
 
     ghost Value = { MemoryShelfState };
 
     ghost view = { λ s. record {
       files = files_of s.files.items;
       fails = s.fails.items;
-      asked = names_of s.asked.items;
+      fetches = fetches_of s.fetches.items;
       faults = s.faults;
     } };
 
-    ghost invariant = { λ s. NamesDiffer (files_of s.files.items) × (s.faults ≤ length s.asked.items) };
+    ghost invariant = { λ s. NamesDiffer (files_of s.files.items) × (s.faults ≤ length s.fetches.items) };
 }
 
 impl MemoryShelf {
@@ -45,7 +46,7 @@ impl MemoryShelf {
             alloc,
             files,
             fails,
-            asked: Vec::new(alloc),
+            fetches: Vec::new(alloc),
             faults: 0,
         }
     }
@@ -55,7 +56,7 @@ impl Shelf for MemoryShelf {
     // It tells its files, so that nothing rests on this count.
     ghost state = { λ s. record {
       holds = Some (λ name. file_at name s.files);
-      asked = Some s.asked;
+      fetches = Some s.fetches;
       faults = s.faults;
       bytes_read = 0;
     } };
@@ -68,7 +69,7 @@ impl Shelf for MemoryShelf {
         let Ok(copy) = String::from_str(self.alloc, name) else {
             return Err(FetchFault::Memory);
         };
-        let answer = if self.fails.contains(&(self.asked.len() as u64 + 1)) {
+        let answer = if self.fails.contains(&(self.fetches.len() as u64 + 1)) {
             Err(FetchFault::Failed)
         } else {
             found(alloc, &self.files, name, limit)
@@ -76,10 +77,11 @@ impl Shelf for MemoryShelf {
         if let Err(FetchFault::Memory) = answer {
             return answer;
         }
-        if self.asked.push(copy).is_err() {
+        let failed = matches!(answer, Err(FetchFault::Failed));
+        if self.fetches.push((copy, failed)).is_err() {
             return Err(FetchFault::Memory);
         }
-        if let Err(FetchFault::Failed) = answer {
+        if failed {
             self.faults += 1;
         }
         answer

@@ -1,6 +1,6 @@
-ghost use Rattle.std.specs.Prelude.{◌≡◌, ◌<◌, ◌≤◌, ◌^◌, ◌++◌, [], ◌∷◌, List, ℕ, length, Option, Some, None, option_map, IfOk, IfSome, IsSomeAnd, IsErrOf, ◌⊎◌};
+ghost use Rattle.std.specs.Prelude.{◌≡◌, ◌<◌, ◌≤◌, ◌^◌, ◌++◌, [], ◌∷◌, List, ℕ, length, Option, Some, None, option_map, IfOk, IfSome, IsSome, IsSomeAnd, IsErrOf, ◌⊎◌};
 ghost use Rattle.mc_world.specs.Count.{Rose, RoseByMoreThan};
-ghost use Rattle.mc_world.specs.Shelf.{ShelfState};
+ghost use Rattle.mc_world.specs.Shelf.{ShelfState, fetch_of, is_failed};
 
 use std::alloc::Global;
 
@@ -41,9 +41,10 @@ pub trait Shelf {
             → RoseByMoreThan limit (state self.old).bytes_read (state self.new).bytes_read }
         ensures more_read { (state self.old).bytes_read ≤ (state self.new).bytes_read }
 
-        // What is held stays, and each call that has the memory adds its name to those asked.
+        // What is held stays, and each call that has the memory is added to the fetches, which are told where the files are.
         ensures same { (state self.new).holds ≡ (state self.old).holds }
-        ensures memory { IsErrOf result FetchFault.Memory → (state self.new).asked ≡ (state self.old).asked }
-        ensures asks { IsErrOf result FetchFault.Memory
-            ⊎ ((state self.new).asked ≡ option_map (λ names. names ++ name.now ∷ []) (state self.old).asked) };
+        ensures memory { IsErrOf result FetchFault.Memory → (state self.new).fetches ≡ (state self.old).fetches }
+        ensures adds { IsErrOf result FetchFault.Memory ⊎ ((state self.new).fetches
+            ≡ option_map (λ fetches. fetches ++ fetch_of name.now (is_failed result) ∷ []) (state self.old).fetches) }
+        ensures tells { IsSome (state self.old).holds → IsSome (state self.old).fetches };
 }

@@ -1,5 +1,5 @@
 use super::outside::{Outside, assert_ends};
-use super::{AVIONICS, CONTROL, CONTROL_TEXT};
+use super::{AVIONICS, CONTROL, CONTROL_TEXT, QUARTER_SCALE, TWO_HIGH_TASKS};
 use std::alloc::{AllocError, Global};
 use std::test::Fail;
 
@@ -48,6 +48,16 @@ fn task_files_get_their_status_and_text(rt: HostRuntime) -> Result<(), Fail> {
             AVIONICS,
             0,
             "tasks 8\nU_LL 600007/1666700\nU_HL 11/40\nU_HH 67/100\nrule virtual\nx 916685/2133386\n",
+        ),
+        (
+            QUARTER_SCALE,
+            0,
+            "tasks 2\nU_LL 3/5\nU_HL 1/10\nU_HH 3/5\nrule virtual\nx 1/4\n",
+        ),
+        (
+            TWO_HIGH_TASKS,
+            0,
+            "tasks 3\nU_LL 2/5\nU_HL 3/10\nU_HH 7/10\nrule virtual\nx 1/2\n",
         ),
         ("", 3, "task file: no tasks\n"),
         ("task", 3, "task file: not TOML\n"),

@@ -44,7 +44,7 @@ fn fails_at_its_second_fetch_alone(rt: HostRuntime) -> Result<(), Fail> {
         fetch_from(&mut shelf, alloc, "s.toml", 10)?.as_slice(),
         b"abc".as_slice()
     );
-    assert_eq!(rt; (shelf.faults, shelf.asked.len()), (1, 3));
+    assert_eq!(rt; (shelf.faults, shelf.fetches.len()), (1, 3));
     Ok(())
 }
 
@@ -72,7 +72,7 @@ fn an_absent_name_is_a_fault(rt: HostRuntime) -> Result<(), Fail> {
         fetch_from(&mut shelf, alloc, "s", 10).err(),
         Some(FetchFault::Failed)
     );
-    assert_eq!(rt; (shelf.faults, shelf.asked.len()), (1, 1));
+    assert_eq!(rt; (shelf.faults, shelf.fetches.len()), (1, 1));
     Ok(())
 }
 

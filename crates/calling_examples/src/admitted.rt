@@ -1,0 +1,59 @@
+// A set that is made in memory, and the rule of the test for it.
+ghost use Rattle.std.specs.Prelude.{◌≡◌, IfOk, IfErr, Some};
+ghost use Rattle.mc_model.specs.Holds.{Fits, Holds};
+ghost use Rattle.mc_model.specs.Test.{test};
+ghost use Rattle.calling_examples.specs.Admitted.{IsReason};
+
+use admission::admit;
+use load_sum::{LoadFault, sum_loads};
+use mc_task::{Level, Name, Rule, Task, TaskNo, TaskSet};
+use std::alloc::Global;
+use thiserror::Error;
+
+/// Why a set has no rule.
+#[derive(Clone, Copy, Debug, PartialEq, Eq, Error)]
+pub enum NoRule {
+    /// The task is the first whose period takes the least common multiple of the periods past 2^60.
+    #[error("the periods are out of range at task {}", task.0)]
+    Range { task: TaskNo },
+    /// The test admits no rule.
+    #[error("no rule schedules the set")]
+    NotAdmitted,
+}
+
+/// A controller that is certified for 6 ticks and mostly needs 2, and a logger. Without memory there is no set.
+pub fn control_set(alloc: Global) -> Option<TaskSet> {
+    let ctl = Task {
+        name: Name::new(b"ctl")?,
+        level: Level::High,
+        period: 10,
+        low: 2,
+        high: 6,
+    };
+    let log = Task {
+        name: Name::new(b"log")?,
+        level: Level::Low,
+        period: 10,
+        low: 5,
+        high: 5,
+    };
+    let tasks = vec![in alloc; ctl, log].ok()?;
+    TaskSet::new(tasks).ok()
+}
+
+/// The rule of the published test for the set.
+pub fn rule_for(set: &TaskSet) -> Result<Rule, NoRule>
+    ensures test { IfOk result (λ rule. test set.now ≡ Some rule) }
+    ensures fits { IfOk result Fits }
+    ensures holds { IfOk result (Holds set.now) }
+    ensures reason { IfErr result (IsReason set.now) }
+{
+    let loads = match sum_loads(set) {
+        Ok(loads) => loads,
+        Err(LoadFault::Range { task }) => return Err(NoRule::Range { task }),
+    };
+    match admit(&loads) {
+        Some(rule) => Ok(rule),
+        None => Err(NoRule::NotAdmitted),
+    }
+}
