@@ -9,16 +9,12 @@ with the same status and text: one of those that docs/FORMATS.md and docs/COMMAN
 on standard error. A trace that `run` writes is judged legal. Files with another answer are kept, and named.
 """
 
-import atexit
 import glob
-import os
-import random
 import re
 import resource
-import shutil
-import subprocess
 import sys
-import tempfile
+
+from cases import Dice, Runner, keep, program_count_seed, tell
 
 SECONDS = 2
 BYTES = 16 * 1024 * 1024
@@ -112,19 +108,6 @@ def fault_of(form, status, text, errors):
 
 
 # ---- How files are spoilt ----
-
-class Dice:
-    """Numbers by a seed, the same in each version of Python."""
-
-    def __init__(self, seed):
-        self.random = random.Random(seed)
-
-    def below(self, count):
-        return int(self.random.random() * count)
-
-    def one_of(self, items):
-        return items[self.below(len(items))]
-
 
 BYTES_TO_PUT = [bytes([byte]) for byte in b'\0\t\n\r "#\',-.0159=[\\]_a{}\x7f\x80\xc3\xef\xff']
 LIMITS = [text.encode() for text in [
@@ -369,72 +352,39 @@ def limit():
     resource.setrlimit(resource.RLIMIT_CORE, (0, 0))
 
 
-class Runner:
-    """Runs the program on files in a folder of its own, and counts."""
-
-    def __init__(self, program, folder):
-        self.program = program
-        self.folder = folder
-        self.runs = 0
-
-    def run(self, command, contents, words):
-        names = []
-        for number, content in enumerate(contents, 1):
-            name = os.path.join(self.folder, f'file{number}')
-            with open(name, 'wb') as file:
-                file.write(content)
-            names.append(name)
-        self.runs += 1
-        try:
-            ended = subprocess.run(
-                [self.program, command] + names + words, stdin=subprocess.DEVNULL, capture_output=True, preexec_fn=limit, timeout=60)
-        except subprocess.TimeoutExpired:
-            return 124, b'', b''
-        return ended.returncode, ended.stdout, ended.stderr
-
-    def fault(self, command, contents, words):
-        """The status of a case, and what is wrong with its answer, or None."""
-        form = 'judge by a scale' if command == 'judge' and words else command
-        first = self.run(command, contents, words)
-        second = self.run(command, contents, words)
-        status, text, errors = first
-        fault = fault_of(form, status, text, errors)
-        if fault is None and first != second:
-            fault = 'another answer at the second run'
-        if fault is None and command == 'run' and status == 0:
-            judged = self.run('judge', [contents[0], text], [])
-            if judged != (0, LEGAL.encode(), b''):
-                fault = f'its own trace is judged {judged}'
-        return form, status, fault
+def outcome(runner, command, contents, words):
+    """The form of a case, its status, and what is wrong with its answer, or None."""
+    form = 'judge by a scale' if command == 'judge' and words else command
+    first = runner.run(command, contents, words)
+    second = runner.run(command, contents, words)
+    status, text, errors = first
+    fault = fault_of(form, status, text, errors)
+    if fault is None and first != second:
+        fault = 'another answer at the second run'
+    if fault is None and command == 'run' and status == 0:
+        judged = runner.run('judge', [contents[0], text], [])
+        if judged != (0, LEGAL.encode(), b''):
+            fault = f'its own trace is judged {judged}'
+    return form, status, fault
 
 
 def main():
-    program = os.path.abspath(sys.argv[1])
-    count = int(sys.argv[2]) if len(sys.argv) > 2 else 3000
-    seed = int(sys.argv[3]) if len(sys.argv) > 3 else 1
+    program, count, seed = program_count_seed(3000)
     files = {}
     for _, names, _ in EXAMPLES:
         for name in names:
             with open(name, 'rb') as file:
                 files[name] = file.read()
-    folder = tempfile.mkdtemp()
-    atexit.register(shutil.rmtree, folder, ignore_errors=True)
-    runner = Runner(program, folder)
+    runner = Runner(program, limit)
     answers = {form: {} for form in FORMS}
     failed = 0
     for number, (command, contents, words) in enumerate(cases(count, Dice(seed), files), 1):
-        form, status, fault = runner.fault(command, contents, words)
+        form, status, fault = outcome(runner, command, contents, words)
         answers[form][status] = answers[form].get(status, 0) + 1
         if fault is not None:
             failed += 1
-            kept = tempfile.mkdtemp(prefix=f'edfvd-case-{number}-')
-            for which, content in enumerate(contents, 1):
-                with open(os.path.join(kept, f'file{which}'), 'wb') as file:
-                    file.write(content)
-            print(f'case {number}, {command} {" ".join(words)}: {fault}; its files are in {kept}')
-    for form, statuses in answers.items():
-        told = ', '.join(f'{times} of status {status}' for status, times in sorted(statuses.items()))
-        print(f'{form}: {told}')
+            print(f'case {number}, {keep(number, command, contents, words)}: {fault}')
+    tell(answers)
     print(f'mutate: seed {seed}, {count} cases, {runner.runs} runs, {failed} failed')
     return 1 if failed else 0
 

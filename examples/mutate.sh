@@ -8,4 +8,4 @@ if ! command -v python3 >/dev/null 2>&1; then
     exit 0
 fi
 [ -n "${PROGRAM:-}" ] || ../edfvd >/dev/null
-exec python3 mutate.py "${PROGRAM:-../crates/edfvd_program/out/edfvd_program}" "$@"
+exec python3 -B mutate.py "${PROGRAM:-../crates/edfvd_program/out/edfvd_program}" "$@"

@@ -1,0 +1,73 @@
+"""What mutate.py and compare.py have in common: numbers by a seed, and runs of the program on the files of a case."""
+
+import atexit
+import os
+import random
+import shutil
+import subprocess
+import sys
+import tempfile
+
+
+class Dice:
+    """Numbers by a seed, the same in each version of Python."""
+
+    def __init__(self, seed):
+        self.random = random.Random(seed)
+
+    def below(self, count):
+        return int(self.random.random() * count)
+
+    def one_of(self, items):
+        return items[self.below(len(items))]
+
+
+def program_count_seed(count):
+    """The words of the command line: the program, how many cases, by default so many, and the seed."""
+    words = sys.argv[1:]
+    return os.path.abspath(words[0]), int(words[1]) if len(words) > 1 else count, int(words[2]) if len(words) > 2 else 1
+
+
+class Runner:
+    """Runs the program on files in a folder of its own, and counts."""
+
+    def __init__(self, program, limit=None):
+        self.program = program
+        self.limit = limit
+        self.folder = tempfile.mkdtemp()
+        atexit.register(shutil.rmtree, self.folder, ignore_errors=True)
+        self.runs = 0
+
+    def run(self, command, contents, words):
+        """The status, the text, and what stands on standard error; status 124 where a run takes longer than a minute."""
+        names = written(self.folder, contents)
+        self.runs += 1
+        try:
+            ended = subprocess.run(
+                [self.program, command] + names + words, stdin=subprocess.DEVNULL, capture_output=True,
+                preexec_fn=self.limit, timeout=60)
+        except subprocess.TimeoutExpired:
+            return 124, b'', b''
+        return ended.returncode, ended.stdout, ended.stderr
+
+
+def written(folder, contents):
+    """The names of the files of a case, which are written there."""
+    names = [os.path.join(folder, f'file{number}') for number in range(1, len(contents) + 1)]
+    for name, content in zip(names, contents):
+        with open(name, 'wb') as file:
+            file.write(content)
+    return names
+
+
+def keep(number, command, contents, words):
+    """Keeps the files of a case, and answers the words of its call."""
+    folder = tempfile.mkdtemp(prefix=f'edfvd-case-{number}-')
+    return ' '.join([command] + written(folder, contents) + words)
+
+
+def tell(times_of_statuses):
+    """A line for each command: how many times each status came."""
+    for form, times in times_of_statuses.items():
+        told = ', '.join(f'{count} of status {status}' for status, count in sorted(times.items()))
+        print(f'{form}: {told}')

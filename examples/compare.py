@@ -1,0 +1,727 @@
+"""Compares the program with model.py, which was written from the rules alone, on cases that are made by a seed.
+
+usage: compare.py PROGRAM [CASES [SEED]]
+
+A case is a command, its files and its words: sets whose loads lie round 1 or at it, also with periods at the limits;
+random work; legal traces with random choices, such traces cut short or with a spoilt row, also by scales that do not
+hold; made workloads; and files that are refused. The status and the whole text have to be the model's, nothing stands
+on standard error, and no job is late under a rule that holds. What came of the cases is counted. A comparison of as
+many cases as by default fails, too, where one of STATUSES or OUTCOMES never came, since it then shows less than it
+says. Files of cases that differ are kept, and named.
+"""
+
+import collections
+import json
+import math
+import re
+import sys
+from fractions import Fraction
+from typing import NamedTuple, Optional
+
+import model
+from cases import Dice, Runner, keep, program_count_seed, tell
+from model import (
+    DONE, DROPPED, EVENTS, HIGH, IDLE, KEPT, LOW, MOST, OVER, PLAIN, RELEASES, STOP, TICKS, Job, Row, Task, Trace, Work,
+    with_before)
+
+DEFAULT_CASES = 4000
+
+
+class Case(NamedTuple):
+    command: str
+    tree: Optional[dict]  # of the task file
+    second: Optional[str]  # the text of the second file
+    words: list
+
+    def form(self):
+        return 'judge by a scale' if self.command == 'judge' and self.words else self.command
+
+
+def chance(dice, times, of):
+    return dice.below(of) < times
+
+
+def between(dice, least, most):
+    return least + dice.below(most - least + 1)
+
+
+def shuffled(dice, items):
+    return sorted(items, key=lambda _: dice.random.random())
+
+
+# ---- Sets ----
+
+PERIODS = [range(1, 7), range(2, 13), [4, 5, 10, 20], [3, 6, 8, 12, 24], [7, 9, 11, 13], range(10, 41)]
+PERIODS_OF_MANY = [128, 160, 192, 240, 256, 320]
+PRIME_POWERS = [2 ** 31, 2 ** 30, 3 ** 20, 3 ** 18, 5 ** 13, 7 ** 11, 11 ** 9, 65537, 2 ** 16, 5, 7]
+STEMS = ['t', 't', 'ctl', 'log_', 'A-', 'long-name', 'n' * 29]
+
+
+def budgets(dice, periods, hundredths):
+    """A budget for each period, so that together they load about so many hundredths."""
+    weights = [between(dice, 1, 8) for _ in periods]
+    return [
+        min(MOST, max(1, period * hundredths * weight // (100 * sum(weights))))
+        for period, weight in zip(periods, weights)]
+
+
+def task(dice, number, level, period, own):
+    low = own if level == LOW else between(dice, 1, max(1, own // dice.one_of([1, 2, 4])))
+    return Task(f'{dice.one_of(STEMS)}{number}', level, period, low, own)
+
+
+def tasks_of(dice, periods, most=110):
+    """Tasks of these periods, with loads of up to so many hundredths."""
+    highs = [period for period in periods if chance(dice, 1, 2)]
+    lows = list((collections.Counter(periods) - collections.Counter(highs)).elements())
+    high_budgets = budgets(dice, highs, between(dice, 30, most))
+    low_budgets = budgets(dice, lows, between(dice, 10, most - 30))
+    owns = [(HIGH, *own) for own in zip(highs, high_budgets)] + [(LOW, *own) for own in zip(lows, low_budgets)]
+    return [task(dice, number, *own) for number, own in enumerate(shuffled(dice, owns), 1)]
+
+
+def small_tasks(dice, most=110):
+    """One to five tasks, or once in a while many."""
+    if chance(dice, 1, 50):
+        return tasks_of(dice, [dice.one_of(PERIODS_OF_MANY) for _ in range(between(dice, 20, 127))], most)
+    periods = dice.one_of(PERIODS)
+    return tasks_of(dice, [dice.one_of(periods) for _ in range(between(dice, 1, 5))], most)
+
+
+def with_task(dice, tasks, level, period, low, high):
+    """The tasks and one more, whose high budget is mostly the given one; without it where it is no task."""
+    high += dice.one_of([-1, 0, 0, 1])
+    low = high if level == LOW else low
+    if not 1 <= low <= high <= MOST or period > MOST:
+        return tasks
+    return shuffled(dice, tasks + [Task(f'one-{len(tasks) + 1}', level, period, low, high)])
+
+
+def multiple_of(tasks):
+    return math.lcm(*(task.period for task in tasks))
+
+
+def loaded_to_one(dice, tasks):
+    """The tasks and one more, with which U_LL + U_HH is 1, or one tick of its period beside it."""
+    low_low, _, high_high = model.loads(tasks)
+    period = multiple_of(tasks) * between(dice, 1, 3)
+    high = int((1 - low_low - high_high) * period)
+    return with_task(dice, tasks, dice.one_of([LOW, HIGH]), period, between(dice, 1, max(1, high)), high)
+
+
+def scaled_to_one(dice, tasks):
+    """The tasks and a high one, with which x*U_LL + U_HH is 1, or one tick of its period beside it."""
+    low_low, high_low, high_high = model.loads(tasks)
+    if low_low >= 1:
+        return tasks
+    factor = low_low / (1 - low_low)  # x*U_LL is U_HL times this
+    period = multiple_of(tasks) * factor.denominator * between(dice, 1, 3)
+    low = factor.denominator * between(dice, 1, 4)
+    high = (1 - high_high - (high_low + Fraction(low, period)) * factor) * period
+    return with_task(dice, tasks, HIGH, period, low, int(high))
+
+
+def beside_one(dice):
+    """Two tasks of large periods T and S, whose own budgets load 1 - 1/(T*S) or 1 + 1/(T*S)."""
+    first, second = between(dice, 2 ** 20, 2 ** 30), between(dice, 2 ** 20, 2 ** 30)
+    if math.gcd(first, second) > 1:
+        return beside_one(dice)
+    side = dice.one_of([-1, 1])
+    budget = side * pow(second, -1, first) % first
+    rest = (first * second + side - budget * second) // first
+    return [
+        task(dice, number, dice.one_of([LOW, HIGH]), period, own)
+        for number, (period, own) in enumerate([(first, budget), (second, rest)], 1)]
+
+
+def huge_periods(dice):
+    """Periods near the greatest one, and such that their least common multiple is near 2^60."""
+    if chance(dice, 1, 4):
+        return [MOST - dice.below(3)] * between(dice, 1, 4)
+    if chance(dice, 1, 3):
+        return [dice.one_of(PRIME_POWERS) for _ in range(between(dice, 2, 4))]
+    periods = [dice.one_of([between(dice, 2 ** 28, MOST), between(dice, 2 ** 12, 2 ** 20)]), between(dice, 2, 2 ** 16)]
+    last = 2 ** 60 // math.lcm(*periods) + between(dice, -2, 2)
+    return periods + [min(max(1, last), MOST)] + periods[:dice.below(3)]
+
+
+def huge_tasks(dice):
+    if chance(dice, 1, 4):
+        return beside_one(dice)
+    tasks = tasks_of(dice, huge_periods(dice))
+    return loaded_to_one(dice, tasks) if multiple_of(tasks) <= MOST else tasks
+
+
+def small_or_at_one(dice):
+    tasks = small_tasks(dice)
+    few = tasks[:between(dice, 1, 3)]
+    return dice.one_of([tasks, tasks, loaded_to_one(dice, few), scaled_to_one(dice, few)])
+
+
+def any_tasks(dice):
+    return huge_tasks(dice) if chance(dice, 1, 3) else small_or_at_one(dice)
+
+
+def admitted_tasks(dice):
+    """Tasks that the test admits, mostly with a scale."""
+    rules = dice.one_of([['virtual'], ['virtual'], ['virtual'], ['plain', 'virtual']])
+    while True:
+        tasks = huge_tasks(dice) if chance(dice, 1, 12) else small_or_at_one(dice)
+        rule = model.test(tasks)
+        if rule is not None and rule.name in rules and model.out_of_range(tasks) is None:
+            return tasks
+
+
+def mostly_admitted(dice):
+    return any_tasks(dice) if chance(dice, 1, 8) else admitted_tasks(dice)
+
+
+def for_a_scale(dice):
+    """Tasks that load up to 2, so that jobs are late and wait beside others of their task, or any."""
+    return dice.one_of(2 * [lambda: small_tasks(dice, 200)] + [lambda: any_tasks(dice), lambda: admitted_tasks(dice)])()
+
+
+# ---- Task files ----
+
+def tree_of(tasks):
+    return {'task': [table_of(task) for task in tasks]}
+
+
+def table_of(task):
+    table = {'name': task.name, 'level': task.level, 'period': task.period, 'low': task.low}
+    return table if task.level == LOW else dict(table, high=task.high)
+
+
+def toml_key(text):
+    return text if re.fullmatch('[A-Za-z0-9_-]+', text) else json.dumps(text)
+
+
+def toml(value):
+    """A value, on one line."""
+    if isinstance(value, dict):
+        return '{ ' + ', '.join(f'{toml_key(key)} = {toml(item)}' for key, item in value.items()) + ' }'
+    if isinstance(value, list):
+        return '[' + ', '.join(toml(item) for item in value) + ']'
+    return json.dumps(value)
+
+
+def entries(table):
+    return ''.join(f'{toml_key(key)} = {toml(value)}\n' for key, value in table)
+
+
+def toml_text(dice, tree):
+    """A tree as a document: its tasks as tables with their keys in some order, or as an array."""
+    tables = tree.get('task')
+    if not isinstance(tables, list) or not all(isinstance(table, dict) for table in tables) or chance(dice, 1, 4):
+        return entries(tree.items())
+    top = entries((key, value) for key, value in tree.items() if key != 'task')
+    return top + ''.join('[[task]]\n' + entries(shuffled(dice, table.items())) for table in tables)
+
+
+ODD_NUMBERS = [0, -1, 1, MOST, MOST + 1, 2 ** 63 - 1, 2 ** 63, -2 ** 63, -2 ** 63 - 1]
+ODD_VALUES = [True, 'low', 'high', '', '10', 1.5, [], [10], {}, 'n' * 32, 'n' * 33, 'a.b', 'High', '\u00e9']
+ODD_KEYS = ['', 'name', 'Period', 'deadline', 'task', 'version', 'k\u00e9y', 'a key', 'x' * 31, 'y' * 32, 'z' * 33]
+
+
+def spoilt_table(dice, table, tables):
+    """A task's table with one change."""
+    table = dict(table)
+    key = dice.one_of(['name', 'level', 'period', 'low', 'high'])
+    change = dice.below(9)
+    if change == 0:
+        table.pop(key, None)
+    elif change == 1:
+        table[dice.one_of(ODD_KEYS)] = dice.one_of(ODD_NUMBERS + ODD_VALUES)
+    elif change == 2:
+        table[key] = dice.one_of(ODD_VALUES)
+    elif change == 3:
+        table['name'] = dice.one_of(['', 'a.b', 'n' * 33, 'n n'])
+    elif change == 4 and isinstance(tables[0], dict):
+        table['name'] = tables[0].get('name', 'none')
+    elif change == 5:
+        table['level'] = dice.one_of([LOW, HIGH, 'High', ''])
+    elif change == 6:
+        table.update(low=2, high=dice.one_of([0, 1, 1, 2]))
+    else:
+        table[dice.one_of(['period', 'low', 'high'])] = dice.one_of(ODD_NUMBERS)
+    return table
+
+
+def more_tables(dice):
+    return [dict(name=f'more-{number}', level=LOW, period=200, low=1) for number in range(between(dice, 122, 130))]
+
+
+def spoilt_tree(dice, tree):
+    """The tree of a task file with one to three changes, mostly of a task's table."""
+    tree = dict(tree, task=list(tree['task']))
+    for _ in range(dice.one_of([1, 1, 2, 3])):
+        tables = tree.get('task')
+        change = dice.below(18)
+        if change == 0:
+            tree['version'] = dice.one_of([1, 1, 2, 0, '1', 1.0, True])
+        elif change == 1:
+            tree[dice.one_of(ODD_KEYS)] = dice.one_of(ODD_NUMBERS + ODD_VALUES)
+        elif change == 2:
+            tree['task'] = dice.one_of([[], {}, 'task', 1, [[]], [{}], [1]])
+        elif change == 3:
+            tree.pop('task', None)
+        elif isinstance(tables, list) and tables:
+            place = dice.below(len(tables))
+            if change == 4:
+                tables[place] = dice.one_of(ODD_NUMBERS + ODD_VALUES)
+            elif change in (5, 6):
+                tables += more_tables(dice)
+            elif isinstance(tables[place], dict):
+                tables[place] = spoilt_table(dice, tables[place], tables)
+    return tree
+
+
+# ---- Work ----
+
+def need_of(dice, task, wild):
+    """Ticks below, at and above the budgets; of a wild high task mostly above the low one."""
+    below, own = between(dice, 1, task.low), task.high
+    if wild and task.level == HIGH:
+        return min(MOST, dice.one_of([task.low, between(dice, task.low, own), own, own, own + between(dice, 1, 3)]))
+    return min(MOST, dice.one_of([below, below, task.low, own, own + between(dice, 1, 3)]))
+
+
+def work_of(dice, tasks, end):
+    """Jobs of all tasks: at their periods or later, up to the end and a few past it."""
+    work = []
+    for number, task in enumerate(tasks, 1):
+        wild = chance(dice, 1, 2)
+        slack = dice.one_of([0, 0, 2, task.period])
+        release = dice.one_of([0, 0, dice.below(min(task.period, end))])
+        while release <= min(end + 3, MOST):
+            work.append(Work(number, release, need_of(dice, task, wild)))
+            release += task.period + dice.below(slack + 1)
+    if chance(dice, 1, 20):
+        work.append(Work(between(dice, 1, len(tasks)), MOST - dice.below(3), 1))
+    return sorted(shuffled(dice, work), key=lambda row: row.release)
+
+
+def work_text(tasks, work):
+    rows = [f'{tasks[row.task - 1].name},{row.release},{row.need}' for row in work]
+    return '\n'.join(['task,release,need'] + rows) + '\n'
+
+
+# ---- Traces ----
+
+def wander(dice, tasks, rule, end):
+    """A legal trace: releases at will, of equal keys any, and jobs that are done at will."""
+    eager, lasting = dice.one_of([(1, 100), (1, 10), (1, 4), (2, 100), (2, 4), (6, 2)])
+    trace = Trace()
+    for tick in range(end):
+        release_some(dice, tasks, rule, trace, eager)
+        waiting = model.keys(tasks, rule, trace, model.pending(tasks, trace))
+        if waiting:
+            job = dice.one_of([job for job in waiting if waiting[job] == min(waiting.values())])
+            kind = DONE if chance(dice, 1, lasting) else model.how_of(tasks, rule, trace, job)
+            trace.add(Row(kind, tick, job))
+        else:
+            trace.add(Row(IDLE, tick, None))
+    if chance(dice, 1, 3):
+        release_some(dice, tasks, rule, trace, eager)
+    return trace.rows
+
+
+def release_some(dice, tasks, rule, trace, eager):
+    """Releases of the tasks that are allowed one, each once in so many times."""
+    now = model.ticks(trace)
+    for number in shuffled(dice, range(1, len(tasks) + 1)):
+        earlier = model.releases_of(trace, number)
+        if chance(dice, 1, eager) and all(row.tick + tasks[number - 1].period <= now for row in earlier):
+            job = Job(number, len(earlier) + 1)
+            trace.add(Row(DROPPED if model.is_dropped(tasks, rule, trace, job) else KEPT, now, job))
+
+
+def cut_short(dice, rows):
+    return rows[:dice.below(len(rows) + 1)]
+
+
+def counted_anew(rows):
+    """The rows with the ticks that they have by their places."""
+    trace = Trace()
+    for row in rows:
+        trace.add(row._replace(tick=model.ticks(trace)))
+    return trace.rows
+
+
+# Each spoils the row at a place, in place.
+
+def other_kind(dice, tasks, rows, place):
+    row = rows[place]
+    kinds = [kind for kind in EVENTS if EVENTS[kind] == EVENTS[row.kind] and kind != row.kind]
+    rows[place] = row._replace(kind=dice.one_of(kinds or [row.kind]))
+
+
+def other_event(dice, tasks, rows, place):
+    job = some_job(dice, tasks, rows[:place])
+    rows[place] = Row(dice.one_of(TICKS), 0, job) if rows[place].kind == IDLE else Row(IDLE, 0, None)
+
+
+def some_job(dice, tasks, rows):
+    """A job of the rows, or any."""
+    jobs = [row.job for row in rows if row.job is not None]
+    if jobs and not chance(dice, 1, 8):
+        return dice.one_of(jobs)
+    return Job(between(dice, 1, len(tasks)), between(dice, 1, 3))
+
+
+def on_job(change):
+    """The spoiling of a row by a change of its job."""
+    def spoil(dice, tasks, rows, place):
+        job = rows[place].job
+        if job is not None:
+            rows[place] = rows[place]._replace(job=change(dice, tasks, rows[:place], job))
+    return spoil
+
+
+def other_pending(dice, tasks, rows, place):
+    others = [job for job in model.pending(tasks, Trace(rows[:place])) if job != rows[place].job]
+    if rows[place].kind in TICKS and others:
+        rows[place] = rows[place]._replace(job=dice.one_of(others))
+
+
+other_job = on_job(lambda dice, tasks, before, job: some_job(dice, tasks, before))
+other_task = on_job(lambda dice, tasks, before, job: job._replace(task=between(dice, 1, len(tasks))))
+other_count = on_job(
+    lambda dice, tasks, before, job: job._replace(count=dice.one_of([job.count + 1, max(0, job.count - 1), MOST])))
+
+
+def swapped(dice, tasks, rows, place):
+    other = max(0, place - between(dice, 1, 2))
+    rows[place], rows[other] = rows[other], rows[place]
+
+
+def left_out(dice, tasks, rows, place):
+    del rows[place]
+
+
+def doubled(dice, tasks, rows, place):
+    rows.insert(place, rows[place])
+
+
+def early_release(dice, tasks, rows, place):
+    """A release more, which often comes too soon."""
+    number = between(dice, 1, len(tasks))
+    count = 1 + len(model.releases_of(Trace(rows[:place]), number))
+    rows.insert(place, Row(dice.one_of(RELEASES), 0, Job(number, count)))
+
+
+ROW_CHANGES = 3 * [other_kind, other_pending] + 2 * [other_count, other_event] + [
+    early_release, other_job, other_task, swapped, left_out, doubled]
+
+
+def spoilt_rows(dice, tasks, rows):
+    """The rows with one of them spoilt, mostly one of a job, in one to three ways, and their ticks counted anew."""
+    places = [place for place, row in enumerate(rows) if row.kind != IDLE or chance(dice, 1, 8)]
+    place = dice.one_of(places or range(len(rows)))
+    spoilt = list(rows)
+    for _ in range(dice.one_of([1, 1, 2, 2, 3])):
+        if place < len(spoilt):
+            dice.one_of(ROW_CHANGES)(dice, tasks, spoilt, place)
+    return counted_anew(spoilt)
+
+
+def rows_of(dice, tasks, rule):
+    """A legal trace, whole or cut short, or one with a spoilt row."""
+    rows = wander(dice, tasks, rule, between(dice, 1, dice.one_of([10, 60, 60])))
+    return dice.one_of([lambda: rows, lambda: cut_short(dice, rows)] + 2 * [lambda: spoilt_rows(dice, tasks, rows)])()
+
+
+# ---- Files that are refused ----
+
+ODD_FIELDS = 4 * ['0'] + ['', '1', '-1', '+1', ' 1', '1 ', '1.0', '0000000001', '00000000001', str(MOST), str(MOST + 1)]
+WORK_FIELDS = ODD_FIELDS + ['bob', 'task', 'release', 'need']
+TRACE_FIELDS = ODD_FIELDS + ['bob', 'event', 'release', 'tick', 'idle'] + [*RELEASES, *TICKS]
+
+
+def spoil_record(dice, records, place, fields):
+    """Changes one field of a record, or their number."""
+    record = records[place]
+    which = dice.below(len(record))
+    change = dice.below(8)
+    if change == 0:
+        record.insert(which, dice.one_of(fields))
+    elif change == 1:
+        del record[which]
+    elif re.fullmatch('[0-9]{1,10}', record[which]) and change < 7:
+        nearby = str(max(0, int(record[which]) + dice.one_of([-2, -1, 1, 2])))
+        record[which] = nearby if change < 5 else dice.one_of(ODD_FIELDS)
+    else:
+        record[which] = dice.one_of(fields)
+
+
+def spoil_records(dice, records, place):
+    """Changes the list of records."""
+    change = dice.below(4)
+    if change == 0:
+        del records[place]
+    elif change == 1:
+        records.insert(place, list(records[place]))
+    elif change == 2:
+        other = dice.below(len(records))
+        records[place], records[other] = records[other], records[place]
+    else:
+        records.insert(place, [''])
+
+
+def spoilt_text(dice, text, fields):
+    """A file of records after one to four changes, mostly in one place; sometimes cut, or without a last line feed."""
+    records = [line.split(',') for line in text.split('\n')[:-1]]
+    place = 0 if chance(dice, 1, 12) else between(dice, 1, len(records))
+    for _ in range(dice.one_of([1, 1, 2, 3, 4])):
+        if chance(dice, 1, 6):
+            place = dice.below(len(records) + 1)
+        if place < len(records) and records[place]:
+            if chance(dice, 1, 4):
+                spoil_records(dice, records, place)
+            else:
+                spoil_record(dice, records, place, fields)
+    text = '\n'.join(','.join(record) for record in records) + '\n'
+    return dice.one_of([text] * 8 + [text[:-1], text[:dice.below(len(text) + 1)]])
+
+
+# ---- Cases ----
+
+ODD_WORDS = [
+    '', '0', '1', '01', '-1', '1.0', 'x', '1000001', str(MOST), str(MOST + 1), str(2 ** 64 - 1), str(2 ** 64),
+    '0' * 19 + '1', '0' * 20 + '1']
+
+
+def check_case(dice):
+    tree = tree_of(any_tasks(dice))
+    return Case('check', spoilt_tree(dice, tree) if chance(dice, 1, 3) else tree, None, [])
+
+
+def ticks_word(dice):
+    return str(between(dice, 1, dice.one_of([6, 20, 60])))
+
+
+def run_case(dice):
+    tasks = mostly_admitted(dice)
+    word = ticks_word(dice)
+    return Case('run', tree_of(tasks), work_text(tasks, work_of(dice, tasks, int(word))), [word])
+
+
+def refused_run_case(dice):
+    tasks = mostly_admitted(dice)
+    later = dice.one_of([0, 0, MOST - 20])
+    work = [row._replace(release=min(MOST, row.release + later)) for row in work_of(dice, tasks, 20)]
+    return Case('run', tree_of(tasks), spoilt_text(dice, work_text(tasks, work), WORK_FIELDS), [ticks_word(dice)])
+
+
+def traced_case(dice, command):
+    tasks = mostly_admitted(dice)
+    rows = rows_of(dice, tasks, model.test(tasks) or PLAIN)
+    return Case(command, tree_of(tasks), model.trace_text(tasks, rows), [])
+
+
+def judge_case(dice):
+    return traced_case(dice, 'judge')
+
+
+def drawn_case(dice):
+    return traced_case(dice, dice.one_of(['chart', 'report']))
+
+
+def scale_for(dice, tasks):
+    """A scale: that of the test, the same in other terms, or any other."""
+    rule = model.test(tasks)
+    if rule is not None and rule != PLAIN and rule.q <= MOST // 3 and chance(dice, 1, 3):
+        times = between(dice, 1, 3)
+        return times * rule.p, times * rule.q
+    most = dice.one_of([1, 4, 12, MOST])
+    q = between(dice, max(1, most - 12), most)
+    return dice.one_of([1, q, between(dice, 1, q)]), q
+
+
+def judge_by_scale_case(dice):
+    tasks = for_a_scale(dice)
+    p, q = scale_for(dice, tasks)
+    rows = rows_of(dice, tasks, model.virtual(p, q))
+    return Case('judge', tree_of(tasks), model.trace_text(tasks, rows), [str(p), str(q)])
+
+
+def refused_trace_case(dice):
+    tasks = mostly_admitted(dice)
+    rows = wander(dice, tasks, model.test(tasks) or PLAIN, between(dice, 1, 12))
+    text = spoilt_text(dice, model.trace_text(tasks, rows), TRACE_FIELDS)
+    words = dice.one_of([[], [], ['1', '2']])
+    return Case('judge' if words else dice.one_of(['judge', 'judge', 'chart', 'report']), tree_of(tasks), text, words)
+
+
+def soak_case(dice):
+    number = dice.one_of([dice.below(100), dice.below(2 ** 32), between(dice, 0, 2 ** 64 - 1)])
+    end = int(200 * 100 ** dice.random.random())
+    return Case('soak', None, None, [str(number), str(between(dice, 2, 32)), str(end)])
+
+
+def odd_words_case(dice):
+    case = dice.one_of([run_case, judge_by_scale_case, soak_case])(dice)
+    words = [dice.one_of(ODD_WORDS) if chance(dice, 1, 2) else word for word in case.words]
+    return case._replace(words=words)
+
+
+HUNDRED = (
+    19 * [check_case] + 22 * [run_case] + 7 * [refused_run_case] + 17 * [judge_case] + 15 * [judge_by_scale_case]
+    + 11 * [drawn_case] + 7 * [refused_trace_case] + [soak_case, odd_words_case])
+
+
+def cases(count, dice):
+    """A hundred cases over and over, some with a task file that was spoilt after the second file was made for it."""
+    for number in range(count):
+        case = HUNDRED[number % len(HUNDRED)](dice)
+        is_spoilt = case.second is not None and chance(dice, 1, 30)
+        yield case._replace(tree=spoilt_tree(dice, case.tree)) if is_spoilt else case
+
+
+# ---- What came of them ----
+
+HAPPENINGS = ['an overrun', 'a discard', 'a drop', 'a stop', 'a return', 'a tie']
+WHYS = ['too_soon', 'wrong_count', 'wrong_kept', 'not_pending', 'not_least', 'wrong_how', 'idle_pending']
+
+STATUSES = {
+    'check': [0, 1, 3],
+    'run': [0, 1, 2, 3, 4],
+    'judge': [0, 1, 3, 5, 6],
+    'judge by a scale': [0, 2, 3, 5, 6],
+    'chart': [0, 1, 3, 5, 6],
+    'report': [0, 1, 3, 5, 6],
+    'soak': [0, 2],
+}
+OUTCOMES = {
+    'check': ['plain', 'plain at 1', 'virtual', 'virtual at 1'],
+    'run': HAPPENINGS,
+    'judge': HAPPENINGS + WHYS,
+    'judge by a scale': HAPPENINGS + WHYS + [
+        'late', 'two jobs of a task', 'a scale that holds', 'a scale that does not hold'],
+    'task file': [
+        'not TOML', 'unknown key', 'unknown version', 'no tasks', 'missing key', 'wrong kind', 'bad name',
+        'out of range level', 'out of range period', 'out of range low', 'out of range high',
+        'high budget on a low task', 'at most 128', 'high budget below low budget', 'have one name',
+        'periods out of range'],
+    'work file': [
+        'header', 'not three fields', 'unknown task', 'bad number', 'need is 0', 'release before the last one',
+        'too soon'],
+    'trace': ['header', 'not five fields', 'unknown event', 'unknown task', 'bad number', 'wrong tick'],
+}
+
+
+def happened(tasks, rule, rows):
+    """What happens in a legal trace."""
+    for before, row in with_before(rows):
+        if row.kind in (OVER, DROPPED, STOP):
+            yield {OVER: 'an overrun', DROPPED: 'a drop', STOP: 'a stop'}[row.kind]
+        if row.kind == IDLE and model.is_high_mode(rule, before):
+            yield 'a return'
+        if row.kind in TICKS and is_tie(tasks, rule, before):
+            yield 'a tie'
+        if row.kind == KEPT and row.job.task in [job.task for job in model.pending(tasks, before)]:
+            yield 'two jobs of a task'
+    trace = Trace(rows)
+    if any(model.is_discarded(tasks, trace, row) for row in trace.of(KEPT)):
+        yield 'a discard'
+
+
+def is_tie(tasks, rule, trace):
+    waiting = list(model.keys(tasks, rule, trace, model.pending(tasks, trace)).values())
+    return waiting.count(min(waiting)) > 1
+
+
+def rule_of(case, tasks):
+    return model.virtual(*map(int, case.words)) if case.form() == 'judge by a scale' else model.test(tasks)
+
+
+def is_at_one(tasks, rule):
+    low_low, _, high_high = model.loads(tasks)
+    return Fraction(rule.p, rule.q) * low_low + high_high == 1
+
+
+def outcomes(case, status, text):
+    """What came of a case, as OUTCOMES names it: of which command or file, and what."""
+    form = case.form()
+    if status in (3, 4, 5):
+        file = {3: 'task file', 4: 'work file', 5: 'trace'}[status]
+        yield from ((file, words) for words in OUTCOMES[file] if words in text)
+    elif text.startswith('illegal'):
+        yield form, text.split()[3]
+    elif status in (0, 6) and form != 'soak':
+        tasks = model.read_tasks(case.tree)
+        rule = rule_of(case, tasks)
+        if form == 'check':
+            yield form, rule.name + (' at 1' if is_at_one(tasks, rule) else '')
+        else:
+            rows = model.read_trace(tasks, text if form == 'run' else case.second)
+            yield from ((form, words) for words in set(happened(tasks, rule, rows)))
+        if form == 'judge by a scale':
+            yield form, 'a scale that holds' if model.holds(tasks, rule) else 'a scale that does not hold'
+        if status == 6:
+            yield form, 'late'
+
+
+def breaks_the_law(case, text):
+    """Whether a job is late in a legal trace under a rule that holds, which is proved never to be."""
+    if case.second is None or not text.startswith('legal late') or text == 'legal late 0\n':
+        return False
+    tasks = model.read_tasks(case.tree)
+    return model.holds(tasks, rule_of(case, tasks))
+
+
+# ---- The comparison ----
+
+def contents_of(dice, case):
+    texts = ([] if case.tree is None else [toml_text(dice, case.tree)]) + ([] if case.second is None else [case.second])
+    return [text.encode() for text in texts]
+
+
+def told(answer):
+    status, text, errors = answer
+    return f'status {status}, {text[:200]}' + (f' and {errors[:200]} on standard error' if errors else '')
+
+
+def tell_outcomes(came):
+    for form, wanted in OUTCOMES.items():
+        print(f'{form}: ' + ', '.join(f'{came[form, words]} with "{words}"' for words in wanted))
+
+
+def never_came(statuses, came):
+    return [
+        f'{form}: status {status}' for form in STATUSES for status in STATUSES[form] if not statuses[form][status]] + [
+        f'{form}: {words}' for form in OUTCOMES for words in OUTCOMES[form] if not came[form, words]]
+
+
+def main():
+    program, count, seed = program_count_seed(DEFAULT_CASES)
+    dice = Dice(seed)
+    runner = Runner(program)
+    statuses = {form: collections.Counter() for form in STATUSES}
+    came = collections.Counter()
+    differ = lawless = 0
+    for number, case in enumerate(cases(count, dice), 1):
+        contents = contents_of(dice, case)
+        status, text = model.answer(case.command, case.tree, case.second, case.words)
+        statuses[case.form()][status] += 1
+        came.update(outcomes(case, status, text))
+        wanted = status, text.encode(), b''
+        found = runner.run(case.command, contents, case.words)
+        if found != wanted:
+            differ += 1
+            call = keep(number, case.command, contents, case.words)
+            print(f'case {number}, {call}: {told(found)}; of the model: {told(wanted)}')
+        if breaks_the_law(case, text):
+            lawless += 1
+            print(f'case {number}, {keep(number, case.command, contents, case.words)}: late though the rule holds')
+    tell(statuses)
+    tell_outcomes(came)
+    missing = never_came(statuses, came) if count >= DEFAULT_CASES else []
+    for what in missing:
+        print(f'never came: {what}')
+    print(f'compare: seed {seed}, {count} cases, {differ} differ from the model')
+    return 1 if differ or lawless or missing else 0
+
+
+if __name__ == '__main__':
+    sys.exit(main())

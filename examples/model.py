@@ -1,0 +1,994 @@
+"""EDF-VD and the program's answers, written from the rules alone: plain, slow, and without a line of the program.
+
+Each definition looks through a whole list: that of the tasks, of the work, or of a trace's rows. Numbers are whole
+numbers and fractions of them, so nothing is rounded. The rules are those of docs/RULES.md, docs/FORMATS.md and
+docs/COMMANDS.md.
+
+Left out are TOML as text (a task file is the tree that the text stands for), records with quotes, carriage returns or a
+byte order mark, files that are too long or cannot be read, and want of memory.
+
+usage: model.py, which works out the examples at the end of this file and compares them with what is written there
+"""
+
+import math
+import sys
+from fractions import Fraction
+from itertools import islice
+from typing import NamedTuple, Optional
+
+# ---- Tasks, rules, rows ----
+
+LOW, HIGH = 'low', 'high'
+
+
+# A task of a set, which is a list of them. The own budget of its jobs is `high`, which of a low task is its low budget.
+class Task(NamedTuple):
+    name: str
+    level: str
+    period: int
+    low: int
+    high: int
+
+
+# A job: the number of its task, from 1, and its number among the releases of that task, from 1.
+class Job(NamedTuple):
+    task: int
+    count: int
+
+
+# A rule: EDF on the deadlines, with 1 for p and q, or EDF-VD with the scale p/q.
+class Rule(NamedTuple):
+    name: str
+    p: int
+    q: int
+
+
+PLAIN = Rule('plain', 1, 1)
+
+
+# EDF-VD with the scale p/q.
+def virtual(p, q):
+    return Rule('virtual', p, q)
+
+
+# The kinds of rows, and the event of each.
+KEPT, DROPPED = RELEASES = ('kept', 'dropped')
+MORE, DONE, STOP, OVER = TICKS = ('more', 'done', 'stop', 'over')
+IDLE = 'idle'
+EVENTS = {KEPT: 'release', DROPPED: 'release', MORE: 'tick', DONE: 'tick', STOP: 'tick', OVER: 'tick', IDLE: 'idle'}
+
+
+# A row: its kind, how many ticks, idle ones among them, stand before it, and its job, which is none of an idle row.
+class Row(NamedTuple):
+    kind: str
+    tick: int
+    job: Optional[Job]
+
+
+# A list of rows. Those of a kind, and the releases and the ticks of a job, are listed a second time, only to be found
+# without a search.
+class Trace:
+    def __init__(self, rows=()):
+        self.rows = []
+        self.of_kind = {kind: [] for kind in EVENTS}
+        self.of_job = {}
+        for row in rows:
+            self.add(row)
+
+    def add(self, row):
+        self.rows.append(row)
+        self.of_kind[row.kind].append(row)
+        self.of_job.setdefault((EVENTS[row.kind], row.job), []).append(row)
+
+    # The rows of some kinds, kind by kind.
+    def of(self, *kinds):
+        return [row for kind in kinds for row in self.of_kind[kind]]
+
+    # The tick of the last row of a kind, or -1 where there is none.
+    def last(self, kind):
+        return self.of_kind[kind][-1].tick if self.of_kind[kind] else -1
+
+
+# Each row, after the trace of those before it.
+def with_before(rows):
+    before = Trace()
+    for row in rows:
+        yield before, row
+        before.add(row)
+
+
+# A job's task.
+def task_of(tasks, job):
+    return tasks[job.task - 1]
+
+
+# Whether a job is one of a low task.
+def is_low(tasks, job):
+    return task_of(tasks, job).level == LOW
+
+
+# ---- Loads and the test ----
+
+# The utilisations: low budgets of low tasks, low budgets of high tasks, high budgets of high tasks.
+def loads(tasks):
+    low_low = sum(Fraction(task.low, task.period) for task in tasks if task.level == LOW)
+    high_low = sum(Fraction(task.low, task.period) for task in tasks if task.level == HIGH)
+    high_high = sum(Fraction(task.high, task.period) for task in tasks if task.level == HIGH)
+    return Fraction(low_low), Fraction(high_low), Fraction(high_high)
+
+
+# The number of the first task whose period takes the least common multiple of the periods so far past 2^60, or None.
+def out_of_range(tasks):
+    periods = [task.period for task in tasks]
+    return next((number for number in range(1, len(tasks) + 1) if math.lcm(*periods[:number]) > 2 ** 60), None)
+
+
+# The rule of the published test, or None: plain is tried first, then EDF-VD with its scale.
+def test(tasks):
+    low_low, high_low, high_high = loads(tasks)
+    if low_low + high_high <= 1:
+        return PLAIN
+    if low_low < 1:
+        scale = high_low / (1 - low_low)
+        if scale * low_low + high_high <= 1:
+            return virtual(scale.numerator, scale.denominator)
+    return None
+
+
+# Whether a rule holds for the tasks.
+def holds(tasks, rule):
+    low_low, high_low, high_high = loads(tasks)
+    p, q = rule.p, rule.q
+    if rule == PLAIN:
+        return low_low + high_high <= 1
+    return 1 <= p <= q and p * low_low + q * high_low <= p and p * low_low + q * high_high <= q
+
+
+# ---- What a trace says so far ----
+
+# How many ticks there are, idle ones among them.
+def ticks(trace):
+    return sum(len(trace.of_kind[kind]) for kind in (*TICKS, IDLE))
+
+
+# The boundary at which a job was released.
+def release_time(trace, job):
+    return trace.of_job['release', job][0].tick
+
+
+# Whether an overrun stands after a release row. What stands after it has its tick or a later one.
+def overrun_since(trace, release):
+    return any(over.tick >= release.tick for over in trace.of(OVER))
+
+
+# Whether the mode is high: there is an overrun with no idle tick after it.
+def is_high_mode(rule, trace):
+    return rule != PLAIN and trace.last(OVER) > trace.last(IDLE)
+
+
+# The jobs that are pending, in the order of their releases: kept, not ended, and if low with no overrun since.
+def pending(tasks, trace):
+    ended = {row.job for row in trace.of(DONE, STOP)}
+    return [row.job for row in trace.of(KEPT)
+            if row.job not in ended and not (is_low(tasks, row.job) and overrun_since(trace, row))]
+
+
+# How many ticks a job has had.
+def used(trace, job):
+    return len(trace.of_job.get(('tick', job), []))
+
+
+# The key of a job in parts of a tick, q to a tick: its deadline; of a high job in low mode its release and p/q of its
+# period.
+def key(rule, high_mode, task, release):
+    if rule != PLAIN and not high_mode and task.level == HIGH:
+        return rule.q * release + rule.p * task.period
+    return rule.q * (release + task.period)
+
+
+# The key of each of the jobs, as things stand.
+def keys(tasks, rule, trace, jobs):
+    high_mode = is_high_mode(rule, trace)
+    return {job: key(rule, high_mode, task_of(tasks, job), release_time(trace, job)) for job in jobs}
+
+
+# How a job's next tick ends where the job is not done with it.
+def how_of(tasks, rule, trace, job):
+    task = task_of(tasks, job)
+    with_this = used(trace, job) + 1
+    if with_this == task.high:
+        return STOP
+    if task.level == HIGH and rule != PLAIN and not is_high_mode(rule, trace) and with_this == task.low:
+        return OVER
+    return MORE
+
+
+# Whether a release at the next boundary is dropped: of a low task in high mode.
+def is_dropped(tasks, rule, trace, job):
+    return is_low(tasks, job) and is_high_mode(rule, trace)
+
+
+# The task's releases, kept or dropped.
+def releases_of(trace, task):
+    return [row for row in trace.of(*RELEASES) if row.job.task == task]
+
+
+# ---- The judge ----
+
+# The first part of a row that does not fit the rows before it, which all fit, or None.
+def misfit(tasks, rule, before, row):
+    if row.kind == IDLE:
+        return 'idle_pending' if pending(tasks, before) else None
+    return (release_misfit if row.kind in RELEASES else tick_misfit)(tasks, rule, before, row)
+
+
+# Of a release: whether those of its task are a period ago, its count, whether it is kept.
+def release_misfit(tasks, rule, before, row):
+    earlier = releases_of(before, row.job.task)
+    if any(ticks(before) < release.tick + task_of(tasks, row.job).period for release in earlier):
+        return 'too_soon'
+    if row.job.count != len(earlier) + 1:
+        return 'wrong_count'
+    if (row.kind == DROPPED) != is_dropped(tasks, rule, before, row.job):
+        return 'wrong_kept'
+    return None
+
+
+# Of a tick: whether its job is pending, whether its key is a least one, how it ends. A job may be done at each tick up
+# to its own budget.
+def tick_misfit(tasks, rule, before, row):
+    waiting = keys(tasks, rule, before, pending(tasks, before))
+    if row.job not in waiting:
+        return 'not_pending'
+    if any(other < waiting[row.job] for other in waiting.values()):
+        return 'not_least'
+    in_budget = used(before, row.job) + 1 <= task_of(tasks, row.job).high
+    if not (row.kind == DONE and in_budget) and row.kind != how_of(tasks, rule, before, row.job):
+        return 'wrong_how'
+    return None
+
+
+# The number of the first row that does not fit and the part that fails, or None where the trace is legal.
+def first_misfit(tasks, rule, rows):
+    for place, (before, row) in enumerate(with_before(rows), 1):
+        why = misfit(tasks, rule, before, row)
+        if why is not None:
+            return place, why
+    return None
+
+
+# Whether a kept job is late in a whole trace: the trace has all ticks before its deadline, and among these it did not
+# end, and no overrun discarded it.
+def is_late(tasks, trace, release):
+    deadline = release.tick + task_of(tasks, release.job).period
+    ended = any(row.job == release.job and row.tick < deadline for row in trace.of(DONE, STOP))
+    discarded = is_low(tasks, release.job) and any(release.tick <= over.tick < deadline for over in trace.of(OVER))
+    return deadline <= ticks(trace) and not ended and not discarded
+
+
+# The late jobs of a whole trace, in the order of their releases.
+def late(tasks, rows):
+    trace = Trace(rows)
+    return [row.job for row in trace.of(KEPT) if is_late(tasks, trace, row)]
+
+
+# Whether a trace is found legal with no job late, and the line that says so.
+def verdict(tasks, rule, rows):
+    place_and_why = first_misfit(tasks, rule, rows)
+    if place_and_why is not None:
+        return False, 'illegal row {} {}\n'.format(*place_and_why)
+    jobs = late(tasks, rows)
+    if jobs:
+        return False, f'legal late {len(jobs)} first {task_of(tasks, jobs[0]).name} {jobs[0].count}\n'
+    return True, 'legal late 0\n'
+
+
+# ---- The one trace of a list of work ----
+
+# A row of the work: a task's number, the boundary of a release of it, and the ticks that this job needs.
+class Work(NamedTuple):
+    task: int
+    release: int
+    need: int
+
+
+# The need of a job: that of the task's row with its number.
+def need(work, job):
+    return [row for row in work if row.task == job.task][job.count - 1].need
+
+
+# The rows of so many ticks, one after the other: at each boundary the releases, in the order of the work; then a tick
+# of the least key, and of equal keys of the lowest task number; or an idle tick where nothing is pending.
+def follow(tasks, rule, work, count):
+    trace = Trace()
+    for tick in range(count):
+        for row in work:
+            if row.release == tick:
+                job = Job(row.task, len(releases_of(trace, row.task)) + 1)
+                trace.add(Row(DROPPED if is_dropped(tasks, rule, trace, job) else KEPT, tick, job))
+        trace.add(next_tick(tasks, rule, work, trace))
+    return trace.rows
+
+
+# The tick that comes next.
+def next_tick(tasks, rule, work, trace):
+    waiting = keys(tasks, rule, trace, pending(tasks, trace))
+    if not waiting:
+        return Row(IDLE, ticks(trace), None)
+    job = min(waiting, key=lambda job: (waiting[job], job.task))
+    is_done = used(trace, job) + 1 == need(work, job)
+    return Row(DONE if is_done else how_of(tasks, rule, trace, job), ticks(trace), job)
+
+
+# Whether rows follow the work, by what is said of a whole trace: they are legal, end with the last tick, have the
+# releases of the work in its order, and each tick is as the work has it.
+def follows(tasks, rule, work, count, rows):
+    released = [(row.job.task, row.tick) for row in rows if row.kind in RELEASES]
+    return (
+        first_misfit(tasks, rule, rows) is None
+        and ticks(Trace(rows)) == count
+        and rows[-1].kind not in RELEASES
+        and released == [(row.task, row.release) for row in work if row.release < count]
+        and all(is_worked(tasks, rule, work, before, row) for before, row in with_before(rows) if row.kind in TICKS))
+
+
+# Whether a tick ends its job with `done` exactly at its need, and passes over no equal key of a lower task number.
+def is_worked(tasks, rule, work, before, row):
+    waiting = keys(tasks, rule, before, pending(tasks, before))
+    passed_over = any(waiting[job] == waiting[row.job] and job.task < row.job.task for job in waiting)
+    return not passed_over and (row.kind == DONE) == (used(before, row.job) + 1 == need(work, row.job))
+
+
+# ---- Texts ----
+
+# A fraction in lowest terms.
+def ratio(fraction):
+    return f'{fraction.numerator}/{fraction.denominator}'
+
+
+# The three utilisations by name.
+def loads_words(tasks):
+    return [f'{name} {ratio(load)}' for name, load in zip(['U_LL', 'U_HL', 'U_HH'], loads(tasks))]
+
+
+# Texts as lines, each with its line feed.
+def lines(texts):
+    return ''.join(text + '\n' for text in texts)
+
+
+# The number of tasks, the utilisations, the rule and its scale.
+def check_text(tasks, rule):
+    scale = [] if rule == PLAIN else [f'x {rule.p}/{rule.q}']
+    return lines([f'tasks {len(tasks)}'] + loads_words(tasks) + [f'rule {rule.name}'] + scale)
+
+
+TRACE_HEADER = ['event', 'tick', 'task', 'job', 'how']
+
+
+# The five fields of a row.
+def row_fields(tasks, row):
+    if row.kind == IDLE:
+        return ['idle', str(row.tick), '', '', '']
+    return [EVENTS[row.kind], str(row.tick), task_of(tasks, row.job).name, str(row.job.count), row.kind]
+
+
+# The header, and a line for each row.
+def trace_text(tasks, rows):
+    return lines(','.join(fields) for fields in [TRACE_HEADER] + [row_fields(tasks, row) for row in rows])
+
+
+CHART_CHARACTERS = {MORE: '#', DONE: 'D', STOP: 'S', OVER: 'O'}
+
+
+# A line for each task with a character for each tick, and one with the mode before each tick.
+def chart_text(tasks, rows):
+    trace = Trace(rows)
+    drawn = sorted(trace.of(*TICKS, IDLE), key=lambda row: row.tick)
+    width = max([6] + [len(task.name) for task in tasks])
+    chart = []
+    for number, task in enumerate(tasks, 1):
+        chart.append(task.name.ljust(width) + ' ' + ''.join(
+            CHART_CHARACTERS[row.kind] if row.kind != IDLE and row.job.task == number else '.' for row in drawn))
+    modes = ['H' if high_before(trace, row.tick) else 'L' for row in drawn]
+    return lines(chart + ['(mode)'.ljust(width) + ' ' + ''.join(modes)])
+
+
+# Whether there is an overrun before a tick, and no idle tick between them.
+def high_before(trace, tick):
+    last_idle = max((row.tick for row in trace.of(IDLE) if row.tick < tick), default=-1)
+    return any(last_idle < over.tick < tick for over in trace.of(OVER))
+
+
+# Whether a kept job was discarded: it is low, there is an overrun after its release, and it did not end before the
+# first of these.
+def is_discarded(tasks, trace, release):
+    overs = [over.tick for over in trace.of(OVER) if over.tick >= release.tick]
+    return is_low(tasks, release.job) and bool(overs) and not any(
+        row.job == release.job and row.tick < min(overs) for row in trace.of(DONE, STOP))
+
+
+# What is counted of one task: releases, kept and dropped ones, discarded jobs, done and stopped ones, ticks.
+def counts(tasks, trace, number):
+    def of(*kinds):
+        return [row for row in trace.of(*kinds) if row.job.task == number]
+    discarded = [row for row in of(KEPT) if is_discarded(tasks, trace, row)]
+    return {
+        'released': len(of(*RELEASES)), 'kept': len(of(KEPT)), 'dropped': len(of(DROPPED)), 'discarded': len(discarded),
+        'done': len(of(DONE)), 'stopped': len(of(STOP)), 'ticks': len(of(*TICKS))}
+
+
+# The greatest number of ticks from the release of a job of the task to the end of its last tick, or `-`.
+def response(trace, number):
+    responses = [row.tick + 1 - release_time(trace, row.job) for row in trace.of(DONE, STOP) if row.job.task == number]
+    return max(responses, default='-')
+
+
+# What is counted of each task, and the greatest response; then the idle ticks and the overruns.
+def report_text(tasks, rows):
+    trace = Trace(rows)
+    told = []
+    for number, task in enumerate(tasks, 1):
+        words = ' '.join(f'{word} {count}' for word, count in counts(tasks, trace, number).items())
+        told.append(f'task {task.name} {words} response {response(trace, number)}')
+    return lines(told + [f'idle {len(trace.of(IDLE))}', f'switches {len(trace.of(OVER))}'])
+
+
+# The sums of a report over all tasks.
+def summary_text(tasks, rows):
+    trace = Trace(rows)
+    of_tasks = [counts(tasks, trace, number) for number in range(1, len(tasks) + 1)]
+    sums = {word: sum(of_task[word] for of_task in of_tasks) for word in of_tasks[0]}
+    spent = sums.pop('ticks')
+    return lines([
+        ' '.join(f'{word} {count}' for word, count in sums.items()),
+        f'ticks {spent} idle {len(trace.of(IDLE))} switches {len(trace.of(OVER))}'])
+
+
+# ---- Made workloads ----
+
+# The 32-bit words of PCG's generator XSH RR of 64 bits of state, for a seed and a stream.
+def pcg_words(seed, stream):
+    multiplier, increment, below = 6364136223846793005, 2 * stream + 1, 2 ** 64
+    state = ((seed + increment) * multiplier + increment) % below
+    while True:
+        word = ((state >> 18) ^ state) >> 27 & 0xffffffff
+        turn = state >> 59
+        yield (word >> turn | word << (32 - turn)) & 0xffffffff
+        state = (state * multiplier + increment) % below
+
+
+SOAK_STREAM = 54
+SOAK_PERIODS = [200, 250, 400, 500, 800, 1000, 1250, 2000, 2500, 4000, 5000, 10000]
+
+
+# The tasks and the work that a seed makes: for each task a word for its period, of a high one a word for its low
+# budget, and a word for the stretch between its releases; then for each job a word for its need.
+def make(seed, count, end):
+    words = pcg_words(seed, SOAK_STREAM)
+    high_count, low_count = (count + 1) // 2, count // 2
+    tasks, stretches = [], []
+    for number in range(1, count + 1):
+        period = SOAK_PERIODS[next(words) % 12]
+        if number % 2 == 1:
+            low = 1 + next(words) % (period // (4 * high_count))
+            tasks.append(Task(f't{number}', HIGH, period, low, 3 * period // (4 * high_count)))
+        else:
+            low = period // (2 * low_count)
+            tasks.append(Task(f't{number}', LOW, period, low, low))
+        stretches.append(next(words) % 16)
+    releases = sorted(
+        (release, number) for number, (task, stretch) in enumerate(zip(tasks, stretches), 1)
+        for release in range(0, end, task.period + stretch))
+    return tasks, [Work(number, release, made_need(tasks[number - 1], next(words))) for release, number in releases]
+
+
+# The need of a job: the high budget of a high task once in 64 words, and else up to the low budget.
+def made_need(task, word):
+    return task.high if task.level == HIGH and word % 64 == 0 else 1 + word % task.low
+
+
+# The line of the call, the rule, the sums of the trace that follows the made work, and the verdict on it.
+def soak_text(seed, count, end):
+    tasks, work = make(seed, count, end)
+    rule = test(tasks)
+    rows = follow(tasks, rule, work, end)
+    scale = '' if rule == PLAIN else f' x {rule.p}/{rule.q}'
+    first = lines([f'soak {seed} {count} {end}', f'rule {rule.name}{scale}'])
+    return first + summary_text(tasks, rows) + verdict(tasks, rule, rows)[1]
+
+
+# ---- Files ----
+
+MOST = 4294967295
+MOST_TASKS, MOST_JOBS, MOST_ROWS = 128, 1000000, 2000000
+DIGITS = set('0123456789')
+NAME_CHARACTERS = set('ABCDEFGHIJKLMNOPQRSTUVWXYZabcdefghijklmnopqrstuvwxyz0123456789_-')
+
+
+# What is written in place of the text, with its status.
+class Refusal(Exception):
+    def __init__(self, status, line):
+        super().__init__(line)
+        self.status = status
+        self.line = line
+
+
+# The value of so many digits at most, or None where it is none or above the most.
+def number_of(text, digits=10, most=MOST):
+    if not 1 <= len(text) <= digits or not set(text) <= DIGITS or int(text) > most:
+        return None
+    return int(text)
+
+
+# The records of a text without quotes: fields between commas, a record a line, empty lines passed over.
+def records(text):
+    return [line.split(',') for line in text.split('\n') if line]
+
+
+# The number of the task of a name, or None.
+def task_number(tasks, name):
+    return next((number for number, task in enumerate(tasks, 1) if task.name == name), None)
+
+
+# The records after the header, with their numbers among all.
+def records_after(header, text, status, file_words):
+    if records(text)[:1] != [header]:
+        raise Refusal(status, f'{file_words} line 1: header is not {",".join(header)}\n')
+    return enumerate(records(text)[1:], 2)
+
+
+# The jobs of a work file. The first refusal decides.
+def read_work(tasks, text):
+    work = []
+    for line, record in records_after(['task', 'release', 'need'], text, 4, 'work file'):
+        fault = work_fault(tasks, work, record)
+        if fault is not None:
+            raise Refusal(4, f'work file line {line}: {fault}\n')
+        work.append(Work(task_number(tasks, record[0]), number_of(record[1]), number_of(record[2])))
+    return work
+
+
+# What is wrong with a record after the jobs before it, or None.
+def work_fault(tasks, before, record):
+    if len(before) == MOST_JOBS:
+        return f'more than {MOST_JOBS} rows'
+    if len(record) != 3:
+        return 'not three fields'
+    task, release, needed = task_number(tasks, record[0]), number_of(record[1]), number_of(record[2])
+    if task is None:
+        return 'unknown task'
+    if release is None or needed is None:
+        return 'bad number'
+    if needed == 0:
+        return 'need is 0'
+    if before and release < before[-1].release:
+        return 'release before the last one'
+    allowed = max((row.release + tasks[task - 1].period for row in before if row.task == task), default=0)
+    return f'too soon, next {allowed}' if release < allowed else None
+
+
+# The rows of a trace file. The first refusal decides.
+def read_trace(tasks, text):
+    trace = Trace()
+    for line, record in records_after(TRACE_HEADER, text, 5, 'trace'):
+        fault = trace_fault(tasks, trace, record)
+        if fault is not None:
+            raise Refusal(5, f'trace line {line}: {fault}\n')
+        event, tick, name, count, how = record
+        job = None if event == 'idle' else Job(task_number(tasks, name), number_of(count))
+        trace.add(Row(how or IDLE, number_of(tick), job))
+    return trace.rows
+
+
+# What is wrong with a record after the rows before it, or None.
+def trace_fault(tasks, before, record):
+    if len(before.rows) == MOST_ROWS:
+        return f'more than {MOST_ROWS} rows'
+    if len(record) != 5:
+        return 'not five fields'
+    event, tick, name, count, how = record
+    if (event, how) not in [(EVENTS[kind], '' if kind == IDLE else kind) for kind in EVENTS]:
+        return 'unknown event'
+    if event == 'idle' and (name or count):
+        return 'unknown event'
+    if event != 'idle' and task_number(tasks, name) is None:
+        return 'unknown task'
+    if number_of(tick) is None or event != 'idle' and number_of(count) is None:
+        return 'bad number'
+    return 'wrong tick' if number_of(tick) != ticks(before) else None
+
+
+TASK_KEYS = ['name', 'level', 'period', 'low', 'high']
+
+
+# A key as it is told: the first 32 bytes, with `?` for each that is no visible ASCII character.
+def shown(key_text):
+    return ''.join(chr(byte) if 0x21 <= byte <= 0x7e else '?' for byte in key_text.encode()[:32])
+
+
+# The first key in byte order that is not among the known ones, or None.
+def unknown_key(table, known):
+    return min((key_text for key_text in table if key_text not in known), key=str.encode, default=None)
+
+
+# Whether a value of a tree is a whole number, and not true or false.
+def is_whole(value):
+    return isinstance(value, int) and not isinstance(value, bool)
+
+
+# Whether a whole number outside 64 bits stands somewhere in a tree. Its text is no document.
+def has_wide_number(tree):
+    if isinstance(tree, dict):
+        return any(has_wide_number(value) for value in tree.values())
+    if isinstance(tree, list):
+        return any(has_wide_number(value) for value in tree)
+    return is_whole(tree) and not -2 ** 63 <= tree < 2 ** 63
+
+
+# The tasks of a task file's tree. The first refusal decides.
+def read_tasks(tree):
+    fault = tree_fault(tree) or tables_fault(tree['task'])
+    if fault is None:
+        tasks = [task_of_table(table) for table in tree['task']]
+        fault = set_fault(tasks)
+    if fault is not None:
+        raise Refusal(3, f'task file: {fault}\n')
+    return tasks
+
+
+# The task of a table that has no fault.
+def task_of_table(table):
+    return Task(table['name'], table['level'], table['period'], table['low'], table.get('high', table['low']))
+
+
+# What is wrong with the tree apart from the tasks' tables, or None.
+def tree_fault(tree):
+    if has_wide_number(tree):
+        return 'not TOML'
+    other = unknown_key(tree, ['version', 'task'])
+    if other is not None:
+        return f'unknown key {shown(other)}'
+    if 'version' in tree and not (is_whole(tree['version']) and tree['version'] == 1):
+        return 'unknown version'
+    if 'task' not in tree or tree['task'] == []:
+        return 'no tasks'
+    if not isinstance(tree['task'], list):
+        return 'task 0: wrong kind of task'
+    return None
+
+
+# What is wrong with the first task's table that has a fault, or None.
+def tables_fault(tables):
+    faults = ((number, task_fault(table)) for number, table in enumerate(tables, 1))
+    return next((f'task {number}: {fault}' for number, fault in faults if fault is not None), None)
+
+
+# What is wrong with a task's table, or None.
+def task_fault(table):
+    if not isinstance(table, dict):
+        return 'wrong kind of task'
+    other = unknown_key(table, TASK_KEYS)
+    if other is not None:
+        return f'unknown key {shown(other)}'
+    for known in TASK_KEYS[:4]:
+        if known not in table:
+            return f'missing key {known}'
+    for known in TASK_KEYS:
+        is_kind = is_whole if known in ('period', 'low', 'high') else lambda value: isinstance(value, str)
+        if known in table and not is_kind(table[known]):
+            return f'wrong kind of {known}'
+    if not 1 <= len(table['name']) <= 32 or not set(table['name']) <= NAME_CHARACTERS:
+        return 'bad name'
+    if table['level'] not in (LOW, HIGH):
+        return 'out of range level'
+    for known in TASK_KEYS[2:]:
+        if known in table and not 1 <= table[known] <= MOST:
+            return f'out of range {known}'
+    if table['level'] == HIGH and 'high' not in table:
+        return 'missing key high'
+    if table['level'] == LOW and 'high' in table:
+        return 'high budget on a low task'
+    return None
+
+
+# What is wrong with a list of tasks, or None.
+def set_fault(tasks):
+    if len(tasks) > MOST_TASKS:
+        return f'{len(tasks)} tasks, at most {MOST_TASKS}'
+    for number, task in enumerate(tasks, 1):
+        if task.low > task.high:
+            return f'task {number}: high budget below low budget'
+    for number, task in enumerate(tasks, 1):
+        first = task_number(tasks, task.name)
+        if first < number:
+            return f'tasks {first} and {number} have one name'
+    return None
+
+
+# ---- The program ----
+
+USAGE = ('usage: check TASKS | run TASKS WORK TICKS | judge TASKS TRACE [P Q] | chart TASKS TRACE '
+         '| report TASKS TRACE | soak NUMBER TASKCOUNT TICKS\n')
+COUNT_OF_WORDS = {'check': [0], 'run': [1], 'judge': [0, 2], 'chart': [0], 'report': [0], 'soak': [3]}
+
+
+# The numbers behind the files, each within its range.
+def read_words(command, words):
+    numbers = [number_of(word, 20, 2 ** 64 - 1) for word in words]
+    if len(words) not in COUNT_OF_WORDS[command] or None in numbers:
+        raise Refusal(2, USAGE)
+    in_range = {
+        'run': lambda end: 1 <= end <= 1000000,
+        'soak': lambda seed, count, end: 2 <= count <= 32 and 1 <= end <= 1000000,
+        'judge': lambda p=1, q=1: 1 <= p <= q <= MOST,
+    }.get(command, lambda: True)
+    if not in_range(*numbers):
+        raise Refusal(2, USAGE)
+    return numbers
+
+
+# The rule of the test, for tasks within the range.
+def admitted(tasks):
+    number = out_of_range(tasks)
+    if number is not None:
+        raise Refusal(3, f'task file: task {number}: periods out of range\n')
+    rule = test(tasks)
+    if rule is None:
+        raise Refusal(1, f'not admitted: {" ".join(loads_words(tasks))}\n')
+    return rule
+
+
+# The text of a command, for the tree of its task file, the text of its second file, and the words behind them.
+def text_of(command, tree, second, words):
+    numbers = read_words(command, words)
+    if command == 'soak':
+        return soak_text(*numbers)
+    tasks = read_tasks(tree)
+    rule = virtual(*numbers) if command == 'judge' and numbers else admitted(tasks)
+    if command == 'check':
+        return check_text(tasks, rule)
+    if command == 'run':
+        work = read_work(tasks, second)
+        rows = follow(tasks, rule, work, numbers[0])
+        assert follows(tasks, rule, work, numbers[0], rows)
+        return trace_text(tasks, rows)
+    rows = read_trace(tasks, second)
+    in_time, line = verdict(tasks, rule, rows)
+    if not in_time:
+        raise Refusal(6, line)
+    return {'judge': lambda *_: line, 'chart': chart_text, 'report': report_text}[command](tasks, rows)
+
+
+# The status of a command and its text.
+def answer(command, tree=None, second='', words=()):
+    try:
+        return 0, text_of(command, tree, second, words)
+    except Refusal as refusal:
+        return refusal.status, refusal.line
+
+
+# ---- Worked examples ----
+
+def tree_of(*tables):
+    return {'task': list(tables)}
+
+
+def high(name, period, low_budget, high_budget):
+    return {'name': name, 'level': HIGH, 'period': period, 'low': low_budget, 'high': high_budget}
+
+
+def low(name, period, budget):
+    return {'name': name, 'level': LOW, 'period': period, 'low': budget}
+
+
+def work_file(*rows):
+    return lines(('task,release,need',) + rows)
+
+
+def trace_file(*rows):
+    return lines((','.join(TRACE_HEADER),) + rows)
+
+
+CONTROL = tree_of(high('ctl', 10, 2, 6), low('log', 10, 5))
+TAP_AND_ARM = tree_of(low('tap', 2, 1), high('arm', 4, 1, 3))
+QUARTER_SCALE = tree_of(low('a', 5, 3), high('b', 10, 1, 6))
+TWO_HIGH_TASKS = tree_of(high('ctl', 10, 2, 6), high('fix', 10, 1, 1), low('log', 10, 4))
+PLAIN_PAIR = tree_of(high('hi', 4, 1, 2), low('lo', 4, 2))
+AVIONICS = tree_of(
+    high('attitude', 5000, 400, 900), high('gyro', 10000, 600, 1500), high('engine', 20000, 1500, 4000),
+    high('nav', 50000, 3000, 7000), low('display', 16667, 2500), low('radio', 25000, 2000), low('log', 100000, 8000),
+    low('maint', 200000, 10000))
+
+OVERRUN_AND_RETURN = trace_file(
+    'release,0,ctl,1,kept', 'release,0,log,1,kept', 'tick,0,ctl,1,more', 'tick,1,ctl,1,over', 'tick,2,ctl,1,more',
+    'tick,3,ctl,1,more', 'tick,4,ctl,1,more', 'tick,5,ctl,1,done', 'idle,6,,,', 'idle,7,,,', 'idle,8,,,', 'idle,9,,,',
+    'release,10,log,2,kept', 'tick,10,log,2,more', 'tick,11,log,2,more')
+LOG_BEFORE_CTL = trace_file(
+    'release,0,ctl,1,kept', 'release,0,log,1,kept', 'tick,0,log,1,more', 'tick,1,log,1,more', 'tick,2,log,1,more',
+    'tick,3,log,1,more', 'tick,4,log,1,done', 'tick,5,ctl,1,more', 'tick,6,ctl,1,over', 'tick,7,ctl,1,more',
+    'tick,8,ctl,1,more', 'tick,9,ctl,1,more', 'tick,10,ctl,1,done')
+AVIONICS_WORK = work_file(
+    'attitude,0,400', 'gyro,0,600', 'engine,0,1500', 'nav,0,3000', 'display,0,2500', 'radio,0,2000', 'log,0,8000',
+    'maint,0,10000', 'attitude,5000,400', 'attitude,10000,400', 'gyro,10000,600', 'attitude,15000,400',
+    'display,16667,2500')
+AVIONICS_REPORT = lines([
+    'task attitude released 4 kept 4 dropped 0 discarded 0 done 4 stopped 0 ticks 1600 response 400',
+    'task gyro released 2 kept 2 dropped 0 discarded 0 done 2 stopped 0 ticks 1200 response 1000',
+    'task engine released 1 kept 1 dropped 0 discarded 0 done 1 stopped 0 ticks 1500 response 2500',
+    'task nav released 1 kept 1 dropped 0 discarded 0 done 1 stopped 0 ticks 3000 response 8400',
+    'task display released 2 kept 2 dropped 0 discarded 0 done 2 stopped 0 ticks 5000 response 5000',
+    'task radio released 1 kept 1 dropped 0 discarded 0 done 1 stopped 0 ticks 2000 response 11400',
+    'task log released 1 kept 1 dropped 0 discarded 0 done 0 stopped 0 ticks 5700 response -',
+    'task maint released 1 kept 1 dropped 0 discarded 0 done 0 stopped 0 ticks 0 response -',
+    'idle 0', 'switches 0'])
+
+
+# The words of a call, its files, its status and the lines of its text.
+EXAMPLES = {
+    'first_check': (
+        'check', CONTROL, '', [], 0, ['tasks 2', 'U_LL 1/2', 'U_HL 1/5', 'U_HH 3/5', 'rule virtual', 'x 2/5']),
+    'empty_task_file': ('check', {}, '', [], 3, ['task file: no tasks']),
+    'load_exactly_one': (
+        'check', tree_of(low('a', 2, 2)), '', [], 0, ['tasks 1', 'U_LL 1/1', 'U_HL 0/1', 'U_HH 0/1', 'rule plain']),
+    'scale_one_half_at_equality': (
+        'check', TAP_AND_ARM, '', [], 0, ['tasks 2', 'U_LL 1/2', 'U_HL 1/4', 'U_HH 3/4', 'rule virtual', 'x 1/2']),
+    'not_admitted_by_the_high_load': (
+        'check', tree_of(low('tap', 2, 1), high('arm', 4, 1, 4)), '', [], 1,
+        ['not admitted: U_LL 1/2 U_HL 1/4 U_HH 1/1']),
+    'no_divisor': (
+        'check', tree_of(low('tap', 2, 2), high('arm', 4, 1, 1)), '', [], 1,
+        ['not admitted: U_LL 1/1 U_HL 1/4 U_HH 1/4']),
+    'period_range_of_two': (
+        'check', tree_of(low('a', 4294967295, 1), low('b', 4294967294, 1)), '', [], 3,
+        ['task file: task 2: periods out of range']),
+    'period_range_of_three': (
+        'check', tree_of(low('a', 2147483648, 1), low('b', 387420489, 1), low('c', 5, 1)), '', [], 3,
+        ['task file: task 3: periods out of range']),
+    'unrounded_key_check': (
+        'check', QUARTER_SCALE, '', [], 0, ['tasks 2', 'U_LL 3/5', 'U_HL 1/10', 'U_HH 3/5', 'rule virtual', 'x 1/4']),
+    'unrounded_key': (
+        'run', QUARTER_SCALE, work_file('a,0,3', 'b,2,1'), ['5'], 0, trace_file(
+            'release,0,a,1,kept', 'tick,0,a,1,more', 'tick,1,a,1,more', 'release,2,b,1,kept', 'tick,2,b,1,done',
+            'tick,3,a,1,done', 'idle,4,,,')),
+    'overrun_and_return': ('run', CONTROL, work_file('ctl,0,6', 'log,0,5', 'log,10,5'), ['12'], 0, OVERRUN_AND_RETURN),
+    'deadline_met_exactly_in_high_mode': (
+        'run', TAP_AND_ARM, work_file('tap,0,1', 'arm,0,3', 'tap,2,1', 'tap,4,1'), ['5'], 0, trace_file(
+            'release,0,tap,1,kept', 'release,0,arm,1,kept', 'tick,0,tap,1,done', 'tick,1,arm,1,over',
+            'release,2,tap,2,dropped', 'tick,2,arm,1,more', 'tick,3,arm,1,done', 'release,4,tap,3,dropped',
+            'idle,4,,,')),
+    'stop_without_a_switch_check': (
+        'check', TWO_HIGH_TASKS, '', [], 0, ['tasks 3', 'U_LL 2/5', 'U_HL 3/10', 'U_HH 7/10', 'rule virtual', 'x 1/2']),
+    'stop_without_a_switch': (
+        'run', TWO_HIGH_TASKS, work_file('fix,0,5', 'log,0,9'), ['6'], 0, trace_file(
+            'release,0,fix,1,kept', 'release,0,log,1,kept', 'tick,0,fix,1,stop', 'tick,1,log,1,more',
+            'tick,2,log,1,more', 'tick,3,log,1,more', 'tick,4,log,1,stop', 'idle,5,,,')),
+    'late_under_a_scale_that_does_not_hold': (
+        'judge', CONTROL, LOG_BEFORE_CTL, ['1', '1'], 6, ['legal late 1 first ctl 1']),
+    'not_least': ('judge', CONTROL, LOG_BEFORE_CTL, [], 6, ['illegal row 3 not_least']),
+    'held_release_dropped': (
+        'run', CONTROL, work_file('ctl,0,6', 'log,2,5'), ['4'], 0, trace_file(
+            'release,0,ctl,1,kept', 'tick,0,ctl,1,more', 'tick,1,ctl,1,over', 'release,2,log,1,dropped',
+            'tick,2,ctl,1,more', 'tick,3,ctl,1,more')),
+    'work_file_too_soon': (
+        'run', CONTROL, work_file('ctl,0,6', 'ctl,9,1'), ['9'], 4, ['work file line 3: too soon, next 10']),
+    'work_file_unknown_task': ('run', CONTROL, work_file('bob,0,1'), ['9'], 4, ['work file line 2: unknown task']),
+    'work_file_need_is_zero': ('run', CONTROL, work_file('ctl,0,0'), ['9'], 4, ['work file line 2: need is 0']),
+    'work_file_out_of_order': (
+        'run', CONTROL, work_file('log,5,1', 'ctl,4,1'), ['9'], 4, ['work file line 3: release before the last one']),
+    'work_file_empty': ('run', CONTROL, '', ['9'], 4, ['work file line 1: header is not task,release,need']),
+    'trace_cut_in_a_field': (
+        'judge', CONTROL, trace_file('release,0,ctl,1,kept', 'tick,0,ct'), [], 5, ['trace line 3: not five fields']),
+    'trace_cut_in_a_word': (
+        'judge', CONTROL, trace_file('release,0,ctl,1,kept', 'tick,0,ctl,1,mor'), [], 5,
+        ['trace line 3: unknown event']),
+    'trace_with_a_tick_twice': (
+        'judge', CONTROL, trace_file('idle,0,,,', 'idle,0,,,'), [], 5, ['trace line 3: wrong tick']),
+    'trace_with_a_later_first_tick': ('judge', CONTROL, trace_file('idle,1,,,'), [], 5, ['trace line 2: wrong tick']),
+    'trace_with_the_header_alone': ('judge', CONTROL, trace_file(), [], 0, ['legal late 0']),
+    'no_ticks': ('run', CONTROL, work_file(), ['0'], 2, [USAGE[:-1]]),
+    'too_many_ticks': ('run', CONTROL, work_file(), ['1000001'], 2, [USAGE[:-1]]),
+    'avionics_check': (
+        'check', AVIONICS, '', [], 0,
+        ['tasks 8', 'U_LL 600007/1666700', 'U_HL 11/40', 'U_HH 67/100', 'rule virtual', 'x 916685/2133386']),
+    'plain_rule_never_switches': (
+        'run', PLAIN_PAIR, work_file('hi,0,2', 'lo,0,2'), ['4'], 0, trace_file(
+            'release,0,hi,1,kept', 'release,0,lo,1,kept', 'tick,0,hi,1,more', 'tick,1,hi,1,done', 'tick,2,lo,1,more',
+            'tick,3,lo,1,done')),
+    'tasks_past_the_limit': (
+        'check', tree_of(*[low(f't{number}', 200, 1) for number in range(129)]), '', [], 3,
+        ['task file: 129 tasks, at most 128']),
+    'name_of_32_bytes': (
+        'check', tree_of(low('n' * 32, 2, 1)), '', [], 0,
+        ['tasks 1', 'U_LL 1/2', 'U_HL 0/1', 'U_HH 0/1', 'rule plain']),
+    'name_of_33_bytes': ('check', tree_of(low('n' * 33, 2, 1)), '', [], 3, ['task file: task 1: bad name']),
+    'version_one': (
+        'check', dict(CONTROL, version=1), '', [], 0,
+        ['tasks 2', 'U_LL 1/2', 'U_HL 1/5', 'U_HH 3/5', 'rule virtual', 'x 2/5']),
+    'version_three': ('check', dict(CONTROL, version=3), '', [], 3, ['task file: unknown version']),
+    'soak_of_one_task': ('soak', None, '', ['7', '1', '100'], 2, [USAGE[:-1]]),
+    'chart': (
+        'chart', CONTROL, OVERRUN_AND_RETURN, [], 0,
+        ['ctl    #O###D......', 'log    ..........##', '(mode) LLHHHHHLLLLL']),
+    'report': (
+        'report', CONTROL, OVERRUN_AND_RETURN, [], 0, [
+            'task ctl released 1 kept 1 dropped 0 discarded 0 done 1 stopped 0 ticks 6 response 6',
+            'task log released 2 kept 2 dropped 0 discarded 1 done 0 stopped 0 ticks 2 response -', 'idle 4',
+            'switches 1']),
+}
+
+# Rows, and the verdict on them for the control set under its test's rule.
+VERDICTS = {
+    'too_soon_release': (
+        ['release,0,log,1,kept', 'tick,0,log,1,done', 'release,1,log,2,kept'], 'illegal row 3 too_soon'),
+    'wrong_count_of_a_first_release': (['release,0,ctl,2,kept'], 'illegal row 1 wrong_count'),
+    'high_release_dropped': (['release,0,ctl,1,dropped'], 'illegal row 1 wrong_kept'),
+    'tick_without_a_release': (['tick,0,ctl,1,more'], 'illegal row 1 not_pending'),
+    'not_least_tick': (
+        ['release,0,ctl,1,kept', 'release,0,log,1,kept', 'tick,0,log,1,more'], 'illegal row 3 not_least'),
+    'low_budget_passed_without_an_overrun': (
+        ['release,0,ctl,1,kept', 'tick,0,ctl,1,more', 'tick,1,ctl,1,more'], 'illegal row 3 wrong_how'),
+    'idle_with_a_pending_job': (['release,0,ctl,1,kept', 'idle,0,,,'], 'illegal row 2 idle_pending'),
+    'low_job_after_switch': (
+        ['release,0,ctl,1,kept', 'release,0,log,1,kept', 'tick,0,ctl,1,more', 'tick,1,ctl,1,over', 'tick,2,log,1,more'],
+        'illegal row 5 not_pending'),
+    'dropped_after_the_return': (
+        ['release,0,ctl,1,kept', 'tick,0,ctl,1,more', 'tick,1,ctl,1,over', 'tick,2,ctl,1,done', 'idle,3,,,',
+         'release,4,log,1,dropped'], 'illegal row 6 wrong_kept'),
+    'overrun_of_a_low_job': (
+        ['release,0,log,1,kept', 'tick,0,log,1,more', 'tick,1,log,1,more', 'tick,2,log,1,more', 'tick,3,log,1,more',
+         'tick,4,log,1,over'], 'illegal row 6 wrong_how'),
+    'kept_low_release_in_high_mode': (
+        ['release,0,ctl,1,kept', 'tick,0,ctl,1,more', 'tick,1,ctl,1,over', 'release,2,log,1,kept'],
+        'illegal row 4 wrong_kept'),
+    'tick_after_the_end': (
+        ['release,0,log,1,kept', 'tick,0,log,1,done', 'tick,1,log,1,more'], 'illegal row 3 not_pending'),
+    'done_below_the_budget': (['release,0,ctl,1,kept', 'tick,0,ctl,1,done', 'idle,1,,,'], 'legal late 0'),
+}
+
+# The first words of the published sample program of PCG's generator, of seed 42 and stream 54.
+PUBLISHED_WORDS = [0xa15c02b7, 0x7b47f409, 0xba1d3330, 0x83d2f293, 0xbfa4784b, 0xcbed606e]
+
+
+# Each example by name, what came out, and what is written here.
+def examples():
+    for name, (command, tree, second, words, status, wanted) in EXAMPLES.items():
+        text = wanted if isinstance(wanted, str) else lines(wanted)
+        yield name, answer(command, tree, second, words), (status, text)
+        if command == 'run' and status == 0:
+            tasks, work = read_tasks(tree), read_work(read_tasks(tree), second)
+            yield f'{name}, held', follows(tasks, test(tasks), work, int(words[0]), read_trace(tasks, text)), True
+    for name, (rows, line) in VERDICTS.items():
+        yield name, answer('judge', CONTROL, trace_file(*rows)), (0 if line == 'legal late 0' else 6, line + '\n')
+    yield 'published_words', list(islice(pcg_words(42, 54), len(PUBLISHED_WORDS))), PUBLISHED_WORDS
+    yield from avionics_examples()
+    yield from soak_examples()
+
+
+def avionics_examples():
+    status, text = answer('run', AVIONICS, AVIONICS_WORK, ['20000'])
+    yield 'avionics_run', (status, len(text.splitlines())), (0, 20014)
+    yield 'avionics_verdict', answer('judge', AVIONICS, text), (0, 'legal late 0\n')
+    yield 'avionics_report', answer('report', AVIONICS, text), (0, AVIONICS_REPORT)
+
+
+def soak_examples():
+    status, text = answer('soak', words=['7', '8', '20000'])
+    told = text.splitlines()
+    yield 'soak', (status, told[0], told[-1]), (0, 'soak 7 8 20000', 'legal late 0')
+    numbers = told[3].split()
+    yield 'soak_ticks', int(numbers[1]) + int(numbers[3]), 20000
+
+
+def main():
+    count = failed = 0
+    for name, found, wanted in examples():
+        count += 1
+        if found != wanted:
+            failed += 1
+            print(f'{name}: {found}, and {wanted} is written')
+    print(f'model: {count} examples, {failed} failed')
+    return 1 if failed else 0
+
+
+if __name__ == '__main__':
+    sys.exit(main())
