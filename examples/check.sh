@@ -11,6 +11,8 @@ for file in tasks.toml work.csv; do
     cmp "overrun/$file" "../crates/edfvd_program/data/$file" || failed=$((failed + 1))
 done
 cmp overrun/run.txt ../crates/edfvd_program/stdout || failed=$((failed + 1))
+# So is the trace that is made of one with a record for each row.
+cmp overrun/run.txt runs/runs.csv || failed=$((failed + 1))
 
 expect 0 control/check.txt check control/tasks.toml
 (cd control && "$edfvd" check tasks.toml) >"$work/out"
@@ -32,11 +34,25 @@ expect 0 overrun/report.txt report overrun/tasks.toml overrun/run.txt
 expect 6 judged/illegal.txt chart judged/tasks.toml judged/illegal.csv
 expect 6 judged/illegal.txt report judged/tasks.toml judged/illegal.csv
 
+expect 0 runs/runs.csv migrate runs/tasks.toml runs/rows.csv
+expect 0 runs/runs.csv migrate runs/tasks.toml runs/runs.csv
+expect 6 judged/illegal.txt migrate judged/tasks.toml judged/illegal.csv
+expect 0 judged/legal.txt judge runs/tasks.toml runs/rows.csv
+expect 0 overrun/chart.txt chart runs/tasks.toml runs/rows.csv
+expect 0 overrun/report.txt report runs/tasks.toml runs/rows.csv
+expect 0 judged/legal.txt judge runs/tasks.toml runs/long.csv
+expect 0 runs/long.txt report runs/tasks.toml runs/long.csv
+expect 0 runs/long.csv migrate runs/tasks.toml runs/long.csv
+expect 5 "$(says 'trace has 100000000 ticks, a chart has at most 2000000')" chart runs/tasks.toml runs/long.csv
+
+expect 0 live/first.txt live live/tasks.toml 10
+expect 0 live/one.txt live live/one.toml 3
+
 expect 0 avionics/check.txt check avionics/tasks.toml
 "$edfvd" run avionics/tasks.toml avionics/work.csv 20000 >"$work/avionics.csv"
 status=$?
 wc -l <"$work/avionics.csv" | tr -d ' ' >"$work/out"
-judge 0 "$status" "$(says 20014)" 'run, the avionics set'
+judge 0 "$status" "$(says 40)" 'run, the avionics set'
 expect 0 judged/legal.txt judge avionics/tasks.toml "$work/avionics.csv"
 expect 0 avionics/report.txt report avionics/tasks.toml "$work/avionics.csv"
 
@@ -65,8 +81,30 @@ while [ "$times" -lt 100 ]; do
     times=$((times + 1))
 done
 
+# lives TASKS TICKS: the text of a live run, whichever it is, is judged legal with no job late
+lives() {
+    bounded "$program" live "$1" "$2" >"$work/live.csv"
+    status=$?
+    : >"$work/out"
+    judge 0 "$status" "$work/empty" "live $1 $2"
+    expect 0 judged/legal.txt judge "$1" "$work/live.csv"
+}
+
+# A hundred live runs of 2, of 8 and of 32 tasks.
+awk 'BEGIN { for (i = 1; i <= 32; i++) { high = i % 2
+    printf "[[task]]\nname = \"t%d\"\nlevel = \"%s\"\nperiod = 100\nlow = %d\n", i, high ? "high" : "low", high ? 1 : 3
+    if (high) print "high = 4" } }' >"$work/many.toml"
+times=0
+while [ "$times" -lt 100 ]; do
+    lives live/tasks.toml 1000
+    lives avionics/tasks.toml 20000
+    lives "$work/many.toml" 1000
+    times=$((times + 1))
+done
+lives live/tasks.toml 100000
+
 # Words that are none of the forms.
-usage='usage: check TASKS | run TASKS WORK TICKS | judge TASKS TRACE [P Q] | chart TASKS TRACE | report TASKS TRACE | soak NUMBER TASKCOUNT TICKS'
+usage='usage: check TASKS | run TASKS WORK TICKS | judge TASKS TRACE [P Q] | chart TASKS TRACE | report TASKS TRACE | soak NUMBER TASKCOUNT TICKS | migrate TASKS TRACE | live TASKS TICKS'
 expect 2 "$(says "$usage")"
 expect 2 "$(says "$usage")" check
 expect 2 "$(says "$usage")" check control/tasks.toml again
@@ -76,6 +114,15 @@ expect 2 "$(says "$usage")" check "$(printf '\377')"
 for ticks in '' 0 -1 +1 1.0 1000001 18446744073709551617 000000000000000000012; do
     expect 2 "$(says "$usage")" run overrun/tasks.toml overrun/work.csv "$ticks"
 done
+for ticks in '' 0 -1 100001; do
+    expect 2 "$(says "$usage")" live live/tasks.toml "$ticks"
+done
+expect 2 "$(says "$usage")" live live/tasks.toml
+expect 2 "$(says "$usage")" live live/tasks.toml 10 10
+expect 2 "$(says "$usage")" migrate runs/tasks.toml
+expect 2 "$(says "$usage")" migrate runs/tasks.toml runs/rows.csv 1 1
+expect 1 refused/high_load.txt live refused/high_load.toml 10
+expect 3 refused/zero_period.txt live refused/zero_period.toml 10
 
 # Files: absent, a folder, at the limit and past it, bytes that are no text.
 expect 7 "$(says 'read fault on file 1')" check "$work/absent.toml"
@@ -111,10 +158,8 @@ refuses '2: unknown task' "$header\n\377,0,1\n"
 printf '\357\273\277%s\r\n\r\n"ctl",0,"6"\r\nlog,0,0000000005\r\nlog,10,5' "$header" >"$work/work.csv"
 expect 0 overrun/run.txt run overrun/tasks.toml "$work/work.csv" 12
 printf '%s\n' "$header" >"$work/work.csv"
-"$edfvd" run overrun/tasks.toml "$work/work.csv" 1000000 >"$work/idle"
-status=$?
-wc -c <"$work/idle" | tr -d ' ' >"$work/out"
-judge 0 "$status" "$(says 14888914)" 'run, a million idle ticks'
+printf 'event,tick,length,task,job,how\nidle,0,1000000,,,\n' >"$work/idle.csv"
+expect 0 "$work/idle.csv" run overrun/tasks.toml "$work/work.csv" 1000000
 { printf '%s\n' "$header"; head -c 16777200 /dev/zero | tr '\0' '\n'; } >"$work/work.csv"
 expect 7 "$(says 'file 2 is longer than 16777216 bytes')" run overrun/tasks.toml "$work/work.csv" 12
 { printf 'task = [{name="a", level="low", period=1, low=1}]\n'; } >"$work/tasks.toml"
@@ -122,16 +167,59 @@ expect 7 "$(says 'file 2 is longer than 16777216 bytes')" run overrun/tasks.toml
 expect 4 "$(says 'work file line 1000002: more than 1000000 rows')" run "$work/tasks.toml" "$work/work.csv" 10
 
 # Traces: absent, cut, past the limit of bytes; and half a million pending jobs at a time.
-header='event,tick,task,job,how'
+rows='event,tick,task,job,how'
+runs_header='event,tick,length,task,job,how'
+# answers STATUS LINE HEADER RECORDS: a trace of these records behind the header is judged so for the control set
+answers() {
+    # shellcheck disable=SC2059
+    printf "$3\n$4" >"$work/trace.csv"
+    expect "$1" "$(says "$2")" judge judged/tasks.toml "$work/trace.csv"
+}
 expect 7 "$(says 'read fault on file 2')" judge judged/tasks.toml "$work/absent.csv"
-printf '%s\nrelease,0,ctl,1,kept\ntick,0,ct' "$header" >"$work/trace.csv"
-expect 5 "$(says 'trace line 3: not five fields')" judge judged/tasks.toml "$work/trace.csv"
-{ printf '%s\n' "$header"; head -c 134217704 /dev/zero | tr '\0' '\n'; } >"$work/trace.csv"
-expect 0 judged/legal.txt judge judged/tasks.toml "$work/trace.csv"
-echo >>"$work/trace.csv"
-expect 7 "$(says 'file 2 is longer than 134217728 bytes')" judge judged/tasks.toml "$work/trace.csv"
+answers 5 'trace line 1: header is of no trace version' '' ''
+answers 5 'trace line 1: header is of no trace version' "$rows,length" 'idle,0,,,\n'
+answers 5 'trace line 3: not five fields' "$rows" 'release,0,ctl,1,kept\ntick,0,ct'
+answers 0 'legal late 0' "$runs_header" ''
+answers 0 'legal late 0' "$runs_header" 'idle,0,100000000,,,\n'
+answers 0 'legal late 0' "$runs_header" '"idle",0000000000,"0100000000",,,\r\n\r\nrelease,100000000,,ctl,1,"kept"'
+answers 5 'trace line 2: more than 100000000 ticks' "$runs_header" 'idle,0,100000001,,,\n'
+answers 5 'trace line 3: more than 100000000 ticks' "$runs_header" 'idle,0,100000000,,,\nidle,100000000,1,,,\n'
+answers 6 'illegal row 6 wrong_how' "$runs_header" 'release,0,,log,1,kept\ntick,0,5,log,1,more\n'
+answers 6 'illegal row 100000001 wrong_count' "$runs_header" 'idle,0,100000000,,,\nrelease,100000000,,ctl,2,kept\n'
+answers 5 'trace line 3: bad length' "$runs_header" 'release,0,,ctl,1,kept\ntick,0,2,ctl,1,done\n'
+answers 5 'trace line 2: bad length' "$runs_header" 'idle,0,0,,,\n'
+answers 5 'trace line 2: not six fields' "$runs_header" 'idle,0,,,\n'
+answers 5 'trace line 2: unknown event' "$runs_header" 'release,0,1,ctl,1,kept\n'
+answers 5 'trace line 2: unknown task' "$runs_header" 'tick,1,0,bob,x,done\n'
+answers 5 'trace line 2: bad number' "$runs_header" 'tick,1,,ctl,1,done\n'
+answers 5 'trace line 2: bad number' "$runs_header" 'idle,0,4294967296,,,\n'
+answers 5 'trace line 2: wrong tick' "$runs_header" 'tick,1,0,ctl,1,done\n'
+answers 5 'trace line 3: wrong tick' "$runs_header" 'idle,0,5,,,\nidle,1,1,,,\n'
+answers 5 'trace line 2: unknown event' "$runs_header" '\377,0,1,,,\n'
+{ printf '%s\nidle,0,1000000,,,\n' "$runs_header"; printf 'idle,1000000,1000000,,,\n'; } >"$work/trace.csv"
+bounded "$program" chart judged/tasks.toml "$work/trace.csv" >"$work/chart.txt"
+status=$?
+wc -c <"$work/chart.txt" | tr -d ' ' >"$work/out"
+judge 0 "$status" "$(says 6000024)" 'chart, of two million ticks'
+printf 'idle,2000000,1,,,\n' >>"$work/trace.csv"
+expect 5 "$(says 'trace has 2000001 ticks, a chart has at most 2000000')" chart judged/tasks.toml "$work/trace.csv"
+printf 'release,2000001,,ctl,2,kept\n' >>"$work/trace.csv"
+expect 6 "$(says 'illegal row 2000002 wrong_count')" chart judged/tasks.toml "$work/trace.csv"
+for text in "$rows" "$runs_header"; do
+    { printf '%s\n' "$text"; head -c $((134217728 - ${#text} - 1)) /dev/zero | tr '\0' '\n'; } >"$work/trace.csv"
+    expect 0 judged/legal.txt judge judged/tasks.toml "$work/trace.csv"
+    echo >>"$work/trace.csv"
+    expect 7 "$(says 'file 2 is longer than 134217728 bytes')" judge judged/tasks.toml "$work/trace.csv"
+done
+{ printf '%s\n' "$runs_header"; awk 'BEGIN { for (i = 0; i <= 2000000; i++) print "idle," i ",1,,," }'; } >"$work/trace.csv"
+expect 5 "$(says 'trace line 2000002: more than 2000000 rows')" judge judged/tasks.toml "$work/trace.csv"
+sed '$d' "$work/trace.csv" >"$work/full.csv"
+printf '%s\nidle,0,2000000,,,\n' "$runs_header" >"$work/one.csv"
+expect 0 "$work/one.csv" migrate judged/tasks.toml "$work/full.csv"
 printf 'task = [{name="a", level="low", period=1, low=1}, {name="b", level="low", period=1, low=1}]\n' >"$work/tasks.toml"
 half_served >"$work/trace.csv"
+expect 6 "$(says 'legal late 999999 first b 1')" judge "$work/tasks.toml" "$work/trace.csv" 1 1
+half_served | awk -F, -v OFS=, '{ $2 = $2 OFS (NR == 1 ? "length" : $1 == "tick" ? 1 : ""); print }' >"$work/trace.csv"
 expect 6 "$(says 'legal late 999999 first b 1')" judge "$work/tasks.toml" "$work/trace.csv" 1 1
 
 # quotes PAGE: each block of Rust in the page stands in a file of the callers' crate, line for line, and there is one

@@ -3,9 +3,11 @@
 usage: compare.py PROGRAM [CASES [SEED]]
 
 A case is a command, its files and its words: sets whose loads lie round 1 or at it, also with periods at the limits;
-random work; legal traces with random choices, such traces cut short or with a spoilt row, also by scales that do not
-hold; made workloads; and files that are refused. The status and the whole text have to be the model's, nothing stands
-on standard error, and no job is late under a rule that holds. What came of the cases is counted. A comparison of as
+random work; legal traces of a few ticks or up to a hundred million, with random choices, such traces cut short or with
+a spoilt row, also by scales that do not hold; made workloads; and files that are refused. A trace is of either version,
+and then mostly given a second time as another text, for which the answer has to be the same. The status and the whole
+text have to be the model's, nothing stands on standard error, and no job is late under a rule that holds. Of the many
+texts that `live` may write the model says whether this is one. What came of the cases is counted. A comparison of as
 many cases as by default fails, too, where one of STATUSES or OUTCOMES never came, since it then shows less than it
 says. Files of cases that differ are kept, and named.
 """
@@ -21,8 +23,8 @@ from typing import NamedTuple, Optional
 import model
 from cases import Dice, Runner, keep, program_count_seed, tell
 from model import (
-    DONE, DROPPED, EVENTS, HIGH, IDLE, KEPT, LOW, MOST, OVER, PLAIN, RELEASES, STOP, TICKS, Job, Row, Task, Trace, Work,
-    with_before)
+    DONE, DROPPED, EVENTS, HIGH, IDLE, KEPT, LOW, MORE, MOST, MOST_TICKS, OVER, PLAIN, RELEASES, STOP, TICKS,
+    TRACE_HEADERS, Job, Run, Task, Trace, Work, rows_of, run_fields, with_before)
 
 DEFAULT_CASES = 4000
 
@@ -32,6 +34,7 @@ class Case(NamedTuple):
     tree: Optional[dict]  # of the task file
     second: Optional[str]  # the text of the second file
     words: list
+    twin: Optional[str] = None  # the second file's trace as another text
 
     def form(self):
         return 'judge by a scale' if self.command == 'judge' and self.words else self.command
@@ -308,22 +311,36 @@ def work_text(tasks, work):
 
 # ---- Traces ----
 
-def wander(dice, tasks, rule, end):
-    """A legal trace: releases at will, of equal keys any, and jobs that are done at will."""
+MOST_RUNS = 150
+
+
+def wander(dice, tasks, rule, end, stride=1):
+    """A legal trace of about so many ticks or MOST_RUNS runs: releases at will, of equal keys any, jobs that are done
+    at will, and up to so many ticks at once."""
     eager, lasting = dice.one_of([(1, 100), (1, 10), (1, 4), (2, 100), (2, 4), (6, 2)])
     trace = Trace()
-    for tick in range(end):
+    while model.ticks(trace) < end and len(trace.runs) < MOST_RUNS:
         release_some(dice, tasks, rule, trace, eager)
-        waiting = model.keys(tasks, rule, trace, model.pending(tasks, trace))
-        if waiting:
-            job = dice.one_of([job for job in waiting if waiting[job] == min(waiting.values())])
-            kind = DONE if chance(dice, 1, lasting) else model.how_of(tasks, rule, trace, job)
-            trace.add(Row(kind, tick, job))
-        else:
-            trace.add(Row(IDLE, tick, None))
+        most = between(dice, 1, min(stride, end - model.ticks(trace)))
+        trace.add(some_ticks(dice, tasks, rule, trace, lasting, most))
     if chance(dice, 1, 3):
         release_some(dice, tasks, rule, trace, eager)
-    return trace.rows
+    return trace.runs
+
+
+def some_ticks(dice, tasks, rule, trace, lasting, most):
+    """Ticks that may come next, no more than so many."""
+    now = model.ticks(trace)
+    waiting = model.keys(tasks, rule, trace, model.pending(tasks, trace))
+    if not waiting:
+        return Run(IDLE, now, None, most)
+    job = dice.one_of([job for job in waiting if waiting[job] == min(waiting.values())])
+    kind = DONE if chance(dice, 1, lasting) else model.how_of(tasks, rule, trace, job)
+    if kind != MORE:
+        return Run(kind, now, job)
+    task, past = model.task_of(tasks, job), model.used(trace, job)
+    left = [budget - past - 1 for budget in (task.low, task.high) if budget > past + 1]
+    return Run(MORE, now, job, min([most] + left))
 
 
 def release_some(dice, tasks, rule, trace, eager):
@@ -333,22 +350,59 @@ def release_some(dice, tasks, rule, trace, eager):
         earlier = model.releases_of(trace, number)
         if chance(dice, 1, eager) and all(row.tick + tasks[number - 1].period <= now for row in earlier):
             job = Job(number, len(earlier) + 1)
-            trace.add(Row(DROPPED if model.is_dropped(tasks, rule, trace, job) else KEPT, now, job))
+            trace.add(Run(DROPPED if model.is_dropped(tasks, rule, trace, job) else KEPT, now, job))
 
 
-def cut_short(dice, rows):
-    return rows[:dice.below(len(rows) + 1)]
+def cut_short(dice, runs):
+    return runs[:dice.below(len(runs) + 1)]
 
 
-def counted_anew(rows):
-    """The rows with the ticks that they have by their places."""
-    trace = Trace()
-    for row in rows:
-        trace.add(row._replace(tick=model.ticks(trace)))
-    return trace.rows
+def counted_anew(runs):
+    """The runs with the ticks that they have by their places, and several rows only where there may be."""
+    due, counted = 0, []
+    for run in runs:
+        run = run._replace(tick=due, length=run.length if run.kind in (MORE, IDLE) else 1)
+        counted.append(run)
+        due += run.length if run.kind not in RELEASES else 0
+    return counted
 
 
-# Each spoils the row at a place, in place.
+# A trace of so many rows at most is also given in version 1.
+MOST_BY_ROWS = 400
+
+
+def text_of_records(records):
+    return '\n'.join(','.join(record) for record in records) + '\n'
+
+
+def row_text(tasks, runs):
+    """A trace in version 1."""
+    fields = [run_fields(tasks, row) for row in rows_of(runs)]
+    return text_of_records([TRACE_HEADERS[1]] + [record[:2] + record[3:] for record in fields])
+
+
+def run_text(tasks, runs):
+    """Runs in version 2, one a record, whether or not they could be fewer."""
+    return text_of_records([TRACE_HEADERS[2]] + [run_fields(tasks, run) for run in runs])
+
+
+def halved(dice, run):
+    """A run as two, where it is of several rows."""
+    first = between(dice, 1, run.length - 1) if run.length > 1 else 0
+    second = run._replace(tick=run.tick + first, length=run.length - first)
+    return [run._replace(length=first), second] if first else [run]
+
+
+def texts_of(dice, tasks, runs):
+    """Two texts of a trace: of version 1, of the fewest runs, or of runs that could be fewer."""
+    halves = [half for run in runs for half in (halved(dice, run) if chance(dice, 1, 2) else [run])]
+    texts = [model.trace_text(tasks, runs), run_text(tasks, halves)]
+    if sum(run.length for run in runs) <= MOST_BY_ROWS:
+        texts += [row_text(tasks, runs), row_text(tasks, runs), run_text(tasks, rows_of(runs))]
+    return shuffled(dice, texts)[:2]
+
+
+# Each spoils the run at a place, in place.
 
 def other_kind(dice, tasks, rows, place):
     row = rows[place]
@@ -358,7 +412,7 @@ def other_kind(dice, tasks, rows, place):
 
 def other_event(dice, tasks, rows, place):
     job = some_job(dice, tasks, rows[:place])
-    rows[place] = Row(dice.one_of(TICKS), 0, job) if rows[place].kind == IDLE else Row(IDLE, 0, None)
+    rows[place] = Run(dice.one_of(TICKS), 0, job) if rows[place].kind == IDLE else Run(IDLE, 0, None)
 
 
 def some_job(dice, tasks, rows):
@@ -407,35 +461,72 @@ def early_release(dice, tasks, rows, place):
     """A release more, which often comes too soon."""
     number = between(dice, 1, len(tasks))
     count = 1 + len(model.releases_of(Trace(rows[:place]), number))
-    rows.insert(place, Row(dice.one_of(RELEASES), 0, Job(number, count)))
+    rows.insert(place, Run(dice.one_of(RELEASES), 0, Job(number, count)))
 
 
-ROW_CHANGES = 3 * [other_kind, other_pending] + 2 * [other_count, other_event] + [
+def other_length(dice, tasks, rows, place):
+    length = rows[place].length + dice.one_of([-1, 1, 1, 2, rows[place].length])
+    rows[place] = rows[place]._replace(length=max(1, length))
+
+
+def past_a_budget(dice, tasks, rows, place):
+    """Ticks with more to do up to a budget of their job, or past it."""
+    run = rows[place]
+    if run.kind in TICKS:
+        task, past = model.task_of(tasks, run.job), model.used(Trace(rows[:place]), run.job)
+        left = dice.one_of([task.low, task.high]) - past
+        rows[place] = run._replace(kind=MORE, length=max(1, left + dice.one_of([-1, 0, 1, 2, 3])))
+
+
+ROW_CHANGES = 3 * [other_kind, other_pending, past_a_budget] + 2 * [other_count, other_event, other_length] + [
     early_release, other_job, other_task, swapped, left_out, doubled]
 
 
-def spoilt_rows(dice, tasks, rows):
-    """The rows with one of them spoilt, mostly one of a job, in one to three ways, and their ticks counted anew."""
-    places = [place for place, row in enumerate(rows) if row.kind != IDLE or chance(dice, 1, 8)]
-    place = dice.one_of(places or range(len(rows)))
-    spoilt = list(rows)
+def spoilt_runs(dice, tasks, runs):
+    """The runs with one of them spoilt, mostly one of a job, in one to three ways, and their ticks counted anew."""
+    places = [place for place, run in enumerate(runs) if run.kind != IDLE or chance(dice, 1, 8)]
+    place = dice.one_of(places or range(len(runs)))
+    spoilt = list(runs)
     for _ in range(dice.one_of([1, 1, 2, 2, 3])):
         if place < len(spoilt):
             dice.one_of(ROW_CHANGES)(dice, tasks, spoilt, place)
     return counted_anew(spoilt)
 
 
-def rows_of(dice, tasks, rule):
-    """A legal trace, whole or cut short, or one with a spoilt row."""
-    rows = wander(dice, tasks, rule, between(dice, 1, dice.one_of([10, 60, 60])))
-    return dice.one_of([lambda: rows, lambda: cut_short(dice, rows)] + 2 * [lambda: spoilt_rows(dice, tasks, rows)])()
+LONG_ENDS = [200, 5000, 200000, 2000000, 2000000, 2000001, MOST_TICKS - 1, MOST_TICKS]
+
+
+def some_trace(dice, tasks, rule):
+    """A legal trace of a few rows or of long runs, whole."""
+    if chance(dice, 2, 3):
+        runs = wander(dice, tasks, rule, between(dice, 1, dice.one_of([10, 60, 60])))
+        return rows_of(runs) if chance(dice, 1, 2) else runs
+    end = dice.one_of(LONG_ENDS)
+    runs = wander(dice, tasks, rule, end, 1 + end // 12)
+    return stretched(runs, end) if chance(dice, 1, 2) else runs
+
+
+def stretched(runs, end):
+    """The runs up to the last idle one, which is made so long that there are so many ticks."""
+    places = [place for place, run in enumerate(runs) if run.kind == IDLE]
+    if not places:
+        return runs
+    last = runs[places[-1]]
+    return runs[:places[-1]] + [last._replace(length=end - last.tick)]
+
+
+def runs_of(dice, tasks, rule):
+    """A legal trace, whole or cut short, or one with a spoilt run."""
+    runs = some_trace(dice, tasks, rule)
+    return dice.one_of([lambda: runs, lambda: cut_short(dice, runs)] + 2 * [lambda: spoilt_runs(dice, tasks, runs)])()
 
 
 # ---- Files that are refused ----
 
 ODD_FIELDS = 4 * ['0'] + ['', '1', '-1', '+1', ' 1', '1 ', '1.0', '0000000001', '00000000001', str(MOST), str(MOST + 1)]
 WORK_FIELDS = ODD_FIELDS + ['bob', 'task', 'release', 'need']
-TRACE_FIELDS = ODD_FIELDS + ['bob', 'event', 'release', 'tick', 'idle'] + [*RELEASES, *TICKS]
+TRACE_FIELDS = ODD_FIELDS + ['bob', 'event', 'release', 'tick', 'idle', str(MOST_TICKS), str(MOST_TICKS + 1)] + [
+    *RELEASES, *TICKS]
 
 
 def spoil_record(dice, records, place, fields):
@@ -480,14 +571,14 @@ def spoilt_text(dice, text, fields):
                 spoil_records(dice, records, place)
             else:
                 spoil_record(dice, records, place, fields)
-    text = '\n'.join(','.join(record) for record in records) + '\n'
+    text = text_of_records(records)
     return dice.one_of([text] * 8 + [text[:-1], text[:dice.below(len(text) + 1)]])
 
 
 # ---- Cases ----
 
 ODD_WORDS = [
-    '', '0', '1', '01', '-1', '1.0', 'x', '1000001', str(MOST), str(MOST + 1), str(2 ** 64 - 1), str(2 ** 64),
+    '', '0', '1', '01', '-1', '1.0', 'x', '100001', '1000001', str(MOST), str(MOST + 1), str(2 ** 64 - 1), str(2 ** 64),
     '0' * 19 + '1', '0' * 20 + '1']
 
 
@@ -515,8 +606,8 @@ def refused_run_case(dice):
 
 def traced_case(dice, command):
     tasks = mostly_admitted(dice)
-    rows = rows_of(dice, tasks, model.test(tasks) or PLAIN)
-    return Case(command, tree_of(tasks), model.trace_text(tasks, rows), [])
+    text, twin = texts_of(dice, tasks, runs_of(dice, tasks, model.test(tasks) or PLAIN))
+    return Case(command, tree_of(tasks), text, [], twin)
 
 
 def judge_case(dice):
@@ -524,7 +615,7 @@ def judge_case(dice):
 
 
 def drawn_case(dice):
-    return traced_case(dice, dice.one_of(['chart', 'report']))
+    return traced_case(dice, dice.one_of(['chart', 'report', 'migrate']))
 
 
 def scale_for(dice, tasks):
@@ -541,16 +632,45 @@ def scale_for(dice, tasks):
 def judge_by_scale_case(dice):
     tasks = for_a_scale(dice)
     p, q = scale_for(dice, tasks)
-    rows = rows_of(dice, tasks, model.virtual(p, q))
-    return Case('judge', tree_of(tasks), model.trace_text(tasks, rows), [str(p), str(q)])
+    text, twin = texts_of(dice, tasks, runs_of(dice, tasks, model.virtual(p, q)))
+    return Case('judge', tree_of(tasks), text, [str(p), str(q)], twin)
+
+
+def with_odd_length(dice, runs):
+    """The runs with another length of one of them, also where it is of one row; those behind it are counted anew."""
+    place = dice.below(len(runs))
+    run = runs[place]
+    to_the_limit = MOST_TICKS - run.tick
+    odd = run._replace(length=dice.one_of([0, 2, run.length + 1, to_the_limit, to_the_limit + 1]))
+    due, rest = run.tick + (odd.length if run.kind not in RELEASES else 0), counted_anew(runs[place + 1:])
+    return runs[:place] + [odd] + [later._replace(tick=due + later.tick) for later in rest]
+
+
+def with_other_ticks(dice, text):
+    """The text with other ticks in all records of a length that is 0 or above 1, so that they are wrong in two ways."""
+    records = [line.split(',') for line in text.split('\n')[:-1]]
+    for record in records[1:]:
+        if record[2] not in ('', '1') and chance(dice, 3, 4):
+            record[1] = dice.one_of([str(int(record[1]) + 1), 'x', str(MOST + 1)])
+    return text_of_records(records)
 
 
 def refused_trace_case(dice):
     tasks = mostly_admitted(dice)
-    rows = wander(dice, tasks, model.test(tasks) or PLAIN, between(dice, 1, 12))
-    text = spoilt_text(dice, model.trace_text(tasks, rows), TRACE_FIELDS)
+    end, stride = dice.one_of([(between(dice, 1, 12), dice.one_of([1, 1, 3])), (MOST_TICKS, 1 + MOST_TICKS // 6)])
+    runs = wander(dice, tasks, model.test(tasks) or PLAIN, end, stride)
+    if chance(dice, 1, 3):
+        text = run_text(tasks, with_odd_length(dice, runs))
+        text = with_other_ticks(dice, text) if chance(dice, 1, 2) else text
+    else:
+        text = spoilt_text(dice, texts_of(dice, tasks, runs)[0], TRACE_FIELDS)
     words = dice.one_of([[], [], ['1', '2']])
-    return Case('judge' if words else dice.one_of(['judge', 'judge', 'chart', 'report']), tree_of(tasks), text, words)
+    command = 'judge' if words else dice.one_of(['judge', 'judge', 'chart', 'report', 'migrate'])
+    return Case(command, tree_of(tasks), text, words)
+
+
+def live_case(dice):
+    return Case('live', tree_of(mostly_admitted(dice)), None, [str(between(dice, 1, dice.one_of([8, 60, 300])))])
 
 
 def soak_case(dice):
@@ -560,21 +680,21 @@ def soak_case(dice):
 
 
 def odd_words_case(dice):
-    case = dice.one_of([run_case, judge_by_scale_case, soak_case])(dice)
+    case = dice.one_of([run_case, judge_by_scale_case, soak_case, live_case])(dice)
     words = [dice.one_of(ODD_WORDS) if chance(dice, 1, 2) else word for word in case.words]
     return case._replace(words=words)
 
 
 HUNDRED = (
-    19 * [check_case] + 22 * [run_case] + 7 * [refused_run_case] + 17 * [judge_case] + 15 * [judge_by_scale_case]
-    + 11 * [drawn_case] + 7 * [refused_trace_case] + [soak_case, odd_words_case])
+    17 * [check_case] + 17 * [run_case] + 6 * [refused_run_case] + 16 * [judge_case] + 14 * [judge_by_scale_case]
+    + 14 * [drawn_case] + 9 * [refused_trace_case] + 5 * [live_case] + [soak_case, odd_words_case])
 
 
 def cases(count, dice):
     """A hundred cases over and over, some with a task file that was spoilt after the second file was made for it."""
     for number in range(count):
         case = HUNDRED[number % len(HUNDRED)](dice)
-        is_spoilt = case.second is not None and chance(dice, 1, 30)
+        is_spoilt = case.command not in ('check', 'soak') and chance(dice, 1, 30)
         yield case._replace(tree=spoilt_tree(dice, case.tree)) if is_spoilt else case
 
 
@@ -590,6 +710,8 @@ STATUSES = {
     'judge by a scale': [0, 2, 3, 5, 6],
     'chart': [0, 1, 3, 5, 6],
     'report': [0, 1, 3, 5, 6],
+    'migrate': [0, 1, 3, 5, 6],
+    'live': [0, 1, 2, 3],
     'soak': [0, 2],
 }
 OUTCOMES = {
@@ -598,6 +720,9 @@ OUTCOMES = {
     'judge': HAPPENINGS + WHYS,
     'judge by a scale': HAPPENINGS + WHYS + [
         'late', 'two jobs of a task', 'a scale that holds', 'a scale that does not hold'],
+    'migrate': HAPPENINGS,
+    'live': ['an overrun', 'a discard', 'a drop', 'a return', 'a tie'],
+    'traces': ['version 1', 'version 2', 'a run of several rows', 'above a million ticks', 'two texts'],
     'task file': [
         'not TOML', 'unknown key', 'unknown version', 'no tasks', 'missing key', 'wrong kind', 'bad name',
         'out of range level', 'out of range period', 'out of range low', 'out of range high',
@@ -606,13 +731,15 @@ OUTCOMES = {
     'work file': [
         'header', 'not three fields', 'unknown task', 'bad number', 'need is 0', 'release before the last one',
         'too soon'],
-    'trace': ['header', 'not five fields', 'unknown event', 'unknown task', 'bad number', 'wrong tick'],
+    'trace': [
+        'header', 'not five fields', 'not six fields', 'unknown event', 'unknown task', 'bad number', 'wrong tick',
+        'bad length', 'more than 100000000 ticks', 'a chart has at most 2000000'],
 }
 
 
-def happened(tasks, rule, rows):
+def happened(tasks, rule, runs):
     """What happens in a legal trace."""
-    for before, row in with_before(rows):
+    for before, row in with_before(Trace(runs).runs):
         if row.kind in (OVER, DROPPED, STOP):
             yield {OVER: 'an overrun', DROPPED: 'a drop', STOP: 'a stop'}[row.kind]
         if row.kind == IDLE and model.is_high_mode(rule, before):
@@ -621,7 +748,7 @@ def happened(tasks, rule, rows):
             yield 'a tie'
         if row.kind == KEPT and row.job.task in [job.task for job in model.pending(tasks, before)]:
             yield 'two jobs of a task'
-    trace = Trace(rows)
+    trace = Trace(runs)
     if any(model.is_discarded(tasks, trace, row) for row in trace.of(KEPT)):
         yield 'a discard'
 
@@ -633,6 +760,17 @@ def is_tie(tasks, rule, trace):
 
 def rule_of(case, tasks):
     return model.virtual(*map(int, case.words)) if case.form() == 'judge by a scale' else model.test(tasks)
+
+
+def kinds_of_trace(case, runs):
+    """What is told of the traces that were read."""
+    yield 'traces', 'version 1' if case.second.startswith('event,tick,task') else 'version 2'
+    if any(run.length > 1 for run in runs):
+        yield 'traces', 'a run of several rows'
+    if model.ticks(Trace(runs)) > 1000000:
+        yield 'traces', 'above a million ticks'
+    if case.twin is not None:
+        yield 'traces', 'two texts'
 
 
 def is_at_one(tasks, rule):
@@ -654,8 +792,10 @@ def outcomes(case, status, text):
         if form == 'check':
             yield form, rule.name + (' at 1' if is_at_one(tasks, rule) else '')
         else:
-            rows = model.read_trace(tasks, text if form == 'run' else case.second)
-            yield from ((form, words) for words in set(happened(tasks, rule, rows)))
+            runs = model.read_trace(tasks, text if form in ('run', 'live') else case.second)
+            yield from ((form, words) for words in set(happened(tasks, rule, runs)))
+            if form not in ('run', 'live'):
+                yield from kinds_of_trace(case, runs)
         if form == 'judge by a scale':
             yield form, 'a scale that holds' if model.holds(tasks, rule) else 'a scale that does not hold'
         if status == 6:
@@ -682,6 +822,53 @@ def told(answer):
     return f'status {status}, {text[:200]}' + (f' and {errors[:200]} on standard error' if errors else '')
 
 
+def is_right(case, wanted, found):
+    """Whether the program's answer is the model's, or of the many live traces is one."""
+    status, text = wanted
+    if text is None:
+        is_live = model.live_fault(model.read_tasks(case.tree), int(case.words[0]), found[1].decode()) is None
+        return (found[0], found[2]) == (status, b'') and is_live
+    return found == (status, text.encode(), b'')
+
+
+class Comparison:
+    """What came of the cases so far."""
+
+    def __init__(self, program):
+        self.runner = Runner(program)
+        self.statuses = {form: collections.Counter() for form in STATUSES}
+        self.came = collections.Counter()
+        self.faults = 0
+
+    def fault(self, number, case, contents, words):
+        self.faults += 1
+        print(f'case {number}, {keep(number, case.command, contents, case.words)}: {words}')
+
+    def compare(self, number, case, contents):
+        status, text = wanted = model.answer(case.command, case.tree, case.second, case.words)
+        found = self.runner.run(case.command, contents, case.words)
+        self.statuses[case.form()][status] += 1
+        if not is_right(case, wanted, found):
+            of_model = 'a live trace' if text is None else told((status, text.encode(), b''))
+            self.fault(number, case, contents, f'{told(found)}; of the model: {of_model}')
+            return
+        self.came.update(outcomes(case, status, found[1].decode()))
+        if breaks_the_law(case, found[1].decode()):
+            self.fault(number, case, contents, 'late though the rule holds')
+        if case.twin is not None:
+            self.compare_twin(number, case, contents, wanted)
+
+    def compare_twin(self, number, case, contents, first_answer):
+        """The same trace as another text: the answer is the same, but for the line of a record that is refused."""
+        contents = contents[:1] + [case.twin.encode()]
+        status, text = wanted = model.answer(case.command, case.tree, case.twin, case.words)
+        found = self.runner.run(case.command, contents, case.words)
+        if not is_right(case, wanted, found):
+            self.fault(number, case, contents, f'{told(found)}; of the model: {told((status, text.encode(), b""))}')
+        if wanted != first_answer and not (status == first_answer[0] == 5 and text.startswith('trace line')):
+            self.fault(number, case, contents, f'{told((status, text.encode(), b""))}; of another text: {first_answer}')
+
+
 def tell_outcomes(came):
     for form, wanted in OUTCOMES.items():
         print(f'{form}: ' + ', '.join(f'{came[form, words]} with "{words}"' for words in wanted))
@@ -696,31 +883,16 @@ def never_came(statuses, came):
 def main():
     program, count, seed = program_count_seed(DEFAULT_CASES)
     dice = Dice(seed)
-    runner = Runner(program)
-    statuses = {form: collections.Counter() for form in STATUSES}
-    came = collections.Counter()
-    differ = lawless = 0
+    comparison = Comparison(program)
     for number, case in enumerate(cases(count, dice), 1):
-        contents = contents_of(dice, case)
-        status, text = model.answer(case.command, case.tree, case.second, case.words)
-        statuses[case.form()][status] += 1
-        came.update(outcomes(case, status, text))
-        wanted = status, text.encode(), b''
-        found = runner.run(case.command, contents, case.words)
-        if found != wanted:
-            differ += 1
-            call = keep(number, case.command, contents, case.words)
-            print(f'case {number}, {call}: {told(found)}; of the model: {told(wanted)}')
-        if breaks_the_law(case, text):
-            lawless += 1
-            print(f'case {number}, {keep(number, case.command, contents, case.words)}: late though the rule holds')
-    tell(statuses)
-    tell_outcomes(came)
-    missing = never_came(statuses, came) if count >= DEFAULT_CASES else []
+        comparison.compare(number, case, contents_of(dice, case))
+    tell(comparison.statuses)
+    tell_outcomes(comparison.came)
+    missing = never_came(comparison.statuses, comparison.came) if count >= DEFAULT_CASES else []
     for what in missing:
         print(f'never came: {what}')
-    print(f'compare: seed {seed}, {count} cases, {differ} differ from the model')
-    return 1 if differ or lawless or missing else 0
+    print(f'compare: seed {seed}, {count} cases, {comparison.faults} differ from the model')
+    return 1 if comparison.faults or missing else 0
 
 
 if __name__ == '__main__':

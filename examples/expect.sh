@@ -69,6 +69,8 @@ for_examples() {
     "$@" chart overrun/tasks.toml overrun/run.txt
     "$@" report overrun/tasks.toml overrun/run.txt
     "$@" soak 7 8 20000
+    "$@" migrate runs/tasks.toml runs/rows.csv
+    "$@" live live/tasks.toml 10
     "$@"
 }
 

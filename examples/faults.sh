@@ -22,15 +22,15 @@ takes_nothing() {
 
 for_examples takes_nothing
 
-# A pipe whose reader goes away after 100 bytes of 14 million: those are the first of the text.
-printf 'task,release,need\n' >"$work/none.csv"
-bounded "$program" run overrun/tasks.toml "$work/none.csv" 1000000 >"$work/idle"
+# A pipe whose reader goes away after 100 bytes of 6 million: those are the first of the text.
+printf 'event,tick,length,task,job,how\nidle,0,2000000,,,\n' >"$work/idle.csv"
+bounded "$program" chart overrun/tasks.toml "$work/idle.csv" >"$work/idle"
 head -c 100 "$work/idle" >"$work/front"
-{ bounded "$program" run overrun/tasks.toml "$work/none.csv" 1000000; echo $? >"$work/status"; } | head -c 100 >"$work/out"
-judge 8 "$(cat "$work/status")" "$work/front" 'run, to a pipe that is closed early'
+{ bounded "$program" chart overrun/tasks.toml "$work/idle.csv"; echo $? >"$work/status"; } | head -c 100 >"$work/out"
+judge 8 "$(cat "$work/status")" "$work/front" 'chart, to a pipe that is closed early'
 # A slow reader gets all.
-{ bounded "$program" run overrun/tasks.toml "$work/none.csv" 1000000; echo $? >"$work/status"; } | { sleep 0.2; cat; } >"$work/out"
-judge 0 "$(cat "$work/status")" "$work/idle" 'run, to a slow reader'
+{ bounded "$program" chart overrun/tasks.toml "$work/idle.csv"; echo $? >"$work/status"; } | { sleep 0.2; cat; } >"$work/out"
+judge 0 "$(cat "$work/status")" "$work/idle" 'chart, to a slow reader'
 
 # Files that cannot be read, and files without an end.
 expect 7 "$(says 'read fault on file 1')" check "$work"
@@ -164,6 +164,7 @@ threads() {
 
 threads run overrun/tasks.toml overrun/work.csv 12
 threads soak 7 8 20000
+threads live live/tasks.toml 10
 
 # A file that is cut while it is read: the answer is that to the bytes that were read, the first piece of 8192.
 { cat control/tasks.toml; head -c 20000 /dev/zero | tr '\0' '\n'; } >"$work/cut.toml"

@@ -1,8 +1,8 @@
 """EDF-VD and the program's answers, written from the rules alone: plain, slow, and without a line of the program.
 
-Each definition looks through a whole list: that of the tasks, of the work, or of a trace's rows. Numbers are whole
-numbers and fractions of them, so nothing is rounded. The rules are those of docs/RULES.md, docs/FORMATS.md and
-docs/COMMANDS.md.
+Each definition looks through a whole list: that of the tasks, of the work, or of a trace's rows, where equal ticks one
+behind the other stand together. Numbers are whole numbers and fractions of them, so nothing is rounded. The rules are
+those of docs/RULES.md, docs/FORMATS.md and docs/COMMANDS.md.
 
 Left out are TOML as text (a task file is the tree that the text stands for), records with quotes, carriage returns or a
 byte order mark, files that are too long or cannot be read, and want of memory.
@@ -58,43 +58,64 @@ IDLE = 'idle'
 EVENTS = {KEPT: 'release', DROPPED: 'release', MORE: 'tick', DONE: 'tick', STOP: 'tick', OVER: 'tick', IDLE: 'idle'}
 
 
-# A row: its kind, how many ticks, idle ones among them, stand before it, and its job, which is none of an idle row.
-class Row(NamedTuple):
+# A row of a trace, or several equal ones, one behind the other: their kind, how many ticks, idle ones among them, stand
+# before the first of them, their job, which is none of an idle row, and how many they are. Several are idle ticks, or
+# ticks of a job with more to do.
+class Run(NamedTuple):
     kind: str
     tick: int
     job: Optional[Job]
+    length: int = 1
 
 
-# A list of rows. Those of a kind, and the releases and the ticks of a job, are listed a second time, only to be found
-# without a search.
+# Whether two that stand one behind the other are the same rows, of which there may be several.
+def joins(first, second):
+    return (first.kind, first.job) == (second.kind, second.job) and first.kind in (MORE, IDLE)
+
+
+# The rows of runs, each by itself.
+def rows_of(runs):
+    return [run._replace(tick=run.tick + past, length=1) for run in runs for past in range(run.length)]
+
+
+# A trace: its rows as runs, as few as they can be. Those of a kind, and the releases and the ticks of a job, are listed
+# a second time, only to be found without a search.
 class Trace:
-    def __init__(self, rows=()):
-        self.rows = []
+    def __init__(self, runs=()):
+        self.runs = []
         self.of_kind = {kind: [] for kind in EVENTS}
         self.of_job = {}
-        for row in rows:
-            self.add(row)
+        for run in runs:
+            self.add(run)
 
-    def add(self, row):
-        self.rows.append(row)
-        self.of_kind[row.kind].append(row)
-        self.of_job.setdefault((EVENTS[row.kind], row.job), []).append(row)
+    def add(self, run):
+        places = [self.runs, self.of_kind[run.kind], self.of_job.setdefault((EVENTS[run.kind], run.job), [])]
+        if self.runs and joins(self.runs[-1], run):
+            run = self.runs[-1]._replace(length=self.runs[-1].length + run.length)
+            for place in places:
+                place.pop()
+        for place in places:
+            place.append(run)
 
-    # The rows of some kinds, kind by kind.
+    # The runs of some kinds, kind by kind.
     def of(self, *kinds):
-        return [row for kind in kinds for row in self.of_kind[kind]]
+        return [run for kind in kinds for run in self.of_kind[kind]]
 
-    # The tick of the last row of a kind, or -1 where there is none.
+    # How many rows of some kinds there are.
+    def count(self, *kinds):
+        return sum(run.length for run in self.of(*kinds))
+
+    # The tick of the last run of a kind, or -1 where there is none.
     def last(self, kind):
         return self.of_kind[kind][-1].tick if self.of_kind[kind] else -1
 
 
-# Each row, after the trace of those before it.
-def with_before(rows):
+# Each run, after the trace of those before it.
+def with_before(runs):
     before = Trace()
-    for row in rows:
-        yield before, row
-        before.add(row)
+    for run in runs:
+        yield before, run
+        before.add(run)
 
 
 # A job's task.
@@ -148,7 +169,10 @@ def holds(tasks, rule):
 
 # How many ticks there are, idle ones among them.
 def ticks(trace):
-    return sum(len(trace.of_kind[kind]) for kind in (*TICKS, IDLE))
+    if not trace.runs:
+        return 0
+    last = trace.runs[-1]
+    return last.tick + (0 if last.kind in RELEASES else last.length)
 
 
 # The boundary at which a job was released.
@@ -175,7 +199,7 @@ def pending(tasks, trace):
 
 # How many ticks a job has had.
 def used(trace, job):
-    return len(trace.of_job.get(('tick', job), []))
+    return sum(run.length for run in trace.of_job.get(('tick', job), []))
 
 
 # The key of a job in parts of a tick, q to a tick: its deadline; of a high job in low mode its release and p/q of its
@@ -215,7 +239,7 @@ def releases_of(trace, task):
 
 # ---- The judge ----
 
-# The first part of a row that does not fit the rows before it, which all fit, or None.
+# The first part of a row that does not fit the rows before it, which all fit, or None. The row is the first of a run.
 def misfit(tasks, rule, before, row):
     if row.kind == IDLE:
         return 'idle_pending' if pending(tasks, before) else None
@@ -248,12 +272,27 @@ def tick_misfit(tasks, rule, before, row):
     return None
 
 
+# A run cut before each of its rows that may fit otherwise than the one before it: those with which its job has had one
+# of its budgets. Nothing else that is asked of a row changes in a run.
+def pieces(tasks, before, run):
+    cuts = {0, run.length}
+    if run.length > 1 and run.job is not None:
+        budgets = task_of(tasks, run.job).low, task_of(tasks, run.job).high
+        cuts.update(budget - used(before, run.job) - 1 for budget in budgets)
+    cuts = sorted(cut for cut in cuts if 0 <= cut <= run.length)
+    return [run._replace(tick=run.tick + cut, length=end - cut) for cut, end in zip(cuts, cuts[1:])]
+
+
 # The number of the first row that does not fit and the part that fails, or None where the trace is legal.
-def first_misfit(tasks, rule, rows):
-    for place, (before, row) in enumerate(with_before(rows), 1):
-        why = misfit(tasks, rule, before, row)
-        if why is not None:
-            return place, why
+def first_misfit(tasks, rule, runs):
+    place, before = 1, Trace()
+    for run in runs:
+        for piece in pieces(tasks, before, run):
+            why = misfit(tasks, rule, before, piece)
+            if why is not None:
+                return place, why
+            place += piece.length
+            before.add(piece)
     return None
 
 
@@ -267,17 +306,17 @@ def is_late(tasks, trace, release):
 
 
 # The late jobs of a whole trace, in the order of their releases.
-def late(tasks, rows):
-    trace = Trace(rows)
+def late(tasks, runs):
+    trace = Trace(runs)
     return [row.job for row in trace.of(KEPT) if is_late(tasks, trace, row)]
 
 
 # Whether a trace is found legal with no job late, and the line that says so.
-def verdict(tasks, rule, rows):
-    place_and_why = first_misfit(tasks, rule, rows)
+def verdict(tasks, rule, runs):
+    place_and_why = first_misfit(tasks, rule, runs)
     if place_and_why is not None:
         return False, 'illegal row {} {}\n'.format(*place_and_why)
-    jobs = late(tasks, rows)
+    jobs = late(tasks, runs)
     if jobs:
         return False, f'legal late {len(jobs)} first {task_of(tasks, jobs[0]).name} {jobs[0].count}\n'
     return True, 'legal late 0\n'
@@ -305,24 +344,25 @@ def follow(tasks, rule, work, count):
         for row in work:
             if row.release == tick:
                 job = Job(row.task, len(releases_of(trace, row.task)) + 1)
-                trace.add(Row(DROPPED if is_dropped(tasks, rule, trace, job) else KEPT, tick, job))
+                trace.add(Run(DROPPED if is_dropped(tasks, rule, trace, job) else KEPT, tick, job))
         trace.add(next_tick(tasks, rule, work, trace))
-    return trace.rows
+    return trace.runs
 
 
 # The tick that comes next.
 def next_tick(tasks, rule, work, trace):
     waiting = keys(tasks, rule, trace, pending(tasks, trace))
     if not waiting:
-        return Row(IDLE, ticks(trace), None)
+        return Run(IDLE, ticks(trace), None)
     job = min(waiting, key=lambda job: (waiting[job], job.task))
     is_done = used(trace, job) + 1 == need(work, job)
-    return Row(DONE if is_done else how_of(tasks, rule, trace, job), ticks(trace), job)
+    return Run(DONE if is_done else how_of(tasks, rule, trace, job), ticks(trace), job)
 
 
 # Whether rows follow the work, by what is said of a whole trace: they are legal, end with the last tick, have the
 # releases of the work in its order, and each tick is as the work has it.
-def follows(tasks, rule, work, count, rows):
+def follows(tasks, rule, work, count, runs):
+    rows = rows_of(runs)
     released = [(row.job.task, row.tick) for row in rows if row.kind in RELEASES]
     return (
         first_misfit(tasks, rule, rows) is None
@@ -362,41 +402,49 @@ def check_text(tasks, rule):
     return lines([f'tasks {len(tasks)}'] + loads_words(tasks) + [f'rule {rule.name}'] + scale)
 
 
-TRACE_HEADER = ['event', 'tick', 'task', 'job', 'how']
+# The header of each version of a trace. A record of version 1 is a row, and one of version 2 is a run.
+TRACE_HEADERS = {
+    1: ['event', 'tick', 'task', 'job', 'how'],
+    2: ['event', 'tick', 'length', 'task', 'job', 'how'],
+}
 
 
-# The five fields of a row.
-def row_fields(tasks, row):
-    if row.kind == IDLE:
-        return ['idle', str(row.tick), '', '', '']
-    return [EVENTS[row.kind], str(row.tick), task_of(tasks, row.job).name, str(row.job.count), row.kind]
+# The six fields of a run.
+def run_fields(tasks, run):
+    length = '' if run.kind in RELEASES else str(run.length)
+    name_and_count = ['', ''] if run.kind == IDLE else [task_of(tasks, run.job).name, str(run.job.count)]
+    return [EVENTS[run.kind], str(run.tick), length] + name_and_count + ['' if run.kind == IDLE else run.kind]
 
 
-# The header, and a line for each row.
-def trace_text(tasks, rows):
-    return lines(','.join(fields) for fields in [TRACE_HEADER] + [row_fields(tasks, row) for row in rows])
+# The header of version 2, and a line for each run, which are as few as they can be.
+def trace_text(tasks, runs):
+    fields = [run_fields(tasks, run) for run in Trace(runs).runs]
+    return lines(','.join(record) for record in [TRACE_HEADERS[2]] + fields)
 
 
 CHART_CHARACTERS = {MORE: '#', DONE: 'D', STOP: 'S', OVER: 'O'}
 
 
 # A line for each task with a character for each tick, and one with the mode before each tick.
-def chart_text(tasks, rows):
-    trace = Trace(rows)
-    drawn = sorted(trace.of(*TICKS, IDLE), key=lambda row: row.tick)
+def chart_text(tasks, runs):
+    trace = Trace(runs)
+    if ticks(trace) > MOST_CHART_TICKS:
+        raise Refusal(5, f'trace has {ticks(trace)} ticks, a chart has at most {MOST_CHART_TICKS}\n')
+    drawn = [run for run in trace.runs if run.kind not in RELEASES]
     width = max([6] + [len(task.name) for task in tasks])
     chart = []
     for number, task in enumerate(tasks, 1):
         chart.append(task.name.ljust(width) + ' ' + ''.join(
-            CHART_CHARACTERS[row.kind] if row.kind != IDLE and row.job.task == number else '.' for row in drawn))
-    modes = ['H' if high_before(trace, row.tick) else 'L' for row in drawn]
+            run.length * (CHART_CHARACTERS[run.kind] if run.kind != IDLE and run.job.task == number else '.')
+            for run in drawn))
+    modes = [mode_before(trace, run.tick) + (run.length - 1) * mode_before(trace, run.tick + 1) for run in drawn]
     return lines(chart + ['(mode)'.ljust(width) + ' ' + ''.join(modes)])
 
 
-# Whether there is an overrun before a tick, and no idle tick between them.
-def high_before(trace, tick):
-    last_idle = max((row.tick for row in trace.of(IDLE) if row.tick < tick), default=-1)
-    return any(last_idle < over.tick < tick for over in trace.of(OVER))
+# `H` where there is an overrun before a tick, and no idle tick between them, and else `L`.
+def mode_before(trace, tick):
+    last_idle = max((min(run.tick + run.length, tick) - 1 for run in trace.of(IDLE) if run.tick < tick), default=-1)
+    return 'H' if any(last_idle < over.tick < tick for over in trace.of(OVER)) else 'L'
 
 
 # Whether a kept job was discarded: it is low, there is an overrun after its release, and it did not end before the
@@ -410,11 +458,11 @@ def is_discarded(tasks, trace, release):
 # What is counted of one task: releases, kept and dropped ones, discarded jobs, done and stopped ones, ticks.
 def counts(tasks, trace, number):
     def of(*kinds):
-        return [row for row in trace.of(*kinds) if row.job.task == number]
+        return [run for run in trace.of(*kinds) if run.job.task == number]
     discarded = [row for row in of(KEPT) if is_discarded(tasks, trace, row)]
     return {
         'released': len(of(*RELEASES)), 'kept': len(of(KEPT)), 'dropped': len(of(DROPPED)), 'discarded': len(discarded),
-        'done': len(of(DONE)), 'stopped': len(of(STOP)), 'ticks': len(of(*TICKS))}
+        'done': len(of(DONE)), 'stopped': len(of(STOP)), 'ticks': sum(run.length for run in of(*TICKS))}
 
 
 # The greatest number of ticks from the release of a job of the task to the end of its last tick, or `-`.
@@ -424,24 +472,24 @@ def response(trace, number):
 
 
 # What is counted of each task, and the greatest response; then the idle ticks and the overruns.
-def report_text(tasks, rows):
-    trace = Trace(rows)
+def report_text(tasks, runs):
+    trace = Trace(runs)
     told = []
     for number, task in enumerate(tasks, 1):
         words = ' '.join(f'{word} {count}' for word, count in counts(tasks, trace, number).items())
         told.append(f'task {task.name} {words} response {response(trace, number)}')
-    return lines(told + [f'idle {len(trace.of(IDLE))}', f'switches {len(trace.of(OVER))}'])
+    return lines(told + [f'idle {trace.count(IDLE)}', f'switches {trace.count(OVER)}'])
 
 
 # The sums of a report over all tasks.
-def summary_text(tasks, rows):
-    trace = Trace(rows)
+def summary_text(tasks, runs):
+    trace = Trace(runs)
     of_tasks = [counts(tasks, trace, number) for number in range(1, len(tasks) + 1)]
     sums = {word: sum(of_task[word] for of_task in of_tasks) for word in of_tasks[0]}
     spent = sums.pop('ticks')
     return lines([
         ' '.join(f'{word} {count}' for word, count in sums.items()),
-        f'ticks {spent} idle {len(trace.of(IDLE))} switches {len(trace.of(OVER))}'])
+        f'ticks {spent} idle {trace.count(IDLE)} switches {trace.count(OVER)}'])
 
 
 # ---- Made workloads ----
@@ -491,16 +539,51 @@ def made_need(task, word):
 def soak_text(seed, count, end):
     tasks, work = make(seed, count, end)
     rule = test(tasks)
-    rows = follow(tasks, rule, work, end)
+    runs = follow(tasks, rule, work, end)
     scale = '' if rule == PLAIN else f' x {rule.p}/{rule.q}'
     first = lines([f'soak {seed} {count} {end}', f'rule {rule.name}{scale}'])
-    return first + summary_text(tasks, rows) + verdict(tasks, rule, rows)[1]
+    return first + summary_text(tasks, runs) + verdict(tasks, rule, runs)[1]
+
+
+# ---- Live traces ----
+
+# The need of a job of a live trace: of a high task each fourth needs the high budget, and all others the low one.
+def live_need(tasks, job):
+    task = task_of(tasks, job)
+    return task.high if task.level == HIGH and job.count % 4 == 0 else task.low
+
+
+# What is wrong with a text that `live` wrote, or None. There are many that are right.
+def live_fault(tasks, count, text):
+    try:
+        runs = read_trace(tasks, text)
+    except Refusal as refusal:
+        return refusal.line[:-1]
+    in_time, line = verdict(tasks, test(tasks), runs)
+    if not in_time:
+        return line[:-1]
+    if text != trace_text(tasks, runs):
+        return 'not the text of its runs'
+    if ticks(Trace(runs)) != count:
+        return f'{ticks(Trace(runs))} ticks'
+    if runs[-1].kind in RELEASES:
+        return 'a release at the end'
+    early_or_late = [run.job for before, run in with_before(runs) if run.kind in TICKS and not ends_by_need(
+        tasks, before, run)]
+    return f'job {early_or_late[0].count} of task {early_or_late[0].task} not by its need' if early_or_late else None
+
+
+# Whether a run of ticks has the one with which its job has had its need exactly where it is done.
+def ends_by_need(tasks, before, run):
+    past = used(before, run.job)
+    return (run.kind == DONE) == (past < live_need(tasks, run.job) <= past + run.length)
 
 
 # ---- Files ----
 
 MOST = 4294967295
 MOST_TASKS, MOST_JOBS, MOST_ROWS = 128, 1000000, 2000000
+MOST_TICKS, MOST_CHART_TICKS = 100000000, 2000000
 DIGITS = set('0123456789')
 NAME_CHARACTERS = set('ABCDEFGHIJKLMNOPQRSTUVWXYZabcdefghijklmnopqrstuvwxyz0123456789_-')
 
@@ -530,17 +613,12 @@ def task_number(tasks, name):
     return next((number for number, task in enumerate(tasks, 1) if task.name == name), None)
 
 
-# The records after the header, with their numbers among all.
-def records_after(header, text, status, file_words):
-    if records(text)[:1] != [header]:
-        raise Refusal(status, f'{file_words} line 1: header is not {",".join(header)}\n')
-    return enumerate(records(text)[1:], 2)
-
-
 # The jobs of a work file. The first refusal decides.
 def read_work(tasks, text):
     work = []
-    for line, record in records_after(['task', 'release', 'need'], text, 4, 'work file'):
+    if records(text)[:1] != [['task', 'release', 'need']]:
+        raise Refusal(4, 'work file line 1: header is not task,release,need\n')
+    for line, record in enumerate(records(text)[1:], 2):
         fault = work_fault(tasks, work, record)
         if fault is not None:
             raise Refusal(4, f'work file line {line}: {fault}\n')
@@ -567,35 +645,57 @@ def work_fault(tasks, before, record):
     return f'too soon, next {allowed}' if release < allowed else None
 
 
-# The rows of a trace file. The first refusal decides.
+# The runs of a trace file, which its first record gives a version. The first refusal decides.
 def read_trace(tasks, text):
-    trace = Trace()
-    for line, record in records_after(TRACE_HEADER, text, 5, 'trace'):
-        fault = trace_fault(tasks, trace, record)
+    header = records(text)[:1]
+    if header not in [[known] for known in TRACE_HEADERS.values()]:
+        raise Refusal(5, 'trace line 1: header is of no trace version\n')
+    runs, due = [], 0
+    for line, record in enumerate(records(text)[1:], 2):
+        fault = f'more than {MOST_ROWS} rows' if len(runs) == MOST_ROWS else trace_fault(tasks, header[0], due, record)
         if fault is not None:
             raise Refusal(5, f'trace line {line}: {fault}\n')
-        event, tick, name, count, how = record
+        event, tick, length, name, count, how = six_fields(record)
         job = None if event == 'idle' else Job(task_number(tasks, name), number_of(count))
-        trace.add(Row(how or IDLE, number_of(tick), job))
-    return trace.rows
+        runs.append(Run(how or IDLE, number_of(tick), job, number_of(length) or 1))
+        due += number_of(length) or 0
+    return runs
 
 
-# What is wrong with a record after the rows before it, or None.
-def trace_fault(tasks, before, record):
-    if len(before.rows) == MOST_ROWS:
-        return f'more than {MOST_ROWS} rows'
-    if len(record) != 5:
-        return 'not five fields'
-    event, tick, name, count, how = record
+# The fields of a record of either version. In version 1 a tick or idle record is of length 1.
+def six_fields(record):
+    if len(record) == len(TRACE_HEADERS[2]):
+        return record
+    return record[:2] + ['' if record[0] == 'release' else '1'] + record[2:]
+
+
+# What is wrong with a record after so many ticks, or None.
+def trace_fault(tasks, header, due, record):
+    if len(record) != len(header):
+        return f'not {"five" if header == TRACE_HEADERS[1] else "six"} fields'
+    event, tick, length, name, count, how = six_fields(record)
     if (event, how) not in [(EVENTS[kind], '' if kind == IDLE else kind) for kind in EVENTS]:
         return 'unknown event'
-    if event == 'idle' and (name or count):
+    if event == 'idle' and (name or count) or event == 'release' and length:
         return 'unknown event'
     if event != 'idle' and task_number(tasks, name) is None:
         return 'unknown task'
-    if number_of(tick) is None or event != 'idle' and number_of(count) is None:
+    numbers = [tick] + [length] * (event != 'release') + [count] * (event != 'idle')
+    if None in map(number_of, numbers):
         return 'bad number'
-    return 'wrong tick' if number_of(tick) != ticks(before) else None
+    if number_of(tick) != due:
+        return 'wrong tick'
+    if event == 'release':
+        return None
+    if length_fault(number_of(length), how):
+        return 'bad length'
+    return f'more than {MOST_TICKS} ticks' if due + number_of(length) > MOST_TICKS else None
+
+
+# Whether no ticks stand in one record with this length: none at all, or several behind one of which the job does not
+# go on.
+def length_fault(length, how):
+    return length == 0 or length > 1 and how not in (MORE, '')
 
 
 TASK_KEYS = ['name', 'level', 'period', 'low', 'high']
@@ -708,8 +808,9 @@ def set_fault(tasks):
 # ---- The program ----
 
 USAGE = ('usage: check TASKS | run TASKS WORK TICKS | judge TASKS TRACE [P Q] | chart TASKS TRACE '
-         '| report TASKS TRACE | soak NUMBER TASKCOUNT TICKS\n')
-COUNT_OF_WORDS = {'check': [0], 'run': [1], 'judge': [0, 2], 'chart': [0], 'report': [0], 'soak': [3]}
+         '| report TASKS TRACE | soak NUMBER TASKCOUNT TICKS | migrate TASKS TRACE | live TASKS TICKS\n')
+COUNT_OF_WORDS = {
+    'check': [0], 'run': [1], 'judge': [0, 2], 'chart': [0], 'report': [0], 'soak': [3], 'migrate': [0], 'live': [1]}
 
 
 # The numbers behind the files, each within its range.
@@ -721,6 +822,7 @@ def read_words(command, words):
         'run': lambda end: 1 <= end <= 1000000,
         'soak': lambda seed, count, end: 2 <= count <= 32 and 1 <= end <= 1000000,
         'judge': lambda p=1, q=1: 1 <= p <= q <= MOST,
+        'live': lambda end: 1 <= end <= 100000,
     }.get(command, lambda: True)
     if not in_range(*numbers):
         raise Refusal(2, USAGE)
@@ -738,7 +840,8 @@ def admitted(tasks):
     return rule
 
 
-# The text of a command, for the tree of its task file, the text of its second file, and the words behind them.
+# The text of a command, for the tree of its task file, the text of its second file, and the words behind them; None
+# where it is one of many, as `live_fault` says.
 def text_of(command, tree, second, words):
     numbers = read_words(command, words)
     if command == 'soak':
@@ -747,16 +850,19 @@ def text_of(command, tree, second, words):
     rule = virtual(*numbers) if command == 'judge' and numbers else admitted(tasks)
     if command == 'check':
         return check_text(tasks, rule)
+    if command == 'live':
+        return None
     if command == 'run':
         work = read_work(tasks, second)
-        rows = follow(tasks, rule, work, numbers[0])
-        assert follows(tasks, rule, work, numbers[0], rows)
-        return trace_text(tasks, rows)
-    rows = read_trace(tasks, second)
-    in_time, line = verdict(tasks, rule, rows)
+        runs = follow(tasks, rule, work, numbers[0])
+        assert follows(tasks, rule, work, numbers[0], runs)
+        return trace_text(tasks, runs)
+    runs = read_trace(tasks, second)
+    in_time, line = verdict(tasks, rule, runs)
     if not in_time:
         raise Refusal(6, line)
-    return {'judge': lambda *_: line, 'chart': chart_text, 'report': report_text}[command](tasks, rows)
+    texts = {'judge': lambda *_: line, 'chart': chart_text, 'report': report_text, 'migrate': trace_text}
+    return texts[command](tasks, runs)
 
 
 # The status of a command and its text.
@@ -785,8 +891,20 @@ def work_file(*rows):
     return lines(('task,release,need',) + rows)
 
 
-def trace_file(*rows):
-    return lines((','.join(TRACE_HEADER),) + rows)
+# A trace of version 1, a record for each row.
+def rows_file(*records):
+    return lines((','.join(TRACE_HEADERS[1]),) + records)
+
+
+# A trace of version 2.
+def trace_file(*records):
+    return lines((','.join(TRACE_HEADERS[2]),) + records)
+
+
+# The records of a version 1 trace as records of version 2, each of one row.
+def with_lengths(records):
+    fields = [record.split(',') for record in records]
+    return [','.join(record[:2] + ['' if record[0] == 'release' else '1'] + record[2:]) for record in fields]
 
 
 CONTROL = tree_of(high('ctl', 10, 2, 6), low('log', 10, 5))
@@ -799,14 +917,25 @@ AVIONICS = tree_of(
     high('nav', 50000, 3000, 7000), low('display', 16667, 2500), low('radio', 25000, 2000), low('log', 100000, 8000),
     low('maint', 200000, 10000))
 
-OVERRUN_AND_RETURN = trace_file(
+ROWS_OF_OVERRUN = rows_file(
     'release,0,ctl,1,kept', 'release,0,log,1,kept', 'tick,0,ctl,1,more', 'tick,1,ctl,1,over', 'tick,2,ctl,1,more',
     'tick,3,ctl,1,more', 'tick,4,ctl,1,more', 'tick,5,ctl,1,done', 'idle,6,,,', 'idle,7,,,', 'idle,8,,,', 'idle,9,,,',
     'release,10,log,2,kept', 'tick,10,log,2,more', 'tick,11,log,2,more')
-LOG_BEFORE_CTL = trace_file(
+OVERRUN_AND_RETURN = trace_file(
+    'release,0,,ctl,1,kept', 'release,0,,log,1,kept', 'tick,0,1,ctl,1,more', 'tick,1,1,ctl,1,over',
+    'tick,2,3,ctl,1,more', 'tick,5,1,ctl,1,done', 'idle,6,4,,,', 'release,10,,log,2,kept', 'tick,10,2,log,2,more')
+OVERRUN_DRAWN = ['ctl    #O###D......', 'log    ..........##', '(mode) LLHHHHHLLLLL']
+OVERRUN_COUNTED = [
+    'task ctl released 1 kept 1 dropped 0 discarded 0 done 1 stopped 0 ticks 6 response 6',
+    'task log released 2 kept 2 dropped 0 discarded 1 done 0 stopped 0 ticks 2 response -', 'idle 4', 'switches 1']
+ROWS_OF_LOG_BEFORE_CTL = rows_file(
     'release,0,ctl,1,kept', 'release,0,log,1,kept', 'tick,0,log,1,more', 'tick,1,log,1,more', 'tick,2,log,1,more',
     'tick,3,log,1,more', 'tick,4,log,1,done', 'tick,5,ctl,1,more', 'tick,6,ctl,1,over', 'tick,7,ctl,1,more',
     'tick,8,ctl,1,more', 'tick,9,ctl,1,more', 'tick,10,ctl,1,done')
+LOG_BEFORE_CTL = trace_file(
+    'release,0,,ctl,1,kept', 'release,0,,log,1,kept', 'tick,0,4,log,1,more', 'tick,4,1,log,1,done',
+    'tick,5,1,ctl,1,more', 'tick,6,1,ctl,1,over', 'tick,7,3,ctl,1,more', 'tick,10,1,ctl,1,done')
+ALL_IDLE = trace_file('idle,0,100000000,,,')
 AVIONICS_WORK = work_file(
     'attitude,0,400', 'gyro,0,600', 'engine,0,1500', 'nav,0,3000', 'display,0,2500', 'radio,0,2000', 'log,0,8000',
     'maint,0,10000', 'attitude,5000,400', 'attitude,10000,400', 'gyro,10000,600', 'attitude,15000,400',
@@ -848,27 +977,30 @@ EXAMPLES = {
         'check', QUARTER_SCALE, '', [], 0, ['tasks 2', 'U_LL 3/5', 'U_HL 1/10', 'U_HH 3/5', 'rule virtual', 'x 1/4']),
     'unrounded_key': (
         'run', QUARTER_SCALE, work_file('a,0,3', 'b,2,1'), ['5'], 0, trace_file(
-            'release,0,a,1,kept', 'tick,0,a,1,more', 'tick,1,a,1,more', 'release,2,b,1,kept', 'tick,2,b,1,done',
-            'tick,3,a,1,done', 'idle,4,,,')),
+            'release,0,,a,1,kept', 'tick,0,2,a,1,more', 'release,2,,b,1,kept', 'tick,2,1,b,1,done',
+            'tick,3,1,a,1,done', 'idle,4,1,,,')),
     'overrun_and_return': ('run', CONTROL, work_file('ctl,0,6', 'log,0,5', 'log,10,5'), ['12'], 0, OVERRUN_AND_RETURN),
     'deadline_met_exactly_in_high_mode': (
         'run', TAP_AND_ARM, work_file('tap,0,1', 'arm,0,3', 'tap,2,1', 'tap,4,1'), ['5'], 0, trace_file(
-            'release,0,tap,1,kept', 'release,0,arm,1,kept', 'tick,0,tap,1,done', 'tick,1,arm,1,over',
-            'release,2,tap,2,dropped', 'tick,2,arm,1,more', 'tick,3,arm,1,done', 'release,4,tap,3,dropped',
-            'idle,4,,,')),
+            'release,0,,tap,1,kept', 'release,0,,arm,1,kept', 'tick,0,1,tap,1,done', 'tick,1,1,arm,1,over',
+            'release,2,,tap,2,dropped', 'tick,2,1,arm,1,more', 'tick,3,1,arm,1,done', 'release,4,,tap,3,dropped',
+            'idle,4,1,,,')),
     'stop_without_a_switch_check': (
         'check', TWO_HIGH_TASKS, '', [], 0, ['tasks 3', 'U_LL 2/5', 'U_HL 3/10', 'U_HH 7/10', 'rule virtual', 'x 1/2']),
     'stop_without_a_switch': (
         'run', TWO_HIGH_TASKS, work_file('fix,0,5', 'log,0,9'), ['6'], 0, trace_file(
-            'release,0,fix,1,kept', 'release,0,log,1,kept', 'tick,0,fix,1,stop', 'tick,1,log,1,more',
-            'tick,2,log,1,more', 'tick,3,log,1,more', 'tick,4,log,1,stop', 'idle,5,,,')),
+            'release,0,,fix,1,kept', 'release,0,,log,1,kept', 'tick,0,1,fix,1,stop', 'tick,1,3,log,1,more',
+            'tick,4,1,log,1,stop', 'idle,5,1,,,')),
     'late_under_a_scale_that_does_not_hold': (
+        'judge', CONTROL, ROWS_OF_LOG_BEFORE_CTL, ['1', '1'], 6, ['legal late 1 first ctl 1']),
+    'late_under_a_scale_that_does_not_hold_by_runs': (
         'judge', CONTROL, LOG_BEFORE_CTL, ['1', '1'], 6, ['legal late 1 first ctl 1']),
-    'not_least': ('judge', CONTROL, LOG_BEFORE_CTL, [], 6, ['illegal row 3 not_least']),
+    'not_least': ('judge', CONTROL, ROWS_OF_LOG_BEFORE_CTL, [], 6, ['illegal row 3 not_least']),
+    'not_least_by_runs': ('judge', CONTROL, LOG_BEFORE_CTL, [], 6, ['illegal row 3 not_least']),
     'held_release_dropped': (
         'run', CONTROL, work_file('ctl,0,6', 'log,2,5'), ['4'], 0, trace_file(
-            'release,0,ctl,1,kept', 'tick,0,ctl,1,more', 'tick,1,ctl,1,over', 'release,2,log,1,dropped',
-            'tick,2,ctl,1,more', 'tick,3,ctl,1,more')),
+            'release,0,,ctl,1,kept', 'tick,0,1,ctl,1,more', 'tick,1,1,ctl,1,over', 'release,2,,log,1,dropped',
+            'tick,2,2,ctl,1,more')),
     'work_file_too_soon': (
         'run', CONTROL, work_file('ctl,0,6', 'ctl,9,1'), ['9'], 4, ['work file line 3: too soon, next 10']),
     'work_file_unknown_task': ('run', CONTROL, work_file('bob,0,1'), ['9'], 4, ['work file line 2: unknown task']),
@@ -877,14 +1009,53 @@ EXAMPLES = {
         'run', CONTROL, work_file('log,5,1', 'ctl,4,1'), ['9'], 4, ['work file line 3: release before the last one']),
     'work_file_empty': ('run', CONTROL, '', ['9'], 4, ['work file line 1: header is not task,release,need']),
     'trace_cut_in_a_field': (
-        'judge', CONTROL, trace_file('release,0,ctl,1,kept', 'tick,0,ct'), [], 5, ['trace line 3: not five fields']),
+        'judge', CONTROL, rows_file('release,0,ctl,1,kept', 'tick,0,ct'), [], 5, ['trace line 3: not five fields']),
     'trace_cut_in_a_word': (
-        'judge', CONTROL, trace_file('release,0,ctl,1,kept', 'tick,0,ctl,1,mor'), [], 5,
+        'judge', CONTROL, rows_file('release,0,ctl,1,kept', 'tick,0,ctl,1,mor'), [], 5,
         ['trace line 3: unknown event']),
     'trace_with_a_tick_twice': (
-        'judge', CONTROL, trace_file('idle,0,,,', 'idle,0,,,'), [], 5, ['trace line 3: wrong tick']),
-    'trace_with_a_later_first_tick': ('judge', CONTROL, trace_file('idle,1,,,'), [], 5, ['trace line 2: wrong tick']),
-    'trace_with_the_header_alone': ('judge', CONTROL, trace_file(), [], 0, ['legal late 0']),
+        'judge', CONTROL, rows_file('idle,0,,,', 'idle,0,,,'), [], 5, ['trace line 3: wrong tick']),
+    'trace_with_a_later_first_tick': ('judge', CONTROL, rows_file('idle,1,,,'), [], 5, ['trace line 2: wrong tick']),
+    'trace_with_the_header_alone': ('judge', CONTROL, rows_file(), [], 0, ['legal late 0']),
+    'trace_of_runs_with_the_header_alone': ('judge', CONTROL, trace_file(), [], 0, ['legal late 0']),
+    'trace_without_a_byte': ('judge', CONTROL, '', [], 5, ['trace line 1: header is of no trace version']),
+    'a_hundred_million_idle_ticks': ('judge', CONTROL, ALL_IDLE, [], 0, ['legal late 0']),
+    'a_tick_more_than_a_trace_has': (
+        'judge', CONTROL, trace_file('idle,0,100000001,,,'), [], 5, ['trace line 2: more than 100000000 ticks']),
+    'a_tick_more_in_a_record_of_its_own': (
+        'judge', CONTROL, trace_file('idle,0,100000000,,,', 'idle,100000000,1,,,'), [], 5,
+        ['trace line 3: more than 100000000 ticks']),
+    'a_release_behind_the_last_tick': (
+        'judge', CONTROL, trace_file('idle,0,100000000,,,', 'release,100000000,,ctl,1,kept'), [], 0, ['legal late 0']),
+    'a_budget_reached_inside_a_run': (
+        'judge', CONTROL, trace_file('release,0,,log,1,kept', 'tick,0,5,log,1,more'), [], 6,
+        ['illegal row 6 wrong_how']),
+    'a_low_budget_reached_inside_a_run': (
+        'judge', CONTROL, trace_file('release,0,,ctl,1,kept', 'tick,0,6,ctl,1,more'), [], 6,
+        ['illegal row 3 wrong_how']),
+    'a_job_done_in_two_ticks_at_once': (
+        'judge', CONTROL, trace_file('release,0,,ctl,1,kept', 'tick,0,2,ctl,1,done'), [], 5,
+        ['trace line 3: bad length']),
+    'a_low_release_after_an_idle_run': (
+        'judge', CONTROL, trace_file(
+            'release,0,,ctl,1,kept', 'tick,0,1,ctl,1,more', 'tick,1,1,ctl,1,over', 'tick,2,1,ctl,1,done', 'idle,3,7,,,',
+            'release,10,,log,1,dropped'), [], 6, ['illegal row 12 wrong_kept']),
+    'migrate': ('migrate', CONTROL, ROWS_OF_OVERRUN, [], 0, OVERRUN_AND_RETURN),
+    'migrate_of_runs': ('migrate', CONTROL, OVERRUN_AND_RETURN, [], 0, OVERRUN_AND_RETURN),
+    'migrate_of_runs_that_could_be_one': (
+        'migrate', CONTROL, trace_file('idle,0,3,,,', 'idle,0000000003,01,,,', 'idle,4,9,,,'), [], 0,
+        trace_file('idle,0,13,,,')),
+    'migrate_of_an_illegal_trace': ('migrate', CONTROL, LOG_BEFORE_CTL, [], 6, ['illegal row 3 not_least']),
+    'chart_past_its_limit': (
+        'chart', CONTROL, ALL_IDLE, [], 5, ['trace has 100000000 ticks, a chart has at most 2000000']),
+    'illegal_and_past_the_limit_of_a_chart': (
+        'chart', CONTROL, trace_file('idle,0,100000000,,,', 'release,100000000,,ctl,2,kept'), [], 6,
+        ['illegal row 100000001 wrong_count']),
+    'no_live_ticks': ('live', CONTROL, '', ['0'], 2, [USAGE[:-1]]),
+    'too_many_live_ticks': ('live', CONTROL, '', ['100001'], 2, [USAGE[:-1]]),
+    'live_of_a_set_that_is_not_admitted': (
+        'live', tree_of(low('tap', 2, 2), high('arm', 4, 1, 1)), '', ['10'], 1,
+        ['not admitted: U_LL 1/1 U_HL 1/4 U_HH 1/4']),
     'no_ticks': ('run', CONTROL, work_file(), ['0'], 2, [USAGE[:-1]]),
     'too_many_ticks': ('run', CONTROL, work_file(), ['1000001'], 2, [USAGE[:-1]]),
     'avionics_check': (
@@ -892,8 +1063,8 @@ EXAMPLES = {
         ['tasks 8', 'U_LL 600007/1666700', 'U_HL 11/40', 'U_HH 67/100', 'rule virtual', 'x 916685/2133386']),
     'plain_rule_never_switches': (
         'run', PLAIN_PAIR, work_file('hi,0,2', 'lo,0,2'), ['4'], 0, trace_file(
-            'release,0,hi,1,kept', 'release,0,lo,1,kept', 'tick,0,hi,1,more', 'tick,1,hi,1,done', 'tick,2,lo,1,more',
-            'tick,3,lo,1,done')),
+            'release,0,,hi,1,kept', 'release,0,,lo,1,kept', 'tick,0,1,hi,1,more', 'tick,1,1,hi,1,done',
+            'tick,2,1,lo,1,more', 'tick,3,1,lo,1,done')),
     'tasks_past_the_limit': (
         'check', tree_of(*[low(f't{number}', 200, 1) for number in range(129)]), '', [], 3,
         ['task file: 129 tasks, at most 128']),
@@ -906,17 +1077,36 @@ EXAMPLES = {
         ['tasks 2', 'U_LL 1/2', 'U_HL 1/5', 'U_HH 3/5', 'rule virtual', 'x 2/5']),
     'version_three': ('check', dict(CONTROL, version=3), '', [], 3, ['task file: unknown version']),
     'soak_of_one_task': ('soak', None, '', ['7', '1', '100'], 2, [USAGE[:-1]]),
-    'chart': (
-        'chart', CONTROL, OVERRUN_AND_RETURN, [], 0,
-        ['ctl    #O###D......', 'log    ..........##', '(mode) LLHHHHHLLLLL']),
-    'report': (
-        'report', CONTROL, OVERRUN_AND_RETURN, [], 0, [
-            'task ctl released 1 kept 1 dropped 0 discarded 0 done 1 stopped 0 ticks 6 response 6',
-            'task log released 2 kept 2 dropped 0 discarded 1 done 0 stopped 0 ticks 2 response -', 'idle 4',
-            'switches 1']),
+    'chart': ('chart', CONTROL, ROWS_OF_OVERRUN, [], 0, OVERRUN_DRAWN),
+    'chart_of_runs': ('chart', CONTROL, OVERRUN_AND_RETURN, [], 0, OVERRUN_DRAWN),
+    'report': ('report', CONTROL, ROWS_OF_OVERRUN, [], 0, OVERRUN_COUNTED),
+    'report_of_runs': ('report', CONTROL, OVERRUN_AND_RETURN, [], 0, OVERRUN_COUNTED),
 }
 
-# Rows, and the verdict on them for the control set under its test's rule.
+# Records behind the header of version 2, and the refusal of the file, whose number of the line and cause are those of
+# the first record with a fault, and of its faults the first in the order of the format.
+REFUSED_TRACES = {
+    'a_record_of_version_1': (['idle,0,,,'], '2: not six fields'),
+    'a_release_with_a_length': (['release,0,1,ctl,1,kept'], '2: unknown event'),
+    'an_idle_record_with_a_task': (['idle,0,1,ctl,,'], '2: unknown event'),
+    'a_tick_that_is_kept': (['tick,0,1,ctl,1,kept'], '2: unknown event'),
+    'an_event_before_a_task': (['ticks,0,1,bob,1,more'], '2: unknown event'),
+    'a_task_before_a_number': (['tick,0,,bob,1,more'], '2: unknown task'),
+    'a_tick_without_a_length': (['tick,0,,ctl,1,more'], '2: bad number'),
+    'an_idle_record_without_a_length': (['idle,0,,,,'], '2: bad number'),
+    'a_length_of_eleven_digits': (['idle,0,00000000001,,,'], '2: bad number'),
+    'a_length_past_32_bits': (['idle,0,4294967296,,,'], '2: bad number'),
+    'a_number_before_a_tick': (['tick,1,1,ctl,x,more'], '2: bad number'),
+    'a_tick_before_a_length': (['tick,1,0,ctl,1,more'], '2: wrong tick'),
+    'a_tick_that_counts_records': (['idle,0,5,,,', 'idle,1,1,,,'], '3: wrong tick'),
+    'no_ticks_at_once': (['idle,0,0,,,'], '2: bad length'),
+    'two_stops_at_once': (['tick,0,2,ctl,1,stop'], '2: bad length'),
+    'two_overruns_at_once': (['tick,0,2,ctl,1,over'], '2: bad length'),
+    'a_length_before_the_ticks': (['tick,0,100000001,ctl,1,done'], '2: bad length'),
+    'the_ticks_before_the_next_record': (['idle,0,100000001,,,', 'idle'], '2: more than 100000000 ticks'),
+}
+
+# Rows as records of version 1, and the verdict on them for the control set under its test's rule.
 VERDICTS = {
     'too_soon_release': (
         ['release,0,log,1,kept', 'tick,0,log,1,done', 'release,1,log,2,kept'], 'illegal row 3 too_soon'),
@@ -945,6 +1135,37 @@ VERDICTS = {
     'done_below_the_budget': (['release,0,ctl,1,kept', 'tick,0,ctl,1,done', 'idle,1,,,'], 'legal late 0'),
 }
 
+LIVE_CONTROL = [
+    'release,0,,ctl,1,kept', 'release,0,,log,1,kept', 'tick,0,1,ctl,1,more', 'tick,1,1,ctl,1,done',
+    'tick,2,4,log,1,more', 'tick,6,1,log,1,done', 'idle,7,3,,,']
+# The jobs of ctl alone, each with its low budget but for the fourth, which passes it and has its high one.
+FOUR_JOBS = [
+    line for count, at in enumerate([0, 10, 20, 30], 1) for line in [f'release,{at},,ctl,{count},kept'] + (
+        [f'tick,{at},1,ctl,{count},more', f'tick,{at + 1},1,ctl,{count},done', f'idle,{at + 2},8,,,'] if count < 4 else
+        ['tick,30,1,ctl,4,more', 'tick,31,1,ctl,4,over', 'tick,32,3,ctl,4,more', 'tick,35,1,ctl,4,done'])]
+FOURTH_DONE_EARLY = FOUR_JOBS[:-4] + ['tick,30,1,ctl,4,more', 'tick,31,1,ctl,4,done']
+ONE_TASK = [
+    'release,0,,a,1,kept', 'tick,0,1,a,1,done', 'release,1,,a,2,kept', 'tick,1,1,a,2,done', 'release,2,,a,3,kept',
+    'tick,2,1,a,3,done']
+
+# Set, ticks, text, and what is wrong with it.
+LIVE_TEXTS = {
+    'live_control': (CONTROL, 10, trace_file(*LIVE_CONTROL), None),
+    'live_one_task': (tree_of(low('a', 1, 1)), 3, trace_file(*ONE_TASK), None),
+    'live_four_jobs': (CONTROL, 36, trace_file(*FOUR_JOBS), None),
+    'live_fourth_job_done_early': (CONTROL, 32, trace_file(*FOURTH_DONE_EARLY), 'job 4 of task 1 not by its need'),
+    'live_stop_at_the_need': (
+        tree_of(low('a', 1, 1)), 1, trace_file('release,0,,a,1,kept', 'tick,0,1,a,1,stop'),
+        'job 1 of task 1 not by its need'),
+    'live_past_its_ticks': (CONTROL, 9, trace_file(*LIVE_CONTROL), '10 ticks'),
+    'live_with_a_release_at_the_end': (
+        CONTROL, 10, trace_file(*LIVE_CONTROL, 'release,10,,ctl,2,kept'), 'a release at the end'),
+    'live_not_in_fewest_records': (
+        CONTROL, 2, trace_file('idle,0,1,,,', 'idle,1,1,,,'), 'not the text of its runs'),
+    'live_illegal': (CONTROL, 1, trace_file('release,0,,ctl,1,kept', 'idle,0,1,,,'), 'illegal row 2 idle_pending'),
+    'live_in_version_1': (CONTROL, 1, rows_file('idle,0,,,'), 'not the text of its runs'),
+}
+
 # The first words of the published sample program of PCG's generator, of seed 42 and stream 54.
 PUBLISHED_WORDS = [0xa15c02b7, 0x7b47f409, 0xba1d3330, 0x83d2f293, 0xbfa4784b, 0xcbed606e]
 
@@ -957,16 +1178,24 @@ def examples():
         if command == 'run' and status == 0:
             tasks, work = read_tasks(tree), read_work(read_tasks(tree), second)
             yield f'{name}, held', follows(tasks, test(tasks), work, int(words[0]), read_trace(tasks, text)), True
-    for name, (rows, line) in VERDICTS.items():
-        yield name, answer('judge', CONTROL, trace_file(*rows)), (0 if line == 'legal late 0' else 6, line + '\n')
+    for name, (records, fault) in REFUSED_TRACES.items():
+        yield name, answer('judge', CONTROL, trace_file(*records)), (5, f'trace line {fault}\n')
+    for name, (records, line) in VERDICTS.items():
+        wanted = 0 if line == 'legal late 0' else 6, line + '\n'
+        yield name, answer('judge', CONTROL, rows_file(*records)), wanted
+        yield f'{name}, by runs', answer('judge', CONTROL, trace_file(*with_lengths(records))), wanted
+        packed = trace_text(read_tasks(CONTROL), read_trace(read_tasks(CONTROL), rows_file(*records)))
+        yield f'{name}, by fewest runs', answer('judge', CONTROL, packed), wanted
     yield 'published_words', list(islice(pcg_words(42, 54), len(PUBLISHED_WORDS))), PUBLISHED_WORDS
     yield from avionics_examples()
     yield from soak_examples()
+    yield from wide_examples()
+    yield from live_examples()
 
 
 def avionics_examples():
     status, text = answer('run', AVIONICS, AVIONICS_WORK, ['20000'])
-    yield 'avionics_run', (status, len(text.splitlines())), (0, 20014)
+    yield 'avionics_run', (status, len(text.splitlines())), (0, 40)
     yield 'avionics_verdict', answer('judge', AVIONICS, text), (0, 'legal late 0\n')
     yield 'avionics_report', answer('report', AVIONICS, text), (0, AVIONICS_REPORT)
 
@@ -977,6 +1206,19 @@ def soak_examples():
     yield 'soak', (status, told[0], told[-1]), (0, 'soak 7 8 20000', 'legal late 0')
     numbers = told[3].split()
     yield 'soak_ticks', int(numbers[1]) + int(numbers[3]), 20000
+
+
+# A chart of as many ticks as there may be.
+def wide_examples():
+    drawn = ['ctl    ' + MOST_CHART_TICKS * '.', 'log    ' + MOST_CHART_TICKS * '.', '(mode) ' + MOST_CHART_TICKS * 'L']
+    text = trace_file(f'idle,0,{MOST_CHART_TICKS},,,')
+    yield 'chart_at_its_limit', answer('chart', CONTROL, text) == (0, lines(drawn)), True
+
+
+# Texts of live traces, and what is wrong with them.
+def live_examples():
+    for name, (tree, count, text, fault) in LIVE_TEXTS.items():
+        yield name, live_fault(read_tasks(tree), count, text), fault
 
 
 def main():

@@ -6,7 +6,8 @@ A case is a command on its example files, of which one or more were spoilt: cut 
 taken out, with records doubled, dropped or swapped, with numbers, words and values replaced, with quotes, other line ends
 or a byte order mark. Each case is run twice, and ends both times within SECONDS of processor time and BYTES of memory,
 with the same status and text: one of those that docs/FORMATS.md and docs/COMMANDS.md name for the command, and nothing
-on standard error. A trace that `run` writes is judged legal. Files with another answer are kept, and named.
+on standard error. Of `live` the text may be another one. A trace that is written is judged legal. Files with another
+answer are kept, and named.
 """
 
 import glob
@@ -19,7 +20,7 @@ from cases import Dice, Runner, keep, program_count_seed, tell
 SECONDS = 2
 BYTES = 16 * 1024 * 1024
 
-TRACE_HEADER = 'event,tick,task,job,how'
+TRACE_HEADER = 'event,tick,length,task,job,how'
 
 # Each command, its files, and the words behind them.
 EXAMPLES = [('check', [name], []) for name in sorted(glob.glob('*/tasks.toml') + glob.glob('refused/*.toml'))] + [
@@ -28,8 +29,16 @@ EXAMPLES = [('check', [name], []) for name in sorted(glob.glob('*/tasks.toml') +
     ('judge', ['judged/tasks.toml', 'judged/illegal.csv'], []),
     ('judge', ['judged/tasks.toml', 'judged/late.csv'], ['1', '1']),
     ('judge', ['overrun/tasks.toml', 'overrun/run.txt'], []),
+    ('judge', ['runs/tasks.toml', 'runs/long.csv'], []),
     ('chart', ['overrun/tasks.toml', 'overrun/run.txt'], []),
+    ('chart', ['runs/tasks.toml', 'runs/rows.csv'], []),
     ('report', ['overrun/tasks.toml', 'overrun/run.txt'], []),
+    ('report', ['runs/tasks.toml', 'runs/long.csv'], []),
+    ('migrate', ['runs/tasks.toml', 'runs/rows.csv'], []),
+    ('migrate', ['overrun/tasks.toml', 'overrun/run.txt'], []),
+    ('migrate', ['runs/tasks.toml', 'runs/long.csv'], []),
+    ('live', ['live/tasks.toml'], ['40']),
+    ('live', ['live/one.toml'], ['3']),
 ]
 
 # ---- What may be answered ----
@@ -51,12 +60,12 @@ WORK_FAULT = '|'.join([
     'not three fields', 'header is not task,release,need', 'unknown task', 'bad number', 'need is 0',
     'release before the last one', f'too soon, next {COUNT}', 'more than 1000000 rows'])
 TRACE_FAULT = '|'.join([
-    'not five fields', f'header is not {TRACE_HEADER}', 'unknown event', 'unknown task', 'bad number', 'wrong tick',
-    'more than 2000000 rows'])
+    'not five fields', 'not six fields', 'header is of no trace version', 'unknown event', 'unknown task', 'bad number',
+    'wrong tick', 'bad length', 'more than 2000000 rows', 'more than 100000000 ticks'])
 WHY = 'too_soon|wrong_count|wrong_kept|not_pending|not_least|wrong_how|idle_pending'
-ROW = '|'.join([
-    f'release,{NUMBER},{NAME},{COUNT},(?:kept|dropped)', f'tick,{NUMBER},{NAME},{COUNT},(?:more|done|stop|over)',
-    f'idle,{NUMBER},,,'])
+RUN = '|'.join([
+    f'release,{NUMBER},,{NAME},{COUNT},(?:kept|dropped)', f'tick,{NUMBER},{COUNT},{NAME},{COUNT},more',
+    f'tick,{NUMBER},1,{NAME},{COUNT},(?:done|stop|over)', f'idle,{NUMBER},{COUNT},,,'])
 COUNTS = ' '.join(f'{word} {NUMBER}' for word in [
     'released', 'kept', 'dropped', 'discarded', 'done', 'stopped', 'ticks'])
 
@@ -67,6 +76,8 @@ ILLEGAL = f'illegal row {COUNT} (?:{WHY})\n'
 LEGAL = 'legal late 0\n'
 LATE = f'legal late {COUNT} first {NAME} {COUNT}\n'
 USAGE = 'usage: check TASKS .*\n'
+TRACE = f'{TRACE_HEADER}\n(?:(?:{RUN})\n)*'
+LONG = f'trace has {COUNT} ticks, a chart has at most 2000000\n'
 
 # The texts of each status of a command. A given scale judges sets that the test does not admit, and jobs may be late.
 ON_A_TRACE = {1: NOT_ADMITTED, 3: TASKS_REFUSED, 5: TRACE_REFUSED, 6: ILLEGAL}
@@ -77,7 +88,7 @@ FORMS = {
         3: TASKS_REFUSED,
     },
     'run': {
-        0: f'{TRACE_HEADER}\n(?:(?:{ROW})\n)*',
+        0: TRACE,
         1: NOT_ADMITTED,
         2: USAGE,
         3: TASKS_REFUSED,
@@ -85,11 +96,17 @@ FORMS = {
     },
     'judge': {0: LEGAL, **ON_A_TRACE},
     'judge by a scale': {0: LEGAL, 2: USAGE, 3: TASKS_REFUSED, 5: TRACE_REFUSED, 6: f'(?:{ILLEGAL}|{LATE})'},
-    'chart': {0: f'(?:{NAME} +[#DSO.]*\n)+\\(mode\\) +[HL]*\n', **ON_A_TRACE},
+    'chart': {
+        0: f'(?:{NAME} +[#DSO.]*\n)+\\(mode\\) +[HL]*\n',
+        **ON_A_TRACE,
+        5: f'(?:{TRACE_REFUSED}|{LONG})',
+    },
     'report': {
         0: f'(?:task {NAME} {COUNTS} response (?:{COUNT}|-)\n)+idle {NUMBER}\nswitches {NUMBER}\n',
         **ON_A_TRACE,
     },
+    'migrate': {0: TRACE, **ON_A_TRACE},
+    'live': {0: TRACE, 1: NOT_ADMITTED, 2: USAGE, 3: TASKS_REFUSED},
 }
 
 
@@ -113,9 +130,10 @@ BYTES_TO_PUT = [bytes([byte]) for byte in b'\0\t\n\r "#\',-.0159=[\\]_a{}\x7f\x8
 LIMITS = [text.encode() for text in [
     '', '0', '1', '00', '0000000001', '00000000001', '4294967295', '4294967296', '9223372036854775807',
     '9223372036854775808', '18446744073709551615', '18446744073709551616', '99999999999999999999', '-1', '+1', '-0',
-    '1.0', '1e3', '0x10', '1_000', 'inf', ' 1', '1 ']]
+    '1.0', '1e3', '0x10', '1_000', 'inf', ' 1', '1 ', '100000000', '100000001']]
 WORDS = [text.encode() for text in [
-    '', 'task', 'name', 'level', 'period', 'low', 'high', 'version', 'ctl', 'log', 'event', 'tick', 'job', 'how', 'release',
+    '', 'task', 'name', 'level', 'period', 'low', 'high', 'version', 'ctl', 'log', 'event', 'tick', 'length', 'job', 'how',
+    'release',
     'need', 'kept', 'dropped', 'more', 'done', 'stop', 'over', 'idle', 'Task', 'CTL', 'ctl.log', 'l' * 32, 'l' * 33]]
 VALUES = [text.encode() for text in [
     'true', '"10"', '1.5', 'nan', '[]', '[10]', '[[]]', '{}', '{ a = 1 }', '1979-05-27', '07:32:00', '"""a"""', "'low'",
@@ -184,14 +202,15 @@ def swap_two(records, dice):
 
 
 def other_how(records, dice):
-    """Another end of a row, or another task, or another count."""
+    """Another end of a row, or another task, count or length."""
     if records:
         place = dice.below(len(records))
         words = [b'more', b'done', b'stop', b'over', b'kept', b'dropped']
         records[place] = dice.one_of([
             replaced(rb'(?<=,)(?:more|done|stop|over|kept|dropped)(?=\n)', words),
             replaced(rb'(?<=,)(?:ctl|log)(?=,)', [b'ctl', b'log']),
-            replaced(rb'(?<=,)[0-9]+(?=,[a-z]+\n)', [b'1', b'2', b'3'])])(records[place], dice)
+            replaced(rb'(?<=,)[0-9]+(?=,[a-z]+\n)', [b'1', b'2', b'3']),
+            replaced(rb'(?<=,)[0-9]+(?=,[a-z]*,)', [b'0', b'1', b'2', b'3', b'5', b'6'])])(records[place], dice)
 
 
 drop_record, double_record, swap_records = on_records(drop_one), on_records(double_one), on_records(swap_two)
@@ -222,9 +241,10 @@ def other_rows(records, dice):
     due = 0
     for place, record in enumerate(records):
         fields = record.split(b',')
-        if len(fields) == 5 and fields[0] in (b'release', b'tick', b'idle'):
+        if len(fields) in (5, 6) and fields[0] in (b'release', b'tick', b'idle'):
             fields[1] = str(due).encode()
-            due += fields[0] != b'release'
+            if fields[0] != b'release':
+                due += int(fields[2]) if len(fields) == 6 and fields[2].isdigit() else 1
             records[place] = b','.join(fields)
 
 
@@ -359,12 +379,14 @@ def outcome(runner, command, contents, words):
     second = runner.run(command, contents, words)
     status, text, errors = first
     fault = fault_of(form, status, text, errors)
-    if fault is None and first != second:
+    is_live = (command, status, second[0]) == ('live', 0, 0)
+    if fault is None and first != second and not is_live:
         fault = 'another answer at the second run'
-    if fault is None and command == 'run' and status == 0:
-        judged = runner.run('judge', [contents[0], text], [])
-        if judged != (0, LEGAL.encode(), b''):
-            fault = f'its own trace is judged {judged}'
+    if fault is None and command in ('run', 'migrate', 'live') and status == 0:
+        for written in {text, second[1]}:
+            judged = runner.run('judge', [contents[0], written], [])
+            if judged != (0, LEGAL.encode(), b''):
+                fault = f'its own trace is judged {judged}'
     return form, status, fault
 
 

@@ -8,6 +8,7 @@ use mc_model::{Row, Verdict};
 use mc_task::{Memory, Rule, TaskSet};
 use std::alloc::Global;
 use thiserror::Error;
+use trace_format::pack;
 use trace_judge::judge;
 
 /// Why rows are not judged.
@@ -41,7 +42,10 @@ pub fn verdict_on(
     if !are_of_set(set, rows) {
         return Err(NotJudged::UnknownTask);
     }
-    match judge(alloc, set, rule, rows) {
+    let Ok(runs) = pack(alloc, rows) else {
+        return Err(NotJudged::Memory);
+    };
+    match judge(alloc, set, rule, &runs) {
         Ok(verdict) => Ok(verdict),
         Err(Memory) => Err(NotJudged::Memory),
     }

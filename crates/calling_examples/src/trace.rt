@@ -5,7 +5,7 @@ ghost use Rattle.mc_model.specs.TraceText.{trace_text};
 use mode_core::Core;
 use std::alloc::Global;
 use thiserror::Error;
-use trace_format::write_trace;
+use trace_format::{pack, write_trace};
 
 /// Why a trace is not written.
 #[derive(Clone, Copy, Debug, PartialEq, Eq, Error)]
@@ -16,7 +16,7 @@ pub enum NoText {
     TooMany,
 }
 
-/// The trace of a core, as a file of it would be.
+/// The trace of a core, as a file of it would be: equal ticks stand in one record.
 pub fn trace_of(alloc: Global, core: &Core) -> Result<Vec<u8>, NoText>
     ensures text { IfOk result (λ text. text.items ≡ trace_text core.now.set (reverse core.now.rows)) }
     ensures too_many { result ≡ Err NoText.TooMany → 2000000 < length core.now.rows }
@@ -26,7 +26,10 @@ pub fn trace_of(alloc: Global, core: &Core) -> Result<Vec<u8>, NoText>
     if rows.len() > 2_000_000 {
         return Err(NoText::TooMany);
     }
-    match write_trace(alloc, core.set(), rows) {
+    let Ok(runs) = pack(alloc, rows) else {
+        return Err(NoText::Memory);
+    };
+    match write_trace(alloc, core.set(), &runs) {
         Ok(text) => Ok(text),
         Err(_) => Err(NoText::Memory),
     }

@@ -1,5 +1,5 @@
 -- Which case of an answer applies, by what the files say.
-use Rattle.std.proofs.Common.{◌≡◌, ◌⊎◌, inl, inr, ℕ, ◌<◌, ◌≤◌, nat_lt, Bool, true, false, List, length, Option, Some, None, Result, Ok, Err, refl, sym, ap, subst, ◌∙◌, arith, leb-true, ltb-false}
+use Rattle.std.proofs.Common.{◌≡◌, ◌≢◌, ◌⊎◌, inl, inr, ℕ, ◌<◌, ◌≤◌, ◌^◌, nat_lt, Bool, true, false, List, length, Option, Some, None, Result, Ok, Err, refl, sym, ap, subst, ◌∙◌, arith, leb-true, ltb-false}
 use Rattle.std.specs.Prelude.{MatchBool}
 use Rattle.mc_task.specs.declared.task.Task.{Task}
 use Rattle.mc_task.specs.declared.task.Rule.{Rule}
@@ -7,10 +7,16 @@ use Rattle.mc_model.specs.Loads.{range_fault}
 use Rattle.mc_model.specs.Test.{test}
 use Rattle.task_file.specs.TaskFile.{task_file}
 use Rattle.task_file.specs.declared.fault.TaskFault.{TaskFault}
-use Rattle.edfvd_program.specs.Reply.{Reply}
-use Rattle.edfvd_program.specs.Limits.{most_table_bytes}
-use Rattle.edfvd_program.specs.Answer.{Next, OfSet, UnderTest, AnswersRule, AnswersRange, AnswersFile, AnswersTasks}
+use Rattle.replies.specs.Reply.{Reply}
+use Rattle.replies.specs.Refusal.{Refusal, TaskFile, OutOfRange, NotAdmitted, Longer, status_of, refuse}
+use Rattle.replies.specs.Reading.{◌>>=◌, or_refuse, some_or, none_or, reply_by, By, refusal_of}
+use Rattle.serving.specs.Command.{File, Within, Unless}
+use Rattle.task_answers.specs.Admitted.{Ruled, under, set_in, tested, admitted}
 use Rattle.edfvd_program.specs.Headline.{SaysSet, IsWithinRange, IsAdmitted}
+
+-- two statuses are one
+pub other_status : (reply : Reply) (m n : ℕ) → reply.status ≡ m → reply.status ≡ n → m ≢ n → ⊥
+other_status reply m n a b differ = differ (sym a ∙ b)
 
 -- the bytes are more than the limit, or within it
 pub by_length : (P Q : Type 0) (limit : ℕ) (bytes : List ℕ) → MatchBool (nat_lt limit (length bytes)) P Q → (P × (limit < length bytes)) ⊎ (Q × (length bytes ≤ limit))
@@ -20,72 +26,100 @@ by_length P Q limit bytes h = go (nat_lt limit (length bytes)) refl h
     go true e p = inl (p, leb-true _ _ e)
     go false e q = inr (q, ltb-false _ _ e)
 
--- what the bytes of the task file lead to, and the status of a refusal
-pub data IsFileCase (Of : OfSet) (bytes : List ℕ) (reply : Reply) : Type 0 where
-  too_long : most_table_bytes < length bytes → reply.status ≡ 7 → IsFileCase Of bytes reply
-  file_refused : (fault : TaskFault) → task_file bytes ≡ Err fault → reply.status ≡ 3 → IsFileCase Of bytes reply
-  is_set : (set : List Task) → SaysSet bytes set → Of set reply → IsFileCase Of bytes reply
+-- a text by steps, the first of which reads a value
+pub by_text : {A : Type 0} (read : Result A Refusal) (f : A → Result (List ℕ) Refusal) (reply : Reply) → reply ≡ reply_by (read >>= f) → By read (λ x r. r ≡ reply_by (f x)) reply
+by_text (Ok x) f reply h = h
+by_text (Err refusal) f reply h = h
 
-by_file : (Of : OfSet) (bytes : List ℕ) (reply : Reply) → length bytes ≤ most_table_bytes → AnswersFile Of (task_file bytes) reply → IsFileCase Of bytes reply
-by_file Of bytes reply short h = go (task_file bytes) refl h
-  where
-    go : (read : Result (List Task) TaskFault) → task_file bytes ≡ read → AnswersFile Of read reply → IsFileCase Of bytes reply
-    go (Err fault) e h = file_refused fault e (ap (λ r. r.status) h)
-    go (Ok set) e h = is_set set (short, e) h
+-- what is read of the first file decides before the second
+pub by_first : {A : Type 0} (read : Result A Refusal) (k : ℕ) (file : File) (bytes : List ℕ) (P : A → Reply → Type 0) (reply : Reply)
+    → Unless (refusal_of read) (λ p. Within k file bytes (λ q. By read P q) p) reply → By read (λ x r. Within k file bytes (P x) r) reply
+by_first (Ok x) k file bytes P reply h = h
+by_first (Err refusal) k file bytes P reply h = h
 
-pub file_case : (Of : OfSet) (bytes : List ℕ) (reply : Reply) → AnswersTasks Of bytes reply → IsFileCase Of bytes reply
-file_case Of bytes reply h =
-    elim (by_length _ _ most_table_bytes bytes h) [ inl p ↦ too_long p.1 (ap (λ r. r.status) p.0) | inr q ↦ by_file Of bytes reply q.1 q.0 ]
+-- what a task file leads to where the test decides: the status of a refusal, or what comes next
+pub data Comes (bytes : List ℕ) (Then : Ruled → Reply → Type 0) (reply : Reply) : Type 0 where
+  long : 2 ^ 24 < length bytes → reply.status ≡ 7 → Comes bytes Then reply
+  refused : ((set : List Task) → set_in bytes ≡ Ok set → range_fault set ≡ None → ⊥) → reply.status ≡ 3 → Comes bytes Then reply
+  no_rule : (set : List Task) → SaysSet bytes set → IsWithinRange set → test set ≡ None → reply.status ≡ 1 → Comes bytes Then reply
+  ruled : (set : List Task) (rule : Rule) → IsAdmitted bytes set rule → Then (under rule set) reply → Comes bytes Then reply
 
--- what a command under the test's rule comes to
-pub data IsTestCase (Then : Next) (bytes : List ℕ) (reply : Reply) : Type 0 where
-  long : most_table_bytes < length bytes → reply.status ≡ 7 → IsTestCase Then bytes reply
-  refused : (fault : TaskFault) → task_file bytes ≡ Err fault → reply.status ≡ 3 → IsTestCase Then bytes reply
-  outside : (set : List Task) → SaysSet bytes set → (task : ℕ) → range_fault set ≡ Some task → reply.status ≡ 3 → IsTestCase Then bytes reply
-  no_rule : (set : List Task) → SaysSet bytes set → IsWithinRange set → test set ≡ None → reply.status ≡ 1 → IsTestCase Then bytes reply
-  admitted : (set : List Task) (rule : Rule) → IsAdmitted bytes set rule → Then set rule reply → IsTestCase Then bytes reply
-
-by_rule : (Then : Next) (bytes : List ℕ) (reply : Reply) (set : List Task) → SaysSet bytes set → IsWithinRange set → AnswersRule Then set (test set) reply → IsTestCase Then bytes reply
-by_rule Then bytes reply set s w h = go (test set) refl h
-  where
-    go : (o : Option Rule) → test set ≡ o → AnswersRule Then set o reply → IsTestCase Then bytes reply
-    go None e h = no_rule set s w e (ap (λ r. r.status) h)
-    go (Some rule) e h = admitted set rule (record { says = s; range = w; test = e }) h
-
-by_test : (Then : Next) (bytes : List ℕ) (reply : Reply) (set : List Task) → SaysSet bytes set → UnderTest Then set reply → IsTestCase Then bytes reply
-by_test Then bytes reply set s h = go (range_fault set) refl h
-  where
-    go : (o : Option ℕ) → range_fault set ≡ o → AnswersRange Then set o reply → IsTestCase Then bytes reply
-    go (Some task) e h = outside set s task e (ap (λ r. r.status) h)
-    go None e h = by_rule Then bytes reply set s e h
-
-pub test_case : (Then : Next) (Of : OfSet) (bytes : List ℕ) (reply : Reply) → ((set : List Task) → Of set reply → UnderTest Then set reply) → AnswersTasks Of bytes reply → IsTestCase Then bytes reply
-test_case Then Of bytes reply under h = go (file_case Of bytes reply h)
-  where
-    go : IsFileCase Of bytes reply → IsTestCase Then bytes reply
-    go (too_long l s) = long l s
-    go (file_refused fault e s) = refused fault e s
-    go (is_set set s k) = by_test Then bytes reply set s (under set k)
-
-one_ok : (read : Result (List Task) TaskFault) (a b : List Task) → read ≡ Ok a → read ≡ Ok b → a ≡ b
+one_ok : {A E : Type 0} (read : Result A E) (a b : A) → read ≡ Ok a → read ≡ Ok b → a ≡ b
 one_ok read a b s t = cc
 
 -- a file says one set
 pub one_set : (bytes : List ℕ) (a b : List Task) → SaysSet bytes a → SaysSet bytes b → a ≡ b
-one_set bytes a b s t = one_ok (task_file bytes) a b s.1 t.1
+one_set bytes a b s t = one_ok (set_in bytes) a b s.1 t.1
+
+by_rule : (bytes : List ℕ) (Then : Ruled → Reply → Type 0) (reply : Reply) (set : List Task) → SaysSet bytes set → IsWithinRange set
+    → By (some_or (NotAdmitted set) (test set) >>= (λ rule. Ok (under rule set))) Then reply → Comes bytes Then reply
+by_rule bytes Then reply set s w h = go (test set) refl h
+  where
+    go : (o : Option Rule) → test set ≡ o → By (some_or (NotAdmitted set) o >>= (λ rule. Ok (under rule set))) Then reply → Comes bytes Then reply
+    go None e k = no_rule set s w e (ap (λ r. r.status) k)
+    go (Some rule) e k = ruled set rule (record { says = s; range = w; test = e }) k
+
+by_range : (bytes : List ℕ) (Then : Ruled → Reply → Type 0) (reply : Reply) (set : List Task) → SaysSet bytes set → By (tested set) Then reply → Comes bytes Then reply
+by_range bytes Then reply set s h = go (range_fault set) refl h
+  where
+    go : (o : Option ℕ) → range_fault set ≡ o → By (none_or OutOfRange o >>= (λ x. some_or (NotAdmitted set) (test set) >>= (λ rule. Ok (under rule set)))) Then reply → Comes bytes Then reply
+    go (Some task) e k = refused (λ other says none. outside other says none task e) (ap (λ r. r.status) k)
+      where
+        outside : (other : List Task) → set_in bytes ≡ Ok other → range_fault other ≡ None → (task : ℕ) → range_fault set ≡ Some task → ⊥
+        outside other says none task e =
+            let same : other ≡ set = one_ok (set_in bytes) other set says s.1 in
+            let clash : Some task ≡ None = sym e ∙ (sym (ap range_fault same) ∙ none) in cc
+    go None e k = by_rule bytes Then reply set s e k
+
+by_file : (bytes : List ℕ) (Then : Ruled → Reply → Type 0) (reply : Reply) → length bytes ≤ 2 ^ 24 → By (admitted bytes) Then reply → Comes bytes Then reply
+by_file bytes Then reply short h = go (task_file bytes) refl h
+  where
+    go : (read : Result (List Task) TaskFault) → task_file bytes ≡ read → By (or_refuse TaskFile read >>= (λ set. tested set)) Then reply → Comes bytes Then reply
+    go (Err fault) e k = refused (λ set says none. (let clash : Ok set ≡ Err (TaskFile fault) = sym says ∙ ap (or_refuse TaskFile) e in cc)) (ap (λ r. r.status) k)
+    go (Ok set) e k = by_range bytes Then reply set (short, ap (or_refuse TaskFile) e) k
+
+-- each command under the test's rule comes to one of these
+pub comes : (bytes : List ℕ) (Then : Ruled → Reply → Type 0) (reply : Reply) (Else : Type 0) → (Else → By (admitted bytes) Then reply)
+    → MatchBool (nat_lt (2 ^ 24) (length bytes)) (reply ≡ refuse (Longer 1 (2 ^ 24))) Else → Comes bytes Then reply
+comes bytes Then reply Else next h =
+    elim (by_length (reply ≡ refuse (Longer 1 (2 ^ 24))) Else (2 ^ 24) bytes h) [
+      | inl p ↦ long p.1 (ap (λ r. r.status) p.0)
+      | inr q ↦ by_file bytes Then reply q.1 (next q.0)
+    ]
 
 -- of an admitted set the answer is what comes next
-pub next_of : (Then : Next) (bytes : List ℕ) (reply : Reply) (set : List Task) (rule : Rule) → IsAdmitted bytes set rule → IsTestCase Then bytes reply → Then set rule reply
-next_of Then bytes reply set rule a (long l s) = absurd (let short : length bytes ≤ most_table_bytes = a.says.0 in omega (arith, l, short))
-next_of Then bytes reply set rule a (refused fault e s) = absurd (let clash : Ok set ≡ Err fault = sym a.says.1 ∙ e in cc)
-next_of Then bytes reply set rule a (outside other s task e st) =
-    let same = one_set bytes other set s a.says in
-    absurd (let clash : Some task ≡ None = sym e ∙ (ap range_fault same ∙ a.range) in cc)
-next_of Then bytes reply set rule a (no_rule other s w e st) =
+pub next_of : (bytes : List ℕ) (Then : Ruled → Reply → Type 0) (reply : Reply) (set : List Task) (rule : Rule) → IsAdmitted bytes set rule → Comes bytes Then reply → Then (under rule set) reply
+next_of bytes Then reply set rule a (long l s) = absurd (let short : length bytes ≤ 2 ^ 24 = a.says.0 in omega (arith, l, short))
+next_of bytes Then reply set rule a (refused none s) = absurd (none set a.says.1 a.range)
+next_of bytes Then reply set rule a (no_rule other s w e st) =
     let same = one_set bytes other set s a.says in
     absurd (let clash : None ≡ Some rule = sym e ∙ (ap test same ∙ a.test) in cc)
-next_of Then bytes reply set rule a (admitted other given b h) =
+next_of bytes Then reply set rule a (ruled other given b h) =
     let same = one_set bytes other set b.says a.says in
     let rules : Some given ≡ Some rule = sym b.test ∙ (ap test same ∙ a.test) in
     let is : given ≡ rule = cc in
-    subst (λ r. Then set r reply) is (subst (λ s. Then s given reply) same h)
+    subst (λ r. Then (under r set) reply) is (subst (λ s. Then (under given s) reply) same h)
+
+-- the refusal of a step, or its value
+pub by_cases : {A : Type 0} (read : Result A Refusal) (P : A → Reply → Type 0) (reply : Reply) → By read P reply
+    → ((refusal : Refusal) × (read ≡ Err refusal) × (reply.status ≡ status_of refusal)) ⊎ ((x : A) × (read ≡ Ok x) × P x reply)
+by_cases (Ok x) P reply h = inr (x, refl, h)
+by_cases (Err refusal) P reply h = inl (refusal, refl, ap (λ r. r.status) h)
+
+-- what is said of the value that a step gives
+pub by_ok : {A : Type 0} (read : Result A Refusal) (P : A → Reply → Type 0) (reply : Reply) (x : A) → read ≡ Ok x → By read P reply → P x reply
+by_ok read P reply x is h = subst (λ r. By r P reply) is h
+
+-- a reader's refusals have one status
+pub reader_status : {A E : Type 0} (f : E → Refusal) (n : ℕ) → ((e : E) → status_of (f e) ≡ n) → (read : Result A E) (refusal : Refusal) → or_refuse f read ≡ Err refusal → status_of refusal ≡ n
+reader_status f n all (Ok x) refusal h = cc
+reader_status f n all (Err e) refusal h = let same : f e ≡ refusal = cc in subst (λ r. status_of r ≡ n) same (all e)
+
+-- of a second file: it is too long, with status 7, or this is so
+pub by_second : (limit : ℕ) (more : List ℕ) (P : Type 0) (reply : Reply) → MatchBool (nat_lt limit (length more)) (reply ≡ refuse (Longer 2 limit)) P
+    → ((reply.status ≡ 7) × (limit < length more)) ⊎ (P × (length more ≤ limit))
+by_second limit more P reply h = elim (by_length (reply ≡ refuse (Longer 2 limit)) P limit more h) [ inl p ↦ inl (ap (λ r. r.status) p.0, p.1) | inr q ↦ inr q ]
+
+-- within the limit it is so
+pub second_fits : (limit : ℕ) (more : List ℕ) (P : Type 0) (reply : Reply) → length more ≤ limit → MatchBool (nat_lt limit (length more)) (reply ≡ refuse (Longer 2 limit)) P → P
+second_fits limit more P reply short h = elim (by_second limit more P reply h) [ inl p ↦ absurd (omega (arith, p.1, short)) | inr q ↦ q.0 ]

@@ -1,59 +1,79 @@
--- What the headline says of `run`.
-use Rattle.std.proofs.Common.{◌≡◌, ◌≢◌, ◌⊎◌, inl, inr, ℕ, ◌≤◌, List, ◌++◌, reverse, length, Some, Result, Ok, Err, refl, ap, subst, arith}
+-- What the headline says of the commands that write a trace: `run` and `live`.
+use Rattle.std.proofs.Common.{◌≡◌, ◌≢◌, inl, inr, ℕ, ◌≤◌, ◌^◌, List, ◌++◌, length, Some, Err, refl, ap, arith}
 use Rattle.mc_task.specs.declared.task.Task.{Task}
 use Rattle.mc_task.specs.declared.task.Rule.{Rule}
 use Rattle.mc_model.specs.declared.row.Row.{Row}
 use Rattle.mc_model.specs.declared.work.WorkRow.{WorkRow}
-use Rattle.mc_model.specs.Legal.{Legal}
-use Rattle.mc_model.specs.Promise.{KeepsDeadlines}
-use Rattle.mc_model.specs.TraceText.{trace_text}
+use Rattle.mc_model.specs.LiveTrace.{LiveTrace}
 use Rattle.work_file.specs.WorkFile.{work_in}
-use Rattle.work_file.specs.declared.fault.WorkFault.{WorkFault}
-use Rattle.edfvd_program.specs.declared.verb.Verb.TheVariants.{Run}
-use Rattle.edfvd_program.specs.Reply.{Reply}
-use Rattle.edfvd_program.specs.Limits.{most_table_bytes}
-use Rattle.edfvd_program.specs.Answer.{Runs, Does, AnswersSecond}
-use Rattle.edfvd_program.specs.Headline.{IsAdmitted, IsScheduled, Succeeds, Schedules}
-use Rattle.edfvd_program.proofs.Cases.{IsTestCase, long, refused, outside, no_rule, admitted, next_of}
-use Rattle.edfvd_program.proofs.Promised.{other_status, keeps_for, by_second, does}
+use Rattle.replies.specs.Reply.{Reply}
+use Rattle.replies.specs.Refusal.{Refusal, WorkFile, status_of}
+use Rattle.serving.specs.Command.{Within}
+use Rattle.task_answers.specs.Admitted.{Ruled, under, table}
+use Rattle.run_answers.specs.Run.{Runs, work_of}
+use Rattle.run_answers.specs.Live as live
+use Rattle.edfvd_program.specs.Headline.{IsAdmitted, IsScheduled, SaysWork, Succeeds, Writes, IsTimely, Schedules, Lives}
+use Rattle.edfvd_program.proofs.Cases.{other_status, Comes, next_of, by_cases, by_ok, reader_status, by_second, second_fits}
+use Rattle.edfvd_program.proofs.Promised.{timely, only_ruled}
 
--- `run` answers 0 or 4
-run_status : (ticks : ℕ) (set : List Task) (rule : Rule) (read : Result (List WorkRow) WorkFault) (reply : Reply) → Runs ticks set rule read reply → (reply.status ≡ 0) ⊎ (reply.status ≡ 4)
-run_status ticks set rule (Err fault) reply h = inr (ap (λ r. r.status) h)
-run_status ticks set rule (Ok work) reply h = inl (ap (λ r. r.status) h.2)
+-- what comes next of `run`
+abbrev pub RunsNext : ℕ → List ℕ → List ℕ → Ruled → Reply → Type 0
+RunsNext ticks work more ruled reply = Within 2 (table work) more (λ r. Runs ticks ruled more r) reply
 
--- a trace of `run` keeps the deadlines
-run_writes : (ticks : ℕ) (bytes more old : List ℕ) (set : List Task) (rule : Rule) (read : Result (List WorkRow) WorkFault) (reply : Reply) → IsAdmitted bytes set rule
-    → work_in set more ≡ read → Runs ticks set rule read reply → reply.status ≡ 0
-    → (h : List Row) × IsScheduled ticks more set rule h × (Some (old ++ reply.text) ≡ Some (old ++ trace_text set (reverse h))) × Legal set rule h × KeepsDeadlines set rule h
-run_writes ticks bytes more old set rule (Err fault) reply a is h e = absurd (other_status reply 4 0 (ap (λ r. r.status) h) e (λ k. absurd (omega (arith, k))))
-run_writes ticks bytes more old set rule (Ok work) reply a is h e = (h.0, record { work = work; says = is; follows = h.1 }, ap (λ (r : Reply). Some (old ++ r.text)) h.2, h.1.legal, keeps_for bytes set rule h.0 a h.1.legal)
+-- a refused work file has status 4
+work_status : (set : List Task) (more : List ℕ) (refusal : Refusal) → work_of set more ≡ Err refusal → status_of refusal ≡ 4
+work_status set more refusal h = reader_status WorkFile 4 (λ e. refl) (work_in set more) refusal h
 
-pub not_1_run : (ticks : ℕ) (more : List ℕ) (set : List Task) (rule : Rule) (reply : Reply) → Does (Run ticks) more set rule reply → reply.status ≢ 1
-not_1_run ticks more set rule reply h e =
-    elim (run_status ticks set rule (work_in set more) reply h) [
-      | inl s ↦ other_status reply 0 1 s e (λ k. absurd (omega (arith, k)))
-      | inr s ↦ other_status reply 4 1 s e (λ k. absurd (omega (arith, k)))
+pub not_1_run : (ticks : ℕ) (work more : List ℕ) (ruled : Ruled) (reply : Reply) → RunsNext ticks work more ruled reply → reply.status ≢ 1
+not_1_run ticks work more ruled reply h e =
+    elim (by_second (2 ^ 24) more (Runs ticks ruled more reply) reply h) [
+      | inl p ↦ other_status reply 7 1 p.0 e (λ k. absurd (omega (arith, k)))
+      | inr q ↦
+          elim (by_cases (work_of ruled.set more) _ reply q.0) [
+            | inl r ↦ let four = work_status ruled.set more r.0 r.1 in let is = r.2 in absurd (omega (arith, four, is, e))
+            | inr w ↦ other_status reply 0 1 (ap (λ (r : Reply). r.status) w.2.2) e (λ k. absurd (omega (arith, k)))
+          ]
     ]
 
--- what `run` promises, by its case
-pub schedules : (ticks : ℕ) (bytes more old : List ℕ) (reply : Reply) → IsTestCase (AnswersSecond (Run ticks) more) bytes reply → Schedules ticks bytes more old reply.status (Some (old ++ reply.text))
-schedules ticks bytes more old reply h = record { writes = writes h; complete = complete }
+-- what `run` promises
+pub schedules : (ticks : ℕ) (work bytes more old : List ℕ) (reply : Reply) → Comes bytes (RunsNext ticks work more) reply → Schedules ticks bytes more old reply.status (Some (old ++ reply.text))
+schedules ticks work bytes more old reply h = record { writes = writes; complete = complete }
   where
-    writes : IsTestCase (AnswersSecond (Run ticks) more) bytes reply → reply.status ≡ 0 → (set : List Task) × (rule : Rule) × (t : List Row) × IsAdmitted bytes set rule × IsScheduled ticks more set rule t
-        × (Some (old ++ reply.text) ≡ Some (old ++ trace_text set (reverse t))) × Legal set rule t × KeepsDeadlines set rule t
-    writes (long l s) e = absurd (other_status reply 7 0 s e (λ k. absurd (omega (arith, k))))
-    writes (refused fault r s) e = absurd (other_status reply 3 0 s e (λ k. absurd (omega (arith, k))))
-    writes (outside set says task r s) e = absurd (other_status reply 3 0 s e (λ k. absurd (omega (arith, k))))
-    writes (no_rule set says w n s) e = absurd (other_status reply 1 0 s e (λ k. absurd (omega (arith, k))))
-    writes (admitted set rule a k) e =
-        elim (by_second (Run ticks) more set rule reply k) [
-          | inl p ↦ absurd (other_status reply 7 0 p.0 e (λ k. absurd (omega (arith, k))))
-          | inr q ↦ let w = run_writes ticks bytes more old set rule (work_in set more) reply a refl q.0 e in (set, rule, w.0, a, w.1, w.2, w.3, w.4)
+    of_work : (set : List Task) (rule : Rule) → IsAdmitted bytes set rule → length more ≤ 2 ^ 24 → Runs ticks (under rule set) more reply → reply.status ≡ 0
+        → (set : List Task) × (rule : Rule) × (t : List Row) × IsAdmitted bytes set rule × IsScheduled ticks more set rule t × Writes set t old (Some (old ++ reply.text)) × IsTimely set rule t
+    of_work set rule a short k e =
+        elim (by_cases (work_of set more) _ reply k) [
+          | inl r ↦ let four = work_status set more r.0 r.1 in let is = r.2 in absurd (omega (arith, four, is, e))
+          | inr w ↦
+              (set, rule, w.2.0, a, record { work = w.0; says = (short, w.1); follows = w.2.1 }, ap (λ (r : Reply). Some (old ++ r.text)) w.2.2, timely bytes set rule w.2.0 a w.2.1.legal)
         ]
 
-    complete : (set : List Task) (rule : Rule) (work : List WorkRow) → IsAdmitted bytes set rule → length more ≤ most_table_bytes → work_in set more ≡ Ok work → Succeeds reply.status
-    complete set rule work a short is =
-        let d : Does (Run ticks) more set rule reply = does (Run ticks) more set rule reply short (next_of (AnswersSecond (Run ticks) more) bytes reply set rule a h) in
-        let r : Runs ticks set rule (Ok work) reply = subst (λ r. Runs ticks set rule r reply) is d in
+    writes : reply.status ≡ 0 → (set : List Task) × (rule : Rule) × (t : List Row) × IsAdmitted bytes set rule × IsScheduled ticks more set rule t × Writes set t old (Some (old ++ reply.text)) × IsTimely set rule t
+    writes e =
+        let (set, rule, a, k) = only_ruled bytes (RunsNext ticks work more) reply 0 (λ z. absurd (omega (arith, z))) (λ z. absurd (omega (arith, z))) (λ z. absurd (omega (arith, z))) h e in
+        elim (by_second (2 ^ 24) more (Runs ticks (under rule set) more reply) reply k) [
+          | inl p ↦ absurd (other_status reply 7 0 p.0 e (λ k. absurd (omega (arith, k))))
+          | inr q ↦ of_work set rule a q.1 q.0 e
+        ]
+
+    complete : (set : List Task) (rule : Rule) (rows : List WorkRow) → IsAdmitted bytes set rule → SaysWork more set rows → Succeeds reply.status
+    complete set rule rows a says =
+        let k : Runs ticks (under rule set) more reply = second_fits (2 ^ 24) more (Runs ticks (under rule set) more reply) reply says.0 (next_of bytes (RunsNext ticks work more) reply set rule a h) in
+        let r = by_ok (work_of set more) _ reply rows says.1 k in
         inl (ap (λ (r : Reply). r.status) r.2)
+
+-- what comes next of `live`
+pub not_1_live : (ticks : ℕ) (ruled : Ruled) (reply : Reply) → live.Lives ticks ruled reply → reply.status ≢ 1
+not_1_live ticks ruled reply h e = other_status reply 0 1 (ap (λ (r : Reply). r.status) h.2) e (λ k. absurd (omega (arith, k)))
+
+-- what it promises
+pub lives : (ticks : ℕ) (bytes old : List ℕ) (reply : Reply) → Comes bytes (live.Lives ticks) reply → Lives ticks bytes old reply.status (Some (old ++ reply.text))
+lives ticks bytes old reply h = record { writes = writes; complete = complete }
+  where
+    writes : reply.status ≡ 0 → (set : List Task) × (rule : Rule) × (t : List Row) × IsAdmitted bytes set rule × LiveTrace set rule ticks t × Writes set t old (Some (old ++ reply.text)) × IsTimely set rule t
+    writes e =
+        let (set, rule, a, k) = only_ruled bytes (live.Lives ticks) reply 0 (λ z. absurd (omega (arith, z))) (λ z. absurd (omega (arith, z))) (λ z. absurd (omega (arith, z))) h e in
+        (set, rule, k.0, a, k.1, ap (λ (r : Reply). Some (old ++ r.text)) k.2, timely bytes set rule k.0 a k.1.legal)
+
+    complete : (set : List Task) (rule : Rule) → IsAdmitted bytes set rule → Succeeds reply.status
+    complete set rule a = inl (ap (λ (r : Reply). r.status) (next_of bytes (live.Lives ticks) reply set rule a h).2)

@@ -1,6 +1,7 @@
 -- The headline of the program, where the shelf and the sink tell their bytes and have no fault: it schedules a set exactly
--- where the published test holds, and every trace that it writes, or finds legal for such a set, keeps the deadlines.
-use Rattle.std.specs.Prelude.{◌≡◌, ◌⊎◌, ℕ, ◌≤◌, List, [], ◌++◌, length, reverse, Option, Some, None, Ok, unwrap_or}
+-- where the published test holds, and every trace that it writes, or finds legal for such a set, keeps the deadlines. The
+-- newest row of a trace stands first here.
+use Rattle.std.specs.Prelude.{◌≡◌, ◌⊎◌, ℕ, ◌≤◌, ◌^◌, List, [], ◌++◌, length, reverse, Option, Some, None, Ok, unwrap_or}
 use Rattle.mc_task.specs.declared.task.Task.{Task}
 use Rattle.mc_task.specs.declared.task.Rule.{Rule}
 use Rattle.mc_task.specs.declared.task.Rule.TheVariants.{Virtual}
@@ -9,18 +10,20 @@ use Rattle.mc_model.specs.declared.row.Row.{Row}
 use Rattle.mc_model.specs.declared.work.WorkRow.{WorkRow}
 use Rattle.mc_model.specs.Loads.{range_fault}
 use Rattle.mc_model.specs.Test.{test}
+use Rattle.mc_model.specs.Rows.{ticks}
 use Rattle.mc_model.specs.Legal.{Legal}
 use Rattle.mc_model.specs.Late.{late}
 use Rattle.mc_model.specs.Follows.{Follows}
+use Rattle.mc_model.specs.LiveTrace.{LiveTrace}
 use Rattle.mc_model.specs.TraceText.{trace_text}
 use Rattle.mc_model.specs.Promise.{KeepsDeadlines}
-use Rattle.task_file.specs.TaskFile.{task_file}
-use Rattle.work_file.specs.WorkFile.{work_in}
-use Rattle.trace_format.specs.TraceFile.{trace_file}
-use Rattle.edfvd_program.specs.declared.verb.Verb.TheVariants.{Run, Judge, JudgeBy, Chart, Report}
-use Rattle.edfvd_program.specs.Command.{Command, check, two_files, soak}
-use Rattle.edfvd_program.specs.Soak.{workload_set, soak_text, IsSoaked}
-use Rattle.edfvd_program.specs.Limits.{most_table_bytes, most_trace_bytes}
+use Rattle.command_line.specs.declared.form.Telling.{Telling}
+use Rattle.command_line.specs.declared.form.Telling.TheVariants.{JudgeBy, Chart}
+use Rattle.command_line.specs.Form.{Form, check, run, on_trace, soak, live}
+use Rattle.task_answers.specs.Admitted.{under, set_in}
+use Rattle.trace_answers.specs.OnTrace.{rows_in, told}
+use Rattle.run_answers.specs.Run.{work_of}
+use Rattle.run_answers.specs.Soak.{workload_set, soak_text, IsSoaked}
 
 -- the bytes under a name, none where none are held
 abbrev pub bytes_of : Files → List ℕ → List ℕ
@@ -28,7 +31,7 @@ bytes_of files name = unwrap_or (files name) []
 
 -- the task file says this set
 abbrev pub SaysSet : List ℕ → List Task → Type 0
-SaysSet bytes set = (length bytes ≤ most_table_bytes) × (task_file bytes ≡ Ok set)
+SaysSet bytes set = (length bytes ≤ 2 ^ 24) × (set_in bytes ≡ Ok set)
 
 -- its periods are within range
 abbrev pub IsWithinRange : List Task → Type 0
@@ -40,9 +43,13 @@ pub record IsAdmitted (bytes : List ℕ) (set : List Task) (rule : Rule) : Type 
   pub range : IsWithinRange set
   pub test : test set ≡ Some rule
 
--- the trace file says these rows of the set, the oldest first
-abbrev pub SaysRows : List ℕ → List Task → List Row → Type 0
-SaysRows bytes set rows = (length bytes ≤ most_trace_bytes) × (trace_file set bytes ≡ Ok rows)
+-- the work file says this work of the set
+abbrev pub SaysWork : List ℕ → List Task → List WorkRow → Type 0
+SaysWork bytes set work = (length bytes ≤ 2 ^ 24) × (work_of set bytes ≡ Ok work)
+
+-- the trace file says these rows of the set
+abbrev pub SaysTrace : List ℕ → List Task → List Row → Type 0
+SaysTrace bytes set h = (length bytes ≤ 2 ^ 27) × (rows_in set bytes ≡ Ok h)
 
 -- the call succeeded, or memory was wanting
 abbrev pub Succeeds : ℕ → Type 0
@@ -57,58 +64,74 @@ pub record SchedulesExactly (bytes : List ℕ) (ended : ℕ) : Type 0 where
 abbrev pub Admits : List ℕ → ℕ → Type 0
 Admits bytes ended = (set : List Task) (rule : Rule) → IsAdmitted bytes set rule → Succeeds ended
 
+-- the trace is written
+abbrev pub Writes : List Task → List Row → List ℕ → Option (List ℕ) → Type 0
+Writes set h old new = new ≡ Some (old ++ trace_text set (reverse h))
+
+-- it is legal, and keeps the deadlines
+abbrev pub IsTimely : List Task → Rule → List Row → Type 0
+IsTimely set rule h = Legal set rule h × KeepsDeadlines set rule h
+
 -- the trace is that of the work in the work file, under the rule
 pub record IsScheduled (ticks : ℕ) (more : List ℕ) (set : List Task) (rule : Rule) (h : List Row) : Type 0 where
   pub work : List WorkRow
-  pub says : work_in set more ≡ Ok work
+  pub says : SaysWork more set work
   pub follows : Follows set rule work ticks h
 
 -- what `run` promises
 pub record Schedules (ticks : ℕ) (bytes more old : List ℕ) (ended : ℕ) (new : Option (List ℕ)) : Type 0 where
   -- every trace that it writes keeps the deadlines
-  pub writes : ended ≡ 0 → (set : List Task) × (rule : Rule) × (h : List Row) × IsAdmitted bytes set rule × IsScheduled ticks more set rule h
-      × (new ≡ Some (old ++ trace_text set (reverse h))) × Legal set rule h × KeepsDeadlines set rule h
+  pub writes : ended ≡ 0 → (set : List Task) × (rule : Rule) × (h : List Row)
+      × IsAdmitted bytes set rule × IsScheduled ticks more set rule h × Writes set h old new × IsTimely set rule h
   -- it writes one for each admitted set and each work file
-  pub complete : (set : List Task) (rule : Rule) (work : List WorkRow) → IsAdmitted bytes set rule → length more ≤ most_table_bytes → work_in set more ≡ Ok work
-      → Succeeds ended
+  pub complete : (set : List Task) (rule : Rule) (work : List WorkRow) → IsAdmitted bytes set rule → SaysWork more set work → Succeeds ended
 
--- what `judge`, `chart` and `report` promise under the test's rule
-pub record Finds (bytes more : List ℕ) (ended : ℕ) : Type 0 where
-  -- every trace that it finds legal keeps the deadlines
-  pub finds : ended ≡ 0 → (set : List Task) × (rule : Rule) × (rows : List Row) × IsAdmitted bytes set rule × SaysRows more set rows
-      × Legal set rule (reverse rows) × KeepsDeadlines set rule (reverse rows)
-  -- what it refuses by its verdict is illegal, and not merely late
-  pub illegal : ended ≡ 6 → (set : List Task) × (rule : Rule) × (rows : List Row) × IsAdmitted bytes set rule × SaysRows more set rows
-      × (Legal set rule (reverse rows) → ⊥)
-  -- it finds each legal trace so
-  pub complete : (set : List Task) (rule : Rule) (rows : List Row) → IsAdmitted bytes set rule → SaysRows more set rows → Legal set rule (reverse rows) → Succeeds ended
+-- what `live` promises
+pub record Lives (ticks : ℕ) (bytes old : List ℕ) (ended : ℕ) (new : Option (List ℕ)) : Type 0 where
+  -- every trace that it writes keeps the deadlines
+  pub writes : ended ≡ 0 → (set : List Task) × (rule : Rule) × (h : List Row)
+      × IsAdmitted bytes set rule × LiveTrace set rule ticks h × Writes set h old new × IsTimely set rule h
+  -- it writes one for each admitted set
+  pub complete : Admits bytes ended
+
+-- something can be told of the trace: a chart has at most 2,000,000 ticks
+abbrev pub IsTold : Telling → List Row → Type 0
+IsTold Chart h = ticks h ≤ 2000000
+IsTold telling h = Unit {0}
+
+-- what `judge`, `chart`, `report` and `migrate` promise under the test's rule
+pub record Finds (telling : Telling) (bytes more old : List ℕ) (ended : ℕ) (new : Option (List ℕ)) : Type 0 where
+  -- every trace that they find legal keeps the deadlines, and what is told of it is written
+  pub finds : ended ≡ 0 → (set : List Task) × (rule : Rule) × (h : List Row) × (text : List ℕ)
+      × IsAdmitted bytes set rule × SaysTrace more set h × IsTimely set rule h
+      × (told telling (under rule set) h ≡ Ok text) × (new ≡ Some (old ++ text))
+  -- what they refuse by the verdict is illegal, and not merely late
+  pub illegal : ended ≡ 6 → (set : List Task) × (rule : Rule) × (h : List Row) × IsAdmitted bytes set rule × SaysTrace more set h × (Legal set rule h → ⊥)
+  -- they find each legal trace so
+  pub complete : (set : List Task) (rule : Rule) (h : List Row) → IsAdmitted bytes set rule → SaysTrace more set h → Legal set rule h → IsTold telling h → Succeeds ended
 
 -- what `judge` promises under a scale p/q that the words give: a legal trace without late jobs is found good
 abbrev pub FindsBy : Rule → List ℕ → List ℕ → ℕ → Type 0
 FindsBy rule bytes more ended =
-    (set : List Task) (rows : List Row) → SaysSet bytes set → SaysRows more set rows → Legal set rule (reverse rows) → late set (reverse rows) ≡ [] → Succeeds ended
+    (set : List Task) (h : List Row) → SaysSet bytes set → SaysTrace more set h → Legal set rule h → late set h ≡ [] → Succeeds ended
 
 -- what `soak` promises
 pub record Soaked (number tasks ticks : ℕ) (old : List ℕ) (ended : ℕ) (new : Option (List ℕ)) : Type 0 where
   -- every trace that it sums up keeps the deadlines
   pub sums : ended ≡ 0 → (rule : Rule) × (h : List Row) × IsSoaked number tasks ticks rule h
-      × (new ≡ Some (old ++ soak_text number tasks ticks (workload_set number tasks) rule h))
-      × Legal (workload_set number tasks) rule h × KeepsDeadlines (workload_set number tasks) rule h
+      × (new ≡ Some (old ++ soak_text number tasks ticks (workload_set number tasks) rule h)) × IsTimely (workload_set number tasks) rule h
   -- each workload is admitted, and run
   pub complete : Succeeds ended
 
 -- the headline, by what the files hold, what was written before, the status and what is written after
-abbrev pub Headline : Option Command → Files → List ℕ → ℕ → Option (List ℕ) → Type 0
+abbrev pub Headline : Option Form → Files → List ℕ → ℕ → Option (List ℕ) → Type 0
 Headline None files old ended new = Unit {0}
 Headline (Some (check tasks)) files old ended new = SchedulesExactly (bytes_of files tasks) ended × Admits (bytes_of files tasks) ended
-Headline (Some (two_files (Run ticks) tasks work)) files old ended new =
+Headline (Some (run tasks work ticks)) files old ended new =
     SchedulesExactly (bytes_of files tasks) ended × Schedules ticks (bytes_of files tasks) (bytes_of files work) old ended new
-Headline (Some (two_files Judge tasks trace)) files old ended new =
-    SchedulesExactly (bytes_of files tasks) ended × Finds (bytes_of files tasks) (bytes_of files trace) ended
-Headline (Some (two_files Chart tasks trace)) files old ended new =
-    SchedulesExactly (bytes_of files tasks) ended × Finds (bytes_of files tasks) (bytes_of files trace) ended
-Headline (Some (two_files Report tasks trace)) files old ended new =
-    SchedulesExactly (bytes_of files tasks) ended × Finds (bytes_of files tasks) (bytes_of files trace) ended
+Headline (Some (live tasks ticks)) files old ended new =
+    SchedulesExactly (bytes_of files tasks) ended × Lives ticks (bytes_of files tasks) old ended new
 Headline (Some (soak number tasks ticks)) files old ended new = Soaked number tasks ticks old ended new
-Headline (Some (two_files (JudgeBy p q) tasks trace)) files old ended new =
-    FindsBy (Virtual p q) (bytes_of files tasks) (bytes_of files trace) ended
+Headline (Some (on_trace (JudgeBy p q) tasks trace)) files old ended new = FindsBy (Virtual p q) (bytes_of files tasks) (bytes_of files trace) ended
+Headline (Some (on_trace telling tasks trace)) files old ended new =
+    SchedulesExactly (bytes_of files tasks) ended × Finds telling (bytes_of files tasks) (bytes_of files trace) old ended new

@@ -1,15 +1,3 @@
-pub mod Reply
-pub mod Command
-pub mod CommandView
-pub mod Limits
-pub mod Lines
-pub mod RowLines
-pub mod Refusals
-pub mod Soak
-pub mod Answer
+pub mod Commands
 pub mod Outcome
 pub mod Headline
-pub mod Tested
-pub mod Ruled
-pub mod Fetched
-pub mod Planned

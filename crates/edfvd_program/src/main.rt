@@ -1,24 +1,10 @@
 //! edfvd: tests and schedules task sets by EDF with virtual deadlines.
 #![tactic(auto)]
 
-mod check;
-mod command;
 mod edfvd;
-mod judge;
-mod lines;
-mod planned;
-mod reply;
-mod row_lines;
-mod ruled;
-mod run;
-mod soak;
-mod tested;
 #[cfg(test)]
 mod tests;
-mod text;
-mod two_files;
-mod verb;
-mod verdict_line;
+mod threaded;
 
 use edfvd::edfvd;
 use executive::QuietGate;

@@ -4,8 +4,10 @@ mod faults;
 mod gates;
 mod hostile;
 mod judge;
+mod live;
 mod outside;
 mod run;
+mod runs;
 mod soak;
 mod threads;
 
@@ -64,6 +66,21 @@ idle,9,,,
 release,10,log,2,kept
 tick,10,log,2,more
 tick,11,log,2,more
+";
+
+// The header of a trace whose equal ticks stand in one record.
+const RUNS_HEADER: &str = "event,tick,length,task,job,how\n";
+
+// The same trace in such records.
+const OVERRUN_RUNS: &str = "release,0,,ctl,1,kept
+release,0,,log,1,kept
+tick,0,1,ctl,1,more
+tick,1,1,ctl,1,over
+tick,2,3,ctl,1,more
+tick,5,1,ctl,1,done
+idle,6,4,,,
+release,10,,log,2,kept
+tick,10,2,log,2,more
 ";
 
 // Both jobs are released at 0, and the low task runs first.

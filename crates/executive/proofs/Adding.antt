@@ -12,10 +12,12 @@ use Rattle.executive.specs.declared.entry.Entry.{Entry}
 use Rattle.executive.specs.Histories.{MayCall, answer_to, after_call, after, IsLegalEntry, IsLegal, calls_of, seat_number}
 use Rattle.mc_model.specs.Sums.{total}
 use Rattle.executive.specs.Counts.{released, ticked, ended, idled, tally, with_answer, IsAtMost}
+use Rattle.executive.specs.Shows.{shows, HasShown}
 use Rattle.executive.specs.Stands.{opening_of, IsKept, Stands}
-use Rattle.executive.specs.Seats.{Lists, floor_seen, job_out}
+use Rattle.executive.specs.Seats.{Lists, lists, floor_seen, floor_or_none, job_out}
 use Rattle.executive.specs.declared.executive.Executive.{Executive}
-use Rattle.executive.specs.Passes.{Adds, job_then, floor_of}
+use Rattle.executive.specs.declared.pass.Held.{Held}
+use Rattle.executive.specs.Passes.{Adds, job_then, floor_of, IsHeldOf}
 use Rattle.executive.proofs.Histories.{opening_call, opening_after, after_more, legal_more, out_own, still_out, may_still, own_calls}
 use Rattle.mc_model.proofs.Sums.{total-append}
 use Rattle.executive.proofs.Counting.{IsEmpty, AreFew, are_few}
@@ -25,9 +27,9 @@ pub still_own : (f : FloorState) (log mine : List Entry) (n k : ℕ) → IsLegal
 still_own f log mine n k legal some is own = own ∙ (ap (λ (i : ℕ). made_by seat_number i log) is ∙ own_calls f log k legal some)
 
 -- the state after one entry more stands for one more
-pub stands_more : (x : State) (f : FloorState) (log : List Entry) (e : Entry) → IsLegal (opening_of f) log → f ≡ after (opening_of f) log → x.floor ≡ after_call f e.task.0 e.call → IsLegalEntry f e → x.last ≡ e → IsKept x.floor
+pub stands_more : (x : State) (f : FloorState) (log : List Entry) (e : Entry) → IsLegal (opening_of f) log → f ≡ after (opening_of f) log → x.floor ≡ after_call f e.task.0 e.call → IsLegalEntry f e → x.last ≡ e → IsKept x.floor → HasShown (shows (opening_of f) (log ++ e ∷ [])) x.writer
     → Stands (log ++ x.last ∷ []) x
-stands_more x f log e legal leaves next one last kept =
+stands_more x f log e legal leaves next one last kept shown =
     let same : opening_of x.floor ≡ opening_of f = ap opening_of next ∙ opening_call f e.task.0 e.call in
     let all : IsLegal (opening_of f) (log ++ e ∷ []) = legal_more (opening_of f) log e legal (subst (λ (g : FloorState). IsLegalEntry g e) leaves one) in
     let left : x.floor ≡ after (opening_of f) (log ++ e ∷ []) = next ∙ (ap (λ (g : FloorState). after_call g e.task.0 e.call) leaves ∙ sym (after_more (opening_of f) log (e ∷ []))) in
@@ -35,6 +37,7 @@ stands_more x f log e legal leaves next one last kept =
       legal = subst (λ (g : FloorState). IsLegal g (log ++ x.last ∷ [])) (sym same) (subst (λ (y : Entry). IsLegal (opening_of f) (log ++ y ∷ [])) (sym last) all);
       leaves = left ∙ (ap (λ (y : Entry). after (opening_of f) (log ++ y ∷ [])) (sym last) ∙ ap (λ (g : FloorState). after g (log ++ x.last ∷ [])) (sym same));
       kept = kept;
+      shown = subst (λ (g : FloorState). HasShown (shows g (log ++ x.last ∷ [])) x.writer) (sym same) (subst (λ (y : Entry). HasShown (shows (opening_of f) (log ++ y ∷ [])) x.writer) (sym last) shown);
     }
 
 -- what the turn of a task found, and what it left
@@ -126,6 +129,10 @@ tally_more c d e old new a is next =
 -- the floor that an executive was made with has no rows
 pub opens_empty : (e : Executive) → IsEmpty (floor_of e)
 opens_empty e = record { rows = refl; held = refl }
+
+-- nor has the one that its passes know
+pub empty : (e : Executive) (h : Held) → IsHeldOf e h → IsEmpty (lists h.seat).opening
+empty e h of = subst IsEmpty (sym (ap floor_or_none of.0.1)) (opens_empty e)
 
 -- no more calls were answered so than there are places
 pub few_new : (e : Entry) (old new : Lists) → Adds e old new → IsEmpty old.opening → AreFew e.task.0 new.seen old.opening.core.places

@@ -18,6 +18,7 @@ use Rattle.turnstile.proofs.Lists.{found, all_get}
 use Rattle.timetable.specs.Floor.{FloorState}
 use Rattle.executive.specs.contracts.state.StateKept.TheImpl.{ghosts}
 use Rattle.executive.specs.declared.state.State.{State}
+use Rattle.executive.specs.declared.state.Opened.{Opened}
 use Rattle.executive.specs.declared.entry.Entry.{Entry}
 use Rattle.executive.specs.declared.count.Count.{Count}
 use Rattle.executive.specs.declared.pass.TaskPass.{TaskPass}
@@ -36,7 +37,7 @@ use Rattle.executive.proofs.Adding.{opens_empty}
 use Rattle.executive.proofs.Once.{has, total_same, all_answers}
 
 abbrev pub OurSeat : Type 0
-OurSeat = Seat State Entry FloorState ghosts
+OurSeat = Seat State Entry Opened ghosts
 
 -- the seats are those of the passes, in order
 abbrev pub AreSeats : List TaskPass → List OurSeat → Type 0

@@ -1,5 +1,6 @@
 pub mod Histories
 pub mod Counting
+pub mod Shows
 pub mod Adding
 pub mod Once
 pub mod Closings

@@ -9,6 +9,7 @@ use Rattle.turnstile.specs.declared.tokens.Seat.{Seat}
 use Rattle.timetable.specs.Floor.{FloorState}
 use Rattle.executive.specs.contracts.state.StateKept.TheImpl.{ghosts}
 use Rattle.executive.specs.declared.state.State.{State}
+use Rattle.executive.specs.declared.state.Opened.{Opened}
 use Rattle.executive.specs.declared.entry.Entry.{Entry}
 use Rattle.executive.specs.declared.pass.Resting.{Resting}
 use Rattle.executive.specs.declared.pass.TaskPass.{TaskPass}
@@ -59,10 +60,10 @@ pub record Closes (opening : FloorState) (passes : List TaskPass) (f : FloorStat
   pub idles : total (λ p. (of_pass p).count.idles) passes ≡ idle_ticks f.core.rows
 
 -- the seat of a task with no tick out, where one is held
-abbrev pub seat_of_resting : Option Resting → Option (Seat State Entry FloorState ghosts)
+abbrev pub seat_of_resting : Option Resting → Option (Seat State Entry Opened ghosts)
 seat_of_resting (Some r) = Some r.held.seat
 seat_of_resting None = None
 
 -- the seat of a pass
-abbrev pub seat_of : TaskPass → Option (Seat State Entry FloorState ghosts)
+abbrev pub seat_of : TaskPass → Option (Seat State Entry Opened ghosts)
 seat_of p = seat_of_resting p.resting

@@ -1,7 +1,9 @@
 pub mod Histories
 pub mod Counts
+pub mod Shows
 pub mod Stands
 pub mod Seats
 pub mod Passes
 pub mod Opening
+pub mod Watching
 pub mod Closing

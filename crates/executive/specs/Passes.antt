@@ -21,7 +21,7 @@ use Rattle.executive.specs.declared.calls.Taken.{Taken}
 use Rattle.executive.specs.declared.calls.Taken.TheVariants.{Given, NotNow}
 use Rattle.executive.specs.Histories.{entry, after, IsLegal, answer_to, calls_of}
 use Rattle.executive.specs.Counts.{with_answer}
-use Rattle.executive.specs.Stands.{IsKept, opening_of}
+use Rattle.executive.specs.Stands.{IsKept, opened}
 use Rattle.executive.specs.Seats.{Lists, no_floor, lists, job_out}
 
 -- a pass or a grant, as contracts see it: its task's number, what it was answered, and what it knows of the history
@@ -57,7 +57,7 @@ of_grant t = of_held t.held
 
 -- the floor that the executive was made with, as it was before any call
 abbrev pub floor_of : Executive → FloorState
-floor_of e = fixed_part (λ s. opening_of s.floor) e.turns
+floor_of e = (fixed_part opened e.turns).floor
 
 -- what is held is of this executive, and of a task of its set
 abbrev pub IsHeldOf : Executive → Held → Type 0

@@ -1,5 +1,5 @@
 -- What a seat of the executive's turnstile knows of the history.
-use Rattle.std.specs.Prelude.{ℕ, List, [], Option, Some, None}
+use Rattle.std.specs.Prelude.{ℕ, List, [], ◌∷◌, ◌++◌, Option, Some, None}
 use Rattle.mc_task.specs.declared.task.Rule.TheVariants.{Plain}
 use Rattle.mc_task.specs.declared.task.JobId.{JobId}
 use Rattle.mode_core.specs.Events.{empty_state, running}
@@ -7,8 +7,10 @@ use Rattle.timetable.specs.declared.plan.Plan.TheVariants.{Free}
 use Rattle.timetable.specs.Floor.{FloorState, opening}
 use Rattle.turnstile.specs.declared.tokens.Seat.{Seat}
 use Rattle.turnstile.specs.declared.kept.Kept.{Ghosts}
-use Rattle.turnstile.specs.Seats.{seen, mine}
+use Rattle.turnstile.specs.declared.tokens.Turn.{Turn}
+use Rattle.turnstile.specs.Seats.{seen, mine, history, turn_mine, state_of}
 use Rattle.executive.specs.declared.state.State.{State}
+use Rattle.executive.specs.declared.state.Opened.{Opened}
 use Rattle.executive.specs.declared.entry.Entry.{Entry}
 use Rattle.executive.specs.Histories.{after}
 
@@ -23,13 +25,21 @@ abbrev pub no_floor : FloorState
 no_floor = opening (empty_state [] Plain 0) Free
 
 -- the floor that is told
-abbrev pub floor_or_none : Option FloorState → FloorState
-floor_or_none (Some f) = f
+abbrev pub floor_or_none : Option Opened → FloorState
+floor_or_none (Some o) = o.floor
 floor_or_none None = no_floor
 
 -- what a seat knows
-abbrev pub lists : {g : Ghosts State Entry FloorState} → Seat State Entry FloorState g → Lists
+abbrev pub lists : {g : Ghosts State Entry Opened} → Seat State Entry Opened g → Lists
 lists s = record { opening = floor_or_none s.place.me.0.fixed; seen = seen s; mine = mine s }
+
+-- what the seat of a turn knows once it is left
+abbrev pub lists_left : {g : Ghosts State Entry Opened} → Turn State Entry Opened g → Lists
+lists_left t = record {
+  opening = floor_or_none t.claim.place.me.0.fixed;
+  seen = history t ++ (state_of t).last ∷ [];
+  mine = turn_mine t ++ (state_of t).last ∷ [];
+}
 
 -- the floor after all that was seen
 abbrev pub floor_seen : Lists → FloorState

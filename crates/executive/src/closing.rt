@@ -53,10 +53,15 @@ impl Executive {
             turns,
             reserved,
             tasks: _,
+            board: _,
         } = self;
         let Reserved { mut list } = reserved.into_inner();
         give_seats(passes, &mut list);
-        let State { floor, last: _ } = turns.close(list);
+        let State {
+            floor,
+            last: _,
+            writer: _,
+        } = turns.close(list);
         floor.into_floor()
     }
 }

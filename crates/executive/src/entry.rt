@@ -1,6 +1,7 @@
 //! The entries of the history: who called, what for, and what the floor answered.
 ghost use Rattle.std.specs.Prelude.{◌≡◌};
 ghost use Rattle.executive.specs.declared.entry.Answer.TheVariants as answer;
+ghost use Rattle.executive.specs.Shows.{ends_tick};
 
 use mc_model::How;
 use mc_task::TaskNo;
@@ -47,6 +48,22 @@ impl Entry {
         call: Call::Look,
         answer: Answer::Next(Act::Finished),
     };
+}
+
+impl Answer {
+    // Whether a tick ended.
+    pub(crate) fn ends_tick(&self) -> bool
+        ensures { result ≡ ends_tick self.now }
+    {
+        match self {
+            Answer::Told(Ok(_)) | Answer::Idled(Ok(_)) => true,
+            Answer::Released(_)
+            | Answer::Taken(_)
+            | Answer::Told(Err(_))
+            | Answer::Idled(Err(_))
+            | Answer::Next(_) => false,
+        }
+    }
 }
 
 // Each takes out what a call of its kind is answered.

@@ -1,18 +1,22 @@
 //! The executive, and one call on it.
-ghost use Rattle.std.specs.Prelude.{◌≡◌, ◌-◌, ◌≤◌, vec_capacity, vec_len, length};
+ghost use Rattle.std.specs.Prelude.{◌≡◌, ◌-◌, ◌≤◌, ◌++◌, ◌∷◌, [], vec_capacity, vec_len, length, option_map};
+ghost use Rattle.std.specs.Coded.{Coded-set, coded_option};
 ghost use Rattle.mc_task.specs.TaskSet.{IsIn};
-ghost use Rattle.turnstile.specs.Seats.{seats_of, IsOf, number, mine, seen, fixed_part};
+ghost use Rattle.turnstile.specs.Seats.{seats_of, IsOf, IsTurnOf, number, mine, seen, fixed_part, history, state_of, turn_number};
+ghost use Rattle.status_board.specs.Ids.{board_id_coded};
+ghost use Rattle.status_board.specs.Tokens.{board_id};
 ghost use Rattle.executive.specs.Histories.{MayCall, entry, calls_of};
-ghost use Rattle.executive.specs.Stands.{opening_of};
-ghost use Rattle.executive.specs.Seats.{lists, floor_seen};
+ghost use Rattle.executive.specs.Stands.{opened, Stands};
+ghost use Rattle.executive.specs.Seats.{lists, lists_left, floor_seen};
 
 use crate::entry::{Answer, Call};
 use crate::pass::Held;
 use crate::state::State;
 use mc_task::TaskNo;
+use status_board::Board;
 use std::marker::Brand;
 use std::sync::{Mutex, Wait};
-use turnstile::{Seat, Turnstile};
+use turnstile::{Seat, Turn, Turnstile};
 
 // An empty list with room for each seat.
 #[derive(Drop)]
@@ -28,9 +32,12 @@ pub struct Executive {
     // A list of seats cannot be lent to other threads, and a lock round it can. Only `close` takes it out.
     pub(crate) reserved: Mutex<Reserved>,
     pub(crate) tasks: u32,
+    // The writer in the state is its writer.
+    pub(crate) board: Option<Board>,
     ghost seats: { tasks ≡ seats_of turns },
     ghost few: { tasks ≤ 128 },
-    ghost set: { tasks ≡ length (fixed_part (λ s. opening_of s.floor) turns).core.set },
+    ghost set: { tasks ≡ length (fixed_part opened turns).floor.core.set },
+    ghost beside: { (fixed_part opened turns).board ≡ option_map board_id board } by { Coded-set (coded_option board_id_coded) _ _ },
 }
 
 impl Executive {
@@ -45,8 +52,7 @@ impl Executive {
     {
         let Held { task, count, seat } = held;
         let (seat, answer) = self.turn(rt, seat, task, call);
-        let count = count.with(&answer);
-        (Held { task, count, seat }, answer)
+        (Held::counted(task, count, seat, &answer), answer)
     }
 
     // One turn of the task's seat.
@@ -66,8 +72,32 @@ impl Executive {
         ensures number { number result.0 ≡ task.0 - 1 }
         ensures adds { Adds (entry task.0 call result.1) (lists seat) (lists result.0) }
     {
-        let mut turn = self.turns.enter(rt, seat);
-        let answer = turn.state().act(task, call);
+        let (turn, answer) = self.begin(rt, seat, task, call);
         (self.turns.leave::<Brand>(turn), answer)
+    }
+
+    // A turn in which the task's call was made, and which has to be left.
+    pub(crate) fn begin<R: Wait>(
+        &self,
+        rt: &R,
+        seat: Seat<State>,
+        task: TaskNo,
+        call: Call,
+    ) -> (Turn<'_, State>, Answer)
+        requires of { IsOf self.now.turns seat }
+        requires number { number seat ≡ task.0 - 1 }
+        requires whole { mine seat ≡ calls_of task.0 (seen seat) }
+        requires in_set { IsIn (floor_of self.now).core.set task.0 }
+        requires may { MayCall (floor_seen (lists seat)) task.0 call }
+        ensures of { IsTurnOf self.now.turns result.0 }
+        ensures number { turn_number result.0 ≡ task.0 - 1 }
+        ensures adds { Adds (entry task.0 call result.1) (lists seat) (lists_left result.0) }
+        ensures last { (state_of result.0).last ≡ entry task.0 call result.1 }
+        ensures stands { Stands (history result.0 ++ (state_of result.0).last ∷ []) (state_of result.0) }
+        ensures fixed { opened (state_of result.0) ≡ fixed_part opened self.now.turns }
+    {
+        let mut turn = self.turns.enter(rt, seat);
+        let answer = turn.state().act(&self.board, task, call);
+        (turn, answer)
     }
 }

@@ -1,11 +1,13 @@
 //! A floor in a block of its own: a turn then moves a pointer, and not the floor.
-ghost use Rattle.std.specs.Prelude.{◌≡◌, IfOk, IfErr};
+ghost use Rattle.std.specs.Prelude.{◌≡◌, ◌≤◌, ◌^◌, IfOk, IfErr};
 ghost use Rattle.mc_task.specs.TaskSet.{IsIn};
 ghost use Rattle.executive.specs.Histories.{MayCall, answer_to, after_call};
 ghost use Rattle.executive.specs.Stands.{IsKept};
+ghost use Rattle.executive.specs.Shows.{shown_of};
 
 use crate::entry::{Answer, Call};
 use mc_task::TaskNo;
+use status_board::Shown;
 use std::alloc::Global;
 use std::marker::Model;
 use timetable::Floor;
@@ -41,6 +43,19 @@ impl HeapFloor {
         ensures { result ≡ self }
     {
         Box::into_inner(self.block)
+    }
+
+    // The ticks that ended, and the mode.
+    #[tactic(auto, using(crate::proofs::Shows::few_ticks))]
+    pub(crate) fn shown(&self) -> Shown
+        ensures shown { result ≡ shown_of self.now }
+        ensures few { result.ticks ≤ 2 ^ 62 }
+    {
+        let core = self.block.core();
+        Shown {
+            ticks: core.ticks(),
+            high_mode: core.high_mode(),
+        }
     }
 
     // The answer to a call of a task, which the floor then has.

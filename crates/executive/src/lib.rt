@@ -13,6 +13,7 @@ mod pass;
 mod state;
 #[cfg(test)]
 mod tests;
+mod watching;
 
 pub use calls::Taken;
 pub use closing::Unclosed;

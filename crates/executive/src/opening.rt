@@ -1,10 +1,14 @@
 //! How an executive is made, with its passes.
-ghost use Rattle.std.specs.Prelude.{◌≡◌, ◌-◌, ◌≤◌, [], None, IfOk, IfErr, vec_len, vec_capacity, All, length};
+ghost use Rattle.std.specs.Prelude.{◌≡◌, ◌-◌, ◌≤◌, [], ◌∷◌, None, IfOk, IfErr, vec_len, vec_capacity, All, length, option_map};
+ghost use Rattle.status_board.specs.Logs.{start};
+ghost use Rattle.status_board.specs.Tokens.{board_id, writer_board, seen};
+ghost use Rattle.executive.specs.Shows.{HasShown};
 ghost use Rattle.turnstile.specs.Seats.{IsOf};
 ghost use Rattle.turnstile.specs.Seats as turn_seats;
 ghost use Rattle.executive.specs.Counts.{tally};
 ghost use Rattle.executive.specs.Opening.{AreFresh};
 ghost use Rattle.executive.specs.Passes.{floor_of};
+ghost use Rattle.executive.specs.Watching.{IsWatcherOf};
 
 use crate::count::Count;
 use crate::entry::Entry;
@@ -13,6 +17,7 @@ use crate::heap_floor::HeapFloor;
 use crate::pass::{Held, TaskPass};
 use crate::state::State;
 use mc_task::TaskNo;
+use status_board::{Board, Watcher, Writer};
 use std::alloc::Global;
 use std::sync::{Mutex, Wait};
 use timetable::Floor;
@@ -26,7 +31,7 @@ pub struct NoMemory {
 
 impl Executive {
     /// An executive over a floor with no rows and no tick out, and a pass for each task, in the order of their numbers. It
-    /// takes memory, and no later call does.
+    /// has no board. It takes memory, and no later call does.
     pub fn new<R: Wait>(
         rt: &R,
         alloc: Global,
@@ -39,6 +44,48 @@ impl Executive {
         ensures memory { IfErr result (λ e. e.floor ≡ floor) }
     {
         let _ = rt;
+        Executive::open(alloc, floor, None, None)
+    }
+
+    /// The same with a board, which shows the ticks that ended and the mode, and with 1 to 128 watchers of it.
+    pub fn with_watchers<R: Wait>(
+        rt: &R,
+        alloc: Global,
+        floor: Floor,
+        watchers: u32,
+    ) -> Result<(Executive, Vec<TaskPass>, Vec<Watcher>), NoMemory>
+        requires rows { floor.core.rows ≡ [] }
+        requires out { floor.core.out ≡ None }
+        requires watchers { (1 ≤ watchers) × (watchers ≤ 128) }
+        ensures floor { IfOk result (λ r. floor_of r.0 ≡ floor) }
+        ensures passes { IfOk result (λ r. (vec_len r.1 ≡ length floor.core.set) × AreFresh r.0 r.1.items) }
+        ensures watchers { IfOk result (λ r. (vec_len r.2 ≡ watchers) × All (λ w. IsWatcherOf r.0 w × (seen w ≡ start ∷ [])) r.2.items) }
+        ensures memory { IfErr result (λ e. e.floor ≡ floor) }
+    {
+        let _ = rt;
+        let Ok((board, writer, list)) = Board::new(alloc, watchers) else {
+            return Err(NoMemory { floor });
+        };
+        let (executive, passes) = Executive::open(alloc, floor, Some(board), Some(writer))?;
+        Ok((executive, passes, list))
+    }
+
+    // An executive with the board and its writer, where there is one.
+    fn open(
+        alloc: Global,
+        floor: Floor,
+        board: Option<Board>,
+        writer: Option<Writer>,
+    ) -> Result<(Executive, Vec<TaskPass>), NoMemory>
+        requires rows { floor.core.rows ≡ [] }
+        requires out { floor.core.out ≡ None }
+        requires board { option_map writer_board writer ≡ option_map board_id board }
+        requires shown { HasShown (start ∷ []) writer }
+        ensures floor { IfOk result (λ r. floor_of r.0 ≡ floor) }
+        ensures passes { IfOk result (λ r. (vec_len r.1 ≡ length floor.core.set) × AreFresh r.0 r.1.items) }
+        ensures board { IfOk result (λ r. r.0.board ≡ board) }
+        ensures memory { IfErr result (λ e. e.floor ≡ floor) }
+    {
         let _sound = floor.core().ticks();
         let tasks = floor.core().set().len();
         let Ok(list) = Vec::with_capacity(alloc, 128) else {
@@ -54,6 +101,7 @@ impl Executive {
         let state = State {
             floor,
             last: Entry::NONE,
+            writer,
         };
         match Turnstile::new(alloc, state, tasks) {
             Ok((turns, seats)) => {
@@ -61,12 +109,17 @@ impl Executive {
                     turns,
                     reserved: Mutex::new(Reserved { list }),
                     tasks,
+                    board,
                 };
                 executive.make_passes(seats, &mut passes);
                 Ok((executive, passes))
             }
             Err(NewFault::Memory(state)) => {
-                let State { floor, last: _ } = state;
+                let State {
+                    floor,
+                    last: _,
+                    writer: _,
+                } = state;
                 Err(NoMemory {
                     floor: floor.into_floor(),
                 })

@@ -6,6 +6,7 @@ ghost use Rattle.executive.specs.Counts.{tally, IsAtMost};
 ghost use Rattle.executive.specs.Seats.{lists, job_out};
 
 use crate::count::Count;
+use crate::entry::Answer;
 use crate::state::State;
 use mc_task::TaskNo;
 use mode_core::Granted;
@@ -50,8 +51,26 @@ pub struct Grant {
 }
 
 impl Held {
-    ghost use Rattle.executive.specs.Passes.{of_held, of_pass};
-    ghost use Rattle.std.specs.Prelude.{IfSome};
+    ghost use Rattle.executive.specs.Passes.{of_held, of_pass, Adds};
+    ghost use Rattle.executive.specs.Histories.{entry};
+    ghost use Rattle.executive.specs.Seats.{Lists};
+    ghost use Rattle.executive.specs.Counts.{with_answer};
+    ghost use Rattle.executive.specs.declared.entry.Call.{Call};
+    ghost use Rattle.std.specs.Prelude.{IfSome, []};
+
+    // The seat of a task that made one call more, whose answer is counted.
+    pub(crate) fn counted(task: TaskNo, count: Count, seat: Seat<State>, answer: &Answer) -> Held
+        requires some { 1 ≤ task.0 }
+        requires number { number seat ≡ task.0 - 1 }
+        requires adds { (old : Lists) × (call : Call) × Adds (entry task.0 call answer.now) old (lists seat) × (old.opening.core.rows ≡ []) × (old.opening.core.held ≡ []) × (count ≡ tally old.mine) }
+        ensures { (result.task ≡ task) × (result.seat ≡ seat) × (result.count ≡ with_answer count answer.now) }
+    {
+        Held {
+            task,
+            count: count.with(answer),
+            seat,
+        }
+    }
 
     // A task with no tick out, as a pass.
     pub(crate) fn at_rest(self) -> TaskPass

@@ -1,36 +1,50 @@
-//! The state that the passes share: the floor, and the call that was made last.
-ghost use Rattle.std.specs.Prelude.{◌≡◌};
+//! The state that the passes share: the floor, the call that was made last, and the writer of the board.
+ghost use Rattle.std.specs.Prelude.{◌≡◌, ◌+◌, ◌≤◌, ◌^◌, ◌++◌, ◌∷◌, [], List, option_map};
 ghost use Rattle.mc_task.specs.TaskSet.{IsIn};
 ghost use Rattle.executive.specs.Histories.{MayCall, answer_to, after_call, entry};
 ghost use Rattle.executive.specs.Stands.{IsKept};
+ghost use Rattle.executive.specs.Shows.{HasShown, IsUpTo, shows_now};
+ghost use Rattle.mc_model.specs.Rows.{ticks};
+ghost use Rattle.status_board.specs.Tokens.{board_id, writer_board, watcher_board, seen};
+ghost use Rattle.status_board.specs.declared.shown.Shown.{Shown};
 
 use crate::entry::{Answer, Call, Entry};
 use crate::heap_floor::HeapFloor;
 use mc_task::TaskNo;
+use status_board::{Board, BoardId, Shown, Watcher, Writer};
 use std::marker::Brand;
 use timetable::Floor;
 use turnstile::{Added, Kept};
 
-/// The floor, and the last entry of the history.
+/// The floor, the last entry of the history, and the writer, where there is a board.
 #[derive(Drop)]
 pub struct State {
     pub(crate) floor: HeapFloor,
     pub(crate) last: Entry,
+    pub(crate) writer: Option<Writer>,
+}
+
+/// What no call changes. No value of it is made.
+pub struct Opened {
+    /// The floor before any call.
+    pub floor: Floor,
+    /// The board, where there is one.
+    pub board: Option<BoardId>,
 }
 
 impl Kept for State {
-    ghost use Rattle.executive.specs.Stands.{Stands, opening_of};
+    ghost use Rattle.executive.specs.Stands.{Stands, opened};
     ghost use Rattle.executive.specs.Histories.{seat_number};
 
     type Entry = Entry;
 
-    type Fixed = Floor;
+    type Fixed = Opened;
 
     ghost stands = { λ first log s. Stands log s };
 
     ghost by = { seat_number };
 
-    ghost fixed = { λ s. opening_of s.floor };
+    ghost fixed = { opened };
 }
 
 impl Added<Entry> for Brand {
@@ -40,17 +54,72 @@ impl Added<Entry> for Brand {
 }
 
 impl State {
-    // One call of a task.
-    pub(crate) fn act(&mut self, task: TaskNo, call: Call) -> Answer
+    // One call of a task. A tick that it ends is shown on the board, where there is one.
+    pub(crate) fn act(&mut self, board: &Option<Board>, task: TaskNo, call: Call) -> Answer
         requires in_set { IsIn self.old.floor.core.set task.0 }
         requires may { MayCall self.old.floor task.0 call }
+        requires board { option_map writer_board self.old.writer ≡ option_map board_id board.now }
+        requires shown { IsUpTo (ticks self.old.floor.core.rows) self.old.writer }
         ensures answer { result ≡ answer_to self.old.floor task.0 call }
         ensures floor { self.new.floor ≡ after_call self.old.floor task.0 call }
         ensures last { self.new.last ≡ entry task.0 call result }
         ensures kept { IsKept self.new.floor }
+        ensures board { option_map writer_board self.new.writer ≡ option_map writer_board self.old.writer }
+        ensures shown { (log : List Shown) → HasShown log self.old.writer → HasShown (log ++ shows_now self.new.floor result) self.new.writer }
     {
         let answer = self.floor.answer(task, call);
         self.last = Entry { task, call, answer };
+        if answer.ends_tick() {
+            show(board, &mut self.writer, self.floor.shown());
+        }
         answer
+    }
+}
+
+impl State {
+    ghost use Rattle.turnstile.specs.History.{StartsWith};
+    ghost use Rattle.std.specs.Prelude.{Some};
+
+    // Tells the watcher what was shown.
+    pub(crate) fn tell(&mut self, board: &Option<Board>, watcher: &mut Watcher)
+        requires board { option_map writer_board self.old.writer ≡ option_map board_id board.now }
+        requires watcher { option_map board_id board.now ≡ Some (watcher_board watcher.old) }
+        ensures same { (self.new.floor ≡ self.old.floor) × (self.new.last ≡ self.old.last) }
+        ensures board { option_map writer_board self.new.writer ≡ option_map writer_board self.old.writer }
+        ensures watcher { watcher_board watcher.new ≡ watcher_board watcher.old }
+        ensures shown { (log : List Shown) → HasShown log self.old.writer → HasShown log self.new.writer }
+        ensures begins { StartsWith (seen watcher.new) (seen watcher.old) }
+        ensures told { (log : List Shown) → HasShown log self.old.writer → StartsWith (seen watcher.new) log }
+    {
+        match self.writer.take() {
+            Some(mut writer) => match board {
+                Some(board) => {
+                    board.tell(&mut writer, watcher);
+                    self.writer = Some(writer);
+                }
+                None => unreachable!(),
+            },
+            None => unreachable!(),
+        }
+    }
+}
+
+// Shows one more pair, where there is a board.
+fn show(board: &Option<Board>, writer: &mut Option<Writer>, now: Shown)
+    requires board { option_map writer_board writer.old ≡ option_map board_id board.now }
+    requires next { (ticks : _) × IsUpTo ticks writer.old × (now.ticks ≡ ticks + 1) }
+    requires few { now.ticks ≤ 2 ^ 62 }
+    ensures board { option_map writer_board writer.new ≡ option_map writer_board writer.old }
+    ensures shown { (log : List Shown) → HasShown log writer.old → HasShown (log ++ now ∷ []) writer.new }
+{
+    match writer.take() {
+        None => {}
+        Some(mut inner) => match board {
+            Some(board) => {
+                board.show(&mut inner, now);
+                *writer = Some(inner);
+            }
+            None => unreachable!(),
+        },
     }
 }

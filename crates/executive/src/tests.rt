@@ -3,6 +3,7 @@ ghost use Rattle.std.specs.Prelude.{◌≡◌, ◌≤◌, ◌+◌, [], true, Non
 ghost use Rattle.timetable.specs.Floor.{is_planned};
 ghost use Rattle.executive.specs.Passes.{IsPassOf, floor_of};
 ghost use Rattle.executive.specs.Opening.{AreFresh};
+ghost use Rattle.executive.specs.Watching.{IsWatcherOf};
 
 use crate::{Count, Executive, Taken, TaskPass, Unclosed};
 use admission::admit;
@@ -11,6 +12,7 @@ use mc_model::{How, Row, WorkRow};
 use mc_task::Level::{High, Low};
 use mc_task::{JobId, Level, Name, Task, TaskNo, TaskSet};
 use mode_core::{Core, GrantFault, Granted, IdleFault, ReleaseFault, Released};
+use status_board::{Shown, Watcher};
 use std::alloc::Global;
 use std::sync::Wait;
 use std::test::Fail;
@@ -316,6 +318,85 @@ fn a_plan_whose_executive_was_closed_is_finished(rt: HostRuntime) -> Result<(), 
             floor.finish();
             assert!(rt; floor.core().rows() == rows.as_slice());
         }
+        Err(_unclosed) => panic!(rt; "a pass is missing"),
+    }
+    Ok(())
+}
+
+// An executive over the floor without a plan, with one watcher: the passes of its two tasks, out of their list, and it.
+fn watched<R: Wait>(
+    rt: &R,
+    alloc: Global,
+) -> Result<(Executive, Vec<TaskPass>, TaskPass, TaskPass, Watcher), Fail>
+    ensures passes { IfOk result (λ r. IsPassOf r.0 r.2 × IsPassOf r.0 r.3) }
+    ensures watcher { IfOk result (λ r. IsWatcherOf r.0 r.4) }
+    ensures set { IfOk result (λ r. length (floor_of r.0).core.set ≡ 2) }
+    ensures list { IfOk result (λ r. (r.1.items ≡ []) × (2 ≤ vec_capacity r.1)) }
+{
+    let floor = free(alloc)?;
+    if floor.core().set().len() != 2 {
+        return Err("tasks".into());
+    }
+    match Executive::with_watchers(rt, alloc, floor, 1) {
+        Ok((executive, mut passes, mut watchers)) => {
+            let watcher = watchers.pop().unwrap();
+            let (first, second) = two_of(&executive, &mut passes);
+            Ok((executive, passes, first, second, watcher))
+        }
+        Err(_floor) => Err("memory".into()),
+    }
+}
+
+fn shown(ticks: u64, high_mode: bool) -> Shown {
+    Shown { ticks, high_mode }
+}
+
+#[test]
+fn a_watcher_that_is_told_sees_the_idle_tick(rt: HostRuntime) -> Result<(), Fail> {
+    let (executive, mut passes, mut first, second, mut watcher) = watched(&rt, rt.alloc())?;
+    assert_eq!(rt; executive.idle(&rt, &mut first), Ok(0));
+    executive.tell(&rt, &mut first, &mut watcher);
+    assert_eq!(rt; executive.watch(&mut watcher), shown(1, false));
+    assert_eq!(rt; first.count(), count(0, 0, 0, 1));
+    put(&executive, &mut passes, first);
+    put(&executive, &mut passes, second);
+    match executive.close(&rt, passes) {
+        Ok(floor) => assert!(rt; floor.core().rows().len() == 1),
+        Err(_unclosed) => panic!(rt; "a pass is missing"),
+    }
+    Ok(())
+}
+
+#[test]
+fn a_watcher_that_is_not_told_sees_the_idle_tick_too(rt: HostRuntime) -> Result<(), Fail> {
+    let (executive, mut passes, mut first, second, mut watcher) = watched(&rt, rt.alloc())?;
+    assert_eq!(rt; executive.watch(&mut watcher), shown(0, false));
+    assert_eq!(rt; executive.idle(&rt, &mut first), Ok(0));
+    assert_eq!(rt; executive.watch(&mut watcher), shown(1, false));
+    put(&executive, &mut passes, first);
+    put(&executive, &mut passes, second);
+    match executive.close(&rt, passes) {
+        Ok(floor) => assert!(rt; floor.core().rows().len() == 1),
+        Err(_unclosed) => panic!(rt; "a pass is missing"),
+    }
+    Ok(())
+}
+
+#[test]
+fn an_overrun_is_seen_with_its_mode(rt: HostRuntime) -> Result<(), Fail> {
+    let (executive, mut passes, mut first, second, mut watcher) = watched(&rt, rt.alloc())?;
+    assert!(rt; executive.release(&rt, &mut first).is_ok());
+    assert_eq!(rt; executive.watch(&mut watcher), shown(0, false));
+    let (first, how) = ticked(&rt, &executive, first);
+    assert_eq!(rt; how, Ok(How::More));
+    assert_eq!(rt; executive.watch(&mut watcher), shown(1, false));
+    let (first, how) = ticked(&rt, &executive, first);
+    assert_eq!(rt; how, Ok(How::Over));
+    assert_eq!(rt; executive.watch(&mut watcher), shown(2, true));
+    put(&executive, &mut passes, first);
+    put(&executive, &mut passes, second);
+    match executive.close(&rt, passes) {
+        Ok(floor) => assert!(rt; floor.core().rows().len() == 3),
         Err(_unclosed) => panic!(rt; "a pass is missing"),
     }
     Ok(())

@@ -1,13 +1,22 @@
--- Whether rows are legal, as a test that computes, for rows that are written out.
-use Rattle.std.proofs.Common.{◌≡◌, ℕ, Bool, true, false, ◌&&◌, List, [], ◌∷◌, Option, None, Some, nat_le, length, refl, leb-true}
+-- Whether rows are legal, and runs valid, as tests that compute, for rows and runs that are written out.
+use Rattle.std.proofs.Common.{◌≡◌, ◌≤◌, ℕ, Bool, true, false, ◌&&◌, ◌||◌, arith, List, [], ◌∷◌, Option, None, Some, nat_le, length, refl, leb-true}
+use Rattle.std.proofs.lemmas.Bool.Decides.{nat_tests}
+use Rattle.std.proofs.lemmas.List.Elements.{All-from_recursion}
+use Rattle.std.specs.List.{AllByRecursion, list_all}
 use Rattle.mc_task.specs.declared.task.Rule.{Rule}
 use Rattle.mc_task.specs.declared.task.Task.{Task}
 use Rattle.mc_task.specs.TaskSet.{IsIn}
 use Rattle.mc_model.specs.declared.row.Row.{Row}
 use Rattle.mc_model.specs.declared.row.Row.TheVariants.{Release, Tick, Idle}
+use Rattle.mc_model.specs.declared.row.How.{How}
+use Rattle.mc_model.specs.declared.row.How.TheVariants.{More, Done, Stop, Over}
+use Rattle.mc_model.specs.declared.run.Run.{Run}
+use Rattle.mc_model.specs.declared.run.Run.TheVariants as run
 use Rattle.mc_model.specs.declared.verdict.Why.{Why}
+use Rattle.mc_model.specs.Sums.{total}
+use Rattle.mc_model.specs.Runs.{length_of, IsRun, AreRuns}
 use Rattle.mc_model.specs.Holds.{Fits}
-use Rattle.mc_model.specs.Legal.{Legal, IsOfSet, fault}
+use Rattle.mc_model.specs.Legal.{Legal, IsOfSet, fault, same_how}
 use Rattle.mc_model.specs.Traces.{IsTraceOf}
 use Rattle.mc_model.proofs.Booleans.{and_both}
 
@@ -52,3 +61,35 @@ decided set rule (row ∷ g) t =
 -- and are a trace where the rule fits
 pub decided_trace : (set : List Task) (rule : Rule) (h : List Row) → Fits rule → is_legal set rule h ≡ true → IsTraceOf set h
 decided_trace set rule h fits t = record { rule = rule; fits = fits; legal = decided set rule h t }
+
+-- whether the run is one
+abbrev is_run : Run → Bool
+is_run (run.Release j kept) = true
+is_run (run.Ticks j how n) = nat_le 1 n && (nat_le n 1 || same_how how More)
+is_run (run.Idles n) = nat_le 1 n
+
+is_run_so : (r : Run) → is_run r ≡ true → IsRun r
+is_run_so (run.Release j kept) h = tt
+is_run_so (run.Ticks j how n) h = let p = and_both (nat_le 1 n) (nat_le n 1 || same_how how More) h in (grind (arith, nat_tests, p.0), λ m. more (nat_le n 1) refl how p.1 m)
+  where
+    more : (b : Bool) → nat_le n 1 ≡ b → (how : How) → (b || same_how how More) ≡ true → 2 ≤ n → how ≡ More
+    more true e how h m = absurd (grind (arith, nat_tests, e, m))
+    more false e More h m = refl
+    more false e Done h m = cc
+    more false e Stop h m = cc
+    more false e Over h m = cc
+is_run_so (run.Idles n) h = grind (arith, nat_tests, h)
+
+-- runs that are written out are valid where this test passes
+abbrev pub are_runs : List Run → Bool
+are_runs rs = list_all is_run rs && (nat_le (length rs) 2000000 && nat_le (total length_of rs) 100000000)
+
+pub decided_runs : (rs : List Run) → are_runs rs ≡ true → AreRuns rs
+decided_runs rs h =
+    let p = and_both (list_all is_run rs) (nat_le (length rs) 2000000 && nat_le (total length_of rs) 100000000) h in
+    let q = and_both (nat_le (length rs) 2000000) (nat_le (total length_of rs) 100000000) p.1 in
+    record { each = All-from_recursion IsRun rs (each rs p.0); few = grind (arith, nat_tests, q.0); short = grind (arith, nat_tests, q.1) }
+  where
+    each : (rs : List Run) → list_all is_run rs ≡ true → AllByRecursion IsRun rs
+    each [] h = tt
+    each (r ∷ rs) h = let p = and_both (is_run r) (list_all is_run rs) h in (is_run_so r p.0, each rs p.1)

@@ -10,8 +10,11 @@ pub mod Jobs
 pub mod Lists
 pub mod Live
 pub mod Loads
+pub mod Packing
+pub mod Repeats
 pub mod RuleCases
 pub mod RuleHolds
+pub mod Runs
 pub mod ScaledHolds
 pub mod Steps
 pub mod Sums
@@ -23,5 +26,6 @@ pub mod Traces
 pub mod Verdicts
 pub mod Walk
 pub mod WorkedRows
+pub mod WorkedRuns
 pub mod WorkedSets
 pub mod WorkedTraces

@@ -4,6 +4,7 @@ pub mod Holds
 pub mod CheckText
 pub mod TaskNumbers
 pub mod Rows
+pub mod Runs
 pub mod Mode
 pub mod Pending
 pub mod Key
@@ -11,6 +12,7 @@ pub mod Legal
 pub mod Late
 pub mod Work
 pub mod Follows
+pub mod LiveTrace
 pub mod Core
 pub mod TraceText
 pub mod Traces

@@ -1,12 +1,15 @@
--- The text of a trace: a header line, and a line for each row. Rows stand in the order of the text, THE OLDEST FIRST.
+-- The text of a trace: a header line, and a line for each run of equal rows. Runs and rows stand in the order of the
+-- text, THE OLDEST FIRST.
 use Rattle.std.specs.Prelude.{ℕ, Bool, true, false, List, [], ◌∷◌, ◌++◌, codes, decimal}
 use Rattle.mc_task.specs.declared.task.Task.{Task}
 use Rattle.mc_task.specs.TaskSet.{task_at, name_in}
-use Rattle.mc_model.specs.Rows.{ticks}
+use Rattle.mc_model.specs.Sums.{total}
+use Rattle.mc_model.specs.Runs.{length_of, pack}
 use Rattle.mc_model.specs.declared.row.How.{How}
 use Rattle.mc_model.specs.declared.row.How.TheVariants.{More, Done, Stop, Over}
 use Rattle.mc_model.specs.declared.row.Row.{Row}
-use Rattle.mc_model.specs.declared.row.Row.TheVariants.{Release, Tick, Idle}
+use Rattle.mc_model.specs.declared.run.Run.{Run}
+use Rattle.mc_model.specs.declared.run.Run.TheVariants.{Release, Ticks, Idles}
 
 -- the word for how a tick ended
 abbrev pub how_word : How → List ℕ
@@ -20,24 +23,28 @@ abbrev pub kept_word : Bool → List ℕ
 kept_word true = codes "kept"
 kept_word false = codes "dropped"
 
--- five fields joined by commas, and a line feed
-abbrev pub line_of : List ℕ → List ℕ → List ℕ → List ℕ → List ℕ → List ℕ
-line_of event tick task job how =
-    event ++ (codes "," ++ (tick ++ (codes "," ++ (task ++ (codes "," ++ (job ++ (codes "," ++ (how ++ codes "\n"))))))))
+-- six fields joined by commas, and a line feed
+abbrev pub line_of : List ℕ → List ℕ → List ℕ → List ℕ → List ℕ → List ℕ → List ℕ
+line_of event tick length task job how =
+    event ++ (codes "," ++ (tick ++ (codes "," ++ (length ++ (codes "," ++ (task ++ (codes "," ++ (job ++ (codes "," ++ (how ++ codes "\n"))))))))))
 
--- the line of a row behind so many ticks
-unfoldable pub row_line : List Task → ℕ → Row → List ℕ
-row_line set tick (Release j kept) =
-    line_of (codes "release") (decimal tick) (name_in (task_at set j.task.0)) (decimal j.count) (kept_word kept)
-row_line set tick (Tick j how) =
-    line_of (codes "tick") (decimal tick) (name_in (task_at set j.task.0)) (decimal j.count) (how_word how)
-row_line set tick Idle = line_of (codes "idle") (decimal tick) [] [] []
+-- the line of a run behind so many ticks
+unfoldable pub run_line : List Task → ℕ → Run → List ℕ
+run_line set tick (Release j kept) =
+    line_of (codes "release") (decimal tick) [] (name_in (task_at set j.task.0)) (decimal j.count) (kept_word kept)
+run_line set tick (Ticks j how n) =
+    line_of (codes "tick") (decimal tick) (decimal n) (name_in (task_at set j.task.0)) (decimal j.count) (how_word how)
+run_line set tick (Idles n) = line_of (codes "idle") (decimal tick) (decimal n) [] [] []
 
--- the lines of rows that stand behind others
-abbrev pub lines_after : List Task → List Row → List Row → List ℕ
+-- the lines of runs that stand behind others
+abbrev pub lines_after : List Task → List Run → List Run → List ℕ
 lines_after set before [] = []
-lines_after set before (row ∷ rows) = row_line set (ticks before) row ++ lines_after set (before ++ row ∷ []) rows
+lines_after set before (r ∷ runs) = run_line set (total length_of before) r ++ lines_after set (before ++ r ∷ []) runs
 
--- the text of a trace
+-- the text of these runs
+abbrev pub runs_text : List Task → List Run → List ℕ
+runs_text set runs = codes "event,tick,length,task,job,how\n" ++ lines_after set [] runs
+
+-- the text of a trace: that of its runs
 abbrev pub trace_text : List Task → List Row → List ℕ
-trace_text set rows = codes "event,tick,task,job,how\n" ++ lines_after set [] rows
+trace_text set rows = runs_text set (pack rows)

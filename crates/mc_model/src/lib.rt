@@ -2,9 +2,11 @@
 #![tactic(auto)]
 
 mod row;
+mod run;
 mod verdict;
 mod work;
 
 pub use row::{How, Row};
+pub use run::Run;
 pub use verdict::{Verdict, Why};
 pub use work::WorkRow;

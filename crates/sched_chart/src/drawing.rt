@@ -3,11 +3,12 @@ ghost use Rattle.std.specs.Prelude.{◌≡◌, ◌+◌, ◌^◌, ◌++◌, ◌<�
 ghost use Rattle.sched_chart.specs.ChartText.{chart_line, chart_text, name_width, ChartedModeLaw};
 ghost use Rattle.mc_model.specs.Rows.{ticks};
 ghost use Rattle.mc_model.specs.Traces.{IsTraceOf};
+ghost use Rattle.mc_model.specs.Runs.{expand, rows_of, size, AreRuns};
 ghost use Rattle.sched_chart.specs.Sheet.{chart_to, line_length, IsSheet};
 
 use crate::marks::{mark_rows, tick_after};
 use crate::sheet::Sheet;
-use mc_model::Row;
+use mc_model::{Row, Run};
 use mc_task::{Memory, Task, TaskNo, TaskSet};
 use std::alloc::{AllocError, Global};
 
@@ -15,22 +16,33 @@ use std::alloc::{AllocError, Global};
 ///
 /// A tick is `#`, `D`, `S` or `O` in the line of its task, as it ended with more to do, done, stopped or over its low
 /// budget, and `.` in the other lines. The mode is that before the tick, `H` or `L`.
-pub fn chart(alloc: Global, set: &TaskSet, rows: &[Row]) -> Result<Vec<u8>, Memory>
-    requires trace { IsTraceOf set.now (reverse rows.now) }
-    requires few { length rows.now ≤ 2000000 }
-    ensures text { IfOk result (λ text. text.items ≡ chart_text set.now (reverse rows.now)) }
+pub fn chart(alloc: Global, set: &TaskSet, runs: &[Run]) -> Result<Vec<u8>, Memory>
+    requires runs { AreRuns runs.now }
+    requires trace { IsTraceOf set.now (reverse (expand runs.now)) }
+    requires few { ticks (expand runs.now) ≤ 2000000 }
+    ensures text { IfOk result (λ text. text.items ≡ chart_text set.now (reverse (expand runs.now))) }
     // The mode of the chart is that of each rule under which the rows are legal.
     ensures mode { ChartedModeLaw }
 {
-    match drawn(alloc, set, rows) {
+    match runs_drawn(alloc, set, runs) {
         Ok(text) => Ok(text),
         Err(_) => Err(Memory),
     }
 }
 
+fn runs_drawn(alloc: Global, set: &TaskSet, runs: &[Run]) -> Result<Vec<u8>, AllocError>
+    requires runs { AreRuns runs.now }
+    requires trace { IsTraceOf set.now (reverse (expand runs.now)) }
+    requires few { ticks (expand runs.now) ≤ 2000000 }
+    ensures { IfOk result (λ text. text.items ≡ chart_text set.now (reverse (expand runs.now))) }
+{
+    let rows = expanded(alloc, runs)?;
+    drawn(alloc, set, &rows)
+}
+
 fn drawn(alloc: Global, set: &TaskSet, rows: &[Row]) -> Result<Vec<u8>, AllocError>
     requires trace { IsTraceOf set.now (reverse rows.now) }
-    requires few { length rows.now ≤ 2000000 }
+    requires few { ticks rows.now ≤ 2000000 }
     ensures { IfOk result (λ text. text.items ≡ chart_text set.now (reverse rows.now)) }
 {
     let sheet = Sheet {
@@ -40,6 +52,32 @@ fn drawn(alloc: Global, set: &TaskSet, rows: &[Row]) -> Result<Vec<u8>, AllocErr
     let mut text = blank(alloc, set, sheet)?;
     mark_rows(&mut text, set, sheet, rows);
     Ok(text)
+}
+
+// The rows of runs. A chart has a character for each tick, so it is no shorter than they are.
+fn expanded(alloc: Global, runs: &[Run]) -> Result<Vec<Row>, AllocError>
+    requires { AreRuns runs.now }
+    ensures { IfOk result (λ rows. rows.items ≡ expand runs.now) }
+{
+    let mut rows = Vec::new(alloc);
+    for run in runs {
+        push_run(&mut rows, *run)?;
+    }
+    Ok(rows)
+}
+
+fn push_run(rows: &mut Vec<Row>, run: Run) -> Result<(), AllocError>
+    requires { vec_len rows.old + size run ≤ 102000000 }
+    ensures { OnOk result (rows.new.items ≡ rows.old.items ++ rows_of run) }
+{
+    match run {
+        Run::Release { job, kept } => rows.push(Row::Release { job, kept })?,
+        Run::Ticks { job, how, length } => {
+            rows.resize(rows.len() + length as usize, Row::Tick { job, how })?
+        }
+        Run::Idles { length } => rows.resize(rows.len() + length as usize, Row::Idle)?,
+    }
+    Ok(())
 }
 
 // The greater of 6 and the length of the longest name.
@@ -58,7 +96,7 @@ fn name_width(set: &TaskSet) -> usize
 }
 
 fn count_ticks(rows: &[Row]) -> usize
-    requires { length rows.now ≤ 2000000 }
+    requires { ticks rows.now ≤ 2000000 }
     ensures ticks { result ≡ ticks (reverse rows.now) }
     ensures most { result ≤ 2000000 }
 {

@@ -1,7 +1,7 @@
 ghost use Rattle.std.specs.Prelude.{◌≡◌, ◌∷◌, [], IfOk, IfSome, codes, List};
 
 use crate::chart;
-use mc_model::{How, Row};
+use mc_model::{How, Run};
 use mc_task::{JobId, Level, Name, Task, TaskNo, TaskSet};
 use std::alloc::Global;
 use std::test::Fail;
@@ -52,57 +52,47 @@ const NEXT_LOG: JobId = JobId {
 fn the_chart_of_an_overrun(rt: HostRuntime) -> Result<(), Fail> {
     let alloc = rt.alloc();
     let set = pair(alloc, b"ctl", b"log")?;
-    let rows = [
-        Row::Release {
+    let runs = [
+        Run::Release {
             job: CTL,
             kept: true,
         },
-        Row::Release {
+        Run::Release {
             job: LOG,
             kept: true,
         },
-        Row::Tick {
+        Run::Ticks {
             job: CTL,
             how: How::More,
+            length: 1,
         },
-        Row::Tick {
+        Run::Ticks {
             job: CTL,
             how: How::Over,
+            length: 1,
         },
-        Row::Tick {
+        Run::Ticks {
             job: CTL,
             how: How::More,
+            length: 3,
         },
-        Row::Tick {
-            job: CTL,
-            how: How::More,
-        },
-        Row::Tick {
-            job: CTL,
-            how: How::More,
-        },
-        Row::Tick {
+        Run::Ticks {
             job: CTL,
             how: How::Done,
+            length: 1,
         },
-        Row::Idle,
-        Row::Idle,
-        Row::Idle,
-        Row::Idle,
-        Row::Release {
+        Run::Idles { length: 4 },
+        Run::Release {
             job: NEXT_LOG,
             kept: true,
         },
-        Row::Tick {
+        Run::Ticks {
             job: NEXT_LOG,
             how: How::More,
-        },
-        Row::Tick {
-            job: NEXT_LOG,
-            how: How::More,
+            length: 2,
         },
     ];
-    let text = chart(alloc, &set, &rows)?;
+    let text = chart(alloc, &set, &runs)?;
     assert_eq!(rt;
         text.as_slice(),
         b"\
@@ -116,7 +106,7 @@ log    ..........##
 }
 
 #[test]
-fn no_rows_leave_lines_of_names(rt: HostRuntime) -> Result<(), Fail> {
+fn no_runs_leave_lines_of_names(rt: HostRuntime) -> Result<(), Fail> {
     let alloc = rt.alloc();
     let set = pair(alloc, b"ctl", b"log")?;
     let text = chart(alloc, &set, &[])?;
@@ -128,34 +118,24 @@ fn no_rows_leave_lines_of_names(rt: HostRuntime) -> Result<(), Fail> {
 fn the_longest_name_is_the_width(rt: HostRuntime) -> Result<(), Fail> {
     let alloc = rt.alloc();
     let set = pair(alloc, b"c", b"log_of_thirty-two_bytes_12345678")?;
-    let rows = [
-        Row::Release {
+    let runs = [
+        Run::Release {
             job: LOG,
             kept: true,
         },
-        Row::Tick {
+        Run::Ticks {
             job: LOG,
             how: How::More,
+            length: 4,
         },
-        Row::Tick {
-            job: LOG,
-            how: How::More,
-        },
-        Row::Tick {
-            job: LOG,
-            how: How::More,
-        },
-        Row::Tick {
-            job: LOG,
-            how: How::More,
-        },
-        Row::Tick {
+        Run::Ticks {
             job: LOG,
             how: How::Stop,
+            length: 1,
         },
-        Row::Idle,
+        Run::Idles { length: 1 },
     ];
-    let text = chart(alloc, &set, &rows)?;
+    let text = chart(alloc, &set, &runs)?;
     assert_eq!(rt;
         text.as_slice(),
         b"\

@@ -1,5 +1,5 @@
 -- What a row adds to the tally of a task. The newest row stands first.
-use Rattle.std.proofs.Common.{◌≡◌, ℕ, ◌+◌, ◌-◌, Bool, true, false, not, ◌&&◌, ◌||◌, ◌==◌, List, ◌∷◌, Option, Some, None, cond, refl, sym, ap, subst, ◌∙◌, arith, eqb-true}
+use Rattle.std.proofs.Common.{◌≡◌, ℕ, zero, suc, ◌+◌, ◌-◌, Bool, true, false, not, ◌&&◌, ◌||◌, ◌==◌, List, ◌∷◌, ◌++◌, replicate, Option, Some, None, cond, refl, sym, ap, subst, ◌∙◌, arith, eqb-true}
 use Rattle.mc_task.specs.declared.task.Rule.{Rule}
 use Rattle.mc_task.specs.declared.task.Task.{Task}
 use Rattle.mc_task.specs.declared.task.JobId.{JobId}
@@ -13,10 +13,10 @@ use Rattle.mc_model.specs.Pending.{Live, released, is_end, is_live, ended}
 use Rattle.mc_model.specs.Rows.{ticks}
 use Rattle.mc_model.specs.Mode.{is_over}
 use Rattle.mc_model.specs.Legal.{Legal, same_how}
-use Rattle.sched_report.specs.ReportText.{how_many, is_of, is_drop_of, is_tick_of, is_how_of, is_discarded, greatest}
+use Rattle.sched_report.specs.ReportText.{how_many, is_of, is_drop_of, is_tick_of, is_how_of, is_discarded, is_idle, is_switch, greatest}
 use Rattle.mc_model.proofs.Lists.{Each-all}
 use Rattle.sched_report.specs.declared.task_tally.TaskTally.{TaskTally}
-use Rattle.sched_report.specs.TaskTally.{level_in, tally_of, with_release, with_tick, with_response, with_switch}
+use Rattle.sched_report.specs.TaskTally.{level_in, tally_of, with_release, with_tick, with_more, with_response, with_switch}
 use Rattle.sched_report.proofs.HowMany.{one, how_many-cons, how_many_none, how_many-filter}
 use Rattle.sched_report.proofs.Released.{release_of}
 use Rattle.sched_report.proofs.AddUp.{discarded, discarded-release, discarded-idle, discarded-tick, live, ended-tick, none_of, counts_add_up}
@@ -168,3 +168,38 @@ over-other set rule j g k l o =
 -- an idle tick
 pub idle-same : (set : List Task) (g : List Row) (k : ℕ) → tally_of set (Idle ∷ g) k ≡ tally_of set g k
 idle-same set g k = tally_eq (tally_of set (Idle ∷ g) k) (tally_of set g k) refl refl refl refl (discarded-idle set g k) refl refl refl refl
+
+-- n ticks of the task after which the job has more to do
+more_next : (n : ℕ) (t : TaskTally) → with_tick More (with_more n t) ≡ with_more (suc n) t
+more_next n t = tally_eq (with_tick More (with_more n t)) (with_more (suc n) t) refl refl refl refl refl (omega arith) (omega arith) (omega arith) refl
+
+pub more_run-mine : (set : List Task) (j : JobId) (n : ℕ) (g : List Row) (k : ℕ) → (j.task.0 == k) ≡ true → tally_of set (replicate n (Tick j More) ++ g) k ≡ with_more n (tally_of set g k)
+more_run-mine set j zero g k o = tally_eq (tally_of set g k) (with_more 0 (tally_of set g k)) refl refl refl refl refl refl refl (omega arith) refl
+more_run-mine set j (suc n) g k o = more-mine set j (replicate n (Tick j More) ++ g) k o ∙ (ap (with_tick More) (more_run-mine set j n g k o) ∙ more_next n (tally_of set g k))
+
+-- and of another one
+pub more_run-other : (set : List Task) (j : JobId) (n : ℕ) (g : List Row) (k : ℕ) → (j.task.0 == k) ≡ false → tally_of set (replicate n (Tick j More) ++ g) k ≡ tally_of set g k
+more_run-other set j zero g k o = refl
+more_run-other set j (suc n) g k o = tick-other set j More (replicate n (Tick j More) ++ g) k refl o ∙ more_run-other set j n g k o
+
+-- n idle ticks
+pub idle_run-same : (set : List Task) (n : ℕ) (g : List Row) (k : ℕ) → tally_of set (replicate n Idle ++ g) k ≡ tally_of set g k
+idle_run-same set zero g k = refl
+idle_run-same set (suc n) g k = idle-same set (replicate n Idle ++ g) k ∙ idle_run-same set n g k
+
+-- the idle ticks and the switches after each
+pub idle-more : (j : JobId) (n : ℕ) (g : List Row) → how_many is_idle (replicate n (Tick j More) ++ g) ≡ how_many is_idle g
+idle-more j zero g = refl
+idle-more j (suc n) g = idle-more j n g
+
+pub switch-more : (j : JobId) (n : ℕ) (g : List Row) → how_many is_switch (replicate n (Tick j More) ++ g) ≡ how_many is_switch g
+switch-more j zero g = refl
+switch-more j (suc n) g = switch-more j n g
+
+pub idle-idle : (n : ℕ) (g : List Row) → how_many is_idle (replicate n Idle ++ g) ≡ how_many is_idle g + n
+idle-idle zero g = omega arith
+idle-idle (suc n) g = let more : how_many is_idle (replicate n Idle ++ g) ≡ how_many is_idle g + n = idle-idle n g in omega (arith, more, how_many-cons is_idle Idle (replicate n Idle ++ g))
+
+pub switch-idle : (n : ℕ) (g : List Row) → how_many is_switch (replicate n Idle ++ g) ≡ how_many is_switch g
+switch-idle zero g = refl
+switch-idle (suc n) g = switch-idle n g

@@ -1,5 +1,5 @@
 -- The tally after one more row of a legal trace is that of its rows. The newest row stands first.
-use Rattle.std.proofs.Common.{◌≡◌, ◌≢◌, ℕ, ◌+◌, ◌-◌, ◌≤◌, Bool, true, false, not, ◌&&◌, ◌||◌, ◌==◌, List, ◌∷◌, Some, cond, length, map, set, slice_get, refl, sym, ap, subst, ◌∙◌, arith}
+use Rattle.std.proofs.Common.{◌≡◌, ◌≢◌, ℕ, zero, suc, ◌+◌, ◌-◌, ◌≤◌, Bool, true, false, not, ◌&&◌, ◌||◌, ◌==◌, List, ◌∷◌, ◌++◌, Some, cond, replicate, length, map, set, slice_get, refl, sym, ap, subst, ◌∙◌, arith}
 use Rattle.std.proofs.lemmas.Bool.Decides.{nat_tests}
 use Rattle.mc_task.specs.declared.task.Rule.{Rule}
 use Rattle.mc_task.specs.declared.task.Task.{Task}
@@ -15,7 +15,8 @@ use Rattle.mc_model.specs.TaskNumbers.{is_high}
 use Rattle.mc_model.specs.Pending.{Live, released, pending, is_end, is_live}
 use Rattle.mc_model.specs.Rows.{same_job}
 use Rattle.mc_model.specs.Mode.{is_over}
-use Rattle.mc_model.specs.Legal.{Legal}
+use Rattle.mc_model.specs.Legal.{Legal, IsOfSet}
+use Rattle.mc_model.proofs.Repeats.{ticks_more, pending_more, ticks_idle, pending_idle}
 use Rattle.mc_model.proofs.Fold.{stays}
 use Rattle.mc_model.proofs.Booleans.{eqb-refl}
 use Rattle.mc_model.proofs.Lists.{Each, Each-map, Each-both, Each-filter, Each-filter_if}
@@ -27,7 +28,7 @@ use Rattle.sched_report.specs.Waiting.{release_in, ChangesOnly}
 use Rattle.sched_report.specs.Tally.{numbered, Tallies, Stays, Releases, GoesOn, Ends, Overruns, Idles}
 use Rattle.sched_report.proofs.Numbered.{get-numbered, set-numbered, map-numbered, numbered_same}
 use Rattle.sched_report.proofs.Released.{none_of_next, release_of, release_is, pending-release, pending-tick, ticks_pending, at_pending}
-use Rattle.sched_report.proofs.Counted.{release-mine, release-other, more-mine, end-mine, tick-other, over-mine, over-other, idle-same, level-high}
+use Rattle.sched_report.proofs.Counted.{release-mine, release-other, more_run-mine, more_run-other, end-mine, tick-other, over-mine, over-other, idle_run-same, idle-more, switch-more, idle-idle, switch-idle, level-high}
 
 -- the tally of one task
 pub found : (tasks : List Task) (g : List Row) (k : ℕ) (old : List TaskTally) → IsIn tasks k → old ≡ numbered (tally_of tasks g) 1 tasks → slice_get old (k - 1) ≡ Some (tally_of tasks g k)
@@ -81,15 +82,19 @@ release_step tasks rule j kept g old new l t s = record {
         subst (Held tasks new.waiting) (sym (pending-release tasks rule j true g l))
         (w.here ∙ ap Some t.tick, Each-both (λ x a p. w.others _ x.job a ∙ p) (pending tasks g) apart t.waiting)
 
--- after a tick that leaves its job more to do
-pub more_step : (tasks : List Task) (rule : Rule) (j : JobId) (g : List Row) (old new : Tally) → Legal tasks rule (Tick j More ∷ g) → Tallies tasks g old
-    → GoesOn j (tally_of tasks g j.task.0) old new → Tallies tasks (Tick j More ∷ g) new
-more_step tasks rule j g old new l t s = record {
-  tasks = s.tasks ∙ changed (tally_of tasks g) (tally_of tasks (Tick j More ∷ g)) tasks j.task.0 _ old.tasks.items l.0 t.tasks (more-mine tasks j g j.task.0 (eqb-refl j.task.0)) (λ m o. tick-other tasks j More g m refl o);
-  tick = s.tick ∙ ap (λ n. n + 1) t.tick;
-  idle = s.idle ∙ t.idle;
-  switches = s.switches ∙ t.switches;
-  waiting = held-stays tasks old.waiting new.waiting (pending tasks g) s.waiting t.waiting;
+-- a run that is legal behind rows is of a task of the set
+pub inside : (tasks : List Task) (rule : Rule) (row : Row) (n : ℕ) (g : List Row) → 1 ≤ n → Legal tasks rule (replicate n row ++ g) → IsOfSet tasks row
+inside tasks rule row zero g h l = absurd (omega (arith, h))
+inside tasks rule row (suc n) g h l = l.0
+
+-- after n ticks that leave their job more to do
+pub more_run : (tasks : List Task) (j : JobId) (n : ℕ) (g : List Row) (old new : Tally) → IsIn tasks j.task.0 → Tallies tasks g old → GoesOn n j (tally_of tasks g j.task.0) old new → Tallies tasks (replicate n (Tick j More) ++ g) new
+more_run tasks j n g old new i t s = record {
+  tasks = s.tasks ∙ changed (tally_of tasks g) (tally_of tasks (replicate n (Tick j More) ++ g)) tasks j.task.0 _ old.tasks.items i t.tasks (more_run-mine tasks j n g j.task.0 (eqb-refl j.task.0)) (λ m o. more_run-other tasks j n g m o);
+  tick = let a = s.tick in let b = t.tick in omega (arith, a, b, ticks_more j n g);
+  idle = s.idle ∙ (t.idle ∙ sym (idle-more j n g));
+  switches = s.switches ∙ (t.switches ∙ sym (switch-more j n g));
+  waiting = subst (Held tasks new.waiting) (sym (pending_more tasks j n g)) (held-stays tasks old.waiting new.waiting (pending tasks g) s.waiting t.waiting);
 }
 
 -- after a job's last tick
@@ -161,12 +166,12 @@ over_step tasks rule j g old new l t s = record {
         let high : level_in (task_at tasks x.job.task.0) ≡ High = at_high _ (level-high (task_at tasks x.job.task.0) ∙ high_left (same_job j x.job) _ st) in
         rw high (s.waiting x.job ∙ (rw high at p))) (pending tasks g) t.waiting
 
--- after an idle tick
-pub idle_step : (tasks : List Task) (g : List Row) (old new : Tally) → Tallies tasks g old → Idles old new → Tallies tasks (Idle ∷ g) new
-idle_step tasks g old new t s = record {
-  tasks = s.tasks ∙ (t.tasks ∙ numbered_same (tally_of tasks g) (tally_of tasks (Idle ∷ g)) 1 tasks (λ m a. sym (idle-same tasks g m)));
-  tick = s.tick ∙ ap (λ n. n + 1) t.tick;
-  idle = omega (arith, s.idle, t.idle);
-  switches = s.switches ∙ t.switches;
-  waiting = held-stays tasks old.waiting new.waiting (pending tasks g) s.waiting t.waiting;
+-- after n idle ticks
+pub idle_run : (tasks : List Task) (n : ℕ) (g : List Row) (old new : Tally) → Tallies tasks g old → Idles n old new → Tallies tasks (replicate n Idle ++ g) new
+idle_run tasks n g old new t s = record {
+  tasks = s.tasks ∙ (t.tasks ∙ numbered_same (tally_of tasks g) (tally_of tasks (replicate n Idle ++ g)) 1 tasks (λ m a. sym (idle_run-same tasks n g m)));
+  tick = let a = s.tick in let b = t.tick in omega (arith, a, b, ticks_idle n g);
+  idle = let a = s.idle in let b = t.idle in omega (arith, a, b, idle-idle n g);
+  switches = s.switches ∙ (t.switches ∙ sym (switch-idle n g));
+  waiting = subst (Held tasks new.waiting) (sym (pending_idle tasks n g)) (held-stays tasks old.waiting new.waiting (pending tasks g) s.waiting t.waiting);
 }

@@ -1,12 +1,16 @@
 -- Texts that grow piece by piece, and sums that grow task by task.
 use Rattle.std.proofs.Common.{◌≡◌, ℕ, ◌+◌, ◌*◌, ◌^◌, ◌<◌, List, [], ◌∷◌, ◌++◌, Some, length, get_or, drop, take, reverse, slice_get, refl, sym, ap, subst, ◌∙◌, arith, append_assoc}
 use Rattle.std.specs.List.{concat}
-use Rattle.std.proofs.lemmas.List.{append-nil, drop_more, reverse-append, take_more, take-append-drop}
+use Rattle.std.proofs.lemmas.List.{append-nil, drop_more, reverse-append, take-append-drop}
 use Rattle.std.proofs.lemmas.Option.{get_or_from_slice_get}
 use Rattle.mc_task.specs.declared.task.Rule.{Rule}
 use Rattle.mc_task.specs.declared.task.Task.{Task}
 use Rattle.mc_model.specs.declared.row.Row.{Row}
-use Rattle.mc_model.specs.Legal.{Legal}
+use Rattle.mc_model.specs.declared.run.Run.{Run}
+use Rattle.mc_model.specs.Runs.{row_of, size, expand, IsRun}
+use Rattle.mc_model.proofs.Runs.{some_rows, expand-append, rows_more}
+use Rattle.sched_report.proofs.Steps.{inside}
+use Rattle.mc_model.specs.Legal.{Legal, IsOfSet}
 use Rattle.sched_report.specs.ReportText.{Counts, plus, sum_counts, report_line, report_lines}
 use Rattle.mc_model.proofs.Walk.{drop_at}
 use Rattle.sched_report.specs.declared.task_tally.TaskTally.{TaskTally}
@@ -43,14 +47,16 @@ legal_behind : (set : List Task) (rule : Rule) (g h : List Row) → Legal set ru
 legal_behind set rule [] h l = l
 legal_behind set rule (row ∷ g) h l = legal_behind set rule g h l.2
 
--- the first rows of a trace that is written with the oldest first
-pub first_rows : (rows : List Row) (i : ℕ) (d : Row) → i < length rows → reverse (take (i + 1) rows) ≡ get_or rows i d ∷ reverse (take i rows)
-first_rows rows i d inside = ap reverse (take_more rows i d inside) ∙ reverse-append (take i rows) (get_or rows i d ∷ [])
+-- the rows of the first runs of a trace
+pub legal_first : (set : List Task) (rule : Rule) (runs : List Run) (i : ℕ) → Legal set rule (reverse (expand runs)) → Legal set rule (reverse (expand (take i runs)))
+legal_first set rule runs i l =
+    legal_behind set rule (reverse (expand (drop i runs))) (reverse (expand (take i runs)))
+    (subst (Legal set rule) (ap (λ xs. reverse (expand xs)) (sym (take-append-drop i runs)) ∙ (ap reverse (expand-append (take i runs) (drop i runs)) ∙ reverse-append (expand (take i runs)) (expand (drop i runs)))) l)
 
-pub legal_first : (set : List Task) (rule : Rule) (rows : List Row) (i : ℕ) → Legal set rule (reverse rows) → Legal set rule (reverse (take i rows))
-legal_first set rule rows i l =
-    legal_behind set rule (reverse (drop i rows)) (reverse (take i rows))
-    (subst (Legal set rule) (ap reverse (sym (take-append-drop i rows)) ∙ reverse-append (take i rows) (drop i rows)) l)
+-- a run of a trace is of its set
+pub run_inside : (set : List Task) (rule : Rule) (runs : List Run) (i : ℕ) (d : Run) → i < length runs → IsRun (get_or runs i d) → Legal set rule (reverse (expand runs)) → IsOfSet set (row_of (get_or runs i d))
+run_inside set rule runs i d h v l =
+    inside set rule (row_of (get_or runs i d)) (size (get_or runs i d)) (reverse (expand (take i runs))) (some_rows (get_or runs i d) v) (subst (Legal set rule) (rows_more runs i d h) (legal_first set rule runs (i + 1) l))
 
 -- the line of a task, by its tally
 line_is : (set : List Task) (h : List Row) (k : ℕ) (name : List ℕ) → report_line set h k name ≡ tally_line name (tally_of set h k)

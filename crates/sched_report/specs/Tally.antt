@@ -1,5 +1,5 @@
 -- What is counted of all rows, and what a row changes of it. The newest row stands first.
-use Rattle.std.specs.Prelude.{◌≡◌, ℕ, ◌+◌, ◌-◌, ◌<◌, ◌≤◌, ◌^◌, Bool, true, false, All, List, [], ◌∷◌, Some, None, map, slice_set}
+use Rattle.std.specs.Prelude.{◌≡◌, ℕ, ◌+◌, ◌-◌, ◌<◌, ◌≤◌, ◌^◌, Bool, true, false, All, List, [], ◌∷◌, ◌++◌, Some, None, map, slice_set}
 use Rattle.std.specs.List.{AllByRecursion}
 use Rattle.mc_task.specs.declared.task.JobId.{JobId}
 use Rattle.mc_task.specs.declared.task.Level.{Level}
@@ -10,13 +10,17 @@ use Rattle.mc_model.specs.Rows.{ticks}
 use Rattle.mc_model.specs.Pending.{pending}
 use Rattle.sched_report.specs.ReportText.{how_many, is_idle, is_switch}
 use Rattle.mc_model.specs.declared.row.How.{How}
-use Rattle.mc_model.specs.declared.row.How.TheVariants.{More, Over}
+use Rattle.mc_model.specs.declared.row.How.TheVariants.{Over}
 use Rattle.mc_model.specs.declared.row.Row.{Row}
+use Rattle.mc_model.specs.declared.run.Run.{Run}
+use Rattle.mc_task.specs.declared.task.Rule.{Rule}
+use Rattle.mc_model.specs.Legal.{Legal}
+use Rattle.mc_model.specs.Runs.{rows_of}
 use Rattle.mc_model.specs.declared.row.Row.TheVariants.{Release, Tick, Idle}
 use Rattle.sched_report.specs.declared.task_tally.TaskTally.{TaskTally}
 use Rattle.sched_report.specs.declared.tally.Tally.{Tally}
 use Rattle.sched_report.specs.declared.waiting.Waiting.{Waiting}
-use Rattle.sched_report.specs.TaskTally.{level_in, tally_of, with_release, with_tick, with_response, with_switch, IsSmall}
+use Rattle.sched_report.specs.TaskTally.{level_in, tally_of, with_release, with_tick, with_more, with_response, with_switch, IsSmall}
 use Rattle.sched_report.specs.Waiting.{release_in, ChangesOnly}
 
 -- one of each number from k on, as many as there are tasks
@@ -54,6 +58,10 @@ abbrev pub Waits : Bool → Waiting → Waiting → Level → JobId → ℕ → 
 Waits true old new level j now = ChangesOnly old new level j (Some now)
 Waits false old new level j now = Stays old new
 
+-- the tally follows the rows of a run, where they are legal behind the rows before it
+abbrev pub Follows : Run → Tally → Tally → Type 0
+Follows run old new = (set : List Task) (rule : Rule) (g : List Row) → Legal set rule (rows_of run ++ g) → Tallies set g old → Tallies set (rows_of run ++ g) new
+
 -- after a release of the job, whose task has this tally
 pub record Releases (j : JobId) (kept : Bool) (t : TaskTally) (old new : Tally) : Type 0 where
   pub tasks : new.tasks.items ≡ slice_set old.tasks.items (j.task.0 - 1) (with_release kept t)
@@ -62,11 +70,11 @@ pub record Releases (j : JobId) (kept : Bool) (t : TaskTally) (old new : Tally) 
   pub idle : new.idle ≡ old.idle
   pub switches : new.switches ≡ old.switches
 
--- after a tick of the job that leaves it more to do
-pub record GoesOn (j : JobId) (t : TaskTally) (old new : Tally) : Type 0 where
-  pub tasks : new.tasks.items ≡ slice_set old.tasks.items (j.task.0 - 1) (with_tick More t)
+-- after n ticks of the job that leave it more to do
+pub record GoesOn (n : ℕ) (j : JobId) (t : TaskTally) (old new : Tally) : Type 0 where
+  pub tasks : new.tasks.items ≡ slice_set old.tasks.items (j.task.0 - 1) (with_more n t)
   pub waiting : Stays old.waiting new.waiting
-  pub tick : new.tick ≡ old.tick + 1
+  pub tick : new.tick ≡ old.tick + n
   pub idle : new.idle ≡ old.idle
   pub switches : new.switches ≡ old.switches
 
@@ -86,10 +94,10 @@ pub record Overruns (j : JobId) (t : TaskTally) (old new : Tally) : Type 0 where
   pub idle : new.idle ≡ old.idle
   pub switches : new.switches ≡ old.switches + 1
 
--- after an idle tick
-pub record Idles (old new : Tally) : Type 0 where
+-- after n idle ticks
+pub record Idles (n : ℕ) (old new : Tally) : Type 0 where
   pub tasks : new.tasks.items ≡ old.tasks.items
   pub waiting : Stays old.waiting new.waiting
-  pub tick : new.tick ≡ old.tick + 1
-  pub idle : new.idle ≡ old.idle + 1
+  pub tick : new.tick ≡ old.tick + n
+  pub idle : new.idle ≡ old.idle + n
   pub switches : new.switches ≡ old.switches

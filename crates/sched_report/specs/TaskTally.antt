@@ -39,7 +39,7 @@ pub record IsSmall (t : TaskTally) : Type 0 where
   pub discarded : t.discarded < 2 ^ 24
   pub done : t.done < 2 ^ 24
   pub stopped : t.stopped < 2 ^ 24
-  pub ticks : t.ticks < 2 ^ 24
+  pub ticks : t.ticks < 2 ^ 31
 
 -- one more release
 abbrev pub with_release : Bool → TaskTally → TaskTally
@@ -48,6 +48,10 @@ with_release kept t = record t { released = t.released + 1; kept = t.kept + cond
 -- one more tick
 abbrev pub with_tick : How → TaskTally → TaskTally
 with_tick how t = record t { ticks = t.ticks + 1; done = t.done + cond (same_how how Done) 1 0; stopped = t.stopped + cond (same_how how Stop) 1 0 }
+
+-- n more ticks behind which the job goes on
+abbrev pub with_more : ℕ → TaskTally → TaskTally
+with_more n t = record t { ticks = t.ticks + n }
 
 -- one more response
 abbrev pub with_response : ℕ → TaskTally → TaskTally

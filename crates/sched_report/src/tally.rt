@@ -1,17 +1,14 @@
-// What is counted of the rows of a trace, row by row.
-ghost use Rattle.std.specs.Prelude.{◌≡◌, ◌-◌, ◌≤◌, ◌∷◌, ℕ, [], IfOk, OnOk, Some, List, slice_get, vec_len};
-ghost use Rattle.mc_task.specs.declared.task.Rule.{Rule};
-ghost use Rattle.mc_task.specs.declared.task.Task.{Task};
-ghost use Rattle.mc_model.specs.declared.row.Row.{Row};
-ghost use Rattle.mc_model.specs.declared.row.Row.TheVariants as row;
-ghost use Rattle.mc_model.specs.Legal.{Legal};
+// What is counted of the rows of a trace, run by run.
+ghost use Rattle.std.specs.Prelude.{◌≡◌, ◌-◌, ◌≤◌, ℕ, [], IfOk, OnOk, Some, slice_get, vec_len};
+ghost use Rattle.mc_model.specs.declared.run.Run.TheVariants as run;
+ghost use Rattle.mc_model.specs.Runs.{row_of, length_of, IsRun};
 ghost use Rattle.sched_report.specs.declared.task_tally.TaskTally.{TaskTally};
 ghost use Rattle.sched_report.specs.Waiting.{release_in};
-ghost use Rattle.sched_report.specs.Tally.{Tallies, IsAmong, HasRoom, Releases, GoesOn, Ends, Overruns, Idles};
+ghost use Rattle.sched_report.specs.Tally.{Tallies, Follows, IsAmong, HasRoom, Releases, GoesOn, Ends, Overruns, Idles};
 
 use crate::task_tally::TaskTally;
 use crate::waiting::Waiting;
-use mc_model::{How, Row};
+use mc_model::{How, Run};
 use mc_task::{JobId, Task, TaskNo, TaskSet};
 use std::alloc::{AllocError, Global};
 
@@ -45,28 +42,32 @@ impl Tally {
         })
     }
 
-    // Counts one more row of a legal trace.
-    pub fn count(&mut self, row: Row) -> Result<(), AllocError>
-        requires task { IsAmong (vec_len self.old.tasks) row }
+    // Counts one more run of a legal trace, in one step.
+    pub fn count(&mut self, run: Run) -> Result<(), AllocError>
+        requires task { IsAmong (vec_len self.old.tasks) (row_of run) }
+        requires is_run { IsRun run }
+        requires short { length_of run ≤ 100000000 }
         requires room { HasRoom self.old }
-        ensures { OnOk result ((set : List Task) (rule : Rule) (g : List Row) → Legal set rule (row ∷ g) → Tallies set g self.old → Tallies set (row ∷ g) self.new) }
+        ensures { OnOk result (Follows run self.old self.new) }
     {
-        match row {
-            Row::Release { job, kept } => self.release(job, kept)?,
-            Row::Tick { job, how } => self.tick(job, how),
-            Row::Idle => self.rest(),
+        match run {
+            Run::Release { job, kept } => self.release(job, kept)?,
+            Run::Ticks { job, how, length } => self.tick(job, how, length),
+            Run::Idles { length } => self.rest(length),
         }
         Ok(())
     }
 
-    fn tick(&mut self, job: JobId, how: How)
+    fn tick(&mut self, job: JobId, how: How, length: u32)
         requires first { 1 ≤ job.task.0 }
         requires last { job.task.0 ≤ vec_len self.old.tasks }
+        requires is_run { IsRun (run.Ticks job how length) }
+        requires short { length ≤ 100000000 }
         requires room { HasRoom self.old }
-        ensures { (set : List Task) (rule : Rule) (g : List Row) → Legal set rule (row.Tick job how ∷ g) → Tallies set g self.old → Tallies set (row.Tick job how ∷ g) self.new }
+        ensures { Follows (run.Ticks job how length) self.old self.new }
     {
         match how {
-            How::More => self.go_on(job),
+            How::More => self.go_on(job, length),
             How::Done | How::Stop => self.end(job, how),
             How::Over => self.overrun(job),
         }
@@ -88,16 +89,17 @@ impl Tally {
         Ok(())
     }
 
-    // A tick after which the job has more to do.
-    fn go_on(&mut self, job: JobId)
+    // Ticks behind which the job has more to do.
+    fn go_on(&mut self, job: JobId, length: u32)
         requires first { 1 ≤ job.task.0 }
         requires last { job.task.0 ≤ vec_len self.old.tasks }
+        requires short { length ≤ 100000000 }
         requires room { HasRoom self.old }
-        ensures { (t : TaskTally) → slice_get self.old.tasks.items (job.task.0 - 1) ≡ Some t → GoesOn job t self.old self.new }
+        ensures { (t : TaskTally) → slice_get self.old.tasks.items (job.task.0 - 1) ≡ Some t → GoesOn length job t self.old self.new }
     {
         let place = job.task.0 as usize - 1;
-        self.tasks[place] = self.tasks[place].with_tick(How::More);
-        self.tick += 1;
+        self.tasks[place] = self.tasks[place].with_more(length);
+        self.tick += length;
     }
 
     // The last tick of a job.
@@ -130,13 +132,14 @@ impl Tally {
         self.switches += 1;
     }
 
-    // A tick in which nothing was pending.
-    fn rest(&mut self)
-        requires { HasRoom self.old }
-        ensures { Idles self.old self.new }
+    // Ticks in which nothing was pending.
+    fn rest(&mut self, length: u32)
+        requires short { length ≤ 100000000 }
+        requires room { HasRoom self.old }
+        ensures { Idles length self.old self.new }
     {
-        self.tick += 1;
-        self.idle += 1;
+        self.tick += length;
+        self.idle += length;
     }
 }
 

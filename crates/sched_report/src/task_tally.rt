@@ -1,5 +1,5 @@
 // What is counted of a task.
-ghost use Rattle.std.specs.Prelude.{◌≡◌, ◌<◌, ◌^◌};
+ghost use Rattle.std.specs.Prelude.{◌≡◌, ◌<◌, ◌≤◌, ◌^◌};
 ghost use Rattle.sched_report.specs.TaskTally as model;
 
 use mc_model::How;
@@ -61,6 +61,16 @@ impl TaskTally {
             How::Stop => self.stopped += 1,
             How::More | How::Over => {}
         }
+        self
+    }
+
+    // With so many more ticks behind which the job goes on.
+    pub fn with_more(mut self, length: u32) -> TaskTally
+        requires small { model.IsSmall self }
+        requires short { length ≤ 100000000 }
+        ensures { result ≡ model.with_more length self }
+    {
+        self.ticks += length;
         self
     }
 

@@ -2,7 +2,7 @@ ghost use Rattle.std.specs.Prelude.{◌≡◌, ◌∷◌, [], IfOk, IfSome, code
 
 use crate::{report, summary};
 use mc_model::How::{Done, More, Over, Stop};
-use mc_model::Row;
+use mc_model::Run;
 use mc_task::Level::{High, Low};
 use mc_task::{JobId, Level, Name, Task, TaskNo, TaskSet};
 use std::alloc::Global;
@@ -65,57 +65,47 @@ const NEXT_LOW: JobId = JobId {
 fn an_overrun_discards_a_job(rt: HostRuntime) -> Result<(), Fail> {
     let alloc = rt.alloc();
     let set = pair(alloc, b"ctl", b"log")?;
-    let rows = [
-        Row::Release {
+    let runs = [
+        Run::Release {
             job: HIGH,
             kept: true,
         },
-        Row::Release {
+        Run::Release {
             job: LOW,
             kept: true,
         },
-        Row::Tick {
+        Run::Ticks {
             job: HIGH,
             how: More,
+            length: 1,
         },
-        Row::Tick {
+        Run::Ticks {
             job: HIGH,
             how: Over,
+            length: 1,
         },
-        Row::Tick {
+        Run::Ticks {
             job: HIGH,
             how: More,
+            length: 3,
         },
-        Row::Tick {
-            job: HIGH,
-            how: More,
-        },
-        Row::Tick {
-            job: HIGH,
-            how: More,
-        },
-        Row::Tick {
+        Run::Ticks {
             job: HIGH,
             how: Done,
+            length: 1,
         },
-        Row::Idle,
-        Row::Idle,
-        Row::Idle,
-        Row::Idle,
-        Row::Release {
+        Run::Idles { length: 4 },
+        Run::Release {
             job: NEXT_LOW,
             kept: true,
         },
-        Row::Tick {
+        Run::Ticks {
             job: NEXT_LOW,
             how: More,
-        },
-        Row::Tick {
-            job: NEXT_LOW,
-            how: More,
+            length: 2,
         },
     ];
-    let text = report(alloc, &set, &rows)?;
+    let text = report(alloc, &set, &runs)?;
     assert_eq!(rt;
         text.as_slice(),
         b"\
@@ -126,7 +116,7 @@ switches 1
 "
             .as_slice()
     );
-    let text = summary(alloc, &set, &rows)?;
+    let text = summary(alloc, &set, &runs)?;
     assert_eq!(rt;
         text.as_slice(),
         b"\
@@ -155,42 +145,46 @@ fn a_job_that_was_done_is_not_discarded(rt: HostRuntime) -> Result<(), Fail> {
         task: TaskNo(1),
         count: 3,
     };
-    let rows = [
-        Row::Release {
+    let runs = [
+        Run::Release {
             job: first,
             kept: true,
         },
-        Row::Release {
+        Run::Release {
             job: LOW,
             kept: true,
         },
-        Row::Tick {
+        Run::Ticks {
             job: first,
             how: Done,
+            length: 1,
         },
-        Row::Tick {
+        Run::Ticks {
             job: LOW,
             how: Over,
+            length: 1,
         },
-        Row::Release {
+        Run::Release {
             job: second,
             kept: false,
         },
-        Row::Tick {
+        Run::Ticks {
             job: LOW,
             how: More,
+            length: 1,
         },
-        Row::Tick {
+        Run::Ticks {
             job: LOW,
             how: Done,
+            length: 1,
         },
-        Row::Release {
+        Run::Release {
             job: third,
             kept: false,
         },
-        Row::Idle,
+        Run::Idles { length: 1 },
     ];
-    let text = report(alloc, &set, &rows)?;
+    let text = report(alloc, &set, &runs)?;
     assert_eq!(rt;
         text.as_slice(),
         b"\
@@ -201,7 +195,7 @@ switches 1
 "
             .as_slice()
     );
-    let text = summary(alloc, &set, &rows)?;
+    let text = summary(alloc, &set, &runs)?;
     assert_eq!(rt;
         text.as_slice(),
         b"\
@@ -218,46 +212,33 @@ ticks 4 idle 1 switches 1
 fn the_greatest_response_is_told(rt: HostRuntime) -> Result<(), Fail> {
     let alloc = rt.alloc();
     let set = pair(alloc, b"c", b"log_of_thirty-two_bytes_12345678")?;
-    let rows = [
-        Row::Release {
+    let runs = [
+        Run::Release {
             job: LOW,
             kept: true,
         },
-        Row::Tick {
+        Run::Ticks {
             job: LOW,
             how: More,
+            length: 4,
         },
-        Row::Tick {
-            job: LOW,
-            how: More,
-        },
-        Row::Tick {
-            job: LOW,
-            how: More,
-        },
-        Row::Tick {
-            job: LOW,
-            how: More,
-        },
-        Row::Tick {
+        Run::Ticks {
             job: LOW,
             how: Stop,
+            length: 1,
         },
-        Row::Idle,
-        Row::Idle,
-        Row::Idle,
-        Row::Idle,
-        Row::Idle,
-        Row::Release {
+        Run::Idles { length: 5 },
+        Run::Release {
             job: NEXT_LOW,
             kept: true,
         },
-        Row::Tick {
+        Run::Ticks {
             job: NEXT_LOW,
             how: Done,
+            length: 1,
         },
     ];
-    let text = report(alloc, &set, &rows)?;
+    let text = report(alloc, &set, &runs)?;
     assert_eq!(rt;
         text.as_slice(),
         b"\
@@ -272,7 +253,7 @@ switches 0
 }
 
 #[test]
-fn no_rows_count_nothing(rt: HostRuntime) -> Result<(), Fail> {
+fn no_runs_count_nothing(rt: HostRuntime) -> Result<(), Fail> {
     let alloc = rt.alloc();
     let set = pair(alloc, b"ctl", b"log")?;
     let text = report(alloc, &set, &[])?;

@@ -2,49 +2,50 @@
 ghost use Rattle.std.specs.Prelude.{◌≡◌, ◌≤◌, ◌++◌, IfOk, OnOk, codes, length, reverse};
 ghost use Rattle.sched_report.specs.ReportText.{report_text, summary_text, CountsAddUp};
 ghost use Rattle.mc_model.specs.Traces.{IsTraceOf};
+ghost use Rattle.mc_model.specs.Runs.{expand, AreRuns};
 ghost use Rattle.sched_report.specs.Counts.{counts_in, response_of_tally, sum_tallies, tally_line};
 ghost use Rattle.sched_report.specs.Tally.{Tallies};
 
 use crate::counts::{Counts, push_count};
 use crate::tally::{Tally, task_at};
 use crate::task_tally::TaskTally;
-use mc_model::Row;
+use mc_model::Run;
 use mc_task::{Memory, TaskSet};
 use std::alloc::{AllocError, Global};
 
 /// The report of a trace: for each task in order how many jobs were released, kept, dropped, discarded, done and
 /// stopped, its ticks and its greatest response in ticks, and then the idle ticks and the switches to high mode.
-pub fn report(alloc: Global, set: &TaskSet, rows: &[Row]) -> Result<Vec<u8>, Memory>
-    requires trace { IsTraceOf set.now (reverse rows.now) }
-    requires few { length rows.now ≤ 2000000 }
-    ensures text { IfOk result (λ text. text.items ≡ report_text set.now (reverse rows.now)) }
+pub fn report(alloc: Global, set: &TaskSet, runs: &[Run]) -> Result<Vec<u8>, Memory>
+    requires runs { AreRuns runs.now }
+    requires trace { IsTraceOf set.now (reverse (expand runs.now)) }
+    ensures text { IfOk result (λ text. text.items ≡ report_text set.now (reverse (expand runs.now))) }
     // The counts of each task add up.
     ensures law { CountsAddUp }
 {
-    match report_text(alloc, set, rows) {
+    match report_text(alloc, set, runs) {
         Ok(text) => Ok(text),
         Err(_) => Err(Memory),
     }
 }
 
 /// The sums of a report over all tasks, in one line, and the ticks of jobs, the idle ticks and the switches in another.
-pub fn summary(alloc: Global, set: &TaskSet, rows: &[Row]) -> Result<Vec<u8>, Memory>
-    requires trace { IsTraceOf set.now (reverse rows.now) }
-    requires few { length rows.now ≤ 2000000 }
-    ensures { IfOk result (λ text. text.items ≡ summary_text set.now (reverse rows.now)) }
+pub fn summary(alloc: Global, set: &TaskSet, runs: &[Run]) -> Result<Vec<u8>, Memory>
+    requires runs { AreRuns runs.now }
+    requires trace { IsTraceOf set.now (reverse (expand runs.now)) }
+    ensures { IfOk result (λ text. text.items ≡ summary_text set.now (reverse (expand runs.now))) }
 {
-    match summary_text(alloc, set, rows) {
+    match summary_text(alloc, set, runs) {
         Ok(text) => Ok(text),
         Err(_) => Err(Memory),
     }
 }
 
-fn report_text(alloc: Global, set: &TaskSet, rows: &[Row]) -> Result<Vec<u8>, AllocError>
-    requires trace { IsTraceOf set.now (reverse rows.now) }
-    requires few { length rows.now ≤ 2000000 }
-    ensures { IfOk result (λ text. text.items ≡ report_text set.now (reverse rows.now)) }
+fn report_text(alloc: Global, set: &TaskSet, runs: &[Run]) -> Result<Vec<u8>, AllocError>
+    requires runs { AreRuns runs.now }
+    requires trace { IsTraceOf set.now (reverse (expand runs.now)) }
+    ensures { IfOk result (λ text. text.items ≡ report_text set.now (reverse (expand runs.now))) }
 {
-    let tally = tally_of(alloc, set, rows)?;
+    let tally = tally_of(alloc, set, runs)?;
     let mut text = Vec::new(alloc);
     for i in 0..set.len() {
         let task = task_at(set, i);
@@ -56,13 +57,13 @@ fn report_text(alloc: Global, set: &TaskSet, rows: &[Row]) -> Result<Vec<u8>, Al
     Ok(text)
 }
 
-fn summary_text(alloc: Global, set: &TaskSet, rows: &[Row]) -> Result<Vec<u8>, AllocError>
-    requires trace { IsTraceOf set.now (reverse rows.now) }
-    requires few { length rows.now ≤ 2000000 }
-    ensures { IfOk result (λ text. text.items ≡ summary_text set.now (reverse rows.now)) }
+fn summary_text(alloc: Global, set: &TaskSet, runs: &[Run]) -> Result<Vec<u8>, AllocError>
+    requires runs { AreRuns runs.now }
+    requires trace { IsTraceOf set.now (reverse (expand runs.now)) }
+    ensures { IfOk result (λ text. text.items ≡ summary_text set.now (reverse (expand runs.now))) }
 {
     let _is_set = set.len();
-    let tally = tally_of(alloc, set, rows)?;
+    let tally = tally_of(alloc, set, runs)?;
     let mut text = Vec::new(alloc);
     sum_of(&tally).push_to(&mut text)?;
     push_count(&mut text, "\nticks ", tally.tick - tally.idle)?;
@@ -72,14 +73,14 @@ fn summary_text(alloc: Global, set: &TaskSet, rows: &[Row]) -> Result<Vec<u8>, A
     Ok(text)
 }
 
-fn tally_of(alloc: Global, set: &TaskSet, rows: &[Row]) -> Result<Tally, AllocError>
-    requires trace { IsTraceOf set.now (reverse rows.now) }
-    requires few { length rows.now ≤ 2000000 }
-    ensures { IfOk result (λ tally. Tallies set.now (reverse rows.now) tally) }
+fn tally_of(alloc: Global, set: &TaskSet, runs: &[Run]) -> Result<Tally, AllocError>
+    requires runs { AreRuns runs.now }
+    requires trace { IsTraceOf set.now (reverse (expand runs.now)) }
+    ensures { IfOk result (λ tally. Tallies set.now (reverse (expand runs.now)) tally) }
 {
     let mut tally = Tally::new(alloc, set)?;
-    for row in rows {
-        tally.count(*row)?;
+    for run in runs {
+        tally.count(*run)?;
     }
     Ok(tally)
 }

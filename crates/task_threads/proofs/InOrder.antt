@@ -1,8 +1,10 @@
--- Lists of passes and of starts, by their tasks.
-use Rattle.std.proofs.Common.{arith, ℕ, ◌≡◌, ◌<◌, ◌+◌, ◌-◌, ◌==◌, ◌||◌, ◌∙◌, zero, suc, List, [], ◌∷◌, Bool, true, false, length, ap, sym, subst}
+-- Lists of workers and of starts, by their tasks.
+use Rattle.std.proofs.Common.{arith, ◌++◌, ℕ, ◌≡◌, ◌<◌, ◌+◌, ◌-◌, ◌==◌, ◌||◌, ◌∙◌, zero, suc, List, [], ◌∷◌, Bool, true, false, length, ap, sym, subst}
 use Rattle.std.specs.List.{slice_index_or, slice_set}
 use Rattle.std.proofs.lemmas.Bool.{eq-eqb}
-use Rattle.std.proofs.lemmas.List.{get_or-set_same, get_or-set_other, length-set}
+use Rattle.std.proofs.lemmas.List.{get_or-set_same, get_or-set_other, length-set, length-append}
+use Rattle.std.proofs.Math.ListN.{get_or-append}
+use Rattle.std.proofs.Math.Seq.{get_or-append_seam}
 use mathlib.Core.Logic.{dite}
 use native.Mathlib.Decide.{ℕ_discrete}
 use Rattle.mc_model.proofs.Booleans.{or_true}
@@ -12,11 +14,14 @@ use Rattle.executive.specs.Opening.{AreFresh}
 use Rattle.executive.specs.Passes.{of_pass, floor_of}
 use Rattle.executive.specs.Closing.{has_pass, IsMissing}
 use Rattle.task_threads.specs.declared.starts.Start.{Start}
-use Rattle.task_threads.specs.Passes.{AreInOrder}
+use Rattle.task_threads.specs.declared.live_round.Runner.{Runner}
+use Rattle.task_threads.specs.LivePasses.{IsRunner}
+use Rattle.task_threads.specs.Passes.{IsPassFor}
+use Rattle.task_threads.specs.Workers.{AreInOrder}
 use Rattle.task_threads.specs.Starts.{IsStartOf, GoDown}
 
 -- passes that were just made are in order
-pub from_fresh : (e : Executive) (ps : List TaskPass) → AreFresh e ps → AreInOrder e ps
+pub from_fresh : (e : Executive) (ps : List TaskPass) → AreFresh e ps → AreInOrder IsPassFor e ps
 from_fresh e ps fresh i d lt = ((fresh i d lt).of, (fresh i d lt).task)
 
 -- a list that has a pass of the task at some place has one
@@ -29,7 +34,7 @@ both_ways : (b : Bool) → b ≡ true → b ≡ false → ⊥
 both_ways b t f = cc
 
 -- of as many passes in order as there are tasks, none is missing
-pub none_missing : (e : Executive) (ps : List TaskPass) (k : ℕ) → AreInOrder e ps → IsMissing ps (floor_of e).core.set k → length ps ≡ length (floor_of e).core.set → ⊥
+pub none_missing : (e : Executive) (ps : List TaskPass) (k : ℕ) → AreInOrder IsPassFor e ps → IsMissing ps (floor_of e).core.set k → length ps ≡ length (floor_of e).core.set → ⊥
 none_missing e ps k order missing all =
     let a = missing.in_set.0 in
     let b = missing.in_set.1 in
@@ -37,11 +42,24 @@ none_missing e ps k order missing all =
     let is : k - 1 + 1 ≡ k = omega (arith, a) in
     both_ways (has_pass ps k) (has_at ps k (k - 1) lt (λ d. (order (k - 1) d lt).1 ∙ is)) missing.none
 
+-- one more worker, of the next task
+pub one_more : {T : Type 0} (is_of : Executive → ℕ → T → Type 0) (e : Executive) (ws : List T) (w : T) → AreInOrder is_of e ws → is_of e (length ws + 1) w → AreInOrder is_of e (ws ++ w ∷ [])
+one_more is_of e ws w all last i d lt =
+    let len : length (ws ++ w ∷ []) ≡ length ws + 1 = length-append ws (w ∷ []) in
+    dite (ℕ_discrete i (length ws))
+    (λ same. subst (λ (j : ℕ). is_of e (j + 1) (slice_index_or (ws ++ w ∷ []) j d)) (sym same) (subst (is_of e (length ws + 1)) (sym (get_or-append_seam ws w [] d)) last))
+    (λ other. let before : i < length ws = omega (arith, len, lt, other) in
+    subst (is_of e (i + 1)) (sym (get_or-append ws (w ∷ []) d i before)) (all i d before))
+
+-- the same of runners
+pub one_more_runner : (e : Executive) (rs : List Runner) (r : Runner) → AreInOrder IsRunner e rs → IsRunner e (length rs + 1) r → AreInOrder IsRunner e (rs ++ r ∷ [])
+one_more_runner = one_more IsRunner
+
 -- of n starts one is replaced by another of its task
-pub replaced : (e : Executive) (n m : ℕ) (ss : List Start) (k : ℕ) (s : Start) → m ≡ n → length ss ≡ n → k < m → GoDown e n ss → IsStartOf e (m - k) s → GoDown e n (slice_set ss k s)
-replaced e n m ss k s same_number len below down is i d lt =
+pub replaced : {T : Type 0} (is_of : Executive → ℕ → T → Type 0) (e : Executive) (n m : ℕ) (ss : List (Start T)) (k : ℕ) (s : Start T) → m ≡ n → length ss ≡ n → k < m → GoDown is_of e n ss → IsStartOf is_of e (m - k) s → GoDown is_of e n (slice_set ss k s)
+replaced {T} is_of e n m ss k s same_number len below down is i d lt =
     let inside : k < length ss = omega (arith, same_number, len, below) in
-    let here : IsStartOf e (n - k) s = subst (λ (l : ℕ). IsStartOf e (l - k) s) same_number is in
+    let here : IsStartOf is_of e (n - k) s = subst (λ (l : ℕ). IsStartOf is_of e (l - k) s) same_number is in
     dite (ℕ_discrete i k)
-    (λ same. subst (λ (j : ℕ). IsStartOf e (n - j) (slice_index_or (slice_set ss k s) j d)) (sym same) (subst (IsStartOf e (n - k)) (sym (get_or-set_same ss k s d inside)) here))
-    (λ other. subst (IsStartOf e (n - i)) (sym (get_or-set_other ss k i s d other)) (down i d (subst (λ (m : ℕ). i < m) (length-set ss k s) lt)))
+    (λ same. subst (λ (j : ℕ). IsStartOf is_of e (n - j) (slice_index_or (slice_set ss k s) j d)) (sym same) (subst (IsStartOf is_of e (n - k)) (sym (get_or-set_same ss k s d inside)) here))
+    (λ other. subst (IsStartOf is_of e (n - i)) (sym (get_or-set_other ss k i s d other)) (down i d (subst (λ (m : ℕ). i < m) (length-set ss k s) lt)))

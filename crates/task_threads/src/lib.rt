@@ -1,13 +1,20 @@
 //! A plan, run by a thread for each of its tasks.
 #![tactic(auto)]
 
-mod parking;
+mod live;
+mod live_left;
+mod live_needs;
+mod live_room;
+mod live_round;
+mod places;
+mod planned;
 mod refused;
-mod serving;
 mod starts;
 #[cfg(test)]
 mod tests;
 mod threads;
-mod work;
+mod worker;
 
+pub use live::run_live;
+pub use live_room::live_places;
 pub use threads::{Memory, run_threads};

@@ -1,100 +1,77 @@
-//! The passes for which no thread could be made: the caller serves them.
+//! The workers for which no thread could be made: the caller serves them, one round each in turn.
 ghost use Rattle.std.specs.Prelude.{◌≡◌, ◌≤◌, vec_len};
 ghost use Rattle.task_threads.specs.Starts.{IsStartOf, GoDown};
 
-use crate::parking::rest;
-use crate::serving::{Served, serve};
+use crate::places::Places;
 use crate::starts::Start;
+use crate::worker::{Came, Worker};
 use executive::{Executive, Gate};
 use mc_task::TaskNo;
 use std::sync::Wait;
-use std::thread::Parker;
 
-// What came of an act, or of a round of them.
-#[derive(Clone, Copy)]
-enum Came {
-    Acted,
-    Waits(TaskNo),
-    Finished,
-    Nothing,
-}
-
-impl Came {
-    // What came of two acts: an act, if there was one.
-    fn and(self, next: Came) -> Came {
-        match (self, next) {
-            (Came::Acted, _) | (_, Came::Acted) => Came::Acted,
-            (Came::Nothing, other) => other,
-            (first, _) => first,
-        }
-    }
-}
-
-// One act of a pass that is here.
-fn serve_one<R: Wait, G: Gate>(
+// Serves the workers that are here until each has left.
+pub fn serve_refused<T: Worker + Drop, R: Wait, G: Gate>(
     rt: &R,
     executive: &Executive,
     gate: &G,
-    parkers: &[Parker],
-    start: &mut Start,
-    task: TaskNo,
-) -> Came
-    requires { IsStartOf executive.now task.0 start.old }
-    ensures { IsStartOf executive.now task.0 start.new }
-{
-    let Some(pass) = start.pass.take() else {
-        return Came::Nothing;
-    };
-    let (pass, came) = match serve(rt, executive, gate, parkers, pass, task) {
-        Served::Acted(pass) | Served::Idled(pass) => (pass, Came::Acted),
-        Served::Waits(pass) => (pass, Came::Waits(task)),
-        Served::Finished(pass) => (pass, Came::Finished),
-    };
-    start.pass = Some(pass);
-    came
-}
-
-// One act of each pass that is here.
-fn serve_each<R: Wait, G: Gate>(
-    rt: &R,
-    executive: &Executive,
-    gate: &G,
-    parkers: &[Parker],
-    starts: &mut Vec<Start>,
-) -> Came
-    requires { GoDown executive.now (vec_len starts.old) starts.old.items × (vec_len starts.old ≤ 128) }
-    ensures { (vec_len starts.new ≡ vec_len starts.old) × GoDown executive.now (vec_len starts.old) starts.new.items }
-{
-    let mut came = Came::Nothing;
-    let tasks = starts.len();
-    for place in 0..tasks {
-        let task = TaskNo((tasks - place) as u32);
-        let next = serve_one(rt, executive, gate, parkers, &mut starts[place], task);
-        if let Came::Finished = next {
-            return Came::Finished;
-        }
-        came = came.and(next);
-    }
-    came
-}
-
-// Serves the passes that are here until the plan is finished.
-pub fn serve_refused<R: Wait, G: Gate>(
-    rt: &R,
-    executive: &Executive,
-    gate: &G,
-    parkers: &[Parker],
-    starts: &mut Vec<Start>,
+    places: &Places,
+    starts: &mut Vec<Start<T>>,
 )
-    requires { GoDown executive.now (vec_len starts.old) starts.old.items × (vec_len starts.old ≤ 128) }
-    ensures { (vec_len starts.new ≡ vec_len starts.old) × GoDown executive.now (vec_len starts.old) starts.new.items }
+    requires { GoDown T.is_of executive.now (vec_len starts.old) starts.old.items × (vec_len starts.old ≤ 128) }
+    ensures { (vec_len starts.new ≡ vec_len starts.old) × GoDown T.is_of executive.now (vec_len starts.old) starts.new.items }
 {
+    let mut pause = 1;
     for _ in rt.forever() {
-        match serve_each(rt, executive, gate, parkers, starts) {
-            Came::Acted => {}
-            Came::Waits(task) => rest(rt, parkers, task),
-            Came::Finished | Came::Nothing => return,
+        match serve_each(rt, executive, gate, places, starts) {
+            Came::Acted | Came::Idled => {}
+            Came::Waits => pause = places.rest_of_caller(rt, pause),
+            Came::Finished => return,
         }
     }
     unreachable!()
+}
+
+// A round of each worker that is here. The liveliest that came of one is the answer.
+fn serve_each<T: Worker + Drop, R: Wait, G: Gate>(
+    rt: &R,
+    executive: &Executive,
+    gate: &G,
+    places: &Places,
+    starts: &mut Vec<Start<T>>,
+) -> Came
+    requires { GoDown T.is_of executive.now (vec_len starts.old) starts.old.items × (vec_len starts.old ≤ 128) }
+    ensures { (vec_len starts.new ≡ vec_len starts.old) × GoDown T.is_of executive.now (vec_len starts.old) starts.new.items }
+{
+    let mut came = Came::Finished;
+    let tasks = starts.len();
+    for place in 0..tasks {
+        let task = TaskNo((tasks - place) as u32);
+        let next = serve_one(rt, executive, gate, places, &mut starts[place], task);
+        came = came.max(next);
+    }
+    came
+}
+
+// A round of a worker, if it is here and has not left.
+fn serve_one<T: Worker + Drop, R: Wait, G: Gate>(
+    rt: &R,
+    executive: &Executive,
+    gate: &G,
+    places: &Places,
+    start: &mut Start<T>,
+    task: TaskNo,
+) -> Came
+    requires { IsStartOf T.is_of executive.now task.0 start.old }
+    ensures { IsStartOf T.is_of executive.now task.0 start.new }
+{
+    if start.has_left {
+        return Came::Finished;
+    }
+    let Some(worker) = start.worker.take() else {
+        return Came::Finished;
+    };
+    let (worker, came) = worker.round(rt, executive, gate, places, task);
+    start.worker = Some(worker);
+    start.has_left = came == Came::Finished;
+    came
 }

@@ -1,43 +1,94 @@
 //! How the threads are started and joined.
-ghost use Rattle.std.specs.Prelude.{◌≡◌, ◌+◌, ◌<◌, ◌≤◌, ◌^◌, [], length, vec_len, vec_capacity};
-ghost use Rattle.task_threads.specs.Passes.{IsPassFor, AreInOrder};
+ghost use Rattle.std.specs.Prelude.{◌≡◌, ◌+◌, ◌<◌, ◌≤◌, ◌^◌, [], None, Some, vec_len, vec_capacity};
 ghost use Rattle.task_threads.specs.Starts.{IsStartOf, GoDown};
+ghost use Rattle.task_threads.specs.Workers.{AreInOrder};
 
-use crate::work::{ComesBack, work};
-use executive::{Executive, Gate, TaskPass};
+use crate::places::Places;
+use crate::refused::serve_refused;
+use crate::worker::{Worker, work};
+use executive::{Executive, Gate};
 use mc_task::TaskNo;
 use std::snapshot::Snapshot;
 use std::sync::Wait;
-use std::sync::atomic::AtomicBool;
-use std::sync::atomic::Ordering::SeqCst;
-use std::thread::{Parker, PromisedHandle, Scope, Threads};
+use std::thread;
+use std::thread::{Promise, PromisedHandle, Scope, Threads};
 
-/// A thread that has the pass, or the pass, where no thread could be made.
+/// The worker that a thread gives back is the executive's, of this task.
 #[derive(Drop)]
-pub struct Start {
-    pub handle: Option<PromisedHandle<TaskPass, ComesBack>>,
-    pub pass: Option<TaskPass>,
+pub struct ComesBack {
+    pub executive: Snapshot<Executive>,
+    pub task: TaskNo,
 }
 
-// Starts a thread for the pass. Where none can be made, its mark is set, and what it would have done is done here: it gives
-// the pass back.
-fn start_one<'s, E, R: Threads + Wait + Sync, G: Gate + Sync>(
+impl<T: Worker> Promise<T> for ComesBack {
+    ghost kept_by = { λ p r. T.is_of p.executive.value p.task.0 r };
+}
+
+/// A thread that has the worker, or the worker, where no thread could be made.
+#[derive(Drop)]
+pub struct Start<T: Worker> {
+    pub handle: Option<PromisedHandle<T, ComesBack>>,
+    pub worker: Option<T>,
+    /// Nothing is left to do for the worker that is here.
+    pub has_left: bool,
+}
+
+// A thread for each worker, until nothing is left to do. The workers come back in their order.
+pub fn in_threads<'s, T: Worker + Send + Drop + 's, R: Threads + Wait + Sync, G: Gate + Sync>(
+    rt: &'s R,
+    executive: &'s Executive,
+    gate: &'s G,
+    places: &'s Places,
+    workers: Vec<T>,
+    starts: Vec<Start<T>>,
+) -> Vec<T>
+    requires workers { AreInOrder T.is_of executive.now workers.items × (vec_len workers ≤ 128) }
+    requires starts { (starts.items ≡ []) × (vec_len workers ≤ vec_capacity starts) }
+    ensures { (vec_len result ≡ vec_len workers) × AreInOrder T.is_of executive.now result.items }
+{
+    thread::scope(
+        thread::scope_env(),
+        rt,
+        move |scope| -> Vec<T>
+            requires { AreInOrder T.is_of executive.now workers.items × (vec_len workers ≤ 128) × (starts.items ≡ []) × (vec_len workers ≤ vec_capacity starts) }
+            ensures { (vec_len result ≡ vec_len workers) × AreInOrder T.is_of executive.entry.now result.items }
+        {
+            let mut starts = starts;
+            let mut workers = workers;
+            start_all(
+                rt,
+                scope,
+                executive,
+                gate,
+                places,
+                &mut workers,
+                &mut starts,
+            );
+            serve_refused(rt, executive, gate, places, &mut starts);
+            join_all(rt, executive, &mut starts, &mut workers);
+            workers
+        },
+    )
+}
+
+// Starts a thread for the worker. Where none can be made, that is marked, and what it would have done is done here: it gives
+// the worker back.
+fn start_one<'s, E, T: Worker + Send + Drop + 's, R: Threads + Wait + Sync, G: Gate + Sync>(
     rt: &'s R,
     scope: &Scope<'s, E>,
     executive: &'s Executive,
     gate: &'s G,
-    parkers: &'s [Parker],
-    mark: &'s AtomicBool,
-    pass: TaskPass,
+    places: &'s Places,
+    worker: T,
     task: TaskNo,
-) -> Start
-    requires { IsPassFor executive.now task.0 pass }
-    ensures { IsStartOf executive.entry.now task.0 result }
+) -> Start<T>
+    requires { T.is_of executive.now task.0 worker }
+    ensures { IsStartOf T.is_of executive.entry.now task.0 result }
 {
-    let work = move || -> TaskPass
-        requires { IsPassFor executive.now task.0 pass }
-        ensures { IsPassFor executive.entry.now task.0 result }
-    { work(rt, executive, gate, parkers, mark, pass, task) };
+    let work = move || -> T
+        requires { T.is_of executive.now task.0 worker }
+        ensures { T.is_of executive.entry.now task.0 result }
+    { work(rt, executive, gate, places, worker, task) };
     let back = ComesBack {
         executive: Snapshot::of(executive),
         task,
@@ -45,76 +96,84 @@ fn start_one<'s, E, R: Threads + Wait + Sync, G: Gate + Sync>(
     match scope.spawn_with(back, work) {
         Ok(handle) => Start {
             handle: Some(handle),
-            pass: None,
+            worker: None,
+            has_left: false,
         },
         Err(refused) => {
-            mark.store(true, SeqCst);
-            Start {
-                handle: None,
-                pass: Some((refused.value)()),
-            }
+            places.refuse(task);
+            kept_here((refused.value)())
         }
     }
 }
 
-// The pass, once its thread has returned.
-fn join_one<R: Threads>(rt: &R, executive: &Executive, start: Start, task: TaskNo) -> TaskPass
-    requires { IsStartOf executive.now task.0 start }
-    ensures { IsPassFor executive.now task.0 result }
+// A worker for which no thread could be made.
+pub fn kept_here<T: Worker>(worker: T) -> Start<T>
+    ensures { (result.handle ≡ None) × (result.worker ≡ Some worker) }
 {
-    let _ = executive;
-    let _ = task;
-    let Start { handle, pass } = start;
-    match handle {
-        Some(handle) => handle.join(rt),
-        None => pass.unwrap(),
+    Start {
+        handle: None,
+        worker: Some(worker),
+        has_left: false,
     }
 }
 
-// Starts a thread for each pass, the last one first.
-pub fn start_all<'s, E, R: Threads + Wait + Sync, G: Gate + Sync>(
+// The worker, once its thread has returned.
+fn join_one<T: Worker + Drop, R: Threads>(
+    rt: &R,
+    executive: &Executive,
+    start: Start<T>,
+    task: TaskNo,
+) -> T
+    requires { IsStartOf T.is_of executive.now task.0 start }
+    ensures { T.is_of executive.now task.0 result }
+{
+    let _ = executive;
+    let _ = task;
+    let Start {
+        handle,
+        worker,
+        has_left: _,
+    } = start;
+    match handle {
+        Some(handle) => handle.join(rt),
+        None => worker.unwrap(),
+    }
+}
+
+// Starts a thread for each worker, the last one first.
+fn start_all<'s, E, T: Worker + Send + Drop + 's, R: Threads + Wait + Sync, G: Gate + Sync>(
     rt: &'s R,
     scope: &Scope<'s, E>,
     executive: &'s Executive,
     gate: &'s G,
-    parkers: &'s [Parker],
-    marks: &'s [AtomicBool],
-    passes: &mut Vec<TaskPass>,
-    starts: &mut Vec<Start>,
+    places: &'s Places,
+    workers: &mut Vec<T>,
+    starts: &mut Vec<Start<T>>,
 )
-    requires passes { AreInOrder executive.now passes.old.items × (vec_len passes.old ≤ length marks.now) × (vec_len passes.old ≤ 128) }
-    requires starts { (starts.old.items ≡ []) × (vec_len passes.old ≤ vec_capacity starts.old) }
-    ensures passes { (passes.new.items ≡ []) × (vec_capacity passes.new ≡ vec_capacity passes.old) }
-    ensures starts { (vec_len starts.new ≡ vec_len passes.old) × GoDown executive.now (vec_len passes.old) starts.new.items }
+    requires workers { AreInOrder T.is_of executive.now workers.old.items × (vec_len workers.old ≤ 128) }
+    requires starts { (starts.old.items ≡ []) × (vec_len workers.old ≤ vec_capacity starts.old) }
+    ensures workers { (workers.new.items ≡ []) × (vec_capacity workers.new ≡ vec_capacity workers.old) }
+    ensures starts { (vec_len starts.new ≡ vec_len workers.old) × GoDown T.is_of executive.now (vec_len workers.old) starts.new.items }
 {
-    while let Some(pass) = passes.pop() {
-        let place = passes.len();
-        starts.push_reserved(start_one(
-            rt,
-            scope,
-            executive,
-            gate,
-            parkers,
-            &marks[place],
-            pass,
-            TaskNo(place as u32 + 1),
-        ));
+    while let Some(worker) = workers.pop() {
+        let task = TaskNo(workers.len() as u32 + 1);
+        starts.push_reserved(start_one(rt, scope, executive, gate, places, worker, task));
     }
 }
 
 // Joins all threads, that of the first task first.
-pub fn join_all<R: Threads>(
+pub fn join_all<T: Worker + Drop, R: Threads>(
     rt: &R,
     executive: &Executive,
-    starts: &mut Vec<Start>,
-    passes: &mut Vec<TaskPass>,
+    starts: &mut Vec<Start<T>>,
+    workers: &mut Vec<T>,
 )
-    requires starts { GoDown executive.now (vec_len starts.old) starts.old.items × (vec_len starts.old ≤ 128) }
-    requires passes { (passes.old.items ≡ []) × (vec_len starts.old ≤ vec_capacity passes.old) }
-    ensures { (vec_len passes.new ≡ vec_len starts.old) × AreInOrder executive.now passes.new.items }
+    requires starts { GoDown T.is_of executive.now (vec_len starts.old) starts.old.items × (vec_len starts.old ≤ 128) }
+    requires workers { (workers.old.items ≡ []) × (vec_len starts.old ≤ vec_capacity workers.old) }
+    ensures { (vec_len workers.new ≡ vec_len starts.old) × AreInOrder T.is_of executive.now workers.new.items }
 {
     while let Some(start) = starts.pop() {
-        let task = TaskNo(passes.len() as u32 + 1);
-        passes.push_reserved(join_one(rt, executive, start, task));
+        let task = TaskNo(workers.len() as u32 + 1);
+        workers.push_reserved(join_one(rt, executive, start, task));
     }
 }

@@ -1,5 +1,8 @@
 //! Plans in threads: the rows that were worked by hand, and runs that are repeated.
+mod apart;
 mod floors;
+mod gates;
+mod live;
 
 use crate::run_threads;
 use executive::QuietGate;

@@ -1,5 +1,5 @@
 //! A plan in threads, from a floor with no rows to its end.
-ghost use Rattle.std.specs.Prelude.{◌≡◌, ◌≤◌, [], true, None, length, vec_len, vec_capacity, IfOk};
+ghost use Rattle.std.specs.Prelude.{◌≡◌, [], true, None, IfOk};
 ghost use Rattle.mc_model.specs.Late.{late};
 ghost use Rattle.demand_law.specs.NoOver.{NoOver, NoDrop, EndedInTime};
 ghost use Rattle.timetable.specs.declared.acts.Act.TheVariants as act;
@@ -7,21 +7,30 @@ ghost use Rattle.timetable.specs.Floor.{is_planned, next_act};
 ghost use Rattle.timetable.specs.Plans.{IsTraceOfPlan, HasTaken};
 ghost use Rattle.timetable.specs.OneTrace.{AtMostOneFollows};
 ghost use Rattle.executive.specs.Stands.{opening_of};
-ghost use Rattle.task_threads.specs.Passes.{AreInOrder};
 
-use crate::refused::serve_refused;
-use crate::starts::{Start, join_all, start_all};
-use executive::{Executive, Gate, TaskPass};
-use std::alloc::Global;
+use crate::places::Places;
+use crate::starts::in_threads;
+use executive::{Executive, Gate, NoMemory};
+use std::alloc::{AllocError, Global};
 use std::sync::Wait;
-use std::sync::atomic::AtomicBool;
-use std::thread;
-use std::thread::{Parker, Threads};
+use std::thread::Threads;
 use timetable::Floor;
 
 /// There was no memory.
 #[derive(Clone, Copy, Debug, PartialEq, Eq, Drop)]
 pub struct Memory;
+
+impl From<AllocError> for Memory {
+    fn from(_refused: AllocError) -> Memory {
+        Memory
+    }
+}
+
+impl From<NoMemory> for Memory {
+    fn from(_refused: NoMemory) -> Memory {
+        Memory
+    }
+}
 
 /// Runs the plan of a floor with no rows and no tick out, in a thread for each task, and tells the gate of it.
 ///
@@ -50,32 +59,11 @@ pub fn run_threads<R: Threads + Wait + Sync, G: Gate + Sync>(
     ensures same { IfOk result (λ f. opening_of f ≡ floor) }
     ensures none_out { IfOk result (λ f. f.core.out ≡ None) }
 {
-    let tasks = floor.core().set().len() as usize;
-    let Ok(mut marks) = Vec::with_capacity(alloc, tasks) else {
-        return Err(Memory);
-    };
-    let Ok(mut parkers) = Vec::with_capacity(alloc, tasks) else {
-        return Err(Memory);
-    };
-    let Ok(starts) = Vec::with_capacity(alloc, tasks) else {
-        return Err(Memory);
-    };
-    for _place in 0..tasks {
-        marks.push_reserved(AtomicBool::new(false));
-        parkers.push_reserved(Parker::new());
-    }
-    let Ok((executive, passes)) = Executive::new(rt, alloc, floor) else {
-        return Err(Memory);
-    };
-    let passes = in_threads(
-        rt,
-        &executive,
-        gate,
-        parkers.as_slice(),
-        marks.as_slice(),
-        passes,
-        starts,
-    );
+    let tasks = floor.core().set().len();
+    let places = Places::new(alloc, tasks)?;
+    let starts = Vec::with_capacity(alloc, tasks as usize)?;
+    let (executive, passes) = Executive::new(rt, alloc, floor)?;
+    let passes = in_threads(rt, &executive, gate, &places, passes, starts);
     match executive.close(rt, passes) {
         Ok(mut floor) => {
             floor.finish();
@@ -83,44 +71,4 @@ pub fn run_threads<R: Threads + Wait + Sync, G: Gate + Sync>(
         }
         Err(_unclosed) => unreachable!(),
     }
-}
-
-// A thread for each pass, until the plan is finished. The passes come back in their order.
-fn in_threads<'s, R: Threads + Wait + Sync, G: Gate + Sync>(
-    rt: &'s R,
-    executive: &'s Executive,
-    gate: &'s G,
-    parkers: &'s [Parker],
-    marks: &'s [AtomicBool],
-    passes: Vec<TaskPass>,
-    starts: Vec<Start>,
-) -> Vec<TaskPass>
-    requires passes { AreInOrder executive.now passes.items × (vec_len passes ≤ length marks.now) × (vec_len passes ≤ 128) }
-    requires starts { (starts.items ≡ []) × (vec_len passes ≤ vec_capacity starts) }
-    ensures { (vec_len result ≡ vec_len passes) × AreInOrder executive.now result.items }
-{
-    thread::scope(
-        thread::scope_env(),
-        rt,
-        move |scope| -> Vec<TaskPass>
-            requires { AreInOrder executive.now passes.items × (vec_len passes ≤ length marks.now) × (vec_len passes ≤ 128) × (starts.items ≡ []) × (vec_len passes ≤ vec_capacity starts) }
-            ensures { (vec_len result ≡ vec_len passes) × AreInOrder executive.entry.now result.items }
-        {
-            let mut starts = starts;
-            let mut passes = passes;
-            start_all(
-                rt,
-                scope,
-                executive,
-                gate,
-                parkers,
-                marks,
-                &mut passes,
-                &mut starts,
-            );
-            serve_refused(rt, executive, gate, parkers, &mut starts);
-            join_all(rt, executive, &mut starts, &mut passes);
-            passes
-        },
-    )
 }

@@ -1,5 +1,6 @@
 pub mod FileLemmas
-pub mod RowsOfSet
 pub mod TickLemmas
+pub mod PackLemmas
 pub mod LineLemmas
 pub mod WrittenLemmas
+pub mod RunsOfSet

@@ -12,29 +12,30 @@ use Rattle.numeral.proofs.NumeralLemmas.{digits-decimal}
 use Rattle.mc_task.specs.declared.task.Task.{Task}
 use Rattle.mc_task.specs.NameForm.{is_name, is_name_byte}
 use Rattle.mc_task.specs.TaskSet.{IsSet, name_in, task_at}
-use Rattle.mc_model.specs.Rows.{ticks}
-use Rattle.mc_model.specs.TraceText.{how_word, kept_word, line_of, row_line, lines_after, trace_text}
+use Rattle.mc_model.specs.Sums.{total}
+use Rattle.mc_model.specs.Runs.{length_of}
+use Rattle.mc_model.specs.TraceText.{how_word, kept_word, line_of, run_line, lines_after, runs_text}
 use Rattle.mc_model.specs.declared.row.How.{How}
 use Rattle.mc_model.specs.declared.row.How.TheVariants.{More, Done, Stop, Over}
-use Rattle.mc_model.specs.declared.row.Row.{Row}
-use Rattle.mc_model.specs.declared.row.Row.TheVariants.{Release, Tick, Idle}
+use Rattle.mc_model.specs.declared.run.Run.{Run}
+use Rattle.mc_model.specs.declared.run.Run.TheVariants.{Release, Ticks, Idles}
 use Rattle.trace_format.specs.Writable.{IsWritable}
 use Rattle.mc_task.proofs.NamedLemmas.{found_by_name}
-use Rattle.mc_model.proofs.Ticks.{ticks-append}
+use Rattle.mc_model.proofs.Sums.{total-append}
 
--- the fields of a row's line
-abbrev pub row_fields : List Task → ℕ → Row → List (List ℕ)
-row_fields set tick (Release j kept) = codes "release" ∷ decimal tick ∷ name_in (task_at set j.task.0) ∷ decimal j.count ∷ kept_word kept ∷ []
-row_fields set tick (Tick j how) = codes "tick" ∷ decimal tick ∷ name_in (task_at set j.task.0) ∷ decimal j.count ∷ how_word how ∷ []
-row_fields set tick Idle = codes "idle" ∷ decimal tick ∷ [] ∷ [] ∷ [] ∷ []
+-- the fields of a run's line
+abbrev pub run_fields : List Task → ℕ → Run → List (List ℕ)
+run_fields set tick (Release j kept) = codes "release" ∷ decimal tick ∷ [] ∷ name_in (task_at set j.task.0) ∷ decimal j.count ∷ kept_word kept ∷ []
+run_fields set tick (Ticks j how n) = codes "tick" ∷ decimal tick ∷ decimal n ∷ name_in (task_at set j.task.0) ∷ decimal j.count ∷ how_word how ∷ []
+run_fields set tick (Idles n) = codes "idle" ∷ decimal tick ∷ decimal n ∷ [] ∷ [] ∷ [] ∷ []
 
--- the fields of the lines of rows that stand behind others
-abbrev pub fields_after : List Task → List Row → List Row → List (List (List ℕ))
+-- the fields of the lines of runs that stand behind others
+abbrev pub fields_after : List Task → List Run → List Run → List (List (List ℕ))
 fields_after set before [] = []
-fields_after set before (row ∷ rows) = row_fields set (ticks before) row ∷ fields_after set (before ++ row ∷ []) rows
+fields_after set before (r ∷ runs) = run_fields set (total length_of before) r ∷ fields_after set (before ++ r ∷ []) runs
 
 abbrev pub header_fields : List (List ℕ)
-header_fields = codes "event" ∷ codes "tick" ∷ codes "task" ∷ codes "job" ∷ codes "how" ∷ []
+header_fields = codes "event" ∷ codes "tick" ∷ codes "length" ∷ codes "task" ∷ codes "job" ∷ codes "how" ∷ []
 
 -- bytes that call for no quotes
 abbrev IsPlain : List ℕ → Type 0
@@ -75,57 +76,52 @@ plain_how Done = refl
 plain_how Stop = refl
 plain_how Over = refl
 
--- five plain fields, as a writer of records writes them
-line_is : (a b c d e : List ℕ) → IsPlain a → IsPlain b → IsPlain c → IsPlain d → IsPlain e → row_text default_writer (a ∷ b ∷ c ∷ d ∷ e ∷ []) ≡ line_of a b c d e
+-- six plain fields, as a writer of records writes them
+line_is : (a b c d e f : List ℕ) → IsPlain a → IsPlain b → IsPlain c → IsPlain d → IsPlain e → IsPlain f → row_text default_writer (a ∷ b ∷ c ∷ d ∷ e ∷ f ∷ []) ≡ line_of a b c d e f
 unfolding fields_text is_blank
-line_is a b c d e pa pb pc pd pe = rw (pa, pb, pc, pd, pe) (simp append_assoc)
+line_is a b c d e f pa pb pc pd pe pf = rw (pa, pb, pc, pd, pe, pf) (simp append_assoc)
 
-row_line_is : (set : List Task) (tick : ℕ) (row : Row) → IsSet set → tick < 2 ^ 64 → IsWritable set row → row_text default_writer (row_fields set tick row) ≡ row_line set tick row
-unfolding row_line
-row_line_is set tick (Release j kept) s h w =
-    line_is (codes "release") (decimal tick) (name_in (task_at set j.task.0)) (decimal j.count) (kept_word kept) refl (plain_decimal tick h) (plain_name (name_in (task_at set j.task.0)) (found_by_name set j.task.0 s w.0).form)
+run_line_is : (set : List Task) (tick : ℕ) (r : Run) → IsSet set → tick < 2 ^ 64 → length_of r < 2 ^ 64 → IsWritable set r → row_text default_writer (run_fields set tick r) ≡ run_line set tick r
+unfolding run_line
+run_line_is set tick (Release j kept) s h n w =
+    line_is (codes "release") (decimal tick) [] (name_in (task_at set j.task.0)) (decimal j.count) (kept_word kept) refl (plain_decimal tick h) refl (plain_name (name_in (task_at set j.task.0)) (found_by_name set j.task.0 s w.0).form)
     (plain_decimal j.count (omega (arith, w.1))) (plain_kept kept)
-row_line_is set tick (Tick j how) s h w =
-    line_is (codes "tick") (decimal tick) (name_in (task_at set j.task.0)) (decimal j.count) (how_word how) refl (plain_decimal tick h) (plain_name (name_in (task_at set j.task.0)) (found_by_name set j.task.0 s w.0).form)
+run_line_is set tick (Ticks j how n) s h m w =
+    line_is (codes "tick") (decimal tick) (decimal n) (name_in (task_at set j.task.0)) (decimal j.count) (how_word how) refl (plain_decimal tick h) (plain_decimal n m) (plain_name (name_in (task_at set j.task.0)) (found_by_name set j.task.0 s w.0).form)
     (plain_decimal j.count (omega (arith, w.1))) (plain_how how)
-row_line_is set tick Idle s h w = line_is (codes "idle") (decimal tick) [] [] [] refl (plain_decimal tick h) refl refl refl
+run_line_is set tick (Idles n) s h m w = line_is (codes "idle") (decimal tick) (decimal n) [] [] [] refl (plain_decimal tick h) (plain_decimal n m) refl refl refl
 
-read_line : (set : List Task) (tick : ℕ) (row : Row) (tail : List ℕ) → IsSet set → tick < 2 ^ 64 → IsWritable set row
-    → next_record default_config st.StartRecord [] [] (row_line set tick row ++ tail) ≡ Some (row_fields set tick row, st.StartRecord, tail)
-read_line set tick row tail s h w = ap (λ (t : List ℕ). next_record default_config st.StartRecord [] [] (t ++ tail)) (sym (row_line_is set tick row s h w)) ∙ many row
+read_line : (set : List Task) (tick : ℕ) (r : Run) (tail : List ℕ) → IsSet set → tick < 2 ^ 64 → length_of r < 2 ^ 64 → IsWritable set r
+    → next_record default_config st.StartRecord [] [] (run_line set tick r ++ tail) ≡ Some (run_fields set tick r, st.StartRecord, tail)
+read_line set tick r tail s h n w = ap (λ (t : List ℕ). next_record default_config st.StartRecord [] [] (t ++ tail)) (sym (run_line_is set tick r s h n w)) ∙ many r
   where
-    many : (row : Row) → next_record default_config st.StartRecord [] [] (row_text default_writer (row_fields set tick row) ++ tail) ≡ Some (row_fields set tick row, st.StartRecord, tail)
+    many : (r : Run) → next_record default_config st.StartRecord [] [] (row_text default_writer (run_fields set tick r) ++ tail) ≡ Some (run_fields set tick r, st.StartRecord, tail)
     many (Release j kept) = read-write-many _ _ _ tail
-    many (Tick j how) = read-write-many _ _ _ tail
-    many Idle = read-write-many _ _ _ tail
+    many (Ticks j how n) = read-write-many _ _ _ tail
+    many (Idles n) = read-write-many _ _ _ tail
 
--- at most one tick more
-pub ticks-one : (before : List Row) (row : Row) → ticks (before ++ row ∷ []) ≤ ticks before + 1
-ticks-one before row = let more : ticks (before ++ row ∷ []) ≡ ticks before + ticks (row ∷ []) = ticks-append before (row ∷ []) in let one : ticks (row ∷ []) ≤ 1 = one row in omega arith
-  where
-    one : (row : Row) → ticks (row ∷ []) ≤ 1
-    one (Release j kept) = omega arith
-    one (Tick j how) = omega arith
-    one Idle = omega arith
+-- the ticks of one run more
+pub total-one : (before : List Run) (r : Run) → total length_of (before ++ r ∷ []) ≡ total length_of before + length_of r
+total-one before r = let more = total-append length_of before (r ∷ []) in omega (arith, more)
 
-lines_reached : (set : List Task) (before rows : List Row) → IsSet set → ticks before + length rows < 2 ^ 64 → AllByRecursion (IsWritable set) rows
-    → Reached default_config st.StartRecord (lines_after set before rows) (fields_after set before rows) st.StartRecord []
+lines_reached : (set : List Task) (before runs : List Run) → IsSet set → total length_of before + total length_of runs ≤ 100000000 → AllByRecursion (IsWritable set) runs
+    → Reached default_config st.StartRecord (lines_after set before runs) (fields_after set before runs) st.StartRecord []
 unfolding Reached
 lines_reached set before [] s h w = (refl, refl)
-lines_reached set before (row ∷ rows) s h w =
-    let more : ticks (before ++ row ∷ []) ≤ ticks before + 1 = ticks-one before row in (
-      (row_fields set (ticks before) row, st.StartRecord, lines_after set (before ++ row ∷ []) rows),
-      read_line set (ticks before) row (lines_after set (before ++ row ∷ []) rows) s (omega arith) w.0,
+lines_reached set before (r ∷ runs) s h w =
+    let more = total-one before r in (
+      (run_fields set (total length_of before) r, st.StartRecord, lines_after set (before ++ r ∷ []) runs),
+      read_line set (total length_of before) r (lines_after set (before ++ r ∷ []) runs) s (omega (arith, h)) (omega (arith, h)) w.0,
       refl,
-      lines_reached set (before ++ row ∷ []) rows s (omega (arith, more, h)) w.1,
+      lines_reached set (before ++ r ∷ []) runs s (omega (arith, more, h)) w.1,
     )
 
 -- the records of what is written
-pub written_records : (set : List Task) (rows : List Row) → IsSet set → length rows ≤ 2000000 → AllByRecursion (IsWritable set) rows → AreRecords default_config st.StartRecord (strip_bom (trace_text set rows)) (header_fields ∷ fields_after set [] rows)
+pub written_records : (set : List Task) (runs : List Run) → IsSet set → total length_of runs ≤ 100000000 → AllByRecursion (IsWritable set) runs → AreRecords default_config st.StartRecord (strip_bom (runs_text set runs)) (header_fields ∷ fields_after set [] runs)
 unfolding Reached strip_bom next_record
-written_records set rows s h w = (
+written_records set runs s h w = (
   st.StartRecord,
   [],
-  ((header_fields, st.StartRecord, lines_after set [] rows), refl, refl, lines_reached set [] rows s (omega arith) w),
+  ((header_fields, st.StartRecord, lines_after set [] runs), refl, refl, lines_reached set [] runs s (omega (arith, h)) w),
   refl,
 )

@@ -1,5 +1,5 @@
--- The records of a written text give its rows.
-use Rattle.std.proofs.Common.{◌≡◌, ℕ, ◌+◌, ◌^◌, ◌≤◌, ◌<◌, true, false, ◌==◌, nat_le, List, [], ◌∷◌, ◌++◌, Ok, All, refl, sym, ap, ◌∙◌, arith, length, append_assoc}
+-- The records of a written text give its runs.
+use Rattle.std.proofs.Common.{◌≡◌, ◌≢◌, ℕ, ◌+◌, ◌≤◌, ◌<◌, Bool, true, false, ◌==◌, nat_le, nat_lt, List, [], ◌∷◌, ◌++◌, Some, Ok, All, refl, sym, ap, ◌∙◌, arith, length, append_assoc}
 use Rattle.std.proofs.lemmas.Bool.Decides.{nat_tests}
 use Rattle.std.proofs.lemmas.List.{append-nil, length-append}
 use Rattle.std.proofs.lemmas.List.Elements.{recursion_from_All}
@@ -8,60 +8,89 @@ use Rattle.csv.specs.Reading.{default_config, records, strip_bom}
 use Rattle.csv.specs.Records.{field_at}
 use Rattle.numeral.proofs.NumeralLemmas.{number-decimal}
 use Rattle.mc_task.specs.declared.task.Task.{Task}
+use Rattle.mc_task.specs.declared.task.JobId.{JobId}
 use Rattle.mc_task.specs.TaskSet.{IsSet}
-use Rattle.mc_model.specs.Rows.{ticks}
-use Rattle.mc_model.specs.TraceText.{trace_text}
+use Rattle.mc_model.specs.Sums.{total}
+use Rattle.mc_model.specs.Runs.{length_of, IsRun, AreRuns}
+use Rattle.mc_model.specs.TraceText.{runs_text, kept_word, how_word}
+use Rattle.mc_model.specs.declared.row.How.{How}
 use Rattle.mc_model.specs.declared.row.How.TheVariants.{More, Done, Stop, Over}
-use Rattle.mc_model.specs.declared.row.Row.{Row}
-use Rattle.mc_model.specs.declared.row.Row.TheVariants.{Release, Tick, Idle}
+use Rattle.mc_model.specs.declared.run.Run.{Run}
+use Rattle.mc_model.specs.declared.run.Run.TheVariants.{Release, Ticks, Idles}
+use Rattle.trace_format.specs.declared.version.Version.TheVariants.{Two}
+use Rattle.trace_format.specs.declared.event.Event.TheVariants as event
 use Rattle.trace_format.specs.Events.{event_of, release_event, tick_event, idle_event}
-use Rattle.trace_format.specs.TraceFile.{event_row, record_row, rows_with, rows_from, rows_of, trace_file}
+use Rattle.trace_format.specs.TraceFile.{is_length, record_run, runs_with, runs_from, runs_of, trace_file}
 use Rattle.trace_format.specs.Writable.{IsWritable}
+use Rattle.mc_model.proofs.Runs.{alone}
 use Rattle.mc_task.proofs.NamedLemmas.{found_by_name}
 use Rattle.csv_records.proofs.RecordLemmas.{same_records, records_are}
-use Rattle.trace_format.proofs.LineLemmas.{row_fields, fields_after, header_fields, ticks-one, written_records}
+use Rattle.trace_format.proofs.LineLemmas.{run_fields, fields_after, header_fields, total-one, written_records}
 
 same_tick : (n : ℕ) → (n == n) ≡ true
 same_tick n = grind (arith, nat_tests)
 
-fields_back : (set : List Task) (tick : ℕ) (row : Row) → IsSet set → tick < 2 ^ 32 → IsWritable set row → event_row set tick (row_fields set tick row) (event_of (row_fields set tick row)) ≡ Ok row
-unfolding field_at event_of release_event tick_event idle_event
-fields_back set tick (Release j true) s h w = rw ((found_by_name set j.task.0 s w.0).number, number-decimal tick h, number-decimal j.count w.1, same_tick tick) refl
-fields_back set tick (Release j false) s h w = rw ((found_by_name set j.task.0 s w.0).number, number-decimal tick h, number-decimal j.count w.1, same_tick tick) refl
-fields_back set tick (Tick j More) s h w = rw ((found_by_name set j.task.0 s w.0).number, number-decimal tick h, number-decimal j.count w.1, same_tick tick) refl
-fields_back set tick (Tick j Done) s h w = rw ((found_by_name set j.task.0 s w.0).number, number-decimal tick h, number-decimal j.count w.1, same_tick tick) refl
-fields_back set tick (Tick j Stop) s h w = rw ((found_by_name set j.task.0 s w.0).number, number-decimal tick h, number-decimal j.count w.1, same_tick tick) refl
-fields_back set tick (Tick j Over) s h w = rw ((found_by_name set j.task.0 s w.0).number, number-decimal tick h, number-decimal j.count w.1, same_tick tick) refl
-fields_back set tick Idle s h w = rw (number-decimal tick h, same_tick tick) refl
+few_runs : (n : ℕ) → n < 2000000 → nat_le 2000000 n ≡ false
+few_runs n h = grind (arith, nat_tests)
 
-few_rows : (n : ℕ) → n < 2000000 → nat_le 2000000 n ≡ false
-few_rows n h = grind (arith, nat_tests)
+few_ticks : (due n : ℕ) → due + n ≤ 100000000 → nat_lt 100000000 (due + n) ≡ false
+few_ticks due n h = grind (arith, nat_tests)
 
-record_back : (set : List Task) (before : List Row) (row : Row) → IsSet set → length before < 2000000 → ticks before < 2 ^ 32 → IsWritable set row
-    → record_row set before (row_fields set (ticks before) row) ≡ Ok row
-unfolding record_row
-record_back set before (Release j kept) s a h w = rw (few_rows (length before) a) (fields_back set (ticks before) (Release j kept) s h w)
-record_back set before (Tick j how) s a h w = rw (few_rows (length before) a) (fields_back set (ticks before) (Tick j how) s h w)
-record_back set before Idle s a h w = rw (few_rows (length before) a) (fields_back set (ticks before) Idle s h w)
+-- a run has a length that is taken
+some_ticks : (n : ℕ) → 1 ≤ n → nat_le 1 n ≡ true
+some_ticks n h = grind (arith, nat_tests)
 
-rows_back : (set : List Task) (before rows : List Row) → IsSet set → length before + length rows ≤ 2000000 → ticks before ≤ length before → AllByRecursion (IsWritable set) rows
-    → rows_from set (fields_after set before rows) before ≡ Ok (before ++ rows)
-rows_back set before [] s a h w = ap Ok (sym (append-nil before))
-rows_back set before (row ∷ rows) s a h w =
-    let one : ticks (before ++ row ∷ []) ≤ ticks before + 1 = ticks-one before row in
-    let longer : length (before ++ row ∷ []) ≡ length before + 1 = length-append before (row ∷ []) in
-    let rest : rows_from set (fields_after set (before ++ row ∷ []) rows) (before ++ row ∷ []) ≡ Ok ((before ++ row ∷ []) ++ rows) = rows_back set (before ++ row ∷ []) rows s (omega (arith, longer)) (omega (arith, one, longer)) w.1 in
-    ap (rows_with before (rows_from set (fields_after set (before ++ row ∷ []) rows))) (record_back set before row s (omega arith) (omega arith) w.0)
-    ∙ (rest ∙ ap Ok (append_assoc before (row ∷ []) rows))
+one_tick : (j : JobId) (how : How) (n : ℕ) → IsRun (Ticks j how n) → how ≢ More → (n == 1) ≡ true
+one_tick j how n v other = let one = alone j how n v other in grind (arith, nat_tests, one)
 
-file_back : (set : List Task) (rows : List Row) → IsSet set → length rows ≤ 2000000 → AllByRecursion (IsWritable set) rows → rows_of set (header_fields ∷ fields_after set [] rows) ≡ Ok rows
+ticks_taken : (j : JobId) (how : How) (n : ℕ) → IsRun (Ticks j how n) → is_length (event.Tick how) n ≡ true
+ticks_taken j More n v = some_ticks n v.0
+ticks_taken j Done n v = one_tick j Done n v (λ e. cc)
+ticks_taken j Stop n v = one_tick j Stop n v (λ e. cc)
+ticks_taken j Over n v = one_tick j Over n v (λ e. cc)
+
+-- a word is read as what it stands for
+kept_read : (kept : Bool) → release_event (kept_word kept) ≡ Some (event.Release kept)
+unfolding release_event
+kept_read true = refl
+kept_read false = refl
+
+how_read : (how : How) → tick_event (how_word how) ≡ Some (event.Tick how)
+unfolding tick_event
+how_read More = refl
+how_read Done = refl
+how_read Stop = refl
+how_read Over = refl
+
+-- a run is read from its fields
+record_back : (set : List Task) (before : List Run) (r : Run) → IsSet set → length before < 2000000 → total length_of before + length_of r ≤ 100000000 → IsRun r → IsWritable set r
+    → record_run set Two before (run_fields set (total length_of before) r) ≡ Ok r
+unfolding record_run field_at event_of idle_event
+record_back set before (Release j kept) s a h v w =
+    rw (few_runs (length before) a, kept_read kept, (found_by_name set j.task.0 s w.0).number, number-decimal (total length_of before) (omega (arith, h)), number-decimal j.count w.1, same_tick (total length_of before), few_ticks (total length_of before) 0 h) refl
+record_back set before (Ticks j how n) s a h v w =
+    rw (few_runs (length before) a, how_read how, (found_by_name set j.task.0 s w.0).number, number-decimal (total length_of before) (omega (arith, h)), number-decimal n (omega (arith, h)), number-decimal j.count w.1, same_tick (total length_of before), ticks_taken j how n v, few_ticks (total length_of before) n h) refl
+record_back set before (Idles n) s a h v w =
+    rw (few_runs (length before) a, number-decimal (total length_of before) (omega (arith, h)), number-decimal n (omega (arith, h)), same_tick (total length_of before), some_ticks n v, few_ticks (total length_of before) n h) refl
+
+runs_back : (set : List Task) (before runs : List Run) → IsSet set → length before + length runs ≤ 2000000 → total length_of before + total length_of runs ≤ 100000000 → AllByRecursion IsRun runs → AllByRecursion (IsWritable set) runs
+    → runs_from set Two (fields_after set before runs) before ≡ Ok (before ++ runs)
+runs_back set before [] s a h v w = ap Ok (sym (append-nil before))
+runs_back set before (r ∷ runs) s a h v w =
+    let more = total-one before r in
+    let longer : length (before ++ r ∷ []) ≡ length before + 1 = length-append before (r ∷ []) in
+    let rest : runs_from set Two (fields_after set (before ++ r ∷ []) runs) (before ++ r ∷ []) ≡ Ok ((before ++ r ∷ []) ++ runs) = runs_back set (before ++ r ∷ []) runs s (omega (arith, longer, a)) (omega (arith, more, h)) v.1 w.1 in
+    ap (runs_with before (runs_from set Two (fields_after set (before ++ r ∷ []) runs))) (record_back set before r s (omega (arith, a)) (omega (arith, h)) v.0 w.0)
+    ∙ (rest ∙ ap Ok (append_assoc before (r ∷ []) runs))
+
+file_back : (set : List Task) (runs : List Run) → IsSet set → AreRuns runs → AllByRecursion (IsWritable set) runs → runs_of set (header_fields ∷ fields_after set [] runs) ≡ Ok runs
 unfolding field_at
-file_back set rows s a w = rows_back set [] rows s (omega arith) (omega arith) w
+file_back set runs s v w = let few = v.few in let short = v.short in runs_back set [] runs s (omega (arith, few)) (omega (arith, short)) (recursion_from_All IsRun runs v.each) w
 
--- what is written is read as its rows
-pub read_back : (set : List Task) (rows : List Row) (text : List ℕ) → IsSet set → length rows ≤ 2000000 → All (IsWritable set) rows → text ≡ trace_text set rows → trace_file set text ≡ Ok rows
-read_back set rows text s few writable is =
-    let w : AllByRecursion (IsWritable set) rows = recursion_from_All (IsWritable set) rows writable in
-    let written = written_records set rows s few w in
-    let same = same_records _ _ (records default_config (strip_bom (trace_text set rows))) (header_fields ∷ fields_after set [] rows) (records_are (strip_bom (trace_text set rows))) written in
-    ap (trace_file set) is ∙ (ap (rows_of set) same ∙ file_back set rows s few w)
+-- what is written is read as its runs
+pub read_back : (set : List Task) (runs : List Run) (text : List ℕ) → IsSet set → AreRuns runs → All (IsWritable set) runs → text ≡ runs_text set runs → trace_file set text ≡ Ok runs
+read_back set runs text s v writable is =
+    let w : AllByRecursion (IsWritable set) runs = recursion_from_All (IsWritable set) runs writable in
+    let written = written_records set runs s v.short w in
+    let same = same_records _ _ (records default_config (strip_bom (runs_text set runs))) (header_fields ∷ fields_after set [] runs) (records_are (strip_bom (runs_text set runs))) written in
+    ap (trace_file set) is ∙ (ap (runs_of set) same ∙ file_back set runs s v w)

@@ -1,10 +1,12 @@
 -- What the words of a record tell.
-use Rattle.std.specs.Prelude.{ℕ, true, false, ◌&&◌, ◌==◌, if◌then◌else◌, List, [], codes, length, Option, Some, None, unwrap_or}
+use Rattle.std.specs.Prelude.{ℕ, ◌+◌, Bool, true, false, ◌&&◌, ◌==◌, if◌then◌else◌, List, [], codes, length, Option, Some, None, unwrap_or}
 use Rattle.std.specs.Str.{bytes_eq}
 use Rattle.csv.specs.Records.{field_at}
 use Rattle.mc_model.specs.declared.row.How.TheVariants.{More, Done, Stop, Over}
 use Rattle.trace_format.specs.declared.event.Event.{Event}
 use Rattle.trace_format.specs.declared.event.Event.TheVariants.{Release, Tick, Idle}
+use Rattle.trace_format.specs.declared.version.Version.{Version}
+use Rattle.trace_format.specs.declared.version.Version.TheVariants.{One, Two}
 
 -- the field at a place, from 0; empty where there is none
 abbrev pub field : List (List ℕ) → ℕ → List ℕ
@@ -30,10 +32,20 @@ tick_event how =
 unfoldable pub idle_event : List ℕ → List ℕ → List ℕ → Option Event
 idle_event task job how = if (length task == 0 && length job == 0) && length how == 0 then Some Idle else None
 
+-- the place of the task's field, which the job's and the how's stand behind
+abbrev pub task_place : Version → ℕ
+task_place One = 2
+task_place Two = 3
+
+-- the record has no length
+abbrev pub has_no_length : Version → List (List ℕ) → Bool
+has_no_length One fields = true
+has_no_length Two fields = length (field fields 2) == 0
+
 -- what the record tells, by its first field and its last
-unfoldable pub event_of : List (List ℕ) → Option Event
-event_of fields =
-    if bytes_eq (field fields 0) (codes "release") then release_event (field fields 4)
-    else if bytes_eq (field fields 0) (codes "tick") then tick_event (field fields 4)
-    else if bytes_eq (field fields 0) (codes "idle") then idle_event (field fields 2) (field fields 3) (field fields 4)
+unfoldable pub event_of : Version → List (List ℕ) → Option Event
+event_of v fields =
+    if bytes_eq (field fields 0) (codes "release") then (if has_no_length v fields then release_event (field fields (task_place v + 2)) else None)
+    else if bytes_eq (field fields 0) (codes "tick") then tick_event (field fields (task_place v + 2))
+    else if bytes_eq (field fields 0) (codes "idle") then idle_event (field fields (task_place v)) (field fields (task_place v + 1)) (field fields (task_place v + 2))
     else None

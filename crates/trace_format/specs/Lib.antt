@@ -3,3 +3,4 @@ pub mod TraceFile
 pub mod Gives
 pub mod Reading
 pub mod Writable
+pub mod Packing

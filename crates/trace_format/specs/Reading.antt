@@ -1,12 +1,19 @@
--- What is known of the rows that are read so far.
-use Rattle.std.specs.Prelude.{◌≡◌, ◌≤◌, All, List, length}
+-- What is known of the runs that are read so far.
+use Rattle.std.specs.Prelude.{◌≡◌, ◌+◌, ◌≤◌, ℕ, List, length}
 use Rattle.mc_task.specs.declared.task.Task.{Task}
-use Rattle.mc_model.specs.Legal.{IsOfSet}
-use Rattle.mc_model.specs.Rows.{ticks}
+use Rattle.mc_model.specs.Sums.{total}
+use Rattle.mc_model.specs.declared.run.Run.{Run}
+use Rattle.mc_model.specs.Runs.{length_of, IsRun, IsRunOfSet}
 use Rattle.trace_format.specs.declared.read.Reading.{Reading}
 
--- they are of the set, and the next tick is the one behind them
-pub record AreRead (set : List Task) (r : Reading) : Type 0 where
-  pub few : length r.rows.items ≤ 2000000
-  pub due : r.due ≡ ticks r.rows.items
-  pub tasks : All (IsOfSet set) r.rows.items
+-- a run of the set that may stand behind so many ticks
+pub record Fits (set : List Task) (due : ℕ) (r : Run) : Type 0 where
+  pub is_run : IsRun r
+  pub task : IsRunOfSet set r
+  pub short : due + length_of r ≤ 100000000
+
+-- they are few and short enough, and the next tick is the one behind them
+pub record AreRead (r : Reading) : Type 0 where
+  pub few : length r.runs.items ≤ 2000000
+  pub due : r.due ≡ total length_of r.runs.items
+  pub short : r.due ≤ 100000000

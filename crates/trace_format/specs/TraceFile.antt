@@ -1,83 +1,140 @@
--- What the text of a trace says: its rows, the oldest first, or the first refusal.
-use Rattle.std.specs.Prelude.{ℕ, ◌+◌, Bool, ◌&&◌, ◌==◌, nat_le, if◌then◌else◌, List, [], ◌∷◌, ◌++◌, codes, length, Option, Some, None, Result, Ok, Err}
+-- What the text of a trace says: its runs, the oldest first, or the first refusal. The first record decides the version.
+use Rattle.std.specs.Prelude.{ℕ, ◌+◌, Bool, true, not, ◌&&◌, ◌==◌, nat_le, nat_lt, if◌then◌else◌, List, [], ◌∷◌, ◌++◌, codes, length, Option, Some, None, Result, Ok, Err}
 use Rattle.std.specs.Str.{bytes_eq}
 use Rattle.csv.specs.Reading.{default_config, records, strip_bom}
 use Rattle.numeral.specs.Numeral.{number}
 use Rattle.mc_task.specs.declared.task.Task.{Task}
 use Rattle.mc_task.specs.declared.task.JobId.{JobId}
 use Rattle.mc_task.specs.Faults.{named}
-use Rattle.mc_model.specs.Rows.{ticks}
-use Rattle.mc_model.specs.declared.row.Row.{Row}
-use Rattle.mc_model.specs.declared.row.Row.TheVariants as row
+use Rattle.mc_model.specs.Sums.{total}
+use Rattle.mc_model.specs.Runs.{length_of}
+use Rattle.mc_model.specs.declared.row.How.TheVariants.{More, Done, Stop, Over}
+use Rattle.mc_model.specs.declared.run.Run.{Run}
+use Rattle.mc_model.specs.declared.run.Run.TheVariants as run
+use Rattle.trace_format.specs.declared.version.Version.{Version}
+use Rattle.trace_format.specs.declared.version.Version.TheVariants.{One, Two}
 use Rattle.trace_format.specs.declared.event.Event.{Event}
 use Rattle.trace_format.specs.declared.event.Event.TheVariants as event
 use Rattle.trace_format.specs.declared.fault.TraceCause.{TraceCause}
-use Rattle.trace_format.specs.declared.fault.TraceCause.TheVariants.{BadRecord, Header, UnknownEvent, UnknownTask, BadNumber, WrongTick, TooMany}
+use Rattle.trace_format.specs.declared.fault.TraceCause.TheVariants.{BadRecord, Header, UnknownEvent, UnknownTask, BadNumber, WrongTick, TooMany, BadLength, TooManyTicks, NotSix}
 use Rattle.trace_format.specs.declared.fault.TraceFault.{TraceFault}
 use Rattle.trace_format.specs.declared.fault.TraceFault.TheVariants.{At}
-use Rattle.trace_format.specs.Events.{field, event_of}
+use Rattle.trace_format.specs.declared.record.Numbers.{Numbers}
+use Rattle.trace_format.specs.Events.{field, event_of, task_place}
 
 -- the record is `event,tick,task,job,how`
-abbrev pub is_header : List (List ℕ) → Bool
-is_header fields =
+abbrev pub is_first_header : List (List ℕ) → Bool
+is_first_header fields =
     length fields == 5
     && (bytes_eq (field fields 0) (codes "event")
     && (bytes_eq (field fields 1) (codes "tick")
     && (bytes_eq (field fields 2) (codes "task") && (bytes_eq (field fields 3) (codes "job") && bytes_eq (field fields 4) (codes "how")))))
 
--- the job of a task at the tick that is due, by the tick and the count where both are numbers
-abbrev pub numbered_job : ℕ → ℕ → Option ℕ → Option ℕ → Result JobId TraceCause
-numbered_job due task None count = Err BadNumber
-numbered_job due task (Some tick) None = Err BadNumber
-numbered_job due task (Some tick) (Some count) = if tick == due then Ok (record { task = record { 0 = task }; count = count }) else Err WrongTick
+-- the record is `event,tick,length,task,job,how`
+abbrev pub is_second_header : List (List ℕ) → Bool
+is_second_header fields =
+    length fields == 6
+    && (bytes_eq (field fields 0) (codes "event")
+    && (bytes_eq (field fields 1) (codes "tick")
+    && (bytes_eq (field fields 2) (codes "length")
+    && (bytes_eq (field fields 3) (codes "task") && (bytes_eq (field fields 4) (codes "job") && bytes_eq (field fields 5) (codes "how"))))))
 
--- the job of a task, or of none, with the tick and the count in these fields
-abbrev pub named_job : ℕ → Option ℕ → List (List ℕ) → Result JobId TraceCause
-named_job due None fields = Err UnknownTask
-named_job due (Some task) fields = numbered_job due task (number (field fields 1)) (number (field fields 3))
+-- the version that the record is the header of
+abbrev pub version_of : List (List ℕ) → Option Version
+version_of fields = if is_first_header fields then Some One else if is_second_header fields then Some Two else None
 
--- the job that the record names
-abbrev pub job_of : List Task → ℕ → List (List ℕ) → Result JobId TraceCause
-job_of set due fields = named_job due (named (field fields 2) set) fields
+-- the number of fields
+abbrev pub width : Version → ℕ
+width One = 5
+width Two = 6
 
--- the row of a job, where there is one
-abbrev pub row_with : (JobId → Row) → Result JobId TraceCause → Result Row TraceCause
-row_with row (Err cause) = Err cause
-row_with row (Ok job) = Ok (row job)
+-- the refusal of another number
+abbrev pub wrong_width : Version → TraceCause
+wrong_width One = BadRecord
+wrong_width Two = NotSix
 
--- the row of a tick without a job, where its tick is the one that is due
-abbrev pub idle_row : ℕ → Option ℕ → Result Row TraceCause
-idle_row due None = Err BadNumber
-idle_row due (Some tick) = if tick == due then Ok row.Idle else Err WrongTick
+-- the ticks of a tick or idle record: one in version 1
+abbrev pub length_in : Version → List (List ℕ) → Option ℕ
+length_in One fields = Some 1
+length_in Two fields = number (field fields 2)
 
--- the row of what a record tells
-abbrev pub event_row : List Task → ℕ → List (List ℕ) → Option Event → Result Row TraceCause
-event_row set due fields None = Err UnknownEvent
-event_row set due fields (Some (event.Release kept)) = row_with (λ job. row.Release job kept) (job_of set due fields)
-event_row set due fields (Some (event.Tick how)) = row_with (λ job. row.Tick job how) (job_of set due fields)
-event_row set due fields (Some event.Idle) = idle_row due (number (field fields 1))
+-- the task of a release or a tick; 0, which is the number of no task, where the record is idle
+abbrev pub task_told : List Task → Version → List (List ℕ) → Event → Option ℕ
+task_told set v fields (event.Release kept) = named (field fields (task_place v)) set
+task_told set v fields (event.Tick how) = named (field fields (task_place v)) set
+task_told set v fields event.Idle = Some 0
 
--- the row of a record behind these rows
-unfoldable pub record_row : List Task → List Row → List (List ℕ) → Result Row TraceCause
-record_row set before fields =
+-- a tick, a length and a count, where each of them is a number
+abbrev pub all_numbers : Option ℕ → Option ℕ → Option ℕ → Option Numbers
+all_numbers None length count = None
+all_numbers (Some tick) None count = None
+all_numbers (Some tick) (Some length) None = None
+all_numbers (Some tick) (Some length) (Some count) = Some (record { tick = tick; length = length; count = count })
+
+-- those of a record: a release has no ticks, and an idle record no job
+abbrev pub numbers_told : Version → List (List ℕ) → Event → Option Numbers
+numbers_told v fields (event.Release kept) = all_numbers (number (field fields 1)) (Some 0) (number (field fields (task_place v + 1)))
+numbers_told v fields (event.Tick how) = all_numbers (number (field fields 1)) (length_in v fields) (number (field fields (task_place v + 1)))
+numbers_told v fields event.Idle = all_numbers (number (field fields 1)) (length_in v fields) (Some 0)
+
+-- the record may have so many ticks: at least one of a tick or an idle record, and more only where its job goes on
+-- behind each of them, or where it is idle
+abbrev pub is_length : Event → ℕ → Bool
+is_length (event.Release kept) n = true
+is_length (event.Tick More) n = nat_le 1 n
+is_length (event.Tick Done) n = n == 1
+is_length (event.Tick Stop) n = n == 1
+is_length (event.Tick Over) n = n == 1
+is_length event.Idle n = nat_le 1 n
+
+-- the job with this count of a task
+abbrev pub job_with : ℕ → ℕ → JobId
+job_with task count = record { task = record { 0 = task }; count = count }
+
+-- the run of a record with these numbers
+abbrev pub run_told : Event → ℕ → Numbers → Run
+run_told (event.Release kept) task n = run.Release (job_with task n.count) kept
+run_told (event.Tick how) task n = run.Ticks (job_with task n.count) how n.length
+run_told event.Idle task n = run.Idles n.length
+
+-- what goes on from a value, or the refusal where there is none
+abbrev pub given : {A : Type 0} → Option A → TraceCause → (A → Result Run TraceCause) → Result Run TraceCause
+given None cause more = Err cause
+given (Some x) cause more = more x
+
+-- the run of a record behind these runs, or the first of its refusals
+unfoldable pub record_run : List Task → Version → List Run → List (List ℕ) → Result Run TraceCause
+record_run set v before fields =
     if nat_le 2000000 (length before) then Err TooMany
-    else if length fields == 5 then event_row set (ticks before) fields (event_of fields) else Err BadRecord
+    else if not (length fields == width v) then Err (wrong_width v)
+    else given (event_of v fields) UnknownEvent (λ told.
+    given (task_told set v fields told) UnknownTask (λ task.
+    given (numbers_told v fields told) BadNumber (λ n.
+    if not (n.tick == total length_of before) then Err WrongTick
+    else if not (is_length told n.length) then Err BadLength
+    else if nat_lt 100000000 (total length_of before + n.length) then Err TooManyTicks
+    else Ok (run_told told task n))))
 
--- the refusal of a record behind these rows and the header, or what the file says with its row
-abbrev pub rows_with : List Row → (List Row → Result (List Row) TraceFault) → Result Row TraceCause → Result (List Row) TraceFault
-rows_with before more (Err cause) = Err (At (length before + 2) cause)
-rows_with before more (Ok row) = more (before ++ row ∷ [])
+-- the refusal of a record behind these runs and the header, or what the file says with its run
+abbrev pub runs_with : List Run → (List Run → Result (List Run) TraceFault) → Result Run TraceCause → Result (List Run) TraceFault
+runs_with before more (Err cause) = Err (At (length before + 2) cause)
+runs_with before more (Ok r) = more (before ++ r ∷ [])
 
--- these rows and then those of the records, or the first refusal
-abbrev pub rows_from : List Task → List (List (List ℕ)) → List Row → Result (List Row) TraceFault
-rows_from set [] before = Ok before
-rows_from set (f ∷ fs) before = rows_with before (rows_from set fs) (record_row set before f)
+-- these runs and then those of the records, or the first refusal
+abbrev pub runs_from : List Task → Version → List (List (List ℕ)) → List Run → Result (List Run) TraceFault
+runs_from set v [] before = Ok before
+runs_from set v (f ∷ fs) before = runs_with before (runs_from set v fs) (record_run set v before f)
 
--- the rows of these records with their header, or the first refusal
-abbrev pub rows_of : List Task → List (List (List ℕ)) → Result (List Row) TraceFault
-rows_of set [] = Err (At 1 Header)
-rows_of set (f ∷ fs) = if is_header f then rows_from set fs [] else Err (At 1 Header)
+-- the runs of the records of a version
+abbrev pub runs_by : List Task → List (List (List ℕ)) → Option Version → Result (List Run) TraceFault
+runs_by set fs None = Err (At 1 Header)
+runs_by set fs (Some v) = runs_from set v fs []
 
--- the rows of a text, or its first refusal; its records are as csv's reader gives them with its defaults
-abbrev pub trace_file : List Task → List ℕ → Result (List Row) TraceFault
-trace_file set text = rows_of set (records default_config (strip_bom text))
+-- the runs of these records with their header, or the first refusal
+abbrev pub runs_of : List Task → List (List (List ℕ)) → Result (List Run) TraceFault
+runs_of set [] = Err (At 1 Header)
+runs_of set (f ∷ fs) = runs_by set fs (version_of f)
+
+-- the runs of a text, or its first refusal; its records are as csv's reader gives them with its defaults
+abbrev pub trace_file : List Task → List ℕ → Result (List Run) TraceFault
+trace_file set text = runs_of set (records default_config (strip_bom text))

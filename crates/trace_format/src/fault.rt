@@ -3,21 +3,27 @@ use thiserror::Error;
 /// Why a record of a trace is refused.
 #[derive(Clone, Copy, Debug, PartialEq, Eq)]
 pub enum TraceCause {
-    /// The record has not five fields.
+    /// The record of version 1 has not five fields.
     BadRecord,
-    /// The first record is absent, or is not `event,tick,task,job,how`.
+    /// The first record is absent, or is the header of neither version.
     Header,
     /// The event and the how are not `release` with `kept` or `dropped`, nor `tick` with `more`, `done`, `stop` or
-    /// `over`, nor `idle` with an empty task, job and how.
+    /// `over`, nor `idle` with an empty task, job and how; or a release has a length.
     UnknownEvent,
     /// The set has no such task.
     UnknownTask,
-    /// The tick or the job is not 1 to 10 ASCII digits of a value of at most 4,294,967,295.
+    /// The tick, the length or the job is not 1 to 10 ASCII digits of a value of at most 4,294,967,295.
     BadNumber,
-    /// The tick is not the number of tick and idle records before.
+    /// The tick is not the sum of the lengths before; in version 1 each is 1.
     WrongTick,
-    /// There are 2,000,000 rows before it.
+    /// There are 2,000,000 records before it.
     TooMany,
+    /// The length is 0, or it is above 1 and the record is a tick behind which its job does not go on.
+    BadLength,
+    /// With it there are more than 100,000,000 ticks.
+    TooManyTicks,
+    /// The record of version 2 has not six fields.
+    NotSix,
 }
 
 /// Why a trace is refused. Lines are numbers of records: the header is line 1, and lines that the reader skips are not

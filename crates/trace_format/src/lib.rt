@@ -1,14 +1,17 @@
-//! Traces as text: rows written as lines, and read from records.
+//! Traces as text: runs of equal rows written as lines, and read from records.
 #![tactic(auto)]
 
 mod event;
 mod fault;
+mod packing;
 mod read;
 mod record;
 #[cfg(test)]
 mod tests;
+mod version;
 mod write;
 
 pub use fault::{TraceCause, TraceFault};
+pub use packing::{merge, pack};
 pub use read::read_trace;
 pub use write::write_trace;

@@ -1,30 +1,55 @@
-// A record as a row.
-ghost use Rattle.std.specs.Prelude.{◌≡◌, ◌<◌, IfOk, OnOk, List, length};
+// A record as a run.
+ghost use Rattle.std.specs.Prelude.{◌≡◌, ◌+◌, ◌≤◌, option_map};
 ghost use Rattle.std.specs.Str.{bytes_eq};
 ghost use Rattle.csv.specs.Records.{fields_of};
-ghost use Rattle.mc_task.specs.TaskSet.{IsIn};
-ghost use Rattle.mc_task.specs.declared.task.Task.{Task};
-ghost use Rattle.mc_model.specs.Legal.{IsOfSet};
-ghost use Rattle.mc_model.specs.Rows.{ticks};
+ghost use Rattle.numeral.specs.Numeral as text;
+ghost use Rattle.mc_model.specs.Sums.{total};
+ghost use Rattle.mc_model.specs.Runs.{length_of};
 ghost use Rattle.trace_format.specs.Events as event;
 ghost use Rattle.trace_format.specs.TraceFile as file;
 
 use crate::TraceCause;
 use crate::event::Event;
+use crate::version::Version;
 use csv::ByteRecord;
-use mc_model::{How, Row};
-use mc_task::{JobId, TaskSet};
+use mc_model::{How, Run};
+use mc_task::{JobId, TaskNo, TaskSet};
 use numeral::number;
 
+// The version that the record is the header of.
+pub fn version_of(fields: &ByteRecord) -> Option<Version>
+    ensures { result ≡ file.version_of (fields_of fields.now) }
+{
+    if is_first_header(fields) {
+        Some(Version::One)
+    } else if is_second_header(fields) {
+        Some(Version::Two)
+    } else {
+        None
+    }
+}
+
 // Whether the record is `event,tick,task,job,how`.
-pub fn is_header(fields: &ByteRecord) -> bool
-    ensures { result ≡ file.is_header (fields_of fields.now) }
+fn is_first_header(fields: &ByteRecord) -> bool
+    ensures { result ≡ file.is_first_header (fields_of fields.now) }
 {
     fields.len() == 5
         && (is(field(fields, 0), "event")
             && (is(field(fields, 1), "tick")
                 && (is(field(fields, 2), "task")
                     && (is(field(fields, 3), "job") && is(field(fields, 4), "how")))))
+}
+
+// Whether the record is `event,tick,length,task,job,how`.
+fn is_second_header(fields: &ByteRecord) -> bool
+    ensures { result ≡ file.is_second_header (fields_of fields.now) }
+{
+    fields.len() == 6
+        && (is(field(fields, 0), "event")
+            && (is(field(fields, 1), "tick")
+                && (is(field(fields, 2), "length")
+                    && (is(field(fields, 3), "task")
+                        && (is(field(fields, 4), "job") && is(field(fields, 5), "how"))))))
 }
 
 fn is(field: &[u8], word: &str) -> bool
@@ -43,98 +68,197 @@ fn field(fields: &ByteRecord, place: usize) -> &[u8]
     }
 }
 
-// The row of a record behind the rows before it, at the tick that is due there.
-#[tactic(auto, unfolding(crate::specs::TraceFile::record_row))]
-pub fn record_row(
+// The place of the task's field, which the job's and the how's stand behind.
+fn task_place(version: Version) -> usize
+    ensures place { result ≡ event.task_place version }
+    ensures few { result ≤ 3 }
+{
+    match version {
+        Version::One => 2,
+        Version::Two => 3,
+    }
+}
+
+// The number of fields.
+fn width(version: Version) -> usize
+    ensures { result ≡ file.width version }
+{
+    match version {
+        Version::One => 5,
+        Version::Two => 6,
+    }
+}
+
+// The refusal of another number of fields.
+fn wrong_width(version: Version) -> TraceCause
+    ensures { result ≡ file.wrong_width version }
+{
+    match version {
+        Version::One => TraceCause::BadRecord,
+        Version::Two => TraceCause::NotSix,
+    }
+}
+
+// The run of a record behind the runs before it, at the tick that is due there.
+#[tactic(auto, unfolding(crate::specs::TraceFile::record_run))]
+pub fn record_run(
     set: &TaskSet,
-    before: &[Row],
+    version: Version,
+    before: &[Run],
     due: u32,
     fields: &ByteRecord,
-) -> Result<Row, TraceCause>
-    requires { due ≡ ticks before.now }
-    ensures row { result ≡ file.record_row set.now before.now (fields_of fields.now) }
-    ensures task { IfOk result (λ row. IsOfSet set.now row) }
-    ensures few { OnOk result (length before.now < 2000000) }
+) -> Result<Run, TraceCause>
+    requires due { due ≡ total length_of before.now }
+    requires short { due ≤ 100000000 }
+    ensures { result ≡ file.record_run set.now version before.now (fields_of fields.now) }
 {
     if before.len() >= 2_000_000 {
         return Err(TraceCause::TooMany);
     }
-    if fields.len() != 5 {
-        return Err(TraceCause::BadRecord);
+    if fields.len() != width(version) {
+        return Err(wrong_width(version));
     }
-    event_row(set, due, fields, event_of(fields))
-}
-
-fn event_row(
-    set: &TaskSet,
-    due: u32,
-    fields: &ByteRecord,
-    event: Option<Event>,
-) -> Result<Row, TraceCause>
-    ensures row { result ≡ file.event_row set.now due (fields_of fields.now) event }
-    ensures task { IfOk result (λ row. IsOfSet set.now row) }
-{
-    match event {
-        None => Err(TraceCause::UnknownEvent),
-        Some(Event::Release { kept }) => match job_of(set, due, fields) {
-            Ok(job) => Ok(Row::Release { job, kept }),
-            Err(cause) => Err(cause),
-        },
-        Some(Event::Tick { how }) => match job_of(set, due, fields) {
-            Ok(job) => Ok(Row::Tick { job, how }),
-            Err(cause) => Err(cause),
-        },
-        Some(Event::Idle) => idle_row(due, number(field(fields, 1))),
-    }
-}
-
-fn idle_row(due: u32, tick: Option<u32>) -> Result<Row, TraceCause>
-    ensures row { result ≡ file.idle_row due tick }
-    ensures task { (set : List Task) → IfOk result (λ row. IsOfSet set row) }
-{
-    let Some(tick) = tick else {
-        return Err(TraceCause::BadNumber);
+    let Some(told) = event_of(version, fields) else {
+        return Err(TraceCause::UnknownEvent);
     };
-    if tick != due {
-        return Err(TraceCause::WrongTick);
-    }
-    Ok(Row::Idle)
-}
-
-fn job_of(set: &TaskSet, due: u32, fields: &ByteRecord) -> Result<JobId, TraceCause>
-    ensures job { result ≡ file.job_of set.now due (fields_of fields.now) }
-    ensures task { IfOk result (λ job. IsIn set.now job.task.0) }
-{
-    let Some(task) = set.find(field(fields, 2)) else {
+    let Some(task) = task_told(set, version, fields, told) else {
         return Err(TraceCause::UnknownTask);
     };
-    let Some(tick) = number(field(fields, 1)) else {
+    let Some(numbers) = numbers_told(version, fields, told) else {
         return Err(TraceCause::BadNumber);
     };
-    let Some(count) = number(field(fields, 3)) else {
-        return Err(TraceCause::BadNumber);
-    };
-    if tick != due {
+    if numbers.tick != due {
         return Err(TraceCause::WrongTick);
     }
-    Ok(JobId { task, count })
+    if !is_length(told, numbers.length) {
+        return Err(TraceCause::BadLength);
+    }
+    if u64::from(due) + u64::from(numbers.length) > 100_000_000 {
+        return Err(TraceCause::TooManyTicks);
+    }
+    Ok(run_told(told, task, numbers))
+}
+
+// The task of a release or a tick; an idle record has none, for which 0 stands, the number of no task.
+fn task_told(set: &TaskSet, version: Version, fields: &ByteRecord, told: Event) -> Option<TaskNo>
+    ensures { option_map (λ task. task.0) result ≡ file.task_told set.now version (fields_of fields.now) told }
+{
+    match told {
+        Event::Release { .. } | Event::Tick { .. } => set.find(field(fields, task_place(version))),
+        Event::Idle => Some(TaskNo(0)),
+    }
+}
+
+// The tick, the length and the job's count of a record.
+#[derive(Clone, Copy, Debug, PartialEq, Eq)]
+pub struct Numbers {
+    pub tick: u32,
+    pub length: u32,
+    pub count: u32,
+}
+
+// Those of a record; `None` where one of them is no number.
+fn numbers_told(version: Version, fields: &ByteRecord, told: Event) -> Option<Numbers>
+    ensures { result ≡ file.numbers_told version (fields_of fields.now) told }
+{
+    let tick = number(field(fields, 1));
+    match told {
+        Event::Release { .. } => all_numbers(tick, Some(0), count_in(version, fields)),
+        Event::Tick { .. } => all_numbers(
+            tick,
+            length_in(version, fields),
+            count_in(version, fields),
+        ),
+        Event::Idle => all_numbers(tick, length_in(version, fields), Some(0)),
+    }
+}
+
+fn all_numbers(tick: Option<u32>, length: Option<u32>, count: Option<u32>) -> Option<Numbers>
+    ensures { result ≡ file.all_numbers tick length count }
+{
+    Some(Numbers {
+        tick: tick?,
+        length: length?,
+        count: count?,
+    })
+}
+
+// The count of the job.
+fn count_in(version: Version, fields: &ByteRecord) -> Option<u32>
+    ensures { result ≡ text.number (event.field (fields_of fields.now) (event.task_place version + 1)) }
+{
+    number(field(fields, task_place(version) + 1))
+}
+
+// Whether a record may have so many ticks.
+fn is_length(told: Event, length: u32) -> bool
+    ensures { result ≡ file.is_length told length }
+{
+    match told {
+        Event::Release { .. } => true,
+        Event::Tick { how } => match how {
+            How::More => length >= 1,
+            How::Done | How::Stop | How::Over => length == 1,
+        },
+        Event::Idle => length >= 1,
+    }
+}
+
+fn run_told(told: Event, task: TaskNo, numbers: Numbers) -> Run
+    ensures { result ≡ file.run_told told task.0 numbers }
+{
+    let job = JobId {
+        task,
+        count: numbers.count,
+    };
+    let length = numbers.length;
+    match told {
+        Event::Release { kept } => Run::Release { job, kept },
+        Event::Tick { how } => Run::Ticks { job, how, length },
+        Event::Idle => Run::Idles { length },
+    }
+}
+
+// The ticks of a tick or idle record.
+fn length_in(version: Version, fields: &ByteRecord) -> Option<u32>
+    ensures { result ≡ file.length_in version (fields_of fields.now) }
+{
+    match version {
+        Version::One => Some(1),
+        Version::Two => number(field(fields, 2)),
+    }
 }
 
 #[tactic(auto, unfolding(crate::specs::Events::event_of))]
-fn event_of(fields: &ByteRecord) -> Option<Event>
-    ensures { result ≡ event.event_of (fields_of fields.now) }
+fn event_of(version: Version, fields: &ByteRecord) -> Option<Event>
+    ensures { result ≡ event.event_of version (fields_of fields.now) }
 {
     let word = field(fields, 0);
+    let place = task_place(version);
     if is(word, "release") {
-        return release_event(field(fields, 4));
+        if has_no_length(version, fields) {
+            return release_event(field(fields, place + 2));
+        }
+        return None;
     }
     if is(word, "tick") {
-        return tick_event(field(fields, 4));
+        return tick_event(field(fields, place + 2));
     }
     if is(word, "idle") {
-        return idle_event(field(fields, 2), field(fields, 3), field(fields, 4));
+        let task = field(fields, place);
+        let job = field(fields, place + 1);
+        return idle_event(task, job, field(fields, place + 2));
     }
     None
+}
+
+fn has_no_length(version: Version, fields: &ByteRecord) -> bool
+    ensures { result ≡ event.has_no_length version (fields_of fields.now) }
+{
+    match version {
+        Version::One => true,
+        Version::Two => field(fields, 2).len() == 0,
+    }
 }
 
 #[tactic(auto, unfolding(crate::specs::Events::release_event))]

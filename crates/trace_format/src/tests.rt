@@ -1,5 +1,5 @@
-use crate::{TraceFault, read_trace, write_trace};
-use mc_model::{How, Row};
+use crate::{TraceFault, merge, pack, read_trace, write_trace};
+use mc_model::{How, Row, Run};
 use mc_task::{JobId, Level, Name, Task, TaskNo, TaskSet};
 use std::alloc::{AllocError, Global};
 use std::test::Fail;
@@ -25,11 +25,20 @@ fn control(alloc: Global) -> Result<TaskSet, Fail> {
     Ok(TaskSet::new(tasks).ok().ok_or("a set")?)
 }
 
-fn release(task: u32, count: u32, kept: bool) -> Row {
+fn release(task: u32, count: u32, kept: bool) -> Run {
     let task = TaskNo(task);
-    Row::Release {
+    Run::Release {
         job: JobId { task, count },
         kept,
+    }
+}
+
+fn ticks(task: u32, count: u32, how: How, length: u32) -> Run {
+    let task = TaskNo(task);
+    Run::Ticks {
+        job: JobId { task, count },
+        how,
+        length,
     }
 }
 
@@ -61,40 +70,92 @@ tick,10,log,2,more
 tick,11,log,2,more
 ";
 
+// The same in version 2.
+const PACKED: &str = "\
+event,tick,length,task,job,how
+release,0,,ctl,1,kept
+release,0,,log,1,kept
+tick,0,1,ctl,1,more
+tick,1,1,ctl,1,over
+tick,2,3,ctl,1,more
+tick,5,1,ctl,1,done
+idle,6,4,,,
+release,10,,log,2,kept
+tick,10,2,log,2,more
+";
+
 #[test]
-fn an_overrun_is_read_and_written_back(rt: HostRuntime) -> Result<(), Fail> {
+fn an_overrun_is_read_and_merged(rt: HostRuntime) -> Result<(), Fail> {
     let alloc = rt.alloc();
     let set = control(alloc)?;
-    let rows = read_trace(alloc, &set, OVERRUN.as_bytes())?;
-    assert_eq!(rt; rows.len(), 15);
-    assert_eq!(rt; rows.get(1), Some(&release(2, 1, true)));
-    assert_eq!(rt; rows.get(3), Some(&tick(1, 1, How::Over)));
-    assert_eq!(rt; rows.get(11), Some(&Row::Idle));
-    assert_eq!(rt; rows.get(14), Some(&tick(2, 2, How::More)));
-    let text = write_trace(alloc, &set, &rows)?;
-    assert_eq!(rt; text.as_slice(), OVERRUN.as_bytes());
+    let runs = read_trace(alloc, &set, OVERRUN.as_bytes())?;
+    assert_eq!(rt; runs.len(), 15);
+    assert_eq!(rt; runs.get(1), Some(&release(2, 1, true)));
+    assert_eq!(rt; runs.get(3), Some(&ticks(1, 1, How::Over, 1)));
+    assert_eq!(rt; runs.get(11), Some(&Run::Idles { length: 1 }));
+    let merged = merge(alloc, &runs)?;
+    assert_eq!(rt; merged.len(), 9);
+    assert_eq!(rt; merged.get(4), Some(&ticks(1, 1, How::More, 3)));
+    let again = read_trace(alloc, &set, PACKED.as_bytes())?;
+    assert_eq!(rt; again.as_slice(), merged.as_slice());
+    let text = write_trace(alloc, &set, &again)?;
+    assert_eq!(rt; text.as_slice(), PACKED.as_bytes());
     Ok(())
 }
 
-// The refusal's text, or how many rows there are.
+#[test]
+fn equal_rows_that_stand_together_are_packed(rt: HostRuntime) -> Result<(), Fail> {
+    let alloc = rt.alloc();
+    let job = JobId {
+        task: TaskNo(1),
+        count: 1,
+    };
+    let rows = [
+        Row::Idle,
+        Row::Release { job, kept: true },
+        Row::Idle,
+        Row::Idle,
+        tick(1, 1, How::More),
+        tick(1, 1, How::More),
+        tick(1, 2, How::More),
+        tick(1, 2, How::Done),
+        Row::Idle,
+    ];
+    let runs = pack(alloc, &rows)?;
+    let expected = [
+        Run::Idles { length: 1 },
+        release(1, 1, true),
+        Run::Idles { length: 2 },
+        ticks(1, 1, How::More, 2),
+        ticks(1, 2, How::More, 1),
+        ticks(1, 2, How::Done, 1),
+        Run::Idles { length: 1 },
+    ];
+    assert_eq!(rt; runs.as_slice(), expected.as_slice());
+    Ok(())
+}
+
+// The refusal's text, or how many runs there are.
 fn outcome(alloc: Global, set: &TaskSet, text: &str) -> Result<String, AllocError> {
     match read_trace(alloc, set, text.as_bytes()) {
-        Ok(rows) => format!(in alloc; "{} rows", rows.len()),
+        Ok(runs) => format!(in alloc; "{} runs", runs.len()),
         Err(TraceFault::Memory) => Err(AllocError),
         Err(fault) => format!(in alloc; "{fault}"),
     }
 }
 
 // Texts without a header, or with another, each with what is answered.
-const HEADERS: [(&str, &str); 8] = [
+const HEADERS: [(&str, &str); 10] = [
     ("", "line 1: Header"),
     ("\n\n", "line 1: Header"),
-    ("event,tick,task,job,how\n", "0 rows"),
-    ("event,tick,task,job,how", "0 rows"),
-    ("\u{feff}event,tick,task,job,how\r\n", "0 rows"),
+    ("event,tick,task,job,how\n", "0 runs"),
+    ("event,tick,task,job,how", "0 runs"),
+    ("\u{feff}event,tick,task,job,how\r\n", "0 runs"),
     ("event,tick,task,job\n", "line 1: Header"),
     ("event,tick,task,job,how,\n", "line 1: Header"),
     ("idle,0,,,\n", "line 1: Header"),
+    ("event,tick,length,task,job,how", "0 runs"),
+    ("event,tick,length,task,job\n", "line 1: Header"),
 ];
 
 // Records behind the header, and what is answered.
@@ -103,9 +164,10 @@ release,0,ctl,1,kept tick,0,ct => line 3: BadRecord
 release,0,ctl,1,kept tick,0,ctl,1,mor => line 3: UnknownEvent
 idle,0,,, idle,0,,, => line 3: WrongTick
 idle,1,,, => line 2: WrongTick
-idle,0,,, idle,1,,, => 2 rows
-\"idle\",0,\"\",,  idle,1,,, => 2 rows
+idle,0,,, idle,1,,, => 2 runs
+\"idle\",0,\"\",,  idle,1,,, => 2 runs
 release,0,ctl,1,kept, => line 2: BadRecord
+release,0,,ctl,1,kept => line 2: BadRecord
 release,0,ctl,1 => line 2: BadRecord
 Release,0,ctl,1,kept => line 2: UnknownEvent
 release,0,ctl,1,more => line 2: UnknownEvent
@@ -123,7 +185,7 @@ tick,,ctl,1,more => line 2: BadNumber
 tick,+0,ctl,1,more => line 2: BadNumber
 idle,,,, => line 2: BadNumber
 tick,1,ctl,1,more => line 2: WrongTick
-tick,0,ctl,4294967295,more tick,0000000001,log,0000000000,done => 2 rows
+tick,0,ctl,4294967295,more tick,0000000001,log,0000000000,done => 2 runs
 tick,0,ctl,4294967296,more => line 2: BadNumber
 tick,0,ctl,9999999999,more => line 2: BadNumber
 tick,0,ctl,00000000001,more => line 2: BadNumber
@@ -149,6 +211,65 @@ fn the_first_refusal_of_the_records_is_the_answer(rt: HostRuntime) -> Result<(),
         let (records, expected) = line.split_once(" => ").ok_or(line)?;
         let lines = records.replace(alloc, " ", "\n")?;
         let text = format!(in alloc; "{HEADER}{lines}\n")?;
+        let got = outcome(alloc, &set, text.as_str())?;
+        assert_eq!(rt; got.as_str(), expected, "{records}");
+    }
+    Ok(())
+}
+
+// Records behind the header of version 2, and what is answered.
+const SECOND: &str = "\
+idle,0,1,, => line 2: NotSix
+release,0,ctl,1,kept => line 2: NotSix
+x,x,x,x => line 2: NotSix
+tick,x,x,nix,x,mor => line 2: UnknownEvent
+release,0,1,ctl,1,kept => line 2: UnknownEvent
+release,0,0,nix,x,kept => line 2: UnknownEvent
+idle,0,1,ctl,, => line 2: UnknownEvent
+idle,0,1,,1, => line 2: UnknownEvent
+idle,0,1,,,more => line 2: UnknownEvent
+tick,x,x,nix,x,more => line 2: UnknownTask
+release,1,,nix,1,kept => line 2: UnknownTask
+tick,1,x,ctl,1,more => line 2: BadNumber
+tick,1,1,ctl,x,more => line 2: BadNumber
+tick,0,,ctl,1,more => line 2: BadNumber
+tick,0,4294967296,ctl,1,more => line 2: BadNumber
+release,,,ctl,1,kept => line 2: BadNumber
+idle,x,1,,, => line 2: BadNumber
+idle,0,,,, => line 2: BadNumber
+idle,0,+1,,, => line 2: BadNumber
+idle,0,00000000001,,, => line 2: BadNumber
+idle,1,0,,, => line 2: WrongTick
+tick,1,2,ctl,1,done => line 2: WrongTick
+idle,0,3,,, idle,1,1,,, => line 3: WrongTick
+idle,0,3,,, release,4,,ctl,1,kept => line 3: WrongTick
+idle,0,0,,, => line 2: BadLength
+tick,0,0,ctl,1,more => line 2: BadLength
+tick,0,0,ctl,1,done => line 2: BadLength
+tick,0,2,ctl,1,over => line 2: BadLength
+tick,0,2,ctl,1,stop => line 2: BadLength
+release,0,,ctl,1,kept tick,0,2,ctl,1,done => line 3: BadLength
+tick,0,100000001,ctl,1,done => line 2: BadLength
+idle,0,100000001,,, => line 2: TooManyTicks
+idle,0,4294967295,,, => line 2: TooManyTicks
+idle,0,99999999,,, tick,99999999,2,ctl,1,more => line 3: TooManyTicks
+idle,0,100000000,,, idle,100000000,1,,, => line 3: TooManyTicks
+idle,0,100000000,,, => 1 runs
+idle,0,100000000,,, release,100000000,,ctl,1,kept => 2 runs
+idle,0,99999999,,, idle,99999999,1,,, => 2 runs
+idle,0,0000000003,,, idle,3,1,,, => 2 runs
+release,0,,ctl,1,kept tick,0,2,ctl,1,more => 2 runs
+release,0,,ctl,1,kept tick,0,1,ctl,1,done => 2 runs
+";
+
+#[test]
+fn the_first_refusal_of_version_2_is_the_answer(rt: HostRuntime) -> Result<(), Fail> {
+    let alloc = rt.alloc();
+    let set = control(alloc)?;
+    for line in SECOND.lines() {
+        let (records, expected) = line.split_once(" => ").ok_or(line)?;
+        let lines = records.replace(alloc, " ", "\n")?;
+        let text = format!(in alloc; "event,tick,length,task,job,how\n{lines}\n")?;
         let got = outcome(alloc, &set, text.as_str())?;
         assert_eq!(rt; got.as_str(), expected, "{records}");
     }

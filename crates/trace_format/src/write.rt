@@ -1,82 +1,81 @@
-ghost use Rattle.std.specs.Prelude.{◌≡◌, ◌+◌, ◌++◌, [], ◌∷◌, ◌<◌, ◌≤◌, ◌^◌, All, Ok, IfOk, OnOk, length, decimal, codes};
-ghost use Rattle.mc_model.specs.Legal.{IsOfSet};
-ghost use Rattle.mc_model.specs.Rows.{ticks};
-ghost use Rattle.mc_model.specs.TraceText.{how_word, kept_word, line_of, row_line, trace_text};
+ghost use Rattle.std.specs.Prelude.{◌≡◌, ◌+◌, ◌++◌, ◌≤◌, All, Ok, IfOk, OnOk, decimal, codes};
+ghost use Rattle.mc_model.specs.Runs.{length_of, AreRuns, IsRunOfSet};
+ghost use Rattle.mc_model.specs.TraceText.{how_word, kept_word, line_of, run_line, runs_text};
 ghost use Rattle.trace_format.specs.TraceFile.{trace_file};
 ghost use Rattle.trace_format.specs.Writable.{IsWritable};
 
 use itoa::Buffer;
-use mc_model::{How, Row};
+use mc_model::{How, Run};
 use mc_task::{Memory, TaskSet};
 use std::alloc::{AllocError, Global};
 
-/// The trace as text: the header, and a line for each row.
-pub fn write_trace(alloc: Global, set: &TaskSet, rows: &[Row]) -> Result<Vec<u8>, Memory>
-    requires tasks { All (IsOfSet set.now) rows.now }
-    requires few { length rows.now ≤ 2000000 }
-    ensures text { IfOk result (λ text. text.items ≡ trace_text set.now rows.now) }
-    ensures reads_back { IfOk result (λ text. trace_file set.now text.items ≡ Ok rows.now) }
+/// The runs as the text of a trace in version 2: the header, and a line for each run.
+pub fn write_trace(alloc: Global, set: &TaskSet, runs: &[Run]) -> Result<Vec<u8>, Memory>
+    requires runs { AreRuns runs.now }
+    requires tasks { All (IsRunOfSet set.now) runs.now }
+    ensures text { IfOk result (λ text. text.items ≡ runs_text set.now runs.now) }
+    ensures reads_back { IfOk result (λ text. trace_file set.now text.items ≡ Ok runs.now) }
 {
     let _is_set = set.len();
-    match trace_text(alloc, set, rows) {
+    match runs_text(alloc, set, runs) {
         Ok(text) => Ok(text),
         Err(_) => Err(Memory),
     }
 }
 
-fn trace_text(alloc: Global, set: &TaskSet, rows: &[Row]) -> Result<Vec<u8>, AllocError>
-    requires tasks { All (IsOfSet set.now) rows.now }
-    requires few { length rows.now ≤ 2000000 }
-    ensures text { IfOk result (λ text. text.items ≡ trace_text set.now rows.now) }
-    ensures writable { IfOk result (λ text. All (IsWritable set.now) rows.now) }
+fn runs_text(alloc: Global, set: &TaskSet, runs: &[Run]) -> Result<Vec<u8>, AllocError>
+    requires runs { AreRuns runs.now }
+    requires tasks { All (IsRunOfSet set.now) runs.now }
+    ensures text { IfOk result (λ text. text.items ≡ runs_text set.now runs.now) }
+    ensures writable { IfOk result (λ text. All (IsWritable set.now) runs.now) }
 {
     let mut out = Vec::new(alloc);
-    out.extend_from_slice(b"event,tick,task,job,how\n")?;
+    out.extend_from_slice(b"event,tick,length,task,job,how\n")?;
     let mut tick = 0u32;
-    for row in rows {
-        push_row(&mut out, set, tick, *row)?;
-        tick = tick_after(tick, *row);
+    for run in runs {
+        push_run(&mut out, set, tick, *run)?;
+        tick = tick_after(tick, *run);
     }
     Ok(out)
 }
 
-// The tick of the row after this one.
-pub fn tick_after(tick: u32, row: Row) -> u32
-    requires { tick < 2 ^ 31 }
-    ensures { result ≡ tick + ticks (row ∷ []) }
+// The tick of the row after this run.
+pub fn tick_after(tick: u32, run: Run) -> u32
+    requires { tick + length_of run ≤ 100000000 }
+    ensures { result ≡ tick + length_of run }
 {
-    match row {
-        Row::Release { .. } => tick,
-        Row::Tick { .. } | Row::Idle => tick + 1,
+    match run {
+        Run::Release { .. } => tick,
+        Run::Ticks { length, .. } | Run::Idles { length } => tick + length,
     }
 }
 
-#[tactic(auto, unfolding(mc_model::specs::TraceText::row_line))]
-fn push_row(out: &mut Vec<u8>, set: &TaskSet, tick: u32, row: Row) -> Result<(), AllocError>
-    requires { IsOfSet set.now row }
-    ensures line { OnOk result (out.new.items ≡ out.old.items ++ row_line set.now tick row) }
-    ensures writable { IsWritable set.now row }
+#[tactic(auto, unfolding(mc_model::specs::TraceText::run_line))]
+fn push_run(out: &mut Vec<u8>, set: &TaskSet, tick: u32, run: Run) -> Result<(), AllocError>
+    requires { IsRunOfSet set.now run }
+    ensures line { OnOk result (out.new.items ≡ out.old.items ++ run_line set.now tick run) }
+    ensures writable { IsWritable set.now run }
 {
-    let mut buffer = Buffer::new();
-    match row {
-        Row::Release { job, kept } => {
+    let mut count_buffer = Buffer::new();
+    let mut length_buffer = Buffer::new();
+    match run {
+        Run::Release { job, kept } => {
             let task = set.get(job.task).unwrap();
-            let count = buffer.format(job.count);
-            push_line(
-                out,
-                "release",
-                tick,
-                task.name.bytes(),
-                count,
-                kept_word(kept),
-            )
+            let count = count_buffer.format(job.count);
+            let name = task.name.bytes();
+            push_line(out, "release", tick, "", name, count, kept_word(kept))
         }
-        Row::Tick { job, how } => {
+        Run::Ticks { job, how, length } => {
             let task = set.get(job.task).unwrap();
-            let count = buffer.format(job.count);
-            push_line(out, "tick", tick, task.name.bytes(), count, how_word(how))
+            let count = count_buffer.format(job.count);
+            let length = length_buffer.format(length);
+            let name = task.name.bytes();
+            push_line(out, "tick", tick, length, name, count, how_word(how))
         }
-        Row::Idle => push_line(out, "idle", tick, b"", "", ""),
+        Run::Idles { length } => {
+            let length = length_buffer.format(length);
+            push_line(out, "idle", tick, length, b"", "", "")
+        }
     }
 }
 
@@ -101,15 +100,17 @@ fn push_line(
     out: &mut Vec<u8>,
     event: &str,
     tick: u32,
+    length: &str,
     task: &[u8],
     job: &str,
     how: &str,
 ) -> Result<(), AllocError>
-    ensures { OnOk result (out.new.items ≡ out.old.items ++ line_of event.now (decimal tick) task.now job.now how.now) }
+    ensures { OnOk result (out.new.items ≡ out.old.items ++ line_of event.now (decimal tick) length.now task.now job.now how.now) }
 {
     let mut buffer = Buffer::new();
     push_field(out, event.as_bytes())?;
     push_field(out, buffer.format(tick).as_bytes())?;
+    push_field(out, length.as_bytes())?;
     push_field(out, task)?;
     push_field(out, job.as_bytes())?;
     out.extend_from_slice(how.as_bytes())?;

@@ -35,9 +35,9 @@ total-insert w k p (e ∷ es) h = go (rank_cmp k e.0) refl (total-insert w k p e
         absurd (let bad : true ≡ false = sym q.1 ∙ n in cc)
     go Greater m ih = let i : total w (insert_entry rank_cmp es k p) ≡ w (k, p) + total w es = ih (or_right (is_of (record { task = record { 0 = k.1 }; count = k.2 }) e) (pending_in es (record { task = record { 0 = k.1 }; count = k.2 })) h) in omega arith
 
--- the job's entry with one more tick, the others as they were
-abbrev pub ticked_at : JobId → (Entry → ℕ) → Entry → ℕ
-ticked_at j w e = cond (is_of j e) (w (e.0, ticked e.1)) (w e)
+-- the job's entry with n more ticks, the others as they were
+abbrev pub ticked_at : ℕ → JobId → (Entry → ℕ) → Entry → ℕ
+ticked_at n j w e = cond (is_of j e) (w (e.0, ticked n e.1)) (w e)
 
 -- the job's entry counts nothing, the others as they were
 abbrev pub taken_at : JobId → (Entry → ℕ) → Entry → ℕ
@@ -57,21 +57,21 @@ unchanged j w v same (e ∷ es) h = go (is_of j e) refl (unchanged j w v same es
         omega (arith, i, s)
 
 -- so it is with the entry that the look-up gives
-spent_some : (w : Entry → ℕ) (j : JobId) (k : ℕ) (p : Pending) (es : List Entry) → total (when (is_of j) one) es ≤ 1 → lookup (is_at (rank_cmp (k, j.task.0, j.count))) es ≡ Some p →
-    total w (set_value (is_at (rank_cmp (k, j.task.0, j.count))) es (ticked p)) ≡ total (ticked_at j w) es
-spent_some w j k p [] u h = cc
-spent_some w j k p (e ∷ es) u h = go (is_at (rank_cmp (k, j.task.0, j.count)) e.0) refl h (is_of j e) refl (spent_some w j k p es) (λ f. found_positive j k p es f)
+spent_some : (d : ℕ) (w : Entry → ℕ) (j : JobId) (k : ℕ) (p : Pending) (es : List Entry) → total (when (is_of j) one) es ≤ 1 → lookup (is_at (rank_cmp (k, j.task.0, j.count))) es ≡ Some p →
+    total w (set_value (is_at (rank_cmp (k, j.task.0, j.count))) es (ticked d p)) ≡ total (ticked_at d j w) es
+spent_some d w j k p [] u h = cc
+spent_some d w j k p (e ∷ es) u h = go (is_at (rank_cmp (k, j.task.0, j.count)) e.0) refl h (is_of j e) refl (spent_some d w j k p es) (λ f. found_positive j k p es f)
   where
     go : (b : Bool) → is_at (rank_cmp (k, j.task.0, j.count)) e.0 ≡ b → cond b (Some e.1) (lookup (is_at (rank_cmp (k, j.task.0, j.count))) es) ≡ Some p → (c : Bool) → is_of j e ≡ c →
-        (total (when (is_of j) one) es ≤ 1 → lookup (is_at (rank_cmp (k, j.task.0, j.count))) es ≡ Some p → total w (set_value (is_at (rank_cmp (k, j.task.0, j.count))) es (ticked p)) ≡ total (ticked_at j w) es) →
+        (total (when (is_of j) one) es ≤ 1 → lookup (is_at (rank_cmp (k, j.task.0, j.count))) es ≡ Some p → total w (set_value (is_at (rank_cmp (k, j.task.0, j.count))) es (ticked d p)) ≡ total (ticked_at d j w) es) →
         (lookup (is_at (rank_cmp (k, j.task.0, j.count))) es ≡ Some p → 1 ≤ total (when (is_of j) one) es) →
-        total w (cond b ((e.0, ticked p) ∷ es) (e ∷ set_value (is_at (rank_cmp (k, j.task.0, j.count))) es (ticked p))) ≡ ticked_at j w e + total (ticked_at j w) es
+        total w (cond b ((e.0, ticked d p) ∷ es) (e ∷ set_value (is_at (rank_cmp (k, j.task.0, j.count))) es (ticked d p))) ≡ ticked_at d j w e + total (ticked_at d j w) es
     go true m h c n ih some =
         let q = (rank_of j k e m).1 in
         let v : e.1 ≡ p = same_Some e.1 p h in
         let here : cond true 1 0 + total (when (is_of j) one) es ≤ 1 = rw q at u in
-        let rest : total w es ≡ total (ticked_at j w) es = unchanged j w (ticked_at j w) (λ x f. ap (λ b. cond b (w (x.0, ticked x.1)) (w x)) f) es (omega (arith, here)) in
-        rw (q, sym v) (ap (λ n. w (e.0, ticked e.1) + n) rest)
+        let rest : total w es ≡ total (ticked_at d j w) es = unchanged j w (ticked_at d j w) (λ x f. ap (λ b. cond b (w (x.0, ticked d x.1)) (w x)) f) es (omega (arith, here)) in
+        rw (q, sym v) (ap (λ n. w (e.0, ticked d e.1) + n) rest)
     go false m h true n ih some =
         let here : cond true 1 0 + total (when (is_of j) one) es ≤ 1 = rw n at u in
         absurd (omega (arith, here, some h))
@@ -79,10 +79,10 @@ spent_some w j k p (e ∷ es) u h = go (is_at (rank_cmp (k, j.task.0, j.count)) 
         let here : cond false 1 0 + total (when (is_of j) one) es ≤ 1 = rw n at u in
         rw n (ap (λ m. w e + m) (ih (omega (arith, here)) h))
 
--- one more tick of a job that is found
-pub total-spent : (w : Entry → ℕ) (j : JobId) (k : ℕ) (p : Pending) (es : List Entry) → total (when (is_of j) one) es ≤ 1 → lookup (is_at (rank_cmp (k, j.task.0, j.count))) es ≡ Some p →
-    total w (spent (k, j.task.0, j.count) es) ≡ total (ticked_at j w) es
-total-spent w j k p es u h = ap (λ o. total w (spent_from o (k, j.task.0, j.count) es)) h ∙ spent_some w j k p es u h
+-- d more ticks of a job that is found
+pub total-spent : (d : ℕ) (w : Entry → ℕ) (j : JobId) (k : ℕ) (p : Pending) (es : List Entry) → total (when (is_of j) one) es ≤ 1 → lookup (is_at (rank_cmp (k, j.task.0, j.count))) es ≡ Some p →
+    total w (spent d (k, j.task.0, j.count) es) ≡ total (ticked_at d j w) es
+total-spent d w j k p es u h = ap (λ o. total w (spent_from d o (k, j.task.0, j.count) es)) h ∙ spent_some d w j k p es u h
 
 -- the entry of a job that is found taken out
 pub total-remove : (w : Entry → ℕ) (j : JobId) (k : ℕ) (p : Pending) (es : List Entry) → total (when (is_of j) one) es ≤ 1 → lookup (is_at (rank_cmp (k, j.task.0, j.count))) es ≡ Some p →

@@ -157,9 +157,13 @@ idle_is : (set : List Task) (rule : Rule) (g : List Row) → Legal set rule g �
 idle_is set rule g l = ap (λ now. fault_among set rule now Idle g) (pending_is set rule g l)
 
 -- nothing waits
-empty_at : (ws : List Placed) → length ws ≡ 0 → is_empty (map live_of ws) ≡ true
+pub empty_at : (ws : List Placed) → length ws ≡ 0 → is_empty (map live_of ws) ≡ true
 empty_at [] h = refl
 empty_at (x ∷ ws) h = absurd (omega arith)
+
+pub nothing_at : (ws : List Placed) → length ws ≡ 0 → ws ≡ []
+nothing_at [] h = refl
+nothing_at (x ∷ ws) h = absurd (omega arith)
 
 -- something waits
 not_empty_at : (ws : List Placed) → length ws ≢ 0 → is_empty (map live_of ws) ≡ false
@@ -170,11 +174,7 @@ not_empty_at (x ∷ ws) h = refl
 pub same_length : (set : List Task) (rule : Rule) (g : List Row) (s : State) → Tracks set rule g s → length s.waiting.entries ≡ length (waiting set g)
 same_length set rule g s t = sym (total-one s.waiting.entries) ∙ (t.waiting one ∙ total-one (waiting set g))
 
--- an idle row that fits
-pub idle_none : (set : List Task) (rule : Rule) (g : List Row) (s : State) → Legal set rule g → Tracks set rule g s → length s.waiting.entries ≡ 0 → None ≡ fault set rule Idle g
-idle_none set rule g s l t h = sym (idle_is set rule g l ∙ rw (empty_at (waiting set g) (sym (same_length set rule g s t) ∙ h)) refl)
-
--- an idle row that does not
+-- an idle row that does not fit
 pub idle_some : (set : List Task) (rule : Rule) (g : List Row) (s : State) → Legal set rule g → Tracks set rule g s → length s.waiting.entries ≢ 0 → Some IdlePending ≡ fault set rule Idle g
 idle_some set rule g s l t h = sym (idle_is set rule g l ∙ rw (not_empty_at (waiting set g) (λ e. h (same_length set rule g s t ∙ e))) refl)
 

@@ -63,8 +63,11 @@ set_other (x ∷ xs) (suc i) zero v h = refl
 set_other (x ∷ xs) (suc i) (suc k) v h = set_other xs i k v (λ e. h (ap (λ n. suc n) e))
 
 -- a note from its parts
-abbrev a_note : ℕ → ℕ → TaskNote
+abbrev pub a_note : ℕ → ℕ → TaskNote
 a_note a b = record { releases = a; next = b }
+
+pub note_eq : (a b c d : ℕ) → a ≡ b → c ≡ d → Some (a_note a c) ≡ Some (a_note b d)
+note_eq a b c d x y = ap (λ (n : ℕ). Some (a_note n c)) x ∙ ap (λ (n : ℕ). Some (a_note b n)) y
 
 -- the notes on the tasks after a release
 notes_after : (set : List Task) (rule : Rule) (g : List Row) (s : State) (j : JobId) (kept : Bool) (task : Task) → Legal set rule (Release j kept ∷ g) → Tracks set rule g s → task_at set j.task.0 ≡ Some task →
@@ -85,9 +88,6 @@ notes_after set rule g s j kept task l t at k h = go (j.task.0 == k + 1) refl
         (let x = ap period_in at in let y = ap (λ (n : ℕ). period_in (task_at set n)) e in let z = t.ticks in omega (arith, x, y, z)) in
         let here : slice_get (slice_set s.tasks.items k v) k ≡ Some v = set_here s.tasks.items k v (let n = t.count in omega (arith, n, h)) in
         rw (i, m) (here ∙ note_eq j.count (1 + releases g (k + 1)) (s.ticks + period_in (Some task)) (ticks g + period_in (task_at set (k + 1))) c' p)
-      where
-        note_eq : (a b c d : ℕ) → a ≡ b → c ≡ d → Some (a_note a c) ≡ Some (a_note b d)
-        note_eq a b c d x y = ap (λ (n : ℕ). Some (a_note n c)) x ∙ ap (λ (n : ℕ). Some (a_note b n)) y
     go false m =
         let ne : j.task.0 ≢ k + 1 = eqb-false _ _ m in
         let i : k ≢ j.task.0 - 1 = λ e. ne (let a : 1 ≤ j.task.0 = l.0.0 in omega (arith, e, a)) in

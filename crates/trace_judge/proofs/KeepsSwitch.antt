@@ -40,28 +40,28 @@ keeps_over set rule g s s' j k p l t room virtual found m = record {
   mode = m.mode ∙ sym mode_high;
   count = ap length m.moves.tasks ∙ t.count;
   tasks = λ n h. ap (λ xs. slice_get xs n) m.moves.tasks ∙ t.tasks n h;
-  waiting = λ f. ap (total f) m.waiting ∙ (moves f ∙ waits_after set rule g s j Over f (ticked_at j (moved set rule f)) t (Each-all (λ x. each f x) (waiting set g)));
+  waiting = λ f. ap (total f) m.waiting ∙ (moves f ∙ waits_after set rule g s j Over f (ticked_at 1 j (moved set rule f)) t (Each-all (λ x. each f x) (waiting set g)));
   lates = subst (λ x. Counts x (lates_of set (Tick j Over ∷ g))) (sym m.lates)
       (counts_same (noted_each (is_discarded_late set s.ticks) s.lates es) (λ f. total (when (is_discarded_late set s.ticks) (λ e. f (late_job_of e))) es + lates_of set g f) (lates_of set (Tick j Over ∷ g))
       (λ f. let a = spends (when (is_discarded_late set s.ticks) (λ e. f (late_job_of e))) in
-      let b = lates_after set rule g s j Over f (ticked_at j (when (is_discarded_late set s.ticks) (λ e. f (late_job_of e)))) t (Each-all (λ x. gone f x) (waiting set g)) in
+      let b = lates_after set rule g s j Over f (ticked_at 1 j (when (is_discarded_late set s.ticks) (λ e. f (late_job_of e)))) t (Each-all (λ x. gone f x) (waiting set g)) in
       omega (arith, a, b))
       (counts_all (is_discarded_late set s.ticks) s.lates (lates_of set g) es (sums_of set g) t.lates));
 }
   where
     es : List Entry
-    es = spent (k, j.task.0, j.count) s.waiting.entries
+    es = spent 1 (k, j.task.0, j.count) s.waiting.entries
 
     mode_high : high_mode rule (Tick j Over ∷ g) ≡ true
     mode_high = rw virtual refl
 
-    spends : (w : Entry → ℕ) → total w es ≡ total (ticked_at j w) s.waiting.entries
-    spends w = total-spent w j k p s.waiting.entries (apart set rule g s l t j) found
+    spends : (w : Entry → ℕ) → total w es ≡ total (ticked_at 1 j w) s.waiting.entries
+    spends w = total-spent 1 w j k p s.waiting.entries (apart set rule g s l t j) found
 
     still_apart : (i : JobId) → total (when (is_of i) one) [] + total (when (is_of i) one) es ≤ 1
     still_apart i =
         let a = spends (when (is_of i) one) in
-        let b : total (ticked_at j (when (is_of i) one)) s.waiting.entries ≡ total (when (is_of i) one) s.waiting.entries = total-same _ _ (λ e. same (is_of j e) (cond (is_of i e) 1 0)) s.waiting.entries in
+        let b : total (ticked_at 1 j (when (is_of i) one)) s.waiting.entries ≡ total (when (is_of i) one) s.waiting.entries = total-same _ _ (λ e. same (is_of j e) (cond (is_of i e) 1 0)) s.waiting.entries in
         let c = apart set rule g s l t i in
         omega (arith, a, b, c)
       where
@@ -69,7 +69,7 @@ keeps_over set rule g s s' j k p l t room virtual found m = record {
         same true n = refl
         same false n = refl
 
-    moves : (f : Entry → ℕ) → total f (switched set rule [] es) ≡ total (ticked_at j (moved set rule f)) s.waiting.entries
+    moves : (f : Entry → ℕ) → total f (switched set rule [] es) ≡ total (ticked_at 1 j (moved set rule f)) s.waiting.entries
     moves f = let a = total-kept set rule f [] es still_apart in let b = spends (moved set rule f) in omega (arith, a, b)
 
     -- an entry at its new key
@@ -78,7 +78,7 @@ keeps_over set rule g s s' j k p l t room virtual found m = record {
     key_moved f x q None e r h hi n = refl
     key_moved f x q (Some task) e r h hi n = rw (hi, r) refl
 
-    each : (f : Entry → ℕ) (x : Placed) → ticked_at j (moved set rule f) (entry_of set rule g x) ≡ cond (stays set j Over x) (f (entry_of set rule (Tick j Over ∷ g) x)) 0
+    each : (f : Entry → ℕ) (x : Placed) → ticked_at 1 j (moved set rule f) (entry_of set rule g x) ≡ cond (stays set j Over x) (f (entry_of set rule (Tick j Over ∷ g) x)) 0
     each f x = go (same_job j x.live.job) refl
       where
         q : ℕ → Pending
@@ -98,7 +98,7 @@ keeps_over set rule g s s' j k p l t room virtual found m = record {
             key_moved f x (a_pending x.live.release (used g x.live.job) x.place) (task_at set x.live.job.task.0) refl refl (high_mode rule (Tick j Over ∷ g)) mode_high (key set rule (high_mode rule g) x.live)
             ∙ ap (λ (u : ℕ). cond (is_high_in (task_at set x.live.job.task.0)) (f (an_entry (key_of rule (high_mode rule (Tick j Over ∷ g)) (task_at set x.live.job.task.0) x.live.release) x.live.job.task.0 x.live.job.count (a_pending x.live.release u x.place))) 0) z
 
-    gone : (f : LateJob → ℕ) (x : Placed) → ticked_at j (when (is_discarded_late set s.ticks) (λ e. f (late_job_of e))) (entry_of set rule g x) ≡ cond (not (stays set j Over x) && is_due set (ticks g) x) (f (late_job_in x)) 0
+    gone : (f : LateJob → ℕ) (x : Placed) → ticked_at 1 j (when (is_discarded_late set s.ticks) (λ e. f (late_job_of e))) (entry_of set rule g x) ≡ cond (not (stays set j Over x) && is_due set (ticks g) x) (f (late_job_in x)) 0
     gone f x = rw t.ticks (both (same_job j x.live.job) (cond (not (is_high_in (task_at set x.live.job.task.0)) && is_due set (ticks g) x) (f (late_job_in x)) 0))
       where
         both : (b : Bool) (n : ℕ) → cond b n n ≡ n

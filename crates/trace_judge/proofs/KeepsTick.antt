@@ -1,5 +1,5 @@
 -- What is kept follows a tick that is no overrun.
-use Rattle.std.proofs.Common.{[], ◌≡◌, ℕ, ◌+◌, ◌≤◌, Bool, true, false, not, ◌&&◌, ◌||◌, List, ◌∷◌, ◌++◌, cond, filter, map, refl, sym, ap, ◌∙◌, arith, nat_le, Some, subst, slice_get, length, ◌-◌, ◌^◌, min}
+use Rattle.std.proofs.Common.{[], ◌≡◌, ℕ, ◌+◌, ◌≤◌, Bool, true, false, not, ◌&&◌, ◌||◌, List, ◌∷◌, cond, filter, map, refl, sym, ap, ◌∙◌, arith, nat_le, Some, subst, slice_get, length, ◌-◌, ◌^◌, min}
 use Rattle.std.specs.Map.{lookup}
 use Rattle.std.specs.BTreeMap.{is_at}
 use Rattle.mc_task.specs.declared.task.JobId.{JobId}
@@ -8,7 +8,6 @@ use Rattle.mc_task.specs.declared.task.Task.{Task}
 use Rattle.mc_task.specs.TaskSet.{task_at}
 use Rattle.mc_model.proofs.Lists.{Each, Each-all}
 use Rattle.mc_model.specs.declared.row.How.{How}
-use Rattle.mc_model.specs.declared.row.How.TheVariants.{More}
 use Rattle.mc_model.specs.declared.row.Row.{Row}
 use Rattle.mc_model.specs.declared.row.Row.TheVariants.{Release, Tick, Idle}
 use Rattle.mc_model.specs.TaskNumbers.{is_high_in, period_in}
@@ -17,22 +16,19 @@ use Rattle.mc_model.specs.Mode.{high_mode, is_virtual, is_over}
 use Rattle.mc_model.specs.Pending.{is_end}
 use Rattle.mc_model.specs.Key.{key}
 use Rattle.mc_model.specs.Legal.{Legal}
-use Rattle.mc_model.proofs.Bridge.{IsBridged, bridge}
-use Rattle.mc_model.proofs.Steps.{idle_fits}
 use Rattle.mc_model.specs.Sums.{total, when}
 use Rattle.trace_judge.specs.declared.waiting.Pending.{Pending}
 use Rattle.trace_judge.specs.Entries.{Entry, rank_cmp, is_of, late_job_of, late_job}
 use Rattle.trace_judge.specs.declared.state.State.{State}
 use Rattle.trace_judge.specs.Placed.{Placed, waiting, stays, is_due, gone_late}
-use Rattle.trace_judge.specs.Steps.{Moves, GoesOn, Ends, Rests}
+use Rattle.trace_judge.specs.Steps.{Moves, Ends}
 use Rattle.trace_judge.specs.Rules.{is_due_at}
 use Rattle.trace_judge.specs.Tracks.{Tracks, entry_of, late_job_in}
 use Rattle.trace_judge.specs.declared.lates.LateJob.{LateJob}
 use Rattle.trace_judge.specs.Lates.{noted, Counts}
 use Rattle.mc_model.proofs.Sums.{total-append, total-map, total-filter, total-ext}
-use Rattle.trace_judge.proofs.Edits.{ticked_at, taken_at, total-spent, total-remove, total-found}
+use Rattle.trace_judge.proofs.Edits.{taken_at, total-remove, total-found}
 use Rattle.trace_judge.proofs.Noted.{IsSum, counts_same, counts_note}
-use Rattle.trace_judge.proofs.Placed.{live_of, pending_is}
 use Rattle.trace_judge.proofs.Faults.{apart}
 use Rattle.trace_judge.proofs.KeepsRelease.{a_pending, an_entry}
 
@@ -57,7 +53,7 @@ pub bump_is : (n : ℕ) → n + 1 ≤ 2 ^ 32 - 1 → min (n + 1) (2 ^ 32 - 1) �
 bump_is n h = omega arith
 
 -- the ticks after a tick
-pub same_ticks : (set : List Task) (rule : Rule) (g : List Row) (s s' : State) (how : How) (j : JobId) → Tracks set rule g s → Moves s s' → s'.ticks ≡ ticks (Tick j how ∷ g)
+pub same_ticks : (set : List Task) (rule : Rule) (g : List Row) (s s' : State) (how : How) (j : JobId) → Tracks set rule g s → Moves 1 s s' → s'.ticks ≡ ticks (Tick j how ∷ g)
 same_ticks set rule g s s' how j t m = let a = t.ticks in let b = m.ticks in omega (arith, a, b)
 
 -- what the jobs that are gone late sum up to
@@ -67,43 +63,6 @@ lates_of set g f = total (λ x. f (late_job_in x)) (gone_late set g)
 -- it is a sum
 pub sums_of : (set : List Task) (g : List Row) → IsSum (lates_of set g)
 sums_of set g = record { list = map late_job_in (gone_late set g); is = λ f. sym (total-map f late_job_in (gone_late set g)) }
-
--- what is kept follows a tick after which its job goes on
-pub keeps_more : (set : List Task) (rule : Rule) (g : List Row) (s s' : State) (j : JobId) (k : ℕ) (p : Pending) → Legal set rule g → Tracks set rule g s → s.ticks + 1 ≤ 2 ^ 32 - 1 →
-    lookup (is_at (rank_cmp (k, j.task.0, j.count))) s.waiting.entries ≡ Some p → GoesOn (k, j.task.0, j.count) s s' → Tracks set rule (Tick j More ∷ g) s'
-keeps_more set rule g s s' j k p l t room found m = record {
-  ticks = same_ticks set rule g s s' More j t m.moves;
-  place = let a = m.moves.place in let b = t.place in omega (arith, a, b);
-  mode = m.mode ∙ (t.mode ∙ low (is_virtual rule) (high_mode rule g));
-  count = ap length m.moves.tasks ∙ t.count;
-  tasks = λ n h. ap (λ xs. slice_get xs n) m.moves.tasks ∙ t.tasks n h;
-  waiting = λ f. ap (total f) m.waiting ∙ (total-spent f j k p s.waiting.entries (apart set rule g s l t j) found ∙ waits_after set rule g s j More f (ticked_at j f) t (Each-all (λ x. each f x (same_job j x.live.job) refl) (waiting set g)));
-  lates = subst (λ x. Counts x (lates_of set (Tick j More ∷ g))) (sym m.lates) (counts_same s.lates (lates_of set g) (lates_of set (Tick j More ∷ g)) (λ f. ap (total (λ x. f (late_job_in x))) (none (waiting set g))) t.lates);
-}
-  where
-    low : (v h : Bool) → h ≡ ((v && false) || h)
-    low true h = refl
-    low false h = refl
-
-    mode_same : high_mode rule (Tick j More ∷ g) ≡ high_mode rule g
-    mode_same = sym (low (is_virtual rule) (high_mode rule g))
-
-    none : (xs : List Placed) → gone_late set g ≡ filter (λ x. not (stays set j More x) && is_due set (ticks g) x) xs ++ gone_late set g
-    none [] = refl
-    none (x ∷ xs) = none xs
-
-    each : (f : Entry → ℕ) (x : Placed) (b : Bool) → same_job j x.live.job ≡ b →
-        cond b (f (an_entry (key set rule (high_mode rule g) x.live) x.live.job.task.0 x.live.job.count (a_pending x.live.release (min (used g x.live.job + 1) (2 ^ 32 - 1)) x.place))) (f (entry_of set rule g x))
-        ≡ f (an_entry (key set rule (high_mode rule (Tick j More ∷ g)) x.live) x.live.job.task.0 x.live.job.count (a_pending x.live.release (cond b 1 0 + used g x.live.job) x.place))
-    each f x true e =
-        let le = used_le g x.live.job in
-        let n : min (used g x.live.job + 1) (2 ^ 32 - 1) ≡ 1 + used g x.live.job = bump_is (used g x.live.job) (let a = t.ticks in omega (arith, a, le)) in
-        ap (λ (u : ℕ). f (an_entry (key set rule (high_mode rule g) x.live) x.live.job.task.0 x.live.job.count (a_pending x.live.release u x.place))) n
-        ∙ ap (λ (h : Bool). f (an_entry (key set rule h x.live) x.live.job.task.0 x.live.job.count (a_pending x.live.release (1 + used g x.live.job) x.place))) (sym mode_same)
-    each f x false e =
-        let z : used g x.live.job ≡ 0 + used g x.live.job = omega arith in
-        ap (λ (u : ℕ). f (an_entry (key set rule (high_mode rule g) x.live) x.live.job.task.0 x.live.job.count (a_pending x.live.release u x.place))) z
-        ∙ ap (λ (h : Bool). f (an_entry (key set rule h x.live) x.live.job.task.0 x.live.job.count (a_pending x.live.release (0 + used g x.live.job) x.place))) (sym mode_same)
 
 -- the late ones after a tick, by what the entries that go weigh
 pub lates_after : (set : List Task) (rule : Rule) (g : List Row) (s : State) (j : JobId) (how : How) (f : LateJob → ℕ) (v : Entry → ℕ) → Tracks set rule g s →
@@ -179,28 +138,3 @@ keeps_end set rule g s s' j how k p task l t ends over at found m = record {
         rw e (counts_same (noted s.lates (late_job (k, j.task.0, j.count) p)) (λ f. f (late_job (k, j.task.0, j.count) p) + lates_of set g f) (lates_of set (Tick j how ∷ g)) (λ f. rw e at (adds f)) (counts_note s.lates (lates_of set g) (late_job (k, j.task.0, j.count) p) (sums_of set g) t.lates))
     noted_so false e =
         rw e (counts_same s.lates (lates_of set g) (lates_of set (Tick j how ∷ g)) (λ f. let z : lates_of set g f ≡ 0 + lates_of set g f = omega arith in z ∙ (rw e at (adds f))) t.lates)
-
--- what is kept follows an idle tick
-pub keeps_rest : (set : List Task) (rule : Rule) (g : List Row) (s s' : State) → Legal set rule (Idle ∷ g) → Tracks set rule g s → Rests s s' → Tracks set rule (Idle ∷ g) s'
-keeps_rest set rule g s s' l t m = record {
-  ticks = let a = t.ticks in let b = m.moves.ticks in omega (arith, a, b);
-  place = let a = m.moves.place in let b = t.place in omega (arith, a, b);
-  mode = m.mode;
-  count = ap length m.moves.tasks ∙ t.count;
-  tasks = λ n h. ap (λ xs. slice_get xs n) m.moves.tasks ∙ t.tasks n h;
-  waiting = λ f. ap (total f) m.waiting ∙ (t.waiting f ∙ nothing f);
-  lates = subst (λ x. Counts x (lates_of set g)) (sym m.lates) t.lates;
-}
-  where
-    no_ones : (ws : List Placed) → map live_of ws ≡ [] → ws ≡ []
-    no_ones [] h = refl
-    no_ones (x ∷ ws) h = cc
-
-    no_wait : waiting set g ≡ []
-    no_wait =
-        let b : IsBridged set rule (Idle ∷ g) = bridge set rule (Idle ∷ g) l in
-        let c : IsBridged set rule g = bridge set rule g l.2 in
-        no_ones (waiting set g) (sym (pending_is set rule g l.2) ∙ (c.same ∙ idle_fits set rule g b.legal.1))
-
-    nothing : (f : Entry → ℕ) → total (λ x. f (entry_of set rule g x)) (waiting set g) ≡ total (λ x. f (entry_of set rule (Idle ∷ g) x)) (waiting set g)
-    nothing f = rw no_wait refl

@@ -12,3 +12,5 @@ pub mod Ticks
 pub mod FirstLate
 pub mod Verdicts
 pub mod Reading
+pub mod KeepsRun
+pub mod Fitting

@@ -1,56 +1,78 @@
--- The rows from the newest on, as they are read.
-use Rattle.std.proofs.Common.{◌≡◌, ℕ, ◌+◌, ◌-◌, ◌^◌, ◌≤◌, ◌<◌, List, [], ◌∷◌, ◌++◌, Some, sym, ap, ◌∙◌, subst, arith, length, reverse, take, drop, get_or, length-take}
-use Rattle.std.proofs.lemmas.List.{append_assoc, reverse-append, take-append-drop, take_more, drop_more, take_all, length-reverse}
+-- The rows of the runs from the newest on, as they are read.
+use Rattle.std.proofs.Common.{◌≡◌, ℕ, suc, ◌+◌, ◌-◌, ◌^◌, ◌≤◌, ◌<◌, List, ◌∷◌, ◌++◌, sym, ap, ◌∙◌, subst, arith, length, reverse, replicate, take, drop, get_or}
+use Rattle.std.proofs.lemmas.List.{append_assoc, reverse-append, take-append-drop, drop_more, take_all, length-append, length-reverse, length-replicate, replicate-append-replicate}
 use Rattle.mc_task.specs.declared.task.Rule.{Rule}
 use Rattle.mc_task.specs.declared.task.Task.{Task}
 use Rattle.mc_model.specs.declared.row.Row.{Row}
-use Rattle.mc_model.specs.declared.verdict.Why.{Why}
+use Rattle.mc_model.specs.declared.run.Run.{Run}
 use Rattle.mc_model.specs.declared.verdict.Verdict.TheVariants.{Illegal}
-use Rattle.mc_model.specs.Rows.{ticks}
-use Rattle.mc_model.specs.Legal.{Legal, fault}
+use Rattle.mc_model.specs.Legal.{Legal}
+use Rattle.mc_model.specs.Runs.{row_of, size, rows_of, expand, AreRuns}
 use Rattle.mc_model.specs.Verdict.{verdict}
-use Rattle.mc_model.proofs.Ticks.{ticks-le}
+use Rattle.mc_model.proofs.Runs.{expand-append, rows_more, reverse-copies, length-expand-le}
 use Rattle.trace_judge.specs.declared.state.State.{State}
-use Rattle.trace_judge.specs.Tracks.{Tracks}
+use Rattle.trace_judge.specs.declared.step.Misfit.{Misfit}
+use Rattle.trace_judge.specs.Tracks.{Tracks, StopsAt}
 use Rattle.trace_judge.proofs.Verdicts.{illegal_verdict}
 
--- the rows from the newest on, in the midst of a trace
-pub rows_split : (rows : List Row) (i : ℕ) (d : Row) → i < length rows → reverse rows ≡ reverse (drop (i + 1) rows) ++ get_or rows i d ∷ reverse (take i rows)
-rows_split rows i d h =
-    let a : take i rows ++ get_or rows i d ∷ drop (i + 1) rows ≡ rows = ap (λ xs. take i rows ++ xs) (sym (drop_more rows i d h)) ∙ take-append-drop i rows in
-    sym (ap reverse a) ∙ (reverse-append (take i rows) (get_or rows i d ∷ drop (i + 1) rows)
-    ∙ (ap (λ xs. xs ++ reverse (take i rows)) (reverse-append (get_or rows i d ∷ []) (drop (i + 1) rows)) ∙ append_assoc (reverse (drop (i + 1) rows)) (get_or rows i d ∷ []) (reverse (take i rows))))
+-- the rows of the first runs, the newest first
+abbrev pub read : List Run → ℕ → List Row
+read runs i = reverse (expand (take i runs))
 
--- one row more
-pub rows_more : (rows : List Row) (i : ℕ) (d : Row) → i < length rows → reverse (take (i + 1) rows) ≡ get_or rows i d ∷ reverse (take i rows)
-rows_more rows i d h = ap reverse (take_more rows i d h) ∙ reverse-append (take i rows) (get_or rows i d ∷ [])
+-- the rows from the newest on, in the midst of the runs
+rows_split : (runs : List Run) (i : ℕ) (d : Run) → i < length runs → reverse (expand runs) ≡ reverse (expand (drop (i + 1) runs)) ++ (rows_of (get_or runs i d) ++ read runs i)
+rows_split runs i d h =
+    let r : Run = get_or runs i d in
+    let a : take i runs ++ get_or runs i d ∷ drop (i + 1) runs ≡ runs = ap (λ xs. take i runs ++ xs) (sym (drop_more runs i d h)) ∙ take-append-drop i runs in
+    sym (ap (λ xs. reverse (expand xs)) a)
+    ∙ (ap reverse (expand-append (take i runs) (get_or runs i d ∷ drop (i + 1) runs))
+    ∙ (reverse-append (expand (take i runs)) (rows_of (get_or runs i d) ++ expand (drop (i + 1) runs))
+    ∙ (ap (λ xs. xs ++ read runs i) (reverse-append (rows_of (get_or runs i d)) (expand (drop (i + 1) runs)) ∙ ap (λ xs. reverse (expand (drop (i + 1) runs)) ++ xs) (reverse-copies (size (get_or runs i d)) (row_of (get_or runs i d))))
+    ∙ append_assoc (reverse (expand (drop (i + 1) runs))) (rows_of (get_or runs i d)) (read runs i))))
 
--- once all rows are read
-pub all_taken : (set : List Task) (rule : Rule) (rows : List Row) (i : ℕ) (s : State) → length rows ≤ i → Legal set rule (reverse (take i rows)) × Tracks set rule (reverse (take i rows)) s → Legal set rule (reverse rows) × Tracks set rule (reverse rows) s
-all_taken set rule rows i s e h = subst (λ (xs : List Row). Legal set rule (reverse xs) × Tracks set rule (reverse xs) s) (take_all _ _ e) h
+-- once all runs are read
+pub all_taken : (set : List Task) (rule : Rule) (runs : List Run) (i : ℕ) (s : State) → length runs ≤ i → Legal set rule (read runs i) × Tracks set rule (read runs i) s → Legal set rule (reverse (expand runs)) × Tracks set rule (reverse (expand runs)) s
+all_taken set rule runs i s e h = subst (λ (xs : List Run). Legal set rule (reverse (expand xs)) × Tracks set rule (reverse (expand xs)) s) (take_all _ _ e) h
 
--- as many rows, in the other order
-pub length_reversed : (rows : List Row) → length rows < 2 ^ 32 → length (reverse rows) < 2 ^ 32
-length_reversed rows h = omega (arith, length-reverse rows, h)
+-- valid runs have few rows
+pub few_rows : (runs : List Run) → AreRuns runs → length (reverse (expand runs)) ≤ 102000000
+few_rows runs v = let a = v.few in let b = v.short in omega (arith, a, b, length-expand-le runs, length-reverse (expand runs))
 
--- before a row is read there were fewer ticks than rows
-pub room_for_tick : (rows : List Row) (i n : ℕ) → i < length rows → length rows < 2 ^ 32 → n ≡ ticks (reverse (take i rows)) → n < 2 ^ 32 - 1
-room_for_tick rows i n h many e = omega (arith, h, many, e, ticks-le (reverse (take i rows)), length-reverse (take i rows), length-take i rows)
+-- and those that were read have room for the next run
+pub room_for : (runs : List Run) (i n : ℕ) (r : Run) → AreRuns runs → i < length runs → r ≡ get_or runs i r → n ≤ length (read runs i) → n + size r ≤ 2 ^ 32 - 1
+room_for runs i n r v h e le =
+    let all = few_rows runs v in
+    let whole : length (reverse (expand runs)) ≡ length (reverse (expand (drop (i + 1) runs)) ++ (rows_of r ++ read runs i)) = ap length (rows_split runs i r h ∙ ap (λ x. reverse (expand (drop (i + 1) runs)) ++ (rows_of x ++ read runs i)) (sym e)) in
+    omega (arith, all, whole, le, length-append (reverse (expand (drop (i + 1) runs))) (rows_of r ++ read runs i), length-append (rows_of r) (read runs i), length-replicate (size r) (row_of r))
 
--- the verdict where the row at index i is the first that does not fit
+-- equal rows, split at one of them
+copies_split : (n k : ℕ) (row : Row) → k < n → replicate n row ≡ replicate (n - k - 1) row ++ row ∷ replicate k row
+copies_split n k row h =
+    let e : n - k - 1 + suc k ≡ n = omega (arith, h) in
+    ap (λ (m : ℕ). replicate m row) (sym e) ∙ sym (replicate-append-replicate (n - k - 1) (suc k) row)
+
+-- the verdict where a row of the run at index i is the first that does not fit
 pub illegal_at :
-    (set : List Task) (rule : Rule) (rows : List Row) (i : ℕ) (row : Row) (why : Why) → i < length rows → row ≡ get_or rows i row →
-    Legal set rule (reverse (take i rows)) → Some why ≡ fault set rule row (reverse (take i rows)) → Illegal (i + 1) why ≡ verdict set rule (reverse rows)
-illegal_at set rule rows i row why h e l f =
-    let n : length (reverse (take i rows)) ≡ i = omega (arith, h, length-reverse (take i rows), length-take i rows) in
-    let v = illegal_verdict set rule why (reverse (drop (i + 1) rows)) row (reverse (take i rows)) l f in
-    ap (λ (m : ℕ). Illegal (m + 1) why) (sym n)
-    ∙ (v ∙ ap (verdict set rule) (ap (λ (x : Row). reverse (drop (i + 1) rows) ++ x ∷ reverse (take i rows)) e ∙ sym (rows_split rows i row h)))
+    (set : List Task) (rule : Rule) (runs : List Run) (i n : ℕ) (r : Run) (misfit : Misfit) → i < length runs → r ≡ get_or runs i r → n ≡ length (read runs i) →
+    StopsAt set rule r (read runs i) misfit → Illegal (n + misfit.after + 1) misfit.why ≡ verdict set rule (reverse (expand runs))
+illegal_at set rule runs i n r misfit h e l s =
+    let after : List Row = replicate misfit.after (row_of r) ++ read runs i in
+    let later : List Row = reverse (expand (drop (i + 1) runs)) in
+    let more : List Row = replicate (size r - misfit.after - 1) (row_of r) in
+    let v = illegal_verdict set rule misfit.why (later ++ more) (row_of r) (replicate misfit.after (row_of r) ++ read runs i) s.before (sym s.there) in
+    let place : n + misfit.after + 1 ≡ length (replicate misfit.after (row_of r) ++ read runs i) + 1 = omega (arith, l, length-append (replicate misfit.after (row_of r)) (read runs i), length-replicate misfit.after (row_of r)) in
+    let rows : reverse (expand runs) ≡ (later ++ more) ++ row_of r ∷ (replicate misfit.after (row_of r) ++ read runs i) =
+    rows_split runs i r h
+    ∙ (ap (λ x. later ++ (rows_of x ++ read runs i)) (sym e)
+    ∙ (ap (λ xs. later ++ (xs ++ read runs i)) (copies_split (size r) misfit.after (row_of r) s.inside)
+    ∙ (ap (λ xs. later ++ xs) (append_assoc more (row_of r ∷ replicate misfit.after (row_of r)) (read runs i))
+    ∙ sym (append_assoc later more (row_of r ∷ (replicate misfit.after (row_of r) ++ read runs i)))))) in
+    ap (λ (m : ℕ). Illegal m misfit.why) place ∙ (v ∙ ap (verdict set rule) (sym rows))
 
--- the rows read with that at index i
+-- the rows read with the run at index i
 pub one_read :
-    (set : List Task) (rule : Rule) (rows : List Row) (i : ℕ) (row : Row) (s : State) → i < length rows → row ≡ get_or rows i row →
-    Legal set rule (row ∷ reverse (take i rows)) → Tracks set rule (row ∷ reverse (take i rows)) s → Legal set rule (reverse (take (i + 1) rows)) × Tracks set rule (reverse (take (i + 1) rows)) s
-one_read set rule rows i row s h e l t =
-    let r : reverse (take (i + 1) rows) ≡ row ∷ reverse (take i rows) = rows_more rows i row h ∙ ap (λ (x : Row). x ∷ reverse (take i rows)) (sym e) in
-    subst (λ (k : List Row). Legal set rule k × Tracks set rule k s) (sym r) (l, t)
+    (set : List Task) (rule : Rule) (runs : List Run) (i : ℕ) (r : Run) (s : State) → i < length runs → r ≡ get_or runs i r →
+    Legal set rule (rows_of r ++ read runs i) × Tracks set rule (rows_of r ++ read runs i) s → Legal set rule (read runs (i + 1)) × Tracks set rule (read runs (i + 1)) s
+one_read set rule runs i r s h e t =
+    let more : read runs (i + 1) ≡ rows_of r ++ read runs i = rows_more runs i r h ∙ ap (λ (x : Run). rows_of x ++ read runs i) (sym e) in
+    subst (λ (k : List Row). Legal set rule k × Tracks set rule k s) (sym more) t

@@ -44,18 +44,18 @@ late_job at p = record { place = p.place; job = record { task = record { 0 = at.
 abbrev pub late_job_of : Entry → LateJob
 late_job_of e = late_job e.0 e.1
 
--- with one more tick used, as far as a count can go
-abbrev pub ticked : Pending → Pending
-ticked p = record { release = p.release; used = min (p.used + 1) (2 ^ 32 - 1); place = p.place }
+-- with n more ticks used, as far as a count can go
+abbrev pub ticked : ℕ → Pending → Pending
+ticked n p = record { release = p.release; used = min (p.used + n) (2 ^ 32 - 1); place = p.place }
 
--- with one more tick of the entry at this rank, which is the one found there
-abbrev pub spent_from : Option Pending → Rank → List Entry → List Entry
-spent_from None at es = es
-spent_from (Some p) at es = set_value (is_at (rank_cmp at)) es (ticked p)
+-- with n more ticks of the entry at this rank, which is the one found there
+abbrev pub spent_from : ℕ → Option Pending → Rank → List Entry → List Entry
+spent_from n None at es = es
+spent_from n (Some p) at es = set_value (is_at (rank_cmp at)) es (ticked n p)
 
--- with one more tick of the entry at this rank
-abbrev pub spent : Rank → List Entry → List Entry
-spent at es = spent_from (lookup (is_at (rank_cmp at)) es) at es
+-- with n more ticks of the entry at this rank
+abbrev pub spent : ℕ → Rank → List Entry → List Entry
+spent n at es = spent_from n (lookup (is_at (rank_cmp at)) es) at es
 
 -- the job has an entry
 abbrev pub pending_in : List Entry → JobId → Bool

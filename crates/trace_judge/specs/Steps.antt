@@ -52,29 +52,29 @@ pub record Releases (rule : Rule) (t : Option Task) (j : JobId) (kept : Bool) (o
       ≡ cond kept (insert_entry rank_cmp old.waiting.entries (key_of rule old.high_mode t old.ticks, j.task.0, j.count) (record { release = old.ticks; used = 0; place = old.place })) old.waiting.entries
   pub lates : new.lates ≡ old.lates
 
--- one more tick, and one more row
-pub record Moves (old new : State) : Type 0 where
-  pub ticks : new.ticks ≡ old.ticks + 1
-  pub place : new.place ≡ old.place + 1
+-- n more ticks, and as many more rows
+pub record Moves (n : ℕ) (old new : State) : Type 0 where
+  pub ticks : new.ticks ≡ old.ticks + n
+  pub place : new.place ≡ old.place + n
   pub tasks : new.tasks.items ≡ old.tasks.items
 
--- a tick of the job at this rank, which goes on
-pub record GoesOn (at : Rank) (old new : State) : Type 0 where
-  pub moves : Moves old new
+-- n ticks of the job at this rank, which goes on
+pub record GoesOn (n : ℕ) (at : Rank) (old new : State) : Type 0 where
+  pub moves : Moves n old new
   pub mode : new.high_mode ≡ old.high_mode
-  pub waiting : new.waiting.entries ≡ spent at old.waiting.entries
+  pub waiting : new.waiting.entries ≡ spent n at old.waiting.entries
   pub lates : new.lates ≡ old.lates
 
 -- the last tick of the job of task t at this rank: it goes, and is late where its deadline came before
 pub record Ends (t : Option Task) (at : Rank) (p : Pending) (old new : State) : Type 0 where
-  pub moves : Moves old new
+  pub moves : Moves 1 old new
   pub mode : new.high_mode ≡ old.high_mode
   pub waiting : new.waiting.entries ≡ remove_entry (is_at (rank_cmp at)) old.waiting.entries
   pub lates : new.lates ≡ cond (is_due_at t p.release old.ticks) (noted old.lates (late_job at p)) old.lates
 
--- an idle tick
-pub record Rests (old new : State) : Type 0 where
-  pub moves : Moves old new
+-- n idle ticks
+pub record Rests (n : ℕ) (old new : State) : Type 0 where
+  pub moves : Moves n old new
   pub mode : new.high_mode ≡ false
   pub waiting : new.waiting.entries ≡ old.waiting.entries
   pub lates : new.lates ≡ old.lates

@@ -42,14 +42,14 @@ switched set rule done (e ∷ es) =
 
 -- an overrun of the job at this rank
 pub record Overruns (set : List Task) (rule : Rule) (at : Rank) (old new : State) : Type 0 where
-  pub moves : Moves old new
+  pub moves : Moves 1 old new
   pub mode : new.high_mode ≡ true
-  pub waiting : new.waiting.entries ≡ switched set rule [] (spent at old.waiting.entries)
-  pub lates : new.lates ≡ noted_each (is_discarded_late set old.ticks) old.lates (spent at old.waiting.entries)
+  pub waiting : new.waiting.entries ≡ switched set rule [] (spent 1 at old.waiting.entries)
+  pub lates : new.lates ≡ noted_each (is_discarded_late set old.ticks) old.lates (spent 1 at old.waiting.entries)
 
--- a tick of the job of task t at this rank that ended so
-abbrev pub Ticks : List Task → Rule → Option Task → Rank → Pending → How → State → State → Type 0
-Ticks set rule t at p More old new = GoesOn at old new
-Ticks set rule t at p Done old new = Ends t at p old new
-Ticks set rule t at p Stop old new = Ends t at p old new
-Ticks set rule t at p Over old new = Overruns set rule at old new
+-- n ticks of the job of task t at this rank behind which it goes on, or one that ended so
+abbrev pub Ticks : List Task → Rule → Option Task → Rank → Pending → How → ℕ → State → State → Type 0
+Ticks set rule t at p More n old new = GoesOn n at old new
+Ticks set rule t at p Done n old new = Ends t at p old new
+Ticks set rule t at p Stop n old new = Ends t at p old new
+Ticks set rule t at p Over n old new = Overruns set rule at old new

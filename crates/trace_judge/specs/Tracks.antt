@@ -1,13 +1,15 @@
 -- What is kept of the rows so far, against the definitions over whole lists. The newest row stands first.
-use Rattle.std.specs.Prelude.{◌≡◌, ℕ, ◌+◌, ◌<◌, List, ◌∷◌, Option, Some, None, length, slice_get}
+use Rattle.std.specs.Prelude.{◌≡◌, ℕ, ◌+◌, ◌<◌, List, ◌++◌, replicate, Option, Some, None, length, slice_get}
 use Rattle.mc_task.specs.declared.task.Rule.{Rule}
 use Rattle.mc_task.specs.declared.task.Task.{Task}
 use Rattle.mc_model.specs.declared.row.Row.{Row}
-use Rattle.mc_model.specs.declared.verdict.Why.{Why}
+use Rattle.mc_model.specs.declared.run.Run.{Run}
 use Rattle.mc_model.specs.Rows.{ticks, used, releases, next_release}
 use Rattle.mc_model.specs.Mode.{high_mode}
 use Rattle.mc_model.specs.Key.{key}
 use Rattle.mc_model.specs.Legal.{Legal, fault}
+use Rattle.mc_model.specs.Runs.{row_of, size, rows_of}
+use Rattle.trace_judge.specs.declared.step.Misfit.{Misfit}
 use Rattle.trace_judge.specs.declared.lates.LateJob.{LateJob}
 use Rattle.trace_judge.specs.declared.state.State.{State}
 use Rattle.mc_model.specs.Sums.{total}
@@ -34,7 +36,13 @@ pub record Tracks (set : List Task) (rule : Rule) (g : List Row) (s : State) : T
   pub waiting : (f : Entry → ℕ) → total f s.waiting.entries ≡ total (λ x. f (entry_of set rule g x)) (waiting set g)
   pub lates : Counts s.lates (λ f. total (λ x. f (late_job_in x)) (gone_late set g))
 
--- this is the first part of the row that does not fit, and where there is none, what is kept follows the row
-abbrev pub IsStep : List Task → Rule → Row → State → Option Why → State → Type 0
-IsStep set rule row old why new =
-    (g : List Row) → Legal set rule g → Tracks set rule g old → (why ≡ fault set rule row g) × (why ≡ None → Tracks set rule (row ∷ g) new)
+-- the rows of the run before this one fit, and this one is the first that does not, for this part
+pub record StopsAt (set : List Task) (rule : Rule) (run : Run) (g : List Row) (misfit : Misfit) : Type 0 where
+  pub inside : misfit.after < size run
+  pub before : Legal set rule (replicate misfit.after (row_of run) ++ g)
+  pub there : fault set rule (row_of run) (replicate misfit.after (row_of run) ++ g) ≡ Some misfit.why
+
+-- behind legal rows that are tracked: each row of the run fits and what is kept follows them, or this is the first that does not
+abbrev pub IsStep : List Task → Rule → Run → State → Option Misfit → State → Type 0
+IsStep set rule run old None new = (g : List Row) → Legal set rule g → Tracks set rule g old → Legal set rule (rows_of run ++ g) × Tracks set rule (rows_of run ++ g) new
+IsStep set rule run old (Some misfit) new = (g : List Row) → Legal set rule g → Tracks set rule g old → StopsAt set rule run g misfit

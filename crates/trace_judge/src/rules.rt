@@ -2,7 +2,7 @@
 ghost use Rattle.std.specs.Prelude.{◌≡◌, ◌+◌, Some};
 ghost use Rattle.mc_model.specs.TaskNumbers.{is_high_in};
 ghost use Rattle.mc_model.specs.Mode.{is_virtual};
-ghost use Rattle.trace_judge.specs.Rules.{allows, overruns, is_due_at};
+ghost use Rattle.trace_judge.specs.Rules.{allows, overruns, budget, fitting, is_due_at};
 
 use mc_model::How;
 use mc_task::{Level, Rule, Task};
@@ -34,8 +34,38 @@ fn overruns(rule: Rule, high_mode: bool, task: &Task, used: u64) -> bool
     is_high(task) && is_virtual(rule) && !high_mode && used == u64::from(task.low)
 }
 
-/// Whether the next tick of a job of the task may end so, where it has had so many ticks.
-pub fn is_allowed(rule: Rule, high_mode: bool, task: &Task, used: u32, how: How) -> bool
+// The budget before which the ticks of a job of the task go on.
+fn budget(rule: Rule, high_mode: bool, task: &Task) -> u32
+    ensures { result ≡ budget rule high_mode (Some task.now) }
+{
+    if is_high(task) && is_virtual(rule) && !high_mode {
+        task.low
+    } else {
+        task.high
+    }
+}
+
+/// How many of so many next ticks of a job of the task may end so, where it has had so many ticks.
+pub fn fitting(rule: Rule, high_mode: bool, task: &Task, used: u32, how: How, length: u32) -> u32
+    ensures { result ≡ fitting rule high_mode (Some task.now) used how length }
+{
+    match how {
+        How::More => {
+            let left = budget(rule, high_mode, task).saturating_sub(used);
+            length.min(left.saturating_sub(1))
+        }
+        How::Done | How::Stop | How::Over => {
+            if is_allowed(rule, high_mode, task, used, how) {
+                length
+            } else {
+                0
+            }
+        }
+    }
+}
+
+// Whether the next tick of a job of the task may end so, where it has had so many ticks.
+fn is_allowed(rule: Rule, high_mode: bool, task: &Task, used: u32, how: How) -> bool
     ensures { result ≡ allows rule high_mode (Some task.now) (used + 1) how }
 {
     let used = u64::from(used) + 1;

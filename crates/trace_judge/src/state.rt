@@ -108,18 +108,18 @@ impl State {
         Ok(())
     }
 
-    /// Follows an idle tick.
-    pub fn rest(&mut self)
-        requires room { self.old.place < 2 ^ 32 - 1 }
-        requires time { self.old.ticks < 2 ^ 32 - 1 }
-        ensures { Rests self.old self.new }
+    /// Follows so many idle ticks.
+    pub fn rest(&mut self, length: u32)
+        requires room { self.old.place + length ≤ 2 ^ 32 - 1 }
+        requires time { self.old.ticks + length ≤ 2 ^ 32 - 1 }
+        ensures { Rests length self.old self.new }
     {
-        self.ticks += 1;
-        self.place += 1;
+        self.ticks += length;
+        self.place += length;
         self.high_mode = false;
     }
 
-    /// Follows a tick of the job of the task at this rank that ended so.
+    /// Follows so many ticks of the job of the task at this rank, or one that ended it or overran.
     pub fn tick(
         &mut self,
         alloc: Global,
@@ -129,14 +129,16 @@ impl State {
         at: Rank,
         pending: Pending,
         how: How,
+        length: u32,
     ) -> Result<(), Memory>
         requires fits { Fits rule }
-        requires room { self.old.place < 2 ^ 32 - 1 }
-        requires time { self.old.ticks < 2 ^ 32 - 1 }
-        ensures { OnOk result (Ticks set.now rule (Some task.now) at pending how self.old self.new) }
+        requires some { 1 ≤ length }
+        requires room { self.old.place + length ≤ 2 ^ 32 - 1 }
+        requires time { self.old.ticks + length ≤ 2 ^ 32 - 1 }
+        ensures { OnOk result (Ticks set.now rule (Some task.now) at pending how length self.old self.new) }
     {
         match how {
-            How::More => self.go_on(at),
+            How::More => self.go_on(at, length),
             How::Done => self.end(task, at, pending),
             How::Stop => self.end(task, at, pending),
             How::Over => return self.overrun(alloc, set, rule, at),
@@ -144,15 +146,15 @@ impl State {
         Ok(())
     }
 
-    // A tick after which the job goes on.
-    fn go_on(&mut self, at: Rank)
-        requires room { self.old.place < 2 ^ 32 - 1 }
-        requires time { self.old.ticks < 2 ^ 32 - 1 }
-        ensures { GoesOn at self.old self.new }
+    // So many ticks behind which the job goes on. No job ends or is discarded at them, so that none is found late.
+    fn go_on(&mut self, at: Rank, length: u32)
+        requires room { self.old.place + length ≤ 2 ^ 32 - 1 }
+        requires time { self.old.ticks + length ≤ 2 ^ 32 - 1 }
+        ensures { GoesOn length at self.old self.new }
     {
-        spend(&mut self.waiting, at);
-        self.ticks += 1;
-        self.place += 1;
+        spend(&mut self.waiting, at, length);
+        self.ticks += length;
+        self.place += length;
     }
 
     // The last tick of a job, which is late where its deadline came before this tick.
@@ -176,7 +178,7 @@ impl State {
         requires time { self.old.ticks < 2 ^ 32 - 1 }
         ensures { OnOk result (Overruns set.now rule at self.old self.new) }
     {
-        spend(&mut self.waiting, at);
+        spend(&mut self.waiting, at, 1);
         self.switch(alloc, set, rule)?;
         self.high_mode = true;
         self.ticks += 1;

@@ -1,39 +1,56 @@
-// One row: whether it fits what is kept of the rows before it, and what is kept after it.
-ghost use Rattle.std.specs.Prelude.{◌≡◌, ◌-◌, ◌^◌, ◌<◌, ◌≤◌, IfOk, Some, length};
+// One run: whether its rows fit what is kept of the rows before it, and what is kept after it.
+ghost use Rattle.std.specs.Prelude.{◌≡◌, ◌≢◌, ◌-◌, ◌+◌, ◌^◌, ◌≤◌, IfOk, Some, length};
 ghost use Rattle.mc_task.specs.TaskSet.{task_at};
 ghost use Rattle.mc_model.specs.Holds.{Fits};
-ghost use Rattle.mc_model.specs.Legal.{IsOfSet};
-ghost use Rattle.mc_model.specs.declared.row.Row.TheVariants as row;
+ghost use Rattle.mc_model.specs.Runs.{size, IsRun, IsRunOfSet};
+ghost use Rattle.mc_model.specs.declared.run.Run.TheVariants as run;
 ghost use Rattle.trace_judge.specs.Entries.{Stands};
 ghost use Rattle.trace_judge.specs.Tracks.{IsStep};
 ghost use Rattle.trace_judge.specs.declared.waiting.Standing.TheVariants as standing;
 
-use crate::rules::is_allowed;
+use crate::rules::fitting;
 use crate::state::State;
 use crate::waiting::{Pending, Standing, standing_of};
-use mc_model::{How, Row, Why};
+use mc_model::{How, Run, Why};
 use mc_task::{JobId, Memory, Rule, Task, TaskNo, TaskSet};
 use std::alloc::Global;
 
-/// The first part of the row that does not fit. Where there is none, the state follows the row.
+/// The first row of a run that does not fit: so many rows of the run stand before it, and this part of it fails.
+#[derive(Clone, Copy, Debug, PartialEq, Eq)]
+pub struct Misfit {
+    pub after: u32,
+    pub why: Why,
+}
+
+impl Misfit {
+    // The run's first row does not fit.
+    fn first(why: Why) -> Misfit
+        ensures { result ≡ record { after = 0; why = why } }
+    {
+        Misfit { after: 0, why }
+    }
+}
+
+/// The first row of the run that does not fit. Where there is none, the state follows the run, in one step.
 pub fn step(
     state: &mut State,
     alloc: Global,
     set: &TaskSet,
     rule: Rule,
-    row: Row,
-) -> Result<Option<Why>, Memory>
+    run: Run,
+) -> Result<Option<Misfit>, Memory>
     requires fits { Fits rule }
-    requires task { IsOfSet set.now row }
+    requires task { IsRunOfSet set.now run }
+    requires is_run { IsRun run }
     requires count { length state.old.tasks.items ≡ length set.now }
-    requires room { state.old.place < 2 ^ 32 - 1 }
-    requires time { state.old.ticks < 2 ^ 32 - 1 }
-    ensures { IfOk result (λ why. IsStep set.now rule row state.old why state.new) }
+    requires room { state.old.place + size run ≤ 2 ^ 32 - 1 }
+    requires time { state.old.ticks + size run ≤ 2 ^ 32 - 1 }
+    ensures { IfOk result (λ misfit. IsStep set.now rule run state.old misfit state.new) }
 {
-    match row {
-        Row::Release { job, kept } => release(state, set, rule, job, kept),
-        Row::Tick { job, how } => tick(state, alloc, set, rule, job, how),
-        Row::Idle => Ok(idle(state, set, rule)),
+    match run {
+        Run::Release { job, kept } => release(state, set, rule, job, kept),
+        Run::Ticks { job, how, length } => tick(state, alloc, set, rule, job, how, length),
+        Run::Idles { length } => Ok(idle(state, set, rule, length)),
     }
 }
 
@@ -44,22 +61,22 @@ fn release(
     rule: Rule,
     job: JobId,
     kept: bool,
-) -> Result<Option<Why>, Memory>
+) -> Result<Option<Misfit>, Memory>
     requires fits { Fits rule }
-    requires task { IsOfSet set.now (row.Release job kept) }
+    requires task { IsRunOfSet set.now (run.Release job kept) }
     requires count { length state.old.tasks.items ≡ length set.now }
-    requires room { state.old.place < 2 ^ 32 - 1 }
-    ensures { IfOk result (λ why. IsStep set.now rule (row.Release job kept) state.old why state.new) }
+    requires room { state.old.place + 1 ≤ 2 ^ 32 - 1 }
+    ensures { IfOk result (λ misfit. IsStep set.now rule (run.Release job kept) state.old misfit state.new) }
 {
     let task = task_in(set, job.task);
     if let Some(why) = state.release_why(&task, job, kept) {
-        return Ok(Some(why));
+        return Ok(Some(Misfit::first(why)));
     }
     state.release(rule, &task, job, kept)?;
     Ok(None)
 }
 
-// A tick.
+// Ticks of a job.
 fn tick(
     state: &mut State,
     alloc: Global,
@@ -67,23 +84,25 @@ fn tick(
     rule: Rule,
     job: JobId,
     how: How,
-) -> Result<Option<Why>, Memory>
+    length: u32,
+) -> Result<Option<Misfit>, Memory>
     requires fits { Fits rule }
-    requires task { IsOfSet set.now (row.Tick job how) }
-    requires room { state.old.place < 2 ^ 32 - 1 }
-    requires time { state.old.ticks < 2 ^ 32 - 1 }
-    ensures { IfOk result (λ why. IsStep set.now rule (row.Tick job how) state.old why state.new) }
+    requires task { IsRunOfSet set.now (run.Ticks job how length) }
+    requires is_run { IsRun (run.Ticks job how length) }
+    requires room { state.old.place + length ≤ 2 ^ 32 - 1 }
+    requires time { state.old.ticks + length ≤ 2 ^ 32 - 1 }
+    ensures { IfOk result (λ misfit. IsStep set.now rule (run.Ticks job how length) state.old misfit state.new) }
 {
     match standing_of(&state.waiting, job) {
-        Standing::NotPending => Ok(Some(Why::NotPending)),
-        Standing::NotLeast => Ok(Some(Why::NotLeast)),
+        Standing::NotPending => Ok(Some(Misfit::first(Why::NotPending))),
+        Standing::NotLeast => Ok(Some(Misfit::first(Why::NotLeast))),
         Standing::Least { key, pending } => tick_least(
-            state, alloc, set, rule, job, how, key, pending,
+            state, alloc, set, rule, job, how, length, key, pending,
         ),
     }
 }
 
-// A tick of a job at the least key.
+// Ticks of a job at the least key. It stays there while it goes on, so only its budget can end them.
 fn tick_least(
     state: &mut State,
     alloc: Global,
@@ -91,35 +110,43 @@ fn tick_least(
     rule: Rule,
     job: JobId,
     how: How,
+    length: u32,
     key: u128,
     pending: Pending,
-) -> Result<Option<Why>, Memory>
+) -> Result<Option<Misfit>, Memory>
     requires fits { Fits rule }
-    requires task { IsOfSet set.now (row.Tick job how) }
-    requires room { state.old.place < 2 ^ 32 - 1 }
-    requires time { state.old.ticks < 2 ^ 32 - 1 }
+    requires task { IsRunOfSet set.now (run.Ticks job how length) }
+    requires is_run { IsRun (run.Ticks job how length) }
+    requires room { state.old.place + length ≤ 2 ^ 32 - 1 }
+    requires time { state.old.ticks + length ≤ 2 ^ 32 - 1 }
     requires least { Stands state.old.waiting.entries job (standing.Least key pending) }
-    ensures { IfOk result (λ why. IsStep set.now rule (row.Tick job how) state.old why state.new) }
+    ensures { IfOk result (λ misfit. IsStep set.now rule (run.Ticks job how length) state.old misfit state.new) }
 {
+    let _is_set = set.len();
     let task = task_in(set, job.task);
-    if !is_allowed(rule, state.high_mode, &task, pending.used, how) {
-        return Ok(Some(Why::WrongHow));
+    let fit = fitting(rule, state.high_mode, &task, pending.used, how, length);
+    if fit < length {
+        return Ok(Some(Misfit {
+            after: fit,
+            why: Why::WrongHow,
+        }));
     }
     let at = (key, job.task.0, job.count);
-    state.tick(alloc, set, rule, &task, at, pending, how)?;
+    state.tick(alloc, set, rule, &task, at, pending, how, length)?;
     Ok(None)
 }
 
-// An idle tick.
-fn idle(state: &mut State, set: &TaskSet, rule: Rule) -> Option<Why>
-    requires room { state.old.place < 2 ^ 32 - 1 }
-    requires time { state.old.ticks < 2 ^ 32 - 1 }
-    ensures { IsStep set.now rule row.Idle state.old result state.new }
+// Idle ticks, which fit or not as the first of them does.
+fn idle(state: &mut State, set: &TaskSet, rule: Rule, length: u32) -> Option<Misfit>
+    requires is_run { IsRun (run.Idles length) }
+    requires room { state.old.place + length ≤ 2 ^ 32 - 1 }
+    requires time { state.old.ticks + length ≤ 2 ^ 32 - 1 }
+    ensures { IsStep set.now rule (run.Idles length) state.old result state.new }
 {
     if !state.waiting.is_empty() {
-        return Some(Why::IdlePending);
+        return Some(Misfit::first(Why::IdlePending));
     }
-    state.rest();
+    state.rest(length);
     None
 }
 

@@ -1,9 +1,10 @@
-ghost use Rattle.std.specs.Prelude.{IsTrue, All};
+ghost use Rattle.std.specs.Prelude.{◌≡◌, ◌<◌, ◌≤◌, ◌^◌, IsTrue, All};
 ghost use Rattle.mc_model.specs.Holds.{Fits};
-ghost use Rattle.mc_model.specs.Legal.{IsOfSet};
+ghost use Rattle.mc_model.specs.Sums.{total};
+ghost use Rattle.mc_model.specs.Runs.{length_of, IsRun, AreRuns, IsRunOfSet};
 
 use crate::judge;
-use mc_model::{How, Row, Verdict, Why};
+use mc_model::{How, Run, Verdict, Why};
 use mc_task::{JobId, Level, Name, Rule, Task, TaskNo, TaskSet};
 use std::alloc::Global;
 use std::test::Fail;
@@ -57,61 +58,129 @@ fn plain_pair(alloc: Global) -> Option<TaskSet> {
     TaskSet::new(vec![in alloc; hi, lo].ok()?).ok()
 }
 
-// The row that a text says: `idle`, or an event, a task's name, a job's count and a word.
-fn row(set: &TaskSet, text: &str) -> Option<Row> {
+// The run that a text says: `idle` or `idle` and a length; or an event, a task's name, a job's count, a word and, where
+// it is not 1, a length.
+fn run(set: &TaskSet, text: &str) -> Option<Run> {
     if text == "idle" {
-        return Some(Row::Idle);
+        return Some(Run::Idles { length: 1 });
     }
     let (event, rest) = text.split_once(' ')?;
+    if event == "idle" {
+        let length = rest.parse::<u32>().ok()?;
+        return Some(Run::Idles { length });
+    }
     let (name, rest) = rest.split_once(' ')?;
-    let (count, word) = rest.split_once(' ')?;
+    let (count, rest) = rest.split_once(' ')?;
+    let (word, length) = rest.split_once(' ').unwrap_or((rest, "1"));
     let task = set.find(name.as_bytes())?;
     let count = count.parse::<u32>().ok()?;
+    let length = length.parse::<u32>().ok()?;
     let job = JobId { task, count };
     match (event, word) {
-        ("release", "kept") => Some(Row::Release { job, kept: true }),
-        ("release", "dropped") => Some(Row::Release { job, kept: false }),
-        ("tick", "more") => Some(tick(job, How::More)),
-        ("tick", "done") => Some(tick(job, How::Done)),
-        ("tick", "stop") => Some(tick(job, How::Stop)),
-        ("tick", "over") => Some(tick(job, How::Over)),
+        ("release", "kept") => Some(Run::Release { job, kept: true }),
+        ("release", "dropped") => Some(Run::Release { job, kept: false }),
+        ("tick", "more") => Some(ticks(job, How::More, length)),
+        ("tick", "done") => Some(ticks(job, How::Done, length)),
+        ("tick", "stop") => Some(ticks(job, How::Stop, length)),
+        ("tick", "over") => Some(ticks(job, How::Over, length)),
         _ => None,
     }
 }
 
-fn tick(job: JobId, how: How) -> Row {
-    Row::Tick { job, how }
+fn ticks(job: JobId, how: How, length: u32) -> Run {
+    Run::Ticks { job, how, length }
 }
 
-// Whether the row's task is in the set.
-fn is_of_set(set: &TaskSet, row: &Row) -> bool
-    ensures { IsTrue result → IsOfSet set.now row.now }
+// Whether the run's task is in the set.
+fn is_of_set(set: &TaskSet, run: &Run) -> bool
+    ensures { IsTrue result → IsRunOfSet set.now run.now }
 {
-    match row {
-        Row::Release { job, .. } => set.get(job.task).is_some(),
-        Row::Tick { job, .. } => set.get(job.task).is_some(),
-        Row::Idle => true,
+    match run {
+        Run::Release { job, .. } => set.get(job.task).is_some(),
+        Run::Ticks { job, .. } => set.get(job.task).is_some(),
+        Run::Idles { .. } => true,
     }
 }
 
-fn are_of_set(set: &TaskSet, rows: &[Row]) -> bool
-    ensures { IsTrue result → All (IsOfSet set.now) rows.now }
+fn are_of_set(set: &TaskSet, runs: &[Run]) -> bool
+    ensures { IsTrue result → All (IsRunOfSet set.now) runs.now }
 {
-    rows.iter().all(|row| is_of_set(set, row))
+    runs.iter().all(|run| is_of_set(set, run))
 }
 
-// The verdict on the rows of a text.
+fn is_run(run: &Run) -> bool
+    ensures { IsTrue result → IsRun run.now }
+{
+    match run {
+        Run::Release { .. } => true,
+        Run::Ticks { how, length, .. } => match how {
+            How::More => *length >= 1,
+            How::Done | How::Stop | How::Over => *length == 1,
+        },
+        Run::Idles { length } => *length >= 1,
+    }
+}
+
+fn length_of(run: &Run) -> u64
+    ensures length { result ≡ length_of run.now }
+    ensures short { result < 2 ^ 32 }
+{
+    match run {
+        Run::Release { .. } => 0,
+        Run::Ticks { length, .. } => u64::from(*length),
+        Run::Idles { length } => u64::from(*length),
+    }
+}
+
+fn has_few_ticks(runs: &[Run]) -> bool
+    ensures { IsTrue result → total length_of runs.now ≤ 100000000 }
+{
+    let mut ticks = 0;
+    for run in runs {
+        if ticks > 100_000_000 {
+            return false;
+        }
+        ticks += length_of(run);
+    }
+    ticks <= 100_000_000
+}
+
+fn are_runs(runs: &[Run]) -> bool
+    ensures { IsTrue result → AreRuns runs.now }
+{
+    runs.len() <= 2_000_000 && runs.iter().all(is_run) && has_few_ticks(runs)
+}
+
+// The verdict on the runs of a text.
 fn verdict(alloc: Global, set: &TaskSet, rule: Rule, text: &str) -> Result<Verdict, Fail>
     requires { Fits rule }
 {
-    let mut rows = Vec::new(alloc);
+    let mut runs = Vec::new(alloc);
     for part in text.split(", ") {
-        rows.push(row(set, part).ok_or("a row")?)?;
+        runs.push(run(set, part).ok_or("a run")?)?;
     }
-    if !are_of_set(set, &rows) || rows.len() > 100 {
-        return Err(Fail::from("few rows of the set"));
+    if !are_of_set(set, &runs) || !are_runs(&runs) {
+        return Err(Fail::from("runs of the set"));
     }
-    Ok(judge(alloc, set, rule, &rows)?)
+    Ok(judge(alloc, set, rule, &runs)?)
+}
+
+// The first of the texts on which the verdict is another than is told beside it, and the verdict.
+fn first_wrong<'a>(
+    alloc: Global,
+    set: &TaskSet,
+    rule: Rule,
+    table: &[(&'a str, Verdict)],
+) -> Result<Option<(&'a str, Verdict)>, Fail>
+    requires { Fits rule }
+{
+    for (text, expected) in table {
+        let got = verdict(alloc, set, rule, text)?;
+        if got != *expected {
+            return Ok(Some((*text, got)));
+        }
+    }
+    Ok(None)
 }
 
 fn illegal(place: u64, why: Why) -> Verdict {
@@ -153,6 +222,11 @@ fn the_first_row_that_does_not_fit_is_told(rt: HostRuntime) -> Result<(), Fail> 
             "release ctl 1 kept, tick ctl 1 more, tick ctl 1 more",
             illegal(3, Why::WrongHow),
         ),
+        // The same in one run.
+        (
+            "release ctl 1 kept, tick ctl 1 more 2",
+            illegal(3, Why::WrongHow),
+        ),
         ("release ctl 1 kept, idle", illegal(2, Why::IdlePending)),
         (
             "release ctl 1 kept, release log 1 kept, tick ctl 1 more, tick ctl 1 over, tick log 1 more",
@@ -166,6 +240,11 @@ fn the_first_row_that_does_not_fit_is_told(rt: HostRuntime) -> Result<(), Fail> 
             "release log 1 kept, tick log 1 more, tick log 1 more, tick log 1 more, tick log 1 more, tick log 1 over",
             illegal(6, Why::WrongHow),
         ),
+        // The same in one run.
+        (
+            "release log 1 kept, tick log 1 more 4, tick log 1 over",
+            illegal(6, Why::WrongHow),
+        ),
         (
             "release ctl 1 kept, tick ctl 1 more, tick ctl 1 over, release log 1 kept",
             illegal(4, Why::WrongKept),
@@ -176,15 +255,12 @@ fn the_first_row_that_does_not_fit_is_told(rt: HostRuntime) -> Result<(), Fail> 
         ),
         ("release ctl 1 kept, tick ctl 1 done, idle", IN_TIME),
     ];
-    for (text, expected) in table {
-        let got = verdict(alloc, &set, rule, text)?;
-        assert_eq!(rt; got, expected, "{text}");
-    }
+    assert_eq!(rt; first_wrong(alloc, &set, rule, &table)?, None);
     Ok(())
 }
 
 #[test]
-fn no_rows_are_legal(rt: HostRuntime) -> Result<(), Fail> {
+fn no_runs_are_legal(rt: HostRuntime) -> Result<(), Fail> {
     let alloc = rt.alloc();
     let set = control(alloc).ok_or("a set")?;
     assert_eq!(rt; judge(alloc, &set, Rule::Plain, &[])?, IN_TIME);
@@ -237,10 +313,7 @@ fn several_jobs_of_a_task_are_pending(rt: HostRuntime) -> Result<(), Fail> {
             illegal(7, Why::NotPending),
         ),
     ];
-    for (text, expected) in table {
-        let got = verdict(alloc, &set, rule, text)?;
-        assert_eq!(rt; got, expected, "{text}");
-    }
+    assert_eq!(rt; first_wrong(alloc, &set, rule, &table)?, None);
     Ok(())
 }
 
@@ -259,10 +332,7 @@ fn a_discarded_job_is_late_where_its_deadline_came_first(rt: HostRuntime) -> Res
             IN_TIME,
         ),
     ];
-    for (text, expected) in table {
-        let got = verdict(alloc, &set, rule, text)?;
-        assert_eq!(rt; got, expected, "{text}");
-    }
+    assert_eq!(rt; first_wrong(alloc, &set, rule, &table)?, None);
     Ok(())
 }
 
@@ -280,9 +350,130 @@ fn plain_edf_never_switches(rt: HostRuntime) -> Result<(), Fail> {
             illegal(2, Why::WrongHow),
         ),
     ];
-    for (text, expected) in table {
-        let got = verdict(alloc, &set, Rule::Plain, text)?;
-        assert_eq!(rt; got, expected, "{text}");
-    }
+    assert_eq!(rt; first_wrong(alloc, &set, Rule::Plain, &table)?, None);
+    Ok(())
+}
+
+// Two tasks, each with a deadline of 10 ticks, of which one may take 50.
+fn two_of_ten(alloc: Global) -> Option<TaskSet> {
+    let long = low(b"long", 10, 50)?;
+    let b = low(b"b", 10, 1)?;
+    TaskSet::new(vec![in alloc; long, b].ok()?).ok()
+}
+
+#[test]
+fn the_row_within_a_run_is_told(rt: HostRuntime) -> Result<(), Fail> {
+    let alloc = rt.alloc();
+    let set = control(alloc).ok_or("a set")?;
+    let rule = Rule::Virtual { p: 2, q: 5 };
+    let table = [
+        (
+            "release log 1 kept, tick log 1 more 5",
+            illegal(6, Why::WrongHow),
+        ),
+        (
+            "release log 1 kept, tick log 1 more 1000, idle",
+            illegal(6, Why::WrongHow),
+        ),
+        ("release log 1 kept, tick log 1 more 4", IN_TIME),
+        (
+            "release log 1 kept, tick log 1 more 4, tick log 1 stop, idle 5, release log 2 kept, tick log 2 more 4, tick log 2 more 1",
+            illegal(17, Why::WrongHow),
+        ),
+        // The own budget of a high job in high mode.
+        (
+            "release ctl 1 kept, tick ctl 1 more, tick ctl 1 over, tick ctl 1 more 4",
+            illegal(7, Why::WrongHow),
+        ),
+        (
+            "release ctl 1 kept, tick ctl 1 more, tick ctl 1 over, tick ctl 1 more 3, tick ctl 1 stop",
+            IN_TIME,
+        ),
+        (
+            "idle 20, release ctl 1 kept, idle 7",
+            illegal(22, Why::IdlePending),
+        ),
+        ("idle 20, tick ctl 1 more", illegal(21, Why::NotPending)),
+        (
+            "idle 7, release ctl 1 kept, release log 1 kept, tick log 1 more 3",
+            illegal(10, Why::NotLeast),
+        ),
+        // A release in the midst of idle ticks is too soon by one.
+        (
+            "release log 1 kept, tick log 1 done, idle 8, release log 2 kept",
+            illegal(11, Why::TooSoon),
+        ),
+        (
+            "release log 1 kept, tick log 1 done, idle 9, release log 2 kept",
+            IN_TIME,
+        ),
+    ];
+    assert_eq!(rt; first_wrong(alloc, &set, rule, &table)?, None);
+    Ok(())
+}
+
+#[test]
+fn deadlines_pass_within_a_run(rt: HostRuntime) -> Result<(), Fail> {
+    let alloc = rt.alloc();
+    let set = two_of_ten(alloc).ok_or("a set")?;
+    let table = [
+        (
+            "release long 1 kept, release b 1 kept, tick long 1 more 9",
+            IN_TIME,
+        ),
+        (
+            "release long 1 kept, release b 1 kept, tick long 1 more 10",
+            late(2, 1, 1),
+        ),
+        (
+            "release b 1 kept, release long 1 kept, tick long 1 more 49, tick long 1 stop, tick b 1 done",
+            late(2, 2, 1),
+        ),
+        (
+            "release long 1 kept, tick long 1 more 9, tick long 1 done, idle 1000, release b 1 kept, tick b 1 done",
+            IN_TIME,
+        ),
+    ];
+    assert_eq!(rt; first_wrong(alloc, &set, Rule::Plain, &table)?, None);
+    Ok(())
+}
+
+#[test]
+fn the_mode_is_low_behind_an_idle_run(rt: HostRuntime) -> Result<(), Fail> {
+    let alloc = rt.alloc();
+    let set = control(alloc).ok_or("a set")?;
+    let rule = Rule::Virtual { p: 2, q: 5 };
+    let table = [
+        (
+            "release ctl 1 kept, tick ctl 1 more, tick ctl 1 over, tick ctl 1 done, idle 1, release log 1 kept",
+            IN_TIME,
+        ),
+        (
+            "release ctl 1 kept, tick ctl 1 more, tick ctl 1 over, tick ctl 1 done, idle 9, release log 1 dropped",
+            illegal(14, Why::WrongKept),
+        ),
+        (
+            "release ctl 1 kept, tick ctl 1 more, tick ctl 1 over, tick ctl 1 more 3, release log 1 kept",
+            illegal(7, Why::WrongKept),
+        ),
+    ];
+    assert_eq!(rt; first_wrong(alloc, &set, rule, &table)?, None);
+    Ok(())
+}
+
+#[test]
+fn a_run_of_100_million_ticks_is_one_step(rt: HostRuntime) -> Result<(), Fail> {
+    let alloc = rt.alloc();
+    let set = control(alloc).ok_or("a set")?;
+    let rule = Rule::Virtual { p: 2, q: 5 };
+    let got = verdict(alloc, &set, rule, "idle 100000000")?;
+    assert_eq!(rt; got, IN_TIME);
+    let got = verdict(
+        alloc,
+        &set,
+        rule,
+        "idle 99999998, release ctl 1 kept, tick ctl 1 more 2",
+    )?;
+    assert_eq!(rt; got, illegal(100_000_001, Why::WrongHow));
     Ok(())
 }

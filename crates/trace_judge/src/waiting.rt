@@ -89,12 +89,12 @@ pub fn put(waiting: &mut Waiting, at: Rank, pending: Pending) -> Result<(), Memo
     }
 }
 
-/// Counts one more tick of the job at this rank.
-pub fn spend(waiting: &mut Waiting, at: Rank)
-    ensures { waiting.new.entries ≡ spent at waiting.old.entries }
+/// Counts so many more ticks of the job at this rank.
+pub fn spend(waiting: &mut Waiting, at: Rank, ticks: u32)
+    ensures { waiting.new.entries ≡ spent ticks at waiting.old.entries }
 {
     if let Some(pending) = waiting.get_mut(&at) {
-        pending.used = pending.used.saturating_add(1);
+        pending.used = pending.used.saturating_add(ticks);
     }
 }
 

@@ -49,7 +49,11 @@ impl<S: Kept> Turnstile<S> {
         requires all { Covers (seats_of self) place.me.0 }
         ensures { Unseats S.Kept self place.me.0 result }
     {
-        let Turnstile { board } = self;
+        let Turnstile {
+            board,
+            parkers: _,
+            resting: _,
+        } = self;
         let mut closed = board.close_with(place);
         let state = closed.take(0);
         closed.free();

@@ -11,7 +11,10 @@ use crate::tokens::Seat;
 use crate::turns::Turnstile;
 use atomic_table::{Refused, Table};
 use std::alloc::Global;
+use std::array;
 use std::snapshot::Snapshot;
+use std::sync::atomic::AtomicU64;
+use std::thread::Parker;
 
 /// Why a turnstile could not be made.
 #[derive(Drop)]
@@ -61,7 +64,14 @@ impl<S: Kept> Turnstile<S> {
         };
         slots.push_reserved(Some(state));
         match Table::new(alloc, &[0, 0], slots, &about) {
-            Ok((board, place)) => Ok((Turnstile { board }, place)),
+            Ok((board, place)) => Ok((
+                Turnstile {
+                    board,
+                    parkers: array::from_fn(|_| Parker::new()),
+                    resting: AtomicU64::new(0),
+                },
+                place,
+            )),
             Err(Refused { slots }) => Err(NewFault::Memory(given_back(slots))),
         }
     }

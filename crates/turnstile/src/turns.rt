@@ -11,15 +11,30 @@ use crate::tokens::{Claim, Seat, Turn};
 use crossbeam_utils::Backoff;
 use std::marker::PhantomData;
 use std::sync::Wait;
+use std::sync::atomic::AtomicU64;
+use std::sync::atomic::Ordering::SeqCst;
+use std::thread::Parker;
+use std::time::Duration;
 
 // The words of the table: the next ticket, and the ticket that is served.
 const NEXT: usize = 0;
 
 const SERVING: usize = 1;
 
+// As many as tickets can be out at once, so those that are out have different places.
+const PLACES: usize = 128;
+
+// So often a thread that is not served spins and looks again. Then it rests: where more threads run than there are processors,
+// one that spins or yields keeps the served one from its turn.
+const SPINS: u32 = 10;
+
 /// A state that is taken in ticket order. It is ended by `close` alone.
 pub struct Turnstile<S: Kept> {
     pub(crate) board: Board<S>,
+    // Where threads rest whose tickets are not served, each at its ticket's place. A wake-up that is late costs time alone.
+    pub(crate) parkers: [Parker; PLACES],
+    // How many threads rest, or are about to.
+    pub(crate) resting: AtomicU64,
     ghost sized: { (board.shared.table_id.words ≡ 2) × (board.shared.table_id.slots ≡ 1) },
     ghost some: { 0 < board.shared.key.seats },
 }
@@ -28,7 +43,8 @@ impl<S: Kept> Turnstile<S> {
     ghost use Rattle.turnstile.specs.Seats.{IsOf, IsTurnOf, number, seen, mine, history, state_of, turn_number, turn_mine, fixed_part};
 
     /// Draws a ticket, looks until it is served, and takes the state. It may wait for other turns to end, and nothing is said of
-    /// how long. After a look that finds another ticket it backs off, and may yield the processor.
+    /// how long. After a look that finds another ticket it backs off, and after some of these it yields the processor until
+    /// another thread's `leave` wakes it, or for a while.
     pub fn enter<R: Wait>(&self, rt: &R, seat: Seat<S>) -> Turn<'_, S>
         requires of { IsOf self.now seat }
         ensures of { IsTurnOf self.now result }
@@ -43,15 +59,29 @@ impl<S: Kept> Turnstile<S> {
         let mut place = seat.into_place();
         let ticket = self.draw(&mut place);
         let backoff = Backoff::new();
+        let mut spun = 0;
+        let mut rests = false;
         for _ in rt.forever() {
             if let Some(state) = self.look(&mut place, ticket) {
+                if rests {
+                    self.resting.fetch_sub(1, SeqCst);
+                }
                 return Turn {
                     claim: Claim { place },
                     state,
                     of: PhantomData,
                 };
             }
-            backoff.snooze();
+            if spun < SPINS {
+                spun += 1;
+                backoff.spin();
+            } else if rests {
+                self.rest(rt, ticket);
+            } else {
+                // Told before one more look, so that either this look or the `leave` before the turn sees the other.
+                self.resting.fetch_add(1, SeqCst);
+                rests = true;
+            }
         }
         unreachable!()
     }
@@ -77,7 +107,8 @@ impl<S: Kept> Turnstile<S> {
         let shared = &self.board.shared;
         let empty = shared.exchange(&mut place, 0, Some(state));
         let None = empty else { unreachable!() };
-        shared.fetch_add::<PassOn<E>>(&mut place, SERVING, 1);
+        let served = shared.fetch_add::<PassOn<E>>(&mut place, SERVING, 1);
+        self.wake(served.wrapping_add(1));
         Seat::of(place)
     }
 
@@ -107,6 +138,19 @@ impl<S: Kept> Turnstile<S> {
             Some(shared.exchange(place, 0, None).unwrap())
         } else {
             None
+        }
+    }
+
+    // Rests until the ticket is told to be served, for 16 milliseconds at most.
+    fn rest<R: Wait>(&self, rt: &R, ticket: u64) {
+        let parker = &self.parkers[(ticket % PLACES as u64) as usize];
+        parker.park_timeout(rt, Duration::from_millis(16));
+    }
+
+    // Tells the thread with this ticket that it is served, where any thread rests.
+    fn wake(&self, ticket: u64) {
+        if self.resting.load(SeqCst) != 0 {
+            self.parkers[(ticket % PLACES as u64) as usize].unpark();
         }
     }
 }

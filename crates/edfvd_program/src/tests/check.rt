@@ -199,7 +199,7 @@ fn a_file_with_129_tasks_is_told_their_number(rt: HostRuntime) -> Result<(), Fai
 #[test]
 fn words_of_no_form_get_the_usage_line(rt: HostRuntime) -> Result<(), Fail> {
     let usage =
-        "usage: check TASKS | run TASKS WORK TICKS | judge TASKS TRACE [P Q] | chart TASKS TRACE | report TASKS TRACE | soak NUMBER TASKCOUNT TICKS\n";
+        "usage: check TASKS | run TASKS WORK TICKS | judge TASKS TRACE [P Q] | chart TASKS TRACE | report TASKS TRACE | soak NUMBER TASKCOUNT TICKS | migrate TASKS TRACE | live TASKS TICKS\n";
     let lines = [
         [].as_slice(),
         &["check"],
@@ -225,6 +225,10 @@ fn words_of_no_form_get_the_usage_line(rt: HostRuntime) -> Result<(), Fail> {
         &["soak", "18446744073709551616", "8", "100"],
         &["soak", "7", "8"],
         &["report", "tasks.toml", "trace.csv", "1"],
+        &["migrate", "tasks.toml"],
+        &["live", "tasks.toml"],
+        &["live", "tasks.toml", "0"],
+        &["live", "tasks.toml", "100001"],
         &["--help"],
     ];
     let outside = Outside {

@@ -84,11 +84,7 @@ fn hostile_files_get_their_status_and_line(rt: HostRuntime) -> Result<(), Fail> 
     let alloc = rt.alloc();
     // Traces of the control set, each with the status and the line of `judge`.
     let cases = [
-        (
-            "",
-            5,
-            "trace line 1: header is not event,tick,task,job,how\n",
-        ),
+        ("", 5, "trace line 1: header is of no trace version\n"),
         ("event,tick,task,job,how", 0, "legal late 0\n"),
         (
             "event,tick,task,job,how\nrel",
@@ -179,7 +175,7 @@ fn hostile_files_get_their_status_and_line(rt: HostRuntime) -> Result<(), Fail> 
 #[test]
 fn a_million_jobs_are_taken_and_one_more_is_not(rt: HostRuntime) -> Result<(), Fail> {
     let work = jobs(rt.alloc(), 1_000_000)?;
-    let rows = "event,tick,task,job,how\nrelease,0,a,1,kept\ntick,0,a,1,done\n";
+    let rows = "event,tick,length,task,job,how\nrelease,0,,a,1,kept\ntick,0,1,a,1,done\n";
     assert_ends(
         &rt,
         rt.alloc(),

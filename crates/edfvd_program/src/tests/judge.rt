@@ -67,8 +67,8 @@ fn traces_get_their_verdict(rt: HostRuntime) -> Result<(), Fail> {
 fn traces_are_refused_by_line(rt: HostRuntime) -> Result<(), Fail> {
     let alloc = rt.alloc();
     let cases = [
-        ("", "1: header is not event,tick,task,job,how\n"),
-        ("idle,0,,,\n", "1: header is not event,tick,task,job,how\n"),
+        ("", "1: header is of no trace version\n"),
+        ("idle,0,,,\n", "1: header is of no trace version\n"),
         (
             "event,tick,task,job,how\nrelease,0,ctl,1,kept\ntick,0,ct",
             "3: not five fields\n",
@@ -205,7 +205,7 @@ fn the_trace_of_an_avionics_set_is_judged_legal(rt: HostRuntime) -> Result<(), F
     };
     let (status, trace) = ended(&rt, rt.alloc(), &words, &outside)?;
     assert_eq!(rt; status, 0);
-    assert_eq!(rt; trace.as_str().lines().count(), 20_014);
+    assert_eq!(rt; trace.as_str().lines().count(), 40);
     assert_ends(
         &rt,
         rt.alloc(),

@@ -1,5 +1,7 @@
-use super::outside::{Outside, assert_ends, ended};
-use super::{CONTROL, HEADER, OVERRUN, PLAIN_PAIR, QUARTER_SCALE, TAP_AND_ARM, TWO_HIGH_TASKS};
+use super::outside::{Outside, assert_ends};
+use super::{
+    CONTROL, OVERRUN_RUNS, PLAIN_PAIR, QUARTER_SCALE, RUNS_HEADER, TAP_AND_ARM, TWO_HIGH_TASKS,
+};
 use std::test::Fail;
 
 const WORK_HEADER: &str = "task,release,need\n";
@@ -9,42 +11,42 @@ fn runs_write_the_traces_of_the_worked_examples(rt: HostRuntime) -> Result<(), F
     let alloc = rt.alloc();
     // The set, the work, the ticks, and the trace without its header.
     let cases = [
-        (CONTROL, "ctl,0,6\nlog,0,5\nlog,10,5\n", "12", OVERRUN),
+        (CONTROL, "ctl,0,6\nlog,0,5\nlog,10,5\n", "12", OVERRUN_RUNS),
         (
             QUARTER_SCALE,
             "a,0,3\nb,2,1\n",
             "5",
-            "release,0,a,1,kept\ntick,0,a,1,more\ntick,1,a,1,more\nrelease,2,b,1,kept\ntick,2,b,1,done\ntick,3,a,1,done\nidle,4,,,\n",
+            "release,0,,a,1,kept\ntick,0,2,a,1,more\nrelease,2,,b,1,kept\ntick,2,1,b,1,done\ntick,3,1,a,1,done\nidle,4,1,,,\n",
         ),
         (
             TAP_AND_ARM,
             "tap,0,1\narm,0,3\ntap,2,1\ntap,4,1\n",
             "5",
-            "release,0,tap,1,kept\nrelease,0,arm,1,kept\ntick,0,tap,1,done\ntick,1,arm,1,over\nrelease,2,tap,2,dropped\ntick,2,arm,1,more\ntick,3,arm,1,done\nrelease,4,tap,3,dropped\nidle,4,,,\n",
+            "release,0,,tap,1,kept\nrelease,0,,arm,1,kept\ntick,0,1,tap,1,done\ntick,1,1,arm,1,over\nrelease,2,,tap,2,dropped\ntick,2,1,arm,1,more\ntick,3,1,arm,1,done\nrelease,4,,tap,3,dropped\nidle,4,1,,,\n",
         ),
         (
             TWO_HIGH_TASKS,
             "fix,0,5\nlog,0,9\n",
             "6",
-            "release,0,fix,1,kept\nrelease,0,log,1,kept\ntick,0,fix,1,stop\ntick,1,log,1,more\ntick,2,log,1,more\ntick,3,log,1,more\ntick,4,log,1,stop\nidle,5,,,\n",
+            "release,0,,fix,1,kept\nrelease,0,,log,1,kept\ntick,0,1,fix,1,stop\ntick,1,3,log,1,more\ntick,4,1,log,1,stop\nidle,5,1,,,\n",
         ),
         (
             CONTROL,
             "ctl,0,6\nlog,2,5\n",
             "4",
-            "release,0,ctl,1,kept\ntick,0,ctl,1,more\ntick,1,ctl,1,over\nrelease,2,log,1,dropped\ntick,2,ctl,1,more\ntick,3,ctl,1,more\n",
+            "release,0,,ctl,1,kept\ntick,0,1,ctl,1,more\ntick,1,1,ctl,1,over\nrelease,2,,log,1,dropped\ntick,2,2,ctl,1,more\n",
         ),
         (
             PLAIN_PAIR,
             "hi,0,2\nlo,0,2\n",
             "4",
-            "release,0,hi,1,kept\nrelease,0,lo,1,kept\ntick,0,hi,1,more\ntick,1,hi,1,done\ntick,2,lo,1,more\ntick,3,lo,1,done\n",
+            "release,0,,hi,1,kept\nrelease,0,,lo,1,kept\ntick,0,1,hi,1,more\ntick,1,1,hi,1,done\ntick,2,1,lo,1,more\ntick,3,1,lo,1,done\n",
         ),
     ];
     for (tasks, jobs, ticks, rows) in cases {
         let words = ["run", "tasks.toml", "second.csv", ticks];
         let work = format!(in alloc; "{WORK_HEADER}{jobs}")?;
-        let text = format!(in alloc; "{HEADER}{rows}")?;
+        let text = format!(in alloc; "{RUNS_HEADER}{rows}")?;
         assert_ends(
             &rt,
             rt.alloc(),
@@ -111,7 +113,7 @@ fn runs_have_the_faults_and_limits_of_both_files(rt: HostRuntime) -> Result<(), 
         &words,
         &idle,
         0,
-        "event,tick,task,job,how\nidle,0,,,\n",
+        "event,tick,length,task,job,how\nidle,0,1,,,\n",
     )?;
     let fails = Outside {
         failed_fetches: &[1],
@@ -155,16 +157,11 @@ fn runs_have_the_faults_and_limits_of_both_files(rt: HostRuntime) -> Result<(), 
 }
 
 #[test]
-fn a_million_idle_ticks_are_written(rt: HostRuntime) -> Result<(), Fail> {
+fn a_million_idle_ticks_are_one_record(rt: HostRuntime) -> Result<(), Fail> {
     let alloc = rt.alloc();
     let words = ["run", "tasks.toml", "second.csv", "1000000"];
-    let outside = Outside {
-        room: 20_000_000,
-        most: 20_000_000,
-        ..Outside::new(CONTROL, WORK_HEADER)
-    };
-    let (status, written) = ended(&rt, alloc, &words, &outside)?;
-    assert_eq!(rt; status, 0);
-    assert_eq!(rt; written.len(), 14_888_914);
-    Ok(())
+    let text = format!(in alloc; "{RUNS_HEADER}idle,0,1000000,,,\n")?;
+    assert_eq!(rt; text.len(), 49);
+    let idle = Outside::new(CONTROL, WORK_HEADER);
+    assert_ends(&rt, rt.alloc(), &words, &idle, 0, &text)
 }

@@ -1,7 +1,7 @@
 //! What no clause can say of threads: that those of the tasks work beside each other, each step outside the turns.
 use super::gates::{CountingGate, MeetingGate, StepGate, TracedJob};
 use super::outside::{Outside, ended_through};
-use super::{CONTROL, HEADER, OVERRUN};
+use super::{CONTROL, OVERRUN_RUNS, RUNS_HEADER};
 use std::test::Fail;
 
 const RUN: [&str; 4] = ["run", "tasks.toml", "second.csv", "12"];
@@ -13,12 +13,11 @@ const SHORT_RUN: [&str; 4] = ["run", "tasks.toml", "second.csv", "4"];
 const LATER_WORK: &str = "task,release,need\nctl,0,6\nlog,2,5\n";
 
 // The low task is released while the high one overruns.
-const DROPPED: &str = "release,0,ctl,1,kept
-tick,0,ctl,1,more
-tick,1,ctl,1,over
-release,2,log,1,dropped
-tick,2,ctl,1,more
-tick,3,ctl,1,more
+const DROPPED: &str = "release,0,,ctl,1,kept
+tick,0,1,ctl,1,more
+tick,1,1,ctl,1,over
+release,2,,log,1,dropped
+tick,2,2,ctl,1,more
 ";
 
 #[test]
@@ -34,7 +33,7 @@ fn each_thread_is_there_before_the_other_may_go_on(rt: HostRuntime) -> Result<()
     )?;
     assert!(rt; gate.is_kept());
     assert_eq!(rt; status, 0);
-    assert_eq!(rt; text, format!(in alloc; "{HEADER}{OVERRUN}")?);
+    assert_eq!(rt; text, format!(in alloc; "{RUNS_HEADER}{OVERRUN_RUNS}")?);
     Ok(())
 }
 
@@ -51,7 +50,7 @@ fn a_release_is_taken_while_a_step_runs(rt: HostRuntime) -> Result<(), Fail> {
     )?;
     assert!(rt; gate.is_kept());
     assert_eq!(rt; status, 0);
-    assert_eq!(rt; text, format!(in alloc; "{HEADER}{DROPPED}")?);
+    assert_eq!(rt; text, format!(in alloc; "{RUNS_HEADER}{DROPPED}")?);
     Ok(())
 }
 
@@ -68,7 +67,7 @@ fn each_release_and_each_step_is_told_once(rt: HostRuntime) -> Result<(), Fail> 
         &gate,
     )?;
     assert!(rt; gate.was_told_each_once());
-    assert_eq!(rt; text, format!(in alloc; "{HEADER}{OVERRUN}")?);
+    assert_eq!(rt; text, format!(in alloc; "{RUNS_HEADER}{OVERRUN_RUNS}")?);
     let gate = CountingGate::new(alloc, &[job(1, 1, 4), job(2, 1, 0)])?;
     let (_, text) = ended_through(
         &rt,
@@ -78,7 +77,7 @@ fn each_release_and_each_step_is_told_once(rt: HostRuntime) -> Result<(), Fail> 
         &gate,
     )?;
     assert!(rt; gate.was_told_each_once());
-    assert_eq!(rt; text, format!(in alloc; "{HEADER}{DROPPED}")?);
+    assert_eq!(rt; text, format!(in alloc; "{RUNS_HEADER}{DROPPED}")?);
     Ok(())
 }
 

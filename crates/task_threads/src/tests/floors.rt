@@ -1,7 +1,10 @@
 //! Floors with a plan, and rows that were worked by hand.
 ghost use Rattle.std.specs.Prelude.{◌≡◌, ◌≤◌, [], true, None, IfOk};
 ghost use Rattle.timetable.specs.Floor.{is_planned};
+ghost use Rattle.timetable.specs.declared.plan.Plan.TheVariants.{Free};
+ghost use Rattle.task_threads.specs.LivePasses.{live_places};
 
+use crate::live_places;
 use admission::admit;
 use load_sum::sum_loads;
 use mc_model::How::{Done, More, Over};
@@ -58,6 +61,24 @@ pub fn held_release_rows() -> [Row; 6] {
         dropped(2, 1),
         tick(1, 1, More),
         tick(1, 1, More),
+    ]
+}
+
+/// The rows of ten ticks of a live run of the control set.
+pub fn live_rows() -> [Row; 12] {
+    [
+        kept(1, 1),
+        kept(2, 1),
+        tick(1, 1, More),
+        tick(1, 1, Done),
+        tick(2, 1, More),
+        tick(2, 1, More),
+        tick(2, 1, More),
+        tick(2, 1, More),
+        tick(2, 1, Done),
+        Row::Idle,
+        Row::Idle,
+        Row::Idle,
     ]
 }
 
@@ -160,4 +181,19 @@ fn planned(alloc: Global, set: TaskSet, rows: Vec<WorkRow>, ticks: u32) -> Resul
         ticks: u64::from(ticks),
     };
     Ok(Floor::new(core, plan))
+}
+
+/// A floor without a plan, for a live run of so many ticks.
+pub fn free(alloc: Global, lines: &[Line], ticks: u64) -> Result<Floor, Fail>
+    requires { ticks ≤ 100_000 }
+    ensures { IfOk result (λ f. (f.plan ≡ Free) × (f.core.rows ≡ []) × (f.core.out ≡ None) × (f.core.places ≡ live_places f.core.set ticks)) }
+{
+    let mut tasks = Vec::new(alloc);
+    for (name, level, period, low, high) in lines {
+        tasks.push(task(name.as_bytes(), *level, *period, (*low, *high))?)?;
+    }
+    let set = TaskSet::new(tasks)?;
+    let rule = admit(&sum_loads(&set)?).ok_or("not admitted")?;
+    let places = live_places(&set, ticks) as usize;
+    Ok(Floor::new(Core::new(alloc, set, rule, places)?, Plan::Free))
 }

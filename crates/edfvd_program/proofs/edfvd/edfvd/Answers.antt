@@ -1,25 +1,25 @@
 use Rattle.std.proofs.Common.{map, string_bytes}
-use Rattle.edfvd_program.specs.Command.{command_of}
-use Rattle.edfvd_program.proofs.Outcomes.{Answers-written, calm_outcome, no_write_fault}
-use Rattle.edfvd_program.proofs.Bounds.{in_bounds}
-use Rattle.edfvd_program.proofs.Headlines.{headline}
+use Rattle.command_line.specs.Form.{form_of}
+use Rattle.command_line.proofs.InRange.{in_range}
+use Rattle.edfvd_program.proofs.Outcomes.{Answers-written, calm_outcome}
+use Rattle.edfvd_program.proofs.Headlines.{headline, gave_up}
 use Rattle.edfvd_program.proofs.edfvd.edfvd.Goals as goal
 
 pub returns-in-Ok-clause-answer : goal.returns-in-Ok-clause-answer
 returns-in-Ok-clause-answer g c =
-    Answers-written (command_of (map (λ w. string_bytes w) c.args.words.now)) (g.S.Shelf.state c.args.shelf.now) (g.S.Shelf.state c.reply_to.new.shelf)
+    Answers-written (form_of (map (λ w. string_bytes w) c.args.words.now)) (g.S.Shelf.state c.args.shelf.now) (g.S.Shelf.state c.reply_to.new.shelf)
     (g.K.Sink.state c.args.out.now) (g.K.Sink.state c.deliver.new.out) c.in-Ok.reply c.deliver.result c.in-Ok.ensures.reply c.deliver.ensures
 
 pub returns-in-Ok-clause-headline : goal.returns-in-Ok-clause-headline
 returns-in-Ok-clause-headline g c files old tells told calm =
-    headline (command_of (map (λ w. string_bytes w) c.args.words.now)) (in_bounds (map (λ w. string_bytes w) c.args.words.now)) files old c.deliver.result (g.K.Sink.state c.deliver.new.out).written
+    headline (form_of (map (λ w. string_bytes w) c.args.words.now)) (in_range (map (λ w. string_bytes w) c.args.words.now)) files old c.deliver.result (g.K.Sink.state c.deliver.new.out).written
     (returns-in-Ok-clause-answer g c files old tells told calm)
 
 pub returns-in-Ok-clause-calm_shelf : goal.returns-in-Ok-clause-calm_shelf
 returns-in-Ok-clause-calm_shelf g c =
-    calm_outcome (command_of (map (λ w. string_bytes w) c.args.words.now)) (g.S.Shelf.state c.args.shelf.now) (g.S.Shelf.state c.reply_to.new.shelf)
+    calm_outcome (form_of (map (λ w. string_bytes w) c.args.words.now)) (g.S.Shelf.state c.args.shelf.now) (g.S.Shelf.state c.reply_to.new.shelf)
     (g.K.Sink.state c.args.out.now) (g.K.Sink.state c.deliver.new.out) c.in-Ok.reply c.deliver.result c.in-Ok.ensures.reply c.deliver.ensures
 
-pub returns-in-Ok-clause-calm_sink : goal.returns-in-Ok-clause-calm_sink
-returns-in-Ok-clause-calm_sink g c =
-    no_write_fault (g.K.Sink.state c.args.out.now) (g.K.Sink.state c.deliver.new.out) c.in-Ok.reply c.deliver.result c.in-Ok.ensures.reply.status c.deliver.ensures
+pub returns-in-Err-clause-headline : goal.returns-in-Err-clause-headline
+returns-in-Err-clause-headline g c files old tells told calm =
+    gave_up (form_of (map (λ w. string_bytes w) c.args.words.now)) files old (g.K.Sink.state c.args.out.now).written

@@ -1,8 +1,8 @@
 use Rattle.std.proofs.Common.{◌≡◌, ◌+◌, ◌<◌, length, reverse, refl, ap, ◌∙◌, arith}
-use Rattle.std.proofs.lemmas.List.{length-reverse}
+use Rattle.mc_model.specs.Runs.{expand}
 use Rattle.sched_report.specs.ReportText.{report_text}
 use Rattle.sched_report.specs.TaskTally.{tally_of}
-use Rattle.sched_report.proofs.Bounds.{few_done, few_stopped}
+use Rattle.sched_report.proofs.Bounds.{few_done, few_stopped, few_rows}
 use Rattle.sched_report.proofs.Numbered.{length-numbered}
 use Rattle.sched_report.proofs.Texts.{tally_at, line_more}
 use Rattle.sched_report.proofs.writing.report_text.Goals as goal
@@ -18,21 +18,21 @@ index-requires c =
 
 pub push_task-requires-clause-done : goal.push_task-requires-clause-done
 push_task-requires-clause-done c =
-    let h = reverse c.args.rows.now in
+    let h = reverse (expand c.args.runs.now) in
     let inside : c.loop-i.i < length c.args.set.now = omega (arith, c.loop-i-test.true, c.len-i-end.ensures.count) in
     let is : c.index.result.now ≡ tally_of c.args.set.now h (c.loop-i.i + 1) = tally_at c.args.set.now h c.in_ok-tally.tally.tasks.items c.loop-i.i c.index.result.now c.in_ok-tally.ensures.tasks inside c.index.ensures in
-    rw is (few_done c.args.set.now h (c.loop-i.i + 1) (omega (arith, c.requires.few, length-reverse c.args.rows.now)))
+    rw is (few_done c.args.set.now h (c.loop-i.i + 1) (few_rows c.args.runs.now c.requires.runs))
 
 pub push_task-requires-clause-stopped : goal.push_task-requires-clause-stopped
 push_task-requires-clause-stopped c =
-    let h = reverse c.args.rows.now in
+    let h = reverse (expand c.args.runs.now) in
     let inside : c.loop-i.i < length c.args.set.now = omega (arith, c.loop-i-test.true, c.len-i-end.ensures.count) in
     let is : c.index.result.now ≡ tally_of c.args.set.now h (c.loop-i.i + 1) = tally_at c.args.set.now h c.in_ok-tally.tally.tasks.items c.loop-i.i c.index.result.now c.in_ok-tally.ensures.tasks inside c.index.ensures in
-    rw is (few_stopped c.args.set.now h (c.loop-i.i + 1) (omega (arith, c.requires.few, length-reverse c.args.rows.now)))
+    rw is (few_stopped c.args.set.now h (c.loop-i.i + 1) (few_rows c.args.runs.now c.requires.runs))
 
 pub loop-i-preserved : goal.loop-i-preserved
 loop-i-preserved c =
-    let h = reverse c.args.rows.now in
+    let h = reverse (expand c.args.runs.now) in
     let inside : c.loop-i.i < length c.args.set.now = omega (arith, c.loop-i-test.true, c.len-i-end.ensures.count) in
     let is : c.index.result.now ≡ tally_of c.args.set.now h (c.loop-i.i + 1) = tally_at c.args.set.now h c.in_ok-tally.tally.tasks.items c.loop-i.i c.index.result.now c.in_ok-tally.ensures.tasks inside c.index.ensures in
     line_more c.args.set.now h c.loop-i.i c.task_at-task.result c.loop-i.text.items c.push_task.new.text.items _ _ c.index.result.now c.task_at-task.ensures is

@@ -1,11 +1,12 @@
 use Rattle.std.proofs.Common.{◌≡◌, ◌+◌, ◌++◌, [], ◌∷◌, codes, decimal, drop, reverse}
 use Rattle.std.specs.List.{concat}
+use Rattle.mc_model.specs.Runs.{expand}
 use Rattle.sched_report.specs.ReportText.{how_many, is_idle, is_switch, report_lines, report_text}
 use Rattle.sched_report.proofs.writing.report_text.Given as goal
 
 abbrev pub invariant-loop-i : goal.invariant-loop-i
 invariant-loop-i l =
     l.text.items
-    ++ (report_lines l.set (reverse l.rows) (l.i + 1) (drop l.i l.set)
-    ++ concat (codes "idle " ∷ decimal (how_many is_idle (reverse l.rows)) ∷ codes "\nswitches " ∷ decimal (how_many is_switch (reverse l.rows)) ∷ codes "\n" ∷ []))
-    ≡ report_text l.set (reverse l.rows)
+    ++ (report_lines l.set (reverse (expand l.runs)) (l.i + 1) (drop l.i l.set)
+    ++ concat (codes "idle " ∷ decimal (how_many is_idle (reverse (expand l.runs))) ∷ codes "\nswitches " ∷ decimal (how_many is_switch (reverse (expand l.runs))) ∷ codes "\n" ∷ []))
+    ≡ report_text l.set (reverse (expand l.runs))

@@ -1,8 +1,8 @@
 use Rattle.std.proofs.Common.{◌≡◌, ◌-◌, ◌++◌, codes, decimal, length, reverse, ap, ◌∙◌, arith}
-use Rattle.std.proofs.lemmas.List.{length-reverse}
+use Rattle.mc_model.specs.Runs.{expand}
 use Rattle.sched_report.specs.ReportText.{counts_text, how_many, is_tick, is_idle, is_switch, sum_counts, summary_text}
 use Rattle.sched_report.specs.Counts.{sum_tallies}
-use Rattle.sched_report.proofs.Bounds.{all_small, ticks-idle}
+use Rattle.sched_report.proofs.Bounds.{all_small, few_rows, ticks-idle}
 use Rattle.sched_report.proofs.Numbered.{length-numbered}
 use Rattle.sched_report.proofs.Texts.{sum_is, summary_pieces}
 use Rattle.sched_report.proofs.writing.summary_text.Goals as goal
@@ -14,16 +14,16 @@ sum_of-requires-clause-few c =
 
 pub sum_of-requires-clause-small : goal.sum_of-requires-clause-small
 sum_of-requires-clause-small c =
-    all_small c.args.set.now (reverse c.args.rows.now) c.in_ok-tally.tally.tasks.items c.in_ok-tally.ensures.tasks (omega (arith, c.requires.few, length-reverse c.args.rows.now))
+    all_small c.args.set.now (reverse (expand c.args.runs.now)) c.in_ok-tally.tally.tasks.items c.in_ok-tally.ensures.tasks (few_rows c.args.runs.now c.requires.runs)
 
 pub overflow_sub-tally : goal.overflow_sub-tally
-overflow_sub-tally c = omega (arith, c.in_ok-tally.ensures.tick, c.in_ok-tally.ensures.idle, ticks-idle (reverse c.args.rows.now))
+overflow_sub-tally c = omega (arith, c.in_ok-tally.ensures.tick, c.in_ok-tally.ensures.idle, ticks-idle (reverse (expand c.args.runs.now)))
 
 pub returns : goal.returns
 unfolding summary_text
 returns c =
     let set = c.args.set.now in
-    let h = reverse c.args.rows.now in
+    let h = reverse (expand c.args.runs.now) in
     let tally = c.in_ok-tally.tally in
     let t = c.in_ok-tally.ensures in
     let sums = c.sum_of.ensures ∙ (ap sum_tallies t.tasks ∙ sum_is set h 1 set) in

@@ -1,33 +1,34 @@
-use Rattle.std.proofs.Common.{◌≡◌, ◌+◌, ◌≤◌, length, reverse, take, vec_len, ap, subst, ◌∙◌, arith}
-use Rattle.std.proofs.lemmas.List.{length-reverse, length-take-le, take_all}
+use Rattle.std.proofs.Common.{◌≡◌, ◌+◌, length, reverse, take, vec_len, ap, subst, ◌∙◌, arith}
+use Rattle.std.proofs.lemmas.List.{take_all}
 use Rattle.std.proofs.lemmas.List.Elements.{All-get_or}
-use Rattle.mc_model.specs.Legal.{IsOfSet}
-use Rattle.mc_model.proofs.Traces.{rows_of_trace}
+use Rattle.mc_model.specs.Runs.{expand, IsRun}
+use Rattle.mc_model.proofs.Runs.{rows_more}
 use Rattle.sched_report.specs.Tally.{Tallies}
-use Rattle.sched_report.proofs.Bounds.{has_room, among}
+use Rattle.sched_report.proofs.Bounds.{has_room, among, few_read, short_run}
 use Rattle.sched_report.proofs.Numbered.{length-numbered}
-use Rattle.sched_report.proofs.Texts.{first_rows, legal_first}
+use Rattle.sched_report.proofs.Texts.{legal_first, run_inside}
 use Rattle.sched_report.proofs.writing.tally_of.Goals as goal
+
+pub count-requires-clause-is_run : goal.count-requires-clause-is_run
+count-requires-clause-is_run c = All-get_or IsRun c.args.runs.now c.loop-run.run-index _ c.loop-run-test.true c.requires.runs.each
+
+pub count-requires-clause-short : goal.count-requires-clause-short
+count-requires-clause-short c = short_run c.args.runs.now c.loop-run.run-index _ c.loop-run-test.true c.requires.runs
 
 pub count-requires-clause-task : goal.count-requires-clause-task
 count-requires-clause-task c =
-    let long : length c.loop-row.tally.tasks.items ≡ length c.args.set.now = ap length c.loop-row.invariant.tasks ∙ length-numbered _ 1 c.args.set.now in
-    among c.args.set.now (vec_len c.loop-row.tally.tasks) _ (omega (arith, long, c.loop-row.tally.tasks.ok.0))
-    (All-get_or (IsOfSet c.args.set.now) c.args.rows.now c.loop-row.row-index _ c.loop-row-test.true (rows_of_trace c.args.set.now c.args.rows.now c.requires.trace))
+    let long : length c.loop-run.tally.tasks.items ≡ length c.args.set.now = ap length c.loop-run.invariant.tasks ∙ length-numbered _ 1 c.args.set.now in
+    among c.args.set.now (vec_len c.loop-run.tally.tasks) _ (omega (arith, long, c.loop-run.tally.tasks.ok.0))
+    (run_inside c.args.set.now c.requires.trace.rule c.args.runs.now c.loop-run.run-index _ c.loop-run-test.true (All-get_or IsRun c.args.runs.now c.loop-run.run-index _ c.loop-run-test.true c.requires.runs.each) c.requires.trace.legal)
 
 pub count-requires-clause-room : goal.count-requires-clause-room
-count-requires-clause-room c =
-    let i = c.loop-row.row-index in
-    let rows = c.args.rows.now in
-    let inside : i ≤ length rows = c.loop-row.auto.row-index-end in
-    has_room c.args.set.now (reverse (take i rows)) c.loop-row.tally c.loop-row.invariant
-    (omega (arith, c.requires.few, inside, length-reverse (take i rows), length-take-le i rows inside))
+count-requires-clause-room c = has_room c.args.set.now _ c.loop-run.tally c.loop-run.invariant (few_read c.args.runs.now c.loop-run.run-index c.requires.runs)
 
-pub loop-row-preserved : goal.loop-row-preserved
-loop-row-preserved c =
-    let next = first_rows c.args.rows.now c.loop-row.row-index _ c.loop-row-test.true in
-    let legal = legal_first c.args.set.now c.requires.trace.rule c.args.rows.now (c.loop-row.row-index + 1) c.requires.trace.legal in
-    rw next (c.in_ok-count.ensures c.args.set.now c.requires.trace.rule (reverse (take c.loop-row.row-index c.args.rows.now)) (rw next at legal) c.loop-row.invariant)
+pub loop-run-preserved : goal.loop-run-preserved
+loop-run-preserved c =
+    let next = rows_more c.args.runs.now c.loop-run.run-index _ c.loop-run-test.true in
+    let legal = legal_first c.args.set.now c.requires.trace.rule c.args.runs.now (c.loop-run.run-index + 1) c.requires.trace.legal in
+    rw next (c.in_ok-count.ensures c.args.set.now c.requires.trace.rule (reverse (expand (take c.loop-run.run-index c.args.runs.now))) (rw next at legal) c.loop-run.invariant)
 
 pub returns : goal.returns
-returns c = subst (λ l. Tallies c.args.set.now (reverse l) c.loop-row.tally) (take_all c.loop-row.row-index c.args.rows.now c.loop-row-test.false) c.loop-row.invariant
+returns c = subst (λ l. Tallies c.args.set.now (reverse (expand l)) c.loop-run.tally) (take_all c.loop-run.run-index c.args.runs.now c.loop-run-test.false) c.loop-run.invariant

@@ -1,6 +1,7 @@
 use Rattle.std.proofs.Common.{reverse, take}
+use Rattle.mc_model.specs.Runs.{expand}
 use Rattle.sched_report.specs.Tally.{Tallies}
 use Rattle.sched_report.proofs.writing.tally_of.Given as goal
 
-abbrev pub invariant-loop-row : goal.invariant-loop-row
-invariant-loop-row l = Tallies l.set (reverse (take l.row-index l.rows)) l.tally
+abbrev pub invariant-loop-run : goal.invariant-loop-run
+invariant-loop-run l = Tallies l.set (reverse (expand (take l.run-index l.runs))) l.tally

@@ -1,17 +1,17 @@
 use Rattle.std.proofs.Common.{◌≡◌, ◌+◌, ◌≤◌, vec_len, vec_capacity}
-use Rattle.task_threads.specs.Passes.{AreInOrder}
+use Rattle.task_threads.specs.Workers.{AreInOrder}
 use Rattle.task_threads.specs.Starts.{GoDown}
 use Rattle.task_threads.proofs.starts.start_all.Given as goal
 
-abbrev pub invariant-loop-pass : goal.invariant-loop-pass
-invariant-loop-pass g l = record {
-  passes : AreInOrder l.executive l.passes.items;
-  len : vec_len l.passes + vec_len l.starts ≡ vec_len l.fn.passes;
-  room : vec_len l.fn.passes ≤ vec_capacity l.starts;
-  few : vec_len l.fn.passes ≤ 128;
-  kept : vec_capacity l.passes ≡ vec_capacity l.fn.passes;
-  starts : GoDown l.executive (vec_len l.fn.passes) l.starts.items;
+abbrev pub invariant-loop-worker : goal.invariant-loop-worker
+invariant-loop-worker g l = record {
+  workers : AreInOrder g.T.Worker.is_of l.executive l.workers.items;
+  len : vec_len l.workers + vec_len l.starts ≡ vec_len l.fn.workers;
+  room : vec_len l.fn.workers ≤ vec_capacity l.starts;
+  few : vec_len l.fn.workers ≤ 128;
+  kept : vec_capacity l.workers ≡ vec_capacity l.fn.workers;
+  starts : GoDown g.T.Worker.is_of l.executive (vec_len l.fn.workers) l.starts.items;
 }
 
-abbrev pub decreases-loop-pass : goal.decreases-loop-pass
-decreases-loop-pass g l = vec_len l.passes
+abbrev pub decreases-loop-worker : goal.decreases-loop-worker
+decreases-loop-worker g l = vec_len l.workers

@@ -1,10 +1,13 @@
 use Rattle.std.proofs.Common.{◌≡◌, ◌∷◌, List, ℕ, Result, Ok, ◌∙◌, sym, ap, subst}
+use Rattle.std.proofs.lemmas.List.Elements.{All-from_recursion}
 use Rattle.csv.specs.Reading.{default_config, records, strip_bom}
 use Rattle.csv.specs.Records.{fields_of}
-use Rattle.mc_model.specs.declared.row.Row.{Row}
+use Rattle.mc_model.specs.Runs.{IsRunOfSet}
+use Rattle.mc_model.specs.declared.run.Run.{Run}
 use Rattle.trace_format.specs.declared.fault.TraceFault.{TraceFault}
 use Rattle.trace_format.specs.Gives.{Fails}
-use Rattle.trace_format.specs.TraceFile.{rows_from, rows_of, trace_file}
+use Rattle.trace_format.specs.TraceFile.{runs_from, runs_of, trace_file}
+use Rattle.trace_format.proofs.RunsOfSet.{valid_runs, runs_of_set}
 use Rattle.trace_format.proofs.FileLemmas.{no_header, after_header}
 use Rattle.trace_format.proofs.read.read_trace.Goals.{In-Ok-true, In-Ok-true-next}
 use Rattle.trace_format.proofs.read.read_trace.Goals as goal
@@ -15,37 +18,37 @@ first_taken c = sym c.new-records.ensures ∙ c.in-Ok-true.ensures.record (ap Ok
 
 -- one more record, and those behind it
 next_taken : (c : In-Ok-true-next)
-    → rows_from c.args.set.now (fields_of c.next-in-records.new.fields ∷ c.next-in-records.new.self) c.records.reading.rows.items ≡ trace_file c.args.set.now c.args.bytes.now
+    → runs_from c.args.set.now c.in-Some.version (fields_of c.next-in-records.new.fields ∷ c.next-in-records.new.self) c.records.reading.runs.items ≡ trace_file c.args.set.now c.args.bytes.now
 next_taken c =
     let one = c.in-Ok-true-next.ensures.record (ap Ok c.in-Ok-true-next.field-0-test) in
-    ap (λ (rs : List (List (List ℕ))). rows_from c.args.set.now rs c.records.reading.rows.items) (sym one) ∙ c.records.invariant.left
+    ap (λ (rs : List (List (List ℕ))). runs_from c.args.set.now c.in-Some.version rs c.records.reading.runs.items) (sym one) ∙ c.records.invariant.left
 
 pub returns-in-Ok-false-clause-file : goal.returns-in-Ok-false-clause-file
 returns-in-Ok-false-clause-file c =
     let none = c.in-Ok-false.ensures.none (ap Ok c.in-Ok-false.field-0-test) in
-    ap (λ (rs : List (List (List ℕ))). rows_of c.args.set.now rs) (sym c.new-records.ensures ∙ none)
+    ap (λ (rs : List (List (List ℕ))). runs_of c.args.set.now rs) (sym c.new-records.ensures ∙ none)
 
-pub returns-then-not-is_header-clause-file : goal.returns-then-not-is_header-clause-file
-returns-then-not-is_header-clause-file c =
-    let first = first_taken (goal.at.returns-then-not-is_header-clause-file c).In-Ok-true in
-    ap (λ (rs : List (List (List ℕ))). rows_of c.args.set.now rs) first
-    ∙ no_header c.args.set.now (fields_of c.next.new.fields) c.next.new.self (sym c.is_header.ensures ∙ c.if-not-is_header.true)
+pub returns-in-None-clause-file : goal.returns-in-None-clause-file
+returns-in-None-clause-file c =
+    let first = first_taken (goal.at.returns-in-None-clause-file c).In-Ok-true in
+    ap (λ (rs : List (List (List ℕ))). runs_of c.args.set.now rs) first
+    ∙ no_header c.args.set.now (fields_of c.next.new.fields) c.next.new.self (sym c.version_of.ensures ∙ c.in-None.is)
 
 pub records-init : goal.records-init
 records-init c =
     let first = first_taken (goal.at.records-init c).In-Ok-true in
-    let text = ap (λ (rs : List (List (List ℕ))). rows_of c.args.set.now rs) first
-    ∙ after_header c.args.set.now (fields_of c.next.new.fields) c.next.new.self (sym c.is_header.ensures ∙ c.if-not-is_header.false) in
+    let text = ap (λ (rs : List (List (List ℕ))). runs_of c.args.set.now rs) first
+    ∙ after_header c.args.set.now (fields_of c.next.new.fields) c.next.new.self c.in-Some.version (sym c.version_of.ensures ∙ c.in-Some.is) in
     record {
-      read = c.new-reading.ensures.read c.args.set.now;
-      left = ap (λ (rows : List Row). rows_from c.args.set.now c.next.new.self rows) c.new-reading.ensures.rows ∙ sym text;
+      read = c.new-reading.ensures.read;
+      left = ap (λ (runs : List Run). runs_from c.args.set.now c.in-Some.version c.next.new.self runs) c.new-reading.ensures.runs ∙ sym text;
     }
 
 pub returns-in-Err-take-clause-file : goal.returns-in-Err-take-clause-file
 returns-in-Err-take-clause-file c =
     let same = next_taken (goal.at.returns-in-Err-take-clause-file c).In-Ok-true-next in
     let err = rw c.in-Err-take.is at c.take.ensures.err in
-    subst (λ (r : Result (List Row) TraceFault). Fails c.in-Err-take.fault r) same (err c.next-in-records.new.self)
+    subst (λ (r : Result (List Run) TraceFault). Fails c.in-Err-take.fault r) same (err c.next-in-records.new.self)
 
 pub records-preserved : goal.records-preserved
 records-preserved c =
@@ -59,4 +62,11 @@ records-preserved c =
 pub returns-in-Ok-false-next-clause-file : goal.returns-in-Ok-false-next-clause-file
 returns-in-Ok-false-next-clause-file c =
     let none = c.in-Ok-false-next.ensures.none (ap Ok c.in-Ok-false-next.field-0-test) in
-    sym c.records.invariant.left ∙ ap (λ (rs : List (List (List ℕ))). rows_from c.args.set.now rs c.records.reading.rows.items) none
+    sym c.records.invariant.left ∙ ap (λ (rs : List (List (List ℕ))). runs_from c.args.set.now c.in-Some.version rs c.records.reading.runs.items) none
+
+pub returns-in-Ok-false-next-clause-runs : goal.returns-in-Ok-false-next-clause-runs
+returns-in-Ok-false-next-clause-runs c = valid_runs c.args.set.now c.args.bytes.now c.records.reading.runs.items (returns-in-Ok-false-next-clause-file c)
+
+pub returns-in-Ok-false-next-clause-tasks : goal.returns-in-Ok-false-next-clause-tasks
+returns-in-Ok-false-next-clause-tasks c =
+    All-from_recursion (IsRunOfSet c.args.set.now) c.records.reading.runs.items (runs_of_set c.args.set.now c.args.bytes.now c.records.reading.runs.items (returns-in-Ok-false-next-clause-file c))

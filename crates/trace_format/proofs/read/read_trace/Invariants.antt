@@ -1,13 +1,13 @@
 use Rattle.std.proofs.Common.{◌≡◌, length}
-use Rattle.trace_format.specs.TraceFile.{rows_from, trace_file}
+use Rattle.trace_format.specs.TraceFile.{runs_from, trace_file}
 use Rattle.trace_format.specs.Reading.{AreRead}
 use Rattle.trace_format.proofs.read.read_trace.Given as goal
 
--- the records that are left give, behind the rows so far, what the whole text gives
+-- the records that are left give, behind the runs so far, what the whole text gives
 abbrev pub invariant-records : goal.invariant-records
 invariant-records l = record {
-  read : AreRead l.set l.reading;
-  left : rows_from l.set l.records l.reading.rows.items ≡ trace_file l.set l.bytes;
+  read : AreRead l.reading;
+  left : runs_from l.set l.version l.records l.reading.runs.items ≡ trace_file l.set l.bytes;
 }
 
 abbrev pub decreases-records : goal.decreases-records

@@ -1,12 +1,21 @@
-use Rattle.std.proofs.Common.{◌≡◌, ◌≢◌, sym, rules, length}
-use Rattle.trace_judge.proofs.Faults.{idle_none, idle_some}
-use Rattle.trace_judge.proofs.KeepsTick.{keeps_rest}
+use Rattle.std.proofs.Common.{◌≡◌, ◌≢◌, ◌∙◌, sym, rules, length, ap}
+use Rattle.mc_model.specs.Legal.{is_empty}
+use Rattle.mc_model.proofs.Repeats.{idle_legal}
+use Rattle.trace_judge.specs.Placed.{waiting}
+use Rattle.trace_judge.proofs.Placed.{pending_is}
+use Rattle.trace_judge.proofs.Fitting.{at_first}
+use Rattle.trace_judge.proofs.Faults.{idle_some, same_length, empty_at, nothing_at}
+use Rattle.trace_judge.proofs.KeepsRun.{keeps_rest}
 use Rattle.trace_judge.proofs.step.idle.Goals as goal
 
 pub returns-then-not-is_empty : goal.returns-then-not-is_empty
-returns-then-not-is_empty c g l t = (idle_some c.args.set.now c.args.rule g c.args.state.now l t (let h : length c.args.state.now.waiting.entries ≢ 0 = search rules in h), λ e. cc)
+returns-then-not-is_empty c g l t =
+    at_first c.args.set.now c.args.rule _ g _ _ c.first.ensures c.requires.is_run l (idle_some c.args.set.now c.args.rule g c.args.state.now l t (let h : length c.args.state.now.waiting.entries ≢ 0 = search rules in h))
 
 pub returns : goal.returns
 returns c g l t =
-    let n = idle_none c.args.set.now c.args.rule g c.args.state.now l t (let h : length c.args.state.now.waiting.entries ≡ 0 = search rules in h) in
-    (n, λ e. keeps_rest c.args.set.now c.args.rule g c.args.state.now _ (tt, sym n, l) t c.rest.ensures)
+    let h : length c.args.state.now.waiting.entries ≡ 0 = search rules in
+    let none : length (waiting c.args.set.now g) ≡ 0 = sym (same_length c.args.set.now c.args.rule g c.args.state.now t) ∙ h in (
+      idle_legal c.args.set.now c.args.rule c.args.length g l (ap is_empty (pending_is c.args.set.now c.args.rule g l) ∙ empty_at (waiting c.args.set.now g) none),
+      keeps_rest c.args.set.now c.args.rule g c.args.state.now _ c.args.length c.requires.is_run (nothing_at (waiting c.args.set.now g) none) t c.rest.ensures,
+    )

@@ -1,4 +1,5 @@
-use Rattle.std.proofs.Common.{◌∙◌, sym}
+use Rattle.std.proofs.Common.{◌∙◌, sym, arith}
+use Rattle.trace_judge.proofs.Fitting.{at_first}
 use Rattle.trace_judge.proofs.Faults.{release_fault}
 use Rattle.trace_judge.proofs.KeepsRelease.{keeps_release}
 use Rattle.trace_judge.proofs.step.release.Goals as goal
@@ -6,10 +7,10 @@ use Rattle.trace_judge.proofs.step.release.Goals as goal
 pub returns-in-Some : goal.returns-in-Some
 returns-in-Some c g l t =
     let at = c.task_in-task.ensures in
-    (sym c.in-Some.is ∙ (c.release_why.ensures ∙ release_fault c.args.set.now c.args.rule g c.args.state.now c.args.job c.args.kept c.task_in-task.result t c.requires.task.0 c.requires.task.1 at), λ e. cc)
+    at_first c.args.set.now c.args.rule _ g _ _ c.first.ensures (omega arith) l (sym c.in-Some.is ∙ (c.release_why.ensures ∙ release_fault c.args.set.now c.args.rule g c.args.state.now c.args.job c.args.kept c.task_in-task.result t c.requires.task.0 c.requires.task.1 at))
 
 pub returns : goal.returns
 returns c g l t =
     let at = c.task_in-task.ensures in
     let n = sym c.in_default.is ∙ (c.release_why.ensures ∙ release_fault c.args.set.now c.args.rule g c.args.state.now c.args.job c.args.kept c.task_in-task.result t c.requires.task.0 c.requires.task.1 at) in
-    (n, λ e. keeps_release c.args.set.now c.args.rule g c.args.state.now _ c.args.job c.args.kept c.task_in-task.result (c.requires.task, sym n, l) t at c.in_ok-release.ensures)
+    ((c.requires.task, sym n, l), keeps_release c.args.set.now c.args.rule g c.args.state.now _ c.args.job c.args.kept c.task_in-task.result (c.requires.task, sym n, l) t at c.in_ok-release.ensures)

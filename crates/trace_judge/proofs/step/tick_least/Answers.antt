@@ -1,18 +1,15 @@
-use Rattle.std.proofs.Common.{◌∙◌, sym, arith}
-use Rattle.trace_judge.proofs.Ticks.{IsTicking, wrong_how, right_how, keeps_tick}
+use Rattle.std.proofs.Common.{arith}
+use Rattle.trace_judge.proofs.Ticks.{IsTicking, stops, goes}
 use Rattle.trace_judge.proofs.step.tick_least.Goals as goal
 
-pub returns-then-not-is_allowed : goal.returns-then-not-is_allowed
-returns-then-not-is_allowed c g l t =
-    let i : IsTicking c.args.set.now c.args.rule g c.args.state.now c.args.job c.args.key c.args.pending c.task_in-task.result =
-    record { legal = l; tracks = t; room = omega (arith, c.requires.time); least = c.requires.least; at = c.task_in-task.ensures } in
-    (wrong_how c.args.set.now c.args.rule g c.args.state.now c.args.job c.args.key c.args.pending c.task_in-task.result c.args.how i (sym c.is_allowed.ensures ∙ c.if-not-is_allowed.true), λ e. cc)
+pub returns-then-fit-length : goal.returns-then-fit-length
+returns-then-fit-length c g l t =
+    let i : IsTicking c.args.set.now c.args.rule g c.args.state.now c.args.job c.args.how c.args.length c.args.key c.args.pending c.task_in-task.result =
+    record { legal = l; tracks = t; room = c.requires.time; least = c.requires.least; at = c.task_in-task.ensures; inside = c.requires.task; is_run = c.requires.is_run; each = c.len-is_set.ensures.set.each } in
+    stops c.args.set.now c.args.rule g c.args.state.now c.args.job c.args.how c.args.length c.args.key c.args.pending c.task_in-task.result i _ c.fitting-fit.ensures c.if-fit-length.true
 
 pub returns : goal.returns
 returns c g l t =
-    let i : IsTicking c.args.set.now c.args.rule g c.args.state.now c.args.job c.args.key c.args.pending c.task_in-task.result =
-    record { legal = l; tracks = t; room = omega (arith, c.requires.time); least = c.requires.least; at = c.task_in-task.ensures } in
-    let yes = sym c.is_allowed.ensures ∙ c.if-not-is_allowed.false in (
-      right_how c.args.set.now c.args.rule g c.args.state.now c.args.job c.args.key c.args.pending c.task_in-task.result c.args.how i yes,
-      λ e. keeps_tick c.args.set.now c.args.rule g c.args.state.now _ c.args.job c.args.key c.args.pending c.task_in-task.result c.args.how i yes c.in_ok-tick.ensures,
-    )
+    let i : IsTicking c.args.set.now c.args.rule g c.args.state.now c.args.job c.args.how c.args.length c.args.key c.args.pending c.task_in-task.result =
+    record { legal = l; tracks = t; room = c.requires.time; least = c.requires.least; at = c.task_in-task.ensures; inside = c.requires.task; is_run = c.requires.is_run; each = c.len-is_set.ensures.set.each } in
+    goes c.args.set.now c.args.rule g c.args.state.now _ c.args.job c.args.how c.args.length c.args.key c.args.pending c.task_in-task.result i (omega (arith, c.fitting-fit.ensures, c.if-fit-length.false)) c.in_ok-tick.ensures

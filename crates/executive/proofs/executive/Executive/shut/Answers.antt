@@ -1,4 +1,5 @@
-use Rattle.std.proofs.Common.{rules, ◌≤◌, ◌<◌, length, subst, sym, ◌∙◌}
+use Rattle.std.proofs.Common.{ap, rules, ◌≤◌, ◌<◌, length, subst, sym, ◌∙◌}
+use Rattle.executive.specs.declared.state.Opened.{Opened}
 use Rattle.executive.specs.Closing.{Closes}
 use Rattle.executive.specs.Passes.{floor_of}
 use Rattle.executive.proofs.Closings.{of_seats, each_seat, closed}
@@ -16,4 +17,4 @@ returns c =
     let h = c.close-floor.ensures in
     let few : length c.args.passes.items ≤ length (floor_of c.args.self).core.set = search rules in
     subst (Closes (floor_of c.args.self) c.args.passes.items) (sym c.into_floor.ensures)
-    (closed c.args.self c.args.passes.items c.give_seats.new.list.items c.close-floor.result h.log few c.give_seats.ensures c.requires.of c.requires.each h.stands.legal h.stands.leaves h.stands.kept h.fixed h.each)
+    (closed c.args.self c.args.passes.items c.give_seats.new.list.items c.close-floor.result h.log few c.give_seats.ensures c.requires.of c.requires.each h.stands.legal h.stands.leaves h.stands.kept (ap (λ (x : Opened). x.floor) h.fixed) h.each)

@@ -1,4 +1,4 @@
-use Rattle.sched_report.proofs.Steps.{found, release_step, idle_step}
+use Rattle.sched_report.proofs.Steps.{found, release_step, idle_run}
 use Rattle.sched_report.proofs.tally.Tally.count.Goals as goal
 
 pub returns-in_ok-release-in-Release : goal.returns-in_ok-release-in-Release
@@ -7,5 +7,8 @@ returns-in_ok-release-in-Release c = λ tasks rule g l t.
     rw c.in-Release.is
     (release_step tasks rule c.in-Release.job c.in-Release.kept g _ _ legal t (c.in_ok-release-in-Release.ensures _ (found tasks g c.in-Release.job.task.0 _ legal.0 t.tasks)))
 
-pub returns-in-Idle : goal.returns-in-Idle
-returns-in-Idle c = λ tasks rule g l t. rw c.in-Idle.is (idle_step tasks g _ _ t c.rest.ensures)
+pub returns-in-Ticks : goal.returns-in-Ticks
+returns-in-Ticks c = λ tasks rule g l t. rw c.in-Ticks.is (c.tick.ensures tasks rule g (rw c.in-Ticks.is at l) t)
+
+pub returns-in-Idles : goal.returns-in-Idles
+returns-in-Idles c = λ tasks rule g l t. rw c.in-Idles.is (idle_run tasks c.in-Idles.length g _ _ t c.rest.ensures)

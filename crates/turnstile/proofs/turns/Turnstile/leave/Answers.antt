@@ -3,8 +3,8 @@ use Rattle.atomic_table.specs.Table.{rest}
 use Rattle.turnstile.proofs.Passing.{passes_at}
 use Rattle.turnstile.proofs.turns.Turnstile.leave.Goals as goal
 
-pub fetch_add-requires : goal.fetch_add-requires
-fetch_add-requires g c =
+pub fetch_add-served-requires : goal.fetch_add-served-requires
+fetch_add-served-requires g c =
     let served = c.args.turn.claim.served in (
       search rules,
       search rules,

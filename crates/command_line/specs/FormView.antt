@@ -1,0 +1,12 @@
+-- What a form of the code stands for.
+use Rattle.command_line.specs.Form.{Form as Asked, check, run, on_trace, soak, live}
+use Rattle.command_line.specs.declared.form.Form.{Form}
+use Rattle.command_line.specs.declared.form.Form.TheVariants.{Check, Run, OnTrace, Soak, Live}
+
+-- the form with its words
+abbrev pub form_view : Form → Asked
+form_view (Check tasks) = check tasks.now
+form_view (Run tasks work ticks) = run tasks.now work.now ticks
+form_view (OnTrace telling tasks trace) = on_trace telling tasks.now trace.now
+form_view (Soak number tasks ticks) = soak number tasks ticks
+form_view (Live tasks ticks) = live tasks.now ticks

@@ -1,0 +1,6 @@
+//! The command line: which words ask for what.
+#![tactic(auto)]
+
+mod form;
+
+pub use form::{Form, Telling, form_of, usage_line};

@@ -1,0 +1,75 @@
+// The commands that leave a job for threads.
+ghost use Rattle.std.specs.Prelude.{◌≤◌, IfOk};
+ghost use Rattle.serving.specs.Outcome.{IsReply, AskedInOrder};
+ghost use Rattle.run_answers.specs.Run.{run};
+ghost use Rattle.run_answers.specs.Soak.{soak};
+ghost use Rattle.run_answers.specs.Live.{live};
+
+use executive::Gate;
+use mc_world::Shelf;
+use replies::Reply;
+use run_answers::{Live, Run, Soak, finish_live, finish_run, finish_soak};
+use serving::{Served, ask};
+use std::alloc::{AllocError, Global};
+use std::sync::Wait;
+use std::thread::Threads;
+
+/// The reply to `run`.
+pub fn serve_run<R: Threads + Wait + Sync, S: Shelf, G: Gate + Sync>(
+    rt: &R,
+    alloc: Global,
+    command: &Run<'_>,
+    shelf: &mut S,
+    gate: &G,
+) -> Result<Reply, AllocError>
+    requires { (1 ≤ command.now.ticks) × (command.now.ticks ≤ 1000000) }
+    ensures reply { IfOk result (IsReply (run command.now.tasks.now command.now.work.now command.now.ticks) (S.state shelf.old) (S.state shelf.new)) }
+    ensures asked { AskedInOrder (run command.now.tasks.now command.now.work.now command.now.ticks) (S.state shelf.old) (S.state shelf.new) }
+{
+    match ask(alloc, command, shelf)? {
+        Served::Done { reply } => Ok(reply),
+        Served::Left { job } => finish_run(rt, alloc, job, command.ticks, gate),
+    }
+}
+
+/// The reply to `soak`, which asks for no file.
+pub fn serve_soak<R: Threads + Wait + Sync, S: Shelf, G: Gate + Sync>(
+    rt: &R,
+    alloc: Global,
+    command: &Soak,
+    shelf: &mut S,
+    gate: &G,
+) -> Result<Reply, AllocError>
+    requires tasks { (2 ≤ command.now.tasks) × (command.now.tasks ≤ 32) }
+    requires ticks { (1 ≤ command.now.ticks) × (command.now.ticks ≤ 1000000) }
+    ensures reply { IfOk result (IsReply (soak command.now.number command.now.tasks command.now.ticks) (S.state shelf.old) (S.state shelf.new)) }
+    ensures asked { AskedInOrder (soak command.now.number command.now.tasks command.now.ticks) (S.state shelf.old) (S.state shelf.new) }
+{
+    let Soak {
+        number,
+        tasks,
+        ticks,
+    } = *command;
+    match ask(alloc, command, shelf)? {
+        Served::Done { reply } => Ok(reply),
+        Served::Left { .. } => finish_soak(rt, alloc, number, tasks, ticks, gate),
+    }
+}
+
+/// The reply to `live`.
+pub fn serve_live<R: Threads + Wait + Sync, S: Shelf, G: Gate + Sync>(
+    rt: &R,
+    alloc: Global,
+    command: &Live<'_>,
+    shelf: &mut S,
+    gate: &G,
+) -> Result<Reply, AllocError>
+    requires { (1 ≤ command.now.ticks) × (command.now.ticks ≤ 100000) }
+    ensures reply { IfOk result (IsReply (live command.now.tasks.now command.now.ticks) (S.state shelf.old) (S.state shelf.new)) }
+    ensures asked { AskedInOrder (live command.now.tasks.now command.now.ticks) (S.state shelf.old) (S.state shelf.new) }
+{
+    match ask(alloc, command, shelf)? {
+        Served::Done { reply } => Ok(reply),
+        Served::Left { job } => finish_live(rt, alloc, job, command.ticks, gate),
+    }
+}

@@ -1,0 +1,48 @@
+-- What stands on the board of an executive: after each tick that ended, how many have, and the mode.
+use Rattle.std.specs.Prelude.{◌≡◌, ℕ, List, [], ◌∷◌, ◌++◌, Bool, true, false, Option, Ok, Err, IfSome, cond}
+use Rattle.mc_model.specs.Rows.{ticks}
+use Rattle.mc_model.specs.Mode.{high_mode}
+use Rattle.timetable.specs.Floor.{FloorState}
+use Rattle.status_board.specs.declared.shown.Shown.{Shown}
+use Rattle.status_board.specs.declared.tokens.Writer.{Writer}
+use Rattle.status_board.specs.Logs.{start, last_of}
+use Rattle.status_board.specs.Tokens.{shown}
+use Rattle.executive.specs.declared.entry.Answer.{Answer}
+use Rattle.executive.specs.declared.entry.Answer.TheVariants.{Released, Taken, Told, Idled, Next}
+use Rattle.executive.specs.declared.entry.Entry.{Entry}
+use Rattle.executive.specs.Histories.{after_call}
+
+-- the ticks that ended on a floor, and its mode
+abbrev pub shown_of : FloorState → Shown
+shown_of f = record { ticks = ticks f.core.rows; high_mode = high_mode f.core.rule f.core.rows }
+
+-- a tick ended: an outcome was answered, or an idle tick was taken
+abbrev pub ends_tick : Answer → Bool
+ends_tick (Told (Ok how)) = true
+ends_tick (Told (Err e)) = false
+ends_tick (Idled (Ok n)) = true
+ends_tick (Idled (Err e)) = false
+ends_tick (Released r) = false
+ends_tick (Taken r) = false
+ends_tick (Next a) = false
+
+-- what a call that was answered so adds, where it leaves this floor
+abbrev pub shows_now : FloorState → Answer → List Shown
+shows_now f a = cond (ends_tick a) (shown_of f ∷ []) []
+
+-- what these calls add
+abbrev pub shows_from : FloorState → List Entry → List Shown
+shows_from f [] = []
+shows_from f (e ∷ es) = shows_now (after_call f e.task.0 e.call) e.answer ++ shows_from (after_call f e.task.0 e.call) es
+
+-- (0, low), and for each tick that ended in the history the ticks and the mode that it left
+abbrev pub shows : FloorState → List Entry → List Shown
+shows opening history = start ∷ shows_from opening history
+
+-- the writer showed this, where there is one
+abbrev pub HasShown : List Shown → Option Writer → Type 0
+HasShown log writer = IfSome writer (λ w. shown w ≡ log)
+
+-- the writer showed n ticks last, where there is one
+abbrev pub IsUpTo : ℕ → Option Writer → Type 0
+IsUpTo n writer = IfSome writer (λ w. (last_of start (shown w)).ticks ≡ n)

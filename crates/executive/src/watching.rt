@@ -1,0 +1,65 @@
+//! What watchers of the board see.
+ghost use Rattle.std.specs.Prelude.{◌≡◌};
+ghost use Rattle.status_board.specs.Logs.{IsLog, start, last_of};
+ghost use Rattle.status_board.specs.Tokens.{seen};
+ghost use Rattle.turnstile.specs.History.{StartsWith};
+ghost use Rattle.timetable.specs.declared.acts.Act.{Act as TheAct};
+ghost use Rattle.executive.specs.declared.entry.Call.TheVariants as call;
+ghost use Rattle.executive.specs.declared.entry.Answer.TheVariants as answer;
+ghost use Rattle.executive.specs.Passes.{IsHeldOf, IsPassOf, of_held, of_pass, Calls};
+ghost use Rattle.executive.specs.Shows.{shows};
+ghost use Rattle.executive.specs.Watching.{IsWatcherOf};
+
+use crate::entry::Call;
+use crate::executive::Executive;
+use crate::pass::{Held, Resting, TaskPass};
+use status_board::{Shown, Watcher};
+use std::marker::Brand;
+use std::sync::Wait;
+
+impl Executive {
+    /// The ticks that ended, and the mode. It waits for nobody: calls that end at the same time may be seen or not.
+    pub fn watch(&self, watcher: &mut Watcher) -> Shown
+        requires { IsWatcherOf self.now watcher.old }
+        ensures of { IsWatcherOf self.now watcher.new }
+        ensures begins { StartsWith (seen watcher.new) (seen watcher.old) }
+        // From (0, low) on, one tick more with each pair.
+        ensures log { IsLog (seen watcher.new) }
+        ensures last { result ≡ last_of start (seen watcher.new) }
+    {
+        match &self.board {
+            Some(board) => board.read(watcher),
+            None => unreachable!(),
+        }
+    }
+
+    /// From now on the watcher sees no less than what stood on the board after all that the pass has seen then. It is one call
+    /// of the pass, a look, and may wait for other calls.
+    pub fn tell<R: Wait>(&self, rt: &R, pass: &mut TaskPass, watcher: &mut Watcher)
+        requires pass { IsPassOf self.now pass.old }
+        requires watcher { IsWatcherOf self.now watcher.old }
+        ensures of { IsPassOf self.now pass.new × IsWatcherOf self.now watcher.new }
+        ensures calls { (act : TheAct) × Calls call.Look (answer.Next act) (of_pass pass.old) (of_pass pass.new) }
+        ensures begins { StartsWith (seen watcher.new) (seen watcher.old) }
+        ensures told { StartsWith (seen watcher.new) (shows (of_pass pass.new).lists.opening (of_pass pass.new).lists.seen) }
+    {
+        let Resting { held } = pass.resting.take().unwrap();
+        let held = self.told(rt, held, watcher);
+        pass.resting = Some(Resting { held });
+    }
+
+    // A look, in whose turn the watcher is told.
+    fn told<R: Wait>(&self, rt: &R, held: Held, watcher: &mut Watcher) -> Held
+        requires of { IsHeldOf self.now held }
+        requires watcher { IsWatcherOf self.now watcher.old }
+        ensures of { IsHeldOf self.now result × IsWatcherOf self.now watcher.new }
+        ensures calls { (act : TheAct) × Calls call.Look (answer.Next act) (of_held held) (of_held result) }
+        ensures begins { StartsWith (seen watcher.new) (seen watcher.old) }
+        ensures told { StartsWith (seen watcher.new) (shows (of_held result).lists.opening (of_held result).lists.seen) }
+    {
+        let Held { task, count, seat } = held;
+        let (mut turn, answer) = self.begin(rt, seat, task, Call::Look);
+        turn.state().tell(&self.board, watcher);
+        Held::counted(task, count, self.turns.leave::<Brand>(turn), &answer)
+    }
+}

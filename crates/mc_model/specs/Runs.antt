@@ -1,0 +1,88 @@
+-- Runs: equal rows of a trace in one record. Runs and rows stand in the order of the text here, THE OLDEST FIRST.
+use Rattle.std.specs.Prelude.{◌≡◌, ◌≤◌, ℕ, ◌+◌, Bool, true, false, List, [], ◌∷◌, ◌++◌, cond, length, replicate, All}
+use Rattle.mc_task.specs.declared.task.Task.{Task}
+use Rattle.mc_model.specs.Sums.{total}
+use Rattle.mc_model.specs.Rows.{same_job}
+use Rattle.mc_model.specs.Legal.{IsOfSet}
+use Rattle.mc_model.specs.declared.row.How.TheVariants.{More}
+use Rattle.mc_model.specs.declared.row.Row.{Row}
+use Rattle.mc_model.specs.declared.row.Row.TheVariants.{Release, Tick, Idle}
+use Rattle.mc_model.specs.declared.run.Run.{Run}
+use Rattle.mc_model.specs.declared.run.Run.TheVariants as run
+
+-- the row that a run repeats
+abbrev pub row_of : Run → Row
+row_of (run.Release j kept) = Release j kept
+row_of (run.Ticks j how n) = Tick j how
+row_of (run.Idles n) = Idle
+
+-- how often: a release stands once
+abbrev pub size : Run → ℕ
+size (run.Release j kept) = 1
+size (run.Ticks j how n) = n
+size (run.Idles n) = n
+
+-- the rows of a run
+abbrev pub rows_of : Run → List Row
+rows_of r = replicate (size r) (row_of r)
+
+-- the rows of a list of runs: each run stands as its rows
+abbrev pub expand : List Run → List Row
+expand [] = []
+expand (r ∷ rs) = rows_of r ++ expand rs
+
+-- the ticks of a run
+abbrev pub length_of : Run → ℕ
+length_of (run.Release j kept) = 0
+length_of (run.Ticks j how n) = n
+length_of (run.Idles n) = n
+
+-- a run has a row, and several ticks of a job stand in one run only where the job goes on behind each of them
+abbrev pub IsRun : Run → Type 0
+IsRun (run.Release j kept) = Unit {0}
+IsRun (run.Ticks j how n) = (1 ≤ n) × (2 ≤ n → how ≡ More)
+IsRun (run.Idles n) = 1 ≤ n
+
+-- a valid list of runs
+pub record AreRuns (runs : List Run) : Type 0 where
+  pub each : All IsRun runs
+  pub few : length runs ≤ 2000000
+  pub short : total length_of runs ≤ 100000000
+
+-- the task of a run is in the set
+abbrev pub IsRunOfSet : List Task → Run → Type 0
+IsRunOfSet set r = IsOfSet set (row_of r)
+
+-- the two could be one run: idle ticks, or ticks behind which one job goes on
+abbrev pub joins : Run → Run → Bool
+joins (run.Idles m) (run.Idles n) = true
+joins (run.Ticks i More m) (run.Ticks j More n) = same_job i j
+joins _ _ = false
+
+-- no two neighbours could be one run
+abbrev pub IsPacked : List Run → Type 0
+IsPacked [] = Unit {0}
+IsPacked (r ∷ []) = Unit {0}
+IsPacked (r ∷ s ∷ rs) = (joins r s ≡ false) × IsPacked (s ∷ rs)
+
+-- a row as a run of its own
+abbrev pub run_of : Row → Run
+run_of (Release j kept) = run.Release j kept
+run_of (Tick j how) = run.Ticks j how 1
+run_of Idle = run.Idles 1
+
+-- the run with one row more
+abbrev pub longer : Run → Run
+longer (run.Release j kept) = run.Release j kept
+longer (run.Ticks j how n) = run.Ticks j how (n + 1)
+longer (run.Idles n) = run.Idles (n + 1)
+
+-- a row before runs: the first run takes it where it can
+abbrev pub put_before : Row → List Run → List Run
+put_before row [] = run_of row ∷ []
+put_before row (r ∷ rs) = cond (joins (run_of row) r) (longer r ∷ rs) (run_of row ∷ r ∷ rs)
+
+-- the runs of a trace, as few as can be: no two neighbours could be one
+abbrev pub pack : List Row → List Run
+pack [] = []
+pack (row ∷ rows) = put_before row (pack rows)

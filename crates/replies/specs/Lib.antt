@@ -1,0 +1,5 @@
+pub mod Reply
+pub mod TaskLines
+pub mod RowLines
+pub mod Refusal
+pub mod Reading

@@ -1,0 +1,52 @@
+-- Why a command gets no answer: each reason, with its status and its line.
+use Rattle.std.specs.Prelude.{ℕ, List, ◌++◌, codes, decimal}
+use Rattle.mc_task.specs.declared.task.Task.{Task}
+use Rattle.mc_model.specs.declared.verdict.Verdict.{Verdict}
+use Rattle.mc_model.specs.CheckText.{not_admitted_text}
+use Rattle.mc_model.specs.VerdictText.{verdict_line}
+use Rattle.task_file.specs.declared.fault.TaskFault.{TaskFault}
+use Rattle.work_file.specs.declared.fault.WorkFault.{WorkFault}
+use Rattle.trace_format.specs.declared.fault.TraceFault.{TraceFault}
+use Rattle.replies.specs.Reply.{Reply, reply_of}
+use Rattle.replies.specs.TaskLines.{task_fault_line, range_line}
+use Rattle.replies.specs.RowLines.{work_fault_line, trace_fault_line}
+
+-- the reasons: of a file's number or a task's, of what a file says, and of a set or the verdict on a trace of it
+pub data Refusal : Type 0 where
+  ReadFault : (file : ℕ) → Refusal
+  Longer : (file limit : ℕ) → Refusal
+  TaskFile : TaskFault → Refusal
+  OutOfRange : (task : ℕ) → Refusal
+  NotAdmitted : List Task → Refusal
+  WorkFile : WorkFault → Refusal
+  Trace : TraceFault → Refusal
+  BadTrace : List Task → Verdict → Refusal
+  LongChart : (ticks : ℕ) → Refusal
+
+-- the status of each
+abbrev pub status_of : Refusal → ℕ
+status_of (NotAdmitted set) = 1
+status_of (TaskFile fault) = 3
+status_of (OutOfRange task) = 3
+status_of (WorkFile fault) = 4
+status_of (Trace fault) = 5
+status_of (LongChart ticks) = 5
+status_of (BadTrace set verdict) = 6
+status_of (ReadFault file) = 7
+status_of (Longer file limit) = 7
+
+-- the line of each
+abbrev pub line_of : Refusal → List ℕ
+line_of (NotAdmitted set) = not_admitted_text set
+line_of (TaskFile fault) = task_fault_line fault
+line_of (OutOfRange task) = range_line task
+line_of (WorkFile fault) = work_fault_line fault
+line_of (Trace fault) = trace_fault_line fault
+line_of (LongChart ticks) = codes "trace has " ++ (decimal ticks ++ codes " ticks, a chart has at most 2000000\n")
+line_of (BadTrace set verdict) = verdict_line set verdict
+line_of (ReadFault file) = codes "read fault on file " ++ (decimal file ++ codes "\n")
+line_of (Longer file limit) = codes "file " ++ (decimal file ++ (codes " is longer than " ++ (decimal limit ++ codes " bytes\n")))
+
+-- the reply that tells it
+abbrev pub refuse : Refusal → Reply
+refuse refusal = reply_of (status_of refusal) (line_of refusal)

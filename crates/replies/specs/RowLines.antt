@@ -1,0 +1,44 @@
+-- The lines that refuse a work file or a trace, by the number of a record.
+use Rattle.std.specs.Prelude.{ℕ, List, [], ◌++◌, codes, decimal}
+use Rattle.work_file.specs.declared.fault.WorkCause.{WorkCause}
+use Rattle.work_file.specs.declared.fault.WorkCause.TheVariants as cause
+use Rattle.work_file.specs.declared.fault.WorkFault.{WorkFault}
+use Rattle.work_file.specs.declared.fault.WorkFault.TheVariants as work
+use Rattle.trace_format.specs.declared.fault.TraceCause.{TraceCause}
+use Rattle.trace_format.specs.declared.fault.TraceCause.TheVariants as row
+use Rattle.trace_format.specs.declared.fault.TraceFault.{TraceFault}
+use Rattle.trace_format.specs.declared.fault.TraceFault.TheVariants as trace
+
+-- why a record of a work file is refused
+abbrev pub work_cause_words : WorkCause → List ℕ
+work_cause_words cause.BadRecord = codes "not three fields\n"
+work_cause_words cause.Header = codes "header is not task,release,need\n"
+work_cause_words cause.UnknownTask = codes "unknown task\n"
+work_cause_words cause.BadNumber = codes "bad number\n"
+work_cause_words cause.ZeroNeed = codes "need is 0\n"
+work_cause_words cause.Unsorted = codes "release before the last one\n"
+work_cause_words (cause.TooSoon next) = codes "too soon, next " ++ (decimal next ++ codes "\n")
+work_cause_words cause.TooMany = codes "more than 1000000 rows\n"
+
+-- the work file is refused; Memory is no refusal and has no line
+abbrev pub work_fault_line : WorkFault → List ℕ
+work_fault_line work.Memory = []
+work_fault_line (work.At line cause) = codes "work file line " ++ (decimal line ++ (codes ": " ++ work_cause_words cause))
+
+-- why a record of a trace is refused
+abbrev pub trace_cause_words : TraceCause → List ℕ
+trace_cause_words row.BadRecord = codes "not five fields\n"
+trace_cause_words row.Header = codes "header is of no trace version\n"
+trace_cause_words row.UnknownEvent = codes "unknown event\n"
+trace_cause_words row.UnknownTask = codes "unknown task\n"
+trace_cause_words row.BadNumber = codes "bad number\n"
+trace_cause_words row.WrongTick = codes "wrong tick\n"
+trace_cause_words row.TooMany = codes "more than 2000000 rows\n"
+trace_cause_words row.BadLength = codes "bad length\n"
+trace_cause_words row.TooManyTicks = codes "more than 100000000 ticks\n"
+trace_cause_words row.NotSix = codes "not six fields\n"
+
+-- the trace is refused; Memory is no refusal and has no line
+abbrev pub trace_fault_line : TraceFault → List ℕ
+trace_fault_line trace.Memory = []
+trace_fault_line (trace.At line cause) = codes "trace line " ++ (decimal line ++ (codes ": " ++ trace_cause_words cause))

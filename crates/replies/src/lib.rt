@@ -1,0 +1,13 @@
+//! What the program answers: a status and a text, and the replies that refuse.
+#![tactic(auto)]
+
+mod load_text;
+pub mod refused;
+mod reply;
+mod row_lines;
+mod task_lines;
+mod verdicts;
+
+pub use load_text::load_texts;
+pub use reply::Reply;
+pub use verdicts::verdict_line;

@@ -1,0 +1,48 @@
+// A reply: a status and a text.
+ghost use Rattle.std.specs.Prelude.{◌≡◌, ◌<◌};
+ghost use Rattle.replies.specs.Reply.{reply_of};
+
+use std::marker::Model;
+
+/// A status from 0 to 7, and the text that is written with it.
+#[derive(Drop)]
+pub struct Reply {
+    status: u8,
+    text: Vec<u8>,
+}
+
+impl Model for Reply {
+    ghost use Rattle.std.specs.Prelude.{◌<◌};
+    ghost use Rattle.replies.specs.Reply.{Reply as Answered, reply_of};
+
+    ghost Value = { Answered };
+
+    ghost view = { λ r. reply_of r.status r.text.items };
+
+    ghost invariant = { λ r. r.status < 8 };
+}
+
+impl Reply {
+    /// The reply with this status and text.
+    pub fn new(status: u8, text: Vec<u8>) -> Reply
+        requires { status < 8 }
+        ensures { result ≡ reply_of status text.items }
+    {
+        Reply { status, text }
+    }
+
+    /// The status.
+    pub fn status(&self) -> u8
+        ensures status { result ≡ self.now.status }
+        ensures small { result < 8 }
+    {
+        self.status
+    }
+
+    /// The text.
+    pub fn text(&self) -> &[u8]
+        ensures { result.now ≡ self.now.text }
+    {
+        &self.text
+    }
+}

@@ -1,0 +1,4 @@
+mod SameTrace
+mod Soaked
+mod LivePlaces
+mod LiveRows

@@ -1,0 +1,95 @@
+-- The live trace among the rows of a core, whose list in the code has the oldest row first.
+use Rattle.std.proofs.Common.{◌≡◌, ◌⊎◌, inl, inr, ℕ, ◌+◌, ◌-◌, ◌<◌, ◌≤◌, true, List, [], ◌∷◌, ◌++◌, reverse, take, drop, length, get_or, ap, sym, ◌∙◌, subst, arith}
+use Rattle.std.proofs.lemmas.List.{reverse-append, reverse-reverse, take-append-drop, take_more, take_all, length-take, length-reverse}
+use Rattle.mc_task.specs.declared.task.Task.{Task}
+use Rattle.mc_task.specs.declared.task.Rule.{Rule}
+use Rattle.mc_task.specs.declared.task.JobId.{JobId}
+use Rattle.mc_model.specs.declared.row.How.{How}
+use Rattle.mc_model.specs.declared.row.Row.{Row}
+use Rattle.mc_model.specs.declared.row.Row.TheVariants.{Release, Tick, Idle}
+use Rattle.mc_model.specs.Core.{State}
+use Rattle.mc_model.specs.Rows.{ticks}
+use Rattle.mc_model.specs.LiveTrace.{LiveTrace, ends_with_tick}
+use Rattle.mc_model.proofs.Ticks.{ticks-append}
+use Rattle.mode_core.specs.Shape.{IsSound}
+use Rattle.task_threads.specs.LiveLeft.{HasLiveTrace}
+
+-- rows that end with a tick have more ticks than those before it
+more_ticks : (row : Row) (later h : List Row) → ends_with_tick (row ∷ later ++ h) ≡ true → ticks h < ticks (row ∷ later ++ h)
+more_ticks (Release j kept) later h last = absurd (cc)
+more_ticks (Tick j how) later h last = let all = ticks-append later h in omega (arith, all)
+more_ticks Idle later h last = let all = ticks-append later h in omega (arith, all)
+
+-- of the same rows there is one part that has so many ticks and ends with one
+same_part : (later other g h : List Row) → later ++ g ≡ other ++ h → ticks g ≡ ticks h → ends_with_tick g ≡ true → ends_with_tick h ≡ true → g ≡ h
+same_part [] [] g h same n a b = same
+same_part [] (row ∷ other) g h same n a b =
+    let more = more_ticks row other h (subst (λ x. ends_with_tick x ≡ true) same a) in
+    let t = ap ticks same in
+    absurd (omega (arith, more, t, n))
+same_part (row ∷ later) [] g h same n a b =
+    let more = more_ticks row later g (subst (λ x. ends_with_tick x ≡ true) (sym same) b) in
+    let t = ap ticks same in
+    absurd (omega (arith, more, t, n))
+same_part (row ∷ later) (next ∷ other) g h same n a b = same_part later other g h (cc) n a b
+
+-- the rows up to this place, the newest first: the row there and those before it
+up_to_place : (rows : List Row) (i : ℕ) (d : Row) → i < length rows → reverse (take (i + 1) rows) ≡ get_or rows i d ∷ reverse (take i rows)
+up_to_place rows i d inside = ap reverse (take_more rows i d inside) ∙ reverse-append (take i rows) (get_or rows i d ∷ [])
+
+-- all rows, the newest first: those behind this place, and those up to it
+parts : (rows : List Row) (i : ℕ) → reverse (drop i rows) ++ reverse (take i rows) ≡ reverse rows
+parts rows i = sym (reverse-append (take i rows) (drop i rows)) ∙ ap reverse (take-append-drop i rows)
+
+-- the rows up to the place of the last of so many ticks are the live trace
+live_part : (s : State) (n i : ℕ) (d : Row) → HasLiveTrace s n → i < length (reverse s.rows) → ends_with_tick (get_or (reverse s.rows) i d ∷ []) ≡ true
+    → ticks (reverse (take i (reverse s.rows))) + 1 ≡ n → LiveTrace s.set s.rule n (reverse (take (i + 1) (reverse s.rows)))
+live_part s n i d live inside tick before =
+    let here = up_to_place (reverse s.rows) i d inside in
+    let last : ends_with_tick (reverse (take (i + 1) (reverse s.rows))) ≡ true = ap ends_with_tick here ∙ ends (get_or (reverse s.rows) i d) (reverse (take i (reverse s.rows))) tick in
+    let count : ticks (reverse (take (i + 1) (reverse s.rows))) ≡ ticks (reverse (take i (reverse s.rows))) + 1 = ap ticks here ∙ counts (get_or (reverse s.rows) i d) (reverse (take i (reverse s.rows))) tick in
+    let whole = parts (reverse s.rows) (i + 1) ∙ (reverse-reverse s.rows ∙ live.rows) in
+    let same : reverse (take (i + 1) (reverse s.rows)) ≡ live.h = same_part (reverse (drop (i + 1) (reverse s.rows))) live.later (reverse (take (i + 1) (reverse s.rows))) live.h whole (count ∙ (before ∙ sym live.live.ticks)) last live.live.last in
+    subst (λ h. LiveTrace s.set s.rule n h) (sym same) live.live
+  where
+    ends : (row : Row) (g : List Row) → ends_with_tick (row ∷ []) ≡ true → ends_with_tick (row ∷ g) ≡ true
+    ends (Release j kept) g h = absurd (cc)
+    ends (Tick j how) g h = h
+    ends Idle g h = h
+
+    counts : (row : Row) (g : List Row) → ends_with_tick (row ∷ []) ≡ true → ticks (row ∷ g) ≡ ticks g + 1
+    counts (Release j kept) g h = absurd (cc)
+    counts (Tick j how) g h = omega arith
+    counts Idle g h = omega arith
+
+-- as the code finds them: at this place there is a tick, which is the last that is left
+pub live_front : (s : State) (n i left : ℕ) (rows part : List Row) (d : Row) → HasLiveTrace s n → rows ≡ reverse s.rows → part ≡ take (i + 1) rows → i < length rows
+    → ((j : JobId) × (how : How) × (get_or rows i d ≡ Tick j how)) ⊎ (get_or rows i d ≡ Idle) → 1 ≤ left → left - 1 ≡ 0 → ticks (reverse (take i rows)) + left ≡ n
+    → LiveTrace s.set s.rule n (reverse part)
+live_front s n i left rows part d live is front inside tick some none sum =
+    let here : ends_with_tick (get_or rows i d ∷ []) ≡ true = elim tick [ inl t ↦ ap (λ row. ends_with_tick (row ∷ [])) t.2 | inr t ↦ ap (λ row. ends_with_tick (row ∷ [])) t ] in
+    let one : ticks (reverse (take i rows)) + 1 ≡ n = omega (arith, some, none, sum) in
+    subst (λ xs. LiveTrace s.set s.rule n (reverse xs)) (sym front)
+    (subst (λ xs. LiveTrace s.set s.rule n (reverse (take (i + 1) xs))) (sym is)
+    (live_part s n i d live (subst (λ xs. i < length xs) is inside) (subst (λ xs. ends_with_tick (get_or xs i d ∷ []) ≡ true) is here) (subst (λ xs. ticks (reverse (take i xs)) + 1 ≡ n) is one)))
+
+-- they are no more than the places
+pub few_rows : (s : State) (i : ℕ) (rows part : List Row) → IsSound s → rows ≡ reverse s.rows → part ≡ take i rows → length part ≤ s.places
+few_rows s i rows part sound is front =
+    let a = ap length front ∙ length-take i rows in
+    let b = ap length is ∙ length-reverse s.rows in
+    let room = sound.room in
+    omega (arith, a, b, room)
+
+-- among all rows there is such a place
+pub some_place : (s : State) (n i left : ℕ) (rows : List Row) → HasLiveTrace s n → rows ≡ reverse s.rows → length rows ≤ i → 1 ≤ left → ticks (reverse (take i rows)) + left ≡ n → ⊥
+some_place s n i left rows live is end some sum =
+    let all = ap ticks live.rows ∙ ticks-append live.later live.h in
+    let count = live.live.ticks in
+    let whole : ticks (reverse (take i rows)) ≡ ticks s.rows = ap (λ xs. ticks (reverse xs)) (take_all i rows end ∙ is) ∙ ap ticks (reverse-reverse s.rows) in
+    absurd (omega (arith, all, count, whole, some, sum))
+
+-- of the core's set and rule, which are those of another state
+pub live_of : (s t : State) (set : List Task) (rule : Rule) (n : ℕ) (h : List Row) → s ≡ t → t.set ≡ set → t.rule ≡ rule → LiveTrace s.set s.rule n h → LiveTrace set rule n h
+live_of s t set rule n h same of_set of_rule live =
+    subst (λ r. LiveTrace set r n h) of_rule (subst (λ x. LiveTrace x t.rule n h) of_set (subst (λ (u : State). LiveTrace u.set u.rule n h) same live))

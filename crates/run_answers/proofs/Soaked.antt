@@ -1,0 +1,30 @@
+-- The trace of a workload, and its text.
+use Rattle.std.proofs.Common.{◌≡◌, ℕ, List, ◌++◌, Some, ap, subst, ◌∙◌, append_assoc}
+use Rattle.mc_task.specs.declared.task.Task.{Task}
+use Rattle.mc_task.specs.declared.task.Rule.{Rule}
+use Rattle.mc_model.specs.declared.row.Row.{Row}
+use Rattle.mc_model.specs.declared.work.WorkRow.{WorkRow}
+use Rattle.mc_model.specs.Test.{test}
+use Rattle.mc_model.specs.Follows.{Follows}
+use Rattle.mc_model.specs.Verdict.{verdict}
+use Rattle.mc_model.specs.VerdictText.{verdict_line}
+use Rattle.sched_report.specs.ReportText.{summary_text}
+use Rattle.run_answers.specs.Soak.{workload_set, workload_work, call_line, rule_line, soak_text, IsSoaked}
+
+pub is_soaked : (number tasks ticks : ℕ) (set : List Task) (rule : Rule) (work : List WorkRow) (h : List Row) → set ≡ workload_set number tasks → work ≡ workload_work number tasks ticks → test set ≡ Some rule
+    → Follows set rule work ticks h → IsSoaked number tasks ticks rule h
+is_soaked number tasks ticks set rule work h s w t f = record {
+  test = subst (λ x. test x ≡ Some rule) s t;
+  follows = subst (λ x. Follows x rule (workload_work number tasks ticks) ticks h) s (subst (λ x. Follows set rule x ticks h) w f);
+}
+
+-- the text, piece by piece, with the rows as they stand in the code
+pub soak_text-pieces : (number tasks ticks : ℕ) (set : List Task) (rule : Rule) (h rows : List Row) (front text : List ℕ) → set ≡ workload_set number tasks → rows ≡ h → front ≡ call_line number tasks ticks ++ rule_line rule
+    → text ≡ front ++ (summary_text set rows ++ verdict_line set (verdict set rule rows)) → text ≡ soak_text number tasks ticks (workload_set number tasks) rule h
+unfolding soak_text
+soak_text-pieces number tasks ticks set rule h rows front text s r f t =
+    t
+    ∙ (ap (λ x. x ++ (summary_text set rows ++ verdict_line set (verdict set rule rows))) f
+    ∙ (append_assoc (call_line number tasks ticks) (rule_line rule) (summary_text set rows ++ verdict_line set (verdict set rule rows))
+    ∙ (ap (λ x. call_line number tasks ticks ++ (rule_line rule ++ (summary_text x rows ++ verdict_line x (verdict x rule rows)))) s
+    ∙ ap (λ x. call_line number tasks ticks ++ (rule_line rule ++ (summary_text (workload_set number tasks) x ++ verdict_line (workload_set number tasks) (verdict (workload_set number tasks) rule x)))) r)))

@@ -1,0 +1,5 @@
+pub mod Run
+pub mod Live
+pub mod Soak
+pub mod Jobs
+pub mod Planned

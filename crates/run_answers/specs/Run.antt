@@ -1,0 +1,34 @@
+-- The command `run TASKS WORK TICKS`.
+use Rattle.std.specs.Prelude.{◌≡◌, ℕ, List, reverse, Result}
+use Rattle.mc_task.specs.declared.task.Task.{Task}
+use Rattle.mc_task.specs.declared.task.Rule.{Rule}
+use Rattle.mc_model.specs.declared.row.Row.{Row}
+use Rattle.mc_model.specs.declared.work.WorkRow.{WorkRow}
+use Rattle.mc_model.specs.Follows.{Follows}
+use Rattle.mc_model.specs.TraceText.{trace_text}
+use Rattle.work_file.specs.WorkFile.{work_in}
+use Rattle.replies.specs.Reply.{Reply, reply_of}
+use Rattle.replies.specs.Refusal.{Refusal, WorkFile}
+use Rattle.replies.specs.Reading.{or_refuse, By}
+use Rattle.serving.specs.Command.{Command}
+use Rattle.task_answers.specs.Admitted.{Ruled, admitted, table, of_two}
+
+-- the text of a trace, with status 0; the newest row of the trace stands first here
+abbrev pub traced : List Task → List Row → Reply
+traced set h = reply_of 0 (trace_text set (reverse h))
+
+-- the work that a work file says of a set
+abbrev pub work_of : List Task → List ℕ → Result (List WorkRow) Refusal
+work_of set bytes = or_refuse WorkFile (work_in set bytes)
+
+-- the one trace of so many ticks that follows from a set, a rule and work
+abbrev pub TellsTrace : ℕ → List Task → Rule → List WorkRow → Reply → Type 0
+TellsTrace ticks set rule work reply = (h : List Row) × Follows set rule work ticks h × (reply ≡ traced set h)
+
+-- by what the work file says
+abbrev pub Runs : ℕ → Ruled → List ℕ → Reply → Type 0
+Runs ticks ruled more reply = By (work_of ruled.set more) (TellsTrace ticks ruled.set ruled.rule) reply
+
+-- the command
+abbrev pub run : List ℕ → List ℕ → ℕ → Command
+run tasks work ticks = of_two tasks admitted (table work) (Runs ticks)

@@ -1,0 +1,53 @@
+-- The command `soak NUMBER TASKS TICKS`: the trace of a workload that is made from a number, summed up and judged.
+use Rattle.std.specs.Prelude.{◌≡◌, ℕ, List, ◌++◌, codes, decimal, Some}
+use Rattle.mc_task.specs.declared.task.Task.{Task}
+use Rattle.mc_task.specs.declared.task.Rule.{Rule}
+use Rattle.mc_task.specs.declared.task.Rule.TheVariants.{Plain, Virtual}
+use Rattle.mc_model.specs.declared.row.Row.{Row}
+use Rattle.mc_model.specs.declared.work.WorkRow.{WorkRow}
+use Rattle.mc_model.specs.Test.{test}
+use Rattle.mc_model.specs.Follows.{Follows}
+use Rattle.mc_model.specs.Verdict.{verdict}
+use Rattle.mc_model.specs.VerdictText.{verdict_line}
+use Rattle.sched_report.specs.ReportText.{summary_text}
+use Rattle.set_gen.specs.Words.{words_of}
+use Rattle.set_gen.specs.MadeSet.{made_set}
+use Rattle.set_gen.specs.MadeWork.{made_work}
+use Rattle.replies.specs.Reply.{Reply, reply_of}
+use Rattle.serving.specs.Command.{Command, no_file}
+
+-- the set of a workload
+abbrev pub workload_set : ℕ → ℕ → List Task
+workload_set number tasks = made_set (words_of number) tasks
+
+-- its work
+abbrev pub workload_work : ℕ → ℕ → ℕ → List WorkRow
+workload_work number tasks ticks = made_work (words_of number) tasks ticks
+
+-- the line of the call, which makes the same bytes again
+abbrev pub call_line : ℕ → ℕ → ℕ → List ℕ
+call_line number tasks ticks = codes "soak " ++ (decimal number ++ (codes " " ++ (decimal tasks ++ (codes " " ++ (decimal ticks ++ codes "\n")))))
+
+-- the line of the rule
+abbrev pub rule_line : Rule → List ℕ
+rule_line Plain = codes "rule plain\n"
+rule_line (Virtual p q) = codes "rule virtual x " ++ (decimal p ++ (codes "/" ++ (decimal q ++ codes "\n")))
+
+-- the call, the rule, the sums over the trace, whose newest row stands first here, and the verdict on it
+unfoldable pub soak_text : ℕ → ℕ → ℕ → List Task → Rule → List Row → List ℕ
+soak_text number tasks ticks set rule h =
+    call_line number tasks ticks ++ (rule_line rule ++ (summary_text set h ++ verdict_line set (verdict set rule h)))
+
+-- the trace is that of the workload, under the rule that the test gives its set
+pub record IsSoaked (number tasks ticks : ℕ) (rule : Rule) (h : List Row) : Type 0 where
+  pub test : test (workload_set number tasks) ≡ Some rule
+  pub follows : Follows (workload_set number tasks) rule (workload_work number tasks ticks) ticks h
+
+-- the text of that trace, with status 0
+abbrev pub Soaks : ℕ → ℕ → ℕ → Reply → Type 0
+Soaks number tasks ticks reply =
+    (rule : Rule) × (h : List Row) × IsSoaked number tasks ticks rule h × (reply ≡ reply_of 0 (soak_text number tasks ticks (workload_set number tasks) rule h))
+
+-- the command
+abbrev pub soak : ℕ → ℕ → ℕ → Command
+soak number tasks ticks = no_file (Soaks number tasks ticks)

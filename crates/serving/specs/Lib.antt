@@ -1,0 +1,4 @@
+pub mod Command
+pub mod Steps
+pub mod Outcome
+pub mod Written

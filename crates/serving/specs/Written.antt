@@ -1,0 +1,21 @@
+-- How a reply is written.
+use Rattle.std.specs.Prelude.{◌≡◌, ℕ, ◌≤◌, ◌++◌, length, take, List, option_map}
+use Rattle.mc_world.specs.Count.{Rose}
+use Rattle.mc_world.specs.Sink.{SinkState}
+use Rattle.replies.specs.Reply.{Reply}
+
+-- the first n bytes of the text were written, where the sink tells
+abbrev pub Wrote : ℕ → List ℕ → SinkState → SinkState → Type 0
+Wrote n text before after = after.written ≡ option_map (λ bytes. bytes ++ take n text) before.written
+
+-- the reply was written whole, and the program ended with its status
+pub record IsWritten (reply : Reply) (ended : ℕ) (before after : SinkState) : Type 0 where
+  pub status : ended ≡ reply.status
+  pub text : Wrote (length reply.text) reply.text before after
+  pub faults : after.faults ≡ before.faults
+
+-- the sink failed when a front of the reply was written
+pub record IsCutShort (reply : Reply) (ended : ℕ) (before after : SinkState) : Type 0 where
+  pub status : ended ≡ 8
+  pub text : (n : ℕ) × (n ≤ length reply.text) × Wrote n reply.text before after
+  pub faults : Rose before.faults after.faults

@@ -1,0 +1,32 @@
+-- The rule, which every step keeps: there is one writer, its list is a log, the word is the last pair of it, and all others
+-- know a beginning of it.
+use Rattle.std.specs.Prelude.{◌≡◌, ℕ, List, [], ◌∷◌, true, ⊤}
+use mathlib.Core.Option.{some}
+use lib.ListN.{get_elem?}
+use Rattle.atomic_table.specs.Table.{State}
+use Rattle.status_board.specs.declared.shown.Shown.{Shown}
+use Rattle.status_board.specs.declared.shown.View.{View}
+use Rattle.status_board.specs.Logs.{StartsWith, IsLog, start, last_of, word_of}
+
+-- the log begins with each of the lists
+abbrev pub AllBegin : List Shown → List (List Shown) → Type 0
+AllBegin log [] = ⊤
+AllBegin log (x ∷ xs) = StartsWith log x × AllBegin log xs
+
+-- what is so of the token in place id
+pub record Fits (log : List Shown) (id : ℕ) (v : View) : Type 0 where
+  -- the writer has the first place
+  pub first : v.writes ≡ true → id ≡ 0
+  -- what it showed or saw, and what it was told, is a beginning of the log
+  pub seen : v.live ≡ true → StartsWith log v.list
+  pub told : AllBegin log v.told
+
+-- what is so between any two steps
+pub record Orderly (s : State (Unit {0}) View) : Type 0 where
+  pub writer : View
+  pub there : get_elem? s.views 0 ≡ some writer
+  pub writes : writer.writes ≡ true
+  -- what the writer showed is the log
+  pub log : IsLog writer.list
+  pub word : s.words ≡ word_of (last_of start writer.list) ∷ []
+  pub each : (id : ℕ) (v : View) → get_elem? s.views id ≡ some v → Fits writer.list id v

@@ -1,0 +1,25 @@
+-- What each step on the word tells the token that makes it.
+use Rattle.std.specs.Prelude.{◌≡◌, ℕ, List}
+use Rattle.atomic_table.specs.Table.{Me, Step}
+use Rattle.status_board.specs.declared.shown.Shown.{Shown}
+use Rattle.status_board.specs.declared.shown.View.{View}
+use Rattle.status_board.specs.Logs.{StartsWith, IsLog, start, last_of, word_of}
+use Rattle.status_board.specs.Views.{shown_view, seen_view}
+use Rattle.status_board.specs.Rule.{AllBegin}
+
+-- a token's view, and the slots that are out with it, of which there are none
+abbrev pub Standing : Type 0
+Standing = Me (Unit {0}) View
+
+-- a pair was shown
+abbrev pub Shows : Step (Unit {0}) → Standing → ℕ → Standing → Type 0
+Shows st before found after = (now : Shown) × (word_of now ≡ found) × IsLog after.0.list × (after ≡ (shown_view now before.0, before.1))
+
+-- The log was seen. It begins with all that was seen and told before, and the number found is the word of its last pair
+abbrev pub Looks : Step (Unit {0}) → Standing → ℕ → Standing → Type 0
+Looks st before found after = (log : List Shown)
+    × IsLog log
+    × StartsWith log before.0.list
+    × AllBegin log before.0.told
+    × (found ≡ word_of (last_of start log))
+    × (after ≡ (seen_view log before.0, before.1))

@@ -1,0 +1,33 @@
+-- What a token knows: its view of the board, and what becomes of it at each step.
+use Rattle.std.specs.Prelude.{List, [], ◌∷◌, ◌++◌, length, true, false, nat_lt, if◌then◌else◌}
+use Rattle.status_board.specs.declared.shown.Shown.{Shown}
+use Rattle.status_board.specs.declared.shown.View.{View}
+use Rattle.status_board.specs.Logs.{start}
+
+-- the writer, before it shows anything
+abbrev pub writer_view : View
+writer_view = record { writes = true; live = true; list = start ∷ []; told = [] }
+
+-- a watcher, or a note for one, that knows what the writer with this view showed
+abbrev pub watcher_view : View → View
+watcher_view v = record { writes = false; live = true; list = v.list; told = [] }
+
+-- the writer showed one more pair
+abbrev pub shown_view : Shown → View → View
+shown_view now v = record v { list = v.list ++ now ∷ [] }
+
+-- a token saw the board, where this is the log
+abbrev pub seen_view : List Shown → View → View
+seen_view log v = record v { list = log; told = [] }
+
+-- the longer of two lists
+abbrev pub longer : List Shown → List Shown → List Shown
+longer xs ys = if nat_lt (length xs) (length ys) then ys else xs
+
+-- the first took in the second: it has the longer list, and keeps both
+abbrev pub both_views : View → View → View
+both_views v w = record v { list = longer v.list w.list; told = v.list ∷ w.list ∷ v.told }
+
+-- what is left of a note that was joined into a watcher
+abbrev pub spent_view : View
+spent_view = record { writes = false; live = false; list = []; told = [] }

@@ -1,0 +1,72 @@
+//! The board, and how it is shown on and read.
+ghost use Rattle.std.specs.Prelude.{◌≡◌, ◌+◌, ◌≤◌, ◌^◌, ◌++◌, ◌∷◌, []};
+ghost use Rattle.status_board.specs.Logs.{StartsWith, start, last_of, word_of};
+
+use crate::plays::{Copied, Look, Rules, Show, TakeIn};
+use crate::shown::{Shown, View};
+use crate::tokens::{Watcher, Writer};
+use atomic_table::Table;
+use std::alloc::Global;
+
+// The word of the table: twice the ticks, and 1 more in high mode.
+const WORD: usize = 0;
+
+/// A board that shows one pair of ticks and mode.
+#[derive(Drop)]
+pub struct Board {
+    pub(crate) table: Table<(), View, (), Rules, Global>,
+    ghost sized: { table.shared.table_id.words ≡ 1 },
+}
+
+// The word of a pair.
+fn word(now: Shown) -> u64
+    requires { now.ticks ≤ 2 ^ 62 }
+    ensures { result ≡ word_of now }
+{
+    2 * now.ticks + u64::from(now.high_mode)
+}
+
+impl Board {
+    ghost use Rattle.status_board.specs.Tokens.{shown, seen, IsWriterOf, IsWatcherOf};
+
+    /// Shows one more pair. It waits for nobody.
+    pub fn show(&self, writer: &mut Writer, now: Shown)
+        requires of { IsWriterOf self.now writer.old }
+        requires next { now.ticks ≡ (last_of start (shown writer.old)).ticks + 1 }
+        requires few { now.ticks ≤ 2 ^ 62 }
+        ensures of { IsWriterOf self.now writer.new }
+        ensures shown { shown writer.new ≡ shown writer.old ++ now ∷ [] }
+    {
+        self.table
+            .shared
+            .store::<Show>(&mut writer.seat, WORD, word(now));
+    }
+
+    /// The pair that stands on the board. It waits for nobody.
+    pub fn read(&self, watcher: &mut Watcher) -> Shown
+        requires of { IsWatcherOf self.now watcher.old }
+        ensures of { IsWatcherOf self.now watcher.new }
+        ensures begins { StartsWith (seen watcher.new) (seen watcher.old) }
+        ensures last { result ≡ last_of start (seen watcher.new) }
+    {
+        let found = self.table.shared.load::<Look>(&mut watcher.seat, WORD);
+        Shown {
+            ticks: found / 2,
+            high_mode: found % 2 == 1,
+        }
+    }
+
+    /// From now on the watcher sees no less than the writer showed so far. It waits for nobody.
+    pub fn tell(&self, writer: &mut Writer, watcher: &mut Watcher)
+        requires of { IsWriterOf self.now writer.old × IsWatcherOf self.now watcher.old }
+        ensures of { IsWriterOf self.now writer.new × IsWatcherOf self.now watcher.new }
+        ensures shown { shown writer.new ≡ shown writer.old }
+        ensures begins { StartsWith (seen watcher.new) (seen watcher.old) }
+        ensures told { StartsWith (seen watcher.new) (shown writer.old) }
+    {
+        let shared = &self.table.shared;
+        let note = shared.split_seat::<Copied>(&mut writer.seat);
+        shared.join_seat::<TakeIn>(&mut watcher.seat, note);
+        shared.load::<Look>(&mut watcher.seat, WORD);
+    }
+}

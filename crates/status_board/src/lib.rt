@@ -1,0 +1,15 @@
+//! A board on which one thread shows ticks and mode, and which others read without waiting.
+#![tactic(auto)]
+
+mod board;
+mod opening;
+mod plays;
+mod shown;
+#[cfg(test)]
+mod tests;
+mod tokens;
+
+pub use board::Board;
+pub use opening::Memory;
+pub use shown::{BoardId, Shown, View};
+pub use tokens::{Watcher, Writer};

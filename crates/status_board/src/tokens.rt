@@ -1,0 +1,24 @@
+//! What threads hold: the right to show, and the right to read.
+ghost use Rattle.std.specs.Prelude.{◌≡◌, true, false};
+ghost use Rattle.status_board.specs.Logs.{IsLog, IsLog-prop};
+
+use crate::shown::View;
+use atomic_table::Seat;
+
+/// The right to show on one board. Contracts see what it `shown`, from (0, low) on, one tick more with each pair. It has no
+/// bytes.
+#[derive(Drop)]
+pub struct Writer {
+    pub(crate) seat: Seat<(), View>,
+    ghost writes: { (seat.me.0.writes ≡ true) × (seat.me.0.live ≡ true) },
+    pub ghost log: { IsLog seat.me.0.list } by { IsLog-prop seat.me.0.list },
+}
+
+/// The right to read one board. Contracts see what it has `seen`, from (0, low) on, one tick more with each pair. It has no
+/// bytes.
+#[derive(Drop)]
+pub struct Watcher {
+    pub(crate) seat: Seat<(), View>,
+    ghost reads: { (seat.me.0.writes ≡ false) × (seat.me.0.live ≡ true) },
+    pub ghost log: { IsLog seat.me.0.list } by { IsLog-prop seat.me.0.list },
+}

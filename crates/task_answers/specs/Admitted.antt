@@ -1,0 +1,52 @@
+-- What a task file gives a command: a set, and the rule under which its jobs are ordered.
+use Rattle.std.specs.Prelude.{ℕ, ◌^◌, List, Result, Ok}
+use Rattle.mc_task.specs.declared.task.Task.{Task}
+use Rattle.mc_task.specs.declared.task.Rule.{Rule}
+use Rattle.mc_model.specs.Loads.{range_fault}
+use Rattle.mc_model.specs.Test.{test}
+use Rattle.task_file.specs.TaskFile.{task_file}
+use Rattle.replies.specs.Reply.{Reply}
+use Rattle.replies.specs.Refusal.{Refusal, TaskFile, OutOfRange, NotAdmitted}
+use Rattle.replies.specs.Reading.{◌>>=◌, or_refuse, some_or, none_or, By, refusal_of}
+use Rattle.serving.specs.Command.{Command, File, two_files, file_of}
+
+-- a set, and the rule under which its jobs are ordered
+pub record Ruled : Type 0 where
+  pub set : List Task
+  pub rule : Rule
+
+-- the set under the rule
+abbrev pub under : Rule → List Task → Ruled
+under rule set = record { set = set; rule = rule }
+
+-- the set that a task file says
+abbrev pub set_in : List ℕ → Result (List Task) Refusal
+set_in bytes = or_refuse TaskFile (task_file bytes)
+
+-- a set within range, under the rule that the published test gives it
+abbrev pub tested : List Task → Result Ruled Refusal
+tested set = do
+  _ ← none_or OutOfRange (range_fault set)
+  rule ← some_or (NotAdmitted set) (test set)
+  Ok (under rule set)
+
+-- the set that a task file says, under the rule that the published test gives it
+abbrev pub admitted : List ℕ → Result Ruled Refusal
+admitted bytes = do
+  set ← set_in bytes
+  tested set
+
+-- the set that a task file says, under a rule that the words give
+abbrev pub ruled_by : Rule → List ℕ → Result Ruled Refusal
+ruled_by rule bytes = do
+  set ← set_in bytes
+  Ok (under rule set)
+
+-- a task file, or a work file: at most 16,777,216 bytes
+abbrev pub table : List ℕ → File
+table name = file_of name (2 ^ 24)
+
+-- a command on a task file and a second file: a refused set stops it, and otherwise this is so of its answer
+abbrev pub of_two : List ℕ → (List ℕ → Result Ruled Refusal) → File → (Ruled → List ℕ → Reply → Type 0) → Command
+of_two tasks reads second Answers =
+    two_files (table tasks) (λ bytes. refusal_of (reads bytes)) second (λ bytes more reply. By (reads bytes) (λ ruled r. Answers ruled more r) reply)

@@ -1,0 +1,17 @@
+-- The command `check TASKS`.
+use Rattle.std.specs.Prelude.{◌≡◌, ℕ, List, Result, Ok}
+use Rattle.mc_model.specs.CheckText.{check_text}
+use Rattle.replies.specs.Refusal.{Refusal}
+use Rattle.replies.specs.Reading.{◌>>=◌, reply_by}
+use Rattle.serving.specs.Command.{Command, one_file}
+use Rattle.task_answers.specs.Admitted.{admitted, table}
+
+-- the loads of an admitted set, and its rule
+abbrev pub checked : List ℕ → Result (List ℕ) Refusal
+checked bytes = do
+  ruled ← admitted bytes
+  Ok (check_text ruled.set ruled.rule)
+
+-- the command
+abbrev pub check : List ℕ → Command
+check tasks = one_file (table tasks) (λ bytes reply. reply ≡ reply_by (checked bytes))

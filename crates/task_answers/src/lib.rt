@@ -1,0 +1,11 @@
+//! What a task file gives a command, and the command `check`.
+#![tactic(auto)]
+
+mod admitted;
+mod check;
+mod check_lines;
+mod ruled;
+
+pub use admitted::{Admitted, MOST_TABLE_BYTES, read_admitted};
+pub use check::Check;
+pub use ruled::{Ruled, read_ruled};

@@ -1,0 +1,177 @@
+//! A live run: a thread for each task, which releases when it may.
+ghost use Rattle.std.specs.Prelude.{◌≡◌, ◌≤◌, [], None, length, vec_len, vec_capacity, IfOk, All};
+ghost use Rattle.mc_task.specs.TaskSet.{task_at};
+ghost use Rattle.timetable.specs.declared.plan.Plan.TheVariants.{Free};
+ghost use Rattle.executive.specs.Stands.{opening_of};
+ghost use Rattle.executive.specs.Passes.{floor_of};
+ghost use Rattle.executive.specs.Opening.{IsFresh, AreFresh};
+ghost use Rattle.executive.specs.Watching.{IsWatcherOf};
+ghost use Rattle.task_threads.specs.LivePasses.{IsLivePass, IsRunner, AreNeeds, AreNeedsOf, live_places};
+ghost use Rattle.task_threads.specs.Workers.{AreInOrder};
+ghost use Rattle.task_threads.specs.LiveLeft.{HasLiveTrace};
+
+use crate::live_left::finish_live;
+use crate::live_needs::Needs;
+use crate::live_round::{Runner, release_first};
+use crate::places::Places;
+use crate::starts::in_threads;
+use crate::threads::Memory;
+use executive::{Executive, Gate, TaskPass};
+use mc_task::{TaskNo, TaskSet};
+use status_board::Watcher;
+use std::alloc::Global;
+use std::sync::Wait;
+use std::thread::Threads;
+use timetable::Floor;
+
+/// Runs a floor without a plan, with no rows and no tick out, for so many ticks, in a thread for each task, and tells the gate
+/// of it. Each task is released once in the beginning, and its thread releases it again where its period allows.
+///
+/// The rows up to the last of these ticks are then a live trace. It may wait, and nothing is said of how long.
+pub fn run_live<R: Threads + Wait + Sync, G: Gate + Sync>(
+    rt: &R,
+    alloc: Global,
+    floor: Floor,
+    ticks: u64,
+    gate: &G,
+) -> Result<Floor, Memory>
+    requires free { floor.plan ≡ Free }
+    requires rows { floor.core.rows ≡ [] }
+    requires out { floor.core.out ≡ None }
+    requires ticks { (1 ≤ ticks) × (ticks ≤ 100_000) }
+    requires places { floor.core.places ≡ live_places floor.core.set ticks }
+    ensures trace { IfOk result (λ f. HasLiveTrace f.core ticks) }
+    // The set, the rule, the places and the plan are as before.
+    ensures same { IfOk result (λ f. opening_of f ≡ floor) }
+    ensures none_out { IfOk result (λ f. f.core.out ≡ None) }
+{
+    let tasks = floor.core().set().len();
+    let most = tasks as usize;
+    let places = Places::new(alloc, tasks)?;
+    let starts = Vec::with_capacity(alloc, most)?;
+    let mut needs = Vec::with_capacity(alloc, most)?;
+    let mut runners = Vec::with_capacity(alloc, most)?;
+    let mut back = Vec::with_capacity(alloc, most)?;
+    needs_of_each(floor.core().set(), &mut needs);
+    let (executive, passes, watchers) = Executive::with_watchers(rt, alloc, floor, tasks)?;
+    let all = needs.as_slice();
+    make_runners(
+        rt,
+        &executive,
+        gate,
+        &places,
+        all,
+        ticks,
+        passes,
+        watchers,
+        &mut runners,
+    );
+    let runners = in_threads(rt, &executive, gate, &places, runners, starts);
+    give_passes(&executive, runners, &mut back);
+    match executive.close(rt, back) {
+        Ok(mut floor) => {
+            finish_live(&mut floor, needs.as_slice(), ticks);
+            Ok(floor)
+        }
+        Err(_unclosed) => unreachable!(),
+    }
+}
+
+// What the jobs of each task need.
+pub fn needs_of_each(set: &TaskSet, needs: &mut Vec<Needs>)
+    requires { (needs.old.items ≡ []) × (length set.now ≤ vec_capacity needs.old) }
+    ensures { (vec_len needs.new ≡ length set.now) × AreNeeds set.now needs.new.items }
+{
+    for task in 1..=set.len() {
+        match set.get(TaskNo(task)) {
+            Some(task) => needs.push_reserved(Needs::of(&task)),
+            None => unreachable!(),
+        }
+    }
+}
+
+// Releases each task, in their order, and gives each pass a watcher.
+pub fn make_runners<R: Wait, G: Gate>(
+    rt: &R,
+    executive: &Executive,
+    gate: &G,
+    places: &Places,
+    needs: &[Needs],
+    ticks: u64,
+    passes: Vec<TaskPass>,
+    watchers: Vec<Watcher>,
+    runners: &mut Vec<Runner>,
+)
+    requires passes { AreFresh executive.now passes.items × (vec_len passes ≤ length needs.now) × (vec_len passes ≤ 128) }
+    requires needs { AreNeeds (floor_of executive.now).core.set needs.now }
+    requires watchers { (vec_len watchers ≡ vec_len passes) × All (λ w. IsWatcherOf executive.now w) watchers.items }
+    requires runners { (runners.old.items ≡ []) × (vec_len passes ≤ vec_capacity runners.old) }
+    ensures { (vec_len runners.new ≡ vec_len passes) × AreInOrder IsRunner executive.now runners.new.items }
+{
+    let mut watchers = watchers;
+    for pass in passes {
+        let watcher = watchers.pop().unwrap();
+        let place = runners.len();
+        let task = TaskNo(place as u32 + 1);
+        runners.push_reserved(first_runner(
+            rt,
+            executive,
+            gate,
+            places,
+            needs[place],
+            ticks,
+            pass,
+            watcher,
+            task,
+        ));
+    }
+}
+
+// The first release of a task, whose pass then has the watcher.
+#[tactic(auto, using(crate::proofs::LiveClose::fresh_live))]
+fn first_runner<R: Wait, G: Gate>(
+    rt: &R,
+    executive: &Executive,
+    gate: &G,
+    places: &Places,
+    needs: Needs,
+    ticks: u64,
+    pass: TaskPass,
+    watcher: Watcher,
+    task: TaskNo,
+) -> Runner
+    requires pass { IsFresh executive.now task.0 pass }
+    requires watcher { IsWatcherOf executive.now watcher }
+    requires needs { AreNeedsOf (task_at (floor_of executive.now).core.set task.0) needs }
+    ensures { IsRunner executive.now task.0 result }
+{
+    let pass = release_first(rt, executive, gate, pass, task);
+    let next = u64::from(needs.period);
+    places.set_release(task, next);
+    Runner {
+        pass,
+        watcher,
+        needs,
+        ticks,
+        next,
+    }
+}
+
+// The passes of the runners.
+pub fn give_passes(executive: &Executive, runners: Vec<Runner>, passes: &mut Vec<TaskPass>)
+    requires runners { AreInOrder IsRunner executive.now runners.items }
+    requires passes { (passes.old.items ≡ []) × (vec_len runners ≤ vec_capacity passes.old) }
+    ensures { (vec_len passes.new ≡ vec_len runners) × AreInOrder IsLivePass executive.now passes.new.items }
+{
+    let _ = executive;
+    for runner in runners {
+        let Runner {
+            pass,
+            watcher: _,
+            needs: _,
+            ticks: _,
+            next: _,
+        } = runner;
+        passes.push_reserved(pass);
+    }
+}

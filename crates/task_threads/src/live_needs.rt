@@ -1,0 +1,43 @@
+//! What the jobs of a live run need.
+ghost use Rattle.std.specs.Prelude.{◌≡◌};
+
+use mc_task::Level::{High, Low};
+use mc_task::Task;
+
+// What the jobs of a task need, and how far apart it releases them. Each fourth job of a high task needs its high budget.
+#[derive(Clone, Copy)]
+pub struct Needs {
+    pub period: u32,
+    pub low: u32,
+    pub fourth: u32,
+}
+
+impl Needs {
+    ghost use Rattle.std.specs.Prelude.{Some};
+    ghost use Rattle.task_threads.specs.LivePasses.{need_by, AreNeedsOf};
+
+    // Those of a task.
+    pub fn of(task: &Task) -> Needs
+        ensures { AreNeedsOf (Some task.now) result }
+    {
+        Needs {
+            period: task.period,
+            low: task.low,
+            fourth: match task.level {
+                High => task.high,
+                Low => task.low,
+            },
+        }
+    }
+
+    // What the job with this count needs.
+    pub fn of_count(self, count: u32) -> u32
+        ensures { result ≡ need_by self count }
+    {
+        if count % 4 == 0 {
+            self.fourth
+        } else {
+            self.low
+        }
+    }
+}

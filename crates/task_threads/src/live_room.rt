@@ -1,0 +1,21 @@
+//! How many places a live run takes.
+ghost use Rattle.std.specs.Prelude.{◌≡◌, ◌≤◌};
+ghost use Rattle.task_threads.specs.LivePasses.{live_places};
+
+use mc_task::{TaskNo, TaskSet};
+
+/// The places that a live run of so many ticks takes: one for each tick, and one for each release that the periods allow.
+pub fn live_places(set: &TaskSet, ticks: u64) -> u64
+    requires { ticks ≤ 100_000 }
+    ensures places { result ≡ live_places set.now ticks }
+    ensures few { result ≤ 12_900_128 }
+{
+    let mut places = ticks;
+    for place in 0..set.len() {
+        match set.get(TaskNo(place + 1)) {
+            Some(found) => places += ticks / u64::from(found.period) + 1,
+            None => unreachable!(),
+        }
+    }
+    places
+}

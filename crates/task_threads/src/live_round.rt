@@ -1,0 +1,299 @@
+//! A round of a task in a live run.
+ghost use Rattle.mc_task.specs.TaskSet.{task_at};
+ghost use Rattle.executive.specs.Passes.{floor_of};
+ghost use Rattle.task_threads.specs.LivePasses.{IsLivePass, IsRunner, AreNeedsOf};
+
+use crate::live_needs::Needs;
+use crate::places::Places;
+use crate::worker::{Came, Worker};
+use executive::{Executive, Gate, Taken, TaskPass};
+use mc_model::How;
+use mc_task::TaskNo;
+use mode_core::{GrantFault, IdleFault, ReleaseFault, Released};
+use status_board::Watcher;
+use std::sync::Wait;
+use timetable::{Act, ActFault};
+
+// A pass with its watcher. The jobs of its task end by the needs.
+#[derive(Drop)]
+pub struct Runner {
+    pub pass: TaskPass,
+    pub watcher: Watcher,
+    pub needs: Needs,
+    // How many ticks there are to be.
+    pub ticks: u64,
+    // The boundary from which the task may release again.
+    pub next: u64,
+}
+
+impl Worker for Runner {
+    ghost is_of = { IsRunner };
+
+    fn pass(&self) -> &TaskPass {
+        &self.pass
+    }
+
+    // A watch; then, unless so many ticks have ended, a release where one is allowed, and a look with what is next.
+    fn round<R: Wait, G: Gate>(
+        self,
+        rt: &R,
+        executive: &Executive,
+        gate: &G,
+        places: &Places,
+        task: TaskNo,
+    ) -> (Runner, Came) {
+        let Runner {
+            pass,
+            mut watcher,
+            needs,
+            ticks,
+            next,
+        } = self;
+        let now = executive.watch(&mut watcher).ticks;
+        let (pass, next, came) = if now < ticks {
+            act_at(rt, executive, gate, places, needs, pass, next, now, task)
+        } else {
+            (pass, next, Came::Finished)
+        };
+        if came == Came::Finished {
+            places.leave(task);
+        }
+        let runner = Runner {
+            pass,
+            watcher,
+            needs,
+            ticks,
+            next,
+        };
+        (runner, came)
+    }
+}
+
+// What a task does once so many ticks were seen to have ended. The pass comes back with the boundary of the next release.
+fn act_at<R: Wait, G: Gate>(
+    rt: &R,
+    executive: &Executive,
+    gate: &G,
+    places: &Places,
+    needs: Needs,
+    pass: TaskPass,
+    next: u64,
+    now: u64,
+    task: TaskNo,
+) -> (TaskPass, u64, Came)
+    requires pass { IsLivePass executive.now task.0 pass }
+    requires needs { AreNeedsOf (task_at (floor_of executive.now).core.set task.0) needs }
+    ensures { IsLivePass executive.now task.0 result.0 }
+{
+    let (pass, next, release) = release_due(rt, executive, gate, needs, pass, next, now, task);
+    if release == Came::Finished {
+        return (pass, next, Came::Finished);
+    }
+    places.set_release(task, next);
+    let (pass, came) = act(rt, executive, gate, places, needs, pass, now, task);
+    // A task that released is the one that acted last, also where its tick was idle.
+    if came == Came::Idled {
+        (pass, next, came.max(release))
+    } else {
+        (pass, next, came)
+    }
+}
+
+// What came of an act after which the task has no job to go on with: it rests where another may release after so many ticks.
+fn unless_due(places: &Places, task: TaskNo, ticks: u64, came: Came) -> Came {
+    if places.wake_due(task, ticks) {
+        Came::Waits
+    } else {
+        came
+    }
+}
+
+// A release of the task, as the executive answers it.
+fn released<R: Wait>(
+    rt: &R,
+    executive: &Executive,
+    pass: TaskPass,
+    task: TaskNo,
+) -> (TaskPass, Result<Released, ActFault<ReleaseFault>>)
+    requires { IsLivePass executive.now task.0 pass }
+    ensures { IsLivePass executive.now task.0 result.0 }
+{
+    let _ = task;
+    let mut pass = pass;
+    let answer = executive.release(rt, &mut pass);
+    (pass, answer)
+}
+
+// The first release of a task, of a pass that made no call.
+pub fn release_first<R: Wait, G: Gate>(
+    rt: &R,
+    executive: &Executive,
+    gate: &G,
+    pass: TaskPass,
+    task: TaskNo,
+) -> TaskPass
+    requires { IsLivePass executive.now task.0 pass }
+    ensures { IsLivePass executive.now task.0 result }
+{
+    let (pass, answer) = released(rt, executive, pass, task);
+    if answer.is_ok() {
+        gate.released(task.0, &pass);
+    }
+    pass
+}
+
+// A look.
+fn looked<R: Wait>(rt: &R, executive: &Executive, pass: TaskPass, task: TaskNo) -> (TaskPass, Act)
+    requires { IsLivePass executive.now task.0 pass }
+    ensures { IsLivePass executive.now task.0 result.0 }
+{
+    let _ = task;
+    let mut pass = pass;
+    let act = executive.look(rt, &mut pass);
+    (pass, act)
+}
+
+// An idle tick.
+fn idled<R: Wait>(
+    rt: &R,
+    executive: &Executive,
+    pass: TaskPass,
+    task: TaskNo,
+) -> (TaskPass, Result<u64, ActFault<IdleFault>>)
+    requires { IsLivePass executive.now task.0 pass }
+    ensures { IsLivePass executive.now task.0 result.0 }
+{
+    let _ = task;
+    let mut pass = pass;
+    let answer = executive.idle(rt, &mut pass);
+    (pass, answer)
+}
+
+// A tick of the task, whose step runs outside the turns. Its job is done where its need is met.
+fn ticked<R: Wait, G: Gate>(
+    rt: &R,
+    executive: &Executive,
+    gate: &G,
+    needs: Needs,
+    pass: TaskPass,
+    task: TaskNo,
+) -> (TaskPass, Result<How, ActFault<GrantFault>>)
+    requires pass { IsLivePass executive.now task.0 pass }
+    requires needs { AreNeedsOf (task_at (floor_of executive.now).core.set task.0) needs }
+    ensures { IsLivePass executive.now task.0 result.0 }
+{
+    match executive.take(rt, pass) {
+        Taken::Given(grant) => {
+            gate.step(task.0, &grant);
+            let granted = grant.granted();
+            let need = needs.of_count(granted.job.count);
+            let done = u64::from(granted.before) + 1 == u64::from(need);
+            let (pass, how) = executive.outcome(rt, grant, done);
+            (pass, Ok(how))
+        }
+        Taken::NotNow(pass, fault) => (pass, Err(fault)),
+    }
+}
+
+// Releases the task again, where so many ticks allow it. The pass comes back with the boundary of the next release.
+fn release_due<R: Wait, G: Gate>(
+    rt: &R,
+    executive: &Executive,
+    gate: &G,
+    needs: Needs,
+    pass: TaskPass,
+    next: u64,
+    now: u64,
+    task: TaskNo,
+) -> (TaskPass, u64, Came)
+    requires { IsLivePass executive.now task.0 pass }
+    ensures { IsLivePass executive.now task.0 result.0 }
+{
+    if now < next {
+        return (pass, next, Came::Waits);
+    }
+    let (pass, answer) = released(rt, executive, pass, task);
+    match answer {
+        Ok(Released::Kept { at, .. } | Released::Dropped { at, .. } | Released::Held { at, .. }) =>
+            {
+                gate.released(task.0, &pass);
+                let next = at.saturating_add(u64::from(needs.period));
+                (pass, next, Came::Acted)
+            }
+        Err(ActFault::Core(ReleaseFault::TooSoon { next })) => (pass, next, Came::Waits),
+        Err(ActFault::Core(ReleaseFault::Full)) => (pass, next, Came::Finished),
+        Err(ActFault::Core(ReleaseFault::Running { .. }) | ActFault::Plan(_)) => {
+            (pass, next, Came::Waits)
+        }
+    }
+}
+
+// Looks once, and does what is next, if it is the task's or an idle tick. If it is another task's, that one is woken.
+fn act<R: Wait, G: Gate>(
+    rt: &R,
+    executive: &Executive,
+    gate: &G,
+    places: &Places,
+    needs: Needs,
+    pass: TaskPass,
+    now: u64,
+    task: TaskNo,
+) -> (TaskPass, Came)
+    requires pass { IsLivePass executive.now task.0 pass }
+    requires needs { AreNeedsOf (task_at (floor_of executive.now).core.set task.0) needs }
+    ensures { IsLivePass executive.now task.0 result.0 }
+{
+    let (pass, next) = looked(rt, executive, pass, task);
+    match next {
+        Act::Grant(chosen) if chosen == task => {
+            let (pass, answer) = ticked(rt, executive, gate, needs, pass, task);
+            (pass, came_of_tick(places, task, now, answer))
+        }
+        Act::Idle => {
+            let (pass, answer) = idled(rt, executive, pass, task);
+            (pass, came_of_idle(places, task, answer))
+        }
+        Act::Grant(other) | Act::Release(other) => {
+            places.wake(other);
+            (pass, Came::Waits)
+        }
+        Act::Wait(_) | Act::Finished => (pass, Came::Waits),
+    }
+}
+
+// What came of a tick of the task.
+fn came_of_tick(
+    places: &Places,
+    task: TaskNo,
+    now: u64,
+    answer: Result<How, ActFault<GrantFault>>,
+) -> Came {
+    let ticks = now.saturating_add(1);
+    match answer {
+        Ok(how) => {
+            places.count_tick(now);
+            match how {
+                How::Done | How::Stop => unless_due(places, task, ticks, Came::Acted),
+                How::More | How::Over => {
+                    // The task goes on, while another that may release wakes.
+                    let _ = places.wake_due(task, ticks);
+                    Came::Acted
+                }
+            }
+        }
+        Err(ActFault::Core(GrantFault::Full)) => Came::Finished,
+        Err(_) => Came::Waits,
+    }
+}
+
+// What came of an idle tick.
+fn came_of_idle(places: &Places, task: TaskNo, answer: Result<u64, ActFault<IdleFault>>) -> Came {
+    match answer {
+        Ok(tick) => {
+            places.count_tick(tick);
+            unless_due(places, task, tick.saturating_add(1), Came::Idled)
+        }
+        Err(ActFault::Core(IdleFault::Full)) => Came::Finished,
+        Err(_) => Came::Waits,
+    }
+}

@@ -1,0 +1,191 @@
+//! Where the threads of the tasks rest, each at its task's place. Nothing rests on a wake-up that comes in time.
+use mc_task::TaskNo;
+use std::alloc::{AllocError, Global};
+use std::sync::Wait;
+use std::sync::atomic::Ordering::SeqCst;
+use std::sync::atomic::{AtomicBool, AtomicU64};
+use std::thread::Parker;
+use std::time::Duration;
+
+// The longest pause of a thread that nobody woke, in milliseconds.
+const LONGEST: u32 = 1000;
+
+// In place of the boundary of a release: there is none to wait for.
+const NEVER: u64 = u64::MAX;
+
+// Or the task was woken for it, and has not released yet.
+const AWAITED: u64 = u64::MAX - 1;
+
+// Where one thread rests: a parker, and whether the thread was called, which `park_timeout` does not tell.
+#[derive(Drop)]
+struct Spot {
+    parker: Parker,
+    is_called: AtomicBool,
+}
+
+impl Spot {
+    fn new() -> Spot {
+        Spot {
+            parker: Parker::new(),
+            is_called: AtomicBool::new(false),
+        }
+    }
+
+    fn call(&self) {
+        self.is_called.store(true, SeqCst);
+        self.parker.unpark();
+    }
+
+    // Rests until it is called, for so many milliseconds at most. Whether it was called.
+    fn rest<R: Wait>(&self, rt: &R, millis: u32) -> bool {
+        self.parker
+            .park_timeout(rt, Duration::from_millis(u64::from(millis)));
+        self.is_called.swap(false, SeqCst)
+    }
+}
+
+// The place of a task.
+#[derive(Drop)]
+struct Place {
+    task: TaskNo,
+    spot: Spot,
+    // No thread could be made for the task, so the caller serves it.
+    is_refused: AtomicBool,
+    // The boundary from which the task may release again, where others wake it for that.
+    next_release: AtomicU64,
+}
+
+/// The places of the threads, that of the caller, and how many acts were done.
+#[derive(Drop)]
+pub struct Places {
+    places: Vec<Place>,
+    caller: Spot,
+    acts: AtomicU64,
+}
+
+impl Places {
+    // Places for so many tasks.
+    pub fn new(alloc: Global, tasks: u32) -> Result<Places, AllocError> {
+        let mut places = Vec::with_capacity(alloc, tasks as usize)?;
+        for task in 1..=tasks {
+            places.push_reserved(Place {
+                task: TaskNo(task),
+                spot: Spot::new(),
+                is_refused: AtomicBool::new(false),
+                next_release: AtomicU64::new(NEVER),
+            });
+        }
+        Ok(Places {
+            places,
+            caller: Spot::new(),
+            acts: AtomicU64::new(0),
+        })
+    }
+
+    fn of(&self, task: TaskNo) -> Option<&Place> {
+        self.places.get((task.0 as usize).saturating_sub(1))
+    }
+
+    // Where whoever serves the task rests.
+    fn spot(&self, task: TaskNo) -> &Spot {
+        match self.of(task) {
+            Some(place) if !place.is_refused.load(SeqCst) => &place.spot,
+            Some(_) | None => &self.caller,
+        }
+    }
+
+    // No thread could be made for the task.
+    pub fn refuse(&self, task: TaskNo) {
+        if let Some(place) = self.of(task) {
+            place.is_refused.store(true, SeqCst);
+        }
+    }
+
+    // Whether the caller serves the task.
+    pub fn is_refused(&self, task: TaskNo) -> bool {
+        self.of(task)
+            .is_some_and(|place| place.is_refused.load(SeqCst))
+    }
+
+    // The task may release again from this boundary on.
+    pub fn set_release(&self, task: TaskNo, boundary: u64) {
+        if let Some(place) = self.of(task) {
+            place.next_release.store(boundary, SeqCst);
+        }
+    }
+
+    // Wakes the first other task that may release after so many ticks. Whether there is one, or one that was woken for that and
+    // has not released yet.
+    pub fn wake_due(&self, task: TaskNo, ticks: u64) -> bool {
+        let mut is_awaited = false;
+        for place in &self.places {
+            if place.task == task {
+                continue;
+            }
+            let next = place.next_release.load(SeqCst);
+            if next <= ticks {
+                place.next_release.store(AWAITED, SeqCst);
+                self.wake(place.task);
+                return true;
+            }
+            is_awaited = is_awaited || next == AWAITED;
+        }
+        is_awaited
+    }
+
+    // Another act was done, so no thread that rests has to look.
+    pub fn count_act(&self) {
+        self.acts.fetch_add(1, SeqCst);
+    }
+
+    // A tick was done, the one with this number. One of 64 is counted, which shows as well that a thread acts.
+    pub fn count_tick(&self, number: u64) {
+        if number % 64 == 0 {
+            self.count_act();
+        }
+    }
+
+    // Wakes the thread of a task.
+    pub fn wake(&self, task: TaskNo) {
+        self.spot(task).call();
+    }
+
+    // The task is served no more. Whoever serves the next one is woken, which then wakes the one after it.
+    pub fn leave(&self, task: TaskNo) {
+        self.set_release(task, NEVER);
+        let next = task.0 as usize;
+        self.wake(TaskNo(if next < self.places.len() {
+            task.0.saturating_add(1)
+        } else {
+            1
+        }));
+    }
+
+    // Rests until the task's thread is woken, or for a pause in which no act was done; the answer is the next pause.
+    pub fn rest<R: Wait>(&self, rt: &R, task: TaskNo, pause: u32) -> u32 {
+        self.rest_while_acting(rt, self.spot(task), pause)
+    }
+
+    // The same of the caller, which is woken in the name of each task that it serves.
+    pub fn rest_of_caller<R: Wait>(&self, rt: &R, pause: u32) -> u32 {
+        self.rest_while_acting(rt, &self.caller, pause)
+    }
+
+    // Each pause that ends without a call is followed by one that is twice as long, a second at most.
+    fn rest_while_acting<R: Wait>(&self, rt: &R, spot: &Spot, pause: u32) -> u32 {
+        let mut pause = pause;
+        let mut seen = self.acts.load(SeqCst);
+        for _ in rt.forever() {
+            if spot.rest(rt, pause) {
+                return pause;
+            }
+            pause = pause.saturating_mul(2).min(LONGEST);
+            let now = self.acts.load(SeqCst);
+            if now == seen {
+                return pause;
+            }
+            seen = now;
+        }
+        unreachable!()
+    }
+}

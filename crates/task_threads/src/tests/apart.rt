@@ -1,0 +1,229 @@
+//! Threads that nobody wakes, threads that could not be started, and a watcher beside a live run.
+ghost use Rattle.std.specs.Prelude.{◌≡◌, ◌+◌, ◌≤◌, [], IfOk, length, vec_len, vec_capacity};
+ghost use Rattle.executive.specs.Passes.{floor_of};
+ghost use Rattle.executive.specs.Watching.{IsWatcherOf};
+ghost use Rattle.task_threads.specs.Passes.{IsPassFor};
+ghost use Rattle.task_threads.specs.Workers.{AreInOrder};
+ghost use Rattle.task_threads.specs.Starts.{GoDown};
+ghost use Rattle.task_threads.specs.LivePasses.{IsRunner};
+
+use super::floors::{CONTROL, Line, OVERRUN, floor, free, live_rows, overrun_rows};
+use crate::live::{give_passes, make_runners, needs_of_each};
+use crate::live_round::Runner;
+use crate::places::Places;
+use crate::refused::serve_refused;
+use crate::starts::{Start, in_threads, join_all, kept_here};
+use crate::worker::{Worker, work};
+use executive::{Executive, QuietGate, TaskPass};
+use mc_task::Level::{High, Low};
+use mc_task::TaskNo;
+use status_board::Watcher;
+use std::alloc::Global;
+use std::process::Abort;
+use std::sync::Wait;
+use std::test::Fail;
+use std::thread;
+use std::thread::{Threads, join};
+use timetable::Floor;
+
+#[test]
+fn a_wake_up_that_never_comes_costs_time_alone(rt: HostRuntime) -> Result<(), Fail> {
+    // Each thread has places of its own, and so wakes nobody.
+    let here = Places::new(rt.alloc(), 2)?;
+    let there = Places::new(rt.alloc(), 2)?;
+    let floor = floor(rt.alloc(), &CONTROL, &OVERRUN, 12)?;
+    let Ok((executive, mut passes)) = Executive::new(&rt, rt.alloc(), floor) else {
+        return Err("memory".into());
+    };
+    assert!(rt; passes.len() == 2);
+    let second = passes.pop().unwrap();
+    let first = passes.pop().unwrap();
+    let (first, second) = {
+        let (rt, executive, here, there) = (&rt, &executive, &here, &there);
+        join(
+            rt,
+            move || -> TaskPass
+                requires { IsPassFor executive.now 1 first }
+                ensures { IsPassFor executive.entry.now 1 result }
+            { work(rt, executive, &QuietGate, here, first, TaskNo(1)) },
+            move || -> TaskPass
+                requires { IsPassFor executive.now 2 second }
+                ensures { IsPassFor executive.entry.now 2 result }
+            { work(rt, executive, &QuietGate, there, second, TaskNo(2)) },
+        )
+    };
+    passes.push_reserved(first);
+    passes.push_reserved(second);
+    match executive.close(&rt, passes) {
+        Ok(floor) => assert_eq!(rt; floor.core().rows(), &overrun_rows()[..]),
+        Err(_unclosed) => panic!(rt; "a pass is missing"),
+    }
+    Ok(())
+}
+
+#[test]
+fn a_live_run_whose_threads_could_not_be_started_gives_the_worked_rows(
+    rt: HostRuntime,
+) -> Result<(), Fail> {
+    let places = Places::new(rt.alloc(), 2)?;
+    let back = Vec::with_capacity(rt.alloc(), 2)?;
+    let mut starts = Vec::with_capacity(rt.alloc(), 2)?;
+    let (executive, mut runners, _watcher) = opened(&rt, rt.alloc(), &places, &CONTROL, 10)?;
+    all_kept_here(&executive, &places, &mut runners, &mut starts);
+    serve_refused(&rt, &executive, &QuietGate, &places, &mut starts);
+    join_all(&rt, &executive, &mut starts, &mut runners);
+    let floor = closed(&rt, executive, runners, back);
+    match floor.core().rows().get(..12) {
+        Some(rows) => assert_eq!(rt; rows, &live_rows()[..]),
+        None => panic!(rt; "twelve rows"),
+    }
+    Ok(())
+}
+
+const SLOW: [Line; 2] = [("ctl", High, 1000, 200, 600), ("log", Low, 1000, 400, 400)];
+
+#[test]
+fn a_watcher_beside_a_live_run_sees_ticks_that_never_fall_and_the_last(
+    rt: HostRuntime,
+) -> Result<(), Fail> {
+    let places = Places::new(rt.alloc(), 2)?;
+    let back = Vec::with_capacity(rt.alloc(), 2)?;
+    let starts = Vec::with_capacity(rt.alloc(), 2)?;
+    let (executive, runners, watcher) = opened(&rt, rt.alloc(), &places, &SLOW, 100_000)?;
+    let (runners, steady) = beside(&rt, &executive, &places, runners, starts, watcher);
+    assert!(rt; steady);
+    let floor = closed(&rt, executive, runners, back);
+    assert!(rt; floor.core().ticks() >= 100_000);
+    Ok(())
+}
+
+// The runners in threads, until 100,000 ticks have ended, and a watcher that reads all the time. Whether the ticks that it saw
+// never fell.
+fn beside<'s, R: Threads + Wait + Sync>(
+    rt: &'s R,
+    executive: &'s Executive,
+    places: &'s Places,
+    runners: Vec<Runner>,
+    starts: Vec<Start<Runner>>,
+    watcher: Watcher,
+) -> (Vec<Runner>, bool)
+    requires runners { AreInOrder IsRunner executive.now runners.items × (vec_len runners ≡ 2) }
+    requires starts { (starts.items ≡ []) × (2 ≤ vec_capacity starts) }
+    requires watcher { IsWatcherOf executive.now watcher }
+    ensures { AreInOrder IsRunner executive.now result.0.items × (vec_len result.0 ≡ 2) }
+{
+    thread::scope(
+        thread::scope_env(),
+        rt,
+        move |scope| -> (Vec<Runner>, bool)
+            requires { AreInOrder IsRunner executive.now runners.items × (vec_len runners ≡ 2) × (starts.items ≡ []) × (2 ≤ vec_capacity starts) × IsWatcherOf executive.now watcher }
+            ensures { AreInOrder IsRunner executive.entry.now result.0.items × (vec_len result.0 ≡ 2) }
+        {
+            let watch = move || -> bool
+                requires { IsWatcherOf executive.now watcher }
+            { watched_to(rt, executive, watcher, 100_000) };
+            match scope.spawn(watch) {
+                Ok(handle) => {
+                    let runners = in_threads(rt, executive, &QuietGate, places, runners, starts);
+                    (runners, handle.join(rt))
+                }
+                Err(_refused) => (runners, false),
+            }
+        },
+    )
+}
+
+// An executive of two tasks, released once, for a live run of so many ticks, with their runners and one more watcher.
+fn opened<R: Wait>(
+    rt: &R,
+    alloc: Global,
+    places: &Places,
+    lines: &[Line],
+    ticks: u64,
+) -> Result<(Executive, Vec<Runner>, Watcher), Fail>
+    requires { (1 ≤ ticks) × (ticks ≤ 100_000) }
+    ensures runners { IfOk result (λ r. AreInOrder IsRunner r.0 r.1.items × (vec_len r.1 ≡ 2) × (2 ≤ vec_capacity r.1)) }
+    ensures set { IfOk result (λ r. length (floor_of r.0).core.set ≡ 2) }
+    ensures watcher { IfOk result (λ r. IsWatcherOf r.0 r.2) }
+{
+    let floor = free(alloc, lines, ticks)?;
+    if floor.core().set().len() != 2 {
+        return Err("two tasks".into());
+    }
+    let mut needs = Vec::with_capacity(alloc, 2)?;
+    let mut runners = Vec::with_capacity(alloc, 2)?;
+    needs_of_each(floor.core().set(), &mut needs);
+    let Ok((executive, passes, mut watchers)) = Executive::with_watchers(rt, alloc, floor, 3) else {
+        return Err("memory".into());
+    };
+    let watcher = watchers.pop().unwrap();
+    make_runners(
+        rt,
+        &executive,
+        &QuietGate,
+        places,
+        needs.as_slice(),
+        ticks,
+        passes,
+        watchers,
+        &mut runners,
+    );
+    Ok((executive, runners, watcher))
+}
+
+// The floor that is left.
+fn closed<R: Wait + Abort>(
+    rt: &R,
+    executive: Executive,
+    runners: Vec<Runner>,
+    passes: Vec<TaskPass>,
+) -> Floor
+    requires runners { AreInOrder IsRunner executive runners.items × (vec_len runners ≡ 2) }
+    requires set { length (floor_of executive).core.set ≡ 2 }
+    requires room { (passes.items ≡ []) × (2 ≤ vec_capacity passes) }
+{
+    let mut passes = passes;
+    give_passes(&executive, runners, &mut passes);
+    match executive.close(rt, passes) {
+        Ok(floor) => floor,
+        Err(_unclosed) => panic!(rt; "a pass is missing"),
+    }
+}
+
+// As if no thread could be made for any of the workers.
+fn all_kept_here<T: Worker + Drop>(
+    executive: &Executive,
+    places: &Places,
+    workers: &mut Vec<T>,
+    starts: &mut Vec<Start<T>>,
+)
+    requires workers { AreInOrder T.is_of executive.now workers.old.items × (vec_len workers.old ≤ 128) }
+    requires starts { (starts.old.items ≡ []) × (vec_len workers.old ≤ vec_capacity starts.old) }
+    ensures workers { (workers.new.items ≡ []) × (vec_capacity workers.new ≡ vec_capacity workers.old) }
+    ensures starts { (vec_len starts.new ≡ vec_len workers.old) × GoDown T.is_of executive.now (vec_len workers.old) starts.new.items }
+{
+    let _ = executive;
+    while let Some(worker) = workers.pop() {
+        places.refuse(TaskNo(workers.len() as u32 + 1));
+        starts.push_reserved(kept_here(worker));
+    }
+}
+
+// Reads until so many ticks have ended. Whether they never fell.
+fn watched_to<R: Wait>(rt: &R, executive: &Executive, watcher: Watcher, ticks: u64) -> bool
+    requires { IsWatcherOf executive.now watcher }
+{
+    let mut watcher = watcher;
+    let mut last = 0;
+    for _ in rt.forever() {
+        let now = executive.watch(&mut watcher).ticks;
+        if now < last {
+            return false;
+        }
+        if now >= ticks {
+            return true;
+        }
+        last = now;
+    }
+    unreachable!()
+}

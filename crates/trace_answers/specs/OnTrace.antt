@@ -1,0 +1,63 @@
+-- The commands on a trace: it is judged, and of a good one something is told.
+use Rattle.std.specs.Prelude.{◌≡◌, ℕ, ◌^◌, ◌==◌, nat_le, Bool, false, List, reverse, Result, Ok}
+use Rattle.mc_task.specs.declared.task.Task.{Task}
+use Rattle.mc_task.specs.declared.task.Rule.TheVariants.{Virtual}
+use Rattle.mc_model.specs.declared.row.Row.{Row}
+use Rattle.mc_model.specs.declared.verdict.Verdict.{Verdict}
+use Rattle.mc_model.specs.declared.verdict.Verdict.TheVariants.{Legal, Illegal}
+use Rattle.mc_model.specs.Rows.{ticks}
+use Rattle.mc_model.specs.Runs.{expand}
+use Rattle.mc_model.specs.TraceText.{trace_text}
+use Rattle.mc_model.specs.Verdict.{verdict}
+use Rattle.mc_model.specs.VerdictText.{verdict_line}
+use Rattle.sched_chart.specs.ChartText.{chart_text}
+use Rattle.sched_report.specs.ReportText.{report_text}
+use Rattle.trace_format.specs.TraceFile.{trace_file}
+use Rattle.command_line.specs.declared.form.Telling.{Telling}
+use Rattle.command_line.specs.declared.form.Telling.TheVariants.{JudgeBy, Chart, Report, Migrate}
+use Rattle.replies.specs.Refusal.{Refusal, Trace, BadTrace, LongChart}
+use Rattle.replies.specs.Reading.{◌>>=◌, or_refuse, only_if, reply_by}
+use Rattle.serving.specs.Command.{Command, file_of}
+use Rattle.task_answers.specs.Admitted.{Ruled, admitted, ruled_by, of_two}
+
+-- each row fits, and no job is late
+abbrev pub is_good : Verdict → Bool
+is_good (Legal late first) = late == 0
+is_good (Illegal place why) = false
+
+-- the rows that a trace file says of a set, the newest first
+abbrev pub rows_in : List Task → List ℕ → Result (List Row) Refusal
+rows_in set bytes = do
+  runs ← or_refuse Trace (trace_file set bytes)
+  Ok (reverse (expand runs))
+
+-- what is told of a good trace, whose newest row stands first: the chart, of at most 2,000,000 ticks; the report; the trace
+-- itself, equal ticks in one record; or the verdict
+abbrev pub told : Telling → Ruled → List Row → Result (List ℕ) Refusal
+told Chart ruled h = do
+  _ ← only_if (nat_le (ticks h) 2000000) (LongChart (ticks h))
+  Ok (chart_text ruled.set h)
+told Report ruled h = Ok (report_text ruled.set h)
+told Migrate ruled h = Ok (trace_text ruled.set (reverse h))
+told telling ruled h = Ok (verdict_line ruled.set (verdict ruled.set ruled.rule h))
+
+-- so, if the trace is good
+abbrev pub judged : Telling → Ruled → List Row → Result (List ℕ) Refusal
+judged telling ruled h = do
+  _ ← only_if (is_good (verdict ruled.set ruled.rule h)) (BadTrace ruled.set (verdict ruled.set ruled.rule h))
+  told telling ruled h
+
+-- by the bytes of the trace
+abbrev pub tells : Telling → Ruled → List ℕ → Result (List ℕ) Refusal
+tells telling ruled bytes = do
+  h ← rows_in ruled.set bytes
+  judged telling ruled h
+
+-- the set that a task file says, under the rule that the words give, or else the test
+abbrev pub ruled_for : Telling → List ℕ → Result Ruled Refusal
+ruled_for (JudgeBy p q) bytes = ruled_by (Virtual p q) bytes
+ruled_for telling bytes = admitted bytes
+
+-- the command; a trace has at most 134,217,728 bytes
+abbrev pub on_trace : Telling → List ℕ → List ℕ → Command
+on_trace telling tasks trace = of_two tasks (ruled_for telling) (file_of trace (2 ^ 27)) (λ ruled bytes reply. reply ≡ reply_by (tells telling ruled bytes))

@@ -1,0 +1,8 @@
+//! The commands on a trace: `judge`, `chart`, `report` and `migrate`.
+#![tactic(auto)]
+
+mod judging;
+mod on_trace;
+mod texts;
+
+pub use on_trace::OnTrace;

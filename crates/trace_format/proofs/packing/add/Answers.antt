@@ -1,0 +1,33 @@
+use Rattle.std.proofs.Common.{◌≡◌, ◌-◌, ◌++◌, List, Some, length, slice_set, sym, ap, ◌∙◌, arith}
+use Rattle.mc_model.specs.Runs.{rows_of, expand}
+use Rattle.mc_model.specs.declared.run.Run.{Run}
+use Rattle.trace_format.specs.Packing.{ArePacked, with_last}
+use Rattle.trace_format.proofs.PackLemmas.{taken, added}
+use Rattle.trace_format.proofs.packing.add.Goals.{In-Some, In-Ok}
+use Rattle.trace_format.proofs.packing.add.Goals as goal
+
+-- the last run takes it
+by_last : (c : In-Some) → with_last c.args.runs.now.items c.args.run ≡ Some c.in-Some.both
+by_last c = ap (λ (runs : List Run). with_last runs c.args.run) (sym c.deref.ensures.value) ∙ (sym c.with_last.ensures ∙ c.in-Some.is)
+
+pub returns-in-Some-clause-rows : goal.returns-in-Some-clause-rows
+returns-in-Some-clause-rows c =
+    let n : c.len-last.result ≡ length c.args.runs.now.items = omega (arith, c.len-last.ensures, c.args.runs.now.ok.0) in
+    (taken c.args.runs.now.items _ c.args.run c.in-Some.both c.requires.packed (by_last (goal.at.returns-in-Some-clause-rows c).In-Some) (ap (λ m. slice_set c.args.runs.now.items (m - 1) c.in-Some.both) n)).0
+
+pub returns-in-Some-clause-packed : goal.returns-in-Some-clause-packed
+returns-in-Some-clause-packed c =
+    let n : c.len-last.result ≡ length c.args.runs.now.items = omega (arith, c.len-last.ensures, c.args.runs.now.ok.0) in
+    (taken c.args.runs.now.items _ c.args.run c.in-Some.both c.requires.packed (by_last (goal.at.returns-in-Some-clause-packed c).In-Some) (ap (λ m. slice_set c.args.runs.now.items (m - 1) c.in-Some.both) n)).1
+
+-- it is added
+by_itself : (c : In-Ok) → (expand c.push.new.self.items ≡ expand c.args.runs.now.items ++ rows_of c.args.run) × ArePacked c.push.new.self.items
+by_itself c =
+    added c.args.runs.now.items c.push.new.self.items c.args.run c.requires.packed c.requires.is_run
+    (ap (λ (runs : List Run). with_last runs c.args.run) (sym c.deref.ensures.value) ∙ (sym c.with_last.ensures ∙ c.in_default.is)) c.in-Ok.ensures.items
+
+pub returns-in-Ok-clause-rows : goal.returns-in-Ok-clause-rows
+returns-in-Ok-clause-rows c = (by_itself c).0
+
+pub returns-in-Ok-clause-packed : goal.returns-in-Ok-clause-packed
+returns-in-Ok-clause-packed c = (by_itself c).1

@@ -1,0 +1,17 @@
+use Rattle.std.proofs.lemmas.List.Elements.{All-more}
+use Rattle.trace_format.specs.Writable.{IsWritable}
+use Rattle.trace_format.proofs.TickLemmas.{ticks-more, ticks-fit, lines-more}
+use Rattle.trace_format.proofs.write.runs_text.Goals as goal
+
+pub tick_after-tick-requires : goal.tick_after-tick-requires
+tick_after-tick-requires c = ticks-fit c.args.runs.now c.loop-run.run-index c.loop-run.tick _ c.loop-run-test.true c.requires.runs c.loop-run.invariant.tick
+
+pub loop-run-preserved : goal.loop-run-preserved
+loop-run-preserved c =
+    let inv = c.loop-run.invariant in
+    let inside = c.loop-run-test.true in
+    record {
+      tick = ticks-more c.args.runs.now c.loop-run.run-index c.loop-run.tick _ _ inside inv.tick c.tick_after-tick.ensures;
+      text = lines-more c.args.set.now c.args.runs.now c.loop-run.run-index c.loop-run.tick _ c.loop-run.out.items _ _ inside inv.tick c.in_ok-push_run.ensures.line inv.text;
+      writable = All-more (IsWritable c.args.set.now) c.args.runs.now c.loop-run.run-index _ inside inv.writable c.push_run.ensures.writable;
+    }

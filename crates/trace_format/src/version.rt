@@ -1,0 +1,6 @@
+// The two versions of a trace file.
+#[derive(Clone, Copy, Debug, PartialEq, Eq)]
+pub enum Version {
+    One,
+    Two,
+}
