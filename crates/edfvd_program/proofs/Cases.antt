@@ -1,6 +1,7 @@
 -- Which case of an answer applies, by what the files say.
-use Rattle.std.proofs.Common.{◌≡◌, ◌≢◌, ◌⊎◌, inl, inr, ℕ, ◌<◌, ◌≤◌, ◌^◌, nat_lt, Bool, true, false, List, length, Option, Some, None, Result, Ok, Err, refl, sym, ap, subst, ◌∙◌, arith, leb-true, ltb-false}
-use Rattle.std.specs.Prelude.{MatchBool}
+use Rattle.std.proofs.Common.{◌≡◌, ◌≢◌, ◌⊎◌, inl, inr, ℕ, ◌<◌, ◌≤◌, ◌^◌, nat_lt, Bool, true, false, List, [], length, Option, Some, None, Result, Ok, Err, refl, sym, ap, subst, ◌∙◌, arith, leb-true, ltb-false}
+use Rattle.std.specs.Prelude.{MatchBool, IsSomeAnd, ok_or, unwrap_or}
+use Rattle.mc_world.specs.Shelf.{Files}
 use Rattle.mc_task.specs.declared.task.Task.{Task}
 use Rattle.mc_task.specs.declared.task.Rule.{Rule}
 use Rattle.mc_model.specs.Loads.{range_fault}
@@ -9,8 +10,9 @@ use Rattle.task_file.specs.TaskFile.{task_file}
 use Rattle.task_file.specs.declared.fault.TaskFault.{TaskFault}
 use Rattle.replies.specs.Reply.{Reply}
 use Rattle.replies.specs.Refusal.{Refusal, TaskFile, OutOfRange, NotAdmitted, Longer, status_of, refuse}
-use Rattle.replies.specs.Reading.{◌>>=◌, or_refuse, some_or, none_or, reply_by, By, refusal_of}
-use Rattle.serving.specs.Command.{File, Within, Unless}
+use Rattle.replies.specs.Reading.{◌>>=◌, or_refuse, none_or, reply_by}
+use Rattle.serving.specs.Command.{Command, need}
+use Rattle.serving.specs.Outcome.{IsAnswer}
 use Rattle.task_answers.specs.Admitted.{Ruled, under, set_in, tested, admitted}
 use Rattle.edfvd_program.specs.Headline.{SaysSet, IsWithinRange, IsAdmitted}
 
@@ -26,16 +28,42 @@ by_length P Q limit bytes h = go (nat_lt limit (length bytes)) refl h
     go true e p = inl (p, leb-true _ _ e)
     go false e q = inr (q, ltb-false _ _ e)
 
+-- what is so of the bytes of a file that is held is so of its bytes, none where none are held
+pub of_held : (file : Option (List ℕ)) (P : List ℕ → Type 0) → IsSomeAnd file P → P (unwrap_or file [])
+of_held None P h = absurd h
+of_held (Some bytes) P h = h
+
+-- the reply is the refusal, or this is so of the value and the reply
+abbrev pub By : {A : Type 0} → Result A Refusal → (A → Reply → Type 0) → Reply → Type 0
+By (Ok x) P reply = P x reply
+By (Err refusal) P reply = reply ≡ refuse refusal
+
+-- so is what follows from it
+pub by_weaker : {A : Type 0} (read : Result A Refusal) (P Q : A → Reply → Type 0) (reply : Reply) → ((x : A) → P x reply → Q x reply) → By read P reply → By read Q reply
+by_weaker (Ok x) P Q reply f h = f x h
+by_weaker (Err refusal) P Q reply f h = h
+
+-- the answer of a command that goes on by what was read
+pub by_need : {A : Type 0} (files : Files) (k : ℕ) (read : Result A Refusal) (next : A → Command) (reply : Reply) → IsAnswer files k (need read next) reply → By read (λ x r. IsAnswer files k (next x) r) reply
+by_need files k (Ok x) next reply h = h
+by_need files k (Err refusal) next reply h = h
+
 -- a text by steps, the first of which reads a value
 pub by_text : {A : Type 0} (read : Result A Refusal) (f : A → Result (List ℕ) Refusal) (reply : Reply) → reply ≡ reply_by (read >>= f) → By read (λ x r. r ≡ reply_by (f x)) reply
 by_text (Ok x) f reply h = h
 by_text (Err refusal) f reply h = h
 
--- what is read of the first file decides before the second
-pub by_first : {A : Type 0} (read : Result A Refusal) (k : ℕ) (file : File) (bytes : List ℕ) (P : A → Reply → Type 0) (reply : Reply)
-    → Unless (refusal_of read) (λ p. Within k file bytes (λ q. By read P q) p) reply → By read (λ x r. Within k file bytes (P x) r) reply
-by_first (Ok x) k file bytes P reply h = h
-by_first (Err refusal) k file bytes P reply h = h
+-- the second file is longer than this limit, and the reply tells it; otherwise this is so
+abbrev pub Second : ℕ → List ℕ → Reply → Type 0 → Type 0
+Second limit more reply P = MatchBool (nat_lt limit (length more)) (reply ≡ refuse (Longer 2 limit)) P
+
+-- so is what follows
+pub second_weaker : (limit : ℕ) (more : List ℕ) (reply : Reply) (P Q : Type 0) → (P → Q) → Second limit more reply P → Second limit more reply Q
+second_weaker limit more reply P Q f h = go (nat_lt limit (length more)) h
+  where
+    go : (b : Bool) → MatchBool b (reply ≡ refuse (Longer 2 limit)) P → MatchBool b (reply ≡ refuse (Longer 2 limit)) Q
+    go true k = k
+    go false k = f k
 
 -- what a task file leads to where the test decides: the status of a refusal, or what comes next
 pub data Comes (bytes : List ℕ) (Then : Ruled → Reply → Type 0) (reply : Reply) : Type 0 where
@@ -52,17 +80,17 @@ pub one_set : (bytes : List ℕ) (a b : List Task) → SaysSet bytes a → SaysS
 one_set bytes a b s t = one_ok (set_in bytes) a b s.1 t.1
 
 by_rule : (bytes : List ℕ) (Then : Ruled → Reply → Type 0) (reply : Reply) (set : List Task) → SaysSet bytes set → IsWithinRange set
-    → By (some_or (NotAdmitted set) (test set) >>= (λ rule. Ok (under rule set))) Then reply → Comes bytes Then reply
+    → By (ok_or (test set) (NotAdmitted set) >>= (λ rule. Ok (under rule set))) Then reply → Comes bytes Then reply
 by_rule bytes Then reply set s w h = go (test set) refl h
   where
-    go : (o : Option Rule) → test set ≡ o → By (some_or (NotAdmitted set) o >>= (λ rule. Ok (under rule set))) Then reply → Comes bytes Then reply
+    go : (o : Option Rule) → test set ≡ o → By (ok_or o (NotAdmitted set) >>= (λ rule. Ok (under rule set))) Then reply → Comes bytes Then reply
     go None e k = no_rule set s w e (ap (λ r. r.status) k)
     go (Some rule) e k = ruled set rule (record { says = s; range = w; test = e }) k
 
 by_range : (bytes : List ℕ) (Then : Ruled → Reply → Type 0) (reply : Reply) (set : List Task) → SaysSet bytes set → By (tested set) Then reply → Comes bytes Then reply
 by_range bytes Then reply set s h = go (range_fault set) refl h
   where
-    go : (o : Option ℕ) → range_fault set ≡ o → By (none_or OutOfRange o >>= (λ x. some_or (NotAdmitted set) (test set) >>= (λ rule. Ok (under rule set)))) Then reply → Comes bytes Then reply
+    go : (o : Option ℕ) → range_fault set ≡ o → By (none_or OutOfRange o >>= (λ x. ok_or (test set) (NotAdmitted set) >>= (λ rule. Ok (under rule set)))) Then reply → Comes bytes Then reply
     go (Some task) e k = refused (λ other says none. outside other says none task e) (ap (λ r. r.status) k)
       where
         outside : (other : List Task) → set_in bytes ≡ Ok other → range_fault other ≡ None → (task : ℕ) → range_fault set ≡ Some task → ⊥
@@ -116,10 +144,10 @@ reader_status f n all (Ok x) refusal h = cc
 reader_status f n all (Err e) refusal h = let same : f e ≡ refusal = cc in subst (λ r. status_of r ≡ n) same (all e)
 
 -- of a second file: it is too long, with status 7, or this is so
-pub by_second : (limit : ℕ) (more : List ℕ) (P : Type 0) (reply : Reply) → MatchBool (nat_lt limit (length more)) (reply ≡ refuse (Longer 2 limit)) P
+pub by_second : (limit : ℕ) (more : List ℕ) (P : Type 0) (reply : Reply) → Second limit more reply P
     → ((reply.status ≡ 7) × (limit < length more)) ⊎ (P × (length more ≤ limit))
 by_second limit more P reply h = elim (by_length (reply ≡ refuse (Longer 2 limit)) P limit more h) [ inl p ↦ inl (ap (λ r. r.status) p.0, p.1) | inr q ↦ inr q ]
 
 -- within the limit it is so
-pub second_fits : (limit : ℕ) (more : List ℕ) (P : Type 0) (reply : Reply) → length more ≤ limit → MatchBool (nat_lt limit (length more)) (reply ≡ refuse (Longer 2 limit)) P → P
+pub second_fits : (limit : ℕ) (more : List ℕ) (P : Type 0) (reply : Reply) → length more ≤ limit → Second limit more reply P → P
 second_fits limit more P reply short h = elim (by_second limit more P reply h) [ inl p ↦ absurd (omega (arith, p.1, short)) | inr q ↦ q.0 ]

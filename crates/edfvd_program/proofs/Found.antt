@@ -1,5 +1,5 @@
 -- What the headline says of the commands on a trace.
-use Rattle.std.proofs.Common.{◌≡◌, ◌≢◌, inl, inr, ℕ, ◌≤◌, ◌^◌, nat_le, Bool, true, false, List, [], ◌++◌, reverse, length, Some, Result, Ok, Err, refl, sym, ap, subst, ◌∙◌, arith, le-leb}
+use Rattle.std.proofs.Common.{◌≡◌, ◌≢◌, inl, inr, ℕ, ◌≤◌, ◌^◌, nat_le, if◌then◌else◌, Bool, true, false, List, [], ◌++◌, reverse, length, Some, Result, Ok, Err, refl, sym, ap, subst, ◌∙◌, arith, le-leb}
 use Rattle.std.specs.List.{AllByRecursion}
 use Rattle.mc_task.specs.declared.task.Task.{Task}
 use Rattle.mc_task.specs.declared.task.Rule.{Rule}
@@ -21,18 +21,17 @@ use Rattle.command_line.specs.declared.form.Telling.{Telling}
 use Rattle.command_line.specs.declared.form.Telling.TheVariants.{Judge, JudgeBy, Chart, Report, Migrate}
 use Rattle.replies.specs.Reply.{Reply, reply_of}
 use Rattle.replies.specs.Refusal.{Refusal, Trace, BadTrace, LongChart, status_of}
-use Rattle.replies.specs.Reading.{◌>>=◌, or_refuse, only_if, reply_by}
-use Rattle.serving.specs.Command.{Within, file_of}
+use Rattle.replies.specs.Reading.{◌>>=◌, or_refuse, reply_by}
 use Rattle.task_answers.specs.Admitted.{Ruled, under}
 use Rattle.trace_answers.specs.OnTrace.{is_good, rows_in, told, judged, tells}
 use Rattle.trace_answers.proofs.GoodTrace.{no_fault_in, rows_of_runs}
 use Rattle.edfvd_program.specs.Headline.{SaysSet, IsAdmitted, SaysTrace, Succeeds, IsTold, IsTimely, Finds, FindsBy}
-use Rattle.edfvd_program.proofs.Cases.{other_status, Comes, next_of, by_second, second_fits}
+use Rattle.edfvd_program.proofs.Cases.{Second, other_status, Comes, next_of, by_second, second_fits}
 use Rattle.edfvd_program.proofs.Promised.{holds_for, timely, only_ruled}
 
 -- what comes next of a command on a trace
-abbrev pub TellsNext : Telling → List ℕ → List ℕ → Ruled → Reply → Type 0
-TellsNext telling trace more ruled reply = Within 2 (file_of trace (2 ^ 27)) more (λ r. r ≡ reply_by (tells telling ruled more)) reply
+abbrev pub TellsNext : Telling → List ℕ → Ruled → Reply → Type 0
+TellsNext telling more ruled reply = Second (2 ^ 27) more reply (reply ≡ reply_by (tells telling ruled more))
 
 -- a refused trace file has status 5
 rows_status : (set : List Task) (more : List ℕ) (refusal : Refusal) → rows_in set more ≡ Err refusal → status_of refusal ≡ 5
@@ -58,7 +57,7 @@ good_of_legal : (set : List Task) (rule : Rule) (h : List Row) → Legal set rul
 good_of_legal set rule h l none = ap is_good (verdict-good set rule h l none)
 
 -- a chart within its limit
-chart_fits : (set : List Task) (h : List Row) → ticks h ≤ 2000000 → (only_if (nat_le (ticks h) 2000000) (LongChart (ticks h)) >>= (λ x. Ok (chart_text set h))) ≡ Ok (chart_text set h)
+chart_fits : (set : List Task) (h : List Row) → ticks h ≤ 2000000 → (if nat_le (ticks h) 2000000 then Ok (chart_text set h) else Err (LongChart (ticks h))) ≡ Ok (chart_text set h)
 chart_fits set h short = rw (le-leb (ticks h) 2000000 short) refl
 
 -- something is told, or a chart is too long
@@ -74,7 +73,7 @@ told_status Judge ruled h refusal k = cc
 told_status (JudgeBy p q) ruled h refusal k = cc
 told_status Chart ruled h refusal k = go (nat_le (ticks h) 2000000) k
   where
-    go : (b : Bool) → (only_if b (LongChart (ticks h)) >>= (λ x. Ok (chart_text ruled.set h))) ≡ Err refusal → status_of refusal ≡ 5
+    go : (b : Bool) → (if b then Ok (chart_text ruled.set h) else Err (LongChart (ticks h))) ≡ Err refusal → status_of refusal ≡ 5
     go true e = cc
     go false e = let same : LongChart (ticks h) ≡ refusal = cc in subst (λ r. status_of r ≡ 5) same refl
 told_status Report ruled h refusal k = cc
@@ -106,7 +105,7 @@ judges_good telling ruled more reply h is good k = go (told telling ruled h) ref
 judges_rows : (telling : Telling) (ruled : Ruled) (more : List ℕ) (reply : Reply) (h : List Row) → rows_in ruled.set more ≡ Ok h → reply ≡ reply_by (judged telling ruled h) → Judges telling ruled more reply
 judges_rows telling ruled more reply h is k = go (is_good (verdict ruled.set ruled.rule h)) refl k
   where
-    go : (b : Bool) → is_good (verdict ruled.set ruled.rule h) ≡ b → reply ≡ reply_by (only_if b (BadTrace ruled.set (verdict ruled.set ruled.rule h)) >>= (λ x. told telling ruled h)) → Judges telling ruled more reply
+    go : (b : Bool) → is_good (verdict ruled.set ruled.rule h) ≡ b → reply ≡ reply_by (if b then told telling ruled h else Err (BadTrace ruled.set (verdict ruled.set ruled.rule h))) → Judges telling ruled more reply
     go true e k = judges_good telling ruled more reply h is e k
     go false e k = blames h is e (ap (λ (r : Reply). r.status) k)
 
@@ -122,8 +121,8 @@ not_1_judges telling ruled more reply (refuses s none) e = other_status reply 5 
 not_1_judges telling ruled more reply (blames h is bad s) e = other_status reply 6 1 s e (λ k. absurd (omega (arith, k)))
 not_1_judges telling ruled more reply (says h text is good t k) e = other_status reply 0 1 (ap (λ (r : Reply). r.status) k) e (λ k. absurd (omega (arith, k)))
 
-pub not_1_tells : (telling : Telling) (trace more : List ℕ) (ruled : Ruled) (reply : Reply) → TellsNext telling trace more ruled reply → reply.status ≢ 1
-not_1_tells telling trace more ruled reply h e =
+pub not_1_tells : (telling : Telling) (more : List ℕ) (ruled : Ruled) (reply : Reply) → TellsNext telling more ruled reply → reply.status ≢ 1
+not_1_tells telling more ruled reply h e =
     elim (by_second (2 ^ 27) more (reply ≡ reply_by (tells telling ruled more)) reply h) [
       | inl p ↦ other_status reply 7 1 p.0 e (λ k. absurd (omega (arith, k)))
       | inr q ↦ not_1_judges telling ruled more reply (judges telling ruled more reply q.0) e
@@ -139,8 +138,8 @@ good_0 telling ruled more reply h is good told (blames other is' bad s) =
 good_0 telling ruled more reply h is good told (says other text is' good' t k) = ap (λ (r : Reply). r.status) k
 
 -- what they promise under the test's rule
-pub finds : (telling : Telling) (trace bytes more old : List ℕ) (reply : Reply) → Comes bytes (TellsNext telling trace more) reply → Finds telling bytes more old reply.status (Some (old ++ reply.text))
-finds telling trace bytes more old reply h = record { finds = found; illegal = faulty; complete = complete }
+pub finds : (telling : Telling) (bytes more old : List ℕ) (reply : Reply) → Comes bytes (TellsNext telling more) reply → Finds telling bytes more old reply.status (Some (old ++ reply.text))
+finds telling bytes more old reply h = record { finds = found; illegal = faulty; complete = complete }
   where
     found_in : (set : List Task) (rule : Rule) → IsAdmitted bytes set rule → length more ≤ 2 ^ 27 → Judges telling (under rule set) more reply → reply.status ≡ 0
         → (set : List Task) × (rule : Rule) × (h : List Row) × (text : List ℕ) × IsAdmitted bytes set rule × SaysTrace more set h × IsTimely set rule h × (told telling (under rule set) h ≡ Ok text) × (Some (old ++ reply.text) ≡ Some (old ++ text))
@@ -152,7 +151,7 @@ finds telling trace bytes more old reply h = record { finds = found; illegal = f
     found : reply.status ≡ 0
         → (set : List Task) × (rule : Rule) × (h : List Row) × (text : List ℕ) × IsAdmitted bytes set rule × SaysTrace more set h × IsTimely set rule h × (told telling (under rule set) h ≡ Ok text) × (Some (old ++ reply.text) ≡ Some (old ++ text))
     found e =
-        let (set, rule, a, k) = only_ruled bytes (TellsNext telling trace more) reply 0 (λ z. absurd (omega (arith, z))) (λ z. absurd (omega (arith, z))) (λ z. absurd (omega (arith, z))) h e in
+        let (set, rule, a, k) = only_ruled bytes (TellsNext telling more) reply 0 (λ z. absurd (omega (arith, z))) (λ z. absurd (omega (arith, z))) (λ z. absurd (omega (arith, z))) h e in
         elim (by_second (2 ^ 27) more (reply ≡ reply_by (tells telling (under rule set) more)) reply k) [
           | inl p ↦ absurd (other_status reply 7 0 p.0 e (λ k. absurd (omega (arith, k))))
           | inr q ↦ found_in set rule a q.1 (judges telling (under rule set) more reply q.0) e
@@ -171,7 +170,7 @@ finds telling trace bytes more old reply h = record { finds = found; illegal = f
 
     faulty : reply.status ≡ 6 → (set : List Task) × (rule : Rule) × (h : List Row) × IsAdmitted bytes set rule × SaysTrace more set h × (Legal set rule h → ⊥)
     faulty e =
-        let (set, rule, a, k) = only_ruled bytes (TellsNext telling trace more) reply 6 (λ z. absurd (omega (arith, z))) (λ z. absurd (omega (arith, z))) (λ z. absurd (omega (arith, z))) h e in
+        let (set, rule, a, k) = only_ruled bytes (TellsNext telling more) reply 6 (λ z. absurd (omega (arith, z))) (λ z. absurd (omega (arith, z))) (λ z. absurd (omega (arith, z))) h e in
         elim (by_second (2 ^ 27) more (reply ≡ reply_by (tells telling (under rule set) more)) reply k) [
           | inl p ↦ absurd (other_status reply 7 6 p.0 e (λ k. absurd (omega (arith, k))))
           | inr q ↦ faulty_in set rule a q.1 (judges telling (under rule set) more reply q.0) e
@@ -180,13 +179,13 @@ finds telling trace bytes more old reply h = record { finds = found; illegal = f
     complete : (set : List Task) (rule : Rule) (h : List Row) → IsAdmitted bytes set rule → SaysTrace more set h → Legal set rule h → IsTold telling h → Succeeds reply.status
     complete set rule t a said l told =
         let s = holds_for bytes set rule a in
-        let k : reply ≡ reply_by (tells telling (under rule set) more) = second_fits (2 ^ 27) more (reply ≡ reply_by (tells telling (under rule set) more)) reply said.0 (next_of bytes (TellsNext telling trace more) reply set rule a h) in
+        let k : reply ≡ reply_by (tells telling (under rule set) more) = second_fits (2 ^ 27) more (reply ≡ reply_by (tells telling (under rule set) more)) reply said.0 (next_of bytes (TellsNext telling more) reply set rule a h) in
         inl (good_0 telling (under rule set) more reply t said.1 (good_of_legal set rule t l (none_late set rule t s.0.each s.1 l)) told (judges telling (under rule set) more reply k))
 
 -- what `judge` promises under a given scale, where the task file says the set
-pub finds_by : (p q : ℕ) (trace bytes more : List ℕ) (reply : Reply) → ((set : List Task) → SaysSet bytes set → TellsNext (JudgeBy p q) trace more (under (Virtual p q) set) reply)
+pub finds_by : (p q : ℕ) (bytes more : List ℕ) (reply : Reply) → ((set : List Task) → SaysSet bytes set → TellsNext (JudgeBy p q) more (under (Virtual p q) set) reply)
     → FindsBy (Virtual p q) bytes more reply.status
-finds_by p q trace bytes more reply next set h said trace_says legal none =
+finds_by p q bytes more reply next set h said trace_says legal none =
     let k : reply ≡ reply_by (tells (JudgeBy p q) (under (Virtual p q) set) more) =
     second_fits (2 ^ 27) more (reply ≡ reply_by (tells (JudgeBy p q) (under (Virtual p q) set) more)) reply trace_says.0 (next set said) in
     inl (good_0 (JudgeBy p q) (under (Virtual p q) set) more reply h trace_says.1 (good_of_legal set (Virtual p q) h legal none) tt (judges (JudgeBy p q) (under (Virtual p q) set) more reply k))

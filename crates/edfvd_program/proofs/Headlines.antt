@@ -14,19 +14,21 @@ use Rattle.command_line.specs.declared.form.Telling.TheVariants.{Judge, JudgeBy,
 use Rattle.command_line.specs.Form.{Form, check, run, on_trace, soak, live, IsInRange}
 use Rattle.replies.specs.Reply.{Reply, reply_of}
 use Rattle.replies.specs.Refusal.{Longer, refuse}
-use Rattle.replies.specs.Reading.{reply_by, By, refusal_of}
-use Rattle.serving.specs.Command.{Within, Unless, file_of}
+use Rattle.replies.specs.Reading.{reply_by}
+use Rattle.serving.specs.Command.{Command, answer, fetch, need}
+use Rattle.serving.specs.Outcome.{IsAnswer}
 use Rattle.task_answers.specs.Admitted.{Ruled, under, set_in, admitted, ruled_by}
 use Rattle.task_answers.specs.Check.{checked}
 use Rattle.trace_answers.specs.OnTrace.{tells}
-use Rattle.run_answers.specs.Run.{Runs}
+use Rattle.run_answers.specs.Run.{TellsTrace, work_of}
 use Rattle.run_answers.specs.Live as live
 use Rattle.run_answers.specs.Soak.{workload_set, Soaks}
-use Rattle.edfvd_program.specs.Outcome.{Answers, AnswersTo}
+use Rattle.edfvd_program.specs.Commands.{command}
+use Rattle.edfvd_program.specs.Outcome.{Answers}
 use Rattle.edfvd_program.specs.Headline.{bytes_of, SaysSet, SchedulesExactly, Admits, Finds, Soaked, Headline}
-use Rattle.edfvd_program.proofs.Cases.{other_status, Comes, comes, by_text, by_first, by_ok, by_length, next_of}
+use Rattle.edfvd_program.proofs.Cases.{by_weaker, by_need, of_held, Second, second_weaker, other_status, Comes, comes, by_text, by_ok, by_length, next_of}
 use Rattle.edfvd_program.proofs.Promised.{schedules_exactly}
-use Rattle.edfvd_program.proofs.Scheduled.{RunsNext, not_1_run, schedules, not_1_live, lives}
+use Rattle.edfvd_program.proofs.Scheduled.{Runs, RunsNext, not_1_run, schedules, not_1_live, lives}
 use Rattle.edfvd_program.proofs.Found.{TellsNext, not_1_tells, finds, finds_by}
 
 -- what comes next of `check`
@@ -42,40 +44,60 @@ checks bytes reply c = (
   λ set rule a. inl (ap (λ (r : Reply). r.status) (next_of bytes ChecksNext reply set rule a c)),
 )
 
--- the answer of a command with two files, by what comes of the first
-comes_two : (bytes more : List ℕ) (limit : ℕ) (name : List ℕ) (Answers : Ruled → Reply → Type 0) (reply : Reply)
-    → MatchBool (nat_lt (2 ^ 24) (length bytes)) (reply ≡ refuse (Longer 1 (2 ^ 24))) (Unless (refusal_of (admitted bytes)) (λ p. Within 2 (file_of name limit) more (λ q. By (admitted bytes) Answers q) p) reply)
-    → Comes bytes (λ ruled r. Within 2 (file_of name limit) more (Answers ruled) r) reply
-comes_two bytes more limit name Answers reply h =
-    comes bytes (λ ruled r. Within 2 (file_of name limit) more (Answers ruled) r) reply
-    (Unless (refusal_of (admitted bytes)) (λ p. Within 2 (file_of name limit) more (λ q. By (admitted bytes) Answers q) p) reply)
-    (λ k. by_first (admitted bytes) 2 (file_of name limit) more Answers reply k) h
+-- the answer of a command whose first file is a task file, by what comes of that
+comes_next : (files : Files) (tasks : List ℕ) (next : Ruled → Command) (Then : Ruled → Reply → Type 0) (reply : Reply) → ((ruled : Ruled) → IsAnswer files 2 (next ruled) reply → Then ruled reply)
+    → IsAnswer files 1 (fetch tasks (2 ^ 24) (λ bytes. need (admitted bytes) next)) reply → Comes (bytes_of files tasks) Then reply
+comes_next files tasks next Then reply then h =
+    comes (bytes_of files tasks) Then reply (IsAnswer files 2 (need (admitted (bytes_of files tasks)) next) reply)
+    (λ k. by_weaker (admitted (bytes_of files tasks)) (λ ruled r. IsAnswer files 2 (next ruled) r) Then reply then (by_need files 2 (admitted (bytes_of files tasks)) next reply k))
+    (of_held (files tasks) (λ bytes. MatchBool (nat_lt (2 ^ 24) (length bytes)) (reply ≡ refuse (Longer 1 (2 ^ 24))) (IsAnswer files 2 (need (admitted bytes) next) reply)) h)
+
+-- of one that fetches a second file then
+second_of : (files : Files) (limit : ℕ) (name : List ℕ) (next : List ℕ → Command) (reply : Reply) → IsAnswer files 2 (fetch name limit next) reply
+    → Second limit (bytes_of files name) reply (IsAnswer files 3 (next (bytes_of files name)) reply)
+second_of files limit name next reply h =
+    of_held (files name) (λ bytes. MatchBool (nat_lt limit (length bytes)) (reply ≡ refuse (Longer 2 limit)) (IsAnswer files 3 (next bytes) reply)) h
+
+-- and of `run`
+runs_next : (files : Files) (ticks : ℕ) (work : List ℕ) (ruled : Ruled) (reply : Reply)
+    → IsAnswer files 2 (fetch work (2 ^ 24) (λ more. need (work_of ruled.set more) (λ rows. answer (TellsTrace ticks ruled.set ruled.rule rows)))) reply → RunsNext ticks (bytes_of files work) ruled reply
+runs_next files ticks work ruled reply h =
+    second_weaker (2 ^ 24) (bytes_of files work) reply
+    (IsAnswer files 3 (need (work_of ruled.set (bytes_of files work)) (λ rows. answer (TellsTrace ticks ruled.set ruled.rule rows))) reply) (Runs ticks ruled (bytes_of files work) reply)
+    (λ k. by_need files 3 (work_of ruled.set (bytes_of files work)) (λ rows. answer (TellsTrace ticks ruled.set ruled.rule rows)) reply k)
+    (second_of files (2 ^ 24) work (λ more. need (work_of ruled.set more) (λ rows. answer (TellsTrace ticks ruled.set ruled.rule rows))) reply h)
 
 -- of a command on a trace under the test's rule
-telling_finds : (telling : Telling) (trace bytes more old : List ℕ) (reply : Reply) → Comes bytes (TellsNext telling trace more) reply
-    → SchedulesExactly bytes reply.status × Finds telling bytes more old reply.status (Some (old ++ reply.text))
-telling_finds telling trace bytes more old reply c = (
-  schedules_exactly bytes (TellsNext telling trace more) reply (λ x k. not_1_tells telling trace more x reply k) c,
-  finds telling trace bytes more old reply c,
-)
+telling_finds : (telling : Telling) (files : Files) (tasks trace old : List ℕ) (reply : Reply)
+    → IsAnswer files 1 (fetch tasks (2 ^ 24) (λ bytes. need (admitted bytes) (λ ruled. fetch trace (2 ^ 27) (λ more. answer (λ reply. reply ≡ reply_by (tells telling ruled more)))))) reply
+    → SchedulesExactly (bytes_of files tasks) reply.status × Finds telling (bytes_of files tasks) (bytes_of files trace) old reply.status (Some (old ++ reply.text))
+telling_finds telling files tasks trace old reply h =
+    let c : Comes (bytes_of files tasks) (TellsNext telling (bytes_of files trace)) reply =
+    comes_next files tasks (λ ruled. fetch trace (2 ^ 27) (λ more. answer (λ reply. reply ≡ reply_by (tells telling ruled more)))) (TellsNext telling (bytes_of files trace)) reply
+    (λ ruled k. second_of files (2 ^ 27) trace (λ more. answer (λ reply. reply ≡ reply_by (tells telling ruled more))) reply k) h in (
+      schedules_exactly (bytes_of files tasks) (TellsNext telling (bytes_of files trace)) reply (λ x k. not_1_tells telling (bytes_of files trace) x reply k) c,
+      finds telling (bytes_of files tasks) (bytes_of files trace) old reply c,
+    )
 
 -- under a given rule a set that the file says goes on
-given_next : (p q : ℕ) (trace bytes more : List ℕ) (reply : Reply)
-    → MatchBool (nat_lt (2 ^ 24) (length bytes)) (reply ≡ refuse (Longer 1 (2 ^ 24)))
-    (Unless (refusal_of (ruled_by (Virtual p q) bytes)) (λ s. Within 2 (file_of trace (2 ^ 27)) more (λ r. By (ruled_by (Virtual p q) bytes) (λ ruled r. r ≡ reply_by (tells (JudgeBy p q) ruled more)) r) s) reply)
-    → (set : List Task) → SaysSet bytes set → TellsNext (JudgeBy p q) trace more (under (Virtual p q) set) reply
-given_next p q trace bytes more reply h set says =
-    let Else : Type 0 = Unless (refusal_of (ruled_by (Virtual p q) bytes)) (λ s. Within 2 (file_of trace (2 ^ 27)) more (λ r. By (ruled_by (Virtual p q) bytes) (λ ruled r. r ≡ reply_by (tells (JudgeBy p q) ruled more)) r) s) reply in
-    elim (by_length (reply ≡ refuse (Longer 1 (2 ^ 24))) Else (2 ^ 24) bytes h) [
+given_next : (p q : ℕ) (files : Files) (tasks trace : List ℕ) (reply : Reply)
+    → IsAnswer files 1 (fetch tasks (2 ^ 24) (λ bytes. need (ruled_by (Virtual p q) bytes) (λ ruled. fetch trace (2 ^ 27) (λ more. answer (λ reply. reply ≡ reply_by (tells (JudgeBy p q) ruled more)))))) reply
+    → (set : List Task) → SaysSet (bytes_of files tasks) set → TellsNext (JudgeBy p q) (bytes_of files trace) (under (Virtual p q) set) reply
+given_next p q files tasks trace reply h set says =
+    elim (by_length (reply ≡ refuse (Longer 1 (2 ^ 24))) (IsAnswer files 2 (need (ruled_by (Virtual p q) (bytes_of files tasks)) next) reply) (2 ^ 24) (bytes_of files tasks)
+    (of_held (files tasks) (λ bytes. MatchBool (nat_lt (2 ^ 24) (length bytes)) (reply ≡ refuse (Longer 1 (2 ^ 24))) (IsAnswer files 2 (need (ruled_by (Virtual p q) bytes) next) reply)) h)) [
       | inl long ↦ absurd (let short = says.0 in omega (arith, long.1, short))
       | inr k ↦
-          by_ok (ruled_by (Virtual p q) bytes) (λ ruled r. Within 2 (file_of trace (2 ^ 27)) more (λ t. t ≡ reply_by (tells (JudgeBy p q) ruled more)) r) reply (under (Virtual p q) set)
-          (ruled_ok p q bytes set says.1)
-          (by_first (ruled_by (Virtual p q) bytes) 2 (file_of trace (2 ^ 27)) more (λ ruled r. r ≡ reply_by (tells (JudgeBy p q) ruled more)) reply k.0)
+          second_of files (2 ^ 27) trace (λ more. answer (λ reply. reply ≡ reply_by (tells (JudgeBy p q) (under (Virtual p q) set) more))) reply
+          (by_ok (ruled_by (Virtual p q) (bytes_of files tasks)) (λ ruled r. IsAnswer files 2 (next ruled) r) reply (under (Virtual p q) set) (ruled_ok (bytes_of files tasks) says.1)
+          (by_need files 2 (ruled_by (Virtual p q) (bytes_of files tasks)) next reply k.0))
     ]
   where
-    ruled_ok : (p q : ℕ) (bytes : List ℕ) (set : List Task) → set_in bytes ≡ Ok set → ruled_by (Virtual p q) bytes ≡ Ok (under (Virtual p q) set)
-    ruled_ok p q bytes set h = rw h refl
+    next : Ruled → Command
+    next ruled = fetch trace (2 ^ 27) (λ more. answer (λ reply. reply ≡ reply_by (tells (JudgeBy p q) ruled more)))
+
+    ruled_ok : (bytes : List ℕ) → set_in bytes ≡ Ok set → ruled_by (Virtual p q) bytes ≡ Ok (under (Virtual p q) set)
+    ruled_ok bytes h = rw h refl
 
 -- what `soak` promises: each workload's set is admitted, so its trace keeps the deadlines
 soaks : (number tasks ticks : ℕ) (old : List ℕ) (reply : Reply) → (2 ≤ tasks) × (tasks ≤ 32) → Soaks number tasks ticks reply → Soaked number tasks ticks old reply.status (Some (old ++ reply.text))
@@ -90,35 +112,30 @@ soaks number tasks ticks old reply range h =
     }
 
 -- the headline of a reply that was written whole
-of_form : (form : Form) → IsInRange form → (files : Files) (old : List ℕ) (reply : Reply) → AnswersTo (Some form) files reply → Headline (Some form) files old reply.status (Some (old ++ reply.text))
+of_form : (form : Form) → IsInRange form → (files : Files) (old : List ℕ) (reply : Reply) → IsAnswer files 1 (command (Some form)) reply → Headline (Some form) files old reply.status (Some (old ++ reply.text))
 of_form (check tasks) range files old reply h =
     checks (bytes_of files tasks) reply (comes (bytes_of files tasks) ChecksNext reply (reply ≡ reply_by (checked (bytes_of files tasks)))
-    (λ k. by_text (admitted (bytes_of files tasks)) (λ ruled. Ok (check_text ruled.set ruled.rule)) reply k) h)
+    (λ k. by_text (admitted (bytes_of files tasks)) (λ ruled. Ok (check_text ruled.set ruled.rule)) reply k)
+    (of_held (files tasks) (λ bytes. MatchBool (nat_lt (2 ^ 24) (length bytes)) (reply ≡ refuse (Longer 1 (2 ^ 24))) (reply ≡ reply_by (checked bytes))) h))
 of_form (run tasks work ticks) range files old reply h =
-    let c = comes_two (bytes_of files tasks) (bytes_of files work) (2 ^ 24) work (λ ruled r. Runs ticks ruled (bytes_of files work) r) reply h in (
-      schedules_exactly (bytes_of files tasks) (RunsNext ticks work (bytes_of files work)) reply (λ x k. not_1_run ticks work (bytes_of files work) x reply k) c,
-      schedules ticks work (bytes_of files tasks) (bytes_of files work) old reply c,
+    let c : Comes (bytes_of files tasks) (RunsNext ticks (bytes_of files work)) reply =
+    comes_next files tasks (λ ruled. fetch work (2 ^ 24) (λ more. need (work_of ruled.set more) (λ rows. answer (TellsTrace ticks ruled.set ruled.rule rows)))) (RunsNext ticks (bytes_of files work)) reply
+    (λ ruled k. runs_next files ticks work ruled reply k) h in (
+      schedules_exactly (bytes_of files tasks) (RunsNext ticks (bytes_of files work)) reply (λ x k. not_1_run ticks (bytes_of files work) x reply k) c,
+      schedules ticks (bytes_of files tasks) (bytes_of files work) old reply c,
     )
 of_form (live tasks ticks) range files old reply h =
-    let c = comes (bytes_of files tasks) (live.Lives ticks) reply (By (admitted (bytes_of files tasks)) (live.Lives ticks) reply) (λ k. k) h in (
+    let c : Comes (bytes_of files tasks) (live.Lives ticks) reply = comes_next files tasks (λ ruled. answer (live.Lives ticks ruled)) (live.Lives ticks) reply (λ ruled k. k) h in (
       schedules_exactly (bytes_of files tasks) (live.Lives ticks) reply (λ x k. not_1_live ticks x reply k) c,
       lives ticks (bytes_of files tasks) old reply c,
     )
 of_form (soak number tasks ticks) range files old reply h = soaks number tasks ticks old reply (range.0, range.1) h
-of_form (on_trace Judge tasks trace) range files old reply h =
-    telling_finds Judge trace (bytes_of files tasks) (bytes_of files trace) old reply
-    (comes_two (bytes_of files tasks) (bytes_of files trace) (2 ^ 27) trace (λ ruled r. r ≡ reply_by (tells Judge ruled (bytes_of files trace))) reply h)
-of_form (on_trace Chart tasks trace) range files old reply h =
-    telling_finds Chart trace (bytes_of files tasks) (bytes_of files trace) old reply
-    (comes_two (bytes_of files tasks) (bytes_of files trace) (2 ^ 27) trace (λ ruled r. r ≡ reply_by (tells Chart ruled (bytes_of files trace))) reply h)
-of_form (on_trace Report tasks trace) range files old reply h =
-    telling_finds Report trace (bytes_of files tasks) (bytes_of files trace) old reply
-    (comes_two (bytes_of files tasks) (bytes_of files trace) (2 ^ 27) trace (λ ruled r. r ≡ reply_by (tells Report ruled (bytes_of files trace))) reply h)
-of_form (on_trace Migrate tasks trace) range files old reply h =
-    telling_finds Migrate trace (bytes_of files tasks) (bytes_of files trace) old reply
-    (comes_two (bytes_of files tasks) (bytes_of files trace) (2 ^ 27) trace (λ ruled r. r ≡ reply_by (tells Migrate ruled (bytes_of files trace))) reply h)
+of_form (on_trace Judge tasks trace) range files old reply h = telling_finds Judge files tasks trace old reply h
+of_form (on_trace Chart tasks trace) range files old reply h = telling_finds Chart files tasks trace old reply h
+of_form (on_trace Report tasks trace) range files old reply h = telling_finds Report files tasks trace old reply h
+of_form (on_trace Migrate tasks trace) range files old reply h = telling_finds Migrate files tasks trace old reply h
 of_form (on_trace (JudgeBy p q) tasks trace) range files old reply h =
-    finds_by p q trace (bytes_of files tasks) (bytes_of files trace) reply (given_next p q trace (bytes_of files tasks) (bytes_of files trace) reply h)
+    finds_by p q (bytes_of files tasks) (bytes_of files trace) reply (given_next p q files tasks trace reply h)
 
 not_9 : (n m : ℕ) → n ≡ 9 → n ≡ m → m ≢ 9 → ⊥
 not_9 n m a b differ = differ (sym b ∙ a)
@@ -155,7 +172,7 @@ of_none (Some (on_trace Report tasks trace)) files old ended new e = finds_none 
 of_none (Some (on_trace Migrate tasks trace)) files old ended new e = finds_none Migrate (bytes_of files tasks) (bytes_of files trace) old ended new e
 of_none (Some (on_trace (JudgeBy p q) tasks trace)) files old ended new e = λ set h a s l n. inr e
 
-of_reply : (form : Option Form) → IfSome form IsInRange → (files : Files) (old : List ℕ) (reply : Reply) → AnswersTo form files reply → Headline form files old reply.status (Some (old ++ reply.text))
+of_reply : (form : Option Form) → IfSome form IsInRange → (files : Files) (old : List ℕ) (reply : Reply) → IsAnswer files 1 (command form) reply → Headline form files old reply.status (Some (old ++ reply.text))
 of_reply None range files old reply h = tt
 of_reply (Some form) range files old reply h = of_form form range files old reply h
 

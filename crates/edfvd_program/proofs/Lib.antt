@@ -4,3 +4,4 @@ pub mod Promised
 pub mod Scheduled
 pub mod Found
 pub mod Headlines
+pub mod Jobs

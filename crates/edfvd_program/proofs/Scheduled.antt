@@ -8,24 +8,27 @@ use Rattle.mc_model.specs.LiveTrace.{LiveTrace}
 use Rattle.work_file.specs.WorkFile.{work_in}
 use Rattle.replies.specs.Reply.{Reply}
 use Rattle.replies.specs.Refusal.{Refusal, WorkFile, status_of}
-use Rattle.serving.specs.Command.{Within}
-use Rattle.task_answers.specs.Admitted.{Ruled, under, table}
-use Rattle.run_answers.specs.Run.{Runs, work_of}
+use Rattle.task_answers.specs.Admitted.{Ruled, under}
+use Rattle.run_answers.specs.Run.{TellsTrace, work_of}
 use Rattle.run_answers.specs.Live as live
 use Rattle.edfvd_program.specs.Headline.{IsAdmitted, IsScheduled, SaysWork, Succeeds, Writes, IsTimely, Schedules, Lives}
-use Rattle.edfvd_program.proofs.Cases.{other_status, Comes, next_of, by_cases, by_ok, reader_status, by_second, second_fits}
+use Rattle.edfvd_program.proofs.Cases.{By, Second, other_status, Comes, next_of, by_cases, by_ok, reader_status, by_second, second_fits}
 use Rattle.edfvd_program.proofs.Promised.{timely, only_ruled}
 
+-- what comes of a work file's bytes
+abbrev pub Runs : ℕ → Ruled → List ℕ → Reply → Type 0
+Runs ticks ruled more reply = By (work_of ruled.set more) (TellsTrace ticks ruled.set ruled.rule) reply
+
 -- what comes next of `run`
-abbrev pub RunsNext : ℕ → List ℕ → List ℕ → Ruled → Reply → Type 0
-RunsNext ticks work more ruled reply = Within 2 (table work) more (λ r. Runs ticks ruled more r) reply
+abbrev pub RunsNext : ℕ → List ℕ → Ruled → Reply → Type 0
+RunsNext ticks more ruled reply = Second (2 ^ 24) more reply (Runs ticks ruled more reply)
 
 -- a refused work file has status 4
 work_status : (set : List Task) (more : List ℕ) (refusal : Refusal) → work_of set more ≡ Err refusal → status_of refusal ≡ 4
 work_status set more refusal h = reader_status WorkFile 4 (λ e. refl) (work_in set more) refusal h
 
-pub not_1_run : (ticks : ℕ) (work more : List ℕ) (ruled : Ruled) (reply : Reply) → RunsNext ticks work more ruled reply → reply.status ≢ 1
-not_1_run ticks work more ruled reply h e =
+pub not_1_run : (ticks : ℕ) (more : List ℕ) (ruled : Ruled) (reply : Reply) → RunsNext ticks more ruled reply → reply.status ≢ 1
+not_1_run ticks more ruled reply h e =
     elim (by_second (2 ^ 24) more (Runs ticks ruled more reply) reply h) [
       | inl p ↦ other_status reply 7 1 p.0 e (λ k. absurd (omega (arith, k)))
       | inr q ↦
@@ -36,8 +39,8 @@ not_1_run ticks work more ruled reply h e =
     ]
 
 -- what `run` promises
-pub schedules : (ticks : ℕ) (work bytes more old : List ℕ) (reply : Reply) → Comes bytes (RunsNext ticks work more) reply → Schedules ticks bytes more old reply.status (Some (old ++ reply.text))
-schedules ticks work bytes more old reply h = record { writes = writes; complete = complete }
+pub schedules : (ticks : ℕ) (bytes more old : List ℕ) (reply : Reply) → Comes bytes (RunsNext ticks more) reply → Schedules ticks bytes more old reply.status (Some (old ++ reply.text))
+schedules ticks bytes more old reply h = record { writes = writes; complete = complete }
   where
     of_work : (set : List Task) (rule : Rule) → IsAdmitted bytes set rule → length more ≤ 2 ^ 24 → Runs ticks (under rule set) more reply → reply.status ≡ 0
         → (set : List Task) × (rule : Rule) × (t : List Row) × IsAdmitted bytes set rule × IsScheduled ticks more set rule t × Writes set t old (Some (old ++ reply.text)) × IsTimely set rule t
@@ -50,7 +53,7 @@ schedules ticks work bytes more old reply h = record { writes = writes; complete
 
     writes : reply.status ≡ 0 → (set : List Task) × (rule : Rule) × (t : List Row) × IsAdmitted bytes set rule × IsScheduled ticks more set rule t × Writes set t old (Some (old ++ reply.text)) × IsTimely set rule t
     writes e =
-        let (set, rule, a, k) = only_ruled bytes (RunsNext ticks work more) reply 0 (λ z. absurd (omega (arith, z))) (λ z. absurd (omega (arith, z))) (λ z. absurd (omega (arith, z))) h e in
+        let (set, rule, a, k) = only_ruled bytes (RunsNext ticks more) reply 0 (λ z. absurd (omega (arith, z))) (λ z. absurd (omega (arith, z))) (λ z. absurd (omega (arith, z))) h e in
         elim (by_second (2 ^ 24) more (Runs ticks (under rule set) more reply) reply k) [
           | inl p ↦ absurd (other_status reply 7 0 p.0 e (λ k. absurd (omega (arith, k))))
           | inr q ↦ of_work set rule a q.1 q.0 e
@@ -58,7 +61,7 @@ schedules ticks work bytes more old reply h = record { writes = writes; complete
 
     complete : (set : List Task) (rule : Rule) (rows : List WorkRow) → IsAdmitted bytes set rule → SaysWork more set rows → Succeeds reply.status
     complete set rule rows a says =
-        let k : Runs ticks (under rule set) more reply = second_fits (2 ^ 24) more (Runs ticks (under rule set) more reply) reply says.0 (next_of bytes (RunsNext ticks work more) reply set rule a h) in
+        let k : Runs ticks (under rule set) more reply = second_fits (2 ^ 24) more (Runs ticks (under rule set) more reply) reply says.0 (next_of bytes (RunsNext ticks more) reply set rule a h) in
         let r = by_ok (work_of set more) _ reply rows says.1 k in
         inl (ap (λ (r : Reply). r.status) r.2)
 

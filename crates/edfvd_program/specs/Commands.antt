@@ -1,21 +1,23 @@
--- What each form of the command line asks for.
+-- What the words of the command line ask for.
+use Rattle.std.specs.Prelude.{◌≡◌, Option, None, Some}
 use Rattle.command_line.specs.Form.{Form, check, run, on_trace, soak, live, usage_line}
 use Rattle.replies.specs.Reply.{Reply, reply_of}
-use Rattle.serving.specs.Command.{Command}
+use Rattle.serving.specs.Command.{Command, answer}
 use Rattle.task_answers.specs.Check.{check as checks}
 use Rattle.trace_answers.specs.OnTrace.{on_trace as tells}
 use Rattle.run_answers.specs.Run.{run as runs}
 use Rattle.run_answers.specs.Soak.{soak as soaks}
 use Rattle.run_answers.specs.Live.{live as lives}
 
--- the command of a form
-abbrev pub command : Form → Command
-command (check tasks) = checks tasks
-command (run tasks work ticks) = runs tasks work ticks
-command (on_trace telling tasks trace) = tells telling tasks trace
-command (soak number tasks ticks) = soaks number tasks ticks
-command (live tasks ticks) = lives tasks ticks
-
--- status 2: the words are none of the forms
+-- status 2: the words have none of the forms
 abbrev pub usage : Reply
 usage = reply_of 2 usage_line
+
+-- the command of a form, or of words that have none
+abbrev pub command : Option Form → Command
+command None = answer (λ reply. reply ≡ usage)
+command (Some (check tasks)) = checks tasks
+command (Some (run tasks work ticks)) = runs tasks work ticks
+command (Some (on_trace telling tasks trace)) = tells telling tasks trace
+command (Some (soak number tasks ticks)) = soaks number tasks ticks
+command (Some (live tasks ticks)) = lives tasks ticks

@@ -5,60 +5,32 @@ use Rattle.mc_world.specs.Sink.{SinkState}
 use Rattle.replies.specs.Reply.{Reply}
 use Rattle.replies.specs.Refusal.{ReadFault, refuse}
 use Rattle.command_line.specs.Form.{Form}
-use Rattle.serving.specs.Command.{IsAnswer, contents_of}
 use Rattle.serving.specs.Outcome as serving
+use Rattle.serving.specs.Outcome.{IsAnswer}
 use Rattle.serving.specs.Written.{IsWritten, IsCutShort}
-use Rattle.edfvd_program.specs.Commands.{command, usage}
+use Rattle.edfvd_program.specs.Commands.{command}
 
--- the shelf tells that it holds the files of the form's command, and its count of faults does not rise
-abbrev pub Tells : Option Form → Files → ShelfState → ShelfState → Type 0
-Tells None files before after = Unit {0}
-Tells (Some form) files before after = serving.Tells (command form) files before after
+-- the reply to the words; status 2 comes only where they have no form
+pub record IsReply (form : Option Form) (before after : ShelfState) (reply : Reply) : Type 0 where
+  pub is : serving.IsReply 1 (command form) before after reply
+  pub usage : reply.status ≡ 2 → form ≡ None
 
--- no file was asked for but the command's first, in their order, none behind one that failed, and each only where those
--- before it let the command go on
-abbrev pub AskedInOrder : Option Form → ShelfState → ShelfState → Type 0
-AskedInOrder None before after = after ≡ before
-AskedInOrder (Some form) before after = serving.AskedInOrder (command form) before after
+-- memory was wanting before the first write, or such a reply was written, whole or up to a fault
+abbrev pub Ends : (Reply → Type 0) → SinkState → SinkState → ℕ → Type 0
+Ends Is before after ended =
+    ((ended ≡ 9) × (after ≡ before)) ⊎ ((reply : Reply) × Is reply × (IsWritten reply ended before after ⊎ IsCutShort reply ended before after))
 
--- the reply is that of the command; without one it is the usage line, and no file was asked for
-abbrev pub IsReply : Option Form → ShelfState → ShelfState → Reply → Type 0
-IsReply None before after reply = (reply ≡ usage) × (after ≡ before)
-IsReply (Some form) before after reply = serving.IsReply (command form) before after reply
-
--- memory was wanting before the first write
-pub record IsGivenUp (ended : ℕ) (before after : SinkState) : Type 0 where
-  pub status : ended ≡ 9
-  pub nothing : after ≡ before
-
--- a call of the program: memory was wanting, or the command got its reply and that was written, whole or up to a fault
+-- a call of the program
 abbrev pub Outcome : Option Form → ShelfState → ShelfState → SinkState → SinkState → ℕ → Type 0
-Outcome form shelf_before shelf_after sink_before sink_after ended =
-    IsGivenUp ended sink_before sink_after
-    ⊎ ((reply : Reply)
-    × IsReply form shelf_before shelf_after reply
-    × (IsWritten reply ended sink_before sink_after ⊎ IsCutShort reply ended sink_before sink_after))
+Outcome form shelf_before shelf_after sink_before sink_after ended = Ends (IsReply form shelf_before shelf_after) sink_before sink_after ended
 
--- the reply tells no read fault
-abbrev pub TellsNoFault : Reply → Type 0
-TellsNoFault reply = (k : ℕ) → reply ≢ refuse (ReadFault k)
-
--- a call in which no fetch failed: memory was wanting, or a reply that tells no read fault was written, whole or up to a fault
+-- a call in which no fetch failed: the reply tells no read fault
 abbrev pub CalmOutcome : Option Form → ShelfState → ShelfState → SinkState → SinkState → ℕ → Type 0
 CalmOutcome form shelf_before shelf_after sink_before sink_after ended =
-    IsGivenUp ended sink_before sink_after
-    ⊎ ((reply : Reply)
-    × IsReply form shelf_before shelf_after reply
-    × TellsNoFault reply
-    × (IsWritten reply ended sink_before sink_after ⊎ IsCutShort reply ended sink_before sink_after))
+    Ends (λ reply. IsReply form shelf_before shelf_after reply × ((k : ℕ) → reply ≢ refuse (ReadFault k))) sink_before sink_after ended
 
--- the reply is the answer, by the bytes of the command's files
-abbrev pub AnswersTo : Option Form → Files → Reply → Type 0
-AnswersTo None files reply = reply ≡ usage
-AnswersTo (Some form) files reply = IsAnswer (command form) (contents_of (command form) files) reply
-
--- the answer was written whole behind these bytes, or memory was wanting and nothing was written
+-- the answer by the bytes of the command's files was written whole behind these bytes, or memory was wanting and nothing was written
 abbrev pub Answers : Option Form → Files → List ℕ → ℕ → Option (List ℕ) → Type 0
 Answers form files old ended new =
     ((ended ≡ 9) × (new ≡ Some old))
-    ⊎ ((reply : Reply) × AnswersTo form files reply × (ended ≡ reply.status) × (new ≡ Some (old ++ reply.text)))
+    ⊎ ((reply : Reply) × IsAnswer files 1 (command form) reply × (ended ≡ reply.status) × (new ≡ Some (old ++ reply.text)))

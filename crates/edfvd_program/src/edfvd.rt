@@ -3,8 +3,10 @@ ghost use Rattle.std.specs.Prelude.{◌≡◌, ◌≢◌, ℕ, List, ◌<◌, ma
 ghost use Rattle.mc_world.specs.Count.{Rose};
 ghost use Rattle.mc_world.specs.Shelf.{Files};
 ghost use Rattle.command_line.specs.Form.{form_of};
+ghost use Rattle.serving.specs.Outcome.{Tells, AskedInOrder};
+ghost use Rattle.edfvd_program.specs.Commands.{command};
 ghost use Rattle.edfvd_program.specs.Headline.{Headline};
-ghost use Rattle.edfvd_program.specs.Outcome.{Tells, AskedInOrder, IsReply, Outcome, CalmOutcome, Answers};
+ghost use Rattle.edfvd_program.specs.Outcome.{IsReply, Outcome, CalmOutcome, Answers};
 
 use crate::threaded::{serve_live, serve_run, serve_soak};
 use command_line::{Form, form_of, usage_line};
@@ -36,13 +38,13 @@ pub fn edfvd<R: Threads + Wait + Sync, S: Shelf, K: Sink, G: Gate + Sync>(
 
     // With the files told and no fault, status and text are the answer, or memory was wanting and nothing was written.
     ensures answer { let asked = map (λ w. string_bytes w) words.now in (files : Files) (old : List ℕ)
-        → Tells (form_of asked) files (S.state shelf.old) (S.state shelf.new)
+        → Tells files (S.state shelf.old) (S.state shelf.new)
         → (K.state out.old).written ≡ Some old → (Rose (K.state out.old).faults (K.state out.new).faults → ⊥)
         → Answers (form_of asked) files old result (K.state out.new).written }
 
     // A set is scheduled exactly where the published test holds, and each trace written or found legal keeps the deadlines.
     ensures headline { let asked = map (λ w. string_bytes w) words.now in (files : Files) (old : List ℕ)
-        → Tells (form_of asked) files (S.state shelf.old) (S.state shelf.new)
+        → Tells files (S.state shelf.old) (S.state shelf.new)
         → (K.state out.old).written ≡ Some old → (Rose (K.state out.old).faults (K.state out.new).faults → ⊥)
         → Headline (form_of asked) files old result (K.state out.new).written }
 
@@ -55,9 +57,9 @@ pub fn edfvd<R: Threads + Wait + Sync, S: Shelf, K: Sink, G: Gate + Sync>(
         (S.state shelf.old) (S.state shelf.new) (K.state out.old) (K.state out.new) result }
     ensures calm_sink { (K.state out.new).faults ≡ 0 → result ≢ 8 }
 
-    // No file is asked for but the command's, in their order, none behind one that failed, and the second only where the first
-    // lets the command go on.
-    ensures asked { AskedInOrder (form_of (map (λ w. string_bytes w) words.now)) (S.state shelf.old) (S.state shelf.new) }
+    // Also where memory is wanting, no file is asked for but the command's, in their order, none behind one that failed, and the
+    // second only where the first lets the command go on.
+    ensures asked { AskedInOrder (command (form_of (map (λ w. string_bytes w) words.now))) (S.state shelf.old) (S.state shelf.new) }
 {
     match reply_to(rt, alloc, words, shelf, gate) {
         Ok(reply) => deliver(&reply, out),
@@ -73,7 +75,7 @@ fn reply_to<R: Threads + Wait + Sync, S: Shelf, G: Gate + Sync>(
     gate: &G,
 ) -> Result<Reply, AllocError>
     ensures reply { IfOk result (IsReply (form_of (map (λ w. string_bytes w) words.now)) (S.state shelf.old) (S.state shelf.new)) }
-    ensures asked { AskedInOrder (form_of (map (λ w. string_bytes w) words.now)) (S.state shelf.old) (S.state shelf.new) }
+    ensures asked { AskedInOrder (command (form_of (map (λ w. string_bytes w) words.now))) (S.state shelf.old) (S.state shelf.new) }
 {
     let Some(form) = form_of(words) else {
         return Ok(Reply::new(2, usage_line(alloc)?));

@@ -1,5 +1,5 @@
 // The commands that leave a job for threads.
-ghost use Rattle.std.specs.Prelude.{◌≤◌, IfOk};
+ghost use Rattle.std.specs.Prelude.{◌≤◌, ◌≢◌, IfOk};
 ghost use Rattle.serving.specs.Outcome.{IsReply, AskedInOrder};
 ghost use Rattle.run_answers.specs.Run.{run};
 ghost use Rattle.run_answers.specs.Soak.{soak};
@@ -23,7 +23,8 @@ pub fn serve_run<R: Threads + Wait + Sync, S: Shelf, G: Gate + Sync>(
     gate: &G,
 ) -> Result<Reply, AllocError>
     requires { (1 ≤ command.now.ticks) × (command.now.ticks ≤ 1000000) }
-    ensures reply { IfOk result (IsReply (run command.now.tasks.now command.now.work.now command.now.ticks) (S.state shelf.old) (S.state shelf.new)) }
+    ensures reply { IfOk result (IsReply 1 (run command.now.tasks.now command.now.work.now command.now.ticks) (S.state shelf.old) (S.state shelf.new)) }
+    ensures other { IfOk result (λ reply. reply.status ≢ 2) }
     ensures asked { AskedInOrder (run command.now.tasks.now command.now.work.now command.now.ticks) (S.state shelf.old) (S.state shelf.new) }
 {
     match ask(alloc, command, shelf)? {
@@ -42,7 +43,8 @@ pub fn serve_soak<R: Threads + Wait + Sync, S: Shelf, G: Gate + Sync>(
 ) -> Result<Reply, AllocError>
     requires tasks { (2 ≤ command.now.tasks) × (command.now.tasks ≤ 32) }
     requires ticks { (1 ≤ command.now.ticks) × (command.now.ticks ≤ 1000000) }
-    ensures reply { IfOk result (IsReply (soak command.now.number command.now.tasks command.now.ticks) (S.state shelf.old) (S.state shelf.new)) }
+    ensures reply { IfOk result (IsReply 1 (soak command.now.number command.now.tasks command.now.ticks) (S.state shelf.old) (S.state shelf.new)) }
+    ensures other { IfOk result (λ reply. reply.status ≢ 2) }
     ensures asked { AskedInOrder (soak command.now.number command.now.tasks command.now.ticks) (S.state shelf.old) (S.state shelf.new) }
 {
     let Soak {
@@ -65,7 +67,8 @@ pub fn serve_live<R: Threads + Wait + Sync, S: Shelf, G: Gate + Sync>(
     gate: &G,
 ) -> Result<Reply, AllocError>
     requires { (1 ≤ command.now.ticks) × (command.now.ticks ≤ 100000) }
-    ensures reply { IfOk result (IsReply (live command.now.tasks.now command.now.ticks) (S.state shelf.old) (S.state shelf.new)) }
+    ensures reply { IfOk result (IsReply 1 (live command.now.tasks.now command.now.ticks) (S.state shelf.old) (S.state shelf.new)) }
+    ensures other { IfOk result (λ reply. reply.status ≢ 2) }
     ensures asked { AskedInOrder (live command.now.tasks.now command.now.ticks) (S.state shelf.old) (S.state shelf.new) }
 {
     match ask(alloc, command, shelf)? {

@@ -1,5 +1,5 @@
 -- What is read of files, step by step: each step gives a value, or the refusal that ends the command.
-use Rattle.std.specs.Prelude.{◌≡◌, ℕ, Bool, true, false, List, Option, Some, None, Result, Ok, Err}
+use Rattle.std.specs.Prelude.{ℕ, List, Option, Some, None, Result, Ok, Err}
 use Rattle.replies.specs.Reply.{Reply, reply_of}
 use Rattle.replies.specs.Refusal.{Refusal, refuse}
 
@@ -14,32 +14,12 @@ abbrev pub or_refuse : {A E : Type 0} → (E → Refusal) → Result A E → Res
 or_refuse refusal (Ok x) = Ok x
 or_refuse refusal (Err fault) = Err (refusal fault)
 
--- the value, or this refusal where there is none
-abbrev pub some_or : {A : Type 0} → Refusal → Option A → Result A Refusal
-some_or refusal (Some x) = Ok x
-some_or refusal None = Err refusal
-
 -- nothing, or the refusal of what is there
 abbrev pub none_or : {A : Type 0} → (A → Refusal) → Option A → Result (Unit {0}) Refusal
 none_or refusal None = Ok tt
 none_or refusal (Some x) = Err (refusal x)
 
--- nothing, or this refusal where it is not so
-abbrev pub only_if : Bool → Refusal → Result (Unit {0}) Refusal
-only_if true refusal = Ok tt
-only_if false refusal = Err refusal
-
 -- the text with status 0, or the refusal
 abbrev pub reply_by : Result (List ℕ) Refusal → Reply
 reply_by (Ok text) = reply_of 0 text
 reply_by (Err refusal) = refuse refusal
-
--- the reply is the refusal, or this is so of the value and the reply
-abbrev pub By : {A : Type 0} → Result A Refusal → (A → Reply → Type 0) → Reply → Type 0
-By (Ok x) P reply = P x reply
-By (Err refusal) P reply = reply ≡ refuse refusal
-
--- the refusal, if it is one
-abbrev pub refusal_of : {A : Type 0} → Result A Refusal → Option Refusal
-refusal_of (Ok x) = None
-refusal_of (Err refusal) = Some refusal

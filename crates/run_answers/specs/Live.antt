@@ -3,9 +3,8 @@ use Rattle.std.specs.Prelude.{◌≡◌, ℕ, List}
 use Rattle.mc_model.specs.declared.row.Row.{Row}
 use Rattle.mc_model.specs.LiveTrace.{LiveTrace}
 use Rattle.replies.specs.Reply.{Reply}
-use Rattle.replies.specs.Reading.{By}
-use Rattle.serving.specs.Command.{Command, one_file}
-use Rattle.task_answers.specs.Admitted.{Ruled, admitted, table}
+use Rattle.serving.specs.Command.{Command, answer, need}
+use Rattle.task_answers.specs.Admitted.{Ruled, admitted, fetch_table}
 use Rattle.run_answers.specs.Run.{traced}
 
 -- a live trace of so many ticks, of a set under its rule
@@ -14,4 +13,4 @@ Lives ticks ruled reply = (h : List Row) × LiveTrace ruled.set ruled.rule ticks
 
 -- the command
 abbrev pub live : List ℕ → ℕ → Command
-live tasks ticks = one_file (table tasks) (λ bytes reply. By (admitted bytes) (Lives ticks) reply)
+live tasks ticks = fetch_table tasks (λ bytes. need (admitted bytes) (λ ruled. answer (Lives ticks ruled)))

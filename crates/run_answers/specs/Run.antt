@@ -9,9 +9,9 @@ use Rattle.mc_model.specs.TraceText.{trace_text}
 use Rattle.work_file.specs.WorkFile.{work_in}
 use Rattle.replies.specs.Reply.{Reply, reply_of}
 use Rattle.replies.specs.Refusal.{Refusal, WorkFile}
-use Rattle.replies.specs.Reading.{or_refuse, By}
-use Rattle.serving.specs.Command.{Command}
-use Rattle.task_answers.specs.Admitted.{Ruled, admitted, table, of_two}
+use Rattle.replies.specs.Reading.{or_refuse}
+use Rattle.serving.specs.Command.{Command, answer, need}
+use Rattle.task_answers.specs.Admitted.{admitted, fetch_table}
 
 -- the text of a trace, with status 0; the newest row of the trace stands first here
 abbrev pub traced : List Task → List Row → Reply
@@ -25,10 +25,8 @@ work_of set bytes = or_refuse WorkFile (work_in set bytes)
 abbrev pub TellsTrace : ℕ → List Task → Rule → List WorkRow → Reply → Type 0
 TellsTrace ticks set rule work reply = (h : List Row) × Follows set rule work ticks h × (reply ≡ traced set h)
 
--- by what the work file says
-abbrev pub Runs : ℕ → Ruled → List ℕ → Reply → Type 0
-Runs ticks ruled more reply = By (work_of ruled.set more) (TellsTrace ticks ruled.set ruled.rule) reply
-
 -- the command
 abbrev pub run : List ℕ → List ℕ → ℕ → Command
-run tasks work ticks = of_two tasks admitted (table work) (Runs ticks)
+run tasks work ticks =
+    fetch_table tasks (λ bytes. need (admitted bytes) (λ ruled.
+    fetch_table work (λ more. need (work_of ruled.set more) (λ rows. answer (TellsTrace ticks ruled.set ruled.rule rows)))))

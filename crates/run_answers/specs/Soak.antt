@@ -14,7 +14,7 @@ use Rattle.set_gen.specs.Words.{words_of}
 use Rattle.set_gen.specs.MadeSet.{made_set}
 use Rattle.set_gen.specs.MadeWork.{made_work}
 use Rattle.replies.specs.Reply.{Reply, reply_of}
-use Rattle.serving.specs.Command.{Command, no_file}
+use Rattle.serving.specs.Command.{Command, answer}
 
 -- the set of a workload
 abbrev pub workload_set : ℕ → ℕ → List Task
@@ -50,4 +50,4 @@ Soaks number tasks ticks reply =
 
 -- the command
 abbrev pub soak : ℕ → ℕ → ℕ → Command
-soak number tasks ticks = no_file (Soaks number tasks ticks)
+soak number tasks ticks = answer (Soaks number tasks ticks)

@@ -2,7 +2,7 @@
 ghost use Rattle.std.specs.Prelude.{◌≤◌, IfOk, length, reverse};
 ghost use Rattle.mc_model.specs.LiveTrace.{LiveTrace};
 ghost use Rattle.task_threads.specs.LiveLeft.{HasLiveTrace};
-ghost use Rattle.serving.specs.Command.{IsOwn};
+ghost use Rattle.serving.specs.Steps.{IsOwn};
 ghost use Rattle.task_answers.specs.Admitted.{under};
 ghost use Rattle.run_answers.specs.Live.{Lives, live};
 ghost use Rattle.run_answers.specs.Jobs.{IsLiveJob};
@@ -31,7 +31,7 @@ pub struct Live<'a> {
 
 impl<'a> Command for Live<'a> {
     ghost use Rattle.std.specs.Prelude.{◌≤◌};
-    ghost use Rattle.serving.specs.Command.{IsOwn};
+    ghost use Rattle.serving.specs.Steps.{IsOwn};
     ghost use Rattle.task_answers.specs.Admitted.{under};
     ghost use Rattle.run_answers.specs.Live.{Lives, live};
     ghost use Rattle.run_answers.specs.Jobs.{IsLiveJob};

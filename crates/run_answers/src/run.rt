@@ -1,6 +1,6 @@
 // The command `run`.
 ghost use Rattle.std.specs.Prelude.{◌≤◌, IfOk};
-ghost use Rattle.serving.specs.Command.{IsOwn};
+ghost use Rattle.serving.specs.Steps.{IsOwn};
 ghost use Rattle.run_answers.specs.Run.{TellsTrace, run};
 ghost use Rattle.run_answers.specs.Jobs.{IsRunJob};
 
@@ -35,7 +35,7 @@ pub struct RunJob {
 
 impl<'a> Command for Run<'a> {
     ghost use Rattle.std.specs.Prelude.{◌≤◌, Ok};
-    ghost use Rattle.serving.specs.Command.{IsOwn};
+    ghost use Rattle.serving.specs.Steps.{IsOwn};
     ghost use Rattle.task_answers.specs.Admitted.{admitted};
     ghost use Rattle.task_answers.specs.Given.{Gives, IsAdmitted};
     ghost use Rattle.run_answers.specs.Run.{TellsTrace, run};

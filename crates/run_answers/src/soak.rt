@@ -5,7 +5,7 @@ ghost use Rattle.mc_model.specs.Legal.{Legal};
 ghost use Rattle.mc_model.specs.Verdict.{verdict};
 ghost use Rattle.mc_model.specs.VerdictText.{verdict_line};
 ghost use Rattle.sched_report.specs.ReportText.{summary_text};
-ghost use Rattle.serving.specs.Command.{IsOwn};
+ghost use Rattle.serving.specs.Steps.{IsOwn};
 ghost use Rattle.run_answers.specs.Soak as spec;
 ghost use Rattle.run_answers.specs.Soak.{soak};
 
@@ -35,7 +35,7 @@ pub struct Soak {
 
 impl Command for Soak {
     ghost use Rattle.std.specs.Prelude.{◌≤◌};
-    ghost use Rattle.serving.specs.Command.{IsOwn};
+    ghost use Rattle.serving.specs.Steps.{IsOwn};
     ghost use Rattle.run_answers.specs.Soak.{Soaks, soak};
 
     type Opened = ();

@@ -1,22 +1,49 @@
 -- What the reply is over a shelf that tells its files, and over one that does not fail.
-use Rattle.std.proofs.Common.{◌≡◌, ◌≢◌, inl, inr, ℕ, true, List, [], ◌∷◌, IfSome, ap, sym, ◌∙◌, subst, arith}
-use Rattle.std.proofs.lemmas.Bool.{false≢true}
+use Rattle.std.proofs.Common.{◌≡◌, ◌≢◌, inl, inr, ℕ, ◌+◌, ◌<◌, ◌≤◌, List, [], ◌∷◌, length, Option, Some, None, IfSome, ap, sym, ◌∙◌, subst, arith, le-leb}
+use Rattle.std.specs.Prelude.{MatchBool, nat_lt, IsSomeAnd}
+use Rattle.std.proofs.lemmas.Bool.{lt-leb}
 use Rattle.mc_world.specs.Count.{Rose}
 use Rattle.mc_world.specs.Shelf.{Files, ShelfState}
 use Rattle.replies.specs.Reply.{Reply}
 use Rattle.replies.specs.Refusal.{ReadFault, Longer, refuse}
-use Rattle.serving.specs.Command.{Command, IsAnswer, contents_of}
-use Rattle.serving.specs.Outcome.{Tells, IsReply}
+use Rattle.serving.specs.Command.{Command, answer, fetch}
+use Rattle.serving.specs.Outcome.{HasBytes, IsReply, Tells, IsAnswer}
+
+-- bytes past a limit
+past : (P Q : Type 0) (limit : ℕ) (bytes : List ℕ) → limit < length bytes → P → MatchBool (nat_lt limit (length bytes)) P Q
+past P Q limit bytes long h = subst (λ b. MatchBool b P Q) (sym (le-leb _ _ long)) h
+
+-- and within it
+within : (P Q : Type 0) (limit : ℕ) (bytes : List ℕ) → length bytes ≤ limit → Q → MatchBool (nat_lt limit (length bytes)) P Q
+within P Q limit bytes short h = subst (λ b. MatchBool b P Q) (sym (lt-leb _ _ (omega arith))) h
+
+-- where the file is longer than its limit, that is the answer
+long_answer : (P Q : List ℕ → Type 0) (limit : ℕ) (file : Option (List ℕ)) → IsSomeAnd file (λ bytes. limit < length bytes) → ((bytes : List ℕ) → P bytes)
+    → IsSomeAnd file (λ bytes. MatchBool (nat_lt limit (length bytes)) (P bytes) (Q bytes))
+long_answer P Q limit None long h = absurd long
+long_answer P Q limit (Some bytes) long h = past (P bytes) (Q bytes) limit bytes long (h bytes)
+
+-- and what is told after a file was read is what was told before
+tells_on : (name : List ℕ) (limit : ℕ) (bytes : List ℕ) (files : Files) (before mid after : ShelfState) → HasBytes name limit bytes before mid → Tells files before after → Tells files mid after
+tells_on name limit bytes files before mid after h t = record { told = h.same ∙ t.told; calm = λ rose. t.calm (subst (λ n. Rose n after.faults) h.calm rose) }
 
 -- with the files told and no fault the reply is the answer
-pub is_answer : (command : Command) (before after : ShelfState) (reply : Reply) → IsReply command before after reply
-    → (files : Files) → Tells command files before after → IsAnswer command (contents_of command files) reply
-is_answer command before after reply r files t =
-    elim r.source [
-      | inl fault ↦ absurd (t.calm fault.1.rose)
-      | inr answer ↦
-          subst (λ contents. IsAnswer command contents reply)
-          (subst (λ o. IfSome o (λ held. answer.1.0 ≡ contents_of command held)) t.told answer.1.1) answer.1.2
+pub is_answer : (files : Files) (k : ℕ) (command : Command) (before after : ShelfState) (reply : Reply) → IsReply k command before after reply → Tells files before after → IsAnswer files k command reply
+is_answer files k (answer Is) before after reply r t = r.1
+is_answer files k (fetch name limit next) before after reply r t =
+    elim r [
+      | inl failed ↦ absurd (t.calm failed.0.rose)
+      | inr rest ↦
+          elim rest [
+            | inl long ↦
+                long_answer (λ bytes. reply ≡ refuse (Longer k limit)) (λ bytes. IsAnswer files (k + 1) (next bytes) reply) limit (files name)
+                (subst (λ o. IfSome o (λ files. IsSomeAnd (files name) (λ bytes. limit < length bytes))) t.told long.0.told) (λ bytes. long.1)
+            | inr more ↦
+                subst (λ o. IsSomeAnd o (λ bytes. MatchBool (nat_lt limit (length bytes)) (reply ≡ refuse (Longer k limit)) (IsAnswer files (k + 1) (next bytes) reply)))
+                (sym (subst (λ o. IfSome o (λ files. files name ≡ Some more.0)) t.told more.2.told))
+                (within (reply ≡ refuse (Longer k limit)) (IsAnswer files (k + 1) (next more.0) reply) limit more.0 more.2.short
+                (is_answer files (k + 1) (next more.0) more.1 after reply more.3 (tells_on name limit more.0 files before more.1 after more.2 t)))
+          ]
     ]
 
 -- a count that is 0 never rose
@@ -32,18 +59,27 @@ first_byte [] = 0
 first_byte (c ∷ cs) = c
 
 -- the two lines of status 7 differ in their first byte
-not_longer : (k n limit : ℕ) → refuse (ReadFault k) ≢ refuse (Longer n limit)
-not_longer k n limit same = let e : 114 ≡ 102 = ap (λ r. first_byte r.text) same in absurd (omega (arith, e))
+not_longer : (j k limit : ℕ) → refuse (ReadFault j) ≢ refuse (Longer k limit)
+not_longer j k limit same = let e : 114 ≡ 102 = ap (λ r. first_byte r.text) same in absurd (omega (arith, e))
 
--- over a shelf whose count is 0 no fetch failed
-none_failed : (command : Command) (before after : ShelfState) (reply : Reply) (r : IsReply command before after reply) → after.faults ≡ 0 → r.asked.failed ≢ true
-none_failed command before after reply r zero failed =
-    elim r.source [ inl fault ↦ absurd (never_rose before.faults after.faults zero fault.1.rose) | inr answer ↦ absurd (false≢true (sym answer.0 ∙ failed)) ]
+-- over a shelf whose count is 0 no reply tells a read fault
+pub tells_no_fault : (k : ℕ) (command : Command) (before after : ShelfState) (reply : Reply) → IsReply k command before after reply → after.faults ≡ 0 → (j : ℕ) → reply ≢ refuse (ReadFault j)
+tells_no_fault k (answer Is) before after reply r zero j is = let small = r.2 in let seven : reply.status ≡ 7 = ap (λ (r : Reply). r.status) is in absurd (omega (arith, small, seven))
+tells_no_fault k (fetch name limit next) before after reply r zero j is =
+    elim r [
+      | inl failed ↦ absurd (never_rose before.faults after.faults zero failed.0.rose)
+      | inr rest ↦ elim rest [ inl long ↦ absurd (not_longer j k limit (sym is ∙ long.1)) | inr more ↦ tells_no_fault (k + 1) (next more.0) more.1 after reply more.3 zero j is ]
+    ]
 
--- and no reply tells a read fault
-pub tells_no_fault : (command : Command) (before after : ShelfState) (reply : Reply) → IsReply command before after reply → after.faults ≡ 0 → (k : ℕ) → reply ≢ refuse (ReadFault k)
-tells_no_fault command before after reply r zero k is =
-    elim (r.cause (ap (λ r. r.status) is)) [
-      | inl failed ↦ absurd (none_failed command before after reply r zero failed)
-      | inr long ↦ absurd (not_longer k r.asked.count long.0 (sym is ∙ long.1))
+-- the status of a reply
+pub small_status : (k : ℕ) (command : Command) (before after : ShelfState) (reply : Reply) → IsReply k command before after reply → reply.status < 8
+small_status k (answer Is) before after reply r = let small = r.2 in omega (arith, small)
+small_status k (fetch name limit next) before after reply r =
+    elim r [
+      | inl failed ↦ let seven : reply.status ≡ 7 = ap (λ (r : Reply). r.status) failed.1 in omega (arith, seven)
+      | inr rest ↦
+          elim rest [
+            | inl long ↦ let seven : reply.status ≡ 7 = ap (λ (r : Reply). r.status) long.1 in omega (arith, seven)
+            | inr more ↦ small_status (k + 1) (next more.0) more.1 after reply more.3
+          ]
     ]

@@ -31,7 +31,7 @@ pub trait Command {
     ghost use Rattle.std.specs.Prelude.{List, ℕ, IfOk};
     ghost use Rattle.replies.specs.Reply.{Reply as Answered};
     ghost use Rattle.serving.specs.Command.{Command as Asks};
-    ghost use Rattle.serving.specs.Steps.{AllReplies, Starts, IsFirst, Opens, AreBoth, AnswersBoth};
+    ghost use Rattle.serving.specs.Steps.{Fits, goes_on, HasAnswer, AllReplies, Takes};
 
     /// What the first file gives, where a second is asked for.
     type Opened: Drop;
@@ -57,7 +57,7 @@ pub trait Command {
     /// The first step.
     fn start<'b>(&'b self, alloc: Global) -> Result<Next<'b, (), Self::Job>, AllocError>
         requires { valid self.now }
-        ensures { IfOk result (λ next. Starts (asks self.now) (leaves self.now) (gives self.now) next) };
+        ensures { IfOk result (λ next. Takes (asks self.now) (leaves self.now) (gives self.now) (λ kept. Unit {0}) next) };
 
     /// The step after the first file.
     fn open<'b>(
@@ -66,8 +66,8 @@ pub trait Command {
         bytes: &[u8],
     ) -> Result<Next<'b, Self::Opened, Self::Job>, AllocError>
         requires valid { valid self.now }
-        requires first { IsFirst (asks self.now) bytes.now }
-        ensures { IfOk result (λ next. Opens (asks self.now) (leaves self.now) (gives self.now) (opens self.now bytes.now) bytes.now next) }
+        requires first { Fits (asks self.now) bytes.now }
+        ensures { IfOk result (λ next. Takes (goes_on (asks self.now) bytes.now) (leaves self.now) (gives self.now) (opens self.now bytes.now) next) }
     {
         let _ = bytes;
         Err(AllocError)
@@ -81,8 +81,9 @@ pub trait Command {
         bytes: &[u8],
     ) -> Result<Served<Self::Job>, AllocError>
         requires valid { valid self.now }
-        requires both { (first : List ℕ) × opens self.now first opened × AreBoth (asks self.now) first bytes.now }
-        ensures { IfOk result (λ served. (first : List ℕ) → opens self.now first opened → AllReplies (leaves self.now) (gives self.now) (AnswersBoth (asks self.now) first bytes.now) served) }
+        requires both { (first : List ℕ) × opens self.now first opened × Fits (goes_on (asks self.now) first) bytes.now }
+        ensures { IfOk result (λ served. (first : List ℕ) → opens self.now first opened
+            → AllReplies (leaves self.now) (gives self.now) (HasAnswer (goes_on (goes_on (asks self.now) first) bytes.now)) served) }
     {
         let _ = bytes;
         Err(AllocError)

@@ -1,5 +1,5 @@
 // The one function that asks a shelf for the files of every command.
-ghost use Rattle.std.specs.Prelude.{◌≡◌, IfOk, IsErr};
+ghost use Rattle.std.specs.Prelude.{◌≡◌, ◌≢◌, IfOk, IsErr};
 ghost use Rattle.replies.specs.Refusal.{ReadFault, Longer, refuse};
 ghost use Rattle.serving.specs.Steps.{AllReplies};
 ghost use Rattle.serving.specs.Outcome.{IsReply, AskedInOrder};
@@ -18,7 +18,12 @@ pub fn serve<C: Command, S: Shelf>(
 ) -> Result<Reply, AllocError>
     requires valid { C.valid command.now }
     requires no_job { (job : C.Job) → C.leaves command.now job → ⊥ }
-    ensures reply { IfOk result (IsReply (C.asks command.now) (S.state shelf.old) (S.state shelf.new)) }
+    ensures reply { IfOk result (IsReply 1 (C.asks command.now) (S.state shelf.old) (S.state shelf.new)) }
+
+    // Status 2 is left to words that are no command.
+    ensures other { IfOk result (λ reply. reply.status ≢ 2) }
+
+    // Also where memory is wanting.
     ensures asked { AskedInOrder (C.asks command.now) (S.state shelf.old) (S.state shelf.new) }
 {
     match ask(alloc, command, shelf)? {
@@ -34,10 +39,10 @@ pub fn ask<C: Command, S: Shelf>(
     shelf: &mut S,
 ) -> Result<Served<C::Job>, AllocError>
     requires { C.valid command.now }
-    ensures replies { IfOk result (λ served. AllReplies (C.leaves command.now) (C.gives command.now) (IsReply (C.asks command.now) (S.state shelf.old) (S.state shelf.new)) served) }
+    ensures replies { IfOk result (λ served. AllReplies (C.leaves command.now) (C.gives command.now)
+        (λ reply. IsReply 1 (C.asks command.now) (S.state shelf.old) (S.state shelf.new) reply × (reply.status ≢ 2)) served) }
 
-    // Also where memory is wanting: no file but the command's, in their order, none behind one that failed, and the second
-    // only where the first lets the command go on.
+    // Also where memory is wanting.
     ensures asked { AskedInOrder (C.asks command.now) (S.state shelf.old) (S.state shelf.new) }
 {
     let (first, limit) = match command.start(alloc)? {

@@ -1,9 +1,9 @@
-ghost use Rattle.std.specs.Prelude.{◌≡◌, ◌++◌, nat_eq, if◌then◌else◌, length, Some, None, codes, IfOk};
+ghost use Rattle.std.specs.Prelude.{◌≡◌, ◌++◌, nat_eq, if◌then◌else◌, length, Ok, Err, codes, IfOk};
 ghost use Rattle.replies.specs.Reply.{reply_of};
 ghost use Rattle.replies.specs.Refusal.{LongChart};
 ghost use Rattle.mc_world.specs.Shelf.{Files};
-ghost use Rattle.serving.specs.Command.{no_file, one_file, two_files, file_of, IsAnswer, contents_of};
-ghost use Rattle.serving.specs.Outcome.{Tells, IsReply};
+ghost use Rattle.serving.specs.Command.{answer, fetch, need};
+ghost use Rattle.serving.specs.Outcome.{Tells, IsAnswer};
 
 use crate::command::{Command, Next, Served};
 use crate::delivery::deliver;
@@ -24,7 +24,7 @@ impl Command for Word {
 
     type Job = ();
 
-    ghost asks = { λ c. no_file (λ reply. reply ≡ reply_of 0 (codes "word\n")) };
+    ghost asks = { λ c. answer (λ reply. reply ≡ reply_of 0 (codes "word\n")) };
 
     ghost valid = { λ c. Unit {0} };
 
@@ -51,7 +51,7 @@ impl<'a> Command for Behind<'a> {
 
     type Job = Vec<u8>;
 
-    ghost asks = { λ c. one_file (file_of c.name.now 4) (λ bytes reply. reply ≡ reply_of 0 (bytes ++ codes " job\n")) };
+    ghost asks = { λ c. fetch c.name.now 4 (λ bytes. answer (λ reply. reply ≡ reply_of 0 (bytes ++ codes " job\n"))) };
 
     ghost valid = { λ c. Unit {0} };
 
@@ -93,8 +93,8 @@ impl<'a> Command for Join<'a> {
 
     type Job = ();
 
-    ghost asks = { λ c. two_files (file_of c.first.now 4) (λ bytes. if nat_eq (length bytes) 0 then Some (LongChart 0) else None)
-        (file_of c.second.now 8) (λ bytes more reply. reply ≡ reply_of 0 (bytes ++ more)) };
+    ghost asks = { λ c. fetch c.first.now 4 (λ bytes. need (if nat_eq (length bytes) 0 then Err (LongChart 0) else Ok bytes)
+        (λ first. fetch c.second.now 8 (λ more. answer (λ reply. reply ≡ reply_of 0 (first ++ more))))) };
 
     ghost valid = { λ c. Unit {0} };
 
@@ -146,8 +146,9 @@ fn done<'a, T: Drop>(reply: Reply) -> Next<'a, T, ()>
 
 // A caller knows the reply by the command's record alone, over any shelf.
 fn joined<S: Shelf>(alloc: Global, shelf: &mut S) -> Result<Reply, AllocError>
-    ensures { (files : Files) → Tells (two_files (file_of (codes "a") 4) (λ bytes. if nat_eq (length bytes) 0 then Some (LongChart 0) else None) (file_of (codes "b") 8) (λ bytes more reply. reply ≡ reply_of 0 (bytes ++ more))) files (S.state shelf.old) (S.state shelf.new)
-        → IfOk result (IsAnswer (two_files (file_of (codes "a") 4) (λ bytes. if nat_eq (length bytes) 0 then Some (LongChart 0) else None) (file_of (codes "b") 8) (λ bytes more reply. reply ≡ reply_of 0 (bytes ++ more))) (contents_of (two_files (file_of (codes "a") 4) (λ bytes. if nat_eq (length bytes) 0 then Some (LongChart 0) else None) (file_of (codes "b") 8) (λ bytes more reply. reply ≡ reply_of 0 (bytes ++ more))) files)) }
+    ensures { (files : Files) → Tells files (S.state shelf.old) (S.state shelf.new)
+        → IfOk result (IsAnswer files 1 (fetch (codes "a") 4 (λ bytes. need (if nat_eq (length bytes) 0 then Err (LongChart 0) else Ok bytes)
+        (λ first. fetch (codes "b") 8 (λ more. answer (λ reply. reply ≡ reply_of 0 (first ++ more))))))) }
 {
     let command = Join {
         first: "a",

@@ -1,14 +1,13 @@
 -- What a task file gives a command: a set, and the rule under which its jobs are ordered.
-use Rattle.std.specs.Prelude.{ℕ, ◌^◌, List, Result, Ok}
+use Rattle.std.specs.Prelude.{ℕ, ◌^◌, List, ok_or, Result, Ok}
 use Rattle.mc_task.specs.declared.task.Task.{Task}
 use Rattle.mc_task.specs.declared.task.Rule.{Rule}
 use Rattle.mc_model.specs.Loads.{range_fault}
 use Rattle.mc_model.specs.Test.{test}
 use Rattle.task_file.specs.TaskFile.{task_file}
-use Rattle.replies.specs.Reply.{Reply}
 use Rattle.replies.specs.Refusal.{Refusal, TaskFile, OutOfRange, NotAdmitted}
-use Rattle.replies.specs.Reading.{◌>>=◌, or_refuse, some_or, none_or, By, refusal_of}
-use Rattle.serving.specs.Command.{Command, File, two_files, file_of}
+use Rattle.replies.specs.Reading.{◌>>=◌, or_refuse, none_or}
+use Rattle.serving.specs.Command.{Command, fetch}
 
 -- a set, and the rule under which its jobs are ordered
 pub record Ruled : Type 0 where
@@ -27,7 +26,7 @@ set_in bytes = or_refuse TaskFile (task_file bytes)
 abbrev pub tested : List Task → Result Ruled Refusal
 tested set = do
   _ ← none_or OutOfRange (range_fault set)
-  rule ← some_or (NotAdmitted set) (test set)
+  rule ← ok_or (test set) (NotAdmitted set)
   Ok (under rule set)
 
 -- the set that a task file says, under the rule that the published test gives it
@@ -42,11 +41,6 @@ ruled_by rule bytes = do
   set ← set_in bytes
   Ok (under rule set)
 
--- a task file, or a work file: at most 16,777,216 bytes
-abbrev pub table : List ℕ → File
-table name = file_of name (2 ^ 24)
-
--- a command on a task file and a second file: a refused set stops it, and otherwise this is so of its answer
-abbrev pub of_two : List ℕ → (List ℕ → Result Ruled Refusal) → File → (Ruled → List ℕ → Reply → Type 0) → Command
-of_two tasks reads second Answers =
-    two_files (table tasks) (λ bytes. refusal_of (reads bytes)) second (λ bytes more reply. By (reads bytes) (λ ruled r. Answers ruled more r) reply)
+-- the command asks for a task file, or a work file: at most 16,777,216 bytes
+abbrev pub fetch_table : List ℕ → (List ℕ → Command) → Command
+fetch_table name next = fetch name (2 ^ 24) next

@@ -3,8 +3,8 @@ use Rattle.std.specs.Prelude.{◌≡◌, ℕ, List, Result, Ok}
 use Rattle.mc_model.specs.CheckText.{check_text}
 use Rattle.replies.specs.Refusal.{Refusal}
 use Rattle.replies.specs.Reading.{◌>>=◌, reply_by}
-use Rattle.serving.specs.Command.{Command, one_file}
-use Rattle.task_answers.specs.Admitted.{admitted, table}
+use Rattle.serving.specs.Command.{Command, answer}
+use Rattle.task_answers.specs.Admitted.{admitted, fetch_table}
 
 -- the loads of an admitted set, and its rule
 abbrev pub checked : List ℕ → Result (List ℕ) Refusal
@@ -14,4 +14,4 @@ checked bytes = do
 
 -- the command
 abbrev pub check : List ℕ → Command
-check tasks = one_file (table tasks) (λ bytes reply. reply ≡ reply_by (checked bytes))
+check tasks = fetch_table tasks (λ bytes. answer (λ reply. reply ≡ reply_by (checked bytes)))

@@ -1,5 +1,5 @@
 -- The commands on a trace: it is judged, and of a good one something is told.
-use Rattle.std.specs.Prelude.{◌≡◌, ℕ, ◌^◌, ◌==◌, nat_le, Bool, false, List, reverse, Result, Ok}
+use Rattle.std.specs.Prelude.{◌≡◌, ℕ, ◌^◌, ◌==◌, nat_le, Bool, false, if◌then◌else◌, List, reverse, Result, Ok, Err}
 use Rattle.mc_task.specs.declared.task.Task.{Task}
 use Rattle.mc_task.specs.declared.task.Rule.TheVariants.{Virtual}
 use Rattle.mc_model.specs.declared.row.Row.{Row}
@@ -16,9 +16,9 @@ use Rattle.trace_format.specs.TraceFile.{trace_file}
 use Rattle.command_line.specs.declared.form.Telling.{Telling}
 use Rattle.command_line.specs.declared.form.Telling.TheVariants.{JudgeBy, Chart, Report, Migrate}
 use Rattle.replies.specs.Refusal.{Refusal, Trace, BadTrace, LongChart}
-use Rattle.replies.specs.Reading.{◌>>=◌, or_refuse, only_if, reply_by}
-use Rattle.serving.specs.Command.{Command, file_of}
-use Rattle.task_answers.specs.Admitted.{Ruled, admitted, ruled_by, of_two}
+use Rattle.replies.specs.Reading.{◌>>=◌, or_refuse, reply_by}
+use Rattle.serving.specs.Command.{Command, answer, fetch, need}
+use Rattle.task_answers.specs.Admitted.{Ruled, admitted, ruled_by, fetch_table}
 
 -- each row fits, and no job is late
 abbrev pub is_good : Verdict → Bool
@@ -34,18 +34,15 @@ rows_in set bytes = do
 -- what is told of a good trace, whose newest row stands first: the chart, of at most 2,000,000 ticks; the report; the trace
 -- itself, equal ticks in one record; or the verdict
 abbrev pub told : Telling → Ruled → List Row → Result (List ℕ) Refusal
-told Chart ruled h = do
-  _ ← only_if (nat_le (ticks h) 2000000) (LongChart (ticks h))
-  Ok (chart_text ruled.set h)
+told Chart ruled h = if nat_le (ticks h) 2000000 then Ok (chart_text ruled.set h) else Err (LongChart (ticks h))
 told Report ruled h = Ok (report_text ruled.set h)
 told Migrate ruled h = Ok (trace_text ruled.set (reverse h))
 told telling ruled h = Ok (verdict_line ruled.set (verdict ruled.set ruled.rule h))
 
 -- so, if the trace is good
 abbrev pub judged : Telling → Ruled → List Row → Result (List ℕ) Refusal
-judged telling ruled h = do
-  _ ← only_if (is_good (verdict ruled.set ruled.rule h)) (BadTrace ruled.set (verdict ruled.set ruled.rule h))
-  told telling ruled h
+judged telling ruled h =
+    let given = verdict ruled.set ruled.rule h in if is_good given then told telling ruled h else Err (BadTrace ruled.set given)
 
 -- by the bytes of the trace
 abbrev pub tells : Telling → Ruled → List ℕ → Result (List ℕ) Refusal
@@ -60,4 +57,5 @@ ruled_for telling bytes = admitted bytes
 
 -- the command; a trace has at most 134,217,728 bytes
 abbrev pub on_trace : Telling → List ℕ → List ℕ → Command
-on_trace telling tasks trace = of_two tasks (ruled_for telling) (file_of trace (2 ^ 27)) (λ ruled bytes reply. reply ≡ reply_by (tells telling ruled bytes))
+on_trace telling tasks trace =
+    fetch_table tasks (λ bytes. need (ruled_for telling bytes) (λ ruled. fetch trace (2 ^ 27) (λ more. answer (λ reply. reply ≡ reply_by (tells telling ruled more)))))

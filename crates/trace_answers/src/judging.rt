@@ -4,7 +4,7 @@ ghost use Rattle.mc_model.specs.Holds.{Fits};
 ghost use Rattle.mc_model.specs.Runs.{expand, AreRuns, IsRunOfSet};
 ghost use Rattle.mc_model.specs.Verdict.{verdict};
 ghost use Rattle.replies.specs.Reading.{reply_by};
-ghost use Rattle.serving.specs.Command.{IsOwn};
+ghost use Rattle.serving.specs.Steps.{IsOwn};
 ghost use Rattle.task_answers.specs.Admitted.{under};
 ghost use Rattle.trace_answers.specs.OnTrace as spec;
 
