@@ -579,6 +579,152 @@ def ends_by_need(tasks, before, run):
     return (run.kind == DONE) == (past < live_need(tasks, run.job) <= past + run.length)
 
 
+# ---- Demand sets under plain EDF ----
+
+# A task of a demand set, which is a list of them. Its deadline is counted from a release, and is at most its period.
+class Demand(NamedTuple):
+    name: str
+    period: int
+    deadline: int
+    budget: int
+
+
+# The least common multiple of the periods.
+def hyperperiod(demands):
+    return math.lcm(*[task.period for task in demands])
+
+
+# What is asked for in so many ticks: the budgets of all jobs with release and deadline in them, where each task releases
+# at once and then as often as it may.
+def demand(demands, length):
+    return sum(
+        ((length - task.deadline) // task.period + 1) * task.budget for task in demands if task.deadline <= length)
+
+
+# The least length, up to the least common multiple of the periods, in which more is asked for than there is, or None.
+def first_past(demands):
+    return next((length for length in range(1, hyperperiod(demands) + 1) if demand(demands, length) > length), None)
+
+
+# A row of a run under plain EDF: a release, a tick of a job, which is marked where it is to be the job's last, or an
+# idle tick.
+class EdfRow(NamedTuple):
+    event: str
+    job: Optional[Job] = None
+    last: bool = False
+
+
+# A released job and the number of tick and idle rows before its release.
+class EdfJob(NamedTuple):
+    job: Job
+    release: int
+
+
+# The number of tick and idle rows.
+def edf_ticks(rows):
+    return sum(row.event != 'release' for row in rows)
+
+
+# The released jobs, in order.
+def edf_jobs(rows):
+    jobs, now = [], 0
+    for row in rows:
+        if row.event == 'release':
+            jobs.append(EdfJob(row.job, now))
+        now += row.event != 'release'
+    return jobs
+
+
+# A job's time of release plus its task's deadline.
+def edf_deadline(demands, released):
+    return released.release + demands[released.job.task - 1].deadline
+
+
+# The jobs without a tick that is marked as their last, and with fewer ticks than their budget.
+def edf_pending(demands, rows):
+    waiting = []
+    for released in edf_jobs(rows):
+        own = [row for row in rows if row.event == 'tick' and row.job == released.job]
+        if not any(row.last for row in own) and len(own) < demands[released.job.task - 1].budget:
+            waiting.append(released)
+    return waiting
+
+
+# Why a row may not stand behind these in an EDF run, or None.
+def edf_misfit(demands, before, row):
+    waiting = edf_pending(demands, before)
+    if row.event == 'idle':
+        return 'idle_pending' if waiting else None
+    if row.event == 'tick':
+        deadlines = [edf_deadline(demands, released) for released in waiting]
+        own = [edf_deadline(demands, released) for released in waiting if released.job == row.job]
+        if not own:
+            return 'not_pending'
+        return 'not_earliest' if own[0] > min(deadlines) else None
+    if not 1 <= row.job.task <= len(demands):
+        return 'unknown_task'
+    earlier = [released.release for released in edf_jobs(before) if released.job.task == row.job.task]
+    if row.job.count != len(earlier) + 1:
+        return 'wrong_count'
+    too_soon = earlier and edf_ticks(before) < earlier[-1] + demands[row.job.task - 1].period
+    return 'too_soon' if too_soon else None
+
+
+# Whether the rows are an EDF run.
+def is_edf_run(demands, rows):
+    return all(edf_misfit(demands, rows[:place], row) is None for place, row in enumerate(rows))
+
+
+# The rows up to and with the tick or idle row of this number, from 1.
+def first_ticks(rows, count):
+    return [row for place, row in enumerate(rows) if edf_ticks(rows[:place]) < count]
+
+
+# The late jobs, in the order of their releases: their deadline has come, and at it they were pending.
+def edf_late(demands, rows):
+    late_ones = []
+    for released in edf_jobs(rows):
+        end = edf_deadline(demands, released)
+        if end <= edf_ticks(rows) and released in edf_pending(demands, first_ticks(rows, end)):
+            late_ones.append(released.job)
+    return late_ones
+
+
+# The run of so many ticks in which each task releases at every multiple of its period, the tasks of one boundary in
+# their order, every job uses its whole budget, and of equal deadlines the lowest task number has the tick.
+def counterexample(demands, length):
+    rows = []
+    for now in range(length):
+        for number, task in enumerate(demands, 1):
+            if now % task.period == 0:
+                rows.append(EdfRow('release', Job(number, now // task.period + 1)))
+        waiting = edf_pending(demands, rows)
+        first = min(waiting, key=lambda released: (edf_deadline(demands, released), released.job.task), default=None)
+        rows.append(EdfRow('idle') if first is None else EdfRow('tick', first.job))
+    return rows
+
+
+# The lines of the rows, and that of the late job that was released first.
+def counterexample_lines(demands, rows):
+    for place, row in enumerate(rows):
+        now = edf_ticks(rows[:place])
+        job = '' if row.job is None else f'{demands[row.job.task - 1].name} {row.job.count}'
+        yield {'release': f'release {job} at {now}', 'tick': f'tick {now} {job}', 'idle': f'idle {now}'}[row.event]
+    job = edf_late(demands, rows)[0]
+    yield f'late {demands[job.task - 1].name} {job.count}'
+
+
+# What is told of a demand file.
+def demand_text(text):
+    demands = read_demands(text)
+    length = first_past(demands)
+    if length is None:
+        return f'schedulable, demand checked to {hyperperiod(demands)}\n'
+    rows = counterexample(demands, length)
+    told = [f'not schedulable: demand {demand(demands, length)} in length {length}']
+    raise Refusal(10, lines(told + list(counterexample_lines(demands, rows))))
+
+
 # ---- Files ----
 
 MOST = 4294967295
@@ -698,6 +844,47 @@ def length_fault(length, how):
     return length == 0 or length > 1 and how not in (MORE, '')
 
 
+DEMAND_HEADER = ['task', 'period', 'deadline', 'budget']
+MOST_LCM = 500000
+
+
+# The tasks of a demand file. The first refusal decides.
+def read_demands(text):
+    demands, rest = [], records(text)
+    if rest[:1] != [DEMAND_HEADER]:
+        raise Refusal(11, f'demand file line 1: header is not {",".join(DEMAND_HEADER)}\n')
+    if len(rest) == 1:
+        raise Refusal(11, 'demand file line 1: no tasks\n')
+    for line, record in enumerate(rest[1:], 2):
+        fault = demand_fault(demands, record)
+        if fault is not None:
+            raise Refusal(11, f'demand file line {line}: {fault}\n')
+        demands.append(Demand(record[0], *map(number_of, record[1:])))
+    return demands
+
+
+# What is wrong with a record after the tasks before it, or None.
+def demand_fault(before, record):
+    if len(before) == MOST_TASKS:
+        return f'more than {MOST_TASKS} tasks'
+    if len(record) != 4:
+        return 'not four fields'
+    name, numbers = record[0], [number_of(field) for field in record[1:]]
+    if not 1 <= len(name) <= 32 or not set(name) <= NAME_CHARACTERS:
+        return 'bad name'
+    if name in [task.name for task in before]:
+        return 'name used before'
+    if None in numbers:
+        return 'bad number'
+    if 0 in numbers:
+        return 'number is 0'
+    period, deadline, _ = numbers
+    if deadline > period:
+        return 'deadline after period'
+    multiple = hyperperiod(before + [Demand(name, *numbers)])
+    return 'periods out of range' if multiple > MOST_LCM else None
+
+
 TASK_KEYS = ['name', 'level', 'period', 'low', 'high']
 
 
@@ -810,7 +997,8 @@ def set_fault(tasks):
 USAGE = ('usage: check TASKS | run TASKS WORK TICKS | judge TASKS TRACE [P Q] | chart TASKS TRACE '
          '| report TASKS TRACE | soak NUMBER TASKCOUNT TICKS | migrate TASKS TRACE | live TASKS TICKS\n')
 COUNT_OF_WORDS = {
-    'check': [0], 'run': [1], 'judge': [0, 2], 'chart': [0], 'report': [0], 'soak': [3], 'migrate': [0], 'live': [1]}
+    'check': [0], 'run': [1], 'judge': [0, 2], 'chart': [0], 'report': [0], 'soak': [3], 'migrate': [0], 'live': [1],
+    'demand': [0]}
 
 
 # The numbers behind the files, each within its range.
@@ -841,11 +1029,13 @@ def admitted(tasks):
 
 
 # The text of a command, for the tree of its task file, the text of its second file, and the words behind them; None
-# where it is one of many, as `live_fault` says.
+# where it is one of many, as `live_fault` says. The one file of `demand` is given as the second.
 def text_of(command, tree, second, words):
     numbers = read_words(command, words)
     if command == 'soak':
         return soak_text(*numbers)
+    if command == 'demand':
+        return demand_text(second)
     tasks = read_tasks(tree)
     rule = virtual(*numbers) if command == 'judge' and numbers else admitted(tasks)
     if command == 'check':
@@ -889,6 +1079,10 @@ def low(name, period, budget):
 
 def work_file(*rows):
     return lines(('task,release,need',) + rows)
+
+
+def demand_file(*records):
+    return lines((','.join(DEMAND_HEADER),) + records)
 
 
 # A trace of version 1, a record for each row.
@@ -1166,6 +1360,50 @@ LIVE_TEXTS = {
     'live_in_version_1': (CONTROL, 1, rows_file('idle,0,,,'), 'not the text of its runs'),
 }
 
+# Demand files, by their records behind the header, with the status and what is told of each. The sets named buttazzo are
+# those of Buttazzo, Hard Real-Time Computing Systems, on EDF with deadlines below periods, and one with a tick more;
+# those named burns are those of Burns and Wellings, Real-Time Systems and Programming Languages, on deadline-monotonic
+# priorities, with ever more for the last task. What lengths ask for was added up by hand.
+DEMAND_FILES = {
+    'schedulable': (['a,4,2,1', 'b,6,3,2'], 0, ['schedulable, demand checked to 12']),
+    'not_schedulable': (['a,4,2,1', 'b,6,3,3'], 10, [
+        'not schedulable: demand 4 in length 3', 'release a 1 at 0', 'release b 1 at 0', 'tick 0 a 1', 'tick 1 b 1',
+        'tick 2 b 1', 'late b 1']),
+    'ties_to_the_lowest_number': (['z,4,4,1', 'a,2,2,1', 'b,4,4,1', 'c,4,3,2'], 10, [
+        'not schedulable: demand 6 in length 4', 'release z 1 at 0', 'release a 1 at 0', 'release b 1 at 0',
+        'release c 1 at 0', 'tick 0 a 1', 'tick 1 c 1', 'release a 2 at 2', 'tick 2 c 1', 'tick 3 z 1', 'late b 1']),
+    'past_at_the_least_common_multiple': (['a,2,2,1', 'b,3,3,1', 'c,6,6,2'], 10, [
+        'not schedulable: demand 7 in length 6', 'release a 1 at 0', 'release b 1 at 0', 'release c 1 at 0',
+        'tick 0 a 1', 'tick 1 b 1', 'release a 2 at 2', 'tick 2 a 2', 'release b 2 at 3', 'tick 3 b 2',
+        'release a 3 at 4', 'tick 4 a 3', 'tick 5 c 1', 'late c 1']),
+    'budget_above_any_length': (['a,1,1,4294967295'], 10, [
+        'not schedulable: demand 4294967295 in length 1', 'release a 1 at 0', 'tick 0 a 1', 'late a 1']),
+    'full_use': (['a,2,2,1', 'b,3,3,1', 'c,6,6,1'], 0, ['schedulable, demand checked to 6']),
+    'buttazzo': (['a,6,4,2', 'b,8,5,2', 'c,9,7,3'], 0, ['schedulable, demand checked to 72']),
+    'burns': (['a,20,5,3', 'b,15,7,3', 'c,10,10,4', 'd,20,20,3'], 0, ['schedulable, demand checked to 60']),
+    'deadline_above_the_period': (['a,4,5,1'], 11, ['demand file line 2: deadline after period']),
+    'no_demand_tasks': ([], 11, ['demand file line 1: no tasks']),
+    'not_four_fields': (['a,4,2,1', 'b,4,2'], 11, ['demand file line 3: not four fields']),
+    'bad_demand_name': (['a b,4,x,1'], 11, ['demand file line 2: bad name']),
+    'name_used_before': (['a,4,2,1', 'a,4,x,1'], 11, ['demand file line 3: name used before']),
+    'bad_demand_number': (['a,0,2,4294967296'], 11, ['demand file line 2: bad number']),
+    'number_is_0': (['a,4,5,0'], 11, ['demand file line 2: number is 0']),
+    'demand_periods_out_of_range': (['a,1000,1,1', 'b,501,1,1'], 11, ['demand file line 3: periods out of range']),
+    'too_many_demands': ([f't{number},1,1,1' for number in range(128)] + ['t0'], 11, [
+        'demand file line 130: more than 128 tasks']),
+}
+
+# What some lengths ask for: of the first set at each of its deadlines up to 25 and before some of them; of others the least
+# length that asks for more than it is.
+DEMANDS = [
+    (['a,6,4,2', 'b,8,5,2', 'c,9,7,3'],
+     {3: 0, 4: 2, 5: 4, 6: 4, 7: 7, 10: 9, 13: 11, 16: 16, 21: 18, 22: 20, 25: 23}),
+    (['a,6,4,2', 'b,8,5,2', 'c,9,7,4'], {7: 8}),
+    (['a,20,5,3', 'b,15,7,3', 'c,10,10,4', 'd,20,20,5'], {40: 41}),
+    (['a,20,5,3', 'b,15,7,3', 'c,10,10,4', 'd,20,20,6'], {22: 23}),
+    (['a,20,5,3', 'b,15,7,3', 'c,10,10,4', 'd,20,20,7'], {20: 21}),
+]
+
 # The first words of the published sample program of PCG's generator, of seed 42 and stream 54.
 PUBLISHED_WORDS = [0xa15c02b7, 0x7b47f409, 0xba1d3330, 0x83d2f293, 0xbfa4784b, 0xcbed606e]
 
@@ -1191,6 +1429,7 @@ def examples():
     yield from soak_examples()
     yield from wide_examples()
     yield from live_examples()
+    yield from demand_examples()
 
 
 def avionics_examples():
@@ -1219,6 +1458,16 @@ def wide_examples():
 def live_examples():
     for name, (tree, count, text, fault) in LIVE_TEXTS.items():
         yield name, live_fault(read_tasks(tree), count, text), fault
+
+
+def demand_examples():
+    for name, (records, status, told) in DEMAND_FILES.items():
+        yield name, answer('demand', second=demand_file(*records)), (status, lines(told))
+    for number, (records, asked) in enumerate(DEMANDS, 1):
+        demands = read_demands(demand_file(*records))
+        yield f'demand_{number}', {length: demand(demands, length) for length in asked}, asked
+        past = min((length for length in asked if asked[length] > length), default=None)
+        yield f'least_length_{number}', first_past(demands), past
 
 
 def main():
