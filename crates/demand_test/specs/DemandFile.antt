@@ -1,0 +1,84 @@
+-- What a demand file says: its tasks, or its first refusal.
+use Rattle.std.specs.Prelude.{ℕ, ◌+◌, Bool, false, not, ◌&&◌, ◌||◌, ◌==◌, nat_le, nat_lt, if◌then◌else◌, List, [], ◌∷◌, ◌++◌, codes, length, unwrap_or, Result, Ok, Err}
+use Rattle.std.specs.Str.{bytes_eq}
+use Rattle.csv.specs.Reading.{default_config, records, strip_bom}
+use Rattle.csv.specs.Records.{field_at}
+use Rattle.mc_task.specs.NameForm.{is_name}
+use Rattle.numeral.specs.Numeral.{number}
+use Rattle.demand_test.specs.Refusals.{◌>>=◌, refuse_if, or_refuse, at_line}
+use Rattle.demand_test.specs.declared.demand.Demand.{Demand}
+use Rattle.demand_test.specs.declared.fault.DemandCause.{DemandCause}
+use Rattle.demand_test.specs.declared.fault.DemandCause.TheVariants.{Header, Empty, TooMany, BadRecord, BadName, SameName, BadNumber, ZeroNumber, DeadlineOrder, Range}
+use Rattle.demand_test.specs.declared.fault.DemandFault.{DemandFault}
+use Rattle.demand_test.specs.declared.fault.DemandFault.TheVariants.{At}
+use Rattle.demand_test.specs.DemandSet.{hyperperiod, most_lcm}
+
+-- the field at a place, from 0; empty where there is none
+abbrev pub field : List (List ℕ) → ℕ → List ℕ
+field fields i = unwrap_or (field_at fields i) []
+
+-- the record is `task,period,deadline,budget`
+abbrev pub is_header : List (List ℕ) → Bool
+is_header fields =
+    length fields == 4
+    && (bytes_eq (field fields 0) (codes "task")
+    && (bytes_eq (field fields 1) (codes "period") && (bytes_eq (field fields 2) (codes "deadline") && bytes_eq (field fields 3) (codes "budget"))))
+
+-- one of the tasks has the name
+abbrev pub has_name : List ℕ → List Demand → Bool
+has_name name [] = false
+has_name name (t ∷ ts) = bytes_eq t.name name || has_name name ts
+
+-- the name in a field of a record behind these tasks
+abbrev pub name_of : List Demand → List ℕ → Result (List ℕ) DemandCause
+name_of before name = do
+  _ ← refuse_if (not (is_name name)) BadName
+  _ ← refuse_if (has_name name before) SameName
+  Ok name
+
+-- the task of this name with the numbers in the other fields
+abbrev pub numbered_task : List ℕ → List (List ℕ) → Result Demand DemandCause
+numbered_task name fields = do
+  period ← or_refuse BadNumber (number (field fields 1))
+  deadline ← or_refuse BadNumber (number (field fields 2))
+  budget ← or_refuse BadNumber (number (field fields 3))
+  Ok (record { name = name; period = period; deadline = deadline; budget = budget })
+
+-- the least common multiple of the periods with this task's, where its numbers may stand behind those before
+abbrev pub multiple_with : List Demand → Demand → Result ℕ DemandCause
+multiple_with before t = do
+  _ ← refuse_if ((t.period == 0 || t.deadline == 0) || t.budget == 0) ZeroNumber
+  _ ← refuse_if (nat_lt t.period t.deadline) DeadlineOrder
+  _ ← refuse_if (nat_lt most_lcm (hyperperiod (before ++ t ∷ []))) Range
+  Ok (hyperperiod (before ++ t ∷ []))
+
+-- the task of a record behind these tasks
+unfoldable pub record_task : List Demand → List (List ℕ) → Result Demand DemandCause
+record_task before fields = do
+  _ ← refuse_if (nat_le 128 (length before)) TooMany
+  _ ← refuse_if (not (length fields == 4)) BadRecord
+  name ← name_of before (field fields 0)
+  t ← numbered_task name fields
+  _ ← multiple_with before t
+  Ok t
+
+-- these tasks, of which there is one at least
+abbrev pub some_tasks : List Demand → Result (List Demand) DemandFault
+some_tasks [] = Err (At 1 Empty)
+some_tasks (t ∷ ts) = Ok (t ∷ ts)
+
+-- these tasks and then those of the records behind them
+abbrev pub tasks_from : List (List (List ℕ)) → List Demand → Result (List Demand) DemandFault
+tasks_from [] before = some_tasks before
+tasks_from (f ∷ fs) before = do
+  t ← at_line (length before + 2) (record_task before f)
+  tasks_from fs (before ++ t ∷ [])
+
+-- the tasks of a file with these records
+abbrev pub demand_file : List (List (List ℕ)) → Result (List Demand) DemandFault
+demand_file [] = Err (At 1 Header)
+demand_file (f ∷ fs) = if is_header f then tasks_from fs [] else Err (At 1 Header)
+
+-- the tasks of a file of these bytes
+abbrev pub demands_in : List ℕ → Result (List Demand) DemandFault
+demands_in bytes = demand_file (records default_config (strip_bom bytes))

@@ -1,0 +1,11 @@
+pub mod DemandSet
+pub mod DemandBound
+pub mod Runs
+pub mod EdfRuns
+pub mod Counter
+pub mod Deadlines
+pub mod CounterText
+pub mod Play
+pub mod Refusals
+pub mod DemandFile
+pub mod SoFar

@@ -1,0 +1,68 @@
+-- What is kept while the counterexample is played: the rows so far, the newest first, and the pending jobs, the oldest first.
+use Rattle.std.specs.Prelude.{◌≡◌, ℕ, ◌+◌, ◌-◌, ◌*◌, ◌<◌, ◌≤◌, Bool, false, List, [], ◌∷◌, Option, Some, None, if◌then◌else◌, cond, nat_le, nat_lt, map, filter, reverse, Contains, ◌⊎◌}
+use Rattle.std.specs.List.{AllByRecursion}
+use Rattle.mc_task.specs.declared.task.JobId.{JobId}
+use Rattle.mc_model.specs.Rows.{same_job}
+use Rattle.demand_test.specs.declared.demand.Demand.{Demand}
+use Rattle.demand_test.specs.declared.row.EdfRow.{EdfRow}
+use Rattle.demand_test.specs.declared.play.Job.{Job}
+use Rattle.demand_test.specs.DemandSet.{IsIn, demand_at, period_in, budget_in}
+use Rattle.demand_test.specs.Runs.{ticks, Released, released, releases, used, is_marked, pending, deadline}
+use Rattle.demand_test.specs.EdfRuns.{IsRun}
+use Rattle.demand_test.specs.Counter.{AtMultiples, InTaskOrder, LowestFirst}
+
+-- a pending job as the released one
+abbrev pub as_released : Job → Released
+as_released p = record { job = p.id; release = p.release }
+
+-- x has an earlier deadline than y, or the same one and no higher task number
+pub record GoesFirst (set : List Demand) (x y : Released) : Type 0 where
+  pub earliest : deadline set x ≤ deadline set y
+  pub tie : deadline set y ≡ deadline set x → x.job.task.0 ≤ y.job.task.0
+
+-- the first of two jobs
+pub record IsFirstOf (set : List Demand) (p q : Job) (first : Job) : Type 0 where
+  pub one : (first ≡ p) ⊎ (first ≡ q)
+  pub before_p : GoesFirst set (as_released first) (as_released p)
+  pub before_q : GoesFirst set (as_released first) (as_released q)
+
+-- the first of all jobs has this name
+pub record IsChosen (set : List Demand) (js : List Job) (id : JobId) : Type 0 where
+  pub job : Job
+  pub name : job.id ≡ id
+  pub one : Contains js job
+  pub first : AllByRecursion (λ p. GoesFirst set (as_released job) (as_released p)) js
+
+-- a job after a tick that was given to the one with this name
+abbrev pub spent_one : JobId → Job → Job
+spent_one id p = record { id = p.id; release = p.release; left = cond (same_job id p.id) (p.left - 1) p.left }
+
+-- it has more to do
+abbrev pub has_ticks : Job → Bool
+has_ticks p = nat_lt 0 p.left
+
+-- the jobs after that tick
+abbrev pub spent : JobId → List Job → List Job
+spent id js = filter has_ticks (map (spent_one id) js)
+
+-- the first of the jobs whose deadline has come by n
+abbrev pub first_due : List Demand → ℕ → List Job → Option JobId
+first_due set n [] = None
+first_due set n (p ∷ ps) = if nat_le (deadline set (as_released p)) n then Some p.id else first_due set n ps
+
+-- a multiple of p at c or behind it, and the first one
+abbrev pub IsFirstFrom : ℕ → ℕ → ℕ → Type 0
+IsFirstFrom c n p = (c ≤ n) × (n < c + p)
+
+-- the rows have come to boundary b, where the first i tasks had their turn to release
+pub record Between (set : List Demand) (b i : ℕ) (h : List EdfRow) (js : List Job) : Type 0 where
+  pub run : IsRun set h
+  pub boundary : ticks h ≡ b
+  pub multiples : AtMultiples set h
+  pub order : InTaskOrder (released h)
+  pub whole : (j : JobId) → is_marked h j ≡ false
+  pub lowest : LowestFirst set h
+  pub placed : AllByRecursion (λ x. (x.release ≤ b) × (x.release ≡ b → x.job.task.0 ≤ i)) (released h)
+  pub next : (k : ℕ) → IsIn set k → IsFirstFrom (cond (nat_le k i) (b + 1) b) (releases h k * period_in (demand_at set k)) (period_in (demand_at set k))
+  pub jobs : reverse (map as_released js) ≡ pending set h
+  pub left : AllByRecursion (λ p. (1 ≤ p.left) × (p.left + used h p.id ≡ budget_in (demand_at set p.id.task.0))) js

@@ -1,0 +1,52 @@
+ghost use Rattle.std.specs.Prelude.{◌≡◌, ◌≤◌, IfOk};
+ghost use Rattle.demand_test.specs.DemandSet.{hyperperiod, most_lcm};
+ghost use Rattle.demand_test.specs.DemandBound.{IsPast};
+ghost use Rattle.demand_test.specs.Counter.{OneCounter};
+ghost use Rattle.demand_test.specs.CounterText.{ShowsCounter};
+ghost use Rattle.demand_test.specs.Play.{first_due};
+
+use crate::DemandSet;
+use crate::lines::{push_late, push_rows};
+use crate::play::{Job, deadline, played};
+use mc_task::{JobId, Memory};
+use std::alloc::{AllocError, Global};
+
+/// A counterexample for a set that is past at `length`: the text of a run of that many ticks under plain EDF in which a
+/// job is late. In it each task releases at every multiple of its period, each job uses its whole budget, and ties go to
+/// the lowest task number.
+pub fn counter(alloc: Global, set: &DemandSet, length: u64) -> Result<Vec<u8>, Memory>
+    requires past { IsPast set.now (hyperperiod set.now) length }
+    ensures text { IfOk result (λ text. ShowsCounter set.now length text.items) }
+    ensures law { OneCounter set.now length }
+{
+    let _is_set = set.len();
+    match text(alloc, set, length as u32) {
+        Ok(text) => Ok(text),
+        Err(_) => Err(Memory),
+    }
+}
+
+fn text(alloc: Global, set: &DemandSet, length: u32) -> Result<Vec<u8>, AllocError>
+    requires past { IsPast set.now (hyperperiod set.now) length }
+    requires few { length ≤ most_lcm }
+    ensures { IfOk result (λ text. ShowsCounter set.now length text.items) }
+{
+    let _is_set = set.len();
+    let play = played(alloc, set, length)?;
+    let mut out = Vec::new(alloc);
+    push_rows(&mut out, set, &play.rows)?;
+    push_late(&mut out, set, first_due(set, length, &play.jobs))?;
+    Ok(out)
+}
+
+// The first of the jobs whose deadline has come.
+fn first_due(set: &DemandSet, ticks: u32, jobs: &[Job]) -> Option<JobId>
+    ensures { result ≡ first_due set.now ticks jobs.now }
+{
+    for job in jobs {
+        if deadline(set, *job) <= u64::from(ticks) {
+            return Some(job.id);
+        }
+    }
+    None
+}
