@@ -121,6 +121,67 @@ fn hostile_files_get_their_status_and_line(rt: HostRuntime) -> Result<(), Fail> 
             5,
             "trace line 2: bad number\n",
         ),
+        ("event,tick,length,task,job,how", 0, "legal late 0\n"),
+        (
+            "event,tick,length,task,job,how\nidl",
+            5,
+            "trace line 2: not six fields\n",
+        ),
+        (
+            "event,tick,length,task,job,how\nidle,0,1,,",
+            5,
+            "trace line 2: not six fields\n",
+        ),
+        (
+            "event,tick,length,task,job,how\nrelease,0,0,ctl,1,kept",
+            5,
+            "trace line 2: unknown event\n",
+        ),
+        (
+            "event,tick,length,task,job,how\ntick,0,1,ct,1,more",
+            5,
+            "trace line 2: unknown task\n",
+        ),
+        (
+            "event,tick,length,task,job,how\ntick,0,,ctl,1,more",
+            5,
+            "trace line 2: bad number\n",
+        ),
+        (
+            "event,tick,length,task,job,how\nidle,0,4294967296,,,",
+            5,
+            "trace line 2: bad number\n",
+        ),
+        (
+            "event,tick,length,task,job,how\nidle,0,00000000001,,,",
+            5,
+            "trace line 2: bad number\n",
+        ),
+        (
+            "event,tick,length,task,job,how\nidle,1,0,,,",
+            5,
+            "trace line 2: wrong tick\n",
+        ),
+        (
+            "event,tick,length,task,job,how\nidle,0,0,,,",
+            5,
+            "trace line 2: bad length\n",
+        ),
+        (
+            "event,tick,length,task,job,how\ntick,0,4294967295,ctl,1,done",
+            5,
+            "trace line 2: bad length\n",
+        ),
+        (
+            "event,tick,length,task,job,how\nidle,0,4294967295,,,",
+            5,
+            "trace line 2: more than 100000000 ticks\n",
+        ),
+        (
+            "event,tick,length,task,job,how\nidle,0,0100000000,,,\nrelease,0100000000,,ctl,1,kept",
+            0,
+            "legal late 0\n",
+        ),
     ];
     for (trace, status, text) in cases {
         assert_ends(
