@@ -196,6 +196,33 @@ answers 5 'trace line 2: bad number' "$runs_header" 'idle,0,4294967296,,,\n'
 answers 5 'trace line 2: wrong tick' "$runs_header" 'tick,1,0,ctl,1,done\n'
 answers 5 'trace line 3: wrong tick' "$runs_header" 'idle,0,5,,,\nidle,1,1,,,\n'
 answers 5 'trace line 2: unknown event' "$runs_header" '\377,0,1,,,\n'
+# vector STATUS LINE RECORDS: these rows are judged so in version 1, and in version 2 with a record for each of them
+vector() {
+    answers "$1" "$2" "$rows" "$3"
+    sed 1d "$work/trace.csv" | awk -F, -v OFS=, -v header="$runs_header" '
+        BEGIN { print header } { $2 = $2 OFS ($1 == "release" ? "" : 1); print }' >"$work/runs.csv"
+    expect "$1" "$(says "$2")" judge judged/tasks.toml "$work/runs.csv"
+}
+vector 6 'illegal row 3 too_soon' 'release,0,log,1,kept\ntick,0,log,1,done\nrelease,1,log,2,kept\n'
+vector 6 'illegal row 1 wrong_count' 'release,0,ctl,2,kept\n'
+vector 6 'illegal row 1 wrong_kept' 'release,0,ctl,1,dropped\n'
+vector 6 'illegal row 1 not_pending' 'tick,0,ctl,1,more\n'
+vector 6 'illegal row 3 not_least' 'release,0,ctl,1,kept\nrelease,0,log,1,kept\ntick,0,log,1,more\n'
+vector 6 'illegal row 3 wrong_how' 'release,0,ctl,1,kept\ntick,0,ctl,1,more\ntick,1,ctl,1,more\n'
+vector 6 'illegal row 2 idle_pending' 'release,0,ctl,1,kept\nidle,0,,,\n'
+both='release,0,ctl,1,kept\nrelease,0,log,1,kept\ntick,0,ctl,1,more\ntick,1,ctl,1,over\n'
+vector 6 'illegal row 5 not_pending' "${both}tick,2,log,1,more\n"
+alone='release,0,ctl,1,kept\ntick,0,ctl,1,more\ntick,1,ctl,1,over\n'
+vector 6 'illegal row 6 wrong_kept' "${alone}tick,2,ctl,1,done\nidle,3,,,\nrelease,4,log,1,dropped\n"
+four='tick,0,log,1,more\ntick,1,log,1,more\ntick,2,log,1,more\ntick,3,log,1,more\n'
+vector 6 'illegal row 6 wrong_how' "release,0,log,1,kept\n${four}tick,4,log,1,over\n"
+vector 6 'illegal row 4 wrong_kept' "${alone}release,2,log,1,kept\n"
+vector 6 'illegal row 3 not_pending' 'release,0,log,1,kept\ntick,0,log,1,done\ntick,1,log,1,more\n'
+vector 0 'legal late 0' 'release,0,ctl,1,kept\ntick,0,ctl,1,done\nidle,1,,,\n'
+# Those whose equal ticks can stand in one record.
+answers 6 'illegal row 3 wrong_how' "$runs_header" 'release,0,,ctl,1,kept\ntick,0,2,ctl,1,more\n'
+answers 6 'illegal row 6 wrong_how' "$runs_header" 'release,0,,log,1,kept\ntick,0,4,log,1,more\ntick,4,1,log,1,over\n'
+
 { printf '%s\nidle,0,1000000,,,\n' "$runs_header"; printf 'idle,1000000,1000000,,,\n'; } >"$work/trace.csv"
 bounded "$program" chart judged/tasks.toml "$work/trace.csv" >"$work/chart.txt"
 status=$?
