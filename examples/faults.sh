@@ -166,6 +166,18 @@ threads run overrun/tasks.toml overrun/work.csv 12
 threads soak 7 8 20000
 threads live live/tasks.toml 10
 
+# lives NUMBER TASKS TICKS: the same of a live run whose text may be another one each time: it is judged legal, with no job late
+lives() {
+    refuse "START=$1" live "$2" "$3"
+    mv "$work/out" "$work/live.csv"
+    : >"$work/out"
+    judge 0 "$status" "$work/empty" "live $2 $3 with start $1 of a thread refused"
+    expect 0 judged/legal.txt judge "$2" "$work/live.csv"
+}
+
+lives 0 avionics/tasks.toml 20000
+each 8 lives avionics/tasks.toml 20000
+
 # A file that is cut while it is read: the answer is that to the bytes that were read, the first piece of 8192.
 { cat control/tasks.toml; head -c 20000 /dev/zero | tr '\0' '\n'; } >"$work/cut.toml"
 refuse "CUT=3 CUT_FILE=$work/cut.toml" check "$work/cut.toml"
