@@ -4,7 +4,7 @@ use Rattle.std.specs.Str.{bytes_eq}
 use Rattle.numeral.specs.Numeral.{numeral}
 use Rattle.command_line.specs.declared.form.Telling.{Telling}
 use Rattle.command_line.specs.declared.form.Telling.TheVariants.{Judge, JudgeBy, Chart, Report, Migrate}
-use Rattle.command_line.specs.Form.{Form, check, run, on_trace, live, within, number, judge_by, workload, telling_of, with_one, with_two, with_three, with_four, form_of, IsScale, IsInRange}
+use Rattle.command_line.specs.Form.{Form, check, run, on_trace, live, demand, within, number, judge_by, workload, telling_of, with_one, with_two, with_three, with_four, form_of, IsScale, IsInRange}
 
 both : (a b : Bool) → (a && b) ≡ true → (a ≡ true) × (b ≡ true)
 both true true h = (refl, refl)
@@ -56,11 +56,12 @@ of_workload (Some number) (Some tasks) None h k = tt
 of_workload (Some number) (Some tasks) (Some ticks) h k = (h.0, h.1, k.0, k.1)
 
 of_one : (word a : List ℕ) → IfSome (with_one word a) IsInRange
-of_one word a = go (bytes_eq word (codes "check"))
+of_one word a = go (bytes_eq word (codes "check")) (bytes_eq word (codes "demand"))
   where
-    go : (b : Bool) → IfSome (cond b (Some (check a)) None) IsInRange
-    go true = tt
-    go false = tt
+    go : (c d : Bool) → IfSome (cond c (Some (check a)) (cond d (Some (demand a)) None)) IsInRange
+    go true d = tt
+    go false true = tt
+    go false false = tt
 
 of_two : (word a b : List ℕ) → IfSome (with_two word a b) IsInRange
 of_two word a b = go (bytes_eq word (codes "live"))

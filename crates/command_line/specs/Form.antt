@@ -12,10 +12,11 @@ pub data Form : Type 0 where
   on_trace : Telling → (tasks trace : List ℕ) → Form
   soak : (number tasks ticks : ℕ) → Form
   live : (tasks : List ℕ) (ticks : ℕ) → Form
+  demand : (demands : List ℕ) → Form
 
 -- the one line that names every form
 abbrev pub usage_line : List ℕ
-usage_line = codes "usage: check TASKS | run TASKS WORK TICKS | judge TASKS TRACE [P Q] | chart TASKS TRACE | report TASKS TRACE | soak NUMBER TASKCOUNT TICKS | migrate TASKS TRACE | live TASKS TICKS\n"
+usage_line = codes "usage: check TASKS | run TASKS WORK TICKS | judge TASKS TRACE [P Q] | chart TASKS TRACE | report TASKS TRACE | soak NUMBER TASKCOUNT TICKS | migrate TASKS TRACE | live TASKS TICKS | demand DEMANDS\n"
 
 -- the number, if it is within these bounds
 abbrev pub within : ℕ → ℕ → Option ℕ → Option ℕ
@@ -47,7 +48,8 @@ telling_of word =
 
 -- a command with one more word, with two, with three and with four
 abbrev pub with_one : List ℕ → List ℕ → Option Form
-with_one word a = if bytes_eq word (codes "check") then Some (check a) else None
+with_one word a =
+    if bytes_eq word (codes "check") then Some (check a) else if bytes_eq word (codes "demand") then Some (demand a) else None
 
 abbrev pub with_two : List ℕ → List ℕ → List ℕ → Option Form
 with_two word a b =
@@ -83,3 +85,4 @@ IsInRange (run tasks work ticks) = (1 ≤ ticks) × (ticks ≤ 1000000)
 IsInRange (on_trace telling tasks trace) = IsScale telling
 IsInRange (soak number tasks ticks) = (2 ≤ tasks) × (tasks ≤ 32) × (1 ≤ ticks) × (ticks ≤ 1000000)
 IsInRange (live tasks ticks) = (1 ≤ ticks) × (ticks ≤ 100000)
+IsInRange (demand demands) = Unit {0}

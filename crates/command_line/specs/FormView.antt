@@ -1,7 +1,7 @@
 -- What a form of the code stands for.
-use Rattle.command_line.specs.Form.{Form as Asked, check, run, on_trace, soak, live}
+use Rattle.command_line.specs.Form.{Form as Asked, check, run, on_trace, soak, live, demand}
 use Rattle.command_line.specs.declared.form.Form.{Form}
-use Rattle.command_line.specs.declared.form.Form.TheVariants.{Check, Run, OnTrace, Soak, Live}
+use Rattle.command_line.specs.declared.form.Form.TheVariants.{Check, Run, OnTrace, Soak, Live, Demand}
 
 -- the form with its words
 abbrev pub form_view : Form → Asked
@@ -10,3 +10,4 @@ form_view (Run tasks work ticks) = run tasks.now work.now ticks
 form_view (OnTrace telling tasks trace) = on_trace telling tasks.now trace.now
 form_view (Soak number tasks ticks) = soak number tasks ticks
 form_view (Live tasks ticks) = live tasks.now ticks
+form_view (Demand demands) = demand demands.now

@@ -56,6 +56,9 @@ pub enum Form<'a> {
         tasks: &'a str,
         ticks: u64,
     },
+    Demand {
+        demands: &'a str,
+    },
 }
 
 /// The form that the words have, if any.
@@ -84,17 +87,18 @@ pub fn form_of(words: &[String]) -> Option<Form<'_>>
 pub fn usage_line(alloc: Global) -> Result<Vec<u8>, AllocError>
     ensures { IfOk result (λ line. line.items ≡ spec.usage_line) }
 {
-    "usage: check TASKS | run TASKS WORK TICKS | judge TASKS TRACE [P Q] | chart TASKS TRACE | report TASKS TRACE | soak NUMBER TASKCOUNT TICKS | migrate TASKS TRACE | live TASKS TICKS\n"
+    "usage: check TASKS | run TASKS WORK TICKS | judge TASKS TRACE [P Q] | chart TASKS TRACE | report TASKS TRACE | soak NUMBER TASKCOUNT TICKS | migrate TASKS TRACE | live TASKS TICKS | demand DEMANDS\n"
         .as_bytes()
         .to_vec(alloc)
 }
 
-fn with_one<'a>(word: &str, tasks: &'a str) -> Option<Form<'a>>
-    ensures form { option_map form_view result ≡ spec.with_one word.now tasks.now }
+fn with_one<'a>(word: &str, file: &'a str) -> Option<Form<'a>>
+    ensures form { option_map form_view result ≡ spec.with_one word.now file.now }
     ensures range { IfSome result (λ form. spec.IsInRange (form_view form)) }
 {
     match word {
-        "check" => Some(Form::Check { tasks }),
+        "check" => Some(Form::Check { tasks: file }),
+        "demand" => Some(Form::Demand { demands: file }),
         _ => None,
     }
 }

@@ -11,7 +11,7 @@ use Rattle.set_gen.specs.Words.{words_of}
 use Rattle.set_gen.proofs.Admitted.{made_sets-admitted}
 use Rattle.command_line.specs.declared.form.Telling.{Telling}
 use Rattle.command_line.specs.declared.form.Telling.TheVariants.{Judge, JudgeBy, Chart, Report, Migrate}
-use Rattle.command_line.specs.Form.{Form, check, run, on_trace, soak, live, IsInRange}
+use Rattle.command_line.specs.Form.{Form, check, run, on_trace, soak, live, demand, IsInRange}
 use Rattle.replies.specs.Reply.{Reply, reply_of}
 use Rattle.replies.specs.Refusal.{Longer, refuse}
 use Rattle.replies.specs.Reading.{reply_by}
@@ -29,6 +29,7 @@ use Rattle.edfvd_program.specs.Headline.{bytes_of, SaysSet, SchedulesExactly, Ad
 use Rattle.edfvd_program.proofs.Cases.{by_weaker, by_need, of_held, Second, second_weaker, other_status, Comes, comes, by_text, by_ok, by_length, next_of}
 use Rattle.edfvd_program.proofs.Promised.{schedules_exactly}
 use Rattle.edfvd_program.proofs.Scheduled.{Runs, RunsNext, not_1_run, schedules, not_1_live, lives}
+use Rattle.edfvd_program.proofs.Demanded.{tests}
 use Rattle.edfvd_program.proofs.Found.{TellsNext, not_1_tells, finds, finds_by}
 
 -- what comes next of `check`
@@ -130,6 +131,7 @@ of_form (live tasks ticks) range files old reply h =
       lives ticks (bytes_of files tasks) old reply c,
     )
 of_form (soak number tasks ticks) range files old reply h = soaks number tasks ticks old reply (range.0, range.1) h
+of_form (demand demands) range files old reply h = tests files demands reply h
 of_form (on_trace Judge tasks trace) range files old reply h = telling_finds Judge files tasks trace old reply h
 of_form (on_trace Chart tasks trace) range files old reply h = telling_finds Chart files tasks trace old reply h
 of_form (on_trace Report tasks trace) range files old reply h = telling_finds Report files tasks trace old reply h
@@ -166,6 +168,11 @@ of_none (Some (live tasks ticks)) files old ended new e = (
   record { writes = λ k. absurd (not_9 ended 0 e k (λ z. absurd (omega (arith, z)))); complete = λ set rule a. inr e },
 )
 of_none (Some (soak number tasks ticks)) files old ended new e = record { sums = λ k. absurd (not_9 ended 0 e k (λ z. absurd (omega (arith, z)))); complete = inr e }
+of_none (Some (demand demands)) files old ended new e = record {
+  none_late = λ k. absurd (not_9 ended 0 e k (λ z. absurd (omega (arith, z))));
+  some_late = λ k. absurd (not_9 ended 10 e k (λ z. absurd (omega (arith, z))));
+  complete = λ set says. inr (inr e);
+}
 of_none (Some (on_trace Judge tasks trace)) files old ended new e = finds_none Judge (bytes_of files tasks) (bytes_of files trace) old ended new e
 of_none (Some (on_trace Chart tasks trace)) files old ended new e = finds_none Chart (bytes_of files tasks) (bytes_of files trace) old ended new e
 of_none (Some (on_trace Report tasks trace)) files old ended new e = finds_none Report (bytes_of files tasks) (bytes_of files trace) old ended new e

@@ -1,5 +1,5 @@
 -- What a call answers, from its reply and what became of it.
-use Rattle.std.proofs.Common.{◌≡◌, ◌≢◌, ◌⊎◌, inl, inr, ℕ, List, Option, Some, arith}
+use Rattle.std.proofs.Common.{◌≡◌, ◌≢◌, ◌⊎◌, inl, inr, ℕ, List, Option, Some, sym, ◌∙◌}
 use Rattle.mc_world.specs.Count.{Rose}
 use Rattle.mc_world.specs.Shelf.{Files, ShelfState}
 use Rattle.mc_world.specs.Sink.{SinkState}
@@ -7,7 +7,7 @@ use Rattle.replies.specs.Reply.{Reply}
 use Rattle.command_line.specs.Form.{Form}
 use Rattle.serving.specs.Written.{IsWritten, IsCutShort}
 use Rattle.serving.specs.Outcome.{Tells}
-use Rattle.serving.proofs.Outcomes.{is_answer, never_rose, tells_no_fault, small_status}
+use Rattle.serving.proofs.Outcomes.{is_answer, never_rose, tells_no_fault, not_8}
 use Rattle.serving.proofs.Written.{wrote_whole}
 use Rattle.edfvd_program.specs.Commands.{command}
 use Rattle.edfvd_program.specs.Outcome.{IsReply, Answers, CalmOutcome}
@@ -35,6 +35,6 @@ pub no_write_fault : (form : Option Form) (before after : ShelfState) (sink_befo
     → sink_after.faults ≡ 0 → ended ≢ 8
 no_write_fault form before after sink_before sink_after reply ended r written zero is =
     elim written [
-      | inl w ↦ let below = small_status 1 (command form) before after reply r.is in let status : ended ≡ reply.status = w.status in absurd (omega (arith, below, status, is))
+      | inl w ↦ not_8 1 (command form) before after reply r.is (sym w.status ∙ is)
       | inr cut ↦ absurd (never_rose sink_before.faults sink_after.faults zero cut.faults)
     ]

@@ -19,7 +19,12 @@ use Rattle.mc_model.specs.TraceText.{trace_text}
 use Rattle.mc_model.specs.Promise.{KeepsDeadlines}
 use Rattle.command_line.specs.declared.form.Telling.{Telling}
 use Rattle.command_line.specs.declared.form.Telling.TheVariants.{JudgeBy, Chart}
-use Rattle.command_line.specs.Form.{Form, check, run, on_trace, soak, live}
+use Rattle.command_line.specs.Form.{Form, check, run, on_trace, soak, live, demand}
+use Rattle.demand_test.specs.declared.demand.Demand.{Demand}
+use Rattle.demand_test.specs.declared.row.EdfRow.{EdfRow}
+use Rattle.demand_test.specs.EdfRuns.{IsRun, NoneLate}
+use Rattle.demand_test.specs.Counter.{SomeLate}
+use Rattle.demand_test.specs.DemandFile.{demands_in}
 use Rattle.task_answers.specs.Admitted.{under, set_in}
 use Rattle.trace_answers.specs.OnTrace.{rows_in, told}
 use Rattle.run_answers.specs.Run.{work_of}
@@ -123,6 +128,19 @@ pub record Soaked (number tasks ticks : ℕ) (old : List ℕ) (ended : ℕ) (new
   -- each workload is admitted, and run
   pub complete : Succeeds ended
 
+-- the demand file says this set
+abbrev pub SaysDemands : List ℕ → List Demand → Type 0
+SaysDemands bytes set = (length bytes ≤ 2 ^ 24) × (demands_in bytes ≡ Ok set)
+
+-- what `demand` promises of plain EDF
+pub record Tests (bytes : List ℕ) (ended : ℕ) : Type 0 where
+  -- no job of any run of a set that it finds schedulable is late
+  pub none_late : ended ≡ 0 → (set : List Demand) × SaysDemands bytes set × ((h : List EdfRow) → IsRun set h → NoneLate set h)
+  -- there is a run of one that it does not, in which a job is late
+  pub some_late : ended ≡ 10 → (set : List Demand) × (h : List EdfRow) × SaysDemands bytes set × IsRun set h × SomeLate set h
+  -- it finds each set so
+  pub complete : (set : List Demand) → SaysDemands bytes set → (ended ≡ 10) ⊎ Succeeds ended
+
 -- the headline, by what the files hold, what was written before, the status and what is written after
 abbrev pub Headline : Option Form → Files → List ℕ → ℕ → Option (List ℕ) → Type 0
 Headline None files old ended new = Unit {0}
@@ -132,6 +150,7 @@ Headline (Some (run tasks work ticks)) files old ended new =
 Headline (Some (live tasks ticks)) files old ended new =
     SchedulesExactly (bytes_of files tasks) ended × Lives ticks (bytes_of files tasks) old ended new
 Headline (Some (soak number tasks ticks)) files old ended new = Soaked number tasks ticks old ended new
+Headline (Some (demand demands)) files old ended new = Tests (bytes_of files demands) ended
 Headline (Some (on_trace (JudgeBy p q) tasks trace)) files old ended new = FindsBy (Virtual p q) (bytes_of files tasks) (bytes_of files trace) ended
 Headline (Some (on_trace telling tasks trace)) files old ended new =
     SchedulesExactly (bytes_of files tasks) ended × Finds telling (bytes_of files tasks) (bytes_of files trace) old ended new

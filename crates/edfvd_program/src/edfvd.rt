@@ -10,6 +10,7 @@ ghost use Rattle.edfvd_program.specs.Outcome.{IsReply, Outcome, CalmOutcome, Ans
 
 use crate::threaded::{serve_live, serve_run, serve_soak};
 use command_line::{Form, form_of, usage_line};
+use demand_answers::Demand;
 use executive::Gate;
 use mc_world::{Shelf, Sink};
 use replies::Reply;
@@ -82,6 +83,7 @@ fn reply_to<R: Threads + Wait + Sync, S: Shelf, G: Gate + Sync>(
     };
     match form {
         Form::Check { tasks } => serve(alloc, &Check { tasks }, shelf),
+        Form::Demand { demands } => serve(alloc, &Demand { demands }, shelf),
         Form::OnTrace {
             telling,
             tasks,

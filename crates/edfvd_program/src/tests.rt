@@ -1,5 +1,6 @@
 mod chart;
 mod check;
+mod demand;
 mod faults;
 mod gates;
 mod hostile;

@@ -7,9 +7,10 @@ use Rattle.mc_model.specs.VerdictText.{verdict_line}
 use Rattle.task_file.specs.declared.fault.TaskFault.{TaskFault}
 use Rattle.work_file.specs.declared.fault.WorkFault.{WorkFault}
 use Rattle.trace_format.specs.declared.fault.TraceFault.{TraceFault}
+use Rattle.demand_test.specs.declared.fault.DemandFault.{DemandFault}
 use Rattle.replies.specs.Reply.{Reply, reply_of}
 use Rattle.replies.specs.TaskLines.{task_fault_line, range_line}
-use Rattle.replies.specs.RowLines.{work_fault_line, trace_fault_line}
+use Rattle.replies.specs.RowLines.{work_fault_line, trace_fault_line, demand_fault_line}
 
 -- the reasons: of a file's number or a task's, of what a file says, and of a set or the verdict on a trace of it
 pub data Refusal : Type 0 where
@@ -22,6 +23,7 @@ pub data Refusal : Type 0 where
   Trace : TraceFault → Refusal
   BadTrace : List Task → Verdict → Refusal
   LongChart : (ticks : ℕ) → Refusal
+  DemandFile : DemandFault → Refusal
 
 -- the status of each
 abbrev pub status_of : Refusal → ℕ
@@ -34,6 +36,7 @@ status_of (LongChart ticks) = 5
 status_of (BadTrace set verdict) = 6
 status_of (ReadFault file) = 7
 status_of (Longer file limit) = 7
+status_of (DemandFile fault) = 11
 
 -- the line of each
 abbrev pub line_of : Refusal → List ℕ
@@ -44,6 +47,7 @@ line_of (WorkFile fault) = work_fault_line fault
 line_of (Trace fault) = trace_fault_line fault
 line_of (LongChart ticks) = codes "trace has " ++ (decimal ticks ++ codes " ticks, a chart has at most 2000000\n")
 line_of (BadTrace set verdict) = verdict_line set verdict
+line_of (DemandFile fault) = demand_fault_line fault
 line_of (ReadFault file) = codes "read fault on file " ++ (decimal file ++ codes "\n")
 line_of (Longer file limit) = codes "file " ++ (decimal file ++ (codes " is longer than " ++ (decimal limit ++ codes " bytes\n")))
 

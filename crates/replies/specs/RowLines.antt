@@ -1,4 +1,4 @@
--- The lines that refuse a work file or a trace, by the number of a record.
+-- The lines that refuse a work file, a trace or a demand file, by the number of a record.
 use Rattle.std.specs.Prelude.{ℕ, List, [], ◌++◌, codes, decimal}
 use Rattle.work_file.specs.declared.fault.WorkCause.{WorkCause}
 use Rattle.work_file.specs.declared.fault.WorkCause.TheVariants as cause
@@ -8,6 +8,10 @@ use Rattle.trace_format.specs.declared.fault.TraceCause.{TraceCause}
 use Rattle.trace_format.specs.declared.fault.TraceCause.TheVariants as row
 use Rattle.trace_format.specs.declared.fault.TraceFault.{TraceFault}
 use Rattle.trace_format.specs.declared.fault.TraceFault.TheVariants as trace
+use Rattle.demand_test.specs.declared.fault.DemandCause.{DemandCause}
+use Rattle.demand_test.specs.declared.fault.DemandCause.TheVariants as task
+use Rattle.demand_test.specs.declared.fault.DemandFault.{DemandFault}
+use Rattle.demand_test.specs.declared.fault.DemandFault.TheVariants as demand
 
 -- why a record of a work file is refused
 abbrev pub work_cause_words : WorkCause → List ℕ
@@ -42,3 +46,21 @@ trace_cause_words row.NotSix = codes "not six fields\n"
 abbrev pub trace_fault_line : TraceFault → List ℕ
 trace_fault_line trace.Memory = []
 trace_fault_line (trace.At line cause) = codes "trace line " ++ (decimal line ++ (codes ": " ++ trace_cause_words cause))
+
+-- why a record of a demand file is refused
+abbrev pub demand_cause_words : DemandCause → List ℕ
+demand_cause_words task.Header = codes "header is not task,period,deadline,budget\n"
+demand_cause_words task.Empty = codes "no tasks\n"
+demand_cause_words task.TooMany = codes "more than 128 tasks\n"
+demand_cause_words task.BadRecord = codes "not four fields\n"
+demand_cause_words task.BadName = codes "bad name\n"
+demand_cause_words task.SameName = codes "name used before\n"
+demand_cause_words task.BadNumber = codes "bad number\n"
+demand_cause_words task.ZeroNumber = codes "number is 0\n"
+demand_cause_words task.DeadlineOrder = codes "deadline after period\n"
+demand_cause_words task.Range = codes "periods out of range\n"
+
+-- the demand file is refused; Memory is no refusal and has no line
+abbrev pub demand_fault_line : DemandFault → List ℕ
+demand_fault_line demand.Memory = []
+demand_fault_line (demand.At line cause) = codes "demand file line " ++ (decimal line ++ (codes ": " ++ demand_cause_words cause))

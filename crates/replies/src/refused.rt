@@ -2,13 +2,14 @@
 ghost use Rattle.std.specs.Prelude.{◌≡◌, List, IfOk, IsErr};
 ghost use Rattle.mc_task.specs.declared.task.Task.{Task};
 ghost use Rattle.load_sum.specs.Belong.{BelongTo, AreOfSomeSet};
-ghost use Rattle.replies.specs.Refusal.{refuse, ReadFault, Longer, TaskFile, OutOfRange, NotAdmitted, WorkFile, Trace, BadTrace, LongChart};
+ghost use Rattle.replies.specs.Refusal.{refuse, ReadFault, Longer, TaskFile, OutOfRange, NotAdmitted, WorkFile, Trace, BadTrace, LongChart, DemandFile};
 
 use crate::load_text::not_admitted_text;
 use crate::reply::Reply;
-use crate::row_lines::{trace_fault_line, work_fault_line};
+use crate::row_lines::{demand_fault_line, trace_fault_line, work_fault_line};
 use crate::task_lines::{range_line, task_fault_line};
 use crate::verdicts::verdict_line;
+use demand_test::DemandFault;
 use load_sum::Loads;
 use mc_model::Verdict;
 use mc_task::{TaskNo, TaskSet};
@@ -91,4 +92,13 @@ pub fn longer(alloc: Global, file: u32, limit: usize) -> Result<Reply, AllocErro
 {
     let line = format!(in alloc; "file {file} is longer than {limit} bytes\n")?;
     Ok(Reply::new(7, line.into_bytes()))
+}
+
+/// Status 11: the demand file is refused. Want of memory is no refusal.
+pub fn demand_file(alloc: Global, fault: DemandFault) -> Result<Reply, AllocError>
+    ensures reply { IfOk result (λ reply. reply ≡ refuse (DemandFile fault)) }
+    ensures memory { fault ≡ DemandFault.Memory → IsErr result }
+{
+    let line = demand_fault_line(alloc, fault)?;
+    Ok(Reply::new(11, line))
 }

@@ -1,10 +1,11 @@
 // A reply: a status and a text.
-ghost use Rattle.std.specs.Prelude.{◌≡◌, ◌<◌};
+ghost use Rattle.std.specs.Prelude.{◌≡◌, ◌≢◌};
 ghost use Rattle.replies.specs.Reply.{reply_of};
 
 use std::marker::Model;
 
-/// A status from 0 to 7, and the text that is written with it.
+/// A status, and the text that is written with it. Statuses 8 and 9 are no reply's: they tell that writing failed, and that
+/// memory was wanting.
 #[derive(Drop)]
 pub struct Reply {
     status: u8,
@@ -12,20 +13,21 @@ pub struct Reply {
 }
 
 impl Model for Reply {
-    ghost use Rattle.std.specs.Prelude.{◌<◌};
+    ghost use Rattle.std.specs.Prelude.{◌≢◌};
     ghost use Rattle.replies.specs.Reply.{Reply as Answered, reply_of};
 
     ghost Value = { Answered };
 
     ghost view = { λ r. reply_of r.status r.text.items };
 
-    ghost invariant = { λ r. r.status < 8 };
+    ghost invariant = { λ r. (r.status ≢ 8) × (r.status ≢ 9) };
 }
 
 impl Reply {
     /// The reply with this status and text.
     pub fn new(status: u8, text: Vec<u8>) -> Reply
-        requires { status < 8 }
+        requires written { status ≢ 8 }
+        requires made { status ≢ 9 }
         ensures { result ≡ reply_of status text.items }
     {
         Reply { status, text }
@@ -34,7 +36,8 @@ impl Reply {
     /// The status.
     pub fn status(&self) -> u8
         ensures status { result ≡ self.now.status }
-        ensures small { result < 8 }
+        ensures written { result ≢ 8 }
+        ensures made { result ≢ 9 }
     {
         self.status
     }

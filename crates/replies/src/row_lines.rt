@@ -1,7 +1,8 @@
-// The lines that refuse a work file or a trace, by the number of a record.
+// The lines that refuse a work file, a trace or a demand file, by the number of a record.
 ghost use Rattle.std.specs.Prelude.{◌≡◌, IfOk, IsErr, string_bytes};
 ghost use Rattle.replies.specs.RowLines as spec;
 
+use demand_test::{DemandCause, DemandFault};
 use std::alloc::{AllocError, Global};
 use trace_format::{TraceCause, TraceFault};
 use work_file::{WorkCause, WorkFault};
@@ -65,6 +66,39 @@ fn trace_cause_words(alloc: Global, cause: TraceCause) -> Result<String, AllocEr
         TraceCause::BadLength => "bad length\n",
         TraceCause::TooManyTicks => "more than 100000000 ticks\n",
         TraceCause::NotSix => "not six fields\n",
+    };
+    String::from_str(alloc, words)
+}
+
+/// The demand file is refused. Want of memory is no refusal, and has no line.
+pub fn demand_fault_line(alloc: Global, fault: DemandFault) -> Result<Vec<u8>, AllocError>
+    ensures line { IfOk result (λ line. line.items ≡ spec.demand_fault_line fault) }
+    ensures memory { fault ≡ DemandFault.Memory → IsErr result }
+{
+    match fault {
+        DemandFault::Memory => Err(AllocError),
+        DemandFault::At { line, cause } => {
+            let words = demand_cause_words(alloc, cause)?;
+            let text = format!(in alloc; "demand file line {line}: {words}")?;
+            Ok(text.into_bytes())
+        }
+    }
+}
+
+fn demand_cause_words(alloc: Global, cause: DemandCause) -> Result<String, AllocError>
+    ensures { IfOk result (λ words. string_bytes words ≡ spec.demand_cause_words cause) }
+{
+    let words = match cause {
+        DemandCause::Header => "header is not task,period,deadline,budget\n",
+        DemandCause::Empty => "no tasks\n",
+        DemandCause::TooMany => "more than 128 tasks\n",
+        DemandCause::BadRecord => "not four fields\n",
+        DemandCause::BadName => "bad name\n",
+        DemandCause::SameName => "name used before\n",
+        DemandCause::BadNumber => "bad number\n",
+        DemandCause::ZeroNumber => "number is 0\n",
+        DemandCause::DeadlineOrder => "deadline after period\n",
+        DemandCause::Range => "periods out of range\n",
     };
     String::from_str(alloc, words)
 }

@@ -64,22 +64,22 @@ not_longer j k limit same = let e : 114 ≡ 102 = ap (λ r. first_byte r.text) s
 
 -- over a shelf whose count is 0 no reply tells a read fault
 pub tells_no_fault : (k : ℕ) (command : Command) (before after : ShelfState) (reply : Reply) → IsReply k command before after reply → after.faults ≡ 0 → (j : ℕ) → reply ≢ refuse (ReadFault j)
-tells_no_fault k (answer Is) before after reply r zero j is = let small = r.2 in let seven : reply.status ≡ 7 = ap (λ (r : Reply). r.status) is in absurd (omega (arith, small, seven))
+tells_no_fault k (answer Is) before after reply r zero j is = r.2.read (ap (λ (r : Reply). r.status) is)
 tells_no_fault k (fetch name limit next) before after reply r zero j is =
     elim r [
       | inl failed ↦ absurd (never_rose before.faults after.faults zero failed.0.rose)
       | inr rest ↦ elim rest [ inl long ↦ absurd (not_longer j k limit (sym is ∙ long.1)) | inr more ↦ tells_no_fault (k + 1) (next more.0) more.1 after reply more.3 zero j is ]
     ]
 
--- the status of a reply
-pub small_status : (k : ℕ) (command : Command) (before after : ShelfState) (reply : Reply) → IsReply k command before after reply → reply.status < 8
-small_status k (answer Is) before after reply r = let small = r.2 in omega (arith, small)
-small_status k (fetch name limit next) before after reply r =
+-- no reply has the status of a write fault
+pub not_8 : (k : ℕ) (command : Command) (before after : ShelfState) (reply : Reply) → IsReply k command before after reply → reply.status ≢ 8
+not_8 k (answer Is) before after reply r is = r.2.write is
+not_8 k (fetch name limit next) before after reply r is =
     elim r [
-      | inl failed ↦ let seven : reply.status ≡ 7 = ap (λ (r : Reply). r.status) failed.1 in omega (arith, seven)
+      | inl failed ↦ let seven : reply.status ≡ 7 = ap (λ (r : Reply). r.status) failed.1 in absurd (omega (arith, seven, is))
       | inr rest ↦
           elim rest [
-            | inl long ↦ let seven : reply.status ≡ 7 = ap (λ (r : Reply). r.status) long.1 in omega (arith, seven)
-            | inr more ↦ small_status (k + 1) (next more.0) more.1 after reply more.3
+            | inl long ↦ let seven : reply.status ≡ 7 = ap (λ (r : Reply). r.status) long.1 in absurd (omega (arith, seven, is))
+            | inr more ↦ not_8 (k + 1) (next more.0) more.1 after reply more.3 is
           ]
     ]

@@ -24,7 +24,7 @@ IsOwnReply k command before after reply = IsReply k command before after reply �
 
 -- the command answers
 pub replies-now : (k : ℕ) (command : Command) (state : ShelfState) (reply : Reply) → HasAnswer command reply → IsOwnReply k command state state reply
-replies-now k (answer Is) state reply h = ((refl, h.0, h.1.small), h.1.other)
+replies-now k (answer Is) state reply h = ((refl, h.0, h.1.faultless), h.1.other)
 replies-now k (fetch name limit next) state reply h = absurd h
 
 -- the file that it asks for could not be read

@@ -1,5 +1,5 @@
 -- What serving a command leaves behind: the reply, and the files fetched.
-use Rattle.std.specs.Prelude.{◌≡◌, ◌⊎◌, ℕ, ◌+◌, ◌<◌, ◌≤◌, nat_lt, MatchBool, Bool, true, false, List, [], ◌∷◌, ◌++◌, length, None, Some, option_map, IfSome, IsSomeAnd}
+use Rattle.std.specs.Prelude.{◌≡◌, ◌≢◌, ◌⊎◌, ℕ, ◌+◌, ◌<◌, ◌≤◌, nat_lt, MatchBool, Bool, true, false, List, [], ◌∷◌, ◌++◌, length, None, Some, option_map, IfSome, IsSomeAnd}
 use Rattle.mc_world.specs.Count.{Rose, RoseByMoreThan}
 use Rattle.mc_world.specs.Shelf.{Files, fetch_of, ShelfState}
 use Rattle.replies.specs.Reply.{Reply}
@@ -30,10 +30,16 @@ pub record HasBytes (name : List ℕ) (limit : ℕ) (bytes : List ℕ) (before a
   pub adds : AddsFetch name false before after
   pub same : after.holds ≡ before.holds
 
--- the reply to a command that asks for its file number k next: its answer, with a status below 7; or that the file could not be
+-- its status is none of those that tell a fault of the shelf, a fault of the sink, or want of memory
+pub record TellsNoFault (reply : Reply) : Type 0 where
+  pub read : reply.status ≢ 7
+  pub write : reply.status ≢ 8
+  pub memory : reply.status ≢ 9
+
+-- the reply to a command that asks for its file number k next: its answer, which tells no fault; or that the file could not be
 -- read, or is too long; or, by the file's bytes, the reply to the command that it then is
 abbrev pub IsReply : ℕ → Command → ShelfState → ShelfState → Reply → Type 0
-IsReply k (answer Is) before after reply = (after ≡ before) × Is reply × (reply.status < 7)
+IsReply k (answer Is) before after reply = (after ≡ before) × Is reply × TellsNoFault reply
 IsReply k (fetch name limit next) before after reply =
     (IsFailed name before after × (reply ≡ refuse (ReadFault k)))
     ⊎ (IsLonger name limit before after × (reply ≡ refuse (Longer k limit)))

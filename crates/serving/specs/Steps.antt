@@ -2,14 +2,15 @@
 use Rattle.std.specs.Prelude.{◌≡◌, ◌≢◌, ℕ, ◌≤◌, ◌<◌, ◌^◌, List, length}
 use Rattle.replies.specs.Reply.{Reply}
 use Rattle.serving.specs.Command.{Command, answer, fetch}
+use Rattle.serving.specs.Outcome.{TellsNoFault}
 use Rattle.serving.specs.declared.command.Served.{Served}
 use Rattle.serving.specs.declared.command.Served.TheVariants.{Done, Left}
 use Rattle.serving.specs.declared.command.Next.{Next}
 use Rattle.serving.specs.declared.command.Next.TheVariants.{Ask, Ready}
 
--- its status is none of those that tell a fault of the shelf or the sink or want of memory, nor that of words that are no command
+-- it tells no fault, and its status is not that of words that are no command
 pub record IsOwn (reply : Reply) : Type 0 where
-  pub small : reply.status < 7
+  pub faultless : TellsNoFault reply
   pub other : reply.status ≢ 2
 
 -- the command asks for the file of this name, with this limit

@@ -1,0 +1,6 @@
+//! The command `demand`.
+#![tactic(auto)]
+
+mod demand;
+
+pub use demand::Demand;
