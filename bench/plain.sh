@@ -1,0 +1,85 @@
+#!/bin/sh
+# Counts the instructions of the program beside those of plain.rs, a judge, a report and a migration in plain Rust, on the same
+# traces, and sees that both give the same text. PROGRAM=FILE measures another built program.
+cd "$(dirname -- "$0")" || exit 1
+for command in valgrind rustc; do
+    if ! command -v "$command" >/dev/null 2>&1; then
+        echo "plain: skipped, there is no $command"
+        exit 0
+    fi
+done
+work=$(mktemp -d) || exit 1
+trap 'rm -rf "$work"' EXIT
+trap 'exit 1' HUP INT TERM
+program=${PROGRAM:-../crates/edfvd_program/out/edfvd_program}
+[ -n "${PROGRAM:-}" ] || ../edfvd check ../examples/control/tasks.toml >"$work/out" || exit 1
+rustc -O --edition 2021 -o "$work/plain" plain.rs || exit 1
+failed=0
+
+# 8 tasks that are all released at each 8th tick, each for one: no two ticks are equal.
+awk 'BEGIN { for (i = 1; i <= 8; i++)
+    printf "[[task]]\nname = \"t%d\"\nlevel = \"%s\"\nperiod = 8\nlow = 1\n%s\n", i, i % 2 ? "high" : "low", i % 2 ? "high = 1\n" : "" }' >"$work/turns.toml"
+# turns VERSION RECORDS: so many records of their trace, and the header
+turns() {
+    awk -v version="$1" -v records="$2" 'BEGIN {
+        print version == 1 ? "event,tick,task,job,how" : "event,tick,length,task,job,how"
+        for (place = 0; place < records; place++) {
+            round = int(place / 16); step = place % 16; tick = round * 8
+            if (step < 8) printf "release,%d,%st%d,%d,kept\n", tick, version == 1 ? "" : ",", step + 1, round + 1
+            else printf "tick,%d,%st%d,%d,done\n", tick + step - 8, version == 1 ? "" : "1,", step - 7, round + 1
+        }
+    }'
+}
+# idles VERSION RECORDS: so many idle ticks
+idles() {
+    awk -v version="$1" -v records="$2" 'BEGIN {
+        print version == 1 ? "event,tick,task,job,how" : "event,tick,length,task,job,how"
+        for (tick = 0; tick < records; tick++) printf "idle,%d,%s,,\n", tick, version == 1 ? "" : "1,"
+    }'
+}
+
+# count PROGRAM WORDS..: its instructions
+count() {
+    valgrind --tool=callgrind --callgrind-out-file=/dev/null "$@" 2>&1 >"$work/text" | sed -n 's/.*Collected : //p'
+}
+
+# beside NAME COMMAND TASKS TRACE: the instructions of both, whose texts are the same
+beside() {
+    mine=$(count "$program" "$2" "$3" "$4")
+    cp "$work/text" "$work/first"
+    other=$(count "$work/plain" "$2" "$3" "$4")
+    if ! cmp -s "$work/text" "$work/first"; then
+        echo "$1: the texts differ"
+        failed=1
+    fi
+    awk -v name="$1" -v mine="$mine" -v other="$other" 'BEGIN { printf "%s: %d, in plain Rust %d: %.2f times\n", name, mine, other, mine / other }'
+}
+
+# each NAME MAKE VERSION: the instructions of a record, by 20,000 and 40,000 of them
+each() {
+    for records in 20000 40000; do "$2" "$3" $records >"$work/$records.csv"; done
+    for command in judge report migrate; do
+        for of in "$program" "$work/plain"; do
+            first=$(count "$of" $command "$work/turns.toml" "$work/20000.csv")
+            second=$(count "$of" $command "$work/turns.toml" "$work/40000.csv")
+            echo "$first $second"
+        done | awk -v name="$command, $1" 'NR == 1 { mine = ($2 - $1) / 20000 } NR == 2 { other = ($2 - $1) / 20000 }
+            END { printf "%s: %d a record, in plain Rust %d: %.2f times\n", name, mine, other, mine / other }'
+    done
+}
+
+printf 'event,tick,length,task,job,how\nidle,0,100000000,,,\n' >"$work/long.csv"
+printf 'event,tick,length,task,job,how\n' >"$work/none.csv"
+for command in judge report migrate; do
+    beside "$command, no record" $command ../examples/control/tasks.toml "$work/none.csv"
+    beside "$command, one idle run of 100,000,000 ticks" $command ../examples/control/tasks.toml "$work/long.csv"
+done
+each '8 tasks in turn, version 1' turns 1
+each '8 tasks in turn, version 2' turns 2
+each 'idle ticks, version 1' idles 1
+each 'idle ticks, version 2' idles 2
+turns 2 2000000 >"$work/full.csv"
+for command in judge report migrate; do
+    beside "$command, 2,000,000 records of 8 tasks in turn" $command "$work/turns.toml" "$work/full.csv"
+done
+exit $failed
