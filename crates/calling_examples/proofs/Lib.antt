@@ -1,2 +1,4 @@
+pub mod Logs
+pub mod Passes
 pub mod Steps
 pub mod Ticks

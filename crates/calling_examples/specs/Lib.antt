@@ -1,3 +1,4 @@
 pub mod Admitted
 pub mod Jobs
 pub mod Loop
+pub mod Watched

@@ -7,6 +7,7 @@ mod recorded;
 mod schedule;
 mod threads;
 mod trace;
+mod watched;
 
 use admitted::{control_set, rule_for};
 use anyhow::Context;
@@ -22,12 +23,14 @@ use std::sync::Wait;
 use std::thread::Threads;
 use threads::{StepCounter, run_jobs};
 use trace::trace_of;
+use watched::{planned, run_watched};
 
 fn main(rt: HostRuntime) -> anyhow::Result<()> {
     admit_one(&rt, rt.alloc())?;
     let core = drive_a_plant(&rt, rt.alloc())?;
     judge_rows(&rt, rt.alloc(), &core)?;
-    run_in_threads(&rt, rt.alloc(), &core)
+    run_in_threads(&rt, rt.alloc(), &core)?;
+    watch_a_run(&rt, rt.alloc(), &core)
 }
 
 fn admit_one(rt: &impl Print, alloc: Global) -> anyhow::Result<()> {
@@ -99,12 +102,34 @@ fn run_in_threads<R: Print + Threads + Wait + Sync>(
 ) -> anyhow::Result<()> {
     let set = control_set(alloc).context("no set")?;
     let rule = rule_for(&set)?;
-    let jobs = vec![in alloc; job(1, 0, 6), job(2, 0, 5), job(2, 10, 5)]?;
+    let jobs = overrun(alloc).context("out of memory")?;
     let counter = StepCounter::new();
     let floor = run_jobs(rt, alloc, set, rule, jobs, 12, &counter)?;
     println!(rt; "steps in threads: {}", counter.steps())?;
     println!(rt; "the same rows: {}", floor.core().rows() == core.rows())?;
     Ok(())
+}
+
+fn watch_a_run<R: Print + Threads + Wait + Sync>(
+    rt: &R,
+    alloc: Global,
+    core: &Core,
+) -> anyhow::Result<()> {
+    let set = control_set(alloc).context("no set")?;
+    let rule = rule_for(&set)?;
+    let jobs = overrun(alloc).context("out of memory")?;
+    let floor = planned(alloc, set, rule, jobs, 12).context("no floor")?;
+    let (floor, ended) = run_watched(rt, alloc, floor, 12)
+        .ok()
+        .context("out of memory")?;
+    println!(rt; "ticks that a panel counted: {ended}")?;
+    println!(rt; "the same rows: {}", floor.core().rows() == core.rows())?;
+    Ok(())
+}
+
+// The jobs that the plant releases.
+fn overrun(alloc: Global) -> Option<Vec<WorkRow>> {
+    vec![in alloc; job(1, 0, 6), job(2, 0, 5), job(2, 10, 5)].ok()
 }
 
 fn job(task: u32, release: u32, need: u32) -> WorkRow {
