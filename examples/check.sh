@@ -48,6 +48,14 @@ expect 5 "$(says 'trace has 100000000 ticks, a chart has at most 2000000')" char
 expect 0 live/first.txt live live/tasks.toml 10
 expect 0 live/one.txt live live/one.toml 3
 
+for file in demand/within demand/book demand/later; do
+    expect 0 $file.txt demand $file.csv
+done
+for file in demand/past demand/sensor; do
+    expect 10 $file.txt demand $file.csv
+done
+expect 11 demand/refused.txt demand demand/refused.csv
+
 expect 0 avionics/check.txt check avionics/tasks.toml
 "$edfvd" run avionics/tasks.toml avionics/work.csv 20000 >"$work/avionics.csv"
 status=$?
@@ -104,7 +112,7 @@ done
 lives live/tasks.toml 100000
 
 # Words that are none of the forms.
-usage='usage: check TASKS | run TASKS WORK TICKS | judge TASKS TRACE [P Q] | chart TASKS TRACE | report TASKS TRACE | soak NUMBER TASKCOUNT TICKS | migrate TASKS TRACE | live TASKS TICKS'
+usage='usage: check TASKS | run TASKS WORK TICKS | judge TASKS TRACE [P Q] | chart TASKS TRACE | report TASKS TRACE | soak NUMBER TASKCOUNT TICKS | migrate TASKS TRACE | live TASKS TICKS | demand DEMANDS'
 expect 2 "$(says "$usage")"
 expect 2 "$(says "$usage")" check
 expect 2 "$(says "$usage")" check control/tasks.toml again
@@ -119,6 +127,10 @@ for ticks in '' 0 -1 100001; do
 done
 expect 2 "$(says "$usage")" live live/tasks.toml
 expect 2 "$(says "$usage")" live live/tasks.toml 10 10
+expect 2 "$(says "$usage")" demand
+expect 2 "$(says "$usage")" demand demand/within.csv 12
+expect 2 "$(says "$usage")" Demand demand/within.csv
+expect 2 "$(says "$usage")" demands demand/within.csv
 expect 2 "$(says "$usage")" migrate runs/tasks.toml
 expect 2 "$(says "$usage")" migrate runs/tasks.toml runs/rows.csv 1 1
 expect 1 refused/high_load.txt live refused/high_load.toml 10
@@ -248,6 +260,73 @@ half_served >"$work/trace.csv"
 expect 6 "$(says 'legal late 999999 first b 1')" judge "$work/tasks.toml" "$work/trace.csv" 1 1
 half_served | awk -F, -v OFS=, '{ $2 = $2 OFS (NR == 1 ? "length" : $1 == "tick" ? 1 : ""); print }' >"$work/trace.csv"
 expect 6 "$(says 'legal late 999999 first b 1')" judge "$work/tasks.toml" "$work/trace.csv" 1 1
+
+# Demand files: absent, a folder, at the limit of bytes and past it, hostile bytes, at the limits of tasks and periods.
+demands='task,period,deadline,budget'
+# meets LENGTH RECORDS: a demand file of these records behind the header meets its deadlines, checked to this length
+meets() {
+    # shellcheck disable=SC2059
+    printf "$demands\n$2" >"$work/demands.csv"
+    expect 0 "$(says "schedulable, demand checked to $1")" demand "$work/demands.csv"
+}
+# refused_demands LINE TEXT: a demand file of this text is refused with this line
+refused_demands() {
+    # shellcheck disable=SC2059
+    printf "$2" >"$work/demands.csv"
+    expect 11 "$(says "demand file line $1")" demand "$work/demands.csv"
+}
+expect 7 "$(says 'read fault on file 1')" demand "$work/absent.csv"
+expect 7 "$(says 'read fault on file 1')" demand "$work"
+length=$(wc -c <demand/within.csv)
+{ cat demand/within.csv; head -c $((16777216 - length)) /dev/zero | tr '\0' '\n'; } >"$work/demands.csv"
+expect 0 demand/within.txt demand "$work/demands.csv"
+echo >>"$work/demands.csv"
+expect 7 "$(says 'file 1 is longer than 16777216 bytes')" demand "$work/demands.csv"
+refused_demands "1: header is not $demands" ''
+refused_demands "1: header is not $demands" 'a,4,2,1\n'
+refused_demands "1: header is not $demands" "$demands,\na,4,2,1\n"
+refused_demands '1: no tasks' "$demands\n\n"
+refused_demands '3: not four fields' "$demands\na,4,2,1\nb,4,2\n"
+refused_demands '2: bad name' "$demands\n\377,4,2,1\n"
+refused_demands '2: bad name' "$demands\na b,0,x,1\n"
+refused_demands '3: name used before' "$demands\na,4,2,1\na,x,2,1\n"
+refused_demands '2: bad number' "$demands\na,0,4294967296,1\n"
+refused_demands '2: bad number' "$demands\na,00000000004,2,1\n"
+refused_demands '2: number is 0' "$demands\na,2,4,0\n"
+refused_demands '2: deadline after period' "$demands\na,500001,500002,1\n"
+refused_demands '2: periods out of range' "$demands\na,500001,2,1\n"
+refused_demands '3: periods out of range' "$demands\na,1000,1,1\nb,501,1,1\nc,0,1,1\n"
+printf '\357\273\277%s\r\n\r\n"a",4,0000000002,"1"\r\nb,6,3,2' "$demands" >"$work/demands.csv"
+expect 0 demand/within.txt demand "$work/demands.csv"
+meets 1 'a,1,1,1\n'
+meets 500000 'a,500000,1,1\n'
+meets 500000 'a,15625,15625,7813\nb,32,32,15\n'
+cat >"$work/past.txt" <<'END'
+not schedulable: demand 4294967295 in length 1
+release a 1 at 0
+tick 0 a 1
+late a 1
+END
+printf '%s\na,1,1,4294967295\n' "$demands" >"$work/demands.csv"
+expect 10 "$work/past.txt" demand "$work/demands.csv"
+# 128 tasks of one period and deadline, whose budgets fill it; with a tick more, the last of them is late.
+# crowd BUDGET: these tasks, with this budget of the last one
+crowd() {
+    echo "$demands"
+    awk -v last="$1" 'BEGIN { for (i = 1; i < 128; i++) print "t" i ",500000,500000,3906"; print "t128,500000,500000," last }'
+}
+crowd 3938 >"$work/demands.csv"
+expect 0 "$(says 'schedulable, demand checked to 500000')" demand "$work/demands.csv"
+echo 't129,500000,500000,1' >>"$work/demands.csv"
+expect 11 "$(says 'demand file line 130: more than 128 tasks')" demand "$work/demands.csv"
+crowd 3939 >"$work/demands.csv"
+{
+    echo 'not schedulable: demand 500001 in length 500000'
+    awk 'BEGIN { for (i = 1; i <= 128; i++) print "release t" i " 1 at 0"
+        for (t = 0; t < 500000; t++) print "tick " t " t" (t < 127 * 3906 ? int(t / 3906) + 1 : 128) " 1"
+        print "late t128 1" }'
+} >"$work/past.txt"
+expect 10 "$work/past.txt" demand "$work/demands.csv"
 
 # quotes PAGE: each block of Rust in the page stands in a file of the callers' crate, line for line, and there is one
 quotes() {

@@ -24,7 +24,7 @@ import model
 from cases import Dice, Runner, keep, program_count_seed, tell
 from model import (
     DONE, DROPPED, EVENTS, HIGH, IDLE, KEPT, LOW, MORE, MOST, MOST_TICKS, OVER, PLAIN, RELEASES, STOP, TICKS,
-    TRACE_HEADERS, Job, Run, Task, Trace, Work, rows_of, run_fields, with_before)
+    TRACE_HEADERS, Demand, Job, Run, Task, Trace, Work, demand_file, rows_of, run_fields, with_before)
 
 DEFAULT_CASES = 4000
 
@@ -32,7 +32,7 @@ DEFAULT_CASES = 4000
 class Case(NamedTuple):
     command: str
     tree: Optional[dict]  # of the task file
-    second: Optional[str]  # the text of the second file
+    second: Optional[str]  # the text of the second file; of `demand`, of its one file
     words: list
     twin: Optional[str] = None  # the second file's trace as another text
 
@@ -685,17 +685,61 @@ def odd_words_case(dice):
     return case._replace(words=words)
 
 
+DEMAND_PERIODS = [[1, 2, 3, 4, 6], [2, 4, 8, 16], [3, 5, 15], [4, 5, 10, 20], [3, 4, 5]]
+DEMAND_FIELDS = ODD_FIELDS + ['bob', 'task', 'period', 'deadline', 'budget', '500000', '500001']
+
+
+def demands_of(dice):
+    """One to five tasks that ask for about as much as there is, with deadlines of at most their periods."""
+    known = dice.one_of(DEMAND_PERIODS)
+    periods = [dice.one_of(known) for _ in range(between(dice, 1, 5))]
+    own = budgets(dice, periods, between(dice, 40, 110))
+    return [
+        Demand(f'{dice.one_of(STEMS)}{number}', period, between(dice, min(period, budget), period), budget)
+        for number, (period, budget) in enumerate(zip(periods, own), 1)]
+
+
+def wide_demands(dice):
+    """A task with a period at the limit and a short deadline, which is met by the last tick or missed."""
+    deadline = between(dice, 1, 30)
+    return [Demand('wide', between(dice, 499999, 500001), deadline, between(dice, max(1, deadline - 1), deadline + 1))]
+
+
+def with_fault(dice, demands):
+    """The tasks, one of which mostly may not stand behind those before it."""
+    place = dice.below(len(demands))
+    wrong = dice.one_of([
+        {'name': demands[0].name}, {'name': demands[place].name + '.'}, {'deadline': demands[place].period + 1},
+        {'budget': 0}, {'budget': MOST + 1}, {'period': 250001}])
+    return demands[:place] + [demands[place]._replace(**wrong)] + demands[place + 1:]
+
+
+def demand_case(dice):
+    demands = wide_demands(dice) if chance(dice, 1, 20) else demands_of(dice)
+    if chance(dice, 1, 6):
+        demands = with_fault(dice, demands)
+    text = demand_file(*[','.join(map(str, task)) for task in demands])
+    if chance(dice, 1, 100):
+        text = demand_file()
+    words = [dice.one_of(ODD_WORDS)] if chance(dice, 1, 40) else []
+    return Case('demand', None, spoilt_text(dice, text, DEMAND_FIELDS) if chance(dice, 1, 3) else text, words)
+
+
 HUNDRED = (
     17 * [check_case] + 17 * [run_case] + 6 * [refused_run_case] + 16 * [judge_case] + 14 * [judge_by_scale_case]
     + 14 * [drawn_case] + 9 * [refused_trace_case] + 5 * [live_case] + [soak_case, odd_words_case])
 
 
 def cases(count, dice):
-    """A hundred cases over and over, some with a task file that was spoilt after the second file was made for it."""
-    for number in range(count):
+    """A hundred cases over and over, some with a task file that was spoilt after the second file was made for it; the last
+    twentieth are demand sets."""
+    of_demands = count // 20
+    for number in range(count - of_demands):
         case = HUNDRED[number % len(HUNDRED)](dice)
         is_spoilt = case.command not in ('check', 'soak') and chance(dice, 1, 30)
         yield case._replace(tree=spoilt_tree(dice, case.tree)) if is_spoilt else case
+    for _ in range(of_demands):
+        yield demand_case(dice)
 
 
 # ---- What came of them ----
@@ -713,6 +757,7 @@ STATUSES = {
     'migrate': [0, 1, 3, 5, 6],
     'live': [0, 1, 2, 3],
     'soak': [0, 2],
+    'demand': [0, 2, 10, 11],
 }
 OUTCOMES = {
     'check': ['plain', 'plain at 1', 'virtual', 'virtual at 1'],
@@ -722,6 +767,7 @@ OUTCOMES = {
         'late', 'two jobs of a task', 'a scale that holds', 'a scale that does not hold'],
     'migrate': HAPPENINGS,
     'live': ['an overrun', 'a discard', 'a drop', 'a return', 'a tie'],
+    'demand': ['within', 'past', 'past behind a second release', 'several late'],
     'traces': ['version 1', 'version 2', 'a run of several rows', 'above a million ticks', 'two texts'],
     'task file': [
         'not TOML', 'unknown key', 'unknown version', 'no tasks', 'missing key', 'wrong kind', 'bad name',
@@ -734,6 +780,9 @@ OUTCOMES = {
     'trace': [
         'header', 'not five fields', 'not six fields', 'unknown event', 'unknown task', 'bad number', 'wrong tick',
         'bad length', 'more than 100000000 ticks', 'a chart has at most 2000000'],
+    'demand file': [
+        'header', 'no tasks', 'not four fields', 'bad name', 'name used before', 'bad number', 'number is 0',
+        'deadline after period', 'periods out of range'],
 }
 
 
@@ -781,11 +830,13 @@ def is_at_one(tasks, rule):
 def outcomes(case, status, text):
     """What came of a case, as OUTCOMES names it: of which command or file, and what."""
     form = case.form()
-    if status in (3, 4, 5):
-        file = {3: 'task file', 4: 'work file', 5: 'trace'}[status]
+    if status in (3, 4, 5, 11):
+        file = {3: 'task file', 4: 'work file', 5: 'trace', 11: 'demand file'}[status]
         yield from ((file, words) for words in OUTCOMES[file] if words in text)
     elif text.startswith('illegal'):
         yield form, text.split()[3]
+    elif form == 'demand' and status != 2:
+        yield from ((form, words) for words in outcomes_of_demands(model.read_demands(case.second)))
     elif status in (0, 6) and form != 'soak':
         tasks = model.read_tasks(case.tree)
         rule = rule_of(case, tasks)
@@ -800,6 +851,18 @@ def outcomes(case, status, text):
             yield form, 'a scale that holds' if model.holds(tasks, rule) else 'a scale that does not hold'
         if status == 6:
             yield form, 'late'
+
+
+def outcomes_of_demands(demands):
+    """What comes of a demand set."""
+    length = model.first_past(demands)
+    yield 'within' if length is None else 'past'
+    if length is not None:
+        rows = model.counterexample(demands, length)
+        if any(released.job.count > 1 for released in model.edf_jobs(rows)):
+            yield 'past behind a second release'
+        if len(model.edf_late(demands, rows)) > 1:
+            yield 'several late'
 
 
 def breaks_the_law(case, text):

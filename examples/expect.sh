@@ -71,6 +71,10 @@ for_examples() {
     "$@" soak 7 8 20000
     "$@" migrate runs/tasks.toml runs/rows.csv
     "$@" live live/tasks.toml 10
+    "$@" demand demand/within.csv
+    "$@" demand demand/sensor.csv
+    "$@" demand demand/refused.csv
+    "$@" demand absent.csv
     "$@"
 }
 

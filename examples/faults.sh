@@ -38,16 +38,21 @@ expect 7 "$(says 'read fault on file 2')" run overrun/tasks.toml "$work" 12
 expect 7 "$(says 'read fault on file 2')" judge judged/tasks.toml "$work"
 expect 7 "$(says 'read fault on file 1')" check control/tasks.toml/
 expect 7 "$(says 'read fault on file 1')" check ''
+expect 7 "$(says 'read fault on file 1')" demand "$work"
+expect 7 "$(says 'read fault on file 1')" demand demand/within.csv/
 expect 7 "$(says 'file 1 is longer than 16777216 bytes')" check /dev/zero
 expect 7 "$(says 'file 2 is longer than 16777216 bytes')" run overrun/tasks.toml /dev/zero 12
 expect 7 "$(says 'file 2 is longer than 134217728 bytes')" judge judged/tasks.toml /dev/zero
+expect 7 "$(says 'file 1 is longer than 16777216 bytes')" demand /dev/zero
 expect 3 "$(says 'task file: no tasks')" check /dev/null
+expect 11 "$(says 'demand file line 1: header is not task,period,deadline,budget')" demand /dev/null
 cp control/tasks.toml "$work/locked.toml"
 chmod 000 "$work/locked.toml"
 if [ "$(id -u)" -eq 0 ]; then
     echo 'faults: an unreadable file is skipped, since root reads every file'
 else
     expect 7 "$(says 'read fault on file 1')" check "$work/locked.toml"
+    expect 7 "$(says 'read fault on file 1')" demand "$work/locked.toml"
 fi
 
 # Named pipes: whole, in pieces, and without a byte. One without a writer is waited for, as by any reader.
@@ -65,6 +70,8 @@ feeds true
 expect 3 "$(says 'task file: no tasks')" check "$work/pipe"
 feeds cat overrun/work.csv
 expect 0 overrun/run.txt run overrun/tasks.toml "$work/pipe" 12
+feeds sh -c 'head -c 40 demand/sensor.csv; sleep 0.2; tail -c +41 demand/sensor.csv'
+expect 10 demand/sensor.txt demand "$work/pipe"
 # A writer that never stops.
 feeds cat /dev/zero
 expect 7 "$(says 'file 1 is longer than 16777216 bytes')" check "$work/pipe"
@@ -140,6 +147,7 @@ calls() {
 calls 1 check control/tasks.toml
 calls 1000 check control/tasks.toml
 calls 1000 run overrun/tasks.toml overrun/work.csv 12
+calls 1 demand demand/past.csv
 for_examples calls 8
 
 # starts NUMBER WORDS..: with this start of a thread refused, or all of them where the number is 0: the run ends as ever
@@ -188,5 +196,8 @@ bounded "$program" run overrun/tasks.toml "$work/first.csv" 12 >"$work/ordinary"
 ordinary=$?
 refuse "CUT=6 CUT_FILE=$work/cut.csv" run overrun/tasks.toml "$work/cut.csv" 12
 judge "$ordinary" "$status" "$work/ordinary" 'run, with a work file cut while it is read'
+{ cat demand/sensor.csv; head -c 20000 /dev/zero | tr '\0' '\n'; echo more; } >"$work/cut.csv"
+refuse "CUT=3 CUT_FILE=$work/cut.csv" demand "$work/cut.csv"
+judge 10 "$status" demand/sensor.txt 'demand, of a file cut while it is read'
 
 ends faults

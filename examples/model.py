@@ -995,7 +995,8 @@ def set_fault(tasks):
 # ---- The program ----
 
 USAGE = ('usage: check TASKS | run TASKS WORK TICKS | judge TASKS TRACE [P Q] | chart TASKS TRACE '
-         '| report TASKS TRACE | soak NUMBER TASKCOUNT TICKS | migrate TASKS TRACE | live TASKS TICKS\n')
+         '| report TASKS TRACE | soak NUMBER TASKCOUNT TICKS | migrate TASKS TRACE | live TASKS TICKS '
+         '| demand DEMANDS\n')
 COUNT_OF_WORDS = {
     'check': [0], 'run': [1], 'judge': [0, 2], 'chart': [0], 'report': [0], 'soak': [3], 'migrate': [0], 'live': [1],
     'demand': [0]}

@@ -39,6 +39,10 @@ EXAMPLES = [('check', [name], []) for name in sorted(glob.glob('*/tasks.toml') +
     ('migrate', ['runs/tasks.toml', 'runs/long.csv'], []),
     ('live', ['live/tasks.toml'], ['40']),
     ('live', ['live/one.toml'], ['3']),
+    ('demand', ['demand/within.csv'], []),
+    ('demand', ['demand/past.csv'], []),
+    ('demand', ['demand/sensor.csv'], []),
+    ('demand', ['demand/book.csv'], []),
 ]
 
 # ---- What may be answered ----
@@ -62,10 +66,14 @@ WORK_FAULT = '|'.join([
 TRACE_FAULT = '|'.join([
     'not five fields', 'not six fields', 'header is of no trace version', 'unknown event', 'unknown task', 'bad number',
     'wrong tick', 'bad length', 'more than 2000000 rows', 'more than 100000000 ticks'])
+DEMAND_FAULT = '|'.join([
+    'header is not task,period,deadline,budget', 'no tasks', 'more than 128 tasks', 'not four fields', 'bad name',
+    'name used before', 'bad number', 'number is 0', 'deadline after period', 'periods out of range'])
 WHY = 'too_soon|wrong_count|wrong_kept|not_pending|not_least|wrong_how|idle_pending'
 RUN = '|'.join([
     f'release,{NUMBER},,{NAME},{COUNT},(?:kept|dropped)', f'tick,{NUMBER},{COUNT},{NAME},{COUNT},more',
     f'tick,{NUMBER},1,{NAME},{COUNT},(?:done|stop|over)', f'idle,{NUMBER},{COUNT},,,'])
+EDF_ROW = '|'.join([f'release {NAME} {COUNT} at {NUMBER}', f'tick {NUMBER} {NAME} {COUNT}', f'idle {NUMBER}'])
 COUNTS = ' '.join(f'{word} {NUMBER}' for word in [
     'released', 'kept', 'dropped', 'discarded', 'done', 'stopped', 'ticks'])
 
@@ -77,6 +85,7 @@ LEGAL = 'legal late 0\n'
 LATE = f'legal late {COUNT} first {NAME} {COUNT}\n'
 USAGE = 'usage: check TASKS .*\n'
 TRACE = f'{TRACE_HEADER}\n(?:(?:{RUN})\n)*'
+NOT_SCHEDULABLE = f'not schedulable: demand {COUNT} in length {COUNT}\n(?:(?:{EDF_ROW})\n)+late {NAME} {COUNT}\n'
 LONG = f'trace has {COUNT} ticks, a chart has at most 2000000\n'
 
 # The texts of each status of a command. A given scale judges sets that the test does not admit, and jobs may be late.
@@ -107,6 +116,11 @@ FORMS = {
     },
     'migrate': {0: TRACE, **ON_A_TRACE},
     'live': {0: TRACE, 1: NOT_ADMITTED, 2: USAGE, 3: TASKS_REFUSED},
+    'demand': {
+        0: f'schedulable, demand checked to {COUNT}\n',
+        10: NOT_SCHEDULABLE,
+        11: f'demand file line {COUNT}: (?:{DEMAND_FAULT})\n',
+    },
 }
 
 
@@ -119,9 +133,17 @@ def fault_of(form, status, text, errors):
         return f'status {status} with another text'
     if form == 'chart' and status == 0 and len({len(line) for line in text.splitlines()}) != 1:
         return 'a chart with lines of several lengths'
+    if form == 'demand' and status == 10 and not has_each_tick(text):
+        return 'a counterexample of another length'
     if errors:
         return 'words on standard error'
     return None
+
+
+def has_each_tick(text):
+    """Whether the ticks of a counterexample are numbered one by one, up to the length that its first line tells."""
+    ticks = [int(line.split()[1]) for line in text.splitlines() if line.split()[0] in (b'tick', b'idle')]
+    return ticks == list(range(int(text.splitlines()[0].split()[-1])))
 
 
 # ---- How files are spoilt ----
@@ -130,10 +152,11 @@ BYTES_TO_PUT = [bytes([byte]) for byte in b'\0\t\n\r "#\',-.0159=[\\]_a{}\x7f\x8
 LIMITS = [text.encode() for text in [
     '', '0', '1', '00', '0000000001', '00000000001', '4294967295', '4294967296', '9223372036854775807',
     '9223372036854775808', '18446744073709551615', '18446744073709551616', '99999999999999999999', '-1', '+1', '-0',
-    '1.0', '1e3', '0x10', '1_000', 'inf', ' 1', '1 ', '100000000', '100000001']]
+    '1.0', '1e3', '0x10', '1_000', 'inf', ' 1', '1 ', '100000000', '100000001', '500000',
+    '500001']]
 WORDS = [text.encode() for text in [
     '', 'task', 'name', 'level', 'period', 'low', 'high', 'version', 'ctl', 'log', 'event', 'tick', 'length', 'job', 'how',
-    'release',
+    'release', 'deadline', 'budget',
     'need', 'kept', 'dropped', 'more', 'done', 'stop', 'over', 'idle', 'Task', 'CTL', 'ctl.log', 'l' * 32, 'l' * 33]]
 VALUES = [text.encode() for text in [
     'true', '"10"', '1.5', 'nan', '[]', '[10]', '[[]]', '{}', '{ a = 1 }', '1979-05-27', '07:32:00', '"""a"""', "'low'",
