@@ -690,12 +690,16 @@ DEMAND_FIELDS = ODD_FIELDS + ['bob', 'task', 'period', 'deadline', 'budget', '50
 
 
 def demands_of(dice):
-    """One to five tasks that ask for about as much as there is, with deadlines of at most their periods."""
+    """One to five tasks that ask for about as much as there is, with deadlines of at most their periods, sometimes all of
+    the periods: then a set may be past no length but the last."""
     known = dice.one_of(DEMAND_PERIODS)
     periods = [dice.one_of(known) for _ in range(between(dice, 1, 5))]
-    own = budgets(dice, periods, between(dice, 40, 110))
+    are_periods = chance(dice, 1, 4)
+    own = budgets(dice, periods, between(dice, 95, 115) if are_periods else between(dice, 40, 110))
     return [
-        Demand(f'{dice.one_of(STEMS)}{number}', period, between(dice, min(period, budget), period), budget)
+        Demand(
+            f'{dice.one_of(STEMS)}{number}', period, period if are_periods else between(dice, min(period, budget), period),
+            budget)
         for number, (period, budget) in enumerate(zip(periods, own), 1)]
 
 
@@ -706,17 +710,19 @@ def wide_demands(dice):
 
 
 def with_fault(dice, demands):
-    """The tasks, one of which mostly may not stand behind those before it."""
+    """The tasks, one of which mostly may not stand behind those before it, for one reason or for several."""
     place = dice.below(len(demands))
-    wrong = dice.one_of([
-        {'name': demands[0].name}, {'name': demands[place].name + '.'}, {'deadline': demands[place].period + 1},
-        {'budget': 0}, {'budget': MOST + 1}, {'period': 250001}])
-    return demands[:place] + [demands[place]._replace(**wrong)] + demands[place + 1:]
+    task = demands[place]
+    for _ in range(between(dice, 1, 3)):
+        task = task._replace(**dice.one_of([
+            {'name': demands[0].name}, {'name': task.name + '.'}, {'budget': 0}, {'budget': MOST + 1}, {'deadline': 0},
+            {'deadline': task.period + 1}, {'deadline': MOST + 1}, {'period': 250001}, {'period': 500001}]))
+    return demands[:place] + [task] + demands[place + 1:]
 
 
 def demand_case(dice):
     demands = wide_demands(dice) if chance(dice, 1, 20) else demands_of(dice)
-    if chance(dice, 1, 6):
+    if chance(dice, 1, 4):
         demands = with_fault(dice, demands)
     text = demand_file(*[','.join(map(str, task)) for task in demands])
     if chance(dice, 1, 100):
@@ -767,7 +773,7 @@ OUTCOMES = {
         'late', 'two jobs of a task', 'a scale that holds', 'a scale that does not hold'],
     'migrate': HAPPENINGS,
     'live': ['an overrun', 'a discard', 'a drop', 'a return', 'a tie'],
-    'demand': ['within', 'past', 'past behind a second release', 'several late'],
+    'demand': ['within', 'past', 'past behind a second release', 'past at the last length', 'several late'],
     'traces': ['version 1', 'version 2', 'a run of several rows', 'above a million ticks', 'two texts'],
     'task file': [
         'not TOML', 'unknown key', 'unknown version', 'no tasks', 'missing key', 'wrong kind', 'bad name',
@@ -861,6 +867,8 @@ def outcomes_of_demands(demands):
         rows = model.counterexample(demands, length)
         if any(released.job.count > 1 for released in model.edf_jobs(rows)):
             yield 'past behind a second release'
+        if 1 < length == model.hyperperiod(demands):
+            yield 'past at the last length'
         if len(model.edf_late(demands, rows)) > 1:
             yield 'several late'
 
