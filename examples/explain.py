@@ -1,0 +1,135 @@
+"""The verdict on a trace, and of an illegal one what stands behind it: the line, the mode, the pending jobs, what fits.
+
+It works over walk.py and model.py, the other program that was written from the rules alone, and calls no built one. Its
+first line and its status are those of `judge`.
+
+usage: explain.py TASKS TRACE [P Q]
+"""
+
+import sys
+from fractions import Fraction
+
+import model
+from model import EVENTS, IDLE
+from walk import Walk, go_through, read_task_file, read_trace_file
+
+# The words of `judge`, each as a sentence on the row.
+SENTENCES = {
+    'too_soon': 'the last release of its task is less than a period ago',
+    'wrong_count': "its number is not one more than its task's releases so far",
+    'wrong_kept': 'a release is dropped exactly where it is of a low task and the mode is high',
+    'not_pending': 'its job is not pending',
+    'not_least': 'a pending job has a smaller key',
+    'wrong_how': 'the tick ends otherwise than the budgets say',
+    'idle_pending': 'a job is pending, so no tick is idle',
+}
+
+
+# A job by its task's name.
+def name_of(walk, job):
+    return f'{walk.task_of(job).name} {job.count}'
+
+
+# The number of a record's row in it, where it has more than one.
+def place_in_record(misfit):
+    length = misfit.placed.run.length
+    if length == 1:
+        return ''
+    return f', of which tick {misfit.run.tick} is number {misfit.run.tick - misfit.placed.run.tick + 1} of {length}'
+
+
+# A line for each pending job, that of the least key first.
+def pending_lines(walk):
+    for job in sorted(walk.waiting, key=lambda job: (walk.key(job), job.task)):
+        task, waiting = walk.task_of(job), walk.waiting[job]
+        budgets = f'{task.low}' if task.level == model.LOW else f'{task.low} and {task.high}'
+        yield (f'  {name_of(walk, job)}, {task.level}: released at {waiting.release}, '
+               f'key {Fraction(walk.key(job), walk.rule.q)}, deadline {waiting.release + task.period}, '
+               f'has had {waiting.used} of {budgets}')
+
+
+# A record of one row, in the form of the file.
+def record_of(walk, header, kind, job=None):
+    fields = model.run_fields(walk.tasks, model.Run(kind, walk.ticks, job))
+    if header == model.TRACE_HEADERS[1]:
+        del fields[2]
+    return ','.join(fields)
+
+
+# The ticks that fit: an idle one, or one of each pending job of the least key, done or else as the budgets say.
+def fitting_ticks(walk, header):
+    if not walk.waiting:
+        yield record_of(walk, header, IDLE)
+        return
+    least = walk.least()
+    for job in sorted(job for job in walk.waiting if walk.key(job) == least):
+        for kind in ('done', walk.how_of(job)):
+            yield record_of(walk, header, kind, job)
+
+
+# The release of a task that fits, and from when.
+def fitting_release(walk, header, number):
+    count, earliest = walk.released(number)
+    if walk.ticks < earliest:
+        return f'{walk.tasks[number - 1].name} may be released again from {earliest} on'
+    kind = 'dropped' if walk.drops(number) else 'kept'
+    return record_of(walk, header, kind, model.Job(number, count + 1))
+
+
+# Why a job that has the tick is not pending.
+def whereabouts(walk, job):
+    if job in walk.left:
+        left = walk.left[job]
+        return f'{name_of(walk, job)} was {left.why} in line {left.line}'
+    return f'{name_of(walk, job)} was not released: its task has had {walk.released(job.task)[0]} releases'
+
+
+# All that is told of a row that does not fit.
+def explanation(misfit, header):
+    walk, run = misfit.walk, misfit.run
+    yield f'line {misfit.placed.line}: {",".join(misfit.placed.record)}{place_in_record(misfit)}'
+    yield f'{misfit.why}: {SENTENCES[misfit.why]}'
+    if misfit.why == 'not_pending':
+        yield whereabouts(walk, run.job)
+    yield f'before it: {walk.ticks} ticks, mode {"high" if walk.high_mode else "low"}, rule {rule_words(walk.rule)}'
+    yield 'pending:' if walk.waiting else 'pending: no job'
+    yield from pending_lines(walk)
+    yield 'fits here:'
+    if EVENTS[run.kind] == 'release':
+        yield f'  {fitting_release(walk, header, run.job.task)}'
+    for record in fitting_ticks(walk, header):
+        yield f'  {record}'
+
+
+def rule_words(rule):
+    return 'plain' if rule == model.PLAIN else f'virtual {rule.p}/{rule.q}'
+
+
+# The status, and the lines, for the header of a trace and its runs in their places; the rule is of the words, or the test's.
+def explain(tasks, words, header, trace):
+    scale = model.read_words('judge', words)
+    walk = Walk(tasks, model.virtual(*scale) if scale else model.admitted(tasks))
+    misfit = go_through(walk, trace)
+    if misfit is not None:
+        return 6, [f'illegal row {walk.rows + 1} {misfit.why}', *explanation(misfit, header)]
+    late = walk.late()
+    if late:
+        return 6, [f'legal late {len(late)} first {name_of(walk, late[0])}']
+    return 0, ['legal late 0']
+
+
+def main(words):
+    if len(words) not in (2, 4):
+        print(__doc__.splitlines()[-1], file=sys.stderr)
+        return 2
+    try:
+        tasks = read_task_file(words[0])
+        status, told = explain(tasks, words[2:], *read_trace_file(tasks, words[1]))
+    except model.Refusal as refusal:
+        status, told = refusal.status, [refusal.line[:-1]]
+    print('\n'.join(told))
+    return status
+
+
+if __name__ == '__main__':
+    sys.exit(main(sys.argv[1:]))
