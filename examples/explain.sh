@@ -1,6 +1,7 @@
 #!/bin/sh
 # Compares what explain.py says of the judged examples with the texts in explained/, and its verdicts with model.py's on 100
-# cases made by a fixed seed, or as many as are asked for. No built program is needed.
+# cases made by a fixed seed, or as many as are asked for; and pages of docs with what they speak of. No built program is
+# needed.
 # usage: explain.sh [CASES [SEED]]
 cd "$(dirname -- "$0")" || exit 1
 if ! python3 -c 'import tomllib' 2>/dev/null; then
@@ -34,5 +35,6 @@ wants 6 explained/too_soon.txt explain.py runs/tasks.toml explained/too_soon.csv
 wants 0 judged/legal.txt explain.py runs/tasks.toml runs/long.csv
 
 python3 -B explain_check.py "${1:-100}" "${2:-1}" || failed=$((failed + 1))
+python3 -B pages.py || failed=$((failed + 1))
 echo "explain: $failed failed"
 [ "$failed" -eq 0 ]
