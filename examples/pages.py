@@ -1,13 +1,16 @@
 """Checks that pages of docs keep up with what they speak of. No built program is needed.
 
 - MISTAKES.md names each message of crates/replies/specs.
+- EVIDENCE.md names each clause and definition by its line, and tells the totals of definitions.py.
 
-usage: pages.py
+usage: pages.py [mend], which writes the lines and totals of EVIDENCE.md anew
 """
 
 import pathlib
 import re
 import sys
+
+import definitions
 
 ROOT = pathlib.Path(__file__).resolve().parent.parent
 
@@ -30,10 +33,52 @@ def messages_not_named():
     return [f'MISTAKES.md does not name: {words}' for words in messages() if words not in page]
 
 
-CHECKS = [messages_not_named]
+# A link of EVIDENCE.md to a clause, as `call: clause`, or to a definition, by its line.
+LINK = re.compile(r'\[`(\w+)(?:: (\w+))?`\]\(\.\./(crates/[^#)]+)#L(\d+)\)')
+TOTALS = re.compile(r'(examples/definitions\.py` follows.*?```\n)(.*?)(\n```)', re.DOTALL)
 
 
-def main():
+# The number of the line of a clause of a call, or of a definition, or None.
+def line_of(name, clause, path):
+    place = ROOT / path
+    lines = place.read_text(encoding='utf-8').split('\n') if place.is_file() else []
+    if clause is None:
+        heads = ((number, definitions.HEAD.match(line)) for number, line in enumerate(lines, 1))
+        return next((number for number, head in heads if head and head[1] == name), None)
+    within = False
+    for number, line in enumerate(lines, 1):
+        function = re.match(r'^\s*(?:pub )?fn (\w+)', line)
+        within = function[1] == name if function else within
+        if within and f'ensures {clause} {{' in line:
+            return number
+    return None
+
+
+# The page with the lines and totals that are right.
+def evidence_mended(page):
+    def link(match):
+        name, clause, path, _ = match.groups()
+        return re.sub(r'#L\d+', f'#L{line_of(name, clause, path)}', match[0])
+    told = [definitions.total_line(label, definitions.read([label])) for label in ('headline', 'answer', 'outcome')]
+    told.append(definitions.total_line('all clauses', definitions.read(definitions.clauses())))
+    return TOTALS.sub(lambda match: match[1] + '\n'.join(told) + match[3], LINK.sub(link, page))
+
+
+def evidence_faults():
+    page = (ROOT / 'docs/EVIDENCE.md').read_text(encoding='utf-8')
+    pairs = zip(page.split('\n'), evidence_mended(page).split('\n'))
+    faults = [f'EVIDENCE.md has {old!r}, and it should be {new!r}' for old, new in pairs if old != new]
+    lost = [match[0] for match in LINK.finditer(page) if line_of(*match.groups()[:3]) is None]
+    return faults + [f'EVIDENCE.md: {link} is not there' for link in lost]
+
+
+CHECKS = [messages_not_named, evidence_faults]
+
+
+def main(words):
+    page = ROOT / 'docs/EVIDENCE.md'
+    if words == ['mend']:
+        page.write_text(evidence_mended(page.read_text(encoding='utf-8')), encoding='utf-8')
     faults = [fault for check in CHECKS for fault in check()]
     for fault in faults:
         print(f'pages: {fault}')
@@ -42,4 +87,4 @@ def main():
 
 
 if __name__ == '__main__':
-    sys.exit(main())
+    sys.exit(main(sys.argv[1:]))

@@ -1,0 +1,226 @@
+"""Counts the lines of definitions that the clauses of `edfvd` reach: what has to be read to know what they say.
+
+From the words of the clauses it follows the `use` lines from file to file, and takes of each file the declarations that
+are reached by name. A line counts where it is no comment, no `use` and not blank. Types that the code declares are
+followed to their structs and enums and to the views of these. Names of the toolchain's libraries end the way, and are
+counted. A bound variable that has the name of a declaration counts as that, so the numbers are rather too large.
+
+usage: definitions.py [CLAUSE], for all clauses together or one of them
+"""
+
+import collections
+import pathlib
+import re
+import sys
+from typing import NamedTuple
+
+CRATES = pathlib.Path(__file__).resolve().parent.parent / 'crates'
+TOP = CRATES / 'edfvd_program/src/edfvd.rt'
+HEAD = re.compile(r'^(?:(?:abbrev|unfoldable|pub|record|data) )+([^\s(:{]+)')
+FIXITY = re.compile(r'^infix[lr]? \d+ (\S+)')
+USE = re.compile(r'^\s*(?:ghost )?use ([\w.]+?)(?:\.\{(.*)\})?(?: as (\w+))?;?$')
+RUST_USE = re.compile(r'^\s*(?:pub )?use (\w+)(?:::\w+)*::(?:\{([^}]*)\}|(\w+));')
+
+
+# A declaration: its lines that count, and the file whose `use` lines its names go by.
+class Declaration(NamedTuple):
+    page: 'Page'
+    name: str
+    lines: list
+
+
+# The lines of a text that count.
+def counted(lines):
+    return [line for line in lines if line.strip() and not re.match(r'^\s*(--|//|#\[|(ghost |pub )?use )', line)]
+
+
+# A file of definitions, or one of the code: what its names stand for.
+class Page:
+    def __init__(self, path):
+        self.path = path
+        lines = path.read_text(encoding='utf-8').split('\n')
+        self.names, self.modules, self.crates = {}, {}, []
+        for line in lines:
+            self.take_use(line)
+        self.declared = self.types(lines) if path.suffix == '.rt' else self.declarations(lines)
+
+    def take_use(self, line):
+        match = USE.match(line)
+        if match:
+            module, names, alias = match.groups()
+            if names is None:
+                self.modules[alias or module.split('.')[-1]] = module
+            for name in (names or '').split(', '):
+                name, _, other = name.strip().partition(' as ')
+                if name:
+                    self.names[other or name] = module, name
+        elif RUST_USE.match(line):
+            self.crates.append(RUST_USE.match(line)[1])
+
+    # The declarations of a file of definitions; those of a `data` stand for its constructors, too.
+    def declarations(self, lines):
+        found, fixities, current = {}, {}, None
+        for line in counted(lines):
+            head, fixity = HEAD.match(line), FIXITY.match(line)
+            if fixity:
+                fixities[fixity[1]] = line
+            elif head:
+                current = found[head[1]] = Declaration(self, head[1], [fixities.pop(head[1])] if head[1] in fixities else [])
+            if current and not fixity:
+                current.lines.append(line)
+                constructor = re.match(r'^  (\w+) : ', line)
+                if current.lines[0].startswith('pub data') and constructor:
+                    found.setdefault(constructor[1], current)
+        return found
+
+    # The structs and enums of a file of the code, each with its view.
+    def types(self, lines):
+        found = {}
+        for place, line in enumerate(lines):
+            head = re.match(r'^(?:pub )?(?:struct|enum) (\w+)|^impl.* Model for (\w+)', line)
+            if head:
+                name = head[1] or head[2]
+                found.setdefault(name, Declaration(self, name, [])).lines.extend(counted(self.item(lines, place)))
+        return found
+
+    # The lines of the item that begins here.
+    def item(self, lines, place):
+        if lines[place].rstrip().endswith((';', '}')):
+            return [lines[place]]
+        end = next(number for number in range(place, len(lines)) if lines[number] in ('}', ');'))
+        return lines[place:end + 1]
+
+
+class Reader:
+    def __init__(self):
+        self.pages, self.reached, self.outside, self.lost = {}, {}, set(), set()
+
+    def page(self, path):
+        if path not in self.pages:
+            self.pages[path] = Page(path)
+        return self.pages[path]
+
+    # Follows each name of a text, as the page has it.
+    def follow(self, page, text):
+        for word in re.split(r'[\s(){};,λ]+', text):
+            first, _, rest = word.partition('.')
+            if first in page.modules and rest:
+                self.reach(page.modules[first], rest.split('.')[0])
+            for name in {word, first, f'◌{word}◌'}:
+                if name in page.declared:
+                    self.take(page.declared[name])
+                elif name in page.names:
+                    self.reach(*page.names[name])
+            if page.path.suffix == '.rt' and first.isidentifier():
+                self.reach_type(page, first)
+
+    # A name of a module.
+    def reach(self, module, name):
+        parts = module.split('.')
+        if parts[0] != 'Rattle' or not (CRATES / parts[1]).is_dir():
+            self.outside.add((module, name))
+            return
+        if parts[3:4] == ['declared']:
+            inside = [part for part in parts[4:] if not part.startswith('The')]
+            name = inside[-1] if inside[-1][0].isupper() else name
+            if not self.reach_in_code(parts[1], name):
+                self.lost.add((module, name))
+            return
+        page = self.page(CRATES / parts[1] / 'specs' / ('/'.join(parts[3:]) + '.antt'))
+        if name in page.declared:
+            self.take(page.declared[name])
+        elif name in page.names:
+            self.reach(*page.names[name])
+        else:
+            self.lost.add((module, name))
+
+    # A type that the code of a crate declares.
+    def reach_in_code(self, crate, name):
+        for path in sorted((CRATES / crate / 'src').rglob('*.rt')):
+            if name in self.page(path).declared:
+                self.take(self.page(path).declared[name])
+                return True
+        return False
+
+    # A type that a type of the code has in it: of its own crate, or of one that its file uses.
+    def reach_type(self, page, name):
+        own = page.path.relative_to(CRATES).parts[0]
+        if name[:1].isupper():
+            any(self.reach_in_code(crate, name) for crate in [own] + page.crates if (CRATES / crate).is_dir())
+
+    def take(self, declaration):
+        place = declaration.page.path, declaration.name
+        if place not in self.reached:
+            self.reached[place] = declaration
+            self.follow(declaration.page, '\n'.join(declaration.lines))
+
+
+# The clauses of the call, by their labels.
+def clauses():
+    text = TOP.read_text(encoding='utf-8')
+    contract = text[text.index('pub fn edfvd'):]
+    contract = contract[:contract.index('\n{')]
+    pieces = re.split(r'\bensures (\w+) \{', contract)
+    return dict(zip(pieces[1::2], (re.sub(r'//.*', '', piece) for piece in pieces[2::2])))
+
+
+# What the clauses of these labels reach.
+def read(labels):
+    reader = Reader()
+    page = reader.page(TOP)
+    known = clauses()
+    for label in labels:
+        reader.follow(Page_of_definitions(page), known[label])
+    return reader
+
+
+# The page of the top call as one whose names are only those of its `ghost use` lines.
+class Page_of_definitions:
+    def __init__(self, page):
+        self.path, self.modules, self.names = page.path.with_suffix('.antt'), page.modules, page.names
+        self.declared, self.crates = {}, []
+
+
+# How many declarations and lines are reached in the files of definitions and in the code.
+def totals(reader):
+    found = {}
+    for kind, suffix in (('definitions', '.antt'), ('types of the code', '.rt')):
+        reached = [declaration for (path, _), declaration in reader.reached.items() if path.suffix == suffix]
+        files = {declaration.page.path for declaration in reached}
+        found[kind] = len(reached), sum(len(declaration.lines) for declaration in reached), len(files)
+    return found
+
+
+# The line of the totals of some clauses.
+def total_line(label, reader):
+    (names, lines, files), (types, type_lines, type_files) = totals(reader).values()
+    return (f'{label}: {names} definitions, {lines} lines in {files} files; {types} types of the code, {type_lines} lines '
+            f'in {type_files}; {len(reader.outside)} names of libraries')
+
+
+def main(words):
+    known = clauses()
+    if any(word not in known for word in words):
+        print(f'the clauses are {", ".join(known)}', file=sys.stderr)
+        return 2
+    reader = read(words or known)
+    by_file = collections.defaultdict(list)
+    for (path, _), declaration in reader.reached.items():
+        by_file[path].append(declaration)
+    for path in sorted(by_file):
+        names = ' '.join(declaration.name for declaration in by_file[path])
+        print(f'{path.relative_to(CRATES)}: {sum(len(declaration.lines) for declaration in by_file[path])} lines: {names}')
+    if reader.lost:
+        print(f'not found: {sorted(reader.lost)}')
+        return 1
+    modules = collections.Counter(module for module, _ in reader.outside)
+    print('libraries: ' + ', '.join(f'{module} {count}' for module, count in sorted(modules.items())))
+    if not words:
+        for label in known:
+            print(total_line(label, read([label])))
+    print(total_line(words[0] if words else 'all clauses', reader))
+    return 0
+
+
+if __name__ == '__main__':
+    sys.exit(main(sys.argv[1:]))
