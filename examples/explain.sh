@@ -1,6 +1,6 @@
 #!/bin/sh
 # Compares what explain.py says of the judged examples with the texts in explained/, and its verdicts with model.py's on 100
-# cases made by a fixed seed, or as many as are asked for. Then perfetto.py, record/sched.py, and pages of docs beside what
+# cases made by a fixed seed, or as many as are asked for. Then perfetto.py, record/sched.py, flight.py, and pages of docs beside what
 # they speak of. No built program is needed.
 # usage: explain.sh [CASES [SEED]]
 cd "$(dirname -- "$0")" || exit 1
@@ -46,6 +46,9 @@ wants 6 record/by_hand_late_loop.judged explain.py control/tasks.toml record/by_
 : >"$work/nothing"
 wants 1 "$work/nothing" record/sched.py control/tasks.toml record/by_hand.txt 1000 0 ctl=ctl log=log
 grep -q '^sched: line 3: thread ticker-70 is in no map$' "$work/err" || failed=$((failed + 1))
+
+# Ten thousand jobs of twelve tasks: the digests of the files that are made, and of the trace that follows.
+wants 0 flight/expected.txt flight.py "$work"
 
 python3 -B explain_check.py "${1:-100}" "${2:-1}" || failed=$((failed + 1))
 python3 -B pages.py || failed=$((failed + 1))

@@ -1,4 +1,5 @@
-"""Compares the verdicts of explain.py, which goes through a trace once, with model.py's, on cases that are made by a seed.
+"""Compares what walk.py finds, which goes through a trace once, with model.py, on cases that are made by a seed: the verdicts
+of explain.py on traces of either version, and the trace that follows a list of work.
 
 usage: explain_check.py [CASES [SEED]]
 """
@@ -24,6 +25,21 @@ def found(case):
         return refusal.status, refusal.line
 
 
+# Whether the trace of some work is the model's.
+def follows(case):
+    tasks = model.read_tasks(case.tree)
+    rule, work, end = model.admitted(tasks), model.read_work(tasks, case.second), min(int(case.words[0]), 60)
+    found_text = model.trace_text(tasks, walk.follow(walk.Walk(tasks, rule), work, end))
+    return found_text == model.trace_text(tasks, model.follow(tasks, rule, work, end))
+
+
+# A number of cases of work, and how many of their traces differ.
+def followed(dice, count):
+    cases = [case for case in (compare.run_case(dice) for _ in range(count))
+             if model.test(model.read_tasks(case.tree)) and model.out_of_range(model.read_tasks(case.tree)) is None]
+    return len(cases), sum(not follows(case) for case in cases)
+
+
 def main(words):
     count, seed = [int(word) for word in words + ['200', '1'][len(words):]]
     dice, failed, illegal = Dice(seed), 0, 0
@@ -34,8 +50,10 @@ def main(words):
         if found(case) != wanted:
             failed += 1
             print(f'case {number}: {found(case)}, and {wanted} by the model')
-    print(f'explain: {count} cases, {illegal} of them illegal, {failed} failed')
-    return 1 if failed or not illegal else 0
+    traces, differ = followed(dice, count)
+    failed += differ
+    print(f'explain: {count} cases, {illegal} of them illegal, and {traces} traces of work, {failed} failed')
+    return 1 if failed or not illegal or not traces else 0
 
 
 if __name__ == '__main__':

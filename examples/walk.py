@@ -91,9 +91,9 @@ class Walk:
     def least(self):
         return min(map(self.key, self.waiting))
 
-    # How a pending job's tick ends, so many ticks from now, where the job is not done with it.
-    def how_of(self, job, past=0):
-        task, with_this = self.task_of(job), self.waiting[job].used + past + 1
+    # How a pending job's next tick ends where the job is not done with it.
+    def how_of(self, job):
+        task, with_this = self.task_of(job), self.waiting[job].used + 1
         if with_this == task.high:
             return STOP
         overruns = task.level == HIGH and self.rule != PLAIN and not self.high_mode
@@ -183,3 +183,33 @@ def go_through(walk, trace) -> Optional[Misfit]:
                 return Misfit(walk, piece, placed, why)
             walk.go_past(piece, placed.line)
     return None
+
+
+# ---- The one trace of a list of work ----
+
+# The runs of so many ticks that follow the work, which is in the order of its releases; the walk is at its beginning.
+def follow(walk, work, end):
+    runs, needs, place = [], {}, 0
+    while walk.ticks < end:
+        while place < len(work) and work[place].release == walk.ticks:
+            row, place = work[place], place + 1
+            job = model.Job(row.task, walk.released(row.task)[0] + 1)
+            needs[job] = row.need
+            runs.append(model.Run(DROPPED if walk.drops(row.task) else KEPT, walk.ticks, job))
+            walk.go_past(runs[-1], 0)
+        until = min([end] + [row.release for row in work[place:place + 1]])
+        runs.append(next_run(walk, needs, until))
+        walk.go_past(runs[-1], 0)
+    return runs
+
+
+# The equal ticks that come next, none of them from this boundary on.
+def next_run(walk, needs, until):
+    if not walk.waiting:
+        return model.Run(IDLE, walk.ticks, None, until - walk.ticks)
+    job = min(walk.waiting, key=lambda job: (walk.key(job), job.task))
+    task, used = walk.task_of(job), walk.waiting[job].used
+    more = min(budget for budget in (needs[job], task.low, task.high) if budget > used) - used - 1
+    if more > 0:
+        return model.Run(MORE, walk.ticks, job, min(more, until - walk.ticks))
+    return model.Run(DONE if needs[job] == used + 1 else walk.how_of(job), walk.ticks, job)
