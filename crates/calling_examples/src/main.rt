@@ -2,6 +2,7 @@
 #![tactic(auto)]
 
 mod admitted;
+mod demands;
 mod plant;
 mod recorded;
 mod schedule;
@@ -11,6 +12,8 @@ mod watched;
 
 use admitted::{control_set, rule_for};
 use anyhow::Context;
+use demand_test::read_demands;
+use demands::counterexample;
 use mc_model::{How, Row, WorkRow};
 use mc_task::{JobId, Rule, TaskNo, TaskSet};
 use mode_core::Core;
@@ -30,7 +33,8 @@ fn main(rt: HostRuntime) -> anyhow::Result<()> {
     let core = drive_a_plant(&rt, rt.alloc())?;
     judge_rows(&rt, rt.alloc(), &core)?;
     run_in_threads(&rt, rt.alloc(), &core)?;
-    watch_a_run(&rt, rt.alloc(), &core)
+    watch_a_run(&rt, rt.alloc(), &core)?;
+    refute_a_set(&rt, rt.alloc())
 }
 
 fn admit_one(rt: &impl Print, alloc: Global) -> anyhow::Result<()> {
@@ -124,6 +128,16 @@ fn watch_a_run<R: Print + Threads + Wait + Sync>(
         .context("out of memory")?;
     println!(rt; "ticks that a panel counted: {ended}")?;
     println!(rt; "the same rows: {}", floor.core().rows() == core.rows())?;
+    Ok(())
+}
+
+fn refute_a_set(rt: &impl Print, alloc: Global) -> anyhow::Result<()> {
+    let file = "task,period,deadline,budget\na,4,2,1\nb,6,3,3\n";
+    let set = read_demands(alloc, file.as_bytes())?;
+    match counterexample(alloc, &set).ok().context("out of memory")? {
+        Some(text) => print!(rt; "{}", str::from_utf8(&text)?)?,
+        None => println!(rt; "schedulable")?,
+    }
     Ok(())
 }
 
