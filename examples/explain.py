@@ -127,6 +127,9 @@ def main(words):
         status, told = explain(tasks, words[2:], *read_trace_file(tasks, words[1]))
     except model.Refusal as refusal:
         status, told = refusal.status, [refusal.line[:-1]]
+    except OSError as error:
+        print(f'{error.filename}: {error.strerror}', file=sys.stderr)
+        return 7
     print('\n'.join(told))
     return status
 

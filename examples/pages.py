@@ -1,6 +1,7 @@
 """Checks that pages of docs keep up with what they speak of. No built program is needed.
 
 - MISTAKES.md names each message of crates/replies/specs.
+- FORMATS.md shows the files that it names as they are.
 - EVIDENCE.md names each clause and definition by its line, and tells the totals of definitions.py.
 
 usage: pages.py [mend], which writes the lines and totals of EVIDENCE.md anew
@@ -31,6 +32,14 @@ def messages():
 def messages_not_named():
     page = (ROOT / 'docs/MISTAKES.md').read_text(encoding='utf-8')
     return [f'MISTAKES.md does not name: {words}' for words in messages() if words not in page]
+
+
+# The blocks of FORMATS.md behind the name of a file that are not that file.
+def samples_that_differ():
+    page = (ROOT / 'docs/FORMATS.md').read_text(encoding='utf-8')
+    samples = re.findall(r'`(examples/[\w/.]+)`:\n\n```\w*\n(.*?)```', page, re.DOTALL)
+    return [f'FORMATS.md does not show {name} as it is' for name, text in samples if (ROOT / name).read_text(
+        encoding='utf-8') != text] + ([] if samples else ['FORMATS.md shows no files'])
 
 
 # A link of EVIDENCE.md to a clause, as `call: clause`, or to a definition, by its line.
@@ -72,7 +81,7 @@ def evidence_faults():
     return faults + [f'EVIDENCE.md: {link} is not there' for link in lost]
 
 
-CHECKS = [messages_not_named, evidence_faults]
+CHECKS = [messages_not_named, samples_that_differ, evidence_faults]
 
 
 def main(words):

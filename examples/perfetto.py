@@ -81,6 +81,9 @@ def main(words):
     except model.Refusal as refusal:
         print(refusal.line, end='', file=sys.stderr)
         return refusal.status
+    except OSError as error:
+        print(f'{error.filename}: {error.strerror}', file=sys.stderr)
+        return 7
     json.dump({'traceEvents': list(events(tasks, runs)), 'displayTimeUnit': 'ns'}, sys.stdout, indent=0)
     print()
     return 0

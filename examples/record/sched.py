@@ -218,6 +218,9 @@ def main(words):
     except (Refused, model.Refusal) as refused:
         print(f'sched: {getattr(refused, "line", refused)}'.rstrip('\n'), file=sys.stderr)
         return 1
+    except OSError as error:
+        print(f'sched: {error.filename}: {error.strerror}', file=sys.stderr)
+        return 7
     sys.stdout.write(text)
     print('\n'.join(recording.moved()), file=sys.stderr)
     return 0
