@@ -46,6 +46,9 @@ wants 6 record/by_hand_late_loop.judged explain.py control/tasks.toml record/by_
 : >"$work/nothing"
 wants 1 "$work/nothing" record/sched.py control/tasks.toml record/by_hand.txt 1000 0 ctl=ctl log=log
 grep -q '^sched: line 3: thread ticker-70 is in no map$' "$work/err" || failed=$((failed + 1))
+(sed 4q record/by_hand.txt; echo 'CPU:0 [LOST 7 EVENTS]') >"$work/lost.txt"
+wants 1 "$work/nothing" record/sched.py control/tasks.toml "$work/lost.txt" 1000 0 ctl=ctl log=log ticker=-
+grep -q '^sched: line 5: events were lost$' "$work/err" || failed=$((failed + 1))
 
 # Ten thousand jobs of twelve tasks: the digests of the files that are made, and of the trace that follows.
 wants 0 flight/expected.txt flight.py "$work"

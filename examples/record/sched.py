@@ -27,6 +27,7 @@ SWITCHES = [
     re.compile(r'^prev_comm=.* ==> next_comm=(.+) next_pid=(\d+)')]
 WAKINGS = [re.compile(r'^(?:comm=)?(.+) pid=(\d+)'), re.compile(r'^(.+):(\d+) \[-?\d+\]')]
 MARKER = re.compile(r'^(?:\S+:\s+)?(release|drop|end) (\S+)\s*$')
+LOST, SPEAKS = re.compile(r'LOST .*EVENTS'), re.compile(r': (sched_switch|sched_waking|b?print):')
 OVERHEAD, IDLE_THREAD = '-', re.compile(r'^(swapper/\d+|<idle>)$')
 
 
@@ -66,12 +67,21 @@ def first_match(forms, line, event, text):
     raise Refused(f'line {line}: {event} has a form that is not known')
 
 
+# Refuses a line that tells no event as known, though it speaks of one, or of events that were lost.
+def refuse_if_it_counts(line, text):
+    if LOST.search(text):
+        raise Refused(f'line {line}: events were lost')
+    if SPEAKS.search(text):
+        raise Refused(f'line {line}: an event has a form that is not known')
+
+
 # The events of one processor. Wakings of threads in no map, and markers with other words, say nothing of the tasks.
 def read_events(lines, processor, threads, tasks):
     names = {task.name for task in tasks}
     for number, text in enumerate(lines, 1):
         match = EVENT.match(text)
         if not match:
+            refuse_if_it_counts(number, text)
             continue
         time, event, rest = nanoseconds(match[2]), match[3], match[4]
         if event == 'sched_switch' and int(match[1]) == processor:
