@@ -164,21 +164,22 @@ def clauses():
     return dict(zip(pieces[1::2], (re.sub(r'//.*', '', piece) for piece in pieces[2::2])))
 
 
+# The file of the top call, where names are only those of its `ghost use` lines.
+class TopPage:
+    def __init__(self):
+        page = Page(TOP)
+        self.path, self.modules, self.names = TOP.with_suffix('.antt'), page.modules, page.names
+        self.declared, self.crates = {}, []
+
+
 # What the clauses of these labels reach.
 def read(labels):
-    reader = Reader()
-    page = reader.page(TOP)
-    known = clauses()
+    reader, page, known = Reader(), TopPage(), clauses()
     for label in labels:
-        reader.follow(Page_of_definitions(page), known[label])
+        reader.follow(page, known[label])
+    if reader.lost:
+        raise LookupError(f'no declaration is found of {sorted(reader.lost)}')
     return reader
-
-
-# The page of the top call as one whose names are only those of its `ghost use` lines.
-class Page_of_definitions:
-    def __init__(self, page):
-        self.path, self.modules, self.names = page.path.with_suffix('.antt'), page.modules, page.names
-        self.declared, self.crates = {}, []
 
 
 # How many declarations and lines are reached in the files of definitions and in the code.
@@ -210,9 +211,6 @@ def main(words):
     for path in sorted(by_file):
         names = ' '.join(declaration.name for declaration in by_file[path])
         print(f'{path.relative_to(CRATES)}: {sum(len(declaration.lines) for declaration in by_file[path])} lines: {names}')
-    if reader.lost:
-        print(f'not found: {sorted(reader.lost)}')
-        return 1
     modules = collections.Counter(module for module, _ in reader.outside)
     print('libraries: ' + ', '.join(f'{module} {count}' for module, count in sorted(modules.items())))
     if not words:

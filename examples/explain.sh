@@ -1,7 +1,7 @@
 #!/bin/sh
-# Compares what explain.py says of the judged examples with the texts in explained/, and its verdicts with model.py's on 100
-# cases made by a fixed seed, or as many as are asked for. Then perfetto.py, record/sched.py, flight.py, and pages of docs beside what
-# they speak of. No built program is needed.
+# Compares what explain.py says of the judged examples with the texts in explained/, and what walk.py finds with model.py on
+# 100 cases made by a fixed seed, or as many as are asked for. Then perfetto.py, record/sched.py, flight.py, and pages of docs
+# beside what they speak of. No built program is needed.
 # usage: explain.sh [CASES [SEED]]
 cd "$(dirname -- "$0")" || exit 1
 if ! python3 -c 'import tomllib' 2>/dev/null; then
