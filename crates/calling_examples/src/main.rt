@@ -3,6 +3,7 @@
 
 mod admitted;
 mod demands;
+mod guarded;
 mod plant;
 mod recorded;
 mod schedule;
@@ -14,6 +15,7 @@ use admitted::{control_set, rule_for};
 use anyhow::Context;
 use demand_test::read_demands;
 use demands::counterexample;
+use guarded::print_a_run;
 use mc_model::{How, Row, WorkRow};
 use mc_task::{JobId, Rule, TaskNo, TaskSet};
 use mode_core::Core;
@@ -29,6 +31,7 @@ use trace::trace_of;
 use watched::{planned, run_watched};
 
 fn main(rt: HostRuntime) -> anyhow::Result<()> {
+    print_a_run(&rt, rt.alloc())?;
     admit_one(&rt, rt.alloc())?;
     let core = drive_a_plant(&rt, rt.alloc())?;
     judge_rows(&rt, rt.alloc(), &core)?;
