@@ -10,6 +10,9 @@ awk 'BEGIN { print "task,release,need"; for (t = 0; t < 20000; t += 128) for (i 
 printf 'task,release,need\n' >"$work/none.csv"
 bounded "$program" run "$work/tasks.toml" "$work/work.csv" 20000 >"$work/turns.csv"
 bounded "$program" run "$work/tasks.toml" "$work/none.csv" 1000000 >"$work/idle.csv"
+# The same with so great budgets that each of 16 processors takes 8 tasks.
+sed 's/^low = 1$/low = 16/' "$work/tasks.toml" >"$work/several.toml"
+bounded "$program" runall "$work/several.toml" "$work/work.csv" 20000 16 >"$work/all.txt"
 
 busy=
 trap 'kill $busy 2>/dev/null; rm -rf "$work"' EXIT
@@ -24,6 +27,8 @@ done
 expect 0 "$work/turns.csv" run "$work/tasks.toml" "$work/work.csv" 20000
 # Nothing is pending: one thread goes on, and the others rest.
 expect 0 "$work/idle.csv" run "$work/tasks.toml" "$work/none.csv" 1000000
+# 16 executives at once, with 8 threads each.
+expect 0 "$work/all.txt" runall "$work/several.toml" "$work/work.csv" 20000 16
 # Threads that release when they may: some legal trace, in which no job is late.
 bounded "$program" live "$work/tasks.toml" 10000 >"$work/live.csv"
 status=$?

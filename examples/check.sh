@@ -34,6 +34,13 @@ expect 0 overrun/report.txt report overrun/tasks.toml overrun/run.txt
 expect 6 judged/illegal.txt chart judged/tasks.toml judged/illegal.csv
 expect 6 judged/illegal.txt report judged/tasks.toml judged/illegal.csv
 
+# Recordings of real threads that follow this work: by the rules, and with one broken.
+expect 0 record/rules.csv run record/tasks.toml record/work.csv 40
+expect 0 judged/legal.txt judge record/tasks.toml record/rules.csv
+for name in plain keep stolen; do
+    expect 6 "$(says "$(head -n 1 "record/$name.judged")")" judge record/tasks.toml "record/$name.csv"
+done
+
 expect 0 runs/runs.csv migrate runs/tasks.toml runs/rows.csv
 expect 0 runs/runs.csv migrate runs/tasks.toml runs/runs.csv
 expect 6 judged/illegal.txt migrate judged/tasks.toml judged/illegal.csv
@@ -56,6 +63,21 @@ for file in demand/past demand/sensor; do
 done
 expect 11 demand/refused.txt demand demand/refused.csv
 
+expect 1 several/check.txt check several/tasks.toml
+expect 0 several/two.txt partition several/tasks.toml 2
+expect 12 several/one.txt partition several/tasks.toml 1
+{ cat several/two.txt; awk 'BEGIN { for (n = 3; n <= 16; n++) print "processor " n }'; } >"$work/sixteen.txt"
+expect 0 "$work/sixteen.txt" partition several/tasks.toml 0016
+expect 0 several/runall.txt runall several/tasks.toml several/work.csv 5 2
+expect 0 several/runall.txt runall several/tasks.toml several/work.csv 5 16
+
+expect 0 control/stretch.txt stretch control/tasks.toml
+expect 0 "$(says 'stretch none
+U_HH 1/4 at 0')" stretch refused/low_load.toml
+expect 0 "$(says 'stretch 99
+U_HH 3/4 at 99
+U_HH 1/1 at 100')" stretch refused/high_load.toml
+
 expect 0 avionics/check.txt check avionics/tasks.toml
 "$edfvd" run avionics/tasks.toml avionics/work.csv 20000 >"$work/avionics.csv"
 status=$?
@@ -74,7 +96,7 @@ legal late 0
 END
 expect 0 "$work/soak.txt" soak 1 16 20000
 
-# A hundred times over, with 2 threads and with 32: the bytes are the same.
+# A hundred times over, with 2 threads and with 32, and with two executives at once: the bytes are the same.
 cat >"$work/soak.txt" <<'END'
 soak 18446744073709551615 32 20000
 rule virtual x 3160/10067
@@ -86,6 +108,7 @@ times=0
 while [ "$times" -lt 100 ]; do
     expect 0 overrun/run.txt run overrun/tasks.toml overrun/work.csv 12
     expect 0 "$work/soak.txt" soak 18446744073709551615 32 20000
+    expect 0 several/runall.txt runall several/tasks.toml several/work.csv 5 2
     times=$((times + 1))
 done
 
@@ -112,7 +135,7 @@ done
 lives live/tasks.toml 100000
 
 # Words that are none of the forms.
-usage='usage: check TASKS | run TASKS WORK TICKS | judge TASKS TRACE [P Q] | chart TASKS TRACE | report TASKS TRACE | soak NUMBER TASKCOUNT TICKS | migrate TASKS TRACE | live TASKS TICKS | demand DEMANDS'
+usage='usage: check TASKS | run TASKS WORK TICKS | judge TASKS TRACE [P Q] | chart TASKS TRACE | report TASKS TRACE | soak NUMBER TASKCOUNT TICKS | migrate TASKS TRACE | live TASKS TICKS | demand DEMANDS | partition TASKS M | runall TASKS WORK TICKS M | stretch TASKS | accept NUMBER SETS TASKCOUNT'
 expect 2 "$(says "$usage")"
 expect 2 "$(says "$usage")" check
 expect 2 "$(says "$usage")" check control/tasks.toml again
@@ -131,6 +154,33 @@ expect 2 "$(says "$usage")" demand
 expect 2 "$(says "$usage")" demand demand/within.csv 12
 expect 2 "$(says "$usage")" Demand demand/within.csv
 expect 2 "$(says "$usage")" demands demand/within.csv
+for processors in '' 0 17 -1 1.0 18446744073709551617; do
+    expect 2 "$(says "$usage")" partition several/tasks.toml "$processors"
+    expect 2 "$(says "$usage")" runall several/tasks.toml several/work.csv 5 "$processors"
+done
+for ticks in '' 0 1000001; do
+    expect 2 "$(says "$usage")" runall several/tasks.toml several/work.csv "$ticks" 2
+done
+expect 2 "$(says "$usage")" partition several/tasks.toml
+expect 2 "$(says "$usage")" partition several/tasks.toml 2 2
+expect 2 "$(says "$usage")" Partition several/tasks.toml 2
+expect 2 "$(says "$usage")" runall several/tasks.toml several/work.csv 5
+expect 2 "$(says "$usage")" runall several/tasks.toml several/work.csv 2 5 2
+expect 2 "$(says "$usage")" run several/tasks.toml several/work.csv 5 2
+expect 2 "$(says "$usage")" stretch
+expect 2 "$(says "$usage")" stretch control/tasks.toml 100
+expect 2 "$(says "$usage")" accept 1 50
+expect 2 "$(says "$usage")" accept 1 50 8 1
+for sets in '' 0 10001; do
+    expect 2 "$(says "$usage")" accept 1 "$sets" 8
+done
+for count in '' 0 1 33; do
+    expect 2 "$(says "$usage")" accept 1 50 "$count"
+done
+expect 2 "$(says "$usage")" accept 18446744073709551616 1 8
+# Number and sets together are 2^64.
+expect 2 "$(says "$usage")" accept 18446744073709551615 1 8
+expect 2 "$(says "$usage")" accept 18446744073709541616 10000 8
 expect 2 "$(says "$usage")" migrate runs/tasks.toml
 expect 2 "$(says "$usage")" migrate runs/tasks.toml runs/rows.csv 1 1
 expect 1 refused/high_load.txt live refused/high_load.toml 10
@@ -250,6 +300,33 @@ for text in "$rows" "$runs_header"; do
     echo >>"$work/trace.csv"
     expect 7 "$(says 'file 2 is longer than 134217728 bytes')" judge judged/tasks.toml "$work/trace.csv"
 done
+
+# A record that is wider than its header is refused by its width, in little more memory than its file.
+# wide STATUS LINE MEBIBYTES WORDS..: the run is refused with this line where there is so much memory
+wide() {
+    want=$1
+    text=$(says "$2")
+    limit=$3
+    shift 3
+    (ulimit -v $((limit * 1024)) && bounded "$program" "$@") >"$work/out"
+    judge "$want" $? "$text" "$* in $limit MiB"
+}
+# wides LINE HEADER: a trace with this header and one record, of commas and of line feeds in quotes
+wides() {
+    # shellcheck disable=SC2059
+    { printf "$2"; head -c $((134217728 - 64)) /dev/zero | tr '\0' ','; } >"$work/trace.csv"
+    wide 5 "trace line $1" 200 judge judged/tasks.toml "$work/trace.csv"
+    { printf "$2"; printf '"'; yes '","' | head -c $((134217728 - 64)); } >"$work/trace.csv"
+    wide 5 "trace line $1" 200 judge judged/tasks.toml "$work/trace.csv"
+}
+wides '1: header is of no trace version' ''
+wides '2: not five fields' "$rows\n"
+wides '2: not six fields' "$runs_header\n"
+{ printf '%s\n' "$header"; head -c $((16777216 - 64)) /dev/zero | tr '\0' ','; } >"$work/work.csv"
+wide 4 'work file line 2: not three fields' 64 run overrun/tasks.toml "$work/work.csv" 10
+{ echo task,period,deadline,budget; head -c $((16777216 - 64)) /dev/zero | tr '\0' ','; } >"$work/work.csv"
+wide 11 'demand file line 2: not four fields' 64 demand "$work/work.csv"
+
 { printf '%s\n' "$runs_header"; awk 'BEGIN { for (i = 0; i <= 2000000; i++) print "idle," i ",1,,," }'; } >"$work/trace.csv"
 expect 5 "$(says 'trace line 2000002: more than 2000000 rows')" judge judged/tasks.toml "$work/trace.csv"
 sed '$d' "$work/trace.csv" >"$work/full.csv"
@@ -327,6 +404,167 @@ crowd 3939 >"$work/demands.csv"
         print "late t128 1" }'
 } >"$work/past.txt"
 expect 10 "$work/past.txt" demand "$work/demands.csv"
+
+# Several processors: the first refusal decides, in the order of the steps. The words come before the tasks, these before
+# their fit, and that before the work, which is read for the whole set.
+expect 2 "$(says "$usage")" partition "$work/absent.toml" 17
+expect 7 "$(says 'read fault on file 1')" partition "$work/absent.toml" 1
+expect 7 "$(says 'read fault on file 1')" partition "$work" 2
+expect 7 "$(says 'read fault on file 1')" runall "$work/absent.toml" "$work/absent.csv" 5 2
+expect 3 refused/zero_period.txt partition refused/zero_period.toml 1
+expect 3 refused/zero_period.txt runall refused/zero_period.toml "$work/absent.csv" 5 2
+expect 12 several/one.txt runall several/tasks.toml "$work/absent.csv" 5 1
+expect 7 "$(says 'read fault on file 2')" runall several/tasks.toml "$work/absent.csv" 5 2
+{ cat several/work.csv; head -c 16777200 /dev/zero | tr '\0' '\n'; } >"$work/work.csv"
+expect 7 "$(says 'file 2 is longer than 16777216 bytes')" runall several/tasks.toml "$work/work.csv" 5 2
+expect 12 several/one.txt runall several/tasks.toml "$work/work.csv" 5 1
+# refuses_all LINE TEXT: a work file of this text is refused with this line
+refuses_all() {
+    # shellcheck disable=SC2059
+    printf "$2" >"$work/work.csv"
+    expect 4 "$(says "work file line $1")" runall several/tasks.toml "$work/work.csv" 5 2
+}
+refuses_all '1: header is not task,release,need' ''
+refuses_all '4: unknown task' "$header\ntap,0,1\nlog,0,1\nbob,0,1\n"
+refuses_all '4: too soon, next 10' "$header\nlog,0,1\ntap,0,1\nlog,9,1\n"
+refuses_all '3: release before the last one' "$header\nlog,5,1\ntap,4,1\n"
+refuses_all '2: need is 0' "$header\nlog,0,0\n"
+# The whole set's periods are out of range, those of each of two processors are not; and what one processor refuses.
+{
+    printf '[[task]]\nname = "a"\nlevel = "low"\nperiod = 4294967295\nlow = 1\n\n'
+    printf '[[task]]\nname = "b"\nlevel = "low"\nperiod = 4294967294\nlow = 1\n'
+} >"$work/apart.toml"
+expect 3 "$(says 'task file: task 2: periods out of range')" check "$work/apart.toml"
+expect 0 "$(says 'processor 1 a
+processor 2 b')" partition "$work/apart.toml" 2
+expect 12 "$(says 'not partitioned: task b fits on none of 1')" partition "$work/apart.toml" 1
+# With its high budget this set does not fit under plain EDF, and on one processor it does by the test.
+expect 0 "$(says 'processor 1 ctl log
+processor 2')" partition control/tasks.toml 2
+
+# table NAME LEVEL PERIOD LOW [HIGH]: a task's table
+table() {
+    printf '[[task]]\nname = "%s"\nlevel = "%s"\nperiod = %s\nlow = %s\n' "$1" "$2" "$3" "$4"
+    if [ $# -eq 5 ]; then printf 'high = %s\n' "$5"; fi
+    echo
+}
+# An earlier processor is tried again, and the first that takes a task gets it, also where another is fuller. The task that is
+# named is the first that none of them takes: `c` still fits, and `d` does not.
+{ table a low 10 5; table b low 10 8; table c low 10 2; table d low 10 3; table e low 10 2; } >"$work/first.toml"
+expect 0 "$(says 'processor 1 a c d
+processor 2 b e')" partition "$work/first.toml" 2
+{ table a low 10 5; table b low 10 11; } >"$work/first.toml"
+expect 12 "$(says 'not partitioned: task b fits on none of 16')" partition "$work/first.toml" 16
+{ table a low 10 9; table b low 10 9; table c low 10 1; table d low 10 2; table e low 10 3; } >"$work/first.toml"
+expect 12 "$(says 'not partitioned: task d fits on none of 2')" partition "$work/first.toml" 2
+
+# 16 tasks that each take a whole processor, and one more.
+for number in 1 2 3 4 5 6 7 8 9 10 11 12 13 14 15 16; do table "t$number" low 2 2; done >"$work/whole.toml"
+awk 'BEGIN { for (n = 1; n <= 16; n++) print "processor " n " t" n }' >"$work/whole.txt"
+expect 0 "$work/whole.txt" partition "$work/whole.toml" 16
+expect 12 "$(says 'not partitioned: task t16 fits on none of 15')" partition "$work/whole.toml" 15
+table more low 2 1 >>"$work/whole.toml"
+expect 12 "$(says 'not partitioned: task more fits on none of 16')" partition "$work/whole.toml" 16
+
+# 128 tasks, of which each processor takes ten: high and low ones in turn, with their jobs at each period.
+awk 'BEGIN { for (i = 1; i <= 128; i++) { high = i % 2
+    printf "[[task]]\nname = \"t%d\"\nlevel = \"%s\"\nperiod = 100\nlow = %d\n", i, high ? "high" : "low", high ? 2 : 10
+    if (high) print "high = 18"
+    print "" } }' >"$work/crowd.toml"
+awk 'BEGIN { print "task,release,need"; for (t = 0; t < 1000; t += 100) for (i = 1; i <= 128; i++)
+    print "t" i "," t "," (i % 2 ? (i * 7 + t / 100) % 5 ? 2 : 18 : 10) }' >"$work/crowd.csv"
+awk 'BEGIN { for (n = 1; n <= 16; n++) { line = "processor " n
+    for (i = 10 * n - 9; i <= 10 * n && i <= 128; i++) line = line " t" i
+    print line } }' >"$work/crowd.txt"
+expect 0 "$work/crowd.txt" partition "$work/crowd.toml" 16
+expect 12 "$(says 'not partitioned: task t121 fits on none of 12')" partition "$work/crowd.toml" 12
+
+# by_part TASKS WORK TICKS M: what runall writes is what run writes for each processor's tasks and their jobs, and judged legal
+by_part() {
+    bounded "$program" partition "$1" "$4" >"$work/parts.txt"
+    : >"$work/by_part.txt"
+    while read -r _ number names; do
+        [ -n "$names" ] || continue
+        awk -v names=" $names " 'BEGIN { RS = ""; FS = "\"" } index(names, " " $2 " ") { print $0 "\n" }' "$1" >"$work/part.toml"
+        awk -F, -v names=" $names " 'NR == 1 || index(names, " " $1 " ")' "$2" >"$work/part.csv"
+        echo "processor $number" >>"$work/by_part.txt"
+        bounded "$program" run "$work/part.toml" "$work/part.csv" "$3" >"$work/part.txt"
+        cat "$work/part.txt" >>"$work/by_part.txt"
+        expect 0 judged/legal.txt judge "$work/part.toml" "$work/part.txt"
+    done <"$work/parts.txt"
+    expect 0 "$work/by_part.txt" runall "$1" "$2" "$3" "$4"
+}
+sed 1d several/tasks.toml >"$work/several.toml"
+by_part "$work/several.toml" several/work.csv 5 2
+by_part "$work/crowd.toml" "$work/crowd.csv" 1000 16
+by_part "$work/crowd.toml" "$work/crowd.csv" 1 13
+printf '%s\n' "$header" >"$work/none.csv"
+by_part "$work/crowd.toml" "$work/none.csv" 100000 16
+
+# How much room a set has.
+expect 7 "$(says 'read fault on file 1')" stretch "$work/absent.toml"
+expect 3 refused/zero_period.txt stretch refused/zero_period.toml
+expect 3 "$(says 'task file: task 2: periods out of range')" stretch "$work/apart.toml"
+# stretches TEXT TABLE..: the set of these tables has this text
+stretches() {
+    expect 0 "$(says "$1")" stretch "$work/room.toml"
+}
+{ table tap low 2 1; table arm high 4 1 3; } >"$work/room.toml"
+stretches 'stretch 133
+U_HH 3/4 at 133
+U_HH 1/1 at 134'
+table one high 1000 1 1 >"$work/room.toml"
+stretches 'stretch 1000
+U_HH 1/100 at 1000'
+table all low 2 2 >"$work/room.toml"
+stretches 'stretch 1000
+U_HH 0/1 at 1000'
+# No budget is above the greatest number, nor below the low one.
+table big high 4294967295 1 4294967295 >"$work/room.toml"
+stretches 'stretch 1000
+U_HH 1/1 at 1000'
+{ table cap high 2147483648 1 2147483648; table low low 2147483648 1; } >"$work/room.toml"
+stretches 'stretch 99
+U_HH 2126008811/2147483648 at 99
+U_HH 1/1 at 100'
+{ table a low 10 8; table b high 10 2 3; } >"$work/room.toml"
+stretches 'stretch 99
+U_HH 1/5 at 99
+U_HH 3/10 at 100'
+
+# A study, as another program worked it out from the rules; cut by its numbers it adds up to the same.
+cat >"$work/accept.txt" <<'END'
+100 50
+110 49
+120 16
+130 0
+140 0
+150 0
+160 0
+170 0
+180 0
+190 0
+200 0
+END
+expect 0 "$work/accept.txt" accept 1 50 8
+expect 0 "$work/accept.txt" accept 01 0000050 00008
+for part in '1 30' '31 19' '50 1'; do
+    # shellcheck disable=SC2086
+    bounded "$program" accept $part 8
+done | awk '{ sum[$1] += $2 } END { for (s = 100; s <= 200; s += 10) print s, sum[s] }' >"$work/out"
+judge 0 0 "$work/accept.txt" 'accept, in three parts'
+bounded "$program" accept 18446744073709541615 10000 32 >"$work/accept.txt"
+expect 0 "$work/accept.txt" accept 18446744073709541615 10000 32
+if command -v taskset >/dev/null 2>&1; then
+    bounded taskset -c 0 "$program" accept 18446744073709541615 10000 32 >"$work/out"
+    judge 0 $? "$work/accept.txt" 'accept, on one processor'
+fi
+sort -s -k2,2nr "$work/accept.txt" >"$work/out"
+judge 0 0 "$work/accept.txt" 'accept, of counts that never rise'
+sed 1q "$work/accept.txt" >"$work/out"
+judge 0 0 "$(says '100 10000')" 'accept, of which all are admitted as they are'
+sed -n '$=' "$work/accept.txt" >"$work/out"
+judge 0 0 "$(says 11)" 'accept, of eleven lines'
 
 # quotes PAGE: each block of Rust in the page stands in a file of the callers' crate, line for line, and there is one
 quotes() {

@@ -4,7 +4,7 @@ usage: compare.py PROGRAM [CASES [SEED]]
 
 A case is a command, its files and its words: sets whose loads lie round 1 or at it, also with periods at the limits;
 random work; legal traces of a few ticks or up to a hundred million, with random choices, such traces cut short or with
-a spoilt row, also by scales that do not hold; made workloads; and files that are refused. A trace is of either version,
+a spoilt row, also by scales that do not hold; made workloads; sets for several processors; and files that are refused. A trace is of either version,
 and then mostly given a second time as another text, for which the answer has to be the same. The status and the whole
 text have to be the model's, nothing stands on standard error, and no job is late under a rule that holds. Of the many
 texts that `live` may write the model says whether this is one. What came of the cases is counted. A comparison of as
@@ -26,7 +26,7 @@ from model import (
     DONE, DROPPED, EVENTS, HIGH, IDLE, KEPT, LOW, MORE, MOST, MOST_TICKS, OVER, PLAIN, RELEASES, STOP, TICKS,
     TRACE_HEADERS, Demand, Job, Run, Task, Trace, Work, demand_file, rows_of, run_fields, with_before)
 
-DEFAULT_CASES = 4000
+DEFAULT_CASES = 4400
 
 
 class Case(NamedTuple):
@@ -731,26 +731,134 @@ def demand_case(dice):
     return Case('demand', None, spoilt_text(dice, text, DEMAND_FIELDS) if chance(dice, 1, 3) else text, words)
 
 
+# Periods that go together in twos, and out of the range in threes or so.
+APART = [2 ** 31, 3 ** 20, 5 ** 13, 7 ** 11, 4294967291, 65537]
+
+
+def with_more_load(dice, tasks):
+    """The tasks, each with mostly greater budgets of up to its period, so that a few of them load a processor."""
+    heavier = []
+    for task in tasks:
+        own = max(task.high, min(MOST, task.period * between(dice, 5, dice.one_of([30, 60, 105])) // 100))
+        low = own if task.level == LOW else dice.one_of([task.low, min(own, max(1, own // between(dice, 2, 6)))])
+        heavier.append(task._replace(low=low, high=own))
+    return heavier
+
+
+def tasks_for_several(dice):
+    """Tasks for one processor or for several: few or many, at the limit of one, or of periods that do not go together."""
+    kind = dice.below(10)
+    if kind == 0:
+        return [task._replace(name=f't{number}') for number, task in enumerate(
+            tasks_of(dice, [dice.one_of(PERIODS_OF_MANY) for _ in range(between(dice, 60, 128))], 400), 1)]
+    if kind < 3:
+        return tasks_of(dice, [dice.one_of(APART) for _ in range(between(dice, 2, 6))], dice.one_of([60, 110, 250]))
+    if kind < 6:
+        parts = [small_or_at_one(dice) for _ in range(between(dice, 1, 3))]
+        tasks = shuffled(dice, [task for part in parts for task in part]) if chance(dice, 1, 2) else sum(parts, [])
+        return [task._replace(name=f't{number}') for number, task in enumerate(tasks[:128], 1)]
+    return with_more_load(dice, tasks_of(dice, [dice.one_of(dice.one_of(PERIODS)) for _ in range(between(dice, 2, 9))]))
+
+
+def processors_word(dice):
+    return str(dice.one_of([1, 2, 2, 2, 3, 3, 4, 5, 16]))
+
+
+# The numbers at the limits of each command's words, and one past them.
+LIMITS = {'partition': ['0', '16', '17'], 'runall': ['0', '16', '17'], 'accept': ['0', '1', '10001', '32', '33']}
+
+
+def some_odd(dice, case):
+    """The case, now and then with a spoilt task file or with odd words."""
+    if case.tree is not None and chance(dice, 1, 15):
+        case = case._replace(tree=spoilt_tree(dice, case.tree))
+    if case.words and chance(dice, 1, 15):
+        case = case._replace(words=case.words[:-1] + [dice.one_of(LIMITS[case.command])])
+    elif chance(dice, 1, 15):
+        odd = ODD_WORDS + ['16', '17', '10000', '10001', '32', '33']
+        case = case._replace(words=[dice.one_of(odd) if chance(dice, 2, 3) else word for word in case.words] + dice.one_of(
+            [[], [], [dice.one_of(odd)]]))
+    return case
+
+
+def partition_case(dice):
+    tasks = tasks_for_several(dice)
+    if len(tasks) < 128 and chance(dice, 1, 8):
+        tasks = tasks + [Task('too-much', LOW, 10, 11, 11)]
+    return some_odd(dice, Case('partition', tree_of(tasks), None, [processors_word(dice)]))
+
+
+def runall_case(dice):
+    tasks = tasks_for_several(dice) if chance(dice, 3, 4) else small_tasks(dice, 250)
+    word = ticks_word(dice)
+    work = work_of(dice, tasks, int(word))
+    if chance(dice, 1, 6):
+        work = [row for row in work if row.task > len(tasks) // 2]
+    text = work_text(tasks, work)
+    text = spoilt_text(dice, text, WORK_FIELDS) if chance(dice, 1, 8) else text
+    return some_odd(dice, Case('runall', tree_of(tasks), text, [word, processors_word(dice)]))
+
+
+def with_great_budgets(dice):
+    """Tasks of great periods, of whose high budgets a few times as much is past the greatest number."""
+    high = between(dice, MOST // 10, MOST)
+    tasks = [Task('great', HIGH, MOST - dice.below(3), between(dice, 1, high), high)]
+    return tasks + ([Task('small', LOW, tasks[0].period, *2 * [between(dice, 1, MOST // 4)])] if chance(dice, 1, 2) else [])
+
+
+def with_near_budgets(dice, tasks):
+    """The tasks, of whose high ones the low budget is no less than half of the high one."""
+    return [task._replace(low=between(dice, (task.high + 1) // 2, task.high)) if task.level == HIGH else task for task in tasks]
+
+
+def with_far_budgets(dice):
+    """A task whose high budget is many times its period."""
+    period = between(dice, 1, 20)
+    return [Task('far', HIGH, period, between(dice, 1, period), period * between(dice, 2, 250))]
+
+
+def stretch_case(dice):
+    kinds = 2 * [any_tasks, admitted_tasks] + [
+        huge_tasks, lambda _: small_tasks(dice, 40), lambda _: small_tasks(dice, 40), with_great_budgets, with_great_budgets,
+        with_far_budgets]
+    tasks = dice.one_of(kinds)(dice)
+    tasks = with_near_budgets(dice, tasks) if chance(dice, 1, 4) else tasks
+    return some_odd(dice, Case('stretch', tree_of(tasks), None, []))
+
+
+def accept_case(dice):
+    sets = between(dice, 1, 5)
+    last = 2 ** 64 - 1 - sets
+    number = dice.one_of([dice.below(100), dice.below(2 ** 32), between(dice, 0, last), last, last + 1])
+    return some_odd(dice, Case('accept', None, None, [str(number), str(sets), str(between(dice, 2, 32))]))
+
+
+SEVERAL_AND_ROOM = 7 * [partition_case] + 6 * [runall_case] + 6 * [stretch_case] + [accept_case]
+
 HUNDRED = (
     17 * [check_case] + 17 * [run_case] + 6 * [refused_run_case] + 16 * [judge_case] + 14 * [judge_by_scale_case]
     + 14 * [drawn_case] + 9 * [refused_trace_case] + 5 * [live_case] + [soak_case, odd_words_case])
 
 
 def cases(count, dice):
-    """A hundred cases over and over, some with a task file that was spoilt after the second file was made for it; the last
-    twentieth are demand sets."""
-    of_demands = count // 20
-    for number in range(count - of_demands):
+    """A hundred cases over and over, some with a task file that was spoilt after the second file was made for it. Of 22 parts
+    of the cases the last but two are demand sets, and the last two sets for several processors, and how much room a set has."""
+    of_demands = count // 22
+    for number in range(count - 3 * of_demands):
         case = HUNDRED[number % len(HUNDRED)](dice)
         is_spoilt = case.command not in ('check', 'soak') and chance(dice, 1, 30)
         yield case._replace(tree=spoilt_tree(dice, case.tree)) if is_spoilt else case
     for _ in range(of_demands):
         yield demand_case(dice)
+    for number in range(2 * of_demands):
+        yield SEVERAL_AND_ROOM[number % len(SEVERAL_AND_ROOM)](dice)
 
 
 # ---- What came of them ----
 
 HAPPENINGS = ['an overrun', 'a discard', 'a drop', 'a stop', 'a return', 'a tie']
+PARTS = [
+    'all on one processor', 'an empty processor', 'a set that one processor refuses', 'a part by EDF', 'a part by EDF-VD']
 WHYS = ['too_soon', 'wrong_count', 'wrong_kept', 'not_pending', 'not_least', 'wrong_how', 'idle_pending']
 
 STATUSES = {
@@ -764,6 +872,10 @@ STATUSES = {
     'live': [0, 1, 2, 3],
     'soak': [0, 2],
     'demand': [0, 2, 10, 11],
+    'partition': [0, 2, 3, 12],
+    'runall': [0, 2, 3, 4, 12],
+    'stretch': [0, 2, 3],
+    'accept': [0, 2],
 }
 OUTCOMES = {
     'check': ['plain', 'plain at 1', 'virtual', 'virtual at 1'],
@@ -774,6 +886,12 @@ OUTCOMES = {
     'migrate': HAPPENINGS,
     'live': ['an overrun', 'a discard', 'a drop', 'a return', 'a tie'],
     'demand': ['within', 'past', 'past behind a second release', 'past at the last length', 'several late'],
+    'partition': PARTS + ['back to an earlier processor', 'not the fullest processor', 'kept apart by the range'],
+    'runall': HAPPENINGS + PARTS + ['a part without jobs', 'a task of another number in its part'],
+    'stretch': [
+        'none', 'exactly 0', 'below 100', 'exactly 100', 'above 100', 'the greatest', 'a budget at the greatest number',
+        'a low budget in place of a lower high one', 'plain', 'virtual', 'at 1'],
+    'accept': ['some at 120', 'not all at 120', 'the last number'],
     'traces': ['version 1', 'version 2', 'a run of several rows', 'above a million ticks', 'two texts'],
     'task file': [
         'not TOML', 'unknown key', 'unknown version', 'no tasks', 'missing key', 'wrong kind', 'bad name',
@@ -843,6 +961,8 @@ def outcomes(case, status, text):
         yield form, text.split()[3]
     elif form == 'demand' and status != 2:
         yield from ((form, words) for words in outcomes_of_demands(model.read_demands(case.second)))
+    elif form in OUTCOMES_OF and status == 0:
+        yield from ((form, words) for words in set(OUTCOMES_OF[form](case, text)))
     elif status in (0, 6) and form != 'soak':
         tasks = model.read_tasks(case.tree)
         rule = rule_of(case, tasks)
@@ -871,6 +991,95 @@ def outcomes_of_demands(demands):
             yield 'past at the last length'
         if len(model.edf_late(demands, rows)) > 1:
             yield 'several late'
+
+
+def outcomes_of_parts(tasks, count):
+    """What comes of a set on several processors that takes them."""
+    processors = model.first_fit(tasks, count)
+    if len(set(processors)) == 1:
+        yield 'all on one processor'
+    if len(set(processors)) < count:
+        yield 'an empty processor'
+    if not model.fits(tasks):
+        yield 'a set that one processor refuses'
+    for number in set(processors):
+        is_plain = model.test(model.part(tasks, processors, number)) == PLAIN
+        yield 'a part by EDF' if is_plain else 'a part by EDF-VD'
+
+
+def outcomes_of_partition(case, _):
+    tasks, count = model.read_tasks(case.tree), int(case.words[0])
+    yield from outcomes_of_parts(tasks, count)
+    processors = model.first_fit(tasks, count)
+    if any(later < earlier for earlier, later in zip(processors, processors[1:])):
+        yield 'back to an earlier processor'
+    for place, (task, chosen) in enumerate(zip(tasks, processors)):
+        parts = [model.part(tasks[:place], processors[:place], number) for number in range(1, count + 1)]
+        taking = [part for part in parts if model.fits(part + [task])]
+        if full(parts[chosen - 1]) < max(map(full, taking)):
+            yield 'not the fullest processor'
+        refusing = [part + [task] for part in parts[:chosen - 1]]
+        if any(model.out_of_range(part) is not None and model.test(part) is not None for part in refusing):
+            yield 'kept apart by the range'
+
+
+def full(tasks):
+    """How much of a processor some tasks take by their own budgets."""
+    low_low, _, high_high = model.loads(tasks)
+    return low_low + high_high
+
+
+def outcomes_of_runall(case, _):
+    tasks, end, count = model.read_tasks(case.tree), *map(int, case.words)
+    yield from outcomes_of_parts(tasks, count)
+    processors, work = model.first_fit(tasks, count), model.read_work(tasks, case.second)
+    for number in set(processors):
+        own, own_work = model.part(tasks, processors, number), model.part_work(processors, number, work)
+        yield from (what for what in happened(own, model.test(own), model.follow(own, model.test(own), own_work, end)) if
+                    what in HAPPENINGS)
+        if not any(row.release < end for row in own_work):
+            yield 'a part without jobs'
+        if any(tasks.index(task) != place for place, task in enumerate(own)):
+            yield 'a task of another number in its part'
+
+
+def outcomes_of_stretch(case, _):
+    tasks = model.read_tasks(case.tree)
+    greatest = model.stretch(tasks)
+    if greatest is None:
+        yield 'none'
+        return
+    yield 'below 100' if greatest < 100 else 'exactly 100' if greatest == 100 else 'above 100'
+    if greatest == 0:
+        yield 'exactly 0'
+    if greatest == model.MOST_PERCENT:
+        yield 'the greatest'
+    highs = [task for task in tasks if task.level == HIGH]
+    if any(task.high * greatest // 100 > MOST for task in highs):
+        yield 'a budget at the greatest number'
+    if any(task.high * greatest // 100 < task.low for task in highs):
+        yield 'a low budget in place of a lower high one'
+    at_greatest = model.at_percent(tasks, greatest)
+    rule = model.test(at_greatest)
+    yield rule.name
+    if is_at_one(at_greatest, rule):
+        yield 'at 1'
+
+
+def outcomes_of_accept(case, text):
+    number, sets, _ = map(int, case.words)
+    counts = [int(line.split()[1]) for line in text.splitlines()]
+    if counts[2] > 0:
+        yield 'some at 120'
+    if counts[2] < sets:
+        yield 'not all at 120'
+    if number + sets == 2 ** 64 - 1:
+        yield 'the last number'
+
+
+OUTCOMES_OF = {
+    'partition': outcomes_of_partition, 'runall': outcomes_of_runall, 'stretch': outcomes_of_stretch,
+    'accept': outcomes_of_accept}
 
 
 def breaks_the_law(case, text):

@@ -75,6 +75,13 @@ for_examples() {
     "$@" demand demand/sensor.csv
     "$@" demand demand/refused.csv
     "$@" demand absent.csv
+    "$@" partition several/tasks.toml 2
+    "$@" partition several/tasks.toml 1
+    "$@" runall several/tasks.toml several/work.csv 5 2
+    "$@" runall several/tasks.toml absent.csv 5 2
+    "$@" stretch control/tasks.toml
+    "$@" stretch refused/low_load.toml
+    "$@" accept 1 200 8
     "$@"
 }
 

@@ -1,7 +1,7 @@
 #!/bin/sh
 # Compares what explain.py says of the judged examples with the texts in explained/, and what walk.py finds with model.py on
-# 100 cases made by a fixed seed, or as many as are asked for. Then perfetto.py, record/sched.py, flight.py, and pages of docs
-# beside what they speak of. No built program is needed.
+# 100 cases made by a fixed seed, or as many as are asked for. Then perfetto.py, record/sched.py on the kept recordings (nothing
+# is recorded), flight.py, and pages of docs beside what they speak of. No built program is needed.
 # usage: explain.sh [CASES [SEED]]
 cd "$(dirname -- "$0")" || exit 1
 if ! python3 -c 'import tomllib' 2>/dev/null; then
@@ -46,9 +46,59 @@ wants 6 record/by_hand_late_loop.judged explain.py control/tasks.toml record/by_
 : >"$work/nothing"
 wants 1 "$work/nothing" record/sched.py control/tasks.toml record/by_hand.txt 1000 0 ctl=ctl log=log
 grep -q '^sched: line 3: thread ticker-70 is in no map$' "$work/err" || failed=$((failed + 1))
-(sed 4q record/by_hand.txt; echo 'CPU:0 [LOST 7 EVENTS]') >"$work/lost.txt"
-wants 1 "$work/nothing" record/sched.py control/tasks.toml "$work/lost.txt" 1000 0 ctl=ctl log=log ticker=-
-grep -q '^sched: line 5: events were lost$' "$work/err" || failed=$((failed + 1))
+for lost in '[LOST 7 EVENTS]' '[EVENTS DROPPED]' '[7 EVENTS DROPPED]'; do
+    (sed 4q record/by_hand.txt; echo "CPU:0 $lost") >"$work/lost.txt"
+    wants 1 "$work/nothing" record/sched.py control/tasks.toml "$work/lost.txt" 1000 0 ctl=ctl log=log ticker=-
+    grep -q '^sched: line 5: events were lost$' "$work/err" || failed=$((failed + 1))
+done
+# An ordinary process in the place of idleness, which * takes for it; a real-time thread it does not take.
+sed 's,swapper/0:0,make:900,g' record/by_hand.txt >"$work/made.txt"
+wants 0 record/by_hand.csv record/sched.py control/tasks.toml "$work/made.txt" 1000 0 ctl=ctl log=log ticker=- '*=.'
+wants 1 "$work/nothing" record/sched.py control/tasks.toml "$work/made.txt" 1000 0 ctl=ctl log=log '*=.'
+grep -q '^sched: line 3: thread ticker-70 is in no map$' "$work/err" || failed=$((failed + 1))
+
+# of_fifo STATUS TRACE REPORT: sched.py on a recording of fifo
+of_fifo() {
+    wants "$1" "$2" record/sched.py record/tasks.toml "$3" 10000 1 ctl=ctl nav=nav log=log ticker=- migration/1=- rest=.
+}
+
+# refused_with WORDS LINE: fifo's recording spoilt by these words of sed is refused with this line
+refused_with() {
+    sed "$1" record/rules.txt >"$work/spoilt.txt"
+    of_fifo 1 "$work/nothing" "$work/spoilt.txt"
+    if ! grep -qxF "sched: $2" "$work/err"; then
+        failed=$((failed + 1))
+        echo "rules.txt by sed '$1': $(cat "$work/err")"
+    fi
+}
+
+# Recordings of real threads, and the verdicts on them.
+for name in rules plain keep stolen; do
+    of_fifo 0 "record/$name.csv" "record/$name.txt"
+    cmp "record/$name.moves" "$work/err" || failed=$((failed + 1))
+    [ "$name" = rules ] || wants 6 "record/$name.judged" explain.py record/tasks.toml "record/$name.csv"
+done
+wants 0 judged/legal.txt explain.py record/tasks.toml record/rules.csv
+# The forms of `report -l` and of the kernel's own file say the same, and what is missing or wrong is named.
+sed 's/-\([0-9]*\) *\[001\] */-\1   1d..2. /' record/rules.txt >"$work/flags.txt"
+of_fifo 0 record/rules.csv "$work/flags.txt"
+sed -E -e 's/ ([^ ]+):([0-9]+) \[([0-9]+)\] (.) ==>/ prev_comm=\1 prev_pid=\2 prev_prio=\3 prev_state=\4 ==>/' \
+    -e 's/==> ([^ ]+):([0-9]+) \[([0-9]+)\]$/==> next_comm=\1 next_pid=\2 next_prio=\3/' \
+    -e 's/: print: *tracing_mark_write:/: tracing_mark_write:/' record/rules.txt >"$work/kernel.txt"
+of_fifo 0 record/rules.csv "$work/kernel.txt"
+refused_with 19d 'line 20: thread 7896 leaves the processor, which thread 7892 had'
+refused_with '17s/nav/navy/' 'line 17: marker release of navy, which is no task'
+refused_with '22s/release/end/' 'line 22: log ends and has no tick of its own since its release'
+refused_with '20s,.*,<idle>-0 [002] 3131.83: sched_switch: swapper/2:0 [120] R ==> nav:7896 [49],' \
+    'line 20: nav runs on processor 2'
+refused_with '133s/migration/stopper/' 'line 133: thread stopper/1-21 is in no map'
+
+# fifo's source is still a program, which refuses words that it does not know.
+if [ "$(uname)" = Linux ] && command -v cc >/dev/null 2>&1; then
+    cc -O2 -Wall -Wextra -pthread -o "$work/fifo" record/fifo.c || failed=$((failed + 1))
+    "$work/fifo" record/tasks.toml record/work.csv 40 10000 1 otherwise 2>"$work/err"
+    [ $? -eq 2 ] || failed=$((failed + 1))
+fi
 
 # Ten thousand jobs of twelve tasks: the digests of the files that are made, and of the trace that follows.
 wants 0 flight/expected.txt flight.py "$work"

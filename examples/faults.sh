@@ -40,10 +40,16 @@ expect 7 "$(says 'read fault on file 1')" check control/tasks.toml/
 expect 7 "$(says 'read fault on file 1')" check ''
 expect 7 "$(says 'read fault on file 1')" demand "$work"
 expect 7 "$(says 'read fault on file 1')" demand demand/within.csv/
+expect 7 "$(says 'read fault on file 1')" partition "$work" 2
+expect 7 "$(says 'read fault on file 2')" runall several/tasks.toml "$work" 5 2
+expect 7 "$(says 'read fault on file 1')" stretch control/tasks.toml/
 expect 7 "$(says 'file 1 is longer than 16777216 bytes')" check /dev/zero
 expect 7 "$(says 'file 2 is longer than 16777216 bytes')" run overrun/tasks.toml /dev/zero 12
 expect 7 "$(says 'file 2 is longer than 134217728 bytes')" judge judged/tasks.toml /dev/zero
 expect 7 "$(says 'file 1 is longer than 16777216 bytes')" demand /dev/zero
+expect 7 "$(says 'file 1 is longer than 16777216 bytes')" partition /dev/zero 2
+expect 7 "$(says 'file 2 is longer than 16777216 bytes')" runall several/tasks.toml /dev/zero 5 2
+expect 7 "$(says 'file 1 is longer than 16777216 bytes')" stretch /dev/zero
 expect 3 "$(says 'task file: no tasks')" check /dev/null
 expect 11 "$(says 'demand file line 1: header is not task,period,deadline,budget')" demand /dev/null
 cp control/tasks.toml "$work/locked.toml"
@@ -53,6 +59,8 @@ if [ "$(id -u)" -eq 0 ]; then
 else
     expect 7 "$(says 'read fault on file 1')" check "$work/locked.toml"
     expect 7 "$(says 'read fault on file 1')" demand "$work/locked.toml"
+    expect 7 "$(says 'read fault on file 1')" partition "$work/locked.toml" 2
+    expect 7 "$(says 'read fault on file 1')" stretch "$work/locked.toml"
 fi
 
 # Named pipes: whole, in pieces, and without a byte. One without a writer is waited for, as by any reader.
@@ -72,6 +80,10 @@ feeds cat overrun/work.csv
 expect 0 overrun/run.txt run overrun/tasks.toml "$work/pipe" 12
 feeds sh -c 'head -c 40 demand/sensor.csv; sleep 0.2; tail -c +41 demand/sensor.csv'
 expect 10 demand/sensor.txt demand "$work/pipe"
+feeds sh -c 'head -c 40 several/work.csv; sleep 0.2; tail -c +41 several/work.csv'
+expect 0 several/runall.txt runall several/tasks.toml "$work/pipe" 5 2
+feeds cat control/tasks.toml
+expect 0 control/stretch.txt stretch "$work/pipe"
 # A writer that never stops.
 feeds cat /dev/zero
 expect 7 "$(says 'file 1 is longer than 16777216 bytes')" check "$work/pipe"
@@ -109,6 +121,11 @@ wants() {
     fi
 }
 
+# is_as_ever: the run ended as the one without a refusal
+is_as_ever() {
+    [ "$status" -eq "$ordinary" ] && cmp -s "$work/out" "$work/ordinary"
+}
+
 # is_cut_short: the write took nothing
 is_cut_short() {
     [ "$status" -eq 8 ] && is_front
@@ -119,6 +136,14 @@ fails() {
     call=$1
     shift
     refuse "MOST=$most_bytes CALL=$call" "$@"
+    # `accept` asks for no file: what it opens tells how many processors it may use, and it does without.
+    case $1:$(told refused) in
+    'accept:open '* | 'accept:read '*)
+        wants is_as_ever "$* with call $call refused"
+        reads=$((reads + 1))
+        return
+        ;;
+    esac
     wants is_told "$* with call $call refused"
     if [ "$status" -eq 7 ]; then
         reads=$((reads + 1))
@@ -148,6 +173,10 @@ calls 1 check control/tasks.toml
 calls 1000 check control/tasks.toml
 calls 1000 run overrun/tasks.toml overrun/work.csv 12
 calls 1 demand demand/past.csv
+calls 1 partition several/tasks.toml 2
+calls 1000 runall several/tasks.toml several/work.csv 5 2
+calls 1 stretch control/tasks.toml
+calls 1 accept 1 200 8
 for_examples calls 8
 
 # starts NUMBER WORDS..: with this start of a thread refused, or all of them where the number is 0: the run ends as ever
@@ -173,6 +202,9 @@ threads() {
 threads run overrun/tasks.toml overrun/work.csv 12
 threads soak 7 8 20000
 threads live live/tasks.toml 10
+threads runall several/tasks.toml several/work.csv 5 2
+# A study is worked out in pieces on as many threads as there are processors, so on one there is none to start.
+[ "$(nproc 2>/dev/null || echo 1)" -lt 2 ] || threads accept 1 1000 8
 
 # lives NUMBER TASKS TICKS: the same of a live run whose text may be another one each time: it is judged legal, with no job late
 lives() {
@@ -196,6 +228,12 @@ bounded "$program" run overrun/tasks.toml "$work/first.csv" 12 >"$work/ordinary"
 ordinary=$?
 refuse "CUT=6 CUT_FILE=$work/cut.csv" run overrun/tasks.toml "$work/cut.csv" 12
 judge "$ordinary" "$status" "$work/ordinary" 'run, with a work file cut while it is read'
+{ cat several/work.csv; awk 'BEGIN { for (i = 3; i < 2000; i++) print "tap," 2 * i ",1" }'; } >"$work/cut.csv"
+head -c 8192 "$work/cut.csv" >"$work/first.csv"
+bounded "$program" runall several/tasks.toml "$work/first.csv" 20 2 >"$work/ordinary"
+ordinary=$?
+refuse "CUT=6 CUT_FILE=$work/cut.csv" runall several/tasks.toml "$work/cut.csv" 20 2
+judge "$ordinary" "$status" "$work/ordinary" 'runall, with a work file cut while it is read'
 { cat demand/sensor.csv; head -c 20000 /dev/zero | tr '\0' '\n'; echo more; } >"$work/cut.csv"
 refuse "CUT=3 CUT_FILE=$work/cut.csv" demand "$work/cut.csv"
 judge 10 "$status" demand/sensor.txt 'demand, of a file cut while it is read'

@@ -130,12 +130,18 @@ def is_low(tasks, job):
 
 # ---- Loads and the test ----
 
+# The sum of some budgets over their periods.
+def load(shares):
+    multiple = math.lcm(*[period for _, period in shares])
+    return Fraction(sum(budget * (multiple // period) for budget, period in shares), multiple)
+
+
 # The utilisations: low budgets of low tasks, low budgets of high tasks, high budgets of high tasks.
 def loads(tasks):
-    low_low = sum(Fraction(task.low, task.period) for task in tasks if task.level == LOW)
-    high_low = sum(Fraction(task.low, task.period) for task in tasks if task.level == HIGH)
-    high_high = sum(Fraction(task.high, task.period) for task in tasks if task.level == HIGH)
-    return Fraction(low_low), Fraction(high_low), Fraction(high_high)
+    low_tasks, high_tasks = ([task for task in tasks if task.level == level] for level in (LOW, HIGH))
+    return (
+        load([(task.low, task.period) for task in low_tasks]), load([(task.low, task.period) for task in high_tasks]),
+        load([(task.high, task.period) for task in high_tasks]))
 
 
 # The number of the first task whose period takes the least common multiple of the periods so far past 2^60, or None.
@@ -725,6 +731,95 @@ def demand_text(text):
     raise Refusal(10, lines(told + list(counterexample_lines(demands, rows))))
 
 
+# ---- Several processors ----
+
+# Whether one processor takes these tasks: they are within the range, and the test gives them a rule.
+def fits(tasks):
+    return out_of_range(tasks) is None and test(tasks) is not None
+
+
+# The tasks of a processor, in the order of the whole set.
+def part(tasks, processors, number):
+    return [task for task, processor in zip(tasks, processors) if processor == number]
+
+
+# The processor of each task, from 1: in order, the first one that takes the task beside those that it has. The first task
+# that none of them takes is refused.
+def first_fit(tasks, count):
+    processors = []
+    for task in tasks:
+        taking = [number for number in range(1, count + 1) if fits(part(tasks, processors, number) + [task])]
+        if not taking:
+            raise Refusal(12, f'not partitioned: task {task.name} fits on none of {count}\n')
+        processors.append(taking[0])
+    return processors
+
+
+# A line for each processor, with the names of its tasks.
+def partition_text(tasks, count):
+    processors = first_fit(tasks, count)
+    return lines(
+        ' '.join([f'processor {number}'] + [task.name for task in part(tasks, processors, number)])
+        for number in range(1, count + 1))
+
+
+# The work of a processor's tasks, which have the numbers of their places there.
+def part_work(processors, number, work):
+    own = [task for task, processor in enumerate(processors, 1) if processor == number]
+    return [row._replace(task=own.index(row.task) + 1) for row in work if row.task in own]
+
+
+# For each processor with tasks its line, and the text of the trace that follows its tasks' work under their own rule.
+def runall_text(tasks, text, end, count):
+    processors = first_fit(tasks, count)
+    work = read_work(tasks, text)
+    told = ''
+    for number in sorted(set(processors)):
+        own, own_work = part(tasks, processors, number), part_work(processors, number, work)
+        runs = follow(own, test(own), own_work, end)
+        assert follows(own, test(own), own_work, end, runs)
+        told += f'processor {number}\n' + trace_text(own, runs)
+    return told
+
+
+# ---- How much room a set has ----
+
+MOST_PERCENT = 1000
+
+
+# The tasks with their high budgets at so many hundredths of what they are, rounded down: no more than a number may be, and
+# no less than the low budget.
+def at_percent(tasks, percent):
+    return [
+        task._replace(high=max(task.low, min(task.high * percent // 100, MOST))) if task.level == HIGH else task
+        for task in tasks]
+
+
+# The greatest of the percentages from 0 to 1000 at which the test gives a rule, or None.
+def stretch(tasks):
+    percents = [percent for percent in range(MOST_PERCENT + 1) if test(at_percent(tasks, percent)) is not None]
+    return max(percents, default=None)
+
+
+# The stretch, and U_HH at it and, but at the greatest one, at the percentage above it.
+def stretch_text(tasks):
+    greatest = stretch(tasks)
+    shown = [0] if greatest is None else range(greatest, min(greatest + 1, MOST_PERCENT) + 1)
+    told = [f'U_HH {ratio(loads(at_percent(tasks, percent))[2])} at {percent}' for percent in shown]
+    return lines(['stretch none' if greatest is None else f'stretch {greatest}'] + told)
+
+
+ACCEPTED_AT = range(100, 201, 10)
+
+
+# For each of eleven percentages how many of the sets made from so many numbers have that stretch or a greater one.
+def accept_text(seed, sets, count):
+    stretches = [stretch(make(number, count, 0)[0]) for number in range(seed, seed + sets)]
+    return lines(
+        f'{percent} {sum(greatest is not None and greatest >= percent for greatest in stretches)}'
+        for percent in ACCEPTED_AT)
+
+
 # ---- Files ----
 
 MOST = 4294967295
@@ -996,10 +1091,11 @@ def set_fault(tasks):
 
 USAGE = ('usage: check TASKS | run TASKS WORK TICKS | judge TASKS TRACE [P Q] | chart TASKS TRACE '
          '| report TASKS TRACE | soak NUMBER TASKCOUNT TICKS | migrate TASKS TRACE | live TASKS TICKS '
-         '| demand DEMANDS\n')
+         '| demand DEMANDS | partition TASKS M | runall TASKS WORK TICKS M | stretch TASKS '
+         '| accept NUMBER SETS TASKCOUNT\n')
 COUNT_OF_WORDS = {
     'check': [0], 'run': [1], 'judge': [0, 2], 'chart': [0], 'report': [0], 'soak': [3], 'migrate': [0], 'live': [1],
-    'demand': [0]}
+    'demand': [0], 'partition': [1], 'runall': [2], 'stretch': [0], 'accept': [3]}
 
 
 # The numbers behind the files, each within its range.
@@ -1012,18 +1108,26 @@ def read_words(command, words):
         'soak': lambda seed, count, end: 2 <= count <= 32 and 1 <= end <= 1000000,
         'judge': lambda p=1, q=1: 1 <= p <= q <= MOST,
         'live': lambda end: 1 <= end <= 100000,
+        'partition': lambda count: 1 <= count <= 16,
+        'runall': lambda end, count: 1 <= end <= 1000000 and 1 <= count <= 16,
+        'accept': lambda seed, sets, count: 1 <= sets <= 10000 and 2 <= count <= 32 and seed + sets < 2 ** 64,
     }.get(command, lambda: True)
     if not in_range(*numbers):
         raise Refusal(2, USAGE)
     return numbers
 
 
-# The rule of the test, for tasks within the range.
-def admitted(tasks):
+# The tasks, where they are within the range.
+def within_range(tasks):
     number = out_of_range(tasks)
     if number is not None:
         raise Refusal(3, f'task file: task {number}: periods out of range\n')
-    rule = test(tasks)
+    return tasks
+
+
+# The rule of the test, for tasks within the range.
+def admitted(tasks):
+    rule = test(within_range(tasks))
     if rule is None:
         raise Refusal(1, f'not admitted: {" ".join(loads_words(tasks))}\n')
     return rule
@@ -1033,11 +1137,17 @@ def admitted(tasks):
 # where it is one of many, as `live_fault` says. The one file of `demand` is given as the second.
 def text_of(command, tree, second, words):
     numbers = read_words(command, words)
-    if command == 'soak':
-        return soak_text(*numbers)
+    if command in ('soak', 'accept'):
+        return {'soak': soak_text, 'accept': accept_text}[command](*numbers)
     if command == 'demand':
         return demand_text(second)
     tasks = read_tasks(tree)
+    if command == 'stretch':
+        return stretch_text(within_range(tasks))
+    if command == 'partition':
+        return partition_text(tasks, *numbers)
+    if command == 'runall':
+        return runall_text(tasks, second, *numbers)
     rule = virtual(*numbers) if command == 'judge' and numbers else admitted(tasks)
     if command == 'check':
         return check_text(tasks, rule)
@@ -1107,6 +1217,8 @@ TAP_AND_ARM = tree_of(low('tap', 2, 1), high('arm', 4, 1, 3))
 QUARTER_SCALE = tree_of(low('a', 5, 3), high('b', 10, 1, 6))
 TWO_HIGH_TASKS = tree_of(high('ctl', 10, 2, 6), high('fix', 10, 1, 1), low('log', 10, 4))
 PLAIN_PAIR = tree_of(high('hi', 4, 1, 2), low('lo', 4, 2))
+TAP_ARM_AND_LOG = tree_of(*TAP_AND_ARM['task'], low('log', 10, 5))
+FIVE_LOW_TASKS = tree_of(low('a', 10, 5), low('b', 10, 8), low('c', 10, 2), low('d', 10, 3), low('e', 10, 2))
 AVIONICS = tree_of(
     high('attitude', 5000, 400, 900), high('gyro', 10000, 600, 1500), high('engine', 20000, 1500, 4000),
     high('nav', 50000, 3000, 7000), low('display', 16667, 2500), low('radio', 25000, 2000), low('log', 100000, 8000),
@@ -1147,6 +1259,12 @@ AVIONICS_REPORT = lines([
     'idle 0', 'switches 0'])
 
 
+TAP_ARM_AND_LOG_WORK = work_file('tap,0,1', 'arm,0,3', 'log,0,5', 'tap,2,1', 'tap,4,1')
+TAP_AND_ARM_TRACE = trace_file(
+    'release,0,,tap,1,kept', 'release,0,,arm,1,kept', 'tick,0,1,tap,1,done', 'tick,1,1,arm,1,over',
+    'release,2,,tap,2,dropped', 'tick,2,1,arm,1,more', 'tick,3,1,arm,1,done', 'release,4,,tap,3,dropped', 'idle,4,1,,,')
+LOG_TRACE = trace_file('release,0,,log,1,kept', 'tick,0,4,log,1,more', 'tick,4,1,log,1,done')
+
 # The words of a call, its files, its status and the lines of its text.
 EXAMPLES = {
     'first_check': (
@@ -1176,10 +1294,7 @@ EXAMPLES = {
             'tick,3,1,a,1,done', 'idle,4,1,,,')),
     'overrun_and_return': ('run', CONTROL, work_file('ctl,0,6', 'log,0,5', 'log,10,5'), ['12'], 0, OVERRUN_AND_RETURN),
     'deadline_met_exactly_in_high_mode': (
-        'run', TAP_AND_ARM, work_file('tap,0,1', 'arm,0,3', 'tap,2,1', 'tap,4,1'), ['5'], 0, trace_file(
-            'release,0,,tap,1,kept', 'release,0,,arm,1,kept', 'tick,0,1,tap,1,done', 'tick,1,1,arm,1,over',
-            'release,2,,tap,2,dropped', 'tick,2,1,arm,1,more', 'tick,3,1,arm,1,done', 'release,4,,tap,3,dropped',
-            'idle,4,1,,,')),
+        'run', TAP_AND_ARM, work_file('tap,0,1', 'arm,0,3', 'tap,2,1', 'tap,4,1'), ['5'], 0, TAP_AND_ARM_TRACE),
     'stop_without_a_switch_check': (
         'check', TWO_HIGH_TASKS, '', [], 0, ['tasks 3', 'U_LL 2/5', 'U_HL 3/10', 'U_HH 7/10', 'rule virtual', 'x 1/2']),
     'stop_without_a_switch': (
@@ -1272,6 +1387,64 @@ EXAMPLES = {
         ['tasks 2', 'U_LL 1/2', 'U_HL 1/5', 'U_HH 3/5', 'rule virtual', 'x 2/5']),
     'version_three': ('check', dict(CONTROL, version=3), '', [], 3, ['task file: unknown version']),
     'soak_of_one_task': ('soak', None, '', ['7', '1', '100'], 2, [USAGE[:-1]]),
+    'partition_on_two': ('partition', TAP_ARM_AND_LOG, '', ['2'], 0, ['processor 1 tap arm', 'processor 2 log']),
+    'partition_on_one': ('partition', TAP_ARM_AND_LOG, '', ['1'], 12, ['not partitioned: task log fits on none of 1']),
+    'partition_on_sixteen': (
+        'partition', TAP_ARM_AND_LOG, '', ['16'], 0,
+        ['processor 1 tap arm', 'processor 2 log'] + [f'processor {number}' for number in range(3, 17)]),
+    # `c` goes back to the first processor, and not to the fuller second; so `e` still fits.
+    'first_fit_and_not_best_fit': ('partition', FIVE_LOW_TASKS, '', ['2'], 0, ['processor 1 a c d', 'processor 2 b e']),
+    'first_fit_goes_back': (
+        'partition', tree_of(low('a', 10, 6), low('b', 10, 7), low('c', 10, 4)), '', ['3'], 0,
+        ['processor 1 a c', 'processor 2 b', 'processor 3']),
+    'the_first_of_two_and_not_the_fuller': (
+        'partition', tree_of(low('a', 10, 5), low('b', 10, 7), low('c', 10, 3)), '', ['2'], 0,
+        ['processor 1 a c', 'processor 2 b']),
+    'refused_at_the_first_that_fits_nowhere': (
+        'partition', tree_of(low('a', 10, 9), low('b', 10, 9), low('c', 10, 1), low('d', 10, 2), low('e', 10, 3)), '',
+        ['2'], 12, ['not partitioned: task d fits on none of 2']),
+    'parts_of_periods_out_of_range': (
+        'partition', tree_of(low('a', 4294967295, 1), low('b', 4294967294, 1), low('c', 5, 1)), '', ['2'], 0,
+        ['processor 1 a c', 'processor 2 b']),
+    'a_part_by_the_scale_alone': (
+        'partition', CONTROL, '', ['2'], 0, ['processor 1 ctl log', 'processor 2']),
+    'partition_on_none': ('partition', CONTROL, '', ['0'], 2, [USAGE[:-1]]),
+    'partition_on_seventeen': ('partition', CONTROL, '', ['17'], 2, [USAGE[:-1]]),
+    'runall_on_two': (
+        'runall', TAP_ARM_AND_LOG, TAP_ARM_AND_LOG_WORK, ['5', '2'], 0,
+        'processor 1\n' + TAP_AND_ARM_TRACE + 'processor 2\n' + LOG_TRACE),
+    'runall_on_three': (
+        'runall', TAP_ARM_AND_LOG, TAP_ARM_AND_LOG_WORK, ['5', '3'], 0,
+        'processor 1\n' + TAP_AND_ARM_TRACE + 'processor 2\n' + LOG_TRACE),
+    'runall_of_work_that_is_refused_but_not_before_the_tasks': (
+        'runall', TAP_ARM_AND_LOG, work_file('bob,0,1'), ['5', '1'], 12, ['not partitioned: task log fits on none of 1']),
+    'runall_of_work_that_is_refused': (
+        'runall', TAP_ARM_AND_LOG, work_file('bob,0,1'), ['5', '2'], 4, ['work file line 2: unknown task']),
+    'runall_of_a_part_without_work': (
+        'runall', TAP_ARM_AND_LOG, work_file('tap,0,1', 'arm,0,3', 'tap,2,1', 'tap,4,1'), ['5', '2'], 0,
+        'processor 1\n' + TAP_AND_ARM_TRACE + 'processor 2\n' + trace_file('idle,0,5,,,')),
+    'stretch_of_control': ('stretch', CONTROL, '', [], 0, ['stretch 149', 'U_HH 4/5 at 149', 'U_HH 9/10 at 150']),
+    'stretch_of_tap_and_arm': (
+        'stretch', TAP_AND_ARM, '', [], 0, ['stretch 133', 'U_HH 3/4 at 133', 'U_HH 1/1 at 134']),
+    'stretch_of_none': (
+        'stretch', tree_of(low('tap', 2, 2), high('arm', 4, 1, 1)), '', [], 0, ['stretch none', 'U_HH 1/4 at 0']),
+    'stretch_below_the_files': (
+        'stretch', tree_of(low('tap', 2, 1), high('arm', 100, 25, 100)), '', [], 0,
+        ['stretch 75', 'U_HH 3/4 at 75', 'U_HH 19/25 at 76']),
+    'stretch_to_the_greatest': (
+        'stretch', tree_of(high('one', 1000, 1, 1)), '', [], 0, ['stretch 1000', 'U_HH 1/100 at 1000']),
+    'stretch_of_low_tasks': ('stretch', tree_of(low('a', 2, 2)), '', [], 0, ['stretch 1000', 'U_HH 0/1 at 1000']),
+    'stretch_to_the_greatest_budget': (
+        'stretch', tree_of(high('big', MOST, 1, MOST)), '', [], 0, ['stretch 1000', 'U_HH 1/1 at 1000']),
+    'stretch_by_the_low_budgets': (
+        'stretch', tree_of(low('a', 10, 8), high('b', 10, 2, 3)), '', [], 0,
+        ['stretch 99', 'U_HH 1/5 at 99', 'U_HH 3/10 at 100']),
+    'stretch_of_periods_out_of_range': (
+        'stretch', tree_of(low('a', 4294967295, 1), low('b', 4294967294, 1)), '', [], 3,
+        ['task file: task 2: periods out of range']),
+    'accept_of_no_sets': ('accept', None, '', ['1', '0', '8'], 2, [USAGE[:-1]]),
+    'accept_of_too_many_sets': ('accept', None, '', ['1', '10001', '8'], 2, [USAGE[:-1]]),
+    'accept_past_the_last_number': ('accept', None, '', [str(2 ** 64 - 1), '1', '8'], 2, [USAGE[:-1]]),
     'chart': ('chart', CONTROL, ROWS_OF_OVERRUN, [], 0, OVERRUN_DRAWN),
     'chart_of_runs': ('chart', CONTROL, OVERRUN_AND_RETURN, [], 0, OVERRUN_DRAWN),
     'report': ('report', CONTROL, ROWS_OF_OVERRUN, [], 0, OVERRUN_COUNTED),
@@ -1431,6 +1604,7 @@ def examples():
     yield from wide_examples()
     yield from live_examples()
     yield from demand_examples()
+    yield from accept_examples()
 
 
 def avionics_examples():
@@ -1469,6 +1643,15 @@ def demand_examples():
         yield f'demand_{number}', {length: demand(demands, length) for length in asked}, asked
         past = min((length for length in asked if asked[length] > length), default=None)
         yield f'least_length_{number}', first_past(demands), past
+
+
+def accept_examples():
+    status, text = answer('accept', words=['1', '50', '8'])
+    counts = [int(line.split()[1]) for line in text.splitlines()]
+    yield 'accept', (status, text.splitlines()[0], len(counts), counts), (0, '100 50', 11, sorted(counts, reverse=True))
+    parts = [accept_text(number, 10, 5) for number in (18, 28)]
+    added = [sum(int(line.split()[1]) for line in pair) for pair in zip(*(part.splitlines() for part in parts))]
+    yield 'accept_by_parts', [int(line.split()[1]) for line in accept_text(18, 20, 5).splitlines()], added
 
 
 def main():

@@ -19,6 +19,8 @@ from cases import Dice, Runner, keep, program_count_seed, tell
 
 SECONDS = 2
 BYTES = 16 * 1024 * 1024
+# `runall` keeps the rows of several processors at once.
+BYTES_OF_SEVERAL = 4 * BYTES
 
 TRACE_HEADER = 'event,tick,length,task,job,how'
 
@@ -43,6 +45,12 @@ EXAMPLES = [('check', [name], []) for name in sorted(glob.glob('*/tasks.toml') +
     ('demand', ['demand/past.csv'], []),
     ('demand', ['demand/sensor.csv'], []),
     ('demand', ['demand/book.csv'], []),
+    ('partition', ['several/tasks.toml'], ['2']),
+    ('partition', ['avionics/tasks.toml'], ['3']),
+    ('runall', ['several/tasks.toml', 'several/work.csv'], ['5', '2']),
+    ('runall', ['avionics/tasks.toml', 'avionics/work.csv'], ['20', '16']),
+    ('stretch', ['control/tasks.toml'], []),
+    ('stretch', ['avionics/tasks.toml'], []),
 ]
 
 # ---- What may be answered ----
@@ -86,6 +94,7 @@ LATE = f'legal late {COUNT} first {NAME} {COUNT}\n'
 USAGE = 'usage: check TASKS .*\n'
 TRACE = f'{TRACE_HEADER}\n(?:(?:{RUN})\n)*'
 NOT_SCHEDULABLE = f'not schedulable: demand {COUNT} in length {COUNT}\n(?:(?:{EDF_ROW})\n)+late {NAME} {COUNT}\n'
+NOT_PARTITIONED = f'not partitioned: task {NAME} fits on none of {COUNT}\n'
 LONG = f'trace has {COUNT} ticks, a chart has at most 2000000\n'
 
 # The texts of each status of a command. A given scale judges sets that the test does not admit, and jobs may be late.
@@ -121,6 +130,18 @@ FORMS = {
         10: NOT_SCHEDULABLE,
         11: f'demand file line {COUNT}: (?:{DEMAND_FAULT})\n',
     },
+    'partition': {0: f'(?:processor {COUNT}(?: {NAME})*\n)+', 2: USAGE, 3: TASKS_REFUSED, 12: NOT_PARTITIONED},
+    'runall': {
+        0: f'(?:processor {COUNT}\n{TRACE})+',
+        2: USAGE,
+        3: TASKS_REFUSED,
+        4: f'work file line {COUNT}: (?:{WORK_FAULT})\n',
+        12: NOT_PARTITIONED,
+    },
+    'stretch': {
+        0: f'(?:stretch {NUMBER}\n(?:U_HH {RATIO} at {NUMBER}\n){{1,2}}|stretch none\nU_HH {RATIO} at 0\n)',
+        3: TASKS_REFUSED,
+    },
 }
 
 
@@ -133,11 +154,19 @@ def fault_of(form, status, text, errors):
         return f'status {status} with another text'
     if form == 'chart' and status == 0 and len({len(line) for line in text.splitlines()}) != 1:
         return 'a chart with lines of several lengths'
+    if form in ('partition', 'runall') and status == 0 and not has_processors_in_order(text):
+        return 'processors out of order'
     if form == 'demand' and status == 10 and not has_each_tick(text):
         return 'a counterexample of another length'
     if errors:
         return 'words on standard error'
     return None
+
+
+def has_processors_in_order(text):
+    """Whether the numbers of the processors rise, from 1 on."""
+    numbers = [int(line.split()[1]) for line in text.splitlines() if line.startswith(b'processor ')]
+    return numbers[0] == 1 and numbers == sorted(set(numbers))
 
 
 def has_each_tick(text):
@@ -389,8 +418,8 @@ def cases(count, dice, files):
 
 # ---- How cases are run ----
 
-def limit():
-    resource.setrlimit(resource.RLIMIT_AS, (BYTES, BYTES))
+def limit(size=BYTES):
+    resource.setrlimit(resource.RLIMIT_AS, (size, size))
     resource.setrlimit(resource.RLIMIT_CPU, (SECONDS, SECONDS))
     resource.setrlimit(resource.RLIMIT_CORE, (0, 0))
 
@@ -420,17 +449,18 @@ def main():
         for name in names:
             with open(name, 'rb') as file:
                 files[name] = file.read()
-    runner = Runner(program, limit)
+    one = Runner(program, limit)
+    several = Runner(program, lambda: limit(BYTES_OF_SEVERAL))
     answers = {form: {} for form in FORMS}
     failed = 0
     for number, (command, contents, words) in enumerate(cases(count, Dice(seed), files), 1):
-        form, status, fault = outcome(runner, command, contents, words)
+        form, status, fault = outcome(several if command == 'runall' else one, command, contents, words)
         answers[form][status] = answers[form].get(status, 0) + 1
         if fault is not None:
             failed += 1
             print(f'case {number}, {keep(number, command, contents, words)}: {fault}')
     tell(answers)
-    print(f'mutate: seed {seed}, {count} cases, {runner.runs} runs, {failed} failed')
+    print(f'mutate: seed {seed}, {count} cases, {one.runs + several.runs} runs, {failed} failed')
     return 1 if failed else 0
 
 

@@ -1,13 +1,15 @@
 """Turns the text of `trace-cmd report` on one processor into a trace of a task file, and tells how far each event was moved.
 
-It reads the events sched_switch and sched_waking and the user markers `release TASK`, `drop TASK` and `end TASK`, which a
-program writes to trace_marker. Where no marker releases, each sched_waking of a task's thread is a release. Boundary 0 is
-the first release; a release goes to the nearest boundary, and a tick to the thread that has most of it. A job's last tick
-before its end is `done`. What the program itself thinks of budgets and modes is not recorded: `stop`, `over` and the mode are
-what the budgets of the file say. THREAD=- is a thread whose time is overhead. What is in no map is refused by its line.
+It reads the events sched_switch and sched_waking and the user markers `release TASK`, `drop TASK`, `end TASK` and `finish`,
+which a program writes to trace_marker. Where no marker releases, each sched_waking of a task's thread is a release. Boundary 0
+is the first release, and nothing behind `finish` counts; a release goes to the nearest boundary, and a tick to the thread that
+has most of it. A job's last tick before its end is `done`. What the program itself thinks of budgets and modes is not recorded:
+`stop`, `over` and the mode are what the budgets of the file say. THREAD=- is a thread whose time is overhead, and THREAD=. one
+whose time is idleness. What has time of a tick and is in no map is refused by its line, as is a task's thread elsewhere.
 
 usage: sched.py TASKS REPORT TICK CPU THREAD=TASK..
-       TICK in microseconds; THREAD a name, or name-pid; the trace goes to standard output, the moves to standard error
+       TICK in microseconds; THREAD a name, or name-pid, or * for all others that have no real-time priority; the trace goes to
+       standard output, the moves to standard error
 """
 
 import collections
@@ -21,22 +23,32 @@ sys.path.insert(0, str(pathlib.Path(__file__).resolve().parent.parent))
 import model
 from walk import read_task_file
 
-EVENT = re.compile(r'^\s*\S.*?-\d+\s+\[(\d+)\]\s+(?:\S{4,6}\s+)?(\d+\.\d+):\s+(\S+):\s*(.*)$')
+# The processor stands in brackets, with the columns of flags behind it or without, or before them, as `report -l` has it.
+EVENT = re.compile(r'^\s*\S.*?-\d+\s+(?:\[(\d+)\]\s+(?:\S{4,6}\s+)?|(\d+)[.a-zA-Z]\S{3,5}\s+)(\d+\.\d+):\s+(\S+):\s*(.*)$')
+# The number of the thread before, and name, number and priority of the one behind.
 SWITCHES = [
-    re.compile(r'^.+:\d+ \[-?\d+\] \S+ ==> (.+):(\d+) \[-?\d+\]'),
-    re.compile(r'^prev_comm=.* ==> next_comm=(.+) next_pid=(\d+)')]
+    re.compile(r'^.+:(\d+) \[-?\d+\] \S+ ==> (.+):(\d+) \[(-?\d+)\]'),
+    re.compile(r'^prev_comm=.* prev_pid=(\d+) prev_prio=.* next_comm=(.+) next_pid=(\d+) next_prio=(-?\d+)')]
 WAKINGS = [re.compile(r'^(?:comm=)?(.+) pid=(\d+)'), re.compile(r'^(.+):(\d+) \[-?\d+\]')]
-MARKER = re.compile(r'^(?:\S+:\s+)?(release|drop|end) (\S+)\s*$')
-LOST, SPEAKS = re.compile(r'LOST .*EVENTS'), re.compile(r': (sched_switch|sched_waking|b?print):')
-OVERHEAD, IDLE_THREAD = '-', re.compile(r'^(swapper/\d+|<idle>)$')
+PRINTS = ('print', 'bprint', 'tracing_mark_write')
+MARKER = re.compile(r'^(?:\S+:\s+|ip=\S+ buf=)?(?:(release|drop|end) (\S+)|finish)\s*$')
+LOST = re.compile(r'^\s*CPU:\d+ \[(LOST .*EVENTS|.*EVENTS DROPPED)\]')
+SPEAKS = re.compile(r': (sched_switch|sched_waking|b?print|tracing_mark_write):')
+OVERHEAD, IDLENESS, OTHERS, IDLE_THREAD = '-', '.', '*', re.compile(r'^(swapper/\d+|<idle>)$')
+FIRST_ORDINARY = 100  # the kernel's least priority that is not a real-time one
 
 
 # A line of the report that counts: its number, its time in nanoseconds, and what it says.
 class Event(NamedTuple):
     line: int
     time: int
-    word: str  # run, waking, release, drop or end
-    name: str  # a task, OVERHEAD, or None of the idle thread
+    word: str  # run, elsewhere, waking, release, drop, end or finish
+    name: object  # a task, OVERHEAD, None of idleness, or a Stranger
+
+
+# A thread that is in no map, or one of a task on another processor, and why it may have no time of a tick.
+class Stranger(NamedTuple):
+    why: str
 
 
 class Refused(Exception):
@@ -49,21 +61,22 @@ def nanoseconds(text):
     return int(Fraction(text) * 10 ** 9)
 
 
-# The task, OVERHEAD or idle thread that a thread is.
-def owner(threads, line, name, pid):
+# The task, OVERHEAD or None of idleness that a thread is, or a Stranger.
+def owner(threads, name, pid, priority):
     if IDLE_THREAD.match(name):
         return None
-    for known in (f'{name}-{pid}', name):
+    others = [OTHERS] if int(priority) >= FIRST_ORDINARY else []
+    for known in [f'{name}-{pid}', name] + others:
         if known in threads:
-            return threads[known]
-    raise Refused(f'line {line}: thread {name}-{pid} is in no map')
+            return None if threads[known] == IDLENESS else threads[known]
+    return Stranger(f'thread {name}-{pid} is in no map')
 
 
 def first_match(forms, line, event, text):
     for form in forms:
         match = form.match(text)
         if match:
-            return match[1], match[2]
+            return match.groups()
     raise Refused(f'line {line}: {event} has a form that is not known')
 
 
@@ -75,44 +88,77 @@ def refuse_if_it_counts(line, text):
         raise Refused(f'line {line}: an event has a form that is not known')
 
 
-# The events of one processor. Wakings of threads in no map, and markers with other words, say nothing of the tasks.
+# The switches of one processor, each to who then has it, and those of other processors to a task.
+class Switches:
+    def __init__(self, processor, threads):
+        self.processor, self.threads, self.running = processor, threads, None
+
+    def event(self, line, time, processor, text):
+        before, name, pid, priority = first_match(SWITCHES, line, 'sched_switch', text)
+        who = owner(self.threads, name, pid, priority)
+        if processor != self.processor:
+            if who in (None, OVERHEAD) or isinstance(who, Stranger):
+                return None
+            return Event(line, time, 'elsewhere', Stranger(f'{who} runs on processor {processor}'))
+        if self.running not in (None, before):
+            raise Refused(f'line {line}: thread {before} leaves the processor, which thread {self.running} had')
+        self.running = pid
+        return Event(line, time, 'run', who)
+
+
+# The events that count of a line's event: none, or one. Wakings of threads of no task, and markers with other words, say
+# nothing of the tasks.
+def event_of(number, match, switches, names):
+    time, event, text = nanoseconds(match[3]), match[4], match[5]
+    if event == 'sched_switch':
+        return switches.event(number, time, int(match[1] or match[2]), text)
+    if event == 'sched_waking':
+        name, pid = first_match(WAKINGS, number, event, text)
+        task = switches.threads.get(f'{name}-{pid}', switches.threads.get(name))
+        return Event(number, time, 'waking', task) if task in names else None
+    marker = MARKER.match(text) if event in PRINTS else None
+    if marker is None:
+        return None
+    word, task = marker.groups()
+    if word is not None and task not in names:
+        raise Refused(f'line {number}: marker {word} of {task}, which is no task')
+    return Event(number, time, word or 'finish', task)
+
+
+# The events that count, up to the first that finishes.
 def read_events(lines, processor, threads, tasks):
-    names = {task.name for task in tasks}
+    names, switches = {task.name for task in tasks}, Switches(processor, threads)
     for number, text in enumerate(lines, 1):
         match = EVENT.match(text)
         if not match:
             refuse_if_it_counts(number, text)
             continue
-        time, event, rest = nanoseconds(match[2]), match[3], match[4]
-        if event == 'sched_switch' and int(match[1]) == processor:
-            yield Event(number, time, 'run', owner(threads, number, *first_match(SWITCHES, number, event, rest)))
-        elif event == 'sched_waking':
-            name, pid = first_match(WAKINGS, number, event, rest)
-            task = threads.get(f'{name}-{pid}', threads.get(name))
-            if task in names:
-                yield Event(number, time, 'waking', task)
-        elif event in ('print', 'bprint') and MARKER.match(rest):
-            word, task = MARKER.match(rest).groups()
-            if task not in names:
-                raise Refused(f'line {number}: marker {word} of {task}, which is no task')
-            yield Event(number, time, word, task)
+        event = event_of(number, match, switches, names)
+        if event is not None:
+            yield event
+            if event.word == 'finish':
+                return
 
 
 # ---- Ticks ----
 
-# How much of each whole tick each task, overhead and idleness has.
-def shares(events, start, tick):
+# How much of each tick up to the end each task, overhead and idleness has.
+def shares(events, start, tick, end):
     runs = [event for event in events if event.word == 'run']
     parts = collections.defaultdict(collections.Counter)
-    for event, after in zip(runs, runs[1:]):
+    for event, until in zip(runs, [after.time for after in runs[1:]] + [end]):
         time = max(event.time, start)
-        while time < after.time:
+        while time < min(until, end):
+            if isinstance(event.name, Stranger):
+                raise Refused(f'line {event.line}: {event.name.why}')
             place = (time - start) // tick
-            end = min(after.time, start + (place + 1) * tick)
-            parts[place][event.name] += end - time
-            time = end
-    whole = (runs[-1].time - start) // tick if runs else 0
-    return [parts[place] for place in range(whole)]
+            last = min(until, end, start + (place + 1) * tick)
+            parts[place][event.name] += last - time
+            time = last
+    for event in events:
+        if event.word == 'elsewhere' and start <= event.time < end:
+            raise Refused(f'line {event.line}: {event.name.why}')
+    return [parts[place] for place in range((end - start) // tick)]
 
 
 # Who has a tick: of the tasks and idleness the one with most of it.
@@ -130,12 +176,19 @@ class Recording:
         if not released:
             raise Refused('no release is recorded')
         self.start = released[0].time
-        self.parts = shares(events, self.start, tick)
+        self.parts = shares(events, self.start, tick, self.end_of(events))
         self.owners = [owner_of(part) for part in self.parts]
         self.releases = collections.defaultdict(list)
         for event in released:
             self.releases[self.boundary(event)].append(event)
         self.ends = self.last_ticks([event for event in events if event.word == 'end'])
+
+    # The end of the last whole tick: at `finish`, or before the last switch.
+    def end_of(self, events):
+        if events[-1].word == 'finish':
+            return self.start + self.boundary(events[-1]) * self.tick
+        last = max((event.time for event in events if event.word == 'run'), default=self.start)
+        return self.start + max(0, last - self.start) // self.tick * self.tick
 
     # The nearest boundary of an event, whose move is noted.
     def boundary(self, event):
@@ -146,16 +199,18 @@ class Recording:
     def note(self, event, place):
         self.moves.append((event, place, self.start + place * self.tick - event.time))
 
-    # The number of the last tick of each ended job.
+    # The number of the last tick of each ended job, which is one since its release.
     def last_ticks(self, ends):
         found = set()
         for event in ends:
-            before = min(len(self.owners) - 1, (event.time - self.start) // self.tick)
-            if (event.time - self.start) // self.tick >= len(self.owners):
+            before = (event.time - self.start) // self.tick
+            if before >= len(self.owners):
                 continue  # in the last tick, which is not whole
-            last = next((place for place in range(before, -1, -1) if self.owners[place] == event.name), None)
+            first = max((place for place, events in self.releases.items() if place <= before and any(
+                release.name == event.name for release in events)), default=0)
+            last = next((place for place in range(before, first - 1, -1) if self.owners[place] == event.name), None)
             if last is None or last in found:
-                raise Refused(f'line {event.line}: {event.name} ends and has no tick of its own since the end before')
+                raise Refused(f'line {event.line}: {event.name} ends and has no tick of its own since its release')
             found.add(last)
             self.note(event, last + 1)
         return found
@@ -196,8 +251,9 @@ class Recording:
 
     # A line for each event that was moved, and for each tick that was not one owner's.
     def moved(self):
-        for event, place, by in self.moves:
-            yield f'line {event.line}: {event.word} {event.name} at boundary {place}, moved by {micro(by)}'
+        for event, place, by in sorted(self.moves, key=lambda move: move[0].line):
+            what = event.word if event.name is None else f'{event.word} {event.name}'
+            yield f'line {event.line}: {what} at boundary {place}, moved by {micro(by)}'
         for place, (part, name) in enumerate(zip(self.parts, self.owners)):
             lost = self.tick - part[name]
             if lost:
@@ -211,15 +267,19 @@ def micro(time):
     return f'{float(Fraction(time, 1000)):g} us'
 
 
+def is_number(text):
+    return re.fullmatch(r'\d+(\.\d+)?', text) is not None
+
+
 def main(words):
-    if len(words) < 5 or any('=' not in word for word in words[4:]):
+    if len(words) < 5 or not is_number(words[2]) or not words[3].isdigit() or any('=' not in word for word in words[4:]):
         print(__doc__.split('\n\n')[-1].strip(), file=sys.stderr)
         return 2
     try:
         tasks = read_task_file(words[0])
         threads = dict(word.rsplit('=', 1) for word in words[4:])
         for thread, task in threads.items():
-            if task != OVERHEAD and model.task_number(tasks, task) is None:
+            if task not in (OVERHEAD, IDLENESS) and model.task_number(tasks, task) is None:
                 raise Refused(f'{thread}={task}: no task has the name')
         with open(words[1], encoding='utf-8', errors='replace') as report:
             events = list(read_events(report, int(words[3]), threads, tasks))

@@ -1,10 +1,10 @@
 -- The numbers of each form are within their bounds.
-use Rattle.std.proofs.Common.{◌≡◌, ℕ, ◌≤◌, ◌-◌, ◌^◌, ◌&&◌, nat_le, Bool, true, false, cond, List, [], ◌∷◌, Option, Some, None, IfSome, option_map, codes, refl, arith, leb-true}
+use Rattle.std.proofs.Common.{◌≡◌, ℕ, ◌+◌, ◌≤◌, ◌-◌, ◌^◌, ◌&&◌, nat_le, nat_lt, Bool, true, false, cond, List, [], ◌∷◌, Option, Some, None, IfSome, option_map, codes, refl, arith, leb-true, ltb-true}
 use Rattle.std.specs.Str.{bytes_eq}
 use Rattle.numeral.specs.Numeral.{numeral}
 use Rattle.command_line.specs.declared.form.Telling.{Telling}
 use Rattle.command_line.specs.declared.form.Telling.TheVariants.{Judge, JudgeBy, Chart, Report, Migrate}
-use Rattle.command_line.specs.Form.{Form, check, run, on_trace, live, demand, within, number, judge_by, workload, telling_of, with_one, with_two, with_three, with_four, form_of, IsScale, IsInRange}
+use Rattle.command_line.specs.Form.{Form, check, run, on_trace, live, demand, partition, stretch, accept, within, number, judge_by, workload, study, parts_run, telling_of, with_one, with_two, with_three, with_four, form_of, IsScale, IsInRange}
 
 both : (a b : Bool) → (a && b) ≡ true → (a ≡ true) × (b ≡ true)
 both true true h = (refl, refl)
@@ -55,38 +55,61 @@ of_workload (Some number) None ticks h k = tt
 of_workload (Some number) (Some tasks) None h k = tt
 of_workload (Some number) (Some tasks) (Some ticks) h k = (h.0, h.1, k.0, k.1)
 
-of_one : (word a : List ℕ) → IfSome (with_one word a) IsInRange
-of_one word a = go (bytes_eq word (codes "check")) (bytes_eq word (codes "demand"))
+of_study : (number sets tasks : Option ℕ) → IfSome sets (λ n. (1 ≤ n) × (n ≤ 10000)) → IfSome tasks (λ n. (2 ≤ n) × (n ≤ 32)) → IfSome (study number sets tasks) IsInRange
+of_study None sets tasks h k = tt
+of_study (Some number) None tasks h k = tt
+of_study (Some number) (Some sets) None h k = tt
+of_study (Some number) (Some sets) (Some tasks) h k = go (nat_lt (number + sets) (2 ^ 64)) refl
   where
-    go : (c d : Bool) → IfSome (cond c (Some (check a)) (cond d (Some (demand a)) None)) IsInRange
-    go true d = tt
-    go false true = tt
-    go false false = tt
+    go : (b : Bool) → nat_lt (number + sets) (2 ^ 64) ≡ b → IfSome (cond b (Some (accept number sets tasks)) None) IsInRange
+    go true e = (h.0, h.1, k.0, k.1, ltb-true _ _ e)
+    go false e = tt
+
+of_parts : (a b : List ℕ) (ticks processors : Option ℕ) → IfSome ticks (λ n. (1 ≤ n) × (n ≤ 1000000)) → IfSome processors (λ n. (1 ≤ n) × (n ≤ 16)) → IfSome (parts_run a b ticks processors) IsInRange
+of_parts a b None processors h k = tt
+of_parts a b (Some ticks) None h k = tt
+of_parts a b (Some ticks) (Some processors) h k = (h.0, h.1, k.0, k.1)
+
+of_one : (word a : List ℕ) → IfSome (with_one word a) IsInRange
+of_one word a = go (bytes_eq word (codes "check")) (bytes_eq word (codes "demand")) (bytes_eq word (codes "stretch"))
+  where
+    go : (c d e : Bool) → IfSome (cond c (Some (check a)) (cond d (Some (demand a)) (cond e (Some (stretch a)) None))) IsInRange
+    go true d e = tt
+    go false true e = tt
+    go false false true = tt
+    go false false false = tt
 
 of_two : (word a b : List ℕ) → IfSome (with_two word a b) IsInRange
-of_two word a b = go (bytes_eq word (codes "live"))
+of_two word a b = go (bytes_eq word (codes "live")) (bytes_eq word (codes "partition"))
   where
-    go : (c : Bool) → IfSome (cond c (option_map (λ ticks. live a ticks) (number 1 100000 b)) (option_map (λ t. on_trace t a b) (telling_of word))) IsInRange
-    go true = of_number (λ ticks. live a ticks) 1 100000 (numeral 20 b) (λ n p q. (p, q))
-    go false =
+    go : (c d : Bool) → IfSome (cond c (option_map (λ ticks. live a ticks) (number 1 100000 b)) (cond d (option_map (λ m. partition a m) (number 1 16 b)) (option_map (λ t. on_trace t a b) (telling_of word)))) IsInRange
+    go true d = of_number (λ ticks. live a ticks) 1 100000 (numeral 20 b) (λ n p q. (p, q))
+    go false true = of_number (λ m. partition a m) 1 16 (numeral 20 b) (λ n p q. (p, q))
+    go false false =
         of_telling a b (telling_of word) (plain (bytes_eq word (codes "judge")) (bytes_eq word (codes "chart")) (bytes_eq word (codes "report")) (bytes_eq word (codes "migrate")))
 
 of_three : (word a b c : List ℕ) → IfSome (with_three word a b c) IsInRange
-of_three word a b c = go (bytes_eq word (codes "run")) (bytes_eq word (codes "soak"))
+of_three word a b c = go (bytes_eq word (codes "run")) (bytes_eq word (codes "soak")) (bytes_eq word (codes "accept"))
   where
-    go : (d e : Bool) → IfSome (cond d (option_map (λ ticks. run a b ticks) (number 1 1000000 c)) (cond e (workload (number 0 (2 ^ 64 - 1) a) (number 2 32 b) (number 1 1000000 c)) None)) IsInRange
-    go true e = of_number (λ ticks. run a b ticks) 1 1000000 (numeral 20 c) (λ n p q. (p, q))
-    go false true = of_workload (number 0 (2 ^ 64 - 1) a) (number 2 32 b) (number 1 1000000 c) (within_is 2 32 (numeral 20 b)) (within_is 1 1000000 (numeral 20 c))
-    go false false = tt
+    first : Option ℕ
+    first = number 0 (2 ^ 64 - 1) a
+
+    go : (d e f : Bool) → IfSome (cond d (option_map (λ ticks. run a b ticks) (number 1 1000000 c)) (cond e (workload first (number 2 32 b) (number 1 1000000 c)) (cond f (study first (number 1 10000 b) (number 2 32 c)) None))) IsInRange
+    go true e f = of_number (λ ticks. run a b ticks) 1 1000000 (numeral 20 c) (λ n p q. (p, q))
+    go false true f = of_workload first (number 2 32 b) (number 1 1000000 c) (within_is 2 32 (numeral 20 b)) (within_is 1 1000000 (numeral 20 c))
+    go false false true = of_study first (number 1 10000 b) (number 2 32 c) (within_is 1 10000 (numeral 20 b)) (within_is 2 32 (numeral 20 c))
+    go false false false = tt
 
 of_four : (word a b p q : List ℕ) → IfSome (with_four word a b p q) IsInRange
-of_four word a b p q = go (bytes_eq word (codes "judge"))
+of_four word a b p q = go (bytes_eq word (codes "judge")) (bytes_eq word (codes "runall"))
   where
-    go : (c : Bool) → IfSome (cond c (option_map (λ t. on_trace t a b) (judge_by (number 1 (2 ^ 32 - 1) p) (number 1 (2 ^ 32 - 1) q))) None) IsInRange
-    go true =
-        of_telling a b (judge_by (number 1 (2 ^ 32 - 1) p) (number 1 (2 ^ 32 - 1) q))
-        (scaled (number 1 (2 ^ 32 - 1) p) (number 1 (2 ^ 32 - 1) q) (within_is 1 (2 ^ 32 - 1) (numeral 20 p)) (within_is 1 (2 ^ 32 - 1) (numeral 20 q)))
-    go false = tt
+    scale : Option Telling
+    scale = judge_by (number 1 (2 ^ 32 - 1) p) (number 1 (2 ^ 32 - 1) q)
+
+    go : (c d : Bool) → IfSome (cond c (option_map (λ t. on_trace t a b) scale) (cond d (parts_run a b (number 1 1000000 p) (number 1 16 q)) None)) IsInRange
+    go true d = of_telling a b scale (scaled (number 1 (2 ^ 32 - 1) p) (number 1 (2 ^ 32 - 1) q) (within_is 1 (2 ^ 32 - 1) (numeral 20 p)) (within_is 1 (2 ^ 32 - 1) (numeral 20 q)))
+    go false true = of_parts a b (number 1 1000000 p) (number 1 16 q) (within_is 1 1000000 (numeral 20 p)) (within_is 1 16 (numeral 20 q))
+    go false false = tt
 
 pub in_range : (words : List (List ℕ)) → IfSome (form_of words) IsInRange
 in_range [] = tt

@@ -1,5 +1,5 @@
 -- What the words of the command line ask for.
-use Rattle.std.specs.Prelude.{ℕ, ◌≤◌, ◌<◌, ◌-◌, ◌^◌, ◌&&◌, nat_le, List, [], ◌∷◌, if◌then◌else◌, Option, Some, None, option_map, codes}
+use Rattle.std.specs.Prelude.{ℕ, ◌+◌, ◌≤◌, ◌<◌, ◌-◌, ◌^◌, ◌&&◌, nat_le, nat_lt, List, [], ◌∷◌, if◌then◌else◌, Option, Some, None, option_map, codes}
 use Rattle.std.specs.Str.{bytes_eq}
 use Rattle.numeral.specs.Numeral.{numeral}
 use Rattle.command_line.specs.declared.form.Telling.{Telling}
@@ -13,10 +13,14 @@ pub data Form : Type 0 where
   soak : (number tasks ticks : ℕ) → Form
   live : (tasks : List ℕ) (ticks : ℕ) → Form
   demand : (demands : List ℕ) → Form
+  partition : (tasks : List ℕ) (processors : ℕ) → Form
+  run_all : (tasks work : List ℕ) (ticks processors : ℕ) → Form
+  stretch : (tasks : List ℕ) → Form
+  accept : (number sets tasks : ℕ) → Form
 
 -- the one line that names every form
 abbrev pub usage_line : List ℕ
-usage_line = codes "usage: check TASKS | run TASKS WORK TICKS | judge TASKS TRACE [P Q] | chart TASKS TRACE | report TASKS TRACE | soak NUMBER TASKCOUNT TICKS | migrate TASKS TRACE | live TASKS TICKS | demand DEMANDS\n"
+usage_line = codes "usage: check TASKS | run TASKS WORK TICKS | judge TASKS TRACE [P Q] | chart TASKS TRACE | report TASKS TRACE | soak NUMBER TASKCOUNT TICKS | migrate TASKS TRACE | live TASKS TICKS | demand DEMANDS | partition TASKS M | runall TASKS WORK TICKS M | stretch TASKS | accept NUMBER SETS TASKCOUNT\n"
 
 -- the number, if it is within these bounds
 abbrev pub within : ℕ → ℕ → Option ℕ → Option ℕ
@@ -38,6 +42,16 @@ abbrev pub workload : Option ℕ → Option ℕ → Option ℕ → Option Form
 workload (Some number) (Some tasks) (Some ticks) = Some (soak number tasks ticks)
 workload number tasks ticks = None
 
+-- a study of so many sets, whose numbers are below 2^64
+abbrev pub study : Option ℕ → Option ℕ → Option ℕ → Option Form
+study (Some number) (Some sets) (Some tasks) = if nat_lt (number + sets) (2 ^ 64) then Some (accept number sets tasks) else None
+study number sets tasks = None
+
+-- runs of a set's parts with these numbers
+abbrev pub parts_run : List ℕ → List ℕ → Option ℕ → Option ℕ → Option Form
+parts_run tasks work (Some ticks) (Some processors) = Some (run_all tasks work ticks processors)
+parts_run tasks work ticks processors = None
+
 -- what is told of a trace, by its word
 abbrev pub telling_of : List ℕ → Option Telling
 telling_of word =
@@ -46,24 +60,32 @@ telling_of word =
     else if bytes_eq word (codes "report") then Some Report
     else if bytes_eq word (codes "migrate") then Some Migrate else None
 
--- a command with one more word, with two, with three and with four
+-- a command with one more word
 abbrev pub with_one : List ℕ → List ℕ → Option Form
 with_one word a =
-    if bytes_eq word (codes "check") then Some (check a) else if bytes_eq word (codes "demand") then Some (demand a) else None
+    if bytes_eq word (codes "check") then Some (check a)
+    else if bytes_eq word (codes "demand") then Some (demand a)
+    else if bytes_eq word (codes "stretch") then Some (stretch a) else None
 
+-- with two
 abbrev pub with_two : List ℕ → List ℕ → List ℕ → Option Form
 with_two word a b =
     if bytes_eq word (codes "live") then option_map (λ ticks. live a ticks) (number 1 100000 b)
+    else if bytes_eq word (codes "partition") then option_map (λ m. partition a m) (number 1 16 b)
     else option_map (λ t. on_trace t a b) (telling_of word)
 
+-- with three
 abbrev pub with_three : List ℕ → List ℕ → List ℕ → List ℕ → Option Form
 with_three word a b c =
     if bytes_eq word (codes "run") then option_map (λ ticks. run a b ticks) (number 1 1000000 c)
-    else if bytes_eq word (codes "soak") then workload (number 0 (2 ^ 64 - 1) a) (number 2 32 b) (number 1 1000000 c) else None
+    else if bytes_eq word (codes "soak") then workload (number 0 (2 ^ 64 - 1) a) (number 2 32 b) (number 1 1000000 c)
+    else if bytes_eq word (codes "accept") then study (number 0 (2 ^ 64 - 1) a) (number 1 10000 b) (number 2 32 c) else None
 
+-- with four
 abbrev pub with_four : List ℕ → List ℕ → List ℕ → List ℕ → List ℕ → Option Form
 with_four word a b p q =
-    if bytes_eq word (codes "judge") then option_map (λ t. on_trace t a b) (judge_by (number 1 (2 ^ 32 - 1) p) (number 1 (2 ^ 32 - 1) q)) else None
+    if bytes_eq word (codes "judge") then option_map (λ t. on_trace t a b) (judge_by (number 1 (2 ^ 32 - 1) p) (number 1 (2 ^ 32 - 1) q))
+    else if bytes_eq word (codes "runall") then parts_run a b (number 1 1000000 p) (number 1 16 q) else None
 
 -- the form that the words have, if any
 abbrev pub form_of : List (List ℕ) → Option Form
@@ -86,3 +108,7 @@ IsInRange (on_trace telling tasks trace) = IsScale telling
 IsInRange (soak number tasks ticks) = (2 ≤ tasks) × (tasks ≤ 32) × (1 ≤ ticks) × (ticks ≤ 1000000)
 IsInRange (live tasks ticks) = (1 ≤ ticks) × (ticks ≤ 100000)
 IsInRange (demand demands) = Unit {0}
+IsInRange (partition tasks processors) = (1 ≤ processors) × (processors ≤ 16)
+IsInRange (run_all tasks work ticks processors) = (1 ≤ ticks) × (ticks ≤ 1000000) × (1 ≤ processors) × (processors ≤ 16)
+IsInRange (stretch tasks) = Unit {0}
+IsInRange (accept number sets tasks) = (1 ≤ sets) × (sets ≤ 10000) × (2 ≤ tasks) × (tasks ≤ 32) × (number + sets < 2 ^ 64)

@@ -13,8 +13,14 @@ const MOST_TICKS: u64 = 1_000_000;
 /// The most ticks of a live run.
 const MOST_LIVE_TICKS: u64 = 100_000;
 
-/// The most tasks of a workload.
+/// The most tasks of a workload, and of a set of a study.
 const MOST_TASKS: u64 = 32;
+
+/// The most processors that a set is spread over.
+const MOST_PROCESSORS: u64 = 16;
+
+/// The most sets of a study.
+const MOST_SETS: u64 = 10_000;
 
 /// What a command tells of a good trace.
 #[derive(Clone, Copy, Debug, PartialEq, Eq)]
@@ -59,6 +65,24 @@ pub enum Form<'a> {
     Demand {
         demands: &'a str,
     },
+    Partition {
+        tasks: &'a str,
+        processors: u32,
+    },
+    RunAll {
+        tasks: &'a str,
+        work: &'a str,
+        ticks: u64,
+        processors: u32,
+    },
+    Stretch {
+        tasks: &'a str,
+    },
+    Accept {
+        number: u64,
+        sets: u32,
+        tasks: u32,
+    },
 }
 
 /// The form that the words have, if any.
@@ -87,7 +111,7 @@ pub fn form_of(words: &[String]) -> Option<Form<'_>>
 pub fn usage_line(alloc: Global) -> Result<Vec<u8>, AllocError>
     ensures { IfOk result (λ line. line.items ≡ spec.usage_line) }
 {
-    "usage: check TASKS | run TASKS WORK TICKS | judge TASKS TRACE [P Q] | chart TASKS TRACE | report TASKS TRACE | soak NUMBER TASKCOUNT TICKS | migrate TASKS TRACE | live TASKS TICKS | demand DEMANDS\n"
+    "usage: check TASKS | run TASKS WORK TICKS | judge TASKS TRACE [P Q] | chart TASKS TRACE | report TASKS TRACE | soak NUMBER TASKCOUNT TICKS | migrate TASKS TRACE | live TASKS TICKS | demand DEMANDS | partition TASKS M | runall TASKS WORK TICKS M | stretch TASKS | accept NUMBER SETS TASKCOUNT\n"
         .as_bytes()
         .to_vec(alloc)
 }
@@ -99,6 +123,7 @@ fn with_one<'a>(word: &str, file: &'a str) -> Option<Form<'a>>
     match word {
         "check" => Some(Form::Check { tasks: file }),
         "demand" => Some(Form::Demand { demands: file }),
+        "stretch" => Some(Form::Stretch { tasks: file }),
         _ => None,
     }
 }
@@ -107,16 +132,24 @@ fn with_two<'a>(word: &str, tasks: &'a str, second: &'a str) -> Option<Form<'a>>
     ensures form { option_map form_view result ≡ spec.with_two word.now tasks.now second.now }
     ensures range { IfSome result (λ form. spec.IsInRange (form_view form)) }
 {
-    if word == "live" {
-        let ticks = number(second, 1, MOST_LIVE_TICKS)?;
-        return Some(Form::Live { tasks, ticks });
+    match word {
+        "live" => {
+            let ticks = number(second, 1, MOST_LIVE_TICKS)?;
+            Some(Form::Live { tasks, ticks })
+        }
+        "partition" => {
+            let processors = number(second, 1, MOST_PROCESSORS)? as u32;
+            Some(Form::Partition { tasks, processors })
+        }
+        _ => {
+            let telling = telling_of(word)?;
+            Some(Form::OnTrace {
+                telling,
+                tasks,
+                trace: second,
+            })
+        }
     }
-    let telling = telling_of(word)?;
-    Some(Form::OnTrace {
-        telling,
-        tasks,
-        trace: second,
-    })
 }
 
 fn with_three<'a>(word: &str, first: &'a str, second: &'a str, third: &str) -> Option<Form<'a>>
@@ -133,23 +166,42 @@ fn with_three<'a>(word: &str, first: &'a str, second: &'a str, third: &str) -> O
             })
         }
         "soak" => workload(first, second, third),
+        "accept" => study(first, second, third),
         _ => None,
     }
 }
 
-fn with_four<'a>(word: &str, tasks: &'a str, trace: &'a str, p: &str, q: &str) -> Option<Form<'a>>
-    ensures form { option_map form_view result ≡ spec.with_four word.now tasks.now trace.now p.now q.now }
+fn with_four<'a>(
+    word: &str,
+    tasks: &'a str,
+    second: &'a str,
+    third: &str,
+    fourth: &str,
+) -> Option<Form<'a>>
+    ensures form { option_map form_view result ≡ spec.with_four word.now tasks.now second.now third.now fourth.now }
     ensures range { IfSome result (λ form. spec.IsInRange (form_view form)) }
 {
-    if word != "judge" {
-        return None;
+    match word {
+        "judge" => {
+            let telling = judge_by(third, fourth)?;
+            Some(Form::OnTrace {
+                telling,
+                tasks,
+                trace: second,
+            })
+        }
+        "runall" => {
+            let ticks = number(third, 1, MOST_TICKS)?;
+            let processors = number(fourth, 1, MOST_PROCESSORS)? as u32;
+            Some(Form::RunAll {
+                tasks,
+                work: second,
+                ticks,
+                processors,
+            })
+        }
+        _ => None,
     }
-    let telling = judge_by(p, q)?;
-    Some(Form::OnTrace {
-        telling,
-        tasks,
-        trace,
-    })
 }
 
 fn telling_of(word: &str) -> Option<Telling>
@@ -190,6 +242,24 @@ fn workload<'a>(seed: &str, tasks: &str, ticks: &str) -> Option<Form<'a>>
         number: number_of_set,
         tasks: tasks as u32,
         ticks,
+    })
+}
+
+fn study<'a>(first: &str, sets: &str, tasks: &str) -> Option<Form<'a>>
+    ensures form { option_map form_view result
+        ≡ spec.study (spec.number 0 18446744073709551615 first.now) (spec.number 1 10000 sets.now) (spec.number 2 32 tasks.now) }
+    ensures range { IfSome result (λ form. spec.IsInRange (form_view form)) }
+{
+    let number_of_first = number(first, 0, u64::MAX)?;
+    let sets = number(sets, 1, MOST_SETS)?;
+    let count = number(tasks, 2, MOST_TASKS)?;
+    if sets > u64::MAX - number_of_first {
+        return None;
+    }
+    Some(Form::Accept {
+        number: number_of_first,
+        sets: sets as u32,
+        tasks: count as u32,
     })
 }
 

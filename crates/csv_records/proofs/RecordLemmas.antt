@@ -87,7 +87,8 @@ same_records s y (r ∷ rs) qs (t, ys, (q, found, is, reach), none) h =
     let next = after_one s (q.1) y (q.2) r qs h (q, found, is, (refl, refl)) in
     ap (λ x. r ∷ x) (same_records (q.1) (q.2) rs (next.0) (t, ys, reach, none) (next.2)) ∙ sym (next.1)
 
-one_read : (s : State) (y : List ℕ) (n k : ℕ) → n ≡ suc k → records_from default_config n s y ≡ records_next (records_from default_config k) (next_record default_config s [] [] y)
+-- a read, with so many more to follow
+pub one_read : (s : State) (y : List ℕ) (n k : ℕ) → n ≡ suc k → records_from default_config n s y ≡ records_next (records_from default_config k) (next_record default_config s [] [] y)
 unfolding records_from
 one_read s y n k e = rw e refl
 

@@ -1,8 +1,10 @@
 //! The records of a text, read one after another.
 #![tactic(auto)]
 
+mod all;
 mod records;
 #[cfg(test)]
 mod tests;
+mod width;
 
-pub use records::Records;
+pub use records::{Next, Records};

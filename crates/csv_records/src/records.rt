@@ -1,29 +1,45 @@
-// A reader of the records of a text.
-ghost use Rattle.std.specs.Prelude.{◌≡◌, ◌∷◌, [], true, false, Ok, OnErr};
+// The records of a text, of which the first that has too many fields is told and not read.
+ghost use Rattle.std.specs.Prelude.{◌≡◌, ◌≢◌, ◌∷◌, [], Ok, OnErr, Some};
 ghost use Rattle.csv.specs.Reading.{default_config, records, strip_bom};
 ghost use Rattle.csv.specs.Records.{fields_of};
+ghost use Rattle.csv_records.specs.Width.{StartsWide, one_less};
+ghost use Rattle.csv_records.specs.declared.records.Next.TheVariants as next;
 
-use csv::{ByteRecord, Reader, ReaderBuilder};
+use crate::all::AllRecords;
+use crate::width::narrow_records;
+use csv::ByteRecord;
 use std::alloc::{AllocError, Global};
 use std::marker::Model;
+
+/// What a text has next.
+#[derive(Clone, Copy, Debug, PartialEq, Eq)]
+pub enum Next {
+    /// A record, which was read.
+    Record,
+    /// A record with more than 6 fields, which is not read: none of them is stored.
+    Wide,
+    /// Nothing more.
+    End,
+}
 
 /// The records of a text that are still to be read, as csv's reader gives them: fields between commas, with double quotes.
 /// Contracts see them as a list, each a list of fields.
 #[derive(Drop)]
 pub struct Records<'a> {
-    reader: Reader<&'a [u8]>,
-    let_go: bool,
+    all: AllRecords<'a>,
+    // How many records stand before one with too many fields, where one is known.
+    narrow: Option<usize>,
 }
 
 impl<'a> Model for Records<'a> {
     ghost use Rattle.std.specs.Prelude.{List, ℕ};
-    ghost use Rattle.csv_records.specs.Left.{records_left, ReadsText};
+    ghost use Rattle.csv_records.specs.Width.{KnowsWide};
 
     ghost Value = { List (List (List ℕ)) };
 
-    ghost view = { λ a. records_left a.let_go a.reader };
+    ghost view = { λ a. a.all };
 
-    ghost invariant = { λ a. ReadsText a.let_go a.reader };
+    ghost invariant = { λ a. KnowsWide a.narrow a.all };
 }
 
 impl<'a> Records<'a> {
@@ -31,29 +47,47 @@ impl<'a> Records<'a> {
     pub fn new(alloc: Global, text: &'a [u8]) -> Records<'a>
         ensures { result ≡ records default_config (strip_bom text.now) }
     {
-        let reader = ReaderBuilder::new()
-            .has_headers(false)
-            .flexible(true)
-            .from_reader(alloc, text);
         Records {
-            reader,
-            let_go: false,
+            all: AllRecords::new(alloc, text),
+            narrow: narrow_records(text),
         }
     }
 
-    /// Reads the next record into `fields`, or answers `false` where none is left. On want of memory the records are let go.
-    pub fn next(&mut self, fields: &mut ByteRecord) -> Result<bool, AllocError>
-        ensures record { result ≡ Ok true → self.old ≡ fields_of fields.new ∷ self.new }
-        ensures none { result ≡ Ok false → self.old ≡ [] }
+    /// Reads the next record into `fields`, if it has at most 6 fields. In a long text a wider one is told before it is
+    /// read, and is next from then on; otherwise it is read too. On want of memory the records are let go.
+    pub fn next(&mut self, fields: &mut ByteRecord) -> Result<Next, AllocError>
+        ensures record { result ≡ Ok next.Record → self.old ≡ fields_of fields.new ∷ self.new }
+        ensures wide { result ≡ Ok next.Wide → StartsWide self.old }
+        ensures wide_stays { result ≡ Ok next.Wide → self.new ≡ self.old }
+        ensures end { result ≡ Ok next.End → self.old ≡ [] }
         ensures memory { OnErr result (self.new ≡ []) }
     {
-        if self.let_go {
-            return Ok(false);
+        if self.narrow == Some(0) {
+            return Ok(Next::Wide);
         }
-        let Ok(found) = self.reader.read_byte_record(fields) else {
-            self.let_go = true;
-            return Err(AllocError);
-        };
-        Ok(found)
+        match self.all.next(fields) {
+            Ok(true) => {
+                self.narrow = one_less(self.narrow);
+                Ok(Next::Record)
+            }
+            Ok(false) => {
+                self.narrow = None;
+                Ok(Next::End)
+            }
+            Err(_) => {
+                self.narrow = None;
+                Err(AllocError)
+            }
+        }
+    }
+}
+
+// One record fewer stands before it.
+fn one_less(narrow: Option<usize>) -> Option<usize>
+    ensures { result ≡ one_less narrow }
+{
+    match narrow {
+        None => None,
+        Some(count) => Some(count.saturating_sub(1)),
     }
 }

@@ -1,14 +1,16 @@
-ghost use Rattle.std.specs.Prelude.{◌≡◌, [], OnOk, IfOk, IfErr};
+ghost use Rattle.std.specs.Prelude.{◌≡◌, nat_le, if◌then◌else◌, ℕ, List, [], OnOk, IfOk, IfErr};
 ghost use Rattle.csv.specs.Records.{fields_of};
-ghost use Rattle.demand_test.specs.DemandFile.{demands_in, some_tasks};
+ghost use Rattle.csv_records.specs.Width.{StartsWide};
+ghost use Rattle.demand_test.specs.DemandFile.{demands_in, some_tasks, tasks_from};
 ghost use Rattle.demand_test.specs.DemandSet.{IsDemandSet};
-ghost use Rattle.demand_test.specs.Refusals.{Gives};
+ghost use Rattle.demand_test.specs.Refusals.{Fails, Gives};
 ghost use Rattle.demand_test.specs.SoFar.{IsSoFar, Adds, IsRefused};
+ghost use Rattle.demand_test.specs.declared.fault.DemandCause.TheVariants as cause;
 
 use crate::record::{is_header, record_task};
 use crate::{Demand, DemandCause, DemandFault, DemandSet};
 use csv::ByteRecord;
-use csv_records::Records;
+use csv_records::{Next, Records};
 use std::alloc::Global;
 
 /// Reads a demand file: records of four fields, the first of them the header `task,period,deadline,budget`, each other
@@ -27,8 +29,9 @@ pub fn read_demands(alloc: Global, bytes: &[u8]) -> Result<DemandSet, DemandFaul
     let mut fields = ByteRecord::new(alloc);
     match records.next(&mut fields) {
         Err(_) => return Err(DemandFault::Memory),
-        Ok(false) => return Err(NO_HEADER),
-        Ok(true) => {
+        Ok(Next::End) => return Err(NO_HEADER),
+        Ok(Next::Wide) => return Err(NO_HEADER),
+        Ok(Next::Record) => {
             if !is_header(&fields) {
                 return Err(NO_HEADER);
             }
@@ -38,8 +41,9 @@ pub fn read_demands(alloc: Global, bytes: &[u8]) -> Result<DemandSet, DemandFaul
     'records: loop {
         match records.next(&mut fields) {
             Err(_) => return Err(DemandFault::Memory),
-            Ok(false) => return reading.finish(),
-            Ok(true) => {
+            Ok(Next::End) => return reading.finish(),
+            Ok(Next::Wide) => return Err(reading.too_wide()),
+            Ok(Next::Record) => {
                 if let Err(fault) = reading.take(&fields) {
                     return Err(fault);
                 }
@@ -88,6 +92,17 @@ impl Reading {
         }
     }
 
+    // The refusal of a record with more fields than the header has, whatever they are.
+    fn too_wide(&self) -> DemandFault
+        requires { IsSoFar self.now.tasks.items self.now.multiple }
+        ensures { (left : List (List (List ℕ))) → StartsWide left → Fails result (tasks_from left self.now.tasks.items) }
+    {
+        DemandFault::At {
+            line: self.tasks.len() as u32 + 2,
+            cause: too_wide_behind(self.tasks.len()),
+        }
+    }
+
     // The set of the tasks.
     fn finish(self) -> Result<DemandSet, DemandFault>
         requires { IsSoFar self.tasks.items self.multiple }
@@ -101,5 +116,16 @@ impl Reading {
             });
         }
         Ok(DemandSet::from_tasks(self.tasks, self.multiple))
+    }
+}
+
+// Why a record that is too wide is refused behind so many tasks.
+fn too_wide_behind(tasks: usize) -> DemandCause
+    ensures { result ≡ (if nat_le 128 tasks then cause.TooMany else cause.BadRecord) }
+{
+    if tasks >= 128 {
+        DemandCause::TooMany
+    } else {
+        DemandCause::BadRecord
     }
 }

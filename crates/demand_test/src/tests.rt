@@ -326,3 +326,32 @@ fn bytes_that_are_no_text_are_refused(rt: HostRuntime) -> Result<(), Fail> {
     }
     Ok(())
 }
+
+#[test]
+fn a_wide_record_of_a_long_file_is_refused_by_its_width(rt: HostRuntime) -> Result<(), Fail> {
+    let alloc = rt.alloc();
+    let mut full = String::from_str(alloc, HEADER)?;
+    for i in 1..=128u32 {
+        let record = format!(in alloc; "t{i},1,1,1\n")?;
+        full.push_str(record.as_str())?;
+    }
+    let cases = [
+        ("", "line 1: Header"),
+        (HEADER, "line 2: BadRecord"),
+        (
+            "task,period,deadline,budget\n\"a\",4,2,1\n",
+            "line 3: BadRecord",
+        ),
+        (full.as_str(), "line 130: TooMany"),
+    ];
+    for (before, wanted) in cases {
+        let mut file = Vec::new(alloc);
+        file.extend_from_slice(before.as_bytes())?;
+        for _ in 0..200_000u32 {
+            file.push(b',')?;
+        }
+        let got = outcome(alloc, &file)?;
+        assert_eq!(rt; got.as_str(), wanted, "{before}");
+    }
+    Ok(())
+}

@@ -11,7 +11,7 @@ use Rattle.set_gen.specs.Words.{words_of}
 use Rattle.set_gen.proofs.Admitted.{made_sets-admitted}
 use Rattle.command_line.specs.declared.form.Telling.{Telling}
 use Rattle.command_line.specs.declared.form.Telling.TheVariants.{Judge, JudgeBy, Chart, Report, Migrate}
-use Rattle.command_line.specs.Form.{Form, check, run, on_trace, soak, live, demand, IsInRange}
+use Rattle.command_line.specs.Form.{Form, check, run, on_trace, soak, live, demand, partition, run_all, stretch, accept, IsInRange}
 use Rattle.replies.specs.Reply.{Reply, reply_of}
 use Rattle.replies.specs.Refusal.{Longer, refuse}
 use Rattle.replies.specs.Reading.{reply_by}
@@ -25,11 +25,13 @@ use Rattle.run_answers.specs.Live as live
 use Rattle.run_answers.specs.Soak.{workload_set, Soaks}
 use Rattle.edfvd_program.specs.Commands.{command}
 use Rattle.edfvd_program.specs.Outcome.{Answers}
-use Rattle.edfvd_program.specs.Headline.{bytes_of, SaysSet, SchedulesExactly, Admits, Finds, Soaked, Headline}
+use Rattle.edfvd_program.specs.Headline.{bytes_of, SaysSet, SchedulesExactly, SpreadsExactly, Admits, Finds, Soaked, Headline}
 use Rattle.edfvd_program.proofs.Cases.{by_weaker, by_need, of_held, Second, second_weaker, other_status, Comes, comes, by_text, by_ok, by_length, next_of}
 use Rattle.edfvd_program.proofs.Promised.{schedules_exactly}
 use Rattle.edfvd_program.proofs.Scheduled.{Runs, RunsNext, not_1_run, schedules, not_1_live, lives}
 use Rattle.edfvd_program.proofs.Demanded.{tests}
+use Rattle.edfvd_program.proofs.Spread.{partitions, runs_all}
+use Rattle.edfvd_program.proofs.Measured.{measures, counts}
 use Rattle.edfvd_program.proofs.Found.{TellsNext, not_1_tells, finds, finds_by}
 
 -- what comes next of `check`
@@ -132,6 +134,10 @@ of_form (live tasks ticks) range files old reply h =
     )
 of_form (soak number tasks ticks) range files old reply h = soaks number tasks ticks old reply (range.0, range.1) h
 of_form (demand demands) range files old reply h = tests files demands reply h
+of_form (partition tasks m) range files old reply h = partitions files tasks m old reply h
+of_form (run_all tasks work ticks m) range files old reply h = runs_all files tasks work ticks m old reply h
+of_form (stretch tasks) range files old reply h = measures files tasks old reply h
+of_form (accept number sets tasks) range files old reply h = counts number sets tasks old reply h
 of_form (on_trace Judge tasks trace) range files old reply h = telling_finds Judge files tasks trace old reply h
 of_form (on_trace Chart tasks trace) range files old reply h = telling_finds Chart files tasks trace old reply h
 of_form (on_trace Report tasks trace) range files old reply h = telling_finds Report files tasks trace old reply h
@@ -144,6 +150,9 @@ not_9 n m a b differ = differ (sym b ∙ a)
 
 gave_up_exactly : (bytes : List ℕ) (ended : ℕ) → ended ≡ 9 → SchedulesExactly bytes ended
 gave_up_exactly bytes ended e = record { refused = λ k. absurd (not_9 ended 1 e k (λ z. absurd (omega (arith, z)))); refuses = λ set s w n. inr e }
+
+never_spread : (m : ℕ) (bytes : List ℕ) (ended : ℕ) → ended ≡ 9 → SpreadsExactly m bytes ended
+never_spread m bytes ended e = record { refused = λ k. absurd (not_9 ended 12 e k (λ z. absurd (omega (arith, z)))); refuses = λ set task s n. inr e }
 
 finds_none : (telling : Telling) (bytes more old : List ℕ) (ended : ℕ) (new : Option (List ℕ)) → ended ≡ 9 → SchedulesExactly bytes ended × Finds telling bytes more old ended new
 finds_none telling bytes more old ended new e = (
@@ -173,6 +182,16 @@ of_none (Some (demand demands)) files old ended new e = record {
   some_late = λ k. absurd (not_9 ended 10 e k (λ z. absurd (omega (arith, z))));
   complete = λ set says. inr (inr e);
 }
+of_none (Some (partition tasks m)) files old ended new e = (
+  never_spread m (bytes_of files tasks) ended e,
+  record { writes = λ k. absurd (not_9 ended 0 e k (λ z. absurd (omega (arith, z)))); complete = λ set of is. inr e },
+)
+of_none (Some (run_all tasks work ticks m)) files old ended new e = (
+  never_spread m (bytes_of files tasks) ended e,
+  record { writes = λ k. absurd (not_9 ended 0 e k (λ z. absurd (omega (arith, z)))); complete = λ set of work is s. inr e },
+)
+of_none (Some (stretch tasks)) files old ended new e = record { writes = λ k. absurd (not_9 ended 0 e k (λ z. absurd (omega (arith, z)))); complete = λ set says within. inr e }
+of_none (Some (accept number sets tasks)) files old ended new e = record { writes = λ k. absurd (not_9 ended 0 e k (λ z. absurd (omega (arith, z)))); complete = inr e }
 of_none (Some (on_trace Judge tasks trace)) files old ended new e = finds_none Judge (bytes_of files tasks) (bytes_of files trace) old ended new e
 of_none (Some (on_trace Chart tasks trace)) files old ended new e = finds_none Chart (bytes_of files tasks) (bytes_of files trace) old ended new e
 of_none (Some (on_trace Report tasks trace)) files old ended new e = finds_none Report (bytes_of files tasks) (bytes_of files trace) old ended new e

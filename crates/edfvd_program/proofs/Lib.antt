@@ -4,5 +4,7 @@ pub mod Promised
 pub mod Scheduled
 pub mod Found
 pub mod Demanded
+pub mod Spread
+pub mod Measured
 pub mod Headlines
 pub mod Jobs

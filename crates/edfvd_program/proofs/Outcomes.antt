@@ -8,7 +8,7 @@ use Rattle.command_line.specs.Form.{Form}
 use Rattle.serving.specs.Written.{IsWritten, IsCutShort}
 use Rattle.serving.specs.Outcome.{Tells}
 use Rattle.serving.proofs.Outcomes.{is_answer, never_rose, tells_no_fault, not_8}
-use Rattle.serving.proofs.Written.{wrote_whole}
+use Rattle.serving.proofs.Written.{wrote_whole, one_more-rose}
 use Rattle.edfvd_program.specs.Commands.{command}
 use Rattle.edfvd_program.specs.Outcome.{IsReply, Answers, CalmOutcome}
 
@@ -20,7 +20,7 @@ pub Answers-written : (form : Option Form) (before after : ShelfState) (sink_bef
 Answers-written form before after sink_before sink_after reply ended r written files old tells told calm =
     elim written [
       | inl w ↦ inr (reply, is_answer files 1 (command form) before after reply r.is tells, w.status, wrote_whole old reply.text sink_before.written sink_after.written told w.text)
-      | inr cut ↦ absurd (calm cut.faults)
+      | inr cut ↦ absurd (calm (one_more-rose sink_before.faults sink_after.faults cut.once))
     ]
 
 pub calm_outcome : (form : Option Form) (before after : ShelfState) (sink_before sink_after : SinkState) (reply : Reply) (ended : ℕ) → IsReply form before after reply
@@ -36,5 +36,5 @@ pub no_write_fault : (form : Option Form) (before after : ShelfState) (sink_befo
 no_write_fault form before after sink_before sink_after reply ended r written zero is =
     elim written [
       | inl w ↦ not_8 1 (command form) before after reply r.is (sym w.status ∙ is)
-      | inr cut ↦ absurd (never_rose sink_before.faults sink_after.faults zero cut.faults)
+      | inr cut ↦ absurd (never_rose sink_before.faults sink_after.faults zero (one_more-rose sink_before.faults sink_after.faults cut.once))
     ]

@@ -24,7 +24,7 @@ abbrev pub RunsNext : ℕ → List ℕ → Ruled → Reply → Type 0
 RunsNext ticks more ruled reply = Second (2 ^ 24) more reply (Runs ticks ruled more reply)
 
 -- a refused work file has status 4
-work_status : (set : List Task) (more : List ℕ) (refusal : Refusal) → work_of set more ≡ Err refusal → status_of refusal ≡ 4
+pub work_status : (set : List Task) (more : List ℕ) (refusal : Refusal) → work_of set more ≡ Err refusal → status_of refusal ≡ 4
 work_status set more refusal h = reader_status WorkFile 4 (λ e. refl) (work_in set more) refusal h
 
 pub not_1_run : (ticks : ℕ) (more : List ℕ) (ruled : Ruled) (reply : Reply) → RunsNext ticks more ruled reply → reply.status ≢ 1

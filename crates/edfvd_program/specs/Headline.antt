@@ -1,7 +1,8 @@
 -- The headline of the program, where the shelf and the sink tell their bytes and have no fault: it schedules a set exactly
 -- where the published test holds, and every trace that it writes, or finds legal for such a set, keeps the deadlines. The
 -- newest row of a trace stands first here.
-use Rattle.std.specs.Prelude.{◌≡◌, ◌⊎◌, ℕ, ◌≤◌, ◌^◌, List, [], ◌++◌, length, reverse, Option, Some, None, Ok, unwrap_or}
+use Rattle.std.specs.Prelude.{◌≡◌, ◌⊎◌, ℕ, ◌≤◌, ◌^◌, List, [], ◌++◌, length, reverse, Option, Some, None, Ok, Err, flat_map, zip, unwrap_or}
+use Rattle.std.specs.List.{AllZip}
 use Rattle.mc_task.specs.declared.task.Task.{Task}
 use Rattle.mc_task.specs.declared.task.Rule.{Rule}
 use Rattle.mc_task.specs.declared.task.Rule.TheVariants.{Virtual}
@@ -19,16 +20,26 @@ use Rattle.mc_model.specs.TraceText.{trace_text}
 use Rattle.mc_model.specs.Promise.{KeepsDeadlines}
 use Rattle.command_line.specs.declared.form.Telling.{Telling}
 use Rattle.command_line.specs.declared.form.Telling.TheVariants.{JudgeBy, Chart}
-use Rattle.command_line.specs.Form.{Form, check, run, on_trace, soak, live, demand}
+use Rattle.command_line.specs.Form.{Form, check, run, on_trace, soak, live, demand, partition, run_all, stretch, accept}
 use Rattle.demand_test.specs.declared.demand.Demand.{Demand}
 use Rattle.demand_test.specs.declared.row.EdfRow.{EdfRow}
 use Rattle.demand_test.specs.EdfRuns.{IsRun, NoneLate}
 use Rattle.demand_test.specs.Counter.{SomeLate}
 use Rattle.demand_test.specs.DemandFile.{demands_in}
+use Rattle.part_fit.specs.FirstFit.{first_fit}
+use Rattle.part_fit.specs.Partition.{IsPartition}
+use Rattle.part_fit.specs.PartWork.{part_rows}
 use Rattle.task_answers.specs.Admitted.{under, set_in}
 use Rattle.trace_answers.specs.OnTrace.{rows_in, told}
 use Rattle.run_answers.specs.Run.{work_of}
 use Rattle.run_answers.specs.Soak.{workload_set, soak_text, IsSoaked}
+use Rattle.part_answers.specs.Parted.{Parted, tasks_on, spread}
+use Rattle.part_answers.specs.Partition.{partition_text}
+use Rattle.part_answers.specs.RunAll.{used, trace_lines}
+use Rattle.study.specs.Stretch.{IsStretch}
+use Rattle.study.specs.Acceptance.{accept_table}
+use Rattle.study_answers.specs.Stretch.{stretch_text}
+use Rattle.study_answers.specs.Accept.{table_text}
 
 -- the bytes under a name, none where none are held
 abbrev pub bytes_of : Files → List ℕ → List ℕ
@@ -141,6 +152,57 @@ pub record Tests (bytes : List ℕ) (ended : ℕ) : Type 0 where
   -- it finds each set so
   pub complete : (set : List Demand) → SaysDemands bytes set → (ended ≡ 10) ⊎ Succeeds ended
 
+-- the task file says this set, and first fit puts its tasks on these processors, from 1 to m
+abbrev pub IsSpread : ℕ → List ℕ → List Task → List ℕ → Type 0
+IsSpread m bytes set of = SaysSet bytes set × (first_fit set m ≡ Ok of)
+
+-- a set is refused, with status 12, exactly where one of its tasks fits on none of processors 1 to m
+pub record SpreadsExactly (m : ℕ) (bytes : List ℕ) (ended : ℕ) : Type 0 where
+  pub refused : ended ≡ 12 → (set : List Task) × (task : ℕ) × SaysSet bytes set × (first_fit set m ≡ Err task)
+  pub refuses : (set : List Task) (task : ℕ) → SaysSet bytes set → first_fit set m ≡ Err task → (ended ≡ 12) ⊎ (ended ≡ 9)
+
+-- what `partition` promises
+pub record Places (m : ℕ) (bytes old : List ℕ) (ended : ℕ) (new : Option (List ℕ)) : Type 0 where
+  -- each task is on one processor, the tasks of each are admitted, and it is written which they are
+  pub writes : ended ≡ 0 → (set : List Task) × (of : List ℕ)
+      × IsSpread m bytes set of × IsPartition set of m × (new ≡ Some (old ++ partition_text m (spread set of)))
+  -- it is written for each set that is spread
+  pub complete : (set : List Task) (of : List ℕ) → IsSpread m bytes set of → Succeeds ended
+
+-- the trace is that of the tasks on processor n and of their work, under their rule, and keeps the deadlines
+pub record IsTimelyOn (ticks : ℕ) (parted : Parted) (work : List WorkRow) (n : ℕ) (h : List Row) : Type 0 where
+  pub rule : Rule
+  pub test : test (tasks_on parted n) ≡ Some rule
+  pub follows : Follows (tasks_on parted n) rule (part_rows n parted.of work) ticks h
+  pub timely : IsTimely (tasks_on parted n) rule h
+
+-- the traces of the processors with tasks are written
+abbrev pub WritesAll : ℕ → Parted → List (List Row) → List ℕ → Option (List ℕ) → Type 0
+WritesAll m parted traces old new = new ≡ Some (old ++ flat_map (trace_lines parted) (zip (used m parted) traces))
+
+-- what `runall` promises
+pub record SchedulesAll (ticks m : ℕ) (bytes more old : List ℕ) (ended : ℕ) (new : Option (List ℕ)) : Type 0 where
+  -- every trace that it writes, one for each processor with tasks, keeps the deadlines
+  pub writes : ended ≡ 0 → (set : List Task) × (of : List ℕ) × (work : List WorkRow) × (traces : List (List Row))
+      × IsSpread m bytes set of × SaysWork more set work
+      × AllZip (IsTimelyOn ticks (spread set of) work) (used m (spread set of)) traces × WritesAll m (spread set of) traces old new
+  -- it writes them for each set that is spread and each work file
+  pub complete : (set : List Task) (of : List ℕ) (work : List WorkRow) → IsSpread m bytes set of → SaysWork more set work → Succeeds ended
+
+-- what `stretch` promises
+pub record Measures (bytes old : List ℕ) (ended : ℕ) (new : Option (List ℕ)) : Type 0 where
+  -- the published test admits the set at the percentage that it writes, and at none above it up to 1000
+  pub writes : ended ≡ 0 → (set : List Task) × (s : Option ℕ) × SaysSet bytes set × IsWithinRange set × IsStretch set s × (new ≡ Some (old ++ stretch_text set s))
+  -- it writes one for each set within range
+  pub complete : (set : List Task) → SaysSet bytes set → IsWithinRange set → Succeeds ended
+
+-- what `accept` promises
+pub record Counts (number sets tasks : ℕ) (old : List ℕ) (ended : ℕ) (new : Option (List ℕ)) : Type 0 where
+  -- it writes how many of the made sets have each stretch
+  pub writes : ended ≡ 0 → new ≡ Some (old ++ table_text (accept_table number sets tasks))
+  -- always
+  pub complete : Succeeds ended
+
 -- the headline, by what the files hold, what was written before, the status and what is written after
 abbrev pub Headline : Option Form → Files → List ℕ → ℕ → Option (List ℕ) → Type 0
 Headline None files old ended new = Unit {0}
@@ -151,6 +213,12 @@ Headline (Some (live tasks ticks)) files old ended new =
     SchedulesExactly (bytes_of files tasks) ended × Lives ticks (bytes_of files tasks) old ended new
 Headline (Some (soak number tasks ticks)) files old ended new = Soaked number tasks ticks old ended new
 Headline (Some (demand demands)) files old ended new = Tests (bytes_of files demands) ended
+Headline (Some (partition tasks processors)) files old ended new =
+    SpreadsExactly processors (bytes_of files tasks) ended × Places processors (bytes_of files tasks) old ended new
+Headline (Some (run_all tasks work ticks processors)) files old ended new =
+    SpreadsExactly processors (bytes_of files tasks) ended × SchedulesAll ticks processors (bytes_of files tasks) (bytes_of files work) old ended new
+Headline (Some (stretch tasks)) files old ended new = Measures (bytes_of files tasks) old ended new
+Headline (Some (accept number sets tasks)) files old ended new = Counts number sets tasks old ended new
 Headline (Some (on_trace (JudgeBy p q) tasks trace)) files old ended new = FindsBy (Virtual p q) (bytes_of files tasks) (bytes_of files trace) ended
 Headline (Some (on_trace telling tasks trace)) files old ended new =
     SchedulesExactly (bytes_of files tasks) ended × Finds telling (bytes_of files tasks) (bytes_of files trace) old ended new

@@ -1,5 +1,5 @@
 // The top call.
-ghost use Rattle.std.specs.Prelude.{◌≡◌, ◌≢◌, ℕ, List, ◌<◌, map, string_bytes, Some, IfOk};
+ghost use Rattle.std.specs.Prelude.{◌≡◌, ◌≢◌, ℕ, List, ◌<◌, map, string_bytes, Some, IfOk, OnOk};
 ghost use Rattle.mc_world.specs.Count.{Rose};
 ghost use Rattle.mc_world.specs.Shelf.{Files};
 ghost use Rattle.command_line.specs.Form.{form_of};
@@ -8,24 +8,26 @@ ghost use Rattle.edfvd_program.specs.Commands.{command};
 ghost use Rattle.edfvd_program.specs.Headline.{Headline};
 ghost use Rattle.edfvd_program.specs.Outcome.{IsReply, Outcome, CalmOutcome, Answers};
 
-use crate::threaded::{serve_live, serve_run, serve_soak};
+use crate::threaded::{serve_accept, serve_live, serve_run, serve_run_all, serve_soak};
 use command_line::{Form, form_of, usage_line};
 use demand_answers::Demand;
 use executive::Gate;
 use mc_world::{Shelf, Sink};
+use part_answers::{Partition, RunAll};
 use replies::Reply;
 use run_answers::{Live, Run, Soak};
 use serving::{deliver, serve};
 use std::alloc::{AllocError, Global};
 use std::sync::Wait;
 use std::thread::Threads;
+use study_answers::{Accept, Stretch};
 use task_answers::Check;
 use trace_answers::OnTrace;
 
 /// Does what the words after the program's name ask, and answers the status that the program ends with.
 ///
-/// `run`, `soak` and `live` run a thread for each task, and tell the gate of it: they may wait, and all clauses hold where they
-/// return, however the threads interleave.
+/// `run`, `soak`, `live` and `runall` run a thread for each task, and tell the gate of it: they may wait, and all clauses hold
+/// where they return, however the threads interleave.
 pub fn edfvd<R: Threads + Wait + Sync, S: Shelf, K: Sink, G: Gate + Sync>(
     rt: &R,
     alloc: Global,
@@ -58,6 +60,9 @@ pub fn edfvd<R: Threads + Wait + Sync, S: Shelf, K: Sink, G: Gate + Sync>(
         (S.state shelf.old) (S.state shelf.new) (K.state out.old) (K.state out.new) result }
     ensures calm_sink { (K.state out.new).faults ≡ 0 → result ≢ 8 }
 
+    // Where a fetch wanted memory the status is 9.
+    ensures memory { (S.state shelf.old).wanted < (S.state shelf.new).wanted → result ≡ 9 }
+
     // Also where memory is wanting, no file is asked for but the command's, in their order, none behind one that failed, and the
     // second only where the first lets the command go on.
     ensures asked { AskedInOrder (command (form_of (map (λ w. string_bytes w) words.now))) (S.state shelf.old) (S.state shelf.new) }
@@ -76,6 +81,7 @@ fn reply_to<R: Threads + Wait + Sync, S: Shelf, G: Gate + Sync>(
     gate: &G,
 ) -> Result<Reply, AllocError>
     ensures reply { IfOk result (IsReply (form_of (map (λ w. string_bytes w) words.now)) (S.state shelf.old) (S.state shelf.new)) }
+    ensures wanted { OnOk result ((S.state shelf.new).wanted ≡ (S.state shelf.old).wanted) }
     ensures asked { AskedInOrder (command (form_of (map (λ w. string_bytes w) words.now))) (S.state shelf.old) (S.state shelf.new) }
 {
     let Some(form) = form_of(words) else {
@@ -84,6 +90,10 @@ fn reply_to<R: Threads + Wait + Sync, S: Shelf, G: Gate + Sync>(
     match form {
         Form::Check { tasks } => serve(alloc, &Check { tasks }, shelf),
         Form::Demand { demands } => serve(alloc, &Demand { demands }, shelf),
+        Form::Partition { tasks, processors } => {
+            serve(alloc, &Partition { tasks, processors }, shelf)
+        }
+        Form::Stretch { tasks } => serve(alloc, &Stretch { tasks }, shelf),
         Form::OnTrace {
             telling,
             tasks,
@@ -111,8 +121,34 @@ fn reply_to<R: Threads + Wait + Sync, S: Shelf, G: Gate + Sync>(
             };
             serve_soak(rt, alloc, &command, shelf, gate)
         }
+        Form::RunAll {
+            tasks,
+            work,
+            ticks,
+            processors,
+        } => {
+            let command = RunAll {
+                tasks,
+                work,
+                ticks,
+                processors,
+            };
+            serve_run_all(rt, alloc, &command, shelf, gate)
+        }
         Form::Live { tasks, ticks } => {
             serve_live(rt, alloc, &Live { tasks, ticks }, shelf, gate)
+        }
+        Form::Accept {
+            number,
+            sets,
+            tasks,
+        } => {
+            let command = Accept {
+                number,
+                sets,
+                tasks,
+            };
+            serve_accept(rt, alloc, &command, shelf)
         }
     }
 }

@@ -7,6 +7,8 @@ mod hostile;
 mod judge;
 mod live;
 mod outside;
+mod processors;
+mod room;
 mod run;
 mod runs;
 mod soak;
@@ -32,6 +34,13 @@ const AVIONICS: &str = "task = [
 const TAP_AND_ARM: &str = "task = [
     {name='tap', level='low', period=2, low=1},
     {name='arm', level='high', period=4, low=1, high=3},
+]";
+
+// The two, and a third task for which they leave no room.
+const PLANT: &str = "task = [
+    {name='tap', level='low', period=2, low=1},
+    {name='arm', level='high', period=4, low=1, high=3},
+    {name='log', level='low', period=10, low=5},
 ]";
 
 const QUARTER_SCALE: &str = "task = [

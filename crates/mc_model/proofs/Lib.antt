@@ -11,6 +11,7 @@ pub mod Lists
 pub mod Live
 pub mod Loads
 pub mod Packing
+pub mod Ranges
 pub mod Repeats
 pub mod RuleCases
 pub mod RuleHolds

@@ -12,7 +12,8 @@ use Rattle.mc_task.specs.TaskSet.{IsTask, InOrder}
 use Rattle.mc_model.specs.Loads.{product, load, hyperperiod, low_low, high_low, high_high, load_ll, load_hl, load_hh, by_level}
 use Rattle.mc_model.proofs.Hyperperiod.{product-pos, lcm_from-dvd, periods-dvd}
 
-load_scaled : (budget : Task → ℕ) (k n : ℕ) (ts : List Task) → AllByRecursion (λ t. t.period ∣ n) ts → load budget (k * n) ts ≡ k * load budget n ts
+-- a load over a multiple of the number
+pub load_scaled : (budget : Task → ℕ) (k n : ℕ) (ts : List Task) → AllByRecursion (λ t. t.period ∣ n) ts → load budget (k * n) ts ≡ k * load budget n ts
 load_scaled budget k n [] h = omega arith
 load_scaled budget k n (t ∷ ts) h =
     let one : k * n / t.period ≡ k * (n / t.period) = mul-div_assoc t.period k (h.0) in

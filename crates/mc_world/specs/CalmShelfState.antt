@@ -1,6 +1,7 @@
 -- What contracts see of a calm shelf in memory, and what its fetches answer.
 use Rattle.std.specs.Prelude.{ℕ, ◌++◌, List, [], ◌∷◌, Some, Result, Err, Vec, String, string_bytes, map, false, unwrap_or}
 use Rattle.std.specs.declared.alloc.Global.{Global}
+use Rattle.mc_world.specs.Count.{one_more}
 use Rattle.mc_world.specs.Shelf.{Files, Fetch, fetch_of, file_at}
 use Rattle.mc_world.specs.declared.shelf.FetchFault.{FetchFault}
 use Rattle.mc_world.specs.declared.shelf.FetchFault.TheVariants.{Memory}
@@ -11,6 +12,8 @@ pub record CalmShelfState : Type 0 where
   pub files : List (List ℕ × List ℕ)
   -- the fetches that were answered, the first one first; none failed
   pub fetches : List Fetch
+  -- the fetches that wanted memory, which are not among those above
+  pub wanted : ℕ
 
 -- the fetches of these names, none of which failed
 abbrev pub calm_fetches : List (String Global) → List Fetch
@@ -18,7 +21,7 @@ calm_fetches names = map (λ n. fetch_of (string_bytes n) false) names
 
 -- a calm shelf of which nothing has been asked
 abbrev pub new_calm_shelf : List (List ℕ × List ℕ) → CalmShelfState
-new_calm_shelf files = record { files = files; fetches = [] }
+new_calm_shelf files = record { files = files; fetches = []; wanted = 0 }
 
 -- the bytes under a name: none at all where the list lacks it
 abbrev pub bytes_at : List ℕ → List (List ℕ × List ℕ) → List ℕ
@@ -30,5 +33,5 @@ calm_files files name = Some (bytes_at name files)
 
 -- the calm shelf after a fetch of that name with that answer
 abbrev pub after_calm_fetch : CalmShelfState → List ℕ → Result (Vec ℕ Global) FetchFault → CalmShelfState
-after_calm_fetch s name (Err Memory) = s
+after_calm_fetch s name (Err Memory) = record s { wanted = one_more s.wanted }
 after_calm_fetch s name _ = record s { fetches = s.fetches ++ fetch_of name false ∷ [] }

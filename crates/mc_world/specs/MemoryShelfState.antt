@@ -2,6 +2,7 @@
 use Rattle.std.specs.Prelude.{◌≡◌, ⊤, ℕ, Bool, true, false, ◌+◌, ◌++◌, List, [], ◌∷◌, length, map, if◌then◌else◌, nat_eq, nat_lt, Option, Some, None, Result, Ok, Err, String, string_bytes, Vec}
 use Rattle.std.specs.List.{list_any}
 use Rattle.std.specs.declared.alloc.Global.{Global}
+use Rattle.mc_world.specs.Count.{one_more}
 use Rattle.mc_world.specs.Shelf.{Fetch, fetch_of, file_at}
 use Rattle.mc_world.specs.declared.shelf.FetchFault.{FetchFault}
 use Rattle.mc_world.specs.declared.shelf.FetchFault.TheVariants.{Failed, TooLong, Memory}
@@ -16,6 +17,8 @@ pub record MemoryShelfState : Type 0 where
   pub fetches : List Fetch
   -- the fetches that failed
   pub faults : ℕ
+  -- the fetches that wanted memory, which are not among those above
+  pub wanted : ℕ
 
 -- the files of a list in memory
 abbrev pub files_of : List (String Global × Vec ℕ Global) → List (List ℕ × List ℕ)
@@ -27,7 +30,7 @@ fetches_of fetches = map (λ f. fetch_of (string_bytes f.0) f.1) fetches
 
 -- a shelf of which nothing has been asked
 abbrev pub new_shelf : List (List ℕ × List ℕ) → List ℕ → MemoryShelfState
-new_shelf files fails = record { files = files; fails = fails; fetches = []; faults = 0 }
+new_shelf files fails = record { files = files; fails = fails; fetches = []; faults = 0; wanted = 0 }
 
 -- what is answered of a file, if there is one
 abbrev pub answer_of : Option (List ℕ) → ℕ → Result (List ℕ) FetchFault
@@ -47,6 +50,6 @@ Answers (Ok bytes) answer = answer ≡ Ok bytes.items
 
 -- the shelf after a fetch of that name with that answer
 abbrev pub after_fetch : MemoryShelfState → List ℕ → Result (Vec ℕ Global) FetchFault → MemoryShelfState
-after_fetch s name (Err Memory) = s
+after_fetch s name (Err Memory) = record s { wanted = one_more s.wanted }
 after_fetch s name (Err Failed) = record s { fetches = s.fetches ++ fetch_of name true ∷ []; faults = s.faults + 1 }
 after_fetch s name _ = record s { fetches = s.fetches ++ fetch_of name false ∷ [] }

@@ -30,6 +30,8 @@ pub record ShelfState : Type 0 where
   pub fetches : Option (List Fetch)
   -- how many fetches have failed
   pub faults : ℕ
+  -- how many fetches have wanted memory
+  pub wanted : ℕ
   -- how many bytes have been read, over all fetches
   pub bytes_read : ℕ
 

@@ -11,3 +11,5 @@ pub record SinkState : Type 0 where
   pub written : Option (List ℕ)
   -- how many writes have failed
   pub faults : ℕ
+  -- how many bytes were taken since one last failed
+  pub since_fault : ℕ

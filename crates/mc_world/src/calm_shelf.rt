@@ -9,12 +9,13 @@ use std::alloc::Global;
 use std::marker::Model;
 
 /// Files in memory, which never fails: a name that it lacks holds no bytes, and its count of faults
-/// is always 0. A fetch that finds no memory leaves it as it was.
+/// is always 0. A fetch that finds no memory is counted, and leaves the rest as it was.
 #[derive(Debug, Drop)]
 pub struct CalmShelf {
     alloc: Global,
     files: Vec<(String, Vec<u8>)>,
     asked: Vec<String>,
+    wanted: u64,
 }
 
 impl Model for CalmShelf {
@@ -24,7 +25,7 @@ impl Model for CalmShelf {
 
     ghost Value = { CalmShelfState };
 
-    ghost view = { λ s. record { files = files_of s.files.items; fetches = calm_fetches s.asked.items } };
+    ghost view = { λ s. record { files = files_of s.files.items; fetches = calm_fetches s.asked.items; wanted = s.wanted } };
 
     ghost invariant = { λ s. NamesDiffer (files_of s.files.items) };
 }
@@ -39,6 +40,7 @@ impl CalmShelf {
             alloc,
             files,
             asked: Vec::new(alloc),
+            wanted: 0,
         }
     }
 }
@@ -49,6 +51,7 @@ impl Shelf for CalmShelf {
       holds = Some (calm_files s.files);
       fetches = Some s.fetches;
       faults = 0;
+      wanted = s.wanted;
       bytes_read = 0;
     } };
 
@@ -58,13 +61,16 @@ impl Shelf for CalmShelf {
         ensures leaves { self.new ≡ after_calm_fetch self.old name.now result }
     {
         let Ok(copy) = String::from_str(self.alloc, name) else {
+            self.wanted = self.wanted.saturating_add(1);
             return Err(FetchFault::Memory);
         };
         let answer = copied(alloc, held(&self.files, name), limit);
         if let Err(FetchFault::Memory) = answer {
+            self.wanted = self.wanted.saturating_add(1);
             return answer;
         }
         if self.asked.push(copy).is_err() {
+            self.wanted = self.wanted.saturating_add(1);
             return Err(FetchFault::Memory);
         }
         answer

@@ -1,4 +1,4 @@
-ghost use Rattle.std.specs.Prelude.{◌≡◌, None, Ok, length};
+ghost use Rattle.std.specs.Prelude.{◌≡◌, ◌-◌, ◌^◌, None, Ok, length};
 
 use crate::{Sink, SinkFault};
 
@@ -15,7 +15,8 @@ impl CalmSink {
 }
 
 impl Sink for CalmSink {
-    ghost state = { λ s. record { written = None; faults = 0 } };
+    // It counts no bytes: the count stands at its end.
+    ghost state = { λ s. record { written = None; faults = 0; since_fault = 2 ^ 64 - 1 } };
 
     fn write(&mut self, piece: &[u8]) -> Result<usize, SinkFault>
         ensures whole { result ≡ Ok (length piece.now) }

@@ -1,13 +1,11 @@
 ghost use Rattle.std.specs.Prelude.{◌≡◌, None};
 
+use crate::edge::read_whole;
 use crate::{FetchFault, Shelf};
 use std::alloc::Global;
 use std::fs::File;
-use std::io::Read;
 use std::marker::Model;
 use std::rt::Files;
-
-const PIECE_BYTES: usize = 8192;
 
 /// The system's files, by their paths. It tells no content. A file that cannot be opened or read, as
 /// a directory or a path that leads nowhere, is a fault.
@@ -15,6 +13,7 @@ const PIECE_BYTES: usize = 8192;
 pub struct FileShelf<'a, R: Files> {
     rt: &'a R,
     faults: u64,
+    wanted: u64,
     bytes_read: u64,
 }
 
@@ -23,18 +22,20 @@ impl<'a, R: Files> Model for FileShelf<'a, R> {
 
     ghost Value = { FileShelfState };
 
-    ghost view = { λ s. record { faults = s.faults; bytes_read = s.bytes_read } };
+    ghost view = { λ s. record { faults = s.faults; wanted = s.wanted; bytes_read = s.bytes_read } };
 }
 
 impl<'a, R: Files> FileShelf<'a, R> {
-    /// A shelf that has read nothing so far. Contracts see it as its two counts.
+    /// A shelf that has read nothing so far. Contracts see it as its counts.
     pub fn new(rt: &'a R) -> FileShelf<'a, R>
         ensures no_fault { result.faults ≡ 0 }
+        ensures no_want { result.wanted ≡ 0 }
         ensures nothing_read { result.bytes_read ≡ 0 }
     {
         FileShelf {
             rt,
             faults: 0,
+            wanted: 0,
             bytes_read: 0,
         }
     }
@@ -45,34 +46,22 @@ impl<R: Files> Shelf for FileShelf<'_, R> {
       holds = None;
       fetches = None;
       faults = s.faults;
+      wanted = s.wanted;
       bytes_read = s.bytes_read;
     } };
 
     fn fetch(&mut self, alloc: Global, name: &str, limit: usize) -> Result<Vec<u8>, FetchFault> {
-        let mut bytes = Vec::new(alloc);
         let Ok(mut file) = File::open(self.rt, name) else {
             self.faults = self.faults.saturating_add(1);
             return Err(FetchFault::Failed);
         };
-        let mut buffer = [0; PIECE_BYTES];
-        // One byte past the limit is asked for, since only that byte shows that the file is too long.
-        'pieces: while bytes.len() <= limit {
-            let room = (limit + 1 - bytes.len()).min(PIECE_BYTES);
-            match file.read(&mut buffer[..room]) {
-                Ok(0) => return Ok(bytes),
-                Ok(n) => {
-                    self.bytes_read = self.bytes_read.saturating_add(n as u64);
-                    if bytes.extend_from_slice(&buffer[..n]).is_err() {
-                        return Err(FetchFault::Memory);
-                    }
-                }
-                Err(_) => {
-                    self.faults = self.faults.saturating_add(1);
-                    return Err(FetchFault::Failed);
-                }
-            }
+        let answer = read_whole(alloc, &mut file, limit, &mut self.bytes_read);
+        match answer {
+            Err(FetchFault::Failed) => self.faults = self.faults.saturating_add(1),
+            Err(FetchFault::Memory) => self.wanted = self.wanted.saturating_add(1),
+            _ => {}
         }
-        Err(FetchFault::TooLong)
+        answer
     }
 }
 

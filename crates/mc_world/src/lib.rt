@@ -3,6 +3,7 @@
 
 mod calm_shelf;
 mod calm_sink;
+mod edge;
 mod file_shelf;
 mod memory_shelf;
 mod memory_sink;

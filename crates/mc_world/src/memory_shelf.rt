@@ -7,7 +7,7 @@ use std::alloc::Global;
 use std::marker::Model;
 
 /// Files in memory. It fails at the fetches that it is told to, and at a name that it lacks. A fetch
-/// that finds no memory leaves it as it was and has no number, so the next one takes that number.
+/// that finds no memory is counted apart and has no number, so the next one takes that number.
 #[derive(Debug, Drop)]
 pub struct MemoryShelf {
     alloc: Global,
@@ -16,6 +16,7 @@ pub struct MemoryShelf {
     // The name of each fetch, and whether it failed.
     fetches: Vec<(String, bool)>,
     faults: u64,
+    wanted: u64,
 }
 
 impl Model for MemoryShelf {
@@ -30,6 +31,7 @@ impl Model for MemoryShelf {
       fails = s.fails.items;
       fetches = fetches_of s.fetches.items;
       faults = s.faults;
+      wanted = s.wanted;
     } };
 
     ghost invariant = { λ s. NamesDiffer (files_of s.files.items) × (s.faults ≤ length s.fetches.items) };
@@ -48,6 +50,7 @@ impl MemoryShelf {
             fails,
             fetches: Vec::new(alloc),
             faults: 0,
+            wanted: 0,
         }
     }
 }
@@ -58,6 +61,7 @@ impl Shelf for MemoryShelf {
       holds = Some (λ name. file_at name s.files);
       fetches = Some s.fetches;
       faults = s.faults;
+      wanted = s.wanted;
       bytes_read = 0;
     } };
 
@@ -67,6 +71,7 @@ impl Shelf for MemoryShelf {
         ensures leaves { self.new ≡ after_fetch self.old name.now result }
     {
         let Ok(copy) = String::from_str(self.alloc, name) else {
+            self.wanted = self.wanted.saturating_add(1);
             return Err(FetchFault::Memory);
         };
         let answer = if self.fails.contains(&(self.fetches.len() as u64 + 1)) {
@@ -75,10 +80,12 @@ impl Shelf for MemoryShelf {
             found(alloc, &self.files, name, limit)
         };
         if let Err(FetchFault::Memory) = answer {
+            self.wanted = self.wanted.saturating_add(1);
             return answer;
         }
         let failed = matches!(answer, Err(FetchFault::Failed));
         if self.fetches.push((copy, failed)).is_err() {
+            self.wanted = self.wanted.saturating_add(1);
             return Err(FetchFault::Memory);
         }
         if failed {

@@ -1,5 +1,5 @@
 ghost use Rattle.std.specs.Prelude.{◌≡◌, ◌≤◌, ◌<◌, ◌+◌, ◌⊎◌, ◌↔◌, IfOk, IsErr, IsTrue, OnErr, Some, Contains, [], length};
-ghost use Rattle.mc_world.specs.Count.{Rose};
+ghost use Rattle.mc_world.specs.Count.{Rose, one_more};
 ghost use Rattle.mc_world.specs.MemorySinkState.{new_sink, next_count, after_write, after_fault};
 ghost use Rattle.mc_world.specs.Sink.{Appends};
 
@@ -19,6 +19,7 @@ pub struct MemorySink {
     stops: Vec<u64>,
     writes: u64,
     faults: u64,
+    since_fault: u64,
 }
 
 impl Model for MemorySink {
@@ -35,6 +36,7 @@ impl Model for MemorySink {
       stops = s.stops.items;
       writes = s.writes;
       faults = s.faults;
+      since_fault = s.since_fault;
     } };
 
     ghost invariant = { λ s. (vec_len s.bytes ≤ s.room) × (s.room ≤ vec_capacity s.bytes)
@@ -77,6 +79,7 @@ impl MemorySink {
                 stops,
                 writes: 0,
                 faults: 0,
+                since_fault: 0,
             }),
             Err(_) => Err(Memory),
         }
@@ -91,7 +94,7 @@ impl MemorySink {
 }
 
 impl Sink for MemorySink {
-    ghost state = { λ s. record { written = Some s.written; faults = s.faults } };
+    ghost state = { λ s. record { written = Some s.written; faults = s.faults; since_fault = s.since_fault } };
 
     fn write(&mut self, piece: &[u8]) -> Result<usize, SinkFault>
         // It fails exactly at the listed writes, and where no room is left for a piece with bytes.
@@ -114,6 +117,9 @@ impl Sink for MemorySink {
         ensures no_fault { IfOk result (λ n. 0 < n → self.new.faults ≡ self.old.faults) }
         ensures cause_none { IfOk result (λ n. n ≡ 0 → 0 < length piece.now
             → Rose self.old.faults self.new.faults) }
+        ensures once_none { IfOk result (λ n. n ≡ 0 → 0 < length piece.now → self.new.faults ≡ one_more self.old.faults) }
+        ensures anew_none { IfOk result (λ n. n ≡ 0 → 0 < length piece.now → self.new.since_fault ≡ 0) }
+        ensures since { IfOk result (λ n. 0 < n → Rose self.old.since_fault self.new.since_fault) }
         ensures never_falls { self.old.faults ≤ self.new.faults }
     {
         self.writes = self.writes.saturating_add(1);
@@ -121,14 +127,19 @@ impl Sink for MemorySink {
         let count = piece.len().min(self.most).min(left);
         if is_listed(&self.fails, self.writes) || (count == 0 && !piece.is_empty()) {
             self.faults = self.faults.saturating_add(1);
+            self.since_fault = 0;
             return Err(SinkFault);
         }
         if is_listed(&self.stops, self.writes) {
             self.faults = self.faults.saturating_add(1);
+            self.since_fault = 0;
             return Ok(0);
         }
         match self.bytes.extend_from_slice(&piece[..count]) {
-            Ok(()) => Ok(count),
+            Ok(()) => {
+                self.since_fault = self.since_fault.saturating_add(count as u64);
+                Ok(count)
+            }
             // The room was reserved by `new`.
             Err(_) => unreachable!(),
         }

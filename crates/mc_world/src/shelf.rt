@@ -34,6 +34,10 @@ pub trait Shelf {
         ensures never_falls { (state self.old).faults ≤ (state self.new).faults }
         ensures no_fault { ((state self.new).faults ≡ (state self.old).faults) ⊎ IsErrOf result FetchFault.Failed }
 
+        // So for want of memory.
+        ensures wanted { IsErrOf result FetchFault.Memory → Rose (state self.old).wanted (state self.new).wanted }
+        ensures no_want { ((state self.new).wanted ≡ (state self.old).wanted) ⊎ IsErrOf result FetchFault.Memory }
+
         // The bytes held are longer than the limit, or where the shelf does not tell, more were read.
         ensures long { IsErrOf result FetchFault.TooLong → IfSome (state self.old).holds (λ files.
             IsSomeAnd (files name.now) (λ bytes. limit < length bytes)) }

@@ -1,5 +1,5 @@
 ghost use Rattle.std.specs.Prelude.{◌≡◌, ◌<◌, ◌≤◌, List, ℕ, length, Option, IfOk, OnErr};
-ghost use Rattle.mc_world.specs.Count.{Rose};
+ghost use Rattle.mc_world.specs.Count.{Rose, one_more};
 ghost use Rattle.mc_world.specs.Sink.{Appends, SinkState};
 
 /// The sink took nothing of the piece.
@@ -21,6 +21,14 @@ pub trait Sink {
         ensures cause { OnErr result (Rose (state self.old).faults (state self.new).faults) }
         ensures cause_none { IfOk result (λ n. n ≡ 0 → 0 < length piece.now
             → Rose (state self.old).faults (state self.new).faults) }
+
+        // It rises by one, and what is taken from then on is counted anew.
+        ensures once { OnErr result ((state self.new).faults ≡ one_more (state self.old).faults) }
+        ensures anew { OnErr result ((state self.new).since_fault ≡ 0) }
+        ensures once_none { IfOk result (λ n. n ≡ 0 → 0 < length piece.now
+            → (state self.new).faults ≡ one_more (state self.old).faults) }
+        ensures anew_none { IfOk result (λ n. n ≡ 0 → 0 < length piece.now → (state self.new).since_fault ≡ 0) }
+        ensures since { IfOk result (λ n. 0 < n → Rose (state self.old).since_fault (state self.new).since_fault) }
 
         // With bytes taken the count stays.
         ensures no_fault { IfOk result (λ n. 0 < n → (state self.new).faults ≡ (state self.old).faults) }

@@ -1,8 +1,8 @@
 ghost use Rattle.std.specs.Prelude.{◌≡◌, None};
 
+use crate::edge::write_piece;
 use crate::{Sink, SinkFault};
 use std::io;
-use std::io::Write;
 use std::marker::Model;
 
 /// Standard output. It tells no content.
@@ -10,39 +10,46 @@ use std::marker::Model;
 pub struct StdoutSink<'a, R: Print> {
     rt: &'a R,
     faults: u64,
+    since_fault: u64,
 }
 
 impl<'a, R: Print> Model for StdoutSink<'a, R> {
-    ghost use Rattle.std.specs.Prelude.{ℕ};
+    ghost use Rattle.mc_world.specs.StdoutSinkState.{StdoutSinkState};
 
-    ghost Value = { ℕ };
+    ghost Value = { StdoutSinkState };
 
-    ghost view = { λ s. s.faults };
+    ghost view = { λ s. record { faults = s.faults; since_fault = s.since_fault } };
 }
 
 impl<'a, R: Print> StdoutSink<'a, R> {
-    /// Standard output with no fault so far. Contracts see it as the count of its faults.
+    /// Standard output with no fault so far. Contracts see it as its counts.
     pub fn new(rt: &'a R) -> StdoutSink<'a, R>
-        ensures no_fault { result ≡ 0 }
+        ensures no_fault { result.faults ≡ 0 }
+        ensures nothing_taken { result.since_fault ≡ 0 }
     {
-        StdoutSink { rt, faults: 0 }
+        StdoutSink {
+            rt,
+            faults: 0,
+            since_fault: 0,
+        }
     }
 }
 
 impl<R: Print> Sink for StdoutSink<'_, R> {
-    ghost state = { λ faults. record { written = None; faults = faults } };
+    ghost state = { λ s. record { written = None; faults = s.faults; since_fault = s.since_fault } };
 
     fn write(&mut self, piece: &[u8]) -> Result<usize, SinkFault> {
-        let mut out = io::writer(self.rt);
-        // What waits in a buffer has not been printed, so a failed flush is a fault too.
-        if let Ok(n) = out.write(piece)
-            && (0 < n || piece.is_empty())
-            && out.flush().is_ok()
-        {
-            return Ok(n);
+        match write_piece(&mut io::writer(self.rt), piece) {
+            Ok(n) => {
+                self.since_fault = self.since_fault.saturating_add(n as u64);
+                Ok(n)
+            }
+            Err(SinkFault) => {
+                self.faults = self.faults.saturating_add(1);
+                self.since_fault = 0;
+                Err(SinkFault)
+            }
         }
-        self.faults = self.faults.saturating_add(1);
-        Err(SinkFault)
     }
 }
 

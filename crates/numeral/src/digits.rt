@@ -20,16 +20,27 @@ pub fn numeral(bytes: &[u8], most_digits: usize) -> Option<u128>
 pub fn number(bytes: &[u8]) -> Option<u32>
     ensures { result ≡ text.number bytes.now }
 {
-    match numeral(bytes, 10) {
+    match short_numeral(bytes) {
         None => None,
         Some(value) => in_range(value),
     }
 }
 
-fn in_range(value: u128) -> Option<u32>
+// The value of 1 to 10 digits, which fits in 64 bits.
+#[tactic(auto, unfolding(crate::specs::Numeral::numeral))]
+fn short_numeral(bytes: &[u8]) -> Option<u64>
+    ensures { result ≡ text.numeral 10 bytes.now }
+{
+    if bytes.len() < 1 || bytes.len() > 10 {
+        return None;
+    }
+    short_value_of(bytes)
+}
+
+fn in_range(value: u64) -> Option<u32>
     ensures { result ≡ text.in_range value }
 {
-    if value > u32::MAX as u128 {
+    if value > u32::MAX as u64 {
         return None;
     }
     Some(value as u32)
@@ -52,6 +63,21 @@ fn value_of(bytes: &[u8]) -> Option<u128>
             return None;
         }
         value = value * 10 + (*b - b'0') as u128;
+    }
+    Some(value)
+}
+
+// The same of few digits, in 64 bits.
+fn short_value_of(bytes: &[u8]) -> Option<u64>
+    requires { length bytes.now ≤ 10 }
+    ensures { result ≡ if list_all text.is_digit bytes.now then Some (text.value bytes.now) else None }
+{
+    let mut value = 0u64;
+    for b in bytes {
+        if !is_digit(*b) {
+            return None;
+        }
+        value = value * 10 + (*b - b'0') as u64;
     }
     Some(value)
 }

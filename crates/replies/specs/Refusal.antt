@@ -24,6 +24,7 @@ pub data Refusal : Type 0 where
   BadTrace : List Task → Verdict → Refusal
   LongChart : (ticks : ℕ) → Refusal
   DemandFile : DemandFault → Refusal
+  NoRoom : (name : List ℕ) (processors : ℕ) → Refusal
 
 -- the status of each
 abbrev pub status_of : Refusal → ℕ
@@ -37,6 +38,7 @@ status_of (BadTrace set verdict) = 6
 status_of (ReadFault file) = 7
 status_of (Longer file limit) = 7
 status_of (DemandFile fault) = 11
+status_of (NoRoom name processors) = 12
 
 -- the line of each
 abbrev pub line_of : Refusal → List ℕ
@@ -48,6 +50,7 @@ line_of (Trace fault) = trace_fault_line fault
 line_of (LongChart ticks) = codes "trace has " ++ (decimal ticks ++ codes " ticks, a chart has at most 2000000\n")
 line_of (BadTrace set verdict) = verdict_line set verdict
 line_of (DemandFile fault) = demand_fault_line fault
+line_of (NoRoom name processors) = codes "not partitioned: task " ++ (name ++ (codes " fits on none of " ++ (decimal processors ++ codes "\n")))
 line_of (ReadFault file) = codes "read fault on file " ++ (decimal file ++ codes "\n")
 line_of (Longer file limit) = codes "file " ++ (decimal file ++ (codes " is longer than " ++ (decimal limit ++ codes " bytes\n")))
 

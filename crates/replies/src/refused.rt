@@ -2,7 +2,7 @@
 ghost use Rattle.std.specs.Prelude.{◌≡◌, List, IfOk, IsErr};
 ghost use Rattle.mc_task.specs.declared.task.Task.{Task};
 ghost use Rattle.load_sum.specs.Belong.{BelongTo, AreOfSomeSet};
-ghost use Rattle.replies.specs.Refusal.{refuse, ReadFault, Longer, TaskFile, OutOfRange, NotAdmitted, WorkFile, Trace, BadTrace, LongChart, DemandFile};
+ghost use Rattle.replies.specs.Refusal.{refuse, ReadFault, Longer, TaskFile, OutOfRange, NotAdmitted, WorkFile, Trace, BadTrace, LongChart, DemandFile, NoRoom};
 
 use crate::load_text::not_admitted_text;
 use crate::reply::Reply;
@@ -12,7 +12,7 @@ use crate::verdicts::verdict_line;
 use demand_test::DemandFault;
 use load_sum::Loads;
 use mc_model::Verdict;
-use mc_task::{TaskNo, TaskSet};
+use mc_task::{Name, TaskNo, TaskSet};
 use std::alloc::{AllocError, Global};
 use task_file::TaskFault;
 use trace_format::TraceFault;
@@ -101,4 +101,15 @@ pub fn demand_file(alloc: Global, fault: DemandFault) -> Result<Reply, AllocErro
 {
     let line = demand_fault_line(alloc, fault)?;
     Ok(Reply::new(11, line))
+}
+
+/// Status 12: the task of this name fits on none of so many processors.
+pub fn no_room(alloc: Global, name: &Name, processors: u32) -> Result<Reply, AllocError>
+    ensures { IfOk result (λ reply. reply ≡ refuse (NoRoom name.now processors)) }
+{
+    let mut line = "not partitioned: task ".as_bytes().to_vec(alloc)?;
+    line.extend_from_slice(name.bytes())?;
+    let rest = format!(in alloc; " fits on none of {processors}\n")?;
+    line.extend_from_slice(rest.as_bytes())?;
+    Ok(Reply::new(12, line))
 }

@@ -11,3 +11,4 @@ mod traced;
 pub use live::{Live, finish_live};
 pub use run::{Run, RunJob, finish_run};
 pub use soak::{Soak, finish_soak};
+pub use traced::trace_text;

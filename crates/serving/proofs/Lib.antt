@@ -1,5 +1,3 @@
-pub mod Fetches
 pub mod Replies
 pub mod Outcomes
 pub mod Written
-pub mod AllReplies

@@ -8,6 +8,7 @@ use Rattle.replies.specs.Reply.{Reply}
 use Rattle.replies.specs.Refusal.{ReadFault, Longer, refuse}
 use Rattle.serving.specs.Command.{Command, answer, fetch}
 use Rattle.serving.specs.Outcome.{HasBytes, IsReply, Tells, IsAnswer}
+use Rattle.serving.proofs.Replies.{status_7}
 
 -- bytes past a limit
 past : (P Q : Type 0) (limit : ℕ) (bytes : List ℕ) → limit < length bytes → P → MatchBool (nat_lt limit (length bytes)) P Q
@@ -32,18 +33,18 @@ pub is_answer : (files : Files) (k : ℕ) (command : Command) (before after : Sh
 is_answer files k (answer Is) before after reply r t = r.1
 is_answer files k (fetch name limit next) before after reply r t =
     elim r [
-      | inl failed ↦ absurd (t.calm failed.0.rose)
-      | inr rest ↦
-          elim rest [
-            | inl long ↦
+      | inl refused ↦
+          elim refused [
+            | inl failed ↦ absurd (t.calm failed.0.rose)
+            | inr long ↦
                 long_answer (λ bytes. reply ≡ refuse (Longer k limit)) (λ bytes. IsAnswer files (k + 1) (next bytes) reply) limit (files name)
                 (subst (λ o. IfSome o (λ files. IsSomeAnd (files name) (λ bytes. limit < length bytes))) t.told long.0.told) (λ bytes. long.1)
-            | inr more ↦
-                subst (λ o. IsSomeAnd o (λ bytes. MatchBool (nat_lt limit (length bytes)) (reply ≡ refuse (Longer k limit)) (IsAnswer files (k + 1) (next bytes) reply)))
-                (sym (subst (λ o. IfSome o (λ files. files name ≡ Some more.0)) t.told more.2.told))
-                (within (reply ≡ refuse (Longer k limit)) (IsAnswer files (k + 1) (next more.0) reply) limit more.0 more.2.short
-                (is_answer files (k + 1) (next more.0) more.1 after reply more.3 (tells_on name limit more.0 files before more.1 after more.2 t)))
           ]
+      | inr more ↦
+          subst (λ o. IsSomeAnd o (λ bytes. MatchBool (nat_lt limit (length bytes)) (reply ≡ refuse (Longer k limit)) (IsAnswer files (k + 1) (next bytes) reply)))
+          (sym (subst (λ o. IfSome o (λ files. files name ≡ Some more.0)) t.told more.2.told))
+          (within (reply ≡ refuse (Longer k limit)) (IsAnswer files (k + 1) (next more.0) reply) limit more.0 more.2.short
+          (is_answer files (k + 1) (next more.0) more.1 after reply more.3 (tells_on name limit more.0 files before more.1 after more.2 t)))
     ]
 
 -- a count that is 0 never rose
@@ -67,8 +68,8 @@ pub tells_no_fault : (k : ℕ) (command : Command) (before after : ShelfState) (
 tells_no_fault k (answer Is) before after reply r zero j is = r.2.read (ap (λ (r : Reply). r.status) is)
 tells_no_fault k (fetch name limit next) before after reply r zero j is =
     elim r [
-      | inl failed ↦ absurd (never_rose before.faults after.faults zero failed.0.rose)
-      | inr rest ↦ elim rest [ inl long ↦ absurd (not_longer j k limit (sym is ∙ long.1)) | inr more ↦ tells_no_fault (k + 1) (next more.0) more.1 after reply more.3 zero j is ]
+      | inl refused ↦ elim refused [ inl failed ↦ absurd (never_rose before.faults after.faults zero failed.0.rose) | inr long ↦ absurd (not_longer j k limit (sym is ∙ long.1)) ]
+      | inr more ↦ tells_no_fault (k + 1) (next more.0) more.1 after reply more.3 zero j is
     ]
 
 -- no reply has the status of a write fault
@@ -76,10 +77,6 @@ pub not_8 : (k : ℕ) (command : Command) (before after : ShelfState) (reply : R
 not_8 k (answer Is) before after reply r is = r.2.write is
 not_8 k (fetch name limit next) before after reply r is =
     elim r [
-      | inl failed ↦ let seven : reply.status ≡ 7 = ap (λ (r : Reply). r.status) failed.1 in absurd (omega (arith, seven, is))
-      | inr rest ↦
-          elim rest [
-            | inl long ↦ let seven : reply.status ≡ 7 = ap (λ (r : Reply). r.status) long.1 in absurd (omega (arith, seven, is))
-            | inr more ↦ not_8 (k + 1) (next more.0) more.1 after reply more.3 is
-          ]
+      | inl refused ↦ let seven : reply.status ≡ 7 = status_7 k name limit before after reply refused in absurd (omega (arith, seven, is))
+      | inr more ↦ not_8 (k + 1) (next more.0) more.1 after reply more.3 is
     ]

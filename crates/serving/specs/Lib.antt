@@ -2,3 +2,4 @@ pub mod Command
 pub mod Steps
 pub mod Outcome
 pub mod Written
+pub mod Fetched

@@ -36,22 +36,33 @@ pub record TellsNoFault (reply : Reply) : Type 0 where
   pub write : reply.status ≢ 8
   pub memory : reply.status ≢ 9
 
--- the reply to a command that asks for its file number k next: its answer, which tells no fault; or that the file could not be
--- read, or is too long; or, by the file's bytes, the reply to the command that it then is
+-- the file, which has number k, could not be read or is too long, and the reply tells it
+abbrev pub IsRefused : ℕ → List ℕ → ℕ → ShelfState → ShelfState → Reply → Type 0
+IsRefused k name limit before after reply =
+    (IsFailed name before after × (reply ≡ refuse (ReadFault k))) ⊎ (IsLonger name limit before after × (reply ≡ refuse (Longer k limit)))
+
+-- the reply to a command that asks for its file number k next: its answer, which tells no fault; or that the file is refused;
+-- or, by the file's bytes, the reply to the command that it then is
 abbrev pub IsReply : ℕ → Command → ShelfState → ShelfState → Reply → Type 0
 IsReply k (answer Is) before after reply = (after ≡ before) × Is reply × TellsNoFault reply
 IsReply k (fetch name limit next) before after reply =
-    (IsFailed name before after × (reply ≡ refuse (ReadFault k)))
-    ⊎ (IsLonger name limit before after × (reply ≡ refuse (Longer k limit)))
+    IsRefused k name limit before after reply
     ⊎ ((bytes : List ℕ) × (mid : ShelfState) × HasBytes name limit bytes before mid × IsReply (k + 1) (next bytes) mid after reply)
+
+-- so is the reply, and its status is not that of words that are no command
+abbrev pub IsOwnReply : ℕ → Command → ShelfState → ShelfState → Reply → Type 0
+IsOwnReply k command before after reply = IsReply k command before after reply × (reply.status ≢ 2)
+
+-- the fetches are as before, or one of this name was answered
+abbrev pub AddsAtMost : List ℕ → ShelfState → ShelfState → Type 0
+AddsAtMost name before after = (after.fetches ≡ before.fetches) ⊎ ((failed : Bool) × AddsFetch name failed before after)
 
 -- also where memory is wanting, no file is asked for but the command's, in their order: none behind one that failed or is too
 -- long, and each only where those before it let the command go on
 abbrev pub AskedInOrder : Command → ShelfState → ShelfState → Type 0
 AskedInOrder (answer Is) before after = after.fetches ≡ before.fetches
 AskedInOrder (fetch name limit next) before after =
-    (after.fetches ≡ before.fetches)
-    ⊎ ((failed : Bool) × AddsFetch name failed before after)
+    AddsAtMost name before after
     ⊎ ((bytes : List ℕ) × (mid : ShelfState) × HasBytes name limit bytes before mid × AskedInOrder (next bytes) mid after)
 
 -- the shelf tells that it holds these files, and its count of faults does not rise

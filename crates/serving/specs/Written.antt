@@ -1,6 +1,6 @@
 -- How a reply is written.
 use Rattle.std.specs.Prelude.{◌≡◌, ℕ, ◌≤◌, ◌++◌, length, take, List, option_map}
-use Rattle.mc_world.specs.Count.{Rose}
+use Rattle.mc_world.specs.Count.{one_more}
 use Rattle.mc_world.specs.Sink.{SinkState}
 use Rattle.replies.specs.Reply.{Reply}
 
@@ -14,8 +14,9 @@ pub record IsWritten (reply : Reply) (ended : ℕ) (before after : SinkState) : 
   pub text : Wrote (length reply.text) reply.text before after
   pub faults : after.faults ≡ before.faults
 
--- the sink failed when a front of the reply was written
+-- the sink failed when a front of the reply was written, and no more was written to it
 pub record IsCutShort (reply : Reply) (ended : ℕ) (before after : SinkState) : Type 0 where
   pub status : ended ≡ 8
   pub text : (n : ℕ) × (n ≤ length reply.text) × Wrote n reply.text before after
-  pub faults : Rose before.faults after.faults
+  pub once : after.faults ≡ one_more before.faults
+  pub last : after.since_fault ≡ 0

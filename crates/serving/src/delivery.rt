@@ -1,6 +1,6 @@
 // How a reply is written.
 ghost use Rattle.std.specs.Prelude.{◌≡◌, ℕ, ◌<◌, ◌≤◌, ◌⊎◌, OnOk, OnErr, length};
-ghost use Rattle.mc_world.specs.Count.{Rose};
+ghost use Rattle.mc_world.specs.Count.{one_more};
 ghost use Rattle.serving.specs.Written.{Wrote, IsWritten, IsCutShort};
 
 use mc_world::{Sink, SinkFault};
@@ -22,7 +22,8 @@ fn write_whole<K: Sink>(out: &mut K, text: &[u8]) -> Result<(), SinkFault>
     ensures whole { OnOk result (Wrote (length text.now) text.now (K.state out.old) (K.state out.new)) }
     ensures calm { OnOk result ((K.state out.new).faults ≡ (K.state out.old).faults) }
     ensures part { OnErr result ((n : ℕ) × (n ≤ length text.now) × Wrote n text.now (K.state out.old) (K.state out.new)) }
-    ensures fault { OnErr result (Rose (K.state out.old).faults (K.state out.new).faults) }
+    ensures once { OnErr result ((K.state out.new).faults ≡ one_more (K.state out.old).faults) }
+    ensures last { OnErr result ((K.state out.new).since_fault ≡ 0) }
 {
     let mut done = 0;
     'pieces: while done < text.len() {

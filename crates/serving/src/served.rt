@@ -1,8 +1,9 @@
 // The one function that asks a shelf for the files of every command.
-ghost use Rattle.std.specs.Prelude.{◌≡◌, ◌≢◌, IfOk, IsErr};
+ghost use Rattle.std.specs.Prelude.{◌≡◌, ◌≢◌, ◌<◌, ◌^◌, IfOk, OnOk, IsErr};
 ghost use Rattle.replies.specs.Refusal.{ReadFault, Longer, refuse};
-ghost use Rattle.serving.specs.Steps.{AllReplies};
-ghost use Rattle.serving.specs.Outcome.{IsReply, AskedInOrder};
+ghost use Rattle.serving.specs.Steps.{AllReplies, Fits, goes_on};
+ghost use Rattle.serving.specs.Outcome.{IsReply, IsOwnReply, AddsAtMost, AskedInOrder};
+ghost use Rattle.serving.specs.Fetched.{IsFetched};
 
 use crate::command::{Command, Next, Served};
 use mc_world::{FetchFault, Shelf};
@@ -23,6 +24,9 @@ pub fn serve<C: Command, S: Shelf>(
     // Status 2 is left to words that are no command.
     ensures other { IfOk result (λ reply. reply.status ≢ 2) }
 
+    // No fetch has wanted memory.
+    ensures wanted { OnOk result ((S.state shelf.new).wanted ≡ (S.state shelf.old).wanted) }
+
     // Also where memory is wanting.
     ensures asked { AskedInOrder (C.asks command.now) (S.state shelf.old) (S.state shelf.new) }
 {
@@ -40,31 +44,71 @@ pub fn ask<C: Command, S: Shelf>(
 ) -> Result<Served<C::Job>, AllocError>
     requires { C.valid command.now }
     ensures replies { IfOk result (λ served. AllReplies (C.leaves command.now) (C.gives command.now)
-        (λ reply. IsReply 1 (C.asks command.now) (S.state shelf.old) (S.state shelf.new) reply × (reply.status ≢ 2)) served) }
+        (IsOwnReply 1 (C.asks command.now) (S.state shelf.old) (S.state shelf.new)) served) }
+
+    // No fetch has wanted memory.
+    ensures wanted { OnOk result ((S.state shelf.new).wanted ≡ (S.state shelf.old).wanted) }
 
     // Also where memory is wanting.
     ensures asked { AskedInOrder (C.asks command.now) (S.state shelf.old) (S.state shelf.new) }
 {
-    let (first, limit) = match command.start(alloc)? {
-        Next::Ask { name, limit, .. } => (name, limit),
-        Next::Ready { served } => return Ok(served),
-    };
-    let bytes = match shelf.fetch(alloc, first, limit) {
-        Ok(bytes) => bytes,
+    match command.start(alloc)? {
+        Next::Ask { name, limit, .. } => match fetch_file(alloc, shelf, name, limit, 1)? {
+            Fetched::Bytes { bytes } => ask_on(alloc, command, &bytes, shelf),
+            Fetched::Refused { reply } => Ok(Served::Done { reply }),
+        },
+        Next::Ready { served } => Ok(served),
+    }
+}
+
+// What comes of a command behind its first file, which has these bytes.
+fn ask_on<C: Command, S: Shelf>(
+    alloc: Global,
+    command: &C,
+    bytes: &[u8],
+    shelf: &mut S,
+) -> Result<Served<C::Job>, AllocError>
+    requires valid { C.valid command.now }
+    requires first { Fits (C.asks command.now) bytes.now }
+    ensures replies { IfOk result (λ served. AllReplies (C.leaves command.now) (C.gives command.now)
+        (IsOwnReply 2 (goes_on (C.asks command.now) bytes.now) (S.state shelf.old) (S.state shelf.new)) served) }
+    ensures wanted { OnOk result ((S.state shelf.new).wanted ≡ (S.state shelf.old).wanted) }
+    ensures asked { AskedInOrder (goes_on (C.asks command.now) bytes.now) (S.state shelf.old) (S.state shelf.new) }
+{
+    match command.open(alloc, bytes)? {
+        Next::Ask { name, limit, kept } => match fetch_file(alloc, shelf, name, limit, 2)? {
+            Fetched::Bytes { bytes } => command.finish(alloc, kept, &bytes),
+            Fetched::Refused { reply } => Ok(Served::Done { reply }),
+        },
+        Next::Ready { served } => Ok(served),
+    }
+}
+
+// What a fetch gave: the file's bytes, or the reply that refuses it.
+#[derive(Drop)]
+enum Fetched {
+    Bytes { bytes: Vec<u8> },
+    Refused { reply: Reply },
+}
+
+// Fetches file number `file` of a command.
+fn fetch_file<S: Shelf>(
+    alloc: Global,
+    shelf: &mut S,
+    name: &str,
+    limit: usize,
+    file: u32,
+) -> Result<Fetched, AllocError>
+    requires { limit < 2 ^ 40 }
+    ensures file { IfOk result (IsFetched file name.now limit (S.state shelf.old) (S.state shelf.new)) }
+    ensures wanted { OnOk result ((S.state shelf.new).wanted ≡ (S.state shelf.old).wanted) }
+    ensures asked { AddsAtMost name.now (S.state shelf.old) (S.state shelf.new) }
+{
+    match shelf.fetch(alloc, name, limit) {
+        Ok(bytes) => Ok(Fetched::Bytes { bytes }),
         Err(fault) => {
-            let reply = refused(alloc, fault, 1, limit)?;
-            return Ok(Served::Done { reply });
-        }
-    };
-    let (second, most, opened) = match command.open(alloc, &bytes)? {
-        Next::Ask { name, limit, kept } => (name, limit, kept),
-        Next::Ready { served } => return Ok(served),
-    };
-    match shelf.fetch(alloc, second, most) {
-        Ok(more) => command.finish(alloc, opened, &more),
-        Err(fault) => {
-            let reply = refused(alloc, fault, 2, most)?;
-            Ok(Served::Done { reply })
+            let reply = refused(alloc, fault, file, limit)?;
+            Ok(Fetched::Refused { reply })
         }
     }
 }

@@ -1,5 +1,4 @@
 pub mod WordLemmas
-pub mod Ranges
 pub mod Periods
 pub mod MadeTasks
 pub mod Utilisations
@@ -7,9 +6,9 @@ pub mod Admitted
 pub mod Plans
 pub mod JobRows
 pub mod ReleaseCount
-pub mod Accepted
 pub mod Scans
 pub mod Gaps
 pub mod Taken
 pub mod Draws
+pub mod Drawn
 mod WorkedWorkloads

@@ -10,7 +10,7 @@ use Rattle.mc_model.specs.TaskNumbers.{period_in}
 use Rattle.mc_model.specs.Follows.{Arrival}
 use Rattle.mc_model.proofs.Lists.{Each, Each-map, Each-filter_if}
 use Rattle.set_gen.specs.MadeWork.{is_released, releases_at, releases_below}
-use Rattle.set_gen.proofs.Ranges.{each-map, each-range}
+use Rattle.mc_model.proofs.Ranges.{each-map, each-range}
 use Rattle.mc_model.proofs.Lists.{Each-append}
 
 -- of two multiples of a gap the later one is at least the gap later

@@ -9,7 +9,7 @@ use Rattle.std.proofs.Math.Nat.{mul-div_cancel', mul-le-mul_right}
 use Rattle.mc_model.specs.Sums.{total}
 use Rattle.mc_model.proofs.Sums.{total-add}
 use Rattle.set_gen.specs.MadeWork.{is_released, releases_at, releases_below}
-use Rattle.set_gen.proofs.Ranges.{each-range, total-zero, total-most, length-filter}
+use Rattle.mc_model.proofs.Ranges.{each-range, total-zero, total-most, length-filter}
 
 -- how many multiples of a gap are below r
 times : ℕ → ℕ → ℕ

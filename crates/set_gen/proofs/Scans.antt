@@ -14,7 +14,7 @@ use Rattle.set_gen.specs.Words.{after}
 use Rattle.set_gen.specs.MadeWork.{is_released, releases_at, releases_below, job_rows}
 use Rattle.set_gen.specs.NextReleases.{IsNext, release_of}
 use Rattle.set_gen.proofs.WordLemmas.{after-add}
-use Rattle.set_gen.proofs.Ranges.{range-more, each-range}
+use Rattle.mc_model.proofs.Ranges.{range-more, each-range}
 use Rattle.set_gen.proofs.Plans.{later_multiple}
 use Rattle.set_gen.proofs.JobRows.{job_rows-append}
 

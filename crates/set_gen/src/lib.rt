@@ -7,6 +7,8 @@ mod tasks;
 mod words;
 
 pub use made::{Made, make};
+pub use tasks::{Numbers, draw_numbers};
+pub use words::words_of;
 
 #[cfg(test)]
 mod tests;

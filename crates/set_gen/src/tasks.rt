@@ -1,7 +1,8 @@
 // The tasks of a set, and how far their releases stand apart.
-ghost use Rattle.std.specs.Prelude.{◌≡◌, ◌≤◌, IfOk, OnOk};
+ghost use Rattle.std.specs.Prelude.{◌≡◌, ◌≤◌, ℕ, List, IfOk, OnOk};
 ghost use Rattle.set_gen.specs.Words.{after};
 ghost use Rattle.set_gen.specs.MadeSet as spec;
+ghost use Rattle.set_gen.specs.MadeNumbers.{AreOf, AreSmall};
 
 use crate::words::take;
 use mc_task::{Level, Name, Task};
@@ -18,6 +19,15 @@ const PERIODS: [u32; 12] = [
 pub struct Drawn {
     pub tasks: Vec<Task>,
     pub gaps: Vec<u32>,
+}
+
+/// The numbers of a made task, in ticks: all that it has but its name.
+#[derive(Clone, Copy)]
+pub struct Numbers {
+    pub level: Level,
+    pub period: u32,
+    pub low: u32,
+    pub high: u32,
 }
 
 // Makes so many tasks.
@@ -52,14 +62,35 @@ fn draw_one(
     ensures words { OnOk result (words.new ≡ after (spec.words_taken number) words.old) }
 {
     let name = name_of(alloc, number)?;
+    let (numbers, gap) = draw_numbers(words, count, number);
+    let task = Task {
+        name,
+        level: numbers.level,
+        period: numbers.period,
+        low: numbers.low,
+        high: numbers.high,
+    };
+    Ok((task, gap))
+}
+
+/// Draws the numbers of task `number` of `count`, 2 to 32, with the next words, and how many ticks its releases stand apart.
+/// It takes no memory.
+pub fn draw_numbers(words: &mut Lcg64Xsh32, count: u32, number: u32) -> (Numbers, u32)
+    requires some { 2 ≤ count }
+    requires few { count ≤ 32 }
+    ensures task { AreOf (spec.made_task words.old count number) result.0 }
+    ensures small { AreSmall result.0 }
+    ensures gap { result.1 ≡ spec.made_gap words.old number }
+    ensures words { words.new ≡ after (spec.words_taken number) words.old }
+{
     let period = period(take(words));
-    let task = if number % 2 == 1 {
-        high_task(name, period, count.div_ceil(2), take(words))
+    let numbers = if number % 2 == 1 {
+        high_task(period, count.div_ceil(2), take(words))
     } else {
-        low_task(name, period, count / 2)
+        low_task(period, count / 2)
     };
     let stretch = take(words) % 16;
-    Ok((task, period + stretch))
+    (numbers, period + stretch)
 }
 
 #[tactic(auto, unfolding(crate::specs::MadeSet::task_name))]
@@ -83,16 +114,15 @@ fn period(word: u32) -> u32
 }
 
 // One of `count` high tasks.
-#[tactic(auto, unfolding(crate::specs::MadeSet::high_task))]
-fn high_task(name: Name, period: u32, count: u32, word: u32) -> Task
+fn high_task(period: u32, count: u32, word: u32) -> Numbers
     requires least { 200 ≤ period }
     requires most { period ≤ 10000 }
     requires some { 1 ≤ count }
     requires few { count ≤ 16 }
-    ensures { result ≡ spec.high_task name period count word }
+    ensures task { (name : List ℕ) → AreOf (spec.high_task name period count word) result }
+    ensures small { AreSmall result }
 {
-    Task {
-        name,
+    Numbers {
         level: Level::High,
         period,
         low: 1 + word % (period / (4 * count)),
@@ -101,15 +131,16 @@ fn high_task(name: Name, period: u32, count: u32, word: u32) -> Task
 }
 
 // One of `count` low tasks.
-#[tactic(auto, unfolding(crate::specs::MadeSet::low_task))]
-fn low_task(name: Name, period: u32, count: u32) -> Task
+fn low_task(period: u32, count: u32) -> Numbers
+    requires least { 200 ≤ period }
+    requires most { period ≤ 10000 }
     requires some { 1 ≤ count }
     requires few { count ≤ 16 }
-    ensures { result ≡ spec.low_task name period count }
+    ensures task { (name : List ℕ) → AreOf (spec.low_task name period count) result }
+    ensures small { AreSmall result }
 {
     let budget = period / (2 * count);
-    Task {
-        name,
+    Numbers {
         level: Level::Low,
         period,
         low: budget,

@@ -24,13 +24,15 @@ IsWriterOf b w = w.seat.table_id ≡ b.table.shared.table_id
 abbrev pub IsWatcherOf : Board → Watcher → Type 0
 IsWatcherOf b w = w.seat.table_id ≡ b.table.shared.table_id
 
--- which board it is, and of which board a token is
+-- which board it is
 abbrev pub board_id : Board → BoardId
 board_id b = id_of b.table.shared.table_id
 
+-- of which board a writer's token is
 abbrev pub writer_board : Writer → BoardId
 writer_board w = id_of w.seat.table_id
 
+-- of which board a watcher's token is
 abbrev pub watcher_board : Watcher → BoardId
 watcher_board w = id_of w.seat.table_id
 

@@ -6,6 +6,6 @@ mod check;
 mod check_lines;
 mod ruled;
 
-pub use admitted::{Admitted, MOST_TABLE_BYTES, read_admitted};
+pub use admitted::{Admitted, MOST_TABLE_BYTES, read_admitted, read_set};
 pub use check::Check;
 pub use ruled::{Ruled, read_ruled};

@@ -15,7 +15,7 @@ use Rattle.task_file.specs.TaskTable.{first_other, fields_of, kinds_of, task_of_
 use Rattle.task_file.specs.TaskFile.{task_file, tree_set, tasks_from}
 use Rattle.task_file.specs.Printed.{after_high, common_members, task_members, task_tables, file_members}
 use Rattle.task_file.proofs.TaskLemmas.{known_document}
-use Rattle.task_file.proofs.SetLemmas.{first_fault-set}
+use Rattle.mc_task.proofs.FaultLemmas.{first_fault-set}
 
 at_most_1 : (a b : ℕ) → a ≤ 1 → b ≤ 1 → max a b ≤ 1
 at_most_1 a b h k = grind (arith, nat_tests)

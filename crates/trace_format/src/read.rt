@@ -1,16 +1,19 @@
-ghost use Rattle.std.specs.Prelude.{◌≡◌, ℕ, List, [], ◌∷◌, All, IfOk, OnOk, IfErr};
+ghost use Rattle.std.specs.Prelude.{◌≡◌, nat_le, if◌then◌else◌, ℕ, List, [], ◌∷◌, All, IfOk, OnOk, IfErr};
 ghost use Rattle.csv.specs.Records.{fields_of};
+ghost use Rattle.csv_records.specs.Width.{StartsWide};
+ghost use Rattle.mc_task.specs.declared.task.Task.{Task};
 ghost use Rattle.mc_model.specs.Runs.{IsRunOfSet, AreRuns};
 ghost use Rattle.trace_format.specs.Gives.{Gives, Fails};
 ghost use Rattle.trace_format.specs.TraceFile as file;
 ghost use Rattle.trace_format.specs.Reading.{AreRead};
+ghost use Rattle.trace_format.specs.declared.fault.TraceCause.TheVariants as cause;
 
-use crate::record::{record_run, version_of};
+use crate::record::{record_run, version_of, wrong_width};
 use crate::version::Version;
 use crate::write::tick_after;
 use crate::{TraceCause, TraceFault};
 use csv::ByteRecord;
-use csv_records::Records;
+use csv_records::{Next, Records};
 use mc_model::Run;
 use mc_task::TaskSet;
 use std::alloc::Global;
@@ -32,8 +35,9 @@ pub fn read_trace(alloc: Global, set: &TaskSet, bytes: &[u8]) -> Result<Vec<Run>
     let mut fields = ByteRecord::new(alloc);
     let version = match records.next(&mut fields) {
         Err(_) => return Err(TraceFault::Memory),
-        Ok(false) => return Err(NO_HEADER),
-        Ok(true) => match version_of(&fields) {
+        Ok(Next::End) => return Err(NO_HEADER),
+        Ok(Next::Wide) => return Err(NO_HEADER),
+        Ok(Next::Record) => match version_of(&fields) {
             None => return Err(NO_HEADER),
             Some(version) => version,
         },
@@ -42,8 +46,9 @@ pub fn read_trace(alloc: Global, set: &TaskSet, bytes: &[u8]) -> Result<Vec<Run>
     'records: loop {
         match records.next(&mut fields) {
             Err(_) => return Err(TraceFault::Memory),
-            Ok(false) => return Ok(reading.runs),
-            Ok(true) => {
+            Ok(Next::End) => return Ok(reading.runs),
+            Ok(Next::Wide) => return Err(too_wide(&reading, version)),
+            Ok(Next::Record) => {
                 if let Err(fault) = take(&mut reading, set, version, &fields) {
                     return Err(fault);
                 }
@@ -100,5 +105,27 @@ fn take(
             reading.due = tick_after(reading.due, next);
             Ok(())
         }
+    }
+}
+
+// The refusal of a record with more fields than a header of either version has, whatever they are.
+fn too_wide(reading: &Reading, version: Version) -> TraceFault
+    requires { AreRead reading.now }
+    ensures { (set : List Task) (left : List (List (List ℕ))) → StartsWide left → Fails result (file.runs_from set version left reading.now.runs.items) }
+{
+    TraceFault::At {
+        line: reading.runs.len() as u32 + 2,
+        cause: too_wide_behind(version, reading.runs.len()),
+    }
+}
+
+// Why a record that is too wide is refused behind so many runs.
+fn too_wide_behind(version: Version, runs: usize) -> TraceCause
+    ensures { result ≡ (if nat_le 2000000 runs then cause.TooMany else file.wrong_width version) }
+{
+    if runs >= 2_000_000 {
+        TraceCause::TooMany
+    } else {
+        wrong_width(version)
     }
 }

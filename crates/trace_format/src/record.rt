@@ -90,7 +90,7 @@ fn width(version: Version) -> usize
 }
 
 // The refusal of another number of fields.
-fn wrong_width(version: Version) -> TraceCause
+pub fn wrong_width(version: Version) -> TraceCause
     ensures { result ≡ file.wrong_width version }
 {
     match version {

@@ -275,3 +275,58 @@ fn the_first_refusal_of_version_2_is_the_answer(rt: HostRuntime) -> Result<(), F
     }
     Ok(())
 }
+
+// A text longer than the part of a record that is read unseen: `lines` of the first line behind the header, and then the last.
+fn long_text(
+    alloc: Global,
+    header: &str,
+    lines: u32,
+    first: &str,
+    last: &str,
+) -> Result<String, AllocError> {
+    let mut text = String::new(alloc);
+    text.push_str(header)?;
+    for _ in 0..lines {
+        text.push_str(first)?;
+    }
+    text.push_str(last)?;
+    Ok(text)
+}
+
+#[test]
+fn a_wide_record_of_a_long_text_is_refused_by_its_width(rt: HostRuntime) -> Result<(), Fail> {
+    let alloc = rt.alloc();
+    let set = control(alloc)?;
+    let second = "event,tick,length,task,job,how\n";
+    let quoted = "\"release\",0,,\"ctl\",\"1\",kept\n";
+    let cases = [
+        ("", 200_000, ",", "\n", "line 1: Header"),
+        (HEADER, 200_000, ",", "", "line 2: BadRecord"),
+        (second, 200_000, ",", "", "line 2: NotSix"),
+        // Quotes, and line feeds within them.
+        (second, 50_000, "\"\n\",", "", "line 2: NotSix"),
+        (second, 50_000, "\"\"\"\",", "", "line 2: NotSix"),
+        (second, 10_000, quoted, "x,,,,,,\n", "line 10002: NotSix"),
+        (
+            second,
+            10_000,
+            quoted,
+            "\"x\",,,,,\n",
+            "line 10002: UnknownEvent",
+        ),
+        (
+            second,
+            10_000,
+            quoted,
+            "\",,,,,,\",,,,,\n",
+            "line 10002: UnknownEvent",
+        ),
+        (second, 10_000, quoted, "", "10000 runs"),
+    ];
+    for (header, lines, first, last, expected) in cases {
+        let text = long_text(alloc, header, lines, first, last)?;
+        let got = outcome(alloc, &set, text.as_str())?;
+        assert_eq!(rt; got.as_str(), expected, "{first} {last}");
+    }
+    Ok(())
+}

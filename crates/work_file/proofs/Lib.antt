@@ -1,5 +1,6 @@
 pub mod RowLemmas
 pub mod NextLemmas
+pub mod Accepted
 pub mod FileLemmas
 pub mod OnLiterals
 mod WorkedFiles

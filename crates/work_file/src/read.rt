@@ -1,16 +1,18 @@
-ghost use Rattle.std.specs.Prelude.{◌≡◌, ◌≤◌, List, [], IfOk, OnOk, IfErr, length};
+ghost use Rattle.std.specs.Prelude.{◌≡◌, ◌≤◌, nat_le, if◌then◌else◌, ℕ, List, [], IfOk, OnOk, IfErr, length};
 ghost use Rattle.csv.specs.Records.{fields_of};
+ghost use Rattle.csv_records.specs.Width.{StartsWide};
 ghost use Rattle.mc_task.specs.declared.task.Task.{Task};
 ghost use Rattle.mc_model.specs.Work.{IsWork};
-ghost use Rattle.work_file.specs.Gives.{Gives};
+ghost use Rattle.work_file.specs.Gives.{Gives, Fails};
 ghost use Rattle.work_file.specs.Reading.{Adds, AreRead, IsRefused};
-ghost use Rattle.work_file.specs.WorkFile.{work_in};
+ghost use Rattle.work_file.specs.WorkFile.{work_in, rows_from};
+ghost use Rattle.work_file.specs.declared.fault.WorkCause.TheVariants as cause;
 
 use crate::next::NextReleases;
 use crate::record::{is_header, record_row};
 use crate::{Work, WorkCause, WorkFault};
 use csv::ByteRecord;
-use csv_records::Records;
+use csv_records::{Next, Records};
 use mc_model::WorkRow;
 use mc_task::TaskSet;
 use std::alloc::Global;
@@ -32,8 +34,9 @@ pub fn read_work(alloc: Global, set: &TaskSet, bytes: &[u8]) -> Result<Work, Wor
     let mut fields = ByteRecord::new(alloc);
     match records.next(&mut fields) {
         Err(_) => return Err(WorkFault::Memory),
-        Ok(false) => return Err(NO_HEADER),
-        Ok(true) => {
+        Ok(Next::End) => return Err(NO_HEADER),
+        Ok(Next::Wide) => return Err(NO_HEADER),
+        Ok(Next::Record) => {
             if !is_header(&fields) {
                 return Err(NO_HEADER);
             }
@@ -43,8 +46,9 @@ pub fn read_work(alloc: Global, set: &TaskSet, bytes: &[u8]) -> Result<Work, Wor
     'records: loop {
         match records.next(&mut fields) {
             Err(_) => return Err(WorkFault::Memory),
-            Ok(false) => return Ok(Work::from_rows(reading.rows)),
-            Ok(true) => {
+            Ok(Next::End) => return Ok(Work::from_rows(reading.rows)),
+            Ok(Next::Wide) => return Err(reading.too_wide(set)),
+            Ok(Next::Record) => {
                 if let Err(fault) = reading.take(set, &fields) {
                     return Err(fault);
                 }
@@ -93,5 +97,27 @@ impl Reading {
                 Err(_) => Err(WorkFault::Memory),
             },
         }
+    }
+
+    // The refusal of a record with more fields than the header has, whatever they are.
+    fn too_wide(&self, set: &TaskSet) -> WorkFault
+        requires { AreRead set.now self.now }
+        ensures { (left : List (List (List ℕ))) → StartsWide left → Fails result (rows_from set.now left self.now.rows.items) }
+    {
+        WorkFault::At {
+            line: self.rows.len() as u32 + 2,
+            cause: too_wide_behind(self.rows.len()),
+        }
+    }
+}
+
+// Why a record that is too wide is refused behind so many rows.
+fn too_wide_behind(rows: usize) -> WorkCause
+    ensures { result ≡ (if nat_le 1000000 rows then cause.TooMany else cause.BadRecord) }
+{
+    if rows >= 1_000_000 {
+        WorkCause::TooMany
+    } else {
+        WorkCause::BadRecord
     }
 }

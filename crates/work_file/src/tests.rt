@@ -224,3 +224,27 @@ fn there_are_at_most_a_million_rows(rt: HostRuntime) -> Result<(), Fail> {
         }
     }
 }
+
+#[test]
+fn a_wide_record_of_a_long_file_is_refused_by_its_width(rt: HostRuntime) -> Result<(), Fail> {
+    let alloc = rt.alloc();
+    let set = control(alloc)?;
+    let cases = [
+        ("", "line 1: Header"),
+        ("task,release,need\n", "line 2: BadRecord"),
+        (
+            "task,release,need\n\"ctl\",\"0\",\"6\"\n",
+            "line 3: BadRecord",
+        ),
+    ];
+    for (before, expected) in cases {
+        let mut file = Vec::new(alloc);
+        file.extend_from_slice(before.as_bytes())?;
+        for _ in 0..200_000u32 {
+            file.push(b',')?;
+        }
+        let got = outcome(alloc, &set, &file)?;
+        assert_eq!(rt; got.as_str(), expected, "{before}");
+    }
+    Ok(())
+}

@@ -199,7 +199,7 @@ fn a_file_with_129_tasks_is_told_their_number(rt: HostRuntime) -> Result<(), Fai
 #[test]
 fn words_of_no_form_get_the_usage_line(rt: HostRuntime) -> Result<(), Fail> {
     let usage =
-        "usage: check TASKS | run TASKS WORK TICKS | judge TASKS TRACE [P Q] | chart TASKS TRACE | report TASKS TRACE | soak NUMBER TASKCOUNT TICKS | migrate TASKS TRACE | live TASKS TICKS | demand DEMANDS\n";
+        "usage: check TASKS | run TASKS WORK TICKS | judge TASKS TRACE [P Q] | chart TASKS TRACE | report TASKS TRACE | soak NUMBER TASKCOUNT TICKS | migrate TASKS TRACE | live TASKS TICKS | demand DEMANDS | partition TASKS M | runall TASKS WORK TICKS M | stretch TASKS | accept NUMBER SETS TASKCOUNT\n";
     let lines = [
         [].as_slice(),
         &["check"],

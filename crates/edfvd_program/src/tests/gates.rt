@@ -45,16 +45,24 @@ impl Awaited {
     }
 }
 
-/// Holds the first task's thread until the second's is there, and the second's until the first's is.
+/// Holds one task's thread until another's is there, and that one's until the first's is.
 #[derive(Drop)]
 pub struct MeetingGate {
+    tasks: (u32, u32),
     first: Awaited,
     second: Awaited,
 }
 
 impl MeetingGate {
+    /// Of the first task and the second.
     pub fn new() -> MeetingGate {
+        MeetingGate::of(1, 2)
+    }
+
+    /// Of the tasks with these numbers.
+    pub fn of(first: u32, second: u32) -> MeetingGate {
         MeetingGate {
+            tasks: (first, second),
             first: Awaited::new(),
             second: Awaited::new(),
         }
@@ -68,16 +76,12 @@ impl MeetingGate {
 
 impl Gate for MeetingGate {
     fn enter(&self, task: u32, _pass: &TaskPass) {
-        match task {
-            1 => {
-                self.first.comes();
-                self.second.hold();
-            }
-            2 => {
-                self.second.comes();
-                self.first.hold();
-            }
-            _ => {}
+        if task == self.tasks.0 {
+            self.first.comes();
+            self.second.hold();
+        } else if task == self.tasks.1 {
+            self.second.comes();
+            self.first.hold();
         }
     }
 

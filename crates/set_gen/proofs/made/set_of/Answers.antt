@@ -1,4 +1,4 @@
-use Rattle.task_file.proofs.SetLemmas.{first_fault-set}
+use Rattle.mc_task.proofs.FaultLemmas.{first_fault-set}
 use Rattle.set_gen.proofs.made.set_of.Goals as goal
 
 pub unreachable-requires : goal.unreachable-requires

@@ -1,4 +1,4 @@
-use Rattle.set_gen.proofs.Accepted.{work-accepted}
+use Rattle.work_file.proofs.Accepted.{work-accepted}
 use Rattle.set_gen.proofs.made.work_of.Goals as goal
 
 pub unreachable-requires : goal.unreachable-requires

@@ -1,0 +1,78 @@
+-- Records with more fields than any record that is read, and csv's machine as the width of a record needs it.
+use Rattle.std.specs.Prelude.{◌≡◌, ◌<◌, ◌≤◌, ◌-◌, ⊤, ℕ, Bool, true, false, List, [], ◌∷◌, length, drop, Option, Some, None}
+use Rattle.csv.specs.Machine.{next_record}
+use Rattle.csv.specs.Reading.{default_config, is_bom, records, records_from, records_next}
+use Rattle.csv.specs.declared.parser.State.{State}
+use Rattle.csv.specs.declared.parser.State.TheVariants as state
+use Rattle.csv.specs.declared.parser.Action.{Action}
+use Rattle.csv.specs.declared.parser.Action.TheVariants as act
+use Rattle.csv_records.specs.declared.width.Place.{Place}
+use Rattle.csv_records.specs.declared.width.Place.TheVariants as place
+use Rattle.csv_records.specs.declared.width.Ends.{Ends}
+use Rattle.csv_records.specs.declared.width.Ends.TheVariants as ends
+use Rattle.csv_records.specs.declared.width.Count.{Count}
+
+-- the most fields of a record that is read
+abbrev pub most_fields : ℕ
+most_fields = 6
+
+-- the first of these records has more
+abbrev pub StartsWide : List (List (List ℕ)) → Type 0
+StartsWide [] = ⊥
+StartsWide (fields ∷ rest) = most_fields < length fields
+
+-- where it is known how many records stand before one that has more, it stands there
+abbrev pub KnowsWide : Option ℕ → List (List (List ℕ)) → Type 0
+KnowsWide None left = ⊤
+KnowsWide (Some n) left = StartsWide (drop n left)
+
+-- one record fewer stands before it
+abbrev pub one_less : Option ℕ → Option ℕ
+one_less None = None
+one_less (Some n) = Some (n - 1)
+
+-- the text begins with a byte order mark
+abbrev pub has_mark : List ℕ → Bool
+has_mark [] = false
+has_mark (a ∷ []) = false
+has_mark (a ∷ b ∷ []) = false
+has_mark (a ∷ b ∷ c ∷ rest) = is_bom a b c
+
+-- the state of csv's machine
+abbrev pub state_of : Place → State
+state_of place.StartRecord = state.StartRecord
+state_of place.AfterCr = state.AfterCr
+state_of place.StartField = state.StartField
+state_of place.InField = state.InField
+state_of place.InQuoted = state.InQuoted
+state_of place.AfterQuote = state.AfterQuote
+
+-- what an action ends
+abbrev pub ends_of : Action → Ends
+ends_of act.Skip = ends.Nothing
+ends_of act.Copy = ends.Nothing
+ends_of act.EndField = ends.Field
+ends_of act.EndRecord = ends.Record
+
+-- the state is one inside a record, which then ends wherever the text does
+abbrev pub is_inside : State → Bool
+is_inside state.StartRecord = false
+is_inside state.AfterCr = false
+is_inside state.InComment = false
+is_inside state.StartField = true
+is_inside state.InField = true
+is_inside state.InQuoted = true
+is_inside state.AfterQuote = true
+is_inside state.InEscape = true
+
+-- behind i bytes of the text so many records ended, and the next one goes on from the place with so many fields, some
+-- fields and a part of one
+pub record Counts (text : List ℕ) (i : ℕ) (count : Count) : Type 0 where
+  pub fields : List (List ℕ)
+  pub part : List ℕ
+  pub width : length fields ≡ count.fields
+  pub inside : 0 < count.fields → is_inside (state_of count.place) ≡ true
+  pub order : count.records ≤ i
+  pub left :
+      drop count.records (records default_config text)
+      ≡ records_next (records_from default_config (length text - count.records)) (next_record default_config (state_of count.place) fields part (drop i text))

@@ -1,0 +1,58 @@
+// All records of a text, however wide, one after another.
+ghost use Rattle.std.specs.Prelude.{◌≡◌, ◌∷◌, [], true, false, Ok, OnErr};
+ghost use Rattle.csv.specs.Reading.{default_config, records, strip_bom};
+ghost use Rattle.csv.specs.Records.{fields_of};
+
+use csv::{ByteRecord, Reader, ReaderBuilder};
+use std::alloc::{AllocError, Global};
+use std::marker::Model;
+
+// The records of a text that are still to be read. Contracts see them as a list, each a list of fields.
+#[derive(Drop)]
+pub struct AllRecords<'a> {
+    reader: Reader<&'a [u8]>,
+    let_go: bool,
+}
+
+impl<'a> Model for AllRecords<'a> {
+    ghost use Rattle.std.specs.Prelude.{List, ℕ};
+    ghost use Rattle.csv_records.specs.Left.{records_left, ReadsText};
+
+    ghost Value = { List (List (List ℕ)) };
+
+    ghost view = { λ a. records_left a.let_go a.reader };
+
+    ghost invariant = { λ a. ReadsText a.let_go a.reader };
+}
+
+impl<'a> AllRecords<'a> {
+    // All records of a text. A byte order mark at its start is taken off.
+    pub fn new(alloc: Global, text: &'a [u8]) -> AllRecords<'a>
+        ensures { result ≡ records default_config (strip_bom text.now) }
+    {
+        let reader = ReaderBuilder::new()
+            .has_headers(false)
+            .flexible(true)
+            .from_reader(alloc, text);
+        AllRecords {
+            reader,
+            let_go: false,
+        }
+    }
+
+    // Reads the next record into `fields`, or answers `false` where none is left. On want of memory the records are let go.
+    pub fn next(&mut self, fields: &mut ByteRecord) -> Result<bool, AllocError>
+        ensures record { result ≡ Ok true → self.old ≡ fields_of fields.new ∷ self.new }
+        ensures none { result ≡ Ok false → self.old ≡ [] }
+        ensures memory { OnErr result (self.new ≡ []) }
+    {
+        if self.let_go {
+            return Ok(false);
+        }
+        let Ok(found) = self.reader.read_byte_record(fields) else {
+            self.let_go = true;
+            return Err(AllocError);
+        };
+        Ok(found)
+    }
+}

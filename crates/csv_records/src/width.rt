@@ -1,0 +1,193 @@
+// The first record of a text that has more fields than any record that is read.
+ghost use Rattle.std.specs.Prelude.{◌≡◌, ◌<◌, ◌≤◌, ◌+◌, ◌-◌, ◌^◌, ◌∷◌, ℕ, List, true, IfSome, drop, length};
+ghost use Rattle.csv.specs.Machine as machine;
+ghost use Rattle.csv.specs.Reading.{default_config, records, strip_bom};
+ghost use Rattle.csv_records.specs.Width.{StartsWide, Counts, state_of, ends_of, has_mark};
+
+use memchr::memchr;
+
+// The most fields of a record that is read, which is the width of the widest header.
+pub const MOST_FIELDS: usize = 6;
+
+// A record of so many bytes takes a few MiB at most, however many fields it has.
+const FEW_BYTES: usize = 131_072;
+
+// Where a reader stands in a record, as csv's machine with its defaults does.
+#[derive(Clone, Copy, PartialEq, Eq, Debug)]
+pub enum Place {
+    StartRecord,
+    AfterCr,
+    StartField,
+    InField,
+    InQuoted,
+    AfterQuote,
+}
+
+// What a byte ends.
+#[derive(Clone, Copy, PartialEq, Eq, Debug)]
+pub enum Ends {
+    Nothing,
+    Field,
+    Record,
+}
+
+// What is known behind so many bytes of a text: the records that ended, the fields of the one at hand that ended, and the
+// place in it.
+#[derive(Clone, Copy, PartialEq, Eq, Debug)]
+pub struct Count {
+    pub records: usize,
+    pub fields: usize,
+    pub place: Place,
+}
+
+// The number of records before the first one with more than `MOST_FIELDS` fields, or `None`, where each record has few
+// fields or few bytes.
+pub fn narrow_records(text: &[u8]) -> Option<usize>
+    ensures { IfSome result (λ n. StartsWide (drop n (records default_config (strip_bom text.now)))) }
+{
+    if may_be_wide(text) {
+        first_wide(without_mark(text))
+    } else {
+        None
+    }
+}
+
+// Whether a record may have many bytes: a text without a quote and with a line feed in each part of so many bytes has none.
+fn may_be_wide(text: &[u8]) -> bool {
+    if text.len() <= FEW_BYTES {
+        return false;
+    }
+    memchr(b'"', text).is_some()
+        || text
+            .chunks(FEW_BYTES)
+            .any(|part| memchr(b'\n', part).is_none())
+}
+
+// The text without a byte order mark at its start.
+fn without_mark(text: &[u8]) -> &[u8]
+    ensures { result.now ≡ strip_bom text.now }
+{
+    if has_mark(text) { &text[3..] } else { text }
+}
+
+fn has_mark(text: &[u8]) -> bool
+    ensures mark { result ≡ has_mark text.now }
+    ensures long { result ≡ true → 3 ≤ length text.now }
+{
+    text.len() >= 3 && text[0] == 0xEF && text[1] == 0xBB && text[2] == 0xBF
+}
+
+// The number of records before the first one with more than `MOST_FIELDS` fields, where there is one. Each byte is looked
+// at once, and none is kept.
+fn first_wide(text: &[u8]) -> Option<usize>
+    ensures { IfSome result (λ n. StartsWide (drop n (records default_config text.now))) }
+{
+    let mut count = Count {
+        records: 0,
+        fields: 0,
+        place: Place::StartRecord,
+    };
+    for b in text {
+        count = counted(count, *b);
+        if count.fields >= MOST_FIELDS {
+            return Some(count.records);
+        }
+    }
+    None
+}
+
+// The count behind one more byte.
+fn counted(count: Count, b: u8) -> Count
+    requires fields { count.fields < 6 }
+    requires records { count.records < 2 ^ 64 - 1 }
+    ensures { (text : List ℕ) (i : ℕ) → drop i text ≡ b ∷ drop (i + 1) text → Counts text i count → Counts text (i + 1) result }
+{
+    let (place, ends) = step(count.place, b);
+    match ends {
+        Ends::Nothing => Count {
+            records: count.records,
+            fields: count.fields,
+            place,
+        },
+        Ends::Field => Count {
+            records: count.records,
+            fields: count.fields + 1,
+            place,
+        },
+        Ends::Record => Count {
+            records: count.records + 1,
+            fields: 0,
+            place,
+        },
+    }
+}
+
+// Where a reader stands after a byte, and what the byte ends.
+fn step(place: Place, b: u8) -> (Place, Ends)
+    ensures place { state_of result.0 ≡ (machine.step default_config (state_of place) b).0 }
+    ensures ends { result.1 ≡ ends_of (machine.step default_config (state_of place) b).1 }
+{
+    match place {
+        Place::StartRecord => start_record(b),
+        Place::AfterCr => {
+            if b == b'\n' {
+                (Place::StartRecord, Ends::Nothing)
+            } else {
+                start_record(b)
+            }
+        }
+        Place::StartField => start_field(b),
+        Place::InField => in_field(b),
+        Place::InQuoted => {
+            if b == b'"' {
+                (Place::AfterQuote, Ends::Nothing)
+            } else {
+                (Place::InQuoted, Ends::Nothing)
+            }
+        }
+        Place::AfterQuote => {
+            if b == b'"' {
+                (Place::InQuoted, Ends::Nothing)
+            } else {
+                in_field(b)
+            }
+        }
+    }
+}
+
+fn start_record(b: u8) -> (Place, Ends)
+    ensures place { state_of result.0 ≡ (machine.start_record default_config b).0 }
+    ensures ends { result.1 ≡ ends_of (machine.start_record default_config b).1 }
+{
+    if b == b'\r' || b == b'\n' {
+        (Place::StartRecord, Ends::Nothing)
+    } else {
+        start_field(b)
+    }
+}
+
+fn start_field(b: u8) -> (Place, Ends)
+    ensures place { state_of result.0 ≡ (machine.start_field default_config b).0 }
+    ensures ends { result.1 ≡ ends_of (machine.start_field default_config b).1 }
+{
+    if b == b'"' {
+        (Place::InQuoted, Ends::Nothing)
+    } else {
+        in_field(b)
+    }
+}
+
+fn in_field(b: u8) -> (Place, Ends)
+    ensures place { state_of result.0 ≡ (machine.in_field default_config b).0 }
+    ensures ends { result.1 ≡ ends_of (machine.in_field default_config b).1 }
+{
+    if b == b',' {
+        (Place::StartField, Ends::Field)
+    } else if b == b'\r' {
+        (Place::AfterCr, Ends::Record)
+    } else if b == b'\n' {
+        (Place::StartRecord, Ends::Record)
+    } else {
+        (Place::InField, Ends::Nothing)
+    }
+}

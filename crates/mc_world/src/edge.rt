@@ -1,0 +1,64 @@
+// What is read from any reader, and written to any writer.
+ghost use Rattle.std.specs.Prelude.{◌≡◌, ◌<◌, ◌≤◌, ◌^◌, take, length, IfOk, IfSome, IsErrOf, OnErr};
+ghost use Rattle.std.specs.Io.KnownBytes.{Appends};
+ghost use Rattle.mc_world.specs.Count.{RoseByMoreThan};
+
+use crate::{FetchFault, SinkFault};
+use std::alloc::Global;
+use std::io::{Read, Write};
+
+const PIECE_BYTES: usize = 8192;
+
+// All bytes that a reader has left, if there are at most `limit`. Those that are read are counted.
+pub fn read_whole<T: Read>(
+    alloc: Global,
+    reader: &mut T,
+    limit: usize,
+    bytes_read: &mut u64,
+) -> Result<Vec<u8>, FetchFault>
+    requires { limit < 2 ^ 40 }
+
+    // Where the reader tells what it has left, that is given, and too long is what is longer than the limit.
+    ensures whole { IfOk result (λ bytes. IfSome (T.remaining reader.old) (λ left. bytes.items ≡ left)) }
+    ensures short { IfOk result (λ bytes. length bytes.items ≤ limit) }
+    ensures long { IsErrOf result FetchFault.TooLong → IfSome (T.remaining reader.old) (λ left. limit < length left) }
+    ensures long_untold { IsErrOf result FetchFault.TooLong → RoseByMoreThan limit bytes_read.old bytes_read.new }
+    ensures more_read { bytes_read.old ≤ bytes_read.new }
+{
+    let mut bytes = Vec::new(alloc);
+    let mut buffer = [0; PIECE_BYTES];
+    // One byte past the limit is asked for, since only that byte shows that there are too many.
+    'pieces: while bytes.len() <= limit {
+        let room = (limit + 1 - bytes.len()).min(PIECE_BYTES);
+        match reader.read(&mut buffer[..room]) {
+            Ok(0) => return Ok(bytes),
+            Ok(n) => {
+                *bytes_read = bytes_read.saturating_add(n as u64);
+                if bytes.extend_from_slice(&buffer[..n]).is_err() {
+                    return Err(FetchFault::Memory);
+                }
+            }
+            Err(_) => return Err(FetchFault::Failed),
+        }
+    }
+    Err(FetchFault::TooLong)
+}
+
+// Writes bytes from the front of the piece, and sees that they do not wait in a buffer. It answers how many: none only of an
+// empty piece.
+pub fn write_piece<W: Write>(out: &mut W, piece: &[u8]) -> Result<usize, SinkFault>
+    ensures count { IfOk result (λ n. n ≤ length piece.now) }
+    ensures some { IfOk result (λ n. n ≡ 0 → length piece.now ≡ 0) }
+
+    // Where the writer tells what it holds, that grows by them.
+    ensures appends { IfOk result (λ n. Appends (W.contents out.old) (W.contents out.new) (take n piece.now)) }
+{
+    match out.write(piece) {
+        Ok(n) if 0 < n || piece.is_empty() => match out.flush() {
+            Ok(()) => Ok(n),
+            // What waits in a buffer has not been written.
+            Err(_) => Err(SinkFault),
+        },
+        _ => Err(SinkFault),
+    }
+}

@@ -1,0 +1,4 @@
+mod RunLists
+mod Processors
+mod Names
+mod PartTraces

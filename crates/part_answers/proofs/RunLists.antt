@@ -1,0 +1,33 @@
+-- Lists of runs.
+use Rattle.std.proofs.Common.{◌≡◌, ℕ, suc, ◌<◌, List, [], ◌∷◌, length, map, get_or, sym, ap, subst, ◌∙◌, arith, Result, Ok, Err, IfOk, Vec, Global}
+use Rattle.std.specs.Prelude.{All}
+use Rattle.std.specs.List.{AllZip}
+use Rattle.std.proofs.lemmas.List.{length-map, get_or-map}
+use Rattle.timetable.specs.Floor.{FloorState}
+use Rattle.task_threads.specs.declared.threads.Memory.{Memory}
+use Rattle.part_answers.specs.declared.side_by_side.Side.{Side}
+use Rattle.part_answers.specs.Runs.{IsFresh, IsFreshSide, IsRunOf, RunsEach, floors_of, results_of}
+
+-- where each result is that of its side, each floor is the run of its floor
+pub runs-AllZip : (sides : List Side) (done : List FloorState) → length (results_of done) ≡ length sides → RunsEach sides (results_of done) → AllZip IsRunOf (floors_of sides) done
+runs-AllZip [] [] long each = tt
+runs-AllZip [] (d ∷ ds) long each = absurd (omega arith)
+runs-AllZip (j ∷ js) [] long each = absurd (omega arith)
+runs-AllZip (j ∷ js) (d ∷ ds) long each = (each 0 j (Ok d) (omega arith), runs-AllZip js ds (omega arith) (λ i side r lt. each (suc i) side r (omega arith)))
+
+fresh-at : (sides : List Side) (k : ℕ) (d : Side) → k < length sides → get_or (floors_of sides) k d.floor ≡ (get_or sides k d).floor
+fresh-at sides k d lt = get_or-map (λ side. side.floor) sides k d d.floor lt
+
+-- sides of fresh floors
+pub fresh-sides : (sides : List Side) (floors : List FloorState) → floors_of sides ≡ floors → All IsFresh floors → All IsFreshSide sides
+fresh-sides sides floors is fresh = λ k d lt.
+    let long : length floors ≡ length sides = ap length (sym is) ∙ length-map sides (λ side. side.floor) in
+    subst (λ f. IsFresh f) (ap (λ l. get_or l k d.floor) (sym is) ∙ fresh-at sides k d lt) (fresh k d.floor (omega (arith, long, lt)))
+
+-- the floors that come back
+pub runs-finished : (sides : List Side) (floors : List FloorState) (results : List (Result FloorState Memory)) (r : Result (Vec FloorState Global) Memory) → floors_of sides ≡ floors
+    → length results ≡ length sides → RunsEach sides results → IfOk r (λ v. results_of v.items ≡ results) → IfOk r (λ v. AllZip IsRunOf floors v.items)
+runs-finished sides floors results (Ok v) is long each h =
+    subst (λ l. AllZip IsRunOf l v.items) is
+    (runs-AllZip sides v.items (ap length h ∙ long) (subst (λ rs. RunsEach sides rs) (sym h) each))
+runs-finished sides floors results (Err e) is long each h = tt

@@ -1,0 +1,7 @@
+pub mod Parted
+pub mod Given
+pub mod Partition
+pub mod RunAll
+pub mod Runs
+pub mod Planned
+pub mod Traced

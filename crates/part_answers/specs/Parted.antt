@@ -1,0 +1,34 @@
+-- What a task file gives a command that spreads a set over several processors.
+use Rattle.std.specs.Prelude.{ℕ, List, Result, Ok}
+use Rattle.mc_task.specs.declared.task.Task.{Task}
+use Rattle.mc_task.specs.TaskSet.{task_at, name_in}
+use Rattle.part_fit.specs.Parts.{part_of}
+use Rattle.part_fit.specs.FirstFit.{first_fit}
+use Rattle.replies.specs.Refusal.{Refusal, NoRoom}
+use Rattle.replies.specs.Reading.{◌>>=◌, or_refuse}
+use Rattle.task_answers.specs.Admitted.{set_in}
+
+-- a set, and the processor of each of its tasks
+pub record Parted : Type 0 where
+  pub set : List Task
+  pub of : List ℕ
+
+-- the tasks on processor n
+abbrev pub tasks_on : Parted → ℕ → List Task
+tasks_on parted n = part_of parted.set parted.of n
+
+-- the set with its tasks on these processors
+abbrev pub spread : List Task → List ℕ → Parted
+spread set of = record { set = set; of = of }
+
+-- a set on processors 1 to m by first fit, or the refusal of the first task that fits on none
+abbrev pub fitted : ℕ → List Task → Result Parted Refusal
+fitted m set = do
+  of ← or_refuse (λ k. NoRoom (name_in (task_at set k)) m) (first_fit set m)
+  Ok (spread set of)
+
+-- the set that a task file says, on processors 1 to m by first fit
+abbrev pub parted : ℕ → List ℕ → Result Parted Refusal
+parted m bytes = do
+  set ← set_in bytes
+  fitted m set

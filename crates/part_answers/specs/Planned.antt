@@ -1,0 +1,47 @@
+-- The floors of the processors that have tasks.
+use Rattle.std.specs.Prelude.{◌≡◌, ℕ, ◌≤◌, List, length, Some, filter}
+use Rattle.std.specs.List.{range_with_len, AllZip}
+use Rattle.mc_task.specs.declared.task.Task.{Task}
+use Rattle.mc_model.specs.declared.work.WorkRow.{WorkRow}
+use Rattle.mc_model.specs.Test.{test}
+use Rattle.mc_model.specs.Work.{IsWork}
+use Rattle.timetable.specs.declared.plan.Plan.TheVariants.{Rows}
+use Rattle.timetable.specs.Floor.{FloorState}
+use Rattle.part_fit.specs.PartWork.{part_rows, is_on}
+use Rattle.part_fit.specs.Partition.{IsPartition}
+use Rattle.part_answers.specs.Parted.{Parted, tasks_on, spread}
+use Rattle.part_answers.specs.Runs.{IsFresh}
+use Rattle.part_answers.specs.declared.parted.Parted.{Parted as Given}
+use Rattle.part_answers.specs.declared.floors.PartFloors.{PartFloors}
+use Rattle.part_answers.specs.declared.run_parts.RunAllJob.{RunAllJob}
+
+-- the set and the processors of its tasks
+abbrev pub parted_of : Given → Parted
+parted_of given = spread given.set given.parts
+
+-- each task is on one processor from 1 to m, the tasks of each are admitted, and the work is for the set
+pub record IsRunAllJob (m : ℕ) (job : RunAllJob) : Type 0 where
+  pub admitted : IsPartition job.parted.set job.parted.parts m
+  pub is_work : IsWork job.parted.set job.work
+
+-- the numbers in the whole set of the tasks on processor n
+abbrev pub numbers_on : ℕ → List ℕ → ℕ → List ℕ
+numbers_on n of k = filter (is_on n of) (range_with_len 1 k)
+
+-- a floor of these tasks under the rule that the published test gives them, with no rows and few places, that waits for this work
+-- of so many ticks
+pub record IsPlanned (set : List Task) (work : List WorkRow) (ticks : ℕ) (floor : FloorState) : Type 0 where
+  pub tasks : floor.core.set ≡ set
+  pub test : test set ≡ Some floor.core.rule
+  pub plan : floor.plan ≡ Rows work ticks
+  pub fresh : IsFresh floor
+  pub few : floor.core.places ≤ 2000000
+
+-- such a floor of the tasks on processor n and their work
+abbrev pub IsPlannedOn : ℕ → Parted → List WorkRow → ℕ → FloorState → Type 0
+IsPlannedOn ticks parted work n floor = IsPlanned (tasks_on parted n) (part_rows n parted.of work) ticks floor
+
+-- the floors are those of the processors, and there are numbers for each
+pub record ArePlanned (ticks : ℕ) (parted : Parted) (work : List WorkRow) (parts : PartFloors) : Type 0 where
+  pub each : AllZip (IsPlannedOn ticks parted work) parts.used.items parts.floors.items
+  pub named : length parts.numbers.items ≡ length parts.floors.items

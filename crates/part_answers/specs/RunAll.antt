@@ -1,0 +1,46 @@
+-- The command `runall TASKS WORK TICKS M`.
+use Rattle.std.specs.Prelude.{◌≡◌, ℕ, ◌<◌, Bool, nat_lt, List, ◌++◌, length, filter, flat_map, zip, reverse, codes, decimal, Some}
+use Rattle.std.specs.List.{range_with_len, AllZip}
+use Rattle.mc_task.specs.declared.task.Rule.{Rule}
+use Rattle.mc_model.specs.declared.row.Row.{Row}
+use Rattle.mc_model.specs.declared.work.WorkRow.{WorkRow}
+use Rattle.mc_model.specs.Test.{test}
+use Rattle.mc_model.specs.Follows.{Follows}
+use Rattle.mc_model.specs.TraceText.{trace_text}
+use Rattle.part_fit.specs.PartWork.{part_rows}
+use Rattle.replies.specs.Reply.{Reply, reply_of}
+use Rattle.serving.specs.Command.{Command, answer, need}
+use Rattle.task_answers.specs.Admitted.{fetch_table}
+use Rattle.run_answers.specs.Run.{work_of}
+use Rattle.part_answers.specs.Parted.{Parted, tasks_on, parted}
+
+-- processor n has tasks
+abbrev pub is_used : Parted → ℕ → Bool
+is_used parted n = nat_lt 0 (length (tasks_on parted n))
+
+-- those of processors 1 to m that have tasks
+abbrev pub used : ℕ → Parted → List ℕ
+used m parted = filter (is_used parted) (range_with_len 1 m)
+
+-- the one trace of so many ticks on processor n: it follows from the processor's tasks, the rule that the published test gives
+-- them, and their work. Its newest row stands first here.
+pub record IsTraceOn (ticks : ℕ) (parted : Parted) (work : List WorkRow) (n : ℕ) (h : List Row) : Type 0 where
+  pub rule : Rule
+  pub test : test (tasks_on parted n) ≡ Some rule
+  pub follows : Follows (tasks_on parted n) rule (part_rows n parted.of work) ticks h
+
+-- what is written of a processor and its trace
+abbrev pub trace_lines : Parted → ℕ × List Row → List ℕ
+trace_lines parted on = codes "processor " ++ (decimal on.0 ++ (codes "\n" ++ trace_text (tasks_on parted on.0) (reverse on.1)))
+
+-- the text of the traces of all processors that have tasks, with status 0
+abbrev pub TellsTraces : ℕ → ℕ → Parted → List WorkRow → Reply → Type 0
+TellsTraces ticks m parted work reply =
+    (traces : List (List Row)) × AllZip (IsTraceOn ticks parted work) (used m parted) traces
+    × (reply ≡ reply_of 0 (flat_map (trace_lines parted) (zip (used m parted) traces)))
+
+-- the command
+abbrev pub run_all : List ℕ → List ℕ → ℕ → ℕ → Command
+run_all tasks work ticks m =
+    fetch_table tasks (λ bytes. need (parted m bytes) (λ spread.
+    fetch_table work (λ more. need (work_of spread.set more) (λ rows. answer (TellsTraces ticks m spread rows)))))

@@ -1,0 +1,18 @@
+//! The commands on several processors: `partition` and `runall`.
+#![tactic(auto)]
+
+mod floors;
+mod numbered;
+mod parted;
+mod partition;
+mod run_parts;
+mod side_by_side;
+mod traces;
+
+pub use parted::Parted;
+pub use partition::Partition;
+pub use run_parts::{RunAll, RunAllJob, finish_run_all};
+pub use side_by_side::run_all;
+
+#[cfg(test)]
+mod tests;

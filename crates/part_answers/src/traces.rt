@@ -1,0 +1,38 @@
+// The text of several traces.
+ghost use Rattle.std.specs.Prelude.{◌≡◌, ◌≤◌, IfOk, length, flat_map, zip, All};
+ghost use Rattle.part_answers.specs.Traced.{IsTraced, floor_lines};
+
+use run_answers::trace_text;
+use std::alloc::{AllocError, Global};
+use timetable::Floor;
+
+/// The traces of these processors' floors, each behind a line with its processor.
+pub fn traces_text(
+    alloc: Global,
+    processors: &[u32],
+    floors: &[Floor],
+) -> Result<Vec<u8>, AllocError>
+    requires long { length processors.now ≡ length floors.now }
+    requires traced { All IsTraced floors.now }
+    ensures { IfOk result (λ text. text.items ≡ flat_map floor_lines (zip processors.now floors.now)) }
+{
+    let mut text = Vec::new(alloc);
+    for i in 0..processors.len() {
+        text.extend_from_slice(&floor_lines(alloc, processors[i], &floors[i])?)?;
+    }
+    Ok(text)
+}
+
+// The processor, and the trace of its floor.
+fn floor_lines(alloc: Global, processor: u32, floor: &Floor) -> Result<Vec<u8>, AllocError>
+    requires { IsTraced floor.now }
+    ensures { IfOk result (λ lines. lines.items ≡ floor_lines (processor, floor.now)) }
+{
+    let core = floor.core();
+    // Each row has its place.
+    let _places = core.places();
+    let trace = trace_text(alloc, core.set(), core.rows())?;
+    let mut lines = format!(in alloc; "processor {processor}\n")?.into_bytes();
+    lines.extend_from_slice(&trace)?;
+    Ok(lines)
+}

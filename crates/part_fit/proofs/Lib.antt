@@ -1,0 +1,6 @@
+mod Least
+mod Numbers
+mod OnOne
+pub mod Placed
+pub mod Sublists
+mod WorkRows

@@ -1,0 +1,5 @@
+pub mod Parts
+pub mod FirstFit
+pub mod Partition
+pub mod PartWork
+pub mod Numbering

@@ -1,0 +1,17 @@
+-- The numbers that the tasks of one processor get, as the code keeps them.
+use Rattle.std.specs.Prelude.{ℕ, zero, suc, List, map, get_or, Option, None, Some, if◌then◌else◌}
+use Rattle.std.specs.List.{range_with_len}
+use Rattle.part_fit.specs.PartWork.{is_on, number_on}
+
+-- the number on processor n of task number k, where it is on it
+abbrev pub number_there : ℕ → List ℕ → ℕ → Option ℕ
+number_there n of k = if is_on n of k then Some (number_on n of k) else None
+
+-- those of the first k tasks
+abbrev pub numbers_there : ℕ → List ℕ → ℕ → List (Option ℕ)
+numbers_there n of k = map (λ i. number_there n of (suc i)) (range_with_len 0 k)
+
+-- of a list of such numbers that of task number k
+abbrev pub number_in : List (Option ℕ) → ℕ → Option ℕ
+number_in numbers zero = None
+number_in numbers (suc i) = get_or numbers i None

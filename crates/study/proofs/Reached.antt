@@ -1,0 +1,84 @@
+-- Which of the percentages a made set reaches.
+use Rattle.std.proofs.Common.{◌≡◌, ℕ, ◌+◌, ◌*◌, ◌<◌, ◌≤◌, inl, inr, refl, sym, ◌∙◌, arith, false, nat_le, le-leb, List, Option, Some, None}
+use Prim.Native.Nat.{◌∣◌}
+use Rattle.std.specs.List.{AllByRecursion}
+use Rattle.std.proofs.lemmas.Bool.{lt-leb, lt-ltb, le-ltb}
+use Rattle.std.proofs.lemmas.Bool.Decides.{leb_tells}
+use Rattle.rand_pcg.specs.Lcg.{Lcg}
+use Rattle.mc_task.specs.declared.task.Task.{Task}
+use Rattle.mc_task.specs.TaskSet.{IsSet}
+use Rattle.mc_model.specs.Loads.{load, low_low, high_low}
+use Rattle.mc_model.specs.Sums.{total}
+use Rattle.set_gen.specs.Words.{word, words_of}
+use Rattle.set_gen.specs.MadeSet.{made_set, words_for}
+use Rattle.set_gen.proofs.Periods.{period-IsPeriod}
+use Rattle.set_gen.proofs.MadeTasks.{made_task-period, made_set-each, made_set-IsSet}
+use Rattle.study.specs.Stretch.{is_admitted_at, stretch, IsStretch}
+use Rattle.study.specs.Loads.{budget_at, AdmitsUpTo}
+use Rattle.study.specs.Acceptance.{reaches, made_stretch}
+use Rattle.study.specs.Steps.{IsReached, AreSumsOf, IsUpTo, asks_at}
+use Rattle.study.specs.declared.steps.Sums.{Sums}
+use Rattle.study.proofs.Percentages.{stretch-greatest, less-admitted}
+use Rattle.study.proofs.Over.{over-none, over-some}
+
+-- a percentage is admitted exactly where the stretch reaches it
+pub reaches-admitted : (set : List Task) (s : ℕ) → IsSet set → s ≤ 1000 → reaches s (stretch set) ≡ is_admitted_at set s
+reaches-admitted set s is most = go (stretch set) (stretch-greatest set)
+  where
+    go : (o : Option ℕ) → IsStretch set o → reaches s o ≡ is_admitted_at set s
+    go None h = sym (h s most)
+    go (Some m) h =
+        elim (leb_tells s m) [
+          | inl t ↦ t.0 ∙ sym (less-admitted set s m is t.1 h.1)
+          | inr t ↦ t.0 ∙ sym (h.2 s (omega (arith, t.1)) most)
+        ]
+
+-- what is not reached at r is not at more
+reaches-less : (o : Option ℕ) (r s : ℕ) → r ≤ s → reaches r o ≡ false → reaches s o ≡ false
+reaches-less None r s le h = refl
+reaches-less (Some m) r s le h =
+    elim (leb_tells r m) [
+      | inl t ↦ absurd (cc (t.0, h))
+      | inr t ↦ lt-leb _ _ (omega (arith, t.1, le))
+    ]
+
+made-divides : (words : Lcg) (n : ℕ) → AllByRecursion (λ t. t.period ∣ 20000) (made_set words n)
+made-divides words n =
+    made_set-each (λ t. t.period ∣ 20000) words n
+    (λ i first last. rw (made_task-period (words_for words i) n i) (period-IsPeriod (word (words_for words i))).divides)
+
+pub reached-none : (number n : ℕ) (sums : Sums) → 2 ≤ n → n ≤ 32 → AreSumsOf (made_set (words_of number) n) sums → AdmitsUpTo 20000 sums.low_low sums.high_low None
+    → IsReached (made_stretch number n) 0
+unfolding made_stretch
+reached-none number n sums some few are none = λ i lt.
+    let set : List Task = made_set (words_of number) n in
+    let is : IsSet set = made_set-IsSet (words_of number) n some few in
+    let admits : AdmitsUpTo 20000 (load low_low 20000 set) (load high_low 20000 set) None = rw (← are.low_low, ← are.high_low) none in
+    reaches-admitted set (100 + 10 * i) is (omega arith) ∙ over-none 20000 (100 + 10 * i) set (omega arith) is (made-divides (words_of number) n) admits ∙ sym (le-ltb _ _ (omega arith))
+
+pub reached-some : (number n most k : ℕ) (sums : Sums) → 2 ≤ n → n ≤ 32 → AreSumsOf (made_set (words_of number) n) sums → AdmitsUpTo 20000 sums.low_low sums.high_low (Some most)
+    → IsUpTo sums.highs.items most k → IsReached (made_stretch number n) k
+unfolding made_stretch
+reached-some number n most k sums some few are admits upto = λ i lt.
+    elim (leb_tells k i) [
+      | inl t ↦ reaches-less (stretch set) (100 + 10 * k) (100 + 10 * i) (omega (arith, t.1)) (at_k (omega (arith, t.1, lt))) ∙ sym (le-ltb _ _ (t.1))
+      | inr t ↦ at i lt ∙ le-leb _ _ (omega (arith, asks i lt, upto.within i (omega (arith, t.1)))) ∙ sym (lt-ltb _ _ (omega (arith, t.1)))
+    ]
+  where
+    set : List Task
+    set = made_set (words_of number) n
+
+    is : IsSet set
+    is = made_set-IsSet (words_of number) n some few
+
+    over : AdmitsUpTo 20000 (load low_low 20000 set) (load high_low 20000 set) (Some most)
+    over = rw (← are.low_low, ← are.high_low) admits
+
+    at : (i : ℕ) → i < 11 → reaches (100 + 10 * i) (stretch set) ≡ nat_le (load (budget_at (100 + 10 * i)) 20000 set) most
+    at i lt = reaches-admitted set (100 + 10 * i) is (omega arith) ∙ over-some 20000 (100 + 10 * i) most set (omega arith) is (made-divides (words_of number) n) over
+
+    asks : (i : ℕ) → i < 11 → total (asks_at (100 + 10 * i)) sums.highs.items ≡ load (budget_at (100 + 10 * i)) 20000 set
+    asks i lt = are.highs (100 + 10 * i) (omega arith) (omega arith)
+
+    at_k : k < 11 → reaches (100 + 10 * k) (stretch set) ≡ false
+    at_k lt = at k lt ∙ lt-leb _ _ (omega (arith, asks k lt, upto.past lt))

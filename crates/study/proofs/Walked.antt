@@ -1,0 +1,107 @@
+-- The tasks of a made set, one by one.
+use Rattle.std.proofs.Common.{◌≡◌, ℕ, ◌+◌, ◌-◌, ◌*◌, ◌/◌, ◌<◌, ◌≤◌, sym, ap, ◌∙◌, arith, List, [], ◌∷◌, ◌++◌, drop, length, slice_get, Some}
+use Rattle.std.specs.List.{AllByRecursion}
+use Rattle.std.proofs.Math.Nat.{mul-le-mul_left, mul-le-mul_right, div-mul-le_self}
+use Rattle.std.proofs.lemmas.List.{drop_all}
+use Rattle.rand_pcg.specs.Lcg.{Lcg}
+use Rattle.mc_task.specs.declared.task.Task.{Task}
+use Rattle.mc_task.specs.declared.task.Level.{Level}
+use Rattle.mc_task.specs.declared.task.Level.TheVariants.{Low, High as HighLevel}
+use Rattle.mc_task.specs.TaskSet.{IsTask, InOrder}
+use Rattle.mc_model.specs.Loads.{load, low_low, high_low, by_level}
+use Rattle.mc_model.specs.Sums.{total}
+use Rattle.mc_model.proofs.Sums.{total-append}
+use Rattle.mc_model.proofs.Walk.{load_more}
+use Rattle.set_gen.specs.Words.{after}
+use Rattle.set_gen.specs.MadeSet.{made_task, made_set, words_for, words_before}
+use Rattle.set_gen.specs.MadeNumbers.{AreOf}
+use Rattle.set_gen.specs.declared.tasks.Numbers.{Numbers}
+use Rattle.mc_model.proofs.Ranges.{slice_get-map-range}
+use Rattle.study.specs.declared.steps.High.{High}
+use Rattle.study.specs.Stretch.{percent}
+use Rattle.study.specs.Loads.{budget_at}
+use Rattle.study.specs.Steps.{asks_at, IsSmall}
+
+-- the task that the words left make
+pub made-here : (words left : Lcg) (n i : ℕ) → i < n → left ≡ after (words_before i) words → slice_get (made_set words n) i ≡ Some (made_task left n (i + 1))
+unfolding made_set
+made-here words left n i lt is =
+    let place : 1 + i ≡ i + 1 = omega arith in
+    let before : (i + 1) - 1 ≡ i = omega arith in
+    slice_get-map-range (λ j. made_task (words_for words j) n j) 1 n i lt ∙ ap (λ j. Some (made_task (words_for words j) n j)) place
+    ∙ ap (λ j. Some (made_task (after (words_before j) words) n (i + 1))) before ∙ ap (λ w. Some (made_task w n (i + 1))) (sym is)
+
+-- a sum with the task at a place
+pub load-step : (budget : Task → ℕ) (n : ℕ) (ts : List Task) (i : ℕ) (t : Task) (done all new b p : ℕ) → slice_get ts i ≡ Some t → done + load budget n (drop i ts) ≡ all
+    → budget t ≡ b → p ≡ t.period → new ≡ done + b * (n / p) → new + load budget n (drop (i + 1) ts) ≡ all
+load-step budget n ts i t done all new b p at inv asks period is =
+    ap (λ z. z + load budget n (drop (i + 1) ts)) (is ∙ ap (λ x. done + x * (n / p)) (sym asks) ∙ ap (λ q. done + budget t * (n / q)) period) ∙ load_more budget n ts i t done all at inv
+
+pub load-end : (budget : Task → ℕ) (n : ℕ) (ts : List Task) (i done all : ℕ) → length ts ≤ i → done + load budget n (drop i ts) ≡ all → done ≡ all
+load-end budget n ts i done all past inv =
+    let none : load budget n (drop i ts) ≡ 0 = ap (λ xs. load budget n xs) (drop_all i ts past) in
+    omega (arith, none, inv)
+
+-- a low task
+pub low-low : (t : Task) (d : Numbers) → AreOf t d → d.level ≡ Low → low_low t ≡ d.low
+low-low t d of is = ap (λ x. by_level x t.low 0) (sym of.level ∙ is) ∙ sym of.low
+
+pub low-high : (t : Task) (d : Numbers) → AreOf t d → d.level ≡ Low → high_low t ≡ 0
+low-high t d of is = ap (λ x. by_level x 0 t.low) (sym of.level ∙ is)
+
+pub low-budget : (s : ℕ) (t : Task) (d : Numbers) → AreOf t d → d.level ≡ Low → budget_at s t ≡ 0
+low-budget s t d of is = ap (λ x. by_level x 0 (by_level x t.high (percent t.low t.high s))) (sym of.level ∙ is)
+
+-- a high task
+pub high-low : (t : Task) (d : Numbers) → AreOf t d → d.level ≡ HighLevel → low_low t ≡ 0
+high-low t d of is = ap (λ x. by_level x t.low 0) (sym of.level ∙ is)
+
+pub high-high : (t : Task) (d : Numbers) → AreOf t d → d.level ≡ HighLevel → high_low t ≡ d.low
+high-high t d of is = ap (λ x. by_level x 0 t.low) (sym of.level ∙ is) ∙ sym of.low
+
+-- with 100 percent or more a small high budget is neither below the low one nor past the limit
+percent-plain : (low high s : ℕ) → low ≤ high → high ≤ 30000 → 100 ≤ s → s ≤ 200 → percent low high s ≡ high * s / 100
+percent-plain low high s order small least most =
+    let more : high * 100 ≤ high * s = mul-le-mul_left high least in
+    let less : high * s ≤ high * 200 = mul-le-mul_left high most in
+    omega (arith, more, less, order, small)
+
+level-order : (l : Level) (low high : ℕ) → l ≡ HighLevel → InOrder l low high → low ≤ high
+level-order Low low high is h = absurd (cc is)
+level-order HighLevel low high is h = h
+
+pub high-budget : (s : ℕ) (t : Task) (d : Numbers) → IsTask t → AreOf t d → d.level ≡ HighLevel → d.high ≤ 30000 → 100 ≤ s → s ≤ 200 → budget_at s t ≡ d.high * s / 100
+high-budget s t d task of is small least most =
+    let level : t.level ≡ HighLevel = sym of.level ∙ is in
+    let order : t.low ≤ t.high = level-order t.level t.low t.high level task.budgets in
+    ap (λ x. by_level x 0 (by_level x t.high (percent t.low t.high s))) level ∙ percent-plain t.low t.high s order (omega (arith, of.high, small)) least most
+    ∙ ap (λ h. h * s / 100) (sym of.high)
+
+-- one high task more
+pub asks-more : (s : ℕ) (old new : List High) (h : High) → new ≡ old ++ h ∷ [] → total (asks_at s) new ≡ total (asks_at s) old + asks_at s h
+asks-more s old new h is =
+    let all : total (asks_at s) new ≡ total (asks_at s) old + (asks_at s h + 0) = ap (total (asks_at s)) is ∙ total-append (asks_at s) old (h ∷ []) in
+    omega arith
+
+pub small-more : (old new : List High) (h : High) → new ≡ old ++ h ∷ [] → AllByRecursion IsSmall old → IsSmall h → AllByRecursion IsSmall new
+small-more old new h is each one = rw is (go old each)
+  where
+    go : (xs : List High) → AllByRecursion IsSmall xs → AllByRecursion IsSmall (xs ++ h ∷ [])
+    go [] e = (one, tt)
+    go (x ∷ xs) e = (e.0, go xs e.1)
+
+-- nothing more
+pub none-more : (x y : ℕ) → x ≡ x + 0 * y
+none-more x y = omega arith
+
+-- how many jobs the span has of a made task
+pub jobs-few : (p : ℕ) → 200 ≤ p → 20000 / p ≤ 100
+jobs-few p least =
+    let whole : 20000 / p * p ≤ 20000 = div-mul-le_self 20000 p in
+    let more : 20000 / p * 200 ≤ 20000 / p * p = mul-le-mul_left (20000 / p) least in
+    omega arith
+
+pub ask-small : (low jobs : ℕ) → low ≤ 10000 → jobs ≤ 100 → low * jobs ≤ 1000000
+ask-small low jobs a b =
+    let more : low * jobs ≤ 10000 * jobs = mul-le-mul_right jobs a in
+    omega (arith, more, b)

@@ -1,0 +1,4 @@
+pub mod Stretch
+pub mod Loads
+pub mod Acceptance
+pub mod Steps

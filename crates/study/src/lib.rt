@@ -1,0 +1,12 @@
+//! How much room task sets have, and how many made sets have how much.
+#![tactic(auto)]
+
+mod acceptance;
+mod room;
+mod steps;
+
+pub use acceptance::table;
+pub use room::{high_at, stretch};
+
+#[cfg(test)]
+mod tests;

@@ -1,0 +1,2 @@
+mod HighLoads
+mod Lines

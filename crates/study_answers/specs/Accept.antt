@@ -1,0 +1,22 @@
+-- The command `accept NUMBER SETS TASKCOUNT`: how many made sets have how much room.
+use Rattle.std.specs.Prelude.{◌≡◌, ℕ, ◌+◌, List, [], ◌∷◌, ◌++◌, codes, decimal}
+use Rattle.study.specs.Acceptance.{accept_table}
+use Rattle.replies.specs.Reply.{Reply, reply_of}
+use Rattle.serving.specs.Command.{Command, answer}
+
+-- a line for each count: the percentage that it is of, and the count; the first is of s percent, each other of 10 more
+abbrev pub lines_from : ℕ → List ℕ → List ℕ
+lines_from s [] = []
+lines_from s (count ∷ counts) = (decimal s ++ (codes " " ++ (decimal count ++ codes "\n"))) ++ lines_from (s + 10) counts
+
+-- the lines of a table
+abbrev pub table_text : List ℕ → List ℕ
+table_text counts = lines_from 100 counts
+
+-- the reply tells the table of these sets
+abbrev pub Accepts : ℕ → ℕ → ℕ → Reply → Type 0
+Accepts number sets tasks reply = reply ≡ reply_of 0 (table_text (accept_table number sets tasks))
+
+-- the command
+abbrev pub accept : ℕ → ℕ → ℕ → Command
+accept number sets tasks = answer (Accepts number sets tasks)

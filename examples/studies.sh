@@ -1,0 +1,146 @@
+#!/bin/sh
+# Tries the scripts of study/: a study is cut, worked out and added up, a job is killed in the middle of a part, what is left is
+# resumed, and the sum is what one call for all sets writes, byte for byte; a lost part and a doubled one are noticed. By study.py
+# alone, and by GNU parallel where it is there. With the word slurm by Slurm, too, on this machine alone, which only root can.
+# usage: studies.sh [slurm]
+cd "$(dirname -- "$0")" || exit 1
+if ! python3 -c 'import sys; sys.exit(sys.version_info < (3, 9))' 2>/dev/null; then
+    echo "studies: skipped, there is no python3 of version 3.9 or later"
+    exit 0
+fi
+. ./expect.sh
+if [ "${1:-}" = slurm ] && [ -z "${SLURM_CONF:-}" ]; then
+    PROGRAM=$program exec study/engine.sh ./studies.sh slurm
+fi
+sets=${SETS:-10000}
+size=$((sets / 10))
+# The part with this number is held up once, so that it can be killed.
+held=$((4 * size + 1))
+cat >"$work/held.sh" <<END
+#!/bin/sh
+if [ "\$2" = $held ] && mkdir "\$STUDY/held" 2>/dev/null; then
+    echo "\$PPID" >"\$STUDY/held/job"
+    echo "\${SLURM_ARRAY_JOB_ID:-}_\${SLURM_ARRAY_TASK_ID:-}" >"\$STUDY/held/task"
+    echo \$\$ >"\$STUDY/held/call"
+    exec sleep 60
+fi
+exec "$program" "\$@"
+END
+chmod +x "$work/held.sh"
+bounded "$program" accept 1 "$sets" 8 >"$work/uncut.txt"
+
+# wants STATUS TEXT SAYS COMMAND..: the command gives this status and text, and standard error has the words SAYS
+wants() {
+    want=$1
+    text=$2
+    says=$3
+    shift 3
+    "$@" >"$work/out" 2>"$work/err"
+    judge "$want" $? "$text" "$*"
+    if [ -n "$says" ] && ! grep -qF -e "$says" "$work/err" || [ -z "$says" ] && [ -s "$work/err" ]; then
+        failed=$((failed + 1))
+        echo "$*: standard error has not '$says':"
+        cat "$work/err"
+    fi
+}
+
+# begins NAME: a new study of this name
+begins() {
+    STUDY=$work/$1
+    export STUDY
+    EDFVD=$work/held.sh
+    export EDFVD
+    wants 0 "$work/empty" '' python3 -B study/study.py new "$STUDY" 1 "$sets" 8 "$size"
+}
+
+# waits: until a part is held up
+waits() {
+    times=0
+    until [ -s "$STUDY/held/call" ] || [ "$times" -ge 600 ]; do
+        times=$((times + 1))
+        sleep 0.1
+    done
+}
+
+# kills: ends the job that is held up, as a machine would that goes down
+kills() {
+    waits
+    kill -9 "$(cat "$STUDY/held/job")" "$(cat "$STUDY/held/call")"
+}
+
+# By hand: shares of two jobs, of which one is killed in the middle.
+begins by_hand
+wants 1 "$work/empty" "no part has the numbers 1 to $sets" python3 -B study/study.py sum "$STUDY"
+kills 2>/dev/null &
+python3 -B study/study.py share "$STUDY" 0 2 2>/dev/null && failed=$((failed + 1))
+wait
+wants 0 "$work/empty" '' python3 -B study/study.py share "$STUDY" 1 2
+wants 1 "$work/empty" "no part has the numbers $held to $((5 * size))" python3 -B study/study.py sum "$STUDY"
+printf '4\n6\n8\n' >"$work/left.txt"
+wants 0 "$work/left.txt" '' python3 -B study/study.py left "$STUDY"
+wants 0 "$work/empty" '' python3 -B study/study.py share "$STUDY" 0 1
+wants 0 "$work/uncut.txt" '' python3 -B study/study.py sum "$STUDY"
+# A part twice, a part of other sets, a table that is cut short, a part that is lost.
+cp "$STUDY/parts/3.txt" "$STUDY/parts/copy.txt"
+wants 1 "$work/empty" "accept $((3 * size + 1)) $size 8 begins before $held" python3 -B study/study.py sum "$STUDY"
+sed '1s/ 8$/ 9/' "$STUDY/parts/3.txt" >"$STUDY/parts/copy.txt"
+wants 1 "$work/empty" 'is of another number of tasks' python3 -B study/study.py sum "$STUDY"
+sed '$d' "$STUDY/parts/3.txt" >"$STUDY/parts/copy.txt"
+wants 1 "$work/empty" 'copy.txt is no part' python3 -B study/study.py sum "$STUDY"
+rm "$STUDY/parts/copy.txt" "$STUDY/parts/9.txt"
+wants 1 "$work/empty" "no part has the numbers $((9 * size + 1)) to $sets" python3 -B study/study.py sum "$STUDY"
+# A program that fails leaves no part.
+wants 1 "$work/empty" 'status 1' env EDFVD=false python3 -B study/study.py part "$STUDY" 9
+wants 1 "$work/empty" "no part has the numbers $((9 * size + 1)) to $sets" python3 -B study/study.py sum "$STUDY"
+wants 1 "$work/empty" 'has another study' python3 -B study/study.py new "$STUDY" 1 "$sets" 8 1
+wants 1 "$work/empty" 'are 2^64 or more together' python3 -B study/study.py new "$work/none" 18446744073709551615 1 8 1
+
+if command -v parallel >/dev/null 2>&1; then
+    begins parallel
+    kills 2>/dev/null &
+    study/parallel.sh "$STUDY" 3 >"$work/out" 2>/dev/null
+    judge 1 $? "$work/empty" 'parallel.sh, a job of which is killed'
+    wait
+    study/parallel.sh "$STUDY" 3 >"$work/out" 2>/dev/null
+    judge 0 $? "$work/uncut.txt" 'parallel.sh, resumed'
+    judge 0 0 "$STUDY/table.txt" 'parallel.sh, its table'
+    rm "$STUDY/table.txt"
+    study/parallel.sh "$STUDY" >"$work/out" 2>/dev/null
+    judge 0 $? "$work/uncut.txt" 'parallel.sh, with nothing left'
+else
+    echo 'studies: parallel.sh is skipped, there is no GNU parallel'
+fi
+
+# ends_behind JOB: waits for the job that adds up, a minute at most, and notes whether it ended so
+ends_behind() {
+    times=0
+    while state=$(scontrol show job "$1" | sed -n 's/.*JobState=\([A-Z]*\).*/\1/p'); do
+        case $state in
+        PENDING | RUNNING | COMPLETING) [ "$times" -lt 600 ] || break ;;
+        *) break ;;
+        esac
+        times=$((times + 1))
+        sleep 0.1
+    done
+    echo "$state" >"$work/out"
+}
+
+# by_slurm: the same by Slurm
+by_slurm() {
+    begins slurm
+    job=$(study/slurm.sh "$STUDY" 3) || failed=$((failed + 1))
+    waits
+    scancel --signal=KILL "$(cat "$STUDY/held/task")"
+    ends_behind "$job"
+    judge 0 0 "$(says FAILED)" 'the sum, a job of which is killed'
+    [ -e "$STUDY/table.txt" ] && failed=$((failed + 1))
+    grep -qF "no part has the numbers $held to $((5 * size))" "$STUDY/jobs/$job.txt" || failed=$((failed + 1))
+    job=$(study/slurm.sh "$STUDY" 3) || failed=$((failed + 1))
+    ends_behind "$job"
+    judge 0 0 "$(says COMPLETED)" 'the sum, resumed'
+    cp "$STUDY/table.txt" "$work/out"
+    judge 0 0 "$work/uncut.txt" 'slurm.sh, its table'
+}
+
+[ "${1:-}" != slurm ] || by_slurm
+ends studies

@@ -1,0 +1,233 @@
+"""A study of more sets than one call of `edfvd accept` takes: cut into parts, resumed, and added up.
+
+A study is a folder. `new` writes down of which sets it is, and in parts of how many. `left` tells the numbers of the parts,
+from 0, that are not worked out yet. `part` works some out, by calls of at most 10,000 sets each, and `share` those of one of
+several jobs: each JOBS-th part from JOB on that is left. `sum` adds all parts up and writes the table that one call for all sets
+would write; where a set is in no part or in two it tells which, and writes no table.
+
+A part's file has the part's call in its first line, and takes its name in one step when it is whole, so that a job that is killed
+leaves none. A part that was worked out twice has one file. Files from other machines are copied to `parts`.
+
+usage: study.py new FOLDER NUMBER SETS TASKCOUNT SIZE
+       study.py left FOLDER
+       study.py part FOLDER PART..
+       study.py share FOLDER JOB JOBS
+       study.py sum FOLDER
+
+The program is the one that the environment variable EDFVD names, by default `edfvd`.
+"""
+
+import os
+import pathlib
+import re
+import subprocess
+import sys
+import tempfile
+from typing import NamedTuple
+
+MOST_SETS = 10000
+PERCENTS = range(100, 201, 10)
+NUMBERS = 2 ** 64
+
+
+# Why there is no answer.
+class Fault(Exception):
+    pass
+
+
+# Words that are none of the forms.
+class Usage(Exception):
+    pass
+
+
+# Some sets made from one number after the other, each of so many tasks.
+class Sets(NamedTuple):
+    number: int
+    count: int
+    tasks: int
+
+    def call(self):
+        return f'accept {self.number} {self.count} {self.tasks}'
+
+    def end(self):
+        return self.number + self.count
+
+    # The same sets in pieces of at most so many.
+    def pieces(self, size):
+        return [Sets(number, min(size, self.end() - number), self.tasks) for number in range(self.number, self.end(), size)]
+
+
+# The number that a word is, which has to be one of these.
+def number_of(word, numbers):
+    if not re.fullmatch('[0-9]{1,20}', word) or int(word) not in numbers:
+        raise Fault(f'{word} is not from {numbers[0]} to {numbers[-1]}')
+    return int(word)
+
+
+# The sets of a call that is written down.
+def sets_of(line):
+    match = re.fullmatch('accept ([0-9]+) ([0-9]+) ([0-9]+)', line)
+    return Sets(*map(int, match.groups())) if match else None
+
+
+# The eleven counts of a table of some sets, or None where the text is none: each has its percentage, and none rises.
+def counts_of(text, sets):
+    lines = [line.split(' ') for line in text.split('\n')]
+    if lines.pop() != [''] or [line[0] for line in lines] != [str(percent) for percent in PERCENTS]:
+        return None
+    if any(len(line) != 2 or not re.fullmatch('0|[1-9][0-9]*', line[1]) for line in lines):
+        return None
+    counts = [int(line[1]) for line in lines]
+    return counts if sorted([sets.count] + counts, reverse=True) == [sets.count] + counts else None
+
+
+def table_of(counts):
+    return ''.join(f'{percent} {count}\n' for percent, count in zip(PERCENTS, counts))
+
+
+# ---- The folder ----
+
+# The sets of a study and how many a part has.
+def read(folder):
+    try:
+        first, second = (folder / 'study.txt').read_text().split('\n')[:2]
+    except (OSError, ValueError):
+        raise Fault(f'{folder} has no study') from None
+    sets, size = sets_of(first), re.fullmatch('in parts of ([0-9]+)', second)
+    if sets is None or size is None:
+        raise Fault(f'{folder}/study.txt has no study')
+    return sets, int(size[1])
+
+
+def new(folder, *words):
+    number, count, tasks = (
+        number_of(word, numbers) for word, numbers in zip(words, [range(NUMBERS), range(1, NUMBERS), range(2, 33)]))
+    size = number_of(words[3], range(1, NUMBERS))
+    if number + count >= NUMBERS:
+        raise Fault(f'{number} and {count} are 2^64 or more together')
+    text = f'{Sets(number, count, tasks).call()}\nin parts of {size}\n'
+    place = folder / 'study.txt'
+    if place.exists() and place.read_text() != text:
+        raise Fault(f'{folder} has another study')
+    (folder / 'parts').mkdir(parents=True, exist_ok=True)
+    put(place, text)
+
+
+# A file that is whole as soon as it is there.
+def put(place, text):
+    with tempfile.NamedTemporaryFile('w', dir=place.parent, prefix='.', delete=False) as file:
+        file.write(text)
+        file.flush()
+        os.fsync(file.fileno())
+    os.chmod(file.name, 0o644)
+    os.replace(file.name, place)
+
+
+def place_of(folder, part):
+    return folder / 'parts' / f'{part}.txt'
+
+
+# The sets of a part's file and their counts.
+def read_part(place):
+    call, _, table = place.read_text(errors='replace').partition('\n')
+    sets = sets_of(call)
+    counts = sets and counts_of(table, sets)
+    if not counts:
+        raise Fault(f'{place} is no part')
+    return sets, counts
+
+
+# The numbers of the parts that have no file yet.
+def left(folder):
+    sets, size = read(folder)
+    there = set(os.listdir(folder / 'parts'))
+    return [part for part in range(-(-sets.count // size)) if place_of(folder, part).name not in there]
+
+
+# ---- Working a part out ----
+
+# The counts of at most MOST_SETS sets, by the program.
+def accept(sets):
+    program = os.environ.get('EDFVD', 'edfvd')
+    ended = subprocess.run([program] + sets.call().split(), stdin=subprocess.DEVNULL, capture_output=True, text=True)
+    counts = counts_of(ended.stdout, sets) if ended.returncode == 0 else None
+    if counts is None:
+        raise Fault(f'{program} {sets.call()}: status {ended.returncode} {ended.stderr.strip()}')
+    return counts
+
+
+def work_out(folder, parts):
+    sets, size = read(folder)
+    for part in parts:
+        own = Sets(sets.number + part * size, min(size, sets.count - part * size), sets.tasks)
+        counts = [sum(column) for column in zip(*(accept(piece) for piece in own.pieces(MOST_SETS)))]
+        put(place_of(folder, part), f'{own.call()}\n{table_of(counts)}')
+
+
+# ---- Adding up ----
+
+# What is wrong with a list of sets in the place of others, which it should be cut from.
+def faults(whole, cuts):
+    due = whole.number
+    for sets in sorted(cuts):
+        if sets.tasks != whole.tasks:
+            yield f'{sets.call()} is of another number of tasks'
+        if sets.number > due:
+            yield f'no part has the numbers {due} to {sets.number - 1}'
+        if sets.number < due:
+            yield f'{sets.call()} begins before ' + (f'{due}, where the part before it ends' if due > whole.number else 'the study')
+        due = max(due, sets.end())
+    if due < whole.end():
+        yield f'no part has the numbers {due} to {whole.end() - 1}'
+    if due > whole.end():
+        yield f'the parts have numbers up to {due - 1}, the study up to {whole.end() - 1}'
+
+
+def add_up(folder):
+    whole, _ = read(folder)
+    places = sorted(place for place in (folder / 'parts').iterdir() if not place.name.startswith('.'))
+    parts = [read_part(place) for place in places]
+    found = list(faults(whole, [sets for sets, _ in parts]))
+    if found:
+        raise Fault('\nstudy: '.join(found))
+    return table_of([sum(column) for column in zip(*(counts for _, counts in parts))])
+
+
+# What is written, by the words of the call.
+def answer(command, folder, *words):
+    if command == 'new' and len(words) == 4:
+        new(folder, *words)
+    elif command == 'left' and not words:
+        return ''.join(f'{part}\n' for part in left(folder))
+    elif command == 'part' and words:
+        sets, size = read(folder)
+        parts = range(-(-sets.count // size))
+        work_out(folder, [number_of(word, parts) for word in words])
+    elif command == 'share' and len(words) == 2:
+        jobs = number_of(words[1], range(1, NUMBERS))
+        job = number_of(words[0], range(jobs))
+        work_out(folder, [part for part in left(folder) if part % jobs == job])
+    elif command == 'sum' and not words:
+        return add_up(folder)
+    else:
+        raise Usage
+    return ''
+
+
+def main(words):
+    try:
+        if len(words) < 2:
+            raise Usage
+        text = answer(words[0], pathlib.Path(words[1]), *words[2:])
+    except Usage:
+        print(__doc__[__doc__.index('usage'):].strip(), file=sys.stderr)
+        return 2
+    except (Fault, OSError) as fault:
+        print(f'study: {fault}', file=sys.stderr)
+        return 1
+    sys.stdout.write(text)
+    return 0
+
+
+if __name__ == '__main__':
+    sys.exit(main(sys.argv[1:]))
