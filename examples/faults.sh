@@ -204,7 +204,7 @@ threads soak 7 8 20000
 threads live live/tasks.toml 10
 threads runall several/tasks.toml several/work.csv 5 2
 # A study is worked out in pieces on as many threads as there are processors, so on one there is none to start.
-[ "$(nproc 2>/dev/null || echo 1)" -lt 2 ] || threads accept 1 1000 8
+[ "$(nproc 2>/dev/null || echo 1)" -lt 2 ] || threads accept 1 10000 8
 
 # lives NUMBER TASKS TICKS: the same of a live run whose text may be another one each time: it is judged legal, with no job late
 lives() {

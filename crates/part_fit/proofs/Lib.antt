@@ -1,4 +1,6 @@
 mod Least
+mod Kept
+mod LoadSums
 mod Numbers
 mod OnOne
 pub mod Placed

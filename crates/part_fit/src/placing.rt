@@ -1,13 +1,14 @@
 // First fit.
-ghost use Rattle.std.specs.Prelude.{◌≡◌, ◌≤◌, ◌++◌, ◌∷◌, [], IfOk, IfErr, length, slice_get, Ok, Some};
-ghost use Rattle.part_fit.specs.Parts.{part_of};
+ghost use Rattle.std.specs.Prelude.{◌≡◌, ◌≤◌, IfOk, IfErr, IfSome, replicate, List, ℕ, IfSome, Ok};
+ghost use Rattle.mc_task.specs.declared.task.Task.{Task};
 ghost use Rattle.part_fit.specs.FirstFit as spec;
+ghost use Rattle.part_fit.specs.KeptLoads.{IsToPlace, IsToPlaceInSome, IsPlace, AreSmall, no_loads};
 ghost use Rattle.part_fit.specs.Partition.{IsPartition};
 ghost use Rattle.part_fit.specs.declared.placing.FitFault.TheVariants.{Memory};
 
-use crate::parts::{Parts, set_of, task_at, tasks_on};
-use admission::admit;
-use load_sum::sum_loads;
+use crate::parts::{Parts, task_at};
+use crate::taking::{NO_LOADS, taken};
+use load_sum::Loads;
 use mc_task::{Task, TaskNo, TaskSet};
 use std::alloc::{AllocError, AllocFailed, Global};
 
@@ -50,9 +51,13 @@ pub fn fit(alloc: Global, set: &TaskSet, processors: u32) -> Result<Parts, FitFa
 {
     let count = set.len();
     let mut of = Vec::new(alloc);
+    let mut all = no_loads(alloc, processors as usize)?;
     for i in 0..count {
-        match least_for(alloc, set, &of, &task_at(set, i), processors)? {
-            Some(processor) => of.push(processor)?,
+        match least_for(&all, &task_at(set, i)) {
+            Some((place, loads)) => {
+                of.push(place as u32 + 1)?;
+                all[place] = loads;
+            }
             None => {
                 return Err(FitFault::NoRoom {
                     task: TaskNo(i + 1),
@@ -63,49 +68,23 @@ pub fn fit(alloc: Global, set: &TaskSet, processors: u32) -> Result<Parts, FitFa
     Ok(Parts { of })
 }
 
-// The least processor that takes the next task.
-fn least_for(
-    alloc: Global,
-    set: &TaskSet,
-    of: &[u32],
-    task: &Task,
-    processors: u32,
-) -> Result<Option<u32>, AllocError>
-    requires next { slice_get set.now (length of.now) ≡ Some task.now }
-    requires few { processors ≤ 16 }
-    ensures { IfOk result (λ least. least ≡ spec.processor_for set.now of.now task.now processors) }
+// The loads of so many processors without a task.
+fn no_loads(alloc: Global, processors: usize) -> Result<Vec<Loads>, AllocError>
+    ensures { IfOk result (λ all. all.items ≡ replicate processors no_loads) }
 {
-    for processor in 1..processors + 1 {
-        if fits(&with_next(alloc, set, of, task, processor)?) {
-            return Ok(Some(processor));
+    vec![in alloc; NO_LOADS; processors]
+}
+
+// The index of the least processor that takes the next task, with its loads then, where these are the loads of the processors.
+fn least_for(all: &[Loads], task: &Task) -> Option<(usize, Loads)>
+    requires { IsToPlaceInSome all.now task.now }
+    ensures place { (set : List Task) (of : List ℕ) → IsToPlace set of all.now task.now → IsPlace set of all.now task.now result }
+    ensures small { IfSome result (λ found. AreSmall found.1) }
+{
+    for (place, loads) in all.iter().enumerate() {
+        if let Some(more) = taken(loads, task) {
+            return Some((place, more));
         }
     }
-    Ok(None)
-}
-
-// The tasks on the processor, with the next task behind them.
-fn with_next(
-    alloc: Global,
-    set: &TaskSet,
-    of: &[u32],
-    task: &Task,
-    processor: u32,
-) -> Result<TaskSet, AllocError>
-    requires { slice_get set.now (length of.now) ≡ Some task.now }
-    ensures { IfOk result (λ part. part ≡ part_of set.now of.now processor ++ task.now ∷ []) }
-{
-    let _is_set = set.len();
-    let mut tasks = tasks_on(alloc, set, of, processor)?;
-    tasks.push(*task)?;
-    Ok(set_of(tasks))
-}
-
-// Whether the set is within range and gets a rule from the published test.
-fn fits(set: &TaskSet) -> bool
-    ensures { result ≡ spec.fits set.now }
-{
-    match sum_loads(set) {
-        Ok(loads) => admit(&loads).is_some(),
-        Err(_) => false,
-    }
+    None
 }

@@ -10,8 +10,8 @@ use rayon::prelude::*;
 use std::alloc::{AllocError, Global};
 use std::thread::Threads;
 
-// A thread costs more than a few sets.
-const LEAST_PIECE: usize = 64;
+// A thread takes as long to start as some hundred sets, and rayon gives a processor two pieces where they may be so small.
+const LEAST_PIECE: usize = 2048;
 
 /// Of so many made sets of so many tasks, those of `number`, `number + 1` and so on, how many have a stretch of at least 100
 /// percent, of at least 110 and so on to 200. The sets are tried in parallel; the counts are those of one thread. The only

@@ -176,13 +176,13 @@ fn made_sets_are_counted_by_their_stretch(rt: HostRuntime) -> Result<(), Fail> {
     Ok(())
 }
 
-// A call for one set starts no thread, and one for 1,000 sets starts some.
+// A call for one set starts no thread, and one for 10,000 sets starts some.
 #[test]
 fn several_threads_count_what_one_counts(rt: HostRuntime) -> Result<(), Fail> {
     let alloc = rt.alloc();
-    let counts = table(&rt, alloc, 1, 1000, 12)?;
+    let counts = table(&rt, alloc, 1, 10000, 12)?;
     let mut sums = [0u64; 11];
-    for number in 1..1001u64 {
+    for number in 1..10001u64 {
         let one = table(&rt, alloc, number, 1, 12)?;
         for (sum, count) in sums.iter_mut().zip(one.iter()) {
             *sum = sum.saturating_add(u64::from(*count));
@@ -194,6 +194,6 @@ fn several_threads_count_what_one_counts(rt: HostRuntime) -> Result<(), Fail> {
             .map(|count| u64::from(*count))
             .eq(sums.iter().copied())
     );
-    assert!(rt; sums[0] == 1000 && sums[1] < 1000);
+    assert!(rt; sums[0] == 10000 && sums[1] < 10000);
     Ok(())
 }

@@ -3,8 +3,7 @@ use Rattle.std.proofs.Common.{[], ◌≡◌, ℕ, ◌+◌, ◌≤◌, Bool, true
 use Rattle.std.proofs.lemmas.Bool.Decides.{nat_tests}
 use Rattle.std.proofs.lemmas.Option.{same_Some}
 use Rattle.std.specs.List.{list_all}
-use Rattle.std.specs.Map.{lookup}
-use Rattle.std.specs.BTreeMap.{is_at}
+use Rattle.std.specs.Prelude.{find}
 use Rattle.mc_task.specs.declared.task.JobId.{JobId}
 use Rattle.mc_task.specs.declared.task.Rule.{Rule}
 use Rattle.mc_task.specs.declared.task.Task.{Task}
@@ -22,7 +21,7 @@ use Rattle.mc_model.specs.Legal.{Legal, is_pending, is_least, is_empty, none_bel
 use Rattle.mc_model.proofs.Jobs.{job_eq}
 use Rattle.mc_model.specs.Sums.{total, when}
 use Rattle.trace_judge.specs.declared.waiting.Pending.{Pending}
-use Rattle.trace_judge.specs.Entries.{Entry, rank_cmp, is_of, pending_in, least_in, Stands}
+use Rattle.trace_judge.specs.Entries.{Entry, is_of, pending_in, least_in, Stands}
 use Rattle.trace_judge.specs.declared.state.TaskNote.{TaskNote}
 use Rattle.trace_judge.specs.declared.state.State.{State}
 use Rattle.trace_judge.specs.Placed.{Placed, waiting}
@@ -119,11 +118,11 @@ tick_fault set rule g s j how l t =
     ∙ ap (λ x. first_of_parts ((pending_in s.waiting.entries j, NotPending) ∷ (x, NotLeast) ∷ (allows rule (high_mode rule g) (task_at set j.task.0) (used g j + 1) how, WrongHow) ∷ [])) c)
 
 -- the ticks that an entry's job has used
-pub found_used : (set : List Task) (rule : Rule) (g : List Row) (s : State) (j : JobId) (k : ℕ) (p : Pending) → Tracks set rule g s → lookup (is_at (rank_cmp (k, j.task.0, j.count))) s.waiting.entries ≡ Some p → p.used ≡ used g j
+pub found_used : (set : List Task) (rule : Rule) (g : List Row) (s : State) (j : JobId) (k : ℕ) (p : Pending) → Tracks set rule g s → find (is_of j) s.waiting.entries ≡ Some ((k, j.task.0, j.count), p) → p.used ≡ used g j
 found_used set rule g s j k p t h =
     let q : Entry → Bool = λ e. not (is_of j e) || (e.1.used == used g j) in
     let all : list_all q s.waiting.entries ≡ true = same_all s.waiting.entries (entry_of set rule g) (waiting set g) t.waiting q ∙ list_all-true (λ (x : Placed). q (entry_of set rule g x)) (λ x. each x.live.job (same_job j x.live.job) refl) (waiting set g) in
-    let r : (not (is_of j ((k, j.task.0, j.count), p)) || (p.used == used g j)) ≡ true = found_passes q (k, j.task.0, j.count) p s.waiting.entries all h in
+    let r : (not (is_of j ((k, j.task.0, j.count), p)) || (p.used == used g j)) ≡ true = found_passes q (is_of j) ((k, j.task.0, j.count), p) s.waiting.entries all h in
     last (j.task.0) (j.count) p.used (used g j) r
   where
     each : (i : JobId) (b : Bool) → same_job j i ≡ b → (not b || (used g i == used g j)) ≡ true
@@ -145,12 +144,13 @@ pub stands_not_least : (set : List Task) (rule : Rule) (g : List Row) (s : State
 stands_not_least set rule g s j how l t h = sym (tick_fault set rule g s j how l t ∙ rw (h.0, h.1) refl)
 
 -- and of one that is, by how it ended
-pub stands_least : (set : List Task) (rule : Rule) (g : List Row) (s : State) (j : JobId) (how : How) (k : ℕ) (p : Pending) → Legal set rule g → Tracks set rule g s → Stands s.waiting.entries j (standing.Least k p) →
+pub stands_least : (set : List Task) (rule : Rule) (g : List Row) (s : State) (j : JobId) (how : How) (p : Pending) → Legal set rule g → Tracks set rule g s → Stands s.waiting.entries j (standing.Least p) →
     fault set rule (Tick j how) g ≡ cond (allows rule s.high_mode (task_at set j.task.0) (p.used + 1) how) None (Some WrongHow)
-stands_least set rule g s j how k p l t h =
-    let a = found_pending j k p s.waiting.entries h.0 in
-    let b = found_least j k p s.waiting.entries (apart set rule g s l t j) h.1 h.0 in
-    tick_fault set rule g s j how l t ∙ rw (a, b, t.mode, found_used set rule g s j k p t h.0) refl
+stands_least set rule g s j how p l t h =
+    let e : Entry = ((h.0, j.task.0, j.count), p) in
+    let a = found_pending j e s.waiting.entries h.1 in
+    let b = found_least j e s.waiting.entries (apart set rule g s l t j) h.2 h.1 in
+    tick_fault set rule g s j how l t ∙ rw (a, b, t.mode, found_used set rule g s j h.0 p t h.1) refl
 
 -- the fault of an idle row, by what waits
 idle_is : (set : List Task) (rule : Rule) (g : List Row) → Legal set rule g → fault set rule Idle g ≡ first_of_parts ((is_empty (map live_of (waiting set g)), IdlePending) ∷ [])

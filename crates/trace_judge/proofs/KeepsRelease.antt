@@ -1,7 +1,6 @@
 -- What is kept follows a release.
 use Rattle.mc_model.proofs.Booleans.{eqb-false}
 use Rattle.std.proofs.Common.{eqb-true, [], ◌≡◌, ℕ, ◌+◌, ◌≤◌, Bool, true, false, List, ◌∷◌, cond, refl, sym, ap, ◌∙◌, arith, zero, suc, ◌<◌, ◌≢◌, ◌==◌, Some, subst, slice_get, length, ◌-◌, slice_set, length-set}
-use Rattle.std.specs.BTreeMap.{insert_entry}
 use Rattle.mc_task.specs.declared.task.JobId.{JobId}
 use Rattle.mc_task.specs.declared.task.Rule.{Rule}
 use Rattle.mc_task.specs.declared.task.Task.{Task}
@@ -9,39 +8,24 @@ use Rattle.mc_task.specs.TaskSet.{task_at}
 use Rattle.mc_model.specs.declared.row.Row.{Row}
 use Rattle.mc_model.specs.declared.row.Row.TheVariants.{Release}
 use Rattle.mc_model.specs.TaskNumbers.{period_in}
-use Rattle.mc_model.specs.Rows.{same_job, ticks, used, releases, next_release}
+use Rattle.mc_model.specs.Rows.{ticks, used, releases, next_release}
 use Rattle.mc_model.specs.Mode.{high_mode}
-use Rattle.mc_model.specs.Pending.{is_live}
 use Rattle.mc_model.specs.Key.{key_of}
 use Rattle.mc_model.specs.Legal.{Legal}
 use Rattle.mc_model.proofs.Bridge.{IsBridged, bridge}
 use Rattle.mc_model.proofs.Counts.{counted}
-use Rattle.mc_model.specs.Sums.{total, when}
+use Rattle.mc_model.specs.Sums.{total}
 use Rattle.trace_judge.specs.declared.waiting.Pending.{Pending}
-use Rattle.trace_judge.specs.Entries.{Entry, rank_cmp, is_of, pending_in}
+use Rattle.trace_judge.specs.Entries.{Entry}
 use Rattle.trace_judge.specs.declared.state.TaskNote.{TaskNote}
 use Rattle.trace_judge.specs.declared.state.State.{State}
-use Rattle.trace_judge.specs.Placed.{Placed, new_one, placed, waiting, gone_late}
-use Rattle.trace_judge.specs.Steps.{Releases}
+use Rattle.trace_judge.specs.Placed.{new_one, waiting, gone_late}
+use Rattle.trace_judge.specs.Steps.{Waits, Releases}
 use Rattle.trace_judge.specs.Tracks.{Tracks, entry_of, late_job_in}
 use Rattle.trace_judge.specs.Lates.{Counts}
-use Rattle.mc_model.proofs.Sums.{less_filtered, one}
-use Rattle.trace_judge.proofs.Entries.{none_pending}
-use Rattle.trace_judge.proofs.Edits.{total-insert}
-use Rattle.trace_judge.proofs.Placed.{placed_count, release_count, waiting_is, none_placed}
+use Rattle.trace_judge.proofs.Placed.{release_count}
 
--- the job of a release that fits does not wait
-fresh_job : (set : List Task) (rule : Rule) (g : List Row) (s : State) (j : JobId) (kept : Bool) → Legal set rule (Release j kept ∷ g) → Tracks set rule g s → pending_in s.waiting.entries j ≡ false
-fresh_job set rule g s j kept l t =
-    let b : IsBridged set rule g = bridge set rule g l.2 in
-    let c : j.count ≡ releases g j.task.0 + 1 = release_count set rule g j kept l in
-    let n : total (when (λ (x : Placed). same_job j x.live.job) one) (placed g) ≡ 0 = none_placed g j c (placed g) (placed_count set rule g b.legal) in
-    let w : total (when (is_of j) one) s.waiting.entries ≡ total (when (λ (x : Placed). same_job j x.live.job) one) (waiting set g) = t.waiting (when (is_of j) one) in
-    let m = less_filtered (when (λ (x : Placed). same_job j x.live.job) one) (λ x. is_live set g x.live) (placed g) in
-    let e = ap (total (when (λ (x : Placed). same_job j x.live.job) one)) (waiting_is set rule g l.2) in
-    none_pending j s.waiting.entries (omega (arith, n, w, m, e))
-
--- and has had no tick
+-- the job of a release that fits has had no tick
 fresh_used : (set : List Task) (rule : Rule) (g : List Row) (j : JobId) (kept : Bool) → Legal set rule (Release j kept ∷ g) → used g j ≡ 0
 fresh_used set rule g j kept l =
     let b : IsBridged set rule g = bridge set rule g l.2 in
@@ -111,20 +95,19 @@ keeps_release set rule g s s' j kept task l t at r = record {
   mode = r.mode ∙ t.mode;
   count = ap length r.tasks ∙ (length-set s.tasks.items (j.task.0 - 1) (a_note j.count (s.ticks + period_in (Some task))) ∙ t.count);
   tasks = λ k h. ap (λ xs. slice_get xs k) r.tasks ∙ notes_after set rule g s j kept task l t at k h;
-  waiting = λ f. ap (total f) r.waiting ∙ added kept l f;
+  queues = r.queues ∙ t.queues;
+  waiting = λ f. added kept l r.waiting f;
   lates = subst (λ x. Counts x (λ f. total (λ x. f (late_job_in x)) (gone_late set g))) (sym r.lates) t.lates;
 }
   where
     same_entry : (f : Entry → ℕ) → f (an_entry (key_of rule s.high_mode (Some task) s.ticks) j.task.0 j.count (a_pending s.ticks 0 s.place)) ≡ f (an_entry (key_of rule (high_mode rule g) (task_at set j.task.0) (ticks g)) j.task.0 j.count (a_pending (ticks g) 0 (length g)))
     same_entry f = rw (t.mode, t.ticks, t.place, at) refl
 
-    added : (b : Bool) → Legal set rule (Release j b ∷ g) → (f : Entry → ℕ) →
-        total f (cond b (insert_entry rank_cmp s.waiting.entries (key_of rule s.high_mode (Some task) s.ticks, j.task.0, j.count) (record { release = s.ticks; used = 0; place = s.place })) s.waiting.entries)
-        ≡ total (λ x. f (entry_of set rule (Release j b ∷ g) x)) (waiting set (Release j b ∷ g))
-    added false l f = t.waiting f
-    added true l f =
-        let n = fresh_job set rule g s j true l t in
-        let a = total-insert f (key_of rule s.high_mode (Some task) s.ticks, j.task.0, j.count) (a_pending s.ticks 0 s.place) s.waiting.entries n in
+    added : (b : Bool) → Legal set rule (Release j b ∷ g) → Waits b ((key_of rule s.high_mode (Some task) s.ticks, j.task.0, j.count), a_pending s.ticks 0 s.place) s.waiting.entries s'.waiting.entries →
+        (f : Entry → ℕ) → total f s'.waiting.entries ≡ total (λ x. f (entry_of set rule (Release j b ∷ g) x)) (waiting set (Release j b ∷ g))
+    added false l w f = ap (total f) w ∙ t.waiting f
+    added true l w f =
+        let a = w f in
         let u : used g j ≡ 0 = fresh_used set rule g j true l in
         let e : f (an_entry (key_of rule s.high_mode (Some task) s.ticks) j.task.0 j.count (a_pending s.ticks 0 s.place)) ≡ f (entry_of set rule (Release j true ∷ g) (new_one j g)) =
         same_entry f ∙ ap (λ (m : ℕ). f (an_entry (key_of rule (high_mode rule g) (task_at set j.task.0) (ticks g)) j.task.0 j.count (a_pending (ticks g) m (length g)))) (sym u) in

@@ -1,7 +1,5 @@
 -- What is kept follows a run: n ticks of a job behind which it goes on, or n idle ticks.
-use Rattle.std.proofs.Common.{[], ◌≡◌, ℕ, zero, suc, ◌+◌, ◌≤◌, Bool, true, false, not, ◌&&◌, List, ◌∷◌, ◌++◌, filter, replicate, refl, sym, ap, ◌∙◌, arith, Some, subst, slice_get, length, ◌-◌, ◌^◌, min}
-use Rattle.std.specs.Map.{lookup}
-use Rattle.std.specs.BTreeMap.{is_at}
+use Rattle.std.proofs.Common.{[], ◌≡◌, ℕ, zero, suc, ◌+◌, ◌≤◌, Bool, true, false, not, ◌&&◌, List, ◌∷◌, ◌++◌, filter, replicate, refl, sym, ap, ◌∙◌, arith, subst, slice_get, length, ◌-◌, ◌^◌, min}
 use Rattle.mc_task.specs.declared.task.JobId.{JobId}
 use Rattle.mc_task.specs.declared.task.Rule.{Rule}
 use Rattle.mc_task.specs.declared.task.Task.{Task}
@@ -15,14 +13,13 @@ use Rattle.mc_model.specs.Legal.{Legal}
 use Rattle.mc_model.specs.Sums.{total}
 use Rattle.mc_model.proofs.Sums.{total-same}
 use Rattle.mc_model.proofs.Repeats.{ticks_more, releases_more, next_more, mode_more, used_more, ticks_idle, releases_idle, next_idle, mode_idle, length_copies}
-use Rattle.trace_judge.specs.declared.waiting.Pending.{Pending}
 use Rattle.trace_judge.specs.declared.state.State.{State}
-use Rattle.trace_judge.specs.Entries.{Entry, rank_cmp}
+use Rattle.trace_judge.specs.Entries.{Entry, is_of, spent_entry}
 use Rattle.trace_judge.specs.Placed.{Placed, waiting, stays, is_due, gone_late}
 use Rattle.trace_judge.specs.Steps.{GoesOn, Rests}
 use Rattle.trace_judge.specs.Tracks.{Tracks, entry_of, late_job_in}
 use Rattle.trace_judge.specs.Lates.{Counts}
-use Rattle.trace_judge.proofs.Edits.{ticked_at, total-spent}
+use Rattle.trace_judge.proofs.Edits.{ticked_at, total_changed}
 use Rattle.trace_judge.proofs.Faults.{apart}
 use Rattle.trace_judge.proofs.KeepsRelease.{note_eq, a_pending, an_entry}
 use Rattle.trace_judge.proofs.KeepsTick.{used_le, lates_of}
@@ -47,15 +44,16 @@ gone_more set j (suc n) g =
     ap (λ xs. xs ++ gone_late set (replicate n (Tick j More) ++ g)) (none_go set j (ticks (replicate n (Tick j More) ++ g)) (waiting set (replicate n (Tick j More) ++ g))) ∙ gone_more set j n g
 
 -- what is kept follows n ticks behind which their job goes on
-pub keeps_more : (set : List Task) (rule : Rule) (g : List Row) (s s' : State) (j : JobId) (n k : ℕ) (p : Pending) → Legal set rule g → Tracks set rule g s → s.ticks + n ≤ 2 ^ 32 - 1 →
-    lookup (is_at (rank_cmp (k, j.task.0, j.count))) s.waiting.entries ≡ Some p → GoesOn n (k, j.task.0, j.count) s s' → Tracks set rule (replicate n (Tick j More) ++ g) s'
-keeps_more set rule g s s' j n k p l t room found m = record {
+pub keeps_more : (set : List Task) (rule : Rule) (g : List Row) (s s' : State) (j : JobId) (n : ℕ) → Legal set rule g → Tracks set rule g s → s.ticks + n ≤ 2 ^ 32 - 1 →
+    GoesOn n j s s' → Tracks set rule (replicate n (Tick j More) ++ g) s'
+keeps_more set rule g s s' j n l t room m = record {
   ticks = let a = t.ticks in let b = m.moves.ticks in omega (arith, a, b, ticks_more j n g);
   place = let a = m.moves.place in let b = t.place in omega (arith, a, b, length_copies (Tick j More) n g);
   mode = m.mode ∙ (t.mode ∙ sym (mode_more rule j n g));
   count = ap length m.moves.tasks ∙ t.count;
   tasks = λ i h. ap (λ xs. slice_get xs i) m.moves.tasks ∙ (t.tasks i h ∙ note_eq _ _ _ _ (sym (releases_more j n g (i + 1))) (sym (next_more set j n g (i + 1))));
-  waiting = λ f. ap (total f) m.waiting ∙ (total-spent n f j k p s.waiting.entries (apart set rule g s l t j) found
+  queues = m.moves.queues ∙ t.queues;
+  waiting = λ f. ap (total f) m.waiting ∙ (total_changed (is_of j) (spent_entry n) f s.waiting.entries (apart set rule g s l t j)
       ∙ (t.waiting (ticked_at n j f) ∙ (total-same _ _ (λ x. each f x (same_job j x.live.job) refl) (waiting set g) ∙ ap (total (λ x. f (entry_of set rule (replicate n (Tick j More) ++ g) x))) (sym (waiting_more set j n g)))));
   lates = subst (λ x. Counts x (lates_of set (replicate n (Tick j More) ++ g))) (sym m.lates) (subst (λ xs. Counts s.lates (λ f. total (λ x. f (late_job_in x)) xs)) (sym (gone_more set j n g)) t.lates);
 }
@@ -88,6 +86,7 @@ keeps_rest set rule g s s' n some none t m = record {
   mode = m.mode ∙ sym (mode_idle rule n g some);
   count = ap length m.moves.tasks ∙ t.count;
   tasks = λ i h. ap (λ xs. slice_get xs i) m.moves.tasks ∙ (t.tasks i h ∙ note_eq _ _ _ _ (sym (releases_idle n g (i + 1))) (sym (next_idle set n g (i + 1))));
+  queues = m.moves.queues ∙ t.queues;
   waiting = λ f. ap (total f) m.waiting ∙ (t.waiting f ∙ (ap (total (λ x. f (entry_of set rule g x))) none ∙ sym (ap (total (λ x. f (entry_of set rule (replicate n Idle ++ g) x))) (waiting_idle set n g ∙ none))));
   lates = subst (λ x. Counts x (lates_of set (replicate n Idle ++ g))) (sym m.lates) (subst (λ xs. Counts s.lates (λ f. total (λ x. f (late_job_in x)) xs)) (sym (gone_idle set n g)) t.lates);
 }

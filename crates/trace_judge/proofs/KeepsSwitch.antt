@@ -1,7 +1,5 @@
 -- What is kept follows an overrun.
-use Rattle.std.proofs.Common.{[], ◌≡◌, ℕ, ◌+◌, ◌≤◌, Bool, true, false, not, ◌&&◌, List, ◌∷◌, cond, refl, sym, ap, ◌∙◌, arith, Option, Some, None, subst, slice_get, length, ◌-◌, ◌^◌, min}
-use Rattle.std.specs.Map.{lookup}
-use Rattle.std.specs.BTreeMap.{is_at}
+use Rattle.std.proofs.Common.{◌≡◌, ℕ, ◌+◌, ◌≤◌, Bool, true, false, not, ◌&&◌, List, ◌∷◌, cond, refl, sym, ap, ◌∙◌, arith, Option, Some, None, subst, slice_get, length, ◌-◌, ◌^◌, min}
 use Rattle.mc_task.specs.declared.task.JobId.{JobId}
 use Rattle.mc_task.specs.declared.task.Rule.{Rule}
 use Rattle.mc_task.specs.declared.task.Task.{Task}
@@ -17,30 +15,31 @@ use Rattle.mc_model.specs.Key.{key, key_of}
 use Rattle.mc_model.specs.Legal.{Legal}
 use Rattle.mc_model.specs.Sums.{total, when}
 use Rattle.trace_judge.specs.declared.waiting.Pending.{Pending}
-use Rattle.trace_judge.specs.Entries.{Entry, rank_cmp, is_of, spent, late_job_of}
+use Rattle.trace_judge.specs.Entries.{Entry, is_of, spent_entry, late_job_of}
 use Rattle.trace_judge.specs.declared.state.State.{State}
 use Rattle.trace_judge.specs.Placed.{Placed, waiting, stays, is_due}
 use Rattle.trace_judge.specs.Tracks.{Tracks, entry_of, late_job_in}
 use Rattle.trace_judge.specs.declared.lates.LateJob.{LateJob}
-use Rattle.trace_judge.specs.Switch.{switched, rekeyed, noted_each, Overruns, is_discarded_late}
+use Rattle.trace_judge.specs.Firsts.{change_first}
+use Rattle.trace_judge.specs.Switch.{moved, rekeyed, noted_each, Overruns, is_discarded_late}
 use Rattle.trace_judge.specs.Lates.{Counts}
-use Rattle.mc_model.proofs.Sums.{total-same, one}
-use Rattle.trace_judge.proofs.Edits.{ticked_at, total-spent, moved, total-kept}
+use Rattle.trace_judge.proofs.Edits.{ticked_at, total_changed}
 use Rattle.trace_judge.proofs.Noted.{counts_same, counts_all}
 use Rattle.trace_judge.proofs.Faults.{apart}
 use Rattle.trace_judge.proofs.KeepsRelease.{a_pending, an_entry}
 use Rattle.trace_judge.proofs.KeepsTick.{used_le, waits_after, bump_is, same_ticks, lates_of, sums_of, lates_after}
 
 -- what is kept follows an overrun
-pub keeps_over : (set : List Task) (rule : Rule) (g : List Row) (s s' : State) (j : JobId) (k : ℕ) (p : Pending) → Legal set rule g → Tracks set rule g s → s.ticks + 1 ≤ 2 ^ 32 - 1 → is_virtual rule ≡ true →
-    lookup (is_at (rank_cmp (k, j.task.0, j.count))) s.waiting.entries ≡ Some p → Overruns set rule (k, j.task.0, j.count) s s' → Tracks set rule (Tick j Over ∷ g) s'
-keeps_over set rule g s s' j k p l t room virtual found m = record {
+pub keeps_over : (set : List Task) (rule : Rule) (g : List Row) (s s' : State) (j : JobId) → Legal set rule g → Tracks set rule g s → s.ticks + 1 ≤ 2 ^ 32 - 1 → is_virtual rule ≡ true →
+    Overruns set rule j s s' → Tracks set rule (Tick j Over ∷ g) s'
+keeps_over set rule g s s' j l t room virtual m = record {
   ticks = same_ticks set rule g s s' Over j t m.moves;
   place = let a = m.moves.place in let b = t.place in omega (arith, a, b);
   mode = m.mode ∙ sym mode_high;
   count = ap length m.moves.tasks ∙ t.count;
   tasks = λ n h. ap (λ xs. slice_get xs n) m.moves.tasks ∙ t.tasks n h;
-  waiting = λ f. ap (total f) m.waiting ∙ (moves f ∙ waits_after set rule g s j Over f (ticked_at 1 j (moved set rule f)) t (Each-all (λ x. each f x) (waiting set g)));
+  queues = m.moves.queues ∙ t.queues;
+  waiting = λ f. m.waiting f ∙ (spends (moved set rule f) ∙ waits_after set rule g s j Over f (ticked_at 1 j (moved set rule f)) t (Each-all (λ x. each f x) (waiting set g)));
   lates = subst (λ x. Counts x (lates_of set (Tick j Over ∷ g))) (sym m.lates)
       (counts_same (noted_each (is_discarded_late set s.ticks) s.lates es) (λ f. total (when (is_discarded_late set s.ticks) (λ e. f (late_job_of e))) es + lates_of set g f) (lates_of set (Tick j Over ∷ g))
       (λ f. let a = spends (when (is_discarded_late set s.ticks) (λ e. f (late_job_of e))) in
@@ -50,27 +49,13 @@ keeps_over set rule g s s' j k p l t room virtual found m = record {
 }
   where
     es : List Entry
-    es = spent 1 (k, j.task.0, j.count) s.waiting.entries
+    es = change_first (is_of j) (spent_entry 1) s.waiting.entries
 
     mode_high : high_mode rule (Tick j Over ∷ g) ≡ true
     mode_high = rw virtual refl
 
     spends : (w : Entry → ℕ) → total w es ≡ total (ticked_at 1 j w) s.waiting.entries
-    spends w = total-spent 1 w j k p s.waiting.entries (apart set rule g s l t j) found
-
-    still_apart : (i : JobId) → total (when (is_of i) one) [] + total (when (is_of i) one) es ≤ 1
-    still_apart i =
-        let a = spends (when (is_of i) one) in
-        let b : total (ticked_at 1 j (when (is_of i) one)) s.waiting.entries ≡ total (when (is_of i) one) s.waiting.entries = total-same _ _ (λ e. same (is_of j e) (cond (is_of i e) 1 0)) s.waiting.entries in
-        let c = apart set rule g s l t i in
-        omega (arith, a, b, c)
-      where
-        same : (b : Bool) (n : ℕ) → cond b n n ≡ n
-        same true n = refl
-        same false n = refl
-
-    moves : (f : Entry → ℕ) → total f (switched set rule [] es) ≡ total (ticked_at 1 j (moved set rule f)) s.waiting.entries
-    moves f = let a = total-kept set rule f [] es still_apart in let b = spends (moved set rule f) in omega (arith, a, b)
+    spends w = total_changed (is_of j) (spent_entry 1) w s.waiting.entries (apart set rule g s l t j)
 
     -- an entry at its new key
     key_moved : (f : Entry → ℕ) (x : Placed) (q : Pending) (o : Option Task) → task_at set x.live.job.task.0 ≡ o → q.release ≡ x.live.release → (h : Bool) → h ≡ true → (n : ℕ) →

@@ -1,7 +1,6 @@
 -- What is kept follows a tick that is no overrun.
 use Rattle.std.proofs.Common.{[], ◌≡◌, ℕ, ◌+◌, ◌≤◌, Bool, true, false, not, ◌&&◌, ◌||◌, List, ◌∷◌, cond, filter, map, refl, sym, ap, ◌∙◌, arith, nat_le, Some, subst, slice_get, length, ◌-◌, ◌^◌, min}
-use Rattle.std.specs.Map.{lookup}
-use Rattle.std.specs.BTreeMap.{is_at}
+use Rattle.std.specs.Prelude.{find}
 use Rattle.mc_task.specs.declared.task.JobId.{JobId}
 use Rattle.mc_task.specs.declared.task.Rule.{Rule}
 use Rattle.mc_task.specs.declared.task.Task.{Task}
@@ -18,7 +17,7 @@ use Rattle.mc_model.specs.Key.{key}
 use Rattle.mc_model.specs.Legal.{Legal}
 use Rattle.mc_model.specs.Sums.{total, when}
 use Rattle.trace_judge.specs.declared.waiting.Pending.{Pending}
-use Rattle.trace_judge.specs.Entries.{Entry, rank_cmp, is_of, late_job_of, late_job}
+use Rattle.trace_judge.specs.Entries.{Entry, is_of, late_job_of, late_job}
 use Rattle.trace_judge.specs.declared.state.State.{State}
 use Rattle.trace_judge.specs.Placed.{Placed, waiting, stays, is_due, gone_late}
 use Rattle.trace_judge.specs.Steps.{Moves, Ends}
@@ -27,7 +26,7 @@ use Rattle.trace_judge.specs.Tracks.{Tracks, entry_of, late_job_in}
 use Rattle.trace_judge.specs.declared.lates.LateJob.{LateJob}
 use Rattle.trace_judge.specs.Lates.{noted, Counts}
 use Rattle.mc_model.proofs.Sums.{total-append, total-map, total-filter, total-ext}
-use Rattle.trace_judge.proofs.Edits.{taken_at, total-remove, total-found}
+use Rattle.trace_judge.proofs.Edits.{taken_at, total_removed, total_found}
 use Rattle.trace_judge.proofs.Noted.{IsSum, counts_same, counts_note}
 use Rattle.trace_judge.proofs.Faults.{apart}
 use Rattle.trace_judge.proofs.KeepsRelease.{a_pending, an_entry}
@@ -78,14 +77,15 @@ lates_after set rule g s j how f v t h =
 
 -- what is kept follows the last tick of a job
 pub keeps_end : (set : List Task) (rule : Rule) (g : List Row) (s s' : State) (j : JobId) (how : How) (k : ℕ) (p : Pending) (task : Task) → Legal set rule g → Tracks set rule g s → is_end how ≡ true → is_over how ≡ false → task_at set j.task.0 ≡ Some task →
-    lookup (is_at (rank_cmp (k, j.task.0, j.count))) s.waiting.entries ≡ Some p → Ends (Some task) (k, j.task.0, j.count) p s s' → Tracks set rule (Tick j how ∷ g) s'
+    find (is_of j) s.waiting.entries ≡ Some ((k, j.task.0, j.count), p) → Ends (Some task) j p s s' → Tracks set rule (Tick j how ∷ g) s'
 keeps_end set rule g s s' j how k p task l t ends over at found m = record {
   ticks = same_ticks set rule g s s' how j t m.moves;
   place = let a = m.moves.place in let b = t.place in omega (arith, a, b);
   mode = m.mode ∙ (t.mode ∙ sym mode_same);
   count = ap length m.moves.tasks ∙ t.count;
   tasks = λ n h. ap (λ xs. slice_get xs n) m.moves.tasks ∙ t.tasks n h;
-  waiting = λ f. ap (total f) m.waiting ∙ (total-remove f j k p s.waiting.entries (apart set rule g s l t j) found ∙ waits_after set rule g s j how f (taken_at j f) t (Each-all (λ x. each f x) (waiting set g)));
+  queues = m.moves.queues ∙ t.queues;
+  waiting = λ f. ap (total f) m.waiting ∙ (total_removed (is_of j) f s.waiting.entries (apart set rule g s l t j) ∙ waits_after set rule g s j how f (taken_at j f) t (Each-all (λ x. each f x) (waiting set g)));
   lates = subst (λ x. Counts x (lates_of set (Tick j how ∷ g))) (sym m.lates) (noted_so (is_due_at (Some task) p.release s.ticks) refl);
 }
   where
@@ -115,9 +115,6 @@ keeps_end set rule g s s' j how k p task l t ends over at found m = record {
             ∙ ap (λ (h : Bool). f (an_entry (key set rule h x.live) x.live.job.task.0 x.live.job.count (a_pending x.live.release (0 + used g x.live.job) x.place))) (sym mode_same))
 
     -- what the job's entry weighs, if it is late
-    weigh : (f : LateJob → ℕ) → Entry → ℕ
-    weigh f e = cond (nat_le (e.1.release + period_in (task_at set e.0.1)) (ticks g)) (f (late_job_of e)) 0
-
     goes : (f : LateJob → ℕ) → Each (λ x. when (is_of j) (λ e. cond (nat_le (e.1.release + period_in (task_at set e.0.1)) (ticks g)) (f (late_job_of e)) 0) (entry_of set rule g x) ≡ cond (not (stays set j how x) && is_due set (ticks g) x) (f (late_job_in x)) 0) (waiting set g)
     goes f = Each-all (λ x. split (same_job j x.live.job) (is_due set (ticks g) x) (f (late_job_in x)) ∙ ap (λ b. cond (not b && is_due set (ticks g) x) (f (late_job_in x)) 0) (sym (stays_is x))) (waiting set g)
       where
@@ -125,16 +122,16 @@ keeps_end set rule g s s' j how k p task l t ends over at found m = record {
         split true b n = refl
         split false b n = refl
 
-    adds : (f : LateJob → ℕ) → cond (is_due_at (Some task) p.release s.ticks) (f (late_job (k, j.task.0, j.count) p)) 0 + lates_of set g f ≡ lates_of set (Tick j how ∷ g) f
+    adds : (f : LateJob → ℕ) → cond (is_due_at (Some task) p.release s.ticks) (f (late_job j p)) 0 + lates_of set g f ≡ lates_of set (Tick j how ∷ g) f
     adds f =
         let v : Entry → ℕ = λ e. cond (nat_le (e.1.release + period_in (task_at set e.0.1)) (ticks g)) (f (late_job_of e)) 0 in
         let a = lates_after set rule g s j how f (when (is_of j) v) t (goes f) in
-        let b = total-found v j k p s.waiting.entries (apart set rule g s l t j) found in
-        let c : v ((k, j.task.0, j.count), p) ≡ cond (is_due_at (Some task) p.release s.ticks) (f (late_job (k, j.task.0, j.count) p)) 0 = rw (at, ← t.ticks) refl in
+        let b = total_found (is_of j) v ((k, j.task.0, j.count), p) s.waiting.entries (apart set rule g s l t j) found in
+        let c : v ((k, j.task.0, j.count), p) ≡ cond (is_due_at (Some task) p.release s.ticks) (f (late_job j p)) 0 = rw (at, ← t.ticks) refl in
         omega (arith, a, b, c)
 
-    noted_so : (b : Bool) → is_due_at (Some task) p.release s.ticks ≡ b → Counts (cond (is_due_at (Some task) p.release s.ticks) (noted s.lates (late_job (k, j.task.0, j.count) p)) s.lates) (lates_of set (Tick j how ∷ g))
+    noted_so : (b : Bool) → is_due_at (Some task) p.release s.ticks ≡ b → Counts (cond (is_due_at (Some task) p.release s.ticks) (noted s.lates (late_job j p)) s.lates) (lates_of set (Tick j how ∷ g))
     noted_so true e =
-        rw e (counts_same (noted s.lates (late_job (k, j.task.0, j.count) p)) (λ f. f (late_job (k, j.task.0, j.count) p) + lates_of set g f) (lates_of set (Tick j how ∷ g)) (λ f. rw e at (adds f)) (counts_note s.lates (lates_of set g) (late_job (k, j.task.0, j.count) p) (sums_of set g) t.lates))
+        rw e (counts_same (noted s.lates (late_job j p)) (λ f. f (late_job j p) + lates_of set g f) (lates_of set (Tick j how ∷ g)) (λ f. rw e at (adds f)) (counts_note s.lates (lates_of set g) (late_job j p) (sums_of set g) t.lates))
     noted_so false e =
         rw e (counts_same s.lates (lates_of set g) (lates_of set (Tick j how ∷ g)) (λ f. let z : lates_of set g f ≡ 0 + lates_of set g f = omega arith in z ∙ (rw e at (adds f))) t.lates)

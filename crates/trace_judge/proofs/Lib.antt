@@ -1,5 +1,11 @@
+pub mod Firsts
+pub mod Ordered
+pub mod Queues
+pub mod Keys
+pub mod Trees
 pub mod Same
 pub mod Entries
+pub mod Standings
 pub mod Edits
 pub mod Noted
 pub mod Placed

@@ -1,6 +1,7 @@
 -- Ticks of a job at the least key.
 use Rattle.std.proofs.Common.{◌≡◌, ℕ, ◌+◌, ◌≤◌, ◌<◌, Bool, true, false, List, ◌∷◌, ◌++◌, replicate, cond, ◌≢◌, refl, sym, ap, ◌∙◌, subst, arith, Some, None, ◌-◌, ◌^◌}
-use Rattle.std.specs.List.{AllByRecursion}
+use Rattle.std.specs.Prelude.{find, nat_le}
+use Rattle.std.specs.List.{AllByRecursion, list_all}
 use Rattle.mc_task.specs.declared.task.JobId.{JobId}
 use Rattle.mc_task.specs.declared.task.Rule.{Rule}
 use Rattle.mc_task.specs.declared.task.Task.{Task}
@@ -19,12 +20,11 @@ use Rattle.mc_model.specs.Runs.{IsRun}
 use Rattle.mc_model.proofs.Runs.{alone}
 use Rattle.mc_model.proofs.Tasks.{known}
 use Rattle.trace_judge.specs.declared.waiting.Pending.{Pending}
-use Rattle.trace_judge.specs.Entries.{Stands}
+use Rattle.trace_judge.specs.Entries.{Entry, is_of}
 use Rattle.trace_judge.specs.declared.state.State.{State}
 use Rattle.trace_judge.specs.Rules.{allows, budget, fitting}
 use Rattle.trace_judge.specs.Tracks.{Tracks, StopsAt}
 use Rattle.trace_judge.specs.Switch.{Ticks}
-use Rattle.trace_judge.specs.declared.waiting.Standing.TheVariants as standing
 use Rattle.trace_judge.proofs.Entries.{found_pending, found_least}
 use Rattle.trace_judge.proofs.Placed.{pending_is}
 use Rattle.trace_judge.proofs.Faults.{apart, pending_same, least_same, found_used, stands_least, over_virtual}
@@ -38,7 +38,7 @@ pub record IsTicking (set : List Task) (rule : Rule) (g : List Row) (s : State) 
   pub legal : Legal set rule g
   pub tracks : Tracks set rule g s
   pub room : s.ticks + n ≤ 2 ^ 32 - 1
-  pub least : Stands s.waiting.entries j (standing.Least k p)
+  pub least : (find (is_of j) s.waiting.entries ≡ Some ((k, j.task.0, j.count), p)) × (list_all (λ (o : Entry). nat_le k o.0.0) s.waiting.entries ≡ true)
   pub at : task_at set j.task.0 ≡ Some task
   pub inside : IsIn set j.task.0
   pub is_run : IsRun (run.Ticks j how n)
@@ -47,13 +47,13 @@ pub record IsTicking (set : List Task) (rule : Rule) (g : List Row) (s : State) 
 -- the job is pending
 is_there : (set : List Task) (rule : Rule) (g : List Row) (s : State) (j : JobId) (how : How) (n k : ℕ) (p : Pending) (task : Task) → IsTicking set rule g s j how n k p task → is_pending (pending set g) j ≡ true
 is_there set rule g s j how n k p task i =
-    ap (λ xs. is_pending xs j) (pending_is set rule g i.legal) ∙ (pending_same set rule g s j i.tracks ∙ found_pending j k p s.waiting.entries i.least.0)
+    ap (λ xs. is_pending xs j) (pending_is set rule g i.legal) ∙ (pending_same set rule g s j i.tracks ∙ found_pending j ((k, j.task.0, j.count), p) s.waiting.entries i.least.0)
 
 -- at a least key
 is_first : (set : List Task) (rule : Rule) (g : List Row) (s : State) (j : JobId) (how : How) (n k : ℕ) (p : Pending) (task : Task) → IsTicking set rule g s j how n k p task → is_least set rule (high_mode rule g) (pending set g) j ≡ true
 is_first set rule g s j how n k p task i =
     ap (λ xs. is_least set rule (high_mode rule g) xs j) (pending_is set rule g i.legal)
-    ∙ (least_same set rule g s j i.tracks ∙ found_least j k p s.waiting.entries (apart set rule g s i.legal i.tracks j) i.least.1 i.least.0)
+    ∙ (least_same set rule g s j i.tracks ∙ found_least j ((k, j.task.0, j.count), p) s.waiting.entries (apart set rule g s i.legal i.tracks j) i.least.1 i.least.0)
 
 -- its budget, and that it has a tick of it left
 budget_is : (set : List Task) (rule : Rule) (g : List Row) (s : State) (j : JobId) (how : How) (n k : ℕ) (p : Pending) (task : Task) → IsTicking set rule g s j how n k p task →
@@ -71,7 +71,7 @@ more_fit set rule g s j n k p task i m h =
 -- it fits where it is allowed
 one_fault : (set : List Task) (rule : Rule) (g : List Row) (s : State) (j : JobId) (how : How) (n k : ℕ) (p : Pending) (task : Task) → IsTicking set rule g s j how n k p task →
     fault set rule (Tick j how) g ≡ cond (allows rule s.high_mode (Some task) (p.used + 1) how) None (Some WrongHow)
-one_fault set rule g s j how n k p task i = stands_least set rule g s j how k p i.legal i.tracks i.least ∙ rw i.at refl
+one_fault set rule g s j how n k p task i = stands_least set rule g s j how p i.legal i.tracks (k, i.least.0, i.least.1) ∙ rw i.at refl
 
 one_stops : (set : List Task) (rule : Rule) (g : List Row) (s : State) (j : JobId) (how : How) (n k : ℕ) (p : Pending) (task : Task) → IsTicking set rule g s j how n k p task →
     (fit : ℕ) → fit ≡ cond (allows rule s.high_mode (Some task) (p.used + 1) how) n 0 → fit < n → StopsAt set rule (run.Ticks j how n) g (record { after = fit; why = WrongHow })
@@ -109,8 +109,8 @@ stops set rule g s j Over n k p task i fit e h = one_stops set rule g s j Over n
 -- where all fit, what is kept follows them
 pub goes :
     (set : List Task) (rule : Rule) (g : List Row) (s s' : State) (j : JobId) (how : How) (n k : ℕ) (p : Pending) (task : Task) → IsTicking set rule g s j how n k p task →
-    n ≤ fitting rule s.high_mode (Some task) p.used how n → Ticks set rule (Some task) (k, j.task.0, j.count) p how n s s' → Legal set rule (replicate n (Tick j how) ++ g) × Tracks set rule (replicate n (Tick j how) ++ g) s'
-goes set rule g s s' j More n k p task i h m = (more_fit set rule g s j n k p task i n (omega (arith, h)), keeps_more set rule g s s' j n k p i.legal i.tracks i.room i.least.0 m)
+    n ≤ fitting rule s.high_mode (Some task) p.used how n → Ticks set rule (Some task) j p how n s s' → Legal set rule (replicate n (Tick j how) ++ g) × Tracks set rule (replicate n (Tick j how) ++ g) s'
+goes set rule g s s' j More n k p task i h m = (more_fit set rule g s j n k p task i n (omega (arith, h)), keeps_more set rule g s s' j n i.legal i.tracks i.room m)
 goes set rule g s s' j Done n k p task i h m =
     let f = one_fits set rule g s j Done n k p task i (λ e. cc) h in
     subst (λ (c : ℕ). Legal set rule (replicate c (Tick j Done) ++ g) × Tracks set rule (replicate c (Tick j Done) ++ g) s') (sym f.0) (f.2, keeps_end set rule g s s' j Done k p task i.legal i.tracks refl refl i.at i.least.0 m)
@@ -121,4 +121,4 @@ goes set rule g s s' j Over n k p task i h m =
     let f = one_fits set rule g s j Over n k p task i (λ e. cc) h in
     let room : s.ticks + 1 ≤ 2 ^ 32 - 1 = (let r = i.room in let e = f.0 in omega (arith, r, e)) in
     subst (λ (c : ℕ). Legal set rule (replicate c (Tick j Over) ++ g) × Tracks set rule (replicate c (Tick j Over) ++ g) s') (sym f.0)
-    (f.2, keeps_over set rule g s s' j k p i.legal i.tracks room (over_virtual rule s.high_mode (Some task) (p.used + 1) f.1) i.least.0 m)
+    (f.2, keeps_over set rule g s s' j i.legal i.tracks room (over_virtual rule s.high_mode (Some task) (p.used + 1) f.1) m)

@@ -1,6 +1,9 @@
 pub mod Rules
 pub mod Lates
+pub mod Firsts
 pub mod Entries
+pub mod Heads
+pub mod Queues
 pub mod Steps
 pub mod Switch
 pub mod Placed

@@ -1,7 +1,5 @@
 -- What a row does to what is kept: the state before it and after it.
-use Rattle.std.specs.Prelude.{◌≡◌, ℕ, ◌+◌, ◌-◌, Bool, false, not, ◌||◌, ◌==◌, nat_lt, List, [], ◌∷◌, Option, None, slice_set, slice_index_or, cond, replicate}
-use Rattle.std.specs.Map.{remove_entry}
-use Rattle.std.specs.BTreeMap.{insert_entry, is_at}
+use Rattle.std.specs.Prelude.{◌≡◌, ℕ, ◌+◌, ◌-◌, Bool, true, false, not, ◌||◌, ◌==◌, nat_lt, List, [], ◌∷◌, Option, None, slice_set, slice_index_or, cond, replicate}
 use Rattle.mc_task.specs.declared.task.Rule.{Rule}
 use Rattle.mc_task.specs.declared.task.Task.{Task}
 use Rattle.mc_task.specs.declared.task.JobId.{JobId}
@@ -14,7 +12,8 @@ use Rattle.trace_judge.specs.declared.waiting.Pending.{Pending}
 use Rattle.trace_judge.specs.declared.state.TaskNote.{TaskNote}
 use Rattle.trace_judge.specs.declared.state.State.{State}
 use Rattle.trace_judge.specs.Lates.{noted}
-use Rattle.trace_judge.specs.Entries.{Rank, rank_cmp, spent, late_job}
+use Rattle.trace_judge.specs.Firsts.{change_first, remove_first}
+use Rattle.trace_judge.specs.Entries.{Entry, IsMore, is_of, spent_entry, late_job}
 use Rattle.trace_judge.specs.Rules.{is_due_at}
 
 -- the note of task number k
@@ -37,9 +36,14 @@ pub record IsNew (count : ℕ) (s : State) : Type 0 where
   pub place : s.place ≡ 0
   pub mode : s.high_mode ≡ false
   pub tasks : s.tasks.items ≡ replicate count (record { releases = 0; next = 0 })
-  pub waiting : s.waiting.entries ≡ []
+  pub waiting : s.waiting ≡ record { tasks = count; entries = [] }
   pub count_zero : s.lates.count ≡ 0
   pub first : s.lates.first ≡ None
+
+-- the job of this entry waits where it is kept
+abbrev pub Waits : Bool → Entry → List Entry → List Entry → Type 0
+Waits true e old new = IsMore new e old
+Waits false e old new = new ≡ old
 
 -- a release of a job of task t: its note is renewed, and the job waits where it is kept
 pub record Releases (rule : Rule) (t : Option Task) (j : JobId) (kept : Bool) (old new : State) : Type 0 where
@@ -47,9 +51,8 @@ pub record Releases (rule : Rule) (t : Option Task) (j : JobId) (kept : Bool) (o
   pub place : new.place ≡ old.place + 1
   pub mode : new.high_mode ≡ old.high_mode
   pub tasks : new.tasks.items ≡ slice_set old.tasks.items (j.task.0 - 1) (record { releases = j.count; next = old.ticks + period_in t })
-  pub waiting :
-      new.waiting.entries
-      ≡ cond kept (insert_entry rank_cmp old.waiting.entries (key_of rule old.high_mode t old.ticks, j.task.0, j.count) (record { release = old.ticks; used = 0; place = old.place })) old.waiting.entries
+  pub queues : new.waiting.tasks ≡ old.waiting.tasks
+  pub waiting : Waits kept ((key_of rule old.high_mode t old.ticks, j.task.0, j.count), record { release = old.ticks; used = 0; place = old.place }) old.waiting.entries new.waiting.entries
   pub lates : new.lates ≡ old.lates
 
 -- n more ticks, and as many more rows
@@ -57,20 +60,21 @@ pub record Moves (n : ℕ) (old new : State) : Type 0 where
   pub ticks : new.ticks ≡ old.ticks + n
   pub place : new.place ≡ old.place + n
   pub tasks : new.tasks.items ≡ old.tasks.items
+  pub queues : new.waiting.tasks ≡ old.waiting.tasks
 
--- n ticks of the job at this rank, which goes on
-pub record GoesOn (n : ℕ) (at : Rank) (old new : State) : Type 0 where
+-- n ticks of the job, which goes on
+pub record GoesOn (n : ℕ) (j : JobId) (old new : State) : Type 0 where
   pub moves : Moves n old new
   pub mode : new.high_mode ≡ old.high_mode
-  pub waiting : new.waiting.entries ≡ spent n at old.waiting.entries
+  pub waiting : new.waiting.entries ≡ change_first (is_of j) (spent_entry n) old.waiting.entries
   pub lates : new.lates ≡ old.lates
 
--- the last tick of the job of task t at this rank: it goes, and is late where its deadline came before
-pub record Ends (t : Option Task) (at : Rank) (p : Pending) (old new : State) : Type 0 where
+-- the last tick of the job of task t: it goes, and is late where its deadline came before
+pub record Ends (t : Option Task) (j : JobId) (p : Pending) (old new : State) : Type 0 where
   pub moves : Moves 1 old new
   pub mode : new.high_mode ≡ old.high_mode
-  pub waiting : new.waiting.entries ≡ remove_entry (is_at (rank_cmp at)) old.waiting.entries
-  pub lates : new.lates ≡ cond (is_due_at t p.release old.ticks) (noted old.lates (late_job at p)) old.lates
+  pub waiting : new.waiting.entries ≡ remove_first (is_of j) old.waiting.entries
+  pub lates : new.lates ≡ cond (is_due_at t p.release old.ticks) (noted old.lates (late_job j p)) old.lates
 
 -- n idle ticks
 pub record Rests (n : ℕ) (old new : State) : Type 0 where

@@ -1,6 +1,6 @@
 -- What an overrun does to what is kept: the low jobs go, and the high ones get their keys of high mode.
 use Rattle.std.specs.Prelude.{◌≡◌, ℕ, Bool, true, not, ◌&&◌, List, [], ◌∷◌, Option, Some, None, cond}
-use Rattle.std.specs.BTreeMap.{insert_entry}
+use Rattle.mc_task.specs.declared.task.JobId.{JobId}
 use Rattle.mc_task.specs.declared.task.Rule.{Rule}
 use Rattle.mc_task.specs.declared.task.Task.{Task}
 use Rattle.mc_task.specs.TaskSet.{task_at}
@@ -12,7 +12,9 @@ use Rattle.trace_judge.specs.declared.waiting.Pending.{Pending}
 use Rattle.trace_judge.specs.declared.lates.Lates.{Lates}
 use Rattle.trace_judge.specs.declared.state.State.{State}
 use Rattle.trace_judge.specs.Lates.{noted}
-use Rattle.trace_judge.specs.Entries.{Rank, Entry, rank_cmp, spent, late_job_of}
+use Rattle.mc_model.specs.Sums.{total}
+use Rattle.trace_judge.specs.Firsts.{change_first}
+use Rattle.trace_judge.specs.Entries.{Rank, Entry, is_of, spent_entry, late_job_of}
 use Rattle.trace_judge.specs.Rules.{is_due_at}
 use Rattle.trace_judge.specs.Steps.{Moves, GoesOn, Ends}
 
@@ -34,22 +36,24 @@ abbrev pub rekeyed : Rule → Option Task → Rank → Pending → Rank
 rekeyed rule None at p = at
 rekeyed rule (Some t) at p = (key_of rule true (Some t) p.release, at.1, at.2)
 
--- the high ones of the entries are put in at their new ranks, one after the other
-abbrev pub switched : List Task → Rule → List Entry → List Entry → List Entry
-switched set rule done [] = done
-switched set rule done (e ∷ es) =
-    switched set rule (cond (is_high_in (task_at set e.0.1)) (insert_entry rank_cmp done (rekeyed rule (task_at set e.0.1) e.0 e.1) e.1) done) es
+-- a weight of the high entries at their new ranks, where the low ones weigh nothing
+abbrev pub moved : List Task → Rule → (Entry → ℕ) → Entry → ℕ
+moved set rule f e = cond (is_high_in (task_at set e.0.1)) (f (rekeyed rule (task_at set e.0.1) e.0 e.1, e.1)) 0
 
--- an overrun of the job at this rank
-pub record Overruns (set : List Task) (rule : Rule) (at : Rank) (old new : State) : Type 0 where
+-- of the entries the high ones are kept, at their new ranks
+abbrev pub Switches : List Task → Rule → List Entry → List Entry → Type 0
+Switches set rule old new = (f : Entry → ℕ) → total f new ≡ total (moved set rule f) old
+
+-- an overrun of the job
+pub record Overruns (set : List Task) (rule : Rule) (j : JobId) (old new : State) : Type 0 where
   pub moves : Moves 1 old new
   pub mode : new.high_mode ≡ true
-  pub waiting : new.waiting.entries ≡ switched set rule [] (spent 1 at old.waiting.entries)
-  pub lates : new.lates ≡ noted_each (is_discarded_late set old.ticks) old.lates (spent 1 at old.waiting.entries)
+  pub waiting : Switches set rule (change_first (is_of j) (spent_entry 1) old.waiting.entries) new.waiting.entries
+  pub lates : new.lates ≡ noted_each (is_discarded_late set old.ticks) old.lates (change_first (is_of j) (spent_entry 1) old.waiting.entries)
 
--- n ticks of the job of task t at this rank behind which it goes on, or one that ended so
-abbrev pub Ticks : List Task → Rule → Option Task → Rank → Pending → How → ℕ → State → State → Type 0
-Ticks set rule t at p More n old new = GoesOn n at old new
-Ticks set rule t at p Done n old new = Ends t at p old new
-Ticks set rule t at p Stop n old new = Ends t at p old new
-Ticks set rule t at p Over n old new = Overruns set rule at old new
+-- n ticks of the job of task t behind which it goes on, or one that ended so
+abbrev pub Ticks : List Task → Rule → Option Task → JobId → Pending → How → ℕ → State → State → Type 0
+Ticks set rule t j p More n old new = GoesOn n j old new
+Ticks set rule t j p Done n old new = Ends t j p old new
+Ticks set rule t j p Stop n old new = Ends t j p old new
+Ticks set rule t j p Over n old new = Overruns set rule j old new

@@ -15,7 +15,7 @@ use Rattle.trace_judge.specs.declared.state.State.{State}
 use Rattle.mc_model.specs.Sums.{total}
 use Rattle.trace_judge.specs.Placed.{Placed, waiting, gone_late}
 use Rattle.trace_judge.specs.Lates.{Counts}
-use Rattle.trace_judge.specs.Entries.{Entry}
+use Rattle.trace_judge.specs.Entries.{Entry, HasQueues}
 
 -- the entry of a pending job behind these rows
 abbrev pub entry_of : List Task → Rule → List Row → Placed → Entry
@@ -33,6 +33,7 @@ pub record Tracks (set : List Task) (rule : Rule) (g : List Row) (s : State) : T
   pub mode : s.high_mode ≡ high_mode rule g
   pub count : length s.tasks.items ≡ length set
   pub tasks : (k : ℕ) → k < length set → slice_get s.tasks.items k ≡ Some (record { releases = releases g (k + 1); next = next_release set g (k + 1) })
+  pub queues : HasQueues s.waiting set
   pub waiting : (f : Entry → ℕ) → total f s.waiting.entries ≡ total (λ x. f (entry_of set rule g x)) (waiting set g)
   pub lates : Counts s.lates (λ f. total (λ x. f (late_job_in x)) (gone_late set g))
 

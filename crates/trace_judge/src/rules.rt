@@ -1,11 +1,15 @@
-// What the rules allow at a tick, and when a deadline has come.
-ghost use Rattle.std.specs.Prelude.{◌≡◌, ◌+◌, Some};
+// What the rules allow at a tick, by which key a job is ordered, and when a deadline has come.
+ghost use Rattle.std.specs.Prelude.{◌≡◌, ◌+◌, ◌<◌, Some};
 ghost use Rattle.mc_model.specs.TaskNumbers.{is_high_in};
 ghost use Rattle.mc_model.specs.Mode.{is_virtual};
+ghost use Rattle.mc_model.specs.Holds.{Fits};
+ghost use Rattle.mc_model.specs.Key.{key_of};
+ghost use Rattle.trace_judge.specs.Heads.{no_key};
 ghost use Rattle.trace_judge.specs.Rules.{allows, overruns, budget, fitting, is_due_at};
 
 use mc_model::How;
 use mc_task::{Level, Rule, Task};
+use virtual_key::key;
 
 /// Whether the task is a high one.
 pub fn is_high(task: &Task) -> bool
@@ -83,4 +87,14 @@ pub fn is_due(task: &Task, release: u32, now: u32) -> bool
     ensures { result ≡ is_due_at (Some task.now) release now }
 {
     u64::from(release) + u64::from(task.period) <= u64::from(now)
+}
+
+/// The key of a job of the task that was released at this boundary. It is less than what stands for an empty queue.
+pub fn key_at(rule: Rule, high_mode: bool, task: &Task, release: u32) -> u128
+    requires { Fits rule }
+    ensures key { result ≡ key_of rule high_mode (Some task.now) release }
+    ensures below { result < no_key }
+{
+    let _period = task.period;
+    key(rule, high_mode, task, u64::from(release))
 }

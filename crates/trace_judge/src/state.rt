@@ -1,21 +1,21 @@
 // What is kept of the rows so far, and what each kind of row does to it.
-ghost use Rattle.std.specs.Prelude.{◌≡◌, ◌+◌, ◌-◌, ◌^◌, ◌<◌, ◌≤◌, OnOk, IfOk, Some, length, []};
-ghost use Rattle.mc_task.specs.TaskSet.{task_at};
+ghost use Rattle.std.specs.Prelude.{◌≡◌, ◌+◌, ◌-◌, ◌^◌, ◌<◌, ◌≤◌, OnOk, IfOk, IsSome, Some, length};
+ghost use Rattle.mc_task.specs.TaskSet.{IsIn, task_at};
 ghost use Rattle.mc_model.specs.Holds.{Fits};
 ghost use Rattle.mc_model.specs.TaskNumbers.{is_high_in};
 ghost use Rattle.trace_judge.specs.Rules.{is_due_at};
-ghost use Rattle.trace_judge.specs.Entries.{late_job};
+ghost use Rattle.trace_judge.specs.Heads.{no_key};
+ghost use Rattle.trace_judge.specs.Entries.{HasQueue, HasQueues, late_job};
 ghost use Rattle.trace_judge.specs.Steps.{IsNew, note_at, release_why, Releases, GoesOn, Ends, Rests};
-ghost use Rattle.trace_judge.specs.Switch.{Ticks, rekeyed, switched, Overruns, noted_each, is_due_entry, is_discarded_late};
+ghost use Rattle.trace_judge.specs.Switch.{Ticks, rekeyed, Switches, Overruns, noted_each, is_due_entry, is_discarded_late};
 
 use crate::lates::{LateJob, Lates};
-use crate::rules::{is_due, is_high};
-use crate::waiting::{Pending, Rank, Waiting, put, spend, take_out};
+use crate::rules::{is_due, is_high, key_at};
+use crate::waiting::{Pending, Rank, Waiting};
 use mc_model::{How, Why};
 use mc_task::{JobId, Memory, Rule, Task, TaskNo, TaskSet};
 use std::alloc::Global;
-use std::collections::BTreeMap;
-use virtual_key::key;
+use std::mem::replace;
 
 /// What is kept of a task: how many releases there were, and the first boundary at which the next may come.
 #[derive(Clone, Copy, Debug, PartialEq, Eq)]
@@ -39,6 +39,7 @@ pub struct State {
 impl State {
     /// What is kept before the first row, for so many tasks.
     pub fn new(alloc: Global, count: u32) -> Result<State, Memory>
+        requires { 1 ≤ count }
         ensures { IfOk result (IsNew count) }
     {
         let mut tasks = Vec::new(alloc);
@@ -56,7 +57,7 @@ impl State {
             place: 0,
             high_mode: false,
             tasks,
-            waiting: BTreeMap::new(alloc),
+            waiting: Waiting::new(alloc, count)?,
             lates: Lates {
                 count: 0,
                 first: None,
@@ -88,17 +89,18 @@ impl State {
         requires fits { Fits rule }
         requires first { 1 ≤ job.task.0 }
         requires last { job.task.0 ≤ length self.old.tasks.items }
+        requires queue { HasQueue self.old.waiting job.task.0 }
         requires room { self.old.place < 2 ^ 32 - 1 }
         ensures { OnOk result (Releases rule (Some task.now) job kept self.old self.new) }
     {
         if kept {
-            let key = key(rule, self.high_mode, task, u64::from(self.ticks));
+            let key = key_at(rule, self.high_mode, task, self.ticks);
             let pending = Pending {
                 release: self.ticks,
                 used: 0,
                 place: self.place,
             };
-            put(&mut self.waiting, (key, job.task.0, job.count), pending)?;
+            self.waiting.put((key, job.task.0, job.count), pending)?;
         }
         self.tasks[job.task.0 as usize - 1] = TaskNote {
             releases: job.count,
@@ -119,66 +121,78 @@ impl State {
         self.high_mode = false;
     }
 
-    /// Follows so many ticks of the job of the task at this rank, or one that ended it or overran.
+    /// Follows so many ticks of a job of the task, or one that ended it or overran.
     pub fn tick(
         &mut self,
         alloc: Global,
         set: &TaskSet,
         rule: Rule,
         task: &Task,
-        at: Rank,
+        job: JobId,
         pending: Pending,
         how: How,
         length: u32,
     ) -> Result<(), Memory>
         requires fits { Fits rule }
+        requires task { IsIn set.now job.task.0 }
+        requires queues { HasQueues self.old.waiting set.now }
         requires some { 1 ≤ length }
         requires room { self.old.place + length ≤ 2 ^ 32 - 1 }
         requires time { self.old.ticks + length ≤ 2 ^ 32 - 1 }
-        ensures { OnOk result (Ticks set.now rule (Some task.now) at pending how length self.old self.new) }
+        ensures { OnOk result (Ticks set.now rule (Some task.now) job pending how length self.old self.new) }
     {
         match how {
-            How::More => self.go_on(at, length),
-            How::Done => self.end(task, at, pending),
-            How::Stop => self.end(task, at, pending),
-            How::Over => return self.overrun(alloc, set, rule, at),
+            How::More => self.go_on(job, length),
+            How::Done => self.end(task, job, pending),
+            How::Stop => self.end(task, job, pending),
+            How::Over => return self.overrun(alloc, set, rule, job),
         }
         Ok(())
     }
 
     // So many ticks behind which the job goes on. No job ends or is discarded at them, so that none is found late.
-    fn go_on(&mut self, at: Rank, length: u32)
+    fn go_on(&mut self, job: JobId, length: u32)
+        requires queue { HasQueue self.old.waiting job.task.0 }
         requires room { self.old.place + length ≤ 2 ^ 32 - 1 }
         requires time { self.old.ticks + length ≤ 2 ^ 32 - 1 }
-        ensures { GoesOn length at self.old self.new }
+        ensures { GoesOn length job self.old self.new }
     {
-        spend(&mut self.waiting, at, length);
+        self.waiting.spend(job, length);
         self.ticks += length;
         self.place += length;
     }
 
     // The last tick of a job, which is late where its deadline came before this tick.
-    fn end(&mut self, task: &Task, at: Rank, pending: Pending)
+    fn end(&mut self, task: &Task, job: JobId, pending: Pending)
+        requires queue { HasQueue self.old.waiting job.task.0 }
         requires room { self.old.place < 2 ^ 32 - 1 }
         requires time { self.old.ticks < 2 ^ 32 - 1 }
-        ensures { Ends (Some task.now) at pending self.old self.new }
+        ensures { Ends (Some task.now) job pending self.old self.new }
     {
-        take_out(&mut self.waiting, at);
+        self.waiting.take_out(job);
         if is_due(task, pending.release, self.ticks) {
-            self.lates.note(late_job(at, pending));
+            self.lates.note(late_job(job, pending));
         }
         self.ticks += 1;
         self.place += 1;
     }
 
     // An overrun.
-    fn overrun(&mut self, alloc: Global, set: &TaskSet, rule: Rule, at: Rank) -> Result<(), Memory>
+    fn overrun(
+        &mut self,
+        alloc: Global,
+        set: &TaskSet,
+        rule: Rule,
+        job: JobId,
+    ) -> Result<(), Memory>
         requires fits { Fits rule }
+        requires task { IsIn set.now job.task.0 }
+        requires queues { HasQueues self.old.waiting set.now }
         requires room { self.old.place < 2 ^ 32 - 1 }
         requires time { self.old.ticks < 2 ^ 32 - 1 }
-        ensures { OnOk result (Overruns set.now rule at self.old self.new) }
+        ensures { OnOk result (Overruns set.now rule job self.old self.new) }
     {
-        spend(&mut self.waiting, at, 1);
+        self.waiting.spend(job, 1);
         self.switch(alloc, set, rule)?;
         self.high_mode = true;
         self.ticks += 1;
@@ -190,49 +204,60 @@ impl State {
     // its deadline came before this tick.
     fn switch(&mut self, alloc: Global, set: &TaskSet, rule: Rule) -> Result<(), Memory>
         requires { Fits rule }
-        ensures waiting { OnOk result (self.new.waiting.entries ≡ switched set.now rule [] self.old.waiting.entries) }
+        ensures queues { OnOk result (HasQueues self.new.waiting set.now) }
+        ensures waiting { OnOk result (Switches set.now rule self.old.waiting.entries self.new.waiting.entries) }
         ensures lates { OnOk result (self.new.lates ≡ noted_each (is_discarded_late set.now self.old.ticks) self.old.lates self.old.waiting.entries) }
         ensures ticks { OnOk result (self.new.ticks ≡ self.old.ticks) }
         ensures place { OnOk result (self.new.place ≡ self.old.place) }
         ensures tasks { OnOk result (self.new.tasks.items ≡ self.old.tasks.items) }
     {
-        let mut kept = BTreeMap::new(alloc);
-        while let Some((at, pending)) = self.waiting.pop_first() {
+        let none = Waiting::new(alloc, set.len())?;
+        let mut rest = replace(&mut self.waiting, none).into_rest();
+        while let Some((at, pending)) = rest.pop() {
             let task = set.get(TaskNo(at.1));
             if is_high_task(&task) {
-                put(&mut kept, rekeyed(rule, &task, at, pending), pending)?;
+                let at = rekeyed(rule, &task, at, pending);
+                self.waiting.put(at, pending)?;
             } else if is_due_task(&task, pending.release, self.ticks) {
-                self.lates.note(late_job(at, pending));
+                self.lates.note(late_job(job_at(at), pending));
             }
         }
-        self.waiting = kept;
         Ok(())
     }
 
     /// The late jobs of the whole trace: those so far, and the pending ones whose deadlines have come.
-    pub fn finish(mut self, set: &TaskSet) -> Lates
+    pub fn finish(self, set: &TaskSet) -> Lates
         ensures { result ≡ noted_each (is_due_entry set.now self.ticks) self.lates self.waiting.entries }
     {
-        while let Some((at, pending)) = self.waiting.pop_first() {
+        let mut lates = self.lates;
+        let mut rest = self.waiting.into_rest();
+        while let Some((at, pending)) = rest.pop() {
             let task = set.get(TaskNo(at.1));
             if is_due_task(&task, pending.release, self.ticks) {
-                self.lates.note(late_job(at, pending));
+                lates.note(late_job(job_at(at), pending));
             }
         }
-        self.lates
+        lates
     }
 }
 
-// The job at this rank, as a late one.
-fn late_job(at: Rank, pending: Pending) -> LateJob
-    ensures { result ≡ late_job at pending }
+// The job of this rank.
+fn job_at(at: Rank) -> JobId
+    ensures { result ≡ record { task = record { 0 = at.1 }; count = at.2 } }
+{
+    JobId {
+        task: TaskNo(at.1),
+        count: at.2,
+    }
+}
+
+// The job, as a late one.
+fn late_job(job: JobId, pending: Pending) -> LateJob
+    ensures { result ≡ late_job job pending }
 {
     LateJob {
         place: pending.place,
-        job: JobId {
-            task: TaskNo(at.1),
-            count: at.2,
-        },
+        job,
     }
 }
 
@@ -259,14 +284,11 @@ fn is_due_task(task: &Option<Task>, release: u32, now: u32) -> bool
 // The rank of a high job in high mode.
 fn rekeyed(rule: Rule, task: &Option<Task>, at: Rank, pending: Pending) -> Rank
     requires { Fits rule }
-    ensures { result ≡ rekeyed rule task.now at pending }
+    ensures rank { result ≡ rekeyed rule task.now at pending }
+    ensures key { IsSome task.now → result.0 < no_key }
 {
     match task {
         None => at,
-        Some(task) => (
-            key(rule, true, task, u64::from(pending.release)),
-            at.1,
-            at.2,
-        ),
+        Some(task) => (key_at(rule, true, task, pending.release), at.1, at.2),
     }
 }

@@ -4,13 +4,13 @@ ghost use Rattle.mc_task.specs.TaskSet.{task_at};
 ghost use Rattle.mc_model.specs.Holds.{Fits};
 ghost use Rattle.mc_model.specs.Runs.{size, IsRun, IsRunOfSet};
 ghost use Rattle.mc_model.specs.declared.run.Run.TheVariants as run;
-ghost use Rattle.trace_judge.specs.Entries.{Stands};
+ghost use Rattle.trace_judge.specs.Entries.{HasQueues, Stands};
 ghost use Rattle.trace_judge.specs.Tracks.{IsStep};
 ghost use Rattle.trace_judge.specs.declared.waiting.Standing.TheVariants as standing;
 
 use crate::rules::fitting;
 use crate::state::State;
-use crate::waiting::{Pending, Standing, standing_of};
+use crate::waiting::{Pending, Standing};
 use mc_model::{How, Run, Why};
 use mc_task::{JobId, Memory, Rule, Task, TaskNo, TaskSet};
 use std::alloc::Global;
@@ -43,6 +43,7 @@ pub fn step(
     requires task { IsRunOfSet set.now run }
     requires is_run { IsRun run }
     requires count { length state.old.tasks.items ≡ length set.now }
+    requires queues { HasQueues state.old.waiting set.now }
     requires room { state.old.place + size run ≤ 2 ^ 32 - 1 }
     requires time { state.old.ticks + size run ≤ 2 ^ 32 - 1 }
     ensures { IfOk result (λ misfit. IsStep set.now rule run state.old misfit state.new) }
@@ -65,6 +66,7 @@ fn release(
     requires fits { Fits rule }
     requires task { IsRunOfSet set.now (run.Release job kept) }
     requires count { length state.old.tasks.items ≡ length set.now }
+    requires queues { HasQueues state.old.waiting set.now }
     requires room { state.old.place + 1 ≤ 2 ^ 32 - 1 }
     ensures { IfOk result (λ misfit. IsStep set.now rule (run.Release job kept) state.old misfit state.new) }
 {
@@ -89,15 +91,16 @@ fn tick(
     requires fits { Fits rule }
     requires task { IsRunOfSet set.now (run.Ticks job how length) }
     requires is_run { IsRun (run.Ticks job how length) }
+    requires queues { HasQueues state.old.waiting set.now }
     requires room { state.old.place + length ≤ 2 ^ 32 - 1 }
     requires time { state.old.ticks + length ≤ 2 ^ 32 - 1 }
     ensures { IfOk result (λ misfit. IsStep set.now rule (run.Ticks job how length) state.old misfit state.new) }
 {
-    match standing_of(&state.waiting, job) {
+    match state.waiting.standing_of(job) {
         Standing::NotPending => Ok(Some(Misfit::first(Why::NotPending))),
         Standing::NotLeast => Ok(Some(Misfit::first(Why::NotLeast))),
-        Standing::Least { key, pending } => tick_least(
-            state, alloc, set, rule, job, how, length, key, pending,
+        Standing::Least { pending } => tick_least(
+            state, alloc, set, rule, job, how, length, pending,
         ),
     }
 }
@@ -111,15 +114,15 @@ fn tick_least(
     job: JobId,
     how: How,
     length: u32,
-    key: u128,
     pending: Pending,
 ) -> Result<Option<Misfit>, Memory>
     requires fits { Fits rule }
     requires task { IsRunOfSet set.now (run.Ticks job how length) }
     requires is_run { IsRun (run.Ticks job how length) }
+    requires queues { HasQueues state.old.waiting set.now }
     requires room { state.old.place + length ≤ 2 ^ 32 - 1 }
     requires time { state.old.ticks + length ≤ 2 ^ 32 - 1 }
-    requires least { Stands state.old.waiting.entries job (standing.Least key pending) }
+    requires least { Stands state.old.waiting.entries job (standing.Least pending) }
     ensures { IfOk result (λ misfit. IsStep set.now rule (run.Ticks job how length) state.old misfit state.new) }
 {
     let _is_set = set.len();
@@ -131,8 +134,7 @@ fn tick_least(
             why: Why::WrongHow,
         }));
     }
-    let at = (key, job.task.0, job.count);
-    state.tick(alloc, set, rule, &task, at, pending, how, length)?;
+    state.tick(alloc, set, rule, &task, job, pending, how, length)?;
     Ok(None)
 }
 

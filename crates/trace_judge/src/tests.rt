@@ -3,6 +3,8 @@ ghost use Rattle.mc_model.specs.Holds.{Fits};
 ghost use Rattle.mc_model.specs.Sums.{total};
 ghost use Rattle.mc_model.specs.Runs.{length_of, IsRun, AreRuns, IsRunOfSet};
 
+mod many;
+
 use crate::judge;
 use mc_model::{How, Run, Verdict, Why};
 use mc_task::{JobId, Level, Name, Rule, Task, TaskNo, TaskSet};

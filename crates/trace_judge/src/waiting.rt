@@ -1,12 +1,14 @@
-// The pending jobs, in a map that has the least key first.
-ghost use Rattle.std.specs.Prelude.{◌≡◌, OnOk};
-ghost use Rattle.std.specs.List.{list_any};
-ghost use Rattle.std.specs.Map.{keys_of, lookup, remove_entry};
-ghost use Rattle.std.specs.BTreeMap.{insert_entry, is_at, IsOrdered};
-ghost use Rattle.trace_judge.specs.Entries.{rank_cmp, spent, Stands, is_key_of, first_rank};
+// The pending jobs: those of each task in a queue, and the least key of each queue.
+ghost use Rattle.std.specs.Prelude.{◌≡◌, ◌+◌, ◌<◌, ◌≤◌, ◌==◌, [], ◌∷◌, ◌^◌, IfOk, OnOk, MatchOption, length, replicate};
+ghost use Rattle.trace_judge.specs.Heads.{no_key};
+ghost use Rattle.trace_judge.specs.Firsts.{change_first, remove_first};
+ghost use Rattle.trace_judge.specs.Entries.{HasQueue, IsMore, Stands, is_of, spent_entry};
 
+use crate::heads::{Heads, NO_KEY};
+use crate::queue::{Queue, Queued};
 use mc_task::{JobId, Memory};
-use std::collections::BTreeMap;
+use std::alloc::Global;
+use std::marker::Model;
 
 /// What is kept of a pending job: its release time, the ticks that it has had, and the number of rows before its release.
 #[derive(Clone, Copy, Debug, PartialEq, Eq)]
@@ -16,11 +18,8 @@ pub struct Pending {
     pub place: u32,
 }
 
-/// A job's key, its task's number and its count: the order in which the pending jobs are kept.
+/// A job's key, its task's number and its count.
 pub type Rank = (u128, u32, u32);
-
-/// The pending jobs.
-pub type Waiting = BTreeMap<Rank, Pending>;
 
 /// Where a job stands among the pending ones.
 #[derive(Clone, Copy, Debug, PartialEq, Eq)]
@@ -28,79 +27,163 @@ pub enum Standing {
     NotPending,
     /// A pending job has a lesser key.
     NotLeast,
-    Least { key: u128, pending: Pending },
+    Least { pending: Pending },
 }
 
-/// Where the job stands. Only a job that is not at the least key is looked for among all.
-pub fn standing_of(waiting: &Waiting, job: JobId) -> Standing
-    ensures { Stands waiting.now.entries job result }
-{
-    let Some(first) = first_rank(waiting) else {
-        return Standing::NotPending;
-    };
-    if let Some(pending) = look_up(waiting, (first.0, job.task.0, job.count)) {
-        return Standing::Least {
-            key: first.0,
+/// The pending jobs.
+#[derive(Drop)]
+pub struct Waiting {
+    queues: Vec<Queue>,
+    heads: Heads,
+}
+
+impl Model for Waiting {
+    ghost use Rattle.trace_judge.specs.Entries.{Held};
+
+    ghost Value = { Held };
+
+    ghost use Rattle.trace_judge.specs.Queues.{held, AreQueues};
+
+    ghost view = { λ a. held a.queues.items };
+
+    ghost invariant = { λ a. AreQueues a.queues.items a.heads };
+}
+
+impl Waiting {
+    /// No jobs, of so many tasks.
+    pub fn new(alloc: Global, count: u32) -> Result<Waiting, Memory>
+        requires { 1 ≤ count }
+        ensures { IfOk result (λ waiting. waiting ≡ record { tasks = count; entries = [] }) }
+    {
+        let queues = empty_queues(alloc, count)?;
+        let heads = Heads::new(alloc, count)?;
+        Ok(Waiting { queues, heads })
+    }
+
+    /// Whether there are no jobs.
+    pub fn is_empty(&self) -> bool
+        ensures { result ≡ (length self.now.entries == 0) }
+    {
+        self.heads.least() == NO_KEY
+    }
+
+    /// Where the job stands.
+    pub fn standing_of(&self, job: JobId) -> Standing
+        requires { HasQueue self.now job.task.0 }
+        ensures { Stands self.now.entries job result }
+    {
+        match self.queues[job.task.0 as usize - 1].find(job.count) {
+            None => Standing::NotPending,
+            Some(queued) => {
+                if queued.key == self.heads.least() {
+                    Standing::Least {
+                        pending: queued.pending,
+                    }
+                } else {
+                    Standing::NotLeast
+                }
+            }
+        }
+    }
+
+    /// Puts a pending job in.
+    pub fn put(&mut self, at: Rank, pending: Pending) -> Result<(), Memory>
+        requires task { HasQueue self.old at.1 }
+        requires key { at.0 < no_key }
+        ensures tasks { OnOk result (self.new.tasks ≡ self.old.tasks) }
+        ensures entries { OnOk result (IsMore self.new.entries (at, pending) self.old.entries) }
+    {
+        let index = at.1 as usize - 1;
+        let queue = &mut self.queues[index];
+        let is_first = queue.push(Queued {
+            key: at.0,
+            count: at.2,
             pending,
-        };
+        })?;
+        if !is_first {
+            return Ok(());
+        }
+        self.heads.set(index, at.0);
+        Ok(())
     }
-    if has_job(waiting, job) {
-        Standing::NotLeast
-    } else {
-        Standing::NotPending
+
+    /// Counts so many more ticks of the job.
+    pub fn spend(&mut self, job: JobId, ticks: u32)
+        requires { HasQueue self.old job.task.0 }
+        ensures tasks { self.new.tasks ≡ self.old.tasks }
+        ensures entries { self.new.entries ≡ change_first (is_of job) (spent_entry ticks) self.old.entries }
+    {
+        self.queues[job.task.0 as usize - 1].spend(job.count, ticks);
     }
-}
 
-// The least rank.
-fn first_rank(waiting: &Waiting) -> Option<Rank>
-    ensures value { result ≡ first_rank waiting.now.entries }
-    ensures ordered { IsOrdered rank_cmp waiting.now }
-{
-    let _count = waiting.len();
-    match waiting.first_key_value() {
-        None => None,
-        Some((first, _)) => Some(*first),
+    /// Takes the job out.
+    pub fn take_out(&mut self, job: JobId)
+        requires { HasQueue self.old job.task.0 }
+        ensures tasks { self.new.tasks ≡ self.old.tasks }
+        ensures entries { self.new.entries ≡ remove_first (is_of job) self.old.entries }
+    {
+        let index = job.task.0 as usize - 1;
+        let queue = &mut self.queues[index];
+        queue.take_out(job.count);
+        self.heads.set(index, queue.head_key());
     }
-}
 
-// The pending job at this rank.
-fn look_up(waiting: &Waiting, at: Rank) -> Option<Pending>
-    ensures { result ≡ lookup (is_at (rank_cmp at)) waiting.now.entries }
-{
-    waiting.get(&at).copied()
-}
-
-// Whether the job is pending.
-fn has_job(waiting: &Waiting, job: JobId) -> bool
-    ensures { result ≡ list_any (is_key_of job) (keys_of waiting.now.entries) }
-{
-    waiting
-        .keys()
-        .any(|rank| job.task.0 == rank.1 && job.count == rank.2)
-}
-
-/// Puts a pending job in.
-pub fn put(waiting: &mut Waiting, at: Rank, pending: Pending) -> Result<(), Memory>
-    ensures { OnOk result (waiting.new.entries ≡ insert_entry rank_cmp waiting.old.entries at pending) }
-{
-    match waiting.insert(at, pending) {
-        Ok(_) => Ok(()),
-        Err(_) => Err(Memory),
+    /// All jobs, to be gone through.
+    pub fn into_rest(self) -> Rest
+        ensures { result ≡ self.entries }
+    {
+        Rest {
+            queues: self.queues,
+            next: 0,
+        }
     }
 }
 
-/// Counts so many more ticks of the job at this rank.
-pub fn spend(waiting: &mut Waiting, at: Rank, ticks: u32)
-    ensures { waiting.new.entries ≡ spent ticks at waiting.old.entries }
+// A queue without jobs for each of so many tasks.
+fn empty_queues(alloc: Global, count: u32) -> Result<Vec<Queue>, Memory>
+    ensures { IfOk result (λ queues. queues.items ≡ replicate count []) }
 {
-    if let Some(pending) = waiting.get_mut(&at) {
-        pending.used = pending.used.saturating_add(ticks);
+    let mut queues = Vec::new(alloc);
+    for _ in 0..count {
+        if queues.push(Queue::new(alloc)).is_err() {
+            return Err(Memory);
+        }
     }
+    Ok(queues)
 }
 
-/// Takes the job at this rank out.
-pub fn take_out(waiting: &mut Waiting, at: Rank)
-    ensures { waiting.new.entries ≡ remove_entry (is_at (rank_cmp at)) waiting.old.entries }
-{
-    let _ = waiting.remove(&at);
+/// Pending jobs that are gone through, task by task.
+#[derive(Drop)]
+pub struct Rest {
+    queues: Vec<Queue>,
+    next: usize,
+}
+
+impl Model for Rest {
+    ghost use Rattle.std.specs.Prelude.{◌^◌, ◌<◌, List, length};
+    ghost use Rattle.trace_judge.specs.Entries.{Entry};
+
+    ghost Value = { List Entry };
+
+    ghost use Rattle.trace_judge.specs.Queues.{rest_of};
+
+    ghost view = { λ a. rest_of a.queues.items a.next };
+
+    ghost invariant = { λ a. length a.queues.items < 2 ^ 32 };
+}
+
+impl Rest {
+    /// The next job.
+    pub fn pop(&mut self) -> Option<(Rank, Pending)>
+        ensures { MatchOption result (self.old ≡ []) (λ e. self.old ≡ e ∷ self.new) }
+    {
+        while self.next < self.queues.len() {
+            let task = self.next as u32 + 1;
+            if let Some(job) = self.queues[self.next].pop() {
+                return Some(((job.key, task, job.count), job.pending));
+            }
+            self.next += 1;
+        }
+        None
+    }
 }

@@ -190,3 +190,22 @@ fn sixteen_processors_have_a_full_task_each(rt: HostRuntime) -> Result<(), Fail>
     assert_eq!(rt; written, text);
     Ok(())
 }
+
+#[test]
+fn numbers_out_of_range_are_no_form(rt: HostRuntime) -> Result<(), Fail> {
+    let cases: [&[&str]; 8] = [
+        &["partition", "tasks.toml"],
+        &["partition", "tasks.toml", "0"],
+        &["partition", "tasks.toml", "17"],
+        &["partition", "tasks.toml", "2", "2"],
+        &["runall", "tasks.toml", "second.csv", "5"],
+        &["runall", "tasks.toml", "second.csv", "0", "2"],
+        &["runall", "tasks.toml", "second.csv", "1000001", "2"],
+        &["runall", "tasks.toml", "second.csv", "5", "17"],
+    ];
+    for words in cases {
+        let (status, _) = ended(&rt, rt.alloc(), words, &Outside::new(PLANT, PLANT_WORK))?;
+        assert_eq!(rt; status, 2);
+    }
+    Ok(())
+}

@@ -1,6 +1,8 @@
-use Rattle.std.proofs.Common.{◌≡◌, ◌≤◌, ◌<◌, ℕ, false}
+use Rattle.std.proofs.Common.{◌≡◌, ◌≤◌, ℕ, List, false}
+use Rattle.mc_task.specs.declared.task.Task.{Task}
 use Rattle.part_fit.specs.FirstFit.{takes}
+use Rattle.part_fit.specs.KeptLoads.{IsToPlace}
 use Rattle.part_fit.proofs.placing.least_for.Given as goal
 
-abbrev pub invariant-loop-processor : goal.invariant-loop-processor
-invariant-loop-processor l = (n : ℕ) → 1 ≤ n → n < l.processor → takes l.fn.set l.fn.of l.fn.task n ≡ false
+abbrev pub invariant-loop-place : goal.invariant-loop-place
+invariant-loop-place l = (set : List Task) (of : List ℕ) → IsToPlace set of l.fn.all l.fn.task → (n : ℕ) → 1 ≤ n → n ≤ l.place → takes set of l.fn.task n ≡ false

@@ -1,0 +1,78 @@
+-- What is kept of each processor while tasks are placed: the loads of its tasks (Baruah et al., ECRTS 2012).
+use Rattle.std.specs.Prelude.{◌≡◌, ℕ, suc, ◌+◌, ◌*◌, ◌/◌, ◌<◌, ◌≤◌, true, false, List, [], ◌∷◌, ◌++◌, length, slice_get, Option, None, Some}
+use Rattle.mc_task.specs.declared.task.Task.{Task}
+use Rattle.mc_task.specs.TaskSet.{IsSet}
+use Rattle.tick_frac.specs.Numbers.{lcm}
+use Rattle.mc_model.specs.Loads.{load, hyperperiod, most_lcm, low_low, high_low, high_high}
+use Rattle.load_sum.specs.declared.loads.Loads.{Loads}
+use Rattle.part_fit.specs.Parts.{part_of}
+use Rattle.part_fit.specs.FirstFit.{fits, processor_for}
+
+-- the loads of no tasks
+abbrev pub no_loads : Loads
+no_loads = record { lcm = 1; low_low = 0; high_low = 0; high_high = 0 }
+
+-- the loads of these tasks, over the least common multiple of their periods
+pub record AreLoadsOf (tasks : List Task) (loads : Loads) : Type 0 where
+  pub lcm : loads.lcm ≡ hyperperiod tasks
+  pub low_low : loads.low_low ≡ load low_low loads.lcm tasks
+  pub high_low : loads.high_low ≡ load high_low loads.lcm tasks
+  pub high_high : loads.high_high ≡ load high_high loads.lcm tasks
+
+-- the numbers are at most 2^60, as where the tasks are admitted
+pub record AreSmall (loads : Loads) : Type 0 where
+  pub above : 0 < loads.lcm
+  pub lcm : loads.lcm ≤ most_lcm
+  pub low_low : loads.low_low ≤ most_lcm
+  pub high_low : loads.high_low ≤ most_lcm
+  pub high_high : loads.high_high ≤ most_lcm
+
+-- a load over n, over a multiple m of n, with that of a task behind it
+abbrev pub load_over : ℕ → ℕ → ℕ → ℕ → ℕ → ℕ
+load_over n m load budget period = load * (m / n) + budget * (m / period)
+
+-- the loads with a task behind them
+abbrev pub with_task : Loads → Task → Loads
+with_task loads t = record {
+  lcm = lcm loads.lcm t.period;
+  low_low = load_over loads.lcm (lcm loads.lcm t.period) loads.low_low (low_low t) t.period;
+  high_low = load_over loads.lcm (lcm loads.lcm t.period) loads.high_low (high_low t) t.period;
+  high_high = load_over loads.lcm (lcm loads.lcm t.period) loads.high_high (high_high t) t.period;
+}
+
+-- the tasks have these loads, and are a set with the task behind them
+pub record IsNext (tasks : List Task) (loads : Loads) (t : Task) : Type 0 where
+  pub have : AreLoadsOf tasks loads
+  pub together : IsSet (tasks ++ t ∷ [])
+
+-- so it is of some tasks
+pub record IsNextOfSome (loads : Loads) (t : Task) : Type 0 where
+  pub tasks : List Task
+  pub next : IsNext tasks loads t
+
+-- the tasks fit together, and these are their loads; or they do not
+abbrev pub IsTried : List Task → Option Loads → Type 0
+IsTried tasks None = fits tasks ≡ false
+IsTried tasks (Some loads) = (fits tasks ≡ true) × AreLoadsOf tasks loads
+
+-- the loads of each processor, from the first on, where the processors of the first tasks of the set are known
+abbrev pub AreKept : List Task → List ℕ → List Loads → Type 0
+AreKept set of all = (i : ℕ) (loads : Loads) → slice_get all i ≡ Some loads → AreLoadsOf (part_of set of (suc i)) loads × AreSmall loads
+
+-- the loads are kept, and the task is the next to be placed
+pub record IsToPlace (set : List Task) (of : List ℕ) (all : List Loads) (t : Task) : Type 0 where
+  pub are : IsSet set
+  pub next : slice_get set (length of) ≡ Some t
+  pub kept : AreKept set of all
+
+-- so it is of some set
+pub record IsToPlaceInSome (all : List Loads) (t : Task) : Type 0 where
+  pub set : List Task
+  pub of : List ℕ
+  pub place : IsToPlace set of all t
+
+-- the index of the least processor that takes the task, and its loads then; or there is none
+abbrev pub IsPlace : List Task → List ℕ → List Loads → Task → Option (ℕ × Loads) → Type 0
+IsPlace set of all t None = processor_for set of t (length all) ≡ None
+IsPlace set of all t (Some found) =
+    (processor_for set of t (length all) ≡ Some (suc found.0)) × AreLoadsOf (part_of set of (suc found.0) ++ t ∷ []) found.1 × (found.0 < length all)

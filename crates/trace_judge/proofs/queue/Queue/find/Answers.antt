@@ -1,0 +1,15 @@
+use Rattle.std.proofs.Common.{Some, ◌∙◌, sym, ap}
+use Rattle.std.specs.Prelude.{find}
+use Rattle.trace_judge.specs.declared.queue.Queued.{Queued}
+use Rattle.trace_judge.specs.Queues.{has_count}
+use Rattle.trace_judge.proofs.Firsts.{find_at, find_none}
+use Rattle.trace_judge.proofs.queue.Queue.find.Goals as goal
+
+pub returns-in_err-place : goal.returns-in_err-place
+returns-in_err-place c =
+    c.from_residual.ensures ∙ (sym (find_none (has_count c.args.count) c.self.inside.jobs.items c.in_err-place.ensures.none) ∙ ap (find (has_count c.args.count)) c.self.view_is)
+
+pub returns : goal.returns
+returns c =
+    ap (λ (q : Queued). Some q) c.index.ensures
+    ∙ (sym (find_at (has_count c.args.count) c.self.inside.jobs.items c.in_ok-place.place c.index.result.now c.in_ok-place.ensures.first) ∙ ap (find (has_count c.args.count)) c.self.view_is)

@@ -1,0 +1,20 @@
+use Rattle.std.proofs.Common.{◌+◌, ◌∙◌, sym, ap, subst, List}
+use Rattle.mc_model.specs.Sums.{total}
+use Rattle.trace_judge.specs.Queues.{IsQueue}
+use Rattle.trace_judge.specs.declared.queue.Queued.{Queued}
+use Rattle.trace_judge.proofs.Ordered.{ordered_insert, total_insert}
+use Rattle.trace_judge.proofs.queue.Queue.push.Goals as goal
+
+pub invariant_of-self : goal.invariant_of-self
+invariant_of-self c = subst IsQueue (sym c.in_err-put_at.ensures.unchanged) c.self.invariant
+
+pub invariant_of-self-2 : goal.invariant_of-self-2
+invariant_of-self-2 c =
+    subst IsQueue (sym c.in_ok-put_at.ensures.items) (ordered_insert c.self.inside.jobs.items c.place_for-place.result c.args.job c.self.invariant c.requires c.place_for-place.ensures)
+
+pub returns-clause-jobs : goal.returns-clause-jobs
+returns-clause-jobs c f =
+    ap (total f) c.in_ok-put_at.ensures.items ∙ (total_insert f c.self.inside.jobs.items c.place_for-place.result c.args.job ∙ ap (λ (qs : List Queued). f c.args.job + total f qs) c.self.view_is)
+
+pub returns-clause-ordered : goal.returns-clause-ordered
+returns-clause-ordered c = invariant_of-self-2 c

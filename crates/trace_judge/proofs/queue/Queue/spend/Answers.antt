@@ -1,0 +1,34 @@
+use Rattle.std.proofs.Common.{◌≡◌, ◌+◌, ◌-◌, ◌^◌, min, ℕ, ◌∙◌, sym, ap, subst, List, set, get_or}
+use Rattle.std.proofs.lemmas.List.{get_or_read}
+use Rattle.trace_judge.specs.Firsts.{change_first}
+use Rattle.trace_judge.specs.Queues.{has_count, spent_job, IsQueue}
+use Rattle.trace_judge.specs.declared.queue.Queued.{Queued}
+use Rattle.trace_judge.proofs.Firsts.{change_at, change_none}
+use Rattle.trace_judge.proofs.Ordered.{ordered_spent}
+use Rattle.trace_judge.proofs.queue.Queue.spend.Goals as goal
+
+-- a job with so many ticks
+abbrev with_used : Queued → ℕ → Queued
+with_used q u = record { key = q.key; count = q.count; pending = record { release = q.pending.release; used = u; place = q.pending.place } }
+
+pub returns-in-Some-clause-jobs : goal.returns-in-Some-clause-jobs
+returns-in-Some-clause-jobs c =
+    let qs : List Queued = c.self.inside.jobs.items in
+    let q : Queued = c.index_mut.result.now in
+    let read : q ≡ get_or qs c.in-Some.place q = c.index_mut.ensures.value in
+    let same : c.index.result.now ≡ q = get_or_read qs c.in-Some.place c.index.result.now c.in-Some.ensures.first.inside c.index.ensures q ∙ sym read in
+    let used : c.saturating_add.result ≡ min (q.pending.used + c.args.ticks) (2 ^ 32 - 1) = c.saturating_add.ensures ∙ ap (λ (r : Queued). min (r.pending.used + c.args.ticks) (2 ^ 32 - 1)) same in
+    ap (λ (u : ℕ). set qs c.in-Some.place (with_used q u)) used
+    ∙ (ap (λ (r : Queued). set qs c.in-Some.place (spent_job c.args.ticks r)) read
+    ∙ (sym (change_at (has_count c.args.count) (spent_job c.args.ticks) qs c.in-Some.place q c.in-Some.ensures.first) ∙ ap (change_first (has_count c.args.count) (spent_job c.args.ticks)) c.self.view_is))
+
+pub returns-in-Some-clause-ordered : goal.returns-in-Some-clause-ordered
+returns-in-Some-clause-ordered c =
+    subst IsQueue (sym (returns-in-Some-clause-jobs c)) (ordered_spent c.args.ticks (has_count c.args.count) c.args.self.now (subst IsQueue c.self.view_is c.self.invariant))
+
+pub invariant_of-self : goal.invariant_of-self
+invariant_of-self c = returns-in-Some-clause-ordered c
+
+pub returns-in_default-clause-jobs : goal.returns-in_default-clause-jobs
+returns-in_default-clause-jobs c =
+    sym (subst (λ (qs : List Queued). change_first (has_count c.args.count) (spent_job c.args.ticks) qs ≡ qs) c.self.view_is (change_none (has_count c.args.count) (spent_job c.args.ticks) c.self.inside.jobs.items c.in_default.ensures.none))

@@ -1,0 +1,28 @@
+-- The least keys of the queues, in a tree in one array.
+use Rattle.std.specs.Prelude.{◌≡◌, ◌≢◌, ℕ, ◌+◌, ◌-◌, ◌*◌, ◌/◌, ◌^◌, ◌<◌, ◌≤◌, min, List, length, drop, slice_index}
+
+-- what stands for a queue without a job: no job has so great a key
+abbrev pub no_key : ℕ
+no_key = 2 ^ 128 - 1
+
+-- place k holds the lesser of the two below it
+abbrev pub IsLesser : List ℕ → ℕ → Type 0
+IsLesser nodes k = slice_index nodes k ≡ min (slice_index nodes (2 * k)) (slice_index nodes (2 * k + 1))
+
+-- so does each place that has two below it, except perhaps this one
+abbrev pub IsTreeBut : ℕ → List ℕ → Type 0
+IsTreeBut except nodes = (k : ℕ) → 1 ≤ k → 2 * k + 1 < length nodes → k ≢ except → IsLesser nodes k
+
+-- so does each place that has two below it
+abbrev pub IsTree : List ℕ → Type 0
+IsTree nodes = (k : ℕ) → 1 ≤ k → 2 * k + 1 < length nodes → IsLesser nodes k
+
+-- the last half
+abbrev pub leaves : List ℕ → List ℕ
+leaves nodes = drop (length nodes / 2) nodes
+
+-- a tree over so many leaves, at least one
+pub record AreNodes (nodes : List ℕ) : Type 0 where
+  pub some : 2 ≤ length nodes
+  pub even : length nodes ≡ 2 * (length nodes / 2)
+  pub tree : IsTree nodes

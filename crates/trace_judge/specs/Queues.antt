@@ -1,0 +1,54 @@
+-- The pending jobs as they are kept: those of each task in a queue.
+use Rattle.std.specs.Prelude.{◌≡◌, ℕ, ◌+◌, ◌-◌, ◌^◌, ◌<◌, ◌≤◌, ◌==◌, Bool, List, [], ◌∷◌, ◌++◌, length, map, drop, slice_index_or}
+use Rattle.std.specs.List.{AllByRecursion}
+use Rattle.trace_judge.specs.declared.queue.Queued.{Queued}
+use Rattle.trace_judge.specs.Heads.{no_key}
+use Rattle.trace_judge.specs.Entries.{Entry, Held, ticked}
+
+-- the job has this count
+abbrev pub has_count : ℕ → Queued → Bool
+has_count count q = count == q.count
+
+-- with n more ticks used
+abbrev pub spent_job : ℕ → Queued → Queued
+spent_job n q = record { key = q.key; count = q.count; pending = ticked n q.pending }
+
+-- the key of the first job
+abbrev pub head_key : List Queued → ℕ
+head_key [] = no_key
+head_key (q ∷ qs) = q.key
+
+-- the keys ascend
+abbrev pub IsQueue : List Queued → Type 0
+IsQueue [] = Unit {0}
+IsQueue (q ∷ qs) = (q.key < no_key) × AllByRecursion (λ r. q.key ≤ r.key) qs × IsQueue qs
+
+-- the place behind the jobs whose keys are not greater
+pub record IsPlaceFor (qs : List Queued) (key place : ℕ) : Type 0 where
+  pub inside : place ≤ length qs
+  pub behind : (d : Queued) → 1 ≤ place → (slice_index_or qs (place - 1) d).key ≤ key
+  pub before : AllByRecursion (λ q. key < q.key) (drop place qs)
+
+-- the entry of a job in the queue of task number k
+abbrev pub entry_in : ℕ → Queued → Entry
+entry_in k q = ((q.key, k, q.count), q.pending)
+
+-- the entries of these queues, the first of which is that of task number k
+abbrev pub entries_from : ℕ → List (List Queued) → List Entry
+entries_from k [] = []
+entries_from k (q ∷ qs) = map (entry_in k) q ++ entries_from (k + 1) qs
+
+-- what a contract sees of the queues
+abbrev pub held : List (List Queued) → Held
+held queues = record { tasks = length queues; entries = entries_from 1 queues }
+
+-- the entries of the queues from this index on
+abbrev pub rest_of : List (List Queued) → ℕ → List Entry
+rest_of queues next = entries_from (next + 1) (drop next queues)
+
+-- each is a queue, and these are the keys of their heads
+pub record AreQueues (queues : List (List Queued)) (heads : List ℕ) : Type 0 where
+  pub some : 1 ≤ length queues
+  pub few : length queues < 2 ^ 32
+  pub each : AllByRecursion IsQueue queues
+  pub heads_are : heads ≡ map head_key queues

@@ -1,0 +1,167 @@
+// The pending jobs of one task, in ascending order of their keys. Jobs of a task are released in that order, so a new one
+// comes last, and the one that runs is the first.
+ghost use Rattle.std.specs.Prelude.{◌≡◌, ◌+◌, ◌<◌, ◌≤◌, ℕ, [], ◌∷◌, OnOk, OnErr, MatchOption, IfOk, IfSome, IfNone, cond, length, false, find};
+ghost use Rattle.std.specs.List.{list_any, insert, remove};
+ghost use Rattle.mc_model.specs.Sums.{total};
+ghost use Rattle.trace_judge.specs.Heads.{no_key};
+ghost use Rattle.trace_judge.specs.Queues.{has_count, head_key, spent_job, IsQueue, IsPlaceFor};
+ghost use Rattle.trace_judge.specs.Firsts.{change_first, remove_first, IsFirstAt};
+
+use crate::heads::NO_KEY;
+use crate::waiting::Pending;
+use mc_task::Memory;
+use std::alloc::Global;
+use std::collections::VecDeque;
+use std::marker::Model;
+
+/// A pending job of a task: its key, its count, and what is kept of it.
+#[derive(Clone, Copy, Debug, PartialEq, Eq)]
+pub struct Queued {
+    pub key: u128,
+    pub count: u32,
+    pub pending: Pending,
+}
+
+/// The pending jobs of a task, as a list.
+#[derive(Drop)]
+pub struct Queue {
+    jobs: VecDeque<Queued>,
+}
+
+impl Model for Queue {
+    ghost use Rattle.std.specs.Prelude.{List};
+    ghost use Rattle.trace_judge.specs.declared.queue.Queued.{Queued};
+
+    ghost Value = { List Queued };
+
+    ghost use Rattle.trace_judge.specs.Queues.{IsQueue};
+
+    ghost view = { λ a. a.jobs.items };
+
+    ghost invariant = { λ a. IsQueue a.jobs.items };
+}
+
+impl Queue {
+    /// No jobs.
+    pub fn new(alloc: Global) -> Queue
+        ensures { result ≡ [] }
+    {
+        Queue {
+            jobs: VecDeque::new(alloc),
+        }
+    }
+
+    /// Puts a job in, behind those whose keys are not greater, and tells whether it is the first.
+    pub fn push(&mut self, job: Queued) -> Result<bool, Memory>
+        requires { job.key < no_key }
+        ensures head { IfOk result (λ first. head_key self.new ≡ cond first job.key (head_key self.old)) }
+        ensures jobs { OnOk result ((f : Queued → ℕ) → total f self.new ≡ f job + total f self.old) }
+        ensures ordered { OnOk result (IsQueue self.new) }
+        ensures unchanged { OnErr result (self.new ≡ self.old) }
+    {
+        let place = place_for(&self.jobs, job.key);
+        put_at(&mut self.jobs, place, job)?;
+        Ok(place == 0)
+    }
+
+    /// The least key, that of the first job.
+    pub fn head_key(&self) -> u128
+        ensures { result ≡ head_key self.now }
+    {
+        match self.jobs.front() {
+            None => NO_KEY,
+            Some(job) => job.key,
+        }
+    }
+
+    /// The first job of this count.
+    pub fn find(&self, count: u32) -> Option<Queued>
+        ensures { result ≡ find (has_count count) self.now }
+    {
+        let place = place_of(&self.jobs, count)?;
+        Some(self.jobs[place])
+    }
+
+    /// Counts so many more ticks of the first job of this count.
+    pub fn spend(&mut self, count: u32, ticks: u32)
+        ensures jobs { self.new ≡ change_first (has_count count) (spent_job ticks) self.old }
+        ensures ordered { IsQueue self.new }
+    {
+        if let Some(place) = place_of(&self.jobs, count) {
+            let used = self.jobs[place].pending.used;
+            self.jobs[place].pending.used = used.saturating_add(ticks);
+        }
+    }
+
+    /// Takes the first job of this count out.
+    pub fn take_out(&mut self, count: u32)
+        ensures jobs { self.new ≡ remove_first (has_count count) self.old }
+        ensures ordered { IsQueue self.new }
+    {
+        if let Some(place) = place_of(&self.jobs, count) {
+            take_at(&mut self.jobs, place);
+        }
+    }
+
+    /// Takes the first job out.
+    pub fn pop(&mut self) -> Option<Queued>
+        ensures { MatchOption result (self.old ≡ []) (λ job. self.old ≡ job ∷ self.new) }
+    {
+        self.jobs.pop_front()
+    }
+}
+
+// The place behind the jobs whose keys are not greater.
+fn place_for(jobs: &VecDeque<Queued>, key: u128) -> usize
+    requires { IsQueue jobs.now.items }
+    ensures { IsPlaceFor jobs.now.items key result }
+{
+    let mut place = jobs.len();
+    while place > 0 && key < jobs[place - 1].key {
+        place -= 1;
+    }
+    place
+}
+
+// Puts a job in at this place, which is the last one for a job that was released behind all others.
+fn put_at(jobs: &mut VecDeque<Queued>, place: usize, job: Queued) -> Result<(), Memory>
+    requires { place ≤ length jobs.old.items }
+    ensures items { OnOk result (jobs.new.items ≡ insert jobs.old.items place job) }
+    ensures unchanged { OnErr result (jobs.new.items ≡ jobs.old.items) }
+{
+    if place < jobs.len() {
+        return match jobs.insert(place, job) {
+            Ok(()) => Ok(()),
+            Err(_) => Err(Memory),
+        };
+    }
+    match jobs.push_back(job) {
+        Ok(()) => Ok(()),
+        Err(_) => Err(Memory),
+    }
+}
+
+// Takes the job at this place out, which is the first one for a job that runs.
+fn take_at(jobs: &mut VecDeque<Queued>, place: usize)
+    requires { place < length jobs.old.items }
+    ensures { jobs.new.items ≡ remove jobs.old.items place }
+{
+    if place > 0 {
+        let _ = jobs.remove(place);
+        return;
+    }
+    let _ = jobs.pop_front();
+}
+
+// The place of the first job of this count.
+fn place_of(jobs: &VecDeque<Queued>, count: u32) -> Option<usize>
+    ensures first { IfSome result (IsFirstAt (has_count count) jobs.now.items) }
+    ensures none { IfNone result (list_any (has_count count) jobs.now.items ≡ false) }
+{
+    for place in 0..jobs.len() {
+        if count == jobs[place].count {
+            return Some(place);
+        }
+    }
+    None
+}
