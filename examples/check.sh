@@ -71,6 +71,17 @@ expect 0 "$work/sixteen.txt" partition several/tasks.toml 0016
 expect 0 several/runall.txt runall several/tasks.toml several/work.csv 5 2
 expect 0 several/runall.txt runall several/tasks.toml several/work.csv 5 16
 
+# A certified scale that is kept while the set grows: it holds, holds still, and does not hold any more.
+expect 0 certified/check.txt check certified/tasks.toml
+expect 0 certified/grown.txt check certified/grown.toml
+expect 0 certified/outgrown.txt check certified/outgrown.toml
+expect 0 certified/run.txt run certified/tasks.toml certified/work.csv 16
+expect 0 certified/run.txt run certified/grown.toml certified/work.csv 16
+expect 0 judged/legal.txt judge certified/tasks.toml certified/run.txt
+expect 0 judged/legal.txt judge certified/grown.toml certified/run.txt
+expect 6 "$(says 'illegal row 4 not_least')" judge certified/outgrown.toml certified/run.txt
+expect 6 "$(says 'illegal row 17 not_least')" judge certified/tasks.toml certified/run.txt 1 4
+
 expect 0 control/stretch.txt stretch control/tasks.toml
 expect 0 "$(says 'stretch none
 U_HH 1/4 at 0')" stretch refused/low_load.toml
@@ -500,6 +511,134 @@ by_part "$work/crowd.toml" "$work/crowd.csv" 1000 16
 by_part "$work/crowd.toml" "$work/crowd.csv" 1 13
 printf '%s\n' "$header" >"$work/none.csv"
 by_part "$work/crowd.toml" "$work/none.csv" 100000 16
+
+# Task files of version 2, with a scale.
+# scaled TOP [TASKS]: a task file of these lines and, behind them, of this file, by default that of the control set
+scaled() {
+    printf '%b' "$1" | cat - "${2:-control/tasks.toml}" >"$work/scaled.toml"
+}
+# says_scale TOP LINE [LAST]: with these lines the control set has this line in place of its scale, and this one at the end
+says_scale() {
+    scaled "$1"
+    { sed "s,^x .*,$2," control/check.txt; [ -z "${3:-}" ] || echo "$3"; } >"$work/scaled.txt"
+    expect 0 "$work/scaled.txt" check "$work/scaled.toml"
+}
+says_scale 'version = 2\nscale = [2, 4]\n' 'x 1/2'
+says_scale 'version = 2\nscale = [1, 1]\n' 'x 2/5' 'scale 1/1 does not hold'
+says_scale 'version = 2\n' 'x 2/5'
+says_scale 'version = 1\n' 'x 2/5'
+says_scale 'version = 2\nscale = [2, 5]\n' 'x 2/5'
+says_scale 'version = 2\nscale = [4, 5]\n' 'x 4/5'
+says_scale 'version = 2\nscale = [800000001, 1000000000]\n' 'x 2/5' 'scale 800000001/1000000000 does not hold'
+says_scale 'version = 2\nscale = [399999999, 1000000000]\n' 'x 2/5' 'scale 399999999/1000000000 does not hold'
+says_scale 'version = 2\nscale = [4294967295, 4294967295]\n' 'x 2/5' 'scale 1/1 does not hold'
+says_scale 'version = 2\nscale = [2147483647, 4294967294]\n' 'x 1/2'
+
+# Under the scale the high task of the plain pair overruns; it decides for each command that is under the test's rule.
+{ table hi high 4 1 2; table lo low 4 2; } >"$work/pair.toml"
+printf '%s\nhi,0,2\nlo,0,2\n' "$header" >"$work/pair.csv"
+cat >"$work/pair.txt" <<'END'
+event,tick,length,task,job,how
+release,0,,hi,1,kept
+release,0,,lo,1,kept
+tick,0,1,hi,1,more
+tick,1,1,hi,1,done
+tick,2,1,lo,1,more
+tick,3,1,lo,1,done
+END
+cat >"$work/scaled.txt" <<'END'
+event,tick,length,task,job,how
+release,0,,hi,1,kept
+release,0,,lo,1,kept
+tick,0,1,hi,1,over
+tick,1,1,hi,1,done
+idle,2,2,,,
+END
+expect 0 "$work/pair.txt" run "$work/pair.toml" "$work/pair.csv" 4
+scaled 'version = 2\nscale = [1, 2]\n' "$work/pair.toml"
+expect 0 "$(says 'tasks 2
+U_LL 1/2
+U_HL 1/4
+U_HH 1/2
+rule virtual
+x 1/2')" check "$work/scaled.toml"
+expect 0 "$work/scaled.txt" run "$work/scaled.toml" "$work/pair.csv" 4
+expect 0 judged/legal.txt judge "$work/scaled.toml" "$work/scaled.txt"
+expect 0 judged/legal.txt judge "$work/scaled.toml" "$work/scaled.txt" 1 2
+expect 6 "$(says 'illegal row 3 wrong_how')" judge "$work/pair.toml" "$work/scaled.txt"
+expect 6 "$(says 'illegal row 3 wrong_how')" judge "$work/scaled.toml" "$work/pair.txt"
+expect 0 "$work/scaled.txt" migrate "$work/scaled.toml" "$work/scaled.txt"
+expect 0 "$(says 'hi     OD..
+lo     ....
+(mode) LHHL')" chart "$work/scaled.toml" "$work/scaled.txt"
+expect 0 "$(says 'task hi released 1 kept 1 dropped 0 discarded 0 done 1 stopped 0 ticks 2 response 2
+task lo released 1 kept 1 dropped 0 discarded 1 done 0 stopped 0 ticks 0 response -
+idle 2
+switches 1')" report "$work/scaled.toml" "$work/scaled.txt"
+lives "$work/scaled.toml" 1000
+# The commands under the published test go without it: a processor's tasks have no scale, nor has a set at a percentage.
+{ echo 'processor 1'; cat "$work/pair.txt"; } >"$work/part.txt"
+expect 0 "$work/part.txt" runall "$work/scaled.toml" "$work/pair.csv" 4 1
+expect 0 "$(says 'processor 1 hi lo')" partition "$work/scaled.toml" 1
+scaled 'version = 2\nscale = [1, 2]\n'
+expect 0 control/stretch.txt stretch "$work/scaled.toml"
+scaled 'version = 2\nscale = [1, 1]\n' several/tasks.toml
+expect 0 several/two.txt partition "$work/scaled.toml" 2
+# A scale that does not hold beside plain EDF; and sets that have no rule, or periods out of range, whatever their scale.
+scaled 'version = 2\nscale = [1, 4]\n' "$work/pair.toml"
+expect 0 "$(says 'tasks 2
+U_LL 1/2
+U_HL 1/4
+U_HH 1/2
+rule plain
+scale 1/4 does not hold')" check "$work/scaled.toml"
+expect 0 "$work/pair.txt" run "$work/scaled.toml" "$work/pair.csv" 4
+scaled 'version = 2\nscale = [1, 2]\n' refused/high_load.toml
+expect 1 refused/high_load.txt check "$work/scaled.toml"
+scaled 'version = 2\nscale = [1, 2]\n' refused/periods.toml
+expect 3 refused/periods.txt check "$work/scaled.toml"
+
+# Each refusal of what stands at the top, in their order, and of each two that can come together the first.
+# refuses_top LINE TOP [TASKS]: a task file of these lines, and of this file behind them, is refused with this line
+refuses_top() {
+    scaled "$2" "${3:-control/tasks.toml}"
+    expect 3 "$(says "task file: $1")" check "$work/scaled.toml"
+}
+refuses_top 'not TOML' 'version = 2\nscale = [1, 2\n'
+refuses_top 'not TOML' 'version = 1\nscale = [1, 9223372036854775808]\n'
+refuses_top 'unknown key scale' 'scale = [1, 2]\n'
+refuses_top 'unknown key scale' 'version = 1\nscale = [1, 2]\n'
+refuses_top 'unknown key scale' 'version = "2"\nscale = [1, 2]\n'
+refuses_top 'unknown key scale' 'version = 2.0\nscale = [1, 2]\n'
+refuses_top 'unknown key scale' 'version = 3\nscale = [3, 2]\n'
+refuses_top 'unknown key ratio' 'ratio = 1\nscale = [1, 2]\n'
+refuses_top 'unknown key zone' 'version = 2\nscale = 1\nzone = 1\n'
+refuses_top 'unknown key zone' 'version = 3\nzone = 1\n'
+refuses_top 'unknown version' 'version = 3\n'
+refuses_top 'unknown version' 'version = 0\ntask = []\n' /dev/null
+for value in 1 '"1/2"' 0.5 '{}' '[]' '[1]' '[1, 2, 2]' '[1, "2"]' '[1.0, 2]' '[true, 2]' '[[1, 2]]' '[0, "2"]'; do
+    refuses_top 'task 0: wrong kind of scale' "version = 2\nscale = $value\n"
+done
+refuses_top 'task 0: wrong kind of scale' 'version = 2\nscale = []\ntask = []\n' /dev/null
+for value in '[3, 2]' '[0, 2]' '[0, 0]' '[1, 0]' '[-2, -1]' '[1, 4294967296]' '[4294967296, 4294967296]' \
+    '[1, 9223372036854775807]' '[-9223372036854775808, 1]'; do
+    refuses_top 'task 0: out of range scale' "version = 2\nscale = $value\n"
+done
+refuses_top 'task 0: out of range scale' 'version = 2\nscale = [3, 2]\ntask = []\n' /dev/null
+refuses_top 'task 0: out of range scale' 'version = 2\nscale = [3, 2]\ntask = {}\n' /dev/null
+refuses_top 'no tasks' 'version = 2\nscale = [1, 2]\ntask = []\n' /dev/null
+refuses_top 'no tasks' 'version = 2\nscale = [1, 2]\n' /dev/null
+refuses_top 'task 0: wrong kind of task' 'version = 2\nscale = [1, 2]\ntask = {}\n' /dev/null
+refuses_top 'task 1: out of range period' 'version = 2\n[[task]]\nname = "log"\nlevel = "low"\nperiod = 0\nlow = 1\n'
+refuses_top 'tasks 1 and 3 have one name' 'version = 2\nscale = [1, 2]\n[[task]]\nname = "log"\nlevel = "low"\nperiod = 5\nlow = 1\n'
+for command in chart report migrate; do
+    expect 3 "$(says 'task file: tasks 1 and 3 have one name')" $command "$work/scaled.toml" "$work/absent.csv"
+done
+scaled 'version = 2\nscale = [3, 2]\n'
+expect 3 "$(says 'task file: task 0: out of range scale')" partition "$work/scaled.toml" 2
+expect 3 "$(says 'task file: task 0: out of range scale')" stretch "$work/scaled.toml"
+expect 3 "$(says 'task file: task 0: out of range scale')" live "$work/scaled.toml" 10
+expect 3 "$(says 'task file: task 0: out of range scale')" judge "$work/scaled.toml" "$work/absent.csv" 1 2
 
 # How much room a set has.
 expect 7 "$(says 'read fault on file 1')" stretch "$work/absent.toml"

@@ -4,8 +4,9 @@ usage: compare.py PROGRAM [CASES [SEED]]
 
 A case is a command, its files and its words: sets whose loads lie round 1 or at it, also with periods at the limits;
 random work; legal traces of a few ticks or up to a hundred million, with random choices, such traces cut short or with
-a spoilt row, also by scales that do not hold; made workloads; sets for several processors; and files that are refused. A trace is of either version,
-and then mostly given a second time as another text, for which the answer has to be the same. The status and the whole
+a spoilt row, also by scales that do not hold; made workloads; sets for several processors; sets with a scale of their own,
+which holds or does not; and files that are refused. A trace is of either version, and then mostly given a second time as
+another text, for which the answer has to be the same. The status and the whole
 text have to be the model's, nothing stands on standard error, and no job is late under a rule that holds. Of the many
 texts that `live` may write the model says whether this is one. What came of the cases is counted. A comparison of as
 many cases as by default fails, too, where one of STATUSES or OUTCOMES never came, since it then shows less than it
@@ -24,9 +25,9 @@ import model
 from cases import Dice, Runner, keep, program_count_seed, tell
 from model import (
     DONE, DROPPED, EVENTS, HIGH, IDLE, KEPT, LOW, MORE, MOST, MOST_TICKS, OVER, PLAIN, RELEASES, STOP, TICKS,
-    TRACE_HEADERS, Demand, Job, Run, Task, Trace, Work, demand_file, rows_of, run_fields, with_before)
+    TRACE_HEADERS, Demand, Job, Run, Scale, Task, TaskSet, Trace, Work, demand_file, rows_of, run_fields, with_before)
 
-DEFAULT_CASES = 4400
+DEFAULT_CASES = 4800
 
 
 class Case(NamedTuple):
@@ -170,7 +171,7 @@ def admitted_tasks(dice):
     rules = dice.one_of([['virtual'], ['virtual'], ['virtual'], ['plain', 'virtual']])
     while True:
         tasks = huge_tasks(dice) if chance(dice, 1, 12) else small_or_at_one(dice)
-        rule = model.test(tasks)
+        rule = model.published(tasks)
         if rule is not None and rule.name in rules and model.out_of_range(tasks) is None:
             return tasks
 
@@ -277,6 +278,59 @@ def spoilt_tree(dice, tree):
             elif isinstance(tables[place], dict):
                 tables[place] = spoilt_table(dice, tables[place], tables)
     return tree
+
+
+# ---- Sets with a scale ----
+
+def without_scale(dice, tasks):
+    """The set of these tasks, and its task file, of version 1."""
+    return TaskSet(tasks), tree_of(tasks)
+
+
+def with_scale(dice, tasks):
+    """A set of these tasks with a scale, or now and then without, and its task file, of version 2."""
+    if chance(dice, 1, 20):
+        return TaskSet(tasks), dict(tree_of(tasks), version=2)
+    scale = some_scale(dice, tasks)
+    p, q = scale.numerator, scale.denominator
+    times = dice.one_of([1, 1, between(dice, 1, min(4, MOST // q)), MOST // q])
+    return TaskSet(tasks, Scale(p, q)), {'version': 2, 'scale': [times * p, times * q], **tree_of(tasks)}
+
+
+def some_scale(dice, tasks):
+    """A scale: at the least or the greatest one that holds, between them, or just outside; or any."""
+    low_low, high_low, high_high = model.loads(tasks)
+    step = Fraction(1, dice.one_of([10, 1000, MOST // 2]))
+    scales = []
+    if 0 < low_low < 1:
+        least, most = high_low / (1 - low_low), (1 - high_high) / low_low
+        scales = 2 * [least, least - step, most, most + step, (least + most) / 2] + [least / 2]
+    q = between(dice, 1, dice.one_of([1, 4, 12, MOST]))
+    scale = dice.one_of(scales + [Fraction(1), Fraction(between(dice, 1, q), q)])
+    return scale if 0 < scale <= 1 and scale.denominator <= MOST else Fraction(between(dice, 1, q), q)
+
+
+ODD_VERSIONS = [0, 1, 1, 3, '2', 2.0, True, [2]]
+ODD_SCALES = [
+    1, '1/2', 0.5, {}, [], [1], [1, 2, 3], [1, '2'], [1.0, 2], [True, 2], [1, False], [[1, 2]], [0, 1], [1, 0], [0, 0], [2, 1],
+    [-1, 2], [-2, -1], [1, MOST], [MOST, MOST], [MOST, MOST - 1], [1, MOST + 1], [MOST + 1, MOST + 1], [1, 2 ** 63 - 1],
+    [1, 2 ** 63]]
+
+
+def spoilt_scale(dice, tree):
+    """The tree of a task file of version 2 with another version, another scale, or both, and now and then with a fault
+    behind these."""
+    tree = dict(tree)
+    change = dice.below(4)
+    if change == 0:
+        tree['version'] = dice.one_of(ODD_VERSIONS)
+    elif change == 1:
+        del tree['version']
+    if change > 1 or chance(dice, 1, 3):
+        tree['scale'] = dice.one_of(ODD_SCALES)
+    if chance(dice, 1, 6):
+        tree[dice.one_of(['Scale', 'scales', 'scalar', 'tasks'])] = [1, 2]
+    return spoilt_tree(dice, tree) if chance(dice, 1, 4) else tree
 
 
 # ---- Work ----
@@ -587,14 +641,20 @@ def check_case(dice):
     return Case('check', spoilt_tree(dice, tree) if chance(dice, 1, 3) else tree, None, [])
 
 
+def scaled_check_case(dice, chosen):
+    tasks = dice.one_of([any_tasks, admitted_tasks, lambda dice: small_tasks(dice, 60)])(dice)
+    return Case('check', chosen(dice, tasks)[1], None, [])
+
+
 def ticks_word(dice):
     return str(between(dice, 1, dice.one_of([6, 20, 60])))
 
 
-def run_case(dice):
+def run_case(dice, chosen=without_scale):
     tasks = mostly_admitted(dice)
     word = ticks_word(dice)
-    return Case('run', tree_of(tasks), work_text(tasks, work_of(dice, tasks, int(word))), [word])
+    _, tree = chosen(dice, tasks)
+    return Case('run', tree, work_text(tasks, work_of(dice, tasks, int(word))), [word])
 
 
 def refused_run_case(dice):
@@ -604,23 +664,24 @@ def refused_run_case(dice):
     return Case('run', tree_of(tasks), spoilt_text(dice, work_text(tasks, work), WORK_FIELDS), [ticks_word(dice)])
 
 
-def traced_case(dice, command):
+def traced_case(dice, command, chosen):
     tasks = mostly_admitted(dice)
-    text, twin = texts_of(dice, tasks, runs_of(dice, tasks, model.test(tasks) or PLAIN))
-    return Case(command, tree_of(tasks), text, [], twin)
+    task_set, tree = chosen(dice, tasks)
+    text, twin = texts_of(dice, tasks, runs_of(dice, tasks, model.test(task_set) or PLAIN))
+    return Case(command, tree, text, [], twin)
 
 
-def judge_case(dice):
-    return traced_case(dice, 'judge')
+def judge_case(dice, chosen=without_scale):
+    return traced_case(dice, 'judge', chosen)
 
 
-def drawn_case(dice):
-    return traced_case(dice, dice.one_of(['chart', 'report', 'migrate']))
+def drawn_case(dice, chosen=without_scale):
+    return traced_case(dice, dice.one_of(['chart', 'report', 'migrate']), chosen)
 
 
 def scale_for(dice, tasks):
-    """A scale: that of the test, the same in other terms, or any other."""
-    rule = model.test(tasks)
+    """A scale: that of the published test, the same in other terms, or any other."""
+    rule = model.published(tasks)
     if rule is not None and rule != PLAIN and rule.q <= MOST // 3 and chance(dice, 1, 3):
         times = between(dice, 1, 3)
         return times * rule.p, times * rule.q
@@ -629,11 +690,11 @@ def scale_for(dice, tasks):
     return dice.one_of([1, q, between(dice, 1, q)]), q
 
 
-def judge_by_scale_case(dice):
+def judge_by_scale_case(dice, chosen=without_scale):
     tasks = for_a_scale(dice)
     p, q = scale_for(dice, tasks)
     text, twin = texts_of(dice, tasks, runs_of(dice, tasks, model.virtual(p, q)))
-    return Case('judge', tree_of(tasks), text, [str(p), str(q)], twin)
+    return Case('judge', chosen(dice, tasks)[1], text, [str(p), str(q)], twin)
 
 
 def with_odd_length(dice, runs):
@@ -658,7 +719,7 @@ def with_other_ticks(dice, text):
 def refused_trace_case(dice):
     tasks = mostly_admitted(dice)
     end, stride = dice.one_of([(between(dice, 1, 12), dice.one_of([1, 1, 3])), (MOST_TICKS, 1 + MOST_TICKS // 6)])
-    runs = wander(dice, tasks, model.test(tasks) or PLAIN, end, stride)
+    runs = wander(dice, tasks, model.published(tasks) or PLAIN, end, stride)
     if chance(dice, 1, 3):
         text = run_text(tasks, with_odd_length(dice, runs))
         text = with_other_ticks(dice, text) if chance(dice, 1, 2) else text
@@ -669,8 +730,9 @@ def refused_trace_case(dice):
     return Case(command, tree_of(tasks), text, words)
 
 
-def live_case(dice):
-    return Case('live', tree_of(mostly_admitted(dice)), None, [str(between(dice, 1, dice.one_of([8, 60, 300])))])
+def live_case(dice, chosen=without_scale):
+    _, tree = chosen(dice, mostly_admitted(dice))
+    return Case('live', tree, None, [str(between(dice, 1, dice.one_of([8, 60, 300])))])
 
 
 def soak_case(dice):
@@ -835,23 +897,45 @@ def accept_case(dice):
 
 SEVERAL_AND_ROOM = 7 * [partition_case] + 6 * [runall_case] + 6 * [stretch_case] + [accept_case]
 
+
+def scaled_case(dice):
+    """A command on a set with a scale, or one whose file is refused."""
+    makers = 10 * [scaled_check_case] + 5 * [run_case] + 4 * [judge_case] + 3 * [drawn_case] + [live_case, judge_by_scale_case]
+    case = dice.one_of(makers)(dice, with_scale)
+    return case._replace(tree=spoilt_scale(dice, case.tree)) if chance(dice, 1, 4) else case
+
+
+def unasked_case(dice):
+    """A command that asks for no scale, on a set with one."""
+    case = dice.one_of([partition_case, runall_case, stretch_case])(dice)
+    if case.tree.get('version', 1) != 1 or not isinstance(case.tree.get('task'), list):
+        return case
+    _, tree = with_scale(dice, admitted_tasks(dice))
+    return case._replace(tree=dict(tree, task=case.tree['task']))
+
+
+SCALED = 9 * [scaled_case] + [unasked_case]
+
 HUNDRED = (
     17 * [check_case] + 17 * [run_case] + 6 * [refused_run_case] + 16 * [judge_case] + 14 * [judge_by_scale_case]
     + 14 * [drawn_case] + 9 * [refused_trace_case] + 5 * [live_case] + [soak_case, odd_words_case])
 
 
 def cases(count, dice):
-    """A hundred cases over and over, some with a task file that was spoilt after the second file was made for it. Of 22 parts
-    of the cases the last but two are demand sets, and the last two sets for several processors, and how much room a set has."""
-    of_demands = count // 22
-    for number in range(count - 3 * of_demands):
+    """A hundred cases over and over, some with a task file that was spoilt after the second file was made for it. Of 24 parts
+    of the cases the last five are one of demand sets, two of sets for several processors and how much room a set has, and two
+    of sets with a scale of their own."""
+    part = count // 24
+    for number in range(count - 5 * part):
         case = HUNDRED[number % len(HUNDRED)](dice)
         is_spoilt = case.command not in ('check', 'soak') and chance(dice, 1, 30)
         yield case._replace(tree=spoilt_tree(dice, case.tree)) if is_spoilt else case
-    for _ in range(of_demands):
+    for _ in range(part):
         yield demand_case(dice)
-    for number in range(2 * of_demands):
+    for number in range(2 * part):
         yield SEVERAL_AND_ROOM[number % len(SEVERAL_AND_ROOM)](dice)
+    for number in range(2 * part):
+        yield SCALED[number % len(SCALED)](dice)
 
 
 # ---- What came of them ----
@@ -892,9 +976,14 @@ OUTCOMES = {
         'none', 'exactly 0', 'below 100', 'exactly 100', 'above 100', 'the greatest', 'a budget at the greatest number',
         'a low budget in place of a lower high one', 'plain', 'virtual', 'at 1'],
     'accept': ['some at 120', 'not all at 120', 'the last number'],
+    'scale': [
+        'holds', 'holds at its least', 'holds at its greatest', 'is the published one', 'holds in place of plain EDF',
+        'does not hold', 'told beside EDF-VD', 'told beside plain EDF', 'of a set that is not admitted',
+        'not in lowest terms', 'with the greatest number', 'none in version 2', 'not asked for'],
     'traces': ['version 1', 'version 2', 'a run of several rows', 'above a million ticks', 'two texts'],
     'task file': [
-        'not TOML', 'unknown key', 'unknown version', 'no tasks', 'missing key', 'wrong kind', 'bad name',
+        'not TOML', 'unknown key', 'unknown key scale', 'unknown version', 'wrong kind of scale', 'out of range scale',
+        'no tasks', 'missing key', 'wrong kind', 'bad name',
         'out of range level', 'out of range period', 'out of range low', 'out of range high',
         'high budget on a low task', 'at most 128', 'high budget below low budget', 'have one name',
         'periods out of range'],
@@ -931,8 +1020,8 @@ def is_tie(tasks, rule, trace):
     return waiting.count(min(waiting)) > 1
 
 
-def rule_of(case, tasks):
-    return model.virtual(*map(int, case.words)) if case.form() == 'judge by a scale' else model.test(tasks)
+def rule_of(case):
+    return model.virtual(*map(int, case.words)) if case.form() == 'judge by a scale' else model.test(model.read_set(case.tree))
 
 
 def kinds_of_trace(case, runs):
@@ -954,6 +1043,8 @@ def is_at_one(tasks, rule):
 def outcomes(case, status, text):
     """What came of a case, as OUTCOMES names it: of which command or file, and what."""
     form = case.form()
+    if case.tree is not None and model.is_version(case.tree, 2) and status in (0, 1, 6, 12):
+        yield from (('scale', words) for words in set(outcomes_of_scale(case, status)))
     if status in (3, 4, 5, 11):
         file = {3: 'task file', 4: 'work file', 5: 'trace', 11: 'demand file'}[status]
         yield from ((file, words) for words in OUTCOMES[file] if words in text)
@@ -965,7 +1056,7 @@ def outcomes(case, status, text):
         yield from ((form, words) for words in set(OUTCOMES_OF[form](case, text)))
     elif status in (0, 6) and form != 'soak':
         tasks = model.read_tasks(case.tree)
-        rule = rule_of(case, tasks)
+        rule = rule_of(case)
         if form == 'check':
             yield form, rule.name + (' at 1' if is_at_one(tasks, rule) else '')
         else:
@@ -977,6 +1068,42 @@ def outcomes(case, status, text):
             yield form, 'a scale that holds' if model.holds(tasks, rule) else 'a scale that does not hold'
         if status == 6:
             yield form, 'late'
+
+
+def outcomes_of_scale(case, status):
+    """What comes of the scale of a set that is read."""
+    tasks, scale = model.read_set(case.tree)
+    if scale is None:
+        yield 'none in version 2'
+        return
+    if math.gcd(*case.tree['scale']) > 1:
+        yield 'not in lowest terms'
+    if MOST in case.tree['scale']:
+        yield 'with the greatest number'
+    if case.form() in ('partition', 'runall', 'stretch', 'judge by a scale'):
+        yield 'not asked for'
+    elif status == 1:
+        yield 'of a set that is not admitted'
+    elif model.holds(tasks, model.virtual(*scale)):
+        yield from outcomes_of_held(tasks, scale)
+    else:
+        yield 'does not hold'
+        if case.form() == 'check':
+            yield 'told beside ' + ('plain EDF' if model.published(tasks) == PLAIN else 'EDF-VD')
+
+
+def outcomes_of_held(tasks, scale):
+    """What comes of a scale that holds."""
+    low_low, high_low, high_high = model.loads(tasks)
+    yield 'holds'
+    if model.published(tasks) == PLAIN:
+        yield 'holds in place of plain EDF'
+    if model.published(tasks) == model.virtual(*scale):
+        yield 'is the published one'
+    if high_low and scale.p * low_low + scale.q * high_low == scale.p:
+        yield 'holds at its least'
+    if low_low and scale.p * low_low + scale.q * high_high == scale.q:
+        yield 'holds at its greatest'
 
 
 def outcomes_of_demands(demands):
@@ -1003,7 +1130,7 @@ def outcomes_of_parts(tasks, count):
     if not model.fits(tasks):
         yield 'a set that one processor refuses'
     for number in set(processors):
-        is_plain = model.test(model.part(tasks, processors, number)) == PLAIN
+        is_plain = model.published(model.part(tasks, processors, number)) == PLAIN
         yield 'a part by EDF' if is_plain else 'a part by EDF-VD'
 
 
@@ -1019,7 +1146,7 @@ def outcomes_of_partition(case, _):
         if full(parts[chosen - 1]) < max(map(full, taking)):
             yield 'not the fullest processor'
         refusing = [part + [task] for part in parts[:chosen - 1]]
-        if any(model.out_of_range(part) is not None and model.test(part) is not None for part in refusing):
+        if any(model.out_of_range(part) is not None and model.published(part) is not None for part in refusing):
             yield 'kept apart by the range'
 
 
@@ -1035,8 +1162,8 @@ def outcomes_of_runall(case, _):
     processors, work = model.first_fit(tasks, count), model.read_work(tasks, case.second)
     for number in set(processors):
         own, own_work = model.part(tasks, processors, number), model.part_work(processors, number, work)
-        yield from (what for what in happened(own, model.test(own), model.follow(own, model.test(own), own_work, end)) if
-                    what in HAPPENINGS)
+        rule = model.published(own)
+        yield from (what for what in happened(own, rule, model.follow(own, rule, own_work, end)) if what in HAPPENINGS)
         if not any(row.release < end for row in own_work):
             yield 'a part without jobs'
         if any(tasks.index(task) != place for place, task in enumerate(own)):
@@ -1060,7 +1187,7 @@ def outcomes_of_stretch(case, _):
     if any(task.high * greatest // 100 < task.low for task in highs):
         yield 'a low budget in place of a lower high one'
     at_greatest = model.at_percent(tasks, greatest)
-    rule = model.test(at_greatest)
+    rule = model.published(at_greatest)
     yield rule.name
     if is_at_one(at_greatest, rule):
         yield 'at 1'
@@ -1086,8 +1213,7 @@ def breaks_the_law(case, text):
     """Whether a job is late in a legal trace under a rule that holds, which is proved never to be."""
     if case.second is None or not text.startswith('legal late') or text == 'legal late 0\n':
         return False
-    tasks = model.read_tasks(case.tree)
-    return model.holds(tasks, rule_of(case, tasks))
+    return model.holds(model.read_tasks(case.tree), rule_of(case))
 
 
 # ---- The comparison ----
@@ -1106,7 +1232,7 @@ def is_right(case, wanted, found):
     """Whether the program's answer is the model's, or of the many live traces is one."""
     status, text = wanted
     if text is None:
-        is_live = model.live_fault(model.read_tasks(case.tree), int(case.words[0]), found[1].decode()) is None
+        is_live = model.live_fault(model.read_set(case.tree), int(case.words[0]), found[1].decode()) is None
         return (found[0], found[2]) == (status, b'') and is_live
     return found == (status, text.encode(), b'')
 

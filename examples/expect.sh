@@ -59,6 +59,7 @@ each() {
 # for_examples ACTION WORDS..: calls the function with these words, and then those of a run: of each command, refused and not
 for_examples() {
     "$@" check control/tasks.toml
+    "$@" check certified/outgrown.toml
     "$@" check refused/high_load.toml
     "$@" check refused/zero_period.toml
     "$@" check absent.toml

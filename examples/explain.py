@@ -105,10 +105,11 @@ def rule_words(rule):
     return 'plain' if rule == model.PLAIN else f'virtual {rule.p}/{rule.q}'
 
 
-# The status, and the lines, for the header of a trace and its runs in their places; the rule is of the words, or the test's.
-def explain(tasks, words, header, trace):
+# The status, and the lines, for the header of a trace and its runs in their places; the rule is of the words, or that of the
+# set's test.
+def explain(task_set, words, header, trace):
     scale = model.read_words('judge', words)
-    walk = Walk(tasks, model.virtual(*scale) if scale else model.admitted(tasks))
+    walk = Walk(task_set.tasks, model.virtual(*scale) if scale else model.admitted(task_set))
     misfit = go_through(walk, trace)
     if misfit is not None:
         return 6, [f'illegal row {walk.rows + 1} {misfit.why}', *explanation(misfit, header)]
@@ -123,8 +124,8 @@ def main(words):
         print(__doc__.splitlines()[-1], file=sys.stderr)
         return 2
     try:
-        tasks = read_task_file(words[0])
-        status, told = explain(tasks, words[2:], *read_trace_file(tasks, words[1]))
+        task_set = read_task_file(words[0])
+        status, told = explain(task_set, words[2:], *read_trace_file(task_set.tasks, words[1]))
     except model.Refusal as refusal:
         status, told = refusal.status, [refusal.line[:-1]]
     except OSError as error:

@@ -33,6 +33,9 @@ wants 0 judged/legal.txt explain.py judged/tasks.toml judged/legal.csv
 wants 6 explained/in_a_run.txt explain.py runs/tasks.toml explained/in_a_run.csv
 wants 6 explained/too_soon.txt explain.py runs/tasks.toml explained/too_soon.csv
 wants 0 judged/legal.txt explain.py runs/tasks.toml runs/long.csv
+wants 0 judged/legal.txt explain.py certified/tasks.toml certified/run.txt
+wants 0 judged/legal.txt explain.py certified/grown.toml certified/run.txt
+wants 6 explained/outgrown.txt explain.py certified/outgrown.toml certified/run.txt
 
 # A trace for a viewer, of either version, and traces made of the texts in record/, with how far their events were moved.
 wants 0 runs/perfetto.json perfetto.py runs/tasks.toml runs/runs.csv

@@ -18,8 +18,8 @@ MAKERS = [compare.judge_case, compare.judge_by_scale_case]
 # The status and the first line that explain.py gives.
 def found(case):
     try:
-        tasks = model.read_tasks(case.tree)
-        status, told = explain.explain(tasks, case.words, *walk.placed_in(tasks, case.second.splitlines()))
+        task_set = model.read_set(case.tree)
+        status, told = explain.explain(task_set, case.words, *walk.placed_in(task_set.tasks, case.second.splitlines()))
         return status, told[0] + '\n'
     except model.Refusal as refusal:
         return refusal.status, refusal.line
@@ -27,17 +27,21 @@ def found(case):
 
 # Whether the trace of some work is the model's.
 def follows(case):
-    tasks = model.read_tasks(case.tree)
-    rule, work, end = model.admitted(tasks), model.read_work(tasks, case.second), min(int(case.words[0]), 60)
+    task_set = model.read_set(case.tree)
+    tasks, rule = task_set.tasks, model.admitted(task_set)
+    work, end = model.read_work(tasks, case.second), min(int(case.words[0]), 60)
     found_text = model.trace_text(tasks, walk.follow(walk.Walk(tasks, rule), work, end))
     return found_text == model.trace_text(tasks, model.follow(tasks, rule, work, end))
 
 
 # A number of cases of work, and how many of their traces differ.
 def followed(dice, count):
-    cases = [case for case in (compare.run_case(dice) for _ in range(count))
-             if model.test(model.read_tasks(case.tree)) and model.out_of_range(model.read_tasks(case.tree)) is None]
+    cases = [case for case in (compare.run_case(dice) for _ in range(count)) if is_admitted(model.read_set(case.tree))]
     return len(cases), sum(not follows(case) for case in cases)
+
+
+def is_admitted(task_set):
+    return model.test(task_set) is not None and model.out_of_range(task_set.tasks) is None
 
 
 def main(words):

@@ -70,7 +70,7 @@ def main(words):
         print(__doc__.splitlines()[-1], file=sys.stderr)
         return 2
     jobs = work(int(words[1]) if len(words) > 1 else 12)
-    rule = model.test(TASKS)
+    rule = model.published(TASKS)
     texts = {'tasks.toml': task_text(), 'work.csv': work_text(jobs)}
     for name, text in texts.items():
         (pathlib.Path(words[0]) / name).write_text(text, encoding='utf-8')

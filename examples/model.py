@@ -21,13 +21,25 @@ from typing import NamedTuple, Optional
 LOW, HIGH = 'low', 'high'
 
 
-# A task of a set, which is a list of them. The own budget of its jobs is `high`, which of a low task is its low budget.
+# A task. The own budget of its jobs is `high`, which of a low task is its low budget.
 class Task(NamedTuple):
     name: str
     level: str
     period: int
     low: int
     high: int
+
+
+# A scale p/q in lowest terms, by which a user wants the deadlines of high tasks scaled.
+class Scale(NamedTuple):
+    p: int
+    q: int
+
+
+# A set: its tasks, and its scale or None. Where only its tasks matter, a definition speaks of these.
+class TaskSet(NamedTuple):
+    tasks: list
+    scale: Optional[Scale] = None
 
 
 # A job: the number of its task, from 1, and its number among the releases of that task, from 1.
@@ -151,7 +163,7 @@ def out_of_range(tasks):
 
 
 # The rule of the published test, or None: plain is tried first, then EDF-VD with its scale.
-def test(tasks):
+def published(tasks):
     low_low, high_low, high_high = loads(tasks)
     if low_low + high_high <= 1:
         return PLAIN
@@ -169,6 +181,16 @@ def holds(tasks, rule):
     if rule == PLAIN:
         return low_low + high_high <= 1
     return 1 <= p <= q and p * low_low + q * high_low <= p and p * low_low + q * high_high <= q
+
+
+# Whether a set has a scale, and one that holds for its tasks.
+def has_scale_that_holds(task_set):
+    return task_set.scale is not None and holds(task_set.tasks, virtual(*task_set.scale))
+
+
+# The rule of the test of a set, or None: EDF-VD with the set's scale where that holds, and else what is published.
+def test(task_set):
+    return virtual(*task_set.scale) if has_scale_that_holds(task_set) else published(task_set.tasks)
 
 
 # ---- What a trace says so far ----
@@ -402,10 +424,12 @@ def lines(texts):
     return ''.join(text + '\n' for text in texts)
 
 
-# The number of tasks, the utilisations, the rule and its scale.
-def check_text(tasks, rule):
+# The number of tasks, the utilisations, the rule and its scale; and that of the set where it has one that does not hold.
+def check_text(task_set, rule):
+    tasks, own = task_set
     scale = [] if rule == PLAIN else [f'x {rule.p}/{rule.q}']
-    return lines([f'tasks {len(tasks)}'] + loads_words(tasks) + [f'rule {rule.name}'] + scale)
+    unheld = [] if own is None or holds(tasks, virtual(*own)) else [f'scale {own.p}/{own.q} does not hold']
+    return lines([f'tasks {len(tasks)}'] + loads_words(tasks) + [f'rule {rule.name}'] + scale + unheld)
 
 
 # The header of each version of a trace. A record of version 1 is a row, and one of version 2 is a run.
@@ -544,7 +568,7 @@ def made_need(task, word):
 # The line of the call, the rule, the sums of the trace that follows the made work, and the verdict on it.
 def soak_text(seed, count, end):
     tasks, work = make(seed, count, end)
-    rule = test(tasks)
+    rule = published(tasks)
     runs = follow(tasks, rule, work, end)
     scale = '' if rule == PLAIN else f' x {rule.p}/{rule.q}'
     first = lines([f'soak {seed} {count} {end}', f'rule {rule.name}{scale}'])
@@ -559,13 +583,14 @@ def live_need(tasks, job):
     return task.high if task.level == HIGH and job.count % 4 == 0 else task.low
 
 
-# What is wrong with a text that `live` wrote, or None. There are many that are right.
-def live_fault(tasks, count, text):
+# What is wrong with a text that `live` wrote for a set, or None. There are many that are right.
+def live_fault(task_set, count, text):
+    tasks = task_set.tasks
     try:
         runs = read_trace(tasks, text)
     except Refusal as refusal:
         return refusal.line[:-1]
-    in_time, line = verdict(tasks, test(tasks), runs)
+    in_time, line = verdict(tasks, test(task_set), runs)
     if not in_time:
         return line[:-1]
     if text != trace_text(tasks, runs):
@@ -733,9 +758,10 @@ def demand_text(text):
 
 # ---- Several processors ----
 
-# Whether one processor takes these tasks: they are within the range, and the test gives them a rule.
+# Whether one processor takes these tasks: they are within the range, and the published test gives them a rule. A
+# processor's tasks have no scale.
 def fits(tasks):
-    return out_of_range(tasks) is None and test(tasks) is not None
+    return out_of_range(tasks) is None and published(tasks) is not None
 
 
 # The tasks of a processor, in the order of the whole set.
@@ -776,8 +802,8 @@ def runall_text(tasks, text, end, count):
     told = ''
     for number in sorted(set(processors)):
         own, own_work = part(tasks, processors, number), part_work(processors, number, work)
-        runs = follow(own, test(own), own_work, end)
-        assert follows(own, test(own), own_work, end, runs)
+        runs = follow(own, published(own), own_work, end)
+        assert follows(own, published(own), own_work, end, runs)
         told += f'processor {number}\n' + trace_text(own, runs)
     return told
 
@@ -795,9 +821,9 @@ def at_percent(tasks, percent):
         for task in tasks]
 
 
-# The greatest of the percentages from 0 to 1000 at which the test gives a rule, or None.
+# The greatest of the percentages from 0 to 1000 at which the published test gives a rule, or None.
 def stretch(tasks):
-    percents = [percent for percent in range(MOST_PERCENT + 1) if test(at_percent(tasks, percent)) is not None]
+    percents = [percent for percent in range(MOST_PERCENT + 1) if published(at_percent(tasks, percent)) is not None]
     return max(percents, default=None)
 
 
@@ -1007,15 +1033,26 @@ def has_wide_number(tree):
     return is_whole(tree) and not -2 ** 63 <= tree < 2 ** 63
 
 
-# The tasks of a task file's tree. The first refusal decides.
-def read_tasks(tree):
+# The set of a task file's tree. The first refusal decides.
+def read_set(tree):
     fault = tree_fault(tree) or tables_fault(tree['task'])
     if fault is None:
         tasks = [task_of_table(table) for table in tree['task']]
         fault = set_fault(tasks)
     if fault is not None:
         raise Refusal(3, f'task file: {fault}\n')
-    return tasks
+    return TaskSet(tasks, scale_of(tree['scale']) if 'scale' in tree else None)
+
+
+# The tasks of a task file's tree.
+def read_tasks(tree):
+    return read_set(tree).tasks
+
+
+# The scale of an array of two numbers that has no fault.
+def scale_of(numbers):
+    scale = Fraction(*numbers)
+    return Scale(scale.numerator, scale.denominator)
 
 
 # The task of a table that has no fault.
@@ -1027,16 +1064,31 @@ def task_of_table(table):
 def tree_fault(tree):
     if has_wide_number(tree):
         return 'not TOML'
-    other = unknown_key(tree, ['version', 'task'])
+    other = unknown_key(tree, ['version', 'task'] + (['scale'] if is_version(tree, 2) else []))
     if other is not None:
         return f'unknown key {shown(other)}'
-    if 'version' in tree and not (is_whole(tree['version']) and tree['version'] == 1):
+    if 'version' in tree and not (is_version(tree, 1) or is_version(tree, 2)):
         return 'unknown version'
+    if 'scale' in tree and scale_fault(tree['scale']):
+        return f'task 0: {scale_fault(tree["scale"])} scale'
     if 'task' not in tree or tree['task'] == []:
         return 'no tasks'
     if not isinstance(tree['task'], list):
         return 'task 0: wrong kind of task'
     return None
+
+
+# Whether the version that a tree names is this whole number.
+def is_version(tree, number):
+    return 'version' in tree and is_whole(tree['version']) and tree['version'] == number
+
+
+# What is wrong with the value of `scale`, or None: it is an array of two whole numbers p and q, with 1 <= p <= q <= MOST.
+def scale_fault(value):
+    if not (isinstance(value, list) and len(value) == 2 and all(map(is_whole, value))):
+        return 'wrong kind of'
+    p, q = value
+    return None if 1 <= p <= q <= MOST else 'out of range'
 
 
 # What is wrong with the first task's table that has a fault, or None.
@@ -1125,11 +1177,12 @@ def within_range(tasks):
     return tasks
 
 
-# The rule of the test, for tasks within the range.
-def admitted(tasks):
-    rule = test(within_range(tasks))
+# The rule of the test, for a set within the range.
+def admitted(task_set):
+    within_range(task_set.tasks)
+    rule = test(task_set)
     if rule is None:
-        raise Refusal(1, f'not admitted: {" ".join(loads_words(tasks))}\n')
+        raise Refusal(1, f'not admitted: {" ".join(loads_words(task_set.tasks))}\n')
     return rule
 
 
@@ -1141,16 +1194,17 @@ def text_of(command, tree, second, words):
         return {'soak': soak_text, 'accept': accept_text}[command](*numbers)
     if command == 'demand':
         return demand_text(second)
-    tasks = read_tasks(tree)
+    task_set = read_set(tree)
+    tasks = task_set.tasks
     if command == 'stretch':
         return stretch_text(within_range(tasks))
     if command == 'partition':
         return partition_text(tasks, *numbers)
     if command == 'runall':
         return runall_text(tasks, second, *numbers)
-    rule = virtual(*numbers) if command == 'judge' and numbers else admitted(tasks)
+    rule = virtual(*numbers) if command == 'judge' and numbers else admitted(task_set)
     if command == 'check':
-        return check_text(tasks, rule)
+        return check_text(task_set, rule)
     if command == 'live':
         return None
     if command == 'run':
@@ -1212,11 +1266,19 @@ def with_lengths(records):
     return [','.join(record[:2] + ['' if record[0] == 'release' else '1'] + record[2:]) for record in fields]
 
 
+# A tree of version 2, with this scale.
+def with_scale(tree, p, q):
+    return dict(tree, version=2, scale=[p, q])
+
+
 CONTROL = tree_of(high('ctl', 10, 2, 6), low('log', 10, 5))
 TAP_AND_ARM = tree_of(low('tap', 2, 1), high('arm', 4, 1, 3))
 QUARTER_SCALE = tree_of(low('a', 5, 3), high('b', 10, 1, 6))
 TWO_HIGH_TASKS = tree_of(high('ctl', 10, 2, 6), high('fix', 10, 1, 1), low('log', 10, 4))
 PLAIN_PAIR = tree_of(high('hi', 4, 1, 2), low('lo', 4, 2))
+PUMP_AND_SCREEN = tree_of(high('pump', 10, 1, 6), low('screen', 5, 3))
+PUMP_SCREEN_AND_LOG = tree_of(*PUMP_AND_SCREEN['task'], low('log', 10, 1))
+PUMP_SCREEN_LOG_AND_NET = tree_of(*PUMP_SCREEN_AND_LOG['task'], low('net', 10, 1))
 TAP_ARM_AND_LOG = tree_of(*TAP_AND_ARM['task'], low('log', 10, 5))
 FIVE_LOW_TASKS = tree_of(low('a', 10, 5), low('b', 10, 8), low('c', 10, 2), low('d', 10, 3), low('e', 10, 2))
 AVIONICS = tree_of(
@@ -1257,6 +1319,23 @@ AVIONICS_REPORT = lines([
     'task log released 1 kept 1 dropped 0 discarded 0 done 0 stopped 0 ticks 5700 response -',
     'task maint released 1 kept 1 dropped 0 discarded 0 done 0 stopped 0 ticks 0 response -',
     'idle 0', 'switches 0'])
+
+
+# Work of the pump and the screen, and its trace under the scale 2/5, by which their keys are equal at tick 1, and under the
+# scales 1/4 and 1/2.
+PUMP_WORK = work_file('screen,0,3', 'pump,1,1', 'screen,10,3', 'pump,12,1')
+PUMP_BY_TWO_FIFTHS = trace_file(
+    'release,0,,screen,1,kept', 'tick,0,1,screen,1,more', 'release,1,,pump,1,kept', 'tick,1,1,pump,1,done',
+    'tick,2,1,screen,1,more', 'tick,3,1,screen,1,done', 'idle,4,6,,,', 'release,10,,screen,2,kept',
+    'tick,10,2,screen,2,more', 'release,12,,pump,2,kept', 'tick,12,1,screen,2,done', 'tick,13,1,pump,2,done', 'idle,14,2,,,')
+PUMP_BY_A_QUARTER = trace_file(
+    'release,0,,screen,1,kept', 'tick,0,1,screen,1,more', 'release,1,,pump,1,kept', 'tick,1,1,pump,1,done',
+    'tick,2,1,screen,1,more', 'tick,3,1,screen,1,done', 'idle,4,6,,,', 'release,10,,screen,2,kept',
+    'tick,10,2,screen,2,more', 'release,12,,pump,2,kept', 'tick,12,1,pump,2,done', 'tick,13,1,screen,2,done', 'idle,14,2,,,')
+PUMP_BY_ONE_HALF = trace_file(
+    'release,0,,screen,1,kept', 'tick,0,1,screen,1,more', 'release,1,,pump,1,kept', 'tick,1,1,screen,1,more',
+    'tick,2,1,screen,1,done', 'tick,3,1,pump,1,done', 'idle,4,6,,,', 'release,10,,screen,2,kept',
+    'tick,10,2,screen,2,more', 'release,12,,pump,2,kept', 'tick,12,1,screen,2,done', 'tick,13,1,pump,2,done', 'idle,14,2,,,')
 
 
 TAP_ARM_AND_LOG_WORK = work_file('tap,0,1', 'arm,0,3', 'log,0,5', 'tap,2,1', 'tap,4,1')
@@ -1451,6 +1530,121 @@ EXAMPLES = {
     'report_of_runs': ('report', CONTROL, OVERRUN_AND_RETURN, [], 0, OVERRUN_COUNTED),
 }
 
+CONTROL_LOADS = ['tasks 2', 'U_LL 1/2', 'U_HL 1/5', 'U_HH 3/5', 'rule virtual']
+PAIR_LOADS = ['tasks 2', 'U_LL 1/2', 'U_HL 1/4', 'U_HH 1/2']
+PUMP_LOADS = ['U_HL 1/10', 'U_HH 3/5', 'rule virtual']
+PAIR_WORK = work_file('hi,0,2', 'lo,0,2')
+PAIR_BY_EDF = trace_file(
+    'release,0,,hi,1,kept', 'release,0,,lo,1,kept', 'tick,0,1,hi,1,more', 'tick,1,1,hi,1,done', 'tick,2,1,lo,1,more',
+    'tick,3,1,lo,1,done')
+A_BEFORE_B = trace_file(
+    'release,0,,a,1,kept', 'tick,0,2,a,1,more', 'release,2,,b,1,kept', 'tick,2,1,a,1,done', 'tick,3,1,b,1,done')
+
+# The same, of sets with a scale of their own.
+SCALED_EXAMPLES = {
+    'scale_that_holds': ('check', with_scale(CONTROL, 2, 4), '', [], 0, CONTROL_LOADS + ['x 1/2']),
+    'scale_that_does_not_hold': (
+        'check', with_scale(CONTROL, 1, 1), '', [], 0, CONTROL_LOADS + ['x 2/5', 'scale 1/1 does not hold']),
+    'published_scale': ('check', with_scale(CONTROL, 2, 5), '', [], 0, CONTROL_LOADS + ['x 2/5']),
+    'greatest_scale_that_holds': ('check', with_scale(CONTROL, 4, 5), '', [], 0, CONTROL_LOADS + ['x 4/5']),
+    'scale_just_below_the_least': (
+        'check', with_scale(CONTROL, 399999999, 1000000000), '', [], 0,
+        CONTROL_LOADS + ['x 2/5', 'scale 399999999/1000000000 does not hold']),
+    'scale_just_above_the_greatest': (
+        'check', with_scale(CONTROL, 800000001, 1000000000), '', [], 0,
+        CONTROL_LOADS + ['x 2/5', 'scale 800000001/1000000000 does not hold']),
+    'scale_shown_in_lowest_terms': (
+        'check', with_scale(CONTROL, MOST, MOST), '', [], 0, CONTROL_LOADS + ['x 2/5', 'scale 1/1 does not hold']),
+    'scale_in_place_of_plain_edf': (
+        'check', with_scale(PLAIN_PAIR, 1, 2), '', [], 0, PAIR_LOADS + ['rule virtual', 'x 1/2']),
+    'scale_that_does_not_hold_beside_plain_edf': (
+        'check', with_scale(PLAIN_PAIR, 1, 4), '', [], 0, PAIR_LOADS + ['rule plain', 'scale 1/4 does not hold']),
+    'scale_of_low_tasks_alone': (
+        'check', with_scale(tree_of(low('a', 2, 1)), 1, MOST), '', [], 0,
+        ['tasks 1', 'U_LL 1/2', 'U_HL 0/1', 'U_HH 0/1', 'rule virtual', 'x 1/4294967295']),
+    'scale_of_a_set_that_is_not_admitted': (
+        'check', with_scale(tree_of(low('tap', 2, 2), high('arm', 4, 1, 1)), 1, 2), '', [], 1,
+        ['not admitted: U_LL 1/1 U_HL 1/4 U_HH 1/4']),
+    'scale_of_periods_out_of_range': (
+        'check', with_scale(tree_of(low('a', 4294967295, 1), low('b', 4294967294, 1)), 1, 2), '', [], 3,
+        ['task file: task 2: periods out of range']),
+    'version_two_without_a_scale': ('check', dict(CONTROL, version=2), '', [], 0, CONTROL_LOADS + ['x 2/5']),
+    'certified': (
+        'check', with_scale(PUMP_AND_SCREEN, 2, 5), '', [], 0, ['tasks 2', 'U_LL 3/5'] + PUMP_LOADS + ['x 2/5']),
+    'certified_and_grown': (
+        'check', with_scale(PUMP_SCREEN_AND_LOG, 2, 5), '', [], 0, ['tasks 3', 'U_LL 7/10'] + PUMP_LOADS + ['x 2/5']),
+    'certified_and_outgrown': (
+        'check', with_scale(PUMP_SCREEN_LOG_AND_NET, 2, 5), '', [], 0,
+        ['tasks 4', 'U_LL 4/5'] + PUMP_LOADS + ['x 1/2', 'scale 2/5 does not hold']),
+    'certified_run': ('run', with_scale(PUMP_AND_SCREEN, 2, 5), PUMP_WORK, ['16'], 0, PUMP_BY_TWO_FIFTHS),
+    'certified_run_of_the_grown_set': (
+        'run', with_scale(PUMP_SCREEN_AND_LOG, 2, 5), PUMP_WORK, ['16'], 0, PUMP_BY_TWO_FIFTHS),
+    'certified_run_by_the_published_scale': ('run', PUMP_AND_SCREEN, PUMP_WORK, ['16'], 0, PUMP_BY_A_QUARTER),
+    'certified_run_of_the_outgrown_set': (
+        'run', with_scale(PUMP_SCREEN_LOG_AND_NET, 2, 5), PUMP_WORK, ['16'], 0, PUMP_BY_ONE_HALF),
+    'certified_trace_of_the_outgrown_set': (
+        'judge', with_scale(PUMP_SCREEN_LOG_AND_NET, 2, 5), PUMP_BY_TWO_FIFTHS, [], 6, ['illegal row 4 not_least']),
+    'run_by_a_scale': (
+        'run', with_scale(PLAIN_PAIR, 1, 2), PAIR_WORK, ['4'], 0, trace_file(
+            'release,0,,hi,1,kept', 'release,0,,lo,1,kept', 'tick,0,1,hi,1,over', 'tick,1,1,hi,1,done', 'idle,2,2,,,')),
+    'run_by_plain_edf_beside_a_scale': ('run', with_scale(PLAIN_PAIR, 1, 4), PAIR_WORK, ['4'], 0, PAIR_BY_EDF),
+    'judge_by_a_scale': ('judge', with_scale(QUARTER_SCALE, 1, 2), A_BEFORE_B, [], 0, ['legal late 0']),
+    'judge_by_the_published_scale': ('judge', QUARTER_SCALE, A_BEFORE_B, [], 6, ['illegal row 5 not_least']),
+    'judge_by_the_words_and_not_by_the_scale': (
+        'judge', with_scale(QUARTER_SCALE, 1, 2), A_BEFORE_B, ['1', '4'], 6, ['illegal row 5 not_least']),
+    'report_by_a_scale': (
+        'report', with_scale(QUARTER_SCALE, 1, 2), A_BEFORE_B, [], 0,
+        ['task a released 1 kept 1 dropped 0 discarded 0 done 1 stopped 0 ticks 3 response 3',
+         'task b released 1 kept 1 dropped 0 discarded 0 done 1 stopped 0 ticks 1 response 2', 'idle 0', 'switches 0']),
+    'chart_by_the_published_scale': (
+        'chart', dict(QUARTER_SCALE, version=2), A_BEFORE_B, [], 6, ['illegal row 5 not_least']),
+    'migrate_by_a_scale': ('migrate', with_scale(QUARTER_SCALE, 1, 2), A_BEFORE_B, [], 0, A_BEFORE_B),
+    'partition_asks_for_no_scale': (
+        'partition', with_scale(TAP_ARM_AND_LOG, 1, 1), '', ['2'], 0, ['processor 1 tap arm', 'processor 2 log']),
+    'runall_asks_for_no_scale': (
+        'runall', with_scale(PLAIN_PAIR, 1, 2), PAIR_WORK, ['4', '1'], 0, 'processor 1\n' + PAIR_BY_EDF),
+    'stretch_asks_for_no_scale': (
+        'stretch', with_scale(CONTROL, 1, 2), '', [], 0, ['stretch 149', 'U_HH 4/5 at 149', 'U_HH 9/10 at 150']),
+}
+
+# Task files, as what is at their top besides or in place of the tasks of the control set, with the refusal. Where a tree
+# has two faults, the first in the order of the format is told.
+NO_TABLE = {'task': {}}
+WIDE = 2 ** 63
+REFUSED_TOPS = {
+    'scale_without_a_version': ({'scale': [1, 2]}, 'unknown key scale'),
+    'scale_in_version_one': ({'version': 1, 'scale': [1, 2]}, 'unknown key scale'),
+    'scale_in_a_version_that_is_text': ({'version': '2', 'scale': [1, 2]}, 'unknown key scale'),
+    'scale_in_an_unknown_version': ({'version': 3, 'scale': [3, 2]}, 'unknown key scale'),
+    'no_document_before_the_keys': ({'version': 1, 'scale': [1, WIDE]}, 'not TOML'),
+    'the_first_key_before_the_scale': ({'ratio': 1, 'scale': [1, 2]}, 'unknown key ratio'),
+    'a_key_before_the_version': ({'version': 3, 'zone': 1}, 'unknown key zone'),
+    'a_key_before_the_scale_of_version_two': ({'version': 2, 'scale': 1, 'zone': 1}, 'unknown key zone'),
+    'version_three': ({'version': 3}, 'unknown version'),
+    'version_two_and_a_point': ({'version': 2.0}, 'unknown version'),
+    'version_before_the_tasks': ({'version': 0, 'task': []}, 'unknown version'),
+    'scale_as_a_number': ({'version': 2, 'scale': 1}, 'task 0: wrong kind of scale'),
+    'scale_as_a_text': ({'version': 2, 'scale': '1/2'}, 'task 0: wrong kind of scale'),
+    'scale_of_one_number': ({'version': 2, 'scale': [1]}, 'task 0: wrong kind of scale'),
+    'scale_of_three_numbers': ({'version': 2, 'scale': [1, 2, 2]}, 'task 0: wrong kind of scale'),
+    'scale_of_texts': ({'version': 2, 'scale': [1, '2']}, 'task 0: wrong kind of scale'),
+    'scale_with_a_point': ({'version': 2, 'scale': [1.0, 2]}, 'task 0: wrong kind of scale'),
+    'kind_before_range': ({'version': 2, 'scale': [0, '2']}, 'task 0: wrong kind of scale'),
+    'kind_before_tasks': ({'version': 2, 'scale': [], 'task': []}, 'task 0: wrong kind of scale'),
+    'scale_above_one': ({'version': 2, 'scale': [3, 2]}, 'task 0: out of range scale'),
+    'scale_of_zero': ({'version': 2, 'scale': [0, 2]}, 'task 0: out of range scale'),
+    'scale_below_zero': ({'version': 2, 'scale': [-2, -1]}, 'task 0: out of range scale'),
+    'scale_past_32_bits': ({'version': 2, 'scale': [1, MOST + 1]}, 'task 0: out of range scale'),
+    'range_before_no_tasks': ({'version': 2, 'scale': [3, 2], 'task': []}, 'task 0: out of range scale'),
+    'range_before_the_kind_of_tasks': ({'version': 2, 'scale': [3, 2], **NO_TABLE}, 'task 0: out of range scale'),
+    'no_tasks_beside_a_scale': ({'version': 2, 'scale': [1, 2], 'task': []}, 'no tasks'),
+    'no_array_of_tasks': ({'version': 2, 'scale': [1, 2], **NO_TABLE}, 'task 0: wrong kind of task'),
+    'a_task_before_the_set': (
+        {'version': 2, 'task': 128 * [low('a', 1, 1)] + [low('a', 0, 1)]}, 'task 129: out of range period'),
+    'the_set_beside_a_scale': (
+        {'version': 2, 'scale': [1, 2], 'task': 2 * [low('a', 2, 1)]}, 'tasks 1 and 2 have one name'),
+}
+
 # Records behind the header of version 2, and the refusal of the file, whose number of the line and cause are those of
 # the first record with a fault, and of its faults the first in the order of the format.
 REFUSED_TRACES = {
@@ -1516,6 +1710,9 @@ ONE_TASK = [
     'release,0,,a,1,kept', 'tick,0,1,a,1,done', 'release,1,,a,2,kept', 'tick,1,1,a,2,done', 'release,2,,a,3,kept',
     'tick,2,1,a,3,done']
 
+LO_BEFORE_HI = [
+    'release,0,,hi,1,kept', 'release,0,,lo,1,kept', 'tick,0,1,lo,1,more', 'tick,1,1,lo,1,done', 'tick,2,1,hi,1,done']
+
 # Set, ticks, text, and what is wrong with it.
 LIVE_TEXTS = {
     'live_control': (CONTROL, 10, trace_file(*LIVE_CONTROL), None),
@@ -1532,6 +1729,8 @@ LIVE_TEXTS = {
         CONTROL, 2, trace_file('idle,0,1,,,', 'idle,1,1,,,'), 'not the text of its runs'),
     'live_illegal': (CONTROL, 1, trace_file('release,0,,ctl,1,kept', 'idle,0,1,,,'), 'illegal row 2 idle_pending'),
     'live_in_version_1': (CONTROL, 1, rows_file('idle,0,,,'), 'not the text of its runs'),
+    'live_by_plain_edf': (PLAIN_PAIR, 3, trace_file(*LO_BEFORE_HI), None),
+    'live_against_its_scale': (with_scale(PLAIN_PAIR, 1, 2), 3, trace_file(*LO_BEFORE_HI), 'illegal row 3 not_least'),
 }
 
 # Demand files, by their records behind the header, with the status and what is told of each. The sets named buttazzo are
@@ -1584,12 +1783,15 @@ PUBLISHED_WORDS = [0xa15c02b7, 0x7b47f409, 0xba1d3330, 0x83d2f293, 0xbfa4784b, 0
 
 # Each example by name, what came out, and what is written here.
 def examples():
-    for name, (command, tree, second, words, status, wanted) in EXAMPLES.items():
+    for name, (command, tree, second, words, status, wanted) in {**EXAMPLES, **SCALED_EXAMPLES}.items():
         text = wanted if isinstance(wanted, str) else lines(wanted)
         yield name, answer(command, tree, second, words), (status, text)
         if command == 'run' and status == 0:
-            tasks, work = read_tasks(tree), read_work(read_tasks(tree), second)
-            yield f'{name}, held', follows(tasks, test(tasks), work, int(words[0]), read_trace(tasks, text)), True
+            task_set = read_set(tree)
+            tasks, work, end = task_set.tasks, read_work(task_set.tasks, second), int(words[0])
+            yield f'{name}, held', follows(tasks, test(task_set), work, end, read_trace(tasks, text)), True
+    for name, (top, fault) in REFUSED_TOPS.items():
+        yield name, answer('check', {**CONTROL, **top}), (3, f'task file: {fault}\n')
     for name, (records, fault) in REFUSED_TRACES.items():
         yield name, answer('judge', CONTROL, trace_file(*records)), (5, f'trace line {fault}\n')
     for name, (records, line) in VERDICTS.items():
@@ -1632,7 +1834,7 @@ def wide_examples():
 # Texts of live traces, and what is wrong with them.
 def live_examples():
     for name, (tree, count, text, fault) in LIVE_TEXTS.items():
-        yield name, live_fault(read_tasks(tree), count, text), fault
+        yield name, live_fault(read_set(tree), count, text), fault
 
 
 def demand_examples():

@@ -25,7 +25,8 @@ BYTES_OF_SEVERAL = 4 * BYTES
 TRACE_HEADER = 'event,tick,length,task,job,how'
 
 # Each command, its files, and the words behind them.
-EXAMPLES = [('check', [name], []) for name in sorted(glob.glob('*/tasks.toml') + glob.glob('refused/*.toml'))] + [
+TASK_FILES = sorted(glob.glob('*/tasks.toml') + glob.glob('refused/*.toml') + glob.glob('certified/*grown.toml'))
+EXAMPLES = [('check', [name], []) for name in TASK_FILES] + 2 * [('check', ['certified/outgrown.toml'], [])] + [
     ('run', ['overrun/tasks.toml', 'overrun/work.csv'], ['12']),
     ('judge', ['judged/tasks.toml', 'judged/legal.csv'], []),
     ('judge', ['judged/tasks.toml', 'judged/illegal.csv'], []),
@@ -51,6 +52,12 @@ EXAMPLES = [('check', [name], []) for name in sorted(glob.glob('*/tasks.toml') +
     ('runall', ['avionics/tasks.toml', 'avionics/work.csv'], ['20', '16']),
     ('stretch', ['control/tasks.toml'], []),
     ('stretch', ['avionics/tasks.toml'], []),
+    ('run', ['certified/tasks.toml', 'certified/work.csv'], ['16']),
+    ('judge', ['certified/grown.toml', 'certified/run.txt'], []),
+    ('judge', ['certified/outgrown.toml', 'certified/run.txt'], []),
+    ('live', ['certified/grown.toml'], ['40']),
+    ('partition', ['certified/tasks.toml'], ['2']),
+    ('stretch', ['certified/tasks.toml'], []),
 ]
 
 # ---- What may be answered ----
@@ -59,12 +66,13 @@ NUMBER = '(?:0|[1-9][0-9]*)'
 COUNT = '[1-9][0-9]*'
 NAME = '[A-Za-z0-9_-]{1,32}'
 RATIO = f'{NUMBER}/{COUNT}'
-KEY = '(?:version|task|name|level|period|low|high)'
+KEY = '(?:version|task|name|level|period|low|high|scale)'
 SHOWN = '[!-~]{0,32}'
+UNHELD = f'(?:scale {COUNT}/{COUNT} does not hold\n)?'
 LOADS = [f'U_LL {RATIO}', f'U_HL {RATIO}', f'U_HH {RATIO}']
 TASK_FAULT = '|'.join([
     'not TOML', f'unknown key {SHOWN}', 'unknown version', 'no tasks', f'task {COUNT}: missing key {KEY}',
-    f'task {COUNT}: unknown key {SHOWN}', f'task {NUMBER}: wrong kind of {KEY}', f'task {COUNT}: out of range {KEY}',
+    f'task {COUNT}: unknown key {SHOWN}', f'task {NUMBER}: wrong kind of {KEY}', f'task {NUMBER}: out of range {KEY}',
     f'task {COUNT}: bad name', f'task {COUNT}: high budget on a low task', f'{COUNT} tasks, at most 128',
     f'task {COUNT}: high budget below low budget', f'tasks {COUNT} and {COUNT} have one name',
     f'task {COUNT}: periods out of range'])
@@ -101,7 +109,7 @@ LONG = f'trace has {COUNT} ticks, a chart has at most 2000000\n'
 ON_A_TRACE = {1: NOT_ADMITTED, 3: TASKS_REFUSED, 5: TRACE_REFUSED, 6: ILLEGAL}
 FORMS = {
     'check': {
-        0: '\n'.join([f'tasks {COUNT}'] + LOADS + [f'rule (?:plain|virtual\nx {RATIO})\n']),
+        0: '\n'.join([f'tasks {COUNT}'] + LOADS + [f'rule (?:plain|virtual\nx {RATIO})\n{UNHELD}']),
         1: NOT_ADMITTED,
         3: TASKS_REFUSED,
     },
@@ -186,8 +194,10 @@ LIMITS = [text.encode() for text in [
 WORDS = [text.encode() for text in [
     '', 'task', 'name', 'level', 'period', 'low', 'high', 'version', 'ctl', 'log', 'event', 'tick', 'length', 'job', 'how',
     'release', 'deadline', 'budget',
-    'need', 'kept', 'dropped', 'more', 'done', 'stop', 'over', 'idle', 'Task', 'CTL', 'ctl.log', 'l' * 32, 'l' * 33]]
+    'scale', 'need', 'kept', 'dropped', 'more', 'done', 'stop', 'over', 'idle', 'Task', 'CTL', 'ctl.log',
+    'l' * 32, 'l' * 33]]
 VALUES = [text.encode() for text in [
+    '[1, 2]', '[2, 4]', '[1, 1]', '[3, 2]', '[1, 2, 3]', '[1, "2"]',
     'true', '"10"', '1.5', 'nan', '[]', '[10]', '[[]]', '{}', '{ a = 1 }', '1979-05-27', '07:32:00', '"""a"""', "'low'",
     '"l\\u006fw"', '"\\q"', '"\xff"', '"high"', '10 10']]
 MARK = b'\xef\xbb\xbf'
@@ -320,6 +330,16 @@ other_word = replaced(rb'[A-Za-z]+', WORDS)
 other_value = replaced(rb'(?<== )[^\n]+', VALUES)
 
 
+def other_scale(data, dice):
+    """Of a task file another scale, or one where there was none, mostly in version 2; or another version."""
+    if b'level' not in data:
+        return data
+    scale = b'scale = [%d, %d]\n' % (dice.below(6), dice.below(8))
+    version = dice.one_of(6 * [b'version = 2\n'] + [b'', b'version = 1\n', b'version = 3\n'])
+    kept = re.sub(rb'(?m)^(?:version|scale) = .*\n', b'', data)
+    return dice.one_of([version + scale + kept, version + scale + kept, scale + version + kept, version + kept, scale + data])
+
+
 def nearby_number(data, dice):
     matches = list(re.finditer(rb'[0-9]{1,15}', data))
     if not matches:
@@ -378,6 +398,7 @@ def wide(data, dice):
 CHANGES = 3 * [
     flip, put_byte, take_bytes, other_byte, drop_record, double_record, swap_records, other_rows, other_rows, other_rows,
     other_number, nearby_number, nearby_number, other_word, other_value, other_value, quote_field, other_commas, other_line_end,
+    other_scale,
 ] + [
     cut, cut_front, repeat_record, empty_record, drop_records, double_file, other_line_ends, with_mark, without_end, with_end,
     empty, upper, wide,

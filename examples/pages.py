@@ -3,8 +3,9 @@
 - MISTAKES.md names each message of crates/replies/specs.
 - FORMATS.md shows the files that it names as they are.
 - EVIDENCE.md names each clause and definition by its line, and tells the totals of definitions.py.
+- README.md tells the total of the headline.
 
-usage: pages.py [mend], which writes the lines and totals of EVIDENCE.md anew
+usage: pages.py [mend], which writes the lines and totals of EVIDENCE.md and README.md anew
 """
 
 import pathlib
@@ -81,13 +82,31 @@ def evidence_faults():
     return faults + [f'EVIDENCE.md: {link} is not there' for link in lost]
 
 
-CHECKS = [messages_not_named, samples_that_differ, evidence_faults]
+HEADLINE = re.compile(r'[\d,]+ lines of definitions and [\d,]+ of types')
+
+
+# README.md with the lines that the headline reaches.
+def readme_mended(page):
+    (_, lines, _), (_, types, _) = definitions.totals(definitions.read(['headline'])).values()
+    return HEADLINE.sub(f'{lines:,} lines of definitions and {types:,} of types', page)
+
+
+def readme_faults():
+    page = (ROOT / 'README.md').read_text(encoding='utf-8')
+    if not HEADLINE.search(page):
+        return ['README.md does not tell how many lines of definitions the headline reaches']
+    return [] if page == readme_mended(page) else ['README.md tells another number of lines of definitions']
+
+
+CHECKS = [messages_not_named, samples_that_differ, evidence_faults, readme_faults]
+MENDED = [('docs/EVIDENCE.md', evidence_mended), ('README.md', readme_mended)]
 
 
 def main(words):
-    page = ROOT / 'docs/EVIDENCE.md'
     if words == ['mend']:
-        page.write_text(evidence_mended(page.read_text(encoding='utf-8')), encoding='utf-8')
+        for name, mended in MENDED:
+            page = ROOT / name
+            page.write_text(mended(page.read_text(encoding='utf-8')), encoding='utf-8')
     faults = [fault for check in CHECKS for fault in check()]
     for fault in faults:
         print(f'pages: {fault}')

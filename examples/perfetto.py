@@ -76,7 +76,7 @@ def main(words):
         print(__doc__.splitlines()[-1], file=sys.stderr)
         return 2
     try:
-        tasks = read_task_file(words[0])
+        tasks = read_task_file(words[0]).tasks
         runs = [placed.run for placed in read_trace_file(tasks, words[1])[1]]
     except model.Refusal as refusal:
         print(refusal.line, end='', file=sys.stderr)

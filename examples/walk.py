@@ -14,11 +14,11 @@ from model import DONE, DROPPED, HIGH, IDLE, KEPT, LOW, MORE, OVER, PLAIN, RELEA
 
 # ---- Files ----
 
-# The tasks of a task file.
+# The set of a task file.
 def read_task_file(name):
     with open(name, 'rb') as file:
         try:
-            return model.read_tasks(tomllib.load(file))
+            return model.read_set(tomllib.load(file))
         except (tomllib.TOMLDecodeError, UnicodeDecodeError):
             raise model.Refusal(3, 'task file: not TOML\n') from None
 

@@ -168,8 +168,8 @@ def owner_of(part):
 
 
 class Recording:
-    def __init__(self, tasks, events, tick):
-        self.tasks, self.tick, self.moves = tasks, tick, []
+    def __init__(self, task_set, events, tick):
+        self.tasks, self.rule, self.tick, self.moves = task_set.tasks, model.test(task_set), tick, []
         marked = any(event.word in ('release', 'drop') for event in events)
         words = ('release', 'drop') if marked else ('waking',)
         released = [event for event in events if event.word in words]
@@ -217,7 +217,6 @@ class Recording:
 
     # The rows of the trace.
     def rows(self):
-        rule = model.test(self.tasks)
         counts, jobs, used, high_mode = collections.Counter(), {}, collections.Counter(), False
         for place, name in enumerate(self.owners):
             for event in self.releases[place]:
@@ -235,18 +234,18 @@ class Recording:
             if job is None:
                 raise Refused(f'tick {place}: {name} runs before its first release')
             used[job] += 1
-            kind = self.kind(rule, high_mode, job, used[job], place)
+            kind = self.kind(high_mode, job, used[job], place)
             high_mode = high_mode or kind == model.OVER
             yield model.Run(kind, place, job)
 
     # How a tick ends: as recorded, or by the budgets.
-    def kind(self, rule, high_mode, job, used, place):
+    def kind(self, high_mode, job, used, place):
         task = model.task_of(self.tasks, job)
         if place in self.ends:
             return model.DONE
         if used == task.high:
             return model.STOP
-        overruns = task.level == model.HIGH and rule not in (None, model.PLAIN) and not high_mode
+        overruns = task.level == model.HIGH and self.rule not in (None, model.PLAIN) and not high_mode
         return model.OVER if overruns and used == task.low else model.MORE
 
     # A line for each event that was moved, and for each tick that was not one owner's.
@@ -276,14 +275,15 @@ def main(words):
         print(__doc__.split('\n\n')[-1].strip(), file=sys.stderr)
         return 2
     try:
-        tasks = read_task_file(words[0])
+        task_set = read_task_file(words[0])
+        tasks = task_set.tasks
         threads = dict(word.rsplit('=', 1) for word in words[4:])
         for thread, task in threads.items():
             if task not in (OVERHEAD, IDLENESS) and model.task_number(tasks, task) is None:
                 raise Refused(f'{thread}={task}: no task has the name')
         with open(words[1], encoding='utf-8', errors='replace') as report:
             events = list(read_events(report, int(words[3]), threads, tasks))
-        recording = Recording(tasks, events, int(Fraction(words[2]) * 1000))
+        recording = Recording(task_set, events, int(Fraction(words[2]) * 1000))
         text = model.trace_text(tasks, list(recording.rows()))
     except (Refused, model.Refusal) as refused:
         print(f'sched: {getattr(refused, "line", refused)}'.rstrip('\n'), file=sys.stderr)

@@ -4,29 +4,29 @@ use Rattle.std.proofs.Math.Nat.{le_of_mul-le-mul_left, mul-pos, lt_of_mul-lt-mul
 use Rattle.mc_task.specs.declared.task.Task.{Task}
 use Rattle.mc_task.specs.declared.task.Rule.{Rule}
 use Rattle.mc_model.specs.Loads.{product, load_hl, load_hh}
-use Rattle.mc_model.specs.Test.{rule_of, test}
+use Rattle.mc_model.specs.Test.{rule_of, published}
 use Rattle.mc_model.specs.Holds.{Holds, HoldsOver, IsThreeQuarters, IsThreeQuartersOver}
 use Rattle.mc_model.proofs.Loads.{high-order}
 use Rattle.mc_model.proofs.HighLoads.{load_hl-pos}
-use Rattle.mc_model.proofs.RuleHolds.{test-holds}
+use Rattle.mc_model.proofs.RuleHolds.{published-holds}
 use Rattle.mc_model.proofs.Tests.{rule-scaled}
 use Rattle.mc_model.proofs.ScaledHolds.{HoldsOver-multiple, HoldsOver-from_multiple, three_quarters-multiple, three_quarters-from_multiple}
 use Rattle.load_sum.specs.declared.loads.Loads.{Loads}
 use Rattle.load_sum.specs.Belong.{BelongTo}
 use Rattle.load_sum.proofs.BelongTo.{IsScaled-from_BelongTo}
 
--- the test of the loads is the test of the set
-pub rule_of-test : (tasks : List Task) (loads : Loads) → BelongTo tasks loads → rule_of loads.lcm loads.low_low loads.high_low loads.high_high ≡ test tasks
-unfolding test
-rule_of-test tasks loads belong =
+-- the published test of the loads is that of the tasks
+pub rule_of-published : (tasks : List Task) (loads : Loads) → BelongTo tasks loads → rule_of loads.lcm loads.low_low loads.high_low loads.high_high ≡ published tasks
+unfolding published
+rule_of-published tasks loads belong =
     let (k, s) = IsScaled-from_BelongTo tasks loads belong in
     rw (s.low_low, s.high_low, s.high_high, s.periods) (sym (rule-scaled k loads.lcm loads.low_low loads.high_low loads.high_high s.above))
 
--- a rule that is the test's for each set of the loads holds for each
-pub Holds-from_test : (loads : Loads) (answer : Option Rule) → ((tasks : List Task) → BelongTo tasks loads → answer ≡ test tasks)
+-- a rule that is the published test's for all tasks of the loads holds for them
+pub Holds-from_published : (loads : Loads) (answer : Option Rule) → ((tasks : List Task) → BelongTo tasks loads → answer ≡ published tasks)
     → IfSome answer (λ rule. (tasks : List Task) → BelongTo tasks loads → Holds tasks rule)
-Holds-from_test loads None same = tt
-Holds-from_test loads (Some rule) same = λ tasks belong. test-holds tasks rule belong.set (sym (same tasks belong))
+Holds-from_published loads None same = tt
+Holds-from_published loads (Some rule) same = λ tasks belong. published-holds tasks rule belong.set (sym (same tasks belong))
 
 -- a rule holds over the loads exactly where it holds for the set
 pub Holds-loads : (tasks : List Task) (loads : Loads) (rule : Rule) → BelongTo tasks loads

@@ -3,7 +3,7 @@
 
 mod test;
 
-pub use test::{admit, holds_for, three_quarters};
+pub use test::{admit, admit_scaled, holds_for, three_quarters};
 
 #[cfg(test)]
 mod tests;

@@ -2,22 +2,24 @@ ghost use Rattle.std.specs.Prelude.{◌≡◌, ◌↔◌, ◌+◌, ◌-◌, ◌*
 ghost use Rattle.std.specs.Bool.{OnTrue};
 ghost use Rattle.mc_task.specs.declared.task.Task.{Task};
 ghost use Rattle.mc_task.specs.declared.task.Rule.TheVariants.{Virtual};
-ghost use Rattle.mc_model.specs.Test.{rule_of, test};
-ghost use Rattle.mc_model.specs.Holds.{Holds, HoldsOver, Fits, IsThreeQuarters, IsThreeQuartersOver, TestRuleHolds, AdmittedIfHolds, ThreeQuartersLaw};
+ghost use Rattle.mc_task.specs.TaskSet.{Set, IsScale};
+ghost use Rattle.mc_model.specs.Test.{rule_of, published, test};
+ghost use Rattle.mc_model.specs.Holds.{Holds, HoldsOver, Fits, IsThreeQuarters, IsThreeQuartersOver};
+ghost use Rattle.mc_model.specs.Holds.{TestByHolds, PublishedRuleHolds, TestRuleHolds, AdmittedIfHolds, NoneWherePublishedNone, ThreeQuartersLaw};
 ghost use Rattle.load_sum.specs.Belong.{BelongTo, AreOfSomeSet};
 
 use load_sum::Loads;
-use mc_task::Rule;
+use mc_task::{Rule, Scale};
 use tick_frac::Ratio;
 
 /// The rule of the published test, or `None` exactly where the test admits nothing: EDF where
 /// `U_LL + U_HH <= 1`, else EDF-VD with `x = U_HL / (1 - U_LL)` where `U_LL < 1` and `x*U_LL + U_HH <= 1`.
 pub fn admit(loads: &Loads) -> Option<Rule>
     requires { AreOfSomeSet loads.now }
-    ensures test { (set : List Task) → BelongTo set loads.now → result ≡ test set }
+    ensures published { (tasks : List Task) → BelongTo tasks loads.now → result ≡ published tasks }
     ensures fits { IfSome result Fits }
-    ensures holds { IfSome result (λ rule. (set : List Task) → BelongTo set loads.now → Holds set rule) }
-    ensures law { TestRuleHolds }
+    ensures holds { IfSome result (λ rule. (tasks : List Task) → BelongTo tasks loads.now → Holds tasks rule) }
+    ensures law { PublishedRuleHolds }
 {
     rule_over(
         u128::from(loads.lcm),
@@ -27,6 +29,24 @@ pub fn admit(loads: &Loads) -> Option<Rule>
     )
 }
 
+/// The rule of the test for a set with this scale: EDF-VD with the scale where there is one and it holds, otherwise the rule
+/// of the published test. So it is `None` exactly where the published test admits nothing.
+pub fn admit_scaled(loads: &Loads, scale: Option<Scale>) -> Option<Rule>
+    requires loads { AreOfSomeSet loads.now }
+    requires scale { IfSome scale IsScale }
+    ensures test { (set : Set) → BelongTo set.tasks loads.now → set.scale ≡ scale → result ≡ test set }
+    ensures fits { IfSome result Fits }
+    ensures holds { IfSome result (λ rule. (tasks : List Task) → BelongTo tasks loads.now → Holds tasks rule) }
+    ensures by_holds { TestByHolds }
+    ensures law { TestRuleHolds }
+    ensures none { NoneWherePublishedNone }
+{
+    match scale {
+        Some(x) if holds_for(loads, x.p, x.q) => Some(Rule::Virtual { p: x.p, q: x.q }),
+        _ => admit(loads),
+    }
+}
+
 /// Whether EDF-VD with the scale `p/q` holds for the loads: `U_LL + U_HL/x <= 1` and `x*U_LL + U_HH <= 1`.
 /// A set for which it does is admitted by the test.
 pub fn holds_for(loads: &Loads, p: u64, q: u64) -> bool
@@ -34,8 +54,8 @@ pub fn holds_for(loads: &Loads, p: u64, q: u64) -> bool
     requires above { 1 ≤ p }
     requires order { p ≤ q }
     requires small { q ≤ 2 ^ 60 }
-    ensures exactly { (set : List Task) → BelongTo set loads.now → (IsTrue result ↔ Holds set (Virtual p q)) }
-    ensures admitted { (set : List Task) → BelongTo set loads.now → OnTrue result (IsSome (test set)) }
+    ensures exactly { (tasks : List Task) → BelongTo tasks loads.now → (IsTrue result ↔ Holds tasks (Virtual p q)) }
+    ensures admitted { (tasks : List Task) → BelongTo tasks loads.now → OnTrue result (IsSome (published tasks)) }
     ensures law { AdmittedIfHolds }
 {
     let p = u128::from(p);
@@ -53,8 +73,8 @@ pub fn holds_for(loads: &Loads, p: u64, q: u64) -> bool
 /// Whether `U_LL + U_HL <= 3/4` and `U_HH <= 3/4`. A set for which it does is admitted by the test.
 pub fn three_quarters(loads: &Loads) -> bool
     requires { AreOfSomeSet loads.now }
-    ensures exactly { (set : List Task) → BelongTo set loads.now → (IsTrue result ↔ IsThreeQuarters set) }
-    ensures admitted { (set : List Task) → BelongTo set loads.now → OnTrue result (IsSome (test set)) }
+    ensures exactly { (tasks : List Task) → BelongTo tasks loads.now → (IsTrue result ↔ IsThreeQuarters tasks) }
+    ensures admitted { (tasks : List Task) → BelongTo tasks loads.now → OnTrue result (IsSome (published tasks)) }
     ensures law { ThreeQuartersLaw }
 {
     is_three_quarters_over(

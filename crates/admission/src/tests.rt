@@ -1,10 +1,11 @@
 ghost use Rattle.std.specs.Prelude.{IfOk};
+ghost use Rattle.mc_task.specs.TaskSet.{IsScale};
 ghost use Rattle.load_sum.specs.Belong.{AreOfSomeSet};
 
-use crate::{admit, holds_for, three_quarters};
+use crate::{admit, admit_scaled, holds_for, three_quarters};
 use load_sum::{Loads, sum_loads};
 use mc_task::Level::{High, Low};
-use mc_task::{Level, Name, Rule, Task, TaskSet};
+use mc_task::{Level, Name, Rule, Scale, Task, TaskSet};
 use std::alloc::Global;
 use std::test::Fail;
 
@@ -97,6 +98,37 @@ fn admits_by_the_published_test(rt: HostRuntime) -> Result<(), Fail> {
         let loads = loads_of(rt.alloc(), lines)?;
         assert_eq!(rt; admit(&loads), want, "{name}");
     }
+    Ok(())
+}
+
+#[tactic(auto, unfolding(tick_frac::specs::Numbers::gcd, tick_frac::specs::Numbers::gcd_steps))]
+fn half() -> Scale
+    ensures { IsScale result }
+{
+    Scale { p: 1, q: 2 }
+}
+
+#[tactic(auto, unfolding(tick_frac::specs::Numbers::gcd, tick_frac::specs::Numbers::gcd_steps))]
+fn whole() -> Scale
+    ensures { IsScale result }
+{
+    Scale { p: 1, q: 1 }
+}
+
+#[test]
+fn a_chosen_scale_is_taken_where_it_holds(rt: HostRuntime) -> Result<(), Fail> {
+    let control = loads_of(rt.alloc(), &CONTROL)?;
+    let published = Some(Rule::Virtual { p: 2, q: 5 });
+    let chosen = Some(Rule::Virtual { p: 1, q: 2 });
+    assert_eq!(rt; admit_scaled(&control, None), published);
+    assert_eq!(rt; admit_scaled(&control, Some(whole())), published);
+    assert_eq!(rt; admit_scaled(&control, Some(half())), chosen);
+    // Also where EDF fits.
+    let plain = loads_of(rt.alloc(), &[("hi", High, 4, 1, 2), ("lo", Low, 4, 2, 2)])?;
+    assert_eq!(rt; admit_scaled(&plain, Some(half())), chosen);
+    // No scale holds for a set that is not admitted.
+    let refused = loads_of(rt.alloc(), &[("tap", Low, 2, 1, 1), ("arm", High, 4, 1, 4)])?;
+    assert_eq!(rt; admit_scaled(&refused, Some(half())), None);
     Ok(())
 }
 

@@ -1,12 +1,11 @@
 -- What is kept after one more note, and what it tells of one task.
-use Rattle.std.proofs.Common.{◌≡◌, ℕ, suc, zero, ◌+◌, ◌-◌, ◌≤◌, ◌<◌, Bool, true, false, ◌==◌, cond, List, [], ◌∷◌, Option, Some, None, option_map, length, get_or, set, map, refl, sym, ap, subst, ◌∙◌, arith}
+use Rattle.std.proofs.Common.{◌≡◌, ℕ, suc, zero, ◌+◌, ◌-◌, ◌≤◌, ◌<◌, true, false, ◌==◌, List, [], ◌∷◌, option_map, get_or, set, map, refl, sym, ap, ◌∙◌, arith}
 use Rattle.std.specs.Prelude.{slice_get, unwrap_or}
 use Rattle.std.proofs.lemmas.Bool.Decides.{nat_tests}
 use Rattle.mc_task.specs.declared.task.Task.{Task}
-use Rattle.mc_task.specs.TaskSet.{task_at}
 use Rattle.arrivals.specs.declared.arrivals.Slot.{Slot}
 use Rattle.arrivals.specs.Notes.{Note, count, next_after, next}
-use Rattle.arrivals.specs.Arrived.{fresh_slot, slot_after, arrived_from, arrived, slot_of, next_of, count_of}
+use Rattle.arrivals.specs.Arrived.{fresh_slot, slot_after, arrived_from, arrived, next_of}
 
 same_number : (a b : ℕ) → a ≡ b → (a == b) ≡ true
 same_number a b e = grind (arith, nat_tests)

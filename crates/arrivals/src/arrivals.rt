@@ -2,7 +2,7 @@
 ghost use Rattle.std.specs.Prelude.{◌≡◌, ◌+◌, ◌-◌, ◌<◌, ◌≤◌, ◌^◌, ◌∷◌, [], map, IfOk, IfErr, OnOk, OnErr};
 ghost use Rattle.arrivals.specs.Arrived.{fresh_slot};
 
-use mc_task::{Memory, TaskNo, TaskSet};
+use mc_task::{Memory, Task, TaskNo, TaskSet};
 use std::alloc::{AllocError, Global};
 use std::marker::Model;
 
@@ -41,13 +41,12 @@ impl Arrivals {
     ghost use Rattle.arrivals.specs.Arrived.{arrived, next_of, count_of, with_note, HasTask, ForNotes};
 
     /// The tasks of the set, with no release noted. Only this call takes memory.
+    #[tactic(auto, using(crate::proofs::Slots::arrived_none))]
     pub fn new(alloc: Global, set: &TaskSet) -> Result<Arrivals, Memory>
-        ensures { IfOk result (λ arrivals. arrivals ≡ arrived set.now []) }
+        ensures { IfOk result (λ arrivals. arrivals ≡ arrived set.now.tasks []) }
     {
-        match fresh_slots(alloc, set) {
-            Ok(slots) => Ok(Arrivals { slots }),
-            Err(_) => Err(Memory),
-        }
+        let slots = fresh_slots(alloc, set.as_slice())?;
+        Ok(Arrivals { slots })
     }
 
     /// The boundary from which the task may be released: 0 before its first release, otherwise its last release time plus
@@ -86,19 +85,15 @@ impl Arrivals {
 }
 
 // A slot for each task, with no release.
-fn fresh_slots(alloc: Global, set: &TaskSet) -> Result<Vec<Slot>, AllocError>
-    ensures { IfOk result (λ slots. slots.items ≡ map fresh_slot set.now) }
+fn fresh_slots(alloc: Global, tasks: &[Task]) -> Result<Vec<Slot>, AllocError>
+    ensures { IfOk result (λ slots. slots.items ≡ map fresh_slot tasks.now) }
 {
-    let mut slots = Vec::with_capacity(alloc, set.len() as usize)?;
-    for k in 0..set.len() {
-        let Some(task) = set.get(TaskNo(k + 1)) else {
-            unreachable!();
-        };
-        slots.push_reserved(Slot {
+    tasks
+        .iter()
+        .map(|task| Slot {
             period: task.period,
             count: 0,
             next: 0,
-        });
-    }
-    Ok(slots)
+        })
+        .collect(alloc)
 }

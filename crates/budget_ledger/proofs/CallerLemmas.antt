@@ -1,5 +1,5 @@
 -- For callers: the ticks of each task after a change of one's.
-use Rattle.std.proofs.Common.{◌≡◌, ◌≢◌, ℕ, ◌-◌, ◌≤◌, ◌<◌, length, arith}
+use Rattle.std.proofs.Common.{◌≡◌, ◌≢◌, ℕ, ◌-◌, ◌≤◌, length, arith}
 use Rattle.std.proofs.lemmas.List.{get_or-set_same, get_or-set_other, length-set}
 use Rattle.budget_ledger.specs.Ledger.{Ledger, ticks_of, with_ticks, HasTask}
 

@@ -31,10 +31,10 @@ fn three_tasks(alloc: Global) -> Option<TaskSet> {
 
 // What one more tick of the task comes to, if the task is in the set and its ticks are below its own budget.
 fn spend(used: &mut Used, set: &TaskSet, task: u32) -> Option<Spent>
-    requires budgets { used.old.budgets ≡ map budget set.now }
-    requires ticks { length used.old.ticks ≡ length set.now }
-    ensures budgets { used.new.budgets ≡ map budget set.now }
-    ensures ticks { length used.new.ticks ≡ length set.now }
+    requires budgets { used.old.budgets ≡ map budget set.now.tasks }
+    requires ticks { length used.old.ticks ≡ length set.now.tasks }
+    ensures budgets { used.new.budgets ≡ map budget set.now.tasks }
+    ensures ticks { length used.new.ticks ≡ length set.now.tasks }
 {
     let own = set.get(TaskNo(task))?.high;
     if used.used(TaskNo(task)) < own {
@@ -46,10 +46,10 @@ fn spend(used: &mut Used, set: &TaskSet, task: u32) -> Option<Spent>
 
 // Begins a job of the task, if the task is in the set.
 fn start(used: &mut Used, set: &TaskSet, task: u32) -> Option<u32>
-    requires budgets { used.old.budgets ≡ map budget set.now }
-    requires ticks { length used.old.ticks ≡ length set.now }
-    ensures budgets { used.new.budgets ≡ map budget set.now }
-    ensures ticks { length used.new.ticks ≡ length set.now }
+    requires budgets { used.old.budgets ≡ map budget set.now.tasks }
+    requires ticks { length used.old.ticks ≡ length set.now.tasks }
+    ensures budgets { used.new.budgets ≡ map budget set.now.tasks }
+    ensures ticks { length used.new.ticks ≡ length set.now.tasks }
 {
     set.get(TaskNo(task))?;
     let before = used.used(TaskNo(task));
@@ -59,10 +59,10 @@ fn start(used: &mut Used, set: &TaskSet, task: u32) -> Option<u32>
 
 // What five more ticks of the task come to.
 fn five_ticks(used: &mut Used, set: &TaskSet, task: u32) -> [Option<Spent>; 5]
-    requires budgets { used.old.budgets ≡ map budget set.now }
-    requires ticks { length used.old.ticks ≡ length set.now }
-    ensures budgets { used.new.budgets ≡ map budget set.now }
-    ensures ticks { length used.new.ticks ≡ length set.now }
+    requires budgets { used.old.budgets ≡ map budget set.now.tasks }
+    requires ticks { length used.old.ticks ≡ length set.now.tasks }
+    ensures budgets { used.new.budgets ≡ map budget set.now.tasks }
+    ensures ticks { length used.new.ticks ≡ length set.now.tasks }
 {
     let first = spend(used, set, task);
     let second = spend(used, set, task);

@@ -2,7 +2,7 @@
 ghost use Rattle.std.specs.Prelude.{◌≡◌, ◌+◌, ◌-◌, ◌<◌, map, replicate, length, slice_set, IfOk};
 ghost use Rattle.budget_ledger.specs.Ledger.{budget};
 
-use mc_task::{Memory, TaskNo, TaskSet};
+use mc_task::{Memory, Task, TaskNo, TaskSet};
 use std::alloc::{AllocError, Global};
 use std::marker::Model;
 
@@ -47,15 +47,12 @@ impl Used {
 
     /// The tasks of the set, with no ticks. Only this call takes memory.
     pub fn new(alloc: Global, set: &TaskSet) -> Result<Used, Memory>
-        ensures { IfOk result (λ used. used ≡ record { budgets = map budget set.now; ticks = replicate (length set.now) 0 }) }
+        ensures { IfOk result (λ used. used ≡ record { budgets = map budget set.now.tasks; ticks = replicate (length set.now.tasks) 0 }) }
     {
-        let Ok(budgets) = budgets_of(alloc, set) else {
-            return Err(Memory);
-        };
-        match vec![in alloc; 0; set.len() as usize] {
-            Ok(ticks) => Ok(Used { budgets, ticks }),
-            Err(_) => Err(Memory),
-        }
+        let tasks = set.as_slice();
+        let budgets = budgets_of(alloc, tasks)?;
+        let ticks = vec![in alloc; 0; tasks.len()]?;
+        Ok(Used { budgets, ticks })
     }
 
     /// Begins a job of the task, which has had no ticks.
@@ -96,18 +93,14 @@ impl Used {
 }
 
 // The budgets of each task.
-fn budgets_of(alloc: Global, set: &TaskSet) -> Result<Vec<Budget>, AllocError>
-    ensures { IfOk result (λ budgets. budgets.items ≡ map budget set.now) }
+fn budgets_of(alloc: Global, tasks: &[Task]) -> Result<Vec<Budget>, AllocError>
+    ensures { IfOk result (λ budgets. budgets.items ≡ map budget tasks.now) }
 {
-    let mut budgets = Vec::with_capacity(alloc, set.len() as usize)?;
-    for k in 0..set.len() {
-        let Some(task) = set.get(TaskNo(k + 1)) else {
-            unreachable!();
-        };
-        budgets.push_reserved(Budget {
+    tasks
+        .iter()
+        .map(|task| Budget {
             low: task.low,
             own: task.high,
-        });
-    }
-    Ok(budgets)
+        })
+        .collect(alloc)
 }

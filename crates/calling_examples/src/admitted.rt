@@ -1,7 +1,7 @@
 // A set that is made in memory, and the rule of the test for it.
 ghost use Rattle.std.specs.Prelude.{◌≡◌, IfOk, IfErr, Some};
 ghost use Rattle.mc_model.specs.Holds.{Fits, Holds};
-ghost use Rattle.mc_model.specs.Test.{test};
+ghost use Rattle.mc_model.specs.Test.{published};
 ghost use Rattle.calling_examples.specs.Admitted.{IsReason};
 
 use admission::admit;
@@ -43,10 +43,10 @@ pub fn control_set(alloc: Global) -> Option<TaskSet> {
 
 /// The rule of the published test for the set.
 pub fn rule_for(set: &TaskSet) -> Result<Rule, NoRule>
-    ensures test { IfOk result (λ rule. test set.now ≡ Some rule) }
+    ensures test { IfOk result (λ rule. published set.now.tasks ≡ Some rule) }
     ensures fits { IfOk result Fits }
-    ensures holds { IfOk result (Holds set.now) }
-    ensures reason { IfErr result (IsReason set.now) }
+    ensures holds { IfOk result (Holds set.now.tasks) }
+    ensures reason { IfErr result (IsReason set.now.tasks) }
 {
     let loads = match sum_loads(set) {
         Ok(loads) => loads,

@@ -45,7 +45,7 @@ fn sensor_set(alloc: Global) -> Option<TaskSet> {
 // The rule of the published test for the set.
 fn rule_of(set: &TaskSet) -> Option<Rule>
     ensures fits { IfSome result Fits }
-    ensures holds { IfSome result (Holds set.now) }
+    ensures holds { IfSome result (Holds set.now.tasks) }
 {
     let loads = sum_loads(set).ok()?;
     admit(&loads)
@@ -54,7 +54,7 @@ fn rule_of(set: &TaskSet) -> Option<Rule>
 /// So many ticks, each task released as soon as it may be. No job is late in the rows.
 pub fn run(alloc: Global, set: TaskSet, rule: Rule, end: u32) -> Result<Core, Memory>
     requires fits { Fits rule }
-    requires holds { Holds set rule }
+    requires holds { Holds set.tasks rule }
     ensures timely { IfOk result IsTimely }
 {
     let tasks = set.len();

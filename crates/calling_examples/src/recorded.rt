@@ -30,11 +30,11 @@ pub fn verdict_on(
     rows: &[Row],
 ) -> Result<Verdict, NotJudged>
     requires fits { Fits rule }
-    requires holds { Holds set.now rule }
-    ensures exact { IfOk result (λ v. v ≡ verdict set.now rule (reverse rows.now)) }
+    requires holds { Holds set.now.tasks rule }
+    ensures exact { IfOk result (λ v. v ≡ verdict set.now.tasks rule (reverse rows.now)) }
     ensures none_late { IfOk result HasNoLate }
     ensures too_many { result ≡ Err NotJudged.TooMany → 2000000 < length rows.now }
-    ensures unknown { result ≡ Err NotJudged.UnknownTask → ¬ All (IsOfSet set.now) rows.now }
+    ensures unknown { result ≡ Err NotJudged.UnknownTask → ¬ All (IsOfSet set.now.tasks) rows.now }
 {
     if rows.len() > 2_000_000 {
         return Err(NotJudged::TooMany);
@@ -53,13 +53,13 @@ pub fn verdict_on(
 
 // Whether each row is idle or of a task of the set.
 fn are_of_set(set: &TaskSet, rows: &[Row]) -> bool
-    ensures { IsTrue result ↔ All (IsOfSet set.now) rows.now }
+    ensures { IsTrue result ↔ All (IsOfSet set.now.tasks) rows.now }
 {
     rows.iter().all(|row| is_of_set(set, *row))
 }
 
 fn is_of_set(set: &TaskSet, row: Row) -> bool
-    ensures { IsTrue result ↔ IsOfSet set.now row }
+    ensures { IsTrue result ↔ IsOfSet set.now.tasks row }
 {
     match row {
         Row::Release { job, .. } => set.get(job.task).is_some(),

@@ -28,12 +28,12 @@ pub fn schedule<D: Device>(
     end: u32,
 ) -> Result<Core, Memory>
     requires fits { Fits rule }
-    requires holds { Holds set rule }
+    requires holds { Holds set.tasks rule }
     requires few { end ≤ 1000000 }
     ensures ticks { IfOk result (λ core. ticks core.rows ≡ end) }
-    ensures legal { IfOk result (λ core. Legal set rule core.rows) }
+    ensures legal { IfOk result (λ core. Legal set.tasks rule core.rows) }
     ensures timely { IfOk result IsTimely }
-    ensures same { IfOk result (λ core. (core.set ≡ set) × (core.rule ≡ rule) × (core.out ≡ None)) }
+    ensures same { IfOk result (λ core. (core.set ≡ set.tasks) × (core.rule ≡ rule) × (core.out ≡ None)) }
 {
     let tasks = set.len();
     // A set has at most 128 tasks, so at a boundary come at most 128 releases and a tick.

@@ -70,12 +70,12 @@ pub fn run_jobs<R: Threads + Wait + Sync, G: Gate + Sync>(
     gate: &G,
 ) -> Result<Floor, NotRun>
     requires fits { Fits rule }
-    requires holds { Holds set rule }
+    requires holds { Holds set.tasks rule }
     requires some { 1 ≤ ticks }
     requires most { ticks ≤ 1000000 }
-    ensures trace { IfOk result (λ floor. IsTheTrace set rule jobs.items ticks floor.core.rows) }
-    ensures timely { IfOk result (λ floor. late set floor.core.rows ≡ []) }
-    ensures refusal { IfErr result (IsRefusal set jobs.items) }
+    ensures trace { IfOk result (λ floor. IsTheTrace set.tasks rule jobs.items ticks floor.core.rows) }
+    ensures timely { IfOk result (λ floor. late set.tasks floor.core.rows ≡ []) }
+    ensures refusal { IfErr result (IsRefusal set.tasks jobs.items) }
 {
     let work = match Work::new(&set, jobs) {
         Ok(work) => work,

@@ -83,7 +83,7 @@ pub fn planned(
     ticks: u32,
 ) -> Option<Floor>
     requires fits { Fits rule }
-    requires holds { Holds set rule }
+    requires holds { Holds set.tasks rule }
     requires some { 1 ≤ ticks }
     requires most { ticks ≤ 1000000 }
     ensures { IfSome result IsReady }

@@ -3,14 +3,14 @@ use Rattle.std.proofs.Common.{◌≡◌, ◌≢◌, ◌<◌, ◌≤◌, ℕ, zer
 use Rattle.std.proofs.Math.Seq.{take-length}
 use Rattle.std.proofs.lemmas.List.{length-append, length-drop}
 use Rattle.csv.specs.Machine.{Read, next_record, step, in_field, start_field, start_record, ends_with, after_end, is_end, fields_after, field_after, ends_at_end}
-use Rattle.csv.specs.Reading.{default_config, is_bom, records, records_from, records_next, strip_bom}
+use Rattle.csv.specs.Reading.{default_config, records, records_from, records_next, strip_bom}
 use Rattle.csv.specs.declared.parser.State.{State}
 use Rattle.csv.specs.declared.parser.State.TheVariants as state
 use Rattle.csv.specs.declared.parser.Action.{Action}
 use Rattle.csv.specs.declared.parser.Action.TheVariants as act
 use Rattle.csv_records.specs.declared.width.Count.{Count}
 use Rattle.csv_records.specs.declared.width.Ends.TheVariants as ends
-use Rattle.csv_records.specs.Width.{StartsWide, KnowsWide, one_less, has_mark, state_of, ends_of, is_inside, Counts}
+use Rattle.csv_records.specs.Width.{StartsWide, KnowsWide, one_less, has_mark, state_of, ends_of, is_inside, CountsFields}
 use Rattle.csv_records.proofs.RecordLemmas.{one_read}
 
 -- a text without its byte order mark
@@ -130,7 +130,7 @@ ends_wider s fields part (b ∷ rest) h = go (step default_config s b).1 refl (�
         (more.0, by_action s fields part b rest act.Copy e ∙ more.1, more.2)
 
 -- with six fields behind it a record is too wide
-pub told : (text : List ℕ) (i : ℕ) (count : Count) → Counts text i count → 6 ≤ count.fields → StartsWide (drop count.records (records default_config text))
+pub told : (text : List ℕ) (i : ℕ) (count : Count) → CountsFields text i count → 6 ≤ count.fields → StartsWide (drop count.records (records default_config text))
 told text i count counts wide =
     let width = counts.width in
     let more = ends_wider (state_of count.place) counts.fields counts.part (drop i text) (counts.inside (omega (arith, wide))) in
@@ -138,7 +138,7 @@ told text i count counts wide =
     subst (λ (rs : List (List (List ℕ))). StartsWide rs) (sym left) (omega (arith, width, wide, more.2))
 
 -- before the first byte
-pub none_counted : (text : List ℕ) (count : Count) → count.records ≡ 0 → count.fields ≡ 0 → state_of count.place ≡ state.StartRecord → Counts text 0 count
+pub none_counted : (text : List ℕ) (count : Count) → count.records ≡ 0 → count.fields ≡ 0 → state_of count.place ≡ state.StartRecord → CountsFields text 0 count
 none_counted text count none no_field start = record {
   fields = [];
   part = [];
@@ -156,13 +156,13 @@ drop_behind (suc n) [] y ys h = cc
 drop_behind (suc n) (x ∷ xs) y ys h = drop_behind n xs y ys h
 
 -- one more byte that ends nothing
-pub goes_on : (text : List ℕ) (i b : ℕ) (old new : Count) → drop i text ≡ b ∷ drop (i + 1) text → Counts text i old → ends_of (step default_config (state_of old.place) b).1 ≡ ends.Nothing
-    → state_of new.place ≡ (step default_config (state_of old.place) b).0 → new.records ≡ old.records → new.fields ≡ old.fields → Counts text (i + 1) new
+pub goes_on : (text : List ℕ) (i b : ℕ) (old new : Count) → drop i text ≡ b ∷ drop (i + 1) text → CountsFields text i old → ends_of (step default_config (state_of old.place) b).1 ≡ ends.Nothing
+    → state_of new.place ≡ (step default_config (state_of old.place) b).0 → new.records ≡ old.records → new.fields ≡ old.fields → CountsFields text (i + 1) new
 goes_on text i b old new byte counts nothing place same_records same_fields = go (step default_config (state_of old.place) b).1 refl
   where
     on : (part : List ℕ) → is_end (step default_config (state_of old.place) b).1 ≡ false
         → next_record default_config (state_of old.place) counts.fields counts.part (b ∷ drop (i + 1) text) ≡ next_record default_config (step default_config (state_of old.place) b).0 counts.fields part (drop (i + 1) text)
-        → Counts text (i + 1) new
+        → CountsFields text (i + 1) new
     on part still next =
         let order = counts.order in
         record {
@@ -175,7 +175,7 @@ goes_on text i b old new byte counts nothing place same_records same_fields = go
               ∙ ap (records_next (records_from default_config (length text - old.records))) next);
         }
 
-    go : (a : Action) → (step default_config (state_of old.place) b).1 ≡ a → Counts text (i + 1) new
+    go : (a : Action) → (step default_config (state_of old.place) b).1 ≡ a → CountsFields text (i + 1) new
     go act.Skip e = on counts.part (ap is_end e) (by_action (state_of old.place) counts.fields counts.part b (drop (i + 1) text) act.Skip e)
     go act.Copy e = on (counts.part ++ (b ∷ [])) (ap is_end e) (by_action (state_of old.place) counts.fields counts.part b (drop (i + 1) text) act.Copy e)
     go act.EndField e = absurd (let bad = ap ends_of e in let no : ends.Field ≡ ends.Nothing = sym bad ∙ nothing in cc)
@@ -194,8 +194,8 @@ only_record act.Skip h = cc
 only_record act.Copy h = cc
 
 -- one more byte that ends a field
-pub ends_field : (text : List ℕ) (i b : ℕ) (old new : Count) → drop i text ≡ b ∷ drop (i + 1) text → Counts text i old → ends_of (step default_config (state_of old.place) b).1 ≡ ends.Field
-    → state_of new.place ≡ (step default_config (state_of old.place) b).0 → new.records ≡ old.records → new.fields ≡ old.fields + 1 → Counts text (i + 1) new
+pub ends_field : (text : List ℕ) (i b : ℕ) (old new : Count) → drop i text ≡ b ∷ drop (i + 1) text → CountsFields text i old → ends_of (step default_config (state_of old.place) b).1 ≡ ends.Field
+    → state_of new.place ≡ (step default_config (state_of old.place) b).0 → new.records ≡ old.records → new.fields ≡ old.fields + 1 → CountsFields text (i + 1) new
 ends_field text i b old new byte counts field place same_records one_more =
     let e = only_field _ field in
     let order = counts.order in
@@ -212,8 +212,8 @@ ends_field text i b old new byte counts field place same_records one_more =
     }
 
 -- one more byte that ends a record
-pub ends_record : (text : List ℕ) (i b : ℕ) (old new : Count) → drop i text ≡ b ∷ drop (i + 1) text → Counts text i old → ends_of (step default_config (state_of old.place) b).1 ≡ ends.Record
-    → state_of new.place ≡ (step default_config (state_of old.place) b).0 → new.records ≡ old.records + 1 → new.fields ≡ 0 → Counts text (i + 1) new
+pub ends_record : (text : List ℕ) (i b : ℕ) (old new : Count) → drop i text ≡ b ∷ drop (i + 1) text → CountsFields text i old → ends_of (step default_config (state_of old.place) b).1 ≡ ends.Record
+    → state_of new.place ≡ (step default_config (state_of old.place) b).0 → new.records ≡ old.records + 1 → new.fields ≡ 0 → CountsFields text (i + 1) new
 ends_record text i b old new byte counts ended place one_more no_field =
     let e = only_record _ ended in
     let order = counts.order in

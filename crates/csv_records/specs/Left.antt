@@ -1,7 +1,9 @@
 -- The records that a reader of a text has left.
-use Rattle.std.specs.Prelude.{◌≡◌, ℕ, ◌+◌, Bool, true, false, List, [], length, Option, Some, None, IsSome}
+use Rattle.std.specs.Prelude.{◌≡◌, ℕ, ◌+◌, ⊤, Bool, true, false, List, [], length, Option, Some, None, IsSome}
 use Rattle.std.specs.Borrow.{Bor}
-use Rattle.csv.specs.Reading.{Ready, default_config, records_from, source_of}
+use Rattle.csv.specs.Reading.{Ready, default_config, is_flexible, records_from, source_of}
+use Rattle.csv.specs.declared.error.ErrorKind.{ErrorKind}
+use Rattle.csv.specs.declared.error.ErrorKind.TheVariants as kind
 use Rattle.csv.specs.declared.parser.State.{State}
 use Rattle.csv.specs.declared.reader.Reader.{Reader}
 use Rattle.csv.specs.declared.reader.Trim.TheVariants as trim
@@ -20,10 +22,20 @@ abbrev pub records_left : Bool → Reader (Bor (List ℕ)) → List (List (List 
 records_left true r = []
 records_left false r = records_after r.state (source_of bytes_left r)
 
--- it gives the records of the bytes that are left, as they are
+-- the errors of reading records of any lengths: that of the reader underneath, and want of memory
+abbrev pub IsOfReader : ErrorKind → Type 0
+IsOfReader (kind.Io e) = ⊤
+IsOfReader (kind.UnequalLengths pos expected len) = ⊥
+IsOfReader (kind.Utf8 pos err) = ⊥
+IsOfReader kind.OutOfMemory = ⊤
+IsOfReader (kind.Serialize text) = ⊥
+IsOfReader (kind.Deserialize pos err) = ⊥
+
+-- it gives the records of the bytes that are left, as they are and of any lengths
 pub record GivesRecords (r : Reader (Bor (List ℕ))) : Type 0 where
   pub trim : r.trim ≡ trim.None
   pub ready : Ready r
+  pub flexible : is_flexible r ≡ true
   pub config : r.config ≡ default_config
   pub source : IsSome (source_of bytes_left r)
 

@@ -67,7 +67,7 @@ is_inside state.InEscape = true
 
 -- behind i bytes of the text so many records ended, and the next one goes on from the place with so many fields, some
 -- fields and a part of one
-pub record Counts (text : List ℕ) (i : ℕ) (count : Count) : Type 0 where
+pub record CountsFields (text : List ℕ) (i : ℕ) (count : Count) : Type 0 where
   pub fields : List (List ℕ)
   pub part : List ℕ
   pub width : length fields ≡ count.fields

@@ -1,9 +1,10 @@
 // All records of a text, however wide, one after another.
 ghost use Rattle.std.specs.Prelude.{◌≡◌, ◌∷◌, [], true, false, Ok, OnErr};
-ghost use Rattle.csv.specs.Reading.{default_config, records, strip_bom};
+ghost use Rattle.csv.specs.Reading.{default_config, error_kind, records, strip_bom};
 ghost use Rattle.csv.specs.Records.{fields_of};
+ghost use Rattle.csv_records.specs.Left.{IsOfReader};
 
-use csv::{ByteRecord, Reader, ReaderBuilder};
+use csv::{ByteRecord, Error, ErrorKind, Reader, ReaderBuilder};
 use std::alloc::{AllocError, Global};
 use std::marker::Model;
 
@@ -44,15 +45,33 @@ impl<'a> AllRecords<'a> {
     pub fn next(&mut self, fields: &mut ByteRecord) -> Result<bool, AllocError>
         ensures record { result ≡ Ok true → self.old ≡ fields_of fields.new ∷ self.new }
         ensures none { result ≡ Ok false → self.old ≡ [] }
+        ensures ended { result ≡ Ok false → self.new ≡ [] }
         ensures memory { OnErr result (self.new ≡ []) }
     {
         if self.let_go {
             return Ok(false);
         }
-        let Ok(found) = self.reader.read_byte_record(fields) else {
-            self.let_go = true;
-            return Err(AllocError);
-        };
-        Ok(found)
+        match self.reader.read_byte_record(fields) {
+            Ok(true) => Ok(true),
+            Ok(false) => {
+                self.let_go = true;
+                Ok(false)
+            }
+            Err(error) => {
+                self.let_go = true;
+                Err(want_of_memory(&error))
+            }
+        }
+    }
+}
+
+// An error of reading bytes in memory, whose records may have any lengths. The reader of a slice has none of its own, which
+// none of its clauses says.
+fn want_of_memory(error: &Error) -> AllocError
+    requires { IsOfReader (error_kind error.now) }
+{
+    match error.kind() {
+        ErrorKind::OutOfMemory | ErrorKind::Io(_) => AllocError,
+        _ => unreachable!(),
     }
 }

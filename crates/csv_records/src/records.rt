@@ -60,6 +60,7 @@ impl<'a> Records<'a> {
         ensures wide { result ≡ Ok next.Wide → StartsWide self.old }
         ensures wide_stays { result ≡ Ok next.Wide → self.new ≡ self.old }
         ensures end { result ≡ Ok next.End → self.old ≡ [] }
+        ensures ended { result ≡ Ok next.End → self.new ≡ [] }
         ensures memory { OnErr result (self.new ≡ []) }
     {
         if self.narrow == Some(0) {

@@ -2,7 +2,7 @@
 ghost use Rattle.std.specs.Prelude.{◌≡◌, ◌<◌, ◌≤◌, ◌+◌, ◌-◌, ◌^◌, ◌∷◌, ℕ, List, true, IfSome, drop, length};
 ghost use Rattle.csv.specs.Machine as machine;
 ghost use Rattle.csv.specs.Reading.{default_config, records, strip_bom};
-ghost use Rattle.csv_records.specs.Width.{StartsWide, Counts, state_of, ends_of, has_mark};
+ghost use Rattle.csv_records.specs.Width.{StartsWide, CountsFields, state_of, ends_of, has_mark};
 
 use memchr::memchr;
 
@@ -100,7 +100,7 @@ fn first_wide(text: &[u8]) -> Option<usize>
 fn counted(count: Count, b: u8) -> Count
     requires fields { count.fields < 6 }
     requires records { count.records < 2 ^ 64 - 1 }
-    ensures { (text : List ℕ) (i : ℕ) → drop i text ≡ b ∷ drop (i + 1) text → Counts text i count → Counts text (i + 1) result }
+    ensures { (text : List ℕ) (i : ℕ) → drop i text ≡ b ∷ drop (i + 1) text → CountsFields text i count → CountsFields text (i + 1) result }
 {
     let (place, ends) = step(count.place, b);
     match ends {

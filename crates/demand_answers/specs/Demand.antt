@@ -27,7 +27,7 @@ TellsFit set (Within h) reply = reply ≡ reply_of 0 (within_line h)
 TellsFit set (Past n m) reply = (text : List ℕ) × ShowsCounter set n text × (reply ≡ reply_of 10 (past_line n m ++ text))
 
 -- what was read is a set, and the reply tells the test's answer for it
-pub record Fits (set : List Asked) (reply : Reply) : Type 0 where
+pub record TellsTested (set : List Asked) (reply : Reply) : Type 0 where
   pub is_set : IsDemandSet set
   pub fit : Fit
   pub is : IsFit set fit
@@ -35,4 +35,4 @@ pub record Fits (set : List Asked) (reply : Reply) : Type 0 where
 
 -- the command
 abbrev pub demand : List ℕ → Command
-demand demands = fetch_table demands (λ bytes. need (or_refuse DemandFile (demands_in bytes)) (λ set. answer (Fits set)))
+demand demands = fetch_table demands (λ bytes. need (or_refuse DemandFile (demands_in bytes)) (λ set. answer (TellsTested set)))

@@ -2,7 +2,7 @@
 ghost use Rattle.std.specs.Prelude.{IfOk};
 ghost use Rattle.demand_test.specs.DemandSet.{IsDemandSet};
 ghost use Rattle.serving.specs.Steps.{IsOwn};
-ghost use Rattle.demand_answers.specs.Demand.{Fits};
+ghost use Rattle.demand_answers.specs.Demand.{TellsTested};
 
 use demand_test::{DemandSet, Fit, check_demand, counter, read_demands};
 use replies::{Reply, refused};
@@ -55,7 +55,7 @@ impl<'a> Command for Demand<'a> {
 // The reply that tells the test's answer for the set.
 fn fitted(alloc: Global, set: &DemandSet) -> Result<Reply, AllocError>
     requires { IsDemandSet set.now }
-    ensures fits { IfOk result (Fits set.now) }
+    ensures fits { IfOk result (TellsTested set.now) }
     ensures own { IfOk result IsOwn }
 {
     let Ok(fit) = check_demand(alloc, set) else {

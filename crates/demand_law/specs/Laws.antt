@@ -3,7 +3,7 @@ use Rattle.std.specs.Prelude.{◌≡◌, ◌*◌, ◌<◌, false, List, []}
 use Rattle.std.specs.List.{AllByRecursion}
 use Rattle.mc_task.specs.declared.task.Task.{Task}
 use Rattle.mc_task.specs.declared.task.Rule.{Rule}
-use Rattle.mc_task.specs.TaskSet.{IsSet}
+use Rattle.mc_task.specs.TaskSet.{AreTasks}
 use Rattle.mc_model.specs.Rows.{ticks}
 use Rattle.mc_model.specs.Pending.{pending}
 use Rattle.mc_model.specs.Key.{scale, key}
@@ -14,7 +14,7 @@ use Rattle.mc_model.specs.declared.row.Row.{Row}
 
 -- it is so of every set for which the rule holds, and of every trace of it that is legal under the rule
 abbrev pub Everywhere : Rule → (List Task → List Row → Type 0) → Type 0
-Everywhere rule Law = (set : List Task) (h : List Row) → IsSet set → Holds set rule → Legal set rule h → Law set h
+Everywhere rule Law = (set : List Task) (h : List Row) → AreTasks set → Holds set rule → Legal set rule h → Law set h
 
 -- no job is late
 abbrev pub NoneLate : List Task → List Row → Type 0

@@ -14,9 +14,9 @@ use mc_task::{Rule, TaskSet};
 pub fn plain_law(set: &TaskSet, rule: Rule, rows: &[Row])
     requires plain { rule ≡ Plain }
     requires fits { Fits rule }
-    requires holds { Holds set.now rule }
-    requires legal { Legal set.now rule (reverse rows.now) }
-    ensures here { NoneLate set.now (reverse rows.now) }
+    requires holds { Holds set.now.tasks rule }
+    requires legal { Legal set.now.tasks rule (reverse rows.now) }
+    ensures here { NoneLate set.now.tasks (reverse rows.now) }
     ensures everywhere { Everywhere rule NoneLate }
 {
     let _is_set = set.len();
@@ -27,10 +27,10 @@ pub fn plain_law(set: &TaskSet, rule: Rule, rows: &[Row])
 pub fn low_mode_law(set: &TaskSet, rule: Rule, rows: &[Row])
     requires scaled { is_virtual rule ≡ true }
     requires fits { Fits rule }
-    requires holds { Holds set.now rule }
-    requires legal { Legal set.now rule (reverse rows.now) }
+    requires holds { Holds set.now.tasks rule }
+    requires legal { Legal set.now.tasks rule (reverse rows.now) }
     requires low { high_mode rule (reverse rows.now) ≡ false }
-    ensures here { NoneDue set.now rule (reverse rows.now) }
+    ensures here { NoneDue set.now.tasks rule (reverse rows.now) }
     ensures everywhere { Everywhere rule (λ tasks h. high_mode rule h ≡ false → NoneDue tasks rule h) }
 {
     let _is_set = set.len();
@@ -41,9 +41,9 @@ pub fn low_mode_law(set: &TaskSet, rule: Rule, rows: &[Row])
 pub fn switch_law(set: &TaskSet, rule: Rule, rows: &[Row])
     requires scaled { is_virtual rule ≡ true }
     requires fits { Fits rule }
-    requires holds { Holds set.now rule }
-    requires legal { Legal set.now rule (reverse rows.now) }
-    ensures here { NoneLate set.now (reverse rows.now) }
+    requires holds { Holds set.now.tasks rule }
+    requires legal { Legal set.now.tasks rule (reverse rows.now) }
+    ensures here { NoneLate set.now.tasks (reverse rows.now) }
     ensures everywhere { Everywhere rule NoneLate }
 {
     let _is_set = set.len();
@@ -53,10 +53,10 @@ pub fn switch_law(set: &TaskSet, rule: Rule, rows: &[Row])
 /// earliest time of the next release.
 pub fn one_live_law(set: &TaskSet, rule: Rule, rows: &[Row])
     requires fits { Fits rule }
-    requires holds { Holds set.now rule }
-    requires legal { Legal set.now rule (reverse rows.now) }
-    ensures one { AtMostOne set.now (reverse rows.now) }
-    ensures none { NoneAtRelease set.now (reverse rows.now) }
+    requires holds { Holds set.now.tasks rule }
+    requires legal { Legal set.now.tasks rule (reverse rows.now) }
+    ensures one { AtMostOne set.now.tasks (reverse rows.now) }
+    ensures none { NoneAtRelease set.now.tasks (reverse rows.now) }
     ensures one_everywhere { Everywhere rule AtMostOne }
     ensures none_everywhere { Everywhere rule NoneAtRelease }
 {
@@ -66,11 +66,11 @@ pub fn one_live_law(set: &TaskSet, rule: Rule, rows: &[Row])
 /// With no overrun no release is dropped, and each kept job whose deadline has come was ended by it, low jobs too.
 pub fn no_over_law(set: &TaskSet, rule: Rule, rows: &[Row])
     requires fits { Fits rule }
-    requires holds { Holds set.now rule }
-    requires legal { Legal set.now rule (reverse rows.now) }
+    requires holds { Holds set.now.tasks rule }
+    requires legal { Legal set.now.tasks rule (reverse rows.now) }
     requires calm { NoOver (reverse rows.now) }
     ensures kept { NoDrop (reverse rows.now) }
-    ensures ended { EndedInTime set.now (reverse rows.now) }
+    ensures ended { EndedInTime set.now.tasks (reverse rows.now) }
     ensures kept_everywhere { Everywhere rule (λ tasks h. NoOver h → NoDrop h) }
     ensures ended_everywhere { Everywhere rule (λ tasks h. NoOver h → EndedInTime tasks h) }
 {

@@ -20,7 +20,7 @@ fn task(name: &[u8], level: Level, period: u32, low: u32, high: u32) -> Option<T
 }
 
 fn pair(alloc: Global, first: Task, second: Task) -> Result<TaskSet, Fail>
-    ensures { IfOk result (λ set. set ≡ first ∷ second ∷ []) }
+    ensures { IfOk result (λ set. set.tasks ≡ first ∷ second ∷ []) }
 {
     let mut tasks = Vec::new(alloc);
     tasks.push(first)?;

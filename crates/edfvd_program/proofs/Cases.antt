@@ -2,8 +2,8 @@
 use Rattle.std.proofs.Common.{◌≡◌, ◌≢◌, ◌⊎◌, inl, inr, ℕ, ◌<◌, ◌≤◌, ◌^◌, nat_lt, Bool, true, false, List, [], length, Option, Some, None, Result, Ok, Err, refl, sym, ap, subst, ◌∙◌, arith, leb-true, ltb-false}
 use Rattle.std.specs.Prelude.{MatchBool, IsSomeAnd, ok_or, unwrap_or}
 use Rattle.mc_world.specs.Shelf.{Files}
-use Rattle.mc_task.specs.declared.task.Task.{Task}
 use Rattle.mc_task.specs.declared.task.Rule.{Rule}
+use Rattle.mc_task.specs.TaskSet.{Set}
 use Rattle.mc_model.specs.Loads.{range_fault}
 use Rattle.mc_model.specs.Test.{test}
 use Rattle.task_file.specs.TaskFile.{task_file}
@@ -14,7 +14,7 @@ use Rattle.replies.specs.Reading.{◌>>=◌, or_refuse, none_or, reply_by}
 use Rattle.serving.specs.Command.{Command, need}
 use Rattle.serving.specs.Outcome.{IsAnswer}
 use Rattle.task_answers.specs.Admitted.{Ruled, under, set_in, tested, admitted}
-use Rattle.edfvd_program.specs.Headline.{SaysSet, IsWithinRange, IsAdmitted}
+use Rattle.edfvd_program.specs.Headline.{SaysSet, HasNoRangeFault, IsAdmitted}
 
 -- two statuses are one
 pub other_status : (reply : Reply) (m n : ℕ) → reply.status ≡ m → reply.status ≡ n → m ≢ n → ⊥
@@ -68,41 +68,41 @@ second_weaker limit more reply P Q f h = go (nat_lt limit (length more)) h
 -- what a task file leads to where the test decides: the status of a refusal, or what comes next
 pub data Comes (bytes : List ℕ) (Then : Ruled → Reply → Type 0) (reply : Reply) : Type 0 where
   long : 2 ^ 24 < length bytes → reply.status ≡ 7 → Comes bytes Then reply
-  refused : ((set : List Task) → set_in bytes ≡ Ok set → range_fault set ≡ None → ⊥) → reply.status ≡ 3 → Comes bytes Then reply
-  no_rule : (set : List Task) → SaysSet bytes set → IsWithinRange set → test set ≡ None → reply.status ≡ 1 → Comes bytes Then reply
-  ruled : (set : List Task) (rule : Rule) → IsAdmitted bytes set rule → Then (under rule set) reply → Comes bytes Then reply
+  refused : ((set : Set) → set_in bytes ≡ Ok set → range_fault set.tasks ≡ None → ⊥) → reply.status ≡ 3 → Comes bytes Then reply
+  no_rule : (set : Set) → SaysSet bytes set → HasNoRangeFault set → test set ≡ None → reply.status ≡ 1 → Comes bytes Then reply
+  ruled : (set : Set) (rule : Rule) → IsAdmitted bytes set rule → Then (under rule set) reply → Comes bytes Then reply
 
 one_ok : {A E : Type 0} (read : Result A E) (a b : A) → read ≡ Ok a → read ≡ Ok b → a ≡ b
 one_ok read a b s t = cc
 
 -- a file says one set
-pub one_set : (bytes : List ℕ) (a b : List Task) → SaysSet bytes a → SaysSet bytes b → a ≡ b
+pub one_set : (bytes : List ℕ) (a b : Set) → SaysSet bytes a → SaysSet bytes b → a ≡ b
 one_set bytes a b s t = one_ok (set_in bytes) a b s.1 t.1
 
-by_rule : (bytes : List ℕ) (Then : Ruled → Reply → Type 0) (reply : Reply) (set : List Task) → SaysSet bytes set → IsWithinRange set
-    → By (ok_or (test set) (NotAdmitted set) >>= (λ rule. Ok (under rule set))) Then reply → Comes bytes Then reply
+by_rule : (bytes : List ℕ) (Then : Ruled → Reply → Type 0) (reply : Reply) (set : Set) → SaysSet bytes set → HasNoRangeFault set
+    → By (ok_or (test set) (NotAdmitted set.tasks) >>= (λ rule. Ok (under rule set))) Then reply → Comes bytes Then reply
 by_rule bytes Then reply set s w h = go (test set) refl h
   where
-    go : (o : Option Rule) → test set ≡ o → By (ok_or o (NotAdmitted set) >>= (λ rule. Ok (under rule set))) Then reply → Comes bytes Then reply
+    go : (o : Option Rule) → test set ≡ o → By (ok_or o (NotAdmitted set.tasks) >>= (λ rule. Ok (under rule set))) Then reply → Comes bytes Then reply
     go None e k = no_rule set s w e (ap (λ r. r.status) k)
     go (Some rule) e k = ruled set rule (record { says = s; range = w; test = e }) k
 
-by_range : (bytes : List ℕ) (Then : Ruled → Reply → Type 0) (reply : Reply) (set : List Task) → SaysSet bytes set → By (tested set) Then reply → Comes bytes Then reply
-by_range bytes Then reply set s h = go (range_fault set) refl h
+by_range : (bytes : List ℕ) (Then : Ruled → Reply → Type 0) (reply : Reply) (set : Set) → SaysSet bytes set → By (tested set) Then reply → Comes bytes Then reply
+by_range bytes Then reply set s h = go (range_fault set.tasks) refl h
   where
-    go : (o : Option ℕ) → range_fault set ≡ o → By (none_or OutOfRange o >>= (λ x. ok_or (test set) (NotAdmitted set) >>= (λ rule. Ok (under rule set)))) Then reply → Comes bytes Then reply
+    go : (o : Option ℕ) → range_fault set.tasks ≡ o → By (none_or OutOfRange o >>= (λ x. ok_or (test set) (NotAdmitted set.tasks) >>= (λ rule. Ok (under rule set)))) Then reply → Comes bytes Then reply
     go (Some task) e k = refused (λ other says none. outside other says none task e) (ap (λ r. r.status) k)
       where
-        outside : (other : List Task) → set_in bytes ≡ Ok other → range_fault other ≡ None → (task : ℕ) → range_fault set ≡ Some task → ⊥
+        outside : (other : Set) → set_in bytes ≡ Ok other → range_fault other.tasks ≡ None → (task : ℕ) → range_fault set.tasks ≡ Some task → ⊥
         outside other says none task e =
             let same : other ≡ set = one_ok (set_in bytes) other set says s.1 in
-            let clash : Some task ≡ None = sym e ∙ (sym (ap range_fault same) ∙ none) in cc
+            let clash : Some task ≡ None = sym e ∙ (sym (ap (λ (x : Set). range_fault x.tasks) same) ∙ none) in cc
     go None e k = by_rule bytes Then reply set s e k
 
 by_file : (bytes : List ℕ) (Then : Ruled → Reply → Type 0) (reply : Reply) → length bytes ≤ 2 ^ 24 → By (admitted bytes) Then reply → Comes bytes Then reply
 by_file bytes Then reply short h = go (task_file bytes) refl h
   where
-    go : (read : Result (List Task) TaskFault) → task_file bytes ≡ read → By (or_refuse TaskFile read >>= (λ set. tested set)) Then reply → Comes bytes Then reply
+    go : (read : Result Set TaskFault) → task_file bytes ≡ read → By (or_refuse TaskFile read >>= (λ set. tested set)) Then reply → Comes bytes Then reply
     go (Err fault) e k = refused (λ set says none. (let clash : Ok set ≡ Err (TaskFile fault) = sym says ∙ ap (or_refuse TaskFile) e in cc)) (ap (λ r. r.status) k)
     go (Ok set) e k = by_range bytes Then reply set (short, ap (or_refuse TaskFile) e) k
 
@@ -116,7 +116,7 @@ comes bytes Then reply Else next h =
     ]
 
 -- of an admitted set the answer is what comes next
-pub next_of : (bytes : List ℕ) (Then : Ruled → Reply → Type 0) (reply : Reply) (set : List Task) (rule : Rule) → IsAdmitted bytes set rule → Comes bytes Then reply → Then (under rule set) reply
+pub next_of : (bytes : List ℕ) (Then : Ruled → Reply → Type 0) (reply : Reply) (set : Set) (rule : Rule) → IsAdmitted bytes set rule → Comes bytes Then reply → Then (under rule set) reply
 next_of bytes Then reply set rule a (long l s) = absurd (let short : length bytes ≤ 2 ^ 24 = a.says.0 in omega (arith, l, short))
 next_of bytes Then reply set rule a (refused none s) = absurd (none set a.says.1 a.range)
 next_of bytes Then reply set rule a (no_rule other s w e st) =

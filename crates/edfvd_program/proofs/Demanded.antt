@@ -19,7 +19,7 @@ use Rattle.replies.specs.Refusal.{DemandFile, Longer, refuse}
 use Rattle.replies.specs.Reading.{or_refuse}
 use Rattle.serving.specs.Command.{answer, fetch, need}
 use Rattle.serving.specs.Outcome.{IsAnswer}
-use Rattle.demand_answers.specs.Demand.{TellsFit, Fits}
+use Rattle.demand_answers.specs.Demand.{TellsFit, TellsTested}
 use Rattle.edfvd_program.specs.Headline.{bytes_of, SaysDemands, Succeeds, Tests}
 use Rattle.edfvd_program.proofs.Cases.{of_held, By, by_need, by_length, other_status}
 
@@ -27,22 +27,22 @@ use Rattle.edfvd_program.proofs.Cases.{of_held, By, by_need, by_length, other_st
 data Answered (bytes : List ℕ) (reply : Reply) : Type 0 where
   long : 2 ^ 24 < length bytes → reply.status ≡ 7 → Answered bytes reply
   refused : ((set : List Demand) → demands_in bytes ≡ Ok set → ⊥) → reply.status ≡ 11 → Answered bytes reply
-  told : (set : List Demand) → SaysDemands bytes set → Fits set reply → Answered bytes reply
+  told : (set : List Demand) → SaysDemands bytes set → TellsTested set reply → Answered bytes reply
 
 answered : (files : Files) (demands : List ℕ) (reply : Reply)
-    → IsAnswer files 1 (fetch demands (2 ^ 24) (λ bytes. need (or_refuse DemandFile (demands_in bytes)) (λ set. answer (Fits set)))) reply → Answered (bytes_of files demands) reply
+    → IsAnswer files 1 (fetch demands (2 ^ 24) (λ bytes. need (or_refuse DemandFile (demands_in bytes)) (λ set. answer (TellsTested set)))) reply → Answered (bytes_of files demands) reply
 answered files demands reply h =
-    elim (by_length (reply ≡ refuse (Longer 1 (2 ^ 24))) (IsAnswer files 2 (need (or_refuse DemandFile (demands_in (bytes_of files demands))) (λ set. answer (Fits set))) reply) (2 ^ 24) (bytes_of files demands)
+    elim (by_length (reply ≡ refuse (Longer 1 (2 ^ 24))) (IsAnswer files 2 (need (or_refuse DemandFile (demands_in (bytes_of files demands))) (λ set. answer (TellsTested set))) reply) (2 ^ 24) (bytes_of files demands)
     (of_held (files demands) (λ bytes. MatchBool (nat_lt (2 ^ 24) (length bytes)) (reply ≡ refuse (Longer 1 (2 ^ 24)))
-    (IsAnswer files 2 (need (or_refuse DemandFile (demands_in bytes)) (λ set. answer (Fits set))) reply)) h)) [
+    (IsAnswer files 2 (need (or_refuse DemandFile (demands_in bytes)) (λ set. answer (TellsTested set))) reply)) h)) [
       | inl p ↦ long p.1 (ap (λ (r : Reply). r.status) p.0)
-      | inr q ↦ of_file (bytes_of files demands) q.1 (by_need files 2 (or_refuse DemandFile (demands_in (bytes_of files demands))) (λ set. answer (Fits set)) reply q.0)
+      | inr q ↦ of_file (bytes_of files demands) q.1 (by_need files 2 (or_refuse DemandFile (demands_in (bytes_of files demands))) (λ set. answer (TellsTested set)) reply q.0)
     ]
   where
-    of_file : (bytes : List ℕ) → length bytes ≤ 2 ^ 24 → By (or_refuse DemandFile (demands_in bytes)) (λ set r. Fits set r) reply → Answered bytes reply
+    of_file : (bytes : List ℕ) → length bytes ≤ 2 ^ 24 → By (or_refuse DemandFile (demands_in bytes)) (λ set r. TellsTested set r) reply → Answered bytes reply
     of_file bytes short k = go (demands_in bytes) refl k
       where
-        go : (read : Result (List Demand) DemandFault) → demands_in bytes ≡ read → By (or_refuse DemandFile read) (λ set r. Fits set r) reply → Answered bytes reply
+        go : (read : Result (List Demand) DemandFault) → demands_in bytes ≡ read → By (or_refuse DemandFile read) (λ set r. TellsTested set r) reply → Answered bytes reply
         go (Ok set) e k = told set (short, e) k
         go (Err fault) e k = refused (λ set says. (let clash : Ok set ≡ Err fault = sym says ∙ e in cc)) (ap (λ (r : Reply). r.status) k)
 
@@ -61,7 +61,7 @@ either set (Past n m) reply t = inl (ap (λ (r : Reply). r.status) t.2)
 
 -- what `demand` promises
 pub tests : (files : Files) (demands : List ℕ) (reply : Reply)
-    → IsAnswer files 1 (fetch demands (2 ^ 24) (λ bytes. need (or_refuse DemandFile (demands_in bytes)) (λ set. answer (Fits set)))) reply → Tests (bytes_of files demands) reply.status
+    → IsAnswer files 1 (fetch demands (2 ^ 24) (λ bytes. need (or_refuse DemandFile (demands_in bytes)) (λ set. answer (TellsTested set)))) reply → Tests (bytes_of files demands) reply.status
 tests files demands reply h = let a = answered files demands reply h in record { none_late = none_late a; some_late = some_late a; complete = complete a }
   where
     none_late : Answered (bytes_of files demands) reply → reply.status ≡ 0 → (set : List Demand) × SaysDemands (bytes_of files demands) set × ((h : List EdfRow) → IsRun set h → NoneLate set h)

@@ -4,13 +4,14 @@ use Rattle.std.specs.List.{AllByRecursion}
 use Rattle.mc_task.specs.declared.task.Task.{Task}
 use Rattle.mc_task.specs.declared.task.Rule.{Rule}
 use Rattle.mc_task.specs.declared.task.Rule.TheVariants.{Virtual}
+use Rattle.mc_task.specs.TaskSet.{Set}
 use Rattle.mc_model.specs.declared.row.Row.{Row}
 use Rattle.mc_model.specs.declared.run.Run.{Run}
 use Rattle.mc_model.specs.Rows.{ticks}
 use Rattle.mc_model.specs.Runs.{expand}
 use Rattle.mc_model.specs.Legal.{Legal, IsOfSet}
 use Rattle.mc_model.specs.Late.{late}
-use Rattle.mc_model.specs.Verdict.{first_fault, verdict}
+use Rattle.mc_model.specs.Verdict.{first_unfit, verdict}
 use Rattle.mc_model.proofs.Verdicts.{legal_by_verdict, verdict-good}
 use Rattle.demand_law.proofs.Laws.{none_late}
 use Rattle.sched_chart.specs.ChartText.{chart_text}
@@ -51,7 +52,7 @@ rows_of set more h says = go (trace_file set more) refl says
 
 -- a good verdict is that of a legal trace, and a legal trace without late jobs has one
 legal_of_good : (set : List Task) (rule : Rule) (more : List ℕ) (h : List Row) → rows_in set more ≡ Ok h → is_good (verdict set rule h) ≡ true → Legal set rule h
-legal_of_good set rule more h says good = legal_by_verdict set rule h (rows_of set more h says) (no_fault_in (first_fault set rule h) (late set h) good)
+legal_of_good set rule more h says good = legal_by_verdict set rule h (rows_of set more h says) (no_fault_in (first_unfit set rule h) (late set h) good)
 
 good_of_legal : (set : List Task) (rule : Rule) (h : List Row) → Legal set rule h → late set h ≡ [] → is_good (verdict set rule h) ≡ true
 good_of_legal set rule h l none = ap is_good (verdict-good set rule h l none)
@@ -64,7 +65,7 @@ chart_fits set h short = rw (le-leb (ticks h) 2000000 short) refl
 told_ok : (telling : Telling) (ruled : Ruled) (h : List Row) → IsTold telling h → (text : List ℕ) × (told telling ruled h ≡ Ok text)
 told_ok Judge ruled h k = (_, refl)
 told_ok (JudgeBy p q) ruled h k = (_, refl)
-told_ok Chart ruled h k = (chart_text ruled.set h, chart_fits ruled.set h k)
+told_ok Chart ruled h k = (chart_text ruled.set.tasks h, chart_fits ruled.set.tasks h k)
 told_ok Report ruled h k = (_, refl)
 told_ok Migrate ruled h k = (_, refl)
 
@@ -73,7 +74,7 @@ told_status Judge ruled h refusal k = cc
 told_status (JudgeBy p q) ruled h refusal k = cc
 told_status Chart ruled h refusal k = go (nat_le (ticks h) 2000000) k
   where
-    go : (b : Bool) → (if b then Ok (chart_text ruled.set h) else Err (LongChart (ticks h))) ≡ Err refusal → status_of refusal ≡ 5
+    go : (b : Bool) → (if b then Ok (chart_text ruled.set.tasks h) else Err (LongChart (ticks h))) ≡ Err refusal → status_of refusal ≡ 5
     go true e = cc
     go false e = let same : LongChart (ticks h) ≡ refusal = cc in subst (λ r. status_of r ≡ 5) same refl
 told_status Report ruled h refusal k = cc
@@ -81,14 +82,14 @@ told_status Migrate ruled h refusal k = cc
 
 -- what a command on a trace comes to: a refusal with status 5, a verdict that is not good, or what is told of a good one
 data Judges (telling : Telling) (ruled : Ruled) (more : List ℕ) (reply : Reply) : Type 0 where
-  refuses : reply.status ≡ 5 → ((h : List Row) → rows_in ruled.set more ≡ Ok h → IsTold telling h → ⊥) → Judges telling ruled more reply
-  blames : (h : List Row) → rows_in ruled.set more ≡ Ok h → is_good (verdict ruled.set ruled.rule h) ≡ false → reply.status ≡ 6 → Judges telling ruled more reply
-  says : (h : List Row) (text : List ℕ) → rows_in ruled.set more ≡ Ok h → is_good (verdict ruled.set ruled.rule h) ≡ true → told telling ruled h ≡ Ok text → reply ≡ reply_of 0 text → Judges telling ruled more reply
+  refuses : reply.status ≡ 5 → ((h : List Row) → rows_in ruled.set.tasks more ≡ Ok h → IsTold telling h → ⊥) → Judges telling ruled more reply
+  blames : (h : List Row) → rows_in ruled.set.tasks more ≡ Ok h → is_good (verdict ruled.set.tasks ruled.rule h) ≡ false → reply.status ≡ 6 → Judges telling ruled more reply
+  says : (h : List Row) (text : List ℕ) → rows_in ruled.set.tasks more ≡ Ok h → is_good (verdict ruled.set.tasks ruled.rule h) ≡ true → told telling ruled h ≡ Ok text → reply ≡ reply_of 0 text → Judges telling ruled more reply
 
 one_trace : (read : Result (List Row) Refusal) (a b : List Row) → read ≡ Ok a → read ≡ Ok b → a ≡ b
 one_trace read a b s t = cc
 
-judges_good : (telling : Telling) (ruled : Ruled) (more : List ℕ) (reply : Reply) (h : List Row) → rows_in ruled.set more ≡ Ok h → is_good (verdict ruled.set ruled.rule h) ≡ true
+judges_good : (telling : Telling) (ruled : Ruled) (more : List ℕ) (reply : Reply) (h : List Row) → rows_in ruled.set.tasks more ≡ Ok h → is_good (verdict ruled.set.tasks ruled.rule h) ≡ true
     → reply ≡ reply_by (told telling ruled h) → Judges telling ruled more reply
 judges_good telling ruled more reply h is good k = go (told telling ruled h) refl k
   where
@@ -96,25 +97,25 @@ judges_good telling ruled more reply h is good k = go (told telling ruled h) ref
     go (Ok text) e k = says h text is good e k
     go (Err refusal) e k = refuses (ap (λ (r : Reply). r.status) k ∙ told_status telling ruled h refusal e) (λ other is' short. too_long other is' short)
       where
-        too_long : (other : List Row) → rows_in ruled.set more ≡ Ok other → IsTold telling other → ⊥
+        too_long : (other : List Row) → rows_in ruled.set.tasks more ≡ Ok other → IsTold telling other → ⊥
         too_long other is' short =
-            let same = one_trace (rows_in ruled.set more) other h is' is in
+            let same = one_trace (rows_in ruled.set.tasks more) other h is' is in
             let t = told_ok telling ruled h (subst (IsTold telling) same short) in
             let clash : Ok t.0 ≡ Err refusal = sym t.1 ∙ e in cc
 
-judges_rows : (telling : Telling) (ruled : Ruled) (more : List ℕ) (reply : Reply) (h : List Row) → rows_in ruled.set more ≡ Ok h → reply ≡ reply_by (judged telling ruled h) → Judges telling ruled more reply
-judges_rows telling ruled more reply h is k = go (is_good (verdict ruled.set ruled.rule h)) refl k
+judges_rows : (telling : Telling) (ruled : Ruled) (more : List ℕ) (reply : Reply) (h : List Row) → rows_in ruled.set.tasks more ≡ Ok h → reply ≡ reply_by (judged telling ruled h) → Judges telling ruled more reply
+judges_rows telling ruled more reply h is k = go (is_good (verdict ruled.set.tasks ruled.rule h)) refl k
   where
-    go : (b : Bool) → is_good (verdict ruled.set ruled.rule h) ≡ b → reply ≡ reply_by (if b then told telling ruled h else Err (BadTrace ruled.set (verdict ruled.set ruled.rule h))) → Judges telling ruled more reply
+    go : (b : Bool) → is_good (verdict ruled.set.tasks ruled.rule h) ≡ b → reply ≡ reply_by (if b then told telling ruled h else Err (BadTrace ruled.set.tasks (verdict ruled.set.tasks ruled.rule h))) → Judges telling ruled more reply
     go true e k = judges_good telling ruled more reply h is e k
     go false e k = blames h is e (ap (λ (r : Reply). r.status) k)
 
 judges : (telling : Telling) (ruled : Ruled) (more : List ℕ) (reply : Reply) → reply ≡ reply_by (tells telling ruled more) → Judges telling ruled more reply
-judges telling ruled more reply k = go (rows_in ruled.set more) refl k
+judges telling ruled more reply k = go (rows_in ruled.set.tasks more) refl k
   where
-    go : (read : Result (List Row) Refusal) → rows_in ruled.set more ≡ read → reply ≡ reply_by (read >>= (λ h. judged telling ruled h)) → Judges telling ruled more reply
+    go : (read : Result (List Row) Refusal) → rows_in ruled.set.tasks more ≡ read → reply ≡ reply_by (read >>= (λ h. judged telling ruled h)) → Judges telling ruled more reply
     go (Ok h) e k = judges_rows telling ruled more reply h e k
-    go (Err refusal) e k = refuses (ap (λ (r : Reply). r.status) k ∙ rows_status ruled.set more refusal e) (λ h is short. (let clash : Ok h ≡ Err refusal = sym is ∙ e in cc))
+    go (Err refusal) e k = refuses (ap (λ (r : Reply). r.status) k ∙ rows_status ruled.set.tasks more refusal e) (λ h is short. (let clash : Ok h ≡ Err refusal = sym is ∙ e in cc))
 
 not_1_judges : (telling : Telling) (ruled : Ruled) (more : List ℕ) (reply : Reply) → Judges telling ruled more reply → reply.status ≢ 1
 not_1_judges telling ruled more reply (refuses s none) e = other_status reply 5 1 s e (λ k. absurd (omega (arith, k)))
@@ -129,27 +130,27 @@ not_1_tells telling more ruled reply h e =
     ]
 
 -- a good trace of which something can be told gets a 0
-good_0 : (telling : Telling) (ruled : Ruled) (more : List ℕ) (reply : Reply) (h : List Row) → rows_in ruled.set more ≡ Ok h → is_good (verdict ruled.set ruled.rule h) ≡ true → IsTold telling h
+good_0 : (telling : Telling) (ruled : Ruled) (more : List ℕ) (reply : Reply) (h : List Row) → rows_in ruled.set.tasks more ≡ Ok h → is_good (verdict ruled.set.tasks ruled.rule h) ≡ true → IsTold telling h
     → Judges telling ruled more reply → reply.status ≡ 0
 good_0 telling ruled more reply h is good told (refuses s none) = absurd (none h is told)
 good_0 telling ruled more reply h is good told (blames other is' bad s) =
-    let same = one_trace (rows_in ruled.set more) other h is' is in
-    absurd (let clash : true ≡ false = sym good ∙ (sym (ap (λ g. is_good (verdict ruled.set ruled.rule g)) same) ∙ bad) in cc)
+    let same = one_trace (rows_in ruled.set.tasks more) other h is' is in
+    absurd (let clash : true ≡ false = sym good ∙ (sym (ap (λ g. is_good (verdict ruled.set.tasks ruled.rule g)) same) ∙ bad) in cc)
 good_0 telling ruled more reply h is good told (says other text is' good' t k) = ap (λ (r : Reply). r.status) k
 
 -- what they promise under the test's rule
 pub finds : (telling : Telling) (bytes more old : List ℕ) (reply : Reply) → Comes bytes (TellsNext telling more) reply → Finds telling bytes more old reply.status (Some (old ++ reply.text))
 finds telling bytes more old reply h = record { finds = found; illegal = faulty; complete = complete }
   where
-    found_in : (set : List Task) (rule : Rule) → IsAdmitted bytes set rule → length more ≤ 2 ^ 27 → Judges telling (under rule set) more reply → reply.status ≡ 0
-        → (set : List Task) × (rule : Rule) × (h : List Row) × (text : List ℕ) × IsAdmitted bytes set rule × SaysTrace more set h × IsTimely set rule h × (told telling (under rule set) h ≡ Ok text) × (Some (old ++ reply.text) ≡ Some (old ++ text))
+    found_in : (set : Set) (rule : Rule) → IsAdmitted bytes set rule → length more ≤ 2 ^ 27 → Judges telling (under rule set) more reply → reply.status ≡ 0
+        → (set : Set) × (rule : Rule) × (h : List Row) × (text : List ℕ) × IsAdmitted bytes set rule × SaysTrace more set.tasks h × IsTimely set.tasks rule h × (told telling (under rule set) h ≡ Ok text) × (Some (old ++ reply.text) ≡ Some (old ++ text))
     found_in set rule a short (refuses s none) e = absurd (other_status reply 5 0 s e (λ k. absurd (omega (arith, k))))
     found_in set rule a short (blames h is bad s) e = absurd (other_status reply 6 0 s e (λ k. absurd (omega (arith, k))))
     found_in set rule a short (says h text is good t k) e =
-        (set, rule, h, text, a, (short, is), timely bytes set rule h a (legal_of_good set rule more h is good), t, ap (λ (r : Reply). Some (old ++ r.text)) k)
+        (set, rule, h, text, a, (short, is), timely bytes set rule h a (legal_of_good set.tasks rule more h is good), t, ap (λ (r : Reply). Some (old ++ r.text)) k)
 
     found : reply.status ≡ 0
-        → (set : List Task) × (rule : Rule) × (h : List Row) × (text : List ℕ) × IsAdmitted bytes set rule × SaysTrace more set h × IsTimely set rule h × (told telling (under rule set) h ≡ Ok text) × (Some (old ++ reply.text) ≡ Some (old ++ text))
+        → (set : Set) × (rule : Rule) × (h : List Row) × (text : List ℕ) × IsAdmitted bytes set rule × SaysTrace more set.tasks h × IsTimely set.tasks rule h × (told telling (under rule set) h ≡ Ok text) × (Some (old ++ reply.text) ≡ Some (old ++ text))
     found e =
         let (set, rule, a, k) = only_ruled bytes (TellsNext telling more) reply 0 (λ z. absurd (omega (arith, z))) (λ z. absurd (omega (arith, z))) (λ z. absurd (omega (arith, z))) h e in
         elim (by_second (2 ^ 27) more (reply ≡ reply_by (tells telling (under rule set) more)) reply k) [
@@ -157,18 +158,18 @@ finds telling bytes more old reply h = record { finds = found; illegal = faulty;
           | inr q ↦ found_in set rule a q.1 (judges telling (under rule set) more reply q.0) e
         ]
 
-    faulty_in : (set : List Task) (rule : Rule) → IsAdmitted bytes set rule → length more ≤ 2 ^ 27 → Judges telling (under rule set) more reply → reply.status ≡ 6
-        → (set : List Task) × (rule : Rule) × (h : List Row) × IsAdmitted bytes set rule × SaysTrace more set h × (Legal set rule h → ⊥)
+    faulty_in : (set : Set) (rule : Rule) → IsAdmitted bytes set rule → length more ≤ 2 ^ 27 → Judges telling (under rule set) more reply → reply.status ≡ 6
+        → (set : Set) × (rule : Rule) × (h : List Row) × IsAdmitted bytes set rule × SaysTrace more set.tasks h × (Legal set.tasks rule h → ⊥)
     faulty_in set rule a short (refuses s none) e = absurd (other_status reply 5 6 s e (λ k. absurd (omega (arith, k))))
     faulty_in set rule a short (blames h is bad s) e = (set, rule, h, a, (short, is), λ l. not_bad l)
       where
-        not_bad : Legal set rule h → ⊥
+        not_bad : Legal set.tasks rule h → ⊥
         not_bad l =
             let s = holds_for bytes set rule a in
-            let clash : true ≡ false = sym (good_of_legal set rule h l (none_late set rule h s.0.each s.1 l)) ∙ bad in cc
+            let clash : true ≡ false = sym (good_of_legal set.tasks rule h l (none_late set.tasks rule h s.0.each s.1 l)) ∙ bad in cc
     faulty_in set rule a short (says h text is good t k) e = absurd (other_status reply 0 6 (ap (λ (r : Reply). r.status) k) e (λ k. absurd (omega (arith, k))))
 
-    faulty : reply.status ≡ 6 → (set : List Task) × (rule : Rule) × (h : List Row) × IsAdmitted bytes set rule × SaysTrace more set h × (Legal set rule h → ⊥)
+    faulty : reply.status ≡ 6 → (set : Set) × (rule : Rule) × (h : List Row) × IsAdmitted bytes set rule × SaysTrace more set.tasks h × (Legal set.tasks rule h → ⊥)
     faulty e =
         let (set, rule, a, k) = only_ruled bytes (TellsNext telling more) reply 6 (λ z. absurd (omega (arith, z))) (λ z. absurd (omega (arith, z))) (λ z. absurd (omega (arith, z))) h e in
         elim (by_second (2 ^ 27) more (reply ≡ reply_by (tells telling (under rule set) more)) reply k) [
@@ -176,16 +177,16 @@ finds telling bytes more old reply h = record { finds = found; illegal = faulty;
           | inr q ↦ faulty_in set rule a q.1 (judges telling (under rule set) more reply q.0) e
         ]
 
-    complete : (set : List Task) (rule : Rule) (h : List Row) → IsAdmitted bytes set rule → SaysTrace more set h → Legal set rule h → IsTold telling h → Succeeds reply.status
+    complete : (set : Set) (rule : Rule) (h : List Row) → IsAdmitted bytes set rule → SaysTrace more set.tasks h → Legal set.tasks rule h → IsTold telling h → Succeeds reply.status
     complete set rule t a said l told =
         let s = holds_for bytes set rule a in
         let k : reply ≡ reply_by (tells telling (under rule set) more) = second_fits (2 ^ 27) more (reply ≡ reply_by (tells telling (under rule set) more)) reply said.0 (next_of bytes (TellsNext telling more) reply set rule a h) in
-        inl (good_0 telling (under rule set) more reply t said.1 (good_of_legal set rule t l (none_late set rule t s.0.each s.1 l)) told (judges telling (under rule set) more reply k))
+        inl (good_0 telling (under rule set) more reply t said.1 (good_of_legal set.tasks rule t l (none_late set.tasks rule t s.0.each s.1 l)) told (judges telling (under rule set) more reply k))
 
 -- what `judge` promises under a given scale, where the task file says the set
-pub finds_by : (p q : ℕ) (bytes more : List ℕ) (reply : Reply) → ((set : List Task) → SaysSet bytes set → TellsNext (JudgeBy p q) more (under (Virtual p q) set) reply)
+pub finds_by : (p q : ℕ) (bytes more : List ℕ) (reply : Reply) → ((set : Set) → SaysSet bytes set → TellsNext (JudgeBy p q) more (under (Virtual p q) set) reply)
     → FindsBy (Virtual p q) bytes more reply.status
 finds_by p q bytes more reply next set h said trace_says legal none =
     let k : reply ≡ reply_by (tells (JudgeBy p q) (under (Virtual p q) set) more) =
     second_fits (2 ^ 27) more (reply ≡ reply_by (tells (JudgeBy p q) (under (Virtual p q) set) more)) reply trace_says.0 (next set said) in
-    inl (good_0 (JudgeBy p q) (under (Virtual p q) set) more reply h trace_says.1 (good_of_legal set (Virtual p q) h legal none) tt (judges (JudgeBy p q) (under (Virtual p q) set) more reply k))
+    inl (good_0 (JudgeBy p q) (under (Virtual p q) set) more reply h trace_says.1 (good_of_legal set.tasks (Virtual p q) h legal none) tt (judges (JudgeBy p q) (under (Virtual p q) set) more reply k))

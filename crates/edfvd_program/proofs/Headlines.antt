@@ -3,9 +3,10 @@ use Rattle.std.proofs.Common.{◌≡◌, ◌≢◌, inl, inr, ℕ, ◌≤◌, �
 use Rattle.std.specs.Prelude.{MatchBool}
 use Rattle.mc_task.specs.declared.task.Task.{Task}
 use Rattle.mc_task.specs.declared.task.Rule.TheVariants.{Virtual}
+use Rattle.mc_task.specs.TaskSet.{Set}
 use Rattle.mc_world.specs.Shelf.{Files}
 use Rattle.mc_model.specs.CheckText.{check_text}
-use Rattle.mc_model.proofs.RuleHolds.{test-holds}
+use Rattle.mc_model.proofs.RuleHolds.{published-holds}
 use Rattle.demand_law.proofs.Promise.{keeps_deadlines}
 use Rattle.set_gen.specs.Words.{words_of}
 use Rattle.set_gen.proofs.Admitted.{made_sets-admitted}
@@ -63,12 +64,12 @@ second_of files limit name next reply h =
 
 -- and of `run`
 runs_next : (files : Files) (ticks : ℕ) (work : List ℕ) (ruled : Ruled) (reply : Reply)
-    → IsAnswer files 2 (fetch work (2 ^ 24) (λ more. need (work_of ruled.set more) (λ rows. answer (TellsTrace ticks ruled.set ruled.rule rows)))) reply → RunsNext ticks (bytes_of files work) ruled reply
+    → IsAnswer files 2 (fetch work (2 ^ 24) (λ more. need (work_of ruled.set.tasks more) (λ rows. answer (TellsTrace ticks ruled.set.tasks ruled.rule rows)))) reply → RunsNext ticks (bytes_of files work) ruled reply
 runs_next files ticks work ruled reply h =
     second_weaker (2 ^ 24) (bytes_of files work) reply
-    (IsAnswer files 3 (need (work_of ruled.set (bytes_of files work)) (λ rows. answer (TellsTrace ticks ruled.set ruled.rule rows))) reply) (Runs ticks ruled (bytes_of files work) reply)
-    (λ k. by_need files 3 (work_of ruled.set (bytes_of files work)) (λ rows. answer (TellsTrace ticks ruled.set ruled.rule rows)) reply k)
-    (second_of files (2 ^ 24) work (λ more. need (work_of ruled.set more) (λ rows. answer (TellsTrace ticks ruled.set ruled.rule rows))) reply h)
+    (IsAnswer files 3 (need (work_of ruled.set.tasks (bytes_of files work)) (λ rows. answer (TellsTrace ticks ruled.set.tasks ruled.rule rows))) reply) (Runs ticks ruled (bytes_of files work) reply)
+    (λ k. by_need files 3 (work_of ruled.set.tasks (bytes_of files work)) (λ rows. answer (TellsTrace ticks ruled.set.tasks ruled.rule rows)) reply k)
+    (second_of files (2 ^ 24) work (λ more. need (work_of ruled.set.tasks more) (λ rows. answer (TellsTrace ticks ruled.set.tasks ruled.rule rows))) reply h)
 
 -- of a command on a trace under the test's rule
 telling_finds : (telling : Telling) (files : Files) (tasks trace old : List ℕ) (reply : Reply)
@@ -85,7 +86,7 @@ telling_finds telling files tasks trace old reply h =
 -- under a given rule a set that the file says goes on
 given_next : (p q : ℕ) (files : Files) (tasks trace : List ℕ) (reply : Reply)
     → IsAnswer files 1 (fetch tasks (2 ^ 24) (λ bytes. need (ruled_by (Virtual p q) bytes) (λ ruled. fetch trace (2 ^ 27) (λ more. answer (λ reply. reply ≡ reply_by (tells (JudgeBy p q) ruled more)))))) reply
-    → (set : List Task) → SaysSet (bytes_of files tasks) set → TellsNext (JudgeBy p q) (bytes_of files trace) (under (Virtual p q) set) reply
+    → (set : Set) → SaysSet (bytes_of files tasks) set → TellsNext (JudgeBy p q) (bytes_of files trace) (under (Virtual p q) set) reply
 given_next p q files tasks trace reply h set says =
     elim (by_length (reply ≡ refuse (Longer 1 (2 ^ 24))) (IsAnswer files 2 (need (ruled_by (Virtual p q) (bytes_of files tasks)) next) reply) (2 ^ 24) (bytes_of files tasks)
     (of_held (files tasks) (λ bytes. MatchBool (nat_lt (2 ^ 24) (length bytes)) (reply ≡ refuse (Longer 1 (2 ^ 24))) (IsAnswer files 2 (need (ruled_by (Virtual p q) bytes) next) reply)) h)) [
@@ -108,7 +109,7 @@ soaks number tasks ticks old reply range h =
     let set : List Task = workload_set number tasks in
     let is = made_sets-admitted (words_of number) tasks range.0 range.1 in
     let s = h.2 in
-    let keeps = keeps_deadlines (workload_set number tasks) h.0 h.1 is.set.each (test-holds (workload_set number tasks) h.0 is.set s.test) s.follows.legal in
+    let keeps = keeps_deadlines (workload_set number tasks) h.0 h.1 is.set.each (published-holds (workload_set number tasks) h.0 is.set s.test) s.follows.legal in
     record {
       sums = λ e. (h.0, h.1, s, ap (λ (r : Reply). Some (old ++ r.text)) h.3, (s.follows.legal, keeps));
       complete = inl (ap (λ (r : Reply). r.status) h.3);
@@ -122,7 +123,7 @@ of_form (check tasks) range files old reply h =
     (of_held (files tasks) (λ bytes. MatchBool (nat_lt (2 ^ 24) (length bytes)) (reply ≡ refuse (Longer 1 (2 ^ 24))) (reply ≡ reply_by (checked bytes))) h))
 of_form (run tasks work ticks) range files old reply h =
     let c : Comes (bytes_of files tasks) (RunsNext ticks (bytes_of files work)) reply =
-    comes_next files tasks (λ ruled. fetch work (2 ^ 24) (λ more. need (work_of ruled.set more) (λ rows. answer (TellsTrace ticks ruled.set ruled.rule rows)))) (RunsNext ticks (bytes_of files work)) reply
+    comes_next files tasks (λ ruled. fetch work (2 ^ 24) (λ more. need (work_of ruled.set.tasks more) (λ rows. answer (TellsTrace ticks ruled.set.tasks ruled.rule rows)))) (RunsNext ticks (bytes_of files work)) reply
     (λ ruled k. runs_next files ticks work ruled reply k) h in (
       schedules_exactly (bytes_of files tasks) (RunsNext ticks (bytes_of files work)) reply (λ x k. not_1_run ticks (bytes_of files work) x reply k) c,
       schedules ticks (bytes_of files tasks) (bytes_of files work) old reply c,

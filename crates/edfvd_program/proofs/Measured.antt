@@ -2,7 +2,7 @@
 use Rattle.std.proofs.Common.{◌≡◌, inl, inr, ℕ, ◌<◌, ◌≤◌, ◌^◌, nat_lt, List, ◌++◌, length, Option, Some, None, Result, Ok, Err, refl, sym, ap, ◌∙◌, arith}
 use Rattle.std.specs.Prelude.{MatchBool}
 use Rattle.mc_world.specs.Shelf.{Files}
-use Rattle.mc_task.specs.declared.task.Task.{Task}
+use Rattle.mc_task.specs.TaskSet.{Set}
 use Rattle.mc_model.specs.Loads.{range_fault}
 use Rattle.task_file.specs.TaskFile.{task_file}
 use Rattle.task_file.specs.declared.fault.TaskFault.{TaskFault}
@@ -17,31 +17,31 @@ use Rattle.serving.specs.Outcome.{IsAnswer}
 use Rattle.task_answers.specs.Admitted.{set_in}
 use Rattle.study_answers.specs.Stretch.{stretch_text, measured, stretched}
 use Rattle.study_answers.specs.Accept.{Accepts}
-use Rattle.edfvd_program.specs.Headline.{bytes_of, SaysSet, IsWithinRange, Succeeds, Measures, Counts}
+use Rattle.edfvd_program.specs.Headline.{bytes_of, SaysSet, HasNoRangeFault, Succeeds, Measures, Tabulates}
 use Rattle.edfvd_program.proofs.Cases.{of_held, by_length, other_status, one_set}
 
 -- the reply to a task file is a refusal, or tells the stretch of its set
 data Measured (bytes : List ℕ) (reply : Reply) : Type 0 where
   long : 2 ^ 24 < length bytes → reply.status ≡ 7 → Measured bytes reply
-  refused : ((set : List Task) → set_in bytes ≡ Ok set → range_fault set ≡ None → ⊥) → reply.status ≡ 3 → Measured bytes reply
-  told : (set : List Task) → SaysSet bytes set → IsWithinRange set → reply ≡ reply_of 0 (stretch_text set (room.stretch set)) → Measured bytes reply
+  refused : ((set : Set) → set_in bytes ≡ Ok set → range_fault set.tasks ≡ None → ⊥) → reply.status ≡ 3 → Measured bytes reply
+  told : (set : Set) → SaysSet bytes set → HasNoRangeFault set → reply ≡ reply_of 0 (stretch_text set.tasks (room.stretch set.tasks)) → Measured bytes reply
 
-of_range : (bytes : List ℕ) (reply : Reply) (set : List Task) → SaysSet bytes set → reply ≡ reply_by (measured set) → Measured bytes reply
-of_range bytes reply set says h = go (range_fault set) refl h
+of_range : (bytes : List ℕ) (reply : Reply) (set : Set) → SaysSet bytes set → reply ≡ reply_by (measured set.tasks) → Measured bytes reply
+of_range bytes reply set says h = go (range_fault set.tasks) refl h
   where
-    outside : (task : ℕ) → range_fault set ≡ Some task → (other : List Task) → set_in bytes ≡ Ok other → range_fault other ≡ None → ⊥
+    outside : (task : ℕ) → range_fault set.tasks ≡ Some task → (other : Set) → set_in bytes ≡ Ok other → range_fault other.tasks ≡ None → ⊥
     outside task e other said none =
         let same : other ≡ set = one_set bytes other set (says.0, said) says in
-        let clash : Some task ≡ None = sym e ∙ (sym (ap range_fault same) ∙ none) in cc
+        let clash : Some task ≡ None = sym e ∙ (sym (ap (λ (x : Set). range_fault x.tasks) same) ∙ none) in cc
 
-    go : (o : Option ℕ) → range_fault set ≡ o → reply ≡ reply_by (none_or OutOfRange o >>= (λ x. Ok (stretch_text set (room.stretch set)))) → Measured bytes reply
+    go : (o : Option ℕ) → range_fault set.tasks ≡ o → reply ≡ reply_by (none_or OutOfRange o >>= (λ x. Ok (stretch_text set.tasks (room.stretch set.tasks)))) → Measured bytes reply
     go (Some task) e k = refused (outside task e) (ap (λ (r : Reply). r.status) k)
     go None e k = told set says e k
 
 of_file : (bytes : List ℕ) (reply : Reply) → length bytes ≤ 2 ^ 24 → reply ≡ reply_by (stretched bytes) → Measured bytes reply
 of_file bytes reply short h = go (task_file bytes) refl h
   where
-    go : (read : Result (List Task) TaskFault) → task_file bytes ≡ read → reply ≡ reply_by (or_refuse TaskFile read >>= (λ set. measured set)) → Measured bytes reply
+    go : (read : Result Set TaskFault) → task_file bytes ≡ read → reply ≡ reply_by (or_refuse TaskFile read >>= (λ set. measured set.tasks)) → Measured bytes reply
     go (Err fault) e k = refused (λ set says none. (let clash : Ok set ≡ Err (TaskFile fault) = sym says ∙ ap (or_refuse TaskFile) e in cc)) (ap (λ (r : Reply). r.status) k)
     go (Ok set) e k = of_range bytes reply set (short, ap (or_refuse TaskFile) e) k
 
@@ -64,18 +64,18 @@ measures files tasks old reply h = let m = measured_of files tasks reply h in re
     bytes = bytes_of files tasks
 
     writes : Measured bytes reply → reply.status ≡ 0
-        → (set : List Task) × (s : Option ℕ) × SaysSet bytes set × IsWithinRange set × IsStretch set s × (Some (old ++ reply.text) ≡ Some (old ++ stretch_text set s))
+        → (set : Set) × (s : Option ℕ) × SaysSet bytes set × HasNoRangeFault set × IsStretch set.tasks s × (Some (old ++ reply.text) ≡ Some (old ++ stretch_text set.tasks s))
     writes (long l s) e = absurd (other_status reply 7 0 s e (λ k. absurd (omega (arith, k))))
     writes (refused none s) e = absurd (other_status reply 3 0 s e (λ k. absurd (omega (arith, k))))
-    writes (told set says within k) e = (set, room.stretch set, says, within, stretch-greatest set, ap (λ (r : Reply). Some (old ++ r.text)) k)
+    writes (told set says within k) e = (set, room.stretch set.tasks, says, within, stretch-greatest set.tasks, ap (λ (r : Reply). Some (old ++ r.text)) k)
 
-    complete : Measured bytes reply → (set : List Task) → SaysSet bytes set → IsWithinRange set → Succeeds reply.status
+    complete : Measured bytes reply → (set : Set) → SaysSet bytes set → HasNoRangeFault set → Succeeds reply.status
     complete (long l s) set says within = absurd (let short = says.0 in omega (arith, l, short))
     complete (refused none s) set says within = absurd (none set says.1 within)
     complete (told other said w k) set says within = inl (ap (λ (r : Reply). r.status) k)
 
 -- and `accept`
-pub counts : (number sets tasks : ℕ) (old : List ℕ) (reply : Reply) → Accepts number sets tasks reply → Counts number sets tasks old reply.status (Some (old ++ reply.text))
+pub counts : (number sets tasks : ℕ) (old : List ℕ) (reply : Reply) → Accepts number sets tasks reply → Tabulates number sets tasks old reply.status (Some (old ++ reply.text))
 counts number sets tasks old reply h = record {
   writes = λ e. ap (λ (r : Reply). Some (old ++ r.text)) h;
   complete = inl (ap (λ (r : Reply). r.status) h);

@@ -2,6 +2,7 @@
 use Rattle.std.proofs.Common.{◌≡◌, ◌≢◌, inl, inr, ℕ, ◌≤◌, ◌^◌, List, ◌++◌, length, Some, Err, refl, ap, arith}
 use Rattle.mc_task.specs.declared.task.Task.{Task}
 use Rattle.mc_task.specs.declared.task.Rule.{Rule}
+use Rattle.mc_task.specs.TaskSet.{Set}
 use Rattle.mc_model.specs.declared.row.Row.{Row}
 use Rattle.mc_model.specs.declared.work.WorkRow.{WorkRow}
 use Rattle.mc_model.specs.LiveTrace.{LiveTrace}
@@ -17,7 +18,7 @@ use Rattle.edfvd_program.proofs.Promised.{timely, only_ruled}
 
 -- what comes of a work file's bytes
 abbrev pub Runs : ℕ → Ruled → List ℕ → Reply → Type 0
-Runs ticks ruled more reply = By (work_of ruled.set more) (TellsTrace ticks ruled.set ruled.rule) reply
+Runs ticks ruled more reply = By (work_of ruled.set.tasks more) (TellsTrace ticks ruled.set.tasks ruled.rule) reply
 
 -- what comes next of `run`
 abbrev pub RunsNext : ℕ → List ℕ → Ruled → Reply → Type 0
@@ -32,8 +33,8 @@ not_1_run ticks more ruled reply h e =
     elim (by_second (2 ^ 24) more (Runs ticks ruled more reply) reply h) [
       | inl p ↦ other_status reply 7 1 p.0 e (λ k. absurd (omega (arith, k)))
       | inr q ↦
-          elim (by_cases (work_of ruled.set more) _ reply q.0) [
-            | inl r ↦ let four = work_status ruled.set more r.0 r.1 in let is = r.2 in absurd (omega (arith, four, is, e))
+          elim (by_cases (work_of ruled.set.tasks more) _ reply q.0) [
+            | inl r ↦ let four = work_status ruled.set.tasks more r.0 r.1 in let is = r.2 in absurd (omega (arith, four, is, e))
             | inr w ↦ other_status reply 0 1 (ap (λ (r : Reply). r.status) w.2.2) e (λ k. absurd (omega (arith, k)))
           ]
     ]
@@ -42,16 +43,16 @@ not_1_run ticks more ruled reply h e =
 pub schedules : (ticks : ℕ) (bytes more old : List ℕ) (reply : Reply) → Comes bytes (RunsNext ticks more) reply → Schedules ticks bytes more old reply.status (Some (old ++ reply.text))
 schedules ticks bytes more old reply h = record { writes = writes; complete = complete }
   where
-    of_work : (set : List Task) (rule : Rule) → IsAdmitted bytes set rule → length more ≤ 2 ^ 24 → Runs ticks (under rule set) more reply → reply.status ≡ 0
-        → (set : List Task) × (rule : Rule) × (t : List Row) × IsAdmitted bytes set rule × IsScheduled ticks more set rule t × Writes set t old (Some (old ++ reply.text)) × IsTimely set rule t
+    of_work : (set : Set) (rule : Rule) → IsAdmitted bytes set rule → length more ≤ 2 ^ 24 → Runs ticks (under rule set) more reply → reply.status ≡ 0
+        → (set : Set) × (rule : Rule) × (t : List Row) × IsAdmitted bytes set rule × IsScheduled ticks more set.tasks rule t × Writes set.tasks t old (Some (old ++ reply.text)) × IsTimely set.tasks rule t
     of_work set rule a short k e =
-        elim (by_cases (work_of set more) _ reply k) [
-          | inl r ↦ let four = work_status set more r.0 r.1 in let is = r.2 in absurd (omega (arith, four, is, e))
+        elim (by_cases (work_of set.tasks more) _ reply k) [
+          | inl r ↦ let four = work_status set.tasks more r.0 r.1 in let is = r.2 in absurd (omega (arith, four, is, e))
           | inr w ↦
               (set, rule, w.2.0, a, record { work = w.0; says = (short, w.1); follows = w.2.1 }, ap (λ (r : Reply). Some (old ++ r.text)) w.2.2, timely bytes set rule w.2.0 a w.2.1.legal)
         ]
 
-    writes : reply.status ≡ 0 → (set : List Task) × (rule : Rule) × (t : List Row) × IsAdmitted bytes set rule × IsScheduled ticks more set rule t × Writes set t old (Some (old ++ reply.text)) × IsTimely set rule t
+    writes : reply.status ≡ 0 → (set : Set) × (rule : Rule) × (t : List Row) × IsAdmitted bytes set rule × IsScheduled ticks more set.tasks rule t × Writes set.tasks t old (Some (old ++ reply.text)) × IsTimely set.tasks rule t
     writes e =
         let (set, rule, a, k) = only_ruled bytes (RunsNext ticks more) reply 0 (λ z. absurd (omega (arith, z))) (λ z. absurd (omega (arith, z))) (λ z. absurd (omega (arith, z))) h e in
         elim (by_second (2 ^ 24) more (Runs ticks (under rule set) more reply) reply k) [
@@ -59,10 +60,10 @@ schedules ticks bytes more old reply h = record { writes = writes; complete = co
           | inr q ↦ of_work set rule a q.1 q.0 e
         ]
 
-    complete : (set : List Task) (rule : Rule) (rows : List WorkRow) → IsAdmitted bytes set rule → SaysWork more set rows → Succeeds reply.status
+    complete : (set : Set) (rule : Rule) (rows : List WorkRow) → IsAdmitted bytes set rule → SaysWork more set.tasks rows → Succeeds reply.status
     complete set rule rows a says =
         let k : Runs ticks (under rule set) more reply = second_fits (2 ^ 24) more (Runs ticks (under rule set) more reply) reply says.0 (next_of bytes (RunsNext ticks more) reply set rule a h) in
-        let r = by_ok (work_of set more) _ reply rows says.1 k in
+        let r = by_ok (work_of set.tasks more) _ reply rows says.1 k in
         inl (ap (λ (r : Reply). r.status) r.2)
 
 -- what comes next of `live`
@@ -73,10 +74,10 @@ not_1_live ticks ruled reply h e = other_status reply 0 1 (ap (λ (r : Reply). r
 pub lives : (ticks : ℕ) (bytes old : List ℕ) (reply : Reply) → Comes bytes (live.Lives ticks) reply → Lives ticks bytes old reply.status (Some (old ++ reply.text))
 lives ticks bytes old reply h = record { writes = writes; complete = complete }
   where
-    writes : reply.status ≡ 0 → (set : List Task) × (rule : Rule) × (t : List Row) × IsAdmitted bytes set rule × LiveTrace set rule ticks t × Writes set t old (Some (old ++ reply.text)) × IsTimely set rule t
+    writes : reply.status ≡ 0 → (set : Set) × (rule : Rule) × (t : List Row) × IsAdmitted bytes set rule × LiveTrace set.tasks rule ticks t × Writes set.tasks t old (Some (old ++ reply.text)) × IsTimely set.tasks rule t
     writes e =
         let (set, rule, a, k) = only_ruled bytes (live.Lives ticks) reply 0 (λ z. absurd (omega (arith, z))) (λ z. absurd (omega (arith, z))) (λ z. absurd (omega (arith, z))) h e in
         (set, rule, k.0, a, k.1, ap (λ (r : Reply). Some (old ++ r.text)) k.2, timely bytes set rule k.0 a k.1.legal)
 
-    complete : (set : List Task) (rule : Rule) → IsAdmitted bytes set rule → Succeeds reply.status
+    complete : (set : Set) (rule : Rule) → IsAdmitted bytes set rule → Succeeds reply.status
     complete set rule a = inl (ap (λ (r : Reply). r.status) (next_of bytes (live.Lives ticks) reply set rule a h).2)

@@ -1,17 +1,17 @@
 -- What the headline says of the commands on several processors: `partition` and `runall`.
 use Rattle.std.proofs.Common.{◌≡◌, ◌≢◌, ◌⊎◌, inl, inr, ℕ, ◌<◌, ◌≤◌, ◌^◌, nat_lt, List, [], ◌∷◌, ◌++◌, length, Some, Result, Ok, Err, refl, sym, ap, subst, ◌∙◌, arith}
-use Rattle.std.specs.Prelude.{MatchBool, IsSome, Option, None}
+use Rattle.std.specs.Prelude.{MatchBool}
 use Rattle.std.specs.List.{AllByRecursion, AllZip}
 use Rattle.mc_world.specs.Shelf.{Files}
 use Rattle.mc_task.specs.declared.task.Task.{Task}
 use Rattle.mc_task.specs.declared.task.Rule.{Rule}
 use Rattle.mc_task.specs.declared.task.Rule.TheVariants.{Plain}
-use Rattle.mc_task.specs.TaskSet.{IsSet, IsTask, task_at, name_in}
+use Rattle.mc_task.specs.TaskSet.{Set, IsTask, task_at, name_in}
 use Rattle.mc_model.specs.declared.row.Row.{Row}
 use Rattle.mc_model.specs.declared.work.WorkRow.{WorkRow}
-use Rattle.mc_model.specs.Test.{test, rule_of}
+use Rattle.mc_model.specs.Test.{published, rule_of}
 use Rattle.mc_model.specs.Holds.{Holds}
-use Rattle.mc_model.proofs.RuleHolds.{test-holds}
+use Rattle.mc_model.proofs.RuleHolds.{published-holds}
 use Rattle.demand_law.proofs.Promise.{keeps_deadlines}
 use Rattle.task_file.specs.TaskFile.{task_file}
 use Rattle.task_file.specs.declared.fault.TaskFault.{TaskFault}
@@ -19,7 +19,7 @@ use Rattle.part_fit.specs.FirstFit.{first_fit}
 use Rattle.part_fit.specs.Partition.{IsPartition, IsAdmittedPart}
 use Rattle.part_fit.proofs.Placed.{first_fit-IsPartition}
 use Rattle.replies.specs.Reply.{Reply, reply_of}
-use Rattle.replies.specs.Refusal.{Refusal, TaskFile, Longer, NoRoom, refuse, status_of}
+use Rattle.replies.specs.Refusal.{TaskFile, Longer, NoRoom, refuse}
 use Rattle.replies.specs.Reading.{◌>>=◌, or_refuse, reply_by}
 use Rattle.serving.specs.Command.{Command, answer, fetch, need}
 use Rattle.serving.specs.Outcome.{IsAnswer}
@@ -27,8 +27,8 @@ use Rattle.task_answers.specs.Admitted.{set_in}
 use Rattle.run_answers.specs.Run.{work_of}
 use Rattle.part_answers.specs.Parted.{Parted, tasks_on, spread, fitted, parted}
 use Rattle.part_answers.specs.Partition.{partition_text, placed, partition}
-use Rattle.part_answers.specs.RunAll.{used, IsTraceOn, trace_lines, TellsTraces, run_all}
-use Rattle.edfvd_program.specs.Headline.{bytes_of, SaysSet, SaysWork, Succeeds, IsTimely, IsSpread, SpreadsExactly, Places, IsTimelyOn, WritesAll, SchedulesAll}
+use Rattle.part_answers.specs.RunAll.{used, IsTraceOn, TellsTraces, run_all}
+use Rattle.edfvd_program.specs.Headline.{bytes_of, SaysSet, SaysWork, Succeeds, IsSpread, SpreadsExactly, Places, IsTimelyOn, WritesAll, SchedulesAll}
 use Rattle.edfvd_program.proofs.Cases.{of_held, By, by_weaker, by_need, by_text, by_ok, by_cases, by_length, Second, by_second, second_fits, second_weaker, other_status, one_set}
 use Rattle.edfvd_program.proofs.Promised.{is_set}
 use Rattle.edfvd_program.proofs.Scheduled.{work_status}
@@ -36,21 +36,21 @@ use Rattle.edfvd_program.proofs.Scheduled.{work_status}
 -- what a task file leads to where first fit decides: the status of a refusal, or what comes next
 pub data Spreads (m : ℕ) (bytes : List ℕ) (Then : Parted → Reply → Type 0) (reply : Reply) : Type 0 where
   long : 2 ^ 24 < length bytes → reply.status ≡ 7 → Spreads m bytes Then reply
-  refused : ((set : List Task) → set_in bytes ≡ Ok set → ⊥) → reply.status ≡ 3 → Spreads m bytes Then reply
-  no_room : (set : List Task) (task : ℕ) → SaysSet bytes set → first_fit set m ≡ Err task → reply.status ≡ 12 → Spreads m bytes Then reply
-  fitting : (set : List Task) (of : List ℕ) → IsSpread m bytes set of → Then (spread set of) reply → Spreads m bytes Then reply
+  refused : ((set : Set) → set_in bytes ≡ Ok set → ⊥) → reply.status ≡ 3 → Spreads m bytes Then reply
+  no_room : (set : Set) (task : ℕ) → SaysSet bytes set → first_fit set.tasks m ≡ Err task → reply.status ≡ 12 → Spreads m bytes Then reply
+  fitting : (set : Set) (of : List ℕ) → IsSpread m bytes set of → Then (spread set.tasks of) reply → Spreads m bytes Then reply
 
-by_fit : (m : ℕ) (bytes : List ℕ) (Then : Parted → Reply → Type 0) (reply : Reply) (set : List Task) → SaysSet bytes set → By (fitted m set) Then reply → Spreads m bytes Then reply
-by_fit m bytes Then reply set says h = go (first_fit set m) refl h
+by_fit : (m : ℕ) (bytes : List ℕ) (Then : Parted → Reply → Type 0) (reply : Reply) (set : Set) → SaysSet bytes set → By (fitted m set.tasks) Then reply → Spreads m bytes Then reply
+by_fit m bytes Then reply set says h = go (first_fit set.tasks m) refl h
   where
-    go : (found : Result (List ℕ) ℕ) → first_fit set m ≡ found → By (or_refuse (λ k. NoRoom (name_in (task_at set k)) m) found >>= (λ of. Ok (spread set of))) Then reply → Spreads m bytes Then reply
+    go : (found : Result (List ℕ) ℕ) → first_fit set.tasks m ≡ found → By (or_refuse (λ k. NoRoom (name_in (task_at set.tasks k)) m) found >>= (λ of. Ok (spread set.tasks of))) Then reply → Spreads m bytes Then reply
     go (Ok of) e k = fitting set of (says, e) k
     go (Err task) e k = no_room set task says e (ap (λ (r : Reply). r.status) k)
 
 by_set : (m : ℕ) (bytes : List ℕ) (Then : Parted → Reply → Type 0) (reply : Reply) → length bytes ≤ 2 ^ 24 → By (parted m bytes) Then reply → Spreads m bytes Then reply
 by_set m bytes Then reply short h = go (task_file bytes) refl h
   where
-    go : (read : Result (List Task) TaskFault) → task_file bytes ≡ read → By (or_refuse TaskFile read >>= (λ set. fitted m set)) Then reply → Spreads m bytes Then reply
+    go : (read : Result Set TaskFault) → task_file bytes ≡ read → By (or_refuse TaskFile read >>= (λ set. fitted m set.tasks)) Then reply → Spreads m bytes Then reply
     go (Err fault) e k = refused (λ set says. (let clash : Ok set ≡ Err (TaskFile fault) = sym says ∙ ap (or_refuse TaskFile) e in cc)) (ap (λ (r : Reply). r.status) k)
     go (Ok set) e k = by_fit m bytes Then reply set (short, ap (or_refuse TaskFile) e) k
 
@@ -63,20 +63,20 @@ spreads m bytes Then reply Else next h =
     ]
 
 -- first fit answers one thing
-one_fit : (m : ℕ) (bytes : List ℕ) (a b : List Task) (r : Result (List ℕ) ℕ) → SaysSet bytes a → SaysSet bytes b → first_fit b m ≡ r → first_fit a m ≡ r
-one_fit m bytes a b r s t h = ap (λ set. first_fit set m) (one_set bytes a b s t) ∙ h
+one_fit : (m : ℕ) (bytes : List ℕ) (a b : Set) (r : Result (List ℕ) ℕ) → SaysSet bytes a → SaysSet bytes b → first_fit b.tasks m ≡ r → first_fit a.tasks m ≡ r
+one_fit m bytes a b r s t h = ap (λ (set : Set). first_fit set.tasks m) (one_set bytes a b s t) ∙ h
 
 -- Status 12 comes exactly where a task has no room, if what comes next has another status.
 spreads_exactly : (m : ℕ) (bytes : List ℕ) (Then : Parted → Reply → Type 0) (reply : Reply) → ((x : Parted) → Then x reply → reply.status ≢ 12) → Spreads m bytes Then reply → SpreadsExactly m bytes reply.status
 spreads_exactly m bytes Then reply other h = record { refused = only h; refuses = always h }
   where
-    only : Spreads m bytes Then reply → reply.status ≡ 12 → (set : List Task) × (task : ℕ) × SaysSet bytes set × (first_fit set m ≡ Err task)
+    only : Spreads m bytes Then reply → reply.status ≡ 12 → (set : Set) × (task : ℕ) × SaysSet bytes set × (first_fit set.tasks m ≡ Err task)
     only (long l s) e = absurd (other_status reply 7 12 s e (λ k. absurd (omega (arith, k))))
     only (refused none s) e = absurd (other_status reply 3 12 s e (λ k. absurd (omega (arith, k))))
     only (no_room set task says none s) e = (set, task, says, none)
-    only (fitting set of is k) e = absurd (other (spread set of) k e)
+    only (fitting set of is k) e = absurd (other (spread set.tasks of) k e)
 
-    always : Spreads m bytes Then reply → (set : List Task) (task : ℕ) → SaysSet bytes set → first_fit set m ≡ Err task → (reply.status ≡ 12) ⊎ (reply.status ≡ 9)
+    always : Spreads m bytes Then reply → (set : Set) (task : ℕ) → SaysSet bytes set → first_fit set.tasks m ≡ Err task → (reply.status ≡ 12) ⊎ (reply.status ≡ 9)
     always (long l s) set task says none = absurd (let short : length bytes ≤ 2 ^ 24 = says.0 in omega (arith, l, short))
     always (refused unread s) set task says none = absurd (unread set says.1)
     always (no_room other k told none' s) set task says none = inl s
@@ -84,14 +84,14 @@ spreads_exactly m bytes Then reply other h = record { refused = only h; refuses 
 
 -- what is so of an answer with status 0 is so of what comes next
 only_spread : (m : ℕ) (bytes : List ℕ) (Then : Parted → Reply → Type 0) (reply : Reply) → Spreads m bytes Then reply → reply.status ≡ 0
-    → (set : List Task) × (of : List ℕ) × IsSpread m bytes set of × Then (spread set of) reply
+    → (set : Set) × (of : List ℕ) × IsSpread m bytes set of × Then (spread set.tasks of) reply
 only_spread m bytes Then reply (long l s) e = absurd (other_status reply 7 0 s e (λ k. absurd (omega (arith, k))))
 only_spread m bytes Then reply (refused none s) e = absurd (other_status reply 3 0 s e (λ k. absurd (omega (arith, k))))
 only_spread m bytes Then reply (no_room set task says none s) e = absurd (other_status reply 12 0 s e (λ k. absurd (omega (arith, k))))
 only_spread m bytes Then reply (fitting set of is k) e = (set, of, is, k)
 
 -- of a set that is spread the answer is what comes next
-next_spread : (m : ℕ) (bytes : List ℕ) (Then : Parted → Reply → Type 0) (reply : Reply) (set : List Task) (of : List ℕ) → IsSpread m bytes set of → Spreads m bytes Then reply → Then (spread set of) reply
+next_spread : (m : ℕ) (bytes : List ℕ) (Then : Parted → Reply → Type 0) (reply : Reply) (set : Set) (of : List ℕ) → IsSpread m bytes set of → Spreads m bytes Then reply → Then (spread set.tasks of) reply
 next_spread m bytes Then reply set of a (long l s) = absurd (let short = a.0.0 in omega (arith, l, short))
 next_spread m bytes Then reply set of a (refused none s) = absurd (none set a.0.1)
 next_spread m bytes Then reply set of a (no_room other task says none s) =
@@ -100,11 +100,11 @@ next_spread m bytes Then reply set of a (fitting other given b h) =
     let same = one_set bytes other set b.0 a.0 in
     let found : Ok given ≡ Ok of = sym b.1 ∙ one_fit m bytes other set (Ok of) b.0 a.0 a.1 in
     let is : given ≡ of = cc in
-    subst (λ r. Then (spread set r) reply) is (subst (λ s. Then (spread s given) reply) same h)
+    subst (λ r. Then (spread set.tasks r) reply) is (subst (λ (s : Set). Then (spread s.tasks given) reply) same h)
 
 -- each task is on one processor, and the tasks of each are admitted
-parts_of : (m : ℕ) (bytes : List ℕ) (set : List Task) (of : List ℕ) → IsSpread m bytes set of → IsPartition set of m
-parts_of m bytes set of is = first_fit-IsPartition set m of (is_set bytes set is.0.1) is.1
+parts_of : (m : ℕ) (bytes : List ℕ) (set : Set) (of : List ℕ) → IsSpread m bytes set of → IsPartition set.tasks of m
+parts_of m bytes set of is = first_fit-IsPartition set.tasks m of (is_set bytes set is.0.1).tasks is.1
 
 -- what `partition` promises
 pub partitions : (files : Files) (tasks : List ℕ) (m : ℕ) (old : List ℕ) (reply : Reply) → IsAnswer files 1 (partition tasks m) reply
@@ -129,19 +129,19 @@ partitions files tasks m old reply h = (
         (of_held (files tasks) (λ b. MatchBool (nat_lt (2 ^ 24) (length b)) (reply ≡ refuse (Longer 1 (2 ^ 24))) (reply ≡ reply_by (placed m b))) h)
 
 -- no tasks have the plain rule, which holds for them
-none_holds : (tasks : List Task) (rule : Rule) → tasks ≡ [] → test tasks ≡ Some rule → AllByRecursion IsTask tasks × Holds tasks rule
-unfolding test rule_of
+none_holds : (tasks : List Task) (rule : Rule) → tasks ≡ [] → published tasks ≡ Some rule → AllByRecursion IsTask tasks × Holds tasks rule
+unfolding published rule_of
 none_holds tasks rule none h =
-    let plain : Some Plain ≡ Some rule = sym (ap test none) ∙ h in
+    let plain : Some Plain ≡ Some rule = sym (ap published none) ∙ h in
     let is : Plain ≡ rule = cc in
     subst (λ ts. AllByRecursion IsTask ts × Holds ts rule) (sym none) (tt, subst (λ r. Holds [] r) is (omega arith))
 
 -- the rule of an admitted part holds
-part_holds : (tasks : List Task) (rule : Rule) → IsAdmittedPart tasks → test tasks ≡ Some rule → AllByRecursion IsTask tasks × Holds tasks rule
+part_holds : (tasks : List Task) (rule : Rule) → IsAdmittedPart tasks → published tasks ≡ Some rule → AllByRecursion IsTask tasks × Holds tasks rule
 part_holds tasks rule admitted h =
     elim admitted [
       | inl none ↦ none_holds tasks rule none h
-      | inr some ↦ (some.0.each, test-holds tasks rule some.0 h)
+      | inr some ↦ (some.0.each, published-holds tasks rule some.0 h)
     ]
 
 -- so the trace on a processor keeps the deadlines
@@ -187,13 +187,13 @@ schedules_all ticks m bytes more old reply h = record { writes = writes; complet
   where
     Written : Type 0
     Written =
-        (set : List Task) × (of : List ℕ) × (work : List WorkRow) × (traces : List (List Row)) × IsSpread m bytes set of × SaysWork more set work
-        × AllZip (IsTimelyOn ticks (spread set of) work) (used m (spread set of)) traces × WritesAll m (spread set of) traces old (Some (old ++ reply.text))
+        (set : Set) × (of : List ℕ) × (work : List WorkRow) × (traces : List (List Row)) × IsSpread m bytes set of × SaysWork more set.tasks work
+        × AllZip (IsTimelyOn ticks (spread set.tasks of) work) (used m (spread set.tasks of)) traces × WritesAll m (spread set.tasks of) traces old (Some (old ++ reply.text))
 
-    of_work : (set : List Task) (of : List ℕ) → IsSpread m bytes set of → length more ≤ 2 ^ 24 → RunsAll ticks m (spread set of) more reply → reply.status ≡ 0 → Written
+    of_work : (set : Set) (of : List ℕ) → IsSpread m bytes set of → length more ≤ 2 ^ 24 → RunsAll ticks m (spread set.tasks of) more reply → reply.status ≡ 0 → Written
     of_work set of is short k e =
-        elim (by_cases (work_of set more) _ reply k) [
-          | inl r ↦ let four = work_status set more r.0 r.1 in let status = r.2 in absurd (omega (arith, four, status, e))
+        elim (by_cases (work_of set.tasks more) _ reply k) [
+          | inl r ↦ let four = work_status set.tasks more r.0 r.1 in let status = r.2 in absurd (omega (arith, four, status, e))
           | inr w ↦ (
             set,
             of,
@@ -201,7 +201,7 @@ schedules_all ticks m bytes more old reply h = record { writes = writes; complet
             w.2.0,
             is,
             (short, w.1),
-            all_timely ticks (spread set of) w.0 (used m (spread set of)) w.2.0 (parts_of m bytes set of is).admitted w.2.1,
+            all_timely ticks (spread set.tasks of) w.0 (used m (spread set.tasks of)) w.2.0 (parts_of m bytes set of is).admitted w.2.1,
             ap (λ (r : Reply). Some (old ++ r.text)) w.2.2,
           )
         ]
@@ -209,16 +209,16 @@ schedules_all ticks m bytes more old reply h = record { writes = writes; complet
     writes : reply.status ≡ 0 → Written
     writes e =
         let (set, of, is, k) = only_spread m bytes (RunsAllNext ticks m more) reply h e in
-        elim (by_second (2 ^ 24) more (RunsAll ticks m (spread set of) more reply) reply k) [
+        elim (by_second (2 ^ 24) more (RunsAll ticks m (spread set.tasks of) more reply) reply k) [
           | inl p ↦ absurd (other_status reply 7 0 p.0 e (λ k. absurd (omega (arith, k))))
           | inr q ↦ of_work set of is q.1 q.0 e
         ]
 
-    complete : (set : List Task) (of : List ℕ) (rows : List WorkRow) → IsSpread m bytes set of → SaysWork more set rows → Succeeds reply.status
+    complete : (set : Set) (of : List ℕ) (rows : List WorkRow) → IsSpread m bytes set of → SaysWork more set.tasks rows → Succeeds reply.status
     complete set of rows is says =
-        let k : RunsAll ticks m (spread set of) more reply =
-        second_fits (2 ^ 24) more (RunsAll ticks m (spread set of) more reply) reply says.0 (next_spread m bytes (RunsAllNext ticks m more) reply set of is h) in
-        let r = by_ok (work_of set more) _ reply rows says.1 k in
+        let k : RunsAll ticks m (spread set.tasks of) more reply =
+        second_fits (2 ^ 24) more (RunsAll ticks m (spread set.tasks of) more reply) reply says.0 (next_spread m bytes (RunsAllNext ticks m more) reply set of is h) in
+        let r = by_ok (work_of set.tasks more) _ reply rows says.1 k in
         inl (ap (λ (r : Reply). r.status) r.2)
 
 -- what `runall` promises

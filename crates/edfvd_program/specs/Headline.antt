@@ -6,11 +6,12 @@ use Rattle.std.specs.List.{AllZip}
 use Rattle.mc_task.specs.declared.task.Task.{Task}
 use Rattle.mc_task.specs.declared.task.Rule.{Rule}
 use Rattle.mc_task.specs.declared.task.Rule.TheVariants.{Virtual}
+use Rattle.mc_task.specs.TaskSet.{Set}
 use Rattle.mc_world.specs.Shelf.{Files}
 use Rattle.mc_model.specs.declared.row.Row.{Row}
 use Rattle.mc_model.specs.declared.work.WorkRow.{WorkRow}
 use Rattle.mc_model.specs.Loads.{range_fault}
-use Rattle.mc_model.specs.Test.{test}
+use Rattle.mc_model.specs.Test.{published, test}
 use Rattle.mc_model.specs.Rows.{ticks}
 use Rattle.mc_model.specs.Legal.{Legal}
 use Rattle.mc_model.specs.Late.{late}
@@ -46,17 +47,17 @@ abbrev pub bytes_of : Files → List ℕ → List ℕ
 bytes_of files name = unwrap_or (files name) []
 
 -- the task file says this set
-abbrev pub SaysSet : List ℕ → List Task → Type 0
+abbrev pub SaysSet : List ℕ → Set → Type 0
 SaysSet bytes set = (length bytes ≤ 2 ^ 24) × (set_in bytes ≡ Ok set)
 
 -- its periods are within range
-abbrev pub IsWithinRange : List Task → Type 0
-IsWithinRange set = range_fault set ≡ None
+abbrev pub HasNoRangeFault : Set → Type 0
+HasNoRangeFault set = range_fault set.tasks ≡ None
 
--- the task file says this set, and the published test gives it this rule
-pub record IsAdmitted (bytes : List ℕ) (set : List Task) (rule : Rule) : Type 0 where
+-- the task file says this set, and the test gives it this rule
+pub record IsAdmitted (bytes : List ℕ) (set : Set) (rule : Rule) : Type 0 where
   pub says : SaysSet bytes set
-  pub range : IsWithinRange set
+  pub range : HasNoRangeFault set
   pub test : test set ≡ Some rule
 
 -- the work file says this work of the set
@@ -73,12 +74,12 @@ Succeeds ended = (ended ≡ 0) ⊎ (ended ≡ 9)
 
 -- a set within range is refused, with status 1, exactly where the published test holds for none of its rules
 pub record SchedulesExactly (bytes : List ℕ) (ended : ℕ) : Type 0 where
-  pub refused : ended ≡ 1 → (set : List Task) × SaysSet bytes set × IsWithinRange set × (test set ≡ None)
-  pub refuses : (set : List Task) → SaysSet bytes set → IsWithinRange set → test set ≡ None → (ended ≡ 1) ⊎ (ended ≡ 9)
+  pub refused : ended ≡ 1 → (set : Set) × SaysSet bytes set × HasNoRangeFault set × (published set.tasks ≡ None)
+  pub refuses : (set : Set) → SaysSet bytes set → HasNoRangeFault set → published set.tasks ≡ None → (ended ≡ 1) ⊎ (ended ≡ 9)
 
 -- what `check` promises of an admitted set
 abbrev pub Admits : List ℕ → ℕ → Type 0
-Admits bytes ended = (set : List Task) (rule : Rule) → IsAdmitted bytes set rule → Succeeds ended
+Admits bytes ended = (set : Set) (rule : Rule) → IsAdmitted bytes set rule → Succeeds ended
 
 -- the trace is written
 abbrev pub Writes : List Task → List Row → List ℕ → Option (List ℕ) → Type 0
@@ -97,16 +98,16 @@ pub record IsScheduled (ticks : ℕ) (more : List ℕ) (set : List Task) (rule :
 -- what `run` promises
 pub record Schedules (ticks : ℕ) (bytes more old : List ℕ) (ended : ℕ) (new : Option (List ℕ)) : Type 0 where
   -- every trace that it writes keeps the deadlines
-  pub writes : ended ≡ 0 → (set : List Task) × (rule : Rule) × (h : List Row)
-      × IsAdmitted bytes set rule × IsScheduled ticks more set rule h × Writes set h old new × IsTimely set rule h
+  pub writes : ended ≡ 0 → (set : Set) × (rule : Rule) × (h : List Row)
+      × IsAdmitted bytes set rule × IsScheduled ticks more set.tasks rule h × Writes set.tasks h old new × IsTimely set.tasks rule h
   -- it writes one for each admitted set and each work file
-  pub complete : (set : List Task) (rule : Rule) (work : List WorkRow) → IsAdmitted bytes set rule → SaysWork more set work → Succeeds ended
+  pub complete : (set : Set) (rule : Rule) (work : List WorkRow) → IsAdmitted bytes set rule → SaysWork more set.tasks work → Succeeds ended
 
 -- what `live` promises
 pub record Lives (ticks : ℕ) (bytes old : List ℕ) (ended : ℕ) (new : Option (List ℕ)) : Type 0 where
   -- every trace that it writes keeps the deadlines
-  pub writes : ended ≡ 0 → (set : List Task) × (rule : Rule) × (h : List Row)
-      × IsAdmitted bytes set rule × LiveTrace set rule ticks h × Writes set h old new × IsTimely set rule h
+  pub writes : ended ≡ 0 → (set : Set) × (rule : Rule) × (h : List Row)
+      × IsAdmitted bytes set rule × LiveTrace set.tasks rule ticks h × Writes set.tasks h old new × IsTimely set.tasks rule h
   -- it writes one for each admitted set
   pub complete : Admits bytes ended
 
@@ -118,18 +119,18 @@ IsTold telling h = Unit {0}
 -- what `judge`, `chart`, `report` and `migrate` promise under the test's rule
 pub record Finds (telling : Telling) (bytes more old : List ℕ) (ended : ℕ) (new : Option (List ℕ)) : Type 0 where
   -- every trace that they find legal keeps the deadlines, and what is told of it is written
-  pub finds : ended ≡ 0 → (set : List Task) × (rule : Rule) × (h : List Row) × (text : List ℕ)
-      × IsAdmitted bytes set rule × SaysTrace more set h × IsTimely set rule h
+  pub finds : ended ≡ 0 → (set : Set) × (rule : Rule) × (h : List Row) × (text : List ℕ)
+      × IsAdmitted bytes set rule × SaysTrace more set.tasks h × IsTimely set.tasks rule h
       × (told telling (under rule set) h ≡ Ok text) × (new ≡ Some (old ++ text))
   -- what they refuse by the verdict is illegal, and not merely late
-  pub illegal : ended ≡ 6 → (set : List Task) × (rule : Rule) × (h : List Row) × IsAdmitted bytes set rule × SaysTrace more set h × (Legal set rule h → ⊥)
+  pub illegal : ended ≡ 6 → (set : Set) × (rule : Rule) × (h : List Row) × IsAdmitted bytes set rule × SaysTrace more set.tasks h × (Legal set.tasks rule h → ⊥)
   -- they find each legal trace so
-  pub complete : (set : List Task) (rule : Rule) (h : List Row) → IsAdmitted bytes set rule → SaysTrace more set h → Legal set rule h → IsTold telling h → Succeeds ended
+  pub complete : (set : Set) (rule : Rule) (h : List Row) → IsAdmitted bytes set rule → SaysTrace more set.tasks h → Legal set.tasks rule h → IsTold telling h → Succeeds ended
 
 -- what `judge` promises under a scale p/q that the words give: a legal trace without late jobs is found good
 abbrev pub FindsBy : Rule → List ℕ → List ℕ → ℕ → Type 0
 FindsBy rule bytes more ended =
-    (set : List Task) (h : List Row) → SaysSet bytes set → SaysTrace more set h → Legal set rule h → late set h ≡ [] → Succeeds ended
+    (set : Set) (h : List Row) → SaysSet bytes set → SaysTrace more set.tasks h → Legal set.tasks rule h → late set.tasks h ≡ [] → Succeeds ended
 
 -- what `soak` promises
 pub record Soaked (number tasks ticks : ℕ) (old : List ℕ) (ended : ℕ) (new : Option (List ℕ)) : Type 0 where
@@ -153,26 +154,26 @@ pub record Tests (bytes : List ℕ) (ended : ℕ) : Type 0 where
   pub complete : (set : List Demand) → SaysDemands bytes set → (ended ≡ 10) ⊎ Succeeds ended
 
 -- the task file says this set, and first fit puts its tasks on these processors, from 1 to m
-abbrev pub IsSpread : ℕ → List ℕ → List Task → List ℕ → Type 0
-IsSpread m bytes set of = SaysSet bytes set × (first_fit set m ≡ Ok of)
+abbrev pub IsSpread : ℕ → List ℕ → Set → List ℕ → Type 0
+IsSpread m bytes set of = SaysSet bytes set × (first_fit set.tasks m ≡ Ok of)
 
 -- a set is refused, with status 12, exactly where one of its tasks fits on none of processors 1 to m
 pub record SpreadsExactly (m : ℕ) (bytes : List ℕ) (ended : ℕ) : Type 0 where
-  pub refused : ended ≡ 12 → (set : List Task) × (task : ℕ) × SaysSet bytes set × (first_fit set m ≡ Err task)
-  pub refuses : (set : List Task) (task : ℕ) → SaysSet bytes set → first_fit set m ≡ Err task → (ended ≡ 12) ⊎ (ended ≡ 9)
+  pub refused : ended ≡ 12 → (set : Set) × (task : ℕ) × SaysSet bytes set × (first_fit set.tasks m ≡ Err task)
+  pub refuses : (set : Set) (task : ℕ) → SaysSet bytes set → first_fit set.tasks m ≡ Err task → (ended ≡ 12) ⊎ (ended ≡ 9)
 
 -- what `partition` promises
 pub record Places (m : ℕ) (bytes old : List ℕ) (ended : ℕ) (new : Option (List ℕ)) : Type 0 where
   -- each task is on one processor, the tasks of each are admitted, and it is written which they are
-  pub writes : ended ≡ 0 → (set : List Task) × (of : List ℕ)
-      × IsSpread m bytes set of × IsPartition set of m × (new ≡ Some (old ++ partition_text m (spread set of)))
+  pub writes : ended ≡ 0 → (set : Set) × (of : List ℕ)
+      × IsSpread m bytes set of × IsPartition set.tasks of m × (new ≡ Some (old ++ partition_text m (spread set.tasks of)))
   -- it is written for each set that is spread
-  pub complete : (set : List Task) (of : List ℕ) → IsSpread m bytes set of → Succeeds ended
+  pub complete : (set : Set) (of : List ℕ) → IsSpread m bytes set of → Succeeds ended
 
 -- the trace is that of the tasks on processor n and of their work, under their rule, and keeps the deadlines
 pub record IsTimelyOn (ticks : ℕ) (parted : Parted) (work : List WorkRow) (n : ℕ) (h : List Row) : Type 0 where
   pub rule : Rule
-  pub test : test (tasks_on parted n) ≡ Some rule
+  pub test : published (tasks_on parted n) ≡ Some rule
   pub follows : Follows (tasks_on parted n) rule (part_rows n parted.of work) ticks h
   pub timely : IsTimely (tasks_on parted n) rule h
 
@@ -183,21 +184,21 @@ WritesAll m parted traces old new = new ≡ Some (old ++ flat_map (trace_lines p
 -- what `runall` promises
 pub record SchedulesAll (ticks m : ℕ) (bytes more old : List ℕ) (ended : ℕ) (new : Option (List ℕ)) : Type 0 where
   -- every trace that it writes, one for each processor with tasks, keeps the deadlines
-  pub writes : ended ≡ 0 → (set : List Task) × (of : List ℕ) × (work : List WorkRow) × (traces : List (List Row))
-      × IsSpread m bytes set of × SaysWork more set work
-      × AllZip (IsTimelyOn ticks (spread set of) work) (used m (spread set of)) traces × WritesAll m (spread set of) traces old new
+  pub writes : ended ≡ 0 → (set : Set) × (of : List ℕ) × (work : List WorkRow) × (traces : List (List Row))
+      × IsSpread m bytes set of × SaysWork more set.tasks work
+      × AllZip (IsTimelyOn ticks (spread set.tasks of) work) (used m (spread set.tasks of)) traces × WritesAll m (spread set.tasks of) traces old new
   -- it writes them for each set that is spread and each work file
-  pub complete : (set : List Task) (of : List ℕ) (work : List WorkRow) → IsSpread m bytes set of → SaysWork more set work → Succeeds ended
+  pub complete : (set : Set) (of : List ℕ) (work : List WorkRow) → IsSpread m bytes set of → SaysWork more set.tasks work → Succeeds ended
 
 -- what `stretch` promises
 pub record Measures (bytes old : List ℕ) (ended : ℕ) (new : Option (List ℕ)) : Type 0 where
   -- the published test admits the set at the percentage that it writes, and at none above it up to 1000
-  pub writes : ended ≡ 0 → (set : List Task) × (s : Option ℕ) × SaysSet bytes set × IsWithinRange set × IsStretch set s × (new ≡ Some (old ++ stretch_text set s))
+  pub writes : ended ≡ 0 → (set : Set) × (s : Option ℕ) × SaysSet bytes set × HasNoRangeFault set × IsStretch set.tasks s × (new ≡ Some (old ++ stretch_text set.tasks s))
   -- it writes one for each set within range
-  pub complete : (set : List Task) → SaysSet bytes set → IsWithinRange set → Succeeds ended
+  pub complete : (set : Set) → SaysSet bytes set → HasNoRangeFault set → Succeeds ended
 
 -- what `accept` promises
-pub record Counts (number sets tasks : ℕ) (old : List ℕ) (ended : ℕ) (new : Option (List ℕ)) : Type 0 where
+pub record Tabulates (number sets tasks : ℕ) (old : List ℕ) (ended : ℕ) (new : Option (List ℕ)) : Type 0 where
   -- it writes how many of the made sets have each stretch
   pub writes : ended ≡ 0 → new ≡ Some (old ++ table_text (accept_table number sets tasks))
   -- always
@@ -218,7 +219,7 @@ Headline (Some (partition tasks processors)) files old ended new =
 Headline (Some (run_all tasks work ticks processors)) files old ended new =
     SpreadsExactly processors (bytes_of files tasks) ended × SchedulesAll ticks processors (bytes_of files tasks) (bytes_of files work) old ended new
 Headline (Some (stretch tasks)) files old ended new = Measures (bytes_of files tasks) old ended new
-Headline (Some (accept number sets tasks)) files old ended new = Counts number sets tasks old ended new
+Headline (Some (accept number sets tasks)) files old ended new = Tabulates number sets tasks old ended new
 Headline (Some (on_trace (JudgeBy p q) tasks trace)) files old ended new = FindsBy (Virtual p q) (bytes_of files tasks) (bytes_of files trace) ended
 Headline (Some (on_trace telling tasks trace)) files old ended new =
     SchedulesExactly (bytes_of files tasks) ended × Finds telling (bytes_of files tasks) (bytes_of files trace) old ended new

@@ -1,3 +1,4 @@
+mod at_size;
 mod chart;
 mod check;
 mod demand;

@@ -17,7 +17,7 @@ use Rattle.mode_core.specs.Events
 use Rattle.mode_core.specs.Events.{is_of_task, job_in, with_release}
 use Rattle.mode_core.proofs.Held.{releases-held}
 use Rattle.timetable.specs.declared.acts.PlanFault.{PlanFault}
-use Rattle.timetable.specs.Floor.{FloorState, unless, of_core, answer, release_refusal, releasing, tick_refusal, done_by}
+use Rattle.timetable.specs.Floor.{FloorState, floor_unless, of_core, plan_answer, release_refusal, releasing, tick_refusal, done_by}
 use Rattle.turnstile.specs.History.{made_by}
 use Rattle.executive.specs.declared.entry.Entry.{Entry}
 use Rattle.executive.specs.declared.entry.Call.{Call}
@@ -75,7 +75,7 @@ module _ (k : ℕ) where
       core (Some e) = same _ _ (j == k) refl
       core None = one_release f.core j f.core.out
 
-      plan : (o : Option PlanFault) → releases_in (unless o (releasing f j) f) ≡ releases_in f + cond (j == k) (released (Released (answer o (Events.release_answer f.core j)))) 0
+      plan : (o : Option PlanFault) → releases_in (floor_unless o (releasing f j) f) ≡ releases_in f + cond (j == k) (released (Released (plan_answer o (Events.release_answer f.core j)))) 0
       plan (Some e) = same _ _ (j == k) refl
       plan None = core (Events.release_refusal f.core j)
   releases_law f j Take may =
@@ -150,9 +150,6 @@ settled_idles : (set : List Task) (rule : Rule) (d : Bool) (rows : List Row) (o 
 settled_idles set rule d rows None js = omega arith
 settled_idles set rule d rows (Some i) js = let h = held_idles set rule js (row.Tick i (outcome_of set rule rows i d) ∷ rows) in omega (arith, h)
 
-told_idles : (o : Option NotOut) (how : How) → idled (Told (Events.answer o how)) ≡ 0
-told_idles o how = refl
-
 nothing : (n : ℕ) → n ≡ n + 0
 nothing n = omega arith
 
@@ -176,7 +173,7 @@ idles_law f j Idle may = plan (tick_refusal f)
     core (Some e) = nothing _
     core None = omega arith
 
-    plan : (o : Option PlanFault) → idle_ticks (unless o (with_core f (Events.after_idle f.core) f.taken) f).core.rows ≡ idle_ticks f.core.rows + idled (Idled (answer o (Events.idle_answer f.core)))
+    plan : (o : Option PlanFault) → idle_ticks (floor_unless o (with_core f (Events.after_idle f.core) f.taken) f).core.rows ≡ idle_ticks f.core.rows + idled (Idled (plan_answer o (Events.idle_answer f.core)))
     plan (Some e) = nothing _
     plan None = core (Events.idle_refusal f.core)
 idles_law f j Look may = nothing _

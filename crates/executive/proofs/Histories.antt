@@ -16,7 +16,7 @@ use Rattle.mode_core.specs.Events
 use Rattle.mode_core.specs.Events.{or_else, refused_if, running, is_of_task, job_in, chosen_now, is_full, with_release, granted}
 use Rattle.timetable.specs.declared.acts.PlanFault.{PlanFault}
 use Rattle.timetable.specs.declared.acts.ActFault.TheVariants as act_fault
-use Rattle.timetable.specs.Floor.{FloorState, unless, of_core, answer, release_refusal, releasing, release_answer, tick_refusal, done_by}
+use Rattle.timetable.specs.Floor.{FloorState, floor_unless, of_core, plan_answer, release_refusal, releasing, release_answer, tick_refusal, done_by}
 use Rattle.turnstile.specs.History.{made_by, StartsWith}
 use Rattle.executive.specs.declared.entry.Entry.{Entry}
 use Rattle.executive.specs.declared.entry.Call.{Call}
@@ -27,7 +27,7 @@ use Rattle.executive.specs.Stands.{opening_of}
 use Rattle.executive.specs.Passes.{job_then}
 
 -- a floor is one of two, as its plan refuses or not
-pub of_both : (P : FloorState → Type 0) (o : Option PlanFault) (a b : FloorState) → P a → P b → P (unless o a b)
+pub of_both : (P : FloorState → Type 0) (o : Option PlanFault) (a b : FloorState) → P a → P b → P (floor_unless o a b)
 of_both P (Some e) a b x y = y
 of_both P None a b x y = x
 
@@ -168,7 +168,7 @@ out_own f k Take = plan (tick_refusal f)
     core (Some e) h = refl
     core None h = runs_own (chosen_now f.core) k (granted_where f.core k h).1
 
-    plan : (o : Option PlanFault) → running (unless o (with_core f (Events.after_grant f.core k) f.taken) f).core.out k ≡ job_then (Taken (answer o (Events.grant_answer f.core k))) (running f.core.out k)
+    plan : (o : Option PlanFault) → running (floor_unless o (with_core f (Events.after_grant f.core k) f.taken) f).core.out k ≡ job_then (Taken (plan_answer o (Events.grant_answer f.core k))) (running f.core.out k)
     plan (Some e) = refl
     plan None = core (Events.grant_refusal f.core k) refl
 out_own f k (Outcome done) = core (Events.outcome_refusal f.core (job_in f.core.out))
@@ -246,7 +246,7 @@ pub not_running : (f : FloorState) (k : ℕ) (j : JobId) → running f.core.out 
 unfolding release_parts
 not_running f k j none = plan (release_refusal f k)
   where
-    plan : (o : Option PlanFault) → answer o (Events.release_answer f.core k) ≢ Err (act_fault.Core (release_fault.Running j))
+    plan : (o : Option PlanFault) → plan_answer o (Events.release_answer f.core k) ≢ Err (act_fault.Core (release_fault.Running j))
     plan (Some e) h = cc
     plan None h =
         let soon = nat_lt (begun f.core) (next f.core k) in

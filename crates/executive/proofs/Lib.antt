@@ -1,6 +1,7 @@
-pub mod Histories
-pub mod Counting
-pub mod Shows
 pub mod Adding
-pub mod Once
 pub mod Closings
+pub mod Counting
+pub mod Histories
+mod Newest
+pub mod Once
+pub mod Shows

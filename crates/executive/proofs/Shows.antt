@@ -1,5 +1,5 @@
 -- What stands on the board, entry by entry.
-use Rattle.std.proofs.Common.{◌≡◌, ℕ, ◌≤◌, ◌+◌, ◌^◌, List, [], ◌∷◌, ◌++◌, Bool, true, false, Option, Some, None, Ok, Err, IfSome, refl, ap, sym, ◌∙◌, subst, arith, cond, append_assoc, append-nil, option_map}
+use Rattle.std.proofs.Common.{◌≡◌, ℕ, ◌≤◌, ◌+◌, ◌^◌, List, [], ◌∷◌, ◌++◌, Bool, true, false, Option, Some, None, refl, ap, sym, ◌∙◌, subst, arith, cond, append_assoc, append-nil}
 use Rattle.mc_task.specs.declared.task.Task.{Task}
 use Rattle.mc_task.specs.declared.task.Rule.{Rule}
 use Rattle.mc_task.specs.declared.task.JobId.{JobId}
@@ -14,11 +14,10 @@ use Rattle.mode_core.specs.Shape.{IsSound}
 use Rattle.mode_core.specs.Events
 use Rattle.mode_core.specs.Events.{is_of_task, job_in, with_release}
 use Rattle.timetable.specs.declared.acts.PlanFault.{PlanFault}
-use Rattle.timetable.specs.Floor.{FloorState, unless, of_core, answer, release_refusal, releasing, tick_refusal, done_by}
+use Rattle.timetable.specs.Floor.{FloorState, floor_unless, of_core, plan_answer, release_refusal, releasing, tick_refusal, done_by}
 use Rattle.status_board.specs.declared.shown.Shown.{Shown}
 use Rattle.status_board.specs.declared.tokens.Writer.{Writer}
 use Rattle.status_board.specs.Logs.{start, last_of}
-use Rattle.status_board.specs.Tokens.{shown}
 use Rattle.executive.specs.declared.entry.Entry.{Entry}
 use Rattle.executive.specs.declared.entry.Call.{Call}
 use Rattle.executive.specs.declared.entry.Call.TheVariants.{Release, Take, Outcome, Idle, Look}
@@ -26,7 +25,7 @@ use Rattle.executive.specs.declared.entry.Answer.{Answer}
 use Rattle.executive.specs.declared.entry.Answer.TheVariants.{Told, Idled}
 use Rattle.executive.specs.Histories.{MayCall, answer_to, after_call, after, IsLegal}
 use Rattle.executive.specs.Shows.{shown_of, ends_tick, shows_now, shows_from, shows, HasShown, IsUpTo}
-use Rattle.executive.proofs.Histories.{with_core, of_both, of_both_cores, of_both_rows, after_more}
+use Rattle.executive.proofs.Histories.{with_core, of_both, of_both_cores, of_both_rows}
 
 -- one entry more
 pub shows_more : (f : FloorState) (log : List Entry) (e : Entry) → shows f (log ++ e ∷ []) ≡ shows f log ++ shows_now (after_call (after f log) e.task.0 e.call) e.answer
@@ -72,7 +71,7 @@ ticks_law f j Idle may = plan (tick_refusal f)
     core (Some e) = nothing _
     core None = refl
 
-    plan : (o : Option PlanFault) → ticks (unless o (with_core f (Events.after_idle f.core) f.taken) f).core.rows ≡ ticks f.core.rows + cond (ends_tick (Idled (answer o (Events.idle_answer f.core)))) 1 0
+    plan : (o : Option PlanFault) → ticks (floor_unless o (with_core f (Events.after_idle f.core) f.taken) f).core.rows ≡ ticks f.core.rows + cond (ends_tick (Idled (plan_answer o (Events.idle_answer f.core)))) 1 0
     plan (Some e) = nothing _
     plan None = core (Events.idle_refusal f.core)
 ticks_law f j Look may = nothing _

@@ -7,3 +7,4 @@ pub mod Passes
 pub mod Opening
 pub mod Watching
 pub mod Closing
+pub mod Gates

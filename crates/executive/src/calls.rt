@@ -1,5 +1,5 @@
 //! The calls of passes and grants.
-ghost use Rattle.std.specs.Prelude.{◌≡◌, ◌≢◌, ℕ, Ok, Err, None};
+ghost use Rattle.std.specs.Prelude.{◌≡◌, ◌≢◌, ℕ, Ok, Err, None, IfOk};
 ghost use Rattle.mc_task.specs.declared.task.JobId.{JobId};
 ghost use Rattle.mode_core.specs.declared.answers.ReleaseFault.TheVariants as release_fault;
 ghost use Rattle.timetable.specs.declared.acts.ActFault.TheVariants as act_fault;
@@ -7,6 +7,7 @@ ghost use Rattle.timetable.specs.Floor.{FloorState};
 ghost use Rattle.executive.specs.declared.entry.Call.TheVariants as call;
 ghost use Rattle.executive.specs.declared.entry.Answer.TheVariants as answer;
 ghost use Rattle.executive.specs.Histories.{answer_to};
+ghost use Rattle.executive.specs.Gates.{HasReleased};
 ghost use Rattle.executive.specs.Seats.{job_out};
 ghost use Rattle.executive.specs.Passes.{IsQuiet, IsPassOf, IsGrantOf, IsTakenOf, of_pass, of_grant, Calls, Takes};
 
@@ -28,6 +29,7 @@ pub enum Taken {
 
 impl Executive {
     /// Releases the pass's task, as `Floor::release`. It may wait for other calls.
+    #[tactic(auto, using(crate::proofs::Newest::has_released))]
     pub fn release<R: Wait>(
         &self,
         rt: &R,
@@ -36,6 +38,7 @@ impl Executive {
         requires { IsPassOf self.now pass.old }
         ensures of { IsPassOf self.now pass.new }
         ensures calls { Calls call.Release (answer.Released result) (of_pass pass.old) (of_pass pass.new) }
+        ensures newest { IfOk result (λ _. HasReleased (of_pass pass.new)) }
         // A task whose tick is out has no pass.
         ensures not_running { (j : JobId) → result ≢ Err (act_fault.Core (release_fault.Running j)) }
     {

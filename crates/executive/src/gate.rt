@@ -1,4 +1,7 @@
 //! What a caller may learn of the threads that take the ticks of a floor.
+ghost use Rattle.executive.specs.Gates.{HasReleased};
+ghost use Rattle.executive.specs.Passes.{of_pass, IsOut};
+
 use crate::pass::{Grant, TaskPass};
 
 /// Is told of what task threads do. The calls lend what only an executive gives, and change nothing of it.
@@ -8,11 +11,13 @@ pub trait Gate {
     /// The task's thread begins, before its first look.
     fn enter(&self, task: u32, pass: &TaskPass);
 
-    /// A release of the task was taken.
-    fn released(&self, task: u32, pass: &TaskPass);
+    /// A release of the task was taken: it is the newest call of the pass.
+    fn released(&self, task: u32, pass: &TaskPass)
+        requires { HasReleased (of_pass pass.now) };
 
     /// A tick of the task is out: its step runs during this call.
-    fn step(&self, task: u32, grant: &Grant);
+    fn step(&self, task: u32, grant: &Grant)
+        requires { IsOut grant.now };
 }
 
 /// A gate that does nothing.

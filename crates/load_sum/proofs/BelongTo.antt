@@ -2,7 +2,7 @@
 use Rattle.std.proofs.Common.{◌≡◌, ℕ, ◌*◌, ◌<◌, ◌≤◌, List, sym, ◌∙◌, ap, arith}
 use Rattle.std.proofs.Math.Nat.{eq_of_mul-eq-mul_right}
 use Rattle.mc_task.specs.declared.task.Task.{Task}
-use Rattle.mc_task.specs.TaskSet.{IsSet}
+use Rattle.mc_task.specs.TaskSet.{AreTasks}
 use Rattle.mc_model.specs.Loads.{product, load, hyperperiod, most_lcm, low_low, high_low, high_high, load_ll, load_hl, load_hh}
 use Rattle.mc_model.proofs.Loads.{scale_of}
 use Rattle.load_sum.specs.declared.loads.Loads.{Loads}
@@ -12,7 +12,7 @@ use Rattle.load_sum.specs.Belong.{BelongTo}
 across : (x k l p a : ℕ) → p ≡ k * l → a ≡ k * x → x * p ≡ a * l
 across x k l p a whole part = ap (λ z. x * z) whole ∙ omega arith ∙ ap (λ z. z * l) (sym part)
 
-pub BelongTo-from_sums : (tasks : List Task) (loads : Loads) → IsSet tasks → loads.lcm ≡ hyperperiod tasks → 0 < loads.lcm → loads.lcm ≤ most_lcm
+pub BelongTo-from_sums : (tasks : List Task) (loads : Loads) → AreTasks tasks → loads.lcm ≡ hyperperiod tasks → 0 < loads.lcm → loads.lcm ≤ most_lcm
     → loads.low_low ≡ load low_low loads.lcm tasks → loads.high_low ≡ load high_low loads.lcm tasks → loads.high_high ≡ load high_high loads.lcm tasks
     → BelongTo tasks loads
 BelongTo-from_sums tasks loads set lcm above within low_low_is high_low_is high_high_is =

@@ -1,7 +1,7 @@
 -- Loads that belong to a set: its utilisations over the least common multiple of its periods.
 use Rattle.std.specs.Prelude.{◌≡◌, ℕ, ◌*◌, ◌<◌, ◌≤◌, List}
 use Rattle.mc_task.specs.declared.task.Task.{Task}
-use Rattle.mc_task.specs.TaskSet.{IsSet}
+use Rattle.mc_task.specs.TaskSet.{AreTasks}
 use Rattle.mc_model.specs.Loads.{product, load_ll, load_hl, load_hh, hyperperiod, most_lcm}
 use Rattle.load_sum.specs.declared.loads.Loads.{Loads}
 use Rattle.load_sum.specs.declared.loads.LoadFault.{LoadFault}
@@ -9,7 +9,7 @@ use Rattle.load_sum.specs.declared.loads.LoadFault.TheVariants.{Range}
 
 -- each numerator stands over lcm as the set's load stands over the product of the periods
 pub record BelongTo (tasks : List Task) (loads : Loads) : Type 0 where
-  pub set : IsSet tasks
+  pub set : AreTasks tasks
   pub lcm : loads.lcm ≡ hyperperiod tasks
   pub above : 0 < loads.lcm
   pub within : loads.lcm ≤ most_lcm

@@ -1,5 +1,5 @@
 ghost use Rattle.std.specs.Prelude.{◌≡◌, ◌<◌, ◌≤◌, ◌^◌, ◌*◌, ◌/◌, ◌↔◌, Some, None, IfOk, IfErr, IsOk, length, slice_get, List};
-ghost use Rattle.mc_task.specs.TaskSet.{IsSet};
+ghost use Rattle.mc_task.specs.TaskSet.{AreTasks};
 ghost use Rattle.mc_task.specs.declared.task.Task.{Task};
 ghost use Rattle.mc_model.specs.Loads as model;
 ghost use Rattle.load_sum.specs.Belong.{BelongTo, fault_task};
@@ -29,9 +29,9 @@ pub enum LoadFault {
 
 /// The utilisations of a set (Baruah et al., ECRTS 2012), refused exactly where its periods are out of range.
 pub fn sum_loads(set: &TaskSet) -> Result<Loads, LoadFault>
-    ensures ok { IfOk result (λ loads. BelongTo set.now loads × (model.range_fault set.now ≡ None)) }
-    ensures range { IfErr result (λ fault. model.range_fault set.now ≡ Some (fault_task fault)) }
-    ensures within { IsOk result ↔ model.IsWithinRange set.now }
+    ensures ok { IfOk result (λ loads. BelongTo set.now.tasks loads × (model.range_fault set.now.tasks ≡ None)) }
+    ensures range { IfErr result (λ fault. model.range_fault set.now.tasks ≡ Some (fault_task fault)) }
+    ensures within { IsOk result ↔ model.IsWithinRange set.now.tasks }
     // The definition is a common multiple of the periods that divides each common multiple.
     ensures law { (tasks : List Task) → model.IsLeastCommon tasks (model.hyperperiod tasks) }
 {
@@ -40,9 +40,9 @@ pub fn sum_loads(set: &TaskSet) -> Result<Loads, LoadFault>
 }
 
 fn common_multiple(set: &TaskSet) -> Result<u64, LoadFault>
-    ensures ok { IfOk result (λ lcm. (model.range_fault set.now ≡ None) × (lcm ≡ model.lcm_from 1 set.now) × (0 < lcm) × (lcm ≤ 2 ^ 60)) }
-    ensures range { IfErr result (λ e. model.range_fault set.now ≡ Some (fault_task e)) }
-    ensures set { IsSet set.now }
+    ensures ok { IfOk result (λ lcm. (model.range_fault set.now.tasks ≡ None) × (lcm ≡ model.lcm_from 1 set.now.tasks) × (0 < lcm) × (lcm ≤ 2 ^ 60)) }
+    ensures range { IfErr result (λ e. model.range_fault set.now.tasks ≡ Some (fault_task e)) }
+    ensures set { AreTasks set.now.tasks }
 {
     let count = set.len();
     let mut lcm = 1;
@@ -63,9 +63,9 @@ fn common_multiple(set: &TaskSet) -> Result<u64, LoadFault>
 fn loads_over(set: &TaskSet, lcm: u64) -> Loads
     requires { lcm ≤ 2 ^ 60 }
     ensures lcm { result.lcm ≡ lcm }
-    ensures low_low { result.low_low ≡ model.load model.low_low lcm set.now }
-    ensures high_low { result.high_low ≡ model.load model.high_low lcm set.now }
-    ensures high_high { result.high_high ≡ model.load model.high_high lcm set.now }
+    ensures low_low { result.low_low ≡ model.load model.low_low lcm set.now.tasks }
+    ensures high_low { result.high_low ≡ model.load model.high_low lcm set.now.tasks }
+    ensures high_high { result.high_high ≡ model.load model.high_high lcm set.now.tasks }
 {
     let count = set.len();
     let mut low_low = 0;
@@ -86,9 +86,9 @@ fn loads_over(set: &TaskSet, lcm: u64) -> Loads
 }
 
 fn task_at(set: &TaskSet, i: u32) -> Task
-    requires within { i < length set.now }
+    requires within { i < length set.now.tasks }
     requires few { i < 128 }
-    ensures { slice_get set.now i ≡ Some result }
+    ensures { slice_get set.now.tasks i ≡ Some result }
 {
     set.get(TaskNo(i + 1)).unwrap()
 }

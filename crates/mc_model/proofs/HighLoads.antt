@@ -6,7 +6,7 @@ use Rattle.std.proofs.Math.Nat.{mul-pos}
 use Rattle.mc_task.specs.declared.task.Task.{Task}
 use Rattle.mc_task.specs.declared.task.Level.{Level}
 use Rattle.mc_task.specs.declared.task.Level.TheVariants.{Low, High}
-use Rattle.mc_task.specs.TaskSet.{IsSet, IsTask}
+use Rattle.mc_task.specs.TaskSet.{AreTasks, IsTask}
 use Rattle.mc_model.specs.Loads.{load, load_hl, load_hh, product, high_low, high_high, by_level}
 
 -- a task that asks time by its high budget asks time by its low one
@@ -25,5 +25,5 @@ high_low-pos n (t ∷ ts) each h =
     ]
 
 -- U_HL is above 0 where U_HH is
-pub load_hl-pos : (set : List Task) → IsSet set → 0 < load_hh set → 0 < load_hl set
+pub load_hl-pos : (set : List Task) → AreTasks set → 0 < load_hh set → 0 < load_hl set
 load_hl-pos set is h = high_low-pos (product set) set is.each h

@@ -1,11 +1,11 @@
--- A set for which some rule holds is admitted.
+-- Tasks for which some rule holds are admitted.
 use Rattle.std.proofs.Common.{◌≡◌, ℕ, ◌+◌, ◌-◌, ◌*◌, ◌<◌, ◌≤◌, inl, inr, arith, IsSome}
 use Rattle.std.proofs.lemmas.Bool.Decides.{leb_tells}
 use Rattle.std.proofs.Math.Nat.{mul-le-mul_left, mul-le-mul_right, le_of_mul-le-mul_left}
 use Rattle.mc_task.specs.declared.task.Rule.{Rule}
 use Rattle.mc_task.specs.declared.task.Rule.TheVariants.{Plain, Virtual}
 use Rattle.mc_model.specs.Loads.{product, load_ll, load_hl, load_hh}
-use Rattle.mc_model.specs.Test.{rule_of, test}
+use Rattle.mc_model.specs.Test.{rule_of, published}
 use Rattle.mc_model.specs.Holds.{HoldsOver, AdmittedIfHolds}
 use Rattle.mc_model.proofs.HighLoads.{load_hl-pos}
 use Rattle.mc_model.proofs.RuleCases.{OnlyVirtualFits, rule_of-plain, rule_of-virtual}
@@ -60,7 +60,7 @@ pub holds-IsSome : (n a b c : ℕ) (rule : Rule) → (0 < c → 0 < b) → Holds
 holds-IsSome n a b c Plain high holds = plain-admitted n a b c holds
 holds-IsSome n a b c (Virtual p q) high holds = virtual_holds-admitted n a b c p q high holds
 
--- law: a set for which some rule holds is admitted
+-- law: tasks for which some rule holds are admitted
 pub holds-admitted : AdmittedIfHolds
-unfolding test
-holds-admitted set rule is h = holds-IsSome (product set) (load_ll set) (load_hl set) (load_hh set) rule (load_hl-pos set is) h
+unfolding published
+holds-admitted tasks rule are h = holds-IsSome (product tasks) (load_ll tasks) (load_hl tasks) (load_hh tasks) rule (load_hl-pos tasks are) h

@@ -17,6 +17,7 @@ pub mod RuleCases
 pub mod RuleHolds
 pub mod Runs
 pub mod ScaledHolds
+pub mod ScaledTests
 pub mod Steps
 pub mod Sums
 pub mod Tasks

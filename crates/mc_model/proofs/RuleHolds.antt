@@ -1,4 +1,4 @@
--- The test's rule holds.
+-- The rule of the published test holds.
 use Rattle.std.proofs.Common.{◌≡◌, ℕ, ◌+◌, ◌-◌, ◌*◌, ◌^◌, ◌<◌, ◌≤◌, inl, inr, sym, subst, arith, Some}
 use Rattle.std.proofs.lemmas.Bool.Decides.{leb_tells}
 use Rattle.std.proofs.Math.Nat.{mul-le-mul_left, mul-le-mul_right, le_of_mul-le-mul_left, le_of_mul-le-mul_right, lt_of_mul-lt-mul_left}
@@ -9,8 +9,8 @@ use Rattle.tick_frac.specs.Fraction.{lowest}
 use Rattle.tick_frac.proofs.Numbers.{gcd_pos_second}
 use Rattle.tick_frac.proofs.Fractions.{whole_num, whole_den}
 use Rattle.mc_model.specs.Loads.{product, load_ll, load_hl, load_hh}
-use Rattle.mc_model.specs.Test.{rule_of, test, virtual_rule}
-use Rattle.mc_model.specs.Holds.{HoldsOver, Fits, TestRuleHolds}
+use Rattle.mc_model.specs.Test.{rule_of, published, virtual_rule}
+use Rattle.mc_model.specs.Holds.{HoldsOver, Fits, PublishedRuleHolds}
 use Rattle.mc_model.proofs.HighLoads.{load_hl-pos}
 use Rattle.mc_model.proofs.RuleCases.{OnlyVirtualFits, rule_of-cases}
 
@@ -73,7 +73,7 @@ rule_of-fits n a b c rule small high h =
           subst (λ r. Fits r) (sym virtual.0) (holds.0, holds.1, omega arith)
     ]
 
--- law: the test's rule holds
-pub test-holds : TestRuleHolds
-unfolding test
-test-holds set rule is h = rule_of-holds (product set) (load_ll set) (load_hl set) (load_hh set) rule (load_hl-pos set is) h
+-- law: the rule of the published test holds
+pub published-holds : PublishedRuleHolds
+unfolding published
+published-holds tasks rule are h = rule_of-holds (product tasks) (load_ll tasks) (load_hl tasks) (load_hh tasks) rule (load_hl-pos tasks are) h

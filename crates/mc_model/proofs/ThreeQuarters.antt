@@ -1,9 +1,9 @@
--- A set whose utilisations are at most 3/4 is admitted.
+-- Tasks whose utilisations are at most 3/4 are admitted.
 use Rattle.std.proofs.Common.{◌≡◌, ℕ, ◌+◌, ◌-◌, ◌*◌, ◌<◌, ◌≤◌, inl, inr, arith, IsSome}
 use Rattle.std.proofs.lemmas.Bool.Decides.{leb_tells}
 use Rattle.std.proofs.Math.Nat.{mul-le-mul_left, mul-le-mul_right}
 use Rattle.mc_model.specs.Loads.{product, load_ll, load_hl, load_hh}
-use Rattle.mc_model.specs.Test.{rule_of, test}
+use Rattle.mc_model.specs.Test.{rule_of, published}
 use Rattle.mc_model.specs.Holds.{IsThreeQuartersOver, ThreeQuartersLaw}
 use Rattle.mc_model.proofs.Hyperperiod.{product-pos}
 use Rattle.mc_model.proofs.HoldsAdmitted.{plain-admitted, virtual-admitted}
@@ -44,7 +44,7 @@ three_quarters-IsSome n a b c some h =
           virtual-admitted n a b c (record { over = over.1; low = below; scaled = rw whole at scaled })
     ]
 
--- law: a set whose utilisations are at most 3/4 is admitted
+-- law: tasks whose utilisations are at most 3/4 are admitted
 pub three_quarters-admitted : ThreeQuartersLaw
-unfolding test
-three_quarters-admitted set is h = three_quarters-IsSome (product set) (load_ll set) (load_hl set) (load_hh set) (product-pos set is.each) h
+unfolding published
+three_quarters-admitted tasks are h = three_quarters-IsSome (product tasks) (load_ll tasks) (load_hl tasks) (load_hh tasks) (product-pos tasks are.each) h

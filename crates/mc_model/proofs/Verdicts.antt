@@ -9,11 +9,11 @@ use Rattle.mc_model.specs.declared.row.Row.{Row}
 use Rattle.mc_model.specs.declared.verdict.Why.{Why}
 use Rattle.mc_model.specs.Late.{late}
 use Rattle.mc_model.specs.Legal.{Legal, IsOfSet, fault}
-use Rattle.mc_model.specs.Verdict.{RowFault, first_fault, verdict, verdict_of}
+use Rattle.mc_model.specs.Verdict.{RowFault, first_unfit, verdict, verdict_of}
 use Rattle.mc_model.specs.declared.verdict.Verdict.TheVariants as verdicts
 
 -- a legal trace has no row that does not fit
-pub no_fault : (set : List Task) (rule : Rule) (h : List Row) → Legal set rule h → first_fault set rule h ≡ None
+pub no_fault : (set : List Task) (rule : Rule) (h : List Row) → Legal set rule h → first_unfit set rule h ≡ None
 no_fault set rule [] l = refl
 no_fault set rule (row ∷ g) l = rw (no_fault set rule g l.2, l.1) refl
 
@@ -24,10 +24,10 @@ neither None place (Some why) h = cc
 neither (Some fault) place b h = cc
 
 -- and a trace of the set's tasks without such a row is legal
-pub legal_by_verdict : (set : List Task) (rule : Rule) (h : List Row) → AllByRecursion (IsOfSet set) h → first_fault set rule h ≡ None → Legal set rule h
+pub legal_by_verdict : (set : List Task) (rule : Rule) (h : List Row) → AllByRecursion (IsOfSet set) h → first_unfit set rule h ≡ None → Legal set rule h
 legal_by_verdict set rule [] of f = tt
 legal_by_verdict set rule (row ∷ g) of f =
-    let p = neither (first_fault set rule g) (length g + 1) (fault set rule row g) f in
+    let p = neither (first_unfit set rule g) (length g + 1) (fault set rule row g) f in
     (of.0, p.1, legal_by_verdict set rule g of.1 p.0)
 
 -- the verdict on a legal trace counts the late jobs

@@ -1,11 +1,12 @@
--- When a rule holds for a set, and the laws that tie it to the test.
-use Rattle.std.specs.Prelude.{◌≡◌, ℕ, ◌+◌, ◌*◌, ◌^◌, ◌≤◌, List, Some, IsSome}
+-- When a rule holds for tasks, and the laws that tie it to the test.
+use Rattle.std.specs.Prelude.{◌≡◌, ℕ, ◌+◌, ◌*◌, ◌^◌, ◌≤◌, ◌↔◌, List, Option, Some, None, IsSome}
 use Rattle.mc_task.specs.declared.task.Task.{Task}
+use Rattle.mc_task.specs.declared.task.Scale.{Scale}
 use Rattle.mc_task.specs.declared.task.Rule.{Rule}
 use Rattle.mc_task.specs.declared.task.Rule.TheVariants.{Plain, Virtual}
-use Rattle.mc_task.specs.TaskSet.{IsSet}
+use Rattle.mc_task.specs.TaskSet.{AreTasks, Set}
 use Rattle.mc_model.specs.Loads.{product, load_ll, load_hl, load_hh}
-use Rattle.mc_model.specs.Test.{test}
+use Rattle.mc_model.specs.Test.{published, test}
 
 -- the inequalities under which the rule schedules U_LL = a/n, U_HL = b/n and U_HH = c/n:
 -- U_LL + U_HH ≤ 1 for EDF; U_LL + U_HL/x ≤ 1 and x*U_LL + U_HH ≤ 1 for the scale x = p/q
@@ -13,22 +14,39 @@ abbrev pub HoldsOver : ℕ → ℕ → ℕ → ℕ → Rule → Type 0
 HoldsOver n a b c Plain = a + c ≤ n
 HoldsOver n a b c (Virtual p q) = (1 ≤ p) × (p ≤ q) × (p * a + q * b ≤ p * n) × (p * a + q * c ≤ q * n)
 
--- the rule holds for the set
+-- the rule holds for the tasks
 abbrev pub Holds : List Task → Rule → Type 0
-Holds set rule = HoldsOver (product set) (load_ll set) (load_hl set) (load_hh set) rule
+Holds tasks rule = HoldsOver (product tasks) (load_ll tasks) (load_hl tasks) (load_hh tasks) rule
 
 -- the rule's scale is a fraction of at most 1 whose parts are at most 2^60
 abbrev pub Fits : Rule → Type 0
 Fits Plain = Unit {0}
 Fits (Virtual p q) = (1 ≤ p) × (p ≤ q) × (q ≤ 2 ^ 60)
 
+-- the rule of the test for a set, said by Holds: that of its scale, where it has one that holds; otherwise the published one
+pub record IsRuleOf (set : Set) (rule : Option Rule) : Type 0 where
+  pub scaled : (x : Scale) → set.scale ≡ Some x → Holds set.tasks (Virtual x.p x.q) → rule ≡ Some (Virtual x.p x.q)
+  pub otherwise : ((x : Scale) → set.scale ≡ Some x → ¬ Holds set.tasks (Virtual x.p x.q)) → rule ≡ published set.tasks
+
+-- law: the test gives that rule
+abbrev pub TestByHolds : Type 0
+TestByHolds = (set : Set) → IsRuleOf set (test set)
+
+-- law: the rule of the published test holds
+abbrev pub PublishedRuleHolds : Type 0
+PublishedRuleHolds = (tasks : List Task) (rule : Rule) → AreTasks tasks → published tasks ≡ Some rule → Holds tasks rule
+
 -- law: the test's rule holds
 abbrev pub TestRuleHolds : Type 0
-TestRuleHolds = (set : List Task) (rule : Rule) → IsSet set → test set ≡ Some rule → Holds set rule
+TestRuleHolds = (set : Set) (rule : Rule) → AreTasks set.tasks → test set ≡ Some rule → Holds set.tasks rule
 
--- law: a set for which some rule holds is admitted
+-- law: tasks for which some rule holds are admitted
 abbrev pub AdmittedIfHolds : Type 0
-AdmittedIfHolds = (set : List Task) (rule : Rule) → IsSet set → Holds set rule → IsSome (test set)
+AdmittedIfHolds = (tasks : List Task) (rule : Rule) → AreTasks tasks → Holds tasks rule → IsSome (published tasks)
+
+-- law: the scale of a set neither admits nor refuses: the test gives none exactly where the published test does
+abbrev pub NoneWherePublishedNone : Type 0
+NoneWherePublishedNone = (set : Set) → AreTasks set.tasks → (test set ≡ None) ↔ (published set.tasks ≡ None)
 
 -- U_LL + U_HL ≤ 3/4 and U_HH ≤ 3/4, over n
 abbrev pub IsThreeQuartersOver : ℕ → ℕ → ℕ → ℕ → Type 0
@@ -36,8 +54,8 @@ IsThreeQuartersOver n a b c = (4 * (a + b) ≤ 3 * n) × (4 * c ≤ 3 * n)
 
 -- the premise of the 3/4 law
 abbrev pub IsThreeQuarters : List Task → Type 0
-IsThreeQuarters set = IsThreeQuartersOver (product set) (load_ll set) (load_hl set) (load_hh set)
+IsThreeQuarters tasks = IsThreeQuartersOver (product tasks) (load_ll tasks) (load_hl tasks) (load_hh tasks)
 
--- the 3/4 law: such a set is admitted
+-- the 3/4 law: such tasks are admitted
 abbrev pub ThreeQuartersLaw : Type 0
-ThreeQuartersLaw = (set : List Task) → IsSet set → IsThreeQuarters set → IsSome (test set)
+ThreeQuartersLaw = (tasks : List Task) → AreTasks tasks → IsThreeQuarters tasks → IsSome (published tasks)

@@ -17,10 +17,10 @@ pub record RowFault : Type 0 where
   pub why : Why
 
 -- the oldest row that does not fit the rows before it
-abbrev pub first_fault : List Task → Rule → List Row → Option RowFault
-first_fault set rule [] = None
-first_fault set rule (row ∷ g) =
-    or_else (first_fault set rule g) (option_map (λ why. record { place = length g + 1; why = why }) (fault set rule row g))
+abbrev pub first_unfit : List Task → Rule → List Row → Option RowFault
+first_unfit set rule [] = None
+first_unfit set rule (row ∷ g) =
+    or_else (first_unfit set rule g) (option_map (λ why. record { place = length g + 1; why = why }) (fault set rule row g))
 
 -- where each row fits, how many jobs are late and which of them was released first
 abbrev pub verdict_of : Option RowFault → List JobId → Verdict
@@ -29,7 +29,7 @@ verdict_of None lates = Legal (length lates) (slice_get lates 0)
 
 -- the verdict on a trace of the set under the rule
 abbrev pub verdict : List Task → Rule → List Row → Verdict
-verdict set rule h = verdict_of (first_fault set rule h) (late set h)
+verdict set rule h = verdict_of (first_unfit set rule h) (late set h)
 
 -- where each row fits, no job is late
 abbrev pub HasNoLate : Verdict → Type 0

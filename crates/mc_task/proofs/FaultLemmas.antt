@@ -8,7 +8,7 @@ use Rattle.std.proofs.lemmas.Slice.Eq.{bytes_eq-Decides}
 use Rattle.mc_task.specs.declared.task.Task.{Task}
 use Rattle.mc_task.specs.declared.task.Level.{Level}
 use Rattle.mc_task.specs.declared.task.Level.TheVariants.{Low, High}
-use Rattle.mc_task.specs.TaskSet.{IsSet, IsTask, InOrder, Distinct, names_of}
+use Rattle.mc_task.specs.TaskSet.{AreTasks, IsTask, InOrder, Distinct, names_of}
 use Rattle.mc_task.specs.Faults.{out_of_order, number_fault_from, named_from, same_name_from, first_fault}
 
 -- the name is that of no task of the list
@@ -59,7 +59,7 @@ nothing_before [] = tt
 nothing_before (name ∷ names) = (tt, nothing_before names)
 
 -- so `TaskSet::new` would take the list of a set
-pub first_fault-set : (ts : List Task) → IsSet ts → first_fault ts ≡ None
+pub first_fault-set : (ts : List Task) → AreTasks ts → first_fault ts ≡ None
 first_fault-set ts set =
     let some : (length ts == 0) ≡ false = grind (arith, nat_tests, set.some) in
     let few : nat_lt 128 (length ts) ≡ false = grind (arith, nat_tests, set.few) in

@@ -6,7 +6,7 @@ use Rattle.std.proofs.lemmas.Bool.Decides.{nat_tests}
 use Rattle.std.proofs.lemmas.Slice.Eq.{bytes_eq-Decides}
 use Rattle.mc_task.specs.declared.task.Task.{Task}
 use Rattle.mc_task.specs.NameForm.{is_name}
-use Rattle.mc_task.specs.TaskSet.{IsTask, IsSet, IsIn, Distinct, names_of, task_at, name_in}
+use Rattle.mc_task.specs.TaskSet.{IsTask, AreTasks, IsIn, Distinct, names_of, task_at, name_in}
 use Rattle.mc_task.specs.Faults.{named, named_from}
 
 found_cases : (b : Bool) (n : ℕ) (rest : Option ℕ) (size k : ℕ) → cond b (Some n) rest ≡ Some k → (rest ≡ Some k → (n + 1 ≤ k) × (k < n + 1 + size)) → (n ≤ k) × (k < n + (size + 1))
@@ -60,7 +60,7 @@ found_at n (t ∷ ts) (suc i) d each inside =
       form = rest.form;
     }
 
-pub found_by_name : (set : List Task) (k : ℕ) → IsSet set → IsIn set k → IsFound set 1 (name_in (task_at set k)) k
+pub found_by_name : (set : List Task) (k : ℕ) → AreTasks set → IsIn set k → IsFound set 1 (name_in (task_at set k)) k
 found_by_name set k s task =
     let some : k == 0 ≡ false = grind (arith, nat_tests, task.0) in
     let at : 1 + (k - 1) ≡ k = omega (arith, task.0) in
@@ -68,5 +68,5 @@ found_by_name set k s task =
     rw some (subst (λ (m : ℕ). IsFound set 1 (name_in (slice_get set (k - 1))) m) at found)
 
 -- what has a task's name is found as that task
-pub found_task : (set : List Task) (k : ℕ) (name : List ℕ) → IsSet set → IsIn set k → name_in (task_at set k) ≡ name → named name set ≡ Some k
+pub found_task : (set : List Task) (k : ℕ) (name : List ℕ) → AreTasks set → IsIn set k → name_in (task_at set k) ≡ name → named name set ≡ Some k
 found_task set k name s task same = subst (λ (n : List ℕ). named n set ≡ Some k) same (found_by_name set k s task).number

@@ -10,7 +10,7 @@ use Rattle.mc_task.specs.declared.task.Level.{Level}
 use Rattle.mc_task.specs.declared.task.Level.TheVariants.{Low, High}
 use Rattle.mc_task.specs.declared.set.SetFault.{SetFault}
 use Rattle.mc_task.specs.declared.set.SetFault.TheVariants.{Empty, TooMany}
-use Rattle.mc_task.specs.TaskSet.{IsTask, IsSet, InOrder, Distinct, names_of}
+use Rattle.mc_task.specs.TaskSet.{IsTask, AreTasks, InOrder, Distinct, names_of}
 use Rattle.mc_task.specs.Faults.{or_else, out_of_order, number_fault, number_fault_from, first_fault, same_name_from, named_from}
 
 parts : (a b : Option SetFault) → or_else a b ≡ None → (a ≡ None) × (b ≡ None)
@@ -92,10 +92,10 @@ faultless ts h =
 pub each_in_order : (ts : List Task) → first_fault ts ≡ None → AllByRecursion (λ t. InOrder t.level t.low t.high) ts
 each_in_order ts h = in_order_from 0 ts ((faultless ts h).numbers)
 
-pub IsSet-each : (ts : List Task) → AllByRecursion IsTask ts → first_fault ts ≡ None → IsSet ts
-IsSet-each ts each h =
+pub AreTasks-each : (ts : List Task) → AllByRecursion IsTask ts → first_fault ts ≡ None → AreTasks ts
+AreTasks-each ts each h =
     let f = faultless ts h in
     record { some = f.some; few = f.few; each = each; names = distinct [] ts (f.names) }
 
-pub IsSet-right : (ts : List Task) → All IsTask ts → first_fault ts ≡ None → IsSet ts
-IsSet-right ts each h = IsSet-each ts (each_of_all IsTask ts each) h
+pub AreTasks-right : (ts : List Task) → All IsTask ts → first_fault ts ≡ None → AreTasks ts
+AreTasks-right ts each h = AreTasks-each ts (each_of_all IsTask ts each) h

@@ -1,9 +1,11 @@
 -- What a task set is: dual-criticality sporadic tasks with implicit deadlines (Baruah et al., ECRTS 2012).
 -- That a low task has one budget, and how many tasks and how large numbers there may be, is this profile's.
-use Rattle.std.specs.Prelude.{◌≡◌, ◌≢◌, ℕ, ◌-◌, ◌<◌, ◌≤◌, ◌^◌, ◌==◌, if◌then◌else◌, List, [], ◌∷◌, length, map, slice_get, Option, Some, None, IsTrue}
+use Rattle.std.specs.Prelude.{◌≡◌, ◌≢◌, ℕ, ◌-◌, ◌<◌, ◌≤◌, ◌^◌, ◌==◌, if◌then◌else◌, List, [], ◌∷◌, length, map, slice_get, Option, Some, None, IfSome, IsTrue}
 use Rattle.std.specs.List.{AllByRecursion}
+use Rattle.tick_frac.specs.Numbers.{gcd}
 use Rattle.mc_task.specs.NameForm.{is_name}
 use Rattle.mc_task.specs.declared.task.Task.{Task}
+use Rattle.mc_task.specs.declared.task.Scale.{Scale}
 use Rattle.mc_task.specs.declared.task.Level.{Level}
 use Rattle.mc_task.specs.declared.task.Level.TheVariants.{Low, High}
 
@@ -33,12 +35,33 @@ Distinct (n ∷ ns) = AllByRecursion (λ m. n ≢ m) ns × Distinct ns
 abbrev pub names_of : List Task → List (List ℕ)
 names_of tasks = map (λ t. t.name) tasks
 
--- a set: 1 to 128 tasks with different names
-pub record IsSet (tasks : List Task) : Type 0 where
+-- the tasks of a set: 1 to 128 with different names
+pub record AreTasks (tasks : List Task) : Type 0 where
   pub some : 1 ≤ length tasks
   pub few : length tasks ≤ 128
   pub each : AllByRecursion IsTask tasks
   pub names : Distinct (names_of tasks)
+
+-- a scale p/q of at most 1, in lowest terms, whose parts are at most 4,294,967,295
+pub record IsScale (x : Scale) : Type 0 where
+  pub some : 1 ≤ x.p
+  pub order : x.p ≤ x.q
+  pub small : x.q < 2 ^ 32
+  pub lowest : gcd x.p x.q ≡ 1
+
+-- tasks, and the scale that was chosen for them, or none
+pub record Set : Type 0 where
+  pub tasks : List Task
+  pub scale : Option Scale
+
+-- a set: its tasks are those of a set, and its scale, where it has one, is a scale
+pub record IsSet (set : Set) : Type 0 where
+  pub tasks : AreTasks set.tasks
+  pub scale : IfSome set.scale IsScale
+
+-- the tasks with no scale
+abbrev pub unscaled : List Task → Set
+unscaled tasks = record { tasks = tasks; scale = None }
 
 -- task number k is in the set: the numbers run from 1 in the order of the list
 abbrev pub IsIn : List Task → ℕ → Type 0

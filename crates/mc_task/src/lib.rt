@@ -10,4 +10,4 @@ mod tests;
 
 pub use name::Name;
 pub use set::{Memory, SetFault, TaskSet};
-pub use task::{JobId, Level, Rule, Task, TaskNo};
+pub use task::{JobId, Level, Rule, Scale, Task, TaskNo};

@@ -1,15 +1,21 @@
 ghost use Rattle.std.specs.Prelude.{◌≡◌, ◌≤◌, ◌↔◌, length, IfOk, IfErr, IfSome, IfNone, All, IsSome, option_map, Some, None, []};
-ghost use Rattle.mc_task.specs.TaskSet.{IsSet, IsTask, IsIn, task_at};
+ghost use Rattle.mc_task.specs.TaskSet.{AreTasks, IsTask, IsScale, IsIn, task_at, unscaled};
 ghost use Rattle.mc_task.specs.Faults.{first_fault, same_name_from, number_fault, number_fault_from, named};
 
 use crate::name_table::{NameTable, numbered_task};
-use crate::{Level, Task, TaskNo};
-use std::alloc::Global;
+use crate::{Level, Scale, Task, TaskNo};
+use std::alloc::{AllocError, Global};
 use std::marker::Model;
 
 /// Want of memory.
 #[derive(Clone, Copy, Debug, PartialEq, Eq)]
 pub struct Memory;
+
+impl From<AllocError> for Memory {
+    fn from(_: AllocError) -> Memory {
+        Memory
+    }
+}
 
 /// Why a list of tasks is no set, in the order in which the faults are looked for.
 #[derive(Clone, Copy, Debug, PartialEq, Eq)]
@@ -26,60 +32,90 @@ pub enum SetFault {
     SameName { first: TaskNo, second: TaskNo },
 }
 
-/// A set of 1 to 128 tasks with different names and budgets in order. Contracts see the list.
+/// A set of 1 to 128 tasks with different names and budgets in order, and a scale that was chosen for it, if any.
+/// Contracts see the tasks and the scale.
 #[derive(Debug, Drop)]
 pub struct TaskSet {
     tasks: Vec<Task>,
     names: NameTable,
+    scale: Option<Scale>,
 }
 
 impl Model for TaskSet {
-    ghost use Rattle.std.specs.Prelude.{List};
-    ghost use Rattle.mc_task.specs.declared.task.Task.{Task};
-    ghost use Rattle.mc_task.specs.TaskSet.{IsSet};
+    ghost use Rattle.mc_task.specs.TaskSet.{Set, IsSet};
 
-    ghost Value = { List Task };
+    ghost Value = { Set };
 
-    ghost view = { λ a. a.tasks.items };
+    ghost view = { λ a. record { tasks = a.tasks.items; scale = a.scale } };
 
-    ghost invariant = { λ a. IsSet a.tasks.items };
+    ghost invariant = { λ a. IsSet (record { tasks = a.tasks.items; scale = a.scale }) };
 }
 
 impl TaskSet {
-    /// The set of these tasks, or the first fault. On a fault the list is dropped.
+    /// The set of these tasks with no scale, or the first fault. On a fault the list is dropped.
     pub fn new(tasks: Vec<Task>) -> Result<TaskSet, SetFault>
         ensures fault { IfErr result (λ e. first_fault tasks.items ≡ Some e) }
-        ensures ok { IfOk result (λ set. (first_fault tasks.items ≡ None) × (set ≡ tasks.items)) }
+        ensures ok { IfOk result (λ set. (first_fault tasks.items ≡ None) × (set ≡ unscaled tasks.items)) }
     {
         match fault_of(&tasks) {
             Some(fault) => Err(fault),
             None => Ok(TaskSet {
                 names: NameTable::new(&tasks),
                 tasks,
+                scale: None,
             }),
         }
     }
 
+    /// The same tasks with this scale in place of any other.
+    pub fn with_scale(self, scale: Scale) -> TaskSet
+        requires { IsScale scale }
+        ensures { result ≡ record self { scale = Some scale } }
+    {
+        let TaskSet { tasks, names, .. } = self;
+        TaskSet {
+            tasks,
+            names,
+            scale: Some(scale),
+        }
+    }
+
+    /// The scale that was chosen for the set, if any.
+    pub fn scale(&self) -> Option<Scale>
+        ensures value { result ≡ self.now.scale }
+        ensures scale { IfSome result IsScale }
+    {
+        self.scale
+    }
+
+    /// The tasks in order.
+    pub fn as_slice(&self) -> &[Task]
+        ensures value { result.now ≡ self.now.tasks }
+        ensures tasks { AreTasks self.now.tasks }
+    {
+        &self.tasks
+    }
+
     /// How many tasks there are.
     pub fn len(&self) -> u32
-        ensures count { result ≡ length self.now }
-        ensures set { IsSet self.now }
+        ensures count { result ≡ length self.now.tasks }
+        ensures set { AreTasks self.now.tasks }
     {
         self.tasks.len() as u32
     }
 
     /// The task with this number, or `None` exactly where the set has none.
     pub fn get(&self, task: TaskNo) -> Option<Task>
-        ensures value { result ≡ task_at self.now task.0 }
-        ensures found { IsSome result ↔ IsIn self.now task.0 }
+        ensures value { result ≡ task_at self.now.tasks task.0 }
+        ensures found { IsSome result ↔ IsIn self.now.tasks task.0 }
     {
         numbered_task(&self.tasks, task)
     }
 
     /// The number of the task with this name, or `None` exactly where no task has it.
     pub fn find(&self, name: &[u8]) -> Option<TaskNo>
-        ensures number { option_map (λ task. task.0) result ≡ named name.now self.now }
-        ensures inside { IfSome result (λ task. IsIn self.now task.0) }
+        ensures number { option_map (λ task. task.0) result ≡ named name.now self.now.tasks }
+        ensures inside { IfSome result (λ task. IsIn self.now.tasks task.0) }
     {
         match self.names.find(&self.tasks, name) {
             Some(task) => Some(task),
@@ -91,13 +127,11 @@ impl TaskSet {
     pub fn copy(&self, alloc: Global) -> Result<TaskSet, Memory>
         ensures { IfOk result (λ set. set ≡ self.now) }
     {
-        match self.tasks.to_vec(alloc) {
-            Ok(tasks) => Ok(TaskSet {
-                names: self.names,
-                tasks,
-            }),
-            Err(_) => Err(Memory),
-        }
+        Ok(TaskSet {
+            tasks: self.tasks.to_vec(alloc)?,
+            names: self.names,
+            scale: self.scale,
+        })
     }
 }
 

@@ -38,3 +38,10 @@ pub enum Rule {
     Plain,
     Virtual { p: u64, q: u64 },
 }
+
+/// A scale `p/q` of the deadlines of high tasks, chosen for a set.
+#[derive(Clone, Copy, Debug, PartialEq, Eq)]
+pub struct Scale {
+    pub p: u64,
+    pub q: u64,
+}

@@ -1,4 +1,6 @@
-use crate::{Level, Name, SetFault, Task, TaskNo, TaskSet};
+ghost use Rattle.mc_task.specs.TaskSet.{IsScale};
+
+use crate::{Level, Name, Scale, SetFault, Task, TaskNo, TaskSet};
 use std::alloc::{AllocError, Global};
 use std::test::Fail;
 
@@ -77,5 +79,27 @@ fn a_copy_has_the_same_tasks(rt: HostRuntime) -> Result<(), Fail> {
         assert_eq!(rt; set.get(TaskNo(number)), wanted);
     }
     assert_eq!(rt; (copy.get(TaskNo(0)), copy.get(TaskNo(3))), (None, None));
+    Ok(())
+}
+
+#[tactic(auto, unfolding(tick_frac::specs::Numbers::gcd, tick_frac::specs::Numbers::gcd_steps))]
+fn half() -> Scale
+    ensures { IsScale result }
+{
+    Scale { p: 1, q: 2 }
+}
+
+#[test]
+fn a_chosen_scale_stays_with_the_set_and_its_copy(rt: HostRuntime) -> Result<(), Fail> {
+    let alloc = rt.alloc();
+    let lines = [(b"log".as_slice(), Level::Low, 10, 5, 5)];
+    let set = TaskSet::new(tasks(alloc, &lines)?).ok().ok_or("a set")?;
+    assert_eq!(rt; set.scale(), None);
+    let set = set.with_scale(half());
+    let copy = set.copy(alloc)?;
+    for set in [&set, &copy] {
+        assert_eq!(rt; set.scale(), Some(Scale { p: 1, q: 2 }));
+        assert_eq!(rt; (set.len(), set.as_slice().len()), (1, 1));
+    }
     Ok(())
 }

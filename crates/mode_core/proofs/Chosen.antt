@@ -84,7 +84,7 @@ is_first set rule high (i ∷ k ∷ ks) x e = go (is_first set rule high (k ∷ 
         })
 
 -- a test that each passes
-all_from : (p : Live → Bool) (xs : List Live) → Each (λ x. p x ≡ true) xs → list_all p xs ≡ true
+pub all_from : (p : Live → Bool) (xs : List Live) → Each (λ x. p x ≡ true) xs → list_all p xs ≡ true
 all_from p [] h = refl
 all_from p (x ∷ xs) h = let a = h.0 in rw a (all_from p xs h.1)
 

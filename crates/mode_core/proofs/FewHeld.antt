@@ -5,7 +5,7 @@ use Rattle.std.specs.List.{AllByRecursion}
 use Rattle.mc_task.specs.declared.task.Rule.{Rule}
 use Rattle.mc_task.specs.declared.task.Task.{Task}
 use Rattle.mc_task.specs.declared.task.JobId.{JobId}
-use Rattle.mc_task.specs.TaskSet.{IsSet, IsTask, IsIn, task_at}
+use Rattle.mc_task.specs.TaskSet.{AreTasks, IsTask, IsIn, task_at}
 use Rattle.mc_model.specs.declared.row.Row.{Row}
 use Rattle.mc_model.specs.TaskNumbers.{period_in}
 use Rattle.mc_model.specs.Rows.{ticks, next_release}
@@ -105,7 +105,7 @@ once set rule (j ∷ js) g s l k = go (once set rule js g s l.2 k) (j.task.0 == 
     go ih false m = rw m (omega (arith, ih))
 
 -- no more releases are held than the set has tasks
-pub held_few : (s : State) → IsSet s.set → Good s → length s.held ≤ length s.set
+pub held_few : (s : State) → AreTasks s.set → Good s → length s.held ≤ length s.set
 held_few s is good = go s.out refl
   where
     go : (o : Option JobId) → s.out ≡ o → length s.held ≤ length s.set

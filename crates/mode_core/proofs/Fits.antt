@@ -54,7 +54,7 @@ three true false c u v w p q r = cc
 three true true false u v w p q r = cc
 
 -- each test is itself
-same_bool-refl : (b : Bool) → same_bool b b ≡ true
+pub same_bool-refl : (b : Bool) → same_bool b b ≡ true
 same_bool-refl true = refl
 same_bool-refl false = refl
 

@@ -66,12 +66,6 @@ good_grant set rule places rows j s good e = record {
 pub good_outcome : (s : State) (done : Bool) → Good s → Good (record s { rows = settle s done; out = None; held = [] })
 good_outcome s done good = record { legal = good.settled done; out = refl; settled = λ d. good.settled done }
 
--- so does an idle tick
-pub good_idle : (set : List Task) (rule : Rule) (places : ℕ) (rows : List Row) → Good (state set rule places rows None []) → chosen set rule rows ≡ None → Good (state set rule places (Idle ∷ rows) None [])
-good_idle set rule places rows good e =
-    let l = idle_legal set rule rows good.legal (none_pending set rule rows e) in
-    record { legal = l; out = refl; settled = λ d. l }
-
 -- what no refusal says
 
 -- neither refusal applies

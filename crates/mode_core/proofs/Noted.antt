@@ -4,7 +4,7 @@ use Rattle.std.specs.Prelude.{unwrap_or}
 use Rattle.mc_task.specs.declared.task.Rule.{Rule}
 use Rattle.mc_task.specs.declared.task.Task.{Task}
 use Rattle.mc_task.specs.declared.task.JobId.{JobId}
-use Rattle.mc_task.specs.TaskSet.{IsSet, IsIn, task_at}
+use Rattle.mc_task.specs.TaskSet.{AreTasks, IsIn, task_at}
 use Rattle.mc_model.specs.declared.row.Row.{Row}
 use Rattle.mc_model.specs.declared.row.Row.TheVariants.{Release, Tick, Idle}
 use Rattle.mc_model.specs.TaskNumbers.{period_in}
@@ -63,5 +63,5 @@ next_known None notes k p = absurd (omega (arith, p))
 next_known (Some t) notes k p = refl
 
 -- by a state's notes a task of the set may be released from the same boundary
-pub next_noted : (s : State) (k : ℕ) → IsSet s.set → IsIn s.set k → next s.set (notes_of s) k ≡ Core.next s k
+pub next_noted : (s : State) (k : ℕ) → AreTasks s.set → IsIn s.set k → next s.set (notes_of s) k ≡ Core.next s k
 next_noted s k tasks inside = next_known (task_at s.set k) (notes_of s) k (known s.set k tasks.each inside).period ∙ next-held s.set s.rows s.held k

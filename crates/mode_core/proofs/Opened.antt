@@ -3,7 +3,7 @@ use Rattle.std.proofs.Common.{◌≡◌, ◌<◌, ◌^◌, List, [], ◌∷◌, 
 use Rattle.std.proofs.lemmas.List.{length-reverse}
 use Rattle.mc_task.specs.declared.task.Rule.{Rule}
 use Rattle.mc_task.specs.declared.task.Task.{Task}
-use Rattle.mc_task.specs.TaskSet.{IsSet}
+use Rattle.mc_task.specs.TaskSet.{AreTasks}
 use Rattle.mc_model.specs.declared.row.Row.{Row}
 use Rattle.mc_model.specs.Holds.{Fits, Holds}
 use Rattle.mc_model.specs.Legal.{Legal}
@@ -46,7 +46,7 @@ pub one_more_kept :
     (a b : Inside) (row : Row) → IsBook a → length a.rows.items < a.places → OneMore a b row → vec_capacity b.rows ≡ vec_capacity a.rows →
     IsTally a.live.set a.live.rule (row ∷ reverse a.rows.items) b.ticks b.live.high (waiting b.live) → IsBook b
 one_more_kept a b row k r m cap tally = record {
-  tasks = subst IsSet (sym m.set) k.tasks;
+  tasks = subst AreTasks (sym m.set) k.tasks;
   fits = subst Fits (sym m.rule) k.fits;
   holds = subst (λ (s : List Task). Holds s b.live.rule) (sym m.set) (subst (Holds a.live.set) (sym m.rule) k.holds);
   tally =

@@ -10,7 +10,7 @@ use Rattle.mode_core.proofs.Held.{IsSettled, settled_words}
 use Rattle.mode_core.proofs.Keep.{good_start, good_release, good_grant, good_outcome, no_held, neither, not_if, no_map}
 use Rattle.mc_task.specs.declared.task.Task.{Task}
 use Rattle.mc_task.specs.declared.task.Rule.{Rule}
-use Rattle.mc_task.specs.TaskSet.{IsSet, IsIn}
+use Rattle.mc_task.specs.TaskSet.{AreTasks, IsIn}
 use Rattle.mc_model.specs.Holds.{Fits, Holds}
 use Rattle.mode_core.proofs.Noted.{notes_settled}
 use Rattle.mc_model.specs.Rows.{ticks}
@@ -22,17 +22,6 @@ use Rattle.mc_model.proofs.Jobs.{job_eq}
 -- a place is left where not each is used
 pub room_left : (s : State) → IsSound s → is_full s ≡ false → places_used s < s.places
 room_left s k f = let n : places_used s ≢ s.places = eqb-false _ _ f in let r = k.room in omega (arith, n, r)
-
--- with no rows the state is sound
-pub sound_start : (set : List Task) (rule : Rule) (places : ℕ) → IsSet set → Fits rule → Holds set rule → places < 2 ^ 32 → IsSound (empty_state set rule places)
-sound_start set rule places tasks fits holds range = record {
-  tasks = tasks;
-  fits = fits;
-  holds = holds;
-  good = good_start set rule places;
-  range = range;
-  room = omega arith;
-}
 
 -- what no refusal of a release says
 pub record MayRelease (s : State) (k : ℕ) : Type 0 where

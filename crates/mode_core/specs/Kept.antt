@@ -2,7 +2,7 @@
 use Rattle.std.specs.Prelude.{◌≡◌, ℕ, ◌<◌, ◌≤◌, ◌^◌, ◌==◌, Bool, List, map, find, reverse, length, vec_capacity, Option, option_map}
 use Rattle.mc_task.specs.declared.task.Task.{Task}
 use Rattle.mc_task.specs.declared.task.Rule.{Rule}
-use Rattle.mc_task.specs.TaskSet.{IsSet, IsIn}
+use Rattle.mc_task.specs.TaskSet.{AreTasks, IsIn}
 use Rattle.mc_model.specs.declared.row.Row.{Row}
 use Rattle.mc_model.specs.Holds.{Fits, Holds}
 use Rattle.mc_model.specs.Legal.{Legal}
@@ -22,7 +22,7 @@ use Rattle.mode_core.specs.Written.{Written}
 
 -- what stands in the live jobs, by their fields
 abbrev pub slots_of : live_jobs.Inside → Slots
-slots_of a = record { set = a.set; rule = a.rule; high = a.high; jobs = a.jobs.items; ticks = a.used.ticks }
+slots_of a = record { set = a.set.tasks; rule = a.rule; high = a.high; jobs = a.jobs.items; ticks = a.used.ticks }
 
 -- the queue has the live job of each task, and no other
 abbrev pub AreQueued : List Task → Rule → Bool → List (Option LiveJob) → List Item → Type 0
@@ -30,13 +30,13 @@ AreQueued set rule high jobs items = (k : ℕ) → IsIn set k → item_of items 
 
 -- each task has a slot, a line of the ledger against its budgets, and a place in the queue, which has the live jobs
 pub record IsLiveJobs (a : live_jobs.Inside) : Type 0 where
-  pub tasks : IsSet a.set
+  pub tasks : AreTasks a.set.tasks
   pub fits : Fits a.rule
-  pub slots : length a.jobs.items ≡ length a.set
-  pub lines : length a.used.ticks ≡ length a.set
-  pub budgets : a.used.budgets ≡ map budget a.set
-  pub places : a.queue.places ≡ length a.set
-  pub queued : AreQueued a.set a.rule a.high a.jobs.items a.queue.items
+  pub slots : length a.jobs.items ≡ length a.set.tasks
+  pub lines : length a.used.ticks ≡ length a.set.tasks
+  pub budgets : a.used.budgets ≡ map budget a.set.tasks
+  pub places : a.queue.places ≡ length a.set.tasks
+  pub queued : AreQueued a.set.tasks a.rule a.high a.jobs.items a.queue.items
 
 -- what stands in the book, by its fields
 abbrev pub written : Inside → Written
@@ -55,7 +55,7 @@ pub record IsTally (set : List Task) (rule : Rule) (h : List Row) (clock : ℕ) 
 
 -- the rule holds for the set, the tally is of the rows, and there is room for all that will be written
 pub record IsBook (a : Inside) : Type 0 where
-  pub tasks : IsSet a.live.set
+  pub tasks : AreTasks a.live.set
   pub fits : Fits a.live.rule
   pub holds : Holds a.live.set a.live.rule
   pub tally : IsTally a.live.set a.live.rule (reverse a.rows.items) a.ticks a.live.high (waiting a.live)

@@ -1,7 +1,7 @@
 -- How a core is kept.
 use Rattle.std.specs.Prelude.{◌≡◌, ◌<◌, ◌≤◌, ◌^◌, length, reverse, vec_capacity}
 use Rattle.mode_core.specs.declared.scheduler.Core.TheInside.{Inside}
-use Rattle.mc_task.specs.TaskSet.{IsSet}
+use Rattle.mc_task.specs.TaskSet.{AreTasks}
 use Rattle.mc_model.specs.Holds.{Fits, Holds}
 use Rattle.mc_model.specs.Core.{State, Good, places_used}
 use Rattle.arrivals.specs.Arrived.{arrived}
@@ -13,7 +13,7 @@ state_of a = record { set = a.book.set; rule = a.book.rule; places = a.book.plac
 
 -- what holds of the state of every core
 pub record IsSound (s : State) : Type 0 where
-  pub tasks : IsSet s.set
+  pub tasks : AreTasks s.set
   pub fits : Fits s.rule
   pub holds : Holds s.set s.rule
   pub good : Good s

@@ -3,7 +3,7 @@ ghost use Rattle.std.specs.Prelude.{◌≡◌, ◌<◌, ◌≤◌, ◌^◌, ◌�
 ghost use Rattle.mc_model.specs.declared.row.Row.TheVariants as row;
 ghost use Rattle.mode_core.specs.Entries.{entry};
 ghost use Rattle.mc_model.specs.Holds.{Fits, Holds};
-ghost use Rattle.mc_task.specs.TaskSet.{IsSet};
+ghost use Rattle.mc_task.specs.TaskSet.{AreTasks};
 ghost use Rattle.mc_model.specs.Legal.{Legal};
 ghost use Rattle.mc_model.specs.Rows.{ticks};
 ghost use Rattle.mc_model.specs.Mode.{high_mode};
@@ -42,21 +42,18 @@ impl Book {
     /// A book with no rows, and with memory for all that will be written.
     pub fn new(alloc: Global, set: TaskSet, rule: Rule, places: usize) -> Result<Book, Memory>
         requires fits { Fits rule }
-        requires holds { Holds set rule }
+        requires holds { Holds set.tasks rule }
         requires places { places < 2 ^ 32 }
-        ensures { IfOk result (λ book. book ≡ record { set = set; rule = rule; places = places; rows = [] }) }
+        ensures { IfOk result (λ book. book ≡ record { set = set.tasks; rule = rule; places = places; rows = [] }) }
     {
-        let _count = set.len();
         let live = LiveJobs::new(alloc, set, rule)?;
-        match Vec::with_capacity(alloc, places) {
-            Ok(rows) => Ok(Book {
-                places,
-                rows,
-                ticks: 0,
-                live,
-            }),
-            Err(_) => Err(Memory),
-        }
+        let rows = Vec::with_capacity(alloc, places)?;
+        Ok(Book {
+            places,
+            rows,
+            ticks: 0,
+            live,
+        })
     }
 
     /// The rows, the oldest first.
@@ -141,8 +138,8 @@ impl Book {
 
     /// The task set.
     pub fn set(&self) -> &TaskSet
-        ensures value { result.now ≡ self.now.set }
-        ensures tasks { IsSet self.now.set }
+        ensures value { result.now.tasks ≡ self.now.set }
+        ensures tasks { AreTasks self.now.set }
     {
         self.live.set()
     }

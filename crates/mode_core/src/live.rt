@@ -1,6 +1,6 @@
 // The live job of each task, and which of them runs first.
 ghost use Rattle.std.specs.Prelude.{◌≡◌, ◌<◌, ◌≤◌, ◌^◌, ◌&&◌, ◌==◌, ℕ, not, length, replicate, cond, false, option_map, Some, None, IfOk, IfSome, IfNone};
-ghost use Rattle.mc_task.specs.TaskSet.{IsSet, IsIn, task_at};
+ghost use Rattle.mc_task.specs.TaskSet.{AreTasks, IsIn, task_at};
 ghost use Rattle.mc_model.specs.Holds.{Fits};
 ghost use Rattle.mc_model.specs.TaskNumbers.{is_high_in, own_in};
 ghost use Rattle.mc_model.specs.Mode.{is_virtual};
@@ -51,21 +51,20 @@ impl LiveJobs {
     /// No live job of any task, in low mode. Only this call takes memory.
     pub fn new(alloc: Global, set: TaskSet, rule: Rule) -> Result<LiveJobs, Memory>
         requires { Fits rule }
-        ensures { IfOk result (λ live. live ≡ free_slots set rule) }
+        ensures state { IfOk result (λ live. live ≡ free_slots set.tasks rule) }
+        ensures tasks { IfOk result (λ live. AreTasks live.set) }
     {
         let queue = ReadyQueue::new(alloc, set.len())?;
         let used = Used::new(alloc, &set)?;
-        match no_jobs(alloc, set.len() as usize) {
-            Ok(jobs) => Ok(LiveJobs {
-                set,
-                rule,
-                high: false,
-                jobs,
-                queue,
-                used,
-            }),
-            Err(_) => Err(Memory),
-        }
+        let jobs = no_jobs(alloc, set.len() as usize)?;
+        Ok(LiveJobs {
+            set,
+            rule,
+            high: false,
+            jobs,
+            queue,
+            used,
+        })
     }
 
     /// The job becomes the live one of its task, released at this boundary.
@@ -156,8 +155,8 @@ impl LiveJobs {
 
     /// The task set.
     pub fn set(&self) -> &TaskSet
-        ensures value { result.now ≡ self.now.set }
-        ensures tasks { IsSet self.now.set }
+        ensures value { result.now.tasks ≡ self.now.set }
+        ensures tasks { AreTasks self.now.set }
     {
         &self.set
     }
@@ -216,7 +215,7 @@ fn outcome(reached: Spent, may_switch: bool, done: bool) -> How
 // Clears the slots of the low tasks.
 fn clear_low(jobs: &mut [Option<LiveJob>], set: &TaskSet)
     requires { length jobs.old ≤ 128 }
-    ensures { (k : ℕ) → 1 ≤ k → job_at jobs.new k ≡ cond (is_high_in (task_at set.now k)) (job_at jobs.old k) None }
+    ensures { (k : ℕ) → 1 ≤ k → job_at jobs.new k ≡ cond (is_high_in (task_at set.now.tasks k)) (job_at jobs.old k) None }
 {
     for k in 0..jobs.len() {
         jobs[k] = if_high(set, TaskNo(k as u32 + 1), jobs[k]);
@@ -225,7 +224,7 @@ fn clear_low(jobs: &mut [Option<LiveJob>], set: &TaskSet)
 
 // The job, where the task is a high one.
 fn if_high(set: &TaskSet, task: TaskNo, job: Option<LiveJob>) -> Option<LiveJob>
-    ensures { result ≡ cond (is_high_in (task_at set.now task.0)) job None }
+    ensures { result ≡ cond (is_high_in (task_at set.now.tasks task.0)) job None }
 {
     if is_high(set, task) { job } else { None }
 }

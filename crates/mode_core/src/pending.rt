@@ -19,7 +19,7 @@ pub struct Pending {
 
 /// Whether the task is a high one.
 pub fn is_high(set: &TaskSet, task: TaskNo) -> bool
-    ensures { result ≡ is_high_in (task_at set.now task.0) }
+    ensures { result ≡ is_high_in (task_at set.now.tasks task.0) }
 {
     match set.get(task) {
         Some(t) => t.level == Level::High,
@@ -30,9 +30,9 @@ pub fn is_high(set: &TaskSet, task: TaskNo) -> bool
 /// What the queue holds of the task's job that was released at this boundary.
 pub fn item(set: &TaskSet, rule: Rule, high: bool, task: TaskNo, release: u64) -> Item
     requires fits { Fits rule }
-    requires in_set { IsIn set.now task.0 }
+    requires in_set { IsIn set.now.tasks task.0 }
     requires range { release ≤ 2 ^ 62 }
-    ensures { result ≡ item set.now rule high task.0 release }
+    ensures { result ≡ item set.now.tasks rule high task.0 release }
 {
     match set.get(task) {
         Some(t) => Item {

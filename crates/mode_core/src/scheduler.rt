@@ -50,16 +50,13 @@ impl Core {
     /// takes memory.
     pub fn new(alloc: Global, set: TaskSet, rule: Rule, places: usize) -> Result<Core, Memory>
         requires fits { Fits rule }
-        requires holds { Holds set rule }
+        requires holds { Holds set.tasks rule }
         requires places { places < 2 ^ 32 }
-        ensures state { IfOk result (λ core. core ≡ empty_state set rule places) }
+        ensures state { IfOk result (λ core. core ≡ empty_state set.tasks rule places) }
         ensures timely { IfOk result IsTimely }
     {
-        let count = set.len() as usize;
         let arrivals = Arrivals::new(alloc, &set)?;
-        let Ok(held) = Vec::with_capacity(alloc, count) else {
-            return Err(Memory);
-        };
+        let held = Vec::with_capacity(alloc, set.len() as usize)?;
         let book = Book::new(alloc, set, rule, places)?;
         Ok(Core {
             book,
@@ -132,7 +129,7 @@ impl Core {
 
     /// The task set.
     pub fn set(&self) -> &TaskSet
-        ensures { result.now ≡ self.now.set }
+        ensures { result.now.tasks ≡ self.now.set }
     {
         self.book.set()
     }

@@ -10,7 +10,7 @@ use std::test::Fail;
 
 // A high task with period 10 and budgets 2 and 6, and a low one with period 10 and budget 5.
 fn control(alloc: Global) -> Option<TaskSet>
-    ensures { IfSome result (λ set. Holds set (Virtual 2 5)) }
+    ensures { IfSome result (λ set. Holds set.tasks (Virtual 2 5)) }
 {
     let ctl = Task {
         name: Name::new(b"ctl")?,

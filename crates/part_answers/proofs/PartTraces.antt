@@ -8,7 +8,7 @@ use Rattle.mc_task.specs.declared.task.Rule.{Rule}
 use Rattle.mc_model.specs.declared.row.Row.{Row}
 use Rattle.mc_model.specs.declared.work.WorkRow.{WorkRow}
 use Rattle.mc_model.specs.Core.{State}
-use Rattle.mc_model.specs.Test.{test}
+use Rattle.mc_model.specs.Test.{published}
 use Rattle.mc_model.specs.Follows.{Follows}
 use Rattle.mc_model.specs.TraceText.{trace_text}
 use Rattle.timetable.specs.declared.plan.Plan.{Plan}

@@ -6,6 +6,6 @@ use Rattle.part_answers.specs.declared.parted.Parted.{Parted as Given}
 
 -- the set and the processors of its tasks: each is on one, and the tasks of each are admitted
 pub record IsParted (m : ℕ) (parted : Parted) (given : Given) : Type 0 where
-  pub set : given.set ≡ parted.set
+  pub set : given.set.tasks ≡ parted.set
   pub of : given.parts ≡ parted.of
   pub admitted : IsPartition parted.set parted.of m

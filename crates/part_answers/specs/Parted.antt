@@ -8,7 +8,7 @@ use Rattle.replies.specs.Refusal.{Refusal, NoRoom}
 use Rattle.replies.specs.Reading.{◌>>=◌, or_refuse}
 use Rattle.task_answers.specs.Admitted.{set_in}
 
--- a set, and the processor of each of its tasks
+-- the tasks of a set, and the processor of each of them
 pub record Parted : Type 0 where
   pub set : List Task
   pub of : List ℕ
@@ -27,8 +27,8 @@ fitted m set = do
   of ← or_refuse (λ k. NoRoom (name_in (task_at set k)) m) (first_fit set m)
   Ok (spread set of)
 
--- the set that a task file says, on processors 1 to m by first fit
+-- the tasks of the set that a task file says, on processors 1 to m by first fit
 abbrev pub parted : ℕ → List ℕ → Result Parted Refusal
 parted m bytes = do
   set ← set_in bytes
-  fitted m set
+  fitted m set.tasks

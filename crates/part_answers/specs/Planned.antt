@@ -3,7 +3,7 @@ use Rattle.std.specs.Prelude.{◌≡◌, ℕ, ◌≤◌, List, length, Some, fil
 use Rattle.std.specs.List.{range_with_len, AllZip}
 use Rattle.mc_task.specs.declared.task.Task.{Task}
 use Rattle.mc_model.specs.declared.work.WorkRow.{WorkRow}
-use Rattle.mc_model.specs.Test.{test}
+use Rattle.mc_model.specs.Test.{published}
 use Rattle.mc_model.specs.Work.{IsWork}
 use Rattle.timetable.specs.declared.plan.Plan.TheVariants.{Rows}
 use Rattle.timetable.specs.Floor.{FloorState}
@@ -17,12 +17,12 @@ use Rattle.part_answers.specs.declared.run_parts.RunAllJob.{RunAllJob}
 
 -- the set and the processors of its tasks
 abbrev pub parted_of : Given → Parted
-parted_of given = spread given.set given.parts
+parted_of given = spread given.set.tasks given.parts
 
 -- each task is on one processor from 1 to m, the tasks of each are admitted, and the work is for the set
 pub record IsRunAllJob (m : ℕ) (job : RunAllJob) : Type 0 where
-  pub admitted : IsPartition job.parted.set job.parted.parts m
-  pub is_work : IsWork job.parted.set job.work
+  pub admitted : IsPartition job.parted.set.tasks job.parted.parts m
+  pub is_work : IsWork job.parted.set.tasks job.work
 
 -- the numbers in the whole set of the tasks on processor n
 abbrev pub numbers_on : ℕ → List ℕ → ℕ → List ℕ
@@ -32,7 +32,7 @@ numbers_on n of k = filter (is_on n of) (range_with_len 1 k)
 -- of so many ticks
 pub record IsPlanned (set : List Task) (work : List WorkRow) (ticks : ℕ) (floor : FloorState) : Type 0 where
   pub tasks : floor.core.set ≡ set
-  pub test : test set ≡ Some floor.core.rule
+  pub test : published set ≡ Some floor.core.rule
   pub plan : floor.plan ≡ Rows work ticks
   pub fresh : IsFresh floor
   pub few : floor.core.places ≤ 2000000

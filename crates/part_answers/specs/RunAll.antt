@@ -4,7 +4,7 @@ use Rattle.std.specs.List.{range_with_len, AllZip}
 use Rattle.mc_task.specs.declared.task.Rule.{Rule}
 use Rattle.mc_model.specs.declared.row.Row.{Row}
 use Rattle.mc_model.specs.declared.work.WorkRow.{WorkRow}
-use Rattle.mc_model.specs.Test.{test}
+use Rattle.mc_model.specs.Test.{published}
 use Rattle.mc_model.specs.Follows.{Follows}
 use Rattle.mc_model.specs.TraceText.{trace_text}
 use Rattle.part_fit.specs.PartWork.{part_rows}
@@ -26,7 +26,7 @@ used m parted = filter (is_used parted) (range_with_len 1 m)
 -- them, and their work. Its newest row stands first here.
 pub record IsTraceOn (ticks : ℕ) (parted : Parted) (work : List WorkRow) (n : ℕ) (h : List Row) : Type 0 where
   pub rule : Rule
-  pub test : test (tasks_on parted n) ≡ Some rule
+  pub test : published (tasks_on parted n) ≡ Some rule
   pub follows : Follows (tasks_on parted n) rule (part_rows n parted.of work) ticks h
 
 -- what is written of a processor and its trace

@@ -3,7 +3,7 @@ ghost use Rattle.std.specs.Prelude.{◌≡◌, ◌≤◌, ◌+◌, ◌++◌, ◌
 ghost use Rattle.mc_task.specs.declared.task.TaskNo.{TaskNo};
 ghost use Rattle.mc_model.specs.Holds.{Fits, Holds};
 ghost use Rattle.mc_model.specs.Loads.{IsWithinRange};
-ghost use Rattle.mc_model.specs.Test.{test};
+ghost use Rattle.mc_model.specs.Test.{published};
 ghost use Rattle.mc_model.specs.Work.{IsWork};
 ghost use Rattle.part_fit.specs.Parts.{part_of};
 ghost use Rattle.part_fit.specs.Partition.{IsPartition, IsAdmittedPart};
@@ -36,8 +36,8 @@ pub fn floors_of(
     ticks: u64,
     processors: u32,
 ) -> Result<PartFloors, AllocError>
-    requires parted { IsPartition parted.now.set parted.now.parts processors }
-    requires work { IsWork parted.now.set work.now }
+    requires parted { IsPartition parted.now.set.tasks parted.now.parts processors }
+    requires work { IsWork parted.now.set.tasks work.now }
     requires ticks { (1 ≤ ticks) × (ticks ≤ 1000000) }
     requires few { processors ≤ 16 }
     ensures used { IfOk result (λ parts. parts.used.items ≡ used processors (parted_of parted.now)) }
@@ -73,8 +73,8 @@ impl PartFloors {
         ticks: u64,
         processor: u32,
     ) -> Result<(), AllocError>
-        requires parted { (m : ℕ) × IsPartition parted.now.set parted.now.parts m }
-        requires work { IsWork parted.now.set work.now }
+        requires parted { (m : ℕ) × IsPartition parted.now.set.tasks parted.now.parts m }
+        requires work { IsWork parted.now.set.tasks work.now }
         requires ticks { (1 ≤ ticks) × (ticks ≤ 1000000) }
         requires planned { ArePlanned ticks (parted_of parted.now) work.now self.old }
         ensures used { OnOk result (self.new.used.items ≡ self.old.used.items ++ filter (is_used (parted_of parted.now)) (processor ∷ [])) }
@@ -105,11 +105,11 @@ fn floor_on(
     processor: u32,
     tasks: TaskSet,
 ) -> Result<Floor, AllocError>
-    requires parts { length parted.now.parts ≡ length parted.now.set }
-    requires work { IsWork parted.now.set work.now }
+    requires parts { length parted.now.parts ≡ length parted.now.set.tasks }
+    requires work { IsWork parted.now.set.tasks work.now }
     requires ticks { (1 ≤ ticks) × (ticks ≤ 1000000) }
-    requires tasks { tasks ≡ part_of parted.now.set parted.now.parts processor }
-    requires admitted { IsAdmittedPart tasks }
+    requires tasks { tasks.tasks ≡ part_of parted.now.set.tasks parted.now.parts processor }
+    requires admitted { IsAdmittedPart tasks.tasks }
     ensures { IfOk result (IsPlannedOn ticks (parted_of parted.now) work.now processor) }
 {
     let _is_set = tasks.len();
@@ -121,11 +121,11 @@ fn floor_on(
 
 // The floor of these tasks under their rule, with a place for each tick and each row of the work.
 fn planned(alloc: Global, set: TaskSet, work: Work, ticks: u64) -> Result<Floor, AllocError>
-    requires range { IsWithinRange set }
-    requires admitted { IsSome (test set) }
-    requires work { IsWork set work }
+    requires range { IsWithinRange set.tasks }
+    requires admitted { IsSome (published set.tasks) }
+    requires work { IsWork set.tasks work }
     requires ticks { (1 ≤ ticks) × (ticks ≤ 1000000) }
-    ensures { IfOk result (IsPlanned set work ticks) }
+    ensures { IfOk result (IsPlanned set.tasks work ticks) }
 {
     let rule = rule_of(&set);
     let places = ticks as usize + work.rows().len();
@@ -137,11 +137,11 @@ fn planned(alloc: Global, set: TaskSet, work: Work, ticks: u64) -> Result<Floor,
 
 // The rule that the published test gives a set that it admits.
 fn rule_of(set: &TaskSet) -> Rule
-    requires range { IsWithinRange set.now }
-    requires admitted { IsSome (test set.now) }
-    ensures test { test set.now ≡ Some result }
+    requires range { IsWithinRange set.now.tasks }
+    requires admitted { IsSome (published set.now.tasks) }
+    ensures test { published set.now.tasks ≡ Some result }
     ensures fits { Fits result }
-    ensures holds { Holds set.now result }
+    ensures holds { Holds set.now.tasks result }
 {
     match sum_loads(set) {
         Ok(loads) => admit(&loads).unwrap(),

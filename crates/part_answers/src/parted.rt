@@ -34,7 +34,7 @@ pub fn read_parted(
 
 fn fitted(alloc: Global, set: TaskSet, processors: u32) -> Result<Result<Parted, Reply>, AllocError>
     requires { (1 ≤ processors) × (processors ≤ 16) }
-    ensures { IfOk result (Gives (IsParted processors) (fitted processors set)) }
+    ensures { IfOk result (Gives (IsParted processors) (fitted processors set.tasks)) }
 {
     match fit(alloc, &set, processors) {
         Ok(parts) => Ok(Ok(Parted { set, parts })),

@@ -4,7 +4,7 @@ ghost use Rattle.part_answers.specs.Partition as spec;
 ghost use Rattle.part_answers.specs.Planned.{parted_of};
 
 use crate::parted::{Parted, read_parted};
-use mc_task::{TaskNo, TaskSet};
+use mc_task::Task;
 use part_fit::part;
 use replies::Reply;
 use serving::{Command, Next, Served};
@@ -58,7 +58,7 @@ impl<'a> Command for Partition<'a> {
 
 // The lines of the processors.
 fn partition_text(alloc: Global, parted: &Parted, processors: u32) -> Result<Vec<u8>, AllocError>
-    requires tasks { length parted.now.parts ≡ length parted.now.set }
+    requires tasks { length parted.now.parts ≡ length parted.now.set.tasks }
     requires few { processors ≤ 16 }
     ensures { IfOk result (λ text. text.items ≡ spec.partition_text processors (parted_of parted.now)) }
 {
@@ -71,12 +71,12 @@ fn partition_text(alloc: Global, parted: &Parted, processors: u32) -> Result<Vec
 
 // The processor, and the names of its tasks.
 fn processor_line(alloc: Global, parted: &Parted, processor: u32) -> Result<Vec<u8>, AllocError>
-    requires { length parted.now.parts ≡ length parted.now.set }
+    requires { length parted.now.parts ≡ length parted.now.set.tasks }
     ensures { IfOk result (λ line. line.items ≡ spec.processor_line (parted_of parted.now) processor) }
 {
     let mut line = format!(in alloc; "processor {processor}")?.into_bytes();
     match part(alloc, &parted.set, &parted.parts, processor) {
-        Ok(Some(tasks)) => add_names(&mut line, &tasks)?,
+        Ok(Some(tasks)) => add_names(&mut line, tasks.as_slice())?,
         Ok(None) => {}
         Err(_) => return Err(AllocError),
     }
@@ -85,12 +85,10 @@ fn processor_line(alloc: Global, parted: &Parted, processor: u32) -> Result<Vec<
 }
 
 // Adds the names of the tasks, each behind a space.
-fn add_names(line: &mut Vec<u8>, tasks: &TaskSet) -> Result<(), AllocError>
+fn add_names(line: &mut Vec<u8>, tasks: &[Task]) -> Result<(), AllocError>
     ensures { OnOk result (line.new.items ≡ line.old.items ++ spec.spaced_names tasks.now) }
 {
-    let count = tasks.len();
-    for i in 0..count {
-        let task = tasks.get(TaskNo(i + 1)).unwrap();
+    for task in tasks {
         line.push(b' ')?;
         line.extend_from_slice(task.name.bytes())?;
     }

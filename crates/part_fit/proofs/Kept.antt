@@ -1,21 +1,25 @@
 -- The loads of the processors while the tasks are placed.
 use Rattle.std.proofs.Common.{◌≡◌, ◌≢◌, ℕ, suc, ◌<◌, inl, inr, cond, List, [], ◌∷◌, ◌++◌, length, replicate, get_or, slice_get, slice_set, slice_index_or, Some, refl, sym, ap, subst, ◌∙◌, arith, length-set, get_or-set_same, get_or-set_other}
 use Rattle.std.proofs.lemmas.Bool.Decides.{eqb_tells}
-use Rattle.std.proofs.lemmas.Option.{slice_get_within, slice_get-get_or}
+use Rattle.std.proofs.lemmas.Option.{slice_get_within, slice_get-get_or, slice_get_read}
 use Rattle.std.proofs.lemmas.List.{get_or-replicate, length-replicate}
 use Rattle.mc_task.specs.declared.task.Task.{Task}
-use Rattle.mc_task.specs.TaskSet.{IsSet}
+use Rattle.mc_task.specs.TaskSet.{AreTasks}
 use Rattle.mc_model.specs.Loads.{lcm_from}
 use Rattle.load_sum.specs.declared.loads.Loads.{Loads}
 use Rattle.part_fit.specs.Parts.{part_of}
 use Rattle.part_fit.specs.KeptLoads.{no_loads, AreLoadsOf, AreSmall, IsNext, AreKept, IsToPlace}
-use Rattle.part_fit.proofs.Sublists.{part_of-none, part_of-more, with_next-IsSet}
+use Rattle.part_fit.proofs.Sublists.{part_of-none, part_of-more, with_next-AreTasks}
 
 some_same : {X : Type 0} (x y : X) → Some x ≡ Some y → x ≡ y
 some_same x y h = cc h
 
+-- the task that is read at a place of the tasks of a set
+pub at-place : (set tasks : List Task) (i : ℕ) (t : Task) → tasks ≡ set → i < length tasks → t ≡ get_or tasks i t → slice_get set i ≡ Some t
+at-place set tasks i t same inside is = ap (λ ts. slice_get ts i) (sym same) ∙ slice_get_read tasks (length tasks) i t refl inside is
+
 -- the task at the place behind those that have their processors
-pub to-place : (set : List Task) (of : List ℕ) (all now : List Loads) (t : Task) (i : ℕ) → IsSet set → length of ≡ i → slice_get set i ≡ Some t → AreKept set of all → now ≡ all
+pub to-place : (set : List Task) (of : List ℕ) (all now : List Loads) (t : Task) (i : ℕ) → AreTasks set → length of ≡ i → slice_get set i ≡ Some t → AreKept set of all → now ≡ all
     → IsToPlace set of now t
 to-place set of all now t i are long next kept same =
     subst (λ ls. IsToPlace set of ls t) (sym same) (record { are = are; next = subst (λ k. slice_get set k ≡ Some t) (sym long) next; kept = kept })
@@ -25,7 +29,7 @@ pub place-next : (set : List Task) (of : List ℕ) (all : List Loads) (t : Task)
     → IsNext (part_of set of (suc i)) (slice_index_or all i d) t × AreSmall (slice_index_or all i d)
 place-next set of all t i d here inside =
     let own = here.kept i (slice_index_or all i d) (slice_get-get_or all i d inside) in
-    (record { have = own.0; together = with_next-IsSet set of (suc i) t here.are here.next }, own.1)
+    (record { have = own.0; together = with_next-AreTasks set of (suc i) t here.are here.next }, own.1)
 
 no_loads-AreLoadsOf : AreLoadsOf [] no_loads
 unfolding lcm_from

@@ -7,18 +7,18 @@ use Rattle.std.proofs.lemmas.Bool.Decides.{leb_tells}
 use Rattle.std.proofs.Math.Nat.{mul-div_cancel', le_of_mul-le-mul_right}
 use Rattle.mc_task.specs.declared.task.Task.{Task}
 use Rattle.mc_task.specs.declared.task.Rule.{Rule}
-use Rattle.mc_task.specs.TaskSet.{IsSet, IsTask}
+use Rattle.mc_task.specs.TaskSet.{AreTasks, IsTask}
 use Rattle.tick_frac.specs.Numbers.{lcm}
 use Rattle.tick_frac.proofs.Multiples.{dvd-lcm_first, lcm-pos}
 use Rattle.mc_model.specs.Loads.{load, lcm_from, hyperperiod, most_lcm, low_low, high_low, high_high}
-use Rattle.mc_model.specs.Test.{rule_of, test}
+use Rattle.mc_model.specs.Test.{rule_of, published}
 use Rattle.mc_model.proofs.Hyperperiod.{periods-dvd}
 use Rattle.mc_model.proofs.Loads.{load_scaled}
 use Rattle.mc_model.proofs.RuleCases.{rule_of-cases}
 use Rattle.load_sum.specs.declared.loads.Loads.{Loads}
 use Rattle.load_sum.specs.Belong.{BelongTo}
 use Rattle.load_sum.proofs.BelongTo.{BelongTo-from_sums}
-use Rattle.admission.proofs.Sets.{rule_of-test, high_low-most}
+use Rattle.admission.proofs.Sets.{rule_of-published, high_low-most}
 use Rattle.part_fit.specs.FirstFit.{fits}
 use Rattle.part_fit.specs.KeptLoads.{AreLoadsOf, AreSmall, load_over, with_task, IsNext}
 
@@ -56,7 +56,7 @@ with_task-AreLoadsOf tasks loads t have =
       high_high = sum-more high_high n m tasks t loads.high_high each divides have.high_high;
     }
 
-pub AreLoadsOf-BelongTo : (tasks : List Task) (loads : Loads) → IsSet tasks → 0 < loads.lcm → loads.lcm ≤ most_lcm → AreLoadsOf tasks loads → BelongTo tasks loads
+pub AreLoadsOf-BelongTo : (tasks : List Task) (loads : Loads) → AreTasks tasks → 0 < loads.lcm → loads.lcm ≤ most_lcm → AreLoadsOf tasks loads → BelongTo tasks loads
 AreLoadsOf-BelongTo tasks loads set above within have = BelongTo-from_sums tasks loads set have.lcm above within have.low_low have.high_low have.high_high
 
 -- where the test admits a/n and c/n, neither is above 1
@@ -71,9 +71,9 @@ most n a b c (Some rule) h some =
           (omega (arith, low), le_of_mul-le-mul_right scaled (omega (arith, low)))
     ]
 
-pub admitted-AreSmall : (tasks : List Task) (loads : Loads) → BelongTo tasks loads → is_some (test tasks) ≡ true → AreSmall loads
+pub admitted-AreSmall : (tasks : List Task) (loads : Loads) → BelongTo tasks loads → is_some (published tasks) ≡ true → AreSmall loads
 admitted-AreSmall tasks loads belong some =
-    let within = most loads.lcm loads.low_low loads.high_low loads.high_high (test tasks) (rule_of-test tasks loads belong) some in
+    let within = most loads.lcm loads.low_low loads.high_low loads.high_high (published tasks) (rule_of-published tasks loads belong) some in
     let order = high_low-most tasks loads belong in
     record {
       above = belong.above;
@@ -84,16 +84,16 @@ admitted-AreSmall tasks loads belong some =
     }
 
 -- what fits is within range and admitted
-pub fits-admitted : (tasks : List Task) (b : Bool) → hyperperiod tasks ≤ most_lcm → is_some (test tasks) ≡ b → fits tasks ≡ b
+pub fits-admitted : (tasks : List Task) (b : Bool) → hyperperiod tasks ≤ most_lcm → is_some (published tasks) ≡ b → fits tasks ≡ b
 unfolding fits
-fits-admitted tasks b within is = ap (λ d. d && is_some (test tasks)) (le-leb (hyperperiod tasks) most_lcm within) ∙ is
+fits-admitted tasks b within is = ap (λ d. d && is_some (published tasks)) (le-leb (hyperperiod tasks) most_lcm within) ∙ is
 
 pub fits-out_of_range : (tasks : List Task) → most_lcm < hyperperiod tasks → fits tasks ≡ false
 unfolding fits
 fits-out_of_range tasks past =
     elim (leb_tells (hyperperiod tasks) most_lcm) [
       | inl t ↦ absurd (omega (arith, t.1, past))
-      | inr t ↦ ap (λ b. b && is_some (test tasks)) t.0
+      | inr t ↦ ap (λ b. b && is_some (published tasks)) t.0
     ]
 
 -- the last task of a set

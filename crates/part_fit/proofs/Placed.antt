@@ -7,14 +7,14 @@ use Rattle.std.proofs.lemmas.List.{drop_all}
 use Rattle.std.proofs.lemmas.Option.{slice_get_within}
 use Rattle.std.proofs.lemmas.Bool.Decides.{eqb_tells, leb_tells}
 use Rattle.mc_task.specs.declared.task.Task.{Task}
-use Rattle.mc_task.specs.TaskSet.{IsSet}
+use Rattle.mc_task.specs.TaskSet.{AreTasks}
 use Rattle.mc_model.specs.Loads.{hyperperiod, most_lcm, IsWithinRange}
-use Rattle.mc_model.specs.Test.{test}
+use Rattle.mc_model.specs.Test.{published}
 use Rattle.mc_model.proofs.Walk.{drop_at}
 use Rattle.part_fit.specs.Parts.{part_of}
 use Rattle.part_fit.specs.FirstFit.{fits, takes, processor_for, placed, first_fit}
 use Rattle.part_fit.specs.Partition.{IsAdmittedPart, IsPartition}
-use Rattle.part_fit.proofs.Sublists.{part_of-none, part_of-more, part_of-IsSet}
+use Rattle.part_fit.proofs.Sublists.{part_of-none, part_of-more, part_of-AreTasks}
 use Rattle.part_fit.proofs.Least.{find-IsFound}
 use Rattle.part_fit.proofs.OnOne.{IsProcessor, each-on_one}
 
@@ -41,10 +41,10 @@ and_both true true h = (refl, refl)
 and_both true false h = absurd (cc h)
 and_both false d h = absurd (cc h)
 
-pub fits-parts : (tasks : List Task) → fits tasks ≡ true → IsWithinRange tasks × (is_some (test tasks) ≡ true)
+pub fits-parts : (tasks : List Task) → fits tasks ≡ true → IsWithinRange tasks × (is_some (published tasks) ≡ true)
 unfolding fits
 fits-parts tasks h =
-    let two = and_both (nat_le (hyperperiod tasks) most_lcm) (is_some (test tasks)) h in
+    let two = and_both (nat_le (hyperperiod tasks) most_lcm) (is_some (published tasks)) h in
     elim (leb_tells (hyperperiod tasks) most_lcm) [
       | inl t ↦ (t.1, two.1)
       | inr t ↦ absurd (cc (t.0, two.0))
@@ -59,7 +59,7 @@ each-more : (m p : ℕ) (of : List ℕ) → AllByRecursion (IsProcessor m) of �
 each-more m p [] h one = (one, tt)
 each-more m p (q ∷ of) h one = (h.0, each-more m p of h.1 one)
 
-more-placed : (set : List Task) (m n : ℕ) (of : List ℕ) (t : Task) → IsSet set → slice_get set (length of) ≡ Some t → processor_for set of t m ≡ Some n
+more-placed : (set : List Task) (m n : ℕ) (of : List ℕ) (t : Task) → AreTasks set → slice_get set (length of) ≡ Some t → processor_for set of t m ≡ Some n
     → IsPlaced set m of → IsPlaced set m (of ++ n ∷ [])
 more-placed set m n of t is task found so_far =
     let least = find-IsFound (takes set of t) m 1 n found in
@@ -72,8 +72,8 @@ more-placed set m n of t is task found so_far =
                 let here : part_of set (of ++ n ∷ []) k ≡ part_of set of n ++ t ∷ [] = more ∙ (rw (same.0, same.1) refl) in
                 let range = fits-parts (part_of set of n ++ t ∷ []) least.passes in
                 let long : length (part_of set (of ++ n ∷ []) k) ≡ length (part_of set of n) + 1 = ap length here ∙ length-append (part_of set of n) (t ∷ []) in
-                let own = part_of-IsSet set (of ++ n ∷ []) k is (omega (arith, long)) in
-                inr (own, subst (λ ts. IsWithinRange ts) (sym here) range.0, subst (λ ts. is_some (test ts) ≡ true) (sym here) range.1)
+                let own = part_of-AreTasks set (of ++ n ∷ []) k is (omega (arith, long)) in
+                inr (own, subst (λ ts. IsWithinRange ts) (sym here) range.0, subst (λ ts. is_some (published ts) ≡ true) (sym here) range.1)
             | inr other ↦
                 let here : part_of set (of ++ n ∷ []) k ≡ part_of set of k = more ∙ (rw other.0 refl) in
                 subst (λ ts. IsAdmittedPart ts) (sym here) (so_far.admitted k)
@@ -106,7 +106,7 @@ decided : (set : List Task) (m : ℕ) (ts : List Task) (of all : List ℕ) (o : 
 decided set m ts of all None h later = absurd (cc h)
 decided set m ts of all (Some n) h later = later n refl h
 
-whole : (set : List Task) (m : ℕ) (ts : List Task) (of all : List ℕ) → IsSet set → drop (length of) set ≡ ts → length of ≤ length set → IsPlaced set m of → placed set m ts of ≡ Ok all
+whole : (set : List Task) (m : ℕ) (ts : List Task) (of all : List ℕ) → AreTasks set → drop (length of) set ≡ ts → length of ≤ length set → IsPlaced set m of → placed set m ts of ≡ Ok all
     → IsWhole set m all
 unfolding placed
 whole set m [] of all is left within so_far h =
@@ -119,7 +119,7 @@ whole set m (t ∷ ts) of all is left within so_far h =
     let inside : length of < length set = slice_get_within set (length of) t first.0 in
     whole set m ts (of ++ n ∷ []) all is (ap (λ k. drop k set) long ∙ first.1) (omega (arith, long, inside)) (more-placed set m n of t is first.0 found so_far) later)
 
-pub first_fit-IsPartition : (set : List Task) (m : ℕ) (of : List ℕ) → IsSet set → first_fit set m ≡ Ok of → IsPartition set of m
+pub first_fit-IsPartition : (set : List Task) (m : ℕ) (of : List ℕ) → AreTasks set → first_fit set m ≡ Ok of → IsPartition set of m
 first_fit-IsPartition set m of is h =
     let w = whole set m set [] of is refl (omega arith) (record { each = tt; admitted = λ n. inl (part_of-none set n) }) h in
     record { long = w.long; once = each-on_one set of m w.long w.each is.names; admitted = w.admitted }

@@ -4,7 +4,7 @@ use Rattle.std.specs.List.{AllByRecursion}
 use Rattle.std.proofs.lemmas.List.{append_assoc}
 use Rattle.std.proofs.lemmas.Bool.Decides.{eqb_tells}
 use Rattle.mc_task.specs.declared.task.Task.{Task}
-use Rattle.mc_task.specs.TaskSet.{IsSet, IsTask, Distinct, names_of}
+use Rattle.mc_task.specs.TaskSet.{AreTasks, IsTask, Distinct, names_of}
 use Rattle.mc_model.proofs.Walk.{drop_at}
 use Rattle.part_fit.specs.Parts.{part_of}
 
@@ -91,8 +91,8 @@ part_of-length (t ∷ ts) [] n = omega arith
 part_of-length (t ∷ ts) (p ∷ ps) n = length_either (p == n) t (part_of ts ps n) (length ts) (part_of-length ts ps n)
 
 -- where there are some they are a set
-pub part_of-IsSet : (set : List Task) (of : List ℕ) (n : ℕ) → IsSet set → 1 ≤ length (part_of set of n) → IsSet (part_of set of n)
-part_of-IsSet set of n is some = record {
+pub part_of-AreTasks : (set : List Task) (of : List ℕ) (n : ℕ) → AreTasks set → 1 ≤ length (part_of set of n) → AreTasks (part_of set of n)
+part_of-AreTasks set of n is some = record {
   some = some;
   few = (let most = part_of-length set of n in omega (arith, most, is.few));
   each = part_of-each IsTask set of n is.each;
@@ -108,12 +108,12 @@ same_number p =
     ]
 
 -- so with the next task behind them
-pub with_next-IsSet : (set : List Task) (of : List ℕ) (n : ℕ) (t : Task) → IsSet set → slice_get set (length of) ≡ Some t → IsSet (part_of set of n ++ t ∷ [])
-with_next-IsSet set of n t is task =
+pub with_next-AreTasks : (set : List Task) (of : List ℕ) (n : ℕ) (t : Task) → AreTasks set → slice_get set (length of) ≡ Some t → AreTasks (part_of set of n ++ t ∷ [])
+with_next-AreTasks set of n t is task =
     let here : part_of set (of ++ n ∷ []) n ≡ part_of set of n ++ t ∷ [] = part_of-more set of n n t task ∙ (rw (same_number n) refl) in
     let long : length (part_of set of n ++ t ∷ []) ≡ length (part_of set of n) + 1 = length-append (part_of set of n) (t ∷ []) in
     let some : 1 ≤ length (part_of set (of ++ n ∷ []) n) = rw here (omega (arith, long)) in
-    subst (λ ts. IsSet ts) here (part_of-IsSet set (of ++ n ∷ []) n is some)
+    subst (λ ts. AreTasks ts) here (part_of-AreTasks set (of ++ n ∷ []) n is some)
 
 -- different numbers are not equal
 pub not_equal : (a b : ℕ) → a ≢ b → (a == b) ≡ false

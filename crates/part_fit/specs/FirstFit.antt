@@ -5,14 +5,14 @@ use Rattle.std.specs.Option.{option_map_or}
 use Rattle.mc_task.specs.declared.task.Task.{Task}
 use Rattle.mc_task.specs.TaskSet.{IsIn}
 use Rattle.mc_model.specs.Loads.{hyperperiod, most_lcm}
-use Rattle.mc_model.specs.Test.{test}
+use Rattle.mc_model.specs.Test.{published}
 use Rattle.part_fit.specs.Parts.{part_of}
 use Rattle.part_fit.specs.declared.placing.FitFault.{FitFault}
 use Rattle.part_fit.specs.declared.placing.FitFault.TheVariants.{Memory, NoRoom}
 
 -- the tasks are within range, and the published test gives them a rule
 unfoldable pub fits : List Task → Bool
-fits tasks = nat_le (hyperperiod tasks) most_lcm && is_some (test tasks)
+fits tasks = nat_le (hyperperiod tasks) most_lcm && is_some (published tasks)
 
 -- the task fits on processor n, behind the tasks whose processors are known
 abbrev pub takes : List Task → List ℕ → Task → ℕ → Bool

@@ -1,7 +1,7 @@
 -- What is kept of each processor while tasks are placed: the loads of its tasks (Baruah et al., ECRTS 2012).
 use Rattle.std.specs.Prelude.{◌≡◌, ℕ, suc, ◌+◌, ◌*◌, ◌/◌, ◌<◌, ◌≤◌, true, false, List, [], ◌∷◌, ◌++◌, length, slice_get, Option, None, Some}
 use Rattle.mc_task.specs.declared.task.Task.{Task}
-use Rattle.mc_task.specs.TaskSet.{IsSet}
+use Rattle.mc_task.specs.TaskSet.{AreTasks}
 use Rattle.tick_frac.specs.Numbers.{lcm}
 use Rattle.mc_model.specs.Loads.{load, hyperperiod, most_lcm, low_low, high_low, high_high}
 use Rattle.load_sum.specs.declared.loads.Loads.{Loads}
@@ -43,7 +43,7 @@ with_task loads t = record {
 -- the tasks have these loads, and are a set with the task behind them
 pub record IsNext (tasks : List Task) (loads : Loads) (t : Task) : Type 0 where
   pub have : AreLoadsOf tasks loads
-  pub together : IsSet (tasks ++ t ∷ [])
+  pub together : AreTasks (tasks ++ t ∷ [])
 
 -- so it is of some tasks
 pub record IsNextOfSome (loads : Loads) (t : Task) : Type 0 where
@@ -61,7 +61,7 @@ AreKept set of all = (i : ℕ) (loads : Loads) → slice_get all i ≡ Some load
 
 -- the loads are kept, and the task is the next to be placed
 pub record IsToPlace (set : List Task) (of : List ℕ) (all : List Loads) (t : Task) : Type 0 where
-  pub are : IsSet set
+  pub are : AreTasks set
   pub next : slice_get set (length of) ≡ Some t
   pub kept : AreKept set of all
 

@@ -2,9 +2,9 @@
 use Rattle.std.specs.Prelude.{◌≡◌, ◌⊎◌, ℕ, ◌≤◌, List, [], length, Contains, IsSome}
 use Rattle.std.specs.List.{AllByRecursion}
 use Rattle.mc_task.specs.declared.task.Task.{Task}
-use Rattle.mc_task.specs.TaskSet.{IsSet}
+use Rattle.mc_task.specs.TaskSet.{AreTasks}
 use Rattle.mc_model.specs.Loads.{IsWithinRange}
-use Rattle.mc_model.specs.Test.{test}
+use Rattle.mc_model.specs.Test.{published}
 use Rattle.part_fit.specs.Parts.{part_of}
 
 -- the task is on one processor from 1 to m, and on no other
@@ -17,7 +17,7 @@ pub record IsOnOne (set : List Task) (of : List ℕ) (m : ℕ) (t : Task) : Type
 
 -- there are no tasks, or they are a set within range to which the published test gives a rule
 abbrev pub IsAdmittedPart : List Task → Type 0
-IsAdmittedPart tasks = (tasks ≡ []) ⊎ (IsSet tasks × IsWithinRange tasks × IsSome (test tasks))
+IsAdmittedPart tasks = (tasks ≡ []) ⊎ (AreTasks tasks × IsWithinRange tasks × IsSome (published tasks))
 
 -- each task is on one of the processors from 1 to m, and the tasks of each processor are admitted
 pub record IsPartition (set : List Task) (of : List ℕ) (m : ℕ) : Type 0 where

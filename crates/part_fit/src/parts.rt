@@ -1,9 +1,9 @@
 // The tasks of each processor.
-ghost use Rattle.std.specs.Prelude.{◌≡◌, ◌≤◌, ◌<◌, IfOk, length, slice_get, Some};
-ghost use Rattle.mc_task.specs.TaskSet.{IsSet};
+ghost use Rattle.std.specs.Prelude.{◌≡◌, IfOk, length};
+ghost use Rattle.mc_task.specs.TaskSet.{AreTasks, unscaled};
 ghost use Rattle.part_fit.specs.Parts as spec;
 
-use mc_task::{Memory, Task, TaskNo, TaskSet};
+use mc_task::{Memory, Task, TaskSet};
 use std::alloc::{AllocError, Global};
 use std::marker::Model;
 
@@ -21,63 +21,48 @@ impl Model for Parts {
     ghost view = { λ a. a.of.items };
 }
 
-/// The tasks on a processor, in the order of the set and numbered anew, or `None` exactly where no task is on it.
+/// The tasks on a processor, in the order of the set, numbered anew and without a scale, or `None` exactly where no task is on it.
 pub fn part(
     alloc: Global,
     set: &TaskSet,
     parts: &Parts,
     processor: u32,
 ) -> Result<Option<TaskSet>, Memory>
-    requires { length parts.now ≡ length set.now }
-    ensures { IfOk result (spec.IsPart (spec.part_of set.now parts.now processor)) }
+    requires { length parts.now ≡ length set.now.tasks }
+    ensures { IfOk result (spec.IsPart (spec.part_of set.now.tasks parts.now processor)) }
 {
     let _is_set = set.len();
-    match tasks_on(alloc, set, &parts.of, processor) {
-        Ok(tasks) => {
-            if tasks.is_empty() {
-                Ok(None)
-            } else {
-                Ok(Some(set_of(tasks)))
-            }
-        }
-        Err(_) => Err(Memory),
+    let tasks = tasks_on(alloc, set, &parts.of, processor)?;
+    if tasks.is_empty() {
+        return Ok(None);
     }
+    Ok(Some(set_of(tasks)))
 }
 
-/// The tasks on the processor, of those whose processors are known.
-pub fn tasks_on(
+// The tasks on the processor, where the processor of each task is known.
+fn tasks_on(
     alloc: Global,
     set: &TaskSet,
     of: &[u32],
     processor: u32,
 ) -> Result<Vec<Task>, AllocError>
-    requires { length of.now ≤ length set.now }
-    ensures { IfOk result (λ tasks. tasks.items ≡ spec.part_of set.now of.now processor) }
+    requires { length of.now ≡ length set.now.tasks }
+    ensures { IfOk result (λ tasks. tasks.items ≡ spec.part_of set.now.tasks of.now processor) }
 {
-    let _is_set = set.len();
-    let mut tasks = Vec::new(alloc);
-    for i in 0..of.len() {
-        let task = task_at(set, i as u32);
+    let tasks = set.as_slice();
+    let mut own = Vec::new(alloc);
+    for (i, task) in tasks.iter().enumerate() {
         if of[i] == processor {
-            tasks.push(task)?;
+            own.push(*task)?;
         }
     }
-    Ok(tasks)
+    Ok(own)
 }
 
-/// The task at index `i`.
-pub fn task_at(set: &TaskSet, i: u32) -> Task
-    requires within { i < length set.now }
-    requires few { i < 128 }
-    ensures { slice_get set.now i ≡ Some result }
-{
-    set.get(TaskNo(i + 1)).unwrap()
-}
-
-/// The set of these tasks.
-pub fn set_of(tasks: Vec<Task>) -> TaskSet
-    requires { IsSet tasks.items }
-    ensures { result ≡ tasks.items }
+// The set of these tasks.
+fn set_of(tasks: Vec<Task>) -> TaskSet
+    requires { AreTasks tasks.items }
+    ensures { result ≡ unscaled tasks.items }
 {
     match TaskSet::new(tasks) {
         Ok(set) => set,

@@ -6,7 +6,7 @@ ghost use Rattle.part_fit.specs.KeptLoads.{IsToPlace, IsToPlaceInSome, IsPlace, 
 ghost use Rattle.part_fit.specs.Partition.{IsPartition};
 ghost use Rattle.part_fit.specs.declared.placing.FitFault.TheVariants.{Memory};
 
-use crate::parts::{Parts, task_at};
+use crate::parts::Parts;
 use crate::taking::{NO_LOADS, taken};
 use load_sum::Loads;
 use mc_task::{Task, TaskNo, TaskSet};
@@ -44,23 +44,23 @@ impl<T: Drop> From<AllocFailed<T>> for FitFault {
 pub fn fit(alloc: Global, set: &TaskSet, processors: u32) -> Result<Parts, FitFault>
     requires some { 1 ≤ processors }
     requires few { processors ≤ 16 }
-    ensures ok { IfOk result (λ parts. spec.first_fit set.now processors ≡ Ok parts) }
-    ensures no_room { IfErr result (spec.IsNoRoom set.now processors) }
+    ensures ok { IfOk result (λ parts. spec.first_fit set.now.tasks processors ≡ Ok parts) }
+    ensures no_room { IfErr result (spec.IsNoRoom set.now.tasks processors) }
     // Each task is on one processor, and each processor's tasks are admitted.
-    ensures parted { IfOk result (λ parts. IsPartition set.now parts processors) }
+    ensures parted { IfOk result (λ parts. IsPartition set.now.tasks parts processors) }
 {
-    let count = set.len();
+    let tasks = set.as_slice();
     let mut of = Vec::new(alloc);
     let mut all = no_loads(alloc, processors as usize)?;
-    for i in 0..count {
-        match least_for(&all, &task_at(set, i)) {
+    for (i, task) in tasks.iter().enumerate() {
+        match least_for(&all, task) {
             Some((place, loads)) => {
                 of.push(place as u32 + 1)?;
                 all[place] = loads;
             }
             None => {
                 return Err(FitFault::NoRoom {
-                    task: TaskNo(i + 1),
+                    task: TaskNo(i as u32 + 1),
                 });
             }
         }

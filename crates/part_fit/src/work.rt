@@ -19,26 +19,21 @@ pub fn part_work(
     processor: u32,
     work: &Work,
 ) -> Result<Work, Memory>
-    requires parts { length parts.now ≡ length set.now }
-    requires work { IsWork set.now work.now }
-    requires some { 1 ≤ length (part_of set.now parts.now processor) }
+    requires parts { length parts.now ≡ length set.now.tasks }
+    requires work { IsWork set.now.tasks work.now }
+    requires some { 1 ≤ length (part_of set.now.tasks parts.now processor) }
     ensures rows { IfOk result (λ own. own ≡ part_rows processor parts.now work.now) }
-    ensures work { IfOk result (IsWork (part_of set.now parts.now processor)) }
+    ensures work { IfOk result (IsWork (part_of set.now.tasks parts.now processor)) }
 {
     let _is_set = set.len();
-    match part(alloc, set, parts, processor) {
-        Ok(Some(tasks)) => match rows_on(alloc, &parts.of, processor, work.rows()) {
-            Ok(rows) => Ok(work_of(&tasks, rows)),
-            Err(_) => Err(Memory),
-        },
-        Ok(None) => unreachable!(),
-        Err(_) => Err(Memory),
-    }
+    let tasks = part(alloc, set, parts, processor)?.unwrap();
+    let rows = rows_on(alloc, &parts.of, processor, work.rows())?;
+    Ok(work_of(&tasks, rows))
 }
 
 // These rows as work.
 fn work_of(set: &TaskSet, rows: Vec<WorkRow>) -> Work
-    requires work { IsWork set.now rows.items }
+    requires work { IsWork set.now.tasks rows.items }
     requires few { length rows.items ≤ 1000000 }
     ensures { result ≡ rows.items }
 {

@@ -5,7 +5,7 @@ use Rattle.std.specs.List.{AllByRecursion}
 use Rattle.std.proofs.lemmas.List.{get_or-drop}
 use Rattle.mc_task.specs.declared.task.TaskNo.{TaskNo}
 use Rattle.ready_queue.specs.declared.item.Item.{Item}
-use Rattle.ready_queue.specs.Items.{before, first_of_two, least, IsLeast}
+use Rattle.ready_queue.specs.Items.{before, first_of_two, least, IsFirstItem}
 use Rattle.ready_queue.specs.Tree.{winner, node, IsTree}
 use Rattle.ready_queue.specs.Kept.{items_in}
 use Rattle.ready_queue.proofs.Matches.{beats, beats-trans, beats-tie, winner_left, winner_right, winner_is, earlier-self, earlier-back, earlier-trans}
@@ -87,7 +87,7 @@ least_first i (n ∷ items) = go (least_first n items) (before (first_of_two n (
     }
 
 -- and its task is the least one's
-pub is_least : (items : List Item) (task : TaskNo) → Some task ≡ task_in (least items) → IsLeast items task
+pub is_least : (items : List Item) (task : TaskNo) → Some task ≡ task_in (least items) → IsFirstItem items task
 is_least [] task e = cc
 is_least (i ∷ items) task e =
     let f : IsFirst (i ∷ items) (first_of_two i (least items)) = least_first i items in
@@ -102,7 +102,7 @@ none_least [] e = refl
 none_least (i ∷ items) e = cc
 
 -- both, of an answer
-pub first_if_some : (items : List Item) (o : Option TaskNo) → o ≡ task_in (least items) → IfSome o (IsLeast items)
+pub first_if_some : (items : List Item) (o : Option TaskNo) → o ≡ task_in (least items) → IfSome o (IsFirstItem items)
 first_if_some items None e = tt
 first_if_some items (Some task) e = is_least items task e
 

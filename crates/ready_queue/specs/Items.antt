@@ -24,7 +24,7 @@ least [] = None
 least (i ∷ is) = Some (first_of_two i (least is))
 
 -- the task has an item of the list, and none of the list comes before it
-pub record IsLeast (items : List Item) (task : TaskNo) : Type 0 where
+pub record IsFirstItem (items : List Item) (task : TaskNo) : Type 0 where
   pub item : Item
   pub of_task : item.task ≡ task
   pub there : Contains items item

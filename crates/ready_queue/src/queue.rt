@@ -1,6 +1,6 @@
 // The queue, by task numbers.
 ghost use Rattle.std.specs.Prelude.{◌≡◌, ◌≤◌, ◌↔◌, [], true, None, IfOk, IfSome, IsNone, map, filter, is_some, option_map};
-ghost use Rattle.ready_queue.specs.Items.{item_of, with_item, without, least, by_real, IsLeast, AreItems};
+ghost use Rattle.ready_queue.specs.Items.{item_of, with_item, without, least, by_real, IsFirstItem, AreItems};
 
 use crate::item::{Item, task_of};
 use crate::tree::{no_items, put, rekey};
@@ -35,10 +35,8 @@ impl ReadyQueue {
         ensures { IfOk result (λ queue. queue ≡ record { places = places; items = [] }) }
     {
         let places = places as usize;
-        match no_items(alloc, places) {
-            Ok(nodes) => Ok(ReadyQueue { places, nodes }),
-            Err(_) => Err(Memory),
-        }
+        let nodes = no_items(alloc, places)?;
+        Ok(ReadyQueue { places, nodes })
     }
 
     /// Adds an item, of whose task none is there.
@@ -55,7 +53,7 @@ impl ReadyQueue {
     /// The task whose item has the least key, and of equal keys the lowest number; `None` exactly where there is no item.
     pub fn least(&self) -> Option<TaskNo>
         ensures value { result ≡ option_map (λ i. i.task) (least self.now.items) }
-        ensures first { IfSome result (IsLeast self.now.items) }
+        ensures first { IfSome result (IsFirstItem self.now.items) }
         ensures none { IsNone result ↔ (self.now.items ≡ []) }
         ensures items { AreItems self.now.places self.now.items }
     {

@@ -72,7 +72,7 @@ pub fn long_chart(alloc: Global, ticks: u64) -> Result<Reply, AllocError>
 
 /// Status 6: a row of the trace does not fit, or a job is late.
 pub fn bad_trace(alloc: Global, set: &TaskSet, verdict: Verdict) -> Result<Reply, AllocError>
-    ensures { IfOk result (λ reply. reply ≡ refuse (BadTrace set.now verdict)) }
+    ensures { IfOk result (λ reply. reply ≡ refuse (BadTrace set.now.tasks verdict)) }
 {
     let line = verdict_line(alloc, set, verdict)?;
     Ok(Reply::new(6, line))

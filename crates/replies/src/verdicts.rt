@@ -11,7 +11,7 @@ use std::alloc::{AllocError, Global};
 /// The line of a verdict on a trace of the set.
 #[tactic(auto, unfolding(mc_model::specs::VerdictText::verdict_line))]
 pub fn verdict_line(alloc: Global, set: &TaskSet, verdict: Verdict) -> Result<Vec<u8>, AllocError>
-    ensures { IfOk result (λ line. line.items ≡ spec.verdict_line set.now verdict) }
+    ensures { IfOk result (λ line. line.items ≡ spec.verdict_line set.now.tasks verdict) }
 {
     match verdict {
         Verdict::Legal { late, first } => legal_line(alloc, set, late, first),
@@ -29,7 +29,7 @@ fn legal_line(
     late: u64,
     first: Option<JobId>,
 ) -> Result<Vec<u8>, AllocError>
-    ensures { IfOk result (λ line. line.items ≡ codes "legal late " ++ (decimal late ++ (spec.first_words set.now first ++ codes "\n"))) }
+    ensures { IfOk result (λ line. line.items ≡ codes "legal late " ++ (decimal late ++ (spec.first_words set.now.tasks first ++ codes "\n"))) }
 {
     let front = format!(in alloc; "legal late {late}")?;
     let words = first_words(alloc, set, first)?;
@@ -37,7 +37,7 @@ fn legal_line(
 }
 
 fn first_words(alloc: Global, set: &TaskSet, first: Option<JobId>) -> Result<Vec<u8>, AllocError>
-    ensures { IfOk result (λ words. words.items ≡ spec.first_words set.now first) }
+    ensures { IfOk result (λ words. words.items ≡ spec.first_words set.now.tasks first) }
 {
     let Some(job) = first else {
         return Ok(Vec::new(alloc));
@@ -51,7 +51,7 @@ fn first_words(alloc: Global, set: &TaskSet, first: Option<JobId>) -> Result<Vec
 
 // The words before a job's count.
 fn first_name(alloc: Global, set: &TaskSet, task: TaskNo) -> Result<Vec<u8>, AllocError>
-    ensures { IfOk result (λ words. words.items ≡ codes " first " ++ name_in (task_at set.now task.0)) }
+    ensures { IfOk result (λ words. words.items ≡ codes " first " ++ name_in (task_at set.now.tasks task.0)) }
 {
     let mut words = " first ".as_bytes().to_vec(alloc)?;
     if let Some(task) = set.get(task) {

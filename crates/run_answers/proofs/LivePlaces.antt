@@ -9,7 +9,7 @@ use Rattle.mc_task.specs.declared.task.Level.{Level}
 use Rattle.mc_task.specs.declared.task.Level.TheVariants.{Low, High}
 use Rattle.mc_task.specs.declared.task.Rule.{Rule}
 use Rattle.mc_task.specs.declared.task.Rule.TheVariants.{Plain, Virtual}
-use Rattle.mc_task.specs.TaskSet.{IsTask, IsSet}
+use Rattle.mc_task.specs.TaskSet.{IsTask, AreTasks}
 use Rattle.mc_model.specs.Sums.{total}
 use Rattle.mc_model.specs.Loads.{by_level, low_low, high_high, product, load, load_ll, load_hh}
 use Rattle.mc_model.specs.Holds.{HoldsOver, Holds}
@@ -83,7 +83,7 @@ one_more : (n : ℕ) (ts : List Task) → total (λ t. n / t.period + 1) ts ≡ 
 one_more n [] = omega arith
 one_more n (t ∷ ts) = let rest = one_more n ts in omega (arith, rest)
 
-pub few_places : (set : List Task) (rule : Rule) (n : ℕ) → IsSet set → Holds set rule → live_places set n ≤ 3 * n + 128
+pub few_places : (set : List Task) (rule : Rule) (n : ℕ) → AreTasks set → Holds set rule → live_places set n ≤ 3 * n + 128
 few_places set rule n is holds =
     let few = is.few in
     let periods = few_periods set rule n is.each holds in

@@ -7,10 +7,10 @@ use Rattle.run_answers.specs.declared.run.RunJob.{RunJob}
 -- the rule fits and holds for the set
 pub record IsLiveJob (job : Admitted) : Type 0 where
   pub fits : Fits job.rule
-  pub holds : Holds job.set job.rule
+  pub holds : Holds job.set.tasks job.rule
 
 -- and the work is for the set
 pub record IsRunJob (job : RunJob) : Type 0 where
   pub fits : Fits job.rule
-  pub holds : Holds job.set job.rule
-  pub is_work : IsWork job.set job.work
+  pub holds : Holds job.set.tasks job.rule
+  pub is_work : IsWork job.set.tasks job.work

@@ -9,7 +9,7 @@ use Rattle.run_answers.specs.Run.{traced}
 
 -- a live trace of so many ticks, of a set under its rule
 abbrev pub Lives : ℕ → Ruled → Reply → Type 0
-Lives ticks ruled reply = (h : List Row) × LiveTrace ruled.set ruled.rule ticks h × (reply ≡ traced ruled.set h)
+Lives ticks ruled reply = (h : List Row) × LiveTrace ruled.set.tasks ruled.rule ticks h × (reply ≡ traced ruled.set.tasks h)
 
 -- the command
 abbrev pub live : List ℕ → ℕ → Command

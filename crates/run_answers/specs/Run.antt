@@ -29,4 +29,4 @@ TellsTrace ticks set rule work reply = (h : List Row) × Follows set rule work t
 abbrev pub run : List ℕ → List ℕ → ℕ → Command
 run tasks work ticks =
     fetch_table tasks (λ bytes. need (admitted bytes) (λ ruled.
-    fetch_table work (λ more. need (work_of ruled.set more) (λ rows. answer (TellsTrace ticks ruled.set ruled.rule rows)))))
+    fetch_table work (λ more. need (work_of ruled.set.tasks more) (λ rows. answer (TellsTrace ticks ruled.set.tasks ruled.rule rows)))))

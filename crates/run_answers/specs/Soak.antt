@@ -5,7 +5,7 @@ use Rattle.mc_task.specs.declared.task.Rule.{Rule}
 use Rattle.mc_task.specs.declared.task.Rule.TheVariants.{Plain, Virtual}
 use Rattle.mc_model.specs.declared.row.Row.{Row}
 use Rattle.mc_model.specs.declared.work.WorkRow.{WorkRow}
-use Rattle.mc_model.specs.Test.{test}
+use Rattle.mc_model.specs.Test.{published}
 use Rattle.mc_model.specs.Follows.{Follows}
 use Rattle.mc_model.specs.Verdict.{verdict}
 use Rattle.mc_model.specs.VerdictText.{verdict_line}
@@ -40,7 +40,7 @@ soak_text number tasks ticks set rule h =
 
 -- the trace is that of the workload, under the rule that the test gives its set
 pub record IsSoaked (number tasks ticks : ℕ) (rule : Rule) (h : List Row) : Type 0 where
-  pub test : test (workload_set number tasks) ≡ Some rule
+  pub test : published (workload_set number tasks) ≡ Some rule
   pub follows : Follows (workload_set number tasks) rule (workload_work number tasks ticks) ticks h
 
 -- the text of that trace, with status 0

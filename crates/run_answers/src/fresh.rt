@@ -15,9 +15,9 @@ pub fn fresh_core(
     places: usize,
 ) -> Result<Core, AllocError>
     requires fits { Fits rule }
-    requires holds { Holds set.now rule }
+    requires holds { Holds set.now.tasks rule }
     requires places { places < 2 ^ 32 }
-    ensures { IfOk result (λ core. core ≡ empty_state set.now rule places) }
+    ensures { IfOk result (λ core. core ≡ empty_state set.now.tasks rule places) }
 {
     let Ok(copy) = set.copy(alloc) else {
         return Err(AllocError);

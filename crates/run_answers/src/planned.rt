@@ -25,11 +25,11 @@ pub fn planned<R: Threads + Wait + Sync, G: Gate + Sync>(
     gate: &G,
 ) -> Result<Floor, AllocError>
     requires fits { Fits rule }
-    requires holds { Holds set.now rule }
-    requires work { IsWork set.now work }
+    requires holds { Holds set.now.tasks rule }
+    requires work { IsWork set.now.tasks work }
     requires some { 1 ≤ ticks }
     requires most { ticks ≤ 1000000 }
-    ensures { IfOk result (IsPlanned set.now rule work ticks) }
+    ensures { IfOk result (IsPlanned set.now.tasks rule work ticks) }
 {
     let places = ticks as usize + work.rows().len();
     let core = fresh_core(alloc, set, rule, places)?;

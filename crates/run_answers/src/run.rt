@@ -37,7 +37,7 @@ impl<'a> Command for Run<'a> {
     ghost use Rattle.std.specs.Prelude.{◌≤◌, Ok};
     ghost use Rattle.serving.specs.Steps.{IsOwn};
     ghost use Rattle.task_answers.specs.Admitted.{admitted};
-    ghost use Rattle.task_answers.specs.Given.{Gives, IsAdmitted};
+    ghost use Rattle.task_answers.specs.Given.{Gives, IsGivenAs};
     ghost use Rattle.run_answers.specs.Run.{TellsTrace, run};
     ghost use Rattle.run_answers.specs.Jobs.{IsRunJob};
 
@@ -49,11 +49,11 @@ impl<'a> Command for Run<'a> {
 
     ghost valid = { λ c. (1 ≤ c.ticks) × (c.ticks ≤ 1000000) };
 
-    ghost opens = { λ c bytes opened. Gives IsAdmitted (admitted bytes) (Ok opened) };
+    ghost opens = { λ c bytes opened. Gives IsGivenAs (admitted bytes) (Ok opened) };
 
     ghost leaves = { λ c job. IsRunJob job };
 
-    ghost gives = { λ c job reply. TellsTrace c.ticks job.set job.rule job.work reply × IsOwn reply };
+    ghost gives = { λ c job reply. TellsTrace c.ticks job.set.tasks job.rule job.work reply × IsOwn reply };
 
     fn start<'b>(&'b self, _: Global) -> Result<Next<'b, (), RunJob>, AllocError> {
         Ok(Next::Ask {
@@ -108,7 +108,7 @@ pub fn finish_run<R: Threads + Wait + Sync, G: Gate + Sync>(
 ) -> Result<Reply, AllocError>
     requires job { IsRunJob job }
     requires ticks { (1 ≤ ticks) × (ticks ≤ 1000000) }
-    ensures trace { IfOk result (TellsTrace ticks job.set job.rule job.work) }
+    ensures trace { IfOk result (TellsTrace ticks job.set.tasks job.rule job.work) }
     ensures own { IfOk result IsOwn }
 {
     let RunJob { set, rule, work } = job;

@@ -118,9 +118,9 @@ fn with_sums(
     rows: &[Row],
 ) -> Result<Vec<u8>, AllocError>
     requires fits { Fits rule }
-    requires legal { Legal set.now rule (reverse rows.now) }
+    requires legal { Legal set.now.tasks rule (reverse rows.now) }
     requires few { length rows.now ≤ 2000000 }
-    ensures { IfOk result (λ text. text.items ≡ front.items ++ (summary_text set.now (reverse rows.now) ++ verdict_line set.now (verdict set.now rule (reverse rows.now)))) }
+    ensures { IfOk result (λ text. text.items ≡ front.items ++ (summary_text set.now.tasks (reverse rows.now) ++ verdict_line set.now.tasks (verdict set.now.tasks rule (reverse rows.now)))) }
 {
     let Ok(runs) = pack(alloc, rows) else {
         return Err(AllocError);

@@ -10,9 +10,9 @@ use trace_format::{pack, write_trace};
 
 /// The text of these rows of the set, the oldest first.
 pub fn trace_text(alloc: Global, set: &TaskSet, rows: &[Row]) -> Result<Vec<u8>, AllocError>
-    requires tasks { All (IsOfSet set.now) rows.now }
+    requires tasks { All (IsOfSet set.now.tasks) rows.now }
     requires few { length rows.now ≤ 2000000 }
-    ensures { IfOk result (λ text. text.items ≡ trace_text set.now rows.now) }
+    ensures { IfOk result (λ text. text.items ≡ trace_text set.now.tasks rows.now) }
 {
     let Ok(runs) = pack(alloc, rows) else {
         return Err(AllocError);

@@ -1,5 +1,5 @@
 // The chart, drawn on a text of blank ticks.
-ghost use Rattle.std.specs.Prelude.{◌≡◌, ◌+◌, ◌^◌, ◌++◌, ◌<◌, ◌≤◌, [], IfOk, OnOk, Some, length, replicate, reverse, slice_get, vec_len};
+ghost use Rattle.std.specs.Prelude.{◌≡◌, ◌+◌, ◌^◌, ◌++◌, ◌<◌, ◌≤◌, [], IfOk, OnOk, length, replicate, reverse, vec_len};
 ghost use Rattle.sched_chart.specs.ChartText.{chart_line, chart_text, name_width, ChartedModeLaw};
 ghost use Rattle.mc_model.specs.Rows.{ticks};
 ghost use Rattle.mc_model.specs.Traces.{IsTraceOf};
@@ -9,7 +9,7 @@ ghost use Rattle.sched_chart.specs.Sheet.{chart_to, line_length, IsSheet};
 use crate::marks::{mark_rows, tick_after};
 use crate::sheet::Sheet;
 use mc_model::{Row, Run};
-use mc_task::{Memory, Task, TaskNo, TaskSet};
+use mc_task::{Memory, Task, TaskSet};
 use std::alloc::{AllocError, Global};
 
 /// The chart of a trace: a line for each task in order, with a character for each tick, and a last line of the mode.
@@ -18,35 +18,24 @@ use std::alloc::{AllocError, Global};
 /// budget, and `.` in the other lines. The mode is that before the tick, `H` or `L`.
 pub fn chart(alloc: Global, set: &TaskSet, runs: &[Run]) -> Result<Vec<u8>, Memory>
     requires runs { AreRuns runs.now }
-    requires trace { IsTraceOf set.now (reverse (expand runs.now)) }
+    requires trace { IsTraceOf set.now.tasks (reverse (expand runs.now)) }
     requires few { ticks (expand runs.now) ≤ 2000000 }
-    ensures text { IfOk result (λ text. text.items ≡ chart_text set.now (reverse (expand runs.now))) }
+    ensures text { IfOk result (λ text. text.items ≡ chart_text set.now.tasks (reverse (expand runs.now))) }
     // The mode of the chart is that of each rule under which the rows are legal.
     ensures mode { ChartedModeLaw }
 {
-    match runs_drawn(alloc, set, runs) {
-        Ok(text) => Ok(text),
-        Err(_) => Err(Memory),
-    }
-}
-
-fn runs_drawn(alloc: Global, set: &TaskSet, runs: &[Run]) -> Result<Vec<u8>, AllocError>
-    requires runs { AreRuns runs.now }
-    requires trace { IsTraceOf set.now (reverse (expand runs.now)) }
-    requires few { ticks (expand runs.now) ≤ 2000000 }
-    ensures { IfOk result (λ text. text.items ≡ chart_text set.now (reverse (expand runs.now))) }
-{
     let rows = expanded(alloc, runs)?;
-    drawn(alloc, set, &rows)
+    let text = drawn(alloc, set, &rows)?;
+    Ok(text)
 }
 
 fn drawn(alloc: Global, set: &TaskSet, rows: &[Row]) -> Result<Vec<u8>, AllocError>
-    requires trace { IsTraceOf set.now (reverse rows.now) }
+    requires trace { IsTraceOf set.now.tasks (reverse rows.now) }
     requires few { ticks rows.now ≤ 2000000 }
-    ensures { IfOk result (λ text. text.items ≡ chart_text set.now (reverse rows.now)) }
+    ensures { IfOk result (λ text. text.items ≡ chart_text set.now.tasks (reverse rows.now)) }
 {
     let sheet = Sheet {
-        width: name_width(set),
+        width: name_width(set.as_slice()),
         ticks: count_ticks(rows),
     };
     let mut text = blank(alloc, set, sheet)?;
@@ -81,16 +70,13 @@ fn push_run(rows: &mut Vec<Row>, run: Run) -> Result<(), AllocError>
 }
 
 // The greater of 6 and the length of the longest name.
-fn name_width(set: &TaskSet) -> usize
-    ensures width { result ≡ name_width set.now }
+fn name_width(tasks: &[Task]) -> usize
+    ensures width { result ≡ name_width tasks.now }
     ensures most { result ≤ 32 }
 {
     let mut width = 6;
-    for i in 0..set.len() {
-        let length = task_at(set, i).name.bytes().len();
-        if length > width {
-            width = length;
-        }
+    for task in tasks {
+        width = task.name.bytes().len().max(width);
     }
     width
 }
@@ -110,25 +96,16 @@ fn count_ticks(rows: &[Row]) -> usize
 // The chart with no tick filled in.
 fn blank(alloc: Global, set: &TaskSet, sheet: Sheet) -> Result<Vec<u8>, AllocError>
     requires sheet { IsSheet sheet }
-    requires width { sheet.width ≡ name_width set.now }
-    ensures { IfOk result (λ text. text.items ≡ chart_to set.now sheet.ticks []) }
+    requires width { sheet.width ≡ name_width set.now.tasks }
+    ensures { IfOk result (λ text. text.items ≡ chart_to set.now.tasks sheet.ticks []) }
 {
-    let count = set.len();
-    let mut text = Vec::with_capacity(alloc, sheet.lines(count as usize + 1))?;
-    for i in 0..count {
-        let task = task_at(set, i);
+    let tasks = set.as_slice();
+    let mut text = Vec::with_capacity(alloc, sheet.lines(tasks.len() + 1))?;
+    for task in tasks {
         push_line(&mut text, sheet, task.name.bytes(), b'.')?;
     }
     push_line(&mut text, sheet, b"(mode)", b'L')?;
     Ok(text)
-}
-
-fn task_at(set: &TaskSet, i: u32) -> Task
-    requires within { i < length set.now }
-    requires few { i < 128 }
-    ensures { slice_get set.now i ≡ Some result }
-{
-    set.get(TaskNo(i + 1)).unwrap()
 }
 
 // A line with one character at all its ticks.

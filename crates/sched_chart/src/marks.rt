@@ -13,11 +13,11 @@ use mc_task::TaskSet;
 // Fills in a chart of blank ticks.
 pub fn mark_rows(chart: &mut [u8], set: &TaskSet, sheet: Sheet, rows: &[Row])
     requires sheet { IsSheet sheet }
-    requires width { sheet.width ≡ name_width set.now }
-    requires tasks { All (IsOfSet set.now) rows.now }
+    requires width { sheet.width ≡ name_width set.now.tasks }
+    requires tasks { All (IsOfSet set.now.tasks) rows.now }
     requires ticks { sheet.ticks ≡ ticks (reverse rows.now) }
-    requires blank { chart.old ≡ chart_to set.now sheet.ticks [] }
-    ensures { chart.new ≡ chart_to set.now sheet.ticks (reverse rows.now) }
+    requires blank { chart.old ≡ chart_to set.now.tasks sheet.ticks [] }
+    ensures { chart.new ≡ chart_to set.now.tasks sheet.ticks (reverse rows.now) }
 {
     let mut tick = 0;
     let mut high = false;
@@ -31,12 +31,12 @@ pub fn mark_rows(chart: &mut [u8], set: &TaskSet, sheet: Sheet, rows: &[Row])
 // Fills in the character of one more row's tick, if it has one, where the mode before it is low or high.
 fn mark_row(chart: &mut [u8], set: &TaskSet, sheet: Sheet, tick: usize, high: bool, row: Row)
     requires sheet { IsSheet sheet }
-    requires width { sheet.width ≡ name_width set.now }
-    requires task { IsOfSet set.now row }
+    requires width { sheet.width ≡ name_width set.now.tasks }
+    requires task { IsOfSet set.now.tasks row }
     requires tick { tick + ticks (row ∷ []) ≤ sheet.ticks }
-    requires length { length chart.old ≡ (length set.now + 1) * line_length sheet.width sheet.ticks }
-    ensures { (g : List Row) → ticks g ≡ tick → over_stands g ≡ high → chart.old ≡ chart_to set.now sheet.ticks g
-        → chart.new ≡ chart_to set.now sheet.ticks (row ∷ g) }
+    requires length { length chart.old ≡ (length set.now.tasks + 1) * line_length sheet.width sheet.ticks }
+    ensures { (g : List Row) → ticks g ≡ tick → over_stands g ≡ high → chart.old ≡ chart_to set.now.tasks sheet.ticks g
+        → chart.new ≡ chart_to set.now.tasks sheet.ticks (row ∷ g) }
 {
     let count = set.len() as usize;
     match row {

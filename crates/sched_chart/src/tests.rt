@@ -22,7 +22,7 @@ fn task(name: &[u8], level: Level, low: u32, high: u32) -> Option<Task>
 
 // A high task and a low one, of these names.
 fn pair(alloc: Global, high: &[u8], low: &[u8]) -> Result<TaskSet, Fail>
-    ensures { IfOk result (λ set. set
+    ensures { IfOk result (λ set. set.tasks
         ≡ record { name = high.now; level = Level.High; period = 10; low = 2; high = 6 }
         ∷ record { name = low.now; level = Level.Low; period = 10; low = 5; high = 5 } ∷ []) }
 {

@@ -48,10 +48,10 @@ abbrev no_rows : Level → TaskTally
 no_rows level = record { level = level; released = 0; kept = 0; dropped = 0; discarded = 0; done = 0; stopped = 0; ticks = 0; response = 0 }
 
 -- the tallies of no rows, one more of them
-pub numbered_next : (tasks : List Task) (i : ℕ) (t : Task) (some more : List TaskTally) → slice_get tasks i ≡ Some t → more ≡ some ++ no_rows t.level ∷ []
-    → some ++ numbered (tally_of tasks []) (i + 1) (drop i tasks) ≡ numbered (tally_of tasks []) 1 tasks
-    → more ++ numbered (tally_of tasks []) (i + 1 + 1) (drop (i + 1) tasks) ≡ numbered (tally_of tasks []) 1 tasks
-numbered_next tasks i t some more found is h =
+pub numbered_next : (tasks : List Task) (i : ℕ) (t : Task) (some more whole : List TaskTally) → slice_get tasks i ≡ Some t → more ≡ some ++ no_rows t.level ∷ []
+    → some ++ numbered (tally_of tasks []) (i + 1) (drop i tasks) ≡ whole
+    → more ++ numbered (tally_of tasks []) (i + 1 + 1) (drop (i + 1) tasks) ≡ whole
+numbered_next tasks i t some more whole found is h =
     let next : i + 1 ≡ 1 + i = omega arith in
     let number : task_at tasks (i + 1) ≡ Some t = ap (task_at tasks) next ∙ (task_at-next tasks i ∙ found) in
     let none : tally_of tasks [] (i + 1) ≡ no_rows t.level = ap (λ o. no_rows (level_in o)) number in

@@ -11,7 +11,7 @@ use Rattle.mc_model.specs.Runs.{row_of, size, expand, IsRun}
 use Rattle.mc_model.proofs.Runs.{some_rows, expand-append, rows_more}
 use Rattle.sched_report.proofs.Steps.{inside}
 use Rattle.mc_model.specs.Legal.{Legal, IsOfSet}
-use Rattle.sched_report.specs.ReportText.{Counts, plus, sum_counts, report_line, report_lines}
+use Rattle.sched_report.specs.ReportText.{JobCounts, plus, sum_counts, report_line, report_lines}
 use Rattle.mc_model.proofs.Walk.{drop_at}
 use Rattle.sched_report.specs.declared.task_tally.TaskTally.{TaskTally}
 use Rattle.sched_report.specs.TaskTally.{tally_of, IsSmall}
@@ -31,10 +31,6 @@ pub line_pieces :
     (t0 t1 t2 t3 t4 t5 t6 t7 task name gap counts w1 n1 w2 n2 end : List ℕ) → t1 ≡ t0 ++ task → t2 ≡ t1 ++ name → t3 ≡ t2 ++ gap → t4 ≡ t3 ++ counts → t5 ≡ t4 ++ (w1 ++ n1)
     → t6 ≡ t5 ++ (w2 ++ n2) → t7 ≡ t6 ++ end → t7 ≡ t0 ++ concat (task ∷ name ∷ gap ∷ counts ∷ w1 ∷ n1 ∷ w2 ∷ n2 ∷ end ∷ [])
 line_pieces t0 t1 t2 t3 t4 t5 t6 t7 task name gap counts w1 n1 w2 n2 end i1 i2 i3 i4 i5 i6 i7 = rw (i7, i6, i5, i4, i3, i2, i1) (simp (append_assoc, append-nil) refl)
-
--- two words with their numbers, and an end
-pub two_counts : (t0 t1 t2 t3 w1 n1 w2 n2 end : List ℕ) → t1 ≡ t0 ++ (w1 ++ n1) → t2 ≡ t1 ++ (w2 ++ n2) → t3 ≡ t2 ++ end → t3 ≡ t0 ++ concat (w1 ∷ n1 ∷ w2 ∷ n2 ∷ end ∷ [])
-two_counts t0 t1 t2 t3 w1 n1 w2 n2 end i1 i2 i3 = rw (i3, i2, i1) (simp (append_assoc, append-nil) refl)
 
 -- counts, three words with their numbers, and an end
 pub summary_pieces :
@@ -75,24 +71,14 @@ line_more set h i t text longer last whole s found is longer_is inv =
     ap (λ l. l ++ rest) same ∙ (append_assoc text line rest ∙ (ap (λ l. text ++ l) (sym next) ∙ inv))
 
 -- counts are equal where their parts are
-counts_eq : (a b : Counts) → a.released ≡ b.released → a.kept ≡ b.kept → a.dropped ≡ b.dropped → a.discarded ≡ b.discarded → a.done ≡ b.done → a.stopped ≡ b.stopped → a ≡ b
+counts_eq : (a b : JobCounts) → a.released ≡ b.released → a.kept ≡ b.kept → a.dropped ≡ b.dropped → a.discarded ≡ b.discarded → a.done ≡ b.done → a.stopped ≡ b.stopped → a ≡ b
 counts_eq a b released kept dropped discarded done stopped = λ i. record { released = released i; kept = kept i; dropped = dropped i; discarded = discarded i; done = done i; stopped = stopped i }
 
-plus_assoc : (a b c : Counts) → plus (plus a b) c ≡ plus a (plus b c)
+plus_assoc : (a b c : JobCounts) → plus (plus a b) c ≡ plus a (plus b c)
 plus_assoc a b c = counts_eq (plus (plus a b) c) (plus a (plus b c)) (omega arith) (omega arith) (omega arith) (omega arith) (omega arith) (omega arith)
 
--- nothing
-abbrev pub no_counts : Counts
-no_counts = record { released = 0; kept = 0; dropped = 0; discarded = 0; done = 0; stopped = 0 }
-
-pub plus-none : (a : Counts) → plus a no_counts ≡ a
-plus-none a = counts_eq (plus a no_counts) a (omega arith) (omega arith) (omega arith) (omega arith) (omega arith) (omega arith)
-
-pub none-plus : (a : Counts) → plus no_counts a ≡ a
-none-plus a = counts_eq (plus no_counts a) a (omega arith) (omega arith) (omega arith) (omega arith) (omega arith) (omega arith)
-
 -- the sum with one tally more
-pub sum_more : (ts : List TaskTally) (i : ℕ) (d : TaskTally) (sum more whole : Counts) → i < length ts → more ≡ plus sum (counts_of_tally (get_or ts i d))
+pub sum_more : (ts : List TaskTally) (i : ℕ) (d : TaskTally) (sum more whole : JobCounts) → i < length ts → more ≡ plus sum (counts_of_tally (get_or ts i d))
     → plus sum (sum_tallies (drop i ts)) ≡ whole → plus more (sum_tallies (drop (i + 1) ts)) ≡ whole
 sum_more ts i d sum more whole inside is inv =
     ap (λ c. plus c (sum_tallies (drop (i + 1) ts))) is
@@ -114,21 +100,21 @@ tally_at set h s i x is inside read =
 -- the counts of a small tally are small
 pub small_counts : (t : TaskTally) (c : mine.Counts) → counts_in c ≡ counts_of_tally t → IsSmall t → AreAtMost (2 ^ 24) c
 small_counts t c is s = record {
-  released = let e = ap (λ (x : Counts). x.released) is in omega (arith, e, s.released);
-  kept = let e = ap (λ (x : Counts). x.kept) is in omega (arith, e, s.kept);
-  dropped = let e = ap (λ (x : Counts). x.dropped) is in omega (arith, e, s.dropped);
-  discarded = let e = ap (λ (x : Counts). x.discarded) is in omega (arith, e, s.discarded);
-  done = let e = ap (λ (x : Counts). x.done) is in omega (arith, e, s.done);
-  stopped = let e = ap (λ (x : Counts). x.stopped) is in omega (arith, e, s.stopped);
+  released = let e = ap (λ (x : JobCounts). x.released) is in omega (arith, e, s.released);
+  kept = let e = ap (λ (x : JobCounts). x.kept) is in omega (arith, e, s.kept);
+  dropped = let e = ap (λ (x : JobCounts). x.dropped) is in omega (arith, e, s.dropped);
+  discarded = let e = ap (λ (x : JobCounts). x.discarded) is in omega (arith, e, s.discarded);
+  done = let e = ap (λ (x : JobCounts). x.done) is in omega (arith, e, s.done);
+  stopped = let e = ap (λ (x : JobCounts). x.stopped) is in omega (arith, e, s.stopped);
 }
 
 -- and their sum with others grows by as much
 pub sum_grows : (i : ℕ) (a b c : mine.Counts) → counts_in c ≡ plus (counts_in a) (counts_in b) → AreAtMost (i * 2 ^ 24) a → AreAtMost (2 ^ 24) b → AreAtMost ((i + 1) * 2 ^ 24) c
 sum_grows i a b c is s t = record {
-  released = let e = ap (λ (x : Counts). x.released) is in omega (arith, e, s.released, t.released);
-  kept = let e = ap (λ (x : Counts). x.kept) is in omega (arith, e, s.kept, t.kept);
-  dropped = let e = ap (λ (x : Counts). x.dropped) is in omega (arith, e, s.dropped, t.dropped);
-  discarded = let e = ap (λ (x : Counts). x.discarded) is in omega (arith, e, s.discarded, t.discarded);
-  done = let e = ap (λ (x : Counts). x.done) is in omega (arith, e, s.done, t.done);
-  stopped = let e = ap (λ (x : Counts). x.stopped) is in omega (arith, e, s.stopped, t.stopped);
+  released = let e = ap (λ (x : JobCounts). x.released) is in omega (arith, e, s.released, t.released);
+  kept = let e = ap (λ (x : JobCounts). x.kept) is in omega (arith, e, s.kept, t.kept);
+  dropped = let e = ap (λ (x : JobCounts). x.dropped) is in omega (arith, e, s.dropped, t.dropped);
+  discarded = let e = ap (λ (x : JobCounts). x.discarded) is in omega (arith, e, s.discarded, t.discarded);
+  done = let e = ap (λ (x : JobCounts). x.done) is in omega (arith, e, s.done, t.done);
+  stopped = let e = ap (λ (x : JobCounts). x.stopped) is in omega (arith, e, s.stopped, t.stopped);
 }

@@ -6,11 +6,11 @@ use Rattle.sched_report.specs.declared.counts.Counts.{Counts}
 use Rattle.sched_report.specs.declared.task_tally.TaskTally.{TaskTally}
 
 -- the counts, as the model has them
-abbrev pub counts_in : Counts → model.Counts
+abbrev pub counts_in : Counts → model.JobCounts
 counts_in c = record { released = c.released; kept = c.kept; dropped = c.dropped; discarded = c.discarded; done = c.done; stopped = c.stopped }
 
 -- those of a task
-abbrev pub counts_of_tally : TaskTally → model.Counts
+abbrev pub counts_of_tally : TaskTally → model.JobCounts
 counts_of_tally t = record { released = t.released; kept = t.kept; dropped = t.dropped; discarded = t.discarded; done = t.done; stopped = t.stopped }
 
 -- none of the counts is above this
@@ -35,6 +35,6 @@ tally_line name t =
     ∷ codes " response " ∷ response_of_tally t ∷ codes "\n" ∷ [])
 
 -- the sums of the counts of tallies
-abbrev pub sum_tallies : List TaskTally → model.Counts
+abbrev pub sum_tallies : List TaskTally → model.JobCounts
 sum_tallies [] = record { released = 0; kept = 0; dropped = 0; discarded = 0; done = 0; stopped = 0 }
 sum_tallies (t ∷ ts) = model.plus (counts_of_tally t) (sum_tallies ts)

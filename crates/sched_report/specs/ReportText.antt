@@ -90,7 +90,7 @@ greatest [] = 0
 greatest (n ∷ ns) = max n (greatest ns)
 
 -- what is counted of jobs
-pub record Counts : Type 0 where
+pub record JobCounts : Type 0 where
   pub released : ℕ
   pub kept : ℕ
   pub dropped : ℕ
@@ -99,7 +99,7 @@ pub record Counts : Type 0 where
   pub stopped : ℕ
 
 -- what is counted of the jobs of task number k
-abbrev pub counts_of : List Task → List Row → ℕ → Counts
+abbrev pub counts_of : List Task → List Row → ℕ → JobCounts
 counts_of set h k = record {
   released = releases h k;
   kept = how_many (is_of k) (released h);
@@ -110,7 +110,7 @@ counts_of set h k = record {
 }
 
 -- the counts of both
-abbrev pub plus : Counts → Counts → Counts
+abbrev pub plus : JobCounts → JobCounts → JobCounts
 plus a b = record {
   released = a.released + b.released;
   kept = a.kept + b.kept;
@@ -127,7 +127,7 @@ CountsAddUp =
     → (counts_of set h k).kept ≡ (counts_of set h k).done + (counts_of set h k).stopped + (counts_of set h k).discarded + how_many (is_of k) (pending set h)
 
 -- the counts, each behind its word
-unfoldable pub counts_text : Counts → List ℕ
+unfoldable pub counts_text : JobCounts → List ℕ
 counts_text c =
     concat (
     codes "released " ∷ decimal c.released
@@ -162,7 +162,7 @@ report_text set h =
     ++ concat (codes "idle " ∷ decimal (how_many is_idle h) ∷ codes "\nswitches " ∷ decimal (how_many is_switch h) ∷ codes "\n" ∷ [])
 
 -- the sums of the counts of these tasks, the first of which is number k
-abbrev pub sum_counts : List Task → List Row → ℕ → List Task → Counts
+abbrev pub sum_counts : List Task → List Row → ℕ → List Task → JobCounts
 sum_counts set h k [] = record { released = 0; kept = 0; dropped = 0; discarded = 0; done = 0; stopped = 0 }
 sum_counts set h k (t ∷ ts) = plus (counts_of set h k) (sum_counts set h (k + 1) ts)
 

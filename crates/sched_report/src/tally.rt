@@ -9,7 +9,7 @@ ghost use Rattle.sched_report.specs.Tally.{Tallies, Follows, IsAmong, HasRoom, R
 use crate::task_tally::TaskTally;
 use crate::waiting::Waiting;
 use mc_model::{How, Run};
-use mc_task::{JobId, Task, TaskNo, TaskSet};
+use mc_task::{JobId, TaskSet};
 use std::alloc::{AllocError, Global};
 
 // `tick` is the number of the next tick. Task number k stands at place k - 1.
@@ -25,16 +25,15 @@ pub struct Tally {
 impl Tally {
     // With no row counted.
     pub fn new(alloc: Global, set: &TaskSet) -> Result<Tally, AllocError>
-        ensures { IfOk result (λ tally. Tallies set.now [] tally) }
+        ensures { IfOk result (λ tally. Tallies set.now.tasks [] tally) }
     {
-        let count = set.len();
-        let mut tasks = Vec::with_capacity(alloc, count as usize)?;
-        for i in 0..count {
-            let task = task_at(set, i);
-            tasks.push(TaskTally::new(task.level))?;
+        let tasks = set.as_slice();
+        let mut tallies = Vec::with_capacity(alloc, tasks.len())?;
+        for task in tasks {
+            tallies.push(TaskTally::new(task.level))?;
         }
         Ok(Tally {
-            tasks,
+            tasks: tallies,
             tick: 0,
             idle: 0,
             switches: 0,
@@ -143,17 +142,8 @@ impl Tally {
     }
 }
 
-ghost use Rattle.std.specs.Prelude.{◌<◌, length, map};
+ghost use Rattle.std.specs.Prelude.{map};
 ghost use Rattle.sched_report.specs.TaskTally.{with_switch};
-
-// The task at this index of the set.
-pub fn task_at(set: &TaskSet, i: u32) -> Task
-    requires within { i < length set.now }
-    requires few { i < 128 }
-    ensures { slice_get set.now i ≡ Some result }
-{
-    set.get(TaskNo(i + 1)).unwrap()
-}
 
 fn switch_all(tasks: &mut [TaskTally])
     ensures { tasks.new ≡ map with_switch tasks.old }

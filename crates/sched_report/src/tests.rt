@@ -23,7 +23,7 @@ fn task(name: &[u8], level: Level, period: u32, low: u32, high: u32) -> Option<T
 
 // A high task and a low one, of these names.
 fn pair(alloc: Global, high: &[u8], low: &[u8]) -> Result<TaskSet, Fail>
-    ensures { IfOk result (λ set. set
+    ensures { IfOk result (λ set. set.tasks
         ≡ record { name = high.now; level = Level.High; period = 10; low = 2; high = 6 }
         ∷ record { name = low.now; level = Level.Low; period = 10; low = 5; high = 5 } ∷ []) }
 {
@@ -35,7 +35,7 @@ fn pair(alloc: Global, high: &[u8], low: &[u8]) -> Result<TaskSet, Fail>
 
 // A low task tap and a high task arm.
 fn tap_and_arm(alloc: Global) -> Result<TaskSet, Fail>
-    ensures { IfOk result (λ set. set
+    ensures { IfOk result (λ set. set.tasks
         ≡ record { name = codes "tap"; level = Level.Low; period = 2; low = 1; high = 1 }
         ∷ record { name = codes "arm"; level = Level.High; period = 4; low = 1; high = 3 } ∷ []) }
 {

@@ -7,7 +7,7 @@ ghost use Rattle.sched_report.specs.Counts.{counts_in, response_of_tally, sum_ta
 ghost use Rattle.sched_report.specs.Tally.{Tallies};
 
 use crate::counts::{Counts, push_count};
-use crate::tally::{Tally, task_at};
+use crate::tally::Tally;
 use crate::task_tally::TaskTally;
 use mc_model::Run;
 use mc_task::{Memory, TaskSet};
@@ -17,39 +17,35 @@ use std::alloc::{AllocError, Global};
 /// stopped, its ticks and its greatest response in ticks, and then the idle ticks and the switches to high mode.
 pub fn report(alloc: Global, set: &TaskSet, runs: &[Run]) -> Result<Vec<u8>, Memory>
     requires runs { AreRuns runs.now }
-    requires trace { IsTraceOf set.now (reverse (expand runs.now)) }
-    ensures text { IfOk result (λ text. text.items ≡ report_text set.now (reverse (expand runs.now))) }
+    requires trace { IsTraceOf set.now.tasks (reverse (expand runs.now)) }
+    ensures text { IfOk result (λ text. text.items ≡ report_text set.now.tasks (reverse (expand runs.now))) }
     // The counts of each task add up.
     ensures law { CountsAddUp }
 {
-    match report_text(alloc, set, runs) {
-        Ok(text) => Ok(text),
-        Err(_) => Err(Memory),
-    }
+    let text = report_text(alloc, set, runs)?;
+    Ok(text)
 }
 
 /// The sums of a report over all tasks, in one line, and the ticks of jobs, the idle ticks and the switches in another.
 pub fn summary(alloc: Global, set: &TaskSet, runs: &[Run]) -> Result<Vec<u8>, Memory>
     requires runs { AreRuns runs.now }
-    requires trace { IsTraceOf set.now (reverse (expand runs.now)) }
-    ensures { IfOk result (λ text. text.items ≡ summary_text set.now (reverse (expand runs.now))) }
+    requires trace { IsTraceOf set.now.tasks (reverse (expand runs.now)) }
+    ensures { IfOk result (λ text. text.items ≡ summary_text set.now.tasks (reverse (expand runs.now))) }
 {
-    match summary_text(alloc, set, runs) {
-        Ok(text) => Ok(text),
-        Err(_) => Err(Memory),
-    }
+    let text = summary_text(alloc, set, runs)?;
+    Ok(text)
 }
 
 fn report_text(alloc: Global, set: &TaskSet, runs: &[Run]) -> Result<Vec<u8>, AllocError>
     requires runs { AreRuns runs.now }
-    requires trace { IsTraceOf set.now (reverse (expand runs.now)) }
-    ensures { IfOk result (λ text. text.items ≡ report_text set.now (reverse (expand runs.now))) }
+    requires trace { IsTraceOf set.now.tasks (reverse (expand runs.now)) }
+    ensures { IfOk result (λ text. text.items ≡ report_text set.now.tasks (reverse (expand runs.now))) }
 {
     let tally = tally_of(alloc, set, runs)?;
     let mut text = Vec::new(alloc);
-    for i in 0..set.len() {
-        let task = task_at(set, i);
-        push_task(&mut text, task.name.bytes(), &tally.tasks[i as usize])?;
+    let tasks = set.as_slice();
+    for (i, task) in tasks.iter().enumerate() {
+        push_task(&mut text, task.name.bytes(), &tally.tasks[i])?;
     }
     push_count(&mut text, "idle ", tally.idle)?;
     push_count(&mut text, "\nswitches ", tally.switches)?;
@@ -59,8 +55,8 @@ fn report_text(alloc: Global, set: &TaskSet, runs: &[Run]) -> Result<Vec<u8>, Al
 
 fn summary_text(alloc: Global, set: &TaskSet, runs: &[Run]) -> Result<Vec<u8>, AllocError>
     requires runs { AreRuns runs.now }
-    requires trace { IsTraceOf set.now (reverse (expand runs.now)) }
-    ensures { IfOk result (λ text. text.items ≡ summary_text set.now (reverse (expand runs.now))) }
+    requires trace { IsTraceOf set.now.tasks (reverse (expand runs.now)) }
+    ensures { IfOk result (λ text. text.items ≡ summary_text set.now.tasks (reverse (expand runs.now))) }
 {
     let _is_set = set.len();
     let tally = tally_of(alloc, set, runs)?;
@@ -75,8 +71,8 @@ fn summary_text(alloc: Global, set: &TaskSet, runs: &[Run]) -> Result<Vec<u8>, A
 
 fn tally_of(alloc: Global, set: &TaskSet, runs: &[Run]) -> Result<Tally, AllocError>
     requires runs { AreRuns runs.now }
-    requires trace { IsTraceOf set.now (reverse (expand runs.now)) }
-    ensures { IfOk result (λ tally. Tallies set.now (reverse (expand runs.now)) tally) }
+    requires trace { IsTraceOf set.now.tasks (reverse (expand runs.now)) }
+    ensures { IfOk result (λ tally. Tallies set.now.tasks (reverse (expand runs.now)) tally) }
 {
     let mut tally = Tally::new(alloc, set)?;
     for run in runs {

@@ -19,9 +19,9 @@ AsksFor (answer Is) file most = ⊥
 AsksFor (fetch name limit next) file most = (file ≡ name) × (most ≡ limit) × (most < 2 ^ 40)
 
 -- these bytes are within its limit
-abbrev pub Fits : Command → List ℕ → Type 0
-Fits (answer Is) bytes = Unit {0}
-Fits (fetch name limit next) bytes = length bytes ≤ limit
+abbrev pub IsWithinLimit : Command → List ℕ → Type 0
+IsWithinLimit (answer Is) bytes = Unit {0}
+IsWithinLimit (fetch name limit next) bytes = length bytes ≤ limit
 
 -- the command that it then is by them
 abbrev pub goes_on : Command → List ℕ → Command

@@ -31,7 +31,7 @@ pub trait Command {
     ghost use Rattle.std.specs.Prelude.{List, ℕ, IfOk};
     ghost use Rattle.replies.specs.Reply.{Reply as Answered};
     ghost use Rattle.serving.specs.Command.{Command as Asks};
-    ghost use Rattle.serving.specs.Steps.{Fits, goes_on, HasAnswer, AllReplies, Takes};
+    ghost use Rattle.serving.specs.Steps.{IsWithinLimit, goes_on, HasAnswer, AllReplies, Takes};
 
     /// What the first file gives, where a second is asked for.
     type Opened: Drop;
@@ -66,7 +66,7 @@ pub trait Command {
         bytes: &[u8],
     ) -> Result<Next<'b, Self::Opened, Self::Job>, AllocError>
         requires valid { valid self.now }
-        requires first { Fits (asks self.now) bytes.now }
+        requires first { IsWithinLimit (asks self.now) bytes.now }
         ensures { IfOk result (λ next. Takes (goes_on (asks self.now) bytes.now) (leaves self.now) (gives self.now) (opens self.now bytes.now) next) }
     {
         let _ = bytes;
@@ -81,7 +81,7 @@ pub trait Command {
         bytes: &[u8],
     ) -> Result<Served<Self::Job>, AllocError>
         requires valid { valid self.now }
-        requires both { (first : List ℕ) × opens self.now first opened × Fits (goes_on (asks self.now) first) bytes.now }
+        requires both { (first : List ℕ) × opens self.now first opened × IsWithinLimit (goes_on (asks self.now) first) bytes.now }
         ensures { IfOk result (λ served. (first : List ℕ) → opens self.now first opened
             → AllReplies (leaves self.now) (gives self.now) (HasAnswer (goes_on (goes_on (asks self.now) first) bytes.now)) served) }
     {

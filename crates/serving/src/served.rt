@@ -1,7 +1,7 @@
 // The one function that asks a shelf for the files of every command.
 ghost use Rattle.std.specs.Prelude.{◌≡◌, ◌≢◌, ◌<◌, ◌^◌, IfOk, OnOk, IsErr};
 ghost use Rattle.replies.specs.Refusal.{ReadFault, Longer, refuse};
-ghost use Rattle.serving.specs.Steps.{AllReplies, Fits, goes_on};
+ghost use Rattle.serving.specs.Steps.{AllReplies, IsWithinLimit, goes_on};
 ghost use Rattle.serving.specs.Outcome.{IsReply, IsOwnReply, AddsAtMost, AskedInOrder};
 ghost use Rattle.serving.specs.Fetched.{IsFetched};
 
@@ -69,7 +69,7 @@ fn ask_on<C: Command, S: Shelf>(
     shelf: &mut S,
 ) -> Result<Served<C::Job>, AllocError>
     requires valid { C.valid command.now }
-    requires first { Fits (C.asks command.now) bytes.now }
+    requires first { IsWithinLimit (C.asks command.now) bytes.now }
     ensures replies { IfOk result (λ served. AllReplies (C.leaves command.now) (C.gives command.now)
         (IsOwnReply 2 (goes_on (C.asks command.now) bytes.now) (S.state shelf.old) (S.state shelf.new)) served) }
     ensures wanted { OnOk result ((S.state shelf.new).wanted ≡ (S.state shelf.old).wanted) }

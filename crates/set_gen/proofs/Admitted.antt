@@ -11,13 +11,13 @@ use Rattle.set_gen.specs.Words.{word}
 use Rattle.set_gen.specs.MadeSet.{made_set, words_for}
 use Rattle.set_gen.specs.Laws.{MadeSetsAreAdmitted}
 use Rattle.set_gen.proofs.Periods.{period-IsPeriod}
-use Rattle.set_gen.proofs.MadeTasks.{made_task-period, made_set-each, made_set-IsSet}
+use Rattle.set_gen.proofs.MadeTasks.{made_task-period, made_set-each, made_set-AreTasks}
 use Rattle.set_gen.proofs.Utilisations.{made-low_low, made-high_low, made-high_high}
 
 pub made_sets-admitted : MadeSetsAreAdmitted
 made_sets-admitted words n some few =
     let set : List Task = made_set words n in
-    let is = made_set-IsSet words n some few in
+    let is = made_set-AreTasks words n some few in
     let divides : hyperperiod set ∣ 20000 =
     (hyperperiod-IsLeastCommon set).least 20000 (made_set-each (λ t. t.period ∣ 20000) words n
     (λ i first last. rw (made_task-period (words_for words i) n i) (period-IsPeriod (word (words_for words i))).divides)) in

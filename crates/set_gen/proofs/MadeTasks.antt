@@ -10,7 +10,7 @@ use Rattle.std.proofs.lemmas.List.FromFn.{length-map-range_with_len}
 use Rattle.rand_pcg.specs.Lcg.{Lcg}
 use Rattle.mc_task.specs.NameForm.{is_name, is_name_byte}
 use Rattle.mc_task.specs.declared.task.Task.{Task}
-use Rattle.mc_task.specs.TaskSet.{IsTask, IsSet, Distinct, names_of, task_at}
+use Rattle.mc_task.specs.TaskSet.{IsTask, AreTasks, Distinct, names_of, task_at}
 use Rattle.mc_model.proofs.Tasks.{task_at-in}
 use Rattle.set_gen.specs.Words.{word, rest}
 use Rattle.set_gen.specs.MadeSet.{period, is_odd, high_tasks, low_tasks, task_name, high_task, low_task, made_task, made_gap, stretch, words_taken, words_for, made_set}
@@ -132,9 +132,9 @@ pub made_set-each : (P : Task → Type 0) (words : Lcg) (n : ℕ) → ((i : ℕ)
 unfolding made_set
 made_set-each P words n h = each-map-range P (λ i. made_task (words_for words i) n i) 1 n (λ i first last. h i first (omega arith))
 
-pub made_set-IsSet : (words : Lcg) (n : ℕ) → 2 ≤ n → n ≤ 32 → IsSet (made_set words n)
+pub made_set-AreTasks : (words : Lcg) (n : ℕ) → 2 ≤ n → n ≤ 32 → AreTasks (made_set words n)
 unfolding made_set
-made_set-IsSet words n some few =
+made_set-AreTasks words n some few =
     let count : length (made_set words n) ≡ n = made_set-length words n in
     record {
       some = omega arith;

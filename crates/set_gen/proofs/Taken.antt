@@ -7,7 +7,7 @@ use Rattle.set_gen.specs.Words.{after}
 use Rattle.set_gen.specs.MadeSet.{made_set, made_gaps, words_before}
 use Rattle.set_gen.specs.MadeWork.{releases_below, made_work, job_rows}
 use Rattle.set_gen.specs.Laws.{MadeWorkIsTaken}
-use Rattle.set_gen.proofs.MadeTasks.{made_set-IsSet}
+use Rattle.set_gen.proofs.MadeTasks.{made_set-AreTasks}
 use Rattle.set_gen.proofs.Plans.{plan_below}
 use Rattle.set_gen.proofs.Gaps.{made_gaps-length, made_gaps-bounded, made_gaps-AreFar}
 use Rattle.set_gen.proofs.JobRows.{job_rows-length, job_rows-IsWork}
@@ -21,7 +21,7 @@ made_work-taken words n ticks some few most =
     let left : Lcg = after (words_before n) words in
     let plan = releases_below (made_gaps words n) ticks in
     record {
-      work = job_rows-IsWork left (made_set words n) plan (made_set-IsSet words n some few).each (plan_below (made_set words n) (made_gaps words n) ticks (made_gaps-AreFar words n));
+      work = job_rows-IsWork left (made_set words n) plan (made_set-AreTasks words n some few).each (plan_below (made_set words n) (made_gaps words n) ticks (made_gaps-AreFar words n));
       few =
           let rows : length (job_rows left (made_set words n) plan) ≡ length plan = job_rows-length left (made_set words n) plan in
           let all : length plan ≤ 1000000 = few_releases (made_gaps words n) ticks (λ i first last. (made_gaps-bounded words n (i - 1) (omega arith)).least) (omega arith) most in

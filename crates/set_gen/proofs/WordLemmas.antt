@@ -7,7 +7,3 @@ use Rattle.set_gen.specs.Words.{rest, after}
 pub after-add : (m n : ℕ) (words : Lcg) → after (m + n) words ≡ after n (after m words)
 after-add zero n words = let e : zero + n ≡ n = omega arith in ap (λ k. after k words) e
 after-add (suc m) n words = let e : suc m + n ≡ suc (m + n) = omega arith in ap (λ k. after k words) e ∙ after-add m n (rest words)
-
--- one more word
-pub after-more : (n : ℕ) (words : Lcg) → after (n + 1) words ≡ rest (after n words)
-after-more n words = after-add n 1 words

@@ -2,28 +2,28 @@
 use Rattle.std.specs.Prelude.{ℕ, ◌*◌, ◌≤◌, List, length, IsSome}
 use Rattle.rand_pcg.specs.Lcg.{Lcg}
 use Rattle.mc_task.specs.declared.task.Task.{Task}
-use Rattle.mc_task.specs.TaskSet.{IsSet}
+use Rattle.mc_task.specs.TaskSet.{AreTasks}
 use Rattle.mc_model.specs.Loads.{product, load_ll, load_hl, load_hh, IsWithinRange}
-use Rattle.mc_model.specs.Test.{test}
+use Rattle.mc_model.specs.Test.{published}
 use Rattle.mc_model.specs.Holds.{IsThreeQuarters}
 use Rattle.mc_model.specs.Work.{IsWork}
 use Rattle.mc_model.specs.declared.work.WorkRow.{WorkRow}
 use Rattle.set_gen.specs.MadeSet.{made_set}
 use Rattle.set_gen.specs.MadeWork.{made_work}
 
--- a set whose periods are within range, with U_LL ≤ 1/2, U_HL ≤ 1/4 and U_HH ≤ 3/4: by the 3/4 law the test gives it a rule
-pub record IsAdmitted (tasks : List Task) : Type 0 where
-  pub set : IsSet tasks
+-- a set whose periods are within range, with U_LL ≤ 1/2, U_HL ≤ 1/4 and U_HH ≤ 3/4: by the 3/4 law the published test gives it a rule
+pub record AreWithinThreeQuarters (tasks : List Task) : Type 0 where
+  pub set : AreTasks tasks
   pub range : IsWithinRange tasks
   pub low_low : 2 * load_ll tasks ≤ product tasks
   pub high_low : 4 * load_hl tasks ≤ product tasks
   pub high_high : 4 * load_hh tasks ≤ 3 * product tasks
   pub quarters : IsThreeQuarters tasks
-  pub rule : IsSome (test tasks)
+  pub rule : IsSome (published tasks)
 
 -- law: whatever the words, each set of 2 to 32 tasks is admitted
 abbrev pub MadeSetsAreAdmitted : Type 0
-MadeSetsAreAdmitted = (words : Lcg) (n : ℕ) → 2 ≤ n → n ≤ 32 → IsAdmitted (made_set words n)
+MadeSetsAreAdmitted = (words : Lcg) (n : ℕ) → 2 ≤ n → n ≤ 32 → AreWithinThreeQuarters (made_set words n)
 
 -- a list of work for the set, of at most 1,000,000 jobs
 pub record IsTaken (set : List Task) (rows : List WorkRow) : Type 0 where

@@ -19,9 +19,9 @@ pub fn jobs_of(
     gaps: &[u32],
     ticks: u32,
 ) -> Result<Vec<WorkRow>, AllocError>
-    requires gaps { AreGaps set.now gaps.now }
+    requires gaps { AreGaps set.now.tasks gaps.now }
     requires ticks { ticks ≤ 1000000 }
-    ensures { IfOk result (λ rows. rows.items ≡ spec.job_rows words set.now (spec.releases_below gaps.now ticks)) }
+    ensures { IfOk result (λ rows. rows.items ≡ spec.job_rows words set.now.tasks (spec.releases_below gaps.now ticks)) }
 {
     let mut jobs = Jobs {
         words,
@@ -53,11 +53,11 @@ impl Jobs {
         at: u32,
         ticks: u32,
     ) -> Result<u32, AllocError>
-        requires gaps { AreGaps set.now gaps.now }
+        requires gaps { AreGaps set.now.tasks gaps.now }
         requires next { AreNext gaps.now at self.old.next.items }
         requires at { at < ticks }
         requires ticks { ticks ≤ 1000000 }
-        ensures { IfOk result (λ next. Pass set.now gaps.now at ticks self.old self.new next) }
+        ensures { IfOk result (λ next. Pass set.now.tasks gaps.now at ticks self.old self.new next) }
     {
         let mut least = ticks;
         for (i, gap) in gaps.iter().enumerate() {
@@ -69,13 +69,13 @@ impl Jobs {
 
     // Adds the job of the task at index i, where it is released at boundary `at`. The answer is its next release behind it.
     fn visit(&mut self, set: &TaskSet, i: usize, gap: u32, at: u32) -> Result<u32, AllocError>
-        requires task { i < length set.now }
-        requires count { length self.old.next.items ≡ length set.now }
+        requires task { i < length set.now.tasks }
+        requires count { length self.old.next.items ≡ length set.now.tasks }
         requires next { IsNext gap at (slice_index self.old.next.items i) }
         requires at { at < 1000000 }
         requires gap { 1 ≤ gap }
         requires small { gap < 2 ^ 16 }
-        ensures { IfOk result (λ next. Visit set.now gap at i self.old self.new next) }
+        ensures { IfOk result (λ next. Visit set.now.tasks gap at i self.old self.new next) }
     {
         let _few = set.len();
         let next = self.next[i];
@@ -90,8 +90,8 @@ impl Jobs {
     // Adds one job.
     #[tactic(auto, unfolding(crate::specs::MadeWork::job_row))]
     fn add(&mut self, set: &TaskSet, task: TaskNo, at: u32) -> Result<(), AllocError>
-        requires { IsIn set.now task.0 }
-        ensures rows { OnOk result (self.new.rows.items ≡ self.old.rows.items ++ spec.job_row set.now (record { task = task.0; at = at }) (word self.old.words) ∷ []) }
+        requires { IsIn set.now.tasks task.0 }
+        ensures rows { OnOk result (self.new.rows.items ≡ self.old.rows.items ++ spec.job_row set.now.tasks (record { task = task.0; at = at }) (word self.old.words) ∷ []) }
         ensures words { OnOk result (self.new.words ≡ rest self.old.words) }
         ensures next { self.new.next ≡ self.old.next }
     {
@@ -108,8 +108,8 @@ impl Jobs {
 // The need of a job of the task, in ticks.
 #[tactic(auto, unfolding(crate::specs::MadeWork::need_in))]
 fn need(set: &TaskSet, task: TaskNo, word: u32) -> u32
-    requires { IsIn set.now task.0 }
-    ensures { result ≡ spec.need_in (task_at set.now task.0) word }
+    requires { IsIn set.now.tasks task.0 }
+    ensures { result ≡ spec.need_in (task_at set.now.tasks task.0) word }
 {
     let _is_set = set.len();
     match set.get(task) {

@@ -1,13 +1,13 @@
 // A workload as a whole.
 ghost use Rattle.std.specs.Prelude.{◌≡◌, ◌≤◌, length, IfOk, Some};
-ghost use Rattle.mc_task.specs.TaskSet.{IsSet};
-ghost use Rattle.mc_model.specs.Test.{test};
+ghost use Rattle.mc_task.specs.TaskSet.{AreTasks, unscaled};
+ghost use Rattle.mc_model.specs.Test.{published};
 ghost use Rattle.mc_model.specs.Holds.{Holds, Fits};
 ghost use Rattle.mc_model.specs.Work.{IsWork};
 ghost use Rattle.set_gen.specs.Words as spec;
 ghost use Rattle.set_gen.specs.MadeSet.{made_set};
 ghost use Rattle.set_gen.specs.MadeWork.{made_work};
-ghost use Rattle.set_gen.specs.Laws.{IsAdmitted, IsTaken, MadeSetsAreAdmitted, MadeWorkIsTaken};
+ghost use Rattle.set_gen.specs.Laws.{AreWithinThreeQuarters, IsTaken, MadeSetsAreAdmitted, MadeWorkIsTaken};
 
 use crate::jobs::jobs_of;
 use crate::tasks::{Drawn, draw};
@@ -38,31 +38,29 @@ pub fn make(alloc: Global, number: u64, tasks: u32, ticks: u64) -> Result<Made, 
     requires few { tasks ≤ 32 }
     requires first { 1 ≤ ticks }
     requires last { ticks ≤ 1000000 }
-    ensures set { IfOk result (λ made. made.set ≡ made_set (spec.words_of number) tasks) }
-    ensures rule { IfOk result (λ made. test made.set ≡ Some made.rule) }
+    ensures set { IfOk result (λ made. made.set ≡ unscaled (made_set (spec.words_of number) tasks)) }
+    ensures rule { IfOk result (λ made. published made.set.tasks ≡ Some made.rule) }
     ensures work { IfOk result (λ made. made.work ≡ made_work (spec.words_of number) tasks ticks) }
-    ensures admitted { IfOk result (λ made. IsAdmitted made.set) }
+    ensures admitted { IfOk result (λ made. AreWithinThreeQuarters made.set.tasks) }
     ensures fits { IfOk result (λ made. Fits made.rule) }
-    ensures holds { IfOk result (λ made. Holds made.set made.rule) }
-    ensures is_work { IfOk result (λ made. IsWork made.set made.work) }
+    ensures holds { IfOk result (λ made. Holds made.set.tasks made.rule) }
+    ensures is_work { IfOk result (λ made. IsWork made.set.tasks made.work) }
     ensures sets { MadeSetsAreAdmitted }
     ensures works { MadeWorkIsTaken }
 {
-    match make_all(alloc, number, tasks, ticks as u32) {
-        Ok(made) => Ok(made),
-        Err(_) => Err(Memory),
-    }
+    let made = make_all(alloc, number, tasks, ticks as u32)?;
+    Ok(made)
 }
 
 fn make_all(alloc: Global, number: u64, count: u32, ticks: u32) -> Result<Made, AllocError>
     requires some { 2 ≤ count }
     requires few { count ≤ 32 }
     requires last { ticks ≤ 1000000 }
-    ensures set { IfOk result (λ made. made.set ≡ made_set (spec.words_of number) count) }
-    ensures rule { IfOk result (λ made. test made.set ≡ Some made.rule) }
+    ensures set { IfOk result (λ made. made.set ≡ unscaled (made_set (spec.words_of number) count)) }
+    ensures rule { IfOk result (λ made. published made.set.tasks ≡ Some made.rule) }
     ensures work { IfOk result (λ made. made.work ≡ made_work (spec.words_of number) count ticks) }
     ensures fits { IfOk result (λ made. Fits made.rule) }
-    ensures holds { IfOk result (λ made. Holds made.set made.rule) }
+    ensures holds { IfOk result (λ made. Holds made.set.tasks made.rule) }
 {
     let mut words = words_of(number);
     let Drawn { tasks, gaps } = draw(alloc, &mut words, count)?;
@@ -75,8 +73,8 @@ fn make_all(alloc: Global, number: u64, count: u32, ticks: u32) -> Result<Made, 
 
 // The set of these tasks.
 fn set_of(tasks: Vec<Task>) -> TaskSet
-    requires { IsSet tasks.items }
-    ensures { result ≡ tasks.items }
+    requires { AreTasks tasks.items }
+    ensures { result ≡ unscaled tasks.items }
 {
     match TaskSet::new(tasks) {
         Ok(set) => set,
@@ -84,12 +82,12 @@ fn set_of(tasks: Vec<Task>) -> TaskSet
     }
 }
 
-// The rule of the test.
+// The rule of the published test.
 fn rule_of(set: &TaskSet) -> Rule
-    requires { IsAdmitted set.now }
-    ensures rule { test set.now ≡ Some result }
+    requires { AreWithinThreeQuarters set.now.tasks }
+    ensures rule { published set.now.tasks ≡ Some result }
     ensures fits { Fits result }
-    ensures holds { Holds set.now result }
+    ensures holds { Holds set.now.tasks result }
 {
     match sum_loads(set) {
         Ok(loads) => match admit(&loads) {
@@ -102,7 +100,7 @@ fn rule_of(set: &TaskSet) -> Rule
 
 // These rows as work.
 fn work_of(set: &TaskSet, rows: Vec<WorkRow>) -> Work
-    requires { IsTaken set.now rows.items }
+    requires { IsTaken set.now.tasks rows.items }
     ensures { result ≡ rows.items }
 {
     let _is_set = set.len();

@@ -11,12 +11,12 @@ use Rattle.status_board.specs.declared.shown.View.{View}
 use Rattle.status_board.specs.declared.shown.Shown.{Shown}
 use Rattle.status_board.specs.Logs.{StartsWith, start, IsLog, last_of, word_of}
 use Rattle.status_board.specs.Views.{writer_view, watcher_view, shown_view, seen_view, both_views, spent_view}
-use Rattle.status_board.specs.Rule.{Fits, Orderly}
+use Rattle.status_board.specs.Rule.{IsTokenOf, Orderly}
 use Rattle.status_board.specs.Steps.{Standing, Shows, Looks}
 use Rattle.status_board.proofs.Lists.{both_ways, whole, further, all_further, longer_begins, last_more, log_more, set_all, set_at}
 
-first : (id : ℕ) (v : View) → get_elem? (writer_view ∷ []) id ≡ some v → Fits (start ∷ []) id v
-first zero v e = subst (Fits (start ∷ []) 0) (some-injective writer_view v e) (record { first = λ _. refl; seen = λ _. whole (start ∷ []); told = tt })
+first : (id : ℕ) (v : View) → get_elem? (writer_view ∷ []) id ≡ some v → IsTokenOf (start ∷ []) id v
+first zero v e = subst (IsTokenOf (start ∷ []) 0) (some-injective writer_view v e) (record { first = λ _. refl; seen = λ _. whole (start ∷ []); told = tt })
 first (suc k) v e = absurd (some-ne-none v (sym e))
 
 -- a board at the start
@@ -50,7 +50,7 @@ shows n id m now writes live next s r wide at lt =
         writes = writes;
         log = new;
         word = ap (λ (ws : List ℕ). set ws 0 (word_of now)) r.word ∙ ap (λ (x : Shown). word_of x ∷ []) (sym (last_more start v.list now));
-        each = set_all (Fits more) s.views id w
+        each = set_all (IsTokenOf more) s.views id w
             (record { first = f.first; seen = λ _. whole more; told = all_further more log v.told grows f.told })
             (λ j u ne at_j. let g = r.each j u at_j in record { first = g.first; seen = λ on. further more log u.list grows (g.seen on); told = all_further more log u.told grows g.told });
       },
@@ -74,7 +74,7 @@ looks n id m reads live s r wide at lt =
         writes = r.writes;
         log = r.log;
         word = ap (λ (ws : List ℕ). set ws 0 (slice_index ws 0)) r.word;
-        each = set_all (Fits log) s.views id w (record { first = f.first; seen = λ _. whole log; told = tt }) (λ j u ne at_j. r.each j u at_j);
+        each = set_all (IsTokenOf log) s.views id w (record { first = f.first; seen = λ _. whole log; told = tt }) (λ j u ne at_j. r.each j u at_j);
       },
       (log, r.log, f.seen live, f.told, ap (λ (ws : List ℕ). slice_index ws 0) r.word, refl),
     )
@@ -83,7 +83,7 @@ looks n id m reads live s r wide at lt =
 pub copies : (id : ℕ) (v : View) → v.live ≡ true → Splits Orderly id v v (watcher_view v)
 copies id v live s r at =
     let f = r.each id v at in
-    let P : ℕ → View → Type 0 = Fits r.writer.list in
+    let P : ℕ → View → Type 0 = IsTokenOf r.writer.list in
     let there : get_elem? (set s.views id v) 0 ≡ some r.writer = dite (ℕ_discrete 0 id)
     (λ z. ap (λ (i : ℕ). get_elem? (set s.views id v) i) z ∙ (set_at s.views id v v at ∙ (sym at ∙ (ap (λ (i : ℕ). get_elem? s.views i) (sym z) ∙ r.there))))
     (λ ne. set_else s.views id 0 v ne ∙ r.there) in
@@ -107,7 +107,7 @@ joins id other v w reads live note_reads note_live s r at ne at2 =
     let f = r.each id v at in
     let fw = r.each other w at_w in
     let log : List Shown = r.writer.list in
-    let P : ℕ → View → Type 0 = Fits log in
+    let P : ℕ → View → Type 0 = IsTokenOf log in
     let not_at : (i : ℕ) (u : View) → get_elem? s.views i ≡ some u → u.writes ≡ false → 0 ≢ i = λ i u at_i off z.
     both_ways u.writes (ap (λ (x : View). x.writes) (some-injective u r.writer (sym at_i ∙ (ap (λ (k : ℕ). get_elem? s.views k) (sym z) ∙ r.there))) ∙ r.writes) off in
     record {

@@ -14,7 +14,7 @@ AllBegin log [] = ⊤
 AllBegin log (x ∷ xs) = StartsWith log x × AllBegin log xs
 
 -- what is so of the token in place id
-pub record Fits (log : List Shown) (id : ℕ) (v : View) : Type 0 where
+pub record IsTokenOf (log : List Shown) (id : ℕ) (v : View) : Type 0 where
   -- the writer has the first place
   pub first : v.writes ≡ true → id ≡ 0
   -- what it showed or saw, and what it was told, is a beginning of the log
@@ -29,4 +29,4 @@ pub record Orderly (s : State (Unit {0}) View) : Type 0 where
   -- what the writer showed is the log
   pub log : IsLog writer.list
   pub word : s.words ≡ word_of (last_of start writer.list) ∷ []
-  pub each : (id : ℕ) (v : View) → get_elem? s.views id ≡ some v → Fits writer.list id v
+  pub each : (id : ℕ) (v : View) → get_elem? s.views id ≡ some v → IsTokenOf writer.list id v

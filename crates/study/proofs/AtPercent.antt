@@ -6,7 +6,7 @@ use Rattle.std.specs.List.{AllByRecursion}
 use Rattle.mc_task.specs.declared.task.Task.{Task}
 use Rattle.mc_task.specs.declared.task.Level.{Level}
 use Rattle.mc_task.specs.declared.task.Level.TheVariants.{Low, High}
-use Rattle.mc_task.specs.TaskSet.{IsSet, IsTask, IsTickCount, InOrder, Distinct, names_of}
+use Rattle.mc_task.specs.TaskSet.{AreTasks, IsTask, IsTickCount, InOrder, Distinct, names_of}
 use Rattle.tick_frac.specs.Numbers.{lcm}
 use Rattle.mc_model.specs.Loads.{product, load, lcm_from, hyperperiod, low_low, high_low, high_high, load_ll, load_hl, load_hh, by_level}
 use Rattle.mc_model.proofs.Loads.{scale_of}
@@ -40,8 +40,8 @@ names-at : (s : ℕ) (ts : List Task) → names_of (at_percent ts s) ≡ names_o
 names-at s [] = refl
 names-at s (t ∷ ts) = ap (λ ns. t.name ∷ ns) (names-at s ts)
 
-pub at_percent-IsSet : (set : List Task) (s : ℕ) → IsSet set → IsSet (at_percent set s)
-at_percent-IsSet set s is =
+pub at_percent-AreTasks : (set : List Task) (s : ℕ) → AreTasks set → AreTasks (at_percent set s)
+at_percent-AreTasks set s is =
     let long : length (at_percent set s) ≡ length set = length-map set (with_percent s) in
     record {
       some = omega (arith, long, is.some);
@@ -102,7 +102,7 @@ over x l same equal h = ap (λ z. x * z) same ∙ h ∙ ap (λ z. z * l) (sym eq
 pub at_percent-BelongTo : (set : List Task) (loads : Loads) (s c : ℕ) → BelongTo set loads → c ≡ load high_high loads.lcm (at_percent set s)
     → BelongTo (at_percent set s) (with_high loads c)
 at_percent-BelongTo set loads s c b is =
-    let own : IsSet (at_percent set s) = at_percent-IsSet set s b.set in
+    let own : AreTasks (at_percent set s) = at_percent-AreTasks set s b.set in
     let lcm : loads.lcm ≡ hyperperiod (at_percent set s) = b.lcm ∙ sym (lcm_from-at s set 1) in
     let (k, scale) = scale_of (at_percent set s) own.each in
     record {

@@ -9,7 +9,7 @@ use Rattle.study.specs.Steps.{IsReached, more_than}
 use Rattle.study.specs.Stretch.{is_admitted_at, stretch}
 use Rattle.set_gen.specs.Words.{words_of}
 use Rattle.set_gen.specs.MadeSet.{made_set}
-use Rattle.set_gen.proofs.MadeTasks.{made_set-IsSet}
+use Rattle.set_gen.proofs.MadeTasks.{made_set-AreTasks}
 use Rattle.study.proofs.Reached.{reaches-admitted}
 
 -- one element more
@@ -42,7 +42,7 @@ pub accepted-admitted : AcceptedAreAdmitted
 unfolding accepted made_stretch
 accepted-admitted number sets n s some few most =
     counted-same (λ i. reaches s (stretch (made_set (words_of (number + i)) n))) (λ i. is_admitted_at (made_set (words_of (number + i)) n) s) (range_with_len 0 sets)
-    (λ i. reaches-admitted (made_set (words_of (number + i)) n) s (made_set-IsSet (words_of (number + i)) n some few) most)
+    (λ i. reaches-admitted (made_set (words_of (number + i)) n) s (made_set-AreTasks (words_of (number + i)) n some few) most)
 
 -- so the counts are the table
 pub counts-table : (number sets n : ℕ) (ks : List ℕ) → AllZip (λ i k. IsReached (made_stretch (number + i) n) k) (range_with_len 0 sets) ks

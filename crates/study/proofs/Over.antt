@@ -7,23 +7,23 @@ use Rattle.std.proofs.lemmas.Nat.Gcd.{le_of_dvd}
 use Rattle.std.proofs.lemmas.Nat.{le-div}
 use Rattle.std.proofs.Math.Nat.{mul-div_cancel'}
 use Rattle.mc_task.specs.declared.task.Task.{Task}
-use Rattle.mc_task.specs.TaskSet.{IsTask, IsSet}
+use Rattle.mc_task.specs.TaskSet.{IsTask, AreTasks}
 use Rattle.mc_model.specs.Loads.{load, hyperperiod, low_low, high_low, high_high}
-use Rattle.mc_model.specs.Test.{rule_of, test}
+use Rattle.mc_model.specs.Test.{rule_of, published}
 use Rattle.mc_model.proofs.Hyperperiod.{hyperperiod-IsLeastCommon, periods-dvd}
 use Rattle.mc_model.proofs.Loads.{load_scaled, scale_of, high-order}
 use Rattle.mc_model.proofs.Tests.{rule-scaled}
 use Rattle.study.specs.Stretch.{at_percent, is_admitted_at}
 use Rattle.study.specs.Loads.{budget_at, AdmitsUpTo}
-use Rattle.study.proofs.AtPercent.{at_percent-IsSet, load-at}
+use Rattle.study.proofs.AtPercent.{at_percent-AreTasks, load-at}
 
 scaled_rule : (k l p x y z a b c : ℕ) → 0 < k → p ≡ k * l → a ≡ k * x → b ≡ k * y → c ≡ k * z → rule_of p a b c ≡ rule_of l x y z
 scaled_rule k l p x y z a b c above whole low high most = rw (whole, low, high, most) (rule-scaled k l x y z above)
 
 -- the rule of the loads over n is the test's
 test-over : (n : ℕ) (ts : List Task) → 0 < n → AllByRecursion IsTask ts → AllByRecursion (λ t. t.period ∣ n) ts
-    → rule_of n (load low_low n ts) (load high_low n ts) (load high_high n ts) ≡ test ts
-unfolding test
+    → rule_of n (load low_low n ts) (load high_low n ts) (load high_high n ts) ≡ published ts
+unfolding published
 test-over n ts some each divides =
     let l : ℕ = hyperperiod ts in
     let (k, s) = scale_of ts each in
@@ -43,10 +43,10 @@ at-divides n s [] h = tt
 at-divides n s (t ∷ ts) h = (h.0, at-divides n s ts h.1)
 
 -- with s percent
-test-at : (n s : ℕ) (set : List Task) → 0 < n → IsSet set → AllByRecursion (λ t. t.period ∣ n) set
+test-at : (n s : ℕ) (set : List Task) → 0 < n → AreTasks set → AllByRecursion (λ t. t.period ∣ n) set
     → is_some (rule_of n (load low_low n set) (load high_low n set) (load (budget_at s) n set)) ≡ is_admitted_at set s
 test-at n s set some is divides =
-    let own : IsSet (at_percent set s) = at_percent-IsSet set s is in
+    let own : AreTasks (at_percent set s) = at_percent-AreTasks set s is in
     let a : load low_low n (at_percent set s) ≡ load low_low n set = load-at low_low low_low s n (λ t. refl) set in
     let b : load high_low n (at_percent set s) ≡ load high_low n set = load-at high_low high_low s n (λ t. refl) set in
     let c : load high_high n (at_percent set s) ≡ load (budget_at s) n set = load-at high_high (budget_at s) s n (λ t. refl) set in
@@ -56,19 +56,19 @@ test-at n s set some is divides =
     ∙ ap (λ z. rule_of n (load low_low n (at_percent set s)) (load high_low n (at_percent set s)) z) (sym c)
     ∙ test-over n (at_percent set s) some own.each (at-divides n s set divides))
 
-order-at : (n s : ℕ) (set : List Task) → IsSet set → load high_low n set ≤ load (budget_at s) n set
+order-at : (n s : ℕ) (set : List Task) → AreTasks set → load high_low n set ≤ load (budget_at s) n set
 order-at n s set is =
-    let own : IsSet (at_percent set s) = at_percent-IsSet set s is in
+    let own : AreTasks (at_percent set s) = at_percent-AreTasks set s is in
     let b : load high_low n (at_percent set s) ≡ load high_low n set = load-at high_low high_low s n (λ t. refl) set in
     let c : load high_high n (at_percent set s) ≡ load (budget_at s) n set = load-at high_high (budget_at s) s n (λ t. refl) set in
     omega (arith, b, c, high-order n (at_percent set s) own.each)
 
 -- where no numerator is admitted, no percentage is
-pub over-none : (n s : ℕ) (set : List Task) → 0 < n → IsSet set → AllByRecursion (λ t. t.period ∣ n) set
+pub over-none : (n s : ℕ) (set : List Task) → 0 < n → AreTasks set → AllByRecursion (λ t. t.period ∣ n) set
     → AdmitsUpTo n (load low_low n set) (load high_low n set) None → is_admitted_at set s ≡ false
 over-none n s set some is divides none = sym (test-at n s set some is divides) ∙ none (load (budget_at s) n set) (order-at n s set is)
 
 -- where numerators are admitted up to one, so are the percentages that give such
-pub over-some : (n s most : ℕ) (set : List Task) → 0 < n → IsSet set → AllByRecursion (λ t. t.period ∣ n) set
+pub over-some : (n s most : ℕ) (set : List Task) → 0 < n → AreTasks set → AllByRecursion (λ t. t.period ∣ n) set
     → AdmitsUpTo n (load low_low n set) (load high_low n set) (Some most) → is_admitted_at set s ≡ nat_le (load (budget_at s) n set) most
 over-some n s most set some is divides admits = sym (test-at n s set some is divides) ∙ admits (load (budget_at s) n set) (order-at n s set is)

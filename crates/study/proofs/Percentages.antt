@@ -6,16 +6,16 @@ use Rattle.mc_task.specs.declared.task.Task.{Task}
 use Rattle.mc_task.specs.declared.task.Rule.{Rule}
 use Rattle.mc_task.specs.declared.task.Rule.TheVariants.{Plain, Virtual}
 use Rattle.mc_model.specs.Loads.{load, high_high, product, load_ll, load_hl, load_hh}
-use Rattle.mc_model.specs.Test.{rule_of, test}
+use Rattle.mc_model.specs.Test.{rule_of, published}
 use Rattle.mc_model.specs.Holds.{Holds, HoldsOver}
-use Rattle.mc_model.proofs.RuleHolds.{test-holds}
+use Rattle.mc_model.proofs.RuleHolds.{published-holds}
 use Rattle.mc_model.proofs.HoldsAdmitted.{holds-admitted}
 use Rattle.load_sum.specs.declared.loads.Loads.{Loads}
 use Rattle.load_sum.specs.Belong.{BelongTo}
-use Rattle.admission.proofs.Sets.{rule_of-test, high_low-most}
+use Rattle.admission.proofs.Sets.{rule_of-published, high_low-most}
 use Rattle.study.specs.Stretch.{at_percent, is_admitted_at, greatest_below, stretch, IsStretch, LessIsAdmitted}
 use Rattle.study.specs.Loads.{with_high, AdmitsUpTo}
-use Rattle.study.proofs.AtPercent.{at_percent-IsSet, at_percent-BelongTo, product-at, load_ll-at, load_hl-at, load_hh-grows}
+use Rattle.study.proofs.AtPercent.{at_percent-AreTasks, at_percent-BelongTo, product-at, load_ll-at, load_hl-at, load_hh-grows}
 use Rattle.study.proofs.Greatest.{greatest_below-none, greatest_below-same, IsGreatestBelow, greatest_below-IsGreatestBelow}
 
 -- what the high tasks ask with s percent
@@ -28,7 +28,7 @@ belong-at set loads s b = at_percent-BelongTo set loads s (high_load loads set s
 -- the test with s percent is the test of the loads with what the high tasks then ask
 pub admitted-at : (set : List Task) (loads : Loads) (s : ℕ) → BelongTo set loads
     → is_some (rule_of loads.lcm loads.low_low loads.high_low (high_load loads set s)) ≡ is_admitted_at set s
-admitted-at set loads s b = ap is_some (rule_of-test (at_percent set s) (with_high loads (high_load loads set s)) (belong-at set loads s b))
+admitted-at set loads s b = ap is_some (rule_of-published (at_percent set s) (with_high loads (high_load loads set s)) (belong-at set loads s b))
 
 order-at : (set : List Task) (loads : Loads) (s : ℕ) → BelongTo set loads → loads.high_low ≤ high_load loads set s
 order-at set loads s b = high_low-most (at_percent set s) (with_high loads (high_load loads set s)) (belong-at set loads s b)
@@ -70,8 +70,8 @@ some_is o h = h
 -- law: with less of its high budgets an admitted set is admitted
 pub less-admitted : LessIsAdmitted
 less-admitted set r s is le h =
-    let (rule, gives) = value_of (test (at_percent set s)) h in
-    let holds : Holds (at_percent set s) rule = test-holds (at_percent set s) rule (at_percent-IsSet set s is) gives in
+    let (rule, gives) = value_of (published (at_percent set s)) h in
+    let holds : Holds (at_percent set s) rule = published-holds (at_percent set s) rule (at_percent-AreTasks set s is) gives in
     let n : product (at_percent set s) ≡ product (at_percent set r) = product-at s set ∙ sym (product-at r set) in
     let a : load_ll (at_percent set s) ≡ load_ll (at_percent set r) = load_ll-at s set ∙ sym (load_ll-at r set) in
     let b : load_hl (at_percent set s) ≡ load_hl (at_percent set r) = load_hl-at s set ∙ sym (load_hl-at r set) in
@@ -79,4 +79,4 @@ less-admitted set r s is le h =
     subst (λ z. HoldsOver z (load_ll (at_percent set r)) (load_hl (at_percent set r)) (load_hh (at_percent set s)) rule) n
     (subst (λ z. HoldsOver (product (at_percent set s)) z (load_hl (at_percent set r)) (load_hh (at_percent set s)) rule) a
     (subst (λ z. HoldsOver (product (at_percent set s)) (load_ll (at_percent set s)) z (load_hh (at_percent set s)) rule) b holds)) in
-    some_is (test (at_percent set r)) (holds-admitted (at_percent set r) rule (at_percent-IsSet set r is) (holds-less _ _ _ _ _ rule (load_hh-grows r s set le) same))
+    some_is (published (at_percent set r)) (holds-admitted (at_percent set r) rule (at_percent-AreTasks set r is) (holds-less _ _ _ _ _ rule (load_hh-grows r s set le) same))

@@ -6,13 +6,13 @@ use Rattle.std.proofs.lemmas.Bool.{lt-leb, lt-ltb, le-ltb}
 use Rattle.std.proofs.lemmas.Bool.Decides.{leb_tells}
 use Rattle.rand_pcg.specs.Lcg.{Lcg}
 use Rattle.mc_task.specs.declared.task.Task.{Task}
-use Rattle.mc_task.specs.TaskSet.{IsSet}
+use Rattle.mc_task.specs.TaskSet.{AreTasks}
 use Rattle.mc_model.specs.Loads.{load, low_low, high_low}
 use Rattle.mc_model.specs.Sums.{total}
 use Rattle.set_gen.specs.Words.{word, words_of}
 use Rattle.set_gen.specs.MadeSet.{made_set, words_for}
 use Rattle.set_gen.proofs.Periods.{period-IsPeriod}
-use Rattle.set_gen.proofs.MadeTasks.{made_task-period, made_set-each, made_set-IsSet}
+use Rattle.set_gen.proofs.MadeTasks.{made_task-period, made_set-each, made_set-AreTasks}
 use Rattle.study.specs.Stretch.{is_admitted_at, stretch, IsStretch}
 use Rattle.study.specs.Loads.{budget_at, AdmitsUpTo}
 use Rattle.study.specs.Acceptance.{reaches, made_stretch}
@@ -22,7 +22,7 @@ use Rattle.study.proofs.Percentages.{stretch-greatest, less-admitted}
 use Rattle.study.proofs.Over.{over-none, over-some}
 
 -- a percentage is admitted exactly where the stretch reaches it
-pub reaches-admitted : (set : List Task) (s : ℕ) → IsSet set → s ≤ 1000 → reaches s (stretch set) ≡ is_admitted_at set s
+pub reaches-admitted : (set : List Task) (s : ℕ) → AreTasks set → s ≤ 1000 → reaches s (stretch set) ≡ is_admitted_at set s
 reaches-admitted set s is most = go (stretch set) (stretch-greatest set)
   where
     go : (o : Option ℕ) → IsStretch set o → reaches s o ≡ is_admitted_at set s
@@ -52,7 +52,7 @@ pub reached-none : (number n : ℕ) (sums : Sums) → 2 ≤ n → n ≤ 32 → A
 unfolding made_stretch
 reached-none number n sums some few are none = λ i lt.
     let set : List Task = made_set (words_of number) n in
-    let is : IsSet set = made_set-IsSet (words_of number) n some few in
+    let is : AreTasks set = made_set-AreTasks (words_of number) n some few in
     let admits : AdmitsUpTo 20000 (load low_low 20000 set) (load high_low 20000 set) None = rw (← are.low_low, ← are.high_low) none in
     reaches-admitted set (100 + 10 * i) is (omega arith) ∙ over-none 20000 (100 + 10 * i) set (omega arith) is (made-divides (words_of number) n) admits ∙ sym (le-ltb _ _ (omega arith))
 
@@ -68,8 +68,8 @@ reached-some number n most k sums some few are admits upto = λ i lt.
     set : List Task
     set = made_set (words_of number) n
 
-    is : IsSet set
-    is = made_set-IsSet (words_of number) n some few
+    is : AreTasks set
+    is = made_set-AreTasks (words_of number) n some few
 
     over : AdmitsUpTo 20000 (load low_low 20000 set) (load high_low 20000 set) (Some most)
     over = rw (← are.low_low, ← are.high_low) admits

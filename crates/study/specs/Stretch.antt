@@ -1,9 +1,9 @@
 -- How much room a set has: the greatest percentage of its high budgets at which the published test admits it.
 use Rattle.std.specs.Prelude.{◌≡◌, ℕ, zero, suc, ◌*◌, ◌/◌, ◌<◌, ◌≤◌, min, max, Bool, true, false, if◌then◌else◌, List, map, Option, None, Some, is_some}
 use Rattle.mc_task.specs.declared.task.Task.{Task}
-use Rattle.mc_task.specs.TaskSet.{IsSet}
+use Rattle.mc_task.specs.TaskSet.{AreTasks}
 use Rattle.mc_model.specs.Loads.{by_level}
-use Rattle.mc_model.specs.Test.{test}
+use Rattle.mc_model.specs.Test.{published}
 
 -- s percent of a high budget, rounded down, but at least the low budget and at most 4,294,967,295
 abbrev pub percent : ℕ → ℕ → ℕ → ℕ
@@ -19,7 +19,7 @@ at_percent set s = map (with_percent s) set
 
 -- the published test admits it
 abbrev pub is_admitted_at : List Task → ℕ → Bool
-is_admitted_at set s = is_some (test (at_percent set s))
+is_admitted_at set s = is_some (published (at_percent set s))
 
 -- the greatest number below n that passes
 unfoldable pub greatest_below : (ℕ → Bool) → ℕ → Option ℕ
@@ -37,4 +37,4 @@ IsStretch set (Some s) = (s ≤ 1000) × (is_admitted_at set s ≡ true) × ((r 
 
 -- law: a set that is admitted at s percent is admitted at each lower percentage
 abbrev pub LessIsAdmitted : Type 0
-LessIsAdmitted = (set : List Task) (r s : ℕ) → IsSet set → r ≤ s → is_admitted_at set s ≡ true → is_admitted_at set r ≡ true
+LessIsAdmitted = (set : List Task) (r s : ℕ) → AreTasks set → r ≤ s → is_admitted_at set s ≡ true → is_admitted_at set r ≡ true

@@ -32,27 +32,8 @@ pub fn table<R: Threads + Sync>(
     ensures parts { spec.PartsAdd }
     ensures admitted { spec.AcceptedAreAdmitted }
 {
-    match counted(rt, alloc, number, sets, tasks) {
-        Ok(counts) => Ok(counts),
-        Err(AllocError) => Err(Memory),
-    }
-}
-
-fn counted<R: Threads + Sync>(
-    rt: &R,
-    alloc: Global,
-    number: u64,
-    sets: u32,
-    tasks: u32,
-) -> Result<Vec<u32>, AllocError>
-    requires sets { sets ≤ 10000 }
-    requires some_tasks { 2 ≤ tasks }
-    requires few_tasks { tasks ≤ 32 }
-    requires numbers { number + sets < 2 ^ 64 }
-    ensures { IfOk result (λ counts. counts.items ≡ spec.accept_table number sets tasks) }
-{
     let reached = reached(rt, alloc, number, sets, tasks)?;
-    counts(alloc, &reached)
+    Ok(counts(alloc, &reached)?)
 }
 
 // How many of the percentages each set reaches.

@@ -1,20 +1,20 @@
 // How much room one set has.
-ghost use Rattle.std.specs.Prelude.{◌≡◌, ◌<◌, ◌≤◌, ◌^◌, ◌*◌, ◌/◌, nat_le, length, slice_get, Some};
+ghost use Rattle.std.specs.Prelude.{◌≡◌, ◌<◌, ◌≤◌, ◌^◌, ◌*◌, ◌/◌, nat_le};
 ghost use Rattle.mc_model.specs.Loads.{load, high_high};
 ghost use Rattle.load_sum.specs.Belong.{BelongTo};
 ghost use Rattle.study.specs.Stretch as spec;
 ghost use Rattle.study.specs.Loads.{with_high, budget_at, AdmitsUpTo};
 
 use load_sum::Loads;
-use mc_task::{Level, Task, TaskNo, TaskSet};
+use mc_task::{Level, Task, TaskSet};
 
 /// The greatest percentage, up to 1000, of a set's high budgets at which the published test admits the set: each is that
 /// percentage of itself, rounded down, but at least the low budget and at most 4,294,967,295. `None` exactly where the test
 /// admits the set at no percentage. The set has these loads.
 pub fn stretch(set: &TaskSet, loads: &Loads) -> Option<u32>
-    requires { BelongTo set.now loads.now }
-    ensures value { result ≡ spec.stretch set.now }
-    ensures greatest { spec.IsStretch set.now result }
+    requires { BelongTo set.now.tasks loads.now }
+    ensures value { result ≡ spec.stretch set.now.tasks }
+    ensures greatest { spec.IsStretch set.now.tasks result }
     ensures law { spec.LessIsAdmitted }
 {
     let most = most_high(u128::from(loads.lcm), loads.low_low, loads.high_low)?;
@@ -23,9 +23,9 @@ pub fn stretch(set: &TaskSet, loads: &Loads) -> Option<u32>
 
 /// The numerator over `loads.lcm` of U_HH of a set at `s` percent of its high budgets: with it the loads belong to that set.
 pub fn high_at(set: &TaskSet, loads: &Loads, s: u32) -> u128
-    requires loads { BelongTo set.now loads.now }
+    requires loads { BelongTo set.now.tasks loads.now }
     requires most { s ≤ 1001 }
-    ensures { BelongTo (spec.at_percent set.now s) (with_high loads.now result) }
+    ensures { BelongTo (spec.at_percent set.now.tasks s) (with_high loads.now result) }
 {
     sum_at(set, loads.lcm, s)
 }
@@ -49,7 +49,7 @@ fn most_high(n: u128, a: u128, b: u128) -> Option<u128>
 // The greatest percentage up to 1000 at which the high budgets ask for at most `most` of `lcm` ticks.
 fn greatest(set: &TaskSet, lcm: u64, most: u128) -> Option<u32>
     requires { lcm ≤ 2 ^ 60 }
-    ensures { result ≡ spec.greatest_below (λ s. nat_le (load high_high lcm (spec.at_percent set.now s)) most) 1001 }
+    ensures { result ≡ spec.greatest_below (λ s. nat_le (load high_high lcm (spec.at_percent set.now.tasks s)) most) 1001 }
 {
     // They do at each percentage below `low`, and at none from `high` on.
     let mut low = 0;
@@ -69,23 +69,14 @@ fn greatest(set: &TaskSet, lcm: u64, most: u128) -> Option<u32>
 fn sum_at(set: &TaskSet, lcm: u64, s: u32) -> u128
     requires lcm { lcm ≤ 2 ^ 60 }
     requires most { s ≤ 1001 }
-    ensures { result ≡ load high_high lcm (spec.at_percent set.now s) }
+    ensures { result ≡ load high_high lcm (spec.at_percent set.now.tasks s) }
 {
-    let count = set.len();
+    let tasks = set.as_slice();
     let mut sum = 0;
-    for i in 0..count {
-        sum += share(&task_of(set, i), lcm, s);
+    for task in tasks {
+        sum += share(task, lcm, s);
     }
     sum
-}
-
-// The task at index i.
-fn task_of(set: &TaskSet, i: u32) -> Task
-    requires within { i < length set.now }
-    requires few { i < 128 }
-    ensures { slice_get set.now i ≡ Some result }
-{
-    set.get(TaskNo(i + 1)).unwrap()
 }
 
 // What one task adds to that: a low task nothing.

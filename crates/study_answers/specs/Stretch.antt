@@ -31,7 +31,7 @@ measured set = do
 abbrev pub stretched : List ℕ → Result (List ℕ) Refusal
 stretched bytes = do
   set ← set_in bytes
-  measured set
+  measured set.tasks
 
 -- the command
 abbrev pub stretch : List ℕ → Command

@@ -59,7 +59,7 @@ impl<'a> Command for Stretch<'a> {
 
 // The reply that tells the stretch of a set, or that its periods are out of range.
 fn measured(alloc: Global, set: &TaskSet) -> Result<Reply, AllocError>
-    ensures { IfOk result (λ reply. reply ≡ reply_by (spec.measured set.now)) }
+    ensures { IfOk result (λ reply. reply ≡ reply_by (spec.measured set.now.tasks)) }
 {
     match sum_loads(set) {
         Ok(loads) => Ok(Reply::new(0, stretch_text(alloc, set, &loads)?)),
@@ -68,8 +68,8 @@ fn measured(alloc: Global, set: &TaskSet) -> Result<Reply, AllocError>
 }
 
 fn stretch_text(alloc: Global, set: &TaskSet, loads: &Loads) -> Result<Vec<u8>, AllocError>
-    requires { BelongTo set.now loads.now }
-    ensures { IfOk result (λ text. text.items ≡ spec.stretch_text set.now (room.stretch set.now)) }
+    requires { BelongTo set.now.tasks loads.now }
+    ensures { IfOk result (λ text. text.items ≡ spec.stretch_text set.now.tasks (room.stretch set.now.tasks)) }
 {
     let text = match study::stretch(set, loads) {
         Some(s) => {
@@ -90,9 +90,9 @@ fn stretch_text(alloc: Global, set: &TaskSet, loads: &Loads) -> Result<Vec<u8>, 
 }
 
 fn high_line(alloc: Global, set: &TaskSet, loads: &Loads, s: u32) -> Result<String, AllocError>
-    requires loads { BelongTo set.now loads.now }
+    requires loads { BelongTo set.now.tasks loads.now }
     requires most { s ≤ 1001 }
-    ensures { IfOk result (λ line. string_bytes line ≡ spec.high_line set.now s) }
+    ensures { IfOk result (λ line. string_bytes line ≡ spec.high_line set.now.tasks s) }
 {
     let load = Ratio::new(high_at(set, loads, s), u128::from(loads.lcm));
     format!(in alloc; "U_HH {load} at {s}\n")

@@ -1,7 +1,7 @@
 -- What a task file gives a command: a set, and the rule under which its jobs are ordered.
 use Rattle.std.specs.Prelude.{ℕ, ◌^◌, List, ok_or, Result, Ok}
-use Rattle.mc_task.specs.declared.task.Task.{Task}
 use Rattle.mc_task.specs.declared.task.Rule.{Rule}
+use Rattle.mc_task.specs.TaskSet.{Set}
 use Rattle.mc_model.specs.Loads.{range_fault}
 use Rattle.mc_model.specs.Test.{test}
 use Rattle.task_file.specs.TaskFile.{task_file}
@@ -11,25 +11,25 @@ use Rattle.serving.specs.Command.{Command, fetch}
 
 -- a set, and the rule under which its jobs are ordered
 pub record Ruled : Type 0 where
-  pub set : List Task
+  pub set : Set
   pub rule : Rule
 
 -- the set under the rule
-abbrev pub under : Rule → List Task → Ruled
+abbrev pub under : Rule → Set → Ruled
 under rule set = record { set = set; rule = rule }
 
 -- the set that a task file says
-abbrev pub set_in : List ℕ → Result (List Task) Refusal
+abbrev pub set_in : List ℕ → Result Set Refusal
 set_in bytes = or_refuse TaskFile (task_file bytes)
 
--- a set within range, under the rule that the published test gives it
-abbrev pub tested : List Task → Result Ruled Refusal
+-- a set within range, under the rule that the test gives it
+abbrev pub tested : Set → Result Ruled Refusal
 tested set = do
-  _ ← none_or OutOfRange (range_fault set)
-  rule ← ok_or (test set) (NotAdmitted set)
+  _ ← none_or OutOfRange (range_fault set.tasks)
+  rule ← ok_or (test set) (NotAdmitted set.tasks)
   Ok (under rule set)
 
--- the set that a task file says, under the rule that the published test gives it
+-- the set that a task file says, under the rule that the test gives it
 abbrev pub admitted : List ℕ → Result Ruled Refusal
 admitted bytes = do
   set ← set_in bytes

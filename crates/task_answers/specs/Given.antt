@@ -15,12 +15,12 @@ Gives Is (Err refusal) (Err reply) = reply ≡ refuse refusal
 Gives Is read given = ⊥
 
 -- the set, its loads and the rule, which holds
-pub record IsAdmitted (ruled : Ruled) (given : Admitted) : Type 0 where
+pub record IsGivenAs (ruled : Ruled) (given : Admitted) : Type 0 where
   pub set : given.set ≡ ruled.set
   pub rule : given.rule ≡ ruled.rule
-  pub loads : BelongTo ruled.set given.loads
+  pub loads : BelongTo ruled.set.tasks given.loads
   pub fits : Fits ruled.rule
-  pub holds : Holds ruled.set ruled.rule
+  pub holds : Holds ruled.set.tasks ruled.rule
 
 -- the set and the rule
 pub record IsRuled (ruled : Ruled) (given : Given) : Type 0 where

@@ -2,9 +2,9 @@
 ghost use Rattle.std.specs.Prelude.{◌≡◌, ℕ, List, IfOk};
 ghost use Rattle.load_sum.specs.Belong.{BelongTo};
 ghost use Rattle.task_answers.specs.Admitted.{set_in, tested, admitted};
-ghost use Rattle.task_answers.specs.Given.{Gives, IsAdmitted};
+ghost use Rattle.task_answers.specs.Given.{Gives, IsGivenAs};
 
-use admission::admit;
+use admission::admit_scaled;
 use load_sum::{LoadFault, Loads, sum_loads};
 use mc_task::{Rule, TaskSet};
 use replies::{Reply, refused};
@@ -24,7 +24,7 @@ pub struct Admitted {
 
 /// The set that the bytes of a task file say, if the test admits it; or the reply that refuses it.
 pub fn read_admitted(alloc: Global, bytes: &[u8]) -> Result<Result<Admitted, Reply>, AllocError>
-    ensures { IfOk result (Gives IsAdmitted (admitted bytes.now)) }
+    ensures { IfOk result (Gives IsGivenAs (admitted bytes.now)) }
 {
     match read_set(alloc, bytes)? {
         Ok(set) => tested_set(alloc, set),
@@ -43,13 +43,13 @@ pub fn read_set(alloc: Global, bytes: &[u8]) -> Result<Result<TaskSet, Reply>, A
 }
 
 fn tested_set(alloc: Global, set: TaskSet) -> Result<Result<Admitted, Reply>, AllocError>
-    ensures { IfOk result (Gives IsAdmitted (tested set)) }
+    ensures { IfOk result (Gives IsGivenAs (tested set)) }
 {
     let loads = match sum_loads(&set) {
         Ok(loads) => loads,
         Err(LoadFault::Range { task }) => return Ok(Err(refused::out_of_range(alloc, task)?)),
     };
-    match admit(&loads) {
+    match admit_scaled(&loads, set.scale()) {
         Some(rule) => Ok(Ok(Admitted { set, loads, rule })),
         None => Ok(Err(refused::not_admitted(alloc, &loads)?)),
     }

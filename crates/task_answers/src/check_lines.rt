@@ -1,10 +1,13 @@
 // The text of `check`.
-ghost use Rattle.std.specs.Prelude.{◌≡◌, IfOk, string_bytes};
-ghost use Rattle.mc_model.specs.CheckText.{rule_text, check_text};
-ghost use Rattle.load_sum.specs.Belong.{BelongTo};
+ghost use Rattle.std.specs.Prelude.{◌≡◌, List, IfOk, IfSome, string_bytes};
+ghost use Rattle.mc_task.specs.declared.task.Task.{Task};
+ghost use Rattle.mc_task.specs.TaskSet.{IsScale};
+ghost use Rattle.mc_model.specs.CheckText.{rule_text, scale_text, unheld_text, check_text};
+ghost use Rattle.load_sum.specs.Belong.{BelongTo, AreOfSomeSet};
 
+use admission::holds_for;
 use load_sum::Loads;
-use mc_task::{Rule, TaskSet};
+use mc_task::{Rule, Scale, TaskSet};
 use replies::load_texts;
 use std::alloc::{AllocError, Global};
 
@@ -15,13 +18,14 @@ pub fn check_text(
     loads: &Loads,
     rule: Rule,
 ) -> Result<Vec<u8>, AllocError>
-    requires { BelongTo set.now loads.now }
+    requires { BelongTo set.now.tasks loads.now }
     ensures { IfOk result (λ text. text.items ≡ check_text set.now rule) }
 {
     let count = set.len();
     let rule = rule_text(alloc, rule)?;
+    let unheld = unheld_text(alloc, loads, set.scale())?;
     let loads = load_texts(alloc, "\n", loads)?;
-    let text = format!(in alloc; "tasks {count}\n{loads}\n{rule}")?;
+    let text = format!(in alloc; "tasks {count}\n{loads}\n{rule}{unheld}")?;
     Ok(text.into_bytes())
 }
 
@@ -33,4 +37,24 @@ fn rule_text(alloc: Global, rule: Rule) -> Result<String, AllocError>
         Rule::Plain => String::from_str(alloc, "rule plain\n"),
         Rule::Virtual { p, q } => format!(in alloc; "rule virtual\nx {p}/{q}\n"),
     }
+}
+
+// The line of a scale that does not hold, where there is one.
+fn unheld_text(alloc: Global, loads: &Loads, scale: Option<Scale>) -> Result<String, AllocError>
+    requires loads { AreOfSomeSet loads.now }
+    requires scale { IfSome scale IsScale }
+    ensures { IfOk result (λ s. (tasks : List Task) → BelongTo tasks loads.now → string_bytes s ≡ unheld_text tasks scale) }
+{
+    match scale {
+        Some(scale) if !holds_for(loads, scale.p, scale.q) => scale_text(alloc, scale),
+        _ => Ok(String::new(alloc)),
+    }
+}
+
+#[tactic(auto, unfolding(mc_model::specs::CheckText::scale_text))]
+fn scale_text(alloc: Global, scale: Scale) -> Result<String, AllocError>
+    ensures { IfOk result (λ s. string_bytes s ≡ scale_text scale) }
+{
+    let Scale { p, q } = scale;
+    format!(in alloc; "scale {p}/{q} does not hold\n")
 }

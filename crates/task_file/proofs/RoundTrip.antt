@@ -1,5 +1,5 @@
 -- The tree of a printed task file says the set that was printed.
-use Rattle.std.proofs.Common.{◌≡◌, ℕ, suc, ◌+◌, ◌≤◌, max, true, List, [], ◌∷◌, Some, Ok, String, Global, string_bytes, subst, refl, ◌∙◌, arith}
+use Rattle.std.proofs.Common.{◌≡◌, ℕ, suc, ◌+◌, ◌≤◌, max, true, List, [], ◌∷◌, Option, Some, None, IfSome, Ok, String, Global, string_bytes, subst, refl, ◌∙◌, arith}
 use Rattle.std.specs.List.{AllByRecursion}
 use Rattle.std.proofs.lemmas.Bool.Decides.{nat_tests}
 use Rattle.std.proofs.lemmas.Str.{IsUtf8-string_bytes}
@@ -7,14 +7,16 @@ use Rattle.toml.specs.Data.{table, Members, items_depth, members_depth}
 use Rattle.toml.specs.Parse.{parse_document}
 use Rattle.toml.specs.View.{items_of}
 use Rattle.mc_task.specs.declared.task.Task.{Task}
+use Rattle.mc_task.specs.declared.task.Scale.{Scale}
 use Rattle.mc_task.specs.declared.task.Level.{Level}
 use Rattle.mc_task.specs.declared.task.Level.TheVariants.{Low, High}
 use Rattle.mc_task.specs.NameForm.{is_name}
-use Rattle.mc_task.specs.TaskSet.{IsSet, IsTask, IsTickCount}
+use Rattle.mc_task.specs.TaskSet.{AreTasks, IsScale, IsSet, Set, IsTask, IsTickCount}
 use Rattle.task_file.specs.TaskTable.{first_other, fields_of, kinds_of, task_of_fields, task_of, is_tick_count}
 use Rattle.task_file.specs.TaskFile.{task_file, tree_set, tasks_from}
-use Rattle.task_file.specs.Printed.{after_high, common_members, task_members, task_tables, file_members}
+use Rattle.task_file.specs.Printed.{after_high, common_members, task_members, task_tables, tasks_and_version, after_scale, file_members}
 use Rattle.task_file.proofs.TaskLemmas.{known_document}
+use Rattle.task_file.proofs.ScaleLemmas.{scale_back, scale_none}
 use Rattle.mc_task.proofs.FaultLemmas.{first_fault-set}
 
 at_most_1 : (a b : ℕ) → a ≤ 1 → b ≤ 1 → max a b ≤ 1
@@ -31,8 +33,12 @@ tables_depth (t ∷ ts) =
     at_most_1 _ _ flat (tables_depth ts)
 
 -- the tree is less deep than the reader's limit
-file_depth : (ts : List Task) → members_depth (file_members ts) ≤ 80
-file_depth ts = grind (arith, nat_tests, tables_depth ts)
+tasks_depth : (ts : List Task) → members_depth (tasks_and_version ts) ≤ 2
+tasks_depth ts = grind (arith, nat_tests, tables_depth ts)
+
+file_depth : (ts : List Task) (scale : Option Scale) → members_depth (after_scale scale (tasks_and_version ts)) ≤ 80
+file_depth ts None = omega (arith, tasks_depth ts)
+file_depth ts (Some x) = grind (arith, nat_tests, tasks_depth ts)
 
 -- a number of ticks passes the reader's test
 tick_count : (n : ℕ) → IsTickCount n → is_tick_count n ≡ true
@@ -63,14 +69,19 @@ tasks_back n [] each = refl
 tasks_back n (t ∷ ts) each = rw (task_back n t.level t.name t.period t.low t.high each.0, tasks_back (n + 1) ts each.1)
 
 -- the tree of a set reads as the set
-set_back : (ts : List Task) → IsSet ts → tree_set (file_members ts) ≡ Ok ts
+parts_back : (ts : List Task) (scale : Option Scale) → AreTasks ts → IfSome scale IsScale
+    → tree_set (after_scale scale (tasks_and_version ts)) ≡ Ok (record { tasks = ts; scale = scale })
 unfolding tree_set first_other
-set_back [] set = absurd (omega (arith, set.some))
-set_back (t ∷ ts) set = rw (tasks_back 1 (t ∷ ts) set.each, first_fault-set (t ∷ ts) set)
+parts_back [] scale are is = absurd (omega (arith, are.some))
+parts_back (t ∷ ts) None are is = rw (scale_none, tasks_back 1 (t ∷ ts) are.each, first_fault-set (t ∷ ts) are)
+parts_back (t ∷ ts) (Some x) are is = rw (scale_back x is, tasks_back 1 (t ∷ ts) are.each, first_fault-set (t ∷ ts) are)
+
+set_back : (set : Set) → IsSet set → tree_set (file_members set) ≡ Ok set
+set_back set is = parts_back set.tasks set.scale is.tasks is.scale
 
 -- a text that the table reader reads as the set's tree is a task file of the set
-pub reads_back : (text : String Global) (ms : Members) (ts : List Task) → ms ≡ file_members ts → IsSet ts
-    → (members_depth ms ≤ 80 → parse_document (string_bytes text) ≡ Some ms) → task_file (string_bytes text) ≡ Ok ts
-reads_back text ms ts tree set reads =
-    let within : members_depth ms ≤ 80 = rw tree (file_depth ts) in
-    known_document (string_bytes text) ms (IsUtf8-string_bytes text) (reads within) ∙ rw tree (set_back ts set)
+pub reads_back : (text : String Global) (ms : Members) (set : Set) → ms ≡ file_members set → IsSet set
+    → (members_depth ms ≤ 80 → parse_document (string_bytes text) ≡ Some ms) → task_file (string_bytes text) ≡ Ok set
+reads_back text ms set tree is reads =
+    let within : members_depth ms ≤ 80 = rw tree (file_depth set.tasks set.scale) in
+    known_document (string_bytes text) ms (IsUtf8-string_bytes text) (reads within) ∙ rw tree (set_back set is)

@@ -4,16 +4,19 @@ use Rattle.std.specs.List.{AllByRecursion}
 use Rattle.std.proofs.lemmas.Bool.Decides.{nat_tests}
 use Rattle.toml.specs.Data.{Data, integer, string, float, boolean, datetime, array, table, Items, no_items, item, Members}
 use Rattle.mc_task.specs.declared.task.Task.{Task}
+use Rattle.mc_task.specs.declared.task.Scale.{Scale}
 use Rattle.mc_task.specs.declared.task.Level.{Level}
 use Rattle.mc_task.specs.declared.task.Level.TheVariants.{Low, High}
 use Rattle.mc_task.specs.declared.set.SetFault.{SetFault}
 use Rattle.mc_task.specs.NameForm.{is_name}
-use Rattle.mc_task.specs.TaskSet.{IsSet, IsTask, IsTickCount, InOrder}
+use Rattle.mc_task.specs.TaskSet.{IsSet, Set, IsTask, IsTickCount, InOrder}
 use Rattle.mc_task.specs.Faults.{first_fault}
-use Rattle.mc_task.proofs.TaskLemmas.{each_in_order, IsSet-each}
+use Rattle.mc_task.proofs.TaskLemmas.{each_in_order, AreTasks-each}
 use Rattle.task_file.specs.Refusals.{◌>>=◌, or_refuse, want, refuse_key}
 use Rattle.task_file.specs.TaskTable.{Fields, text_of, name_of, level_of, number_of, number_if_some, high_of, is_tick_count, task_of_fields, task_of, table_of, first_other, at_key, fields_of, kinds_of}
-use Rattle.task_file.specs.TaskFile.{tasks_from, set_of, tree_set, document, task_file, task_items, is_version}
+use Rattle.task_file.specs.TaskFile.{tasks_from, set_of, tree_set, document, task_file, task_items, is_version, is_second_version}
+use Rattle.task_file.specs.ScaleArray.{scale_in}
+use Rattle.task_file.proofs.ScaleLemmas.{scale_in-IsScale}
 use Rattle.task_file.specs.Keys.{is_task_key, is_top_key}
 use Rattle.task_file.specs.declared.key.KeyName.{KeyName}
 use Rattle.task_file.specs.declared.key.KeyName.TheVariants as key
@@ -113,23 +116,26 @@ each_task (t ∷ ts) read order =
     (is, each_task ts read.1 order.1)
 
 -- a list that has no fault is taken as it is
-no_fault : (ts set : List Task) (fault : Option SetFault) → set_of ts fault ≡ Ok set → (ts ≡ set) × (fault ≡ None)
-no_fault ts set None h = (cc, refl)
-no_fault ts set (Some e) h = absurd (cc)
+no_fault : (ts : List Task) (scale : Option Scale) (set : Set) (fault : Option SetFault) → set_of ts scale fault ≡ Ok set
+    → (record { tasks = ts; scale = scale } ≡ set) × (fault ≡ None)
+no_fault ts scale set None h = (cc, refl)
+no_fault ts scale set (Some e) h = absurd (cc)
 
-tree_says_set : (ms : Members) (set : List Task) → tree_set ms ≡ Ok set → IsSet set
+tree_says_set : (ms : Members) (set : Set) → tree_set ms ≡ Ok set → IsSet set
 unfolding tree_set
 tree_says_set ms set h =
-    let known = after_first (refuse_key TopKey (first_other is_top_key ms)) _ set h in
+    let known = after_first (refuse_key TopKey (first_other (is_top_key (is_second_version (at_key key.Version ms))) ms)) _ set h in
     let version = after_first (want BadVersion (is_version (at_key key.Version ms))) _ set (known.2) in
-    let items = after_first (task_items (at_key key.Task ms)) _ set (version.2) in
+    let scale = after_first (scale_in (at_key key.Scale ms)) _ set (version.2) in
+    let items = after_first (task_items (at_key key.Task ms)) _ set (scale.2) in
     let tasks = after_first (tasks_from 1 items.0) _ set (items.2) in
-    let whole = no_fault tasks.0 set (first_fault tasks.0) (tasks.2) in
+    let whole = no_fault tasks.0 scale.0 set (first_fault tasks.0) (tasks.2) in
     let each = each_task tasks.0 (tasks_read 1 items.0 tasks.0 (tasks.1)) (each_in_order tasks.0 (whole.1)) in
-    subst IsSet (whole.0) (IsSet-each tasks.0 each (whole.1))
+    let is : IsSet (record { tasks = tasks.0; scale = scale.0 }) = record { tasks = AreTasks-each tasks.0 each (whole.1); scale = scale_in-IsScale (at_key key.Scale ms) scale.0 (scale.1) } in
+    subst IsSet (whole.0) is
 
 -- what a task file says is a set
-pub says_set : (bytes : List ℕ) (set : List Task) → task_file bytes ≡ Ok set → IsSet set
+pub says_set : (bytes : List ℕ) (set : Set) → task_file bytes ≡ Ok set → IsSet set
 unfolding task_file
 says_set bytes set h =
     let tree = after_first (or_refuse NotToml (document bytes)) tree_set set h in

@@ -1,8 +1,9 @@
 -- The definitions at small files.
-use Rattle.std.proofs.Common.{◌≡◌, [], ◌∷◌, codes, Ok, Err, refl}
+use Rattle.std.proofs.Common.{◌≡◌, [], ◌∷◌, codes, Some, Ok, Err, refl}
 use Rattle.mc_task.specs.declared.task.Task.{Task}
 use Rattle.mc_task.specs.declared.task.Level.TheVariants.{Low, High}
 use Rattle.mc_task.specs.declared.set.SetFault.TheVariants.{SameName}
+use Rattle.mc_task.specs.TaskSet.{unscaled}
 use Rattle.task_file.specs.declared.key.KeyName.TheVariants as key
 use Rattle.task_file.specs.declared.fault.TaskFault.TheVariants.{NotToml, TopKey, BadVersion, NoTasks, KeyMissing, KeyUnknown, WrongKind, OutOfRange, BadName, HighOnLow, Set}
 use Rattle.task_file.specs.TaskFile.{task_file}
@@ -15,7 +16,7 @@ log : Task
 log = record { name = codes "log"; level = Low; period = 10; low = 5; high = 5 }
 
 two_tasks : task_file (codes "version = 1\n\n[[task]]\nname = \"ctl\"\nlevel = \"high\"\nperiod = 10\nlow = 2\nhigh = 6\n\n[[task]]\nname = \"log\"\nlevel = \"low\"\nperiod = 10\nlow = 5\n")
-    ≡ Ok (ctl ∷ log ∷ [])
+    ≡ Ok (unscaled (ctl ∷ log ∷ []))
 unfolding task_file_on_literals ctl log
 two_tasks = refl
 
@@ -31,9 +32,30 @@ first_top_key : task_file (codes "zeta = 1\nalpha = 1\nversion = 3") ≡ Err (To
 unfolding task_file_on_literals
 first_top_key = refl
 
-other_version : task_file (codes "version = 2\ntask = 3") ≡ Err BadVersion
+other_version : task_file (codes "version = 3\ntask = 3") ≡ Err BadVersion
 unfolding task_file_on_literals
 other_version = refl
+
+scale_without_a_version : task_file (codes "scale = 3") ≡ Err (TopKey (codes "scale"))
+unfolding task_file_on_literals
+scale_without_a_version = refl
+
+scale_of_another_version : task_file (codes "version = 3\nscale = 3") ≡ Err (TopKey (codes "scale"))
+unfolding task_file_on_literals
+scale_of_another_version = refl
+
+scale_of_three_numbers : task_file (codes "version = 2\nscale = [1, 2, 3]") ≡ Err (WrongKind 0 key.Scale)
+unfolding task_file_on_literals
+scale_of_three_numbers = refl
+
+scale_above_1 : task_file (codes "version = 2\nscale = [3, 2]") ≡ Err (OutOfRange 0 key.Scale)
+unfolding task_file_on_literals
+scale_above_1 = refl
+
+scale_in_lowest_terms : task_file (codes "version = 2\nscale = [2, 4]\ntask = [{ name = 'log', level = 'low', period = 10, low = 5 }]")
+    ≡ Ok (record { tasks = log ∷ []; scale = Some (record { p = 1; q = 2 }) })
+unfolding task_file_on_literals log
+scale_in_lowest_terms = refl
 
 no_array : task_file (codes "task = 3") ≡ Err (WrongKind 0 key.Task)
 unfolding task_file_on_literals

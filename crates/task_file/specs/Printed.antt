@@ -1,12 +1,14 @@
 -- The tree of a printed task file.
-use Rattle.std.specs.Prelude.{ℕ, pos, List, map}
+use Rattle.std.specs.Prelude.{ℕ, pos, List, map, Option, None, Some}
 use Rattle.std.specs.Ordering.{nat_cmp, match_ordering}
 use Rattle.std.specs.Cmp.Lexicographic.{slice_cmp}
-use Rattle.toml.specs.Data.{Data, string, integer, array, table, Members, no_members, member}
+use Rattle.toml.specs.Data.{Data, string, integer, array, table, no_items, item, Members, no_members, member}
 use Rattle.toml.specs.View.{items_of}
 use Rattle.mc_task.specs.declared.task.Task.{Task}
+use Rattle.mc_task.specs.declared.task.Scale.{Scale}
 use Rattle.mc_task.specs.declared.task.Level.{Level}
 use Rattle.mc_task.specs.declared.task.Level.TheVariants.{Low, High}
+use Rattle.mc_task.specs.TaskSet.{Set}
 use Rattle.task_file.specs.Keys.{key_bytes}
 use Rattle.task_file.specs.TaskTable.{level_bytes}
 use Rattle.task_file.specs.declared.key.KeyName.TheVariants as key
@@ -37,6 +39,19 @@ task_members t = after_high t.level t.high (common_members t)
 abbrev pub task_tables : List Task → List Data
 task_tables ts = map (λ t. table (task_members t)) ts
 
--- a file's members: the tasks alone, without a version
-abbrev pub file_members : List Task → Members
-file_members ts = member (key_bytes key.Task) (array (items_of (task_tables ts))) no_members
+-- a scale as an array of its two numbers
+abbrev pub scale_array : Scale → Data
+scale_array x = array (item (integer (pos x.p)) (item (integer (pos x.q)) no_items))
+
+-- the tasks and the version 2
+abbrev pub tasks_and_version : List Task → Members
+tasks_and_version ts = member (key_bytes key.Task) (array (items_of (task_tables ts))) (member (key_bytes key.Version) (integer (pos 2)) no_members)
+
+-- members after a scale, where there is one
+abbrev pub after_scale : Option Scale → Members → Members
+after_scale None ms = ms
+after_scale (Some x) ms = member (key_bytes key.Scale) (scale_array x) ms
+
+-- a file's members
+abbrev pub file_members : Set → Members
+file_members set = after_scale set.scale (tasks_and_version set.tasks)

@@ -16,17 +16,19 @@ pub fn member<'a>(table: &'a Table, key: &str) -> Option<&'a Value>
     table.get(key)
 }
 
-// The first key, in the order of the bytes, that no document has.
-pub fn other_top_key(table: &Table) -> Option<&String>
-    ensures { option_map (λ key. string_bytes key.now) result ≡ first_other is_top_key (table_view table.now) }
+// The first key, in the order of the bytes, that no document has which may or may not have a scale.
+pub fn other_top_key(table: &Table, may_scale: bool) -> Option<&String>
+    ensures { option_map (λ key. string_bytes key.now) result ≡ first_other (is_top_key may_scale) (table_view table.now) }
 {
-    find_top_other(table)
+    find_top_other(table, may_scale)
 }
 
-fn find_top_other(table: &Table) -> Option<&String>
-    ensures { option_copied result ≡ find (λ key. not (is_top_key (string_bytes key))) (keys table.now) }
+fn find_top_other(table: &Table, may_scale: bool) -> Option<&String>
+    ensures { option_copied result ≡ find (λ key. not (is_top_key may_scale (string_bytes key))) (keys table.now) }
 {
-    table.keys().find(|key| !is_top_key(key.as_str()))
+    table
+        .keys()
+        .find(|key| !is_top_key(may_scale, key.as_str()))
 }
 
 // The first key, in the order of the bytes, that no task has.
@@ -42,10 +44,10 @@ fn find_task_other(table: &Table) -> Option<&String>
     table.keys().find(|key| !is_task_key(key.as_str()))
 }
 
-fn is_top_key(key: &str) -> bool
-    ensures { result ≡ is_top_key key.now }
+fn is_top_key(may_scale: bool, key: &str) -> bool
+    ensures { result ≡ is_top_key may_scale key.now }
 {
-    key == "version" || key == "task"
+    key == "version" || key == "task" || (may_scale && key == "scale")
 }
 
 fn is_task_key(key: &str) -> bool

@@ -1,56 +1,82 @@
 ghost use Rattle.std.specs.Prelude.{◌≡◌, pos, Ok, IfOk, string_bytes};
 ghost use Rattle.toml.specs.Data.{string, integer};
 ghost use Rattle.toml.specs.View.{view, table_view, array_view, items_of};
-ghost use Rattle.mc_task.specs.TaskSet.{IsSet};
+ghost use Rattle.mc_task.specs.TaskSet.{IsScale, IsSet};
 ghost use Rattle.task_file.specs.Keys.{key_bytes};
 ghost use Rattle.task_file.specs.TaskTable.{level_bytes};
 ghost use Rattle.task_file.specs.TaskFile.{task_file};
-ghost use Rattle.task_file.specs.Printed.{put_member, common_members, task_members, task_tables, file_members};
+ghost use Rattle.task_file.specs.Printed.{put_member, common_members, task_members, task_tables, scale_array, tasks_and_version, file_members};
 
 use crate::KeyName;
-use mc_task::{Level, Memory, Name, Task, TaskNo, TaskSet};
+use mc_task::{Level, Memory, Name, Scale, Task, TaskSet};
 use std::alloc::{AllocError, Global};
 use toml::value::Array;
 use toml::{Table, Value};
 
-/// Prints a task file that says the set: `read_tasks` of it gives an equal set, or want of memory.
+/// Prints a task file of version 2 that says the set: `read_tasks` of it gives an equal set, or want of memory.
 ///
 /// The only error is want of memory.
 pub fn print_tasks(alloc: Global, set: &TaskSet) -> Result<Vec<u8>, Memory>
     ensures { IfOk result (λ bytes. task_file bytes.items ≡ Ok set.now) }
 {
-    let Ok(table) = file_table(alloc, set) else {
-        return Err(Memory);
-    };
+    let table = file_table(alloc, set)?;
     match toml::table_to_string(alloc, &table) {
         Ok(text) => Ok(text.into_bytes()),
         Err(_) => Err(Memory),
     }
 }
 
-// The document, whose only key is `task`.
+// The document: the version, the tasks, and the scale where the set has one.
 fn file_table(alloc: Global, set: &TaskSet) -> Result<Table, AllocError>
     ensures tree { IfOk result (λ table. table_view table ≡ file_members set.now) }
     ensures set { IsSet set.now }
 {
-    // The contract of `len` says what a set is.
-    let _count = set.len();
+    let tasks = set.as_slice();
+    let scale = set.scale();
+    let mut table = tasks_and_version(alloc, tasks)?;
+    match scale {
+        Some(scale) => {
+            put(
+                alloc,
+                &mut table,
+                KeyName::Scale,
+                scale_value(alloc, scale)?,
+            )?;
+            Ok(table)
+        }
+        None => Ok(table),
+    }
+}
+
+fn tasks_and_version(alloc: Global, tasks: &[Task]) -> Result<Table, AllocError>
+    ensures { IfOk result (λ table. table_view table ≡ tasks_and_version tasks.now) }
+{
     let mut table = Table::new(alloc);
-    let items = task_array(alloc, set)?;
+    put(alloc, &mut table, KeyName::Version, Value::from(2u32))?;
+    let items = task_array(alloc, tasks)?;
     put(alloc, &mut table, KeyName::Task, Value::from(items))?;
     Ok(table)
 }
 
+// An array of the scale's two numbers.
+fn scale_value(alloc: Global, scale: Scale) -> Result<Value, AllocError>
+    requires { IsScale scale }
+    ensures { IfOk result (λ v. view v ≡ scale_array scale) }
+{
+    let mut numbers = Vec::new(alloc);
+    numbers.push(Value::from(scale.p as u32))?;
+    numbers.push(Value::from(scale.q as u32))?;
+    Ok(Value::from(numbers))
+}
+
 // The tasks in order, each as a table.
-fn task_array(alloc: Global, set: &TaskSet) -> Result<Array, AllocError>
-    ensures { IfOk result (λ items. array_view items ≡ items_of (task_tables set.now)) }
+fn task_array(alloc: Global, tasks: &[Task]) -> Result<Array, AllocError>
+    ensures { IfOk result (λ items. array_view items ≡ items_of (task_tables tasks.now)) }
 {
     let mut items = Vec::new(alloc);
-    for k in 0..set.len() {
-        if let Some(task) = set.get(TaskNo(k + 1)) {
-            let table = task_table(alloc, &task)?;
-            items.push(Value::from(table))?;
-        }
+    for task in tasks {
+        let table = task_table(alloc, task)?;
+        items.push(Value::from(table))?;
     }
     Ok(items)
 }

@@ -1,5 +1,5 @@
 use crate::{TaskFault, print_tasks, read_tasks};
-use mc_task::{Level, TaskNo, TaskSet};
+use mc_task::{Level, Scale, TaskNo, TaskSet};
 use std::alloc::{AllocError, Global};
 use std::test::Fail;
 
@@ -34,7 +34,7 @@ fn outcome(alloc: Global, bytes: &[u8]) -> Result<String, AllocError> {
 }
 
 // Files, each with its first fault.
-const DOCUMENTS: [(&str, &str); 19] = [
+const DOCUMENTS: [(&str, &str); 36] = [
     ("", "no tasks"),
     ("task", "not TOML"),
     ("version = 9223372036854775808", "not TOML"),
@@ -45,11 +45,43 @@ const DOCUMENTS: [(&str, &str); 19] = [
         "'123456789-123456789-123456789-123' = 1",
         "unknown key 123456789-123456789-123456789-12",
     ),
-    ("version = 2\ntask = 3", "unknown version"),
+    ("version = 3\ntask = 3", "unknown version"),
     ("version = 0", "unknown version"),
     ("version = 1.0", "unknown version"),
     ("version = '1'", "unknown version"),
+    ("scale = [1, 2]", "unknown key scale"),
+    ("version = 1\nscale = [1, 2]", "unknown key scale"),
+    ("version = 3\nscale = [1, 2]", "unknown key scale"),
+    ("version = 2.0\nscale = [1, 2]", "unknown key scale"),
+    ("version = 2\nscale = 1", "task 0: wrong kind of Scale"),
+    ("version = 2\nscale = []", "task 0: wrong kind of Scale"),
+    ("version = 2\nscale = [1]", "task 0: wrong kind of Scale"),
+    (
+        "version = 2\nscale = [1, 2, 3]",
+        "task 0: wrong kind of Scale",
+    ),
+    (
+        "version = 2\nscale = [1, 2.0]",
+        "task 0: wrong kind of Scale",
+    ),
+    (
+        "version = 2\nscale = ['1', 2]",
+        "task 0: wrong kind of Scale",
+    ),
+    ("version = 2\nscale = [0, 2]", "task 0: out of range Scale"),
+    ("version = 2\nscale = [-1, 2]", "task 0: out of range Scale"),
+    ("version = 2\nscale = [3, 2]", "task 0: out of range Scale"),
+    (
+        "version = 2\nscale = [1, 4294967296]",
+        "task 0: out of range Scale",
+    ),
+    ("version = 2\nscale = [4294967295, 4294967295]", "no tasks"),
+    (
+        "version = 2\nscale = [1, 1]\ntask = 3",
+        "task 0: wrong kind of Task",
+    ),
     ("version = 1", "no tasks"),
+    ("version = 2", "no tasks"),
     ("version = 1\ntask = []", "no tasks"),
     ("task = 3", "task 0: wrong kind of Task"),
     ("[task]\nname = 'a'", "task 0: wrong kind of Task"),
@@ -76,7 +108,7 @@ fn the_first_fault_of_a_document_is_the_answer(rt: HostRuntime) -> Result<(), Fa
         assert_eq!(rt; got.as_str(), expected, "{text}");
     }
     assert_eq!(rt; outcome(alloc, &[b'#', 0xFF])?.as_str(), "not TOML");
-    for (version, expected) in [(1, "ok"), (3, "unknown version")] {
+    for (version, expected) in [(1, "ok"), (2, "ok"), (3, "unknown version")] {
         let text = format!(in alloc; "version = {version}\n{CONTROL}")?;
         assert_eq!(rt; outcome(alloc, text.as_bytes())?.as_str(), expected);
     }
@@ -149,6 +181,8 @@ fn a_file_has_at_most_128_tasks(rt: HostRuntime) -> Result<(), Fail> {
 }
 
 const PRINTED: &str = "\
+version = 2
+
 [[task]]
 high = 6
 level = \"high\"
@@ -188,6 +222,43 @@ fn a_printed_set_is_read_back(rt: HostRuntime) -> Result<(), Fail> {
     for (task, expected) in [(1, "ctl high 10 2 6"), (2, "log low 10 5 5"), (3, "none")] {
         assert_eq!(rt; task_line(alloc, &set, task)?.as_str(), expected);
         assert_eq!(rt; task_line(alloc, &back, task)?.as_str(), expected);
+    }
+    Ok(())
+}
+
+#[test]
+fn a_printed_scale_is_read_back(rt: HostRuntime) -> Result<(), Fail> {
+    let alloc = rt.alloc();
+    let text = format!(in alloc; "version = 2\nscale = [2, 4]\n{CONTROL}")?;
+    let set = read_tasks(alloc, text.as_bytes())?;
+    assert_eq!(rt; set.scale(), Some(Scale { p: 1, q: 2 }));
+    let Ok(printed) = print_tasks(alloc, &set) else {
+        return Err("want of memory".into());
+    };
+    let expected = format!(in alloc; "scale = [1, 2]\n{PRINTED}")?;
+    assert_eq!(rt; printed.as_slice(), expected.as_bytes());
+    let back = read_tasks(alloc, &printed)?;
+    assert_eq!(rt; (back.scale(), back.len()), (Some(Scale { p: 1, q: 2 }), 2));
+    Ok(())
+}
+
+#[test]
+fn a_printed_set_of_128_tasks_is_read_back(rt: HostRuntime) -> Result<(), Fail> {
+    let alloc = rt.alloc();
+    let tasks = many_tasks(alloc, 128)?;
+    let text = format!(in alloc; "version = 2\nscale = [2, 4]\n{tasks}")?;
+    let set = read_tasks(alloc, text.as_bytes())?;
+    let Ok(printed) = print_tasks(alloc, &set) else {
+        return Err("want of memory".into());
+    };
+    let back = read_tasks(alloc, &printed)?;
+    assert_eq!(rt;
+        (back.scale(), back.len()),
+        (Some(Scale { p: 1, q: 2 }), 128)
+    );
+    for k in 0..128u32 {
+        let expected = format!(in alloc; "t{k} low 10 1 1")?;
+        assert_eq!(rt; task_line(alloc, &back, k + 1)?.as_str(), expected.as_str());
     }
     Ok(())
 }

@@ -22,7 +22,7 @@ use Rattle.mode_core.specs.Events.{or_else, refused_if, is_of_task, job_in, with
 use Rattle.timetable.specs.declared.plan.Plan.{Plan}
 use Rattle.timetable.specs.declared.plan.Plan.TheVariants.{Free, Rows}
 use Rattle.timetable.specs.declared.acts.PlanFault.{PlanFault}
-use Rattle.timetable.specs.Floor.{FloorState, unless, of_core, answer, release_refusal, releasing, tick_refusal, done_by}
+use Rattle.timetable.specs.Floor.{FloorState, floor_unless, of_core, plan_answer, release_refusal, releasing, tick_refusal, done_by}
 use Rattle.executive.specs.declared.entry.Entry.{Entry}
 use Rattle.executive.specs.declared.entry.Call.{Call}
 use Rattle.executive.specs.declared.entry.Call.TheVariants.{Release, Take, Outcome, Idle, Look}
@@ -73,8 +73,8 @@ knows_then f k Take lasts h = plan (tick_refusal f)
         let mine : (k == j.task.0) ≡ true = eq-eqb k j.task.0 (sym (eqb-true j.task.0 k own)) in
         ap (λ (b : Bool). cond b (Some (granted f.core (job_in (chosen_now f.core)))) (lasts j.task.0)) mine ∙ ap (λ (o : Option JobId). Some (granted f.core (job_in o))) is
 
-    plan : (o : Option PlanFault) → (j : JobId) → (unless o (with_core f (Events.after_grant f.core k) f.taken) f).core.out ≡ Some j
-        → cond (k == j.task.0) (granted_then (Taken (answer o (Events.grant_answer f.core k))) (lasts j.task.0)) (lasts j.task.0) ≡ Some (granted (unless o (with_core f (Events.after_grant f.core k) f.taken) f).core j)
+    plan : (o : Option PlanFault) → (j : JobId) → (floor_unless o (with_core f (Events.after_grant f.core k) f.taken) f).core.out ≡ Some j
+        → cond (k == j.task.0) (granted_then (Taken (plan_answer o (Events.grant_answer f.core k))) (lasts j.task.0)) (lasts j.task.0) ≡ Some (granted (floor_unless o (with_core f (Events.after_grant f.core k) f.taken) f).core j)
     plan (Some e) j is = either_way (k == j.task.0) (lasts j.task.0) ∙ h j is
     plan None j is = core (Events.grant_refusal f.core k) refl j is
 knows_then f k (Outcome done) lasts h =

@@ -25,7 +25,7 @@ use Rattle.timetable.specs.declared.plan.Plan.TheVariants.{Free, Rows}
 use Rattle.timetable.specs.declared.acts.Act.{Act}
 use Rattle.timetable.specs.declared.acts.Act.TheVariants as act
 use Rattle.timetable.specs.declared.acts.PlanFault.TheVariants as plan_fault
-use Rattle.timetable.specs.Floor.{FloorState, unless, of_core, answer, release_refusal, releasing, takes, tick_refusal, done_by, due_at, ends_at, release_act, act_or, tick_act, next_act, grant_answer, after_grant, after_outcome, after_idle, after_release}
+use Rattle.timetable.specs.Floor.{FloorState, floor_unless, of_core, plan_answer, release_refusal, releasing, takes, tick_refusal, done_by, due_at, ends_at, release_act, act_or, tick_act, next_act, grant_answer, after_grant, after_outcome, after_idle, after_release}
 use Rattle.executive.specs.Stands.{opening_of}
 use Rattle.executive.proofs.Histories.{with_core, of_both, of_both_cores, of_both_rows}
 use Rattle.executive.proofs.Shows.{settled_ticks}
@@ -100,8 +100,8 @@ pub grants_left : (f : FloorState) (k : ℕ) (j : JobId) → IsLiveFloor f → c
 grants_left f k j h chosen task room =
     let plan = free_refusal f h.free in
     let core : Events.grant_refusal f.core k ≡ None = grant_free f.core.out (chosen_now f.core) k (is_full f.core) j h.out chosen task room in record {
-      answer = ap (λ o. answer o (Events.grant_answer f.core k)) plan ∙ (ap (λ o. of_core (Events.answer o (granted f.core (job_in (chosen_now f.core))))) core ∙ ap (λ (o : Option JobId). Ok (granted f.core (job_in o))) chosen);
-      state = ap (λ o. unless o (record f { core = Events.after_grant f.core k }) f) plan ∙ (ap (λ o. let g : FloorState = record f { core = Events.unless o (record f.core { out = chosen_now f.core }) f.core } in g) core ∙ ap (λ (o : Option JobId). let g : FloorState = record f { core = record f.core { out = o } } in g) chosen);
+      answer = ap (λ o. plan_answer o (Events.grant_answer f.core k)) plan ∙ (ap (λ o. of_core (Events.answer o (granted f.core (job_in (chosen_now f.core))))) core ∙ ap (λ (o : Option JobId). Ok (granted f.core (job_in o))) chosen);
+      state = ap (λ o. floor_unless o (record f { core = Events.after_grant f.core k }) f) plan ∙ (ap (λ o. let g : FloorState = record f { core = Events.unless o (record f.core { out = chosen_now f.core }) f.core } in g) core ∙ ap (λ (o : Option JobId). let g : FloorState = record f { core = record f.core { out = o } } in g) chosen);
     }
 
 of_accepted : (P : State → Type 0) (o : Option NotOut) (a b : State) → o ≡ None → P a → P (Events.unless o a b)
@@ -137,7 +137,7 @@ idle_moves f h none room =
     let plan = free_refusal f h.free in
     let core : Events.idle_refusal f.core ≡ None = idle_free f.core.out (chosen_now f.core) (is_full f.core) h.out none room in
     subst (λ (g : FloorState). Moves f g 1)
-    (sym (ap (λ o. unless o (record f { core = Events.after_idle f.core }) f) plan ∙ ap (λ o. let g : FloorState = record f { core = Events.unless o (record f.core { rows = row.Idle ∷ f.core.rows }) f.core } in g) core))
+    (sym (ap (λ o. floor_unless o (record f { core = Events.after_idle f.core }) f) plan ∙ ap (λ o. let g : FloorState = record f { core = Events.unless o (record f.core { rows = row.Idle ∷ f.core.rows }) f.core } in g) core))
     (record { live = record { free = h.free; out = h.out; ends = h.ends }; same = refl; ticks = refl })
 
 -- the rows up to the n-th tick

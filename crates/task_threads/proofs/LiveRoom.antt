@@ -7,7 +7,7 @@ use Rattle.std.proofs.lemmas.List.{drop_all}
 use Rattle.mc_task.specs.declared.task.Rule.{Rule}
 use Rattle.mc_task.specs.declared.task.Task.{Task}
 use Rattle.mc_task.specs.declared.task.JobId.{JobId}
-use Rattle.mc_task.specs.TaskSet.{IsSet, IsTask, IsIn, task_at}
+use Rattle.mc_task.specs.TaskSet.{AreTasks, IsTask, IsIn, task_at}
 use Rattle.mc_model.specs.declared.row.Row.{Row}
 use Rattle.mc_model.specs.declared.row.Row.TheVariants as row
 use Rattle.mc_model.specs.TaskNumbers.{period_in}

@@ -79,8 +79,8 @@ pub fn run_live<R: Threads + Wait + Sync, G: Gate + Sync>(
 
 // What the jobs of each task need.
 pub fn needs_of_each(set: &TaskSet, needs: &mut Vec<Needs>)
-    requires { (needs.old.items ≡ []) × (length set.now ≤ vec_capacity needs.old) }
-    ensures { (vec_len needs.new ≡ length set.now) × AreNeeds set.now needs.new.items }
+    requires { (needs.old.items ≡ []) × (length set.now.tasks ≤ vec_capacity needs.old) }
+    ensures { (vec_len needs.new ≡ length set.now.tasks) × AreNeeds set.now.tasks needs.new.items }
 {
     for task in 1..=set.len() {
         match set.get(TaskNo(task)) {

@@ -1,6 +1,8 @@
 //! A round of a task in a live run.
+ghost use Rattle.std.specs.Prelude.{IfOk};
 ghost use Rattle.mc_task.specs.TaskSet.{task_at};
-ghost use Rattle.executive.specs.Passes.{floor_of};
+ghost use Rattle.executive.specs.Gates.{HasReleased};
+ghost use Rattle.executive.specs.Passes.{floor_of, of_pass};
 ghost use Rattle.task_threads.specs.LivePasses.{IsLivePass, IsRunner, AreNeedsOf};
 
 use crate::live_needs::Needs;
@@ -116,7 +118,8 @@ fn released<R: Wait>(
     task: TaskNo,
 ) -> (TaskPass, Result<Released, ActFault<ReleaseFault>>)
     requires { IsLivePass executive.now task.0 pass }
-    ensures { IsLivePass executive.now task.0 result.0 }
+    ensures pass { IsLivePass executive.now task.0 result.0 }
+    ensures newest { IfOk result.1 (λ _. HasReleased (of_pass result.0)) }
 {
     let _ = task;
     let mut pass = pass;
@@ -184,8 +187,8 @@ fn ticked<R: Wait, G: Gate>(
 {
     match executive.take(rt, pass) {
         Taken::Given(grant) => {
-            gate.step(task.0, &grant);
             let granted = grant.granted();
+            gate.step(task.0, &grant);
             let need = needs.of_count(granted.job.count);
             let done = u64::from(granted.before) + 1 == u64::from(need);
             let (pass, how) = executive.outcome(rt, grant, done);

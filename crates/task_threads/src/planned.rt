@@ -89,8 +89,9 @@ fn serve_ticks<R: Wait, G: Gate>(
     for _ in rt.forever() {
         match executive.take(rt, pass) {
             Taken::Given(grant) => {
+                let before = grant.granted().before;
                 gate.step(task.0, &grant);
-                places.count_tick(u64::from(grant.granted().before));
+                places.count_tick(u64::from(before));
                 let (back, how) = executive.outcome(rt, grant, false);
                 if how != How::More {
                     return back;

@@ -1,7 +1,6 @@
 -- What the plan has added so far is the beginning of the trace that follows.
-use Rattle.std.proofs.Common.{◌≡◌, ℕ, zero, suc, ◌+◌, ◌≤◌, Bool, true, false, List, [], ◌∷◌, ◌++◌, Option, Some, None, length, cond, reverse, slice_get, nat_le, ◌==◌, refl, sym, ap, subst, arith, leb-true, leb-false, eqb-true, append_assoc}
+use Rattle.std.proofs.Common.{◌≡◌, ℕ, zero, suc, ◌+◌, ◌≤◌, Bool, true, false, List, [], ◌∷◌, ◌++◌, Option, Some, None, length, cond, slice_get, nat_le, ◌==◌, refl, sym, subst, arith, leb-true, leb-false, eqb-true, append_assoc}
 use Rattle.std.specs.List.{AllByRecursion}
-use Rattle.std.proofs.lemmas.List.{length-reverse}
 use Rattle.mc_task.specs.declared.task.Rule.{Rule}
 use Rattle.mc_task.specs.declared.task.Task.{Task}
 use Rattle.mc_task.specs.declared.task.JobId.{JobId}
@@ -23,7 +22,7 @@ use Rattle.timetable.specs.Plans.{IsTheTrace, Keeps, settled_by}
 use Rattle.timetable.specs.Shape.{first_job, row_now, next_row, Runs, IsRun}
 use Rattle.timetable.proofs.Determined.{next_at, one_follows}
 use Rattle.timetable.proofs.RunsFollow.{runs_follow}
-use Rattle.timetable.proofs.Due.{due_allowed, need_at, length-rows, planned-few, taken-few}
+use Rattle.timetable.proofs.Due.{due_allowed, need_at, length-rows, taken-few}
 use Rattle.timetable.proofs.Latest.{OfTask, of_task}
 
 -- rows that follow are the only ones
@@ -31,13 +30,6 @@ pub only_trace : (set : List Task) (rule : Rule) (work : List WorkRow) (n : ℕ)
 only_trace set rule work n h s f w p l r e =
     let follows : Follows set rule work n h = runs_follow set rule work n h s w p l r e in
     record { follows = follows; only = λ g x. one_follows set rule work n g h s f x follows }
-
--- a trace that follows is as long as its ticks and the work together, at most
-pub follows-few : (set : List Task) (rule : Rule) (work : List WorkRow) (n : ℕ) (h : List Row) → Follows set rule work n h → length h ≤ n + length work
-follows-few set rule work n h f =
-    let t = f.ticks in
-    let e : length (reverse (arrivals h)) ≡ length (planned work n) = ap length f.releases in
-    omega (arith, t, e, length-rows h, length-reverse (arrivals h), planned-few work n)
 
 -- a tick that the plan adds is legal
 tick_row_legal : (set : List Task) (rule : Rule) (work : List WorkRow) (g : List Row) (o : Option JobId) → AllByRecursion IsTask set → Legal set rule g → chosen set rule g ≡ o → Legal set rule (tick_row set rule work g o ∷ g)

@@ -23,7 +23,8 @@ use Rattle.mc_model.specs.Follows.{Arrival, arrivals, planned, ends_in_tick, don
 use Rattle.mc_model.proofs.Booleans.{or_true, eqb-false}
 use Rattle.mc_model.proofs.Lists.{Each, Each-map}
 use Rattle.mode_core.proofs.Apart.{pending_apart, only}
-use Rattle.mode_core.proofs.Chosen.{Choice, choice, IsFirst, is_first}
+use Rattle.mode_core.proofs.Chosen.{Choice, choice, IsFirst, is_first, all_from}
+use Rattle.mode_core.proofs.Fits.{same_bool-refl}
 use Rattle.timetable.specs.Ticks.{is_last, tick_row}
 use Rattle.timetable.specs.Shape.{first_job, row_now, next_row, Runs}
 use Rattle.mc_model.specs.Work.{AllFollow, IsWork}
@@ -131,20 +132,11 @@ done_as : (set : List Task) (rule : Rule) (g : List Row) (j : JobId) (d : Bool) 
 done_as set rule g j true = refl
 done_as set rule g j false = never_done _ _
 
--- tests of truth values
-same_bool-refl : (b : Bool) → same_bool b b ≡ true
-same_bool-refl true = refl
-same_bool-refl false = refl
-
+-- both of two that hold
 both : (a b : Bool) → a ≡ true → b ≡ true → (a && b) ≡ true
 both true true p q = refl
 both true false p q = cc
 both false b p q = cc
-
--- a test that each passes is passed by all
-all_from : (p : Live → Bool) (xs : List Live) → Each (λ x. p x ≡ true) xs → list_all p xs ≡ true
-all_from p [] h = refl
-all_from p (x ∷ xs) h = let a = h.0 in rw a (all_from p xs h.1)
 
 -- of a key that is not before another, the number is not lower at an equal key
 not_lower : (kx ki tx ti : ℕ) → (nat_lt kx ki || ((kx == ki) && nat_lt tx ti)) ≡ false → not ((kx == ki) && nat_lt tx ti) ≡ true

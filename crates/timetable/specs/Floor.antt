@@ -89,14 +89,14 @@ of_core (Ok x) = Ok x
 of_core (Err e) = Err (act_fault.Core e)
 
 -- the plan's refusal, or else the core's answer
-abbrev pub answer : {T F : Type 0} → Option PlanFault → Result T F → Result T (ActFault F)
-answer (Some e) r = Err (act_fault.Plan e)
-answer None r = of_core r
+abbrev pub plan_answer : {T F : Type 0} → Option PlanFault → Result T F → Result T (ActFault F)
+plan_answer (Some e) r = Err (act_fault.Plan e)
+plan_answer None r = of_core r
 
 -- the floor after a call, or as it was before, where the plan refuses it
-abbrev pub unless : Option PlanFault → FloorState → FloorState → FloorState
-unless (Some e) after before = before
-unless None after before = after
+abbrev pub floor_unless : Option PlanFault → FloorState → FloorState → FloorState
+floor_unless (Some e) after before = before
+floor_unless None after before = after
 
 -- how many of the plan's releases a release takes
 abbrev pub takes : Plan → Result Released ReleaseFault → ℕ
@@ -106,7 +106,7 @@ takes (Rows work n) (Err e) = 0
 
 -- the answer to a release of task number k
 abbrev pub release_answer : FloorState → ℕ → Result Released (ActFault ReleaseFault)
-release_answer f k = answer (release_refusal f k) (Events.release_answer f.core k)
+release_answer f k = plan_answer (release_refusal f k) (Events.release_answer f.core k)
 
 -- the floor after a release of task number k that the plan does not refuse
 abbrev pub releasing : FloorState → ℕ → FloorState
@@ -117,15 +117,15 @@ releasing f k = record f {
 
 -- the floor after a release of task number k
 abbrev pub after_release : FloorState → ℕ → FloorState
-after_release f k = unless (release_refusal f k) (releasing f k) f
+after_release f k = floor_unless (release_refusal f k) (releasing f k) f
 
 -- the answer to a grant to task number k
 abbrev pub grant_answer : FloorState → ℕ → Result Granted (ActFault GrantFault)
-grant_answer f k = answer (tick_refusal f) (Events.grant_answer f.core k)
+grant_answer f k = plan_answer (tick_refusal f) (Events.grant_answer f.core k)
 
 -- the floor after a grant to task number k
 abbrev pub after_grant : FloorState → ℕ → FloorState
-after_grant f k = unless (tick_refusal f) (record f { core = Events.after_grant f.core k }) f
+after_grant f k = floor_unless (tick_refusal f) (record f { core = Events.after_grant f.core k }) f
 
 -- the answer to an outcome of the job
 abbrev pub outcome_answer : FloorState → JobId → Bool → Result How NotOut
@@ -137,11 +137,11 @@ after_outcome f j told = record f { core = Events.after_outcome f.core j (done_b
 
 -- the answer to an idle tick
 abbrev pub idle_answer : FloorState → Result ℕ (ActFault IdleFault)
-idle_answer f = answer (tick_refusal f) (Events.idle_answer f.core)
+idle_answer f = plan_answer (tick_refusal f) (Events.idle_answer f.core)
 
 -- the floor after an idle tick
 abbrev pub after_idle : FloorState → FloorState
-after_idle f = unless (tick_refusal f) (record f { core = Events.after_idle f.core }) f
+after_idle f = floor_unless (tick_refusal f) (record f { core = Events.after_idle f.core }) f
 
 -- the task of the due release, where its tick is not out
 abbrev pub release_act : Option WorkRow → Option JobId → Option Act

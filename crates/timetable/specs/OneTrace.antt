@@ -2,7 +2,7 @@
 use Rattle.std.specs.Prelude.{◌≡◌, ℕ, List}
 use Rattle.mc_task.specs.declared.task.Rule.{Rule}
 use Rattle.mc_task.specs.declared.task.Task.{Task}
-use Rattle.mc_task.specs.TaskSet.{IsSet}
+use Rattle.mc_task.specs.TaskSet.{AreTasks}
 use Rattle.mc_model.specs.declared.row.Row.{Row}
 use Rattle.mc_model.specs.declared.work.WorkRow.{WorkRow}
 use Rattle.mc_model.specs.Holds.{Fits}
@@ -10,4 +10,4 @@ use Rattle.mc_model.specs.Follows.{Follows}
 
 -- law: of a set, a rule that fits, rows of work and a number of ticks at most one trace follows
 abbrev pub AtMostOneFollows : Type 0
-AtMostOneFollows = (set : List Task) (rule : Rule) (work : List WorkRow) (n : ℕ) (g h : List Row) → IsSet set → Fits rule → Follows set rule work n g → Follows set rule work n h → g ≡ h
+AtMostOneFollows = (set : List Task) (rule : Rule) (work : List WorkRow) (n : ℕ) (g h : List Row) → AreTasks set → Fits rule → Follows set rule work n g → Follows set rule work n h → g ≡ h

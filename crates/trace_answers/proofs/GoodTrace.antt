@@ -11,7 +11,7 @@ use Rattle.mc_model.specs.Legal.{IsOfSet}
 use Rattle.mc_model.specs.Late.{late}
 use Rattle.mc_model.specs.Runs.{expand, IsRunOfSet}
 use Rattle.mc_model.specs.Traces.{IsTraceOf}
-use Rattle.mc_model.specs.Verdict.{RowFault, verdict, verdict_of, first_fault}
+use Rattle.mc_model.specs.Verdict.{RowFault, verdict, verdict_of, first_unfit}
 use Rattle.mc_model.proofs.Lists.{Each-reverse}
 use Rattle.mc_model.proofs.Runs.{all_expand}
 use Rattle.mc_model.proofs.Verdicts.{legal_by_verdict}
@@ -32,5 +32,5 @@ good_trace set rule runs fits of good = record {
   rule = rule;
   fits = fits;
   legal = legal_by_verdict set rule (reverse (expand runs)) (rows_of_runs set runs (each_of_all (IsRunOfSet set) runs of))
-      (no_fault_in (first_fault set rule (reverse (expand runs))) (late set (reverse (expand runs))) good);
+      (no_fault_in (first_unfit set rule (reverse (expand runs))) (late set (reverse (expand runs))) good);
 }

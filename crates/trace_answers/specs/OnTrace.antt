@@ -34,20 +34,20 @@ rows_in set bytes = do
 -- what is told of a good trace, whose newest row stands first: the chart, of at most 2,000,000 ticks; the report; the trace
 -- itself, equal ticks in one record; or the verdict
 abbrev pub told : Telling → Ruled → List Row → Result (List ℕ) Refusal
-told Chart ruled h = if nat_le (ticks h) 2000000 then Ok (chart_text ruled.set h) else Err (LongChart (ticks h))
-told Report ruled h = Ok (report_text ruled.set h)
-told Migrate ruled h = Ok (trace_text ruled.set (reverse h))
-told telling ruled h = Ok (verdict_line ruled.set (verdict ruled.set ruled.rule h))
+told Chart ruled h = if nat_le (ticks h) 2000000 then Ok (chart_text ruled.set.tasks h) else Err (LongChart (ticks h))
+told Report ruled h = Ok (report_text ruled.set.tasks h)
+told Migrate ruled h = Ok (trace_text ruled.set.tasks (reverse h))
+told telling ruled h = Ok (verdict_line ruled.set.tasks (verdict ruled.set.tasks ruled.rule h))
 
 -- so, if the trace is good
 abbrev pub judged : Telling → Ruled → List Row → Result (List ℕ) Refusal
 judged telling ruled h =
-    let given = verdict ruled.set ruled.rule h in if is_good given then told telling ruled h else Err (BadTrace ruled.set given)
+    let given = verdict ruled.set.tasks ruled.rule h in if is_good given then told telling ruled h else Err (BadTrace ruled.set.tasks given)
 
 -- by the bytes of the trace
 abbrev pub tells : Telling → Ruled → List ℕ → Result (List ℕ) Refusal
 tells telling ruled bytes = do
-  h ← rows_in ruled.set bytes
+  h ← rows_in ruled.set.tasks bytes
   judged telling ruled h
 
 -- the set that a task file says, under the rule that the words give, or else the test

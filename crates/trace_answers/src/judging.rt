@@ -47,7 +47,7 @@ fn judged(
 ) -> Result<Reply, AllocError>
     requires fits { Fits rule }
     requires runs { AreRuns runs.now }
-    requires tasks { All (IsRunOfSet set.now) runs.now }
+    requires tasks { All (IsRunOfSet set.now.tasks) runs.now }
     ensures reply { IfOk result (λ reply. reply ≡ reply_by (spec.judged telling (under rule set.now) (reverse (expand runs.now)))) }
     ensures own { IfOk result IsOwn }
 {
@@ -80,8 +80,8 @@ fn told(
 ) -> Result<Reply, AllocError>
     requires fits { Fits rule }
     requires runs { AreRuns runs.now }
-    requires tasks { All (IsRunOfSet set.now) runs.now }
-    requires verdict { given ≡ verdict set.now rule (reverse (expand runs.now)) }
+    requires tasks { All (IsRunOfSet set.now.tasks) runs.now }
+    requires verdict { given ≡ verdict set.now.tasks rule (reverse (expand runs.now)) }
     requires good { spec.is_good given ≡ true }
     ensures reply { IfOk result (λ reply. reply ≡ reply_by (spec.told telling (under rule set.now) (reverse (expand runs.now)))) }
     ensures own { IfOk result IsOwn }

@@ -38,9 +38,9 @@ fn length_of(run: Run) -> u64
 /// The chart of the runs.
 pub fn chart_of(alloc: Global, set: &TaskSet, runs: &[Run]) -> Result<Vec<u8>, AllocError>
     requires runs { AreRuns runs.now }
-    requires trace { IsTraceOf set.now (reverse (expand runs.now)) }
+    requires trace { IsTraceOf set.now.tasks (reverse (expand runs.now)) }
     requires few { ticks (reverse (expand runs.now)) ≤ 2000000 }
-    ensures { IfOk result (λ text. text.items ≡ chart_text set.now (reverse (expand runs.now))) }
+    ensures { IfOk result (λ text. text.items ≡ chart_text set.now.tasks (reverse (expand runs.now))) }
 {
     match chart(alloc, set, runs) {
         Ok(text) => Ok(text),
@@ -51,8 +51,8 @@ pub fn chart_of(alloc: Global, set: &TaskSet, runs: &[Run]) -> Result<Vec<u8>, A
 /// The report of the runs.
 pub fn report_of(alloc: Global, set: &TaskSet, runs: &[Run]) -> Result<Vec<u8>, AllocError>
     requires runs { AreRuns runs.now }
-    requires trace { IsTraceOf set.now (reverse (expand runs.now)) }
-    ensures { IfOk result (λ text. text.items ≡ report_text set.now (reverse (expand runs.now))) }
+    requires trace { IsTraceOf set.now.tasks (reverse (expand runs.now)) }
+    ensures { IfOk result (λ text. text.items ≡ report_text set.now.tasks (reverse (expand runs.now))) }
 {
     match report(alloc, set, runs) {
         Ok(text) => Ok(text),
@@ -63,8 +63,8 @@ pub fn report_of(alloc: Global, set: &TaskSet, runs: &[Run]) -> Result<Vec<u8>, 
 /// The text of the runs' rows, equal ticks in one record.
 pub fn merged_text(alloc: Global, set: &TaskSet, runs: &[Run]) -> Result<Vec<u8>, AllocError>
     requires runs { AreRuns runs.now }
-    requires tasks { All (IsRunOfSet set.now) runs.now }
-    ensures { IfOk result (λ text. text.items ≡ trace_text set.now (expand runs.now)) }
+    requires tasks { All (IsRunOfSet set.now.tasks) runs.now }
+    ensures { IfOk result (λ text. text.items ≡ trace_text set.now.tasks (expand runs.now)) }
 {
     let Ok(merged) = merge(alloc, runs) else {
         return Err(AllocError);

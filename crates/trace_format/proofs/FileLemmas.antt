@@ -1,5 +1,5 @@
 -- The runs of a trace, by its first record and by any list of its records.
-use Rattle.std.proofs.Common.{◌≡◌, ◌≢◌, ◌<◌, ◌≤◌, ℕ, ◌+◌, Bool, true, false, ◌&&◌, ◌==◌, not, cond, nat_le, List, [], ◌∷◌, length, Option, Some, None, Result, Ok, Err, refl, ap, ◌∙◌, arith}
+use Rattle.std.proofs.Common.{◌≡◌, ◌<◌, ℕ, ◌+◌, Bool, true, false, ◌&&◌, ◌==◌, not, cond, nat_le, List, [], ◌∷◌, length, Some, None, Result, Err, refl, ap, ◌∙◌, arith}
 use Rattle.std.proofs.lemmas.Bool.Decides.{nat_tests}
 use Rattle.csv.specs.Reading.{AreRecords, default_config, records, strip_bom}
 use Rattle.csv.specs.declared.parser.State.TheVariants as st
@@ -8,7 +8,6 @@ use Rattle.mc_model.specs.declared.run.Run.{Run}
 use Rattle.trace_format.specs.declared.version.Version.{Version}
 use Rattle.trace_format.specs.declared.version.Version.TheVariants.{One, Two}
 use Rattle.trace_format.specs.declared.fault.TraceCause.{TraceCause}
-use Rattle.trace_format.specs.declared.fault.TraceFault.{TraceFault}
 use Rattle.trace_format.specs.declared.fault.TraceCause.TheVariants.{Header, TooMany}
 use Rattle.trace_format.specs.declared.fault.TraceFault.TheVariants.{At}
 use Rattle.trace_format.specs.TraceFile.{version_of, width, wrong_width, record_run, runs_with, runs_by, runs_from, runs_of, trace_file}

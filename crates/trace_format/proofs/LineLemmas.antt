@@ -11,7 +11,7 @@ use Rattle.numeral.specs.Numeral.{is_digit}
 use Rattle.numeral.proofs.NumeralLemmas.{digits-decimal}
 use Rattle.mc_task.specs.declared.task.Task.{Task}
 use Rattle.mc_task.specs.NameForm.{is_name, is_name_byte}
-use Rattle.mc_task.specs.TaskSet.{IsSet, name_in, task_at}
+use Rattle.mc_task.specs.TaskSet.{AreTasks, name_in, task_at}
 use Rattle.mc_model.specs.Sums.{total}
 use Rattle.mc_model.specs.Runs.{length_of}
 use Rattle.mc_model.specs.TraceText.{how_word, kept_word, line_of, run_line, lines_after, runs_text}
@@ -81,7 +81,7 @@ line_is : (a b c d e f : List ℕ) → IsPlain a → IsPlain b → IsPlain c →
 unfolding fields_text is_blank
 line_is a b c d e f pa pb pc pd pe pf = rw (pa, pb, pc, pd, pe, pf) (simp append_assoc)
 
-run_line_is : (set : List Task) (tick : ℕ) (r : Run) → IsSet set → tick < 2 ^ 64 → length_of r < 2 ^ 64 → IsWritable set r → row_text default_writer (run_fields set tick r) ≡ run_line set tick r
+run_line_is : (set : List Task) (tick : ℕ) (r : Run) → AreTasks set → tick < 2 ^ 64 → length_of r < 2 ^ 64 → IsWritable set r → row_text default_writer (run_fields set tick r) ≡ run_line set tick r
 unfolding run_line
 run_line_is set tick (Release j kept) s h n w =
     line_is (codes "release") (decimal tick) [] (name_in (task_at set j.task.0)) (decimal j.count) (kept_word kept) refl (plain_decimal tick h) refl (plain_name (name_in (task_at set j.task.0)) (found_by_name set j.task.0 s w.0).form)
@@ -91,7 +91,7 @@ run_line_is set tick (Ticks j how n) s h m w =
     (plain_decimal j.count (omega (arith, w.1))) (plain_how how)
 run_line_is set tick (Idles n) s h m w = line_is (codes "idle") (decimal tick) (decimal n) [] [] [] refl (plain_decimal tick h) (plain_decimal n m) refl refl refl
 
-read_line : (set : List Task) (tick : ℕ) (r : Run) (tail : List ℕ) → IsSet set → tick < 2 ^ 64 → length_of r < 2 ^ 64 → IsWritable set r
+read_line : (set : List Task) (tick : ℕ) (r : Run) (tail : List ℕ) → AreTasks set → tick < 2 ^ 64 → length_of r < 2 ^ 64 → IsWritable set r
     → next_record default_config st.StartRecord [] [] (run_line set tick r ++ tail) ≡ Some (run_fields set tick r, st.StartRecord, tail)
 read_line set tick r tail s h n w = ap (λ (t : List ℕ). next_record default_config st.StartRecord [] [] (t ++ tail)) (sym (run_line_is set tick r s h n w)) ∙ many r
   where
@@ -104,7 +104,7 @@ read_line set tick r tail s h n w = ap (λ (t : List ℕ). next_record default_c
 pub total-one : (before : List Run) (r : Run) → total length_of (before ++ r ∷ []) ≡ total length_of before + length_of r
 total-one before r = let more = total-append length_of before (r ∷ []) in omega (arith, more)
 
-lines_reached : (set : List Task) (before runs : List Run) → IsSet set → total length_of before + total length_of runs ≤ 100000000 → AllByRecursion (IsWritable set) runs
+lines_reached : (set : List Task) (before runs : List Run) → AreTasks set → total length_of before + total length_of runs ≤ 100000000 → AllByRecursion (IsWritable set) runs
     → Reached default_config st.StartRecord (lines_after set before runs) (fields_after set before runs) st.StartRecord []
 unfolding Reached
 lines_reached set before [] s h w = (refl, refl)
@@ -117,7 +117,7 @@ lines_reached set before (r ∷ runs) s h w =
     )
 
 -- the records of what is written
-pub written_records : (set : List Task) (runs : List Run) → IsSet set → total length_of runs ≤ 100000000 → AllByRecursion (IsWritable set) runs → AreRecords default_config st.StartRecord (strip_bom (runs_text set runs)) (header_fields ∷ fields_after set [] runs)
+pub written_records : (set : List Task) (runs : List Run) → AreTasks set → total length_of runs ≤ 100000000 → AllByRecursion (IsWritable set) runs → AreRecords default_config st.StartRecord (strip_bom (runs_text set runs)) (header_fields ∷ fields_after set [] runs)
 unfolding Reached strip_bom next_record
 written_records set runs s h w = (
   st.StartRecord,

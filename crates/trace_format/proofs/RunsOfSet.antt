@@ -21,7 +21,7 @@ use Rattle.trace_format.specs.declared.record.Numbers.{Numbers}
 use Rattle.trace_format.specs.declared.fault.TraceCause.{TraceCause}
 use Rattle.trace_format.specs.declared.fault.TraceCause.TheVariants.{UnknownEvent, UnknownTask, BadNumber, WrongTick, TooMany, BadLength, TooManyTicks}
 use Rattle.trace_format.specs.Events.{field, task_place, event_of}
-use Rattle.trace_format.specs.Reading.{Fits}
+use Rattle.trace_format.specs.Reading.{MayStandBehind}
 use Rattle.trace_format.specs.TraceFile.{width, wrong_width, task_told, numbers_told, is_length, job_with, run_told, given, record_run, runs_with, runs_from, runs_by, runs_of, version_of, trace_file}
 use Rattle.mc_task.proofs.NamedLemmas.{found}
 
@@ -33,7 +33,7 @@ ticks_are j Stop n h = let one : n ≡ 1 = grind (arith, nat_tests, h) in (omega
 ticks_are j Over n h = let one : n ≡ 1 = grind (arith, nat_tests, h) in (omega (arith, one), λ two. absurd (omega (arith, one, two)))
 
 -- the run of a record with these numbers
-told_fits : (set : List Task) (v : Version) (fields : List (List ℕ)) (due : ℕ) (told : Event) (task : ℕ) (n : Numbers) → task_told set v fields told ≡ Some task → not (is_length told n.length) ≡ false → nat_lt 100000000 (due + n.length) ≡ false → Fits set due (run_told told task n)
+told_fits : (set : List Task) (v : Version) (fields : List (List ℕ)) (due : ℕ) (told : Event) (task : ℕ) (n : Numbers) → task_told set v fields told ≡ Some task → not (is_length told n.length) ≡ false → nat_lt 100000000 (due + n.length) ≡ false → MayStandBehind set due (run_told told task n)
 told_fits set v fields due (event.Release kept) task n named length short = record { is_run = tt; task = found (field fields (task_place v)) set task named; short = grind (arith, nat_tests, short) }
 told_fits set v fields due (event.Tick how) task n named length short = record { is_run = ticks_are (job_with task n.count) how n.length length; task = found (field fields (task_place v)) set task named; short = grind (arith, nat_tests, short) }
 told_fits set v fields due event.Idle task n named length short = record { is_run = grind (arith, nat_tests, length); task = tt; short = grind (arith, nat_tests, short) }
@@ -46,30 +46,30 @@ from_numbers due told task n =
 abbrev from_told : List Task → Version → ℕ → List (List ℕ) → Event → Result Run TraceCause
 from_told set v due fields told = given (task_told set v fields told) UnknownTask (λ task. given (numbers_told v fields told) BadNumber (from_numbers due told task))
 
-of_numbers : (set : List Task) (v : Version) (due : ℕ) (fields : List (List ℕ)) (told : Event) (task : ℕ) (n : Numbers) (q : Run) → task_told set v fields told ≡ Some task → from_numbers due told task n ≡ Ok q → Fits set due q
+of_numbers : (set : List Task) (v : Version) (due : ℕ) (fields : List (List ℕ)) (told : Event) (task : ℕ) (n : Numbers) (q : Run) → task_told set v fields told ≡ Some task → from_numbers due told task n ≡ Ok q → MayStandBehind set due q
 of_numbers set v due fields told task n q named h = go (not (n.tick == due)) (not (is_length told n.length)) refl (nat_lt 100000000 (due + n.length)) refl h
   where
-    go : (a b : Bool) → not (is_length told n.length) ≡ b → (c : Bool) → nat_lt 100000000 (due + n.length) ≡ c → cond a (Err WrongTick) (cond b (Err BadLength) (cond c (Err TooManyTicks) (Ok (run_told told task n)))) ≡ Ok q → Fits set due q
+    go : (a b : Bool) → not (is_length told n.length) ≡ b → (c : Bool) → nat_lt 100000000 (due + n.length) ≡ c → cond a (Err WrongTick) (cond b (Err BadLength) (cond c (Err TooManyTicks) (Ok (run_told told task n)))) ≡ Ok q → MayStandBehind set due q
     go true b length c short h = cc
     go false true length c short h = cc
     go false false length true short h = cc
-    go false false length false short h = let same : run_told told task n ≡ q = cc in subst (Fits set due) same (told_fits set v fields due told task n named length short)
+    go false false length false short h = let same : run_told told task n ≡ q = cc in subst (MayStandBehind set due) same (told_fits set v fields due told task n named length short)
 
-of_told : (set : List Task) (v : Version) (due : ℕ) (fields : List (List ℕ)) (told : Event) (q : Run) → from_told set v due fields told ≡ Ok q → Fits set due q
+of_told : (set : List Task) (v : Version) (due : ℕ) (fields : List (List ℕ)) (told : Event) (q : Run) → from_told set v due fields told ≡ Ok q → MayStandBehind set due q
 of_told set v due fields told q h = go (task_told set v fields told) refl (numbers_told v fields told) h
   where
-    go : (task : Option ℕ) → task_told set v fields told ≡ task → (n : Option Numbers) → given task UnknownTask (λ task. given n BadNumber (from_numbers due told task)) ≡ Ok q → Fits set due q
+    go : (task : Option ℕ) → task_told set v fields told ≡ task → (n : Option Numbers) → given task UnknownTask (λ task. given n BadNumber (from_numbers due told task)) ≡ Ok q → MayStandBehind set due q
     go None named n h = cc
     go (Some task) named None h = cc
     go (Some task) named (Some n) h = of_numbers set v due fields told task n q named h
 
 -- the run of a record fits behind the runs before it
-pub of_record : (set : List Task) (v : Version) (before : List Run) (fields : List (List ℕ)) (q : Run) → record_run set v before fields ≡ Ok q → (length before < 2000000) × Fits set (total length_of before) q
+pub of_record : (set : List Task) (v : Version) (before : List Run) (fields : List (List ℕ)) (q : Run) → record_run set v before fields ≡ Ok q → (length before < 2000000) × MayStandBehind set (total length_of before) q
 unfolding record_run
 of_record set v before fields q h = go (nat_le 2000000 (length before)) refl (not (length fields == width v)) (event_of v fields) h
   where
     go : (many : Bool) → nat_le 2000000 (length before) ≡ many → (wide : Bool) → (told : Option Event) → cond many (Err TooMany) (cond wide (Err (wrong_width v)) (given told UnknownEvent (from_told set v (total length_of before) fields))) ≡ Ok q
-        → (length before < 2000000) × Fits set (total length_of before) q
+        → (length before < 2000000) × MayStandBehind set (total length_of before) q
     go true few wide told h = cc
     go false few true told h = cc
     go false few false None h = cc
@@ -86,7 +86,7 @@ each_more : (P : Run → Type 0) (before : List Run) (r : Run) → AllByRecursio
 each_more P [] r h p = (p, tt)
 each_more P (b ∷ before) r h p = (h.0, each_more P before r h.1 p)
 
-one_more : (set : List Task) (before : List Run) (r : Run) → AreOf set before → length before < 2000000 → Fits set (total length_of before) r → AreOf set (before ++ r ∷ [])
+one_more : (set : List Task) (before : List Run) (r : Run) → AreOf set before → length before < 2000000 → MayStandBehind set (total length_of before) r → AreOf set (before ++ r ∷ [])
 one_more set before r a few f = record {
   each = each_more IsRun before r a.each f.is_run;
   few = omega (arith, few, length-append before (r ∷ []));

@@ -9,7 +9,7 @@ use Rattle.csv.specs.Records.{field_at}
 use Rattle.numeral.proofs.NumeralLemmas.{number-decimal}
 use Rattle.mc_task.specs.declared.task.Task.{Task}
 use Rattle.mc_task.specs.declared.task.JobId.{JobId}
-use Rattle.mc_task.specs.TaskSet.{IsSet}
+use Rattle.mc_task.specs.TaskSet.{AreTasks}
 use Rattle.mc_model.specs.Sums.{total}
 use Rattle.mc_model.specs.Runs.{length_of, IsRun, AreRuns}
 use Rattle.mc_model.specs.TraceText.{runs_text, kept_word, how_word}
@@ -63,7 +63,7 @@ how_read Stop = refl
 how_read Over = refl
 
 -- a run is read from its fields
-record_back : (set : List Task) (before : List Run) (r : Run) → IsSet set → length before < 2000000 → total length_of before + length_of r ≤ 100000000 → IsRun r → IsWritable set r
+record_back : (set : List Task) (before : List Run) (r : Run) → AreTasks set → length before < 2000000 → total length_of before + length_of r ≤ 100000000 → IsRun r → IsWritable set r
     → record_run set Two before (run_fields set (total length_of before) r) ≡ Ok r
 unfolding record_run field_at event_of idle_event
 record_back set before (Release j kept) s a h v w =
@@ -73,7 +73,7 @@ record_back set before (Ticks j how n) s a h v w =
 record_back set before (Idles n) s a h v w =
     rw (few_runs (length before) a, number-decimal (total length_of before) (omega (arith, h)), number-decimal n (omega (arith, h)), same_tick (total length_of before), some_ticks n v, few_ticks (total length_of before) n h) refl
 
-runs_back : (set : List Task) (before runs : List Run) → IsSet set → length before + length runs ≤ 2000000 → total length_of before + total length_of runs ≤ 100000000 → AllByRecursion IsRun runs → AllByRecursion (IsWritable set) runs
+runs_back : (set : List Task) (before runs : List Run) → AreTasks set → length before + length runs ≤ 2000000 → total length_of before + total length_of runs ≤ 100000000 → AllByRecursion IsRun runs → AllByRecursion (IsWritable set) runs
     → runs_from set Two (fields_after set before runs) before ≡ Ok (before ++ runs)
 runs_back set before [] s a h v w = ap Ok (sym (append-nil before))
 runs_back set before (r ∷ runs) s a h v w =
@@ -83,12 +83,12 @@ runs_back set before (r ∷ runs) s a h v w =
     ap (runs_with before (runs_from set Two (fields_after set (before ++ r ∷ []) runs))) (record_back set before r s (omega (arith, a)) (omega (arith, h)) v.0 w.0)
     ∙ (rest ∙ ap Ok (append_assoc before (r ∷ []) runs))
 
-file_back : (set : List Task) (runs : List Run) → IsSet set → AreRuns runs → AllByRecursion (IsWritable set) runs → runs_of set (header_fields ∷ fields_after set [] runs) ≡ Ok runs
+file_back : (set : List Task) (runs : List Run) → AreTasks set → AreRuns runs → AllByRecursion (IsWritable set) runs → runs_of set (header_fields ∷ fields_after set [] runs) ≡ Ok runs
 unfolding field_at
 file_back set runs s v w = let few = v.few in let short = v.short in runs_back set [] runs s (omega (arith, few)) (omega (arith, short)) (recursion_from_All IsRun runs v.each) w
 
 -- what is written is read as its runs
-pub read_back : (set : List Task) (runs : List Run) (text : List ℕ) → IsSet set → AreRuns runs → All (IsWritable set) runs → text ≡ runs_text set runs → trace_file set text ≡ Ok runs
+pub read_back : (set : List Task) (runs : List Run) (text : List ℕ) → AreTasks set → AreRuns runs → All (IsWritable set) runs → text ≡ runs_text set runs → trace_file set text ≡ Ok runs
 read_back set runs text s v writable is =
     let w : AllByRecursion (IsWritable set) runs = recursion_from_All (IsWritable set) runs writable in
     let written = written_records set runs s v.short w in

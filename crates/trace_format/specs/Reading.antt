@@ -7,7 +7,7 @@ use Rattle.mc_model.specs.Runs.{length_of, IsRun, IsRunOfSet}
 use Rattle.trace_format.specs.declared.read.Reading.{Reading}
 
 -- a run of the set that may stand behind so many ticks
-pub record Fits (set : List Task) (due : ℕ) (r : Run) : Type 0 where
+pub record MayStandBehind (set : List Task) (due : ℕ) (r : Run) : Type 0 where
   pub is_run : IsRun r
   pub task : IsRunOfSet set r
   pub short : due + length_of r ≤ 100000000

@@ -1,3 +1,7 @@
+ghost use Rattle.std.specs.Prelude.{◌≡◌};
+ghost use Rattle.trace_format.specs.declared.fault.TraceFault.TheVariants.{Memory};
+
+use std::alloc::{AllocError, AllocFailed};
 use thiserror::Error;
 
 /// Why a record of a trace is refused.
@@ -36,4 +40,20 @@ pub enum TraceFault {
     /// The first record that is refused, and why.
     #[error("line {line}: {cause:?}")]
     At { line: u32, cause: TraceCause },
+}
+
+impl From<AllocError> for TraceFault {
+    ghost from_gives = { λ _ e. e ≡ Memory };
+
+    fn from(_: AllocError) -> TraceFault {
+        TraceFault::Memory
+    }
+}
+
+impl<T: Drop> From<AllocFailed<T>> for TraceFault {
+    ghost from_gives = { λ _ e. e ≡ Memory };
+
+    fn from(_: AllocFailed<T>) -> TraceFault {
+        TraceFault::Memory
+    }
 }

@@ -10,7 +10,7 @@ ghost use Rattle.trace_format.specs.Packing.{ArePacked, joined, with_last};
 
 use mc_model::{How, Row, Run};
 use mc_task::{JobId, Memory};
-use std::alloc::Global;
+use std::alloc::{AllocError, Global};
 
 /// The rows as runs, no two neighbours of which could be one: idle ticks that stand together are one run, and so are
 /// ticks of a job behind which it goes on.
@@ -64,7 +64,7 @@ fn run_of(row: Row) -> Run
 }
 
 // Adds a run at the end, to the last one where it can.
-fn add(runs: &mut Vec<Run>, run: Run) -> Result<(), Memory>
+fn add(runs: &mut Vec<Run>, run: Run) -> Result<(), AllocError>
     requires is_run { IsRun run }
     requires packed { ArePacked runs.old.items }
     requires short { total length_of runs.old.items + length_of run ≤ 100000000 }
@@ -76,10 +76,8 @@ fn add(runs: &mut Vec<Run>, run: Run) -> Result<(), Memory>
         runs[last] = both;
         return Ok(());
     }
-    match runs.push(run) {
-        Ok(()) => Ok(()),
-        Err(_) => Err(Memory),
-    }
+    runs.push(run)?;
+    Ok(())
 }
 
 // The last run and this one as one, where they could be.

@@ -26,33 +26,27 @@ use std::alloc::Global;
 /// each record in turn `TooMany`, the 2,000,001st behind the header; `BadRecord` or `NotSix`, by the version;
 /// `UnknownEvent`; `UnknownTask`; `BadNumber`; `WrongTick`; `BadLength`; `TooManyTicks`.
 pub fn read_trace(alloc: Global, set: &TaskSet, bytes: &[u8]) -> Result<Vec<Run>, TraceFault>
-    ensures file { Gives result (file.trace_file set.now bytes.now) }
+    ensures file { Gives result (file.trace_file set.now.tasks bytes.now) }
     ensures runs { IfOk result (λ runs. AreRuns runs.items) }
-    ensures tasks { IfOk result (λ runs. All (IsRunOfSet set.now) runs.items) }
+    ensures tasks { IfOk result (λ runs. All (IsRunOfSet set.now.tasks) runs.items) }
 {
     let mut records = Records::new(alloc, bytes);
     // One record for all of them, so that a run takes no memory beside its place in the list.
     let mut fields = ByteRecord::new(alloc);
-    let version = match records.next(&mut fields) {
-        Err(_) => return Err(TraceFault::Memory),
-        Ok(Next::End) => return Err(NO_HEADER),
-        Ok(Next::Wide) => return Err(NO_HEADER),
-        Ok(Next::Record) => match version_of(&fields) {
+    let version = match records.next(&mut fields)? {
+        Next::End => return Err(NO_HEADER),
+        Next::Wide => return Err(NO_HEADER),
+        Next::Record => match version_of(&fields) {
             None => return Err(NO_HEADER),
             Some(version) => version,
         },
     };
     let mut reading = Reading::new(alloc);
     'records: loop {
-        match records.next(&mut fields) {
-            Err(_) => return Err(TraceFault::Memory),
-            Ok(Next::End) => return Ok(reading.runs),
-            Ok(Next::Wide) => return Err(too_wide(&reading, version)),
-            Ok(Next::Record) => {
-                if let Err(fault) = take(&mut reading, set, version, &fields) {
-                    return Err(fault);
-                }
-            }
+        match records.next(&mut fields)? {
+            Next::End => return Ok(reading.runs),
+            Next::Wide => return Err(too_wide(&reading, version)),
+            Next::Record => take(&mut reading, set, version, &fields)?,
         }
     }
 }
@@ -89,8 +83,8 @@ fn take(
     fields: &ByteRecord,
 ) -> Result<(), TraceFault>
     requires { AreRead reading.old }
-    ensures ok { OnOk result ((fs : List (List (List ℕ))) → file.runs_from set.now version fs reading.new.runs.items ≡ file.runs_from set.now version (fields_of fields.now ∷ fs) reading.old.runs.items) }
-    ensures err { IfErr result (λ e. (fs : List (List (List ℕ))) → Fails e (file.runs_from set.now version (fields_of fields.now ∷ fs) reading.old.runs.items)) }
+    ensures ok { OnOk result ((fs : List (List (List ℕ))) → file.runs_from set.now.tasks version fs reading.new.runs.items ≡ file.runs_from set.now.tasks version (fields_of fields.now ∷ fs) reading.old.runs.items) }
+    ensures err { IfErr result (λ e. (fs : List (List (List ℕ))) → Fails e (file.runs_from set.now.tasks version (fields_of fields.now ∷ fs) reading.old.runs.items)) }
     ensures read { OnOk result (AreRead reading.new) }
 {
     match record_run(set, version, &reading.runs, reading.due, fields) {
@@ -99,9 +93,7 @@ fn take(
             cause,
         }),
         Ok(next) => {
-            if reading.runs.push(next).is_err() {
-                return Err(TraceFault::Memory);
-            }
+            reading.runs.push(next)?;
             reading.due = tick_after(reading.due, next);
             Ok(())
         }

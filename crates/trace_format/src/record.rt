@@ -110,7 +110,7 @@ pub fn record_run(
 ) -> Result<Run, TraceCause>
     requires due { due ≡ total length_of before.now }
     requires short { due ≤ 100000000 }
-    ensures { result ≡ file.record_run set.now version before.now (fields_of fields.now) }
+    ensures { result ≡ file.record_run set.now.tasks version before.now (fields_of fields.now) }
 {
     if before.len() >= 2_000_000 {
         return Err(TraceCause::TooMany);
@@ -141,7 +141,7 @@ pub fn record_run(
 
 // The task of a release or a tick; an idle record has none, for which 0 stands, the number of no task.
 fn task_told(set: &TaskSet, version: Version, fields: &ByteRecord, told: Event) -> Option<TaskNo>
-    ensures { option_map (λ task. task.0) result ≡ file.task_told set.now version (fields_of fields.now) told }
+    ensures { option_map (λ task. task.0) result ≡ file.task_told set.now.tasks version (fields_of fields.now) told }
 {
     match told {
         Event::Release { .. } | Event::Tick { .. } => set.find(field(fields, task_place(version))),

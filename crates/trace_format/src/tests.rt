@@ -330,3 +330,20 @@ fn a_wide_record_of_a_long_text_is_refused_by_its_width(rt: HostRuntime) -> Resu
     }
     Ok(())
 }
+
+#[test]
+fn a_text_of_many_runs_is_read_and_written(rt: HostRuntime) -> Result<(), Fail> {
+    let alloc = rt.alloc();
+    let set = control(alloc)?;
+    let mut text = String::from_str(alloc, "event,tick,length,task,job,how\n")?;
+    for k in 0..50_000u32 {
+        let row = format!(in alloc; "tick,{k},1,ctl,{},done\n", k + 1)?;
+        text.push_str(row.as_str())?;
+    }
+    let runs = read_trace(alloc, &set, text.as_bytes())?;
+    assert_eq!(rt; runs.len(), 50_000);
+    assert_eq!(rt; runs.get(49_999), Some(&ticks(1, 50_000, How::Done, 1)));
+    let written = write_trace(alloc, &set, &runs)?;
+    assert!(rt; written.as_slice() == text.as_bytes());
+    Ok(())
+}

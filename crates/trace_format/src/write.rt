@@ -12,22 +12,20 @@ use std::alloc::{AllocError, Global};
 /// The runs as the text of a trace in version 2: the header, and a line for each run.
 pub fn write_trace(alloc: Global, set: &TaskSet, runs: &[Run]) -> Result<Vec<u8>, Memory>
     requires runs { AreRuns runs.now }
-    requires tasks { All (IsRunOfSet set.now) runs.now }
-    ensures text { IfOk result (λ text. text.items ≡ runs_text set.now runs.now) }
-    ensures reads_back { IfOk result (λ text. trace_file set.now text.items ≡ Ok runs.now) }
+    requires tasks { All (IsRunOfSet set.now.tasks) runs.now }
+    ensures text { IfOk result (λ text. text.items ≡ runs_text set.now.tasks runs.now) }
+    ensures reads_back { IfOk result (λ text. trace_file set.now.tasks text.items ≡ Ok runs.now) }
 {
     let _is_set = set.len();
-    match runs_text(alloc, set, runs) {
-        Ok(text) => Ok(text),
-        Err(_) => Err(Memory),
-    }
+    let text = runs_text(alloc, set, runs)?;
+    Ok(text)
 }
 
 fn runs_text(alloc: Global, set: &TaskSet, runs: &[Run]) -> Result<Vec<u8>, AllocError>
     requires runs { AreRuns runs.now }
-    requires tasks { All (IsRunOfSet set.now) runs.now }
-    ensures text { IfOk result (λ text. text.items ≡ runs_text set.now runs.now) }
-    ensures writable { IfOk result (λ text. All (IsWritable set.now) runs.now) }
+    requires tasks { All (IsRunOfSet set.now.tasks) runs.now }
+    ensures text { IfOk result (λ text. text.items ≡ runs_text set.now.tasks runs.now) }
+    ensures writable { IfOk result (λ text. All (IsWritable set.now.tasks) runs.now) }
 {
     let mut out = Vec::new(alloc);
     out.extend_from_slice(b"event,tick,length,task,job,how\n")?;
@@ -52,9 +50,9 @@ pub fn tick_after(tick: u32, run: Run) -> u32
 
 #[tactic(auto, unfolding(mc_model::specs::TraceText::run_line))]
 fn push_run(out: &mut Vec<u8>, set: &TaskSet, tick: u32, run: Run) -> Result<(), AllocError>
-    requires { IsRunOfSet set.now run }
-    ensures line { OnOk result (out.new.items ≡ out.old.items ++ run_line set.now tick run) }
-    ensures writable { IsWritable set.now run }
+    requires { IsRunOfSet set.now.tasks run }
+    ensures line { OnOk result (out.new.items ≡ out.old.items ++ run_line set.now.tasks tick run) }
+    ensures writable { IsWritable set.now.tasks run }
 {
     let mut count_buffer = Buffer::new();
     let mut length_buffer = Buffer::new();

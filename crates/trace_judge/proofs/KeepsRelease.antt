@@ -22,7 +22,7 @@ use Rattle.trace_judge.specs.declared.state.State.{State}
 use Rattle.trace_judge.specs.Placed.{new_one, waiting, gone_late}
 use Rattle.trace_judge.specs.Steps.{Waits, Releases}
 use Rattle.trace_judge.specs.Tracks.{Tracks, entry_of, late_job_in}
-use Rattle.trace_judge.specs.Lates.{Counts}
+use Rattle.trace_judge.specs.Lates.{CountsLates}
 use Rattle.trace_judge.proofs.Placed.{release_count}
 
 -- the job of a release that fits has had no tick
@@ -97,7 +97,7 @@ keeps_release set rule g s s' j kept task l t at r = record {
   tasks = λ k h. ap (λ xs. slice_get xs k) r.tasks ∙ notes_after set rule g s j kept task l t at k h;
   queues = r.queues ∙ t.queues;
   waiting = λ f. added kept l r.waiting f;
-  lates = subst (λ x. Counts x (λ f. total (λ x. f (late_job_in x)) (gone_late set g))) (sym r.lates) t.lates;
+  lates = subst (λ x. CountsLates x (λ f. total (λ x. f (late_job_in x)) (gone_late set g))) (sym r.lates) t.lates;
 }
   where
     same_entry : (f : Entry → ℕ) → f (an_entry (key_of rule s.high_mode (Some task) s.ticks) j.task.0 j.count (a_pending s.ticks 0 s.place)) ≡ f (an_entry (key_of rule (high_mode rule g) (task_at set j.task.0) (ticks g)) j.task.0 j.count (a_pending (ticks g) 0 (length g)))

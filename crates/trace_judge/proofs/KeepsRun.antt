@@ -18,7 +18,7 @@ use Rattle.trace_judge.specs.Entries.{Entry, is_of, spent_entry}
 use Rattle.trace_judge.specs.Placed.{Placed, waiting, stays, is_due, gone_late}
 use Rattle.trace_judge.specs.Steps.{GoesOn, Rests}
 use Rattle.trace_judge.specs.Tracks.{Tracks, entry_of, late_job_in}
-use Rattle.trace_judge.specs.Lates.{Counts}
+use Rattle.trace_judge.specs.Lates.{CountsLates}
 use Rattle.trace_judge.proofs.Edits.{ticked_at, total_changed}
 use Rattle.trace_judge.proofs.Faults.{apart}
 use Rattle.trace_judge.proofs.KeepsRelease.{note_eq, a_pending, an_entry}
@@ -55,7 +55,7 @@ keeps_more set rule g s s' j n l t room m = record {
   queues = m.moves.queues ∙ t.queues;
   waiting = λ f. ap (total f) m.waiting ∙ (total_changed (is_of j) (spent_entry n) f s.waiting.entries (apart set rule g s l t j)
       ∙ (t.waiting (ticked_at n j f) ∙ (total-same _ _ (λ x. each f x (same_job j x.live.job) refl) (waiting set g) ∙ ap (total (λ x. f (entry_of set rule (replicate n (Tick j More) ++ g) x))) (sym (waiting_more set j n g)))));
-  lates = subst (λ x. Counts x (lates_of set (replicate n (Tick j More) ++ g))) (sym m.lates) (subst (λ xs. Counts s.lates (λ f. total (λ x. f (late_job_in x)) xs)) (sym (gone_more set j n g)) t.lates);
+  lates = subst (λ x. CountsLates x (lates_of set (replicate n (Tick j More) ++ g))) (sym m.lates) (subst (λ xs. CountsLates s.lates (λ f. total (λ x. f (late_job_in x)) xs)) (sym (gone_more set j n g)) t.lates);
 }
   where
     each : (f : Entry → ℕ) (x : Placed) (b : Bool) → same_job j x.live.job ≡ b → ticked_at n j f (entry_of set rule g x) ≡ f (entry_of set rule (replicate n (Tick j More) ++ g) x)
@@ -88,5 +88,5 @@ keeps_rest set rule g s s' n some none t m = record {
   tasks = λ i h. ap (λ xs. slice_get xs i) m.moves.tasks ∙ (t.tasks i h ∙ note_eq _ _ _ _ (sym (releases_idle n g (i + 1))) (sym (next_idle set n g (i + 1))));
   queues = m.moves.queues ∙ t.queues;
   waiting = λ f. ap (total f) m.waiting ∙ (t.waiting f ∙ (ap (total (λ x. f (entry_of set rule g x))) none ∙ sym (ap (total (λ x. f (entry_of set rule (replicate n Idle ++ g) x))) (waiting_idle set n g ∙ none))));
-  lates = subst (λ x. Counts x (lates_of set (replicate n Idle ++ g))) (sym m.lates) (subst (λ xs. Counts s.lates (λ f. total (λ x. f (late_job_in x)) xs)) (sym (gone_idle set n g)) t.lates);
+  lates = subst (λ x. CountsLates x (lates_of set (replicate n Idle ++ g))) (sym m.lates) (subst (λ xs. CountsLates s.lates (λ f. total (λ x. f (late_job_in x)) xs)) (sym (gone_idle set n g)) t.lates);
 }

@@ -22,7 +22,7 @@ use Rattle.trace_judge.specs.Tracks.{Tracks, entry_of, late_job_in}
 use Rattle.trace_judge.specs.declared.lates.LateJob.{LateJob}
 use Rattle.trace_judge.specs.Firsts.{change_first}
 use Rattle.trace_judge.specs.Switch.{moved, rekeyed, noted_each, Overruns, is_discarded_late}
-use Rattle.trace_judge.specs.Lates.{Counts}
+use Rattle.trace_judge.specs.Lates.{CountsLates}
 use Rattle.trace_judge.proofs.Edits.{ticked_at, total_changed}
 use Rattle.trace_judge.proofs.Noted.{counts_same, counts_all}
 use Rattle.trace_judge.proofs.Faults.{apart}
@@ -40,7 +40,7 @@ keeps_over set rule g s s' j l t room virtual m = record {
   tasks = λ n h. ap (λ xs. slice_get xs n) m.moves.tasks ∙ t.tasks n h;
   queues = m.moves.queues ∙ t.queues;
   waiting = λ f. m.waiting f ∙ (spends (moved set rule f) ∙ waits_after set rule g s j Over f (ticked_at 1 j (moved set rule f)) t (Each-all (λ x. each f x) (waiting set g)));
-  lates = subst (λ x. Counts x (lates_of set (Tick j Over ∷ g))) (sym m.lates)
+  lates = subst (λ x. CountsLates x (lates_of set (Tick j Over ∷ g))) (sym m.lates)
       (counts_same (noted_each (is_discarded_late set s.ticks) s.lates es) (λ f. total (when (is_discarded_late set s.ticks) (λ e. f (late_job_of e))) es + lates_of set g f) (lates_of set (Tick j Over ∷ g))
       (λ f. let a = spends (when (is_discarded_late set s.ticks) (λ e. f (late_job_of e))) in
       let b = lates_after set rule g s j Over f (ticked_at 1 j (when (is_discarded_late set s.ticks) (λ e. f (late_job_of e)))) t (Each-all (λ x. gone f x) (waiting set g)) in

@@ -24,7 +24,7 @@ use Rattle.trace_judge.specs.Steps.{Moves, Ends}
 use Rattle.trace_judge.specs.Rules.{is_due_at}
 use Rattle.trace_judge.specs.Tracks.{Tracks, entry_of, late_job_in}
 use Rattle.trace_judge.specs.declared.lates.LateJob.{LateJob}
-use Rattle.trace_judge.specs.Lates.{noted, Counts}
+use Rattle.trace_judge.specs.Lates.{noted, CountsLates}
 use Rattle.mc_model.proofs.Sums.{total-append, total-map, total-filter, total-ext}
 use Rattle.trace_judge.proofs.Edits.{taken_at, total_removed, total_found}
 use Rattle.trace_judge.proofs.Noted.{IsSum, counts_same, counts_note}
@@ -86,7 +86,7 @@ keeps_end set rule g s s' j how k p task l t ends over at found m = record {
   tasks = λ n h. ap (λ xs. slice_get xs n) m.moves.tasks ∙ t.tasks n h;
   queues = m.moves.queues ∙ t.queues;
   waiting = λ f. ap (total f) m.waiting ∙ (total_removed (is_of j) f s.waiting.entries (apart set rule g s l t j) ∙ waits_after set rule g s j how f (taken_at j f) t (Each-all (λ x. each f x) (waiting set g)));
-  lates = subst (λ x. Counts x (lates_of set (Tick j how ∷ g))) (sym m.lates) (noted_so (is_due_at (Some task) p.release s.ticks) refl);
+  lates = subst (λ x. CountsLates x (lates_of set (Tick j how ∷ g))) (sym m.lates) (noted_so (is_due_at (Some task) p.release s.ticks) refl);
 }
   where
     mode_same : high_mode rule (Tick j how ∷ g) ≡ high_mode rule g
@@ -130,7 +130,7 @@ keeps_end set rule g s s' j how k p task l t ends over at found m = record {
         let c : v ((k, j.task.0, j.count), p) ≡ cond (is_due_at (Some task) p.release s.ticks) (f (late_job j p)) 0 = rw (at, ← t.ticks) refl in
         omega (arith, a, b, c)
 
-    noted_so : (b : Bool) → is_due_at (Some task) p.release s.ticks ≡ b → Counts (cond (is_due_at (Some task) p.release s.ticks) (noted s.lates (late_job j p)) s.lates) (lates_of set (Tick j how ∷ g))
+    noted_so : (b : Bool) → is_due_at (Some task) p.release s.ticks ≡ b → CountsLates (cond (is_due_at (Some task) p.release s.ticks) (noted s.lates (late_job j p)) s.lates) (lates_of set (Tick j how ∷ g))
     noted_so true e =
         rw e (counts_same (noted s.lates (late_job j p)) (λ f. f (late_job j p) + lates_of set g f) (lates_of set (Tick j how ∷ g)) (λ f. rw e at (adds f)) (counts_note s.lates (lates_of set g) (late_job j p) (sums_of set g) t.lates))
     noted_so false e =

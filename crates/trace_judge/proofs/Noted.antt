@@ -8,7 +8,7 @@ use Rattle.trace_judge.specs.Entries.{Entry, late_job_of}
 use Rattle.trace_judge.specs.declared.lates.LateJob.{LateJob}
 use Rattle.trace_judge.specs.declared.lates.Lates.{Lates}
 use Rattle.trace_judge.specs.Switch.{noted_each}
-use Rattle.trace_judge.specs.Lates.{earlier, noted, same_late, IsEarliest, Counts}
+use Rattle.trace_judge.specs.Lates.{earlier, noted, same_late, IsEarliest, CountsLates}
 
 -- a weighing adds up what single elements weigh
 pub record IsSum (weigh : (LateJob → ℕ) → ℕ) : Type 0 where
@@ -16,7 +16,7 @@ pub record IsSum (weigh : (LateJob → ℕ) → ℕ) : Type 0 where
   pub is : (f : LateJob → ℕ) → weigh f ≡ total f list
 
 -- the sum alone tells how many and which first
-pub counts_same : (s : Lates) (v w : (LateJob → ℕ) → ℕ) → ((f : LateJob → ℕ) → v f ≡ w f) → Counts s v → Counts s w
+pub counts_same : (s : Lates) (v w : (LateJob → ℕ) → ℕ) → ((f : LateJob → ℕ) → v f ≡ w f) → CountsLates s v → CountsLates s w
 counts_same s v w h c = record { count = c.count ∙ ap (λ n. min n (2 ^ 32 - 1)) (h (λ x. 1)); first = earliest s.first c.first }
   where
     earliest : (o : Option LateJob) → IsEarliest o v → IsEarliest o w
@@ -33,7 +33,7 @@ less_lists f g h [] = omega arith
 less_lists f g h (x ∷ xs) = let a : f x ≤ g x = h x in let b : total f xs ≤ total g xs = less_lists f g h xs in omega arith
 
 -- one more is noted
-pub counts_note : (s : Lates) (w : (LateJob → ℕ) → ℕ) (m : LateJob) → IsSum w → Counts s w → Counts (noted s m) (λ f. f m + w f)
+pub counts_note : (s : Lates) (w : (LateJob → ℕ) → ℕ) (m : LateJob) → IsSum w → CountsLates s w → CountsLates (noted s m) (λ f. f m + w f)
 counts_note s w m sums c = record { count = ap (λ n. min (n + 1) (2 ^ 32 - 1)) c.count ∙ saturate (w (λ x. 1)); first = step s.first c.first }
   where
     saturate : (n : ℕ) → min (min n (2 ^ 32 - 1) + 1) (2 ^ 32 - 1) ≡ min (1 + n) (2 ^ 32 - 1)
@@ -79,12 +79,12 @@ sum_more : (w : (LateJob → ℕ) → ℕ) (m : LateJob) → IsSum w → IsSum (
 sum_more w m s = record { list = m ∷ s.list; is = λ f. ap (λ n. f m + n) (s.is f) }
 
 -- those of the entries that are meant are noted
-pub counts_all : (p : Entry → Bool) (s : Lates) (w : (LateJob → ℕ) → ℕ) (es : List Entry) → IsSum w → Counts s w → Counts (noted_each p s es) (λ f. total (when p (λ e. f (late_job_of e))) es + w f)
+pub counts_all : (p : Entry → Bool) (s : Lates) (w : (LateJob → ℕ) → ℕ) (es : List Entry) → IsSum w → CountsLates s w → CountsLates (noted_each p s es) (λ f. total (when p (λ e. f (late_job_of e))) es + w f)
 counts_all p s w [] sums c = counts_same s w (λ f. 0 + w f) (λ f. let e : w f ≡ 0 + w f = omega arith in e) c
 counts_all p s w (e ∷ es) sums c = go (p e) (λ s' w'. counts_all p s' w' es)
   where
-    go : (b : Bool) → ((s' : Lates) (w' : (LateJob → ℕ) → ℕ) → IsSum w' → Counts s' w' → Counts (noted_each p s' es) (λ f. total (when p (λ e. f (late_job_of e))) es + w' f)) →
-        Counts (noted_each p (cond b (noted s (late_job_of e)) s) es) (λ f. (cond b (f (late_job_of e)) 0 + total (when p (λ e. f (late_job_of e))) es) + w f)
+    go : (b : Bool) → ((s' : Lates) (w' : (LateJob → ℕ) → ℕ) → IsSum w' → CountsLates s' w' → CountsLates (noted_each p s' es) (λ f. total (when p (λ e. f (late_job_of e))) es + w' f)) →
+        CountsLates (noted_each p (cond b (noted s (late_job_of e)) s) es) (λ f. (cond b (f (late_job_of e)) 0 + total (when p (λ e. f (late_job_of e))) es) + w f)
     go true ih =
         counts_same (noted_each p (noted s (late_job_of e)) es) (λ f. total (when p (λ e. f (late_job_of e))) es + (f (late_job_of e) + w f)) (λ f. (f (late_job_of e) + total (when p (λ e. f (late_job_of e))) es) + w f)
         (λ f. let z : total (when p (λ e. f (late_job_of e))) es + (f (late_job_of e) + w f) ≡ (f (late_job_of e) + total (when p (λ e. f (late_job_of e))) es) + w f = omega arith in z)

@@ -12,7 +12,7 @@ use Rattle.mc_model.specs.Pending.{Live}
 use Rattle.mc_model.specs.Legal.{Legal, fault}
 use Rattle.mc_model.specs.Late.{is_late, late}
 use Rattle.mc_model.specs.Holds.{Holds}
-use Rattle.mc_model.specs.Verdict.{RowFault, first_fault, verdict, verdict_of, HasNoLate}
+use Rattle.mc_model.specs.Verdict.{RowFault, first_unfit, verdict, verdict_of, HasNoLate}
 use Rattle.mc_model.proofs.Verdicts.{no_fault}
 use Rattle.demand_law.proofs.Laws.{none_late}
 use Rattle.mc_model.specs.Sums.{total, when}
@@ -23,7 +23,7 @@ use Rattle.trace_judge.specs.Tracks.{Tracks, entry_of, late_job_in}
 use Rattle.trace_judge.specs.declared.lates.LateJob.{LateJob}
 use Rattle.trace_judge.specs.declared.lates.Lates.{Lates}
 use Rattle.trace_judge.specs.Switch.{noted_each, is_due_entry}
-use Rattle.trace_judge.specs.Lates.{Counts}
+use Rattle.trace_judge.specs.Lates.{CountsLates}
 use Rattle.mc_model.specs.declared.verdict.Verdict.TheVariants as verdicts
 use Rattle.mc_model.proofs.Sums.{total-filter, total-same, less_filtered, total-one}
 use Rattle.trace_judge.proofs.Noted.{counts_same, counts_all}
@@ -34,7 +34,7 @@ use Rattle.trace_judge.proofs.FirstLate.{placed_descends, filter_descends, last,
 
 -- what is noted at the end are the late jobs
 pub noted_at_end : (set : List Task) (rule : Rule) (h : List Row) (s : State) → Legal set rule h → Tracks set rule h s →
-    Counts (noted_each (is_due_entry set s.ticks) s.lates s.waiting.entries) (λ f. total (λ x. f (late_job_in x)) (filter (λ x. is_late set h x.live) (placed h)))
+    CountsLates (noted_each (is_due_entry set s.ticks) s.lates s.waiting.entries) (λ f. total (λ x. f (late_job_in x)) (filter (λ x. is_late set h x.live) (placed h)))
 noted_at_end set rule h s l t =
     counts_same (noted_each (is_due_entry set s.ticks) s.lates s.waiting.entries) (λ f. total (when (is_due_entry set s.ticks) (λ e. f (late_job_of e))) s.waiting.entries + lates_of set h f) (λ f. total (λ x. f (late_job_in x)) (filter (λ x. is_late set h x.live) (placed h)))
     (λ f. let a = t.waiting (when (is_due_entry set s.ticks) (λ e. f (late_job_of e))) in
@@ -46,7 +46,7 @@ noted_at_end set rule h s l t =
     (counts_all (is_due_entry set s.ticks) s.lates (lates_of set h) s.waiting.entries (sums_of set h) t.lates)
 
 -- how many are late
-pub legal_count : (set : List Task) (h : List Row) (s : Lates) → length h < 2 ^ 32 → Counts s (λ f. total (λ x. f (late_job_in x)) (filter (λ x. is_late set h x.live) (placed h))) → s.count ≡ length (late set h)
+pub legal_count : (set : List Task) (h : List Row) (s : Lates) → length h < 2 ^ 32 → CountsLates s (λ f. total (λ x. f (late_job_in x)) (filter (λ x. is_late set h x.live) (placed h))) → s.count ≡ length (late set h)
 legal_count set h s room c =
     let ps : List Placed = filter (λ x. is_late set h x.live) (placed h) in
     let a : s.count ≡ min (total (λ (x : Placed). 1) ps) (2 ^ 32 - 1) = c.count in
@@ -58,7 +58,7 @@ legal_count set h s room c =
     omega (arith, a, b, d, e, f, g)
 
 -- and which is the first
-pub legal_first : (set : List Task) (h : List Row) (s : Lates) → Counts s (λ f. total (λ x. f (late_job_in x)) (filter (λ x. is_late set h x.live) (placed h))) → option_map (λ (m : LateJob). m.job) s.first ≡ slice_get (late set h) 0
+pub legal_first : (set : List Task) (h : List Row) (s : Lates) → CountsLates s (λ f. total (λ x. f (late_job_in x)) (filter (λ x. is_late set h x.live) (placed h))) → option_map (λ (m : LateJob). m.job) s.first ≡ slice_get (late set h) 0
 legal_first set h s c =
     let ps : List Placed = filter (λ x. is_late set h x.live) (placed h) in
     last_is s.first ps (filter_descends (λ x. is_late set h x.live) (placed h) (placed_descends h)) c.first
@@ -69,21 +69,21 @@ legal_first set h s c =
     map-map (x ∷ xs) = ap (λ ys. x.live.job ∷ ys) (map-map xs)
 
 -- a fault stays the first
-pub fault_stays : (set : List Task) (rule : Rule) (p : RowFault) (xs h : List Row) → first_fault set rule h ≡ Some p → first_fault set rule (xs ++ h) ≡ Some p
+pub fault_stays : (set : List Task) (rule : Rule) (p : RowFault) (xs h : List Row) → first_unfit set rule h ≡ Some p → first_unfit set rule (xs ++ h) ≡ Some p
 fault_stays set rule p [] h e = e
 fault_stays set rule p (x ∷ xs) h e = rw (fault_stays set rule p xs h e) refl
 
 -- the verdict where a row behind a legal trace does not fit
 pub illegal_verdict : (set : List Task) (rule : Rule) (why : Why) (later : List Row) (row : Row) (g : List Row) → Legal set rule g → Some why ≡ fault set rule row g → verdicts.Illegal (length g + 1) why ≡ verdict set rule (later ++ row ∷ g)
 illegal_verdict set rule why later row g l e =
-    let here : first_fault set rule (row ∷ g) ≡ Some (record { place = length g + 1; why = why }) = rw (no_fault set rule g l, ← e) refl in
+    let here : first_unfit set rule (row ∷ g) ≡ Some (record { place = length g + 1; why = why }) = rw (no_fault set rule g l, ← e) refl in
     sym (ap (λ o. verdict_of o (late set (later ++ row ∷ g))) (fault_stays set rule (record { place = length g + 1; why = why }) later (row ∷ g) here))
 
 -- the verdict on a legal trace
 pub legal_verdict : (set : List Task) (rule : Rule) (h : List Row) (s : State) → Legal set rule h → Tracks set rule h s → length h < 2 ^ 32 → (lates : Lates) → lates ≡ noted_each (is_due_entry set s.ticks) s.lates s.waiting.entries →
     verdicts.Legal lates.count (option_map (λ (m : LateJob). m.job) lates.first) ≡ verdict set rule h
 legal_verdict set rule h s l t room lates is =
-    let c = subst (λ (x : Lates). Counts x (λ f. total (λ x. f (late_job_in x)) (filter (λ x. is_late set h x.live) (placed h)))) (sym is) (noted_at_end set rule h s l t) in
+    let c = subst (λ (x : Lates). CountsLates x (λ f. total (λ x. f (late_job_in x)) (filter (λ x. is_late set h x.live) (placed h)))) (sym is) (noted_at_end set rule h s l t) in
     ap (λ n. verdicts.Legal n (option_map (λ (m : LateJob). m.job) lates.first)) (legal_count set h lates room c)
     ∙ (ap (λ o. verdicts.Legal (length (late set h)) o) (legal_first set h lates c)
     ∙ sym (ap (λ o. verdict_of o (late set h)) (no_fault set rule h l)))

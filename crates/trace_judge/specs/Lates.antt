@@ -24,6 +24,6 @@ IsEarliest None weigh = weigh (λ x. 1) ≡ 0
 IsEarliest (Some m) weigh = (1 ≤ weigh (λ x. cond (same_late m x) 1 0)) × (weigh (λ x. cond (nat_lt x.place m.place) 1 0) ≡ 0)
 
 -- these are so many, and this is the first of them
-pub record Counts (s : Lates) (weigh : (LateJob → ℕ) → ℕ) : Type 0 where
+pub record CountsLates (s : Lates) (weigh : (LateJob → ℕ) → ℕ) : Type 0 where
   pub count : s.count ≡ min (weigh (λ x. 1)) (2 ^ 32 - 1)
   pub first : IsEarliest s.first weigh

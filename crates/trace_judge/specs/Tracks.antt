@@ -14,7 +14,7 @@ use Rattle.trace_judge.specs.declared.lates.LateJob.{LateJob}
 use Rattle.trace_judge.specs.declared.state.State.{State}
 use Rattle.mc_model.specs.Sums.{total}
 use Rattle.trace_judge.specs.Placed.{Placed, waiting, gone_late}
-use Rattle.trace_judge.specs.Lates.{Counts}
+use Rattle.trace_judge.specs.Lates.{CountsLates}
 use Rattle.trace_judge.specs.Entries.{Entry, HasQueues}
 
 -- the entry of a pending job behind these rows
@@ -35,7 +35,7 @@ pub record Tracks (set : List Task) (rule : Rule) (g : List Row) (s : State) : T
   pub tasks : (k : ℕ) → k < length set → slice_get s.tasks.items k ≡ Some (record { releases = releases g (k + 1); next = next_release set g (k + 1) })
   pub queues : HasQueues s.waiting set
   pub waiting : (f : Entry → ℕ) → total f s.waiting.entries ≡ total (λ x. f (entry_of set rule g x)) (waiting set g)
-  pub lates : Counts s.lates (λ f. total (λ x. f (late_job_in x)) (gone_late set g))
+  pub lates : CountsLates s.lates (λ f. total (λ x. f (late_job_in x)) (gone_late set g))
 
 -- the rows of the run before this one fit, and this one is the first that does not, for this part
 pub record StopsAt (set : List Task) (rule : Rule) (run : Run) (g : List Row) (misfit : Misfit) : Type 0 where

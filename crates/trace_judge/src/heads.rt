@@ -35,10 +35,8 @@ impl Heads {
         requires { 1 ≤ count }
         ensures { IfOk result (λ heads. heads ≡ replicate count no_key) }
     {
-        match no_keys(alloc, count as usize) {
-            Ok(nodes) => Ok(Heads { nodes }),
-            Err(_) => Err(Memory),
-        }
+        let nodes = no_keys(alloc, count as usize)?;
+        Ok(Heads { nodes })
     }
 
     /// Puts another key at the head of a queue.

@@ -10,7 +10,7 @@ ghost use Rattle.trace_judge.specs.Firsts.{change_first, remove_first, IsFirstAt
 use crate::heads::NO_KEY;
 use crate::waiting::Pending;
 use mc_task::Memory;
-use std::alloc::Global;
+use std::alloc::{AllocError, Global};
 use std::collections::VecDeque;
 use std::marker::Model;
 
@@ -124,21 +124,17 @@ fn place_for(jobs: &VecDeque<Queued>, key: u128) -> usize
 }
 
 // Puts a job in at this place, which is the last one for a job that was released behind all others.
-fn put_at(jobs: &mut VecDeque<Queued>, place: usize, job: Queued) -> Result<(), Memory>
+fn put_at(jobs: &mut VecDeque<Queued>, place: usize, job: Queued) -> Result<(), AllocError>
     requires { place ≤ length jobs.old.items }
     ensures items { OnOk result (jobs.new.items ≡ insert jobs.old.items place job) }
     ensures unchanged { OnErr result (jobs.new.items ≡ jobs.old.items) }
 {
     if place < jobs.len() {
-        return match jobs.insert(place, job) {
-            Ok(()) => Ok(()),
-            Err(_) => Err(Memory),
-        };
+        jobs.insert(place, job)?;
+    } else {
+        jobs.push_back(job)?;
     }
-    match jobs.push_back(job) {
-        Ok(()) => Ok(()),
-        Err(_) => Err(Memory),
-    }
+    Ok(())
 }
 
 // Takes the job at this place out, which is the first one for a job that runs.

@@ -42,16 +42,11 @@ impl State {
         requires { 1 ≤ count }
         ensures { IfOk result (IsNew count) }
     {
-        let mut tasks = Vec::new(alloc);
-        for _ in 0..count {
-            let note = TaskNote {
-                releases: 0,
-                next: 0,
-            };
-            if tasks.push(note).is_err() {
-                return Err(Memory);
-            }
-        }
+        let no_release = TaskNote {
+            releases: 0,
+            next: 0,
+        };
+        let tasks = vec![in alloc; no_release; count as usize]?;
         Ok(State {
             ticks: 0,
             place: 0,
@@ -134,12 +129,12 @@ impl State {
         length: u32,
     ) -> Result<(), Memory>
         requires fits { Fits rule }
-        requires task { IsIn set.now job.task.0 }
-        requires queues { HasQueues self.old.waiting set.now }
+        requires task { IsIn set.now.tasks job.task.0 }
+        requires queues { HasQueues self.old.waiting set.now.tasks }
         requires some { 1 ≤ length }
         requires room { self.old.place + length ≤ 2 ^ 32 - 1 }
         requires time { self.old.ticks + length ≤ 2 ^ 32 - 1 }
-        ensures { OnOk result (Ticks set.now rule (Some task.now) job pending how length self.old self.new) }
+        ensures { OnOk result (Ticks set.now.tasks rule (Some task.now) job pending how length self.old self.new) }
     {
         match how {
             How::More => self.go_on(job, length),
@@ -186,11 +181,11 @@ impl State {
         job: JobId,
     ) -> Result<(), Memory>
         requires fits { Fits rule }
-        requires task { IsIn set.now job.task.0 }
-        requires queues { HasQueues self.old.waiting set.now }
+        requires task { IsIn set.now.tasks job.task.0 }
+        requires queues { HasQueues self.old.waiting set.now.tasks }
         requires room { self.old.place < 2 ^ 32 - 1 }
         requires time { self.old.ticks < 2 ^ 32 - 1 }
-        ensures { OnOk result (Overruns set.now rule job self.old self.new) }
+        ensures { OnOk result (Overruns set.now.tasks rule job self.old self.new) }
     {
         self.waiting.spend(job, 1);
         self.switch(alloc, set, rule)?;
@@ -204,9 +199,9 @@ impl State {
     // its deadline came before this tick.
     fn switch(&mut self, alloc: Global, set: &TaskSet, rule: Rule) -> Result<(), Memory>
         requires { Fits rule }
-        ensures queues { OnOk result (HasQueues self.new.waiting set.now) }
-        ensures waiting { OnOk result (Switches set.now rule self.old.waiting.entries self.new.waiting.entries) }
-        ensures lates { OnOk result (self.new.lates ≡ noted_each (is_discarded_late set.now self.old.ticks) self.old.lates self.old.waiting.entries) }
+        ensures queues { OnOk result (HasQueues self.new.waiting set.now.tasks) }
+        ensures waiting { OnOk result (Switches set.now.tasks rule self.old.waiting.entries self.new.waiting.entries) }
+        ensures lates { OnOk result (self.new.lates ≡ noted_each (is_discarded_late set.now.tasks self.old.ticks) self.old.lates self.old.waiting.entries) }
         ensures ticks { OnOk result (self.new.ticks ≡ self.old.ticks) }
         ensures place { OnOk result (self.new.place ≡ self.old.place) }
         ensures tasks { OnOk result (self.new.tasks.items ≡ self.old.tasks.items) }
@@ -227,7 +222,7 @@ impl State {
 
     /// The late jobs of the whole trace: those so far, and the pending ones whose deadlines have come.
     pub fn finish(self, set: &TaskSet) -> Lates
-        ensures { result ≡ noted_each (is_due_entry set.now self.ticks) self.lates self.waiting.entries }
+        ensures { result ≡ noted_each (is_due_entry set.now.tasks self.ticks) self.lates self.waiting.entries }
     {
         let mut lates = self.lates;
         let mut rest = self.waiting.into_rest();

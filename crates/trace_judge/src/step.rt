@@ -40,13 +40,13 @@ pub fn step(
     run: Run,
 ) -> Result<Option<Misfit>, Memory>
     requires fits { Fits rule }
-    requires task { IsRunOfSet set.now run }
+    requires task { IsRunOfSet set.now.tasks run }
     requires is_run { IsRun run }
-    requires count { length state.old.tasks.items ≡ length set.now }
-    requires queues { HasQueues state.old.waiting set.now }
+    requires count { length state.old.tasks.items ≡ length set.now.tasks }
+    requires queues { HasQueues state.old.waiting set.now.tasks }
     requires room { state.old.place + size run ≤ 2 ^ 32 - 1 }
     requires time { state.old.ticks + size run ≤ 2 ^ 32 - 1 }
-    ensures { IfOk result (λ misfit. IsStep set.now rule run state.old misfit state.new) }
+    ensures { IfOk result (λ misfit. IsStep set.now.tasks rule run state.old misfit state.new) }
 {
     match run {
         Run::Release { job, kept } => release(state, set, rule, job, kept),
@@ -64,11 +64,11 @@ fn release(
     kept: bool,
 ) -> Result<Option<Misfit>, Memory>
     requires fits { Fits rule }
-    requires task { IsRunOfSet set.now (run.Release job kept) }
-    requires count { length state.old.tasks.items ≡ length set.now }
-    requires queues { HasQueues state.old.waiting set.now }
+    requires task { IsRunOfSet set.now.tasks (run.Release job kept) }
+    requires count { length state.old.tasks.items ≡ length set.now.tasks }
+    requires queues { HasQueues state.old.waiting set.now.tasks }
     requires room { state.old.place + 1 ≤ 2 ^ 32 - 1 }
-    ensures { IfOk result (λ misfit. IsStep set.now rule (run.Release job kept) state.old misfit state.new) }
+    ensures { IfOk result (λ misfit. IsStep set.now.tasks rule (run.Release job kept) state.old misfit state.new) }
 {
     let task = task_in(set, job.task);
     if let Some(why) = state.release_why(&task, job, kept) {
@@ -89,12 +89,12 @@ fn tick(
     length: u32,
 ) -> Result<Option<Misfit>, Memory>
     requires fits { Fits rule }
-    requires task { IsRunOfSet set.now (run.Ticks job how length) }
+    requires task { IsRunOfSet set.now.tasks (run.Ticks job how length) }
     requires is_run { IsRun (run.Ticks job how length) }
-    requires queues { HasQueues state.old.waiting set.now }
+    requires queues { HasQueues state.old.waiting set.now.tasks }
     requires room { state.old.place + length ≤ 2 ^ 32 - 1 }
     requires time { state.old.ticks + length ≤ 2 ^ 32 - 1 }
-    ensures { IfOk result (λ misfit. IsStep set.now rule (run.Ticks job how length) state.old misfit state.new) }
+    ensures { IfOk result (λ misfit. IsStep set.now.tasks rule (run.Ticks job how length) state.old misfit state.new) }
 {
     match state.waiting.standing_of(job) {
         Standing::NotPending => Ok(Some(Misfit::first(Why::NotPending))),
@@ -117,13 +117,13 @@ fn tick_least(
     pending: Pending,
 ) -> Result<Option<Misfit>, Memory>
     requires fits { Fits rule }
-    requires task { IsRunOfSet set.now (run.Ticks job how length) }
+    requires task { IsRunOfSet set.now.tasks (run.Ticks job how length) }
     requires is_run { IsRun (run.Ticks job how length) }
-    requires queues { HasQueues state.old.waiting set.now }
+    requires queues { HasQueues state.old.waiting set.now.tasks }
     requires room { state.old.place + length ≤ 2 ^ 32 - 1 }
     requires time { state.old.ticks + length ≤ 2 ^ 32 - 1 }
     requires least { Stands state.old.waiting.entries job (standing.Least pending) }
-    ensures { IfOk result (λ misfit. IsStep set.now rule (run.Ticks job how length) state.old misfit state.new) }
+    ensures { IfOk result (λ misfit. IsStep set.now.tasks rule (run.Ticks job how length) state.old misfit state.new) }
 {
     let _is_set = set.len();
     let task = task_in(set, job.task);
@@ -143,7 +143,7 @@ fn idle(state: &mut State, set: &TaskSet, rule: Rule, length: u32) -> Option<Mis
     requires is_run { IsRun (run.Idles length) }
     requires room { state.old.place + length ≤ 2 ^ 32 - 1 }
     requires time { state.old.ticks + length ≤ 2 ^ 32 - 1 }
-    ensures { IsStep set.now rule (run.Idles length) state.old result state.new }
+    ensures { IsStep set.now.tasks rule (run.Idles length) state.old result state.new }
 {
     if !state.waiting.is_empty() {
         return Some(Misfit::first(Why::IdlePending));
@@ -155,8 +155,8 @@ fn idle(state: &mut State, set: &TaskSet, rule: Rule, length: u32) -> Option<Mis
 // The task with this number, which is in the set.
 fn task_in(set: &TaskSet, task: TaskNo) -> Task
     requires first { 1 ≤ task.0 }
-    requires last { task.0 ≤ length set.now }
-    ensures { task_at set.now task.0 ≡ Some result }
+    requires last { task.0 ≤ length set.now.tasks }
+    ensures { task_at set.now.tasks task.0 ≡ Some result }
 {
     set.get(task).unwrap()
 }

@@ -95,7 +95,7 @@ fn ticks(job: JobId, how: How, length: u32) -> Run {
 
 // Whether the run's task is in the set.
 fn is_of_set(set: &TaskSet, run: &Run) -> bool
-    ensures { IsTrue result → IsRunOfSet set.now run.now }
+    ensures { IsTrue result → IsRunOfSet set.now.tasks run.now }
 {
     match run {
         Run::Release { job, .. } => set.get(job.task).is_some(),
@@ -105,7 +105,7 @@ fn is_of_set(set: &TaskSet, run: &Run) -> bool
 }
 
 fn are_of_set(set: &TaskSet, runs: &[Run]) -> bool
-    ensures { IsTrue result → All (IsRunOfSet set.now) runs.now }
+    ensures { IsTrue result → All (IsRunOfSet set.now.tasks) runs.now }
 {
     runs.iter().all(|run| is_of_set(set, run))
 }

@@ -1,6 +1,5 @@
 // The verdict, run by run.
-ghost use Rattle.std.specs.Prelude.{◌≡◌, ◌+◌, ◌<◌, IfOk, All, length, reverse, option_map, slice_index_or};
-ghost use Rattle.mc_model.specs.declared.run.Run.{Run};
+ghost use Rattle.std.specs.Prelude.{◌≡◌, ◌+◌, ◌<◌, IfOk, All, reverse, option_map};
 ghost use Rattle.mc_model.specs.Holds.{Fits, Holds};
 ghost use Rattle.mc_model.specs.Runs.{expand, AreRuns, IsRunOfSet};
 ghost use Rattle.mc_model.specs.declared.verdict.Verdict.TheVariants.{Legal, Illegal};
@@ -21,17 +20,16 @@ use std::alloc::Global;
 pub fn judge(alloc: Global, set: &TaskSet, rule: Rule, runs: &[Run]) -> Result<Verdict, Memory>
     requires fits { Fits rule }
     requires runs { AreRuns runs.now }
-    requires tasks { All (IsRunOfSet set.now) runs.now }
-    ensures verdict { IfOk result (λ v. v ≡ verdict set.now rule (reverse (expand runs.now))) }
+    requires tasks { All (IsRunOfSet set.now.tasks) runs.now }
+    ensures verdict { IfOk result (λ v. v ≡ verdict set.now.tasks rule (reverse (expand runs.now))) }
 
     // Under a rule that holds for the set no job of a legal trace is late.
-    ensures no_late { IfOk result (λ v. Holds set.now rule → HasNoLate v) }
+    ensures no_late { IfOk result (λ v. Holds set.now.tasks rule → HasNoLate v) }
 {
     let mut state = State::new(alloc, set.len())?;
-    for i in 0..runs.len() {
-        let run = run_at(runs, i);
+    for run in runs {
         let before = state.place;
-        if let Some(misfit) = step(&mut state, alloc, set, rule, run)? {
+        if let Some(misfit) = step(&mut state, alloc, set, rule, *run)? {
             return Ok(illegal(before, misfit));
         }
     }
@@ -60,12 +58,4 @@ fn legal(lates: Lates) -> Verdict
         late: u64::from(lates.count),
         first,
     }
-}
-
-// The run at index i.
-fn run_at(runs: &[Run], i: usize) -> Run
-    requires { i < length runs.now }
-    ensures { (d : Run) → result ≡ slice_index_or runs.now i d }
-{
-    runs[i]
 }

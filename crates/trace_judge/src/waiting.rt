@@ -7,7 +7,7 @@ ghost use Rattle.trace_judge.specs.Entries.{HasQueue, IsMore, Stands, is_of, spe
 use crate::heads::{Heads, NO_KEY};
 use crate::queue::{Queue, Queued};
 use mc_task::{JobId, Memory};
-use std::alloc::Global;
+use std::alloc::{AllocError, Global};
 use std::marker::Model;
 
 /// What is kept of a pending job: its release time, the ticks that it has had, and the number of rows before its release.
@@ -140,14 +140,12 @@ impl Waiting {
 }
 
 // A queue without jobs for each of so many tasks.
-fn empty_queues(alloc: Global, count: u32) -> Result<Vec<Queue>, Memory>
+fn empty_queues(alloc: Global, count: u32) -> Result<Vec<Queue>, AllocError>
     ensures { IfOk result (λ queues. queues.items ≡ replicate count []) }
 {
     let mut queues = Vec::new(alloc);
     for _ in 0..count {
-        if queues.push(Queue::new(alloc)).is_err() {
-            return Err(Memory);
-        }
+        queues.push(Queue::new(alloc))?;
     }
     Ok(queues)
 }

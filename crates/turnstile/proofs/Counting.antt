@@ -5,7 +5,7 @@ use Rattle.std.proofs.Math.Nat.{mod-add-mod}
 use mathlib.Core.Logic.{dite}
 use native.Mathlib.Decide.{ℕ_discrete}
 use Rattle.turnstile.specs.History.{made_by}
-use Rattle.turnstile.specs.Counting.{turns_of, Counts}
+use Rattle.turnstile.specs.Counting.{turns_of, CountsTurns}
 use Rattle.turnstile.proofs.Histories.{made_yes, made_no}
 
 -- one more turn of the seat
@@ -18,7 +18,7 @@ turns_same k history e ne = ap length (made_no (λ (e : ℕ). e) k history e ne)
 
 -- a turn of seat k raises its counter, and no other
 pub raised : (history counters : List ℕ) (k n : ℕ) → k < length counters → n ≡ (slice_index counters k + 1) % 2 ^ 64
-    → Counts history counters → Counts (history ++ k ∷ []) (set counters k n)
+    → CountsTurns history counters → CountsTurns (history ++ k ∷ []) (set counters k n)
 raised history counters k n inside is old j lt =
     let below : j < length counters = subst (λ (l : ℕ). j < l) (length-set counters k n) lt in
     dite (ℕ_discrete j k)

@@ -7,5 +7,5 @@ abbrev pub turns_of : ℕ → List ℕ → ℕ
 turns_of k history = length (made_by (λ e. e) k history)
 
 -- each counter is the number of its seat's turns, modulo 2 ^ 64
-abbrev pub Counts : List ℕ → List ℕ → Type 0
-Counts history counters = (k : ℕ) → k < length counters → slice_index counters k ≡ turns_of k history % 2 ^ 64
+abbrev pub CountsTurns : List ℕ → List ℕ → Type 0
+CountsTurns history counters = (k : ℕ) → k < length counters → slice_index counters k ≡ turns_of k history % 2 ^ 64

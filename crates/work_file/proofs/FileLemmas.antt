@@ -1,5 +1,5 @@
 -- The rows of a file, by its first record.
-use Rattle.std.proofs.Common.{◌≡◌, ◌<◌, ℕ, ◌+◌, Bool, true, false, ◌&&◌, ◌==◌, cond, nat_le, List, [], ◌∷◌, length, Result, Ok, Err, refl, ap, ◌∙◌, arith}
+use Rattle.std.proofs.Common.{◌≡◌, ◌<◌, ℕ, ◌+◌, Bool, true, false, ◌&&◌, ◌==◌, cond, nat_le, List, [], ◌∷◌, length, Result, Err, refl, ap, ◌∙◌, arith}
 use Rattle.std.proofs.lemmas.Bool.Decides.{nat_tests}
 use Rattle.mc_task.specs.declared.task.Task.{Task}
 use Rattle.mc_model.specs.declared.work.WorkRow.{WorkRow}
@@ -9,10 +9,6 @@ use Rattle.work_file.specs.declared.fault.WorkCause.TheVariants.{BadRecord, Head
 use Rattle.work_file.specs.declared.fault.WorkFault.TheVariants.{At}
 use Rattle.work_file.specs.WorkFile.{is_header, record_row, rows_with, rows_from, work_file}
 
--- another first record is refused
-pub no_header : (set : List Task) (f : List (List ℕ)) (fs : List (List (List ℕ))) → is_header f ≡ false → work_file set (f ∷ fs) ≡ Err (At 1 Header)
-no_header set f fs e = ap (λ (b : Bool). cond b (rows_from set fs []) (Err (At 1 Header))) e
-
 -- after the header the rows are those of the other records
 pub after_header : (set : List Task) (f : List (List ℕ)) (fs : List (List (List ℕ))) → is_header f ≡ true → work_file set (f ∷ fs) ≡ rows_from set fs []
 after_header set f fs e = ap (λ (b : Bool). cond b (rows_from set fs []) (Err (At 1 Header))) e
@@ -21,15 +17,7 @@ after_header set f fs e = ap (λ (b : Bool). cond b (rows_from set fs []) (Err (
 not_three : (n : ℕ) → 6 < n → (n == 3) ≡ false
 not_three n wide = grind (arith, nat_tests)
 
--- it is no header
-pub wide_header : (set : List Task) (rs : List (List (List ℕ))) → StartsWide rs → work_file set rs ≡ Err (At 1 Header)
-wide_header set [] wide = absurd wide
-wide_header set (f ∷ fs) wide = no_header set f fs (by (length f == 3) _ (not_three (length f) wide))
-  where
-    by : (a b : Bool) → a ≡ false → (a && b) ≡ false
-    by a b e = rw e refl
-
--- nor is it a row
+-- so it is no row
 wide_record : (set : List Task) (before : List WorkRow) (f : List (List ℕ)) → 6 < length f → record_row set before f ≡ cond (nat_le 1000000 (length before)) (Err TooMany) (Err BadRecord)
 unfolding record_row
 wide_record set before f wide = by (length f == 3) _ (not_three (length f) wide)

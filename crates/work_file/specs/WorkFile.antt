@@ -37,14 +37,14 @@ abbrev pub row_of : List Task → List (List ℕ) → Result WorkRow WorkCause
 row_of set fields = named_row (named (field fields 0) set) fields
 
 -- the row, where nothing is wrong
-abbrev pub unless : Option WorkCause → WorkRow → Result WorkRow WorkCause
-unless None w = Ok w
-unless (Some cause) w = Err cause
+abbrev pub row_unless : Option WorkCause → WorkRow → Result WorkRow WorkCause
+row_unless None w = Ok w
+row_unless (Some cause) w = Err cause
 
 -- the row, where its need and its release may stand after these rows
 abbrev pub in_time : List Task → List WorkRow → Result WorkRow WorkCause → Result WorkRow WorkCause
 in_time set before (Err cause) = Err cause
-in_time set before (Ok w) = unless (time_fault set before w) w
+in_time set before (Ok w) = row_unless (time_fault set before w) w
 
 -- the row of a record after these rows
 unfoldable pub record_row : List Task → List WorkRow → List (List ℕ) → Result WorkRow WorkCause

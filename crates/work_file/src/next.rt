@@ -28,11 +28,11 @@ impl NextReleases {
 
     // Why the row may not stand after the rows before it. If it may, it is one of them from then on.
     pub fn take(&mut self, set: &TaskSet, before: &[WorkRow], row: WorkRow) -> Option<WorkCause>
-        requires task { IsIn set.now row.task.0 }
-        requires tracks { Tracks set.now before.now self.old }
-        ensures cause { result ≡ time_fault set.now before.now row }
-        ensures tracks { IfNone result (Tracks set.now (before.now ++ row ∷ []) self.new) }
-        ensures work { IsWork set.now before.now → IfNone result (IsWork set.now (before.now ++ row ∷ [])) }
+        requires task { IsIn set.now.tasks row.task.0 }
+        requires tracks { Tracks set.now.tasks before.now self.old }
+        ensures cause { result ≡ time_fault set.now.tasks before.now row }
+        ensures tracks { IfNone result (Tracks set.now.tasks (before.now ++ row ∷ []) self.new) }
+        ensures work { IsWork set.now.tasks before.now → IfNone result (IsWork set.now.tasks (before.now ++ row ∷ [])) }
     {
         let fault = self.time_fault(set, before, row);
         if fault.is_none() {
@@ -43,9 +43,9 @@ impl NextReleases {
 
     #[tactic(auto, unfolding(crate::specs::Rows::time_fault))]
     fn time_fault(&self, set: &TaskSet, before: &[WorkRow], row: WorkRow) -> Option<WorkCause>
-        requires task { IsIn set.now row.task.0 }
-        requires tracks { Tracks set.now before.now self.now }
-        ensures { result ≡ time_fault set.now before.now row }
+        requires task { IsIn set.now.tasks row.task.0 }
+        requires tracks { Tracks set.now.tasks before.now self.now }
+        ensures { result ≡ time_fault set.now.tasks before.now row }
     {
         let next = self.next[place_of(set, row.task)];
         if row.need == 0 {
@@ -60,15 +60,15 @@ impl NextReleases {
     }
 
     fn note(&mut self, set: &TaskSet, row: WorkRow)
-        requires { IsIn set.now row.task.0 }
-        ensures { (before : List WorkRow) → Tracks set.now before self.old → Tracks set.now (before ++ row ∷ []) self.new }
+        requires { IsIn set.now.tasks row.task.0 }
+        ensures { (before : List WorkRow) → Tracks set.now.tasks before self.old → Tracks set.now.tasks (before ++ row ∷ []) self.new }
     {
         self.next[place_of(set, row.task)] = row.release as u64 + period_of(set, row.task) as u64;
     }
 }
 
 fn place_of(set: &TaskSet, task: TaskNo) -> usize
-    requires { IsIn set.now task.0 }
+    requires { IsIn set.now.tasks task.0 }
     ensures place { result + 1 ≡ task.0 }
     ensures few { result < 128 }
 {
@@ -77,7 +77,7 @@ fn place_of(set: &TaskSet, task: TaskNo) -> usize
 }
 
 fn period_of(set: &TaskSet, task: TaskNo) -> u32
-    ensures { result ≡ period_in (task_at set.now task.0) }
+    ensures { result ≡ period_in (task_at set.now.tasks task.0) }
 {
     match set.get(task) {
         Some(task) => task.period,

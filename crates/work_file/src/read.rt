@@ -25,18 +25,17 @@ use std::alloc::Global;
 /// each record in turn `TooMany`, the 1,000,001st row; `BadRecord`; `UnknownTask`; `BadNumber`; `ZeroNeed`;
 /// `Unsorted`; `TooSoon`.
 pub fn read_work(alloc: Global, set: &TaskSet, bytes: &[u8]) -> Result<Work, WorkFault>
-    ensures file { Gives result (work_in set.now bytes.now) }
-    ensures work { IfOk result (λ work. IsWork set.now work) }
+    ensures file { Gives result (work_in set.now.tasks bytes.now) }
+    ensures work { IfOk result (λ work. IsWork set.now.tasks work) }
     ensures few { IfOk result (λ work. length work ≤ 1000000) }
 {
     let mut records = Records::new(alloc, bytes);
     // One record for all of them, so that a row takes no memory beside its place in the list.
     let mut fields = ByteRecord::new(alloc);
-    match records.next(&mut fields) {
-        Err(_) => return Err(WorkFault::Memory),
-        Ok(Next::End) => return Err(NO_HEADER),
-        Ok(Next::Wide) => return Err(NO_HEADER),
-        Ok(Next::Record) => {
+    match records.next(&mut fields)? {
+        Next::End => return Err(NO_HEADER),
+        Next::Wide => return Err(NO_HEADER),
+        Next::Record => {
             if !is_header(&fields) {
                 return Err(NO_HEADER);
             }
@@ -44,15 +43,10 @@ pub fn read_work(alloc: Global, set: &TaskSet, bytes: &[u8]) -> Result<Work, Wor
     }
     let mut reading = Reading::new(alloc);
     'records: loop {
-        match records.next(&mut fields) {
-            Err(_) => return Err(WorkFault::Memory),
-            Ok(Next::End) => return Ok(Work::from_rows(reading.rows)),
-            Ok(Next::Wide) => return Err(reading.too_wide(set)),
-            Ok(Next::Record) => {
-                if let Err(fault) = reading.take(set, &fields) {
-                    return Err(fault);
-                }
-            }
+        match records.next(&mut fields)? {
+            Next::End => return Ok(Work::from_rows(reading.rows)),
+            Next::Wide => return Err(reading.too_wide(set)),
+            Next::Record => reading.take(set, &fields)?,
         }
     }
 }
@@ -82,27 +76,27 @@ impl Reading {
 
     // Reads one more record.
     fn take(&mut self, set: &TaskSet, fields: &ByteRecord) -> Result<(), WorkFault>
-        requires { AreRead set.now self.old }
-        ensures ok { OnOk result (Adds set.now (fields_of fields.now) self.old.rows.items self.new.rows.items) }
-        ensures err { IfErr result (λ e. IsRefused set.now (fields_of fields.now) self.old.rows.items e) }
-        ensures read { OnOk result (AreRead set.now self.new) }
+        requires { AreRead set.now.tasks self.old }
+        ensures ok { OnOk result (Adds set.now.tasks (fields_of fields.now) self.old.rows.items self.new.rows.items) }
+        ensures err { IfErr result (λ e. IsRefused set.now.tasks (fields_of fields.now) self.old.rows.items e) }
+        ensures read { OnOk result (AreRead set.now.tasks self.new) }
     {
         match record_row(&mut self.next, set, &self.rows, fields) {
             Err(cause) => Err(WorkFault::At {
                 line: self.rows.len() as u32 + 2,
                 cause,
             }),
-            Ok(row) => match self.rows.push(row) {
-                Ok(()) => Ok(()),
-                Err(_) => Err(WorkFault::Memory),
-            },
+            Ok(row) => {
+                self.rows.push(row)?;
+                Ok(())
+            }
         }
     }
 
     // The refusal of a record with more fields than the header has, whatever they are.
     fn too_wide(&self, set: &TaskSet) -> WorkFault
-        requires { AreRead set.now self.now }
-        ensures { (left : List (List (List ℕ))) → StartsWide left → Fails result (rows_from set.now left self.now.rows.items) }
+        requires { AreRead set.now.tasks self.now }
+        ensures { (left : List (List (List ℕ))) → StartsWide left → Fails result (rows_from set.now.tasks left self.now.rows.items) }
     {
         WorkFault::At {
             line: self.rows.len() as u32 + 2,

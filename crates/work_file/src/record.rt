@@ -47,10 +47,10 @@ pub fn record_row(
     before: &[WorkRow],
     fields: &ByteRecord,
 ) -> Result<WorkRow, WorkCause>
-    requires tracks { Tracks set.now before.now next.old }
-    ensures row { result ≡ file.record_row set.now before.now (fields_of fields.now) }
-    ensures tracks { IfOk result (λ row. Tracks set.now (before.now ++ row ∷ []) next.new) }
-    ensures work { IsWork set.now before.now → IfOk result (λ row. IsWork set.now (before.now ++ row ∷ [])) }
+    requires tracks { Tracks set.now.tasks before.now next.old }
+    ensures row { result ≡ file.record_row set.now.tasks before.now (fields_of fields.now) }
+    ensures tracks { IfOk result (λ row. Tracks set.now.tasks (before.now ++ row ∷ []) next.new) }
+    ensures work { IsWork set.now.tasks before.now → IfOk result (λ row. IsWork set.now.tasks (before.now ++ row ∷ [])) }
     ensures few { OnOk result (length before.now < 1000000) }
 {
     if before.len() >= 1_000_000 {
@@ -68,8 +68,8 @@ pub fn record_row(
 
 // The row that three fields say.
 fn row_of(set: &TaskSet, fields: &ByteRecord) -> Result<WorkRow, WorkCause>
-    ensures row { result ≡ file.row_of set.now (fields_of fields.now) }
-    ensures task { IfOk result (λ row. IsIn set.now row.task.0) }
+    ensures row { result ≡ file.row_of set.now.tasks (fields_of fields.now) }
+    ensures task { IfOk result (λ row. IsIn set.now.tasks row.task.0) }
 {
     let Some(task) = set.find(field(fields, 0)) else {
         return Err(WorkCause::UnknownTask);

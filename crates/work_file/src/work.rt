@@ -40,9 +40,9 @@ impl Work {
     /// An error is the first row that is refused, with the first of these causes: `TooMany`, `UnknownTask`, `ZeroNeed`,
     /// `Unsorted`, `TooSoon`.
     pub fn new(set: &TaskSet, rows: Vec<WorkRow>) -> Result<Work, BadRow>
-        ensures ok { IfOk result (λ work. (first_bad set.now rows.items ≡ None) × (work ≡ rows.items)) }
-        ensures refused { IfErr result (λ bad. first_bad set.now rows.items ≡ Some bad) }
-        ensures work { IfOk result (λ work. IsWork set.now work) }
+        ensures ok { IfOk result (λ work. (first_bad set.now.tasks rows.items ≡ None) × (work ≡ rows.items)) }
+        ensures refused { IfErr result (λ bad. first_bad set.now.tasks rows.items ≡ Some bad) }
+        ensures work { IfOk result (λ work. IsWork set.now.tasks work) }
         ensures few { IfOk result (λ work. length work ≤ 1000000) }
     {
         match first_bad(set, &rows) {
@@ -69,8 +69,8 @@ impl Work {
 }
 
 fn first_bad(set: &TaskSet, rows: &[WorkRow]) -> Option<BadRow>
-    ensures bad { result ≡ first_bad set.now rows.now }
-    ensures work { IfNone result (IsWork set.now rows.now) }
+    ensures bad { result ≡ first_bad set.now.tasks rows.now }
+    ensures work { IfNone result (IsWork set.now.tasks rows.now) }
     ensures few { IfNone result (length rows.now ≤ 1000000) }
 {
     let mut next = NextReleases::new();
@@ -90,10 +90,10 @@ fn row_fault(
     before: &[WorkRow],
     row: WorkRow,
 ) -> Option<WorkCause>
-    requires tracks { Tracks set.now before.now next.old }
-    ensures cause { result ≡ row_fault set.now before.now row }
-    ensures tracks { IfNone result (Tracks set.now (before.now ++ row ∷ []) next.new) }
-    ensures work { IsWork set.now before.now → IfNone result (IsWork set.now (before.now ++ row ∷ [])) }
+    requires tracks { Tracks set.now.tasks before.now next.old }
+    ensures cause { result ≡ row_fault set.now.tasks before.now row }
+    ensures tracks { IfNone result (Tracks set.now.tasks (before.now ++ row ∷ []) next.new) }
+    ensures work { IsWork set.now.tasks before.now → IfNone result (IsWork set.now.tasks (before.now ++ row ∷ [])) }
     ensures few { IfNone result (length before.now < 1000000) }
 {
     if before.len() >= 1_000_000 {

@@ -1,7 +1,7 @@
 //! Counters that seats share, one for each seat. An entry is the number of a seat.
 ghost use Rattle.std.specs.Prelude.{◌≡◌, ◌+◌, ◌<◌, ◌∷◌, ◌++◌, [], List, length, vec_len};
 ghost use Rattle.turnstile.specs.Seats.{IsOf, number, mine, fixed_part};
-ghost use Rattle.turnstile.specs.Counting.{Counts};
+ghost use Rattle.turnstile.specs.Counting.{CountsTurns};
 
 use crate::{Added, Kept, Seat, Turnstile};
 use std::marker::Brand;
@@ -18,7 +18,7 @@ impl Kept for Counters {
 
     type Fixed = u64;
 
-    ghost stands = { λ first history state. Counts history state.counters.items };
+    ghost stands = { λ first history state. CountsTurns history state.counters.items };
 
     ghost by = { λ e. e };
 
@@ -33,7 +33,7 @@ impl Counters {
     // Adds one to a counter.
     fn raise(&mut self, which: u32)
         requires { which < vec_len self.old.counters }
-        ensures counts { (history : List _) → Counts history self.old.counters.items → Counts (history ++ which ∷ []) self.new.counters.items }
+        ensures counts { (history : List _) → CountsTurns history self.old.counters.items → CountsTurns (history ++ which ∷ []) self.new.counters.items }
         ensures len { vec_len self.new.counters ≡ vec_len self.old.counters }
     {
         let at = which as usize;

@@ -4,5 +4,5 @@ use Rattle.calling_examples.proofs.recorded.verdict_on.Goals as goal
 
 pub judge-requires-clause-tasks : goal.judge-requires-clause-tasks
 judge-requires-clause-tasks c =
-    let of : All (IsOfSet c.args.set.now) c.args.rows.now = search rules in
-    rw c.deref.ensures.value (c.in-Ok.ensures.tasks c.args.set.now of)
+    let of : All (IsOfSet c.args.set.now.tasks) c.args.rows.now = search rules in
+    rw c.deref.ensures.value (c.in-Ok.ensures.tasks c.args.set.now.tasks of)

@@ -1,4 +1,4 @@
-use Rattle.std.proofs.Common.{List, ℕ, Bool, cond, drop, sym, ap, ◌∙◌}
+use Rattle.std.proofs.Common.{Bool, cond, drop, sym, ap, ◌∙◌}
 use Rattle.csv_records.proofs.WidthLemmas.{stripped, from_third}
 use Rattle.csv_records.proofs.width.without_mark.Goals as goal
 

@@ -4,10 +4,10 @@ use Rattle.demand_law.proofs.law.one_live_law.Goals as goal
 use Rattle.demand_law.proofs.Laws.{at_most_one, none_at_release}
 
 pub returns-clause-one : goal.returns-clause-one
-returns-clause-one c = at_most_one c.args.set.now c.args.rule (reverse c.args.rows.now) c.len-is_set.ensures.set.each c.requires.holds c.requires.legal
+returns-clause-one c = at_most_one c.args.set.now.tasks c.args.rule (reverse c.args.rows.now) c.len-is_set.ensures.set.each c.requires.holds c.requires.legal
 
 pub returns-clause-none : goal.returns-clause-none
-returns-clause-none c = none_at_release c.args.set.now c.args.rule (reverse c.args.rows.now) c.len-is_set.ensures.set.each c.requires.holds c.requires.legal
+returns-clause-none c = none_at_release c.args.set.now.tasks c.args.rule (reverse c.args.rows.now) c.len-is_set.ensures.set.each c.requires.holds c.requires.legal
 
 pub returns-clause-one_everywhere : goal.returns-clause-one_everywhere
 returns-clause-one_everywhere c set h is holds legal = at_most_one set c.args.rule h is.each holds legal

@@ -8,7 +8,7 @@ use Rattle.load_sum.proofs.loads.sum_loads.Goals as goal
 pub returns-in_err-lcm-clause-within : goal.returns-in_err-lcm-clause-within
 returns-in_err-lcm-clause-within c =
     let p = err_from_is_err_and c.from_residual.result c.from_residual.ensures.1 in
-    let past = range_fault-past 1 1 _ c.args.set.now (omega arith) c.common_multiple.ensures.set.each c.in_err-lcm.ensures.range in
+    let past = range_fault-past 1 1 _ c.args.set.now.tasks (omega arith) c.common_multiple.ensures.set.each c.in_err-lcm.ensures.range in
     rw p.1 (λ ok. absurd (false≢true ok), λ within. absurd (omega arith))
 
 pub returns-in_err-lcm-clause-law : goal.returns-in_err-lcm-clause-law

@@ -3,4 +3,4 @@ use Rattle.mode_core.proofs.Changes.{cleared}
 use Rattle.mode_core.proofs.live.clear_low.Given as goal
 
 abbrev pub invariant-loop-k : goal.invariant-loop-k
-invariant-loop-k l = (i : ℕ) → get_or l.jobs i None ≡ cleared l.set l.initial.jobs l.k i
+invariant-loop-k l = (i : ℕ) → get_or l.jobs i None ≡ cleared l.set.tasks l.initial.jobs l.k i

@@ -6,7 +6,7 @@ use Rattle.part_fit.proofs.placing.fit.Given as goal
 abbrev pub invariant-loop-i : goal.invariant-loop-i
 invariant-loop-i l = record {
   long : length l.of.items ≡ l.i;
-  same : placed l.fn.set l.fn.processors (drop l.i l.fn.set) l.of.items ≡ first_fit l.fn.set l.fn.processors;
+  same : placed l.fn.set.tasks l.fn.processors (drop l.i l.fn.set.tasks) l.of.items ≡ first_fit l.fn.set.tasks l.fn.processors;
   all : length l.all.items ≡ l.fn.processors;
-  kept : AreKept l.fn.set l.of.items l.all.items;
+  kept : AreKept l.fn.set.tasks l.of.items l.all.items;
 }

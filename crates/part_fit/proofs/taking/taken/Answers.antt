@@ -18,15 +18,15 @@ admit-requires c =
 pub returns-then-is_some-clause-exactly : goal.returns-then-is_some-clause-exactly
 returns-then-is_some-clause-exactly c = λ tasks next.
     let both = next-BelongTo tasks c.args.loads.now c.in_ok-more.more c.args.task.now c.requires.small next c.in_ok-more.ensures.some c.in_ok-more.ensures.within in
-    (fits-admitted _ _ (subst (λ l. l ≤ most_lcm) both.1.lcm c.in_ok-more.ensures.within) (sym (ap is_some (c.admit.ensures.test _ both.0)) ∙ sym c.if-is_some.ensures), both.1)
+    (fits-admitted _ _ (subst (λ l. l ≤ most_lcm) both.1.lcm c.in_ok-more.ensures.within) (sym (ap is_some (c.admit.ensures.published _ both.0)) ∙ sym c.if-is_some.ensures), both.1)
 
 pub returns-then-is_some-clause-small : goal.returns-then-is_some-clause-small
 returns-then-is_some-clause-small c =
     let next = c.requires.next in
     let both = next-BelongTo next.tasks c.args.loads.now c.in_ok-more.more c.args.task.now c.requires.small next.next c.in_ok-more.ensures.some c.in_ok-more.ensures.within in
-    admitted-AreSmall _ _ both.0 (sym (ap is_some (c.admit.ensures.test _ both.0)) ∙ sym c.if-is_some.ensures)
+    admitted-AreSmall _ _ both.0 (sym (ap is_some (c.admit.ensures.published _ both.0)) ∙ sym c.if-is_some.ensures)
 
 pub returns-else-is_some-clause-exactly : goal.returns-else-is_some-clause-exactly
 returns-else-is_some-clause-exactly c = λ tasks next.
     let both = next-BelongTo tasks c.args.loads.now c.in_ok-more.more c.args.task.now c.requires.small next c.in_ok-more.ensures.some c.in_ok-more.ensures.within in
-    fits-admitted _ _ (subst (λ l. l ≤ most_lcm) both.1.lcm c.in_ok-more.ensures.within) (sym (ap is_some (c.admit.ensures.test _ both.0)) ∙ sym c.if-is_some.ensures)
+    fits-admitted _ _ (subst (λ l. l ≤ most_lcm) both.1.lcm c.in_ok-more.ensures.within) (sym (ap is_some (c.admit.ensures.published _ both.0)) ∙ sym c.if-is_some.ensures)

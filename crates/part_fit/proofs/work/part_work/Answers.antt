@@ -8,18 +8,18 @@ rows_on-requires c =
     let long = ap length (c.deref.ensures.value ∙ c.parts.view_is) ∙ c.requires.parts in
     omega (arith, long, c.len-is_set.ensures.set.few)
 
-pub work_of-requires-clause-work : goal.work_of-requires-clause-work
-work_of-requires-clause-work c =
-    let tasks = (rw c.in-Ok-Some.field-0-is at c.in-Ok-Some.ensures).0 in
-    let rows = c.in-Ok.ensures ∙ ap (λ of. part_rows c.args.processor of c.rows.result.now) (c.deref.ensures.value ∙ c.parts.view_is) ∙ ap (part_rows c.args.processor c.args.parts.now) c.rows.ensures.value in
-    rw (tasks, rows) (part_rows-IsWork c.args.processor c.args.set.now c.args.parts.now c.args.work.now c.requires.work)
-
 pub work_of-requires-clause-few : goal.work_of-requires-clause-few
 work_of-requires-clause-few c =
     let few = part_rows-length c.args.processor c.deref.result.now c.rows.result.now in
-    omega (arith, ap length c.in-Ok.ensures, few, ap length c.rows.ensures.value, c.rows.ensures.few)
+    omega (arith, ap length c.in_ok-rows.ensures, few, ap length c.rows.ensures.value, c.rows.ensures.few)
 
-pub returns-in-Ok-clause-work : goal.returns-in-Ok-clause-work
-returns-in-Ok-clause-work c =
-    let rows = c.in-Ok.ensures ∙ ap (λ of. part_rows c.args.processor of c.rows.result.now) (c.deref.ensures.value ∙ c.parts.view_is) ∙ ap (part_rows c.args.processor c.args.parts.now) c.rows.ensures.value in
-    rw (c.work_of.ensures, rows) (part_rows-IsWork c.args.processor c.args.set.now c.args.parts.now c.args.work.now c.requires.work)
+pub returns-clause-work : goal.returns-clause-work
+returns-clause-work c =
+    let rows = c.in_ok-rows.ensures ∙ ap (λ of. part_rows c.args.processor of c.rows.result.now) (c.deref.ensures.value ∙ c.parts.view_is) ∙ ap (part_rows c.args.processor c.args.parts.now) c.rows.ensures.value in
+    rw (c.work_of.ensures, rows) (part_rows-IsWork c.args.processor c.args.set.now.tasks c.args.parts.now c.args.work.now c.requires.work)
+
+pub work_of-requires-clause-work : goal.work_of-requires-clause-work
+work_of-requires-clause-work c =
+    let tasks = (rw c.unwrap-tasks.ensures at c.in_ok-part.ensures).0 in
+    let rows = c.in_ok-rows.ensures ∙ ap (λ of. part_rows c.args.processor of c.rows.result.now) (c.deref.ensures.value ∙ c.parts.view_is) ∙ ap (part_rows c.args.processor c.args.parts.now) c.rows.ensures.value in
+    rw (tasks, rows) (part_rows-IsWork c.args.processor c.args.set.now.tasks c.args.parts.now c.args.work.now c.requires.work)

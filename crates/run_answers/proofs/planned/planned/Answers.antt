@@ -9,10 +9,10 @@ pub returns : goal.returns
 returns g c =
     let plan : c.in-Ok.floor.plan ≡ Rows c.args.work c.args.ticks = search rules in
     let t = subst (λ (p : Plan). IsTraceOfPlan p c.in-Ok.floor.core) plan c.in-Ok.ensures.trace in
-    let same : c.in-Ok.floor.core.set ≡ c.args.set.now = search rules in
+    let same : c.in-Ok.floor.core.set ≡ c.args.set.now.tasks = search rules in
     let is : c.in-Ok.floor.core.rule ≡ c.args.rule = search rules in
     let few : length c.in-Ok.floor.core.rows ≤ 2000000 = search rules in
     record {
-      follows = follows_same c.args.set.now c.in-Ok.floor.core.set c.args.rule c.in-Ok.floor.core.rule c.args.work c.args.ticks c.in-Ok.floor.core.rows same is t.follows;
+      follows = follows_same c.args.set.now.tasks c.in-Ok.floor.core.set c.args.rule c.in-Ok.floor.core.rule c.args.work c.args.ticks c.in-Ok.floor.core.rows same is t.follows;
       few = few;
     }

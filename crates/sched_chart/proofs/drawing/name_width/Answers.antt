@@ -1,34 +1,30 @@
-use Rattle.std.proofs.Common.{◌≡◌, ◌+◌, ◌≤◌, drop, length, max, ap, arith}
-use Rattle.sched_chart.specs.ChartText.{name_width}
+use Rattle.std.proofs.Common.{◌≡◌, ◌+◌, ◌≤◌, length, drop, max, refl, ap, arith}
+use Rattle.std.proofs.lemmas.Option.{slice_get_read}
 use Rattle.mc_model.proofs.Walk.{drop_at}
+use Rattle.sched_chart.specs.ChartText.{name_width}
 use Rattle.sched_chart.proofs.Lines.{short_name}
 use Rattle.sched_chart.proofs.Filled.{least_width}
 use Rattle.sched_chart.proofs.drawing.name_width.Goals as goal
-use Rattle.sched_chart.proofs.drawing.name_width.Goals.{then-length-width, else-length-width}
 
-pub loop-i-init : goal.loop-i-init
-loop-i-init c = record {
+pub loop-task-init : goal.loop-task-init
+loop-task-init c = record {
   least = omega arith;
   most = omega arith;
-  width = omega (arith, least_width c.args.set.now);
+  width = omega (arith, least_width c.args.tasks.now);
 }
 
-pub loop-i-preserved : goal.loop-i-preserved
-loop-i-preserved c =
-    let inv = c.loop-i.invariant in
-    let name : length c.bytes-length.result.now ≡ length c.task_at.result.name = ap length c.bytes-length.ensures.value in
-    let few : length c.task_at.result.name ≤ 32 = short_name c.task_at.result.name c.bytes-length.ensures.form in
-    let next : name_width (drop c.loop-i.i c.args.set.now) ≡ max (length c.task_at.result.name) (name_width (drop (c.loop-i.i + 1) c.args.set.now)) =
-    ap name_width (drop_at c.args.set.now c.loop-i.i c.task_at.result c.task_at.ensures) in
-    elim c.if-length-width.branch [
-      | then-length-width w ↦ record {
-        least = omega (arith, w.width-is, w.if-length-width.true, inv.least);
-        most = omega (arith, w.width-is, name, few);
-        width = omega (arith, w.width-is, w.if-length-width.true, name, next, inv.width);
-      }
-      | else-length-width w ↦ record {
-        least = omega (arith, w.width-is, inv.least);
-        most = omega (arith, w.width-is, inv.most);
-        width = omega (arith, w.width-is, w.if-length-width.false, name, next, inv.width);
-      }
-    ]
+pub loop-task-preserved : goal.loop-task-preserved
+loop-task-preserved c =
+    let inv = c.loop-task.invariant in
+    let tasks = c.args.tasks.now in
+    let i = c.loop-task.task-index in
+    let task = c.task-item.result in
+    let name : length c.bytes.result.now ≡ length task.name = ap length c.bytes.ensures.value in
+    let few : length task.name ≤ 32 = short_name task.name c.bytes.ensures.form in
+    let next : name_width (drop i tasks) ≡ max (length task.name) (name_width (drop (i + 1) tasks)) =
+    ap name_width (drop_at tasks i task (slice_get_read tasks (length tasks) i task refl c.loop-task-test.true c.task-item.is)) in
+    record {
+      least = omega (arith, name, inv.least);
+      most = omega (arith, name, few, inv.most);
+      width = omega (arith, name, next, inv.width);
+    }

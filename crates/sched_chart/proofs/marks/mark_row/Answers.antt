@@ -6,11 +6,11 @@ use Rattle.sched_chart.proofs.Filled.{chart-release, chart-tick_high, chart-tick
 use Rattle.sched_chart.proofs.marks.mark_row.Goals as goal
 
 pub returns-in-Release : goal.returns-in-Release
-returns-in-Release c = λ g t h e. rw c.in-Release.is (e ∙ sym (chart-release c.args.set.now c.args.sheet.ticks c.in-Release.job c.in-Release.kept g))
+returns-in-Release c = λ g t h e. rw c.in-Release.is (e ∙ sym (chart-release c.args.set.now.tasks c.args.sheet.ticks c.in-Release.job c.in-Release.kept g))
 
 pub returns-then-high : goal.returns-then-high
 returns-then-high c = λ g t h e.
-    let tasks = c.args.set.now in
+    let tasks = c.args.set.now.tasks in
     let n = c.args.sheet.ticks in
     let here : c.place.result ≡ place (name_width tasks) n (c.in-Tick.job.task.0 - 1) (ticks g) = c.place.ensures ∙ ap₂ (λ w m. place w n (c.in-Tick.job.task.0 - 1) m) c.requires.width (sym t) in
     let last : c.place-then-high.result ≡ place (name_width tasks) n (length tasks) (ticks g) =
@@ -21,7 +21,7 @@ returns-then-high c = λ g t h e.
 
 pub returns-else-high : goal.returns-else-high
 returns-else-high c = λ g t h e.
-    let tasks = c.args.set.now in
+    let tasks = c.args.set.now.tasks in
     let n = c.args.sheet.ticks in
     let here : c.place.result ≡ place (name_width tasks) n (c.in-Tick.job.task.0 - 1) (ticks g) = c.place.ensures ∙ ap₂ (λ w m. place w n (c.in-Tick.job.task.0 - 1) m) c.requires.width (sym t) in
     let small : c.args.tick + 1 ≤ n = rw c.in-Tick.is at c.requires.tick in
@@ -30,7 +30,7 @@ returns-else-high c = λ g t h e.
 
 pub returns-then-high-2 : goal.returns-then-high-2
 returns-then-high-2 c = λ g t h e.
-    let tasks = c.args.set.now in
+    let tasks = c.args.set.now.tasks in
     let n = c.args.sheet.ticks in
     let last : c.place-then-high-2.result ≡ place (name_width tasks) n (length tasks) (ticks g) =
     c.place-then-high-2.ensures ∙ (ap₂ (λ w m. place w n c.len-count.result m) c.requires.width (sym t) ∙ ap (λ k. place (name_width tasks) n k (ticks g)) c.len-count.ensures.count) in
@@ -40,4 +40,4 @@ returns-then-high-2 c = λ g t h e.
 pub returns-else-high-2 : goal.returns-else-high-2
 returns-else-high-2 c = λ g t h e.
     let small : c.args.tick + 1 ≤ c.args.sheet.ticks = rw c.in-Idle.is at c.requires.tick in
-    rw c.in-Idle.is (e ∙ chart-idle_low c.args.set.now c.args.sheet.ticks g (omega (arith, t, small)) (h ∙ c.if-high-2.false))
+    rw c.in-Idle.is (e ∙ chart-idle_low c.args.set.now.tasks c.args.sheet.ticks g (omega (arith, t, small)) (h ∙ c.if-high-2.false))

@@ -9,7 +9,7 @@ mark_row-requires-clause-tick c = ticks-next-le c.args.rows.now c.loop-row.row-i
 pub mark_row-requires-clause-length : goal.mark_row-requires-clause-length
 mark_row-requires-clause-length c =
     let past = ticks-take-le c.args.rows.now c.loop-row.row-index c.args.sheet.ticks c.requires.ticks in
-    ap length c.loop-row.invariant.chart ∙ rw c.requires.width (length-chart c.args.set.now c.args.sheet.ticks (reverse (take c.loop-row.row-index c.args.rows.now)) past)
+    ap length c.loop-row.invariant.chart ∙ rw c.requires.width (length-chart c.args.set.now.tasks c.args.sheet.ticks (reverse (take c.loop-row.row-index c.args.rows.now)) past)
 
 pub tick_after-tick-requires : goal.tick_after-tick-requires
 tick_after-tick-requires c =

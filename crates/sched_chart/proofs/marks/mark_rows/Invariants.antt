@@ -8,5 +8,5 @@ abbrev pub invariant-loop-row : goal.invariant-loop-row
 invariant-loop-row l = record {
   tick : ticks (reverse (take l.row-index l.rows)) ≡ l.tick;
   high : over_stands (reverse (take l.row-index l.rows)) ≡ l.high;
-  chart : l.chart ≡ chart_to l.set l.sheet.ticks (reverse (take l.row-index l.rows));
+  chart : l.chart ≡ chart_to l.set.tasks l.sheet.ticks (reverse (take l.row-index l.rows));
 }

@@ -7,6 +7,6 @@ use Rattle.sched_report.proofs.writing.report_text.Given as goal
 abbrev pub invariant-loop-i : goal.invariant-loop-i
 invariant-loop-i l =
     l.text.items
-    ++ (report_lines l.set (reverse (expand l.runs)) (l.i + 1) (drop l.i l.set)
+    ++ (report_lines l.set.tasks (reverse (expand l.runs)) (l.i + 1) (drop l.i l.set.tasks)
     ++ concat (codes "idle " ∷ decimal (how_many is_idle (reverse (expand l.runs))) ∷ codes "\nswitches " ∷ decimal (how_many is_switch (reverse (expand l.runs))) ∷ codes "\n" ∷ []))
-    ≡ report_text l.set (reverse (expand l.runs))
+    ≡ report_text l.set.tasks (reverse (expand l.runs))

@@ -9,12 +9,12 @@ use Rattle.sched_report.proofs.writing.summary_text.Goals as goal
 
 pub sum_of-requires-clause-few : goal.sum_of-requires-clause-few
 sum_of-requires-clause-few c =
-    let long : length c.in_ok-tally.tally.tasks.items ≡ length c.args.set.now = ap length c.in_ok-tally.ensures.tasks ∙ length-numbered _ 1 c.args.set.now in
+    let long : length c.in_ok-tally.tally.tasks.items ≡ length c.args.set.now.tasks = ap length c.in_ok-tally.ensures.tasks ∙ length-numbered _ 1 c.args.set.now.tasks in
     omega (arith, long, c.len-is_set.ensures.set.few)
 
 pub sum_of-requires-clause-small : goal.sum_of-requires-clause-small
 sum_of-requires-clause-small c =
-    all_small c.args.set.now (reverse (expand c.args.runs.now)) c.in_ok-tally.tally.tasks.items c.in_ok-tally.ensures.tasks (few_rows c.args.runs.now c.requires.runs)
+    all_small c.args.set.now.tasks (reverse (expand c.args.runs.now)) c.in_ok-tally.tally.tasks.items c.in_ok-tally.ensures.tasks (few_rows c.args.runs.now c.requires.runs)
 
 pub overflow_sub-tally : goal.overflow_sub-tally
 overflow_sub-tally c = omega (arith, c.in_ok-tally.ensures.tick, c.in_ok-tally.ensures.idle, ticks-idle (reverse (expand c.args.runs.now)))
@@ -22,7 +22,7 @@ overflow_sub-tally c = omega (arith, c.in_ok-tally.ensures.tick, c.in_ok-tally.e
 pub returns : goal.returns
 unfolding summary_text
 returns c =
-    let set = c.args.set.now in
+    let set = c.args.set.now.tasks in
     let h = reverse (expand c.args.runs.now) in
     let tally = c.in_ok-tally.tally in
     let t = c.in_ok-tally.ensures in

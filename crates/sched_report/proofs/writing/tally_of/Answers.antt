@@ -17,18 +17,18 @@ count-requires-clause-short c = short_run c.args.runs.now c.loop-run.run-index _
 
 pub count-requires-clause-task : goal.count-requires-clause-task
 count-requires-clause-task c =
-    let long : length c.loop-run.tally.tasks.items ≡ length c.args.set.now = ap length c.loop-run.invariant.tasks ∙ length-numbered _ 1 c.args.set.now in
-    among c.args.set.now (vec_len c.loop-run.tally.tasks) _ (omega (arith, long, c.loop-run.tally.tasks.ok.0))
-    (run_inside c.args.set.now c.requires.trace.rule c.args.runs.now c.loop-run.run-index _ c.loop-run-test.true (All-get_or IsRun c.args.runs.now c.loop-run.run-index _ c.loop-run-test.true c.requires.runs.each) c.requires.trace.legal)
+    let long : length c.loop-run.tally.tasks.items ≡ length c.args.set.now.tasks = ap length c.loop-run.invariant.tasks ∙ length-numbered _ 1 c.args.set.now.tasks in
+    among c.args.set.now.tasks (vec_len c.loop-run.tally.tasks) _ (omega (arith, long, c.loop-run.tally.tasks.ok.0))
+    (run_inside c.args.set.now.tasks c.requires.trace.rule c.args.runs.now c.loop-run.run-index _ c.loop-run-test.true (All-get_or IsRun c.args.runs.now c.loop-run.run-index _ c.loop-run-test.true c.requires.runs.each) c.requires.trace.legal)
 
 pub count-requires-clause-room : goal.count-requires-clause-room
-count-requires-clause-room c = has_room c.args.set.now _ c.loop-run.tally c.loop-run.invariant (few_read c.args.runs.now c.loop-run.run-index c.requires.runs)
+count-requires-clause-room c = has_room c.args.set.now.tasks _ c.loop-run.tally c.loop-run.invariant (few_read c.args.runs.now c.loop-run.run-index c.requires.runs)
 
 pub loop-run-preserved : goal.loop-run-preserved
 loop-run-preserved c =
     let next = rows_more c.args.runs.now c.loop-run.run-index _ c.loop-run-test.true in
-    let legal = legal_first c.args.set.now c.requires.trace.rule c.args.runs.now (c.loop-run.run-index + 1) c.requires.trace.legal in
-    rw next (c.in_ok-count.ensures c.args.set.now c.requires.trace.rule (reverse (expand (take c.loop-run.run-index c.args.runs.now))) (rw next at legal) c.loop-run.invariant)
+    let legal = legal_first c.args.set.now.tasks c.requires.trace.rule c.args.runs.now (c.loop-run.run-index + 1) c.requires.trace.legal in
+    rw next (c.in_ok-count.ensures c.args.set.now.tasks c.requires.trace.rule (reverse (expand (take c.loop-run.run-index c.args.runs.now))) (rw next at legal) c.loop-run.invariant)
 
 pub returns : goal.returns
-returns c = subst (λ l. Tallies c.args.set.now (reverse (expand l)) c.loop-run.tally) (take_all c.loop-run.run-index c.args.runs.now c.loop-run-test.false) c.loop-run.invariant
+returns c = subst (λ l. Tallies c.args.set.now.tasks (reverse (expand l)) c.loop-run.tally) (take_all c.loop-run.run-index c.args.runs.now c.loop-run-test.false) c.loop-run.invariant

@@ -4,4 +4,4 @@ use Rattle.sched_report.specs.Tally.{Tallies}
 use Rattle.sched_report.proofs.writing.tally_of.Given as goal
 
 abbrev pub invariant-loop-run : goal.invariant-loop-run
-invariant-loop-run l = Tallies l.set (reverse (expand (take l.run-index l.runs))) l.tally
+invariant-loop-run l = Tallies l.set.tasks (reverse (expand (take l.run-index l.runs))) l.tally

@@ -9,7 +9,7 @@ loop-at-preserved c =
     let kept = c.loop-at.invariant in
     let below = releases_below-until c.args.gaps.now c.loop-at.at c.in_ok-at.at pass.later pass.none in
     record {
-      rows = rw below (rows-more c.args.set.now c.args.words [] c.loop-at.jobs.rows.items c.release.new.self.rows.items c.loop-at.jobs.words (releases_below c.args.gaps.now c.loop-at.at) (releases_at c.args.gaps.now c.loop-at.at) kept.rows kept.words pass.rows);
+      rows = rw below (rows-more c.args.set.now.tasks c.args.words [] c.loop-at.jobs.rows.items c.release.new.self.rows.items c.loop-at.jobs.words (releases_below c.args.gaps.now c.loop-at.at) (releases_at c.args.gaps.now c.loop-at.at) kept.rows kept.words pass.rows);
       words = rw below (words-more c.args.words c.loop-at.jobs.words c.release.new.self.words (releases_below c.args.gaps.now c.loop-at.at) (releases_at c.args.gaps.now c.loop-at.at) kept.words pass.words);
       next = pass.next;
       within = pass.within;

@@ -7,5 +7,5 @@ use Rattle.study_answers.proofs.stretch.high_line.Goals as goal
 pub returns : goal.returns
 unfolding high_line
 returns c =
-    let same = high-lowest (at_percent c.args.set.now c.args.s) (with_high c.args.loads.now c.high_at.result) c.high_at.ensures in
+    let same = high-lowest (at_percent c.args.set.now.tasks c.args.s) (with_high c.args.loads.now c.high_at.result) c.high_at.ensures in
     rw (← same, ← c.from.ensures, ← c.new-load.ensures.value) c.format.ensures.ok

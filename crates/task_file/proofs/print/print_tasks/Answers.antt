@@ -1,7 +1,7 @@
 use Rattle.task_file.proofs.RoundTrip.{reads_back}
 use Rattle.task_file.proofs.print.print_tasks.Goals as goal
 
-pub returns-in-Ok-table_to_string : goal.returns-in-Ok-table_to_string
-returns-in-Ok-table_to_string c =
+pub returns-in-Ok : goal.returns-in-Ok
+returns-in-Ok c =
     rw c.into_bytes.ensures.value
-    (reads_back c.in-Ok-table_to_string.text _ c.args.set.now c.in-Ok.ensures.tree c.in-Ok.ensures.set c.in-Ok-table_to_string.ensures.reads_back)
+    (reads_back c.in-Ok.text _ c.args.set.now c.in_ok-table.ensures.tree c.in_ok-table.ensures.set c.in-Ok.ensures.reads_back)

@@ -5,6 +5,6 @@ use Rattle.task_threads.proofs.live.needs_of_each.Given as goal
 abbrev pub invariant-loop-task : goal.invariant-loop-task
 invariant-loop-task l = record {
   len : vec_len l.needs + 1 ≡ l.task;
-  room : length l.set ≤ vec_capacity l.needs;
-  needs : AreNeeds l.set l.needs.items;
+  room : length l.set.tasks ≤ vec_capacity l.needs;
+  needs : AreNeeds l.set.tasks l.needs.items;
 }

@@ -9,7 +9,7 @@ use Rattle.task_threads.proofs.live_room.live_places.Goals as goal
 pub loop-place-preserved : goal.loop-place-preserved
 loop-place-preserved c =
     let l = c.loop-place.invariant in
-    let set = c.args.set.now in
+    let set = c.args.set.now.tasks in
     let n = c.args.ticks in
     let few = l.few in
     let most = c.requires in
@@ -26,4 +26,4 @@ returns-clause-places c =
     let l = c.loop-place.invariant in
     let end = c.loop-place-test.false in
     let count = c.len-place-end.ensures.count in
-    places_all c.args.set.now c.loop-place.place c.args.ticks c.loop-place.places (live_places c.args.set.now c.args.ticks) (omega (arith, end, count)) l.sum
+    places_all c.args.set.now.tasks c.loop-place.place c.args.ticks c.loop-place.places (live_places c.args.set.now.tasks c.args.ticks) (omega (arith, end, count)) l.sum

@@ -3,7 +3,7 @@ use Rattle.mc_model.specs.Runs.{rows_of, expand}
 use Rattle.mc_model.specs.declared.run.Run.{Run}
 use Rattle.trace_format.specs.Packing.{ArePacked, with_last}
 use Rattle.trace_format.proofs.PackLemmas.{taken, added}
-use Rattle.trace_format.proofs.packing.add.Goals.{In-Some, In-Ok}
+use Rattle.trace_format.proofs.packing.add.Goals.{In-Some, In_ok-push}
 use Rattle.trace_format.proofs.packing.add.Goals as goal
 
 -- the last run takes it
@@ -21,13 +21,13 @@ returns-in-Some-clause-packed c =
     (taken c.args.runs.now.items _ c.args.run c.in-Some.both c.requires.packed (by_last (goal.at.returns-in-Some-clause-packed c).In-Some) (ap (λ m. slice_set c.args.runs.now.items (m - 1) c.in-Some.both) n)).1
 
 -- it is added
-by_itself : (c : In-Ok) → (expand c.push.new.self.items ≡ expand c.args.runs.now.items ++ rows_of c.args.run) × ArePacked c.push.new.self.items
+by_itself : (c : In_ok-push) → (expand c.push.new.self.items ≡ expand c.args.runs.now.items ++ rows_of c.args.run) × ArePacked c.push.new.self.items
 by_itself c =
     added c.args.runs.now.items c.push.new.self.items c.args.run c.requires.packed c.requires.is_run
-    (ap (λ (runs : List Run). with_last runs c.args.run) (sym c.deref.ensures.value) ∙ (sym c.with_last.ensures ∙ c.in_default.is)) c.in-Ok.ensures.items
+    (ap (λ (runs : List Run). with_last runs c.args.run) (sym c.deref.ensures.value) ∙ (sym c.with_last.ensures ∙ c.in_default.is)) c.in_ok-push.ensures.items
 
-pub returns-in-Ok-clause-rows : goal.returns-in-Ok-clause-rows
-returns-in-Ok-clause-rows c = (by_itself c).0
+pub returns-clause-rows : goal.returns-clause-rows
+returns-clause-rows c = (by_itself c).0
 
-pub returns-in-Ok-clause-packed : goal.returns-in-Ok-clause-packed
-returns-in-Ok-clause-packed c = (by_itself c).1
+pub returns-clause-packed : goal.returns-clause-packed
+returns-clause-packed c = (by_itself c).1

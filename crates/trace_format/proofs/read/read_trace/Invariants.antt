@@ -7,7 +7,7 @@ use Rattle.trace_format.proofs.read.read_trace.Given as goal
 abbrev pub invariant-records : goal.invariant-records
 invariant-records l = record {
   read : AreRead l.reading;
-  left : runs_from l.set l.version l.records l.reading.runs.items ≡ trace_file l.set l.bytes;
+  left : runs_from l.set.tasks l.version l.records l.reading.runs.items ≡ trace_file l.set.tasks l.bytes;
 }
 
 abbrev pub decreases-records : goal.decreases-records

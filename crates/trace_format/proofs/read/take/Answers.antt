@@ -4,7 +4,7 @@ use Rattle.csv.specs.Records.{fields_of}
 use Rattle.mc_model.specs.Sums.{total}
 use Rattle.mc_model.specs.Runs.{length_of}
 use Rattle.mc_model.specs.declared.run.Run.{Run}
-use Rattle.trace_format.specs.Reading.{Fits}
+use Rattle.trace_format.specs.Reading.{MayStandBehind}
 use Rattle.trace_format.specs.TraceFile.{record_run}
 use Rattle.trace_format.proofs.LineLemmas.{total-one}
 use Rattle.trace_format.proofs.RunsOfSet.{of_record}
@@ -12,10 +12,10 @@ use Rattle.trace_format.proofs.read.take.Goals.{In-Ok}
 use Rattle.trace_format.proofs.read.take.Goals as goal
 
 -- the run that was read fits behind those before it
-next_fits : (c : In-Ok) → (length c.args.reading.now.runs.items < 2000000) × Fits c.args.set.now (total length_of c.args.reading.now.runs.items) c.in-Ok.next
+next_fits : (c : In-Ok) → (length c.args.reading.now.runs.items < 2000000) × MayStandBehind c.args.set.now.tasks (total length_of c.args.reading.now.runs.items) c.in-Ok.next
 next_fits c =
-    of_record c.args.set.now c.args.version c.args.reading.now.runs.items (fields_of c.args.fields.now) c.in-Ok.next
-    (ap (λ (runs : List Run). record_run c.args.set.now c.args.version runs (fields_of c.args.fields.now)) (sym c.deref.ensures.value) ∙ (sym c.record_run.ensures ∙ c.in-Ok.is))
+    of_record c.args.set.now.tasks c.args.version c.args.reading.now.runs.items (fields_of c.args.fields.now) c.in-Ok.next
+    (ap (λ (runs : List Run). record_run c.args.set.now.tasks c.args.version runs (fields_of c.args.fields.now)) (sym c.deref.ensures.value) ∙ (sym c.record_run.ensures ∙ c.in-Ok.is))
 
 pub tick_after-reading-requires : goal.tick_after-reading-requires
 tick_after-reading-requires c =
@@ -23,9 +23,9 @@ tick_after-reading-requires c =
     let short = fits.1.short in
     omega (arith, short, c.requires.due)
 
-pub returns-else-is_err-clause-read : goal.returns-else-is_err-clause-read
-returns-else-is_err-clause-read c =
-    let fits = next_fits (goal.at.returns-else-is_err-clause-read c).In-Ok in
+pub returns-in_ok-push-in-Ok-clause-read : goal.returns-in_ok-push-in-Ok-clause-read
+returns-in_ok-push-in-Ok-clause-read c =
+    let fits = next_fits (goal.at.returns-in_ok-push-in-Ok-clause-read c).In-Ok in
     let items : c.push.new.self.items ≡ c.args.reading.now.runs.items ++ c.in-Ok.next ∷ [] = search rules in
     let more : total length_of c.push.new.self.items ≡ total length_of c.args.reading.now.runs.items + length_of c.in-Ok.next = ap (total length_of) items ∙ total-one c.args.reading.now.runs.items c.in-Ok.next in
     let longer : length c.push.new.self.items ≡ length c.args.reading.now.runs.items + 1 = ap length items ∙ length-append c.args.reading.now.runs.items (c.in-Ok.next ∷ []) in

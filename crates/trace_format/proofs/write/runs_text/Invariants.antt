@@ -8,6 +8,6 @@ use Rattle.trace_format.proofs.write.runs_text.Given as goal
 abbrev pub invariant-loop-run : goal.invariant-loop-run
 invariant-loop-run l = record {
   tick : l.tick ≡ total length_of (take l.run-index l.runs);
-  text : l.out.items ++ lines_after l.set (take l.run-index l.runs) (drop l.run-index l.runs) ≡ runs_text l.set l.runs;
-  writable : All (IsWritable l.set) (take l.run-index l.runs);
+  text : l.out.items ++ lines_after l.set.tasks (take l.run-index l.runs) (drop l.run-index l.runs) ≡ runs_text l.set.tasks l.runs;
+  writable : All (IsWritable l.set.tasks) (take l.run-index l.runs);
 }

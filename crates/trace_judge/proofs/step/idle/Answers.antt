@@ -10,12 +10,12 @@ use Rattle.trace_judge.proofs.step.idle.Goals as goal
 
 pub returns-then-not-is_empty : goal.returns-then-not-is_empty
 returns-then-not-is_empty c g l t =
-    at_first c.args.set.now c.args.rule _ g _ _ c.first.ensures c.requires.is_run l (idle_some c.args.set.now c.args.rule g c.args.state.now l t (let h : length c.args.state.now.waiting.entries ≢ 0 = search rules in h))
+    at_first c.args.set.now.tasks c.args.rule _ g _ _ c.first.ensures c.requires.is_run l (idle_some c.args.set.now.tasks c.args.rule g c.args.state.now l t (let h : length c.args.state.now.waiting.entries ≢ 0 = search rules in h))
 
 pub returns : goal.returns
 returns c g l t =
     let h : length c.args.state.now.waiting.entries ≡ 0 = search rules in
-    let none : length (waiting c.args.set.now g) ≡ 0 = sym (same_length c.args.set.now c.args.rule g c.args.state.now t) ∙ h in (
-      idle_legal c.args.set.now c.args.rule c.args.length g l (ap is_empty (pending_is c.args.set.now c.args.rule g l) ∙ empty_at (waiting c.args.set.now g) none),
-      keeps_rest c.args.set.now c.args.rule g c.args.state.now _ c.args.length c.requires.is_run (nothing_at (waiting c.args.set.now g) none) t c.rest.ensures,
+    let none : length (waiting c.args.set.now.tasks g) ≡ 0 = sym (same_length c.args.set.now.tasks c.args.rule g c.args.state.now t) ∙ h in (
+      idle_legal c.args.set.now.tasks c.args.rule c.args.length g l (ap is_empty (pending_is c.args.set.now.tasks c.args.rule g l) ∙ empty_at (waiting c.args.set.now.tasks g) none),
+      keeps_rest c.args.set.now.tasks c.args.rule g c.args.state.now _ c.args.length c.requires.is_run (nothing_at (waiting c.args.set.now.tasks g) none) t c.rest.ensures,
     )

@@ -3,5 +3,5 @@ use Rattle.trace_judge.specs.Tracks.{Tracks}
 use Rattle.trace_judge.proofs.Reading.{read}
 use Rattle.trace_judge.proofs.verdict.judge.Given as goal
 
-abbrev pub invariant-loop-i : goal.invariant-loop-i
-invariant-loop-i l = Legal l.set l.rule (read l.runs l.i) × Tracks l.set l.rule (read l.runs l.i) l.state
+abbrev pub invariant-loop-run : goal.invariant-loop-run
+invariant-loop-run l = Legal l.set.tasks l.rule (read l.runs l.run-index) × Tracks l.set.tasks l.rule (read l.runs l.run-index) l.state

@@ -22,7 +22,7 @@ pub invariant_of-self : goal.invariant_of-self
 invariant_of-self c =
     let a = c.self.inside in
     let k = c.args.job.task.0 in
-    let inside : IsIn a.set k = subst (λ (s : Slots). IsIn s.set k) (sym c.self.view_is) c.requires.in_set in
+    let inside : IsIn a.set.tasks k = subst (λ (s : Slots). IsIn s.set k) (sym c.self.view_is) c.requires.in_set in
     let free : job_at a.jobs.items k ≡ None = not_told a.jobs.items a.used.ticks k (subst (λ (s : Slots). waiting s k ≡ None) (sym c.self.view_is) c.requires.free) in
     let last = inside.1 in
     let slots = c.self.invariant.slots in
@@ -36,16 +36,16 @@ invariant_of-self c =
       budgets = ap (λ (l : Ledger). l.budgets) c.start.ensures ∙ c.self.invariant.budgets;
       places = ap (λ (q : Queue). q.places) c.insert.ensures ∙ c.self.invariant.places;
       queued =
-          subst (λ (q : Queue). AreQueued a.set a.rule a.high jobs q.items) (sym c.insert.ensures)
-          (subst (λ (i : Item). AreQueued a.set a.rule a.high jobs (with_item i a.queue.items)) (sym c.item.ensures)
-          (queued_begin a.set a.rule a.high a.jobs.items a.queue.items k j c.self.invariant.queued inside (omega (arith, last, slots)) free));
+          subst (λ (q : Queue). AreQueued a.set.tasks a.rule a.high jobs q.items) (sym c.insert.ensures)
+          (subst (λ (i : Item). AreQueued a.set.tasks a.rule a.high jobs (with_item i a.queue.items)) (sym c.item.ensures)
+          (queued_begin a.set.tasks a.rule a.high a.jobs.items a.queue.items k j c.self.invariant.queued inside (omega (arith, last, slots)) free));
     }
 
 pub returns : goal.returns
 returns c =
     let a = c.self.inside in
     let k = c.args.job.task.0 in
-    let inside : IsIn a.set k = subst (λ (s : Slots). IsIn s.set k) (sym c.self.view_is) c.requires.in_set in
+    let inside : IsIn a.set.tasks k = subst (λ (s : Slots). IsIn s.set k) (sym c.self.view_is) c.requires.in_set in
     let entry : Pending = record { job = c.args.job; release = c.args.release; used = 0 } in
     let jobs : List (Option LiveJob) = slice_set a.jobs.items (k - 1) (Some (record { count = c.args.job.count; release = c.args.release })) in
     subst (λ (s : Slots). ChangesOnly s (with_line a jobs c.start.new.self) k (Some entry)) c.self.view_is

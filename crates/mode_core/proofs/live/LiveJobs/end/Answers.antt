@@ -13,7 +13,7 @@ use Rattle.mode_core.proofs.live.LiveJobs.end.Goals as goal
 pub invariant_of-self : goal.invariant_of-self
 invariant_of-self c =
     let a = c.self.inside in
-    let inside : IsIn a.set c.args.task.0 = subst (λ (s : Slots). IsIn s.set c.args.task.0) (sym c.self.view_is) c.requires in
+    let inside : IsIn a.set.tasks c.args.task.0 = subst (λ (s : Slots). IsIn s.set c.args.task.0) (sym c.self.view_is) c.requires in
     let last = inside.1 in
     let slots = c.self.invariant.slots in
     let none : Option LiveJob = None in
@@ -26,11 +26,11 @@ invariant_of-self c =
       budgets = c.self.invariant.budgets;
       places = ap (λ (q : Queue). q.places) c.remove.ensures.state ∙ c.self.invariant.places;
       queued =
-          subst (λ (q : Queue). AreQueued a.set a.rule a.high jobs q.items) (sym c.remove.ensures.state)
-          (queued_end a.set a.rule a.high a.jobs.items a.queue.items c.args.task.0 c.self.invariant.queued inside (omega (arith, last, slots)));
+          subst (λ (q : Queue). AreQueued a.set.tasks a.rule a.high jobs q.items) (sym c.remove.ensures.state)
+          (queued_end a.set.tasks a.rule a.high a.jobs.items a.queue.items c.args.task.0 c.self.invariant.queued inside (omega (arith, last, slots)));
     }
 
 pub returns : goal.returns
 returns c =
-    let inside : IsIn c.self.inside.set c.args.task.0 = subst (λ (s : Slots). IsIn s.set c.args.task.0) (sym c.self.view_is) c.requires in
+    let inside : IsIn c.self.inside.set.tasks c.args.task.0 = subst (λ (s : Slots). IsIn s.set c.args.task.0) (sym c.self.view_is) c.requires in
     subst (λ (s : Slots). ChangesOnly s (record (slots_of c.self.inside) { jobs = slice_set c.self.inside.jobs.items (c.args.task.0 - 1) None }) c.args.task.0 None) c.self.view_is (ended (slots_of c.self.inside) c.args.task.0 inside c.self.invariant.slots)

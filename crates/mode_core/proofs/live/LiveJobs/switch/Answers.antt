@@ -15,15 +15,15 @@ use Rattle.mode_core.proofs.live.LiveJobs.switch.Goals as goal
 
 -- the slots of low tasks are cleared
 abbrev Cleared : Inside → List (Option LiveJob) → List (Option LiveJob) → Type 0
-Cleared a old new = (k : ℕ) → 1 ≤ k → job_at new k ≡ cond (is_high_in (task_at a.set k)) (job_at old k) None
+Cleared a old new = (k : ℕ) → 1 ≤ k → job_at new k ≡ cond (is_high_in (task_at a.set.tasks k)) (job_at old k) None
 
 pub invariant_of-self : goal.invariant_of-self
 invariant_of-self c =
     let a = c.self.inside in
     let items = with_items_is a.jobs c.clear_low.new.jobs (omega (arith, c.clear_low.auto.jobs, c.deref_mut.ensures.len)) in
     let low : Cleared a a.jobs.items c.clear_low.new.jobs = subst (λ (js : List (Option LiveJob)). Cleared a js c.clear_low.new.jobs) c.deref_mut.ensures.value c.clear_low.ensures in
-    let queued : AreQueued a.set a.rule true c.clear_low.new.jobs (map by_real (filter (λ i. i.high) a.queue.items)) =
-    queued_high a.set a.rule a.high a.jobs.items c.clear_low.new.jobs a.queue.items (one_per_task a.queue.places a.queue.items c.least-first.ensures.items) c.self.invariant.queued low in
+    let queued : AreQueued a.set.tasks a.rule true c.clear_low.new.jobs (map by_real (filter (λ i. i.high) a.queue.items)) =
+    queued_high a.set.tasks a.rule a.high a.jobs.items c.clear_low.new.jobs a.queue.items (one_per_task a.queue.places a.queue.items c.least-first.ensures.items) c.self.invariant.queued low in
     record {
       tasks = c.self.invariant.tasks;
       fits = c.self.invariant.fits;
@@ -31,7 +31,7 @@ invariant_of-self c =
       lines = c.self.invariant.lines;
       budgets = c.self.invariant.budgets;
       places = ap (λ (q : Queue). q.places) c.rekey_high.ensures ∙ c.self.invariant.places;
-      queued = subst (λ (js : List (Option LiveJob)). AreQueued a.set a.rule true js c.rekey_high.new.self.items) (sym items) (subst (λ (q : Queue). AreQueued a.set a.rule true c.clear_low.new.jobs q.items) (sym c.rekey_high.ensures) queued);
+      queued = subst (λ (js : List (Option LiveJob)). AreQueued a.set.tasks a.rule true js c.rekey_high.new.self.items) (sym items) (subst (λ (q : Queue). AreQueued a.set.tasks a.rule true c.clear_low.new.jobs q.items) (sym c.rekey_high.ensures) queued);
     }
 
 pub returns : goal.returns

@@ -12,7 +12,7 @@ loop-i-preserved c =
     let more = released_of-more c.args.gaps.now c.args.at c.loop-i.i in
     let within : c.loop-i.i < length c.loop-i.self.next.items = omega arith in
     record {
-      rows = rw more (rows-more c.args.set.now c.args.self.now.words c.args.self.now.rows.items c.loop-i.self.rows.items c.visit.new.self.rows.items c.loop-i.self.words (released_of c.args.gaps.now c.args.at c.loop-i.i) (release_of (slice_index c.args.gaps.now c.loop-i.i) c.args.at (c.loop-i.i + 1)) kept.rows kept.words visit.rows);
+      rows = rw more (rows-more c.args.set.now.tasks c.args.self.now.words c.args.self.now.rows.items c.loop-i.self.rows.items c.visit.new.self.rows.items c.loop-i.self.words (released_of c.args.gaps.now c.args.at c.loop-i.i) (release_of (slice_index c.args.gaps.now c.loop-i.i) c.args.at (c.loop-i.i + 1)) kept.rows kept.words visit.rows);
       words = rw more (words-more c.args.self.now.words c.loop-i.self.words c.visit.new.self.words (released_of c.args.gaps.now c.args.at c.loop-i.i) (release_of (slice_index c.args.gaps.now c.loop-i.i) c.args.at (c.loop-i.i + 1)) kept.words visit.words);
       count = ap length visit.next ∙ length-set c.loop-i.self.next.items c.loop-i.i c.in_ok-next.next ∙ kept.count;
       past = before_more (λ k n. IsNext (slice_index c.args.gaps.now k) (c.args.at + 1) n) c.loop-i.self.next.items c.visit.new.self.next.items c.loop-i.i c.in_ok-next.next within visit.next kept.past visit.is;
@@ -29,7 +29,7 @@ returns c =
     let are : (k : ℕ) → k < length c.args.gaps.now → IsNext (slice_index c.args.gaps.now k) (c.args.at + 1) (slice_index c.loop-i.self.next.items k) = λ k less. kept.past k (omega arith) in
     let far : (k : ℕ) → k < length c.args.gaps.now → c.loop-i.least ≤ slice_index c.loop-i.self.next.items k = λ k less. kept.least k (omega arith) in
     record {
-      rows = kept.rows ∙ ap (λ i. c.args.self.now.rows.items ++ job_rows c.args.self.now.words c.args.set.now (released_of c.args.gaps.now c.args.at i)) all;
+      rows = kept.rows ∙ ap (λ i. c.args.self.now.rows.items ++ job_rows c.args.self.now.words c.args.set.now.tasks (released_of c.args.gaps.now c.args.at i)) all;
       words = kept.words ∙ ap (λ i. after (length (released_of c.args.gaps.now c.args.at i)) c.args.self.now.words) all;
       later = kept.later;
       within = kept.within;

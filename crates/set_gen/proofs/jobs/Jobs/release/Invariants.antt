@@ -7,7 +7,7 @@ use Rattle.set_gen.proofs.jobs.Jobs.release.Given as goal
 
 abbrev pub invariant-loop-i : goal.invariant-loop-i
 invariant-loop-i l = record {
-  rows : l.self.rows.items ≡ l.fn.self.rows.items ++ job_rows l.fn.self.words l.set (released_of l.gaps l.at l.i);
+  rows : l.self.rows.items ≡ l.fn.self.rows.items ++ job_rows l.fn.self.words l.set.tasks (released_of l.gaps l.at l.i);
   words : l.self.words ≡ after (length (released_of l.gaps l.at l.i)) l.fn.self.words;
   count : length l.self.next.items ≡ length l.gaps;
   past : (k : ℕ) → k < l.i → IsNext (slice_index l.gaps k) (l.at + 1) (slice_index l.self.next.items k);

@@ -4,7 +4,7 @@ use Rattle.trace_judge.proofs.Trees.{same_keys, same_leaves}
 use Rattle.trace_judge.proofs.heads.Heads.new.Goals as goal
 
 pub invariant_of-result : goal.invariant_of-result
-invariant_of-result c = subst AreNodes (sym c.in-Ok.ensures) (same_keys c.args.count c.requires)
+invariant_of-result c = subst AreNodes (sym c.in_ok-nodes.ensures) (same_keys c.args.count c.requires)
 
-pub returns-in-Ok : goal.returns-in-Ok
-returns-in-Ok c = ap leaves c.in-Ok.ensures ∙ same_leaves c.args.count
+pub returns : goal.returns
+returns c = ap leaves c.in_ok-nodes.ensures ∙ same_leaves c.args.count

@@ -6,9 +6,9 @@ use Rattle.trace_judge.proofs.state.State.switch.Given as goal
 
 abbrev pub invariant-loop-at : goal.invariant-loop-at
 invariant-loop-at l = (l.self.ticks ≡ l.initial.self.ticks) × (l.self.place ≡ l.initial.self.place) × (l.self.tasks.items ≡ l.initial.self.tasks.items)
-    × (l.self.waiting.tasks ≡ length l.set)
-    × ((f : Entry → ℕ) → total f l.self.waiting.entries + total (moved l.set l.rule f) l.rest ≡ total (moved l.set l.rule f) l.fn.self.waiting.entries)
-    × (noted_each (is_discarded_late l.set l.self.ticks) l.self.lates l.rest ≡ noted_each (is_discarded_late l.set l.self.ticks) l.initial.self.lates l.fn.self.waiting.entries)
+    × (l.self.waiting.tasks ≡ length l.set.tasks)
+    × ((f : Entry → ℕ) → total f l.self.waiting.entries + total (moved l.set.tasks l.rule f) l.rest ≡ total (moved l.set.tasks l.rule f) l.fn.self.waiting.entries)
+    × (noted_each (is_discarded_late l.set.tasks l.self.ticks) l.self.lates l.rest ≡ noted_each (is_discarded_late l.set.tasks l.self.ticks) l.initial.self.lates l.fn.self.waiting.entries)
 
 abbrev pub decreases-loop-at : goal.decreases-loop-at
 decreases-loop-at l = length l.rest

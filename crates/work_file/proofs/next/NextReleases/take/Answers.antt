@@ -6,4 +6,4 @@ use Rattle.work_file.proofs.next.NextReleases.take.Goals as goal
 
 pub returns-then-is_none-clause-work : goal.returns-then-is_none-clause-work
 returns-then-is_none-clause-work c work =
-    subst (λ (o : Option WorkCause). IfNone o (IsWork c.args.set.now (c.args.before.now ++ c.args.row ∷ []))) (sym c.time_fault-fault.ensures) (IsWork-taken _ _ _ work c.requires.task)
+    subst (λ (o : Option WorkCause). IfNone o (IsWork c.args.set.now.tasks (c.args.before.now ++ c.args.row ∷ []))) (sym c.time_fault-fault.ensures) (IsWork-taken _ _ _ work c.requires.task)

@@ -11,5 +11,5 @@ returns c left wide =
     let rows : c.len-2.result ≡ length c.args.self.now.rows.items = search rules in
     let cause : c.too_wide_behind.result ≡ cond (nat_le 1000000 (length c.args.self.now.rows.items)) TooMany BadRecord =
     c.too_wide_behind.ensures ∙ ap (λ (n : ℕ). cond (nat_le 1000000 n) TooMany BadRecord) rows in
-    wide_rows c.args.set.now c.args.self.now.rows.items left (nat_le 1000000 (length c.args.self.now.rows.items)) wide refl
+    wide_rows c.args.set.now.tasks c.args.self.now.rows.items left (nat_le 1000000 (length c.args.self.now.rows.items)) wide refl
     ∙ (ap (λ (cause : WorkCause). Err (At (length c.args.self.now.rows.items + 2) cause)) (sym cause) ∙ ap (λ (n : ℕ). Err (At (n + 2) c.too_wide_behind.result)) (sym line))
