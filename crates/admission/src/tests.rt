@@ -5,14 +5,10 @@ ghost use Rattle.load_sum.specs.Belong.{AreOfSomeSet};
 use crate::{admit, admit_scaled, holds_for, three_quarters};
 use load_sum::{Loads, sum_loads};
 use mc_task::Level::{High, Low};
-use mc_task::{Level, Name, Rule, Scale, Task, TaskSet};
+use mc_task::{Rule, Scale};
 use std::alloc::Global;
 use std::test::Fail;
-
-// A task's name, level, period, low budget and high budget.
-type Line = (&'static str, Level, u32, u32, u32);
-
-const CONTROL: [Line; 2] = [("ctl", High, 10, 2, 6), ("log", Low, 10, 5, 5)];
+use worked_sets::{CONTROL, Line, PLAIN_PAIR, QUARTER_SCALE, TAP_AND_ARM, TWO_HIGH_TASKS, set_of};
 
 const AVIONICS: [Line; 8] = [
     ("attitude", High, 5000, 400, 900),
@@ -28,17 +24,7 @@ const AVIONICS: [Line; 8] = [
 fn loads_of(alloc: Global, lines: &[Line]) -> Result<Loads, Fail>
     ensures { IfOk result AreOfSomeSet }
 {
-    let mut tasks = Vec::new(alloc);
-    for (name, level, period, low, high) in lines {
-        tasks.push(Task {
-            name: Name::new(name.as_bytes()).ok_or("name")?,
-            level: *level,
-            period: *period,
-            low: *low,
-            high: *high,
-        })?;
-    }
-    let set = TaskSet::new(tasks)?;
+    let set = set_of(alloc, lines)?;
     Ok(sum_loads(&set)?)
 }
 
@@ -48,7 +34,7 @@ fn admits_by_the_published_test(rt: HostRuntime) -> Result<(), Fail> {
         ("control", &CONTROL, Some(Rule::Virtual { p: 2, q: 5 })),
         (
             "the scaled load is exactly 1",
-            &[("tap", Low, 2, 1, 1), ("arm", High, 4, 1, 3)],
+            &TAP_AND_ARM,
             Some(Rule::Virtual { p: 1, q: 2 }),
         ),
         (
@@ -68,21 +54,17 @@ fn admits_by_the_published_test(rt: HostRuntime) -> Result<(), Fail> {
         ),
         (
             "a small scale",
-            &[("a", Low, 5, 3, 3), ("b", High, 10, 1, 6)],
+            &QUARTER_SCALE,
             Some(Rule::Virtual { p: 1, q: 4 }),
         ),
         (
             "two high tasks",
-            &[
-                ("ctl", High, 10, 2, 6),
-                ("fix", High, 10, 1, 1),
-                ("log", Low, 10, 4, 4),
-            ],
+            &TWO_HIGH_TASKS,
             Some(Rule::Virtual { p: 1, q: 2 }),
         ),
         (
             "the load of EDF is exactly 1",
-            &[("hi", High, 4, 1, 2), ("lo", Low, 4, 2, 2)],
+            &PLAIN_PAIR,
             Some(Rule::Plain),
         ),
         (
@@ -124,7 +106,7 @@ fn a_chosen_scale_is_taken_where_it_holds(rt: HostRuntime) -> Result<(), Fail> {
     assert_eq!(rt; admit_scaled(&control, Some(whole())), published);
     assert_eq!(rt; admit_scaled(&control, Some(half())), chosen);
     // Also where EDF fits.
-    let plain = loads_of(rt.alloc(), &[("hi", High, 4, 1, 2), ("lo", Low, 4, 2, 2)])?;
+    let plain = loads_of(rt.alloc(), &PLAIN_PAIR)?;
     assert_eq!(rt; admit_scaled(&plain, Some(half())), chosen);
     // No scale holds for a set that is not admitted.
     let refused = loads_of(rt.alloc(), &[("tap", Low, 2, 1, 1), ("arm", High, 4, 1, 4)])?;
@@ -153,11 +135,7 @@ fn a_scale_holds_within_its_two_bounds(rt: HostRuntime) -> Result<(), Fail> {
 #[test]
 fn three_quarters_is_within(rt: HostRuntime) -> Result<(), Fail> {
     let cases: [(&str, &[Line], bool); 4] = [
-        (
-            "both are exactly 3/4",
-            &[("tap", Low, 2, 1, 1), ("arm", High, 4, 1, 3)],
-            true,
-        ),
+        ("both are exactly 3/4", &TAP_AND_ARM, true),
         (
             "U_HH is above 3/4",
             &[("tap", Low, 2, 1, 1), ("arm", High, 100, 25, 76)],

@@ -1,20 +1,11 @@
 -- What is kept after one more note, and what it tells of one task.
-use Rattle.std.proofs.Common.{◌≡◌, ℕ, suc, zero, ◌+◌, ◌-◌, ◌≤◌, ◌<◌, true, false, ◌==◌, List, [], ◌∷◌, option_map, get_or, set, map, refl, sym, ap, ◌∙◌, arith}
+use Rattle.std.proofs.Common.{◌≡◌, ℕ, suc, zero, ◌+◌, ◌-◌, ◌≤◌, ◌<◌, true, false, ◌==◌, List, [], ◌∷◌, option_map, get_or, set, map, refl, sym, ap, ◌∙◌, arith, eq-eqb}
 use Rattle.std.specs.Prelude.{slice_get, unwrap_or}
 use Rattle.std.proofs.lemmas.Bool.Decides.{nat_tests}
 use Rattle.mc_task.specs.declared.task.Task.{Task}
 use Rattle.arrivals.specs.declared.arrivals.Slot.{Slot}
 use Rattle.arrivals.specs.Notes.{Note, count, next_after, next}
 use Rattle.arrivals.specs.Arrived.{fresh_slot, slot_after, arrived_from, arrived, next_of}
-
-same_number : (a b : ℕ) → a ≡ b → (a == b) ≡ true
-same_number a b e = grind (arith, nat_tests)
-
-other_number : (a b : ℕ) → a < b → (a == b) ≡ false
-other_number a b e = grind (arith, nat_tests)
-
-higher_number : (a b : ℕ) → b < a → (a == b) ≡ false
-higher_number a b e = grind (arith, nat_tests)
 
 -- a note of task number m
 abbrev pub note : ℕ → ℕ → Note
@@ -36,7 +27,7 @@ slot period count next = record { period = period; count = count; next = next }
 higher : (m at k : ℕ) (ts : List Task) (notes : List Note) → m < k → arrived_from k ts (note m at ∷ notes) ≡ arrived_from k ts notes
 higher m at k [] notes low = refl
 higher m at k (t ∷ ts) notes low =
-    let test : (m == k) ≡ false = other_number m k low in
+    let test : (m == k) ≡ false = grind (arith, nat_tests) in
     let here : slot t.period (0 + count notes k) (next_after t.period notes k) ≡ slot t.period (count notes k) (next_after t.period notes k) =
     ap (λ (n : ℕ). slot t.period n (next_after t.period notes k)) (let e : 0 + count notes k ≡ count notes k = omega arith in e) in
     rw test (ap (λ (s : Slot). s ∷ arrived_from (k + 1) ts (note m at ∷ notes)) here ∙ ap (λ (ss : List Slot). slot_after notes k t ∷ ss) (higher m at (k + 1) ts notes (omega arith)))
@@ -45,12 +36,12 @@ higher m at k (t ∷ ts) notes low =
 pub arrived_more : (m at k i : ℕ) (ts : List Task) (notes : List Note) → m ≡ k + i → set (arrived_from k ts notes) i (noted at (get_or (arrived_from k ts notes) i no_slot)) ≡ arrived_from k ts (note m at ∷ notes)
 arrived_more m at k i [] notes e = refl
 arrived_more m at k zero (t ∷ ts) notes e =
-    let test : (m == k) ≡ true = same_number m k (omega arith) in
+    let test : (m == k) ≡ true = eq-eqb m k (omega arith) in
     let here : slot t.period (count notes k + 1) (at + t.period) ≡ slot t.period (1 + count notes k) (at + t.period) =
     ap (λ (n : ℕ). slot t.period n (at + t.period)) (let e : count notes k + 1 ≡ 1 + count notes k = omega arith in e) in
     rw test (ap (λ (s : Slot). s ∷ arrived_from (k + 1) ts notes) here ∙ ap (λ (ss : List Slot). slot t.period (1 + count notes k) (at + t.period) ∷ ss) (sym (higher m at (k + 1) ts notes (omega arith))))
 arrived_more m at k (suc i) (t ∷ ts) notes e =
-    let test : (m == k) ≡ false = higher_number m k (omega arith) in
+    let test : (m == k) ≡ false = grind (arith, nat_tests) in
     let here : slot t.period (count notes k) (next_after t.period notes k) ≡ slot t.period (0 + count notes k) (next_after t.period notes k) =
     ap (λ (n : ℕ). slot t.period n (next_after t.period notes k)) (let e : count notes k ≡ 0 + count notes k = omega arith in e) in
     rw test (ap (λ (ss : List Slot). slot_after notes k t ∷ ss) (arrived_more m at (k + 1) i ts notes (omega arith)) ∙ ap (λ (s : Slot). s ∷ arrived_from (k + 1) ts (note m at ∷ notes)) here)
@@ -72,6 +63,6 @@ next_at k (suc i) (t ∷ ts) notes =
 pub next_of-arrived : (set : List Task) (notes : List Note) (k : ℕ) → 1 ≤ k → next_of (arrived set notes) k ≡ next set notes k
 next_of-arrived set notes k some =
     let number : 1 + (k - 1) ≡ k = omega arith in
-    let test : (k == 0) ≡ false = higher_number k 0 (omega arith) in
+    let test : (k == 0) ≡ false = grind (arith, nat_tests) in
     next_at 1 (k - 1) set notes ∙ ap (λ (n : ℕ). unwrap_or (option_map (λ (t : Task). next_after t.period notes n) (slice_get set (k - 1))) 0) number
     ∙ rw test refl

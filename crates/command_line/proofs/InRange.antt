@@ -5,11 +5,7 @@ use Rattle.numeral.specs.Numeral.{numeral}
 use Rattle.command_line.specs.declared.form.Telling.{Telling}
 use Rattle.command_line.specs.declared.form.Telling.TheVariants.{Judge, JudgeBy, Chart, Report, Migrate}
 use Rattle.command_line.specs.Form.{Form, check, run, on_trace, live, demand, partition, stretch, accept, within, number, judge_by, workload, study, parts_run, telling_of, with_one, with_two, with_three, with_four, form_of, IsScale, IsInRange}
-
-both : (a b : Bool) → (a && b) ≡ true → (a ≡ true) × (b ≡ true)
-both true true h = (refl, refl)
-both true false h = cc
-both false b h = cc
+use Rattle.std.proofs.lemmas.Bool.{and_parts}
 
 -- a form of one number is in range where it is so for each number within the bounds
 of_number : (f : ℕ → Form) (least most : ℕ) (o : Option ℕ) → ((n : ℕ) → least ≤ n → n ≤ most → IsInRange (f n)) → IfSome (option_map f (within least most o)) IsInRange
@@ -17,7 +13,7 @@ of_number f least most None all = tt
 of_number f least most (Some n) all = go (nat_le least n && nat_le n most) refl
   where
     go : (b : Bool) → (nat_le least n && nat_le n most) ≡ b → IfSome (option_map f (cond b (Some n) None)) IsInRange
-    go true e = let p = both (nat_le least n) (nat_le n most) e in all n (leb-true _ _ p.0) (leb-true _ _ p.1)
+    go true e = let p = and_parts (nat_le least n) (nat_le n most) e in all n (leb-true _ _ p.0) (leb-true _ _ p.1)
     go false e = tt
 
 within_is : (least most : ℕ) (o : Option ℕ) → IfSome (within least most o) (λ n. (least ≤ n) × (n ≤ most))
@@ -25,7 +21,7 @@ within_is least most None = tt
 within_is least most (Some n) = go (nat_le least n && nat_le n most) refl
   where
     go : (b : Bool) → (nat_le least n && nat_le n most) ≡ b → IfSome (cond b (Some n) None) (λ n. (least ≤ n) × (n ≤ most))
-    go true e = let p = both (nat_le least n) (nat_le n most) e in (leb-true _ _ p.0, leb-true _ _ p.1)
+    go true e = let p = and_parts (nat_le least n) (nat_le n most) e in (leb-true _ _ p.0, leb-true _ _ p.1)
     go false e = tt
 
 -- what is told of a trace, under a scale that is one

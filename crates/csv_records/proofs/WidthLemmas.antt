@@ -1,5 +1,5 @@
 -- How wide the records of a text are, counted byte by byte.
-use Rattle.std.proofs.Common.{◌≡◌, ◌≢◌, ◌<◌, ◌≤◌, ℕ, zero, suc, ◌+◌, ◌-◌, Bool, true, false, ◌&&◌, ◌==◌, cond, List, [], ◌∷◌, ◌++◌, length, take, drop, Option, Some, None, refl, sym, ap, subst, ◌∙◌, arith}
+use Rattle.std.proofs.Common.{◌≡◌, ◌<◌, ◌≤◌, ℕ, zero, suc, ◌+◌, ◌-◌, Bool, true, false, ◌&&◌, ◌==◌, cond, List, [], ◌∷◌, ◌++◌, length, take, drop, Some, None, refl, sym, ap, subst, ◌∙◌, arith}
 use Rattle.std.proofs.Math.Seq.{take-length}
 use Rattle.std.proofs.lemmas.List.{length-append, length-drop}
 use Rattle.csv.specs.Machine.{Read, next_record, step, in_field, start_field, start_record, ends_with, after_end, is_end, fields_after, field_after, ends_at_end}
@@ -10,7 +10,7 @@ use Rattle.csv.specs.declared.parser.Action.{Action}
 use Rattle.csv.specs.declared.parser.Action.TheVariants as act
 use Rattle.csv_records.specs.declared.width.Count.{Count}
 use Rattle.csv_records.specs.declared.width.Ends.TheVariants as ends
-use Rattle.csv_records.specs.Width.{StartsWide, KnowsWide, one_less, has_mark, state_of, ends_of, is_inside, CountsFields}
+use Rattle.csv_records.specs.Width.{StartsWide, has_mark, state_of, ends_of, is_inside, CountsFields}
 use Rattle.csv_records.proofs.RecordLemmas.{one_read}
 
 -- a text without its byte order mark
@@ -240,13 +240,3 @@ ends_record text i b old new byte counts ended place one_more no_field =
         let one : suc i + 1 ≡ suc (i + 1) = omega arith in
         let inner : i < length xs = before_end i xs (h ∙ ap (λ (n : ℕ). b ∷ drop n (x ∷ xs)) one) in
         omega (arith, inner)
-
--- where nothing is left nothing is known
-one_less_knows : (n : ℕ) (fields : List (List ℕ)) (left : List (List (List ℕ))) → n ≢ 0 → StartsWide (drop n (fields ∷ left)) → StartsWide (drop (n - 1) left)
-one_less_knows zero fields left some h = absurd (some refl)
-one_less_knows (suc n) fields left some h = let e : suc n - 1 ≡ n = omega arith in rw e h
-
--- behind a record that was read, what is known is known of the others
-pub knows_on : (narrow : Option ℕ) (fields : List (List ℕ)) (left : List (List (List ℕ))) → narrow ≢ Some 0 → KnowsWide narrow (fields ∷ left) → KnowsWide (one_less narrow) left
-knows_on None fields left some h = tt
-knows_on (Some n) fields left some h = one_less_knows n fields left (λ (z : n ≡ 0). some (ap Some z)) h

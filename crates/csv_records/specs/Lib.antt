@@ -1,2 +1,4 @@
 pub mod Left
 pub mod Width
+pub mod Rows
+pub mod Said

@@ -8,7 +8,7 @@ use Rattle.mc_model.specs.declared.row.How.{How}
 use Rattle.mc_model.specs.declared.row.Row.{Row}
 use Rattle.mc_model.specs.declared.row.Row.TheVariants.{Tick}
 use Rattle.mc_model.specs.TaskNumbers.{period_in, low_in, own_in, is_high_in}
-use Rattle.mc_model.specs.Pending.{Live}
+use Rattle.mc_model.specs.Pending.{KeptRelease}
 use Rattle.mc_model.specs.Rows.{same_job, used}
 use Rattle.mc_model.specs.Legal.{none_below}
 use Rattle.mc_model.specs.Mode.{high_mode}
@@ -16,14 +16,14 @@ use Rattle.mc_model.specs.Key.{key}
 use Rattle.mc_model.specs.Late.{deadline}
 use Rattle.mc_model.proofs.Fold.{pending, stays}
 use Rattle.mc_model.specs.Sums.{total}
-use Rattle.mc_model.proofs.Lists.{Each, Each-all, Each-both}
+use Rattle.mc_model.proofs.Lists.{Each, Each-all, Each-map}
 use Rattle.mc_model.proofs.Sums.{total_spend}
 use Rattle.mc_model.proofs.Steps.{TickFits}
 use Rattle.mc_model.proofs.Live.{IsLiveOk}
-use Rattle.demand_law.proofs.Keys.{weight_falls, any_pending, least_low}
+use Rattle.demand_law.proofs.Keys.{weight_falls, is_taken, least_low}
 
 -- a job that counts with its low budget, by its virtual key
-abbrev pub is_old : List Task → ℕ → Live → Bool
+abbrev pub is_old : List Task → ℕ → KeptRelease → Bool
 is_old set a x = not (is_high_in (task_at set x.job.task.0)) || nat_lt x.release a
 
 -- the greatest virtual key that counts: e in units of 1 / q, where from a on p units are a tick
@@ -31,15 +31,15 @@ abbrev pub limit : ℕ → ℕ → ℕ → ℕ → ℕ
 limit p q e a = q * a + p * (e - a)
 
 -- the job counts: by its virtual key, or by its deadline
-abbrev pub counts : List Task → ℕ → ℕ → ℕ → ℕ → Live → Bool
+abbrev pub counts : List Task → ℕ → ℕ → ℕ → ℕ → KeptRelease → Bool
 counts set p q e a x = cond (is_old set a x) (nat_le (key set (Virtual p q) false x) (limit p q e a)) (nat_le (deadline set x) e)
 
 -- the budget by which it counts
-abbrev pub budget : List Task → ℕ → Live → ℕ
+abbrev pub budget : List Task → ℕ → KeptRelease → ℕ
 budget set a x = cond (is_old set a x) (low_in (task_at set x.job.task.0)) (own_in (task_at set x.job.task.0))
 
 -- what it may still use of that budget, where it counts
-abbrev pub owes : List Task → ℕ → ℕ → ℕ → ℕ → List Row → Live → ℕ
+abbrev pub owes : List Task → ℕ → ℕ → ℕ → ℕ → List Row → KeptRelease → ℕ
 owes set p q e a h x = cond (counts set p q e a x) (budget set a x - used h x.job) 0
 
 -- what the pending jobs may still use of theirs
@@ -60,7 +60,7 @@ early_deadline p q r n a e pos pq ar ae h =
     sum a r h = omega arith
 
 -- a job with a virtual key of at most the limit counts
-pub counts_near : (set : List Task) (p q e a : ℕ) (x : Live) → 1 ≤ p → p ≤ q → a ≤ e → nat_le (key set (Virtual p q) false x) (limit p q e a) ≡ true → counts set p q e a x ≡ true
+pub counts_near : (set : List Task) (p q e a : ℕ) (x : KeptRelease) → 1 ≤ p → p ≤ q → a ≤ e → nat_le (key set (Virtual p q) false x) (limit p q e a) ≡ true → counts set p q e a x ≡ true
 counts_near set p q e a x pos pq ae near = go (is_high_in (task_at set x.job.task.0)) refl (nat_lt x.release a) refl
   where
     go : (b : Bool) → is_high_in (task_at set x.job.task.0) ≡ b → (c : Bool) → nat_lt x.release a ≡ c → counts set p q e a x ≡ true
@@ -78,7 +78,7 @@ counts_near set p q e a x pos pq ae near = go (is_high_in (task_at set x.job.tas
         rw (m, n) (le-leb _ _ t)
 
 -- a pending job has not used up the budget by which it counts
-room : (set : List Task) (p q a : ℕ) (g : List Row) (x : Live) → high_mode (Virtual p q) g ≡ false → IsLiveOk set (Virtual p q) g x → used g x.job + 1 ≤ budget set a x
+room : (set : List Task) (p q a : ℕ) (g : List Row) (x : KeptRelease) → high_mode (Virtual p q) g ≡ false → IsLiveOk set (Virtual p q) g x → used g x.job + 1 ≤ budget set a x
 room set p q a g x low ok = go (is_old set a x)
   where
     go : (b : Bool) → used g x.job + 1 ≤ cond b (low_in (task_at set x.job.task.0)) (own_in (task_at set x.job.task.0))
@@ -86,10 +86,10 @@ room set p q a g x low ok = go (is_old set a x)
     go false = ok.own
 
 -- a tick of a job that counts takes from what it owes
-spends : (set : List Task) (p q e a : ℕ) (j : JobId) (how : How) (g : List Row) (x : Live) → 1 ≤ p → p ≤ q → a ≤ e → high_mode (Virtual p q) g ≡ false → IsLiveOk set (Virtual p q) g x → (same_job j x.job ≡ true → nat_le (key set (Virtual p q) false x) (limit p q e a) ≡ true) →
+spends : (set : List Task) (p q e a : ℕ) (j : JobId) (how : How) (g : List Row) (x : KeptRelease) → 1 ≤ p → p ≤ q → a ≤ e → high_mode (Virtual p q) g ≡ false → IsLiveOk set (Virtual p q) g x → nat_le (key set (Virtual p q) false x) (limit p q e a) ≡ true →
     same_job j x.job ≡ true → owes set p q e a (Tick j how ∷ g) x + 1 ≤ owes set p q e a g x
 spends set p q e a j how g x pos pq ae low ok near m =
-    let c = counts_near set p q e a x pos pq ae (near m) in
+    let c = counts_near set p q e a x pos pq ae near in
     let r = room set p q a g x low ok in
     rw (c, m) (omega (arith, r))
 
@@ -97,8 +97,7 @@ spends set p q e a j how g x pos pq ae low ok near m =
 pub busy_tick : (set : List Task) (p q e a : ℕ) (j : JobId) (how : How) (g : List Row) → 1 ≤ p → p ≤ q → a ≤ e → Each (IsLiveOk set (Virtual p q) g) (pending set g) → TickFits set (Virtual p q) j how g → high_mode (Virtual p q) g ≡ false →
     none_below set (Virtual p q) false (limit p q e a + 1) (pending set g) ≡ false → owed set p q e a (Tick j how ∷ g) + 1 ≤ owed set p q e a g
 busy_tick set p q e a j how g pos pq ae ok fits low busy =
-    let near = least_low set (Virtual p q) false (limit p q e a) j (pending set g) (pending set g) busy (rw low at fits.least) in
-    total_spend (owes set p q e a g) (owes set p q e a (Tick j how ∷ g)) (stays set j how) (λ x. same_job j x.job) (pending set g)
+    total_spend (owes set p q e a g) (owes set p q e a (Tick j how ∷ g)) (stays set j how) (is_taken set (Virtual p q) false j (pending set g)) (pending set g)
     (Each-all (λ x. weight_falls _ _ _ _) (pending set g))
-    (Each-both {P = IsLiveOk set (Virtual p q) g} {Q = λ x. same_job j x.job ≡ true → nat_le (key set (Virtual p q) false x) (limit p q e a) ≡ true} (λ x o n. spends set p q e a j how g x pos pq ae low o n) (pending set g) ok near)
-    (any_pending j (pending set g) fits.live)
+    (Each-map {P = IsLiveOk set (Virtual p q) g} (λ x o t. let m = least_low set (Virtual p q) false (limit p q e a) j (pending set g) x busy t in spends set p q e a j how g x pos pq ae low o m.1 m.0) (pending set g) ok)
+    (rw low at fits.least)

@@ -8,24 +8,24 @@ use Rattle.mc_model.specs.declared.row.How.{How}
 use Rattle.mc_model.specs.declared.row.Row.{Row}
 use Rattle.mc_model.specs.declared.row.Row.TheVariants.{Release, Tick, Idle}
 use Rattle.mc_model.specs.TaskNumbers.{period_in, own_in, is_high_in}
-use Rattle.mc_model.specs.Pending.{Live}
+use Rattle.mc_model.specs.Pending.{KeptRelease}
 use Rattle.mc_model.specs.Rows.{same_job, ticks, used}
 use Rattle.mc_model.specs.Legal.{none_below}
 use Rattle.mc_model.specs.Mode.{high_mode, is_over}
 use Rattle.mc_model.specs.Key.{key}
 use Rattle.mc_model.proofs.Fold.{pending, stays, Legal}
 use Rattle.mc_model.specs.Sums.{total}
-use Rattle.mc_model.proofs.Lists.{Each, Each-all, Each-both, Each-filter, Each-filter_if}
+use Rattle.mc_model.proofs.Lists.{Each, Each-all, Each-map, Each-filter, Each-filter_if}
 use Rattle.mc_model.proofs.Sums.{total_spend}
 use Rattle.mc_model.proofs.Steps.{ReleaseFits, release_fits, TickFits}
 use Rattle.mc_model.proofs.Tasks.{IsKnown}
 use Rattle.mc_model.proofs.Live.{IsLiveOk}
-use Rattle.mc_model.proofs.Booleans.{and_both}
-use Rattle.demand_law.proofs.Keys.{above, weight_falls, weight-le, any_pending, none_below-filter, least_low, cancel_scale}
+use Rattle.demand_law.proofs.Keys.{above, weight_falls, weight-le, is_taken, none_below-filter, least_low, cancel_scale}
 use Rattle.demand_law.proofs.Share.{new_high, Ledger, ledger_fresh, ledger_less, ledger_tick, ledger_same, ledger_more}
+use Rattle.std.proofs.lemmas.Bool.{and_parts}
 
 -- what a job with a deadline of at most e may still use of its own budget
-abbrev pub dues : List Task → ℕ → ℕ → ℕ → List Row → Live → ℕ
+abbrev pub dues : List Task → ℕ → ℕ → ℕ → List Row → KeptRelease → ℕ
 dues set p q e h x = cond (nat_le (key set (Virtual p q) true x) (q * e)) (own_in (task_at set x.job.task.0) - used h x.job) 0
 
 -- what the pending jobs may still use of theirs
@@ -62,10 +62,10 @@ high_live set p q (Tick j how ∷ g) l m = go (high_live set p q g l.2) (high_mo
         (Each-all (λ x st. over_high (is_over how) _ _ (rw n at m) st) (pending set g))
 
 -- where all deadlines are after e, that is nothing
-no_dues : (set : List Task) (p q e : ℕ) (h : List Row) (xs : List Live) → none_below set (Virtual p q) true (q * e + 1) xs ≡ true → total (dues set p q e h) xs ≡ 0
+no_dues : (set : List Task) (p q e : ℕ) (h : List Row) (xs : List KeptRelease) → none_below set (Virtual p q) true (q * e + 1) xs ≡ true → total (dues set p q e h) xs ≡ 0
 no_dues set p q e h [] f = refl
 no_dues set p q e h (x ∷ xs) f =
-    let w = and_both (nat_le (q * e + 1) (key set (Virtual p q) true x)) (none_below set (Virtual p q) true (q * e + 1) xs) f in
+    let w = and_parts (nat_le (q * e + 1) (key set (Virtual p q) true x)) (none_below set (Virtual p q) true (q * e + 1) xs) f in
     let far = above (key set (Virtual p q) true x) (q * e) w.0 in
     let ih : total (dues set p q e h) xs ≡ 0 = no_dues set p q e h xs w.1 in
     rw far (omega (arith, ih))
@@ -77,21 +77,20 @@ anew set p q e h f =
     record { mid = ticks h; past = le_refl _; ledger = ledger_less set p q e (ticks h) h (due set p q e h) 0 (omega (arith, z)) (ledger_fresh set p q e (ticks h) h (le_refl _)) }
 
 -- a tick of a job with such a deadline takes from it
-due_spends : (set : List Task) (p q e : ℕ) (j : JobId) (how : How) (g : List Row) (x : Live) → IsLiveOk set (Virtual p q) g x → (same_job j x.job ≡ true → nat_le (key set (Virtual p q) true x) (q * e) ≡ true) →
+due_spends : (set : List Task) (p q e : ℕ) (j : JobId) (how : How) (g : List Row) (x : KeptRelease) → IsLiveOk set (Virtual p q) g x → nat_le (key set (Virtual p q) true x) (q * e) ≡ true →
     same_job j x.job ≡ true → dues set p q e (Tick j how ∷ g) x + 1 ≤ dues set p q e g x
 due_spends set p q e j how g x ok near m =
     let r : used g x.job + 1 ≤ own_in (task_at set x.job.task.0) = ok.own in
-    rw (near m, m) (omega (arith, r))
+    rw (near, m) (omega (arith, r))
 
 -- while there is such a job, each tick is of one, and takes from it
 due_tick : (set : List Task) (p q e : ℕ) (j : JobId) (how : How) (g : List Row) → Each (IsLiveOk set (Virtual p q) g) (pending set g) → TickFits set (Virtual p q) j how g → high_mode (Virtual p q) g ≡ true →
     none_below set (Virtual p q) true (q * e + 1) (pending set g) ≡ false → due set p q e (Tick j how ∷ g) + 1 ≤ due set p q e g
 due_tick set p q e j how g ok fits high busy =
-    let near = least_low set (Virtual p q) true (q * e) j (pending set g) (pending set g) busy (rw high at fits.least) in
-    total_spend (dues set p q e g) (dues set p q e (Tick j how ∷ g)) (stays set j how) (λ x. same_job j x.job) (pending set g)
+    total_spend (dues set p q e g) (dues set p q e (Tick j how ∷ g)) (stays set j how) (is_taken set (Virtual p q) true j (pending set g)) (pending set g)
     (Each-all (λ x. weight_falls _ _ _ _) (pending set g))
-    (Each-both {P = IsLiveOk set (Virtual p q) g} {Q = λ x. same_job j x.job ≡ true → nat_le (key set (Virtual p q) true x) (q * e) ≡ true} (λ x o n. due_spends set p q e j how g x o n) (pending set g) ok near)
-    (any_pending j (pending set g) fits.live)
+    (Each-map {P = IsLiveOk set (Virtual p q) g} (λ x o t. let m = least_low set (Virtual p q) true (q * e) j (pending set g) x busy t in due_spends set p q e j how g x o m.1 m.0) (pending set g) ok)
+    (rw high at fits.least)
 
 -- the ledger after a tick
 pub high_tick : (set : List Task) (p q e : ℕ) (j : JobId) (how : How) (g : List Row) → Each (IsLiveOk set (Virtual p q) g) (pending set g) → TickFits set (Virtual p q) j how g → high_mode (Virtual p q) g ≡ true → HighLedger set p q e g → HighLedger set p q e (Tick j how ∷ g)

@@ -1,17 +1,16 @@
 -- Keys of pending jobs, and a bound that none of them is below.
-use Rattle.std.proofs.Common.{◌≡◌, ℕ, ◌+◌, ◌-◌, ◌*◌, ◌≤◌, Bool, true, false, not, ◌||◌, List, [], ◌∷◌, cond, filter, nat_le, refl, sym, subst, arith, leb-true, leb-false, le-leb, le_of_mul-le-mul_right, ◌<◌}
+use Rattle.std.proofs.Common.{◌≡◌, ℕ, ◌+◌, ◌-◌, ◌*◌, ◌≤◌, Bool, true, false, ◌&&◌, List, [], ◌∷◌, cond, filter, nat_le, refl, sym, subst, arith, leb-true, leb-false, le-leb, le_of_mul-le-mul_right, ◌<◌}
 use Rattle.std.proofs.lemmas.Bool.Decides.{nat_tests}
-use Rattle.std.specs.List.{list_all}
 use Rattle.mc_task.specs.declared.task.Rule.{Rule}
 use Rattle.mc_task.specs.declared.task.Task.{Task}
 use Rattle.mc_task.specs.declared.task.JobId.{JobId}
-use Rattle.mc_model.specs.Pending.{Live}
+use Rattle.mc_model.specs.Pending.{KeptRelease}
 use Rattle.mc_model.specs.Rows.{same_job}
-use Rattle.mc_model.specs.Legal.{is_pending, none_below}
+use Rattle.mc_model.specs.Legal.{none_below}
 use Rattle.mc_model.specs.Key.{key}
-use Rattle.mc_model.proofs.Lists.{Each, any}
-use Rattle.mc_model.proofs.Booleans.{and_both}
+use Rattle.mc_model.proofs.Lists.{Each}
 use Rattle.mc_model.proofs.Jobs.{is_in, same_live, live_eq}
+use Rattle.std.proofs.lemmas.Bool.{and_parts}
 
 -- a number that is not above a bound
 pub above : (a b : ℕ) → nat_le (b + 1) a ≡ true → nat_le a b ≡ false
@@ -32,49 +31,44 @@ weight-le true b u = omega arith
 weight-le false b u = omega arith
 
 -- no key below a bound is none below a lesser one
-pub none_below_less : (set : List Task) (rule : Rule) (high : Bool) (m n : ℕ) (xs : List Live) → m ≤ n → none_below set rule high n xs ≡ true → none_below set rule high m xs ≡ true
+pub none_below_less : (set : List Task) (rule : Rule) (high : Bool) (m n : ℕ) (xs : List KeptRelease) → m ≤ n → none_below set rule high n xs ≡ true → none_below set rule high m xs ≡ true
 none_below_less set rule high m n [] h e = refl
 none_below_less set rule high m n (x ∷ xs) h e =
-    let p = and_both _ _ e in
+    let p = and_parts _ _ e in
     let q : n ≤ key set rule high x = leb-true n (key set rule high x) p.0 in
     let l : m ≤ key set rule high x = omega (arith, q, h) in
     rw (le-leb _ _ l) (none_below_less set rule high m n xs h p.1)
 
 -- a filter leaves no lesser key
-pub none_below-filter : (set : List Task) (rule : Rule) (high : Bool) (n : ℕ) (p : Live → Bool) (xs : List Live) → none_below set rule high n xs ≡ true → none_below set rule high n (filter p xs) ≡ true
+pub none_below-filter : (set : List Task) (rule : Rule) (high : Bool) (n : ℕ) (p : KeptRelease → Bool) (xs : List KeptRelease) → none_below set rule high n xs ≡ true → none_below set rule high n (filter p xs) ≡ true
 none_below-filter set rule high n p [] e = e
 none_below-filter set rule high n p (x ∷ xs) e =
-    let q = and_both (nat_le n (key set rule high x)) (none_below set rule high n xs) e in
+    let q = and_parts (nat_le n (key set rule high x)) (none_below set rule high n xs) e in
     let ih : none_below set rule high n (filter p xs) ≡ true = none_below-filter set rule high n p xs q.1 in
     elim (p x) as (λ b. none_below set rule high n (cond b (x ∷ filter p xs) (filter p xs)) ≡ true)
     [ true ↦ rw q.0 ih | false ↦ ih ]
 
 -- the key of one of the jobs is not below the bound
-pub key_in : (set : List Task) (rule : Rule) (high : Bool) (n : ℕ) (i : Live) (xs : List Live) → is_in xs i ≡ true → none_below set rule high n xs ≡ true → n ≤ key set rule high i
+pub key_in : (set : List Task) (rule : Rule) (high : Bool) (n : ℕ) (i : KeptRelease) (xs : List KeptRelease) → is_in xs i ≡ true → none_below set rule high n xs ≡ true → n ≤ key set rule high i
 key_in set rule high n i [] e f = cc
-key_in set rule high n i (x ∷ xs) e f = go (λ r. key_in set rule high n i xs r (and_both (nat_le n (key set rule high x)) (none_below set rule high n xs) f).1) (same_live i x) refl
+key_in set rule high n i (x ∷ xs) e f = go (λ r. key_in set rule high n i xs r (and_parts (nat_le n (key set rule high x)) (none_below set rule high n xs) f).1) (same_live i x) refl
   where
     go : (is_in xs i ≡ true → n ≤ key set rule high i) → (b : Bool) → same_live i x ≡ b → n ≤ key set rule high i
     go ih true m =
-        let p : n ≤ key set rule high x = leb-true _ _ (and_both (nat_le n (key set rule high x)) (none_below set rule high n xs) f).0 in
+        let p : n ≤ key set rule high x = leb-true _ _ (and_parts (nat_le n (key set rule high x)) (none_below set rule high n xs) f).0 in
         subst (λ y. n ≤ key set rule high y) (sym (live_eq i x m)) p
     go ih false m = ih (rw m at e)
 
 -- each key is above a number, where none is below the next
-pub keys_above : (set : List Task) (rule : Rule) (high : Bool) (n : ℕ) (xs : List Live) → none_below set rule high (n + 1) xs ≡ true → Each (λ x. n < key set rule high x) xs
+pub keys_above : (set : List Task) (rule : Rule) (high : Bool) (n : ℕ) (xs : List KeptRelease) → none_below set rule high (n + 1) xs ≡ true → Each (λ x. n < key set rule high x) xs
 keys_above set rule high n [] e = tt
 keys_above set rule high n (x ∷ xs) e =
-    let p = and_both (nat_le (n + 1) (key set rule high x)) (none_below set rule high (n + 1) xs) e in
+    let p = and_parts (nat_le (n + 1) (key set rule high x)) (none_below set rule high (n + 1) xs) e in
     let l : n + 1 ≤ key set rule high x = leb-true _ _ p.0 in
     (omega (arith, l), keys_above set rule high n xs p.1)
 
--- the second part of an `or` with a false first one
-or_second : (a b : Bool) → a ≡ true → (not a || b) ≡ true → b ≡ true
-or_second true b e h = h
-or_second false b e h = cc
-
 -- a least key is at most kappa, where not all are above it
-not_above : (set : List Task) (rule : Rule) (high : Bool) (kappa : ℕ) (all : List Live) (x : Live) → none_below set rule high (kappa + 1) all ≡ false → none_below set rule high (key set rule high x) all ≡ true → nat_le (key set rule high x) kappa ≡ true
+not_above : (set : List Task) (rule : Rule) (high : Bool) (kappa : ℕ) (all : List KeptRelease) (x : KeptRelease) → none_below set rule high (kappa + 1) all ≡ false → none_below set rule high (key set rule high x) all ≡ true → nat_le (key set rule high x) kappa ≡ true
 not_above set rule high kappa all x busy e = go (nat_le (key set rule high x) kappa) refl
   where
     go : (b : Bool) → nat_le (key set rule high x) kappa ≡ b → b ≡ true
@@ -84,18 +78,13 @@ not_above set rule high kappa all x busy e = go (nat_le (key set rule high x) ka
         let f = none_below_less set rule high (kappa + 1) (key set rule high x) all l e in
         cc (f, busy)
 
--- so the job that a tick is given to has a key of at most kappa
-pub least_low : (set : List Task) (rule : Rule) (high : Bool) (kappa : ℕ) (j : JobId) (all xs : List Live) → none_below set rule high (kappa + 1) all ≡ false → list_all (λ i. not (same_job j i.job) || none_below set rule high (key set rule high i) all) xs ≡ true → Each (λ x. same_job j x.job ≡ true → nat_le (key set rule high x) kappa ≡ true) xs
-least_low set rule high kappa j all [] busy e = tt
-least_low set rule high kappa j all (x ∷ xs) busy e =
-    let p = and_both _ _ e in
-    (λ m. not_above set rule high kappa all x busy (or_second _ _ m p.0), least_low set rule high kappa j all xs busy p.1)
+-- i is the job, and its key is a least one of these pending jobs: there is one such where `is_least`
+abbrev pub is_taken : List Task → Rule → Bool → JobId → List KeptRelease → KeptRelease → Bool
+is_taken set rule high j now i = same_job j i.job && none_below set rule high (key set rule high i) now
 
--- that job is one of the list
-pub any_pending : (j : JobId) (xs : List Live) → is_pending xs j ≡ true → any (λ x. same_job j x.job) xs ≡ true
-any_pending j [] e = e
-any_pending j (x ∷ xs) e = go (any_pending j xs) (same_job j x.job) refl
-  where
-    go : (is_pending xs j ≡ true → any (λ x. same_job j x.job) xs ≡ true) → (b : Bool) → same_job j x.job ≡ b → (same_job j x.job || any (λ x. same_job j x.job) xs) ≡ true
-    go ih true m = rw m refl
-    go ih false m = rw m (ih (rw m at e))
+-- the pending job that a tick is given to is the tick's, and has a key of at most kappa
+pub least_low : (set : List Task) (rule : Rule) (high : Bool) (kappa : ℕ) (j : JobId) (all : List KeptRelease) (x : KeptRelease) → none_below set rule high (kappa + 1) all ≡ false → is_taken set rule high j all x ≡ true
+    → (same_job j x.job ≡ true) × (nat_le (key set rule high x) kappa ≡ true)
+least_low set rule high kappa j all x busy e =
+    let p = and_parts _ _ e in
+    (p.0, not_above set rule high kappa all x busy p.1)

@@ -1,5 +1,5 @@
 -- The laws, over the definitions of the model.
-use Rattle.std.proofs.Common.{◌≡◌, ◌+◌, ◌*◌, ◌≤◌, Bool, true, false, ◌&&◌, List, [], filter, map, reverse, nat_le, refl, ap, subst, arith, leb-true}
+use Rattle.std.proofs.Common.{◌≡◌, ◌+◌, ◌*◌, ◌≤◌, true, false, List, [], filter, map, reverse, nat_le, refl, ap, subst, arith, leb-true}
 use Rattle.std.specs.List.{AllByRecursion}
 use Rattle.mc_task.specs.declared.task.Rule.{Rule}
 use Rattle.mc_task.specs.declared.task.Task.{Task}
@@ -7,7 +7,7 @@ use Rattle.mc_task.specs.TaskSet.{task_at, IsTask}
 use Rattle.mc_model.specs.declared.row.Row.{Row}
 use Rattle.mc_model.specs.TaskNumbers.{period_in}
 use Rattle.mc_model.specs.Holds.{Holds}
-use Rattle.mc_model.specs.Pending.{Live, released, pending, is_live}
+use Rattle.mc_model.specs.Pending.{KeptRelease, released, pending, is_live}
 use Rattle.mc_model.specs.Rows.{ticks}
 use Rattle.mc_model.specs.Legal.{Legal}
 use Rattle.mc_model.specs.Mode.{high_mode}
@@ -24,16 +24,11 @@ use Rattle.demand_law.proofs.Reached.{Reaches, reaches, periods, ticks-up_to, le
 use Rattle.demand_law.proofs.OneLive.{InTime, in_time, one_live, none_live}
 use Rattle.demand_law.proofs.LowMode
 use Rattle.mc_model.proofs.Fold
-
--- an `and` is false where its parts are not both true
-both_false : (a b : Bool) → (a ≡ true → b ≡ true → ⊥) → (a && b) ≡ false
-both_false true true h = absurd (h refl refl)
-both_false true false h = refl
-both_false false b h = refl
+use Rattle.mc_model.proofs.Booleans.{not_both}
 
 -- a job that was released is not late
-pub not_late : (set : List Task) (rule : Rule) (h : List Row) → AllByRecursion IsTask set → Holds set rule → Legal set rule h → (x : Live) → Reaches h x → 1 ≤ period_in (task_at set x.job.task.0) → is_late set h x ≡ false
-not_late set rule h s holds l x r n = both_false _ _ (λ a b. at (up_to (deadline set x) h) refl a b)
+pub not_late : (set : List Task) (rule : Rule) (h : List Row) → AllByRecursion IsTask set → Holds set rule → Legal set rule h → (x : KeptRelease) → Reaches h x → 1 ≤ period_in (task_at set x.job.task.0) → is_late set h x ≡ false
+not_late set rule h s holds l x r n = not_both _ _ (λ a b. at (up_to (deadline set x) h) refl a b)
   where
     at : (g : List Row) → up_to (deadline set x) h ≡ g → nat_le (deadline set x) (ticks h) ≡ true → is_live set (up_to (deadline set x) h) x ≡ true → ⊥
     at g e a b =
@@ -55,7 +50,7 @@ each_in_time set rule h s holds l = Each-both {P = Reaches h} {Q = λ x. 1 ≤ p
 pub none_late : (set : List Task) (rule : Rule) (h : List Row) → AllByRecursion IsTask set → Holds set rule → Legal set rule h → NoneLate set h
 none_late set rule h s holds l =
     let e : filter (is_late set h) (released h) ≡ [] = filter_none (is_late set h) (released h) (each_in_time set rule h s holds l) in
-    ap (λ xs. map (λ (i : Live). i.job) (reverse xs)) e
+    ap (λ xs. map (λ (i : KeptRelease). i.job) (reverse xs)) e
 
 -- in low mode no key of a pending job has come
 pub none_due : (set : List Task) (rule : Rule) (h : List Row) → AllByRecursion IsTask set → Holds set rule → Legal set rule h → high_mode rule h ≡ false → NoneDue set rule h

@@ -9,24 +9,25 @@ use Rattle.mc_model.specs.declared.row.How.{How}
 use Rattle.mc_model.specs.declared.row.Row.{Row}
 use Rattle.mc_model.specs.declared.row.Row.TheVariants.{Release, Tick, Idle}
 use Rattle.mc_model.specs.TaskNumbers.{period_in}
-use Rattle.mc_model.specs.Pending.{Live}
+use Rattle.mc_model.specs.Pending.{KeptRelease}
 use Rattle.mc_model.specs.Rows.{same_job, ticks, used, next_release}
 use Rattle.mc_model.specs.Legal.{none_below}
 use Rattle.mc_model.specs.Mode.{high_mode}
 use Rattle.mc_model.specs.Key.{key, scale, low_offset}
 use Rattle.mc_model.proofs.Fold.{pending, stays, Legal}
 use Rattle.mc_model.specs.Sums.{total}
-use Rattle.mc_model.proofs.Lists.{Each, Each-all, Each-both}
+use Rattle.mc_model.proofs.Lists.{Each, Each-all, Each-map}
 use Rattle.mc_model.proofs.Sums.{total_spend}
 use Rattle.mc_model.proofs.Steps.{ReleaseFits, release_fits, TickFits, tick_fits, idle_fits}
 use Rattle.mc_model.proofs.Live.{IsLiveOk, live_ok, low_budget}
-use Rattle.demand_law.proofs.Sums.{sum_tasks, added, sum-added}
-use Rattle.demand_law.proofs.Keys.{above, weight_falls, weight-le, none_below-filter, least_low, any_pending}
+use Rattle.mc_model.proofs.NumberedSums.{sum_numbered, added, sum-added}
+use Rattle.demand_law.proofs.Keys.{above, weight_falls, weight-le, none_below-filter, is_taken, least_low}
 use Rattle.demand_law.proofs.Releases.{next_release-grows, more_next, more_reach}
-use Rattle.mc_model.proofs.Booleans.{and_both, or_right, eqb-refl}
+use Rattle.mc_model.proofs.Booleans.{or_right, eqb-refl}
+use Rattle.std.proofs.lemmas.Bool.{and_parts}
 
 -- what the job may still use before its budget, where its key is at most kappa
-abbrev pub weight : List Task → Rule → ℕ → List Row → Live → ℕ
+abbrev pub weight : List Task → Rule → ℕ → List Row → KeptRelease → ℕ
 weight set rule kappa h x = cond (nat_le (key set rule false x) kappa) (low_budget rule (task_at set x.job.task.0) - used h x.job) 0
 
 -- what the pending jobs may still use of theirs
@@ -43,35 +44,34 @@ pub record LowDemand (set : List Task) (rule : Rule) (kappa : ℕ) (h : List Row
   pub start : ℕ
   pub demand : ℕ → ℕ
   pub early : start ≤ ticks h
-  pub balance : ticks h + debt set rule kappa h ≤ start + sum_tasks set demand 1
+  pub balance : ticks h + debt set rule kappa h ≤ start + sum_numbered set demand 1
   pub each : (k : ℕ) → IsDemand set rule kappa h start k (demand k)
 
 -- where all keys are above kappa, nothing is owed
-no_weight : (set : List Task) (rule : Rule) (kappa : ℕ) (h : List Row) (xs : List Live) → none_below set rule false (kappa + 1) xs ≡ true → total (weight set rule kappa h) xs ≡ 0
+no_weight : (set : List Task) (rule : Rule) (kappa : ℕ) (h : List Row) (xs : List KeptRelease) → none_below set rule false (kappa + 1) xs ≡ true → total (weight set rule kappa h) xs ≡ 0
 no_weight set rule kappa h [] e = refl
 no_weight set rule kappa h (x ∷ xs) e =
-    let p = and_both _ _ e in
+    let p = and_parts _ _ e in
     let f = above (key set rule false x) kappa p.0 in
     let ih : total (weight set rule kappa h) xs ≡ 0 = no_weight set rule kappa h xs p.1 in
     rw f (omega (arith, ih))
 
 -- a tick of a job with such a key takes from what it owes
-spends : (set : List Task) (rule : Rule) (kappa : ℕ) (j : JobId) (how : How) (g : List Row) (x : Live) → high_mode rule g ≡ false → IsLiveOk set rule g x → (same_job j x.job ≡ true → nat_le (key set rule false x) kappa ≡ true) →
+spends : (set : List Task) (rule : Rule) (kappa : ℕ) (j : JobId) (how : How) (g : List Row) (x : KeptRelease) → high_mode rule g ≡ false → IsLiveOk set rule g x → nat_le (key set rule false x) kappa ≡ true →
     same_job j x.job ≡ true → weight set rule kappa (Tick j how ∷ g) x + 1 ≤ weight set rule kappa g x
 spends set rule kappa j how g x low ok near m =
     let room : used g x.job + 1 ≤ low_budget rule (task_at set x.job.task.0) = ok.low low in
-    rw (near m, m) (omega arith)
+    rw (near, m) (omega arith)
 
 -- while there is such a job, each tick is of one, and takes from what is owed
 tick_less : (set : List Task) (rule : Rule) (kappa : ℕ) (j : JobId) (how : How) (g : List Row) →
     Each (IsLiveOk set rule g) (pending set g) → TickFits set rule j how g → high_mode rule g ≡ false →
     none_below set rule false (kappa + 1) (pending set g) ≡ false → debt set rule kappa (Tick j how ∷ g) + 1 ≤ debt set rule kappa g
 tick_less set rule kappa j how g ok fits low busy =
-    let near = least_low set rule false kappa j (pending set g) (pending set g) busy (rw low at fits.least) in
-    total_spend (weight set rule kappa g) (weight set rule kappa (Tick j how ∷ g)) (stays set j how) (λ x. same_job j x.job) (pending set g)
+    total_spend (weight set rule kappa g) (weight set rule kappa (Tick j how ∷ g)) (stays set j how) (is_taken set rule false j (pending set g)) (pending set g)
     (Each-all (λ x. weight_falls _ _ _ _) (pending set g))
-    (Each-both {P = IsLiveOk set rule g} {Q = λ x. same_job j x.job ≡ true → nat_le (key set rule false x) kappa ≡ true} (λ x o n. spends set rule kappa j how g x low o n) (pending set g) ok near)
-    (any_pending j (pending set g) fits.live)
+    (Each-map {P = IsLiveOk set rule g} (λ x o t. let m = least_low set rule false kappa j (pending set g) x busy t in spends set rule kappa j how g x low o m.1 m.0) (pending set g) ok)
+    (rw low at fits.least)
 
 -- where no such job is pending, the bound starts anew
 fresh : (set : List Task) (rule : Rule) (kappa : ℕ) (h : List Row) → none_below set rule false (kappa + 1) (pending set h) ≡ true → LowDemand set rule kappa h
@@ -174,7 +174,7 @@ low_demand set rule kappa slack s (Tick j how ∷ g) l m = go (low_demand set ru
     go ih false e = ticked set rule kappa j how g (live_ok set rule g s l.2) (tick_fits set rule j how g l.1) (or_right _ _ m) e ih
 
 -- a pending job with such a key still has a tick to use
-pub owing : (set : List Task) (rule : Rule) (kappa : ℕ) (h : List Row) → high_mode rule h ≡ false → (xs : List Live) → Each (IsLiveOk set rule h) xs → none_below set rule false (kappa + 1) xs ≡ false → 1 ≤ total (weight set rule kappa h) xs
+pub owing : (set : List Task) (rule : Rule) (kappa : ℕ) (h : List Row) → high_mode rule h ≡ false → (xs : List KeptRelease) → Each (IsLiveOk set rule h) xs → none_below set rule false (kappa + 1) xs ≡ false → 1 ≤ total (weight set rule kappa h) xs
 owing set rule kappa h low [] ok e = cc
 owing set rule kappa h low (x ∷ xs) ok e = go (owing set rule kappa h low xs ok.1) (nat_le (key set rule false x) kappa) refl
   where

@@ -6,7 +6,8 @@ use Rattle.mc_task.specs.declared.task.Rule.TheVariants.{Plain, Virtual}
 use Rattle.mc_task.specs.declared.task.Task.{Task}
 use Rattle.mc_task.specs.TaskSet.{task_at, IsTask, InOrder}
 use Rattle.mc_model.specs.declared.row.Row.{Row}
-use Rattle.mc_model.specs.TaskNumbers.{period_in, low_in, own_in, is_high_in, is_high}
+use Rattle.mc_task.specs.Kinds.{is_high}
+use Rattle.mc_model.specs.TaskNumbers.{period_in, low_in, own_in, is_high_in}
 use Rattle.mc_model.specs.Holds.{Holds}
 use Rattle.mc_model.specs.Loads.{product, load, low_low, high_low, high_high, load_ll, load_hl, load_hh, by_level}
 use Rattle.mc_model.specs.Rows.{ticks}
@@ -15,7 +16,8 @@ use Rattle.mc_model.specs.Mode.{high_mode}
 use Rattle.mc_model.specs.Key.{scale, low_offset}
 use Rattle.mc_model.proofs.Fold.{pending, Legal}
 use Rattle.mc_model.proofs.Live.{live_ok}
-use Rattle.demand_law.proofs.Sums.{sum_tasks, sum_bound, divides, load-linear}
+use Rattle.mc_model.proofs.NumberedSums.{sum_numbered}
+use Rattle.demand_law.proofs.Sums.{sum_bound, divides, load-linear}
 use Rattle.demand_law.proofs.LowDemand.{low_demand, owing, debt}
 use Rattle.mc_model.proofs.Tasks.{at_index}
 use Rattle.mc_model.proofs.Hyperperiod.{product-pos}
@@ -42,10 +44,10 @@ pub plain_slack : (t : Option Task) → low_offset Plain t ≤ scale Plain * per
 plain_slack t = omega arith
 
 -- under Plain what was asked for is at most the time that there was
-plain_sum : (set : List Task) (d : ℕ → ℕ) (l : ℕ) → AllByRecursion IsTask set → Holds set Plain → ((k : ℕ) → d k * period_in (task_at set k) ≤ own_in (task_at set k) * l) → sum_tasks set d 1 ≤ l
+plain_sum : (set : List Task) (d : ℕ → ℕ) (l : ℕ) → AllByRecursion IsTask set → Holds set Plain → ((k : ℕ) → d k * period_in (task_at set k) ≤ own_in (task_at set k) * l) → sum_numbered set d 1 ≤ l
 plain_sum set d l s holds each =
     let p = product set in
-    let b : sum_tasks set d 1 * 1 * p ≤ l * load (λ t. t.high) p set =
+    let b : sum_numbered set d 1 * 1 * p ≤ l * load (λ t. t.high) p set =
     sum_bound set d (λ t. t.high) 1 l p 1 (divides set s) (λ k t e. at_index set (λ o. d (1 + k) * 1 * period_in o ≤ own_in o * l) k t e (let q = each (1 + k) in omega (arith, q))) in
     let o : load (λ t. t.high) p set ≡ load_ll set + load_hh set = own_load p set s in
     let c : l * load (λ t. t.high) p set ≤ l * p = mul-le-mul_left l (omega (arith, o, holds)) in
@@ -63,7 +65,7 @@ plain_low set h s holds l m = go (none_below set Plain false (1 * ticks h + 1) (
         let o : 1 ≤ debt set Plain (1 * ticks h) h = owing set Plain (1 * ticks h) h m (pending set h) (live_ok set Plain h s l) e in
         let b = c.balance in
         let early = c.early in
-        let sum : sum_tasks set c.demand 1 ≤ 1 * ticks h - 1 * c.start = plain_sum set c.demand (1 * ticks h - 1 * c.start) s holds (λ k. (c.each k).reach) in
+        let sum : sum_numbered set c.demand 1 ≤ 1 * ticks h - 1 * c.start = plain_sum set c.demand (1 * ticks h - 1 * c.start) s holds (λ k. (c.each k).reach) in
         absurd (omega (arith, o, b, early, sum))
 
 -- a virtual deadline is not after the deadline
@@ -82,11 +84,11 @@ virtual_one : (p q d l : ℕ) (t : Task) → d * low_offset (Virtual p q) (Some 
 virtual_one p q d l t h = share t.level p q d l t.low t.period h
 
 -- in low mode what was asked for is at most the time that there was
-virtual_sum : (set : List Task) (p q : ℕ) (d : ℕ → ℕ) (l : ℕ) → AllByRecursion IsTask set → Holds set (Virtual p q) → ((k : ℕ) → d k * low_offset (Virtual p q) (task_at set k) ≤ low_in (task_at set k) * l) → sum_tasks set d 1 * q ≤ l
+virtual_sum : (set : List Task) (p q : ℕ) (d : ℕ → ℕ) (l : ℕ) → AllByRecursion IsTask set → Holds set (Virtual p q) → ((k : ℕ) → d k * low_offset (Virtual p q) (task_at set k) ≤ low_in (task_at set k) * l) → sum_numbered set d 1 * q ≤ l
 virtual_sum set p q d l s holds each =
     let n = product set in
     let f : Task → ℕ = λ t. p * low_low t + q * high_low t in
-    let b : sum_tasks set d 1 * (p * q) * n ≤ l * load f n set =
+    let b : sum_numbered set d 1 * (p * q) * n ≤ l * load f n set =
     sum_bound set d f (p * q) l n 1 (divides set s) (λ k t e. virtual_one p q (d (1 + k)) l t (at_index set (λ o. d (1 + k) * low_offset (Virtual p q) o ≤ low_in o * l) k t e (each (1 + k)))) in
     let o : load f n set ≡ p * load_ll set + q * load_hl set = load-linear p q low_low high_low n set in
     let c : l * load f n set ≤ l * (p * n) = mul-le-mul_left l (omega (arith, o, holds.2)) in
@@ -113,9 +115,9 @@ virtual_low set p q h s holds l m = go (none_below set (Virtual p q) false (q * 
     go false e =
         let c = low_demand set (Virtual p q) (q * ticks h) (virtual_slack p q holds.1) s h l m in
         let o : 1 ≤ debt set (Virtual p q) (q * ticks h) h = owing set (Virtual p q) (q * ticks h) h m (pending set h) (live_ok set (Virtual p q) h s l) e in
-        let sum : sum_tasks set c.demand 1 * q ≤ q * ticks h - q * c.start = virtual_sum set p q c.demand (q * ticks h - q * c.start) s holds (λ k. (c.each k).reach) in
+        let sum : sum_numbered set c.demand 1 * q ≤ q * ticks h - q * c.start = virtual_sum set p q c.demand (q * ticks h - q * c.start) s holds (λ k. (c.each k).reach) in
         let q_pos : 1 ≤ q = le_trans holds.0 holds.1 in
-        let z = last_step q c.start (ticks h) (sum_tasks set c.demand 1) (debt set (Virtual p q) (q * ticks h) h) q_pos c.early c.balance sum in
+        let z = last_step q c.start (ticks h) (sum_numbered set c.demand 1) (debt set (Virtual p q) (q * ticks h) h) q_pos c.early c.balance sum in
         absurd (omega (arith, o, z))
 
 -- the law, for both rules

@@ -9,26 +9,27 @@ use Rattle.mc_model.specs.declared.row.Row.{Row}
 use Rattle.mc_model.specs.declared.row.Row.TheVariants.{Release, Tick, Idle}
 use Rattle.mc_model.specs.TaskNumbers.{is_high_in}
 use Rattle.mc_model.specs.Holds.{Holds}
-use Rattle.mc_model.specs.Pending.{Live, released, ended, over_since}
+use Rattle.mc_model.specs.Pending.{KeptRelease, released, ended, over_since}
 use Rattle.mc_model.specs.Rows.{same_job, ticks}
-use Rattle.mc_model.specs.Mode.{is_virtual, is_over, high_mode}
+use Rattle.mc_task.specs.Kinds.{is_virtual}
+use Rattle.mc_model.specs.Mode.{is_over, high_mode}
 use Rattle.mc_model.specs.Legal.{Legal}
 use Rattle.mc_model.specs.Late.{up_to, deadline, is_late}
 use Rattle.mc_model.proofs.Lists.{Each-map}
-use Rattle.mc_model.proofs.Booleans.{or_none}
 use Rattle.mc_model.proofs.Steps.{release_fits}
 use Rattle.mc_model.proofs.Bridge.{IsBridged, bridge}
 use Rattle.mc_task.specs.TaskSet.{IsTask}
 use Rattle.demand_law.specs.NoOver.{is_over_row, NoOver, NoDrop, EndedInTime}
 use Rattle.demand_law.proofs.Laws.{each_in_time}
 use Rattle.std.specs.List.{list_any}
+use Rattle.std.proofs.lemmas.Bool.{or_parts, and_right}
 
 -- the mode is never high
 low_always : (rule : Rule) (h : List Row) → NoOver h → high_mode rule h ≡ false
 low_always rule [] n = refl
 low_always rule (Release j kept ∷ g) n = low_always rule g n
 low_always rule (Idle ∷ g) n = refl
-low_always rule (Tick j how ∷ g) n = both (is_virtual rule) (is_over how) (high_mode rule g) (or_none _ _ n).0 (low_always rule g (or_none _ _ n).1)
+low_always rule (Tick j how ∷ g) n = both (is_virtual rule) (is_over how) (high_mode rule g) (or_parts _ _ n).0 (low_always rule g (or_parts _ _ n).1)
   where
     both : (v o m : Bool) → o ≡ false → m ≡ false → ((v && o) || m) ≡ false
     both true true m e f = e
@@ -38,7 +39,7 @@ low_always rule (Tick j how ∷ g) n = both (is_virtual rule) (is_over how) (hig
 -- so no release is dropped
 pub no_drop : (set : List Task) (rule : Rule) (h : List Row) → Legal set rule h → NoOver h → NoDrop h
 no_drop set rule [] l n = refl
-no_drop set rule (Tick j how ∷ g) l n = no_drop set rule g l.2 (or_none _ _ n).1
+no_drop set rule (Tick j how ∷ g) l n = no_drop set rule g l.2 (or_parts _ _ n).1
 no_drop set rule (Idle ∷ g) l n = no_drop set rule g l.2 n
 no_drop set rule (Release j true ∷ g) l n = no_drop set rule g l.2 n
 no_drop set rule (Release j false ∷ g) l n =
@@ -60,23 +61,18 @@ over_up_to d (row ∷ g) n =
   where
     tail : (row : Row) (g : List Row) → NoOver (row ∷ g) → NoOver g
     tail (Release j kept) g n = n
-    tail (Tick j how) g n = (or_none _ _ n).1
+    tail (Tick j how) g n = (or_parts _ _ n).1
     tail Idle g n = n
-
--- an `and` with a false part is false
-and_false : (b : Bool) → (b && false) ≡ false
-and_false true = refl
-and_false false = refl
 
 -- nor since the release of a job
 never_over : (h : List Row) (j : JobId) → NoOver h → over_since h j ≡ false
 never_over [] j n = refl
-never_over (Release i kept ∷ g) j n = let r = never_over g j n in rw r (and_false (not (same_job i j)))
-never_over (Tick i how ∷ g) j n = let r = never_over g j (or_none _ _ n).1 in let o = (or_none (is_over how) (list_any is_over_row g) n).0 in rw (o, r) refl
+never_over (Release i kept ∷ g) j n = let r = never_over g j n in rw r (and_right (not (same_job i j)) false refl)
+never_over (Tick i how ∷ g) j n = let r = never_over g j (or_parts _ _ n).1 in let o = (or_parts (is_over how) (list_any is_over_row g) n).0 in rw (o, r) refl
 never_over (Idle ∷ g) j n = never_over g j n
 
 -- so a job that is not late has ended
-ended_one : (set : List Task) (h : List Row) (x : Live) → NoOver h → is_late set h x ≡ false → deadline set x ≤ ticks h → ended (up_to (deadline set x) h) x.job ≡ true
+ended_one : (set : List Task) (h : List Row) (x : KeptRelease) → NoOver h → is_late set h x ≡ false → deadline set x ≤ ticks h → ended (up_to (deadline set x) h) x.job ≡ true
 ended_one set h x n e due =
     bools (ended (up_to (deadline set x) h) x.job) (is_high_in (task_at set x.job.task.0)) (over_since (up_to (deadline set x) h) x.job)
     (never_over (up_to (deadline set x) h) x.job (over_up_to (deadline set x) h n)) (rw (le-leb _ _ due) at e)

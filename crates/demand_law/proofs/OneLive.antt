@@ -9,7 +9,7 @@ use Rattle.mc_model.specs.declared.row.Row.{Row}
 use Rattle.mc_model.specs.declared.row.Row.TheVariants.{Release, Tick, Idle}
 use Rattle.mc_model.specs.TaskNumbers.{period_in, is_high_in}
 use Rattle.mc_model.specs.Holds.{Holds}
-use Rattle.mc_model.specs.Pending.{Live}
+use Rattle.mc_model.specs.Pending.{KeptRelease}
 use Rattle.mc_model.specs.Rows.{ticks, next_release}
 use Rattle.mc_model.specs.Legal.{none_below}
 use Rattle.mc_model.specs.Mode.{high_mode}
@@ -18,13 +18,14 @@ use Rattle.demand_law.specs.OneLive.{pending_of}
 use Rattle.mc_model.proofs.Fold.{pending, stays, Legal}
 use Rattle.mc_model.proofs.Lists.{Each, Each-map, Each-filter}
 use Rattle.mc_model.proofs.Steps.{release_fits}
-use Rattle.mc_model.proofs.Booleans.{and_both, eqb-refl}
+use Rattle.mc_model.proofs.Booleans.{eqb-refl}
 use Rattle.demand_law.proofs.LowMode.{low_law}
 use Rattle.demand_law.proofs.Switch.{high_law}
 use Rattle.demand_law.proofs.Releases.{next_release-grows}
+use Rattle.std.proofs.lemmas.Bool.{and_parts}
 
 -- no deadline of a pending job has come
-abbrev pub InTime : List Task → List Row → Live → Type 0
+abbrev pub InTime : List Task → List Row → KeptRelease → Type 0
 InTime set h x = ticks h + 1 ≤ x.release + period_in (task_at set x.job.task.0)
 
 -- under plain EDF the mode is low
@@ -35,10 +36,10 @@ plain_mode (Tick j how ∷ g) = plain_mode g
 plain_mode (Idle ∷ g) = refl
 
 -- under plain EDF by the keys
-plain_time : (set : List Task) (h : List Row) (xs : List Live) → none_below set Plain false (1 * ticks h + 1) xs ≡ true → Each (InTime set h) xs
+plain_time : (set : List Task) (h : List Row) (xs : List KeptRelease) → none_below set Plain false (1 * ticks h + 1) xs ≡ true → Each (InTime set h) xs
 plain_time set h [] f = tt
 plain_time set h (x ∷ xs) f =
-    let w = and_both (nat_le (1 * ticks h + 1) (key set Plain false x)) (none_below set Plain false (1 * ticks h + 1) xs) f in
+    let w = and_parts (nat_le (1 * ticks h + 1) (key set Plain false x)) (none_below set Plain false (1 * ticks h + 1) xs) f in
     let k : 1 * ticks h + 1 ≤ key set Plain false x = leb-true _ _ w.0 in
     (omega (arith, k), plain_time set h xs w.1)
 
@@ -47,12 +48,12 @@ above_scaled : (q t n : ℕ) → q * t + 1 ≤ q * n → t + 1 ≤ n
 above_scaled q t n h = grind arith
 
 -- under EDF-VD by the keys of either mode
-virtual_time : (set : List Task) (p q : ℕ) (high : Bool) (h : List Row) (xs : List Live) → p ≤ q → none_below set (Virtual p q) high (q * ticks h + 1) xs ≡ true → Each (InTime set h) xs
+virtual_time : (set : List Task) (p q : ℕ) (high : Bool) (h : List Row) (xs : List KeptRelease) → p ≤ q → none_below set (Virtual p q) high (q * ticks h + 1) xs ≡ true → Each (InTime set h) xs
 virtual_time set p q high h [] pq f = tt
 virtual_time set p q high h (x ∷ xs) pq f = (above_scaled q (ticks h) _ (omega (arith, k, below high (is_high_in (task_at set x.job.task.0)))), virtual_time set p q high h xs pq w.1)
   where
     w : (nat_le (q * ticks h + 1) (key set (Virtual p q) high x) ≡ true) × (none_below set (Virtual p q) high (q * ticks h + 1) xs ≡ true)
-    w = and_both (nat_le (q * ticks h + 1) (key set (Virtual p q) high x)) (none_below set (Virtual p q) high (q * ticks h + 1) xs) f
+    w = and_parts (nat_le (q * ticks h + 1) (key set (Virtual p q) high x)) (none_below set (Virtual p q) high (q * ticks h + 1) xs) f
 
     k : q * ticks h + 1 ≤ key set (Virtual p q) high x
     k = leb-true _ _ w.0
@@ -72,7 +73,7 @@ in_time set (Virtual p q) h s holds l = go (high_mode (Virtual p q) h) refl
     go false m = virtual_time set p q false h (pending set h) holds.1 (low_law set (Virtual p q) h s holds l m)
 
 -- the next release of a pending job's task is no earlier than its deadline
-abbrev Followed : List Task → List Row → Live → Type 0
+abbrev Followed : List Task → List Row → KeptRelease → Type 0
 Followed set h x = x.release + period_in (task_at set x.job.task.0) ≤ next_release set h x.job.task.0
 
 -- so it is of each pending job of a legal trace
@@ -88,7 +89,7 @@ followed set rule (Tick j how ∷ g) l = Each-filter (Followed set g) (stays set
 followed set rule (Idle ∷ g) l = followed set rule g l.2
 
 -- where the next release may come, a job in time is of another task
-none_of : (set : List Task) (h : List Row) (k : ℕ) (xs : List Live) → next_release set h k ≤ ticks h → Each (InTime set h) xs → Each (Followed set h) xs → pending_of k xs ≡ 0
+none_of : (set : List Task) (h : List Row) (k : ℕ) (xs : List KeptRelease) → next_release set h k ≤ ticks h → Each (InTime set h) xs → Each (Followed set h) xs → pending_of k xs ≡ 0
 none_of set h k [] n i f = refl
 none_of set h k (x ∷ xs) n i f = go (none_of set h k xs n i.1 f.1) (x.job.task.0 == k) refl
   where
@@ -105,7 +106,7 @@ pub none_live : (set : List Task) (rule : Rule) (h : List Row) (k : ℕ) → All
 none_live set rule h k s holds l n = none_of set h k (pending set h) n (in_time set rule h s holds l) (followed set rule h l)
 
 -- a filter leaves no more of a task
-pending_of-filter : (k : ℕ) (p : Live → Bool) (xs : List Live) → pending_of k (filter p xs) ≤ pending_of k xs
+pending_of-filter : (k : ℕ) (p : KeptRelease → Bool) (xs : List KeptRelease) → pending_of k (filter p xs) ≤ pending_of k xs
 pending_of-filter k p [] = le_refl _
 pending_of-filter k p (x ∷ xs) =
     let ih : pending_of k (filter p xs) ≤ pending_of k xs = pending_of-filter k p xs in

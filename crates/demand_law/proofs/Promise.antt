@@ -10,7 +10,7 @@ use Rattle.mc_model.specs.declared.row.Row.TheVariants.{Release, Tick, Idle}
 use Rattle.mc_model.specs.Holds.{Holds}
 use Rattle.mc_model.specs.TaskNumbers.{is_high_in}
 use Rattle.mc_model.specs.Mode.{high_mode}
-use Rattle.mc_model.specs.Pending.{Live, released, ended, over_since}
+use Rattle.mc_model.specs.Pending.{KeptRelease, released, ended, over_since}
 use Rattle.mc_model.specs.Rows.{ticks}
 use Rattle.mc_model.specs.Legal.{Legal, same_bool}
 use Rattle.mc_model.specs.Late.{up_to, deadline, is_late}
@@ -54,7 +54,7 @@ not_late_is false true over h = cc
 not_late_is false false true h = inr (refl, refl)
 not_late_is false false false h = cc
 
-meets : (set : List Task) (h : List Row) (x : Live) → is_late set h x ≡ false → MeetsDeadline set h x
+meets : (set : List Task) (h : List Row) (x : KeptRelease) → is_late set h x ≡ false → MeetsDeadline set h x
 meets set h x late due =
     let come : nat_le (deadline set x) (ticks h) ≡ true = le-leb _ _ due in
     not_late_is (ended (up_to (deadline set x) h) x.job) (is_high_in (task_at set x.job.task.0)) (over_since (up_to (deadline set x) h) x.job) (rw come at late)

@@ -7,11 +7,11 @@ use Rattle.mc_task.specs.TaskSet.{task_at, IsTask}
 use Rattle.mc_model.specs.declared.row.Row.{Row}
 use Rattle.mc_model.specs.declared.row.Row.TheVariants.{Release, Tick, Idle}
 use Rattle.mc_model.specs.TaskNumbers.{period_in}
-use Rattle.mc_model.specs.Pending.{Live, released}
+use Rattle.mc_model.specs.Pending.{KeptRelease, released}
 use Rattle.mc_model.specs.Rows.{ticks}
 use Rattle.mc_model.specs.Legal.{Legal}
 use Rattle.mc_model.specs.Late.{up_to}
-use Rattle.mc_model.proofs.Jobs.{same_live, is_in, same_live-refl}
+use Rattle.mc_model.proofs.Jobs.{same_live, is_in, head_in}
 use Rattle.mc_model.proofs.Lists.{Each, Each-both}
 use Rattle.mc_model.proofs.Tasks.{known}
 use Rattle.mc_model.proofs.Booleans.{or_true}
@@ -40,34 +40,30 @@ legal-up_to set rule d (row ∷ g) l =
     let ih : Legal set rule (up_to d g) = legal-up_to set rule d g l.2 in
     elim (nat_le (ticks (row ∷ g)) d) as (λ b. Legal set rule (cond b (row ∷ g) (up_to d g))) [ true ↦ l | false ↦ ih ]
 
--- a job at the head of a list is in it
-head_in : (x : Live) (xs : List Live) → is_in (x ∷ xs) x ≡ true
-head_in x xs = let e : same_live x x ≡ true = same_live-refl x in rw e refl
-
 -- each of a list is in a list that has all of it
-each_inside : (xs ys : List Live) → ((x : Live) → is_in xs x ≡ true → is_in ys x ≡ true) → Each (λ x. is_in ys x ≡ true) xs
+each_inside : (xs ys : List KeptRelease) → ((x : KeptRelease) → is_in xs x ≡ true → is_in ys x ≡ true) → Each (λ x. is_in ys x ≡ true) xs
 each_inside [] ys f = tt
 each_inside (x ∷ xs) ys f = (f x (head_in x xs), each_inside xs ys (λ y h. f y (or_true (same_live y x) (is_in xs y) h)))
 
 -- a job that is released before d is among those released up to d
-abbrev pub Reaches : List Row → Live → Type 0
+abbrev pub Reaches : List Row → KeptRelease → Type 0
 Reaches h x = (d : ℕ) → x.release + 1 ≤ d → is_in (released (up_to d h)) x ≡ true
 
 -- one more row keeps that of a job
-reach : (row : Row) (g : List Row) (x : Live) → is_in (released (row ∷ g)) x ≡ true → Reaches g x → Reaches (row ∷ g) x
+reach : (row : Row) (g : List Row) (x : KeptRelease) → is_in (released (row ∷ g)) x ≡ true → Reaches g x → Reaches (row ∷ g) x
 reach row g x i r d k =
     let later : is_in (released (up_to d g)) x ≡ true = r d k in
     elim (nat_le (ticks (row ∷ g)) d) as (λ b. is_in (released (cond b (row ∷ g) (up_to d g))) x ≡ true) [ true ↦ i | false ↦ later ]
 
 -- one more row keeps that of each released job
-reach_all : (row : Row) (g : List Row) → ((x : Live) → is_in (released g) x ≡ true → is_in (released (row ∷ g)) x ≡ true) → Each (Reaches g) (released g) → Each (Reaches (row ∷ g)) (released g)
+reach_all : (row : Row) (g : List Row) → ((x : KeptRelease) → is_in (released g) x ≡ true → is_in (released (row ∷ g)) x ≡ true) → Each (Reaches g) (released g) → Each (Reaches (row ∷ g)) (released g)
 reach_all row g f r = Each-both {P = λ x. is_in (released (row ∷ g)) x ≡ true} {Q = Reaches g} (λ x i k. reach row g x i k) (released g) (each_inside (released g) (released (row ∷ g)) f) r
 
 -- it is so of each released job
 pub reaches : (h : List Row) → Each (Reaches h) (released h)
 reaches [] = tt
 reaches (Release j true ∷ g) =
-    let x : Live = record { job = j; release = ticks g } in (
+    let x : KeptRelease = record { job = j; release = ticks g } in (
       λ d k. let l : ticks g ≤ d = omega (arith, k) in rw (le-leb _ _ l) (head_in x (released g)),
       reach_all (Release j true) g (λ y h. or_true (same_live y x) (is_in (released g) y) h) (reaches g),
     )

@@ -8,7 +8,7 @@ use Rattle.mc_model.specs.declared.row.Row.{Row}
 use Rattle.mc_model.specs.declared.row.Row.TheVariants.{Release, Tick}
 use Rattle.mc_model.specs.TaskNumbers.{period_in, low_in, own_in, is_high_in}
 use Rattle.mc_model.specs.Rows.{ticks, next_release}
-use Rattle.demand_law.proofs.Sums.{sum_tasks, added, sum-added}
+use Rattle.mc_model.proofs.NumberedSums.{sum_numbered, added, sum-added}
 use Rattle.demand_law.proofs.Releases.{more_next, times_sub, next_release-grows, more_reach}
 use Rattle.mc_model.proofs.Booleans.{eqb-refl}
 
@@ -151,7 +151,7 @@ pub record Ledger (set : List Task) (p q e a : ℕ) (h : List Row) (owed : ℕ) 
   pub demand : ℕ → ℕ
   pub early : start ≤ ticks h
   pub order : start ≤ a
-  pub balance : ticks h + owed ≤ start + sum_tasks set demand 1
+  pub balance : ticks h + owed ≤ start + sum_numbered set demand 1
   pub each : (k : ℕ) → IsShare set p q e h start a k (demand k)
 
 -- a ledger that starts now, with nothing owed

@@ -9,10 +9,11 @@ use Rattle.mc_task.specs.TaskSet.{task_at, IsTask}
 use Rattle.mc_model.specs.declared.row.How.{How}
 use Rattle.mc_model.specs.declared.row.Row.{Row}
 use Rattle.mc_model.specs.declared.row.Row.TheVariants.{Release, Tick, Idle}
-use Rattle.mc_model.specs.TaskNumbers.{period_in, low_in, own_in, is_high_in, is_high}
+use Rattle.mc_task.specs.Kinds.{is_high}
+use Rattle.mc_model.specs.TaskNumbers.{period_in, low_in, own_in, is_high_in}
 use Rattle.mc_model.specs.Holds.{Holds}
 use Rattle.mc_model.specs.Loads.{product, load, low_low, high_low, high_high, load_ll, load_hl, load_hh, by_level}
-use Rattle.mc_model.specs.Pending.{Live}
+use Rattle.mc_model.specs.Pending.{KeptRelease}
 use Rattle.mc_model.specs.Rows.{ticks, used}
 use Rattle.mc_model.specs.Legal.{none_below}
 use Rattle.mc_model.specs.Mode.{high_mode}
@@ -25,8 +26,9 @@ use Rattle.mc_model.proofs.Sums.{total-mono}
 use Rattle.mc_model.proofs.Steps.{release_fits, tick_fits}
 use Rattle.mc_model.proofs.Tasks.{known, at_index}
 use Rattle.mc_model.proofs.Live.{IsLiveOk, live_ok}
-use Rattle.mc_model.proofs.Booleans.{and_both, or_true}
-use Rattle.demand_law.proofs.Sums.{sum_tasks, sum_bound, divides, load-linear}
+use Rattle.mc_model.proofs.Booleans.{or_true}
+use Rattle.mc_model.proofs.NumberedSums.{sum_numbered}
+use Rattle.demand_law.proofs.Sums.{sum_bound, divides, load-linear}
 use Rattle.demand_law.proofs.Share.{IsShare, ledger_less, ledger_same}
 use Rattle.demand_law.proofs.Before.{owes, owed}
 use Rattle.demand_law.proofs.LowPhase.{IsMark, Waits, waits_tick, low_tick, low_phase}
@@ -36,23 +38,24 @@ use Rattle.std.proofs.Math.Nat.{mul-pos}
 use Rattle.mc_model.proofs.Hyperperiod.{product-pos}
 use Rattle.mc_task.specs.declared.task.Level.{Level}
 use Rattle.mc_task.specs.declared.task.Level.TheVariants.{Low, High}
+use Rattle.std.proofs.lemmas.Bool.{and_parts}
 
 -- of the jobs with keys of at most n, one that was released first
-pub record LeastDue (set : List Task) (p q n : ℕ) (xs : List Live) : Type 0 where
-  pub first : Live
+pub record LeastDue (set : List Task) (p q n : ℕ) (xs : List KeptRelease) : Type 0 where
+  pub first : KeptRelease
   pub inside : is_in xs first ≡ true
   pub near : key set (Virtual p q) true first ≤ n
   pub least : Each (λ y. key set (Virtual p q) true y ≤ n → first.release ≤ y.release) xs
 
 -- where all keys are above n, any release is the first
-all_above : (set : List Task) (p q n m : ℕ) (xs : List Live) → none_below set (Virtual p q) true (n + 1) xs ≡ true → Each (λ y. key set (Virtual p q) true y ≤ n → m ≤ y.release) xs
+all_above : (set : List Task) (p q n m : ℕ) (xs : List KeptRelease) → none_below set (Virtual p q) true (n + 1) xs ≡ true → Each (λ y. key set (Virtual p q) true y ≤ n → m ≤ y.release) xs
 all_above set p q n m [] f = tt
 all_above set p q n m (x ∷ xs) f =
-    let w = and_both (nat_le (n + 1) (key set (Virtual p q) true x)) (none_below set (Virtual p q) true (n + 1) xs) f in
+    let w = and_parts (nat_le (n + 1) (key set (Virtual p q) true x)) (none_below set (Virtual p q) true (n + 1) xs) f in
     (λ k. absurd (let l : n + 1 ≤ key set (Virtual p q) true x = leb-true _ _ w.0 in omega (arith, l, k)), all_above set p q n m xs w.1)
 
 -- there is one, or all keys are above n
-least_due : (set : List Task) (p q n : ℕ) (xs : List Live) → (none_below set (Virtual p q) true (n + 1) xs ≡ true) ⊎ LeastDue set p q n xs
+least_due : (set : List Task) (p q n : ℕ) (xs : List KeptRelease) → (none_below set (Virtual p q) true (n + 1) xs ≡ true) ⊎ LeastDue set p q n xs
 least_due set p q n [] = inl refl
 least_due set p q n (x ∷ xs) = go (least_due set p q n xs) (nat_le (key set (Virtual p q) true x) n) refl
   where
@@ -70,7 +73,7 @@ least_due set p q n (x ∷ xs) = go (least_due set p q n xs) (nat_le (key set (V
     go (inr c) false m = inr (record { first = c.first; inside = or_true _ _ c.inside; near = c.near; least = (λ k. absurd (let z : n < key set (Virtual p q) true x = leb-false _ _ m in omega (arith, z, k)), c.least) })
 
 -- at the switch each job that is due counts with its own budget
-due_owed : (set : List Task) (p q e a : ℕ) (h : List Row) (x : Live) → 1 ≤ q → is_high_in (task_at set x.job.task.0) ≡ true → (key set (Virtual p q) true x ≤ q * e → a ≤ x.release) → dues set p q e h x ≤ owes set p q e a h x
+due_owed : (set : List Task) (p q e a : ℕ) (h : List Row) (x : KeptRelease) → 1 ≤ q → is_high_in (task_at set x.job.task.0) ≡ true → (key set (Virtual p q) true x ≤ q * e → a ≤ x.release) → dues set p q e h x ≤ owes set p q e a h x
 due_owed set p q e a h x pos hi least = go (nat_le (key set (Virtual p q) true x) (q * e)) refl
   where
     not_less : (r a : ℕ) → a ≤ r → nat_lt r a ≡ false
@@ -84,7 +87,7 @@ due_owed set p q e a h x pos hi least = go (nat_le (key set (Virtual p q) true x
         rw (hi, not_less x.release a (least k), le-leb _ _ t) (le_refl _)
 
 -- a high job with a deadline of at most e has a virtual key within the limit
-mark_of : (set : List Task) (p q e : ℕ) (x : Live) → 1 ≤ p → p ≤ q → is_high_in (task_at set x.job.task.0) ≡ true → key set (Virtual p q) true x ≤ q * e → IsMark set p q e x
+mark_of : (set : List Task) (p q e : ℕ) (x : KeptRelease) → 1 ≤ p → p ≤ q → is_high_in (task_at set x.job.task.0) ≡ true → key set (Virtual p q) true x ≤ q * e → IsMark set p q e x
 mark_of set p q e x pos pq hi k =
     let t : x.release + period_in (task_at set x.job.task.0) ≤ e = cancel_scale q x.release (period_in (task_at set x.job.task.0)) e (le_trans pos pq) k in
     let s : p * period_in (task_at set x.job.task.0) ≤ p * (e - x.release) = mul-le-mul_left p (omega (arith, t)) in
@@ -156,14 +159,14 @@ share_one : (p q d u v : ℕ) (t : Task) →
 share_one p q d u v t lo hi = share t.level p q d u v t.low t.high t.period lo hi
 
 -- what was asked for is at most the time before the mark and the time after it
-share_sum : (set : List Task) (p q e : ℕ) (h : List Row) (t a : ℕ) (d : ℕ → ℕ) → AllByRecursion IsTask set → Holds set (Virtual p q) → ((k : ℕ) → IsShare set p q e h t a k (d k)) → sum_tasks set d 1 ≤ (a - t) + (e - a)
+share_sum : (set : List Task) (p q e : ℕ) (h : List Row) (t a : ℕ) (d : ℕ → ℕ) → AllByRecursion IsTask set → Holds set (Virtual p q) → ((k : ℕ) → IsShare set p q e h t a k (d k)) → sum_numbered set d 1 ≤ (a - t) + (e - a)
 share_sum set p q e h t a d s holds each =
     let n = product set in
     let u = a - t in
     let v = e - a in
     let f : Task → ℕ = λ x. p * low_low x + q * high_low x in
     let g : Task → ℕ = λ x. p * low_low x + q * high_high x in
-    let b : sum_tasks set d 1 * (p * q) * n ≤ 1 * load (λ x. (q * u) * f x + (p * v) * g x) n set =
+    let b : sum_numbered set d 1 * (p * q) * n ≤ 1 * load (λ x. (q * u) * f x + (p * v) * g x) n set =
     sum_bound set d (λ x. (q * u) * f x + (p * v) * g x) (p * q) 1 n 1 (divides set s) (λ k x i.
     share_one p q (d (1 + k)) u v x
     (at_index set (λ o. is_high_in o ≡ false → d (1 + k) * (q * period_in o) ≤ low_in o * (q * u + p * v)) k x i (each (1 + k)).low_reach)
@@ -177,7 +180,7 @@ share_sum set p q e h t a d s holds each =
     le_of_mul-le-mul_right {k = (p * q) * n} (omega (arith, b, o, cf, cg)) pos
 
 -- a pending job that is due still has a tick to use
-due_owing : (set : List Task) (p q e : ℕ) (h : List Row) (xs : List Live) → Each (IsLiveOk set (Virtual p q) h) xs → none_below set (Virtual p q) true (q * e + 1) xs ≡ false → 1 ≤ total (dues set p q e h) xs
+due_owing : (set : List Task) (p q e : ℕ) (h : List Row) (xs : List KeptRelease) → Each (IsLiveOk set (Virtual p q) h) xs → none_below set (Virtual p q) true (q * e + 1) xs ≡ false → 1 ≤ total (dues set p q e h) xs
 due_owing set p q e h [] ok f = cc
 due_owing set p q e h (x ∷ xs) ok f = go (due_owing set p q e h xs ok.1) (nat_le (key set (Virtual p q) true x) (q * e)) refl
   where
@@ -199,7 +202,7 @@ high_law set p q h s holds l m = go (none_below set (Virtual p q) true (q * tick
     go false f =
         let c = high_phase set p q (ticks h) s holds.0 holds.1 h l m in
         let o : 1 ≤ due set p q (ticks h) h = due_owing set p q (ticks h) h (pending set h) (live_ok set (Virtual p q) h s l) f in
-        let sum : sum_tasks set c.ledger.demand 1 ≤ (c.mid - c.ledger.start) + (ticks h - c.mid) = share_sum set p q (ticks h) h c.ledger.start c.mid c.ledger.demand s holds c.ledger.each in
+        let sum : sum_numbered set c.ledger.demand 1 ≤ (c.mid - c.ledger.start) + (ticks h - c.mid) = share_sum set p q (ticks h) h c.ledger.start c.mid c.ledger.demand s holds c.ledger.each in
         let past = c.past in
         let order = c.ledger.order in
         let balance = c.ledger.balance in

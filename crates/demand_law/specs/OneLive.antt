@@ -2,11 +2,11 @@
 use Rattle.std.specs.Prelude.{◌≡◌, ℕ, ◌+◌, ◌≤◌, List, [], ◌∷◌, cond, ◌==◌}
 use Rattle.mc_task.specs.declared.task.Task.{Task}
 use Rattle.mc_model.specs.Rows.{ticks, next_release}
-use Rattle.mc_model.specs.Pending.{Live, pending}
+use Rattle.mc_model.specs.Pending.{KeptRelease, pending}
 use Rattle.mc_model.specs.declared.row.Row.{Row}
 
 -- how many of these jobs are of task number k
-abbrev pub pending_of : ℕ → List Live → ℕ
+abbrev pub pending_of : ℕ → List KeptRelease → ℕ
 pending_of k [] = 0
 pending_of k (i ∷ is) = cond (i.job.task.0 == k) 1 0 + pending_of k is
 

@@ -1,7 +1,8 @@
 ghost use Rattle.std.specs.Prelude.{◌≡◌, true, false, reverse};
 ghost use Rattle.mc_task.specs.declared.task.Rule.TheVariants.{Plain};
 ghost use Rattle.mc_model.specs.Holds.{Fits, Holds};
-ghost use Rattle.mc_model.specs.Mode.{is_virtual, high_mode};
+ghost use Rattle.mc_task.specs.Kinds.{is_virtual};
+ghost use Rattle.mc_model.specs.Mode.{high_mode};
 ghost use Rattle.mc_model.specs.Legal.{Legal};
 ghost use Rattle.demand_law.specs.Laws.{Everywhere, NoneLate, NoneDue};
 ghost use Rattle.demand_law.specs.OneLive.{AtMostOne, NoneAtRelease};

@@ -1,7 +1,7 @@
 -- Tasks that are read one after another.
 use Rattle.std.proofs.Common.{◌≡◌, ◌≢◌, ℕ, ◌+◌, ◌<◌, ◌≤◌, ◌^◌, Bool, true, false, not, ◌||◌, ◌==◌, nat_lt, List, [], ◌∷◌, ◌++◌, length, Result, Ok, Err, IsTrue, refl, sym, ◌∙◌, subst, arith, ltb-false}
 use Rattle.std.specs.Str.{bytes_eq}
-use Rattle.std.proofs.lemmas.Bool.{false≢true}
+use Rattle.std.proofs.lemmas.Bool.{false≢true, or_parts}
 use Rattle.std.proofs.lemmas.Bool.Decides.{nat_tests}
 use Rattle.std.proofs.lemmas.List.{length-append, map-append}
 use Rattle.std.proofs.lemmas.Slice.Eq.{bytes_eq-Decides}
@@ -9,7 +9,6 @@ use Rattle.mc_task.specs.NameForm.{is_name}
 use Rattle.mc_task.specs.TaskSet.{Distinct}
 use Rattle.tick_frac.specs.Numbers.{lcm}
 use Rattle.mc_model.proofs.Lists.{Each, Each-append}
-use Rattle.mc_model.proofs.Booleans.{or_none}
 use Rattle.demand_test.specs.declared.demand.Demand.{Demand}
 use Rattle.demand_test.specs.declared.fault.DemandCause.{DemandCause}
 use Rattle.demand_test.specs.declared.fault.DemandCause.TheVariants.{BadName, SameName, ZeroNumber, DeadlineOrder, Range}
@@ -89,8 +88,8 @@ record InOrder (before : List Demand) (t : Demand) (multiple : ℕ) : Type 0 whe
 order_of : (before : List Demand) (t : Demand) (multiple : ℕ) → Ok multiple ≡ multiple_with before t → InOrder before t multiple
 order_of before t multiple e =
     let p = given ((t.period == 0 || t.deadline == 0) || t.budget == 0) (nat_lt t.period t.deadline) (nat_lt most_lcm (hyperperiod (before ++ t ∷ []))) (hyperperiod (before ++ t ∷ [])) multiple e in
-    let q = or_none (t.period == 0 || t.deadline == 0) (t.budget == 0) p.0 in
-    let r = or_none (t.period == 0) (t.deadline == 0) q.0 in
+    let q = or_parts (t.period == 0 || t.deadline == 0) (t.budget == 0) p.0 in
+    let r = or_parts (t.period == 0) (t.deadline == 0) q.0 in
     record {
       period = some t.period r.0;
       deadline = some t.deadline r.1;
@@ -124,7 +123,7 @@ distinct-push (m ∷ ms) n d e = (Each-append (λ x. m ≢ x) ms (n ∷ []) d.0 
 other_names : (name : List ℕ) (ts : List Demand) → has_name name ts ≡ false → Each (λ m. m ≢ name) (names_of ts)
 other_names name [] e = tt
 other_names name (t ∷ ts) e =
-    let p = or_none (bytes_eq t.name name) (has_name name ts) e in
+    let p = or_parts (bytes_eq t.name name) (has_name name ts) e in
     ((λ same. false≢true (sym p.0 ∙ (bytes_eq-Decides t.name name).1 same)), other_names name ts p.1)
 
 -- one more task

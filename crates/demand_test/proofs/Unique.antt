@@ -1,13 +1,11 @@
 -- There is one counterexample of each length.
-use Rattle.std.proofs.Common.{◌≡◌, ◌≢◌, ℕ, zero, suc, ◌+◌, ◌*◌, ◌<◌, ◌≤◌, Bool, true, false, ◌&&◌, ◌||◌, List, [], ◌∷◌, cond, nat_le, ◌==◌, length, Contains, inl, inr, refl, sym, ap, ap₂, ◌∙◌, subst, arith, ◌⊎◌, le_of_mul-le-mul_right, le-leb, eqb-true}
+use Rattle.std.proofs.Common.{◌≡◌, ◌≢◌, ℕ, zero, suc, ◌+◌, ◌*◌, ◌<◌, ◌≤◌, Bool, true, false, ◌&&◌, ◌||◌, List, [], ◌∷◌, cond, nat_le, ◌==◌, length, Contains, inl, inr, refl, sym, ap, ap₂, ◌∙◌, subst, arith, ◌⊎◌, le_of_mul-le-mul_right, le-leb, eqb-true, ne_eqb}
 use Rattle.std.proofs.Math.Nat.{lt_of_mul-lt-mul_right}
-use Rattle.std.proofs.lemmas.Bool.{cases_eq, cases_lt, lt-leb}
-use Rattle.std.proofs.lemmas.Bool.Decides.{nat_tests}
+use Rattle.std.proofs.lemmas.Bool.{cases_eq, cases_lt, lt-leb, or_parts}
 use Rattle.std.specs.List.{AllByRecursion}
 use Rattle.mc_task.specs.declared.task.JobId.{JobId}
 use Rattle.mc_model.specs.Rows.{same_job}
 use Rattle.mc_model.proofs.Lists.{Each, Each-map, Each-both}
-use Rattle.mc_model.proofs.Booleans.{or_none}
 use Rattle.mc_model.proofs.Jobs.{same_job-refl}
 use Rattle.demand_test.specs.declared.demand.Demand.{Demand}
 use Rattle.demand_test.specs.declared.row.EdfRow.{EdfRow}
@@ -20,9 +18,6 @@ use Rattle.demand_test.specs.Play.{IsFirstFrom}
 use Rattle.demand_test.proofs.Membership.{In, in_list, each_of, in_filtered}
 use Rattle.demand_test.proofs.Tasks.{known}
 use Rattle.demand_test.proofs.NoneLate.{released_tasks}
-
-differs : (a b : ℕ) → a ≢ b → (a == b) ≡ false
-differs a b ne = grind (arith, nat_tests)
 
 -- a release is no later than the rows behind it
 past_release : (h : List EdfRow) → Each (λ x. x.release ≤ ticks h) (released h)
@@ -133,7 +128,7 @@ before_release set b i k j g is name w = record {
         (omega (arith, m, v, t), omega (arith, m, v, t, p))
 
     same : (n : ℕ) → j.task.0 ≢ n → cond (j.task.0 == n) 1 0 + releases g n ≡ releases g n
-    same n ne = let f : (j.task.0 == n) ≡ false = differs j.task.0 n ne in rw f (omega arith)
+    same n ne = let f : (j.task.0 == n) ≡ false = ne_eqb j.task.0 n ne in rw f (omega arith)
 
     other : (n : ℕ) → IsIn set n → j.task.0 ≢ n → IsFirstFrom (cond (nat_le n i) (b + 1) b) (releases g n * period_in (demand_at set n)) (period_in (demand_at set n))
     other n number ne = subst (λ (r : ℕ). IsFirstFrom (cond (nat_le n i) (b + 1) b) (r * period_in (demand_at set n)) (period_in (demand_at set n))) (same n ne) (w.next n number)
@@ -328,8 +323,8 @@ unique set (Release j ∷ g) (Release j' ∷ g') b i is w w' =
     ap (λ (y : JobId). Release y ∷ g) (one_job set b j j' g g' w.boundary w'.boundary w.multiples.0 w'.multiples.0 (known set j.task.0 is w.run.0.task).period t) ∙ ap (λ (r : List EdfRow). Release j' ∷ r) ih
 unique set (Tick j l ∷ g) (Tick j' l' ∷ g') b i is w w' =
     let same : ticks g' ≡ ticks g = let t = w.boundary in let t' = w'.boundary in omega (arith, t, t') in
-    let p : IsPart set (ticks g) (length set) g = before_tick set b i g is w.run.1 w.multiples w.order (λ y. (or_none (l && same_job j y) (is_marked g y) (w.whole y)).1) w.lowest.1 w.boundary w.next in
-    let p' : IsPart set (ticks g') (length set) g' = before_tick set b i g' is w'.run.1 w'.multiples w'.order (λ y. (or_none (l' && same_job j' y) (is_marked g' y) (w'.whole y)).1) w'.lowest.1 w'.boundary w'.next in
+    let p : IsPart set (ticks g) (length set) g = before_tick set b i g is w.run.1 w.multiples w.order (λ y. (or_parts (l && same_job j y) (is_marked g y) (w.whole y)).1) w.lowest.1 w.boundary w.next in
+    let p' : IsPart set (ticks g') (length set) g' = before_tick set b i g' is w'.run.1 w'.multiples w'.order (λ y. (or_parts (l' && same_job j' y) (is_marked g' y) (w'.whole y)).1) w'.lowest.1 w'.boundary w'.next in
     let ih : g ≡ g' = unique set g g' (ticks g) (length set) is p (subst (λ (n : ℕ). IsPart set n (length set) g') same p') in
     let job : j ≡ j' = same_tick set g j j' is w.run.1 w.multiples w.run.0 w.lowest.0 (subst (λ (r : List EdfRow). MayRun set r j') (sym ih) w'.run.0) (subst (λ (r : List EdfRow). IsLowest set r j') (sym ih) w'.lowest.0) in
     let m : l ≡ false = unmarked l (same_job j j) (is_marked g j) (same_job-refl j) (w.whole j) in
@@ -337,14 +332,14 @@ unique set (Tick j l ∷ g) (Tick j' l' ∷ g') b i is w w' =
     ap (λ (y : JobId). Tick y l ∷ g) job ∙ ap (λ (c : Bool). Tick j' c ∷ g) (m ∙ sym m') ∙ ap (λ (r : List EdfRow). Tick j' l' ∷ r) ih
 unique set (Tick j l ∷ g) (Idle ∷ g') b i is w w' =
     let same : ticks g' ≡ ticks g = let t = w.boundary in let t' = w'.boundary in omega (arith, t, t') in
-    let p : IsPart set (ticks g) (length set) g = before_tick set b i g is w.run.1 w.multiples w.order (λ y. (or_none (l && same_job j y) (is_marked g y) (w.whole y)).1) w.lowest.1 w.boundary w.next in
+    let p : IsPart set (ticks g) (length set) g = before_tick set b i g is w.run.1 w.multiples w.order (λ y. (or_parts (l && same_job j y) (is_marked g y) (w.whole y)).1) w.lowest.1 w.boundary w.next in
     let p' : IsPart set (ticks g') (length set) g' = before_tick set b i g' is w'.run.1 w'.multiples w'.order w'.whole w'.lowest w'.boundary w'.next in
     let ih : g ≡ g' = unique set g g' (ticks g) (length set) is p (subst (λ (n : ℕ). IsPart set n (length set) g') same p') in
     absurd (not_empty w.run.0.x (pending set g) (in_list w.run.0.x (pending set g) w.run.0.live) (ap (λ (r : List EdfRow). pending set r) ih ∙ w'.run.0))
 unique set (Idle ∷ g) (Tick j' l' ∷ g') b i is w w' =
     let same : ticks g' ≡ ticks g = let t = w.boundary in let t' = w'.boundary in omega (arith, t, t') in
     let p : IsPart set (ticks g) (length set) g = before_tick set b i g is w.run.1 w.multiples w.order w.whole w.lowest w.boundary w.next in
-    let p' : IsPart set (ticks g') (length set) g' = before_tick set b i g' is w'.run.1 w'.multiples w'.order (λ y. (or_none (l' && same_job j' y) (is_marked g' y) (w'.whole y)).1) w'.lowest.1 w'.boundary w'.next in
+    let p' : IsPart set (ticks g') (length set) g' = before_tick set b i g' is w'.run.1 w'.multiples w'.order (λ y. (or_parts (l' && same_job j' y) (is_marked g' y) (w'.whole y)).1) w'.lowest.1 w'.boundary w'.next in
     let ih : g ≡ g' = unique set g g' (ticks g) (length set) is p (subst (λ (n : ℕ). IsPart set n (length set) g') same p') in
     absurd (not_empty w'.run.0.x (pending set g') (in_list w'.run.0.x (pending set g') w'.run.0.live) (ap (λ (r : List EdfRow). pending set r) (sym ih) ∙ w.run.0))
 unique set (Idle ∷ g) (Idle ∷ g') b i is w w' =

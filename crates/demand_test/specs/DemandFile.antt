@@ -1,11 +1,11 @@
 -- What a demand file says: its tasks, or its first refusal.
-use Rattle.std.specs.Prelude.{ℕ, ◌+◌, Bool, false, not, ◌&&◌, ◌||◌, ◌==◌, nat_le, nat_lt, if◌then◌else◌, List, [], ◌∷◌, ◌++◌, codes, length, unwrap_or, Result, Ok, Err}
+use Rattle.std.specs.Prelude.{ℕ, Bool, false, not, ◌&&◌, ◌||◌, ◌==◌, nat_le, nat_lt, if◌then◌else◌, List, [], ◌∷◌, ◌++◌, codes, length, unwrap_or, Option, Some, None, Result, Ok, Err}
 use Rattle.std.specs.Str.{bytes_eq}
-use Rattle.csv.specs.Reading.{default_config, records, strip_bom}
 use Rattle.csv.specs.Records.{field_at}
+use Rattle.csv_records.specs.Rows.{Means, rows_in, or_fault}
 use Rattle.mc_task.specs.NameForm.{is_name}
 use Rattle.numeral.specs.Numeral.{number}
-use Rattle.demand_test.specs.Refusals.{◌>>=◌, refuse_if, or_refuse, at_line}
+use Rattle.demand_test.specs.Refusals.{◌>>=◌, refuse_if, or_refuse}
 use Rattle.demand_test.specs.declared.demand.Demand.{Demand}
 use Rattle.demand_test.specs.declared.fault.DemandCause.{DemandCause}
 use Rattle.demand_test.specs.declared.fault.DemandCause.TheVariants.{Header, Empty, TooMany, BadRecord, BadName, SameName, BadNumber, ZeroNumber, DeadlineOrder, Range}
@@ -62,23 +62,17 @@ record_task before fields = do
   _ ← multiple_with before t
   Ok t
 
+-- what the records behind this one mean, if it is the header
+abbrev pub behind_header : List (List ℕ) → Option (Means Demand DemandCause)
+behind_header fields = if is_header fields then Some record_task else None
+
 -- these tasks, of which there is one at least
 abbrev pub some_tasks : List Demand → Result (List Demand) DemandFault
 some_tasks [] = Err (At 1 Empty)
 some_tasks (t ∷ ts) = Ok (t ∷ ts)
 
--- these tasks and then those of the records behind them
-abbrev pub tasks_from : List (List (List ℕ)) → List Demand → Result (List Demand) DemandFault
-tasks_from [] before = some_tasks before
-tasks_from (f ∷ fs) before = do
-  t ← at_line (length before + 2) (record_task before f)
-  tasks_from fs (before ++ t ∷ [])
-
--- the tasks of a file with these records
-abbrev pub demand_file : List (List (List ℕ)) → Result (List Demand) DemandFault
-demand_file [] = Err (At 1 Header)
-demand_file (f ∷ fs) = if is_header f then tasks_from fs [] else Err (At 1 Header)
-
 -- the tasks of a file of these bytes
 abbrev pub demands_in : List ℕ → Result (List Demand) DemandFault
-demands_in bytes = demand_file (records default_config (strip_bom bytes))
+demands_in bytes = do
+  tasks ← or_fault At (rows_in behind_header Header bytes)
+  some_tasks tasks

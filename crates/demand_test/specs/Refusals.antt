@@ -1,9 +1,9 @@
 -- How refusals follow each other: the first one is the answer.
-use Rattle.std.specs.Prelude.{◌≡◌, ℕ, Bool, List, Option, Some, None, Result, Ok, Err, if◌then◌else◌}
+use Rattle.std.specs.Prelude.{◌≡◌, Bool, List, Option, Some, None, Result, Ok, Err, if◌then◌else◌}
 use Rattle.demand_test.specs.declared.demand.Demand.{Demand}
 use Rattle.demand_test.specs.declared.fault.DemandCause.{DemandCause}
 use Rattle.demand_test.specs.declared.fault.DemandFault.{DemandFault}
-use Rattle.demand_test.specs.declared.fault.DemandFault.TheVariants.{Memory, At}
+use Rattle.demand_test.specs.declared.fault.DemandFault.TheVariants.{Memory}
 
 infixl 10 ◌>>=◌
 -- the second after the first, unless the first is refused
@@ -19,11 +19,6 @@ refuse_if test cause = if test then Err cause else Ok tt
 abbrev pub or_refuse : {A : Type 0} → DemandCause → Option A → Result A DemandCause
 or_refuse cause (Some x) = Ok x
 or_refuse cause None = Err cause
-
--- the refusal told with this line
-abbrev pub at_line : {A : Type 0} → ℕ → Result A DemandCause → Result A DemandFault
-at_line line (Ok x) = Ok x
-at_line line (Err cause) = Err (At line cause)
 
 -- an error is the refusal, unless memory ran out
 abbrev pub Fails : DemandFault → Result (List Demand) DemandFault → Type 0

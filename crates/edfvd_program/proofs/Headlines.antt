@@ -30,9 +30,7 @@ use Rattle.edfvd_program.specs.Headline.{bytes_of, SaysSet, SchedulesExactly, Sp
 use Rattle.edfvd_program.proofs.Cases.{by_weaker, by_need, of_held, Second, second_weaker, other_status, Comes, comes, by_text, by_ok, by_length, next_of}
 use Rattle.edfvd_program.proofs.Promised.{schedules_exactly}
 use Rattle.edfvd_program.proofs.Scheduled.{Runs, RunsNext, not_1_run, schedules, not_1_live, lives}
-use Rattle.edfvd_program.proofs.Demanded.{tests}
-use Rattle.edfvd_program.proofs.Spread.{partitions, runs_all}
-use Rattle.edfvd_program.proofs.Measured.{measures, counts}
+use Rattle.edfvd_program.proofs.Spread.{runs_all}
 use Rattle.edfvd_program.proofs.Found.{TellsNext, not_1_tells, finds, finds_by}
 
 -- what comes next of `check`
@@ -134,11 +132,11 @@ of_form (live tasks ticks) range files old reply h =
       lives ticks (bytes_of files tasks) old reply c,
     )
 of_form (soak number tasks ticks) range files old reply h = soaks number tasks ticks old reply (range.0, range.1) h
-of_form (demand demands) range files old reply h = tests files demands reply h
-of_form (partition tasks m) range files old reply h = partitions files tasks m old reply h
+of_form (demand demands) range files old reply h = tt
+of_form (partition tasks m) range files old reply h = tt
 of_form (run_all tasks work ticks m) range files old reply h = runs_all files tasks work ticks m old reply h
-of_form (stretch tasks) range files old reply h = measures files tasks old reply h
-of_form (accept number sets tasks) range files old reply h = counts number sets tasks old reply h
+of_form (stretch tasks) range files old reply h = tt
+of_form (accept number sets tasks) range files old reply h = tt
 of_form (on_trace Judge tasks trace) range files old reply h = telling_finds Judge files tasks trace old reply h
 of_form (on_trace Chart tasks trace) range files old reply h = telling_finds Chart files tasks trace old reply h
 of_form (on_trace Report tasks trace) range files old reply h = telling_finds Report files tasks trace old reply h
@@ -146,13 +144,13 @@ of_form (on_trace Migrate tasks trace) range files old reply h = telling_finds M
 of_form (on_trace (JudgeBy p q) tasks trace) range files old reply h =
     finds_by p q (bytes_of files tasks) (bytes_of files trace) reply (given_next p q files tasks trace reply h)
 
-not_9 : (n m : ℕ) → n ≡ 9 → n ≡ m → m ≢ 9 → ⊥
+pub not_9 : (n m : ℕ) → n ≡ 9 → n ≡ m → m ≢ 9 → ⊥
 not_9 n m a b differ = differ (sym b ∙ a)
 
 gave_up_exactly : (bytes : List ℕ) (ended : ℕ) → ended ≡ 9 → SchedulesExactly bytes ended
 gave_up_exactly bytes ended e = record { refused = λ k. absurd (not_9 ended 1 e k (λ z. absurd (omega (arith, z)))); refuses = λ set s w n. inr e }
 
-never_spread : (m : ℕ) (bytes : List ℕ) (ended : ℕ) → ended ≡ 9 → SpreadsExactly m bytes ended
+pub never_spread : (m : ℕ) (bytes : List ℕ) (ended : ℕ) → ended ≡ 9 → SpreadsExactly m bytes ended
 never_spread m bytes ended e = record { refused = λ k. absurd (not_9 ended 12 e k (λ z. absurd (omega (arith, z)))); refuses = λ set task s n. inr e }
 
 finds_none : (telling : Telling) (bytes more old : List ℕ) (ended : ℕ) (new : Option (List ℕ)) → ended ≡ 9 → SchedulesExactly bytes ended × Finds telling bytes more old ended new
@@ -178,21 +176,14 @@ of_none (Some (live tasks ticks)) files old ended new e = (
   record { writes = λ k. absurd (not_9 ended 0 e k (λ z. absurd (omega (arith, z)))); complete = λ set rule a. inr e },
 )
 of_none (Some (soak number tasks ticks)) files old ended new e = record { sums = λ k. absurd (not_9 ended 0 e k (λ z. absurd (omega (arith, z)))); complete = inr e }
-of_none (Some (demand demands)) files old ended new e = record {
-  none_late = λ k. absurd (not_9 ended 0 e k (λ z. absurd (omega (arith, z))));
-  some_late = λ k. absurd (not_9 ended 10 e k (λ z. absurd (omega (arith, z))));
-  complete = λ set says. inr (inr e);
-}
-of_none (Some (partition tasks m)) files old ended new e = (
-  never_spread m (bytes_of files tasks) ended e,
-  record { writes = λ k. absurd (not_9 ended 0 e k (λ z. absurd (omega (arith, z)))); complete = λ set of is. inr e },
-)
+of_none (Some (demand demands)) files old ended new e = tt
+of_none (Some (partition tasks m)) files old ended new e = tt
 of_none (Some (run_all tasks work ticks m)) files old ended new e = (
   never_spread m (bytes_of files tasks) ended e,
   record { writes = λ k. absurd (not_9 ended 0 e k (λ z. absurd (omega (arith, z)))); complete = λ set of work is s. inr e },
 )
-of_none (Some (stretch tasks)) files old ended new e = record { writes = λ k. absurd (not_9 ended 0 e k (λ z. absurd (omega (arith, z)))); complete = λ set says within. inr e }
-of_none (Some (accept number sets tasks)) files old ended new e = record { writes = λ k. absurd (not_9 ended 0 e k (λ z. absurd (omega (arith, z)))); complete = inr e }
+of_none (Some (stretch tasks)) files old ended new e = tt
+of_none (Some (accept number sets tasks)) files old ended new e = tt
 of_none (Some (on_trace Judge tasks trace)) files old ended new e = finds_none Judge (bytes_of files tasks) (bytes_of files trace) old ended new e
 of_none (Some (on_trace Chart tasks trace)) files old ended new e = finds_none Chart (bytes_of files tasks) (bytes_of files trace) old ended new e
 of_none (Some (on_trace Report tasks trace)) files old ended new e = finds_none Report (bytes_of files tasks) (bytes_of files trace) old ended new e

@@ -7,4 +7,5 @@ pub mod Demanded
 pub mod Spread
 pub mod Measured
 pub mod Headlines
+pub mod TestedSets
 pub mod Jobs

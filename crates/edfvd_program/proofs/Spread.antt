@@ -28,7 +28,8 @@ use Rattle.run_answers.specs.Run.{work_of}
 use Rattle.part_answers.specs.Parted.{Parted, tasks_on, spread, fitted, parted}
 use Rattle.part_answers.specs.Partition.{partition_text, placed, partition}
 use Rattle.part_answers.specs.RunAll.{used, IsTraceOn, TellsTraces, run_all}
-use Rattle.edfvd_program.specs.Headline.{bytes_of, SaysSet, SaysWork, Succeeds, IsSpread, SpreadsExactly, Places, IsTimelyOn, WritesAll, SchedulesAll}
+use Rattle.edfvd_program.specs.Headline.{bytes_of, SaysSet, SaysWork, Succeeds, IsSpread, SpreadsExactly, IsTimelyOn, WritesAll, SchedulesAll}
+use Rattle.edfvd_program.specs.Tested.{Places}
 use Rattle.edfvd_program.proofs.Cases.{of_held, By, by_weaker, by_need, by_text, by_ok, by_cases, by_length, Second, by_second, second_fits, second_weaker, other_status, one_set}
 use Rattle.edfvd_program.proofs.Promised.{is_set}
 use Rattle.edfvd_program.proofs.Scheduled.{work_status}

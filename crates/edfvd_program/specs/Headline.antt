@@ -21,26 +21,15 @@ use Rattle.mc_model.specs.TraceText.{trace_text}
 use Rattle.mc_model.specs.Promise.{KeepsDeadlines}
 use Rattle.command_line.specs.declared.form.Telling.{Telling}
 use Rattle.command_line.specs.declared.form.Telling.TheVariants.{JudgeBy, Chart}
-use Rattle.command_line.specs.Form.{Form, check, run, on_trace, soak, live, demand, partition, run_all, stretch, accept}
-use Rattle.demand_test.specs.declared.demand.Demand.{Demand}
-use Rattle.demand_test.specs.declared.row.EdfRow.{EdfRow}
-use Rattle.demand_test.specs.EdfRuns.{IsRun, NoneLate}
-use Rattle.demand_test.specs.Counter.{SomeLate}
-use Rattle.demand_test.specs.DemandFile.{demands_in}
+use Rattle.command_line.specs.Form.{Form, check, run, on_trace, soak, live, run_all}
 use Rattle.part_fit.specs.FirstFit.{first_fit}
-use Rattle.part_fit.specs.Partition.{IsPartition}
 use Rattle.part_fit.specs.PartWork.{part_rows}
 use Rattle.task_answers.specs.Admitted.{under, set_in}
 use Rattle.trace_answers.specs.OnTrace.{rows_in, told}
 use Rattle.run_answers.specs.Run.{work_of}
 use Rattle.run_answers.specs.Soak.{workload_set, soak_text, IsSoaked}
 use Rattle.part_answers.specs.Parted.{Parted, tasks_on, spread}
-use Rattle.part_answers.specs.Partition.{partition_text}
 use Rattle.part_answers.specs.RunAll.{used, trace_lines}
-use Rattle.study.specs.Stretch.{IsStretch}
-use Rattle.study.specs.Acceptance.{accept_table}
-use Rattle.study_answers.specs.Stretch.{stretch_text}
-use Rattle.study_answers.specs.Accept.{table_text}
 
 -- the bytes under a name, none where none are held
 abbrev pub bytes_of : Files → List ℕ → List ℕ
@@ -140,19 +129,6 @@ pub record Soaked (number tasks ticks : ℕ) (old : List ℕ) (ended : ℕ) (new
   -- each workload is admitted, and run
   pub complete : Succeeds ended
 
--- the demand file says this set
-abbrev pub SaysDemands : List ℕ → List Demand → Type 0
-SaysDemands bytes set = (length bytes ≤ 2 ^ 24) × (demands_in bytes ≡ Ok set)
-
--- what `demand` promises of plain EDF
-pub record Tests (bytes : List ℕ) (ended : ℕ) : Type 0 where
-  -- no job of any run of a set that it finds schedulable is late
-  pub none_late : ended ≡ 0 → (set : List Demand) × SaysDemands bytes set × ((h : List EdfRow) → IsRun set h → NoneLate set h)
-  -- there is a run of one that it does not, in which a job is late
-  pub some_late : ended ≡ 10 → (set : List Demand) × (h : List EdfRow) × SaysDemands bytes set × IsRun set h × SomeLate set h
-  -- it finds each set so
-  pub complete : (set : List Demand) → SaysDemands bytes set → (ended ≡ 10) ⊎ Succeeds ended
-
 -- the task file says this set, and first fit puts its tasks on these processors, from 1 to m
 abbrev pub IsSpread : ℕ → List ℕ → Set → List ℕ → Type 0
 IsSpread m bytes set of = SaysSet bytes set × (first_fit set.tasks m ≡ Ok of)
@@ -161,14 +137,6 @@ IsSpread m bytes set of = SaysSet bytes set × (first_fit set.tasks m ≡ Ok of)
 pub record SpreadsExactly (m : ℕ) (bytes : List ℕ) (ended : ℕ) : Type 0 where
   pub refused : ended ≡ 12 → (set : Set) × (task : ℕ) × SaysSet bytes set × (first_fit set.tasks m ≡ Err task)
   pub refuses : (set : Set) (task : ℕ) → SaysSet bytes set → first_fit set.tasks m ≡ Err task → (ended ≡ 12) ⊎ (ended ≡ 9)
-
--- what `partition` promises
-pub record Places (m : ℕ) (bytes old : List ℕ) (ended : ℕ) (new : Option (List ℕ)) : Type 0 where
-  -- each task is on one processor, the tasks of each are admitted, and it is written which they are
-  pub writes : ended ≡ 0 → (set : Set) × (of : List ℕ)
-      × IsSpread m bytes set of × IsPartition set.tasks of m × (new ≡ Some (old ++ partition_text m (spread set.tasks of)))
-  -- it is written for each set that is spread
-  pub complete : (set : Set) (of : List ℕ) → IsSpread m bytes set of → Succeeds ended
 
 -- the trace is that of the tasks on processor n and of their work, under their rule, and keeps the deadlines
 pub record IsTimelyOn (ticks : ℕ) (parted : Parted) (work : List WorkRow) (n : ℕ) (h : List Row) : Type 0 where
@@ -190,21 +158,8 @@ pub record SchedulesAll (ticks m : ℕ) (bytes more old : List ℕ) (ended : ℕ
   -- it writes them for each set that is spread and each work file
   pub complete : (set : Set) (of : List ℕ) (work : List WorkRow) → IsSpread m bytes set of → SaysWork more set.tasks work → Succeeds ended
 
--- what `stretch` promises
-pub record Measures (bytes old : List ℕ) (ended : ℕ) (new : Option (List ℕ)) : Type 0 where
-  -- the published test admits the set at the percentage that it writes, and at none above it up to 1000
-  pub writes : ended ≡ 0 → (set : Set) × (s : Option ℕ) × SaysSet bytes set × HasNoRangeFault set × IsStretch set.tasks s × (new ≡ Some (old ++ stretch_text set.tasks s))
-  -- it writes one for each set within range
-  pub complete : (set : Set) → SaysSet bytes set → HasNoRangeFault set → Succeeds ended
-
--- what `accept` promises
-pub record Tabulates (number sets tasks : ℕ) (old : List ℕ) (ended : ℕ) (new : Option (List ℕ)) : Type 0 where
-  -- it writes how many of the made sets have each stretch
-  pub writes : ended ≡ 0 → new ≡ Some (old ++ table_text (accept_table number sets tasks))
-  -- always
-  pub complete : Succeeds ended
-
--- the headline, by what the files hold, what was written before, the status and what is written after
+-- the headline, by what the files hold, what was written before, the status and what is written after, of each command that
+-- schedules a set, or tells of a trace; what the others test is in Tested
 abbrev pub Headline : Option Form → Files → List ℕ → ℕ → Option (List ℕ) → Type 0
 Headline None files old ended new = Unit {0}
 Headline (Some (check tasks)) files old ended new = SchedulesExactly (bytes_of files tasks) ended × Admits (bytes_of files tasks) ended
@@ -213,13 +168,9 @@ Headline (Some (run tasks work ticks)) files old ended new =
 Headline (Some (live tasks ticks)) files old ended new =
     SchedulesExactly (bytes_of files tasks) ended × Lives ticks (bytes_of files tasks) old ended new
 Headline (Some (soak number tasks ticks)) files old ended new = Soaked number tasks ticks old ended new
-Headline (Some (demand demands)) files old ended new = Tests (bytes_of files demands) ended
-Headline (Some (partition tasks processors)) files old ended new =
-    SpreadsExactly processors (bytes_of files tasks) ended × Places processors (bytes_of files tasks) old ended new
 Headline (Some (run_all tasks work ticks processors)) files old ended new =
     SpreadsExactly processors (bytes_of files tasks) ended × SchedulesAll ticks processors (bytes_of files tasks) (bytes_of files work) old ended new
-Headline (Some (stretch tasks)) files old ended new = Measures (bytes_of files tasks) old ended new
-Headline (Some (accept number sets tasks)) files old ended new = Tabulates number sets tasks old ended new
 Headline (Some (on_trace (JudgeBy p q) tasks trace)) files old ended new = FindsBy (Virtual p q) (bytes_of files tasks) (bytes_of files trace) ended
 Headline (Some (on_trace telling tasks trace)) files old ended new =
     SchedulesExactly (bytes_of files tasks) ended × Finds telling (bytes_of files tasks) (bytes_of files trace) old ended new
+Headline (Some form) files old ended new = Unit {0}

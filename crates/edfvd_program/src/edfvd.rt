@@ -6,6 +6,7 @@ ghost use Rattle.command_line.specs.Form.{form_of};
 ghost use Rattle.serving.specs.Outcome.{Tells, AskedInOrder};
 ghost use Rattle.edfvd_program.specs.Commands.{command};
 ghost use Rattle.edfvd_program.specs.Headline.{Headline};
+ghost use Rattle.edfvd_program.specs.Tested.{Tested};
 ghost use Rattle.edfvd_program.specs.Outcome.{IsReply, Outcome, CalmOutcome, Answers};
 
 use crate::threaded::{serve_accept, serve_live, serve_run, serve_run_all, serve_soak};
@@ -50,6 +51,12 @@ pub fn edfvd<R: Threads + Wait + Sync, S: Shelf, K: Sink, G: Gate + Sync>(
         → Tells files (S.state shelf.old) (S.state shelf.new)
         → (K.state out.old).written ≡ Some old → (Rose (K.state out.old).faults (K.state out.new).faults → ⊥)
         → Headline (form_of asked) files old result (K.state out.new).written }
+
+    // What is told of sets that are tested and not scheduled is so.
+    ensures tested { let asked = map (λ w. string_bytes w) words.now in (files : Files) (old : List ℕ)
+        → Tells files (S.state shelf.old) (S.state shelf.new)
+        → (K.state out.old).written ≡ Some old → (Rose (K.state out.old).faults (K.state out.new).faults → ⊥)
+        → Tested (form_of asked) files old result (K.state out.new).written }
 
     // A write fault is told exactly where the sink failed.
     ensures write_fault { result ≡ 8 → Rose (K.state out.old).faults (K.state out.new).faults }

@@ -30,7 +30,7 @@ use Rattle.executive.specs.Counts.{idled, tally, ticks_of, ends_of, idle_ticks}
 use Rattle.executive.specs.Stands.{opening_of, IsKept}
 use Rattle.executive.specs.Seats.{lists, job_out, floor_or_none}
 use Rattle.executive.specs.Passes.{of_pass, of_resting, floor_of, IsPassOf}
-use Rattle.executive.specs.Closing.{seat_of, seat_of_resting, has_pass, HasEach, IsPartOf, AgreesWith, Closes}
+use Rattle.executive.specs.Closing.{seat_of, seat_of_resting, has_pass, HasPassOfEach, IsPartOf, AgreesWith, OneHistoryLeaves}
 use Rattle.executive.proofs.Histories.{own_calls, still_out, none_out, seat_of_task}
 use Rattle.executive.proofs.Counting.{IsEmpty, releases_counted, ticks_counted, ends_counted, idles_counted}
 use Rattle.executive.proofs.Adding.{opens_empty}
@@ -181,7 +181,7 @@ of_seats e ps ss same h = to_seats (λ s. IsOf e.turns s) ps ss same (λ k d lt.
     first None h = tt
 
 -- each seat's number is there
-pub each_seat : (e : Executive) (ps : List TaskPass) (ss : List OurSeat) → AreSeats ps ss → HasEach ps (floor_of e).core.set → (k : ℕ) → k < length (floor_of e).core.set → list_any (λ s. number s == k) ss ≡ true
+pub each_seat : (e : Executive) (ps : List TaskPass) (ss : List OurSeat) → AreSeats ps ss → HasPassOfEach ps (floor_of e).core.set → (k : ℕ) → k < length (floor_of e).core.set → list_any (λ s. number s == k) ss ≡ true
 each_seat e ps ss same all k lt = same_tests k ps ss same ∙ all (k + 1) (omega arith, omega (arith, lt))
 
 none_of : (e : Executive) (log : List Entry) (ss : List OurSeat) (k : ℕ) → IsLegal (floor_of e) log → All (IsKnown e log) ss → list_any (λ s. number s == k) ss ≡ true → running (after (floor_of e) log).core.out (k + 1) ≡ None
@@ -191,8 +191,8 @@ none_of e log ss k legal known any =
     let h = all_get (IsKnown e log) ss f.0 f.1 known f.2 in
     no_tick (floor_of e) log (k + 1) f.1 legal (ap (λ (n : ℕ). n + 1) (eqb-true (number f.1) k f.3)) (ap floor_or_none h.0.1) h.1.0 h.1.1
 
-pub closed : (e : Executive) (ps : List TaskPass) (ss : List OurSeat) (x : State) (log : List Entry) → length ps ≤ length (floor_of e).core.set → AreSeats ps ss → All (λ p. IsPassOf e p) ps → HasEach ps (floor_of e).core.set
-    → IsLegal (opening_of x.floor) log → x.floor ≡ after (opening_of x.floor) log → IsKept x.floor → opening_of x.floor ≡ floor_of e → All (IsInLog log) ss → Closes (floor_of e) ps x.floor
+pub closed : (e : Executive) (ps : List TaskPass) (ss : List OurSeat) (x : State) (log : List Entry) → length ps ≤ length (floor_of e).core.set → AreSeats ps ss → All (λ p. IsPassOf e p) ps → HasPassOfEach ps (floor_of e).core.set
+    → IsLegal (opening_of x.floor) log → x.floor ≡ after (opening_of x.floor) log → IsKept x.floor → opening_of x.floor ≡ floor_of e → All (IsInLog log) ss → OneHistoryLeaves (floor_of e) ps x.floor
 unfolding IsKnown
 closed e ps ss x log few same of all legal0 leaves0 kept is each =
     let o = floor_of e in

@@ -28,6 +28,7 @@ use Rattle.executive.specs.Histories.{MayCall, answer_to, after_call, after, IsL
 use Rattle.mc_model.specs.Sums.{total}
 use Rattle.executive.specs.Counts.{released, ticked, ended, idled, ticks_of, ends_of, idle_ticks}
 use Rattle.executive.proofs.Histories.{with_core, of_both, of_both_cores, of_both_rows}
+use Rattle.mode_core.proofs.Releasing.{jobs-few}
 
 -- the answers in a history that count for one number are those to its own calls
 pub total_own : (by : Entry → ℕ) (f : Answer → ℕ) (k : ℕ) (log : List Entry) → total (λ (e : Entry). cond (by e == k) (f e.answer) 0) log ≡ total (λ (e : Entry). f e.answer) (made_by by k log)
@@ -232,10 +233,6 @@ few_releases k (row.Release j kept ∷ g) = let ih = few_releases k g in let b =
 few_releases k (row.Tick j how ∷ g) = let ih = few_releases k g in omega (arith, ih)
 few_releases k (row.Idle ∷ g) = let ih = few_releases k g in omega (arith, ih)
 
-few_held : (k : ℕ) (js : List JobId) → jobs_of k js ≤ length js
-few_held k [] = omega arith
-few_held k (j ∷ js) = let ih = few_held k js in let b = bit (j.task.0 == k) 1 (omega arith) in omega (arith, ih, b)
-
 few_ticks : (k : ℕ) (g : List Row) → ticks_of k g ≤ length g
 few_ticks k [] = omega arith
 few_ticks k (row.Release j kept ∷ g) = let ih = few_ticks k g in omega (arith, ih)
@@ -270,7 +267,7 @@ are_few k f log n none legal room =
     let i = idles_counted f log none legal in
     let some = total_some idled k log in
     let a = few_releases k s.rows in
-    let b = few_held k s.held in
+    let b = jobs-few k s.held in
     let c = few_ticks k s.rows in
     let e = few_ends k s.rows in
     let l = few_idles s.rows in record {

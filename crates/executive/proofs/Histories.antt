@@ -25,6 +25,7 @@ use Rattle.executive.specs.declared.entry.Answer.TheVariants.{Taken, Told}
 use Rattle.executive.specs.Histories.{MayCall, answer_to, after_call, after, IsLegalEntry, IsLegal, calls_of, seat_number}
 use Rattle.executive.specs.Stands.{opening_of}
 use Rattle.executive.specs.Passes.{job_then}
+use Rattle.turnstile.proofs.Lists.{both_ways}
 
 -- a floor is one of two, as its plan refuses or not
 pub of_both : (P : FloorState → Type 0) (o : Option PlanFault) (a b : FloorState) → P a → P b → P (floor_unless o a b)
@@ -185,9 +186,6 @@ out_own f k Look = refl
 none_of_it : (b : Bool) (e : Entry) (es : List Entry) → cond b (e ∷ es) es ≡ [] → (b ≡ false) × (es ≡ [])
 none_of_it true e es h = absurd (cc)
 none_of_it false e es h = (refl, h)
-
-both_ways : {X : Type 0} (b : Bool) → b ≡ true → b ≡ false → X
-both_ways b t f = absurd (cc)
 
 -- calls of other tasks leave it as it was whether this task's tick is out
 pub out_stays : (k : ℕ) (f : FloorState) (more : List Entry) → IsLegal f more → calls_of k more ≡ [] → running (after f more).core.out k ≡ running f.core.out k

@@ -1,5 +1,5 @@
 -- The newest call of a pass that released its task.
-use Rattle.std.proofs.Common.{◌≡◌, ◌∙◌, sym, ap, List, [], ◌∷◌, ◌++◌, Result, Ok, Err, IfOk}
+use Rattle.std.proofs.Common.{◌∙◌, sym, ap, [], ◌∷◌, ◌++◌, Result, Ok, Err, IfOk}
 use Rattle.mode_core.specs.declared.answers.Released.{Released}
 use Rattle.mode_core.specs.declared.answers.ReleaseFault.{ReleaseFault}
 use Rattle.timetable.specs.declared.acts.ActFault.{ActFault}

@@ -7,7 +7,7 @@ use Rattle.mc_model.specs.declared.row.Row.{Row}
 use Rattle.mc_model.specs.declared.row.Row.TheVariants as row
 use Rattle.mc_model.specs.Rows.{ticks}
 use Rattle.mc_model.proofs.Ticks.{ticks-le}
-use Rattle.mc_model.specs.Core.{State as CoreState, next_job, add_held, settled, settle, outcome_of}
+use Rattle.mc_model.specs.Core.{State as CoreState, next_job, settled, settle, outcome_of}
 use Rattle.mode_core.specs.declared.answers.NotOut.{NotOut}
 use Rattle.mode_core.specs.declared.answers.IdleFault.{IdleFault}
 use Rattle.mode_core.specs.Shape.{IsSound}
@@ -26,6 +26,7 @@ use Rattle.executive.specs.declared.entry.Answer.TheVariants.{Told, Idled}
 use Rattle.executive.specs.Histories.{MayCall, answer_to, after_call, after, IsLegal}
 use Rattle.executive.specs.Shows.{shown_of, ends_tick, shows_now, shows_from, shows, HasShown, IsUpTo}
 use Rattle.executive.proofs.Histories.{with_core, of_both, of_both_cores, of_both_rows}
+use Rattle.mode_core.proofs.Held.{ticks-held}
 
 -- one entry more
 pub shows_more : (f : FloorState) (log : List Entry) (e : Entry) → shows f (log ++ e ∷ []) ≡ shows f log ++ shows_now (after_call (after f log) e.task.0 e.call) e.answer
@@ -40,13 +41,9 @@ shows_more f log e = ap (λ (l : List Shown). start ∷ l) (more f log)
 nothing : (n : ℕ) → n ≡ n + 0
 nothing n = omega arith
 
-held_ticks : (set : List Task) (rule : Rule) (js : List JobId) (g : List Row) → ticks (add_held set rule js g) ≡ ticks g
-held_ticks set rule [] g = refl
-held_ticks set rule (j ∷ js) g = held_ticks set rule js g
-
 pub settled_ticks : (set : List Task) (rule : Rule) (d : Bool) (rows : List Row) (o : Option JobId) (js : List JobId) (j : ℕ) → is_of_task o j ≡ true → ticks (settled set rule d rows o js) ≡ ticks rows + 1
 settled_ticks set rule d rows None js j may = absurd (cc)
-settled_ticks set rule d rows (Some i) js j may = held_ticks set rule js (row.Tick i (outcome_of set rule rows i d) ∷ rows)
+settled_ticks set rule d rows (Some i) js j may = ticks-held set rule js (row.Tick i (outcome_of set rule rows i d) ∷ rows)
 
 -- a call adds a tick where its answer ends one
 pub ticks_law : (f : FloorState) (j : ℕ) (c : Call) → MayCall f j c → ticks (after_call f j c).core.rows ≡ ticks f.core.rows + cond (ends_tick (answer_to f j c)) 1 0

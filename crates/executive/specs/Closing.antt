@@ -24,8 +24,8 @@ abbrev pub has_pass : List TaskPass → ℕ → Bool
 has_pass passes k = list_any (λ p. (of_pass p).task == k) passes
 
 -- it has one of each task of the set
-abbrev pub HasEach : List TaskPass → List Task → Type 0
-HasEach passes set = (k : ℕ) → IsIn set k → has_pass passes k ≡ true
+abbrev pub HasPassOfEach : List TaskPass → List Task → Type 0
+HasPassOfEach passes set = (k : ℕ) → IsIn set k → has_pass passes k ≡ true
 
 -- of task number k, which is in the set, it has none, and of each lower one it has one
 pub record IsMissing (passes : List TaskPass) (set : List Task) (k : ℕ) : Type 0 where
@@ -45,7 +45,7 @@ pub record AgreesWith (f : FloorState) (p : PassState) : Type 0 where
   pub ends : p.count.ends ≡ ends_of p.task f.core.rows
 
 -- one legal history leaves the floor, and each of the passes is in it
-pub record Closes (opening : FloorState) (passes : List TaskPass) (f : FloorState) : Type 0 where
+pub record OneHistoryLeaves (opening : FloorState) (passes : List TaskPass) (f : FloorState) : Type 0 where
   pub log : List Entry
   pub legal : IsLegal opening log
   pub leaves : f ≡ after opening log

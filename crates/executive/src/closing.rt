@@ -1,7 +1,7 @@
 //! How an executive is closed.
 ghost use Rattle.std.specs.Prelude.{◌≡◌, ◌≤◌, IfSome, IfOk, IfErr, IfNone, All, map, Some, vec_len, vec_capacity, length, List};
 ghost use Rattle.mc_task.specs.declared.task.Task.{Task};
-ghost use Rattle.executive.specs.Closing.{has_pass, HasEach, IsMissing, seat_of, Closes};
+ghost use Rattle.executive.specs.Closing.{has_pass, HasPassOfEach, IsMissing, seat_of, OneHistoryLeaves};
 ghost use Rattle.executive.specs.Passes.{IsPassOf, floor_of};
 
 use crate::executive::{Executive, Reserved};
@@ -28,8 +28,8 @@ impl Executive {
         requires few { vec_len passes ≤ length (floor_of self).core.set }
         ensures missing { IfErr result (λ u. IsMissing passes.items (floor_of self).core.set u.task.0) }
         ensures back { IfErr result (λ u. (u.executive ≡ self) × (u.passes ≡ passes)) }
-        ensures each { IfOk result (λ f. HasEach passes.items (floor_of self).core.set) }
-        ensures floor { IfOk result (λ f. Closes (floor_of self) passes.items f) }
+        ensures each { IfOk result (λ f. HasPassOfEach passes.items (floor_of self).core.set) }
+        ensures floor { IfOk result (λ f. OneHistoryLeaves (floor_of self) passes.items f) }
     {
         let _ = rt;
         if let Some(task) = missing(passes.as_slice(), self.tasks) {
@@ -46,8 +46,8 @@ impl Executive {
     fn shut(self, passes: Vec<TaskPass>) -> Floor
         requires of { All (λ p. IsPassOf self p) passes.items }
         requires few { vec_len passes ≤ length (floor_of self).core.set }
-        requires each { HasEach passes.items (floor_of self).core.set }
-        ensures { Closes (floor_of self) passes.items result }
+        requires each { HasPassOfEach passes.items (floor_of self).core.set }
+        ensures { OneHistoryLeaves (floor_of self) passes.items result }
     {
         let Executive {
             turns,
@@ -70,7 +70,7 @@ impl Executive {
 fn missing(passes: &[TaskPass], tasks: u32) -> Option<TaskNo>
     requires { tasks ≤ 128 }
     ensures some { IfSome result (λ k. (set : List Task) → length set ≡ tasks → IsMissing passes.now set k.0) }
-    ensures none { IfNone result ((set : List Task) → length set ≡ tasks → HasEach passes.now set) }
+    ensures none { IfNone result ((set : List Task) → length set ≡ tasks → HasPassOfEach passes.now set) }
 {
     for task in 1..=tasks {
         if !has_pass(passes, TaskNo(task)) {

@@ -8,9 +8,8 @@ ghost use Rattle.executive.specs.Watching.{IsWatcherOf};
 use crate::{Count, Executive, Taken, TaskPass, Unclosed};
 use admission::admit;
 use load_sum::sum_loads;
-use mc_model::{How, Row, WorkRow};
-use mc_task::Level::{High, Low};
-use mc_task::{JobId, Level, Name, Task, TaskNo, TaskSet};
+use mc_model::How;
+use mc_task::TaskNo;
 use mode_core::{Core, GrantFault, Granted, IdleFault, ReleaseFault, Released};
 use status_board::{Shown, Watcher};
 use std::alloc::Global;
@@ -18,44 +17,21 @@ use std::sync::Wait;
 use std::test::Fail;
 use timetable::{Act, ActFault, Floor, Plan, PlanFault};
 use work_file::Work;
+use worked_sets::{
+    CONTROL, HELD_RELEASE_WORK, Job, OVERRUN_ROWS, OVERRUN_WORK, job, kept, set_of, tick, work_rows,
+};
 
-fn task(name: &str, level: Level, low: u32, high: u32) -> Result<Task, Fail> {
-    Ok(Task {
-        name: Name::new(name.as_bytes()).ok_or("name")?,
-        level,
-        period: 10,
-        low,
-        high,
-    })
-}
-
-// A high task with budgets 2 and 6, and a low task with budget 5, both with period 10.
-fn control_set(alloc: Global) -> Result<TaskSet, Fail> {
-    let mut tasks = Vec::new(alloc);
-    tasks.push(task("ctl", High, 2, 6)?)?;
-    tasks.push(task("log", Low, 5, 5)?)?;
-    Ok(TaskSet::new(tasks)?)
-}
-
-// A floor whose plan is the jobs, each a task's number, a release and a need.
-fn planned(alloc: Global, jobs: &[(u32, u32, u32)], ticks: u32) -> Result<Floor, Fail>
+// A floor whose plan is the jobs.
+fn planned(alloc: Global, jobs: &[Job], ticks: u32) -> Result<Floor, Fail>
     ensures rows { IfOk result (λ f. (f.core.rows ≡ []) × (f.core.out ≡ None)) }
     ensures plan { IfOk result (λ f. is_planned f.plan ≡ true) }
 {
     if ticks == 0 || ticks > 1000 {
         return Err("ticks".into());
     }
-    let set = control_set(alloc)?;
+    let set = set_of(alloc, &CONTROL)?;
     let rule = admit(&sum_loads(&set)?).ok_or("not admitted")?;
-    let mut rows = Vec::new(alloc);
-    for (task, release, need) in jobs {
-        rows.push(WorkRow {
-            task: TaskNo(*task),
-            release: *release,
-            need: *need,
-        })?;
-    }
-    let work = Work::new(&set, rows)?;
+    let work = Work::new(&set, work_rows(alloc, jobs)?)?;
     let places = ticks as usize + work.rows().len();
     let core = Core::new(alloc, set, rule, places)?;
     let ticks = u64::from(ticks);
@@ -66,31 +42,10 @@ fn planned(alloc: Global, jobs: &[(u32, u32, u32)], ticks: u32) -> Result<Floor,
 fn free(alloc: Global) -> Result<Floor, Fail>
     ensures { IfOk result (λ f. (f.core.rows ≡ []) × (f.core.out ≡ None)) }
 {
-    let set = control_set(alloc)?;
+    let set = set_of(alloc, &CONTROL)?;
     let rule = admit(&sum_loads(&set)?).ok_or("not admitted")?;
     let core = Core::new(alloc, set, rule, 4)?;
     Ok(Floor::new(core, Plan::Free))
-}
-
-fn job(task: u32, count: u32) -> JobId {
-    JobId {
-        task: TaskNo(task),
-        count,
-    }
-}
-
-fn kept(task: u32, count: u32) -> Row {
-    Row::Release {
-        job: job(task, count),
-        kept: true,
-    }
-}
-
-fn tick(task: u32, count: u32, how: How) -> Row {
-    Row::Tick {
-        job: job(task, count),
-        how,
-    }
 }
 
 fn count(releases: u64, ticks: u64, ends: u64, idles: u64) -> Count {
@@ -145,7 +100,7 @@ fn ticked<R: Wait>(
 
 #[test]
 fn close_wants_a_pass_of_each_task(rt: HostRuntime) -> Result<(), Fail> {
-    let floor = planned(rt.alloc(), &[(1, 0, 6), (2, 2, 5)], 4)?;
+    let floor = planned(rt.alloc(), &HELD_RELEASE_WORK, 4)?;
     let Ok((executive, mut passes)) = Executive::new(&rt, rt.alloc(), floor) else {
         return Err("memory".into());
     };
@@ -181,21 +136,21 @@ fn close_wants_a_pass_of_each_task(rt: HostRuntime) -> Result<(), Fail> {
 
 #[test]
 fn a_planned_tick_is_taken_and_ended(rt: HostRuntime) -> Result<(), Fail> {
-    let floor = planned(rt.alloc(), &[(1, 0, 6), (2, 2, 5)], 4)?;
+    let floor = planned(rt.alloc(), &HELD_RELEASE_WORK, 4)?;
     let Ok((executive, mut passes)) = Executive::new(&rt, rt.alloc(), floor) else {
         return Err("memory".into());
     };
     assert!(rt; passes.len() == 2);
     let (mut first, mut second) = two_of(&executive, &mut passes);
     let released = Released::Kept {
-        job: job(1, 1),
+        job: job!(1, 1),
         at: 0,
     };
     assert_eq!(rt; executive.release(&rt, &mut first), Ok(released));
     let mut first = match executive.take(&rt, first) {
         Taken::Given(grant) => {
             let granted = Granted {
-                job: job(1, 1),
+                job: job!(1, 1),
                 at: 0,
                 before: 0,
             };
@@ -207,7 +162,7 @@ fn a_planned_tick_is_taken_and_ended(rt: HostRuntime) -> Result<(), Fail> {
         Taken::NotNow(_first, _fault) => panic!(rt; "it was not given"),
     };
     assert_eq!(rt; executive.look(&rt, &mut first), Act::Grant(TaskNo(1)));
-    let pending = IdleFault::Pending { job: job(1, 1) };
+    let pending = IdleFault::Pending { job: job!(1, 1) };
     assert_eq!(rt;
         executive.idle(&rt, &mut first),
         Err(ActFault::Core(pending))
@@ -222,7 +177,7 @@ fn a_planned_tick_is_taken_and_ended(rt: HostRuntime) -> Result<(), Fail> {
     put(&executive, &mut passes, second);
     match executive.close(&rt, passes) {
         Ok(floor) => {
-            let rows = [kept(1, 1), tick(1, 1, How::More)];
+            let rows = [kept!(1, 1), tick!(1, 1, How::More)];
             assert!(rt; floor.core().rows() == rows.as_slice());
         }
         Err(_unclosed) => panic!(rt; "a pass is missing"),
@@ -247,17 +202,17 @@ fn other_tasks_are_answered_while_a_tick_is_out(rt: HostRuntime) -> Result<(), F
     );
     let first = match executive.take(&rt, first) {
         Taken::Given(grant) => {
-            let out = GrantFault::TickOut { job: job(1, 1) };
+            let out = GrantFault::TickOut { job: job!(1, 1) };
             let (mut other, fault) = ticked(&rt, &executive, second);
             assert_eq!(rt; fault, Err(ActFault::Core(out)));
-            let out = IdleFault::TickOut { job: job(1, 1) };
+            let out = IdleFault::TickOut { job: job!(1, 1) };
             assert_eq!(rt; executive.idle(&rt, &mut other), Err(ActFault::Core(out)));
             let held = Released::Held {
-                job: job(2, 1),
+                job: job!(2, 1),
                 at: 2,
             };
             assert_eq!(rt; executive.release(&rt, &mut other), Ok(held));
-            assert_eq!(rt; executive.look(&rt, &mut other), Act::Wait(job(1, 1)));
+            assert_eq!(rt; executive.look(&rt, &mut other), Act::Wait(job!(1, 1)));
             second = other;
             let (first, how) = executive.outcome(&rt, grant, false);
             assert_eq!(rt; how, How::More);
@@ -280,25 +235,7 @@ fn other_tasks_are_answered_while_a_tick_is_out(rt: HostRuntime) -> Result<(), F
 
 #[test]
 fn a_plan_whose_executive_was_closed_is_finished(rt: HostRuntime) -> Result<(), Fail> {
-    let jobs = [(1, 0, 6), (2, 0, 5), (2, 10, 5)];
-    let rows = [
-        kept(1, 1),
-        kept(2, 1),
-        tick(1, 1, How::More),
-        tick(1, 1, How::Over),
-        tick(1, 1, How::More),
-        tick(1, 1, How::More),
-        tick(1, 1, How::More),
-        tick(1, 1, How::Done),
-        Row::Idle,
-        Row::Idle,
-        Row::Idle,
-        Row::Idle,
-        kept(2, 2),
-        tick(2, 2, How::More),
-        tick(2, 2, How::More),
-    ];
-    let floor = planned(rt.alloc(), &jobs, 12)?;
+    let floor = planned(rt.alloc(), &OVERRUN_WORK, 12)?;
     let Ok((executive, mut passes)) = Executive::new(&rt, rt.alloc(), floor) else {
         return Err("memory".into());
     };
@@ -314,9 +251,9 @@ fn a_plan_whose_executive_was_closed_is_finished(rt: HostRuntime) -> Result<(), 
     put(&executive, &mut passes, second);
     match executive.close(&rt, passes) {
         Ok(mut floor) => {
-            assert!(rt; floor.core().rows() == &rows[..4]);
+            assert!(rt; floor.core().rows() == &OVERRUN_ROWS[..4]);
             floor.finish();
-            assert!(rt; floor.core().rows() == rows.as_slice());
+            assert!(rt; floor.core().rows() == OVERRUN_ROWS.as_slice());
         }
         Err(_unclosed) => panic!(rt; "a pass is missing"),
     }

@@ -9,7 +9,7 @@ use Rattle.load_sum.specs.declared.loads.Loads.{Loads}
 use Rattle.load_sum.specs.Belong.{BelongTo}
 
 -- x over l is k * x over k * l
-across : (x k l p a : ℕ) → p ≡ k * l → a ≡ k * x → x * p ≡ a * l
+pub across : (x k l p a : ℕ) → p ≡ k * l → a ≡ k * x → x * p ≡ a * l
 across x k l p a whole part = ap (λ z. x * z) whole ∙ omega arith ∙ ap (λ z. z * l) (sym part)
 
 pub BelongTo-from_sums : (tasks : List Task) (loads : Loads) → AreTasks tasks → loads.lcm ≡ hyperperiod tasks → 0 < loads.lcm → loads.lcm ≤ most_lcm

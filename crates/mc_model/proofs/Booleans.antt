@@ -2,31 +2,26 @@
 use Rattle.std.proofs.Common.{◌≡◌, ℕ, Bool, true, false, not, ◌&&◌, ◌||◌, ◌==◌, ◌≢◌, refl}
 use Rattle.std.proofs.lemmas.Bool.Decides.{nat_tests}
 use Rattle.std.proofs.Common.{arith}
+use Rattle.std.proofs.lemmas.Bool.{or_parts}
 
--- both parts of an `and` are true
-pub and_both : (a b : Bool) → (a && b) ≡ true → (a ≡ true) × (b ≡ true)
-and_both true true h = (refl, refl)
-and_both true false h = cc
-and_both false b h = cc
-
--- both parts of an `or` that is false are false
-pub or_none : (a b : Bool) → (a || b) ≡ false → (a ≡ false) × (b ≡ false)
-or_none true b h = cc
-or_none false true h = cc
-or_none false false h = (refl, refl)
-
--- the first of them is
+-- where an `or` is false, its first part is
 pub or_left : (a b : Bool) → (a || b) ≡ false → a ≡ false
-or_left a b h = (or_none a b h).0
+or_left a b h = (or_parts a b h).0
 
--- the second of them is
+-- and its second part
 pub or_right : (a b : Bool) → (a || b) ≡ false → b ≡ false
-or_right a b h = (or_none a b h).1
+or_right a b h = (or_parts a b h).1
 
 -- an `or` is true where its second part is
 pub or_true : (a b : Bool) → b ≡ true → (a || b) ≡ true
 or_true true b h = refl
 or_true false b h = h
+
+-- an `and` is false where not both parts are true
+pub not_both : (a b : Bool) → (a ≡ true → b ≡ true → ⊥) → (a && b) ≡ false
+not_both true true h = absurd (h refl refl)
+not_both true false h = refl
+not_both false b h = refl
 
 -- what is not true is false
 pub not_true : (b : Bool) → not b ≡ true → b ≡ false

@@ -7,7 +7,7 @@ use Rattle.mc_task.specs.TaskSet.{task_at}
 use Rattle.mc_model.specs.declared.row.Row.{Row}
 use Rattle.mc_model.specs.declared.row.Row.TheVariants.{Release, Tick, Idle}
 use Rattle.mc_model.specs.TaskNumbers.{is_high_in}
-use Rattle.mc_model.specs.Pending.{Live, released, ended, over_since, is_live, is_end}
+use Rattle.mc_model.specs.Pending.{released, ended, over_since, is_live, is_end}
 use Rattle.mc_model.specs.Rows.{same_job, ticks, used, releases}
 use Rattle.mc_model.specs.Mode.{is_over}
 use Rattle.mc_model.specs.Legal.{fault_among}
@@ -19,6 +19,7 @@ use Rattle.mc_model.proofs.Counts.{counted, grows, one_more}
 use Rattle.mc_model.specs.Legal
 use Rattle.mc_model.specs.Pending
 use Rattle.mc_model.proofs.Fold
+use Rattle.mc_model.specs.declared.row.How.{How}
 
 -- a tick leaves a job live where it was live and stays
 pub tick_live : (e s n h o v : Bool) → (not ((e && s) || n) && (h || not (o || v))) ≡ ((not n && (h || not v)) && (not (e && s) && (not o || h)))
@@ -105,3 +106,7 @@ bridge set rule (Release j true ∷ g) l =
       legal = (l.0, f, b.legal);
       same = rw lv (ap (λ xs. record { job = j; release = ticks g } ∷ xs) (others set rule j true g b.legal c ∙ b.same));
     }
+
+-- a tick leaves the pending jobs that stay
+pub pending-tick : (set : List Task) (rule : Rule) (j : JobId) (how : How) (g : List Row) → Legal.Legal set rule (Tick j how ∷ g) → Pending.pending set (Tick j how ∷ g) ≡ filter (stays set j how) (Pending.pending set g)
+pending-tick set rule j how g l = (bridge set rule (Tick j how ∷ g) l).same ∙ ap (filter (stays set j how)) (sym (bridge set rule g l.2).same)

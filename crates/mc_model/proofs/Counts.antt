@@ -7,7 +7,7 @@ use Rattle.mc_task.specs.declared.task.JobId.{JobId}
 use Rattle.mc_model.specs.declared.row.How.{How}
 use Rattle.mc_model.specs.declared.row.Row.{Row}
 use Rattle.mc_model.specs.declared.row.Row.TheVariants.{Release, Tick, Idle}
-use Rattle.mc_model.specs.Pending.{Live}
+use Rattle.mc_model.specs.Pending.{KeptRelease}
 use Rattle.mc_model.specs.Rows.{same_job, used, releases}
 use Rattle.mc_model.specs.Legal.{is_pending}
 use Rattle.mc_model.proofs.Fold.{pending, stays, Legal}
@@ -21,7 +21,7 @@ pub record Counted (set : List Task) (g : List Row) : Type 0 where
   pub fresh : (j : JobId) → releases g j.task.0 < j.count → used g j ≡ 0
 
 -- a job that is pending is of a release
-pending_count : (g : List Row) (j : JobId) (xs : List Live) → Each (λ x. x.job.count ≤ releases g x.job.task.0) xs → is_pending xs j ≡ true → j.count ≤ releases g j.task.0
+pending_count : (g : List Row) (j : JobId) (xs : List KeptRelease) → Each (λ x. x.job.count ≤ releases g x.job.task.0) xs → is_pending xs j ≡ true → j.count ≤ releases g j.task.0
 pending_count g j [] h e = cc
 pending_count g j (x ∷ xs) h e = go (pending_count g j xs h.1) (same_job j x.job) refl
   where
@@ -35,7 +35,7 @@ grows true m n h = omega arith
 grows false m n h = omega arith
 
 -- and what is above it then was above it before
-shrinks : (b : Bool) (m n : ℕ) → cond b 1 0 + n < m → n < m
+pub shrinks : (b : Bool) (m n : ℕ) → cond b 1 0 + n < m → n < m
 shrinks true m n h = omega arith
 shrinks false m n h = omega arith
 

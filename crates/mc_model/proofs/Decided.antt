@@ -18,7 +18,7 @@ use Rattle.mc_model.specs.Runs.{length_of, IsRun, AreRuns}
 use Rattle.mc_model.specs.Holds.{Fits}
 use Rattle.mc_model.specs.Legal.{Legal, IsOfSet, fault, same_how}
 use Rattle.mc_model.specs.Traces.{IsTraceOf}
-use Rattle.mc_model.proofs.Booleans.{and_both}
+use Rattle.std.proofs.lemmas.Bool.{and_parts}
 
 -- the row's task is in the set
 abbrev pub is_of_set : List Task → Row → Bool
@@ -38,7 +38,7 @@ is_legal set rule (row ∷ g) = (is_of_set set row && is_none (fault set rule ro
 
 number_in : (set : List Task) (a b : Bool) (k : ℕ) → nat_le 1 k ≡ a → nat_le k (length set) ≡ b → (a && b) ≡ true → IsIn set k
 number_in set a b k first last h =
-    let p = and_both a b h in
+    let p = and_parts a b h in
     (leb-true _ _ (rw first p.0), leb-true _ _ (rw last p.1))
 
 of_set : (set : List Task) (row : Row) → is_of_set set row ≡ true → IsOfSet set row
@@ -54,8 +54,8 @@ no_fault (Some w) h = cc
 pub decided : (set : List Task) (rule : Rule) (h : List Row) → is_legal set rule h ≡ true → Legal set rule h
 decided set rule [] t = tt
 decided set rule (row ∷ g) t =
-    let p = and_both (is_of_set set row && is_none (fault set rule row g)) (is_legal set rule g) t in
-    let q = and_both (is_of_set set row) (is_none (fault set rule row g)) p.0 in
+    let p = and_parts (is_of_set set row && is_none (fault set rule row g)) (is_legal set rule g) t in
+    let q = and_parts (is_of_set set row) (is_none (fault set rule row g)) p.0 in
     (of_set set row q.0, no_fault (fault set rule row g) q.1, decided set rule g p.1)
 
 -- and are a trace where the rule fits
@@ -70,7 +70,7 @@ is_run (run.Idles n) = nat_le 1 n
 
 is_run_so : (r : Run) → is_run r ≡ true → IsRun r
 is_run_so (run.Release j kept) h = tt
-is_run_so (run.Ticks j how n) h = let p = and_both (nat_le 1 n) (nat_le n 1 || same_how how More) h in (grind (arith, nat_tests, p.0), λ m. more (nat_le n 1) refl how p.1 m)
+is_run_so (run.Ticks j how n) h = let p = and_parts (nat_le 1 n) (nat_le n 1 || same_how how More) h in (grind (arith, nat_tests, p.0), λ m. more (nat_le n 1) refl how p.1 m)
   where
     more : (b : Bool) → nat_le n 1 ≡ b → (how : How) → (b || same_how how More) ≡ true → 2 ≤ n → how ≡ More
     more true e how h m = absurd (grind (arith, nat_tests, e, m))
@@ -86,10 +86,10 @@ are_runs rs = list_all is_run rs && (nat_le (length rs) 2000000 && nat_le (total
 
 pub decided_runs : (rs : List Run) → are_runs rs ≡ true → AreRuns rs
 decided_runs rs h =
-    let p = and_both (list_all is_run rs) (nat_le (length rs) 2000000 && nat_le (total length_of rs) 100000000) h in
-    let q = and_both (nat_le (length rs) 2000000) (nat_le (total length_of rs) 100000000) p.1 in
+    let p = and_parts (list_all is_run rs) (nat_le (length rs) 2000000 && nat_le (total length_of rs) 100000000) h in
+    let q = and_parts (nat_le (length rs) 2000000) (nat_le (total length_of rs) 100000000) p.1 in
     record { each = All-from_recursion IsRun rs (each rs p.0); few = grind (arith, nat_tests, q.0); short = grind (arith, nat_tests, q.1) }
   where
     each : (rs : List Run) → list_all is_run rs ≡ true → AllByRecursion IsRun rs
     each [] h = tt
-    each (r ∷ rs) h = let p = and_both (is_run r) (list_all is_run rs) h in (is_run_so r p.0, each rs p.1)
+    each (r ∷ rs) h = let p = and_parts (is_run r) (list_all is_run rs) h in (is_run_so r p.0, each rs p.1)

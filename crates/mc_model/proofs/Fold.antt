@@ -9,17 +9,17 @@ use Rattle.mc_model.specs.declared.row.Row.{Row}
 use Rattle.mc_model.specs.declared.row.Row.TheVariants.{Release, Tick, Idle}
 use Rattle.mc_model.specs.declared.verdict.Why.{Why}
 use Rattle.mc_model.specs.TaskNumbers.{is_high_in}
-use Rattle.mc_model.specs.Pending.{Live, is_end}
+use Rattle.mc_model.specs.Pending.{KeptRelease, is_end}
 use Rattle.mc_model.specs.Rows.{same_job, ticks}
 use Rattle.mc_model.specs.Mode.{is_over}
 use Rattle.mc_model.specs.Legal.{fault_among, IsOfSet}
 
 -- what a tick with this outcome leaves pending: an end takes its job out, an overrun the low jobs
-abbrev pub stays : List Task → JobId → How → Live → Bool
+abbrev pub stays : List Task → JobId → How → KeptRelease → Bool
 stays set j how i = not (is_end how && same_job j i.job) && (not (is_over how) || is_high_in (task_at set i.job.task.0))
 
 -- the pending jobs: a kept release adds its job, a tick leaves those that stay, an idle tick all
-abbrev pub pending : List Task → List Row → List Live
+abbrev pub pending : List Task → List Row → List KeptRelease
 pending set [] = []
 pending set (Release j kept ∷ g) = cond kept (record { job = j; release = ticks g } ∷ pending set g) (pending set g)
 pending set (Tick j how ∷ g) = filter (stays set j how) (pending set g)

@@ -10,6 +10,7 @@ pub mod Jobs
 pub mod Lists
 pub mod Live
 pub mod Loads
+pub mod NumberedSums
 pub mod Packing
 pub mod Ranges
 pub mod Repeats
@@ -31,3 +32,4 @@ pub mod WorkedRows
 pub mod WorkedRuns
 pub mod WorkedSets
 pub mod WorkedTraces
+pub mod WorkedWork

@@ -11,9 +11,10 @@ use Rattle.mc_model.specs.declared.row.How.TheVariants.{More, Done, Stop, Over}
 use Rattle.mc_model.specs.declared.row.Row.{Row}
 use Rattle.mc_model.specs.declared.row.Row.TheVariants.{Release, Tick, Idle}
 use Rattle.mc_model.specs.TaskNumbers.{low_in, own_in, is_high_in}
-use Rattle.mc_model.specs.Pending.{Live, is_end}
+use Rattle.mc_model.specs.Pending.{KeptRelease, is_end}
 use Rattle.mc_model.specs.Rows.{same_job, ticks, used}
-use Rattle.mc_model.specs.Mode.{high_mode, is_virtual, is_over}
+use Rattle.mc_task.specs.Kinds.{is_virtual}
+use Rattle.mc_model.specs.Mode.{high_mode, is_over}
 use Rattle.mc_model.proofs.Fold.{pending, stays, Legal}
 use Rattle.mc_model.proofs.Lists.{Each, Each-map, Each-filter_if}
 use Rattle.mc_model.proofs.Steps.{release_fits, tick_fits, idle_fits, Hows, more, done, stop, over, hows}
@@ -28,7 +29,7 @@ low_budget Plain t = own_in t
 low_budget (Virtual p q) t = low_in t
 
 -- what holds of a pending job
-pub record IsLiveOk (set : List Task) (rule : Rule) (h : List Row) (x : Live) : Type 0 where
+pub record IsLiveOk (set : List Task) (rule : Rule) (h : List Row) (x : KeptRelease) : Type 0 where
   pub inside : IsIn set x.job.task.0
   pub past : x.release ≤ ticks h
   pub own : used h x.job + 1 ≤ own_in (task_at set x.job.task.0)
@@ -70,7 +71,7 @@ after_own set rule i Over g b k o l st (over v m y e a) = record { own = omega a
     never (Virtual p q) a b = cc
 
 -- a tick that leaves a job pending
-stays_ok : (set : List Task) (rule : Rule) (j : JobId) (how : How) (g : List Row) → Hows set rule g j how → (x : Live) → IsKnown (task_at set x.job.task.0) → IsLiveOk set rule g x → stays set j how x ≡ true → IsLiveOk set rule (Tick j how ∷ g) x
+stays_ok : (set : List Task) (rule : Rule) (j : JobId) (how : How) (g : List Row) → Hows set rule g j how → (x : KeptRelease) → IsKnown (task_at set x.job.task.0) → IsLiveOk set rule g x → stays set j how x ≡ true → IsLiveOk set rule (Tick j how ∷ g) x
 stays_ok set rule j how g hs x k ok st = go (same_job j x.job) refl
   where
     go : (b : Bool) → same_job j x.job ≡ b → IsLiveOk set rule (Tick j how ∷ g) x

@@ -82,20 +82,6 @@ packed_longer : (r : Run) (rs : List Run) → IsPacked (r ∷ rs) → IsPacked (
 packed_longer r [] p = tt
 packed_longer r (s ∷ rs) p = (longer_joins r s ∙ p.0, p.1)
 
--- a row before packed runs leaves them packed
-put_packed : (row : Row) (rs : List Run) → IsPacked rs → IsPacked (put_before row rs)
-put_packed row [] p = tt
-put_packed row (r ∷ rs) p = go (joins (run_of row) r) refl
-  where
-    go : (b : Bool) → joins (run_of row) r ≡ b → IsPacked (cond b (longer r ∷ rs) (run_of row ∷ r ∷ rs))
-    go true m = packed_longer r rs p
-    go false m = (m, p)
-
--- no two neighbours of a trace's runs could be one
-pub pack-packed : (h : List Row) → IsPacked (pack h)
-pack-packed [] = tt
-pack-packed (row ∷ h) = put_packed row (pack h) (pack-packed h)
-
 -- a run of one row is that row's
 run_of_row : (r : Run) → size r ≡ 1 → run_of (row_of r) ≡ r
 run_of_row (run.Release j kept) e = refl

@@ -8,7 +8,8 @@ use Rattle.mc_model.specs.declared.row.How.TheVariants.{More}
 use Rattle.mc_model.specs.declared.row.Row.{Row}
 use Rattle.mc_model.specs.declared.row.Row.TheVariants.{Tick, Idle}
 use Rattle.mc_model.specs.Rows.{same_job, ticks, used, releases, next_release}
-use Rattle.mc_model.specs.Mode.{high_mode, is_virtual}
+use Rattle.mc_task.specs.Kinds.{is_virtual}
+use Rattle.mc_model.specs.Mode.{high_mode}
 use Rattle.mc_model.specs.Pending.{pending}
 use Rattle.mc_model.specs.Legal.{Legal, is_empty}
 

@@ -10,20 +10,22 @@ use Rattle.mc_model.specs.declared.row.Row.{Row}
 use Rattle.mc_model.specs.declared.row.Row.TheVariants.{Release, Tick, Idle}
 use Rattle.mc_model.specs.declared.verdict.Why.{Why}
 use Rattle.mc_model.specs.TaskNumbers.{period_in, low_in, own_in, is_high_in}
-use Rattle.mc_model.specs.Pending.{Live}
+use Rattle.mc_model.specs.Pending.{KeptRelease}
 use Rattle.mc_model.specs.Rows.{ticks, used, releases, next_release, is_too_soon}
 use Rattle.mc_model.specs.Legal.{is_pending, is_least, is_empty, same_how, is_allowed_how, same_bool, first_of_parts}
-use Rattle.mc_model.specs.Mode.{high_mode, is_virtual}
-use Rattle.mc_model.proofs.Booleans.{not_true, or_none, eqb-false}
+use Rattle.mc_task.specs.Kinds.{is_virtual}
+use Rattle.mc_model.specs.Mode.{high_mode}
+use Rattle.mc_model.proofs.Booleans.{not_true, eqb-false}
 use Rattle.mc_model.proofs.Fold.{pending, fault}
+use Rattle.std.proofs.lemmas.Bool.{or_parts}
 
 -- where no part fails, the one part is true
-parts_one : (a : Bool) (u : Why) → first_of_parts ((a, u) ∷ []) ≡ None → a ≡ true
+pub parts_one : (a : Bool) (u : Why) → first_of_parts ((a, u) ∷ []) ≡ None → a ≡ true
 parts_one true u h = refl
 parts_one false u h = cc
 
 -- where no part fails, the three are true
-parts_three : (a b c : Bool) (u v w : Why) → first_of_parts ((a, u) ∷ (b, v) ∷ (c, w) ∷ []) ≡ None → (a ≡ true) × (b ≡ true) × (c ≡ true)
+pub parts_three : (a b c : Bool) (u v w : Why) → first_of_parts ((a, u) ∷ (b, v) ∷ (c, w) ∷ []) ≡ None → (a ≡ true) × (b ≡ true) × (c ≡ true)
 parts_three true true true u v w h = (refl, refl, refl)
 parts_three false b c u v w h = cc
 parts_three true false c u v w h = cc
@@ -40,7 +42,7 @@ pub soon_enough : (set : List Task) (now : ℕ) (g : List Row) (k : ℕ) → is_
 soon_enough set now [] k h = omega arith
 soon_enough set now (Tick j how ∷ g) k h = soon_enough set now g k h
 soon_enough set now (Idle ∷ g) k h = soon_enough set now g k h
-soon_enough set now (Release j kept ∷ g) k h = here (j.task.0 == k) (or_none _ _ h).0 (soon_enough set now g k (or_none _ _ h).1)
+soon_enough set now (Release j kept ∷ g) k h = here (j.task.0 == k) (or_parts _ _ h).0 (soon_enough set now g k (or_parts _ _ h).1)
   where
     here : (b : Bool) → (b && nat_lt now (ticks g + period_in (task_at set k))) ≡ false → next_release set g k ≤ now → cond b (ticks g + period_in (task_at set k)) (next_release set g k) ≤ now
     here true f r = ltb-false _ _ f
@@ -68,7 +70,7 @@ tick_fits set rule j how g h =
 pub idle_fits : (set : List Task) (rule : Rule) (g : List Row) → fault set rule Idle g ≡ None → pending set g ≡ []
 idle_fits set rule g h = go (pending set g) (parts_one _ _ h)
   where
-    go : (is : List Live) → is_empty is ≡ true → is ≡ []
+    go : (is : List KeptRelease) → is_empty is ≡ true → is ≡ []
     go [] e = refl
     go (i ∷ is) e = cc
 

@@ -1,7 +1,8 @@
 -- Sums over lists.
 use Rattle.std.proofs.Common.{[], ◌≡◌, ℕ, ◌+◌, ◌≤◌, Bool, true, false, not, List, ◌∷◌, ◌++◌, cond, filter, map, refl, ap, arith, length}
+use Rattle.std.specs.List.{list_any}
 use Rattle.mc_model.specs.Sums.{total, when}
-use Rattle.mc_model.proofs.Lists.{Each, Each-all, any}
+use Rattle.mc_model.proofs.Lists.{Each, Each-all}
 
 -- of two lists joined
 pub total-append : {X : Type 0} (f : X → ℕ) → (xs ys : List X) → total f (xs ++ ys) ≡ total f xs + total f ys
@@ -48,21 +49,21 @@ total-filter_less f g p (x ∷ xs) h =
 -- where one element, the one that is meant, loses at least one, so does the sum
 pub total_spend :
     {X : Type 0} (f g : X → ℕ) (p mine : X → Bool) → (xs : List X) → Each (λ x. g x ≤ f x) xs →
-    Each (λ x. mine x ≡ true → g x + 1 ≤ f x) xs → any mine xs ≡ true → total g (filter p xs) + 1 ≤ total f xs
+    Each (λ x. mine x ≡ true → g x + 1 ≤ f x) xs → list_any mine xs ≡ true → total g (filter p xs) + 1 ≤ total f xs
 total_spend f g p mine [] h k e = grind arith
 total_spend f g p mine (x ∷ xs) h k e = here (total_spend f g p mine xs h.1 k.1) (mine x) refl
   where
     rest : total g (filter p xs) ≤ total f xs
     rest = total-filter_less f g p xs h.1
 
-    here : (any mine xs ≡ true → total g (filter p xs) + 1 ≤ total f xs) → (b : Bool) → mine x ≡ b → total g (cond (p x) (x ∷ filter p xs) (filter p xs)) + 1 ≤ f x + total f xs
+    here : (list_any mine xs ≡ true → total g (filter p xs) + 1 ≤ total f xs) → (b : Bool) → mine x ≡ b → total g (cond (p x) (x ∷ filter p xs) (filter p xs)) + 1 ≤ f x + total f xs
     here ih true m =
         let spent : g x + 1 ≤ f x = k.0 m in
         let r : total g (filter p xs) ≤ total f xs = rest in
         elim (p x) as (λ b. total g (cond b (x ∷ filter p xs) (filter p xs)) + 1 ≤ f x + total f xs)
         [ true ↦ omega arith | false ↦ omega arith ]
     here ih false m =
-        let e' : any mine xs ≡ true = rw m at e in
+        let e' : list_any mine xs ≡ true = rw m at e in
         let less : total g (filter p xs) + 1 ≤ total f xs = ih e' in
         let same : g x ≤ f x = h.0 in
         elim (p x) as (λ b. total g (cond b (x ∷ filter p xs) (filter p xs)) + 1 ≤ f x + total f xs)

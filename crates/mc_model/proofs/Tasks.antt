@@ -6,7 +6,8 @@ use Rattle.mc_task.specs.declared.task.Task.{Task}
 use Rattle.mc_task.specs.declared.task.Level.{Level}
 use Rattle.mc_task.specs.declared.task.Level.TheVariants.{Low, High}
 use Rattle.mc_task.specs.TaskSet.{IsTask, IsIn, InOrder, task_at}
-use Rattle.mc_model.specs.TaskNumbers.{period_in, low_in, own_in, is_high, is_high_in}
+use Rattle.mc_task.specs.Kinds.{is_high}
+use Rattle.mc_model.specs.TaskNumbers.{period_in, low_in, own_in, is_high_in}
 
 -- its period and its low budget are not 0, and its low budget is at most its own, which is equal for a low task
 pub record IsKnown (t : Option Task) : Type 0 where

@@ -1,5 +1,6 @@
 -- The definitions of runs, computed at worked traces.
-use Rattle.std.proofs.Common.{◌≡◌, ℕ, true, List, [], ◌∷◌, reverse, refl}
+use Rattle.std.proofs.Common.{◌≡◌, ℕ, true, false, List, [], ◌∷◌, reverse, codes, refl}
+use Rattle.std.specs.Fmt.{digits}
 use Rattle.mc_task.specs.declared.task.Rule.TheVariants.{Virtual}
 use Rattle.mc_task.specs.declared.task.JobId.{JobId}
 use Rattle.mc_model.specs.declared.row.How.TheVariants.{More, Done, Over}
@@ -10,6 +11,7 @@ use Rattle.mc_model.specs.declared.verdict.Why.TheVariants.{WrongHow}
 use Rattle.mc_model.specs.declared.verdict.Verdict.TheVariants.{Illegal}
 use Rattle.mc_model.specs.Verdict.{verdict}
 use Rattle.mc_model.specs.Runs.{expand, pack}
+use Rattle.mc_model.specs.TraceText.{run_line, trace_text}
 use Rattle.mc_model.proofs.WorkedSets.{control}
 
 -- the c-th job of task number k
@@ -34,3 +36,10 @@ ticks_of_two_jobs_are_two_runs = refl
 -- the place of an illegal verdict counts rows: the fifth tick is the sixth row
 a_run_past_the_budget : verdict control (Virtual 2 5) (reverse (expand (run.Release (job 2 1) true ∷ run.Ticks (job 2 1) More 5 ∷ []))) ≡ Illegal 6 WrongHow
 a_run_past_the_budget = refl
+
+-- each line has the tick at which its run begins
+the_lines_of_a_trace :
+    trace_text control (Release (job 1 1) true ∷ Tick (job 1 1) More ∷ Tick (job 1 1) Over ∷ Idle ∷ Idle ∷ Release (job 2 1) false ∷ [])
+    ≡ codes "event,tick,length,task,job,how\nrelease,0,,ctl,1,kept\ntick,0,1,ctl,1,more\ntick,1,1,ctl,1,over\nidle,2,2,,,\nrelease,4,,log,1,dropped\n"
+unfolding digits run_line
+the_lines_of_a_trace = refl

@@ -7,7 +7,7 @@ use Rattle.mc_task.specs.TaskSet.{task_at}
 use Rattle.mc_model.specs.TaskNumbers.{period_in, is_high_in}
 use Rattle.mc_model.specs.Rows.{ticks, used, releases, next_release}
 use Rattle.mc_model.specs.Mode.{high_mode}
-use Rattle.mc_model.specs.Pending.{Live, pending}
+use Rattle.mc_model.specs.Pending.{KeptRelease, pending}
 use Rattle.mc_model.specs.Key.{key}
 use Rattle.mc_model.specs.Legal.{how_of, Legal}
 use Rattle.mc_model.specs.declared.row.How.{How}
@@ -25,18 +25,18 @@ pub record State : Type 0 where
   pub held : List JobId
 
 -- i runs before j: its key is less, or they are equal and its task's number is lower
-abbrev pub runs_before : List Task → Rule → Bool → Live → Live → Bool
+abbrev pub runs_before : List Task → Rule → Bool → KeptRelease → KeptRelease → Bool
 runs_before set rule high i j =
     nat_lt (key set rule high i) (key set rule high j)
     || ((key set rule high i == key set rule high j) && nat_lt i.job.task.0 j.job.task.0)
 
 -- the one of the two that runs first, where there are two
-abbrev pub first_of_two : List Task → Rule → Bool → Live → Option Live → Live
+abbrev pub first_of_two : List Task → Rule → Bool → KeptRelease → Option KeptRelease → KeptRelease
 first_of_two set rule high i None = i
 first_of_two set rule high i (Some j) = cond (runs_before set rule high j i) j i
 
 -- the job that runs first
-abbrev pub first_to_run : List Task → Rule → Bool → List Live → Option Live
+abbrev pub first_to_run : List Task → Rule → Bool → List KeptRelease → Option KeptRelease
 first_to_run set rule high [] = None
 first_to_run set rule high (i ∷ is) = Some (first_of_two set rule high i (first_to_run set rule high is))
 

@@ -1,12 +1,12 @@
 -- When a trace is the one of a work list and a number of ticks. The newest row stands first.
-use Rattle.std.specs.Prelude.{◌≡◌, ℕ, ◌+◌, ◌-◌, Bool, true, false, not, ◌&&◌, ◌||◌, List, [], ◌∷◌, cond, nat_lt, ◌==◌, filter, map, reverse}
-use Rattle.std.specs.List.{list_all}
+use Rattle.std.specs.Prelude.{◌≡◌, ℕ, ◌+◌, ◌-◌, Bool, true, false, not, ◌&&◌, List, [], ◌∷◌, if◌then◌else◌, nat_lt, ◌==◌, filter, map, reverse, slice_index_or}
+use Rattle.std.specs.List.{list_all, list_any}
 use Rattle.mc_task.specs.declared.task.Rule.{Rule}
 use Rattle.mc_task.specs.declared.task.Task.{Task}
 use Rattle.mc_task.specs.declared.task.JobId.{JobId}
 use Rattle.mc_model.specs.Rows.{ticks, same_job, used}
 use Rattle.mc_model.specs.Mode.{high_mode}
-use Rattle.mc_model.specs.Pending.{Live, pending}
+use Rattle.mc_model.specs.Pending.{KeptRelease, pending}
 use Rattle.mc_model.specs.Key.{key}
 use Rattle.mc_model.specs.Legal.{same_bool, is_done, Legal}
 use Rattle.mc_model.specs.declared.row.Row.{Row}
@@ -29,10 +29,13 @@ arrivals (Idle ∷ g) = arrivals g
 abbrev pub planned : List WorkRow → ℕ → List Arrival
 planned work n = map (λ w. record { task = w.task.0; at = w.release }) (filter (λ w. nat_lt w.release n) work)
 
--- the need of the c-th row of the job's task; 0 where there is none
+-- the needs of task number k, row by row
+abbrev pub needs_of : List WorkRow → ℕ → List ℕ
+needs_of work k = map (λ w. w.need) (filter (λ w. w.task.0 == k) work)
+
+-- the need of the c-th of the task's rows, counted from 1; 0 where there is none
 abbrev pub need_of : List WorkRow → ℕ → ℕ → ℕ
-need_of [] k c = 0
-need_of (w ∷ ws) k c = cond (w.task.0 == k) (cond (c == 1) w.need (need_of ws k (c - 1))) (need_of ws k c)
+need_of work k c = if c == 0 then 0 else slice_index_or (needs_of work k) (c - 1) 0
 
 -- the trace does not end in a release
 abbrev pub ends_in_tick : List Row → Bool
@@ -48,10 +51,13 @@ done_by_need work (Release j kept ∷ g) = done_by_need work g
 done_by_need work (Tick j how ∷ g) = same_bool (is_done how) (used g j + 1 == need_of work j.task.0 j.count) && done_by_need work g
 done_by_need work (Idle ∷ g) = done_by_need work g
 
--- no pending job of a lower task number has the key that the job has
-abbrev pub is_lowest : List Task → Rule → Bool → List Live → JobId → Bool
-is_lowest set rule high now j =
-    list_all (λ i. not (same_job j i.job) || list_all (λ x. not ((key set rule high x == key set rule high i) && nat_lt x.job.task.0 j.task.0)) now) now
+-- none of these pending jobs has the key that i has, and a lower task number
+abbrev pub none_lower : List Task → Rule → Bool → KeptRelease → List KeptRelease → Bool
+none_lower set rule high i now = list_all (λ x. not ((key set rule high x == key set rule high i) && nat_lt x.job.task.0 i.job.task.0)) now
+
+-- the job is one of these pending jobs, and none of a lower task number has its key
+abbrev pub is_lowest : List Task → Rule → Bool → List KeptRelease → JobId → Bool
+is_lowest set rule high now j = list_any (λ i. same_job j i.job && none_lower set rule high i now) now
 
 -- of equal keys each tick takes the lowest task number
 abbrev pub lowest_first : List Task → Rule → List Row → Bool

@@ -5,7 +5,7 @@ use Rattle.mc_task.specs.declared.task.Rule.{Rule}
 use Rattle.mc_task.specs.declared.task.Rule.TheVariants.{Plain, Virtual}
 use Rattle.mc_task.specs.TaskSet.{task_at}
 use Rattle.mc_model.specs.TaskNumbers.{period_in, is_high_in}
-use Rattle.mc_model.specs.Pending.{Live}
+use Rattle.mc_model.specs.Pending.{KeptRelease}
 
 -- how many units a tick has
 abbrev pub scale : Rule → ℕ
@@ -22,5 +22,5 @@ abbrev pub key_of : Rule → Bool → Option Task → ℕ → ℕ
 key_of rule high t r = scale rule * r + cond high (scale rule * period_in t) (low_offset rule t)
 
 -- the key of a job
-abbrev pub key : List Task → Rule → Bool → Live → ℕ
+abbrev pub key : List Task → Rule → Bool → KeptRelease → ℕ
 key set rule high i = key_of rule high (task_at set i.job.task.0) i.release

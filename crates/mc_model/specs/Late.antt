@@ -5,7 +5,7 @@ use Rattle.mc_task.specs.declared.task.JobId.{JobId}
 use Rattle.mc_task.specs.TaskSet.{task_at}
 use Rattle.mc_model.specs.TaskNumbers.{period_in}
 use Rattle.mc_model.specs.Rows.{ticks}
-use Rattle.mc_model.specs.Pending.{Live, released, is_live}
+use Rattle.mc_model.specs.Pending.{KeptRelease, released, is_live}
 use Rattle.mc_model.specs.declared.row.Row.{Row}
 
 -- the part of the trace up to its d-th Tick or Idle row
@@ -14,11 +14,11 @@ up_to d [] = []
 up_to d (row ∷ g) = cond (nat_le (ticks (row ∷ g)) d) (row ∷ g) (up_to d g)
 
 -- its release time plus its period
-abbrev pub deadline : List Task → Live → ℕ
+abbrev pub deadline : List Task → KeptRelease → ℕ
 deadline set i = i.release + period_in (task_at set i.job.task.0)
 
 -- its deadline has come, and among the rows up to it the job has not ended, and is high or has seen no overrun
-abbrev pub is_late : List Task → List Row → Live → Bool
+abbrev pub is_late : List Task → List Row → KeptRelease → Bool
 is_late set h i = nat_le (deadline set i) (ticks h) && is_live set (up_to (deadline set i) h) i
 
 -- the late jobs, in the order of their releases

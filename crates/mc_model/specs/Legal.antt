@@ -7,8 +7,9 @@ use Rattle.mc_task.specs.declared.task.JobId.{JobId}
 use Rattle.mc_task.specs.TaskSet.{task_at, IsIn}
 use Rattle.mc_model.specs.TaskNumbers.{low_in, own_in, is_high_in}
 use Rattle.mc_model.specs.Rows.{same_job, ticks, used, releases, is_too_soon}
-use Rattle.mc_model.specs.Mode.{is_virtual, high_mode}
-use Rattle.mc_model.specs.Pending.{Live, pending}
+use Rattle.mc_task.specs.Kinds.{is_virtual}
+use Rattle.mc_model.specs.Mode.{high_mode}
+use Rattle.mc_model.specs.Pending.{KeptRelease, pending}
 use Rattle.mc_model.specs.Key.{key}
 use Rattle.mc_model.specs.declared.row.How.{How}
 use Rattle.mc_model.specs.declared.row.How.TheVariants.{More, Done, Stop, Over}
@@ -18,19 +19,19 @@ use Rattle.mc_model.specs.declared.verdict.Why.{Why}
 use Rattle.mc_model.specs.declared.verdict.Why.TheVariants.{TooSoon, WrongCount, WrongKept, NotPending, NotLeast, WrongHow, IdlePending}
 
 -- one of these pending jobs is the job
-abbrev pub is_pending : List Live → JobId → Bool
+abbrev pub is_pending : List KeptRelease → JobId → Bool
 is_pending now j = list_any (λ i. same_job j i.job) now
 
 -- none of these pending jobs has a key below least
-abbrev pub none_below : List Task → Rule → Bool → ℕ → List Live → Bool
+abbrev pub none_below : List Task → Rule → Bool → ℕ → List KeptRelease → Bool
 none_below set rule high least now = list_all (λ i. nat_le least (key set rule high i)) now
 
--- the job's key is a least one of these pending jobs
-abbrev pub is_least : List Task → Rule → Bool → List Live → JobId → Bool
-is_least set rule high now j = list_all (λ i. not (same_job j i.job) || none_below set rule high (key set rule high i) now) now
+-- the job is one of these pending jobs, and its key is a least one of theirs
+abbrev pub is_least : List Task → Rule → Bool → List KeptRelease → JobId → Bool
+is_least set rule high now j = list_any (λ i. same_job j i.job && none_below set rule high (key set rule high i) now) now
 
 -- nothing is pending
-abbrev pub is_empty : List Live → Bool
+abbrev pub is_empty : List KeptRelease → Bool
 is_empty [] = true
 is_empty (i ∷ is) = false
 
@@ -72,7 +73,7 @@ same_bool true b = b
 same_bool false b = not b
 
 -- why a row does not fit the prefix before it, in which these jobs are pending: the first part that fails
-abbrev pub fault_among : List Task → Rule → List Live → Row → List Row → Option Why
+abbrev pub fault_among : List Task → Rule → List KeptRelease → Row → List Row → Option Why
 fault_among set rule now (Release j kept) g =
     first_of_parts (
     (not (is_too_soon set (ticks g) g j.task.0), TooSoon)

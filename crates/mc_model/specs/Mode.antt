@@ -1,7 +1,7 @@
 -- The mode: high between an overrun and the next idle tick. The newest row stands first.
 use Rattle.std.specs.Prelude.{Bool, true, false, ◌&&◌, ◌||◌, List, [], ◌∷◌}
 use Rattle.mc_task.specs.declared.task.Rule.{Rule}
-use Rattle.mc_task.specs.declared.task.Rule.TheVariants.{Plain, Virtual}
+use Rattle.mc_task.specs.Kinds.{is_virtual}
 use Rattle.mc_model.specs.declared.row.How.{How}
 use Rattle.mc_model.specs.declared.row.How.TheVariants.{More, Done, Stop, Over}
 use Rattle.mc_model.specs.declared.row.Row.{Row}
@@ -13,11 +13,6 @@ is_over More = false
 is_over Done = false
 is_over Stop = false
 is_over Over = true
-
--- EDF-VD, and not plain EDF
-abbrev pub is_virtual : Rule → Bool
-is_virtual Plain = false
-is_virtual (Virtual p q) = true
 
 -- whether the mode is high: under Virtual, an Over row stands after the last Idle row
 abbrev pub high_mode : Rule → List Row → Bool

@@ -13,12 +13,12 @@ use Rattle.mc_model.specs.declared.row.Row.{Row}
 use Rattle.mc_model.specs.declared.row.Row.TheVariants.{Release, Tick, Idle}
 
 -- a kept release: the job and its release time
-pub record Live : Type 0 where
+pub record KeptRelease : Type 0 where
   pub job : JobId
   pub release : ℕ
 
 -- the kept releases, the newest first
-abbrev pub released : List Row → List Live
+abbrev pub released : List Row → List KeptRelease
 released [] = []
 released (Release j kept ∷ g) = cond kept (record { job = j; release = ticks g } ∷ released g) (released g)
 released (Tick j how ∷ g) = released g
@@ -49,9 +49,9 @@ over_since (Tick i how ∷ g) j = is_over how || over_since g j
 over_since (Idle ∷ g) j = over_since g j
 
 -- the job has not ended, and is high or has seen no overrun since its release
-abbrev pub is_live : List Task → List Row → Live → Bool
+abbrev pub is_live : List Task → List Row → KeptRelease → Bool
 is_live set h i = not (ended h i.job) && (is_high_in (task_at set i.job.task.0) || not (over_since h i.job))
 
 -- the pending jobs, the newest release first
-abbrev pub pending : List Task → List Row → List Live
+abbrev pub pending : List Task → List Row → List KeptRelease
 pending set h = filter (is_live set h) (released h)

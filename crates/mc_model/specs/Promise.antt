@@ -7,7 +7,7 @@ use Rattle.mc_task.specs.TaskSet.{task_at}
 use Rattle.mc_model.specs.TaskNumbers.{is_high_in}
 use Rattle.mc_model.specs.Rows.{ticks}
 use Rattle.mc_model.specs.Mode.{high_mode}
-use Rattle.mc_model.specs.Pending.{Live, released, ended, over_since}
+use Rattle.mc_model.specs.Pending.{KeptRelease, released, ended, over_since}
 use Rattle.mc_model.specs.Late.{up_to, deadline, late}
 use Rattle.mc_model.specs.declared.row.Row.{Row}
 use Rattle.mc_model.specs.declared.row.Row.TheVariants.{Release, Tick, Idle}
@@ -24,19 +24,19 @@ abbrev pub OneAtATime : List Row → Type 0
 OneAtATime h = (n : ℕ) → n < ticks h → rows_at n h ≡ 1
 
 -- the job has a Done or Stop row among the first ticks, as many as its deadline says
-abbrev pub EndsInTime : List Task → List Row → Live → Type 0
+abbrev pub EndsInTime : List Task → List Row → KeptRelease → Type 0
 EndsInTime set h i = ended (up_to (deadline set i) h) i.job ≡ true
 
 -- an overrun came behind its release, within its deadline
-abbrev pub IsDiscarded : List Task → List Row → Live → Type 0
+abbrev pub IsDiscarded : List Task → List Row → KeptRelease → Type 0
 IsDiscarded set h i = over_since (up_to (deadline set i) h) i.job ≡ true
 
 -- the job is of a high task
-abbrev pub is_high_job : List Task → Live → Bool
+abbrev pub is_high_job : List Task → KeptRelease → Bool
 is_high_job set i = is_high_in (task_at set i.job.task.0)
 
 -- where its deadline has come, a high job ended by it, and a low one too unless an overrun discarded it
-abbrev pub MeetsDeadline : List Task → List Row → Live → Type 0
+abbrev pub MeetsDeadline : List Task → List Row → KeptRelease → Type 0
 MeetsDeadline set h i =
     deadline set i ≤ ticks h → EndsInTime set h i ⊎ ((is_high_job set i ≡ false) × IsDiscarded set h i)
 

@@ -1,13 +1,7 @@
 -- What is known of a task by its number; all 0 where no task has that number.
-use Rattle.std.specs.Prelude.{ℕ, Bool, true, false, Option, None, Some}
+use Rattle.std.specs.Prelude.{ℕ, Bool, false, Option, None, Some}
 use Rattle.mc_task.specs.declared.task.Task.{Task}
-use Rattle.mc_task.specs.declared.task.Level.{Level}
-use Rattle.mc_task.specs.declared.task.Level.TheVariants.{Low, High}
-
--- whether the level is high
-abbrev pub is_high : Level → Bool
-is_high Low = false
-is_high High = true
+use Rattle.mc_task.specs.Kinds.{is_high}
 
 -- its period
 abbrev pub period_in : Option Task → ℕ

@@ -1,9 +1,8 @@
 -- The text of a trace: a header line, and a line for each run of equal rows. Runs and rows stand in the order of the
 -- text, THE OLDEST FIRST.
-use Rattle.std.specs.Prelude.{ℕ, Bool, true, false, List, [], ◌∷◌, ◌++◌, codes, decimal}
+use Rattle.std.specs.Prelude.{ℕ, ◌+◌, Bool, true, false, List, [], ◌∷◌, ◌++◌, codes, decimal}
 use Rattle.mc_task.specs.declared.task.Task.{Task}
 use Rattle.mc_task.specs.TaskSet.{task_at, name_in}
-use Rattle.mc_model.specs.Sums.{total}
 use Rattle.mc_model.specs.Runs.{length_of, pack}
 use Rattle.mc_model.specs.declared.row.How.{How}
 use Rattle.mc_model.specs.declared.row.How.TheVariants.{More, Done, Stop, Over}
@@ -36,14 +35,14 @@ run_line set tick (Ticks j how n) =
     line_of (codes "tick") (decimal tick) (decimal n) (name_in (task_at set j.task.0)) (decimal j.count) (how_word how)
 run_line set tick (Idles n) = line_of (codes "idle") (decimal tick) (decimal n) [] [] []
 
--- the lines of runs that stand behind others
-abbrev pub lines_after : List Task → List Run → List Run → List ℕ
-lines_after set before [] = []
-lines_after set before (r ∷ runs) = run_line set (total length_of before) r ++ lines_after set (before ++ r ∷ []) runs
+-- the lines of runs that stand behind so many ticks
+abbrev pub lines_from : List Task → ℕ → List Run → List ℕ
+lines_from set tick [] = []
+lines_from set tick (r ∷ runs) = run_line set tick r ++ lines_from set (tick + length_of r) runs
 
 -- the text of these runs
 abbrev pub runs_text : List Task → List Run → List ℕ
-runs_text set runs = codes "event,tick,length,task,job,how\n" ++ lines_after set [] runs
+runs_text set runs = codes "event,tick,length,task,job,how\n" ++ lines_from set 0 runs
 
 -- the text of a trace: that of its runs
 abbrev pub trace_text : List Task → List Row → List ℕ

@@ -1,4 +1,5 @@
 pub mod NameForm
 pub mod Name
 pub mod TaskSet
+pub mod Kinds
 pub mod Faults

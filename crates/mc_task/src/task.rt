@@ -1,3 +1,6 @@
+ghost use Rattle.std.specs.Prelude.{◌≡◌};
+ghost use Rattle.mc_task.specs.Kinds as kind;
+
 use crate::Name;
 
 /// A criticality level: low for ordinary work, high for certified work.
@@ -31,12 +34,36 @@ pub struct Task {
     pub high: u32,
 }
 
+impl Task {
+    /// Whether it is a high one.
+    pub fn is_high(&self) -> bool
+        ensures { result ≡ kind.is_high self.now.level }
+    {
+        match self.level {
+            Level::Low => false,
+            Level::High => true,
+        }
+    }
+}
+
 /// How jobs are ordered: EDF by their deadlines, or EDF-VD, where in low mode the deadlines of
 /// high tasks are scaled by `p/q`.
 #[derive(Clone, Copy, Debug, PartialEq, Eq)]
 pub enum Rule {
     Plain,
     Virtual { p: u64, q: u64 },
+}
+
+impl Rule {
+    /// Whether it is EDF-VD, and not plain EDF.
+    pub fn is_virtual(self) -> bool
+        ensures { result ≡ kind.is_virtual self }
+    {
+        match self {
+            Rule::Plain => false,
+            Rule::Virtual { .. } => true,
+        }
+    }
 }
 
 /// A scale `p/q` of the deadlines of high tasks, chosen for a set.

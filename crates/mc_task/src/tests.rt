@@ -1,6 +1,6 @@
 ghost use Rattle.mc_task.specs.TaskSet.{IsScale};
 
-use crate::{Level, Name, Scale, SetFault, Task, TaskNo, TaskSet};
+use crate::{Level, Name, Rule, Scale, SetFault, Task, TaskNo, TaskSet};
 use std::alloc::{AllocError, Global};
 use std::test::Fail;
 
@@ -101,5 +101,16 @@ fn a_chosen_scale_stays_with_the_set_and_its_copy(rt: HostRuntime) -> Result<(),
         assert_eq!(rt; set.scale(), Some(Scale { p: 1, q: 2 }));
         assert_eq!(rt; (set.len(), set.as_slice().len()), (1, 1));
     }
+    Ok(())
+}
+
+#[test]
+fn levels_and_rules_are_told_apart(rt: HostRuntime) -> Result<(), Fail> {
+    let high = task(b"a", Level::High, 4, 1, 2);
+    let low = task(b"b", Level::Low, 4, 1, 1);
+    assert_eq!(rt; high.map(|task| task.is_high()), Some(true));
+    assert_eq!(rt; low.map(|task| task.is_high()), Some(false));
+    assert!(rt; Rule::Virtual { p: 1, q: 2 }.is_virtual());
+    assert!(rt; !Rule::Plain.is_virtual());
     Ok(())
 }

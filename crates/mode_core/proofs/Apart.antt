@@ -10,7 +10,7 @@ use Rattle.mc_model.specs.declared.row.Row.TheVariants.{Release, Tick, Idle}
 use Rattle.std.specs.List.{AllByRecursion}
 use Rattle.mc_task.specs.TaskSet.{IsTask, task_at}
 use Rattle.mc_model.specs.TaskNumbers.{period_in}
-use Rattle.mc_model.specs.Pending.{Live, released, pending, is_live}
+use Rattle.mc_model.specs.Pending.{KeptRelease, released, pending, is_live}
 use Rattle.mc_model.specs.Rows.{ticks, same_job, releases, next_release}
 use Rattle.mc_model.specs.Legal.{Legal}
 use Rattle.mc_model.proofs.Jobs.{same_live, is_in, same_job_is, live_eq, each_in}
@@ -20,17 +20,17 @@ use Rattle.mc_model.proofs.Tasks.{known}
 use Rattle.mc_model.proofs.Counts.{grows}
 
 -- y is of another task than x, or was released before it
-pub record Older (x y : Live) : Type 0 where
+pub record Older (x y : KeptRelease) : Type 0 where
   pub count : x.job.task.0 ≡ y.job.task.0 → y.job.count < x.job.count
   pub time : x.job.task.0 ≡ y.job.task.0 → y.release < x.release
 
 -- each is newer than those behind it of its task
-abbrev pub Apart : List Live → Type 0
+abbrev pub Apart : List KeptRelease → Type 0
 Apart [] = Unit {0}
 Apart (x ∷ xs) = Each (Older x) xs × Apart xs
 
 -- what the rows say of a kept release
-record Past (set : List Task) (h : List Row) (y : Live) : Type 0 where
+record Past (set : List Task) (h : List Row) (y : KeptRelease) : Type 0 where
   count : y.job.count ≤ releases h y.job.task.0
   time : y.release + period_in (task_at set y.job.task.0) ≤ next_release set h y.job.task.0
   period : 1 ≤ period_in (task_at set y.job.task.0)
@@ -46,7 +46,7 @@ time_grows set j kept g r k soon f = go (j.task.0 == k) refl
     go false m = rw m f
 
 -- and so what the rows say of a kept release
-past_release : (set : List Task) (rule : Rule) (j : JobId) (kept : Bool) (g : List Row) → next_release set g j.task.0 ≤ ticks g → (y : Live) → Past set g y → Past set (Release j kept ∷ g) y
+past_release : (set : List Task) (rule : Rule) (j : JobId) (kept : Bool) (g : List Row) → next_release set g j.task.0 ≤ ticks g → (y : KeptRelease) → Past set g y → Past set (Release j kept ∷ g) y
 past_release set rule j kept g soon y p = record {
   count = grows _ _ _ p.count;
   time = time_grows set j kept g y.release y.job.task.0 soon p.time;
@@ -74,7 +74,7 @@ past set rule (Tick j how ∷ g) s l = Each-map {P = Past set g} (λ y p. record
 past set rule (Idle ∷ g) s l = Each-map {P = Past set g} (λ y p. record { count = p.count; time = p.time; period = p.period }) (released g) (past set rule g s l.2)
 
 -- a kept release is newer than each before it of its task
-older : (set : List Task) (j : JobId) (g : List Row) → j.count ≡ releases g j.task.0 + 1 → next_release set g j.task.0 ≤ ticks g → (y : Live) → Past set g y → Older (record { job = j; release = ticks g }) y
+older : (set : List Task) (j : JobId) (g : List Row) → j.count ≡ releases g j.task.0 + 1 → next_release set g j.task.0 ≤ ticks g → (y : KeptRelease) → Past set g y → Older (record { job = j; release = ticks g }) y
 older set j g c soon y p = record {
   count = λ e.
       let d : y.job.count ≤ releases g j.task.0 = subst (λ i. y.job.count ≤ releases g i) (sym e) p.count in
@@ -96,7 +96,7 @@ released_apart set rule (Tick j how ∷ g) s l = released_apart set rule g s l.2
 released_apart set rule (Idle ∷ g) s l = released_apart set rule g s l.2
 
 -- a filter keeps that
-Apart-filter : (p : Live → Bool) (xs : List Live) → Apart xs → Apart (filter p xs)
+Apart-filter : (p : KeptRelease → Bool) (xs : List KeptRelease) → Apart xs → Apart (filter p xs)
 Apart-filter p [] h = tt
 Apart-filter p (x ∷ xs) h =
     elim (p x) as (λ b. Apart (cond b (x ∷ filter p xs) (filter p xs)))
@@ -107,23 +107,23 @@ pub pending_apart : (set : List Task) (rule : Rule) (h : List Row) → AllByRecu
 pending_apart set rule h s l = Apart-filter (is_live set h) (released h) (released_apart set rule h s l)
 
 -- x is the only one with its job
-abbrev pub Only : Live → List Live → Type 0
+abbrev pub Only : KeptRelease → List KeptRelease → Type 0
 Only x xs = Each (λ i. same_job x.job i.job ≡ true → i ≡ x) xs
 
 -- behind the newest of a task no other has its job
-only_tail : (x y : Live) (ys : List Live) → x ≡ y → Each (Older y) ys → Only x ys
+only_tail : (x y : KeptRelease) (ys : List KeptRelease) → x ≡ y → Each (Older y) ys → Only x ys
 only_tail x y ys e o =
     Each-map {P = Older y}
     (λ i p m.
     let q = same_job_is x.job i.job m in
-    let t : y.job.task.0 ≡ i.job.task.0 = subst (λ (z : Live). z.job.task.0 ≡ i.job.task.0) e q.0 in
-    let c : y.job.count ≡ i.job.count = subst (λ (z : Live). z.job.count ≡ i.job.count) e q.1 in
+    let t : y.job.task.0 ≡ i.job.task.0 = subst (λ (z : KeptRelease). z.job.task.0 ≡ i.job.task.0) e q.0 in
+    let c : y.job.count ≡ i.job.count = subst (λ (z : KeptRelease). z.job.count ≡ i.job.count) e q.1 in
     let d = p.count t in
     absurd (omega (arith, c, d)))
     ys o
 
 -- one of a list that is apart is the only one with its job
-pub only : (x : Live) (xs : List Live) → Apart xs → is_in xs x ≡ true → Only x xs
+pub only : (x : KeptRelease) (xs : List KeptRelease) → Apart xs → is_in xs x ≡ true → Only x xs
 only x [] a e = tt
 only x (y ∷ ys) a e = go (λ r. only x ys a.1 r) (same_live x y) refl
   where

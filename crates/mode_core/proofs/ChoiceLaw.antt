@@ -7,7 +7,7 @@ use Rattle.mc_task.specs.declared.task.Task.{Task}
 use Rattle.mc_task.specs.declared.task.JobId.{JobId}
 use Rattle.mc_model.specs.declared.row.Row.{Row}
 use Rattle.mc_model.specs.Mode.{high_mode}
-use Rattle.mc_model.specs.Pending.{Live, pending}
+use Rattle.mc_model.specs.Pending.{KeptRelease, pending}
 use Rattle.mc_model.specs.Key.{key}
 use Rattle.mc_model.specs.Core.{runs_before, chosen}
 use Rattle.mc_model.proofs.Lists.{Each-map}
@@ -24,19 +24,19 @@ no_lower : (a s b t : ℕ) → before b t a s ≡ false → a ≡ b → s ≤ t
 no_lower a s b t h e = grind (arith, nat_tests)
 
 -- a job that does not run before x may wait for it
-may_wait : (set : List Task) (rule : Rule) (high : Bool) (x y : Live) → runs_before set rule high y x ≡ false → MayWait set rule high x y
+may_wait : (set : List Task) (rule : Rule) (high : Bool) (x y : KeptRelease) → runs_before set rule high y x ≡ false → MayWait set rule high x y
 may_wait set rule high x y r = record {
   order = no_less (key set rule high x) x.job.task.0 (key set rule high y) y.job.task.0 r;
   tie = λ e. no_lower (key set rule high x) x.job.task.0 (key set rule high y) y.job.task.0 r e;
 }
 
 -- what the test finds is an element
-contained : (x : Live) (xs : List Live) → is_in xs x ≡ true → Contains xs x
+contained : (x : KeptRelease) (xs : List KeptRelease) → is_in xs x ≡ true → Contains xs x
 contained x [] e = cc
 contained x (y ∷ ys) e = go (contained x ys) (same_live x y) refl
   where
     go : (is_in ys x ≡ true → Contains ys x) → (b : Bool) → same_live x y ≡ b → Contains (y ∷ ys) x
-    go ih true m = subst (λ (z : Live). Contains (y ∷ ys) z) (sym (live_eq x y m)) (0, omega arith, refl)
+    go ih true m = subst (λ (z : KeptRelease). Contains (y ∷ ys) z) (sym (live_eq x y m)) (0, omega arith, refl)
     go ih false m = Contains-append_right (y ∷ []) ys x (ih (rw m at e))
 
 -- the chosen job is the choice

@@ -1,20 +1,19 @@
 -- The job that runs first is pending, and none runs before it.
-use Rattle.std.proofs.Common.{◌≡◌, ℕ, Bool, true, false, not, ◌&&◌, ◌||◌, List, [], ◌∷◌, Option, Some, None, nat_lt, nat_le, ◌==◌, option_map, refl, sym, subst, arith}
+use Rattle.std.proofs.Common.{◌≡◌, ℕ, Bool, true, false, ◌&&◌, ◌||◌, List, [], ◌∷◌, Option, Some, None, nat_lt, nat_le, ◌==◌, option_map, refl, subst, arith}
 use Rattle.std.specs.List.{list_all}
 use Rattle.std.proofs.lemmas.Bool.Decides.{nat_tests}
 use Rattle.mc_task.specs.declared.task.Rule.{Rule}
 use Rattle.mc_task.specs.declared.task.Task.{Task}
 use Rattle.mc_task.specs.declared.task.JobId.{JobId}
 use Rattle.mc_model.specs.declared.row.Row.{Row}
-use Rattle.mode_core.proofs.Apart.{Apart, only}
-use Rattle.mc_model.specs.Pending.{Live, pending}
+use Rattle.mc_model.specs.Pending.{KeptRelease, pending}
 use Rattle.mc_model.specs.Rows.{same_job}
 use Rattle.mc_model.specs.Mode.{high_mode}
 use Rattle.mc_model.specs.Key.{key}
 use Rattle.mc_model.specs.Legal.{none_below, is_least, is_pending}
 use Rattle.mc_model.specs.Core.{runs_before, first_of_two, first_to_run, chosen}
 use Rattle.mc_model.proofs.Booleans.{or_true}
-use Rattle.mc_model.proofs.Jobs.{same_live-refl, same_live, is_in, same_job-refl, live_eq}
+use Rattle.mc_model.proofs.Jobs.{same_live, is_in, any_in, same_job-refl, head_in}
 use Rattle.mc_model.proofs.Lists.{Each, Each-map}
 
 -- the order of keys and numbers
@@ -37,34 +36,30 @@ before-trans a s b t c u h k = grind (arith, nat_tests)
 not_less : (a s b t : ℕ) → before a s b t ≡ false → nat_le b a ≡ true
 not_less a s b t h = grind (arith, nat_tests)
 
--- the first of a list is in it
-pub self_in : (x : Live) (xs : List Live) → is_in (x ∷ xs) x ≡ true
-self_in x xs = rw (same_live-refl x) refl
-
 -- x is of the list, and none of the list runs before it
-pub record IsFirst (set : List Task) (rule : Rule) (high : Bool) (xs : List Live) (x : Live) : Type 0 where
+pub record IsFirst (set : List Task) (rule : Rule) (high : Bool) (xs : List KeptRelease) (x : KeptRelease) : Type 0 where
   pub inside : is_in xs x ≡ true
   pub none_before : Each (λ i. runs_before set rule high i x ≡ false) xs
 
 -- so is the job that runs first
-pub is_first : (set : List Task) (rule : Rule) (high : Bool) (xs : List Live) (x : Live) → first_to_run set rule high xs ≡ Some x → IsFirst set rule high xs x
+pub is_first : (set : List Task) (rule : Rule) (high : Bool) (xs : List KeptRelease) (x : KeptRelease) → first_to_run set rule high xs ≡ Some x → IsFirst set rule high xs x
 is_first set rule high [] x e = cc
-is_first set rule high (i ∷ []) x e = subst (IsFirst set rule high (i ∷ [])) (the_one i x e) (record { inside = self_in i []; none_before = (before-self (key set rule high i) i.job.task.0, tt) })
+is_first set rule high (i ∷ []) x e = subst (IsFirst set rule high (i ∷ [])) (the_one i x e) (record { inside = head_in i []; none_before = (before-self (key set rule high i) i.job.task.0, tt) })
   where
-    the_one : (i x : Live) → Some i ≡ Some x → i ≡ x
+    the_one : (i x : KeptRelease) → Some i ≡ Some x → i ≡ x
     the_one i x h = cc
 is_first set rule high (i ∷ k ∷ ks) x e = go (is_first set rule high (k ∷ ks) y refl) (runs_before set rule high y i) refl
   where
-    k_of : Live → ℕ
+    k_of : KeptRelease → ℕ
     k_of z = key set rule high z
 
-    t_of : Live → ℕ
+    t_of : KeptRelease → ℕ
     t_of z = z.job.task.0
 
-    y : Live
+    y : KeptRelease
     y = first_of_two set rule high k (first_to_run set rule high ks)
 
-    the_one : (i x : Live) → Some i ≡ Some x → i ≡ x
+    the_one : (i x : KeptRelease) → Some i ≡ Some x → i ≡ x
     the_one i x h = cc
 
     go : IsFirst set rule high (k ∷ ks) y → (b : Bool) → runs_before set rule high y i ≡ b → IsFirst set rule high (i ∷ k ∷ ks) x
@@ -79,41 +74,33 @@ is_first set rule high (i ∷ k ∷ ks) x e = go (is_first set rule high (k ∷ 
         let q : i ≡ x = the_one i x (rw m at e) in
         subst (IsFirst set rule high (i ∷ k ∷ ks)) q
         (record {
-          inside = self_in i (k ∷ ks);
+          inside = head_in i (k ∷ ks);
           none_before = (before-self (k_of i) (t_of i), Each-map {P = λ z. runs_before set rule high z y ≡ false} (λ z r. before-trans (k_of i) (t_of i) (k_of y) (t_of y) (k_of z) (t_of z) r m) (k ∷ ks) f.none_before);
         })
 
 -- a test that each passes
-pub all_from : (p : Live → Bool) (xs : List Live) → Each (λ x. p x ≡ true) xs → list_all p xs ≡ true
+pub all_from : (p : KeptRelease → Bool) (xs : List KeptRelease) → Each (λ x. p x ≡ true) xs → list_all p xs ≡ true
 all_from p [] h = refl
 all_from p (x ∷ xs) h = let a = h.0 in rw a (all_from p xs h.1)
 
 -- no pending job has a key below that of the job that runs first
-pub least_of : (set : List Task) (rule : Rule) (high : Bool) (xs : List Live) (x : Live) → IsFirst set rule high xs x → none_below set rule high (key set rule high x) xs ≡ true
+pub least_of : (set : List Task) (rule : Rule) (high : Bool) (xs : List KeptRelease) (x : KeptRelease) → IsFirst set rule high xs x → none_below set rule high (key set rule high x) xs ≡ true
 least_of set rule high xs x f = all_from (λ i. nat_le (key set rule high x) (key set rule high i)) xs (Each-map {P = λ i. runs_before set rule high i x ≡ false} (λ i r. not_less _ _ _ _ r) xs f.none_before)
 
 -- and so its key is a least one
-pub least : (set : List Task) (rule : Rule) (high : Bool) (xs : List Live) (x : Live) → Apart xs → IsFirst set rule high xs x → is_least set rule high xs x.job ≡ true
-least set rule high xs x a f =
-    all_from (λ i. not (same_job x.job i.job) || none_below set rule high (key set rule high i) xs) xs
-    (Each-map {P = λ i. same_job x.job i.job ≡ true → i ≡ x} (λ i o. at i o (same_job x.job i.job) refl) xs (only x xs a f.inside))
-  where
-    at : (i : Live) → (same_job x.job i.job ≡ true → i ≡ x) → (b : Bool) → same_job x.job i.job ≡ b → (not (same_job x.job i.job) || none_below set rule high (key set rule high i) xs) ≡ true
-    at i o true m = or_true _ _ (subst (λ z. none_below set rule high (key set rule high z) xs ≡ true) (sym (o m)) (least_of set rule high xs x f))
-    at i o false m = rw m refl
+pub least : (set : List Task) (rule : Rule) (high : Bool) (xs : List KeptRelease) (x : KeptRelease) → IsFirst set rule high xs x → is_least set rule high xs x.job ≡ true
+least set rule high xs x f =
+    let itself : same_job x.job x.job ≡ true = same_job-refl x.job in
+    let below : none_below set rule high (key set rule high x) xs ≡ true = least_of set rule high xs x f in
+    any_in (λ i. same_job x.job i.job && none_below set rule high (key set rule high i) xs) x xs f.inside (rw (itself, below) refl)
 
 -- a job of the list is one of the pending jobs
-pub pending_one : (x : Live) (xs : List Live) → is_in xs x ≡ true → is_pending xs x.job ≡ true
-pending_one x [] e = cc
-pending_one x (y ∷ ys) e = go (pending_one x ys) (same_live x y) refl
-  where
-    go : (is_in ys x ≡ true → is_pending ys x.job ≡ true) → (b : Bool) → same_live x y ≡ b → (same_job x.job y.job || is_pending ys x.job) ≡ true
-    go ih true m = let q : x ≡ y = live_eq x y m in let s : same_job x.job y.job ≡ true = subst (λ (z : Live). same_job x.job z.job ≡ true) q (same_job-refl x.job) in rw s refl
-    go ih false m = or_true _ _ (ih (rw m at e))
+pub pending_one : (x : KeptRelease) (xs : List KeptRelease) → is_in xs x ≡ true → is_pending xs x.job ≡ true
+pending_one x xs e = any_in (λ i. same_job x.job i.job) x xs e (same_job-refl x.job)
 
 -- the pending job that is chosen
 pub record Choice (set : List Task) (rule : Rule) (h : List Row) (j : JobId) : Type 0 where
-  pub live : Live
+  pub live : KeptRelease
   pub first : first_to_run set rule (high_mode rule h) (pending set h) ≡ Some live
   pub job : live.job ≡ j
 
@@ -121,7 +108,7 @@ pub record Choice (set : List Task) (rule : Rule) (h : List Row) (j : JobId) : T
 pub choice : (set : List Task) (rule : Rule) (h : List Row) (j : JobId) → chosen set rule h ≡ Some j → Choice set rule h j
 choice set rule h j e = go (first_to_run set rule (high_mode rule h) (pending set h)) refl e
   where
-    go : (o : Option Live) → first_to_run set rule (high_mode rule h) (pending set h) ≡ o → option_map (λ (i : Live). i.job) o ≡ Some j → Choice set rule h j
+    go : (o : Option KeptRelease) → first_to_run set rule (high_mode rule h) (pending set h) ≡ o → option_map (λ (i : KeptRelease). i.job) o ≡ Some j → Choice set rule h j
     go None m k = cc
     go (Some x) m k = record { live = x; first = m; job = cc }
 
@@ -129,6 +116,6 @@ choice set rule h j e = go (first_to_run set rule (high_mode rule h) (pending se
 pub none_pending : (set : List Task) (rule : Rule) (h : List Row) → chosen set rule h ≡ None → pending set h ≡ []
 none_pending set rule h e = go (pending set h) refl e
   where
-    go : (xs : List Live) → pending set h ≡ xs → option_map (λ (i : Live). i.job) (first_to_run set rule (high_mode rule h) xs) ≡ None → pending set h ≡ []
+    go : (xs : List KeptRelease) → pending set h ≡ xs → option_map (λ (i : KeptRelease). i.job) (first_to_run set rule (high_mode rule h) xs) ≡ None → pending set h ≡ []
     go [] m k = m
     go (x ∷ xs) m k = cc

@@ -13,7 +13,7 @@ use Rattle.mode_core.specs.Events.{grant_refusal, chosen_now}
 use Rattle.mode_core.specs.Shape.{state_of, IsSound, IsCore}
 use Rattle.mode_core.proofs.Sound.{giving, ended, sound_grant, sound_end, may_grant, IsTicking, notes_ended}
 use Rattle.mode_core.specs.Noted.{notes_of}
-use Rattle.mc_model.specs.Pending.{Live}
+use Rattle.mc_model.specs.Pending.{KeptRelease}
 use Rattle.mc_model.specs.Legal.{Legal}
 use Rattle.mc_model.specs.Core.{State, add_held, outcome_of, settle}
 
@@ -55,12 +55,12 @@ core_end a b done core eb eo eh ec en =
     (let h = core.held_room in omega (arith, h, ec))
 
 -- the job of the entry that runs first
-pub first_job : (h : List Row) (o : Option Live) (x : Pending) → Some x ≡ option_map (entry h) o → Some x.job ≡ option_map (λ (i : Live). i.job) o
+pub first_job : (h : List Row) (o : Option KeptRelease) (x : Pending) → Some x ≡ option_map (entry h) o → Some x.job ≡ option_map (λ (i : KeptRelease). i.job) o
 first_job h None x e = cc
 first_job h (Some i) x e = let d : x ≡ entry h i = cc in ap (λ (p : Pending). Some p.job) d
 
 -- no job where no entry runs first
-pub no_job_first : (h : List Row) (o : Option Live) → None ≡ option_map (entry h) o → None ≡ option_map (λ (i : Live). i.job) o
+pub no_job_first : (h : List Row) (o : Option KeptRelease) → None ≡ option_map (entry h) o → None ≡ option_map (λ (i : KeptRelease). i.job) o
 no_job_first h None e = refl
 no_job_first h (Some i) e = cc
 

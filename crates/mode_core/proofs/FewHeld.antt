@@ -28,15 +28,11 @@ of_none : (n : ℕ) → of_first n [] ≡ 0
 of_none zero = refl
 of_none (suc n) = let ih : of_first n [] ≡ 0 = of_none n in omega (arith, ih)
 
--- a number that is greater is another
-above : (a b : ℕ) → b < a → (a == b) ≡ false
-above a b h = grind (arith, nat_tests)
-
 -- a job of a later task is not counted
 of_beyond : (n : ℕ) (j : JobId) (js : List JobId) → n < j.task.0 → of_first n (j ∷ js) ≡ of_first n js
 of_beyond zero j js h = refl
 of_beyond (suc n) j js h =
-    let e : (j.task.0 == suc n) ≡ false = above _ _ h in
+    let e : (j.task.0 == suc n) ≡ false = grind (arith, nat_tests) in
     let ih : of_first n (j ∷ js) ≡ of_first n js = of_beyond n j js (omega arith) in
     rw (e, ih) (omega arith)
 

@@ -1,5 +1,5 @@
 -- The rows that the events add fit.
-use Rattle.std.proofs.Common.{◌≡◌, ℕ, ◌+◌, ◌≤◌, Bool, true, false, not, ◌&&◌, ◌||◌, List, [], ◌∷◌, Some, None, nat_lt, ◌==◌, refl, sym, subst, arith, le-leb, le-ltb, eqb-true}
+use Rattle.std.proofs.Common.{◌≡◌, ℕ, ◌+◌, ◌≤◌, Bool, true, false, ◌&&◌, ◌||◌, List, [], ◌∷◌, Some, None, nat_lt, ◌==◌, refl, sym, subst, arith, le-leb, le-ltb, eqb-true}
 use Rattle.mc_model.proofs.Booleans.{or_true}
 use Rattle.std.proofs.lemmas.Bool.Decides.{nat_tests}
 use Rattle.mc_task.specs.declared.task.Rule.{Rule}
@@ -12,7 +12,6 @@ use Rattle.mc_model.specs.declared.row.Row.TheVariants.{Release, Tick, Idle}
 use Rattle.mc_model.specs.declared.verdict.Why.{Why}
 use Rattle.mc_model.specs.declared.verdict.Why.TheVariants.{TooSoon, WrongCount, WrongKept, NotPending, NotLeast, WrongHow}
 use Rattle.mc_model.proofs.Fold
-use Rattle.mode_core.proofs.Apart.{pending_apart}
 use Rattle.mode_core.proofs.Chosen.{Choice, choice, is_first, least, pending_one}
 use Rattle.std.specs.List.{AllByRecursion}
 use Rattle.mc_task.specs.TaskSet.{IsTask, task_at, IsIn}
@@ -26,6 +25,7 @@ use Rattle.mc_model.proofs.Jobs.{is_in, each_in}
 use Rattle.mc_model.proofs.Steps.{release_fits}
 use Rattle.mc_model.proofs.Live.{IsLiveOk, live_ok}
 use Rattle.mc_model.proofs.Bridge.{IsBridged, bridge}
+use Rattle.std.proofs.lemmas.Bool.{not_from_false}
 
 -- the converse of `soon_enough`
 pub not_too_soon : (set : List Task) (rule : Rule) (now k : ℕ) (g : List Row) → Legal set rule g → next_release set g k ≤ now → is_too_soon set now g k ≡ false
@@ -58,11 +58,6 @@ pub same_bool-refl : (b : Bool) → same_bool b b ≡ true
 same_bool-refl true = refl
 same_bool-refl false = refl
 
--- what is false is not true
-is_not : (b : Bool) → b ≡ false → not b ≡ true
-is_not true h = cc
-is_not false h = refl
-
 -- equal numbers, by the test
 eq_test : (m n : ℕ) → m ≡ n → (m == n) ≡ true
 eq_test m n e = grind (arith, nat_tests)
@@ -70,7 +65,7 @@ eq_test m n e = grind (arith, nat_tests)
 -- the row of a release that is not too soon
 pub release_legal : (set : List Task) (rule : Rule) (j : JobId) (g : List Row) → Legal set rule g → IsIn set j.task.0 → next_release set g j.task.0 ≤ ticks g → j.count ≡ releases g j.task.0 + 1 → Legal set rule (release_row set rule j g ∷ g)
 release_legal set rule j g l i n c =
-    (i, three _ _ _ TooSoon WrongCount WrongKept (is_not _ (not_too_soon set rule (ticks g) j.task.0 g l n)) (eq_test _ _ c) (same_bool-refl (keeps set rule g j.task.0)), l)
+    (i, three _ _ _ TooSoon WrongCount WrongKept (not_from_false _ (not_too_soon set rule (ticks g) j.task.0 g l n)) (eq_test _ _ c) (same_bool-refl (keeps set rule g j.task.0)), l)
 
 -- an idle row where nothing is pending
 pub idle_legal : (set : List Task) (rule : Rule) (g : List Row) → Legal set rule g → pending set g ≡ [] → Legal set rule (Idle ∷ g)
@@ -114,7 +109,7 @@ chooses set rule g j s l e = subst (Chooses set rule g) c.job of_live
           inside = ok.inside;
           own = ok.own;
           waits = pending_one c.live (pending set g) f.inside;
-          soonest = least set rule (high_mode rule g) (pending set g) c.live (pending_apart set rule g s l) f;
+          soonest = least set rule (high_mode rule g) (pending set g) c.live f;
         }
 
 -- the row of a tick of the chosen job

@@ -4,10 +4,8 @@ use Rattle.mc_task.specs.declared.task.Rule.{Rule}
 use Rattle.mc_task.specs.declared.task.Task.{Task}
 use Rattle.mc_task.specs.declared.task.JobId.{JobId}
 use Rattle.mc_model.specs.declared.row.Row.{Row}
-use Rattle.mc_model.specs.declared.row.Row.TheVariants.{Idle}
 use Rattle.mode_core.specs.Events.{or_else, refused_if, with_release}
-use Rattle.mode_core.proofs.Fits.{release_legal, idle_legal, tick_legal}
-use Rattle.mode_core.proofs.Chosen.{none_pending}
+use Rattle.mode_core.proofs.Fits.{release_legal, tick_legal}
 use Rattle.mode_core.proofs.Held.{IsSettled, settled_words}
 use Rattle.std.specs.List.{AllByRecursion}
 use Rattle.mc_task.specs.TaskSet.{IsTask, IsIn}
@@ -21,10 +19,6 @@ state set rule places rows out held = record { set = set; rule = rule; places = 
 -- nothing is held without a tick out
 pub no_held : (s : State) → Good s → s.out ≡ None → s.held ≡ []
 no_held s g o = subst (λ (x : Option JobId). IsOut s.set s.rule s.rows x s.held) o g.out
-
--- a state with no rows is good
-pub good_start : (set : List Task) (rule : Rule) (places : ℕ) → Good (state set rule places [] None [])
-good_start set rule places = record { legal = tt; out = refl; settled = λ done. tt }
 
 -- a release that the settled rows allow
 release_fits_settled : (set : List Task) (rule : Rule) (places : ℕ) (rows : List Row) (out : Option JobId) (held : List JobId) (k : ℕ) (done : Bool) → Good (state set rule places rows out held) → IsIn set k →

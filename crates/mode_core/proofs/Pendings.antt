@@ -1,16 +1,14 @@
 -- The pending jobs of a legal trace, row by row, and its counts.
-use Rattle.std.proofs.Common.{◌≡◌, ◌≤◌, Bool, true, false, List, [], ◌∷◌, ◌++◌, length, filter, reverse, sym, ap, ◌∙◌, arith}
+use Rattle.std.proofs.Common.{◌≡◌, ◌≤◌, Bool, true, false, List, [], ◌∷◌, ◌++◌, length, reverse, sym, ap, ◌∙◌, arith}
 use Rattle.std.proofs.lemmas.List.{reverse-append}
 use Rattle.mc_task.specs.declared.task.Rule.{Rule}
 use Rattle.mc_task.specs.declared.task.Task.{Task}
 use Rattle.mc_task.specs.declared.task.JobId.{JobId}
-use Rattle.mc_model.specs.declared.row.How.{How}
 use Rattle.mc_model.specs.declared.row.Row.{Row}
 use Rattle.mc_model.specs.declared.row.Row.TheVariants.{Release, Tick, Idle}
 use Rattle.mc_model.specs.Pending.{pending}
 use Rattle.mc_model.specs.Rows.{ticks, used}
 use Rattle.mc_model.specs.Legal.{Legal}
-use Rattle.mc_model.proofs.Fold.{stays}
 use Rattle.mc_model.proofs.Bridge.{bridge}
 use Rattle.mc_model.proofs.Steps.{release_fits}
 use Rattle.mc_model.proofs.Counts.{counted as counted_so}
@@ -26,10 +24,6 @@ pending-kept set rule j g l = (bridge set rule (Release j true ∷ g) l).same �
 -- a dropped one adds none
 pub pending-dropped : (set : List Task) (rule : Rule) (j : JobId) (g : List Row) → Legal set rule (Release j false ∷ g) → pending set (Release j false ∷ g) ≡ pending set g
 pending-dropped set rule j g l = (bridge set rule (Release j false ∷ g) l).same ∙ sym (bridge set rule g l.2).same
-
--- a tick leaves those that stay
-pub pending-tick : (set : List Task) (rule : Rule) (j : JobId) (how : How) (g : List Row) → Legal set rule (Tick j how ∷ g) → pending set (Tick j how ∷ g) ≡ filter (stays set j how) (pending set g)
-pending-tick set rule j how g l = (bridge set rule (Tick j how ∷ g) l).same ∙ ap (filter (stays set j how)) (sym (bridge set rule g l.2).same)
 
 -- an idle tick leaves all
 pub pending-idle : (set : List Task) (rule : Rule) (g : List Row) → Legal set rule (Idle ∷ g) → pending set (Idle ∷ g) ≡ pending set g

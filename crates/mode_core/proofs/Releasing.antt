@@ -59,7 +59,7 @@ releases-few (Tick j how ∷ g) k = let ih : releases g k ≤ length g = release
 releases-few (Idle ∷ g) k = let ih : releases g k ≤ length g = releases-few g k in omega (arith, ih)
 
 -- nor more jobs of one task than jobs
-jobs-few : (k : ℕ) (js : List JobId) → jobs_of k js ≤ length js
+pub jobs-few : (k : ℕ) (js : List JobId) → jobs_of k js ≤ length js
 jobs-few k [] = omega arith
 jobs-few k (j ∷ js) = let ih : jobs_of k js ≤ length js = jobs-few k js in elim (j.task.0 == k) as (λ b. cond b 1 0 + jobs_of k js ≤ length (j ∷ js)) [ true ↦ omega (arith, ih) | false ↦ omega (arith, ih) ]
 

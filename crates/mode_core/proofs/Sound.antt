@@ -1,17 +1,15 @@
-use Rattle.std.proofs.Common.{◌≡◌, ◌≢◌, ℕ, ◌+◌, ◌<◌, ◌≤◌, ◌^◌, Bool, true, false, not, List, [], ◌∷◌, Option, Some, None, refl, sym, ap, ◌∙◌, subst, arith, ltb-false}
+use Rattle.std.proofs.Common.{◌≡◌, ◌≢◌, ℕ, ◌+◌, ◌<◌, ◌≤◌, Bool, true, false, not, List, [], ◌∷◌, Option, Some, None, refl, sym, ap, ◌∙◌, subst, arith, ltb-false}
 -- Each event leaves a sound state, and what is noted of releases after it.
 use Rattle.mc_task.specs.declared.task.JobId.{JobId}
 use Rattle.mc_model.specs.declared.row.Row.TheVariants.{Tick}
-use Rattle.mode_core.specs.Events.{empty_state, is_full, release_refusal, grant_refusal, outcome_refusal, is_of_task, is_out, chosen_now}
+use Rattle.mode_core.specs.Events.{is_full, release_refusal, grant_refusal, outcome_refusal, is_of_task, is_out, chosen_now}
 use Rattle.mode_core.specs.Shape.{IsSound}
 use Rattle.mode_core.specs.Noted.{notes_of}
 use Rattle.mode_core.proofs.Fits.{Chooses, chooses, tick_legal}
 use Rattle.mode_core.proofs.Held.{IsSettled, settled_words}
-use Rattle.mode_core.proofs.Keep.{good_start, good_release, good_grant, good_outcome, no_held, neither, not_if, no_map}
-use Rattle.mc_task.specs.declared.task.Task.{Task}
-use Rattle.mc_task.specs.declared.task.Rule.{Rule}
-use Rattle.mc_task.specs.TaskSet.{AreTasks, IsIn}
-use Rattle.mc_model.specs.Holds.{Fits, Holds}
+use Rattle.mode_core.proofs.Keep.{good_release, good_grant, good_outcome, no_held, neither, not_if, no_map}
+use Rattle.mc_task.specs.TaskSet.{IsIn}
+use Rattle.mc_model.specs.Holds.{Fits}
 use Rattle.mode_core.proofs.Noted.{notes_settled}
 use Rattle.mc_model.specs.Rows.{ticks}
 use Rattle.mc_model.specs.Legal.{Legal}

@@ -12,8 +12,9 @@ use Rattle.mc_model.specs.declared.row.Row.TheVariants.{Release, Tick, Idle}
 use Rattle.mc_model.specs.declared.row.How.TheVariants.{More, Done, Stop, Over}
 use Rattle.mc_model.specs.TaskNumbers.{is_high_in, own_in}
 use Rattle.mc_model.specs.Rows.{ticks, used, same_job}
-use Rattle.mc_model.specs.Mode.{is_virtual, is_over}
-use Rattle.mc_model.specs.Pending.{Live, pending, is_end}
+use Rattle.mc_task.specs.Kinds.{is_virtual}
+use Rattle.mc_model.specs.Mode.{is_over}
+use Rattle.mc_model.specs.Pending.{KeptRelease, pending, is_end}
 use Rattle.mc_model.specs.Legal.{Legal, is_pending}
 use Rattle.mc_model.specs.Holds.{Holds}
 use Rattle.mc_model.proofs.Booleans.{eqb-false}
@@ -21,7 +22,7 @@ use Rattle.mc_model.proofs.Fold.{stays}
 use Rattle.mc_model.proofs.Jobs.{is_in, each_in, same_job-refl}
 use Rattle.mc_model.proofs.Lists.{Each}
 use Rattle.mc_model.proofs.Live.{IsLiveOk, live_ok}
-use Rattle.mc_model.proofs.Bridge.{IsBridged, bridge}
+use Rattle.mc_model.proofs.Bridge.{IsBridged, bridge, pending-tick}
 use Rattle.mc_model.proofs.Steps.{release_fits, TickFits, tick_fits, idle_fits, Hows, more, done, stop, over, hows}
 use Rattle.demand_law.proofs.Laws.{at_most_one, none_at_release}
 use Rattle.mode_core.specs.declared.pending.Pending.{Pending}
@@ -30,7 +31,8 @@ use Rattle.mode_core.specs.declared.live.LiveJob.{LiveJob}
 use Rattle.mode_core.specs.Slots.{Slots, job_at, ticks_at, told, waiting, ChangesOnly, IsLeft, is_left, one_more}
 use Rattle.mode_core.specs.Kept.{job_of, IsTally}
 use Rattle.mode_core.proofs.ByTask.{job_of-task, job_of-none, job_of-one, left, job_of-filter, IsThere, pending_there}
-use Rattle.mode_core.proofs.Pendings.{pending-kept, pending-dropped, pending-tick, pending-idle, unused}
+use Rattle.mode_core.proofs.Pendings.{pending-kept, pending-dropped, pending-idle, unused}
+use Rattle.std.proofs.lemmas.Bool.{and_right}
 
 -- after a release that is dropped
 pub tally_dropped : (set : List Task) (rule : Rule) (h : List Row) (t : ℕ) (m : Bool) (slots : ℕ → Option Pending) (j : JobId) → Legal set rule (Release j false ∷ h) → IsTally set rule h t m slots → IsTally set rule (Release j false ∷ h) t m slots
@@ -67,7 +69,7 @@ tally_kept set rule h t m old new j l this others y = record {
   slots_are = λ k i. at k i (j.task.0 == k) refl ∙ ap (λ xs. option_map (entry h) (job_of k xs)) (sym (pending-kept set rule j h l));
 }
   where
-    x : Live
+    x : KeptRelease
     x = record { job = j; release = ticks h }
 
     same : record { job = j; release = t; used = 0 } ≡ entry h x
@@ -98,7 +100,7 @@ tally_idle set rule h t m slots l y = record {
 
 -- the pending job that ticks
 pub record Ticks (set : List Task) (h : List Row) (j : JobId) : Type 0 where
-  pub live : Live
+  pub live : KeptRelease
   pub there : job_of j.task.0 (pending set h) ≡ Some live
   pub inside : is_in (pending set h) live ≡ true
   pub job : live.job ≡ j
@@ -125,35 +127,30 @@ ticking_line s h t m j how tasks holds l y =
     ap (used h) (sym k.job) ∙ told_ticks s j.task.0 (entry h k.live) (y.slots_are j.task.0 l.0 ∙ ap (option_map (entry h)) k.there)
 
 -- a task's job is the one that ticks exactly where the task is its task
-is_it : (set : List Task) (h : List Row) (j : JobId) (k : ℕ) (x : Live) → Ticks set h j → job_of k (pending set h) ≡ Some x → same_job j x.job ≡ (j.task.0 == k)
+is_it : (set : List Task) (h : List Row) (j : JobId) (k : ℕ) (x : KeptRelease) → Ticks set h j → job_of k (pending set h) ≡ Some x → same_job j x.job ≡ (j.task.0 == k)
 is_it set h j k x t e = go (j.task.0 == k) refl
   where
     go : (b : Bool) → (j.task.0 == k) ≡ b → same_job j x.job ≡ (j.task.0 == k)
     go true m =
         let a : Some t.live ≡ Some x = sym t.there ∙ (ap (λ n. job_of n (pending set h)) (eqb-true _ _ m) ∙ e) in
-        let b : x.job ≡ j = ap (λ (z : Live). z.job) (sym (same_Some t.live x a)) ∙ t.job in
+        let b : x.job ≡ j = ap (λ (z : KeptRelease). z.job) (sym (same_Some t.live x a)) ∙ t.job in
         subst (λ (i : JobId). same_job j i ≡ true) (sym b) (same_job-refl j) ∙ sym m
     go false m = let n : (j.task.0 == x.job.task.0) ≡ false = subst (λ n. (j.task.0 == n) ≡ false) (sym (job_of-task k (pending set h) x e)) m in rw (n, m) refl
 
--- no two are both true where one is false
-none : (b : Bool) → (b && false) ≡ false
-none true = refl
-none false = refl
-
 -- an overrun is one of EDF-VD
 virtual_over : (set : List Task) (rule : Rule) (h : List Row) (j : JobId) (how : How) → Hows set rule h j how → (is_virtual rule && is_over how) ≡ is_over how
-virtual_over set rule h j More (more a f) = none (is_virtual rule)
-virtual_over set rule h j Done (done a) = none (is_virtual rule)
-virtual_over set rule h j Stop (stop a) = none (is_virtual rule)
+virtual_over set rule h j More (more a f) = and_right (is_virtual rule) false refl
+virtual_over set rule h j Done (done a) = and_right (is_virtual rule) false refl
+virtual_over set rule h j Stop (stop a) = and_right (is_virtual rule) false refl
 virtual_over set rule h j Over (over v m y e a) = rw v refl
 
 -- what stays of a task's job is what is left of its slot
-stays_left : (set : List Task) (h : List Row) (j : JobId) (how : How) (k : ℕ) (x : Live) → Ticks set h j → job_of k (pending set h) ≡ Some x → stays set j how x ≡ is_left set j.task.0 how k
+stays_left : (set : List Task) (h : List Row) (j : JobId) (how : How) (k : ℕ) (x : KeptRelease) → Ticks set h j → job_of k (pending set h) ≡ Some x → stays set j how x ≡ is_left set j.task.0 how k
 stays_left set h j how k x t e =
     ap₂ (λ (b : Bool) (n : ℕ). not (is_end how && b) && (not (is_over how) || is_high_in (task_at set n))) (is_it set h j k x t e) (job_of-task k (pending set h) x e)
 
 -- one more tick of the job that ticks
-one_more_tick : (h : List Row) (j : JobId) (how : How) (x : Live) (b : Bool) → same_job j x.job ≡ b → cond b (one_more (entry h x)) (entry h x) ≡ entry (Tick j how ∷ h) x
+one_more_tick : (h : List Row) (j : JobId) (how : How) (x : KeptRelease) (b : Bool) → same_job j x.job ≡ b → cond b (one_more (entry h x)) (entry h x) ≡ entry (Tick j how ∷ h) x
 one_more_tick h j how x true m = rw m (ap (λ (u : ℕ). record { job = x.job; release = x.release; used = u }) (omega arith))
 one_more_tick h j how x false m = rw m (ap (λ (u : ℕ). record { job = x.job; release = x.release; used = u }) (omega arith))
 
@@ -180,10 +177,10 @@ tally_tick set rule h t m n old mid new j how s holds l this others leaves mode 
     found : (k : ℕ) → job_of k (pending set (Tick j how ∷ h)) ≡ left (stays set j how) (job_of k (pending set h))
     found k = ap (job_of k) (pending-tick set rule j how h l) ∙ job_of-filter k (stays set j how) (pending set h) (at_most_one set rule h s holds l.2 k)
 
-    counted : (k : ℕ) → IsIn set k → (o : Option Live) → job_of k (pending set h) ≡ o → mid k ≡ option_map (entry (Tick j how ∷ h)) o
+    counted : (k : ℕ) → IsIn set k → (o : Option KeptRelease) → job_of k (pending set h) ≡ o → mid k ≡ option_map (entry (Tick j how ∷ h)) o
     counted k i o e = go o e (j.task.0 == k) refl
       where
-        go : (o : Option Live) → job_of k (pending set h) ≡ o → (b : Bool) → (j.task.0 == k) ≡ b → mid k ≡ option_map (entry (Tick j how ∷ h)) o
+        go : (o : Option KeptRelease) → job_of k (pending set h) ≡ o → (b : Bool) → (j.task.0 == k) ≡ b → mid k ≡ option_map (entry (Tick j how ∷ h)) o
         go None e true d = subst (λ (q : ℕ). mid q ≡ option_map one_more (old q)) (eqb-true _ _ d) this ∙ ap (option_map one_more) (y.slots_are k i ∙ ap (option_map (entry h)) e)
         go None e false d = others k i (λ (q : k ≡ j.task.0). eqb-false j.task.0 k d (sym q)) ∙ (y.slots_are k i ∙ ap (option_map (entry h)) e)
         go (Some x) e true d =
@@ -193,7 +190,7 @@ tally_tick set rule h t m n old mid new j how s holds l this others leaves mode 
             others k i (λ (q : k ≡ j.task.0). eqb-false j.task.0 k d (sym q))
             ∙ (y.slots_are k i ∙ (ap (option_map (entry h)) e ∙ ap (λ (p : Pending). Some p) (one_more_tick h j how x false (is_it set h j k x it e ∙ d))))
 
-    at : (k : ℕ) → IsIn set k → (o : Option Live) → job_of k (pending set h) ≡ o → cond (is_left set j.task.0 how k) (mid k) None ≡ option_map (entry (Tick j how ∷ h)) (left (stays set j how) o)
+    at : (k : ℕ) → IsIn set k → (o : Option KeptRelease) → job_of k (pending set h) ≡ o → cond (is_left set j.task.0 how k) (mid k) None ≡ option_map (entry (Tick j how ∷ h)) (left (stays set j how) o)
     at k i None e = ap (λ (p : Option Pending). cond (is_left set j.task.0 how k) p None) (counted k i None e) ∙ nothing (is_left set j.task.0 how k)
       where
         no_job : Option Pending

@@ -5,17 +5,17 @@ use Rattle.mc_task.specs.declared.task.Task.{Task}
 use Rattle.mc_task.specs.declared.task.JobId.{JobId}
 use Rattle.mc_model.specs.declared.row.Row.{Row}
 use Rattle.mc_model.specs.Mode.{high_mode}
-use Rattle.mc_model.specs.Pending.{Live, pending}
+use Rattle.mc_model.specs.Pending.{KeptRelease, pending}
 use Rattle.mc_model.specs.Key.{key}
 
 -- y may wait for x: its key is no less, and where the two are equal, its task's number is no lower
-pub record MayWait (set : List Task) (rule : Rule) (high : Bool) (x y : Live) : Type 0 where
+pub record MayWait (set : List Task) (rule : Rule) (high : Bool) (x y : KeptRelease) : Type 0 where
   pub order : key set rule high x ≤ key set rule high y
   pub tie : key set rule high x ≡ key set rule high y → x.job.task.0 ≤ y.job.task.0
 
 -- the job is pending, and each pending job may wait for it
 pub record IsLeast (set : List Task) (rule : Rule) (h : List Row) (j : JobId) : Type 0 where
-  pub live : Live
+  pub live : KeptRelease
   pub of_job : live.job ≡ j
   pub waiting : Contains (pending set h) live
   pub others : All (MayWait set rule (high_mode rule h) live) (pending set h)

@@ -5,18 +5,18 @@ use Rattle.mc_task.specs.declared.task.Rule.{Rule}
 use Rattle.mc_task.specs.TaskSet.{task_at}
 use Rattle.mc_model.specs.declared.row.Row.{Row}
 use Rattle.mc_model.specs.TaskNumbers.{is_high_in}
-use Rattle.mc_model.specs.Pending.{Live}
+use Rattle.mc_model.specs.Pending.{KeptRelease}
 use Rattle.mc_model.specs.Rows.{used}
 use Rattle.mc_model.specs.Key.{key_of}
 use Rattle.ready_queue.specs.declared.item.Item.{Item}
 use Rattle.mode_core.specs.declared.pending.Pending.{Pending}
 
 -- the job with the ticks that it had in these rows
-abbrev pub entry : List Row → Live → Pending
+abbrev pub entry : List Row → KeptRelease → Pending
 entry h x = record { job = x.job; release = x.release; used = used h x.job }
 
 -- the job with its release time alone
-abbrev pub live_of : Pending → Live
+abbrev pub live_of : Pending → KeptRelease
 live_of p = record { job = p.job; release = p.release }
 
 -- what the queue holds of a job of task number k that was released at r: its key in this mode, and its key in high mode

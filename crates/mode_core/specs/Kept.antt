@@ -8,7 +8,7 @@ use Rattle.mc_model.specs.Holds.{Fits, Holds}
 use Rattle.mc_model.specs.Legal.{Legal}
 use Rattle.mc_model.specs.Rows.{ticks}
 use Rattle.mc_model.specs.Mode.{high_mode}
-use Rattle.mc_model.specs.Pending.{Live, pending}
+use Rattle.mc_model.specs.Pending.{KeptRelease, pending}
 use Rattle.budget_ledger.specs.Ledger.{budget}
 use Rattle.ready_queue.specs.declared.item.Item.{Item}
 use Rattle.ready_queue.specs.Items.{item_of}
@@ -43,7 +43,7 @@ abbrev pub written : Inside → Written
 written a = record { set = a.live.set; rule = a.live.rule; places = a.places; rows = reverse a.rows.items }
 
 -- the pending job of task number k
-abbrev pub job_of : ℕ → List Live → Option Live
+abbrev pub job_of : ℕ → List KeptRelease → Option KeptRelease
 job_of k jobs = find (λ i. i.job.task.0 == k) jobs
 
 -- clock, mode and slots agree with the rows, which are legal: the live job of each task is its pending job, with its ticks

@@ -3,7 +3,7 @@ ghost use Rattle.std.specs.Prelude.{◌≡◌, ◌<◌, ◌≤◌, ◌^◌, ◌&
 ghost use Rattle.mc_task.specs.TaskSet.{AreTasks, IsIn, task_at};
 ghost use Rattle.mc_model.specs.Holds.{Fits};
 ghost use Rattle.mc_model.specs.TaskNumbers.{is_high_in, own_in};
-ghost use Rattle.mc_model.specs.Mode.{is_virtual};
+ghost use Rattle.mc_task.specs.Kinds.{is_virtual};
 ghost use Rattle.mc_model.specs.declared.row.How.TheVariants.{More, Done, Stop, Over};
 ghost use Rattle.budget_ledger.specs.Ledger.{spent};
 ghost use Rattle.mode_core.specs.Slots.{job_at, ticks_at, told, waiting, free_slots, one_more, ChangesOnly, GoesHigh, IsLeft, IsOutcome, IsQuiet, RunsFirst};
@@ -97,7 +97,7 @@ impl LiveJobs {
     fn may_switch(&self, task: TaskNo) -> bool
         ensures { result ≡ ((is_high_in (task_at self.now.set task.0) && is_virtual self.now.rule) && not self.now.high) }
     {
-        self.rule != Rule::Plain && !self.high && is_high(&self.set, task)
+        self.rule.is_virtual() && !self.high && is_high(&self.set, task)
     }
 
     /// Clears the slots that a tick of the task with this outcome clears: at an end its own, and at an overrun those of low

@@ -5,7 +5,7 @@ ghost use Rattle.mc_model.specs.TaskNumbers.{is_high_in};
 ghost use Rattle.mc_model.specs.Holds.{Fits};
 ghost use Rattle.mode_core.specs.Entries.{item};
 
-use mc_task::{JobId, Level, Rule, TaskNo, TaskSet};
+use mc_task::{JobId, Rule, TaskNo, TaskSet};
 use ready_queue::Item;
 use virtual_key::key;
 
@@ -22,7 +22,7 @@ pub fn is_high(set: &TaskSet, task: TaskNo) -> bool
     ensures { result ≡ is_high_in (task_at set.now.tasks task.0) }
 {
     match set.get(task) {
-        Some(t) => t.level == Level::High,
+        Some(t) => t.is_high(),
         None => false,
     }
 }
@@ -37,7 +37,7 @@ pub fn item(set: &TaskSet, rule: Rule, high: bool, task: TaskNo, release: u64) -
     match set.get(task) {
         Some(t) => Item {
             task,
-            high: t.level == Level::High,
+            high: t.is_high(),
             key: key(rule, high, &t, release),
             real: key(rule, true, &t, release),
         },

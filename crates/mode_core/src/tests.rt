@@ -1,40 +1,15 @@
-ghost use Rattle.std.specs.Prelude.{IfSome};
-ghost use Rattle.mc_model.specs.Holds.{Holds};
-ghost use Rattle.mc_task.specs.declared.task.Rule.TheVariants.{Virtual};
-
 use crate::{Core, GrantFault, Granted, IdleFault, NotOut, ReleaseFault, Released};
 use mc_model::How;
-use mc_task::{JobId, Level, Name, Rule, Task, TaskNo, TaskSet};
+use mc_task::{Rule, TaskNo};
 use std::alloc::Global;
 use std::test::Fail;
+use worked_sets::{CONTROL, job, set_of};
 
-// A high task with period 10 and budgets 2 and 6, and a low one with period 10 and budget 5.
-fn control(alloc: Global) -> Option<TaskSet>
-    ensures { IfSome result (λ set. Holds set.tasks (Virtual 2 5)) }
-{
-    let ctl = Task {
-        name: Name::new(b"ctl")?,
-        level: Level::High,
-        period: 10,
-        low: 2,
-        high: 6,
-    };
-    let log = Task {
-        name: Name::new(b"log")?,
-        level: Level::Low,
-        period: 10,
-        low: 5,
-        high: 5,
-    };
-    let tasks = vec![in alloc; ctl, log].ok()?;
-    TaskSet::new(tasks).ok()
-}
-
-fn job(task: u32, count: u32) -> JobId {
-    JobId {
-        task: TaskNo(task),
-        count,
-    }
+// A core over the control set, with so many places.
+fn control(alloc: Global, places: u32) -> Result<Core, Fail> {
+    let set = set_of(alloc, &CONTROL)?;
+    let rule = Rule::Virtual { p: 2, q: 5 };
+    Ok(Core::new(alloc, set, rule, places as usize)?)
 }
 
 // The answer to a release of the task, if it is in the set.
@@ -51,11 +26,9 @@ fn grant(core: &mut Core, task: u32) -> Option<Result<Granted, GrantFault>> {
 
 #[test]
 fn calls_are_answered_in_turn(rt: HostRuntime) -> Result<(), Fail> {
-    let alloc = rt.alloc();
-    let set = control(alloc).ok_or("a set")?;
-    let mut core = Core::new(alloc, set, Rule::Virtual { p: 2, q: 5 }, 4)?;
-    let ctl = job(1, 1);
-    let log = job(2, 1);
+    let mut core = control(rt.alloc(), 4)?;
+    let ctl = job!(1, 1);
+    let log = job!(2, 1);
     assert_eq!(rt; core.idle(), Ok(0));
     assert_eq!(rt;
         release(&mut core, 1),
@@ -99,9 +72,7 @@ fn calls_are_answered_in_turn(rt: HostRuntime) -> Result<(), Fail> {
 
 #[test]
 fn one_place_is_one_row(rt: HostRuntime) -> Result<(), Fail> {
-    let alloc = rt.alloc();
-    let set = control(alloc).ok_or("a set")?;
-    let mut core = Core::new(alloc, set, Rule::Virtual { p: 2, q: 5 }, 1)?;
+    let mut core = control(rt.alloc(), 1)?;
     assert_eq!(rt; core.idle(), Ok(0));
     assert_eq!(rt; release(&mut core, 1), Some(Err(ReleaseFault::Full)));
     assert_eq!(rt; core.idle(), Err(IdleFault::Full));
@@ -109,34 +80,33 @@ fn one_place_is_one_row(rt: HostRuntime) -> Result<(), Fail> {
 }
 
 // A core whose task 1 was released at 0 and had a tick.
-fn started(alloc: Global) -> Option<Core> {
-    let set = control(alloc)?;
-    let mut core = Core::new(alloc, set, Rule::Virtual { p: 2, q: 5 }, 9).ok()?;
-    release(&mut core, 1)?.ok()?;
-    grant(&mut core, 1)?.ok()?;
-    core.outcome(job(1, 1), false).ok()?;
-    Some(core)
+fn started(alloc: Global) -> Result<Core, Fail> {
+    let mut core = control(alloc, 9)?;
+    release(&mut core, 1).ok_or("a task")??;
+    grant(&mut core, 1).ok_or("a task")??;
+    core.outcome(job!(1, 1), false)?;
+    Ok(core)
 }
 
 #[test]
 fn a_release_beside_the_switch_is_dropped_in_either_order(rt: HostRuntime) -> Result<(), Fail> {
     let alloc = rt.alloc();
     let granted = Granted {
-        job: job(1, 1),
+        job: job!(1, 1),
         at: 1,
         before: 1,
     };
-    let log = job(2, 1);
-    let mut early = started(alloc).ok_or("a core")?;
+    let log = job!(2, 1);
+    let mut early = started(alloc)?;
     assert_eq!(rt; grant(&mut early, 1), Some(Ok(granted)));
     assert_eq!(rt;
         release(&mut early, 2),
         Some(Ok(Released::Held { job: log, at: 2 }))
     );
-    assert_eq!(rt; early.outcome(job(1, 1), false), Ok(How::Over));
-    let mut late = started(alloc).ok_or("a core")?;
+    assert_eq!(rt; early.outcome(job!(1, 1), false), Ok(How::Over));
+    let mut late = started(alloc)?;
     assert_eq!(rt; grant(&mut late, 1), Some(Ok(granted)));
-    assert_eq!(rt; late.outcome(job(1, 1), false), Ok(How::Over));
+    assert_eq!(rt; late.outcome(job!(1, 1), false), Ok(How::Over));
     assert_eq!(rt;
         release(&mut late, 2),
         Some(Ok(Released::Dropped { job: log, at: 2 }))
@@ -144,7 +114,7 @@ fn a_release_beside_the_switch_is_dropped_in_either_order(rt: HostRuntime) -> Re
     assert_eq!(rt; early.rows(), late.rows());
     assert_eq!(rt;
         (early.rule(), early.out(), early.high_mode(), early.chosen()),
-        (Rule::Virtual { p: 2, q: 5 }, None, true, Some(job(1, 1)))
+        (Rule::Virtual { p: 2, q: 5 }, None, true, Some(job!(1, 1)))
     );
     assert_eq!(rt;
         (early.ticks(), early.ticks_begun(), early.places()),

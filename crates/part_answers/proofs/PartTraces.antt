@@ -1,5 +1,5 @@
 -- The floors of the processors before their runs and after them.
-use Rattle.std.proofs.Common.{◌≡◌, ℕ, ◌+◌, ◌≤◌, List, [], ◌∷◌, ◌++◌, map, length, reverse, Some, refl, sym, ap, subst, ◌∙◌, arith}
+use Rattle.std.proofs.Common.{◌≡◌, ℕ, ◌+◌, List, [], ◌∷◌, ◌++◌, map, length, reverse, refl, ap, subst, ◌∙◌, arith}
 use Rattle.std.specs.Prelude.{All, flat_map, zip, codes, decimal}
 use Rattle.std.specs.List.{AllZip}
 use Rattle.std.proofs.lemmas.List.Elements.{All-nil, All-cons}
@@ -7,15 +7,13 @@ use Rattle.mc_task.specs.declared.task.Task.{Task}
 use Rattle.mc_task.specs.declared.task.Rule.{Rule}
 use Rattle.mc_model.specs.declared.row.Row.{Row}
 use Rattle.mc_model.specs.declared.work.WorkRow.{WorkRow}
-use Rattle.mc_model.specs.Core.{State}
-use Rattle.mc_model.specs.Test.{published}
 use Rattle.mc_model.specs.Follows.{Follows}
 use Rattle.mc_model.specs.TraceText.{trace_text}
 use Rattle.timetable.specs.declared.plan.Plan.{Plan}
 use Rattle.timetable.specs.declared.plan.Plan.TheVariants.{Rows}
 use Rattle.timetable.specs.Floor.{FloorState}
 use Rattle.timetable.specs.Plans.{IsTraceOfPlan}
-use Rattle.part_answers.specs.Parted.{Parted, tasks_on}
+use Rattle.part_answers.specs.Parted.{Parted}
 use Rattle.part_answers.specs.RunAll.{IsTraceOn, trace_lines}
 use Rattle.part_answers.specs.Runs.{IsFresh, IsRunOf}
 use Rattle.part_answers.specs.Planned.{IsPlanned, IsPlannedOn}

@@ -20,10 +20,6 @@ text-more f n m text more whole within inv grows =
     let rest : List ℕ = flat_map f (range_with_len (n + 1) (m + 1 - (n + 1))) in
     ap (λ x. x ++ rest) grows ∙ append_assoc text (f n) rest ∙ sym (ap (λ l. text ++ flat_map f l) (from_next n m within)) ∙ inv
 
--- the text of all
-pub text-end : (f : ℕ → List ℕ) (n m : ℕ) (text whole : List ℕ) → m + 1 ≤ n → text ++ flat_map f (range_with_len n (m + 1 - n)) ≡ whole → text ≡ whole
-text-end f n m text whole past inv = sym (append-nil text) ∙ sym (ap (λ l. text ++ flat_map f l) (none_left n m past)) ∙ inv
-
 -- one that passes goes behind those before it
 pub passes-more : (p : ℕ → Bool) (n m : ℕ) (some more whole : List ℕ) → n < m + 1 → p n ≡ true → some ++ filter p (range_with_len n (m + 1 - n)) ≡ whole → more ≡ some ++ n ∷ []
     → more ++ filter p (range_with_len (n + 1) (m + 1 - (n + 1))) ≡ whole
@@ -49,6 +45,3 @@ chosen-more p n m some more whole within inv grows = go (p n) refl
     go true is = passes-more p n m some more whole within is inv (grows ∙ ap (λ b. some ++ cond b (n ∷ []) []) is)
     go false is =
         ap (λ l. l ++ filter p (range_with_len (n + 1) (m + 1 - (n + 1)))) (grows ∙ ap (λ b. some ++ cond b (n ∷ []) []) is ∙ append-nil some) ∙ fails-more p n m some whole within is inv
-
-pub passes-end : (p : ℕ → Bool) (n m : ℕ) (some whole : List ℕ) → m + 1 ≤ n → some ++ filter p (range_with_len n (m + 1 - n)) ≡ whole → some ≡ whole
-passes-end p n m some whole past inv = sym (append-nil some) ∙ sym (ap (λ l. some ++ filter p l) (none_left n m past)) ∙ inv

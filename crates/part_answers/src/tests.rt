@@ -8,45 +8,23 @@ use crate::side_by_side::run_all;
 use admission::admit;
 use gates::MeetingGate;
 use load_sum::sum_loads;
-use mc_model::WorkRow;
-use mc_task::Level::{High, Low};
-use mc_task::{Level, Name, Task, TaskNo, TaskSet};
+use mc_task::{Level, TaskNo};
 use mode_core::Core;
 use std::alloc::Global;
 use std::test::Fail;
 use timetable::{Floor, Plan};
 use work_file::Work;
-
-// A task's name, level, period, low budget and high budget.
-type Line = (&'static str, Level, u32, u32, u32);
+use worked_sets::{Job, Line, TAP_AND_ARM, TAP_AND_ARM_WORK, set_of, work_rows};
 
 const TICKS: u32 = 5;
 
-// A floor with no rows, whose plan is these jobs: of each the task, the release and the need.
-fn floor(alloc: Global, lines: &[Line], jobs: &[(u32, u32, u32)]) -> Result<Floor, Fail>
+// A floor with no rows, whose plan is these jobs.
+fn floor(alloc: Global, lines: &[Line], jobs: &[Job]) -> Result<Floor, Fail>
     ensures { IfOk result IsFresh }
 {
-    let mut tasks = Vec::new(alloc);
-    for (name, level, period, low, high) in lines {
-        tasks.push(Task {
-            name: Name::new(name.as_bytes()).ok_or("name")?,
-            level: *level,
-            period: *period,
-            low: *low,
-            high: *high,
-        })?;
-    }
-    let mut rows = Vec::new(alloc);
-    for (task, release, need) in jobs {
-        rows.push(WorkRow {
-            task: TaskNo(*task),
-            release: *release,
-            need: *need,
-        })?;
-    }
-    let set = TaskSet::new(tasks)?;
+    let set = set_of(alloc, lines)?;
     let rule = admit(&sum_loads(&set)?).ok_or("not admitted")?;
-    let work = Work::new(&set, rows)?;
+    let work = Work::new(&set, work_rows(alloc, jobs)?)?;
     let places = TICKS as usize + work.rows().len();
     let core = Core::new(alloc, set, rule, places)?;
     let plan = Plan::Rows {
@@ -79,12 +57,8 @@ fn numbers(alloc: Global) -> Result<Vec<Vec<TaskNo>>, Fail>
 #[test]
 fn floors_run_at_once(rt: HostRuntime) -> Result<(), Fail> {
     let alloc = rt.alloc();
-    let plant = floor(
-        alloc,
-        &[("tap", Low, 2, 1, 1), ("arm", High, 4, 1, 3)],
-        &[(1, 0, 1), (2, 0, 3), (1, 2, 1), (1, 4, 1)],
-    )?;
-    let log = floor(alloc, &[("log", Low, 10, 5, 5)], &[(1, 0, 5)])?;
+    let plant = floor(alloc, &TAP_AND_ARM, &TAP_AND_ARM_WORK)?;
+    let log = floor(alloc, &[("log", Level::Low, 10, 5, 5)], &[(1, 0, 5)])?;
     let gate = MeetingGate::new();
     let floors = both(alloc, plant, log)?;
     let Ok(done) = run_all(&rt, alloc, floors, numbers(alloc)?, &gate) else {

@@ -1,7 +1,7 @@
 -- The loads of the processors while the tasks are placed.
 use Rattle.std.proofs.Common.{◌≡◌, ◌≢◌, ℕ, suc, ◌<◌, inl, inr, cond, List, [], ◌∷◌, ◌++◌, length, replicate, get_or, slice_get, slice_set, slice_index_or, Some, refl, sym, ap, subst, ◌∙◌, arith, length-set, get_or-set_same, get_or-set_other}
 use Rattle.std.proofs.lemmas.Bool.Decides.{eqb_tells}
-use Rattle.std.proofs.lemmas.Option.{slice_get_within, slice_get-get_or, slice_get_read}
+use Rattle.std.proofs.lemmas.Option.{slice_get_within, slice_get-get_or, slice_get_read, same_Some}
 use Rattle.std.proofs.lemmas.List.{get_or-replicate, length-replicate}
 use Rattle.mc_task.specs.declared.task.Task.{Task}
 use Rattle.mc_task.specs.TaskSet.{AreTasks}
@@ -10,9 +10,6 @@ use Rattle.load_sum.specs.declared.loads.Loads.{Loads}
 use Rattle.part_fit.specs.Parts.{part_of}
 use Rattle.part_fit.specs.KeptLoads.{no_loads, AreLoadsOf, AreSmall, IsNext, AreKept, IsToPlace}
 use Rattle.part_fit.proofs.Sublists.{part_of-none, part_of-more, with_next-AreTasks}
-
-some_same : {X : Type 0} (x y : X) → Some x ≡ Some y → x ≡ y
-some_same x y h = cc h
 
 -- the task that is read at a place of the tasks of a set
 pub at-place : (set tasks : List Task) (i : ℕ) (t : Task) → tasks ≡ set → i < length tasks → t ≡ get_or tasks i t → slice_get set i ≡ Some t
@@ -40,7 +37,7 @@ pub none-AreKept : (set : List Task) (m : ℕ) → AreKept set [] (replicate m n
 none-AreKept set m i loads at =
     let inside : i < m = (let within = slice_get_within (replicate m no_loads) i loads at in subst (λ k. i < k) (length-replicate m no_loads) within) in
     let same : no_loads ≡ loads =
-    sym (get_or-replicate m i no_loads loads inside) ∙ some_same _ _ (sym (slice_get-get_or (replicate m no_loads) i loads (slice_get_within (replicate m no_loads) i loads at)) ∙ at) in
+    sym (get_or-replicate m i no_loads loads inside) ∙ same_Some _ _ (sym (slice_get-get_or (replicate m no_loads) i loads (slice_get_within (replicate m no_loads) i loads at)) ∙ at) in
     subst (λ l. AreLoadsOf (part_of set [] (suc i)) l × AreSmall l) same (
       subst (λ ts. AreLoadsOf ts no_loads) (sym (part_of-none set (suc i))) no_loads-AreLoadsOf,
       record { above = omega arith; lcm = omega arith; low_low = omega arith; high_low = omega arith; high_high = omega arith },
@@ -52,7 +49,7 @@ pub more-AreKept : (set : List Task) (of : List ℕ) (all : List Loads) (t : Tas
 more-AreKept set of all t k more here inside have small i loads at =
     let longer : i < length all = subst (λ n. i < n) (length-set all k more) (slice_get_within (slice_set all k more) i loads at) in
     let is : slice_index_or (slice_set all k more) i loads ≡ loads =
-    some_same _ _ (sym (slice_get-get_or (slice_set all k more) i loads (slice_get_within (slice_set all k more) i loads at)) ∙ at) in
+    same_Some _ _ (sym (slice_get-get_or (slice_set all k more) i loads (slice_get_within (slice_set all k more) i loads at)) ∙ at) in
     let grown = part_of-more set of (suc i) (suc k) t here.next in
     elim (eqb_tells (suc k) (suc i)) [
       | inl same ↦

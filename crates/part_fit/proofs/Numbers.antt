@@ -1,5 +1,5 @@
 -- The numbers of tasks on a processor.
-use Rattle.std.proofs.Common.{◌≡◌, ◌≢◌, ℕ, zero, suc, ◌+◌, ◌<◌, ◌≤◌, inl, inr, Bool, true, false, cond, ◌==◌, List, [], ◌∷◌, length, slice_get, get_or, take, ◌++◌, filter, refl, sym, ap, subst, ◌∙◌, arith, eq-eqb, Option, Some, None}
+use Rattle.std.proofs.Common.{◌≡◌, ◌≢◌, ℕ, zero, suc, ◌+◌, ◌<◌, ◌≤◌, inl, inr, Bool, true, false, cond, ◌==◌, List, [], ◌∷◌, length, slice_get, get_or, take, ◌++◌, filter, refl, sym, ap, subst, ◌∙◌, arith, eq-eqb, Option, Some, None, ne_eqb}
 use Rattle.std.specs.Option.{option_map_or}
 use Rattle.std.proofs.lemmas.List.{get_or_past}
 use Rattle.std.proofs.lemmas.List.FromFn.{map-range_with_len_more, length-map-range_with_len, get_or-map-range_with_len}
@@ -12,7 +12,6 @@ use Rattle.mc_model.proofs.Tasks.{task_at-next}
 use Rattle.part_fit.specs.Parts.{part_of}
 use Rattle.part_fit.specs.PartWork.{is_on, number_on}
 use Rattle.part_fit.specs.Numbering.{number_there, numbers_there, number_in}
-use Rattle.part_fit.proofs.Sublists.{not_equal}
 
 -- the task at index i is on processor n
 abbrev on_at : ℕ → List ℕ → ℕ → Bool
@@ -51,20 +50,6 @@ count_on-next : (n : ℕ) (of : List ℕ) (i : ℕ) → on_at n of i ≡ true �
 count_on-next n [] i on = absurd (false≢true on)
 count_on-next n (p ∷ ps) zero on = first_next n (p == n) ps on
 count_on-next n (p ∷ ps) (suc i) on = later_next (p == n) (count_on n ps (suc i)) (count_on n ps i) (count_on-next n ps i on)
-
-first_same : (n : ℕ) (b : Bool) (ps : List ℕ) → b ≡ false → cond b (suc (count_on n ps 0)) (count_on n ps 0) ≡ 0
-first_same n true ps off = absurd (false≢true (sym off))
-first_same n false [] off = refl
-first_same n false (q ∷ qs) off = refl
-
-later_same : (b : Bool) (x y : ℕ) → x ≡ y → cond b (suc x) x ≡ cond b (suc y) y
-later_same b x y h = ap (λ z. cond b (suc z) z) h
-
--- another is not
-count_on-same : (n : ℕ) (of : List ℕ) (i : ℕ) → on_at n of i ≡ false → count_on n of (suc i) ≡ count_on n of i
-count_on-same n [] i off = refl
-count_on-same n (p ∷ ps) zero off = first_same n (p == n) ps off
-count_on-same n (p ∷ ps) (suc i) off = later_same (p == n) (count_on n ps (suc i)) (count_on n ps i) (count_on-same n ps i off)
 
 later_grows : (b : Bool) (x y : ℕ) → x < y → cond b (suc x) x < cond b (suc y) y
 later_grows true x y h = omega arith
@@ -175,7 +160,7 @@ number-on n of i last lt here so_far =
 pub number-off : (n : ℕ) (of : List ℕ) (i last : ℕ) → i < length of → get_or of i 0 ≢ n → last ≡ number_on n of i
     → (None ≡ number_there n of (suc i)) × (last ≡ number_on n of (i + 1))
 number-off n of i last lt other so_far =
-    let fails : (get_or of i 0 == n) ≡ false = not_equal _ _ other in
+    let fails : (get_or of i 0 == n) ≡ false = ne_eqb _ _ other in
     let off : on_at n of i ≡ false = on_at-is n of i lt ∙ fails in
     (sym (ap (λ b. cond b (Some (number_on n of (suc i))) None) off), so_far ∙ sym (count_by_more_no (λ p. p == n) of i 0 lt fails))
 

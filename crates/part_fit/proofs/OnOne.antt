@@ -1,5 +1,5 @@
 -- Each task is on one processor.
-use Rattle.std.proofs.Common.{◌≡◌, ◌≢◌, ◌⊎◌, ℕ, zero, suc, ◌<◌, ◌≤◌, inl, inr, Bool, true, false, cond, ◌==◌, List, [], ◌∷◌, length, get_or, refl, sym, ap, subst, ◌∙◌, arith}
+use Rattle.std.proofs.Common.{◌≡◌, ◌≢◌, ◌⊎◌, ℕ, zero, suc, ◌<◌, ◌≤◌, inl, inr, Bool, true, false, cond, ◌==◌, List, [], ◌∷◌, length, get_or, refl, sym, ap, subst, ◌∙◌, arith, eq-eqb}
 use Rattle.std.specs.Prelude.{Contains}
 use Rattle.std.specs.List.{AllByRecursion}
 use Rattle.std.proofs.lemmas.Bool.Decides.{eqb_tells}
@@ -7,7 +7,6 @@ use Rattle.mc_task.specs.declared.task.Task.{Task}
 use Rattle.mc_task.specs.TaskSet.{Distinct, names_of}
 use Rattle.part_fit.specs.Parts.{part_of}
 use Rattle.part_fit.specs.Partition.{IsOnOne}
-use Rattle.part_fit.proofs.Sublists.{same_number}
 
 -- the processor is one from 1 to m
 abbrev pub IsProcessor : ℕ → ℕ → Type 0
@@ -67,7 +66,7 @@ first-on t ts p ps m is new = record {
   processor = p;
   first = is.0;
   last = is.1;
-  there = contains (part_of (t ∷ ts) (p ∷ ps) p) t (here_either (p == p) t (part_of ts ps p) (same_number p));
+  there = contains (part_of (t ∷ ts) (p ∷ ps) p) t (here_either (p == p) t (part_of ts ps p) (eq-eqb p p refl));
   alone = λ n c.
       let h = one_of (part_of (t ∷ ts) (p ∷ ps) n) t c.0 c.1 c.2 in
       elim (eqb_tells p n) [

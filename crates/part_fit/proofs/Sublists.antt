@@ -1,19 +1,16 @@
 -- The tasks of a processor are some of the set's, in its order.
-use Rattle.std.proofs.Common.{◌≡◌, ◌≢◌, ℕ, suc, ◌+◌, ◌≤◌, Bool, true, false, cond, ◌==◌, List, [], ◌∷◌, ◌++◌, length, drop, Some, slice_get, inl, inr, refl, sym, ap, subst, ◌∙◌, arith, length-append}
+use Rattle.std.proofs.Common.{◌≡◌, ◌≢◌, ℕ, suc, ◌+◌, ◌≤◌, Bool, true, false, cond, ◌==◌, List, [], ◌∷◌, ◌++◌, length, drop, Some, slice_get, refl, sym, ap, subst, ◌∙◌, arith, length-append, eq-eqb}
 use Rattle.std.specs.List.{AllByRecursion}
 use Rattle.std.proofs.lemmas.List.{append_assoc}
-use Rattle.std.proofs.lemmas.Bool.Decides.{eqb_tells}
 use Rattle.mc_task.specs.declared.task.Task.{Task}
 use Rattle.mc_task.specs.TaskSet.{AreTasks, IsTask, Distinct, names_of}
 use Rattle.mc_model.proofs.Walk.{drop_at}
 use Rattle.part_fit.specs.Parts.{part_of}
+use Rattle.std.proofs.lemmas.Option.{same_Some}
 
 pub part_of-none : (ts : List Task) (n : ℕ) → part_of ts [] n ≡ []
 part_of-none [] n = refl
 part_of-none (t ∷ ts) n = refl
-
-some_same : {X : Type 0} (x y : X) → Some x ≡ Some y → x ≡ y
-some_same x y h = cc h
 
 both : (b d : Bool) (u t : Task) (ys : List Task)
     → cond b (u ∷ cond d (ys ++ t ∷ []) ys) (cond d (ys ++ t ∷ []) ys) ≡ cond d (cond b (u ∷ ys) ys ++ t ∷ []) (cond b (u ∷ ys) ys)
@@ -27,7 +24,7 @@ pub part_of-more : (ts : List Task) (of : List ℕ) (n p : ℕ) (t : Task) → s
     → part_of ts (of ++ p ∷ []) n ≡ cond (p == n) (part_of ts of n ++ t ∷ []) (part_of ts of n)
 part_of-more [] of n p t h = absurd (cc h)
 part_of-more (u ∷ ts) [] n p t h =
-    ap (λ rest. cond (p == n) (u ∷ rest) rest) (part_of-none ts n) ∙ ap (λ v. cond (p == n) (v ∷ []) []) (some_same u t h)
+    ap (λ rest. cond (p == n) (u ∷ rest) rest) (part_of-none ts n) ∙ ap (λ v. cond (p == n) (v ∷ []) []) (same_Some u t h)
 part_of-more (u ∷ ts) (q ∷ of) n p t h =
     ap (λ rest. cond (q == n) (u ∷ rest) rest) (part_of-more ts of n p t h) ∙ both (q == n) (p == n) u t (part_of ts of n)
 
@@ -99,26 +96,10 @@ part_of-AreTasks set of n is some = record {
   names = part_of-distinct set of n is.names;
 }
 
--- a number is equal to itself
-pub same_number : (p : ℕ) → (p == p) ≡ true
-same_number p =
-    elim (eqb_tells p p) [
-      | inl same ↦ same.0
-      | inr other ↦ absurd (other.1 refl)
-    ]
-
 -- so with the next task behind them
 pub with_next-AreTasks : (set : List Task) (of : List ℕ) (n : ℕ) (t : Task) → AreTasks set → slice_get set (length of) ≡ Some t → AreTasks (part_of set of n ++ t ∷ [])
 with_next-AreTasks set of n t is task =
-    let here : part_of set (of ++ n ∷ []) n ≡ part_of set of n ++ t ∷ [] = part_of-more set of n n t task ∙ (rw (same_number n) refl) in
+    let here : part_of set (of ++ n ∷ []) n ≡ part_of set of n ++ t ∷ [] = part_of-more set of n n t task ∙ (rw (eq-eqb n n refl) refl) in
     let long : length (part_of set of n ++ t ∷ []) ≡ length (part_of set of n) + 1 = length-append (part_of set of n) (t ∷ []) in
     let some : 1 ≤ length (part_of set (of ++ n ∷ []) n) = rw here (omega (arith, long)) in
     subst (λ ts. AreTasks ts) here (part_of-AreTasks set (of ++ n ∷ []) n is some)
-
--- different numbers are not equal
-pub not_equal : (a b : ℕ) → a ≢ b → (a == b) ≡ false
-not_equal a b differ =
-    elim (eqb_tells a b) [
-      | inl same ↦ absurd (differ same.1)
-      | inr other ↦ other.0
-    ]

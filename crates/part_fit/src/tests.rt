@@ -2,13 +2,11 @@
 use crate::{FitFault, fit, part, part_work};
 use mc_model::WorkRow;
 use mc_task::Level::{High, Low};
-use mc_task::{Level, Name, Task, TaskNo, TaskSet};
+use mc_task::{TaskNo, TaskSet};
 use std::alloc::Global;
 use std::test::Fail;
 use work_file::Work;
-
-// A task's name, level, period, low budget and high budget.
-type Line = (&'static str, Level, u32, u32, u32);
+use worked_sets::{Line, TAP_AND_ARM, set_of, task, work_row, work_rows};
 
 const PLANT: [Line; 3] = [
     ("tap", Low, 2, 1, 1),
@@ -16,40 +14,12 @@ const PLANT: [Line; 3] = [
     ("log", Low, 10, 5, 5),
 ];
 
-fn set_of(alloc: Global, lines: &[Line]) -> Result<TaskSet, Fail> {
-    let mut tasks = Vec::new(alloc);
-    for (name, level, period, low, high) in lines {
-        tasks.push(Task {
-            name: Name::new(name.as_bytes()).ok_or("name")?,
-            level: *level,
-            period: *period,
-            low: *low,
-            high: *high,
-        })?;
-    }
-    Ok(TaskSet::new(tasks)?)
-}
-
-fn row(task: u32, release: u32, need: u32) -> WorkRow {
-    WorkRow {
-        task: TaskNo(task),
-        release,
-        need,
-    }
-}
-
 // So many low tasks of one period and one budget.
 fn equal_tasks(alloc: Global, count: u32, period: u32, budget: u32) -> Result<TaskSet, Fail> {
     let mut tasks = Vec::new(alloc);
     for number in 0..count {
         let name = format!(in alloc; "t{number}")?;
-        tasks.push(Task {
-            name: Name::new(name.as_bytes()).ok_or("name")?,
-            level: Low,
-            period,
-            low: budget,
-            high: budget,
-        })?;
+        tasks.push(task(name.as_str(), Low, period, budget, budget).ok_or("name")?)?;
     }
     Ok(TaskSet::new(tasks)?)
 }
@@ -60,7 +30,7 @@ fn each_task_goes_to_the_least_processor_that_takes_it(rt: HostRuntime) -> Resul
     let cases: [(&str, u32, &[Line], &[u32]); 5] = [
         // The first two have a load of 5/4 by their greatest budgets, and go together by virtual deadlines alone.
         ("plant", 2, &PLANT, &[1, 1, 2]),
-        ("the first two on one", 1, &[PLANT[0], PLANT[1]], &[1, 1]),
+        ("the first two on one", 1, &TAP_AND_ARM, &[1, 1]),
         (
             // The third task would fill the second processor, and goes to the first; the last finds its place behind it.
             "first and not best or next",
@@ -159,13 +129,8 @@ fn as_many_tasks_as_a_set_may_have(rt: HostRuntime) -> Result<(), Fail> {
 fn a_part_has_its_tasks_and_their_work(rt: HostRuntime) -> Result<(), Fail> {
     let alloc = rt.alloc();
     let set = set_of(alloc, &PLANT)?;
-    let rows = vec![in alloc;
-        row(1, 0, 1),
-        row(2, 0, 3),
-        row(3, 0, 5),
-        row(1, 2, 1),
-        row(1, 4, 1),
-    ]?;
+    let jobs = [(1, 0, 1), (2, 0, 3), (3, 0, 5), (1, 2, 1), (1, 4, 1)];
+    let rows = work_rows(alloc, &jobs)?;
     let Ok(work) = Work::new(&set, rows) else {
         return Err("no work".into());
     };
@@ -176,9 +141,14 @@ fn a_part_has_its_tasks_and_their_work(rt: HostRuntime) -> Result<(), Fail> {
         (
             1,
             "tap arm ",
-            &[row(1, 0, 1), row(2, 0, 3), row(1, 2, 1), row(1, 4, 1)],
+            &[
+                work_row(1, 0, 1),
+                work_row(2, 0, 3),
+                work_row(1, 2, 1),
+                work_row(1, 4, 1),
+            ],
         ),
-        (2, "log ", &[row(1, 0, 5)]),
+        (2, "log ", &[work_row(1, 0, 5)]),
     ];
     for (n, names, wanted) in cases {
         let Some(tasks) = part(alloc, &set, &parts, n)? else {

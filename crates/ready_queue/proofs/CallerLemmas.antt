@@ -1,5 +1,5 @@
 -- For callers: the item of each task after each call, and the least of two lists that have the same.
-use Rattle.std.proofs.Common.{◌≡◌, ℕ, ◌<◌, ◌≤◌, Bool, true, false, not, ◌==◌, nat_lt, cond, List, [], ◌∷◌, Option, Some, None, map, filter, refl, sym, ap, subst, ◌∙◌, arith}
+use Rattle.std.proofs.Common.{◌≡◌, ℕ, ◌<◌, ◌≤◌, Bool, true, false, not, ◌==◌, nat_lt, cond, List, [], ◌∷◌, Option, Some, None, map, filter, refl, sym, ap, subst, ◌∙◌, arith, eq-eqb, eqb-true}
 use Rattle.std.specs.List.{AllByRecursion}
 use Rattle.std.proofs.lemmas.Bool.Decides.{nat_tests}
 use Rattle.ready_queue.specs.declared.item.Item.{Item}
@@ -13,21 +13,12 @@ abbrev pub OnePerTask : List Item → Type 0
 OnePerTask [] = Unit {0}
 OnePerTask (i ∷ is) = (item_of is i.task.0 ≡ None) × OnePerTask is
 
-same_task : (a b : ℕ) → (a == b) ≡ true → a ≡ b
-same_task a b h = grind (arith, nat_tests)
-
-task_itself : (a b : ℕ) → a ≡ b → (a == b) ≡ true
-task_itself a b h = grind (arith, nat_tests)
-
-not_below : (a b : ℕ) → b < a → (a == b) ≡ false
-not_below a b h = grind (arith, nat_tests)
-
 -- the items that a queue has are such
 none_above : (above places t : ℕ) (items : List Item) → AreItemsFrom above places items → t ≤ above → item_of items t ≡ None
 none_above above places t [] rise low = refl
 none_above above places t (i ∷ items) rise low =
     let first : above < i.task.0 = rise.0 in
-    let test : (i.task.0 == t) ≡ false = not_below i.task.0 t (omega arith) in
+    let test : (i.task.0 == t) ≡ false = grind (arith, nat_tests) in
     rw test (none_above i.task.0 places t items rise.2 (omega arith))
 
 one_from : (above places : ℕ) (items : List Item) → AreItemsFrom above places items → OnePerTask items
@@ -82,7 +73,7 @@ item_of-without t (j ∷ items) k = go (item_of-without t items k) (j.task.0 == 
 
 -- that task's item is gone
 pub item_of-removed : (t : ℕ) (items : List Item) → item_of (without t items) t ≡ None
-item_of-removed t items = item_of-without t items t ∙ (let test : (t == t) ≡ true = task_itself t t refl in rw test refl)
+item_of-removed t items = item_of-without t items t ∙ (let test : (t == t) ≡ true = eq-eqb t t refl in rw test refl)
 
 -- after `rekey_high`
 pub item_of-rekeyed : (items : List Item) (k : ℕ) → OnePerTask items → item_of (map by_real (filter (λ i. i.high) items)) k ≡ rekeyed (item_of items k)
@@ -90,7 +81,7 @@ item_of-rekeyed [] k one = refl
 item_of-rekeyed (j ∷ items) k one = go (item_of-rekeyed items k one.1) j.high (j.task.0 == k) refl refl
   where
     gone : (j.task.0 == k) ≡ true → item_of items k ≡ None
-    gone e = subst (λ (n : ℕ). item_of items n ≡ None) (same_task j.task.0 k e) one.0
+    gone e = subst (λ (n : ℕ). item_of items n ≡ None) (eqb-true j.task.0 k e) one.0
 
     go : item_of (map by_real (filter (λ i. i.high) items)) k ≡ rekeyed (item_of items k) →
         (high b : Bool) → j.high ≡ high → (j.task.0 == k) ≡ b →
@@ -113,11 +104,11 @@ least_item (i ∷ items) x one e = go (least items) (λ (y : Item) (m : least it
     here : Some i ≡ Some x → item_of (i ∷ items) x.task.0 ≡ Some x
     here h =
         let q : i ≡ x = cc in
-        subst (λ (y : Item). item_of (i ∷ items) y.task.0 ≡ Some y) q (rw (task_itself i.task.0 i.task.0 refl) refl)
+        subst (λ (y : Item). item_of (i ∷ items) y.task.0 ≡ Some y) q (rw (eq-eqb i.task.0 i.task.0 refl) refl)
 
     there : (y : Item) → item_of items y.task.0 ≡ Some y → y ≡ x → (b : Bool) → (i.task.0 == x.task.0) ≡ b → cond b (Some i) (item_of items x.task.0) ≡ Some x
     there y f q true g =
-        let none : item_of items x.task.0 ≡ None = subst (λ (n : ℕ). item_of items n ≡ None) (same_task i.task.0 x.task.0 g) one.0 in
+        let none : item_of items x.task.0 ≡ None = subst (λ (n : ℕ). item_of items n ≡ None) (eqb-true i.task.0 x.task.0 g) one.0 in
         let found : item_of items x.task.0 ≡ Some x = subst (λ (z : Item). item_of items z.task.0 ≡ Some z) q f in
         absurd (cc)
     there y f q false g = subst (λ (z : Item). item_of items z.task.0 ≡ Some z) q f

@@ -1,19 +1,10 @@
 -- The items by their leaves: task number k has leaf k, the first leaf being that of a number that is given.
-use Rattle.std.proofs.Common.{◌≡◌, ℕ, suc, zero, ◌+◌, ◌<◌, ◌≤◌, Bool, true, false, not, ◌==◌, nat_lt, cond, List, [], ◌∷◌, Option, Some, None, length, get_or, set, map, filter, replicate, refl, sym, ap, arith}
+use Rattle.std.proofs.Common.{◌≡◌, ℕ, suc, zero, ◌+◌, ◌<◌, ◌≤◌, Bool, true, false, not, ◌==◌, nat_lt, cond, List, [], ◌∷◌, Option, Some, None, length, get_or, set, map, filter, replicate, refl, sym, ap, arith, eq-eqb}
 use Rattle.std.proofs.lemmas.Bool.Decides.{nat_tests}
 use Rattle.ready_queue.specs.declared.item.Item.{Item}
 use Rattle.ready_queue.specs.Items.{item_of, with_item, without, by_real, AreItemsFrom}
 use Rattle.ready_queue.specs.Tree.{rekeyed}
 use Rattle.ready_queue.specs.Kept.{items_in, AreLeavesFrom}
-
-equal_numbers : (a b : ℕ) → a ≡ b → (a == b) ≡ true
-equal_numbers a b e = grind (arith, nat_tests)
-
-other_numbers : (a b : ℕ) → a < b → (a == b) ≡ false
-other_numbers a b e = grind (arith, nat_tests)
-
-higher_numbers : (a b : ℕ) → b < a → (a == b) ≡ false
-higher_numbers a b e = grind (arith, nat_tests)
 
 less_number : (a b : ℕ) → a < b → nat_lt a b ≡ true
 less_number a b e = grind (arith, nat_tests)
@@ -44,7 +35,8 @@ without-none : (t k : ℕ) (leaves : List (Option Item)) → t < k → AreLeaves
 without-none t k [] low own = refl
 without-none t k (None ∷ leaves) low own = without-none t (k + 1) leaves (omega arith) own
 without-none t k (Some j ∷ leaves) low own =
-    let test : (j.task.0 == t) ≡ false = higher_numbers j.task.0 t (let e : j.task.0 ≡ k = own.0 in omega arith) in
+    let here : j.task.0 ≡ k = own.0 in
+    let test : (j.task.0 == t) ≡ false = grind (arith, nat_tests) in
     rw test (ap (λ (is : List Item). j ∷ is) (without-none t (k + 1) leaves (omega arith) own.1))
 
 -- a leaf that is cleared takes its task's item out
@@ -52,14 +44,15 @@ pub items_in-clear : (k n : ℕ) (leaves : List (Option Item)) → AreLeavesFrom
 items_in-clear k n [] own = refl
 items_in-clear k zero (None ∷ leaves) own = sym (without-none (k + 0) (k + 1) leaves (omega arith) own)
 items_in-clear k zero (Some j ∷ leaves) own =
-    let test : (j.task.0 == k + 0) ≡ true = equal_numbers j.task.0 (k + 0) (let e : j.task.0 ≡ k = own.0 in omega arith) in
+    let test : (j.task.0 == k + 0) ≡ true = eq-eqb j.task.0 (k + 0) (let e : j.task.0 ≡ k = own.0 in omega arith) in
     rw test (sym (without-none (k + 0) (k + 1) leaves (omega arith) own.1))
 items_in-clear k (suc n) (None ∷ leaves) own =
     let e : k + suc n ≡ k + 1 + n = omega arith in
     rw e (items_in-clear (k + 1) n leaves own)
 items_in-clear k (suc n) (Some j ∷ leaves) own =
     let e : k + suc n ≡ k + 1 + n = omega arith in
-    let test : (j.task.0 == k + suc n) ≡ false = other_numbers j.task.0 (k + suc n) (let here : j.task.0 ≡ k = own.0 in omega arith) in
+    let here : j.task.0 ≡ k = own.0 in
+    let test : (j.task.0 == k + suc n) ≡ false = grind (arith, nat_tests) in
     let rest : items_in (set leaves n None) ≡ without (k + suc n) (items_in leaves) = rw e (items_in-clear (k + 1) n leaves own.1) in
     rw test (ap (λ (is : List Item). j ∷ is) rest)
 
@@ -68,7 +61,8 @@ item_of-none : (t k : ℕ) (leaves : List (Option Item)) → t < k → AreLeaves
 item_of-none t k [] low own = refl
 item_of-none t k (None ∷ leaves) low own = item_of-none t (k + 1) leaves (omega arith) own
 item_of-none t k (Some j ∷ leaves) low own =
-    let test : (j.task.0 == t) ≡ false = higher_numbers j.task.0 t (let e : j.task.0 ≡ k = own.0 in omega arith) in
+    let here : j.task.0 ≡ k = own.0 in
+    let test : (j.task.0 == t) ≡ false = grind (arith, nat_tests) in
     rw test (item_of-none t (k + 1) leaves (omega arith) own.1)
 
 -- a task's item is that of its leaf
@@ -76,14 +70,15 @@ pub item_of-items_in : (k n : ℕ) (leaves : List (Option Item)) → AreLeavesFr
 item_of-items_in k n [] own = refl
 item_of-items_in k zero (None ∷ leaves) own = item_of-none (k + 0) (k + 1) leaves (omega arith) own
 item_of-items_in k zero (Some j ∷ leaves) own =
-    let test : (j.task.0 == k + 0) ≡ true = equal_numbers j.task.0 (k + 0) (let e : j.task.0 ≡ k = own.0 in omega arith) in
+    let test : (j.task.0 == k + 0) ≡ true = eq-eqb j.task.0 (k + 0) (let e : j.task.0 ≡ k = own.0 in omega arith) in
     rw test refl
 item_of-items_in k (suc n) (None ∷ leaves) own =
     let e : k + suc n ≡ k + 1 + n = omega arith in
     rw e (item_of-items_in (k + 1) n leaves own)
 item_of-items_in k (suc n) (Some j ∷ leaves) own =
     let e : k + suc n ≡ k + 1 + n = omega arith in
-    let test : (j.task.0 == k + suc n) ≡ false = other_numbers j.task.0 (k + suc n) (let here : j.task.0 ≡ k = own.0 in omega arith) in
+    let here : j.task.0 ≡ k = own.0 in
+    let test : (j.task.0 == k + suc n) ≡ false = grind (arith, nat_tests) in
     let rest : item_of (items_in leaves) (k + suc n) ≡ get_or leaves n None = rw e (item_of-items_in (k + 1) n leaves own.1) in
     rw test rest
 

@@ -8,7 +8,8 @@ use Rattle.mc_model.specs.declared.row.How.{How}
 use Rattle.mc_model.specs.declared.row.How.TheVariants.{More, Done, Stop, Over}
 use Rattle.mc_model.specs.declared.row.Row.{Row}
 use Rattle.mc_model.specs.declared.row.Row.TheVariants.{Release, Tick, Idle}
-use Rattle.mc_model.specs.Mode.{is_over, is_virtual}
+use Rattle.mc_task.specs.Kinds.{is_virtual}
+use Rattle.mc_model.specs.Mode.{is_over}
 use Rattle.sched_chart.specs.ChartText.{ChartedModeLaw}
 use Rattle.mc_model.proofs.Bridge.{bridge}
 use Rattle.mc_model.proofs.Steps.{Hows, over, hows, tick_fits}

@@ -9,7 +9,7 @@ use Rattle.mc_model.specs.declared.row.How.TheVariants.{More, Done, Stop, Over}
 use Rattle.mc_model.specs.declared.row.Row.{Row}
 use Rattle.mc_model.specs.declared.row.Row.TheVariants.{Release, Tick, Idle}
 use Rattle.mc_model.specs.TaskNumbers.{is_high_in}
-use Rattle.mc_model.specs.Pending.{Live, released, pending, is_end, is_live, ended, over_since}
+use Rattle.mc_model.specs.Pending.{KeptRelease, released, pending, is_end, is_live, ended, over_since}
 use Rattle.mc_model.specs.Rows.{same_job, ticks}
 use Rattle.mc_model.specs.Mode.{is_over}
 use Rattle.mc_model.specs.Legal.{Legal, is_pending, same_how}
@@ -18,10 +18,11 @@ use Rattle.mc_model.proofs.Lists.{Each-all, Each-map}
 use Rattle.mc_model.proofs.Jobs.{job_eq, same_job-refl}
 use Rattle.sched_report.proofs.HowMany.{one, how_many-cons, how_many_same, how_many_none, how_many_both, how_many-filter, how_many-mono}
 use Rattle.mc_model.proofs.Fold.{stays}
-use Rattle.sched_report.proofs.Released.{none_of_next, once, pending-release, pending-tick, ticks_pending}
+use Rattle.sched_report.proofs.Released.{none_of_next, once, pending-release, ticks_pending}
+use Rattle.mc_model.proofs.Bridge.{pending-tick}
 
 -- a row that is no overrun since the job's release leaves it discarded or not
-quiet : (set : List Task) (row : Row) (g : List Row) (x : Live) → over_since (row ∷ g) x.job ≡ over_since g x.job → is_discarded set (row ∷ g) x ≡ is_discarded set g x
+quiet : (set : List Task) (row : Row) (g : List Row) (x : KeptRelease) → over_since (row ∷ g) x.job ≡ over_since g x.job → is_discarded set (row ∷ g) x ≡ is_discarded set g x
 quiet set row g x same = go (over_since g x.job) refl
   where
     go : (b : Bool) → over_since g x.job ≡ b → is_discarded set (row ∷ g) x ≡ is_discarded set g x
@@ -44,7 +45,7 @@ discarded-release set rule j kept g k l = go kept (before kept l)
         how_many_same (λ i. is_of k i && is_discarded set (Release j kept ∷ g) i) (λ i. is_of k i && is_discarded set g i) (released g)
         (Each-map {P = λ x. same_job j x.job ≡ false} (λ x n. ap (λ (b : Bool). is_of k x && b) (quiet set (Release j kept) g x (rw n refl))) (released g) (none_of_next set rule j kept g l))
 
-    new : Live
+    new : KeptRelease
     new = record { job = j; release = ticks g }
 
     not_new : (is_of k new && is_discarded set (Release j true ∷ g) new) ≡ false
@@ -52,7 +53,7 @@ discarded-release set rule j kept g k l = go kept (before kept l)
 
     go : (kept : Bool) → how_many (λ i. is_of k i && is_discarded set (Release j kept ∷ g) i) (released g) ≡ discarded set g k → discarded set (Release j kept ∷ g) k ≡ discarded set g k
     go false h = h
-    go true h = how_many-cons (λ (i : Live). is_of k i && is_discarded set (Release j true ∷ g) i) new (released g) ∙ omega (arith, ap one not_new, h)
+    go true h = how_many-cons (λ (i : KeptRelease). is_of k i && is_discarded set (Release j true ∷ g) i) new (released g) ∙ omega (arith, ap one not_new, h)
 
 -- nor does an idle tick
 pub discarded-idle : (set : List Task) (g : List Row) (k : ℕ) → discarded set (Idle ∷ g) k ≡ discarded set g k
@@ -83,7 +84,7 @@ discarded-over set j g k =
     (Each-all each (released g)) in
     ap (λ n. discarded set (Tick j Over ∷ g) k + n) after ∙ (both ∙ ap (λ n. discarded set g k + n) (sym before))
   where
-    each : (x : Live) → one (is_of k x && is_discarded set (Tick j Over ∷ g) x) + one (is_live set (Tick j Over ∷ g) x && is_of k x) ≡ one (is_of k x && is_discarded set g x) + one (is_live set g x && is_of k x)
+    each : (x : KeptRelease) → one (is_of k x && is_discarded set (Tick j Over ∷ g) x) + one (is_live set (Tick j Over ∷ g) x && is_of k x) ≡ one (is_of k x && is_discarded set g x) + one (is_live set g x && is_of k x)
     each x = go (over_since g x.job) refl
       where
         go : (b : Bool) → over_since g x.job ≡ b → one (is_of k x && is_discarded set (Tick j Over ∷ g) x) + one (is_live set (Tick j Over ∷ g) x && is_of k x) ≡ one (is_of k x && is_discarded set g x) + one (is_live set g x && is_of k x)
@@ -91,19 +92,19 @@ discarded-over set j g k =
         go false m = rw m (newly (is_of k x) (is_high_in (task_at set x.job.task.0)) (ended g x.job))
 
 -- one pending job at least is that of a tick
-own-some : (j : JobId) (xs : List Live) → is_pending xs j ≡ true → 1 ≤ how_many (λ x. same_job j x.job) xs
+own-some : (j : JobId) (xs : List KeptRelease) → is_pending xs j ≡ true → 1 ≤ how_many (λ x. same_job j x.job) xs
 own-some j [] h = cc
 own-some j (x ∷ xs) h = go (same_job j x.job) refl (own-some j xs)
   where
     go : (b : Bool) → same_job j x.job ≡ b → (is_pending xs j ≡ true → 1 ≤ how_many (λ x. same_job j x.job) xs) → 1 ≤ how_many (λ x. same_job j x.job) (x ∷ xs)
-    go true m ih = omega (arith, ap one m, how_many-cons (λ (x : Live). same_job j x.job) x xs)
-    go false m ih = let more = ih (rw m at h) in omega (arith, more, how_many-cons (λ (x : Live). same_job j x.job) x xs)
+    go true m ih = omega (arith, ap one m, how_many-cons (λ (x : KeptRelease). same_job j x.job) x xs)
+    go false m ih = let more = ih (rw m at h) in omega (arith, more, how_many-cons (λ (x : KeptRelease). same_job j x.job) x xs)
 
 -- one where it is of the task, and none otherwise
 own-one : (set : List Task) (rule : Rule) (j : JobId) (how : How) (g : List Row) (k : ℕ) → Legal set rule (Tick j how ∷ g) → how_many (λ x. same_job j x.job && is_of k x) (pending set g) ≡ one (j.task.0 == k)
 own-one set rule j how g k l = go (j.task.0 == k) refl
   where
-    mine : (b : Bool) → (j.task.0 == k) ≡ b → (x : Live) → (same_job j x.job && is_of k x) ≡ (same_job j x.job && b)
+    mine : (b : Bool) → (j.task.0 == k) ≡ b → (x : KeptRelease) → (same_job j x.job && is_of k x) ≡ (same_job j x.job && b)
     mine b m x = go (same_job j x.job) refl
       where
         go : (c : Bool) → same_job j x.job ≡ c → (same_job j x.job && is_of k x) ≡ (same_job j x.job && b)
@@ -141,13 +142,13 @@ live-end set rule j how g k e o l =
     ap (how_many (is_of k)) (pending-tick set rule j how g l) ∙ how_many-filter (is_of k) (stays set j how) (pending set g) in
     let both : how_many (λ x. stays set j how x && is_of k x) (pending set g) + how_many (λ x. same_job j x.job && is_of k x) (pending set g) ≡ how_many (is_of k) (pending set g) + how_many (λ x. false) (pending set g) =
     how_many_both (λ x. stays set j how x && is_of k x) (λ x. same_job j x.job && is_of k x) (is_of k) (λ x. false) (pending set g) (Each-all each (pending set g)) in
-    let none : how_many (λ (x : Live). false) (pending set g) ≡ 0 = how_many_none (λ (x : Live). false) (pending set g) (Each-all (λ x. refl) (pending set g)) in
+    let none : how_many (λ (x : KeptRelease). false) (pending set g) ≡ 0 = how_many_none (λ (x : KeptRelease). false) (pending set g) (Each-all (λ x. refl) (pending set g)) in
     omega (arith, after, both, none, own-one set rule j how g k l)
   where
     table : (s c : Bool) → one ((not (true && s) && (not false || false)) && c) + one (s && c) ≡ one c + one false
     table s c = grind arith
 
-    each : (x : Live) → one (stays set j how x && is_of k x) + one (same_job j x.job && is_of k x) ≡ one (is_of k x) + one false
+    each : (x : KeptRelease) → one (stays set j how x && is_of k x) + one (same_job j x.job && is_of k x) ≡ one (is_of k x) + one false
     each x = rw (e, o) (table (same_job j x.job) (is_of k x))
 
 -- as many where the second part holds
@@ -165,7 +166,7 @@ ended-tick j how kind g k = how_many-cons (is_how_of k kind) (Tick j how) g
 pub counts_add_up : CountsAddUp
 counts_add_up set rule [] k l = refl
 counts_add_up set rule (Release j true ∷ g) k l =
-    let new : Live = record { job = j; release = ticks g } in
+    let new : KeptRelease = record { job = j; release = ticks g } in
     let ih = counts_add_up set rule g k l.2 in
     let kept : how_many (is_of k) (new ∷ released g) ≡ one (j.task.0 == k) + how_many (is_of k) (released g) = how_many-cons (is_of k) new (released g) in
     let waits : live set (Release j true ∷ g) k ≡ one (j.task.0 == k) + live set g k = ap (how_many (is_of k)) (pending-release set rule j true g l) ∙ how_many-cons (is_of k) new (pending set g) in

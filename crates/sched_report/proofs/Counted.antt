@@ -8,8 +8,9 @@ use Rattle.mc_model.specs.declared.row.How.{How}
 use Rattle.mc_model.specs.declared.row.How.TheVariants.{More, Done, Stop, Over}
 use Rattle.mc_model.specs.declared.row.Row.{Row}
 use Rattle.mc_model.specs.declared.row.Row.TheVariants.{Release, Tick, Idle}
-use Rattle.mc_model.specs.TaskNumbers.{is_high, is_high_in}
-use Rattle.mc_model.specs.Pending.{Live, released, is_end, is_live, ended}
+use Rattle.mc_task.specs.Kinds.{is_high}
+use Rattle.mc_model.specs.TaskNumbers.{is_high_in}
+use Rattle.mc_model.specs.Pending.{KeptRelease, released, is_end, is_live, ended}
 use Rattle.mc_model.specs.Rows.{ticks}
 use Rattle.mc_model.specs.Mode.{is_over}
 use Rattle.mc_model.specs.Legal.{Legal, same_how}
@@ -109,7 +110,7 @@ level-high (Some t) = refl
 discarded-high : (set : List Task) (h : List Row) (k : ℕ) → is_high_in (task_at set k) ≡ true → discarded set h k ≡ 0
 discarded-high set h k high = how_many_none (λ i. is_of k i && is_discarded set h i) (released h) (Each-all each (released h))
   where
-    each : (x : Live) → (is_of k x && is_discarded set h x) ≡ false
+    each : (x : KeptRelease) → (is_of k x && is_discarded set h x) ≡ false
     each x = go (is_of k x) refl
       where
         go : (b : Bool) → is_of k x ≡ b → (is_of k x && is_discarded set h x) ≡ false
@@ -128,7 +129,7 @@ live-low set j g k low = how_many-filter (is_of k) (is_live set (Tick j Over ∷
     drop : (a : Bool) → (a && false) ≡ false
     drop a = grind arith
 
-    each : (x : Live) → (is_live set (Tick j Over ∷ g) x && is_of k x) ≡ false
+    each : (x : KeptRelease) → (is_live set (Tick j Over ∷ g) x && is_of k x) ≡ false
     each x = go (is_of k x) refl
       where
         go : (b : Bool) → is_of k x ≡ b → (is_live set (Tick j Over ∷ g) x && is_of k x) ≡ false

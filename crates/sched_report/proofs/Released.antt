@@ -1,16 +1,15 @@
 -- The kept releases of a legal trace, each of another job, and which of them are pending. The newest row stands first.
-use Rattle.std.proofs.Common.{◌≡◌, ℕ, ◌≤◌, Bool, true, false, ◌&&◌, List, [], ◌∷◌, cond, filter, refl, sym, ap, subst, ◌∙◌, arith}
+use Rattle.std.proofs.Common.{◌≡◌, ℕ, ◌≤◌, Bool, true, false, ◌&&◌, List, [], ◌∷◌, cond, refl, sym, ap, subst, ◌∙◌, arith}
 use Rattle.mc_task.specs.declared.task.Rule.{Rule}
 use Rattle.mc_task.specs.declared.task.Task.{Task}
 use Rattle.mc_task.specs.declared.task.JobId.{JobId}
 use Rattle.mc_model.specs.declared.row.How.{How}
 use Rattle.mc_model.specs.declared.row.Row.{Row}
 use Rattle.mc_model.specs.declared.row.Row.TheVariants.{Release, Tick, Idle}
-use Rattle.mc_model.specs.Pending.{Live, released, pending}
+use Rattle.mc_model.specs.Pending.{KeptRelease, released, pending}
 use Rattle.mc_model.specs.Rows.{same_job, ticks, releases}
 use Rattle.mc_model.specs.Legal.{Legal, is_pending}
 use Rattle.sched_report.specs.ReportText.{how_many}
-use Rattle.mc_model.proofs.Fold.{stays}
 use Rattle.mc_model.proofs.Lists.{Each, Each-map}
 use Rattle.mc_model.proofs.Steps.{release_fits, tick_fits}
 use Rattle.mc_model.proofs.Jobs.{job_eq}
@@ -36,8 +35,8 @@ once set rule (Release i true ∷ g) j l = go (same_job j i) refl (once set rule
     rest e = how_many_none (λ x. same_job j x.job) (released g) (subst (λ k. Each (λ x. same_job k x.job ≡ false) (released g)) (sym e) (none_of_next set rule i true g l))
 
     go : (b : Bool) → same_job j i ≡ b → how_many (λ x. same_job j x.job) (released g) ≤ 1 → how_many (λ x. same_job j x.job) (released (Release i true ∷ g)) ≤ 1
-    go true m ih = omega (arith, ap one m, rest (job_eq j i m), how_many-cons (λ (x : Live). same_job j x.job) (record { job = i; release = ticks g }) (released g))
-    go false m ih = omega (arith, ap one m, ih, how_many-cons (λ (x : Live). same_job j x.job) (record { job = i; release = ticks g }) (released g))
+    go true m ih = omega (arith, ap one m, rest (job_eq j i m), how_many-cons (λ (x : KeptRelease). same_job j x.job) (record { job = i; release = ticks g }) (released g))
+    go false m ih = omega (arith, ap one m, ih, how_many-cons (λ (x : KeptRelease). same_job j x.job) (record { job = i; release = ticks g }) (released g))
 
 -- the job's release time; 0 where it has none
 abbrev pub release_of : List Row → JobId → ℕ
@@ -65,11 +64,7 @@ pub pending-release : (set : List Task) (rule : Rule) (j : JobId) (kept : Bool) 
     → pending set (Release j kept ∷ g) ≡ cond kept (record { job = j; release = ticks g } ∷ pending set g) (pending set g)
 pending-release set rule j kept g l =
     let before = (bridge set rule g l.2).same in
-    (bridge set rule (Release j kept ∷ g) l).same ∙ ap (λ (xs : List Live). cond kept (record { job = j; release = ticks g } ∷ xs) xs) (sym before)
-
--- and after a tick
-pub pending-tick : (set : List Task) (rule : Rule) (j : JobId) (how : How) (g : List Row) → Legal set rule (Tick j how ∷ g) → pending set (Tick j how ∷ g) ≡ filter (stays set j how) (pending set g)
-pending-tick set rule j how g l = (bridge set rule (Tick j how ∷ g) l).same ∙ ap (filter (stays set j how)) (sym (bridge set rule g l.2).same)
+    (bridge set rule (Release j kept ∷ g) l).same ∙ ap (λ (xs : List KeptRelease). cond kept (record { job = j; release = ticks g } ∷ xs) xs) (sym before)
 
 -- the job of a tick is pending before it
 pub ticks_pending : (set : List Task) (rule : Rule) (j : JobId) (how : How) (g : List Row) → Legal set rule (Tick j how ∷ g) → is_pending (pending set g) j ≡ true
@@ -78,7 +73,7 @@ ticks_pending set rule j how g l =
     subst (λ xs. is_pending xs j ≡ true) (sym (bridge set rule g l.2).same) (tick_fits set rule j how g b.legal.1).live
 
 -- what is so of each pending job at its release time is so of one that is pending
-pub at_pending : (P : JobId → ℕ → Type 0) (j : JobId) (r : ℕ) (xs : List Live) → is_pending xs j ≡ true → Each (λ x. same_job j x.job ≡ true → x.release ≡ r) xs → Each (λ x. P x.job x.release) xs → P j r
+pub at_pending : (P : JobId → ℕ → Type 0) (j : JobId) (r : ℕ) (xs : List KeptRelease) → is_pending xs j ≡ true → Each (λ x. same_job j x.job ≡ true → x.release ≡ r) xs → Each (λ x. P x.job x.release) xs → P j r
 at_pending P j r [] e t h = cc
 at_pending P j r (x ∷ xs) e t h = go (same_job j x.job) refl (λ f. at_pending P j r xs f t.1 h.1)
   where

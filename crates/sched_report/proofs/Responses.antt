@@ -6,20 +6,20 @@ use Rattle.mc_task.specs.declared.task.JobId.{JobId}
 use Rattle.mc_model.specs.declared.row.How.{How}
 use Rattle.mc_model.specs.declared.row.Row.{Row}
 use Rattle.mc_model.specs.declared.row.Row.TheVariants.{Release, Tick}
-use Rattle.mc_model.specs.Pending.{Live, released, pending, is_end, is_live, ended}
+use Rattle.mc_model.specs.Pending.{KeptRelease, released, pending, is_end, is_live, ended}
 use Rattle.mc_model.specs.Rows.{same_job, ticks, releases}
 use Rattle.mc_model.specs.Legal.{Legal, is_pending}
 use Rattle.sched_report.specs.ReportText.{is_of, response, responses, greatest}
-use Rattle.mc_model.proofs.Booleans.{or_none}
 use Rattle.mc_model.proofs.Lists.{Each, Each-all, Each-map, Each-both, Each-filter, Each-filter_if}
 use Rattle.mc_model.proofs.Jobs.{job_eq}
 use Rattle.mc_model.proofs.Steps.{release_fits}
 use Rattle.mc_model.proofs.Counts.{counted}
 use Rattle.mc_model.proofs.Bridge.{bridge, not_ended}
 use Rattle.sched_report.proofs.Released.{release_of, release_is, ticks_pending, at_pending}
+use Rattle.std.proofs.lemmas.Bool.{or_parts}
 
 -- tests that agree, and values that agree where they pass
-same_values : (f g : Live → ℕ) (p q : Live → Bool) (xs : List Live) → Each (λ x. (p x ≡ q x) × (q x ≡ true → f x ≡ g x)) xs → map f (filter p xs) ≡ map g (filter q xs)
+same_values : (f g : KeptRelease → ℕ) (p q : KeptRelease → Bool) (xs : List KeptRelease) → Each (λ x. (p x ≡ q x) × (q x ≡ true → f x ≡ g x)) xs → map f (filter p xs) ≡ map g (filter q xs)
 same_values f g p q [] h = refl
 same_values f g p q (x ∷ xs) h = go (q x) refl (same_values f g p q xs h.1)
   where
@@ -28,12 +28,12 @@ same_values f g p q (x ∷ xs) h = go (q x) refl (same_values f g p q xs h.1)
     go false m ih = rw (h.0.0, m) ih
 
 -- where no element is of the job, each is of another
-none_there : (j : JobId) (xs : List Live) → is_pending xs j ≡ false → Each (λ x. same_job j x.job ≡ false) xs
+none_there : (j : JobId) (xs : List KeptRelease) → is_pending xs j ≡ false → Each (λ x. same_job j x.job ≡ false) xs
 none_there j [] h = tt
-none_there j (x ∷ xs) h = let p = or_none (same_job j x.job) (is_pending xs j) h in (p.0, none_there j xs p.1)
+none_there j (x ∷ xs) h = let p = or_parts (same_job j x.job) (is_pending xs j) h in (p.0, none_there j xs p.1)
 
 -- what a filter keeps is there before
-there : (p : Live → Bool) (j : JobId) (xs : List Live) → is_pending (filter p xs) j ≡ true → is_pending xs j ≡ true
+there : (p : KeptRelease → Bool) (j : JobId) (xs : List KeptRelease) → is_pending (filter p xs) j ≡ true → is_pending xs j ≡ true
 there p j [] h = h
 there p j (x ∷ xs) h = go (p x) refl (there p j xs)
   where
@@ -49,11 +49,11 @@ there p j (x ∷ xs) h = go (p x) refl (there p j xs)
     go false m ih = or_right (same_job j x.job) (is_pending xs j) (ih (rw m at h))
 
 -- where the value of one job is added
-record IsAdded (f g : Live → ℕ) (p q : Live → Bool) (j : JobId) (v : ℕ) (x : Live) : Type 0 where
+record IsAdded (f g : KeptRelease → ℕ) (p q : KeptRelease → Bool) (j : JobId) (v : ℕ) (x : KeptRelease) : Type 0 where
   other : same_job j x.job ≡ false → (p x ≡ q x) × (f x ≡ g x)
   mine : same_job j x.job ≡ true → (q x ≡ false) × (p x ≡ true) × (f x ≡ v)
 
-greatest_with : (f g : Live → ℕ) (p q : Live → Bool) (j : JobId) (v : ℕ) (xs : List Live) → is_pending xs j ≡ true → Each (IsAdded f g p q j v) xs → greatest (map f (filter p xs)) ≡ max (greatest (map g (filter q xs))) v
+greatest_with : (f g : KeptRelease → ℕ) (p q : KeptRelease → Bool) (j : JobId) (v : ℕ) (xs : List KeptRelease) → is_pending xs j ≡ true → Each (IsAdded f g p q j v) xs → greatest (map f (filter p xs)) ≡ max (greatest (map g (filter q xs))) v
 greatest_with f g p q j v [] t h = cc
 greatest_with f g p q j v (x ∷ xs) t h = go (same_job j x.job) refl (greatest_with f g p q j v xs)
   where
@@ -100,7 +100,7 @@ responses-other j how g k o =
     same_values (response (Tick j how ∷ g)) (response g) (λ i. is_of k i && ended (Tick j how ∷ g) i.job) (λ i. is_of k i && ended g i.job) (released g)
     (Each-all each (released g))
   where
-    each : (x : Live) → ((is_of k x && ended (Tick j how ∷ g) x.job) ≡ (is_of k x && ended g x.job)) × ((is_of k x && ended g x.job) ≡ true → response (Tick j how ∷ g) x ≡ response g x)
+    each : (x : KeptRelease) → ((is_of k x && ended (Tick j how ∷ g) x.job) ≡ (is_of k x && ended g x.job)) × ((is_of k x && ended g x.job) ≡ true → response (Tick j how ∷ g) x ≡ response g x)
     each x = go (same_job j x.job) refl
       where
         no_end : (a : Bool) → (a && false) ≡ false
@@ -131,10 +131,10 @@ responses-end set rule j how g k e o l =
         (Each-filter (λ x. same_job j x.job ≡ true → x.release ≡ release_of g j) (is_live set g) (released g) (release_is set rule g j l.2))
         (Each-filter_if (λ x. ended g x.job ≡ false) (is_live set g) (released g) (Each-all (λ x h. live_not_ended (ended g x.job) _ h) (released g)))
 
-    other : (x : Live) → same_job j x.job ≡ false → ((is_of k x && ended (Tick j how ∷ g) x.job) ≡ (is_of k x && ended g x.job)) × (response (Tick j how ∷ g) x ≡ response g x)
+    other : (x : KeptRelease) → same_job j x.job ≡ false → ((is_of k x && ended (Tick j how ∷ g) x.job) ≡ (is_of k x && ended g x.job)) × (response (Tick j how ∷ g) x ≡ response g x)
     other x m = (rw (e, m) refl, rw (e, m) refl)
 
-    mine : (x : Live) → (same_job j x.job ≡ true → x.release ≡ release_of g j) → same_job j x.job ≡ true
+    mine : (x : KeptRelease) → (same_job j x.job ≡ true → x.release ≡ release_of g j) → same_job j x.job ≡ true
         → ((is_of k x && ended g x.job) ≡ false) × ((is_of k x && ended (Tick j how ∷ g) x.job) ≡ true) × (response (Tick j how ∷ g) x ≡ ticks g + 1 - release_of g j)
     mine x r m =
         let of_task : is_of k x ≡ true = subst (λ (i : JobId). (i.task.0 == k) ≡ true) (job_eq j x.job m) o in

@@ -11,8 +11,8 @@ use Rattle.mc_model.specs.declared.row.How.{How}
 use Rattle.mc_model.specs.declared.row.How.TheVariants.{More, Over}
 use Rattle.mc_model.specs.declared.row.Row.{Row}
 use Rattle.mc_model.specs.declared.row.Row.TheVariants.{Release, Tick, Idle}
-use Rattle.mc_model.specs.TaskNumbers.{is_high}
-use Rattle.mc_model.specs.Pending.{Live, released, pending, is_end, is_live}
+use Rattle.mc_task.specs.Kinds.{is_high}
+use Rattle.mc_model.specs.Pending.{KeptRelease, released, pending, is_end, is_live}
 use Rattle.mc_model.specs.Rows.{same_job}
 use Rattle.mc_model.specs.Mode.{is_over}
 use Rattle.mc_model.specs.Legal.{Legal, IsOfSet}
@@ -27,8 +27,9 @@ use Rattle.sched_report.specs.TaskTally.{level_in, tally_of, with_tick, with_res
 use Rattle.sched_report.specs.Waiting.{release_in, ChangesOnly}
 use Rattle.sched_report.specs.Tally.{numbered, Tallies, Stays, Releases, GoesOn, Ends, Overruns, Idles}
 use Rattle.sched_report.proofs.Numbered.{get-numbered, set-numbered, map-numbered, numbered_same}
-use Rattle.sched_report.proofs.Released.{none_of_next, release_of, release_is, pending-release, pending-tick, ticks_pending, at_pending}
+use Rattle.sched_report.proofs.Released.{none_of_next, release_of, release_is, pending-release, ticks_pending, at_pending}
 use Rattle.sched_report.proofs.Counted.{release-mine, release-other, more_run-mine, more_run-other, end-mine, tick-other, over-mine, over-other, idle_run-same, idle-more, switch-more, idle-idle, switch-idle, level-high}
+use Rattle.mc_model.proofs.Bridge.{pending-tick}
 
 -- the tally of one task
 pub found : (tasks : List Task) (g : List Row) (k : ℕ) (old : List TaskTally) → IsIn tasks k → old ≡ numbered (tally_of tasks g) 1 tasks → slice_get old (k - 1) ≡ Some (tally_of tasks g k)
@@ -50,10 +51,10 @@ changed f g tasks k x old inside is here others =
     apart m a = grind (arith, nat_tests, a)
 
 -- each of these jobs has its release time at hand
-abbrev pub Held : List Task → Waiting → List Live → Type 0
+abbrev pub Held : List Task → Waiting → List KeptRelease → Type 0
 Held tasks w now = Each (λ i. release_in w (level_in (task_at tasks i.job.task.0)) i.job ≡ Some i.release) now
 
-held-stays : (tasks : List Task) (old new : Waiting) (now : List Live) → Stays old new → Held tasks old now → Held tasks new now
+held-stays : (tasks : List Task) (old new : Waiting) (now : List KeptRelease) → Stays old new → Held tasks old now → Held tasks new now
 held-stays tasks old new now same h = Each-map {P = λ i. release_in old (level_in (task_at tasks i.job.task.0)) i.job ≡ Some i.release} (λ x p. same _ x.job ∙ p) now h
 
 -- the release time of the job of a tick

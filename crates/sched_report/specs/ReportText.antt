@@ -8,7 +8,7 @@ use Rattle.mc_task.specs.TaskSet.{task_at}
 use Rattle.mc_model.specs.TaskNumbers.{is_high_in}
 use Rattle.mc_model.specs.Rows.{same_job, ticks, releases}
 use Rattle.mc_model.specs.Mode.{is_over}
-use Rattle.mc_model.specs.Pending.{Live, released, is_end, ended, over_since, pending}
+use Rattle.mc_model.specs.Pending.{KeptRelease, released, is_end, ended, over_since, pending}
 use Rattle.mc_model.specs.Legal.{same_how, Legal}
 use Rattle.mc_model.specs.declared.row.How.{How}
 use Rattle.mc_model.specs.declared.row.How.TheVariants.{Done, Stop}
@@ -20,7 +20,7 @@ abbrev pub how_many : {X : Type 0} → (X → Bool) → List X → ℕ
 how_many p xs = length (filter p xs)
 
 -- a kept job of task number k
-abbrev pub is_of : ℕ → Live → Bool
+abbrev pub is_of : ℕ → KeptRelease → Bool
 is_of k i = i.job.task.0 == k
 
 -- a dropped release of task number k
@@ -59,13 +59,17 @@ is_switch (Release j kept) = false
 is_switch (Tick j how) = is_over how
 is_switch Idle = false
 
--- the rows before the first Over row after the job's Release row, where there is one
+-- the row, behind these, is the first Over row after the job's Release row: with it there is one, and before it there was none
+abbrev pub is_first_over : Row → List Row → JobId → Bool
+is_first_over row g j = over_since (row ∷ g) j && not (over_since g j)
+
+-- the rows before that row
 abbrev pub before_over : List Row → JobId → List Row
 before_over [] j = []
-before_over (row ∷ g) j = cond (over_since g j) (before_over g j) g
+before_over (row ∷ g) j = cond (is_first_over row g j) g (before_over g j)
 
 -- a low task's job with an Over row after its Release row, and no Done or Stop row of its own before the first such row
-abbrev pub is_discarded : List Task → List Row → Live → Bool
+abbrev pub is_discarded : List Task → List Row → KeptRelease → Bool
 is_discarded set h i =
     not (is_high_in (task_at set i.job.task.0)) && (over_since h i.job && not (ended (before_over h i.job) i.job))
 
@@ -77,7 +81,7 @@ end_tick (Tick i how ∷ g) j = cond (is_end how && same_job i j) (ticks g) (end
 end_tick (Idle ∷ g) j = end_tick g j
 
 -- from the job's release to the end of its last tick
-abbrev pub response : List Row → Live → ℕ
+abbrev pub response : List Row → KeptRelease → ℕ
 response h i = end_tick h i.job + 1 - i.release
 
 -- the responses of task number k: those of its jobs that ended

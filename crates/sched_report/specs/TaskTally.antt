@@ -4,7 +4,7 @@ use Rattle.mc_task.specs.declared.task.Level.{Level}
 use Rattle.mc_task.specs.declared.task.Level.TheVariants.{Low}
 use Rattle.mc_task.specs.declared.task.Task.{Task}
 use Rattle.mc_task.specs.TaskSet.{task_at}
-use Rattle.mc_model.specs.TaskNumbers.{is_high}
+use Rattle.mc_task.specs.Kinds.{is_high}
 use Rattle.mc_model.specs.Legal.{same_how}
 use Rattle.sched_report.specs.ReportText.{counts_of, greatest, how_many, is_tick_of, responses}
 use Rattle.mc_model.specs.declared.row.How.{How}

@@ -3,7 +3,7 @@ use Rattle.std.proofs.Common.{◌≡◌, ℕ, suc, ◌+◌, ◌%◌, ◌≤◌, 
 use Rattle.rand_pcg.specs.Lcg.{Lcg}
 use Rattle.mc_task.specs.declared.task.Task.{Task}
 use Rattle.mc_task.specs.TaskSet.{IsTask, task_at}
-use Rattle.mc_model.specs.TaskNumbers.{is_high}
+use Rattle.mc_task.specs.Kinds.{is_high}
 use Rattle.mc_model.specs.Follows.{Arrival}
 use Rattle.mc_model.specs.Work.{AllFollow, IsWork}
 use Rattle.mc_model.proofs.Lists.{Each}

@@ -4,7 +4,7 @@ use Rattle.std.specs.List.{range_with_len}
 use Rattle.rand_pcg.specs.Lcg.{Lcg}
 use Rattle.mc_task.specs.declared.task.Task.{Task}
 use Rattle.mc_task.specs.TaskSet.{task_at}
-use Rattle.mc_model.specs.TaskNumbers.{is_high}
+use Rattle.mc_task.specs.Kinds.{is_high}
 use Rattle.mc_model.specs.Follows.{Arrival}
 use Rattle.mc_model.specs.declared.work.WorkRow.{WorkRow}
 use Rattle.set_gen.specs.Words.{word, rest, after}

@@ -7,7 +7,7 @@ ghost use Rattle.set_gen.specs.NextReleases.{AreGaps, IsNext, AreNext, Visit, Pa
 
 use crate::words::take;
 use mc_model::WorkRow;
-use mc_task::{Level, TaskNo, TaskSet};
+use mc_task::{TaskNo, TaskSet};
 use rand_pcg::Lcg64Xsh32;
 use std::alloc::{AllocError, Global};
 
@@ -114,7 +114,7 @@ fn need(set: &TaskSet, task: TaskNo, word: u32) -> u32
     let _is_set = set.len();
     match set.get(task) {
         Some(task) => {
-            if task.level == Level::High && word % 64 == 0 {
+            if task.is_high() && word % 64 == 0 {
                 task.high
             } else {
                 1 + word % task.low

@@ -14,6 +14,7 @@ use Rattle.load_sum.specs.declared.loads.Loads.{Loads}
 use Rattle.load_sum.specs.Belong.{BelongTo}
 use Rattle.study.specs.Stretch.{percent, with_percent, at_percent}
 use Rattle.study.specs.Loads.{with_high}
+use Rattle.load_sum.proofs.BelongTo.{across}
 
 high_at-count : (s : ℕ) (l : Level) (low high : ℕ) → IsTickCount low → IsTickCount high → IsTickCount (by_level l high (percent low high s))
 high_at-count s Low low high a b = b
@@ -89,10 +90,6 @@ pub load_hh-grows : (r s : ℕ) (ts : List Task) → r ≤ s → load_hh (at_per
 load_hh-grows r s ts h =
     subst (λ p. load high_high p (at_percent ts r) ≤ load_hh (at_percent ts s)) (sym (product-at r ts))
     (subst (λ p. load high_high (product ts) (at_percent ts r) ≤ load high_high p (at_percent ts s)) (sym (product-at s ts)) (load_high-grows (product ts) r s ts h))
-
--- x over l is k * x over k * l
-across : (x k l p a : ℕ) → p ≡ k * l → a ≡ k * x → x * p ≡ a * l
-across x k l p a whole part = ap (λ z. x * z) whole ∙ omega arith ∙ ap (λ z. z * l) (sym part)
 
 -- the same of another product and another load that are equal to these
 over : {p q a b : ℕ} (x l : ℕ) → q ≡ p → b ≡ a → x * p ≡ a * l → x * q ≡ b * l

@@ -3,29 +3,21 @@ use crate::{high_at, stretch, table};
 use admission::admit;
 use load_sum::sum_loads;
 use mc_task::Level::{High, Low};
-use mc_task::{Level, Name, Task, TaskNo, TaskSet};
+use mc_task::{TaskNo, TaskSet};
 use set_gen::make;
 use std::alloc::Global;
 use std::test::Fail;
 use tick_frac::Ratio;
-
-// A task's name, level, period, low budget and high budget.
-type Line = (&'static str, Level, u32, u32, u32);
+use worked_sets::{CONTROL, Line, TAP_AND_ARM, set_of};
 
 const MOST: u32 = u32::MAX;
 
 const PERCENTAGES: [u32; 11] = [100, 110, 120, 130, 140, 150, 160, 170, 180, 190, 200];
 
-const CONTROL: [Line; 2] = [("ctl", High, 10, 2, 6), ("log", Low, 10, 5, 5)];
-
 // Sets by what is told of them, and their stretches.
 const SETS: [(&str, &[Line], Option<u32>); 8] = [
     ("control", &CONTROL, Some(149)),
-    (
-        "the scaled load reaches 1",
-        &[("tap", Low, 2, 1, 1), ("arm", High, 4, 1, 3)],
-        Some(133),
-    ),
+    ("the scaled load reaches 1", &TAP_AND_ARM, Some(133)),
     (
         "low tasks take all time",
         &[("tap", Low, 2, 2, 2), ("arm", High, 4, 1, 1)],
@@ -56,20 +48,6 @@ const SETS: [(&str, &[Line], Option<u32>); 8] = [
         Some(1),
     ),
 ];
-
-fn set_of(alloc: Global, lines: &[Line]) -> Result<TaskSet, Fail> {
-    let mut tasks = Vec::new(alloc);
-    for (name, level, period, low, high) in lines {
-        tasks.push(Task {
-            name: Name::new(name.as_bytes()).ok_or("name")?,
-            level: *level,
-            period: *period,
-            low: *low,
-            high: *high,
-        })?;
-    }
-    Ok(TaskSet::new(tasks)?)
-}
 
 // The set with this percentage of its high budgets, by plain arithmetic.
 fn with_percent(alloc: Global, set: &TaskSet, s: u32) -> Result<TaskSet, Fail> {

@@ -1,5 +1,5 @@
 -- The tree of a printed task file, value by value.
-use Rattle.std.proofs.Common.{◌≡◌, ℕ, zero, suc, ◌+◌, ◌<◌, true, take, length, map, ◌++◌, sym, ap, Ordering, Less, Equal, Greater, List, [], ◌∷◌, get_or, IsTrue, String, Global, string_bytes, refl, ◌∙◌, arith}
+use Rattle.std.proofs.Common.{◌≡◌, ℕ, zero, suc, ◌<◌, true, Ordering, Less, Equal, Greater, List, [], ◌∷◌, get_or, IsTrue, String, Global, string_bytes, refl, ◌∙◌, arith}
 use Rattle.std.specs.List.{list_all}
 use Rattle.std.specs.Ordering.{match_ordering}
 use Rattle.std.specs.BTreeMap.{insert_entry}
@@ -8,14 +8,13 @@ use Rattle.std.specs.String.{string_cmp}
 use Rattle.std.proofs.lemmas.Bool.{and_parts}
 use Rattle.std.proofs.lemmas.Bool.Decides.{nat_tests}
 use Rattle.std.proofs.lemmas.Str.{IsUtf8-from_ascii}
-use Rattle.std.proofs.lemmas.List.{take_more, map-append}
-use Rattle.toml.specs.Data.{Data, table, Members, no_members, member}
+use Rattle.toml.specs.Data.{Data, Members, no_members, member}
 use Rattle.toml.specs.View.{view, members_view}
 use Rattle.toml.specs.declared.value.Value.{Value}
 use Rattle.toml.proofs.Views.{Entry}
 use Rattle.mc_task.specs.NameForm.{is_name, is_name_byte}
 use Rattle.task_file.specs.Keys.{key_bytes}
-use Rattle.task_file.specs.Printed.{put_member, task_members, task_tables}
+use Rattle.task_file.specs.Printed.{put_member}
 use Rattle.mc_task.specs.declared.task.Task.{Task}
 use Rattle.task_file.specs.declared.key.KeyName.TheVariants as key
 
@@ -29,11 +28,6 @@ pub members_view-insert : (k : String Global) (v : Value) (es : List Entry) → 
 unfolding put_member
 members_view-insert k v [] = refl
 members_view-insert k v (e ∷ es) = match_members (string_cmp k e.0) _ _ _ ∙ rw (members_view-insert k v es)
-
--- the first member
-pub put_first : (k : List ℕ) (d : Data) → put_member k d no_members ≡ member k d no_members
-unfolding put_member
-put_first k d = refl
 
 -- the tasks go before the version, and the scale before both
 pub put_tasks : (tasks version : Data) → put_member (key_bytes key.Task) tasks (put_member (key_bytes key.Version) version no_members)
@@ -69,11 +63,3 @@ name_bytes_ascii (b ∷ bs) h (suc i) = name_bytes_ascii bs ((and_parts (is_name
 -- a name is a text
 pub IsUtf8-name : (name : List ℕ) → IsTrue (is_name name) → IsUtf8 name
 IsUtf8-name name h = IsUtf8-from_ascii name (name_bytes_ascii name ((and_parts _ (list_all is_name_byte name) h).1))
-
--- one more task, as its table
-pub tables_more : (ts : List Task) (k : ℕ) (t : Task) (vs : List Value) (v : Value) → k < length ts → t ≡ get_or ts k t → map view vs ≡ task_tables (take k ts) → view v ≡ table (task_members t)
-    → map view (vs ++ v ∷ []) ≡ task_tables (take (k + 1) ts)
-tables_more ts k t vs v within at same is =
-    map-append view vs (v ∷ []) ∙ ap (λ ds. ds ++ view v ∷ []) same ∙ ap (λ d. task_tables (take k ts) ++ d ∷ []) is
-    ∙ sym (map-append (λ u. table (task_members u)) (take k ts) (t ∷ []))
-    ∙ sym (ap task_tables (take_more ts k t within ∙ ap (λ u. take k ts ++ u ∷ []) (sym at)))

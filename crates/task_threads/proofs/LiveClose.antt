@@ -1,17 +1,15 @@
 -- A closed executive whose passes ended their jobs by their needs.
-use Rattle.std.proofs.Common.{◌≡◌, ℕ, ◌+◌, ◌-◌, ◌<◌, ◌≤◌, List, [], ◌∷◌, length, None, slice_index_or, All, refl, ap, sym, ◌∙◌, subst, arith}
+use Rattle.std.proofs.Common.{◌≡◌, ℕ, ◌+◌, ◌-◌, ◌<◌, List, [], ◌∷◌, length, None, slice_index_or, refl, ap, sym, ◌∙◌, subst, arith}
 use Rattle.mc_task.specs.TaskSet.{IsIn, task_at}
 use Rattle.mc_task.specs.declared.task.Task.{Task}
 use Rattle.timetable.specs.declared.plan.Plan.TheVariants.{Free}
 use Rattle.timetable.specs.Floor.{FloorState}
-use Rattle.executive.specs.declared.entry.Entry.{Entry}
 use Rattle.executive.specs.declared.pass.TaskPass.{TaskPass}
 use Rattle.executive.specs.declared.executive.Executive.{Executive}
 use Rattle.executive.specs.Histories.{calls_of}
-use Rattle.executive.specs.Stands.{opening_of}
 use Rattle.executive.specs.Opening.{IsFresh}
 use Rattle.executive.specs.Passes.{of_pass, floor_of}
-use Rattle.executive.specs.Closing.{Closes, IsPartOf}
+use Rattle.executive.specs.Closing.{OneHistoryLeaves, IsPartOf}
 use Rattle.mc_model.specs.LiveTrace.{live_need, EndByNeed}
 use Rattle.task_threads.specs.LiveCalls.{AreByNeed}
 use Rattle.task_threads.specs.LivePasses.{IsLivePass}
@@ -27,7 +25,7 @@ first_of (x ∷ xs) h = x
 pub fresh_live : (e : Executive) (k : ℕ) (p : TaskPass) → IsFresh e k p → IsLivePass e k p
 fresh_live e k p fresh = ((fresh.of, fresh.task), subst (AreByNeed (live_need (task_at (floor_of e).core.set k)) None) (sym fresh.mine) tt)
 
-pub closed_live : (e : Executive) (ps : List TaskPass) (f : FloorState) → Closes (floor_of e) ps f → (floor_of e).plan ≡ Free → AreInOrder IsLivePass e ps → length ps ≡ length (floor_of e).core.set → IsLiveFloor f
+pub closed_live : (e : Executive) (ps : List TaskPass) (f : FloorState) → OneHistoryLeaves (floor_of e) ps f → (floor_of e).plan ≡ Free → AreInOrder IsLivePass e ps → length ps ≡ length (floor_of e).core.set → IsLiveFloor f
 closed_live e ps f closes free live all =
     let o = floor_of e in
     let set : List Task = o.core.set in

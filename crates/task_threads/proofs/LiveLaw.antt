@@ -1,19 +1,16 @@
 -- Where the calls of each task end its jobs by their needs, so do the rows.
-use Rattle.std.proofs.Common.{◌≡◌, ℕ, ◌+◌, ◌==◌, List, [], ◌∷◌, ◌++◌, Bool, true, false, not, Option, Some, None, Ok, Err, IfSome, refl, ap, sym, ◌∙◌, subst, arith, cond, option_map, ◌&&◌}
+use Rattle.std.proofs.Common.{◌≡◌, ℕ, ◌+◌, ◌==◌, List, [], ◌∷◌, ◌++◌, Bool, true, false, Option, Some, None, IfSome, refl, ap, sym, ◌∙◌, subst, cond, option_map}
 use Rattle.std.proofs.lemmas.Bool.{eq-eqb, eqb-true}
 use Rattle.mc_task.specs.TaskSet.{IsIn, task_at}
 use Rattle.mc_task.specs.declared.task.Task.{Task}
 use Rattle.mc_task.specs.declared.task.Rule.{Rule}
 use Rattle.mc_task.specs.declared.task.JobId.{JobId}
 use Rattle.mc_model.specs.declared.row.How.{How}
-use Rattle.mc_model.specs.declared.row.How.TheVariants.{More, Done, Stop, Over}
 use Rattle.mc_model.specs.declared.row.Row.{Row}
 use Rattle.mc_model.specs.declared.row.Row.TheVariants as row
 use Rattle.mc_model.specs.Rows.{used}
-use Rattle.mc_model.specs.Legal.{is_done, how_of}
-use Rattle.mc_model.specs.Core.{State, next_job, add_held, settled, settle, outcome_of}
+use Rattle.mc_model.specs.Core.{State, next_job, add_held, settled, outcome_of}
 use Rattle.mode_core.specs.declared.answers.Granted.{Granted}
-use Rattle.mode_core.specs.declared.answers.NotOut.{NotOut}
 use Rattle.mode_core.specs.declared.answers.GrantFault.{GrantFault}
 use Rattle.mode_core.specs.declared.answers.IdleFault.{IdleFault}
 use Rattle.mode_core.specs.declared.answers.IdleFault.TheVariants as idle_fault
@@ -27,11 +24,12 @@ use Rattle.executive.specs.declared.entry.Entry.{Entry}
 use Rattle.executive.specs.declared.entry.Call.{Call}
 use Rattle.executive.specs.declared.entry.Call.TheVariants.{Release, Take, Outcome, Idle, Look}
 use Rattle.executive.specs.declared.entry.Answer.{Answer}
-use Rattle.executive.specs.declared.entry.Answer.TheVariants.{Taken, Told, Idled}
+use Rattle.executive.specs.declared.entry.Answer.TheVariants.{Taken}
 use Rattle.executive.specs.Histories.{MayCall, answer_to, after_call, after, IsLegal, calls_of}
 use Rattle.executive.proofs.Histories.{with_core, of_both, of_both_cores, of_both_rows, opening_call, granted_where}
 use Rattle.mc_model.specs.LiveTrace.{live_need, EndByNeed}
 use Rattle.task_threads.specs.LiveCalls.{granted_then, granted_last, IsByNeed, AreByNeed}
+use Rattle.timetable.proofs.RunsFollow.{done_as}
 
 -- whose tick is out was granted it last, and no tick was written since
 abbrev Knows : FloorState → (ℕ → Option Granted) → Type 0
@@ -97,15 +95,6 @@ held_ends : (tasks set : List Task) (rule : Rule) (js : List JobId) (g : List Ro
 held_ends tasks set rule [] g h = h
 held_ends tasks set rule (j ∷ js) g h = held_ends tasks set rule js g h
 
-not_done : (a b : Bool) → is_done (cond a Stop (cond b Over More)) ≡ false
-not_done true b = refl
-not_done false true = refl
-not_done false false = refl
-
-done_as_told : (set : List Task) (rule : Rule) (g : List Row) (j : JobId) (d : Bool) → is_done (outcome_of set rule g j d) ≡ d
-done_as_told set rule g j true = refl
-done_as_told set rule g j false = not_done _ _
-
 pub told_by_plan : (p : Plan) (g : List Row) (j : JobId) (d : Bool) → p ≡ Free → done_by p g j d ≡ d
 told_by_plan Free g j d e = refl
 told_by_plan (Rows work n) g j d e = absurd (cc)
@@ -118,7 +107,7 @@ settled_ends tasks s k told done (Some j) last may knows same by ends =
     let own : j.task.0 ≡ k = eqb-true j.task.0 k may in
     let met : done ≡ (used s.rows j + 1 == live_need (task_at tasks k) j.count) = subst (λ (l : Option Granted). IfSome l (λ g. done ≡ (g.before + 1 == live_need (task_at tasks k) g.job.count))) (knows j refl) by in
     held_ends tasks s.set s.rule s.held (row.Tick j (outcome_of s.set s.rule s.rows j told) ∷ s.rows)
-    (done_as_told s.set s.rule s.rows j told ∙ (same ∙ (met ∙ ap (λ (i : ℕ). used s.rows j + 1 == live_need (task_at tasks i) j.count) (sym own))), ends)
+    (done_as s.set s.rule s.rows j told ∙ (same ∙ (met ∙ ap (λ (i : ℕ). used s.rows j + 1 == live_need (task_at tasks i) j.count) (sym own))), ends)
 
 ends_then : (tasks : List Task) (f : FloorState) (k : ℕ) (c : Call) (lasts : ℕ → Option Granted) → f.plan ≡ Free → MayCall f k c → Knows f lasts → IsByNeed (live_need (task_at tasks k)) (lasts k) c → EndByNeed tasks f.core.rows
     → EndByNeed tasks (after_call f k c).core.rows

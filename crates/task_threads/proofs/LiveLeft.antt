@@ -1,5 +1,5 @@
 -- What a release, a tick and an idle tick of one caller make of a floor without a plan.
-use Rattle.std.proofs.Common.{◌≡◌, ℕ, zero, suc, ◌+◌, ◌<◌, ◌≤◌, ◌==◌, List, [], ◌∷◌, ◌++◌, Bool, true, false, not, Option, Some, None, Ok, Err, refl, ap, sym, ◌∙◌, subst, arith, cond, option_map}
+use Rattle.std.proofs.Common.{◌≡◌, ℕ, ◌+◌, ◌≤◌, ◌==◌, List, [], ◌∷◌, ◌++◌, Bool, true, false, not, Option, Some, None, Ok, refl, ap, sym, ◌∙◌, subst, arith, cond, option_map}
 use Rattle.std.proofs.lemmas.Bool.{eq-eqb}
 use mathlib.Core.Logic.{dite}
 use native.Mathlib.Decide.{ℕ_discrete}
@@ -9,7 +9,7 @@ use Rattle.mc_task.specs.declared.task.JobId.{JobId}
 use Rattle.mc_task.specs.TaskSet.{task_at}
 use Rattle.mc_model.specs.declared.row.Row.{Row}
 use Rattle.mc_model.specs.declared.row.Row.TheVariants as row
-use Rattle.mc_model.specs.Rows.{ticks, used, same_job}
+use Rattle.mc_model.specs.Rows.{ticks, used}
 use Rattle.mc_model.specs.Legal.{Legal}
 use Rattle.mc_model.specs.Core.{State, next_job, begun, settle}
 use Rattle.mc_model.proofs.Jobs.{same_job-refl}
@@ -26,18 +26,14 @@ use Rattle.timetable.specs.declared.acts.Act.{Act}
 use Rattle.timetable.specs.declared.acts.Act.TheVariants as act
 use Rattle.timetable.specs.declared.acts.PlanFault.TheVariants as plan_fault
 use Rattle.timetable.specs.Floor.{FloorState, floor_unless, of_core, plan_answer, release_refusal, releasing, takes, tick_refusal, done_by, due_at, ends_at, release_act, act_or, tick_act, next_act, grant_answer, after_grant, after_outcome, after_idle, after_release}
-use Rattle.executive.specs.Stands.{opening_of}
 use Rattle.executive.proofs.Histories.{with_core, of_both, of_both_cores, of_both_rows}
 use Rattle.executive.proofs.Shows.{settled_ticks}
-use Rattle.mc_model.specs.LiveTrace.{live_need, EndByNeed, LiveTrace, ends_with_tick}
+use Rattle.mc_model.specs.LiveTrace.{live_need, EndByNeed, LiveTrace}
 use Rattle.task_threads.specs.LiveLeft.{IsLiveFloor, Moves, HasLiveTrace}
 use Rattle.task_threads.proofs.LiveLaw.{settled_ends, told_by_plan}
 
 pub stays : (f : FloorState) → IsLiveFloor f → Moves f f 0
 stays f h = record { live = h; same = refl; ticks = omega arith }
-
-pub moves_on : (f g h : FloorState) (m n : ℕ) → Moves f g m → Moves g h n → Moves f h (m + n)
-moves_on f g h m n a b = record { live = b.live; same = b.same ∙ a.same; ticks = let x = a.ticks in let y = b.ticks in omega (arith, x, y) }
 
 -- a release, taken or not
 pub release_moves : (f : FloorState) (k : ℕ) → IsLiveFloor f → Moves f (after_release f k) 0

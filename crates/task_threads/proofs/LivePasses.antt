@@ -1,10 +1,9 @@
 -- What a call makes of a pass whose jobs end by their needs.
-use Rattle.std.proofs.Common.{◌≡◌, ℕ, ◌+◌, ◌==◌, List, [], ◌∷◌, ◌++◌, Bool, Option, Some, None, Ok, Err, IfSome, ap, sym, ◌∙◌, subst}
+use Rattle.std.proofs.Common.{◌≡◌, ℕ, ◌+◌, ◌==◌, List, Bool, Option, Some, None, Ok, IfSome, ap, sym, ◌∙◌, subst}
 use Rattle.mc_task.specs.declared.task.Task.{Task}
 use Rattle.mc_task.specs.TaskSet.{task_at}
 use Rattle.mc_model.specs.declared.row.How.{How}
 use Rattle.mode_core.specs.declared.answers.Granted.{Granted}
-use Rattle.executive.specs.declared.entry.Entry.{Entry}
 use Rattle.executive.specs.declared.entry.Call.{Call}
 use Rattle.executive.specs.declared.entry.Call.TheVariants.{Take, Outcome}
 use Rattle.executive.specs.declared.entry.Answer.{Answer}
@@ -14,7 +13,7 @@ use Rattle.executive.specs.declared.executive.Executive.{Executive}
 use Rattle.executive.specs.Histories.{entry}
 use Rattle.executive.specs.Passes.{PassState, Calls, IsPassOf, of_pass, floor_of}
 use Rattle.mc_model.specs.LiveTrace.{live_need}
-use Rattle.task_threads.specs.LiveCalls.{granted_then, granted_last, IsByNeed, AreByNeed}
+use Rattle.task_threads.specs.LiveCalls.{granted_last, IsByNeed, AreByNeed}
 use Rattle.task_threads.specs.LivePasses.{EndsByNeed, IsLivePass}
 use Rattle.task_threads.proofs.LiveLaw.{by_need_more, granted_more}
 

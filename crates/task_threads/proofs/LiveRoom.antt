@@ -1,5 +1,5 @@
 -- As many places as live_places says are not all used before so many ticks have begun: the periods keep the releases few.
-use Rattle.std.proofs.Common.{◌≡◌, ℕ, zero, suc, ◌+◌, ◌*◌, ◌/◌, ◌-◌, ◌<◌, ◌≤◌, ◌==◌, ◌≢◌, Bool, true, false, cond, List, [], ◌∷◌, Option, Some, None, length, slice_get, drop, refl, ap, sym, ◌∙◌, subst, arith, eqb-true, ne_eqb}
+use Rattle.std.proofs.Common.{◌≡◌, ℕ, zero, suc, ◌+◌, ◌*◌, ◌/◌, ◌-◌, ◌<◌, ◌≤◌, ◌==◌, Bool, true, false, cond, List, [], ◌∷◌, Option, Some, None, length, slice_get, drop, refl, ap, sym, ◌∙◌, subst, arith, eqb-true, ne_eqb}
 use Rattle.std.proofs.Common.{suc-mul}
 use Rattle.std.proofs.Math.Nat.{le-div_iff_mul-le}
 use Rattle.mc_model.proofs.Walk.{IsTask-at, drop_at}
@@ -7,7 +7,7 @@ use Rattle.std.proofs.lemmas.List.{drop_all}
 use Rattle.mc_task.specs.declared.task.Rule.{Rule}
 use Rattle.mc_task.specs.declared.task.Task.{Task}
 use Rattle.mc_task.specs.declared.task.JobId.{JobId}
-use Rattle.mc_task.specs.TaskSet.{AreTasks, IsTask, IsIn, task_at}
+use Rattle.mc_task.specs.TaskSet.{task_at}
 use Rattle.mc_model.specs.declared.row.Row.{Row}
 use Rattle.mc_model.specs.declared.row.Row.TheVariants as row
 use Rattle.mc_model.specs.TaskNumbers.{period_in}
@@ -47,14 +47,11 @@ abbrev releases_from : ℕ → List Task → List Row → ℕ
 releases_from i [] g = 0
 releases_from i (t ∷ ts) g = releases g (i + 1) + releases_from (i + 1) ts g
 
-not_of : (a b : ℕ) → (a ≡ b → ⊥) → (a == b) ≡ false
-not_of a b ne = ne_eqb a b ne
-
 -- a release of an earlier task is none of them
 released_before : (i : ℕ) (ts : List Task) (j : JobId) (kept : Bool) (g : List Row) → j.task.0 ≤ i → releases_from i ts (row.Release j kept ∷ g) ≡ releases_from i ts g
 released_before i [] j kept g le = refl
 released_before i (t ∷ ts) j kept g le =
-    let no : (j.task.0 == i + 1) ≡ false = not_of j.task.0 (i + 1) (λ e. absurd (omega (arith, e, le))) in
+    let no : (j.task.0 == i + 1) ≡ false = ne_eqb j.task.0 (i + 1) (λ e. absurd (omega (arith, e, le))) in
     let rest = released_before (i + 1) ts j kept g (omega (arith, le)) in
     rw no (omega (arith, rest))
 

@@ -13,21 +13,21 @@ use Rattle.mc_model.specs.declared.row.How.{How}
 use Rattle.mc_model.specs.declared.row.How.TheVariants.{More, Done, Stop, Over}
 use Rattle.mc_model.specs.declared.row.Row.{Row}
 use Rattle.mc_model.specs.declared.row.Row.TheVariants.{Release, Tick, Idle}
-use Rattle.mc_model.specs.declared.verdict.Why.{Why}
 use Rattle.mc_model.specs.declared.work.WorkRow.{WorkRow}
 use Rattle.mc_model.specs.Holds.{Fits}
-use Rattle.mc_model.specs.Pending.{Live, pending}
+use Rattle.mc_model.specs.Pending.{KeptRelease, pending}
 use Rattle.mc_model.specs.Rows.{ticks, used}
 use Rattle.mc_model.specs.Mode.{high_mode}
-use Rattle.mc_model.specs.Legal.{same_bool, same_how, is_done, is_empty, is_allowed_how, how_of, first_of_parts, Legal}
+use Rattle.mc_model.specs.Legal.{same_bool, same_how, is_done, is_empty, is_allowed_how, how_of, Legal}
 use Rattle.mc_model.specs.Core.{chosen, keeps, release_row, outcome_of, first_to_run}
 use Rattle.mc_model.specs.Follows.{Arrival, arrivals, planned, done_by_need, lowest_first, Follows}
 use Rattle.mc_model.proofs.Lists.{Each}
-use Rattle.mc_model.proofs.Booleans.{and_both, eqb-refl}
-use Rattle.mc_model.proofs.Steps.{release_fits}
+use Rattle.mc_model.proofs.Booleans.{eqb-refl}
+use Rattle.mc_model.proofs.Steps.{release_fits, parts_one, parts_three}
 use Rattle.timetable.specs.Ticks.{is_last, tick_row}
 use Rattle.timetable.specs.Shape.{first_job, row_now, next_row, Runs}
 use Rattle.timetable.proofs.OneChosen.{chosen_is}
+use Rattle.std.proofs.lemmas.Bool.{and_parts}
 
 -- the arrivals that are still to come are at t or later
 abbrev pub Later : ℕ → List Arrival → Type 0
@@ -115,18 +115,6 @@ lt_test m n h = grind (arith, nat_tests)
 apart_test : (m n : ℕ) → n + 1 ≤ m → (m == n) ≡ false
 apart_test m n h = grind (arith, nat_tests)
 
--- where no part fails, the three are true
-parts_three : (a b c : Bool) (u v w : Why) → first_of_parts ((a, u) ∷ (b, v) ∷ (c, w) ∷ []) ≡ None → (a ≡ true) × (b ≡ true) × (c ≡ true)
-parts_three true true true u v w h = (refl, refl, refl)
-parts_three false b c u v w h = cc
-parts_three true false c u v w h = cc
-parts_three true true false u v w h = cc
-
--- where no part fails, the one part is true
-parts_one : (a : Bool) (u : Why) → first_of_parts ((a, u) ∷ []) ≡ None → a ≡ true
-parts_one true u h = refl
-parts_one false u h = cc
-
 -- the next row, by the first release that was not taken
 pub next_at : (set : List Task) (rule : Rule) (work : List WorkRow) (n : ℕ) (g : List Row) (o : Option Arrival) → ticks g < n → slice_get (planned work n) (length (arrivals g)) ≡ o → next_row set rule work n g ≡ Some (row_now set rule work g o)
 next_at set rule work n g o h e = let t = lt_test (ticks g) n h in rw (t, e) refl
@@ -162,9 +150,9 @@ reverse-move a xs ys = ap (λ zs. zs ++ ys) (reverse_onto xs a []) ∙ append_as
 
 -- where nothing is pending, none is chosen
 nothing_chosen : (set : List Task) (rule : Rule) (g : List Row) → is_empty (pending set g) ≡ true → chosen set rule g ≡ None
-nothing_chosen set rule g e = ap (λ (xs : List Live). option_map (λ (i : Live). i.job) (first_to_run set rule (high_mode rule g) xs)) (none (pending set g) e)
+nothing_chosen set rule g e = ap (λ (xs : List KeptRelease). option_map (λ (i : KeptRelease). i.job) (first_to_run set rule (high_mode rule g) xs)) (none (pending set g) e)
   where
-    none : (xs : List Live) → is_empty xs ≡ true → xs ≡ []
+    none : (xs : List KeptRelease) → is_empty xs ≡ true → xs ≡ []
     none [] m = refl
     none (x ∷ xs) m = cc
 
@@ -177,10 +165,10 @@ determined set rule work n (Release j kept ∷ g) rest s f l t e r d o =
     (release_next set rule work n j kept g rest l e', determined set rule work n g (record { task = j.task.0; at = ticks g } ∷ rest) s f l.2 t e' (le_refl _, r) d o)
 determined set rule work n (Tick j how ∷ g) rest s f l t e r d o =
     let p = parts_three _ _ _ _ _ _ l.1 in
-    let c : chosen set rule g ≡ Some j = chosen_is set rule g j s f l.2 p.0 p.1 (and_both _ _ o).0 in
-    let w : how ≡ outcome_of set rule g j (is_last work g j) = how_is set rule g j how (is_last work g j) p.2 (same_bool-is _ _ (and_both _ _ d).0) in (
+    let c : chosen set rule g ≡ Some j = chosen_is set rule g j s f l.2 p.1 (and_parts _ _ o).0 in
+    let w : how ≡ outcome_of set rule g j (is_last work g j) = how_is set rule g j how (is_last work g j) p.2 (same_bool-is _ _ (and_parts _ _ d).0) in (
       not_due set rule work n g rest (omega (arith, t)) e r ∙ (ap (λ (x : Option JobId). Some (tick_row set rule work g x)) c ∙ ap (λ (x : How). Some (Tick j x)) (sym w)),
-      determined set rule work n g rest s f l.2 (omega (arith, t)) e (Later-less (ticks g) (ticks g + 1) rest (omega arith) r) (and_both _ _ d).1 (and_both _ _ o).1,
+      determined set rule work n g rest s f l.2 (omega (arith, t)) e (Later-less (ticks g) (ticks g + 1) rest (omega arith) r) (and_parts _ _ d).1 (and_parts _ _ o).1,
     )
 determined set rule work n (Idle ∷ g) rest s f l t e r d o =
     let c : chosen set rule g ≡ None = nothing_chosen set rule g (parts_one _ _ l.1) in (

@@ -1,5 +1,5 @@
 -- What is kept of a plan is kept by each of the floor's calls, and the core's refusals that never come under a plan.
-use Rattle.std.proofs.Common.{◌≡◌, ℕ, ◌+◌, ◌<◌, Bool, true, false, not, List, ◌∷◌, Option, Some, None, Ok, Err, cond, nat_lt, ◌==◌, slice_get, option_map, refl, sym, ap, ◌∙◌, subst, arith, eqb-true, le-ltb, lt-ltb}
+use Rattle.std.proofs.Common.{◌≡◌, ℕ, ◌+◌, ◌<◌, Bool, true, false, not, List, [], ◌∷◌, Option, Some, None, Ok, Err, cond, nat_lt, ◌==◌, slice_get, option_map, refl, sym, ap, ◌∙◌, subst, arith, eqb-true, le-ltb, lt-ltb}
 use Rattle.mc_task.specs.declared.task.JobId.{JobId}
 use Rattle.mc_model.specs.declared.row.Row.TheVariants.{Idle}
 use Rattle.mc_model.specs.declared.work.WorkRow.{WorkRow}
@@ -27,11 +27,11 @@ use Rattle.timetable.specs.declared.acts.PlanFault.{PlanFault}
 use Rattle.timetable.specs.declared.acts.PlanFault.TheVariants as plan_fault
 use Rattle.timetable.specs.Floor.{is_planned, due_at, due_row, ends_at, done_by, not_due}
 use Rattle.timetable.specs.Needs.{Tracks, latest_need}
-use Rattle.timetable.specs.Plans.{IsOnPlan}
+use Rattle.timetable.specs.Plans.{IsPlanFor, IsOnPlan}
 use Rattle.timetable.specs.Ticks.{is_last}
 use Rattle.timetable.specs.Shape.{IsRun, IsTold, IsKept, IsKeptBy}
 use Rattle.timetable.proofs.Calls.{not_full}
-use Rattle.timetable.proofs.Steps.{IsDueRow, due_is, MayTake, may_take, IsTickTime, within, room_for, run_grant, run_idle, run_outcome}
+use Rattle.timetable.proofs.Steps.{IsDueRow, due_is, MayTake, may_take, IsTickTime, within, room_for, run_grant, run_idle}
 use Rattle.timetable.proofs.Latest.{told_by_need}
 use Rattle.timetable.proofs.Extends.{keeps_plan}
 
@@ -51,6 +51,17 @@ err_some (Some g) t f e = cc
 yes : (b : Bool) → not b ≡ false → b ≡ true
 yes true h = refl
 yes false h = cc
+
+-- at the start
+
+-- a plan is kept before the first row
+pub kept_new : (plan : Plan) (s : State) (needs : Needs) → s.rows ≡ [] → s.out ≡ None → IsPlanFor s plan → ((work : List WorkRow) → Tracks work 0 needs) → IsKeptBy plan s 0 needs false
+kept_new Free s needs rows out p t = refl
+kept_new (Rows work n) s needs rows out p t = record {
+  run = record { schedule = p; runs = rw (out, rows) tt; taken_are = rw (out, rows) refl };
+  tracks = t work;
+  told = rw out tt;
+}
 
 -- a release
 
@@ -240,15 +251,6 @@ same_outcome plan s taken needs last told d j kept e = go (is_out s.out j) refl
     go true m =
         let same : d ≡ done_by plan s.rows j told = done_is plan s taken needs last told d j kept (out_is s.out j m) e in
         (ap (λ (x : Bool). core_event.outcome_answer s j x) same, ap (λ (x : Bool). core_event.after_outcome s j x) same)
-
--- after an outcome
-pub kept_outcome : (plan : Plan) (s t : State) (taken : ℕ) (needs : Needs) (last told : Bool) (j : JobId) → IsKeptBy plan s taken needs last → t ≡ core_event.after_outcome s j (done_by plan s.rows j told) → IsKeptBy plan t taken needs last
-kept_outcome Free s t taken needs last told j kept e = kept
-kept_outcome (Rows work n) s t taken needs last told j kept e = subst (λ (u : State). IsKept u work n taken needs last) (sym e) (go (is_out s.out j) refl)
-  where
-    go : (b : Bool) → is_out s.out j ≡ b → IsKept (core_event.after_outcome s j (is_last work s.rows j)) work n taken needs last
-    go false m = rw m kept
-    go true m = rw m (record { run = run_outcome s work n taken j kept.run (out_is s.out j m); tracks = kept.tracks; told = tt })
 
 -- the core keeps to its plan
 pub on_plan : (plan : Plan) (s : State) (taken : ℕ) (needs : Needs) (last : Bool) → IsSound s → IsKeptBy plan s taken needs last → IsOnPlan plan taken s

@@ -12,7 +12,7 @@ use Rattle.mc_model.specs.declared.row.Row.TheVariants.{Release, Tick, Idle}
 use Rattle.mc_model.specs.declared.work.WorkRow.{WorkRow}
 use Rattle.mc_model.specs.Rows.{ticks, used, releases, same_job, next_release}
 use Rattle.mc_model.specs.Holds.{Holds}
-use Rattle.mc_model.specs.Pending.{Live}
+use Rattle.mc_model.specs.Pending.{KeptRelease}
 use Rattle.mc_model.specs.Pending as model
 use Rattle.mc_model.specs.Legal.{is_pending}
 use Rattle.mc_model.specs.Core.{State}
@@ -40,11 +40,11 @@ use Rattle.timetable.proofs.Steps.{settled_none}
 -- the latest job
 
 -- no later job of its task was released
-abbrev IsLatest : List Row → Live → Type 0
+abbrev IsLatest : List Row → KeptRelease → Type 0
 IsLatest h x = x.job.count ≡ releases h x.job.task.0
 
 -- where none of these is of task number k, each is of another
-others : (k : ℕ) (xs : List Live) → pending_of k xs ≡ 0 → Each (λ x. k ≢ x.job.task.0) xs
+others : (k : ℕ) (xs : List KeptRelease) → pending_of k xs ≡ 0 → Each (λ x. k ≢ x.job.task.0) xs
 others k [] e = tt
 others k (x ∷ xs) e = go (others k xs) (x.job.task.0 == k) refl
   where
@@ -55,7 +55,7 @@ others k (x ∷ xs) e = go (others k xs) (x.job.task.0 == k) refl
         (λ d. eqb-false x.job.task.0 k m (sym d), ih (omega (arith, v)))
 
 -- a release of another task leaves a job the latest
-not_of : (j : JobId) (kept : Bool) (g : List Row) (x : Live) → j.task.0 ≢ x.job.task.0 → IsLatest g x → IsLatest (Release j kept ∷ g) x
+not_of : (j : JobId) (kept : Bool) (g : List Row) (x : KeptRelease) → j.task.0 ≢ x.job.task.0 → IsLatest g x → IsLatest (Release j kept ∷ g) x
 not_of j kept g x d e = go (j.task.0 == x.job.task.0) refl
   where
     go : (b : Bool) → (j.task.0 == x.job.task.0) ≡ b → x.job.count ≡ cond (j.task.0 == x.job.task.0) 1 0 + releases g x.job.task.0
@@ -82,7 +82,7 @@ latest set rule (Tick j how ∷ g) s holds l = Each-filter (IsLatest g) (stays s
 latest set rule (Idle ∷ g) s holds l = latest set rule g s holds l.2
 
 -- a job that is pending by its name
-named : (h : List Row) (j : JobId) (xs : List Live) → is_pending xs j ≡ true → Each (IsLatest h) xs → j.count ≡ releases h j.task.0
+named : (h : List Row) (j : JobId) (xs : List KeptRelease) → is_pending xs j ≡ true → Each (IsLatest h) xs → j.count ≡ releases h j.task.0
 named h j [] e a = cc
 named h j (x ∷ xs) e a = go (named h j xs) (same_job j x.job) refl
   where
@@ -95,7 +95,7 @@ chosen_latest : (s : State) (j : JobId) → IsSound s → chosen_now s ≡ Some 
 chosen_latest s j sound e =
     let b : IsBridged s.set s.rule s.rows = bridge s.set s.rule s.rows sound.good.legal in
     let waits : is_pending (model.pending s.set s.rows) j ≡ true = (chooses s.set s.rule s.rows j sound.tasks.each sound.good.legal e).waits in
-    named s.rows j (pending s.set s.rows) (subst (λ (xs : List Live). is_pending xs j ≡ true) b.same waits) (latest s.set s.rule s.rows sound.tasks.each sound.holds b.legal)
+    named s.rows j (pending s.set s.rows) (subst (λ (xs : List KeptRelease). is_pending xs j ≡ true) b.same waits) (latest s.set s.rule s.rows sound.tasks.each sound.holds b.legal)
 
 -- the rows of the work that were taken
 

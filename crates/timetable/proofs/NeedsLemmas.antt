@@ -1,10 +1,10 @@
 -- What is kept of each task's needs, at the start and after one more row.
-use Rattle.std.proofs.Common.{◌≡◌, ◌≢◌, ℕ, zero, suc, ◌+◌, ◌-◌, ◌<◌, ◌≤◌, Bool, true, false, List, [], ◌∷◌, Some, length, cond, slice_get, set, get_or, get_or-set_same, get_or-set_other, take, replicate, ◌==◌, refl, sym, ap, ◌∙◌, subst, arith, eqb-true}
+use Rattle.std.proofs.Common.{◌≡◌, ◌≢◌, ℕ, zero, suc, ◌+◌, ◌-◌, ◌<◌, ◌≤◌, Bool, true, false, List, [], ◌∷◌, Some, length, cond, filter, map, slice_get, slice_index_or, set, get_or, get_or-set_same, get_or-set_other, take, replicate, ◌==◌, refl, sym, ap, ◌∙◌, subst, arith, eqb-true}
 use Rattle.std.proofs.lemmas.Bool.Decides.{nat_tests}
 use Rattle.std.proofs.lemmas.List.{length-set}
 use Rattle.std.proofs.lemmas.Option.{slice_get-get_or}
 use Rattle.mc_model.specs.declared.work.WorkRow.{WorkRow}
-use Rattle.mc_model.specs.Follows.{need_of}
+use Rattle.mc_model.specs.Follows.{needs_of, need_of}
 use Rattle.mc_model.proofs.Booleans.{eqb-refl, eqb-false}
 use Rattle.timetable.specs.Needs.{rows_of, latest_need}
 
@@ -21,19 +21,10 @@ pub rows-none : (work : List WorkRow) (k : ℕ) → rows_of k (take 0 work) ≡ 
 rows-none [] k = refl
 rows-none (w ∷ ws) k = refl
 
--- no job has the count 0
-need-none : (work : List WorkRow) (k : ℕ) → need_of work k 0 ≡ 0
-need-none [] k = refl
-need-none (w ∷ ws) k = go (need-none ws k) (w.task.0 == k)
-  where
-    go : need_of ws k 0 ≡ 0 → (b : Bool) → cond b (need_of ws k 0) (need_of ws k 0) ≡ 0
-    go ih true = ih
-    go ih false = ih
-
 -- what is kept before the first row
 pub tracks_start : (work : List WorkRow) (i : ℕ) → i < 128 → slice_get (replicate 128 0) i ≡ Some (latest_need work 0 (i + 1))
 tracks_start work i h =
-    get-replicate 128 i 0 h ∙ sym (ap (λ (c : ℕ). Some (need_of work (i + 1) c)) (rows-none work (i + 1)) ∙ ap (λ (n : ℕ). Some n) (need-none work (i + 1)))
+    get-replicate 128 i 0 h ∙ sym (ap (λ (c : ℕ). Some (need_of work (i + 1) c)) (rows-none work (i + 1)))
 
 -- one more row
 
@@ -47,30 +38,37 @@ rows-more (v ∷ vs) (suc i) k w e =
     let ih : rows_of k (take (suc i) vs) ≡ cond (w.task.0 == k) 1 0 + rows_of k (take i vs) = rows-more vs i k w e in
     omega (arith, ih)
 
--- its need is that of the job of its count
-need-more : (work : List WorkRow) (i k : ℕ) (w : WorkRow) → slice_get work i ≡ Some w → w.task.0 ≡ k → need_of work k (rows_of k (take i work) + 1) ≡ w.need
-need-more [] i k w e t = cc
-need-more (v ∷ vs) zero k w e t =
+-- its need stands behind those of the task's rows before it
+need-at : (work : List WorkRow) (i k : ℕ) (w : WorkRow) → slice_get work i ≡ Some w → w.task.0 ≡ k → slice_index_or (needs_of work k) (rows_of k (take i work)) 0 ≡ w.need
+need-at [] i k w e t = cc
+need-at (v ∷ vs) zero k w e t =
     let d : v ≡ w = cc in
     let m : (v.task.0 == k) ≡ true = subst (λ (x : WorkRow). (x.task.0 == k) ≡ true) (sym d) (subst (λ (n : ℕ). (w.task.0 == n) ≡ true) t (eqb-refl w.task.0)) in
     rw m (ap (λ (x : WorkRow). x.need) d)
-need-more (v ∷ vs) (suc i) k w e t = go (need-more vs i k w e t) (v.task.0 == k)
+need-at (v ∷ vs) (suc i) k w e t = go (need-at vs i k w e t) (v.task.0 == k)
   where
-    not_one : (r : ℕ) → ((1 + r) + 1 == 1) ≡ false
-    not_one r = grind (arith, nat_tests)
+    one_more : (r : ℕ) → 1 + r ≡ suc r
+    one_more r = omega arith
 
-    back : (r : ℕ) → ((1 + r) + 1) - 1 ≡ r + 1
+    no_more : (r : ℕ) → 0 + r ≡ r
+    no_more r = omega arith
+
+    go : slice_index_or (needs_of vs k) (rows_of k (take i vs)) 0 ≡ w.need → (b : Bool) →
+        slice_index_or (map (λ (x : WorkRow). x.need) (cond b (v ∷ filter (λ (x : WorkRow). x.task.0 == k) vs) (filter (λ (x : WorkRow). x.task.0 == k) vs))) (cond b 1 0 + rows_of k (take i vs)) 0 ≡ w.need
+    go ih true = ap (λ (n : ℕ). slice_index_or (v.need ∷ needs_of vs k) n 0) (one_more (rows_of k (take i vs))) ∙ ih
+    go ih false = ap (λ (n : ℕ). slice_index_or (needs_of vs k) n 0) (no_more (rows_of k (take i vs))) ∙ ih
+
+-- so it is that of the job of its count
+need-more : (work : List WorkRow) (i k : ℕ) (w : WorkRow) → slice_get work i ≡ Some w → w.task.0 ≡ k → need_of work k (rows_of k (take i work) + 1) ≡ w.need
+need-more work i k w e t =
+    let n = not_none (rows_of k (take i work)) in
+    rw n (ap (λ (c : ℕ). slice_index_or (needs_of work k) c 0) (back (rows_of k (take i work))) ∙ need-at work i k w e t)
+  where
+    not_none : (r : ℕ) → (r + 1 == 0) ≡ false
+    not_none r = grind (arith, nat_tests)
+
+    back : (r : ℕ) → r + 1 - 1 ≡ r
     back r = omega arith
-
-    same : (r : ℕ) → (0 + r) + 1 ≡ r + 1
-    same r = omega arith
-
-    go : need_of vs k (rows_of k (take i vs) + 1) ≡ w.need → (b : Bool) →
-        cond b (cond (((cond b 1 0 + rows_of k (take i vs)) + 1) == 1) v.need (need_of vs k (((cond b 1 0 + rows_of k (take i vs)) + 1) - 1))) (need_of vs k ((cond b 1 0 + rows_of k (take i vs)) + 1)) ≡ w.need
-    go ih true =
-        let n = not_one (rows_of k (take i vs)) in
-        rw n (ap (need_of vs k) (back (rows_of k (take i vs))) ∙ ih)
-    go ih false = ap (need_of vs k) (same (rows_of k (take i vs))) ∙ ih
 
 -- what is kept after so many rows, in a list by the tasks' numbers
 abbrev pub Tracked : List WorkRow → ℕ → List ℕ → Type 0

@@ -1,6 +1,6 @@
 -- The job that a row's tick takes, of equal keys the lowest number, is the chosen one.
 use Rattle.std.proofs.Common.{◌≡◌, ℕ, ◌+◌, ◌*◌, ◌≤◌, Bool, true, false, not, ◌&&◌, ◌||◌, List, [], ◌∷◌, Option, Some, None, cond, nat_lt, nat_le, ◌==◌, option_map, refl, sym, ap, ◌∙◌, subst, arith}
-use Rattle.std.specs.List.{list_all, AllByRecursion}
+use Rattle.std.specs.List.{list_all, list_any, AllByRecursion}
 use Rattle.std.proofs.lemmas.Bool.Decides.{nat_tests}
 use Rattle.mc_task.specs.declared.task.Rule.{Rule}
 use Rattle.mc_task.specs.declared.task.Rule.TheVariants.{Plain, Virtual}
@@ -10,32 +10,33 @@ use Rattle.mc_task.specs.TaskSet.{IsTask, task_at}
 use Rattle.mc_model.specs.declared.row.Row.{Row}
 use Rattle.mc_model.specs.TaskNumbers.{period_in}
 use Rattle.mc_model.specs.Holds.{Fits}
-use Rattle.mc_model.specs.Pending.{Live, pending}
+use Rattle.mc_model.specs.Pending.{KeptRelease, pending}
 use Rattle.mc_model.specs.Rows.{same_job}
 use Rattle.mc_model.specs.Mode.{high_mode}
 use Rattle.mc_model.specs.Key.{key, low_offset, scale}
-use Rattle.mc_model.specs.Legal.{none_below, is_least, is_pending, Legal}
+use Rattle.mc_model.specs.Legal.{none_below, is_least, Legal}
 use Rattle.mc_model.specs.Core.{runs_before, first_to_run, chosen}
-use Rattle.mc_model.specs.Follows.{is_lowest}
-use Rattle.mc_model.proofs.Jobs.{same_live, is_in, job_eq, live_eq, each_in}
-use Rattle.mc_model.proofs.Booleans.{and_both, or_true}
+use Rattle.mc_model.specs.Follows.{none_lower, is_lowest}
+use Rattle.mc_model.proofs.Jobs.{same_live, is_in, job_eq, live_eq, each_in, head_in}
+use Rattle.mc_model.proofs.Booleans.{or_true}
 use Rattle.mc_model.proofs.Lists.{Each, Each-map}
-use Rattle.mode_core.proofs.Apart.{Apart, Older, pending_apart}
-use Rattle.mode_core.proofs.Chosen.{IsFirst, is_first, self_in}
+use Rattle.mode_core.proofs.Apart.{Apart, Older, only, pending_apart}
+use Rattle.mode_core.proofs.Chosen.{IsFirst, is_first}
+use Rattle.std.proofs.lemmas.Bool.{and_parts}
 
 -- of one task two with one release time are one
-alike_tail : (x y : Live) (ys : List Live) → x ≡ y → Each (Older y) ys → Each (λ i. x.job.task.0 ≡ i.job.task.0 → x.release ≡ i.release → i ≡ x) ys
+alike_tail : (x y : KeptRelease) (ys : List KeptRelease) → x ≡ y → Each (Older y) ys → Each (λ i. x.job.task.0 ≡ i.job.task.0 → x.release ≡ i.release → i ≡ x) ys
 alike_tail x y ys e o =
     Each-map {P = Older y}
     (λ i p m r.
-    let t : y.job.task.0 ≡ i.job.task.0 = subst (λ (z : Live). z.job.task.0 ≡ i.job.task.0) e m in
-    let c : y.release ≡ i.release = subst (λ (z : Live). z.release ≡ i.release) e r in
+    let t : y.job.task.0 ≡ i.job.task.0 = subst (λ (z : KeptRelease). z.job.task.0 ≡ i.job.task.0) e m in
+    let c : y.release ≡ i.release = subst (λ (z : KeptRelease). z.release ≡ i.release) e r in
     let d = p.time t in
     absurd (omega (arith, c, d)))
     ys o
 
 -- in a list of jobs that are apart, one of this task and release time is this one
-alike : (x : Live) (xs : List Live) → Apart xs → is_in xs x ≡ true → Each (λ i. x.job.task.0 ≡ i.job.task.0 → x.release ≡ i.release → i ≡ x) xs
+alike : (x : KeptRelease) (xs : List KeptRelease) → Apart xs → is_in xs x ≡ true → Each (λ i. x.job.task.0 ≡ i.job.task.0 → x.release ≡ i.release → i ≡ x) xs
 alike x [] a e = tt
 alike x (y ∷ ys) a e = go (λ r. alike x ys a.1 r) (same_live x y) refl
   where
@@ -46,28 +47,28 @@ alike x (y ∷ ys) a e = go (λ r. alike x ys a.1 r) (same_live x y) refl
         let o : Older y x = each_in (Older y) x ys r a.0 in
         (λ k t. let d = o.time (sym k) in absurd (omega (arith, d, t)), ih r)
 
--- a pending job by its name
-record Found (xs : List Live) (j : JobId) : Type 0 where
-  live : Live
+-- one of the pending jobs that passes a test
+record Found (p : KeptRelease → Bool) (xs : List KeptRelease) : Type 0 where
+  live : KeptRelease
   inside : is_in xs live ≡ true
-  job : same_job j live.job ≡ true
+  passes : p live ≡ true
 
 -- there is one
-found : (xs : List Live) (j : JobId) → is_pending xs j ≡ true → Found xs j
-found [] j e = cc
-found (x ∷ xs) j e = go (found xs j) (same_job j x.job) refl
+found : (p : KeptRelease → Bool) (xs : List KeptRelease) → list_any p xs ≡ true → Found p xs
+found p [] e = cc
+found p (x ∷ xs) e = go (found p xs) (p x) refl
   where
-    go : (is_pending xs j ≡ true → Found xs j) → (b : Bool) → same_job j x.job ≡ b → Found (x ∷ xs) j
-    go ih true m = record { live = x; inside = self_in x xs; job = m }
-    go ih false m = let f = ih (rw m at e) in record { live = f.live; inside = or_true _ _ f.inside; job = f.job }
+    go : (list_any p xs ≡ true → Found p xs) → (b : Bool) → p x ≡ b → Found p (x ∷ xs)
+    go ih true m = record { live = x; inside = head_in x xs; passes = m }
+    go ih false m = let f = ih (rw m at e) in record { live = f.live; inside = or_true _ _ f.inside; passes = f.passes }
 
 -- what a test says of all it says of one
-listed : (p : Live → Bool) (x : Live) (xs : List Live) → is_in xs x ≡ true → list_all p xs ≡ true → p x ≡ true
+listed : (p : KeptRelease → Bool) (x : KeptRelease) (xs : List KeptRelease) → is_in xs x ≡ true → list_all p xs ≡ true → p x ≡ true
 listed p x [] e h = cc
-listed p x (y ∷ ys) e h = go (λ r. listed p x ys r ((and_both (p y) (list_all p ys) h).1)) (same_live x y) refl
+listed p x (y ∷ ys) e h = go (λ r. listed p x ys r ((and_parts (p y) (list_all p ys) h).1)) (same_live x y) refl
   where
     go : (is_in ys x ≡ true → p x ≡ true) → (b : Bool) → same_live x y ≡ b → p x ≡ true
-    go ih true m = subst (λ z. p z ≡ true) (sym (live_eq x y m)) ((and_both (p y) (list_all p ys) h).0)
+    go ih true m = subst (λ z. p z ≡ true) (sym (live_eq x y m)) ((and_parts (p y) (list_all p ys) h).0)
     go ih false m = ih (rw m at e)
 
 -- a tick has units
@@ -80,7 +81,7 @@ times-inj : (q r s : ℕ) → 1 ≤ q → q * r ≡ q * s → r ≡ s
 times-inj q r s p e = grind arith
 
 -- of one task, equal keys are of equal release times
-key-inj : (rule : Rule) (high : Bool) (set : List Task) (x y : Live) → Fits rule → x.job.task.0 ≡ y.job.task.0 → key set rule high x ≡ key set rule high y → x.release ≡ y.release
+key-inj : (rule : Rule) (high : Bool) (set : List Task) (x y : KeptRelease) → Fits rule → x.job.task.0 ≡ y.job.task.0 → key set rule high x ≡ key set rule high y → x.release ≡ y.release
 key-inj rule high set x y f t e =
     let offset : ℕ → ℕ = λ k. cond high (scale rule * period_in (task_at set k)) (low_offset rule (task_at set k)) in
     let o : offset x.job.task.0 ≡ offset y.job.task.0 = ap offset t in
@@ -93,44 +94,54 @@ key-inj rule high set x y f t e =
 order : (kx ki tx ti : ℕ) → nat_le ki kx ≡ true → (nat_lt ki kx || ((ki == kx) && nat_lt ti tx)) ≡ false → not ((kx == ki) && nat_lt tx ti) ≡ true → (kx ≡ ki) × (tx ≡ ti)
 order kx ki tx ti a b c = (grind (arith, nat_tests), grind (arith, nat_tests))
 
--- a test that is not passed by the name
-skip : (b c : Bool) → b ≡ true → (not b || c) ≡ true → c ≡ true
-skip true c e h = h
-skip false c e h = cc
-
--- the job of a tick is chosen: it is pending, its key is a least one, and no lower number has that key
-pub chosen_is : (set : List Task) (rule : Rule) (h : List Row) (j : JobId) → AllByRecursion IsTask set → Fits rule → Legal set rule h → is_pending (pending set h) j ≡ true →
+-- the job of a tick is chosen: its key is a least one of the pending jobs, and no lower number has that key
+pub chosen_is : (set : List Task) (rule : Rule) (h : List Row) (j : JobId) → AllByRecursion IsTask set → Fits rule → Legal set rule h →
     is_least set rule (high_mode rule h) (pending set h) j ≡ true → is_lowest set rule (high_mode rule h) (pending set h) j ≡ true → chosen set rule h ≡ Some j
-chosen_is set rule h j s f l waits least lowest = go (first_to_run set rule high xs) refl
+chosen_is set rule h j s f l least lowest = go (first_to_run set rule high xs) refl
   where
     high : Bool
     high = high_mode rule h
 
-    xs : List Live
+    xs : List KeptRelease
     xs = pending set h
 
-    i : Found xs j
-    i = found xs j waits
+    i : Found (λ z. same_job j z.job && none_below set rule high (key set rule high z) xs) xs
+    i = found (λ z. same_job j z.job && none_below set rule high (key set rule high z) xs) xs least
+
+    of_i : (same_job j i.live.job ≡ true) × (none_below set rule high (key set rule high i.live) xs ≡ true)
+    of_i = and_parts (same_job j i.live.job) (none_below set rule high (key set rule high i.live) xs) i.passes
 
     i_job : i.live.job ≡ j
-    i_job = sym (job_eq j i.live.job i.job)
+    i_job = sym (job_eq j i.live.job of_i.0)
 
-    go : (o : Option Live) → first_to_run set rule high xs ≡ o → option_map (λ (x : Live). x.job) (first_to_run set rule high xs) ≡ Some j
+    k : Found (λ z. same_job j z.job && none_lower set rule high z xs) xs
+    k = found (λ z. same_job j z.job && none_lower set rule high z xs) xs lowest
+
+    of_k : (same_job j k.live.job ≡ true) × (none_lower set rule high k.live xs ≡ true)
+    of_k = and_parts (same_job j k.live.job) (none_lower set rule high k.live xs) k.passes
+
+    -- both are the job's own one
+    one : k.live ≡ i.live
+    one =
+        each_in (λ (z : KeptRelease). same_job i.live.job z.job ≡ true → z ≡ i.live) k.live xs k.inside (only i.live xs (pending_apart set rule h s l) i.inside)
+        (subst (λ (n : JobId). same_job n k.live.job ≡ true) (sym i_job) of_k.0)
+
+    low : none_lower set rule high i.live xs ≡ true
+    low = subst (λ (z : KeptRelease). none_lower set rule high z xs ≡ true) one of_k.1
+
+    go : (o : Option KeptRelease) → first_to_run set rule high xs ≡ o → option_map (λ (x : KeptRelease). x.job) (first_to_run set rule high xs) ≡ Some j
     go None m = absurd (none xs m i.inside)
       where
-        none : (ys : List Live) → first_to_run set rule high ys ≡ None → is_in ys i.live ≡ true → ⊥
+        none : (ys : List KeptRelease) → first_to_run set rule high ys ≡ None → is_in ys i.live ≡ true → ⊥
         none [] m e = cc
         none (y ∷ ys) m e = cc
     go (Some x) m =
         let first : IsFirst set rule high xs x = is_first set rule high xs x m in
-        let below : none_below set rule high (key set rule high i.live) xs ≡ true = skip _ _ i.job (listed (λ (z : Live). not (same_job j z.job) || none_below set rule high (key set rule high z) xs) i.live xs i.inside least) in
-        let le : nat_le (key set rule high i.live) (key set rule high x) ≡ true = listed (λ (z : Live). nat_le (key set rule high i.live) (key set rule high z)) x xs first.inside below in
-        let nb : runs_before set rule high i.live x ≡ false = each_in (λ (z : Live). runs_before set rule high z x ≡ false) i.live xs i.inside first.none_before in
-        let low : list_all (λ (z : Live). not ((key set rule high z == key set rule high i.live) && nat_lt z.job.task.0 j.task.0)) xs ≡ true =
-        skip _ _ i.job (listed (λ (w : Live). not (same_job j w.job) || list_all (λ (z : Live). not ((key set rule high z == key set rule high w) && nat_lt z.job.task.0 j.task.0)) xs) i.live xs i.inside lowest) in
+        let le : nat_le (key set rule high i.live) (key set rule high x) ≡ true = listed (λ (z : KeptRelease). nat_le (key set rule high i.live) (key set rule high z)) x xs first.inside of_i.1 in
+        let nb : runs_before set rule high i.live x ≡ false = each_in (λ (z : KeptRelease). runs_before set rule high z x ≡ false) i.live xs i.inside first.none_before in
         let lx : not ((key set rule high x == key set rule high i.live) && nat_lt x.job.task.0 i.live.job.task.0) ≡ true =
-        subst (λ (k : JobId). not ((key set rule high x == key set rule high i.live) && nat_lt x.job.task.0 k.task.0) ≡ true) (sym i_job) (listed (λ (z : Live). not ((key set rule high z == key set rule high i.live) && nat_lt z.job.task.0 j.task.0)) x xs first.inside low) in
+        listed (λ (z : KeptRelease). not ((key set rule high z == key set rule high i.live) && nat_lt z.job.task.0 i.live.job.task.0)) x xs first.inside low in
         let eq = order (key set rule high x) (key set rule high i.live) x.job.task.0 i.live.job.task.0 le nb lx in
         let time : i.live.release ≡ x.release = sym (key-inj rule high set x i.live f eq.1 eq.0) in
-        let same : x ≡ i.live = each_in (λ (z : Live). i.live.job.task.0 ≡ z.job.task.0 → i.live.release ≡ z.release → z ≡ i.live) x xs first.inside (alike i.live xs (pending_apart set rule h s l) i.inside) (sym eq.1) time in
-        ap (option_map (λ (z : Live). z.job)) m ∙ ap (λ (k : JobId). Some k) (ap (λ (z : Live). z.job) same ∙ i_job)
+        let same : x ≡ i.live = each_in (λ (z : KeptRelease). i.live.job.task.0 ≡ z.job.task.0 → i.live.release ≡ z.release → z ≡ i.live) x xs first.inside (alike i.live xs (pending_apart set rule h s l) i.inside) (sym eq.1) time in
+        ap (option_map (λ (z : KeptRelease). z.job)) m ∙ ap (λ (k : JobId). Some k) (ap (λ (z : KeptRelease). z.job) same ∙ i_job)

@@ -1,6 +1,6 @@
 -- Rows that the plan adds, until it adds none, follow.
 use Rattle.std.proofs.Common.{◌≡◌, ◌≢◌, ℕ, ◌+◌, ◌<◌, ◌≤◌, Bool, true, false, not, ◌&&◌, ◌||◌, List, [], ◌∷◌, ◌++◌, Option, Some, None, length, cond, filter, map, reverse, slice_get, nat_lt, nat_le, ◌==◌, refl, sym, ap, ap₂, ◌∙◌, subst, arith, leb-false, eqb-true}
-use Rattle.std.specs.List.{list_all, AllByRecursion}
+use Rattle.std.specs.List.{AllByRecursion}
 use Rattle.std.proofs.lemmas.Option.{same_Some}
 use Rattle.std.proofs.lemmas.List.{append-nil, length-reverse}
 use Rattle.std.proofs.lemmas.Bool.Decides.{nat_tests}
@@ -13,22 +13,23 @@ use Rattle.mc_model.specs.declared.row.How.TheVariants.{More, Stop, Over}
 use Rattle.mc_model.specs.declared.row.Row.{Row}
 use Rattle.mc_model.specs.declared.row.Row.TheVariants.{Release, Tick, Idle}
 use Rattle.mc_model.specs.declared.work.WorkRow.{WorkRow}
-use Rattle.mc_model.specs.Pending.{Live, pending}
+use Rattle.mc_model.specs.Pending.{pending}
 use Rattle.mc_model.specs.Rows.{ticks, same_job}
 use Rattle.mc_model.specs.Mode.{high_mode}
 use Rattle.mc_model.specs.Legal.{same_bool, is_done, Legal}
 use Rattle.mc_model.specs.Key.{key}
 use Rattle.mc_model.specs.Core.{chosen, release_row, outcome_of, runs_before}
-use Rattle.mc_model.specs.Follows.{Arrival, arrivals, planned, ends_in_tick, done_by_need, lowest_first, is_lowest, Follows}
-use Rattle.mc_model.proofs.Booleans.{or_true, eqb-false}
+use Rattle.mc_model.specs.Follows.{Arrival, arrivals, planned, ends_in_tick, done_by_need, lowest_first, none_lower, is_lowest, Follows}
+use Rattle.mc_model.proofs.Booleans.{eqb-false}
 use Rattle.mc_model.proofs.Lists.{Each, Each-map}
-use Rattle.mode_core.proofs.Apart.{pending_apart, only}
+use Rattle.mc_model.proofs.Jobs.{any_in, same_job-refl}
 use Rattle.mode_core.proofs.Chosen.{Choice, choice, IsFirst, is_first, all_from}
 use Rattle.mode_core.proofs.Fits.{same_bool-refl}
 use Rattle.timetable.specs.Ticks.{is_last, tick_row}
 use Rattle.timetable.specs.Shape.{first_job, row_now, next_row, Runs}
 use Rattle.mc_model.specs.Work.{AllFollow, IsWork}
 use Rattle.timetable.proofs.Determined.{Later, Later-less, planned_each, reverse-move}
+use Rattle.std.proofs.lemmas.Bool.{and_from}
 
 -- what is added
 
@@ -57,22 +58,13 @@ pub record IsTickRow (set : List Task) (rule : Rule) (work : List WorkRow) (g : 
   pub row_is : tick_row set rule work g (chosen set rule g) ≡ row
   pub not_due : (a : Arrival) → head ≡ Some a → a.at ≢ ticks g
 
--- of a tick
-tick_rows : (set : List Task) (rule : Rule) (work : List WorkRow) (g : List Row) (o : Option Arrival) (j : JobId) (how : How) → row_now set rule work g o ≡ Tick j how → IsTickRow set rule work g o (Tick j how)
-tick_rows set rule work g None j how e = record { row_is = e; not_due = λ a k. cc }
-tick_rows set rule work g (Some a) j how e = go (a.at == ticks g) refl e
+-- what is added is a tick's row where it is no release
+no_release : (set : List Task) (rule : Rule) (work : List WorkRow) (g : List Row) (o : Option Arrival) (row : Row) → ((j : JobId) → release_row set rule j g ≢ row) → row_now set rule work g o ≡ row → IsTickRow set rule work g o row
+no_release set rule work g None row apart e = record { row_is = e; not_due = λ a k. cc }
+no_release set rule work g (Some a) row apart e = go (a.at == ticks g) refl e
   where
-    go : (b : Bool) → (a.at == ticks g) ≡ b → cond b (release_row set rule (first_job g a.task) g) (tick_row set rule work g (chosen set rule g)) ≡ Tick j how → IsTickRow set rule work g (Some a) (Tick j how)
-    go true m k = cc
-    go false m k = record { row_is = k; not_due = λ x d. subst (λ (y : Arrival). y.at ≢ ticks g) (same_Some a x d) (eqb-false _ _ m) }
-
--- of an idle tick
-idle_rows : (set : List Task) (rule : Rule) (work : List WorkRow) (g : List Row) (o : Option Arrival) → row_now set rule work g o ≡ Idle → IsTickRow set rule work g o Idle
-idle_rows set rule work g None e = record { row_is = e; not_due = λ a k. cc }
-idle_rows set rule work g (Some a) e = go (a.at == ticks g) refl e
-  where
-    go : (b : Bool) → (a.at == ticks g) ≡ b → cond b (release_row set rule (first_job g a.task) g) (tick_row set rule work g (chosen set rule g)) ≡ Idle → IsTickRow set rule work g (Some a) Idle
-    go true m k = cc
+    go : (b : Bool) → (a.at == ticks g) ≡ b → cond b (release_row set rule (first_job g a.task) g) (tick_row set rule work g (chosen set rule g)) ≡ row → IsTickRow set rule work g (Some a) row
+    go true m k = absurd (apart (first_job g a.task) k)
     go false m k = record { row_is = k; not_due = λ x d. subst (λ (y : Arrival). y.at ≢ ticks g) (same_Some a x d) (eqb-false _ _ m) }
 
 -- an arrival of task number k at t
@@ -128,23 +120,17 @@ never_done false true = refl
 never_done false false = refl
 
 -- an outcome is done as it is told
-done_as : (set : List Task) (rule : Rule) (g : List Row) (j : JobId) (d : Bool) → is_done (outcome_of set rule g j d) ≡ d
+pub done_as : (set : List Task) (rule : Rule) (g : List Row) (j : JobId) (d : Bool) → is_done (outcome_of set rule g j d) ≡ d
 done_as set rule g j true = refl
 done_as set rule g j false = never_done _ _
-
--- both of two that hold
-both : (a b : Bool) → a ≡ true → b ≡ true → (a && b) ≡ true
-both true true p q = refl
-both true false p q = cc
-both false b p q = cc
 
 -- of a key that is not before another, the number is not lower at an equal key
 not_lower : (kx ki tx ti : ℕ) → (nat_lt kx ki || ((kx == ki) && nat_lt tx ti)) ≡ false → not ((kx == ki) && nat_lt tx ti) ≡ true
 not_lower kx ki tx ti h = grind (arith, nat_tests)
 
 -- no pending job of a lower number has the chosen job's key
-lowest : (set : List Task) (rule : Rule) (g : List Row) (j : JobId) → AllByRecursion IsTask set → Legal set rule g → chosen set rule g ≡ Some j → is_lowest set rule (high_mode rule g) (pending set g) j ≡ true
-lowest set rule g j s l e = subst (λ (k : JobId). is_lowest set rule (high_mode rule g) (pending set g) k ≡ true) c.job of_live
+lowest : (set : List Task) (rule : Rule) (g : List Row) (j : JobId) → chosen set rule g ≡ Some j → is_lowest set rule (high_mode rule g) (pending set g) j ≡ true
+lowest set rule g j e = subst (λ (k : JobId). is_lowest set rule (high_mode rule g) (pending set g) k ≡ true) c.job of_live
   where
     c : Choice set rule g j
     c = choice set rule g j e
@@ -155,18 +141,12 @@ lowest set rule g j s l e = subst (λ (k : JobId). is_lowest set rule (high_mode
     f : IsFirst set rule high (pending set g) c.live
     f = is_first set rule high (pending set g) c.live c.first
 
-    of_one : list_all (λ z. not ((key set rule high z == key set rule high c.live) && nat_lt z.job.task.0 c.live.job.task.0)) (pending set g) ≡ true
+    of_one : none_lower set rule high c.live (pending set g) ≡ true
     of_one = all_from (λ z. not ((key set rule high z == key set rule high c.live) && nat_lt z.job.task.0 c.live.job.task.0)) (pending set g)
         (Each-map {P = λ z. runs_before set rule high z c.live ≡ false} (λ z r. not_lower (key set rule high z) (key set rule high c.live) z.job.task.0 c.live.job.task.0 r) (pending set g) f.none_before)
 
-    at : (i : Live) → (same_job c.live.job i.job ≡ true → i ≡ c.live) → (b : Bool) → same_job c.live.job i.job ≡ b →
-        (not (same_job c.live.job i.job) || list_all (λ z. not ((key set rule high z == key set rule high i) && nat_lt z.job.task.0 c.live.job.task.0)) (pending set g)) ≡ true
-    at i o true m = or_true _ _ (subst (λ (w : Live). list_all (λ z. not ((key set rule high z == key set rule high w) && nat_lt z.job.task.0 c.live.job.task.0)) (pending set g) ≡ true) (sym (o m)) of_one)
-    at i o false m = rw m refl
-
     of_live : is_lowest set rule high (pending set g) c.live.job ≡ true
-    of_live = all_from (λ i. not (same_job c.live.job i.job) || list_all (λ z. not ((key set rule high z == key set rule high i) && nat_lt z.job.task.0 c.live.job.task.0)) (pending set g)) (pending set g)
-        (Each-map {P = λ i. same_job c.live.job i.job ≡ true → i ≡ c.live} (λ i o. at i o (same_job c.live.job i.job) refl) (pending set g) (only c.live (pending set g) (pending_apart set rule g s l) f.inside))
+    of_live = any_in (λ i. same_job c.live.job i.job && none_lower set rule high i (pending set g)) c.live (pending set g) f.inside (and_from _ _ (same_job-refl c.live.job) of_one)
 
 -- the arrivals that are planned never fall
 abbrev pub Sorted : List Arrival → Type 0
@@ -222,6 +202,12 @@ later_more t (a ∷ xs) l s d =
     let k = l.0 in
     (omega (arith, n, k), Later-less (t + 1) a.at xs (omega (arith, n, k)) s.0)
 
+-- behind a row that is no release, what is still to come is later than its tick
+rest_later : (set : List Task) (rule : Rule) (work : List WorkRow) (n : ℕ) (g : List Row) (row : Row) → ((j : JobId) → release_row set rule j g ≢ row) → Added set rule work n g row → (r : Rest work n g) → Later (ticks g + 1) r.rest
+rest_later set rule work n g row apart x r =
+    let t = no_release set rule work g x.head row apart x.row_is in
+    later_more (ticks g) r.rest r.later r.sorted (λ a e. t.not_due a (sym x.head_is ∙ (head_at work n g r.rest r.split ∙ e)))
+
 -- what the plan adds leaves a rest that is still to come
 pub rest_of : (set : List Task) (rule : Rule) (work : List WorkRow) (n : ℕ) (h : List Row) → IsWork set work → Runs set rule work n h → Rest work n h
 rest_of set rule work n [] w r = record { rest = planned work n; split = refl; later = Later-any (planned work n); sorted = planned_sorted set work n w; within = omega arith }
@@ -246,27 +232,13 @@ rest_of set rule work n (Release j kept ∷ g) w r =
 rest_of set rule work n (Tick j how ∷ g) w r =
     let ih : Rest work n g = rest_of set rule work n g w r.1 in
     let x = added set rule work n g (Tick j how) r.0 in
-    let t = tick_rows set rule work g x.head j how x.row_is in
     let s = x.soon in
-    record {
-      rest = ih.rest;
-      split = ih.split;
-      later = later_more (ticks g) ih.rest ih.later ih.sorted (λ a e. t.not_due a (sym x.head_is ∙ (head_at work n g ih.rest ih.split ∙ e)));
-      sorted = ih.sorted;
-      within = omega (arith, s);
-    }
+    record { rest = ih.rest; split = ih.split; later = rest_later set rule work n g (Tick j how) (λ i e. cc) x ih; sorted = ih.sorted; within = omega (arith, s) }
 rest_of set rule work n (Idle ∷ g) w r =
     let ih : Rest work n g = rest_of set rule work n g w r.1 in
     let x = added set rule work n g Idle r.0 in
-    let t = idle_rows set rule work g x.head x.row_is in
     let s = x.soon in
-    record {
-      rest = ih.rest;
-      split = ih.split;
-      later = later_more (ticks g) ih.rest ih.later ih.sorted (λ a e. t.not_due a (sym x.head_is ∙ (head_at work n g ih.rest ih.split ∙ e)));
-      sorted = ih.sorted;
-      within = omega (arith, s);
-    }
+    record { rest = ih.rest; split = ih.split; later = rest_later set rule work n g Idle (λ i e. cc) x ih; sorted = ih.sorted; within = omega (arith, s) }
 
 -- each tick that the plan adds is done by its need
 done_parts : (set : List Task) (rule : Rule) (work : List WorkRow) (n : ℕ) (h : List Row) → Runs set rule work n h → done_by_need work h ≡ true
@@ -275,19 +247,19 @@ done_parts set rule work n (Release j kept ∷ g) r = done_parts set rule work n
 done_parts set rule work n (Idle ∷ g) r = done_parts set rule work n g r.1
 done_parts set rule work n (Tick j how ∷ g) r =
     let x = added set rule work n g (Tick j how) r.0 in
-    let c = chosen_tick set rule work g j how (tick_rows set rule work g x.head j how x.row_is).row_is in
+    let c = chosen_tick set rule work g j how (no_release set rule work g x.head (Tick j how) (λ i e. cc) x.row_is).row_is in
     let d : is_done how ≡ is_last work g j = ap is_done c.how_is ∙ done_as set rule g j (is_last work g j) in
-    both _ _ (subst (λ (b : Bool). same_bool b (is_last work g j) ≡ true) (sym d) (same_bool-refl (is_last work g j))) (done_parts set rule work n g r.1)
+    and_from _ _ (subst (λ (b : Bool). same_bool b (is_last work g j) ≡ true) (sym d) (same_bool-refl (is_last work g j))) (done_parts set rule work n g r.1)
 
 -- each tick that the plan adds takes the lowest number
-lowest_parts : (set : List Task) (rule : Rule) (work : List WorkRow) (n : ℕ) (h : List Row) → AllByRecursion IsTask set → Legal set rule h → Runs set rule work n h → lowest_first set rule h ≡ true
-lowest_parts set rule work n [] s l r = refl
-lowest_parts set rule work n (Release j kept ∷ g) s l r = lowest_parts set rule work n g s l.2 r.1
-lowest_parts set rule work n (Idle ∷ g) s l r = lowest_parts set rule work n g s l.2 r.1
-lowest_parts set rule work n (Tick j how ∷ g) s l r =
+lowest_parts : (set : List Task) (rule : Rule) (work : List WorkRow) (n : ℕ) (h : List Row) → Runs set rule work n h → lowest_first set rule h ≡ true
+lowest_parts set rule work n [] r = refl
+lowest_parts set rule work n (Release j kept ∷ g) r = lowest_parts set rule work n g r.1
+lowest_parts set rule work n (Idle ∷ g) r = lowest_parts set rule work n g r.1
+lowest_parts set rule work n (Tick j how ∷ g) r =
     let x = added set rule work n g (Tick j how) r.0 in
-    let c = chosen_tick set rule work g j how (tick_rows set rule work g x.head j how x.row_is).row_is in
-    both _ _ (lowest set rule g j s l.2 c.chosen_is) (lowest_parts set rule work n g s l.2 r.1)
+    let c = chosen_tick set rule work g j how (no_release set rule work g x.head (Tick j how) (λ i e. cc) x.row_is).row_is in
+    and_from _ _ (lowest set rule g j c.chosen_is) (lowest_parts set rule work n g r.1)
 
 -- after n ticks the last row is of a tick
 ends : (set : List Task) (rule : Rule) (work : List WorkRow) (n : ℕ) (h : List Row) → 1 ≤ n → n ≤ ticks h → Runs set rule work n h → ends_in_tick h ≡ true
@@ -318,5 +290,5 @@ runs_follow set rule work n h s w p l r e =
       ends = ends set rule work n h p e r;
       releases = sym (append-nil (reverse (arrivals h))) ∙ subst (λ xs. reverse (arrivals h) ++ xs ≡ planned work n) none x.split;
       done = done_parts set rule work n h r;
-      lowest = lowest_parts set rule work n h s l r;
+      lowest = lowest_parts set rule work n h r;
     }

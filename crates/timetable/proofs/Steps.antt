@@ -8,7 +8,7 @@ use Rattle.mc_model.specs.declared.row.Row.{Row}
 use Rattle.mc_model.specs.declared.row.Row.TheVariants.{Idle}
 use Rattle.mc_model.specs.declared.work.WorkRow.{WorkRow}
 use Rattle.mc_model.specs.Rows.{ticks, releases, next_release}
-use Rattle.mc_model.specs.Core.{State, begun, places_used, next, next_job, released_so_far, release_row, settle, tick_out, IsOut}
+use Rattle.mc_model.specs.Core.{State, begun, places_used, next, next_job, released_so_far, release_row, tick_out, IsOut}
 use Rattle.mc_model.specs.Follows.{arrivals, planned}
 use Rattle.mc_model.specs.Work.{IsWork}
 use Rattle.mode_core.specs.Events.{job_in, with_release, chosen_now}
@@ -201,14 +201,3 @@ run_idle s work n taken r o c t = extended s (record s { rows = Idle ∷ s.rows 
 
     next : next_row s.set s.rule work n (settled_by work s) ≡ Some Idle
     next = subst (λ (g : List Row). next_row s.set s.rule work n g ≡ Some Idle) (sym (settled_none work s o)) (tick_next s work n taken r o t ∙ ap (λ (x : Option JobId). Some (tick_row s.set s.rule work s.rows x)) c)
-
--- the outcome of the tick that is out, as the plan has it, leaves the settled rows
-pub run_outcome : (s : State) (work : List WorkRow) (n taken : ℕ) (j : JobId) → IsRun s work n taken → s.out ≡ Some j → IsRun (record s { rows = settle s (is_last work s.rows j); out = None; held = [] }) work n taken
-run_outcome s work n taken j r o = record {
-  schedule = record { is_work = r.schedule.is_work; some = r.schedule.some; most = r.schedule.most; places = r.schedule.places };
-  runs = subst (λ (g : List Row). Runs s.set s.rule work n g) rows r.runs;
-  taken_are = r.taken_are ∙ ap (λ (g : List Row). length (arrivals g)) rows;
-}
-  where
-    rows : settled_by work s ≡ settle s (is_last work s.rows j)
-    rows = ap (λ (x : Option JobId). settle s (is_last work s.rows (job_in x))) o

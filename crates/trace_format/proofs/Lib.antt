@@ -1,4 +1,3 @@
-pub mod FileLemmas
 pub mod TickLemmas
 pub mod PackLemmas
 pub mod LineLemmas

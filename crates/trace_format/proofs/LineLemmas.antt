@@ -14,14 +14,14 @@ use Rattle.mc_task.specs.NameForm.{is_name, is_name_byte}
 use Rattle.mc_task.specs.TaskSet.{AreTasks, name_in, task_at}
 use Rattle.mc_model.specs.Sums.{total}
 use Rattle.mc_model.specs.Runs.{length_of}
-use Rattle.mc_model.specs.TraceText.{how_word, kept_word, line_of, run_line, lines_after, runs_text}
+use Rattle.mc_model.specs.TraceText.{how_word, kept_word, line_of, run_line, lines_from, runs_text}
 use Rattle.mc_model.specs.declared.row.How.{How}
 use Rattle.mc_model.specs.declared.row.How.TheVariants.{More, Done, Stop, Over}
 use Rattle.mc_model.specs.declared.run.Run.{Run}
 use Rattle.mc_model.specs.declared.run.Run.TheVariants.{Release, Ticks, Idles}
 use Rattle.trace_format.specs.Writable.{IsWritable}
 use Rattle.mc_task.proofs.NamedLemmas.{found_by_name}
-use Rattle.mc_model.proofs.Sums.{total-append}
+use Rattle.std.proofs.lemmas.Bool.{and_parts}
 
 -- the fields of a run's line
 abbrev pub run_fields : List Task → ℕ → Run → List (List ℕ)
@@ -29,10 +29,10 @@ run_fields set tick (Release j kept) = codes "release" ∷ decimal tick ∷ [] �
 run_fields set tick (Ticks j how n) = codes "tick" ∷ decimal tick ∷ decimal n ∷ name_in (task_at set j.task.0) ∷ decimal j.count ∷ how_word how ∷ []
 run_fields set tick (Idles n) = codes "idle" ∷ decimal tick ∷ decimal n ∷ [] ∷ [] ∷ [] ∷ []
 
--- the fields of the lines of runs that stand behind others
-abbrev pub fields_after : List Task → List Run → List Run → List (List (List ℕ))
-fields_after set before [] = []
-fields_after set before (r ∷ runs) = run_fields set (total length_of before) r ∷ fields_after set (before ++ r ∷ []) runs
+-- the fields of the lines of runs that stand behind so many ticks
+abbrev pub fields_from : List Task → ℕ → List Run → List (List (List ℕ))
+fields_from set tick [] = []
+fields_from set tick (r ∷ runs) = run_fields set tick r ∷ fields_from set (tick + length_of r) runs
 
 abbrev pub header_fields : List (List ℕ)
 header_fields = codes "event" ∷ codes "tick" ∷ codes "length" ∷ codes "task" ∷ codes "job" ∷ codes "how" ∷ []
@@ -47,15 +47,10 @@ plain_digit b h = grind (arith, nat_tests)
 plain_name_byte : (b : ℕ) → is_name_byte b ≡ true → needs_byte default_writer b ≡ false
 plain_name_byte b h = grind (arith, nat_tests)
 
-both : (a b : Bool) → (a && b) ≡ true → (a ≡ true) × (b ≡ true)
-both true true h = (refl, refl)
-both false b h = cc
-both true false h = cc
-
 plain_all : (p : ℕ → Bool) → ((b : ℕ) → p b ≡ true → needs_byte default_writer b ≡ false) → (xs : List ℕ) → list_all p xs ≡ true → IsPlain xs
 plain_all p h [] a = refl
 plain_all p h (x ∷ xs) a =
-    let s = both (p x) (list_all p xs) a in
+    let s = and_parts (p x) (list_all p xs) a in
     let rest : IsPlain xs = plain_all p h xs s.1 in
     let first = h x s.0 in
     rw (first, rest) refl
@@ -64,7 +59,7 @@ plain_decimal : (n : ℕ) → n < 2 ^ 64 → IsPlain (decimal n)
 plain_decimal n h = plain_all is_digit plain_digit (decimal n) (digits-decimal n h)
 
 plain_name : (name : List ℕ) → IsTrue (is_name name) → IsPlain name
-plain_name name h = plain_all is_name_byte plain_name_byte name ((both (nat_le 1 (length name) && nat_le (length name) 32) (list_all is_name_byte name) h).1)
+plain_name name h = plain_all is_name_byte plain_name_byte name ((and_parts (nat_le 1 (length name) && nat_le (length name) 32) (list_all is_name_byte name) h).1)
 
 plain_kept : (kept : Bool) → IsPlain (kept_word kept)
 plain_kept true = refl
@@ -100,28 +95,23 @@ read_line set tick r tail s h n w = ap (λ (t : List ℕ). next_record default_c
     many (Ticks j how n) = read-write-many _ _ _ tail
     many (Idles n) = read-write-many _ _ _ tail
 
--- the ticks of one run more
-pub total-one : (before : List Run) (r : Run) → total length_of (before ++ r ∷ []) ≡ total length_of before + length_of r
-total-one before r = let more = total-append length_of before (r ∷ []) in omega (arith, more)
-
-lines_reached : (set : List Task) (before runs : List Run) → AreTasks set → total length_of before + total length_of runs ≤ 100000000 → AllByRecursion (IsWritable set) runs
-    → Reached default_config st.StartRecord (lines_after set before runs) (fields_after set before runs) st.StartRecord []
+lines_reached : (set : List Task) (tick : ℕ) (runs : List Run) → AreTasks set → tick + total length_of runs ≤ 100000000 → AllByRecursion (IsWritable set) runs
+    → Reached default_config st.StartRecord (lines_from set tick runs) (fields_from set tick runs) st.StartRecord []
 unfolding Reached
-lines_reached set before [] s h w = (refl, refl)
-lines_reached set before (r ∷ runs) s h w =
-    let more = total-one before r in (
-      (run_fields set (total length_of before) r, st.StartRecord, lines_after set (before ++ r ∷ []) runs),
-      read_line set (total length_of before) r (lines_after set (before ++ r ∷ []) runs) s (omega (arith, h)) (omega (arith, h)) w.0,
-      refl,
-      lines_reached set (before ++ r ∷ []) runs s (omega (arith, more, h)) w.1,
-    )
+lines_reached set tick [] s h w = (refl, refl)
+lines_reached set tick (r ∷ runs) s h w = (
+  (run_fields set tick r, st.StartRecord, lines_from set (tick + length_of r) runs),
+  read_line set tick r (lines_from set (tick + length_of r) runs) s (omega (arith, h)) (omega (arith, h)) w.0,
+  refl,
+  lines_reached set (tick + length_of r) runs s (omega (arith, h)) w.1,
+)
 
 -- the records of what is written
-pub written_records : (set : List Task) (runs : List Run) → AreTasks set → total length_of runs ≤ 100000000 → AllByRecursion (IsWritable set) runs → AreRecords default_config st.StartRecord (strip_bom (runs_text set runs)) (header_fields ∷ fields_after set [] runs)
+pub written_records : (set : List Task) (runs : List Run) → AreTasks set → total length_of runs ≤ 100000000 → AllByRecursion (IsWritable set) runs → AreRecords default_config st.StartRecord (strip_bom (runs_text set runs)) (header_fields ∷ fields_from set 0 runs)
 unfolding Reached strip_bom next_record
 written_records set runs s h w = (
   st.StartRecord,
   [],
-  ((header_fields, st.StartRecord, lines_after set [] runs), refl, refl, lines_reached set [] runs s (omega (arith, h)) w),
+  ((header_fields, st.StartRecord, lines_from set 0 runs), refl, refl, lines_reached set 0 runs s (omega (arith, h)) w),
   refl,
 )

@@ -1,10 +1,12 @@
 -- The runs that a trace says are valid, and of its set.
-use Rattle.std.proofs.Common.{◌≡◌, ℕ, ◌+◌, ◌≤◌, ◌<◌, ◌==◌, nat_le, nat_lt, Bool, true, false, not, cond, List, [], ◌∷◌, ◌++◌, Option, Some, None, Result, Ok, Err, length, refl, subst, arith}
+use Rattle.std.proofs.Common.{◌≡◌, ℕ, ◌+◌, ◌≤◌, ◌<◌, ◌==◌, nat_le, nat_lt, Bool, true, false, not, cond, List, [], ◌∷◌, ◌++◌, Option, Some, None, option_map, Result, Ok, Err, length, refl, ap, ◌∙◌, subst, arith}
 use Rattle.std.specs.List.{AllByRecursion}
 use Rattle.std.proofs.lemmas.Bool.Decides.{nat_tests}
 use Rattle.std.proofs.lemmas.List.{length-append}
 use Rattle.std.proofs.lemmas.List.Elements.{All-from_recursion}
 use Rattle.csv.specs.Reading.{default_config, records, strip_bom}
+use Rattle.csv_records.specs.Rows.{Means, Refusal, rows_in, or_fault}
+use Rattle.csv_records.proofs.RowLemmas.{file_keeps}
 use Rattle.mc_task.specs.declared.task.Task.{Task}
 use Rattle.mc_task.specs.declared.task.JobId.{JobId}
 use Rattle.mc_model.specs.declared.row.How.{How}
@@ -19,10 +21,11 @@ use Rattle.trace_format.specs.declared.event.Event.{Event}
 use Rattle.trace_format.specs.declared.event.Event.TheVariants as event
 use Rattle.trace_format.specs.declared.record.Numbers.{Numbers}
 use Rattle.trace_format.specs.declared.fault.TraceCause.{TraceCause}
-use Rattle.trace_format.specs.declared.fault.TraceCause.TheVariants.{UnknownEvent, UnknownTask, BadNumber, WrongTick, TooMany, BadLength, TooManyTicks}
+use Rattle.trace_format.specs.declared.fault.TraceCause.TheVariants.{Header, UnknownEvent, UnknownTask, BadNumber, WrongTick, TooMany, BadLength, TooManyTicks}
+use Rattle.trace_format.specs.declared.fault.TraceFault.TheVariants.{At}
 use Rattle.trace_format.specs.Events.{field, task_place, event_of}
 use Rattle.trace_format.specs.Reading.{MayStandBehind}
-use Rattle.trace_format.specs.TraceFile.{width, wrong_width, task_told, numbers_told, is_length, job_with, run_told, given, record_run, runs_with, runs_from, runs_by, runs_of, version_of, trace_file}
+use Rattle.trace_format.specs.TraceFile.{width, wrong_width, task_told, numbers_told, is_length, job_with, run_told, given, record_run, behind_header, version_of, trace_file}
 use Rattle.mc_task.proofs.NamedLemmas.{found}
 
 -- a length that is taken makes a run
@@ -94,28 +97,32 @@ one_more set before r a few f = record {
   tasks = each_more (IsRunOfSet set) before r a.tasks f.task;
 }
 
-of_runs : (set : List Task) (v : Version) (fs : List (List (List ℕ))) (before runs : List Run) → AreOf set before → runs_from set v fs before ≡ Ok runs → AreOf set runs
-of_runs set v [] before runs a e = let same : before ≡ runs = cc in subst (AreOf set) same a
-of_runs set v (f ∷ fs) before runs a e = go (record_run set v before f) refl (λ b k. of_runs set v fs b runs k) e
+-- by a header of either version
+of_row : (set : List Task) (first : List (List ℕ)) (means : Means Run TraceCause) → behind_header set first ≡ Some means → (before : List Run) (fields : List (List ℕ)) (r : Run) → AreOf set before → means before fields ≡ Ok r → AreOf set (before ++ r ∷ [])
+of_row set first means is before fields r a read = go (version_of first) is
   where
-    go : (read : Result Run TraceCause) → record_run set v before f ≡ read → ((b : List Run) → AreOf set b → runs_from set v fs b ≡ Ok runs → AreOf set runs) → runs_with before (runs_from set v fs) read ≡ Ok runs → AreOf set runs
-    go (Err cause) is more e = cc
-    go (Ok r) is more e = let fits = of_record set v before f r is in more (before ++ r ∷ []) (one_more set before r a fits.0 fits.1) e
+    go : (v : Option Version) → option_map (record_run set) v ≡ Some means → AreOf set (before ++ r ∷ [])
+    go None h = cc
+    go (Some v) h =
+        let same : record_run set v ≡ means = cc in
+        let fits = of_record set v before fields r (ap (λ (m : Means Run TraceCause). m before fields) same ∙ read) in
+        one_more set before r a fits.0 fits.1
 
-of_records : (set : List Task) (fs : List (List (List ℕ))) (runs : List Run) → runs_of set fs ≡ Ok runs → AreOf set runs
-of_records set [] runs h = cc
-of_records set (f ∷ fs) runs h = go (version_of f) h
+of_trace : (set : List Task) (text : List ℕ) (runs : List Run) → trace_file set text ≡ Ok runs → AreOf set runs
+of_trace set text runs h = by (rows_in (behind_header set) Header text) refl h
   where
-    go : (v : Option Version) → runs_by set fs v ≡ Ok runs → AreOf set runs
-    go None e = cc
-    go (Some v) e = of_runs set v fs [] runs (record { each = tt; few = omega arith; short = omega arith; tasks = tt }) e
+    by : (read : Result (List Run) (Refusal TraceCause)) → rows_in (behind_header set) Header text ≡ read → or_fault At read ≡ Ok runs → AreOf set runs
+    by (Err refusal) is h = cc
+    by (Ok all) is h =
+        let same : all ≡ runs = cc in
+        subst (AreOf set) same (file_keeps (AreOf set) (behind_header set) Header (record { each = tt; few = omega arith; short = omega arith; tasks = tt }) (of_row set) (records default_config (strip_bom text)) all is)
 
 -- the runs of a trace that is read are valid
 pub valid_runs : (set : List Task) (text : List ℕ) (runs : List Run) → trace_file set text ≡ Ok runs → AreRuns runs
 valid_runs set text runs h =
-    let a = of_records set (records default_config (strip_bom text)) runs h in
+    let a = of_trace set text runs h in
     record { each = All-from_recursion IsRun runs a.each; few = a.few; short = a.short }
 
 -- and of the set
 pub runs_of_set : (set : List Task) (text : List ℕ) (runs : List Run) → trace_file set text ≡ Ok runs → AllByRecursion (IsRunOfSet set) runs
-runs_of_set set text runs h = (of_records set (records default_config (strip_bom text)) runs h).tasks
+runs_of_set set text runs h = (of_trace set text runs h).tasks

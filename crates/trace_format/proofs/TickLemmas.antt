@@ -4,9 +4,13 @@ use Rattle.std.proofs.lemmas.List.{at_drop_more, take_more, take-append-drop}
 use Rattle.mc_task.specs.declared.task.Task.{Task}
 use Rattle.mc_model.specs.Sums.{total}
 use Rattle.mc_model.specs.Runs.{length_of, AreRuns}
-use Rattle.mc_model.specs.TraceText.{run_line, lines_after}
+use Rattle.mc_model.specs.TraceText.{run_line, lines_from}
 use Rattle.mc_model.specs.declared.run.Run.{Run}
 use Rattle.mc_model.proofs.Sums.{total-append}
+
+-- the ticks of runs with one behind them
+pub total-one : (before : List Run) (r : Run) → total length_of (before ++ r ∷ []) ≡ total length_of before + length_of r
+total-one before r = let more = total-append length_of before (r ∷ []) in omega (arith, more)
 
 -- the ticks of one run more
 pub ticks-more : (runs : List Run) (i t s : ℕ) (d : Run) → i < length runs → t ≡ total length_of (take i runs) → s ≡ t + length_of (get_or runs i d) → s ≡ total length_of (take (i + 1) runs)
@@ -23,13 +27,11 @@ ticks-fit runs i t d inside v was =
     omega (arith, short, next, parts)
 
 -- a text with the line of one run more
-pub lines-more : (set : List Task) (runs : List Run) (i t : ℕ) (d : Run) (out longer text : List ℕ) → i < length runs → t ≡ total length_of (take i runs)
-    → longer ≡ out ++ run_line set t (get_or runs i d) → out ++ lines_after set (take i runs) (drop i runs) ≡ text
-    → longer ++ lines_after set (take (i + 1) runs) (drop (i + 1) runs) ≡ text
-lines-more set runs i t d out longer text inside was more h =
-    let next : lines_after set (take i runs) (drop i runs) ≡ run_line set (total length_of (take i runs)) (get_or runs i d) ++ lines_after set (take (i + 1) runs) (drop (i + 1) runs) =
-    at_drop_more (lines_after set (take i runs)) runs i d inside
-    ∙ ap (λ (g : List Run). run_line set (total length_of (take i runs)) (get_or runs i d) ++ lines_after set g (drop (i + 1) runs)) (sym (take_more runs i d inside)) in
-    ap (λ (o : List ℕ). o ++ lines_after set (take (i + 1) runs) (drop (i + 1) runs)) (more ∙ ap (λ (n : ℕ). out ++ run_line set n (get_or runs i d)) was)
-    ∙ (append_assoc out (run_line set (total length_of (take i runs)) (get_or runs i d)) (lines_after set (take (i + 1) runs) (drop (i + 1) runs))
-    ∙ (ap (λ (o : List ℕ). out ++ o) (sym next) ∙ h))
+pub lines-more : (set : List Task) (runs : List Run) (i t s : ℕ) (d : Run) (out longer text : List ℕ) → i < length runs → s ≡ t + length_of (get_or runs i d)
+    → longer ≡ out ++ run_line set t (get_or runs i d) → out ++ lines_from set t (drop i runs) ≡ text
+    → longer ++ lines_from set s (drop (i + 1) runs) ≡ text
+lines-more set runs i t s d out longer text inside ticks more h =
+    let next : lines_from set t (drop i runs) ≡ run_line set t (get_or runs i d) ++ lines_from set s (drop (i + 1) runs) =
+    at_drop_more (lines_from set t) runs i d inside ∙ ap (λ (n : ℕ). run_line set t (get_or runs i d) ++ lines_from set n (drop (i + 1) runs)) (sym ticks) in
+    ap (λ (o : List ℕ). o ++ lines_from set s (drop (i + 1) runs)) more
+    ∙ (append_assoc out (run_line set t (get_or runs i d)) (lines_from set s (drop (i + 1) runs)) ∙ (ap (λ (o : List ℕ). out ++ o) (sym next) ∙ h))

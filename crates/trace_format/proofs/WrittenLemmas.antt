@@ -20,12 +20,16 @@ use Rattle.mc_model.specs.declared.run.Run.TheVariants.{Release, Ticks, Idles}
 use Rattle.trace_format.specs.declared.version.Version.TheVariants.{Two}
 use Rattle.trace_format.specs.declared.event.Event.TheVariants as event
 use Rattle.trace_format.specs.Events.{event_of, release_event, tick_event, idle_event}
-use Rattle.trace_format.specs.TraceFile.{is_length, record_run, runs_with, runs_from, runs_of, trace_file}
+use Rattle.trace_format.specs.TraceFile.{is_length, record_run, behind_header, trace_file}
 use Rattle.trace_format.specs.Writable.{IsWritable}
+use Rattle.trace_format.specs.declared.fault.TraceCause.TheVariants.{Header}
+use Rattle.trace_format.specs.declared.fault.TraceFault.TheVariants.{At}
+use Rattle.csv_records.specs.Rows.{rows_with, rows_from, rows_of, or_fault}
 use Rattle.mc_model.proofs.Runs.{alone}
 use Rattle.mc_task.proofs.NamedLemmas.{found_by_name}
 use Rattle.csv_records.proofs.RecordLemmas.{same_records, records_are}
-use Rattle.trace_format.proofs.LineLemmas.{run_fields, fields_after, header_fields, total-one, written_records}
+use Rattle.trace_format.proofs.LineLemmas.{run_fields, fields_from, header_fields, written_records}
+use Rattle.trace_format.proofs.TickLemmas.{total-one}
 
 same_tick : (n : ℕ) → (n == n) ≡ true
 same_tick n = grind (arith, nat_tests)
@@ -74,16 +78,17 @@ record_back set before (Idles n) s a h v w =
     rw (few_runs (length before) a, number-decimal (total length_of before) (omega (arith, h)), number-decimal n (omega (arith, h)), same_tick (total length_of before), some_ticks n v, few_ticks (total length_of before) n h) refl
 
 runs_back : (set : List Task) (before runs : List Run) → AreTasks set → length before + length runs ≤ 2000000 → total length_of before + total length_of runs ≤ 100000000 → AllByRecursion IsRun runs → AllByRecursion (IsWritable set) runs
-    → runs_from set Two (fields_after set before runs) before ≡ Ok (before ++ runs)
+    → rows_from (record_run set Two) (fields_from set (total length_of before) runs) before ≡ Ok (before ++ runs)
 runs_back set before [] s a h v w = ap Ok (sym (append-nil before))
 runs_back set before (r ∷ runs) s a h v w =
     let more = total-one before r in
     let longer : length (before ++ r ∷ []) ≡ length before + 1 = length-append before (r ∷ []) in
-    let rest : runs_from set Two (fields_after set (before ++ r ∷ []) runs) (before ++ r ∷ []) ≡ Ok ((before ++ r ∷ []) ++ runs) = runs_back set (before ++ r ∷ []) runs s (omega (arith, longer, a)) (omega (arith, more, h)) v.1 w.1 in
-    ap (runs_with before (runs_from set Two (fields_after set (before ++ r ∷ []) runs))) (record_back set before r s (omega (arith, a)) (omega (arith, h)) v.0 w.0)
+    let rest : rows_from (record_run set Two) (fields_from set (total length_of before + length_of r) runs) (before ++ r ∷ []) ≡ Ok ((before ++ r ∷ []) ++ runs) =
+    ap (λ (n : ℕ). rows_from (record_run set Two) (fields_from set n runs) (before ++ r ∷ [])) (sym more) ∙ runs_back set (before ++ r ∷ []) runs s (omega (arith, longer, a)) (omega (arith, more, h)) v.1 w.1 in
+    ap (rows_with before (rows_from (record_run set Two) (fields_from set (total length_of before + length_of r) runs))) (record_back set before r s (omega (arith, a)) (omega (arith, h)) v.0 w.0)
     ∙ (rest ∙ ap Ok (append_assoc before (r ∷ []) runs))
 
-file_back : (set : List Task) (runs : List Run) → AreTasks set → AreRuns runs → AllByRecursion (IsWritable set) runs → runs_of set (header_fields ∷ fields_after set [] runs) ≡ Ok runs
+file_back : (set : List Task) (runs : List Run) → AreTasks set → AreRuns runs → AllByRecursion (IsWritable set) runs → rows_of (behind_header set) Header (header_fields ∷ fields_from set 0 runs) ≡ Ok runs
 unfolding field_at
 file_back set runs s v w = let few = v.few in let short = v.short in runs_back set [] runs s (omega (arith, few)) (omega (arith, short)) (recursion_from_All IsRun runs v.each) w
 
@@ -92,5 +97,5 @@ pub read_back : (set : List Task) (runs : List Run) (text : List ℕ) → AreTas
 read_back set runs text s v writable is =
     let w : AllByRecursion (IsWritable set) runs = recursion_from_All (IsWritable set) runs writable in
     let written = written_records set runs s v.short w in
-    let same = same_records _ _ (records default_config (strip_bom (runs_text set runs))) (header_fields ∷ fields_after set [] runs) (records_are (strip_bom (runs_text set runs))) written in
-    ap (trace_file set) is ∙ (ap (runs_of set) same ∙ file_back set runs s v w)
+    let same = same_records _ _ (records default_config (strip_bom (runs_text set runs))) (header_fields ∷ fields_from set 0 runs) (records_are (strip_bom (runs_text set runs))) written in
+    ap (trace_file set) is ∙ ap (or_fault At) (ap (rows_of (behind_header set) Header) same ∙ file_back set runs s v w)

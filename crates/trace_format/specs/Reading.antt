@@ -13,7 +13,7 @@ pub record MayStandBehind (set : List Task) (due : ℕ) (r : Run) : Type 0 where
   pub short : due + length_of r ≤ 100000000
 
 -- they are few and short enough, and the next tick is the one behind them
-pub record AreRead (r : Reading) : Type 0 where
-  pub few : length r.runs.items ≤ 2000000
-  pub due : r.due ≡ total length_of r.runs.items
-  pub short : r.due ≤ 100000000
+pub record AreRead (runs : List Run) (reading : Reading) : Type 0 where
+  pub few : length runs ≤ 2000000
+  pub ticks : reading.due ≡ total length_of runs
+  pub short : reading.due ≤ 100000000

@@ -1,7 +1,7 @@
 -- What the text of a trace says: its runs, the oldest first, or the first refusal. The first record decides the version.
-use Rattle.std.specs.Prelude.{ℕ, ◌+◌, Bool, true, not, ◌&&◌, ◌==◌, nat_le, nat_lt, if◌then◌else◌, List, [], ◌∷◌, ◌++◌, codes, length, Option, Some, None, Result, Ok, Err}
+use Rattle.std.specs.Prelude.{ℕ, ◌+◌, Bool, true, not, ◌&&◌, ◌==◌, nat_le, nat_lt, if◌then◌else◌, List, codes, length, Option, Some, None, option_map, Result, Ok, Err}
 use Rattle.std.specs.Str.{bytes_eq}
-use Rattle.csv.specs.Reading.{default_config, records, strip_bom}
+use Rattle.csv_records.specs.Rows.{Means, rows_in, or_fault}
 use Rattle.numeral.specs.Numeral.{number}
 use Rattle.mc_task.specs.declared.task.Task.{Task}
 use Rattle.mc_task.specs.declared.task.JobId.{JobId}
@@ -115,26 +115,10 @@ record_run set v before fields =
     else if nat_lt 100000000 (total length_of before + n.length) then Err TooManyTicks
     else Ok (run_told told task n))))
 
--- the refusal of a record behind these runs and the header, or what the file says with its run
-abbrev pub runs_with : List Run → (List Run → Result (List Run) TraceFault) → Result Run TraceCause → Result (List Run) TraceFault
-runs_with before more (Err cause) = Err (At (length before + 2) cause)
-runs_with before more (Ok r) = more (before ++ r ∷ [])
-
--- these runs and then those of the records, or the first refusal
-abbrev pub runs_from : List Task → Version → List (List (List ℕ)) → List Run → Result (List Run) TraceFault
-runs_from set v [] before = Ok before
-runs_from set v (f ∷ fs) before = runs_with before (runs_from set v fs) (record_run set v before f)
-
--- the runs of the records of a version
-abbrev pub runs_by : List Task → List (List (List ℕ)) → Option Version → Result (List Run) TraceFault
-runs_by set fs None = Err (At 1 Header)
-runs_by set fs (Some v) = runs_from set v fs []
-
--- the runs of these records with their header, or the first refusal
-abbrev pub runs_of : List Task → List (List (List ℕ)) → Result (List Run) TraceFault
-runs_of set [] = Err (At 1 Header)
-runs_of set (f ∷ fs) = runs_by set fs (version_of f)
+-- what the records behind this one mean, if it is a header
+abbrev pub behind_header : List Task → List (List ℕ) → Option (Means Run TraceCause)
+behind_header set fields = option_map (record_run set) (version_of fields)
 
 -- the runs of a text, or its first refusal; its records are as csv's reader gives them with its defaults
 abbrev pub trace_file : List Task → List ℕ → Result (List Run) TraceFault
-trace_file set text = runs_of set (records default_config (strip_bom text))
+trace_file set text = or_fault At (rows_in (behind_header set) Header text)

@@ -1,7 +1,7 @@
 ghost use Rattle.std.specs.Prelude.{◌≡◌};
 ghost use Rattle.trace_format.specs.declared.fault.TraceFault.TheVariants.{Memory};
 
-use std::alloc::{AllocError, AllocFailed};
+use std::alloc::AllocError;
 use thiserror::Error;
 
 /// Why a record of a trace is refused.
@@ -46,14 +46,6 @@ impl From<AllocError> for TraceFault {
     ghost from_gives = { λ _ e. e ≡ Memory };
 
     fn from(_: AllocError) -> TraceFault {
-        TraceFault::Memory
-    }
-}
-
-impl<T: Drop> From<AllocFailed<T>> for TraceFault {
-    ghost from_gives = { λ _ e. e ≡ Memory };
-
-    fn from(_: AllocFailed<T>) -> TraceFault {
         TraceFault::Memory
     }
 }

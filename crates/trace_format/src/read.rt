@@ -1,19 +1,14 @@
-ghost use Rattle.std.specs.Prelude.{◌≡◌, nat_le, if◌then◌else◌, ℕ, List, [], ◌∷◌, All, IfOk, OnOk, IfErr};
-ghost use Rattle.csv.specs.Records.{fields_of};
-ghost use Rattle.csv_records.specs.Width.{StartsWide};
-ghost use Rattle.mc_task.specs.declared.task.Task.{Task};
+ghost use Rattle.std.specs.Prelude.{All, IfOk};
 ghost use Rattle.mc_model.specs.Runs.{IsRunOfSet, AreRuns};
-ghost use Rattle.trace_format.specs.Gives.{Gives, Fails};
-ghost use Rattle.trace_format.specs.TraceFile as file;
-ghost use Rattle.trace_format.specs.Reading.{AreRead};
-ghost use Rattle.trace_format.specs.declared.fault.TraceCause.TheVariants as cause;
+ghost use Rattle.trace_format.specs.Gives.{Gives};
+ghost use Rattle.trace_format.specs.TraceFile.{trace_file};
 
 use crate::record::{record_run, version_of, wrong_width};
 use crate::version::Version;
 use crate::write::tick_after;
 use crate::{TraceCause, TraceFault};
 use csv::ByteRecord;
-use csv_records::{Next, Records};
+use csv_records::{Meaning, Said, read_rows};
 use mc_model::Run;
 use mc_task::TaskSet;
 use std::alloc::Global;
@@ -26,98 +21,74 @@ use std::alloc::Global;
 /// each record in turn `TooMany`, the 2,000,001st behind the header; `BadRecord` or `NotSix`, by the version;
 /// `UnknownEvent`; `UnknownTask`; `BadNumber`; `WrongTick`; `BadLength`; `TooManyTicks`.
 pub fn read_trace(alloc: Global, set: &TaskSet, bytes: &[u8]) -> Result<Vec<Run>, TraceFault>
-    ensures file { Gives result (file.trace_file set.now.tasks bytes.now) }
+    ensures file { Gives result (trace_file set.now.tasks bytes.now) }
     ensures runs { IfOk result (λ runs. AreRuns runs.items) }
     ensures tasks { IfOk result (λ runs. All (IsRunOfSet set.now.tasks) runs.items) }
 {
-    let mut records = Records::new(alloc, bytes);
-    // One record for all of them, so that a run takes no memory beside its place in the list.
-    let mut fields = ByteRecord::new(alloc);
-    let version = match records.next(&mut fields)? {
-        Next::End => return Err(NO_HEADER),
-        Next::Wide => return Err(NO_HEADER),
-        Next::Record => match version_of(&fields) {
-            None => return Err(NO_HEADER),
-            Some(version) => version,
-        },
-    };
-    let mut reading = Reading::new(alloc);
-    'records: loop {
-        match records.next(&mut fields)? {
-            Next::End => return Ok(reading.runs),
-            Next::Wide => return Err(too_wide(&reading, version)),
-            Next::Record => take(&mut reading, set, version, &fields)?,
-        }
+    let records = TraceRecords { set };
+    match read_rows(alloc, bytes, TraceCause::Header, &records)? {
+        Said::Rows { rows, .. } => Ok(rows),
+        Said::Refused { line, cause } => Err(TraceFault::At { line, cause }),
     }
 }
 
-const NO_HEADER: TraceFault = TraceFault::At {
-    line: 1,
-    cause: TraceCause::Header,
-};
-
-// The runs so far, and the tick that is due behind them.
+// The records of a trace of a set.
 #[derive(Drop)]
+struct TraceRecords<'a> {
+    set: &'a TaskSet,
+}
+
+// The version of the records, and the tick that is due behind the runs so far.
+#[derive(Clone, Copy)]
 pub struct Reading {
-    pub runs: Vec<Run>,
+    pub version: Version,
     pub due: u32,
 }
 
-impl Reading {
-    fn new(alloc: Global) -> Reading
-        ensures runs { result.runs.items ≡ [] }
-        ensures read { AreRead result }
-    {
-        Reading {
-            runs: Vec::new(alloc),
-            due: 0,
+impl<'a> Meaning for TraceRecords<'a> {
+    ghost use Rattle.std.proofs.Common.{arith};
+    ghost use Rattle.std.proofs.lemmas.Bool.Decides.{nat_tests};
+    ghost use Rattle.trace_format.specs.Reading.{AreRead};
+    ghost use Rattle.trace_format.specs.TraceFile.{behind_header, record_run};
+
+    type Row = Run;
+
+    type Cause = TraceCause;
+
+    type Kept = Reading;
+
+    ghost header = { λ trace. behind_header trace.set.now.tasks };
+
+    ghost means = { λ trace reading. record_run trace.set.now.tasks reading.version };
+
+    ghost keeps = { λ trace reading runs. AreRead runs reading };
+
+    fn header(&self, fields: &ByteRecord) -> Option<Reading> {
+        let version = version_of(fields)?;
+        Some(Reading { version, due: 0 })
+    }
+
+    fn row(
+        &self,
+        reading: &mut Reading,
+        before: &[Run],
+        fields: &ByteRecord,
+    ) -> Result<Run, TraceCause> {
+        let run = record_run(self.set, reading.version, before, reading.due, fields)?;
+        reading.due = tick_after(reading.due, run);
+        Ok(run)
+    }
+
+    #[tactic(auto, unfolding(crate::specs::TraceFile::record_run))]
+    fn too_wide(&self, reading: &Reading, before: &[Run]) -> TraceCause {
+        if before.len() >= 2_000_000 {
+            TraceCause::TooMany
+        } else {
+            wrong_width(reading.version)
         }
     }
-}
 
-// Reads one more record.
-fn take(
-    reading: &mut Reading,
-    set: &TaskSet,
-    version: Version,
-    fields: &ByteRecord,
-) -> Result<(), TraceFault>
-    requires { AreRead reading.old }
-    ensures ok { OnOk result ((fs : List (List (List ℕ))) → file.runs_from set.now.tasks version fs reading.new.runs.items ≡ file.runs_from set.now.tasks version (fields_of fields.now ∷ fs) reading.old.runs.items) }
-    ensures err { IfErr result (λ e. (fs : List (List (List ℕ))) → Fails e (file.runs_from set.now.tasks version (fields_of fields.now ∷ fs) reading.old.runs.items)) }
-    ensures read { OnOk result (AreRead reading.new) }
-{
-    match record_run(set, version, &reading.runs, reading.due, fields) {
-        Err(cause) => Err(TraceFault::At {
-            line: reading.runs.len() as u32 + 2,
-            cause,
-        }),
-        Ok(next) => {
-            reading.runs.push(next)?;
-            reading.due = tick_after(reading.due, next);
-            Ok(())
-        }
-    }
-}
+    ghost narrow = { λ trace fields wide. Prim.grind (arith, nat_tests) };
 
-// The refusal of a record with more fields than a header of either version has, whatever they are.
-fn too_wide(reading: &Reading, version: Version) -> TraceFault
-    requires { AreRead reading.now }
-    ensures { (set : List Task) (left : List (List (List ℕ))) → StartsWide left → Fails result (file.runs_from set version left reading.now.runs.items) }
-{
-    TraceFault::At {
-        line: reading.runs.len() as u32 + 2,
-        cause: too_wide_behind(version, reading.runs.len()),
-    }
-}
-
-// Why a record that is too wide is refused behind so many runs.
-fn too_wide_behind(version: Version, runs: usize) -> TraceCause
-    ensures { result ≡ (if nat_le 2000000 runs then cause.TooMany else file.wrong_width version) }
-{
-    if runs >= 2_000_000 {
-        TraceCause::TooMany
-    } else {
-        wrong_width(version)
-    }
+    ghost few = { λ trace reading runs read. let few = read.few in Prim.omega (arith, few) };
 }

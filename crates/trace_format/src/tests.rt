@@ -1,54 +1,12 @@
 use crate::{TraceFault, merge, pack, read_trace, write_trace};
-use mc_model::{How, Row, Run};
-use mc_task::{JobId, Level, Name, Task, TaskNo, TaskSet};
+use mc_model::How::{Done, More, Over};
+use mc_model::{Row, Run};
+use mc_task::TaskSet;
 use std::alloc::{AllocError, Global};
 use std::test::Fail;
+use worked_sets::{CONTROL, OVERRUN_RUNS, kept, release, set_of, tick, ticks};
 
 const HEADER: &str = "event,tick,task,job,how\n";
-
-fn task(name: &[u8], level: Level, low: u32, high: u32) -> Option<Task> {
-    let name = Name::new(name)?;
-    Some(Task {
-        name,
-        level,
-        period: 10,
-        low,
-        high,
-    })
-}
-
-// A high task ctl and a low task log.
-fn control(alloc: Global) -> Result<TaskSet, Fail> {
-    let mut tasks = Vec::new(alloc);
-    tasks.push(task(b"ctl", Level::High, 2, 6).ok_or("a task")?)?;
-    tasks.push(task(b"log", Level::Low, 5, 5).ok_or("a task")?)?;
-    Ok(TaskSet::new(tasks).ok().ok_or("a set")?)
-}
-
-fn release(task: u32, count: u32, kept: bool) -> Run {
-    let task = TaskNo(task);
-    Run::Release {
-        job: JobId { task, count },
-        kept,
-    }
-}
-
-fn ticks(task: u32, count: u32, how: How, length: u32) -> Run {
-    let task = TaskNo(task);
-    Run::Ticks {
-        job: JobId { task, count },
-        how,
-        length,
-    }
-}
-
-fn tick(task: u32, count: u32, how: How) -> Row {
-    let task = TaskNo(task);
-    Row::Tick {
-        job: JobId { task, count },
-        how,
-    }
-}
 
 // A job of ctl runs over its low budget and on to its end; log's job is discarded, and its next one runs.
 const OVERRUN: &str = "\
@@ -87,15 +45,14 @@ tick,10,2,log,2,more
 #[test]
 fn an_overrun_is_read_and_merged(rt: HostRuntime) -> Result<(), Fail> {
     let alloc = rt.alloc();
-    let set = control(alloc)?;
+    let set = set_of(alloc, &CONTROL)?;
     let runs = read_trace(alloc, &set, OVERRUN.as_bytes())?;
     assert_eq!(rt; runs.len(), 15);
-    assert_eq!(rt; runs.get(1), Some(&release(2, 1, true)));
-    assert_eq!(rt; runs.get(3), Some(&ticks(1, 1, How::Over, 1)));
+    assert_eq!(rt; runs.get(1), Some(&release!(2, 1, true)));
+    assert_eq!(rt; runs.get(3), Some(&ticks!(1, 1, Over, 1)));
     assert_eq!(rt; runs.get(11), Some(&Run::Idles { length: 1 }));
     let merged = merge(alloc, &runs)?;
-    assert_eq!(rt; merged.len(), 9);
-    assert_eq!(rt; merged.get(4), Some(&ticks(1, 1, How::More, 3)));
+    assert_eq!(rt; merged.as_slice(), OVERRUN_RUNS.as_slice());
     let again = read_trace(alloc, &set, PACKED.as_bytes())?;
     assert_eq!(rt; again.as_slice(), merged.as_slice());
     let text = write_trace(alloc, &set, &again)?;
@@ -106,29 +63,25 @@ fn an_overrun_is_read_and_merged(rt: HostRuntime) -> Result<(), Fail> {
 #[test]
 fn equal_rows_that_stand_together_are_packed(rt: HostRuntime) -> Result<(), Fail> {
     let alloc = rt.alloc();
-    let job = JobId {
-        task: TaskNo(1),
-        count: 1,
-    };
     let rows = [
         Row::Idle,
-        Row::Release { job, kept: true },
+        kept!(1, 1),
         Row::Idle,
         Row::Idle,
-        tick(1, 1, How::More),
-        tick(1, 1, How::More),
-        tick(1, 2, How::More),
-        tick(1, 2, How::Done),
+        tick!(1, 1, More),
+        tick!(1, 1, More),
+        tick!(1, 2, More),
+        tick!(1, 2, Done),
         Row::Idle,
     ];
     let runs = pack(alloc, &rows)?;
     let expected = [
         Run::Idles { length: 1 },
-        release(1, 1, true),
+        release!(1, 1, true),
         Run::Idles { length: 2 },
-        ticks(1, 1, How::More, 2),
-        ticks(1, 2, How::More, 1),
-        ticks(1, 2, How::Done, 1),
+        ticks!(1, 1, More, 2),
+        ticks!(1, 2, More, 1),
+        ticks!(1, 2, Done, 1),
         Run::Idles { length: 1 },
     ];
     assert_eq!(rt; runs.as_slice(), expected.as_slice());
@@ -195,7 +148,7 @@ tick,00000000000,ctl,1,more => line 2: BadNumber
 #[test]
 fn another_header_is_refused(rt: HostRuntime) -> Result<(), Fail> {
     let alloc = rt.alloc();
-    let set = control(alloc)?;
+    let set = set_of(alloc, &CONTROL)?;
     for (text, expected) in HEADERS {
         let got = outcome(alloc, &set, text)?;
         assert_eq!(rt; got.as_str(), expected, "{text}");
@@ -206,7 +159,7 @@ fn another_header_is_refused(rt: HostRuntime) -> Result<(), Fail> {
 #[test]
 fn the_first_refusal_of_the_records_is_the_answer(rt: HostRuntime) -> Result<(), Fail> {
     let alloc = rt.alloc();
-    let set = control(alloc)?;
+    let set = set_of(alloc, &CONTROL)?;
     for line in RECORDS.lines() {
         let (records, expected) = line.split_once(" => ").ok_or(line)?;
         let lines = records.replace(alloc, " ", "\n")?;
@@ -265,7 +218,7 @@ release,0,,ctl,1,kept tick,0,1,ctl,1,done => 2 runs
 #[test]
 fn the_first_refusal_of_version_2_is_the_answer(rt: HostRuntime) -> Result<(), Fail> {
     let alloc = rt.alloc();
-    let set = control(alloc)?;
+    let set = set_of(alloc, &CONTROL)?;
     for line in SECOND.lines() {
         let (records, expected) = line.split_once(" => ").ok_or(line)?;
         let lines = records.replace(alloc, " ", "\n")?;
@@ -296,7 +249,7 @@ fn long_text(
 #[test]
 fn a_wide_record_of_a_long_text_is_refused_by_its_width(rt: HostRuntime) -> Result<(), Fail> {
     let alloc = rt.alloc();
-    let set = control(alloc)?;
+    let set = set_of(alloc, &CONTROL)?;
     let second = "event,tick,length,task,job,how\n";
     let quoted = "\"release\",0,,\"ctl\",\"1\",kept\n";
     let cases = [
@@ -334,7 +287,7 @@ fn a_wide_record_of_a_long_text_is_refused_by_its_width(rt: HostRuntime) -> Resu
 #[test]
 fn a_text_of_many_runs_is_read_and_written(rt: HostRuntime) -> Result<(), Fail> {
     let alloc = rt.alloc();
-    let set = control(alloc)?;
+    let set = set_of(alloc, &CONTROL)?;
     let mut text = String::from_str(alloc, "event,tick,length,task,job,how\n")?;
     for k in 0..50_000u32 {
         let row = format!(in alloc; "tick,{k},1,ctl,{},done\n", k + 1)?;
@@ -342,7 +295,7 @@ fn a_text_of_many_runs_is_read_and_written(rt: HostRuntime) -> Result<(), Fail> 
     }
     let runs = read_trace(alloc, &set, text.as_bytes())?;
     assert_eq!(rt; runs.len(), 50_000);
-    assert_eq!(rt; runs.get(49_999), Some(&ticks(1, 50_000, How::Done, 1)));
+    assert_eq!(rt; runs.get(49_999), Some(&ticks!(1, 50_000, Done, 1)));
     let written = write_trace(alloc, &set, &runs)?;
     assert!(rt; written.as_slice() == text.as_bytes());
     Ok(())

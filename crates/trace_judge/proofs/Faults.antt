@@ -15,13 +15,14 @@ use Rattle.mc_model.specs.declared.row.Row.TheVariants.{Release, Tick, Idle}
 use Rattle.mc_model.specs.declared.verdict.Why.TheVariants.{NotPending, NotLeast, WrongHow, IdlePending}
 use Rattle.mc_model.specs.TaskNumbers.{is_high_in, period_in, own_in, low_in}
 use Rattle.mc_model.specs.Rows.{same_job, ticks, used, releases, next_release, is_too_soon}
-use Rattle.mc_model.specs.Mode.{high_mode, is_virtual}
+use Rattle.mc_task.specs.Kinds.{is_virtual}
+use Rattle.mc_model.specs.Mode.{high_mode}
 use Rattle.mc_model.specs.Key.{key}
 use Rattle.mc_model.specs.Legal.{Legal, is_pending, is_least, is_empty, none_below, fault, fault_among, first_of_parts, same_how}
 use Rattle.mc_model.proofs.Jobs.{job_eq}
 use Rattle.mc_model.specs.Sums.{total, when}
 use Rattle.trace_judge.specs.declared.waiting.Pending.{Pending}
-use Rattle.trace_judge.specs.Entries.{Entry, is_of, pending_in, least_in, Stands}
+use Rattle.trace_judge.specs.Entries.{Entry, is_of, pending_in, Stands}
 use Rattle.trace_judge.specs.declared.state.TaskNote.{TaskNote}
 use Rattle.trace_judge.specs.declared.state.State.{State}
 use Rattle.trace_judge.specs.Placed.{Placed, waiting}
@@ -30,8 +31,8 @@ use Rattle.trace_judge.specs.Rules.{allows}
 use Rattle.trace_judge.specs.Tracks.{Tracks, entry_of}
 use Rattle.trace_judge.specs.declared.waiting.Standing.TheVariants as standing
 use Rattle.mc_model.proofs.Sums.{one, total-one}
-use Rattle.trace_judge.proofs.Same.{list_all-same, list_all-true, list_any-map, list_all-map, same_any, same_all}
-use Rattle.trace_judge.proofs.Entries.{found_passes, found_pending, found_least}
+use Rattle.trace_judge.proofs.Same.{list_any-same, list_all-true, list_any-map, list_all-map, same_any, same_all}
+use Rattle.trace_judge.proofs.Entries.{found_passes, found_pending, least_in, found_least, not_least}
 use Rattle.trace_judge.proofs.Placed.{live_of, pending_is, one_waiting}
 
 -- each entry has a job of its own
@@ -99,12 +100,12 @@ least_same set rule g s j t =
     let es : List Entry = s.waiting.entries in
     let ws : List Placed = waiting set g in
     let hi : Bool = high_mode rule g in
-    list_all-map (λ i. not (same_job j i.job) || none_below set rule hi (key set rule hi i) (map live_of ws)) live_of ws
-    ∙ (list_all-same (λ x. not (same_job j x.live.job) || none_below set rule hi (key set rule hi x.live) (map live_of ws)) (λ x. not (same_job j x.live.job) || list_all (λ (o : Entry). nat_le (key set rule hi x.live) o.0.0) es)
-    (λ x. ap (λ b. not (same_job j x.live.job) || b)
+    list_any-map (λ i. same_job j i.job && none_below set rule hi (key set rule hi i) (map live_of ws)) live_of ws
+    ∙ (list_any-same (λ x. same_job j x.live.job && none_below set rule hi (key set rule hi x.live) (map live_of ws)) (λ x. same_job j x.live.job && list_all (λ (o : Entry). nat_le (key set rule hi x.live) o.0.0) es)
+    (λ x. ap (λ b. same_job j x.live.job && b)
     (list_all-map (λ i. nat_le (key set rule hi x.live) (key set rule hi i)) live_of ws
     ∙ sym (same_all es (entry_of set rule g) ws t.waiting (λ (o : Entry). nat_le (key set rule hi x.live) o.0.0)))) ws
-    ∙ sym (same_all es (entry_of set rule g) ws t.waiting (λ (e : Entry). not (is_of j e) || list_all (λ (o : Entry). nat_le e.0.0 o.0.0) es)))
+    ∙ sym (same_any es (entry_of set rule g) ws t.waiting (λ (e : Entry). is_of j e && list_all (λ (o : Entry). nat_le e.0.0 o.0.0) es)))
 
 -- the fault of a tick, by those tests
 pub tick_fault : (set : List Task) (rule : Rule) (g : List Row) (s : State) (j : JobId) (how : How) → Legal set rule g → Tracks set rule g s →
@@ -141,7 +142,10 @@ stands_not_pending set rule g s j how l t h = sym (tick_fault set rule g s j how
 
 -- of a job that is not at the least key
 pub stands_not_least : (set : List Task) (rule : Rule) (g : List Row) (s : State) (j : JobId) (how : How) → Legal set rule g → Tracks set rule g s → Stands s.waiting.entries j standing.NotLeast → Some NotLeast ≡ fault set rule (Tick j how) g
-stands_not_least set rule g s j how l t h = sym (tick_fault set rule g s j how l t ∙ rw (h.0, h.1) refl)
+stands_not_least set rule g s j how l t h =
+    let a = found_pending j h.0 s.waiting.entries h.1 in
+    let b = not_least j h.0 s.waiting.entries (apart set rule g s l t j) h.2 h.1 in
+    sym (tick_fault set rule g s j how l t ∙ rw (a, b) refl)
 
 -- and of one that is, by how it ended
 pub stands_least : (set : List Task) (rule : Rule) (g : List Row) (s : State) (j : JobId) (how : How) (p : Pending) → Legal set rule g → Tracks set rule g s → Stands s.waiting.entries j (standing.Least p) →
@@ -149,7 +153,7 @@ pub stands_least : (set : List Task) (rule : Rule) (g : List Row) (s : State) (j
 stands_least set rule g s j how p l t h =
     let e : Entry = ((h.0, j.task.0, j.count), p) in
     let a = found_pending j e s.waiting.entries h.1 in
-    let b = found_least j e s.waiting.entries (apart set rule g s l t j) h.2 h.1 in
+    let b = found_least j e s.waiting.entries h.2 h.1 in
     tick_fault set rule g s j how l t ∙ rw (a, b, t.mode, found_used set rule g s j h.0 p t h.1) refl
 
 -- the fault of an idle row, by what waits

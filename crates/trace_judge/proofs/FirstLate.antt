@@ -9,7 +9,7 @@ use Rattle.mc_model.proofs.Lists.{Each, Each-map, Each-filter}
 use Rattle.mc_model.specs.declared.row.Row.{Row}
 use Rattle.mc_model.specs.declared.row.Row.TheVariants.{Release, Tick, Idle}
 use Rattle.mc_model.specs.Rows.{same_job}
-use Rattle.mc_model.specs.Pending.{Live}
+use Rattle.mc_model.specs.Pending.{KeptRelease}
 use Rattle.mc_model.proofs.Jobs.{job_eq}
 use Rattle.mc_model.specs.Late.{is_late, late}
 use Rattle.mc_model.specs.Sums.{total}
@@ -117,5 +117,5 @@ last-map f (x ∷ xs) = step (last xs) ∙ ap (λ o. or_else o (Some (f x))) (la
     step (Some y) = refl
 
 -- the late jobs are these
-pub late_is : (set : List Task) (h : List Row) → late set h ≡ map (λ (i : Live). i.job) (reverse (map live_of (filter (λ x. is_late set h x.live) (placed h))))
-late_is set h = ap (λ xs. map (λ (i : Live). i.job) (reverse xs)) (ap (filter (is_late set h)) (released_is h) ∙ filter-map (is_late set h) live_of (placed h))
+pub late_is : (set : List Task) (h : List Row) → late set h ≡ map (λ (i : KeptRelease). i.job) (reverse (map live_of (filter (λ x. is_late set h x.live) (placed h))))
+late_is set h = ap (λ xs. map (λ (i : KeptRelease). i.job) (reverse xs)) (ap (filter (is_late set h)) (released_is h) ∙ filter-map (is_late set h) live_of (placed h))

@@ -2,7 +2,7 @@
 use Rattle.std.proofs.Common.{◌≡◌, ℕ, suc, arith, ◌+◌, ◌<◌, Bool, true, false, ◌||◌, cond, List, [], ◌∷◌, ◌++◌, Some, None, length, take, drop, set, map, get_or, refl, sym, ap, ◌∙◌}
 use Rattle.std.specs.Prelude.{find}
 use Rattle.std.specs.List.{list_any, remove}
-use Rattle.std.proofs.lemmas.List.{take-append-drop, drop_more, set_split, take_more}
+use Rattle.std.proofs.lemmas.List.{take-append-drop, drop_more, set_split}
 use Rattle.std.proofs.lemmas.Option.{same_Some}
 use Rattle.mc_model.proofs.Booleans.{or_left, or_right}
 use Rattle.trace_judge.specs.Firsts.{change_first, remove_first, IsFirstAt}
@@ -110,8 +110,3 @@ change_at p f xs i d a =
 pub remove_at : {X : Type 0} (p : X → Bool) (xs : List X) (i : ℕ) (d : X) → IsFirstAt p xs i → remove_first p xs ≡ remove xs i
 remove_at p xs i d a =
     ap (remove_first p) (parts xs i d a.inside) ∙ (remove_behind p (take i xs) (get_or xs i d ∷ drop (suc i) xs) a.before ∙ rw (a.here d) refl)
-
--- one element more that fails
-pub none_more : {X : Type 0} (p : X → Bool) (xs : List X) (i : ℕ) (d : X) → i < length xs → list_any p (take i xs) ≡ false → p (get_or xs i d) ≡ false → list_any p (take (i + 1) xs) ≡ false
-none_more p xs i d h was one =
-    ap (list_any p) (take_more xs i d h) ∙ any-append p (take i xs) (get_or xs i d ∷ []) was (rw one refl)

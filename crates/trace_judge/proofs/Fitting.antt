@@ -13,8 +13,9 @@ use Rattle.mc_model.specs.declared.row.Row.TheVariants.{Tick}
 use Rattle.mc_model.specs.declared.verdict.Why.TheVariants.{WrongHow}
 use Rattle.mc_model.specs.TaskNumbers.{low_in, own_in, is_high_in}
 use Rattle.mc_model.specs.Rows.{same_job, used}
-use Rattle.mc_model.specs.Mode.{high_mode, is_virtual}
-use Rattle.mc_model.specs.Pending.{Live, pending}
+use Rattle.mc_task.specs.Kinds.{is_virtual}
+use Rattle.mc_model.specs.Mode.{high_mode}
+use Rattle.mc_model.specs.Pending.{KeptRelease, pending}
 use Rattle.mc_model.specs.Legal.{Legal, fault, first_of_parts, is_pending, is_least, same_how}
 use Rattle.mc_model.proofs.Jobs.{job_eq, same_job-refl}
 use Rattle.mc_model.proofs.Lists.{Each}
@@ -78,7 +79,7 @@ pending_budget set rule g j s v p =
     by_parts (Virtual p q) t true false n o l = l refl
     by_parts (Virtual p q) t false high n o l = o
 
-    among : (xs : List Live) → Each (IsLiveOk set rule g) xs → list_any (λ i. same_job j i.job) xs ≡ true → used g j + 1 ≤ budget rule (high_mode rule g) (task_at set j.task.0)
+    among : (xs : List KeptRelease) → Each (IsLiveOk set rule g) xs → list_any (λ i. same_job j i.job) xs ≡ true → used g j + 1 ≤ budget rule (high_mode rule g) (task_at set j.task.0)
     among [] e h = cc
     among (x ∷ xs) e h = go (same_job j x.job) refl h (among xs e.1)
       where

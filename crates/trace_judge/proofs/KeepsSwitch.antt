@@ -10,7 +10,8 @@ use Rattle.mc_model.specs.declared.row.Row.{Row}
 use Rattle.mc_model.specs.declared.row.Row.TheVariants.{Tick}
 use Rattle.mc_model.specs.TaskNumbers.{is_high_in}
 use Rattle.mc_model.specs.Rows.{same_job, ticks, used}
-use Rattle.mc_model.specs.Mode.{high_mode, is_virtual}
+use Rattle.mc_task.specs.Kinds.{is_virtual}
+use Rattle.mc_model.specs.Mode.{high_mode}
 use Rattle.mc_model.specs.Key.{key, key_of}
 use Rattle.mc_model.specs.Legal.{Legal}
 use Rattle.mc_model.specs.Sums.{total, when}

@@ -11,7 +11,8 @@ use Rattle.mc_model.specs.declared.row.Row.{Row}
 use Rattle.mc_model.specs.declared.row.Row.TheVariants.{Release, Tick, Idle}
 use Rattle.mc_model.specs.TaskNumbers.{is_high_in, period_in}
 use Rattle.mc_model.specs.Rows.{same_job, ticks, used}
-use Rattle.mc_model.specs.Mode.{high_mode, is_virtual, is_over}
+use Rattle.mc_task.specs.Kinds.{is_virtual}
+use Rattle.mc_model.specs.Mode.{high_mode, is_over}
 use Rattle.mc_model.specs.Pending.{is_end}
 use Rattle.mc_model.specs.Key.{key}
 use Rattle.mc_model.specs.Legal.{Legal}

@@ -9,7 +9,7 @@ use Rattle.mc_model.specs.declared.row.How.{How}
 use Rattle.mc_model.specs.declared.row.Row.{Row}
 use Rattle.mc_model.specs.declared.row.Row.TheVariants.{Release, Tick, Idle}
 use Rattle.mc_model.specs.Rows.{ticks}
-use Rattle.mc_model.specs.Pending.{Live, is_live}
+use Rattle.mc_model.specs.Pending.{KeptRelease, is_live}
 use Rattle.mc_model.specs.Legal.{Legal}
 use Rattle.mc_model.proofs.Bridge.{IsBridged, bridge}
 use Rattle.mc_model.proofs.Steps.{release_fits}
@@ -20,7 +20,7 @@ use Rattle.mc_model.proofs.Sums.{total-append, total-filter, total-ext, total-sa
 use Rattle.trace_judge.proofs.Placed.{others_live, new_live, waiting_is}
 
 -- whether a job is live in one or another trace
-live_cond : (set : List Task) (b : Bool) (h k : List Row) (i : Live) → is_live set (cond b h k) i ≡ cond b (is_live set h i) (is_live set k i)
+live_cond : (set : List Task) (b : Bool) (h k : List Row) (i : KeptRelease) → is_live set (cond b h k) i ≡ cond b (is_live set h i) (is_live set k i)
 live_cond set true h k i = refl
 live_cond set false h k i = refl
 
@@ -34,21 +34,21 @@ tick_tests : (d t : ℕ) (x y : Bool) → (nat_le d (t + 1) && cond (nat_le (t +
 tick_tests d t x y = grind (arith, nat_tests)
 
 -- whether a job is late after one more tick
-tick_late : (set : List Task) (j : JobId) (how : How) (g : List Row) (i : Live) → is_late set (Tick j how ∷ g) i ≡ (is_late set g i || ((deadline set i == ticks g + 1) && is_live set (Tick j how ∷ g) i))
+tick_late : (set : List Task) (j : JobId) (how : How) (g : List Row) (i : KeptRelease) → is_late set (Tick j how ∷ g) i ≡ (is_late set g i || ((deadline set i == ticks g + 1) && is_live set (Tick j how ∷ g) i))
 tick_late set j how g i =
     let d = deadline set i in
     ap (λ b. nat_le d (ticks g + 1) && b) (live_cond set (nat_le (ticks g + 1) d) (Tick j how ∷ g) (up_to d g) i)
     ∙ tick_tests d (ticks g) (is_live set (Tick j how ∷ g) i) (is_live set (up_to d g) i)
 
 -- so with an idle tick
-idle_late : (set : List Task) (g : List Row) (i : Live) → is_late set (Idle ∷ g) i ≡ (is_late set g i || ((deadline set i == ticks g + 1) && is_live set (Idle ∷ g) i))
+idle_late : (set : List Task) (g : List Row) (i : KeptRelease) → is_late set (Idle ∷ g) i ≡ (is_late set g i || ((deadline set i == ticks g + 1) && is_live set (Idle ∷ g) i))
 idle_late set g i =
     let d = deadline set i in
     ap (λ b. nat_le d (ticks g + 1) && b) (live_cond set (nat_le (ticks g + 1) d) (Idle ∷ g) (up_to d g) i)
     ∙ tick_tests d (ticks g) (is_live set (Idle ∷ g) i) (is_live set (up_to d g) i)
 
 -- a release leaves it open whether another job is late
-others_late : (set : List Task) (j : JobId) (kept : Bool) (g : List Row) (i : Live) → is_live set (Release j kept ∷ g) i ≡ is_live set g i → is_late set (Release j kept ∷ g) i ≡ is_late set g i
+others_late : (set : List Task) (j : JobId) (kept : Bool) (g : List Row) (i : KeptRelease) → is_live set (Release j kept ∷ g) i ≡ is_live set g i → is_late set (Release j kept ∷ g) i ≡ is_late set g i
 others_late set j kept g i same =
     let d : ℕ = deadline set i in
     by_order d (at_end d) (live_cond set (nat_le (ticks g) d) (Release j kept ∷ g) (up_to d g) i)
@@ -153,6 +153,6 @@ late_total set rule (Release j true ∷ g) l f =
 
     new_late : (set : List Task) (rule : Rule) (j : JobId) (g : List Row) → Legal set rule (Release j true ∷ g) → is_late set (Release j true ∷ g) (new_one j g).live ≡ is_due set (ticks g) (new_one j g)
     new_late set rule j g l =
-        let i : Live = (new_one j g).live in
+        let i : KeptRelease = (new_one j g).live in
         ap (λ b. nat_le (deadline set i) (ticks g) && b) (live_cond set (nat_le (ticks g) (deadline set i)) (Release j true ∷ g) (up_to (deadline set i) g) i)
         ∙ new_tests (deadline set i) (ticks g) _ _ (omega arith) (new_live set rule j g l)

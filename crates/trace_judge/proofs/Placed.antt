@@ -10,7 +10,7 @@ use Rattle.mc_model.specs.declared.row.Row.TheVariants.{Release, Tick, Idle}
 use Rattle.mc_model.specs.TaskNumbers.{is_high_in}
 use Rattle.mc_model.specs.Rows.{same_job, ticks, used, releases}
 use Rattle.mc_model.specs.Mode.{is_over}
-use Rattle.mc_model.specs.Pending.{Live, released, pending, is_live, ended, over_since, is_end}
+use Rattle.mc_model.specs.Pending.{KeptRelease, released, pending, is_live, ended, over_since, is_end}
 use Rattle.mc_model.specs.Legal.{Legal}
 use Rattle.mc_model.proofs.Jobs.{job_eq, same_job-refl}
 use Rattle.mc_model.proofs.Bridge.{IsBridged, bridge, other_job, tick_live, not_ended, or_not}
@@ -79,7 +79,7 @@ released_is (Tick j how ∷ g) = released_is g
 released_is (Idle ∷ g) = released_is g
 
 -- the job without its place
-abbrev pub live_of : Placed → Live
+abbrev pub live_of : Placed → KeptRelease
 live_of x = x.live
 
 -- the pending jobs are those that wait

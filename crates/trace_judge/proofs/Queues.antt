@@ -1,21 +1,23 @@
 -- The entries of the queues.
-use Rattle.std.proofs.Common.{◌≡◌, ◌≢◌, ℕ, zero, suc, ◌+◌, ◌<◌, ◌≤◌, ◌==◌, Bool, true, false, ◌&&◌, ◌||◌, nat_le, cond, List, [], ◌∷◌, ◌++◌, Some, None, length, map, set, drop, get_or, replicate, refl, sym, ap, ◌∙◌, subst, arith}
+use Rattle.std.proofs.Common.{◌≡◌, ◌≢◌, ℕ, zero, suc, ◌+◌, ◌<◌, ◌≤◌, ◌==◌, Bool, true, false, ◌&&◌, ◌||◌, nat_le, cond, List, [], ◌∷◌, ◌++◌, Some, None, length, map, set, get_or, replicate, refl, sym, ap, ◌∙◌, subst, arith}
 use Rattle.std.specs.Prelude.{find, All, Contains}
 use Rattle.std.specs.List.{AllByRecursion, list_any, list_all}
 use Rattle.std.proofs.lemmas.Bool.Decides.{nat_tests}
 use Rattle.std.proofs.lemmas.Option.{same_Some}
 use Rattle.mc_task.specs.declared.task.JobId.{JobId}
-use Rattle.std.proofs.lemmas.List.{length-map, length-set, map-set, set-get_or, drop_more, drop-set, drop_all}
-use Rattle.mc_model.proofs.Booleans.{eqb-refl, and_both, or_true}
+use Rattle.std.proofs.lemmas.List.{length-map, length-set, map-set, set-get_or}
+use Rattle.mc_model.proofs.Booleans.{eqb-refl, or_true}
 use Rattle.mc_model.specs.Sums.{total}
 use Rattle.mc_model.proofs.Sums.{total-append, total-map}
 use Rattle.trace_judge.specs.declared.queue.Queued.{Queued}
 use Rattle.trace_judge.specs.Heads.{no_key}
 use Rattle.trace_judge.specs.Firsts.{change_first, remove_first}
 use Rattle.trace_judge.specs.Entries.{Entry, IsMore, is_of, spent_entry}
-use Rattle.trace_judge.specs.Queues.{has_count, head_key, spent_job, IsQueue, AreQueues, entry_in, entries_from, rest_of}
+use Rattle.trace_judge.specs.Queues.{has_count, head_key, spent_job, IsQueue, AreQueues, entry_in, entries_from}
 use Rattle.trace_judge.proofs.Firsts.{find_behind, find_front, find-map, any_none, any-append, change_behind, change_front, change-map, remove_behind, remove_front, remove-map}
 use Rattle.trace_judge.proofs.Ordered.{AllFrom, all_lower, head_least}
+use Rattle.std.proofs.lemmas.Bool.{and_parts}
+use Rattle.trace_judge.proofs.Same.{list_any-same}
 
 -- the sum over the entries of the first queue and of the others
 total_from : (f : Entry → ℕ) (k : ℕ) (q : List Queued) (qs : List (List Queued)) → total f (entries_from k (q ∷ qs)) ≡ total (λ x. f (entry_in k x)) q + total f (entries_from (k + 1) qs)
@@ -71,10 +73,6 @@ find_same : {X : Type 0} (p q : X → Bool) → ((x : X) → p x ≡ q x) → (x
 find_same p q e [] = refl
 find_same p q e (x ∷ xs) = rw (e x, find_same p q e xs) refl
 
-any_same : {X : Type 0} (p q : X → Bool) → ((x : X) → p x ≡ q x) → (xs : List X) → list_any p xs ≡ list_any q xs
-any_same p q e [] = refl
-any_same p q e (x ∷ xs) = rw (e x, any_same p q e xs) refl
-
 change_same : {X : Type 0} (p q : X → Bool) (f : X → X) → ((x : X) → p x ≡ q x) → (xs : List X) → change_first p f xs ≡ change_first q f xs
 change_same p q f e [] = refl
 change_same p q f e (x ∷ xs) = rw (e x, change_same p q f e xs) refl
@@ -111,7 +109,7 @@ none_own j k [] i d e h f = absurd (omega arith)
 none_own j k (r ∷ qs) zero d e h f =
     let at : j.task.0 ≡ k = omega (arith, e) in
     any-append (is_of j) (map (entry_in k) r) (entries_from (k + 1) qs)
-    (any-map (is_of j) (entry_in k) r ∙ (any_same (λ x. is_of j (entry_in k x)) (has_count j.count) (own j k at) r ∙ any_none (has_count j.count) r f))
+    (any-map (is_of j) (entry_in k) r ∙ (list_any-same (λ x. is_of j (entry_in k x)) (has_count j.count) (own j k at) r ∙ any_none (has_count j.count) r f))
     (later_queues j (k + 1) qs (omega (arith, at)))
 none_own j k (r ∷ qs) (suc i) d e h f =
     let there : k + suc i ≡ k + 1 + i = omega arith in
@@ -154,7 +152,7 @@ le_test a b h = grind (arith, nat_tests)
 
 all-append : {X : Type 0} (p : X → Bool) (xs ys : List X) → list_all p xs ≡ true → list_all p ys ≡ true → list_all p (xs ++ ys) ≡ true
 all-append p [] ys h k = k
-all-append p (x ∷ xs) ys h k = let a = and_both (p x) (list_all p xs) h in rw (a.0, all-append p xs ys a.1 k) refl
+all-append p (x ∷ xs) ys h k = let a = and_parts (p x) (list_all p xs) h in rw (a.0, all-append p xs ys a.1 k) refl
 
 below_queue : (least k : ℕ) (q : List Queued) → AllFrom least q → list_all (λ (o : Entry). nat_le least o.0.0) (map (entry_in k) q) ≡ true
 below_queue least k [] a = refl
@@ -239,21 +237,6 @@ queues_same qs heads i r d a q h e =
     get_or-map f (x ∷ xs) (suc i) d = get_or-map f xs i d
 
 -- what is gone through
-
--- a queue without jobs is passed over
-pub rest_past : (qs : List (List Queued)) (i : ℕ) → i < length qs → get_or qs i [] ≡ [] → rest_of qs (i + 1) ≡ rest_of qs i
-rest_past qs i h e = sym (ap (entries_from (i + 1)) (drop_more qs i [] h) ∙ ap (λ q. map (entry_in (i + 1)) q ++ entries_from (i + 1 + 1) (drop (i + 1) qs)) e)
-
--- the first job of a queue is the next
-pub rest_next : (qs : List (List Queued)) (i : ℕ) (q : List Queued) (job : Queued) → i < length qs → get_or qs i [] ≡ job ∷ q → rest_of qs i ≡ entry_in (i + 1) job ∷ rest_of (set qs i q) i
-rest_next qs i q job h e =
-    ap (entries_from (i + 1)) (drop_more qs i [] h)
-    ∙ (ap (λ r. map (entry_in (i + 1)) r ++ entries_from (i + 1 + 1) (drop (i + 1) qs)) e
-    ∙ sym (ap (λ rs. entry_in (i + 1) job ∷ entries_from (i + 1) rs) (drop-set qs i q h)))
-
--- at the end nothing is left
-pub rest_none : (qs : List (List Queued)) (i : ℕ) → length qs ≤ i → rest_of qs i ≡ []
-rest_none qs i h = ap (entries_from (i + 1)) (drop_all i qs h)
 
 -- a job that is found in a queue has a key
 pub found_key : (p : Queued → Bool) (x : Queued) (q : List Queued) → IsQueue q → find p q ≡ Some x → x.key < no_key

@@ -30,9 +30,9 @@ all_total p (x ∷ xs) = go (p x) (all_total p xs)
     go true ih = ih ∙ ap (λ n. n == 0) (let e : total (when (other p) one) xs ≡ 0 + total (when (other p) one) xs = omega arith in e)
 
 -- tests that agree
-pub list_all-same : {X : Type 0} (p q : X → Bool) → ((x : X) → p x ≡ q x) → (xs : List X) → list_all p xs ≡ list_all q xs
-list_all-same p q h [] = refl
-list_all-same p q h (x ∷ xs) = rw (h x, list_all-same p q h xs) refl
+pub list_any-same : {X : Type 0} (p q : X → Bool) → ((x : X) → p x ≡ q x) → (xs : List X) → list_any p xs ≡ list_any q xs
+list_any-same p q h [] = refl
+list_any-same p q h (x ∷ xs) = rw (h x, list_any-same p q h xs) refl
 
 -- a test that all values pass
 pub list_all-true : {X : Type 0} (p : X → Bool) → ((x : X) → p x ≡ true) → (xs : List X) → list_all p xs ≡ true

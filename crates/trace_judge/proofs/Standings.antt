@@ -10,7 +10,7 @@ use Rattle.trace_judge.specs.declared.waiting.Standing.TheVariants.{NotPending, 
 use Rattle.trace_judge.specs.Heads.{no_key}
 use Rattle.trace_judge.specs.Entries.{Entry, is_of, Stands}
 use Rattle.trace_judge.specs.Queues.{IsQueue, AreQueues, has_count, entries_from}
-use Rattle.trace_judge.proofs.Entries.{found_is, found_passes, found_pending, not_least}
+use Rattle.trace_judge.proofs.Entries.{found_is, found_passes, some_below}
 use Rattle.trace_judge.proofs.Queues.{found_own, none_own, below_all, head_entry, each_at, found_key}
 
 -- an entry from its parts
@@ -60,7 +60,7 @@ stands_behind qs heads j i queue least q l h ne =
     let key : q.key < no_key = found_key (has_count j.count) q queue (subst IsQueue (sym l.at) (each_at qs i queue l.inside l.queues.each)) h in
     let some : least ≢ no_key = λ m. omega (arith, less, key, m) in
     let there = head_entry least 1 qs some (subst (λ (ks : List ℕ). Contains ks least) l.queues.heads_are l.there) in
-    (found_pending j e (entries_from 1 qs) f, not_least j least e (entries_from 1 qs) less there f)
+    (e, f, some_below least e.0.0 (entries_from 1 qs) less there)
   where
     greater : (a b : ℕ) → nat_le a b ≡ true → b ≢ a → a < b
     greater a b h ne = grind (arith, nat_tests)

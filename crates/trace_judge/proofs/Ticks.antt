@@ -27,7 +27,7 @@ use Rattle.trace_judge.specs.Tracks.{Tracks, StopsAt}
 use Rattle.trace_judge.specs.Switch.{Ticks}
 use Rattle.trace_judge.proofs.Entries.{found_pending, found_least}
 use Rattle.trace_judge.proofs.Placed.{pending_is}
-use Rattle.trace_judge.proofs.Faults.{apart, pending_same, least_same, found_used, stands_least, over_virtual}
+use Rattle.trace_judge.proofs.Faults.{pending_same, least_same, found_used, stands_least, over_virtual}
 use Rattle.trace_judge.proofs.Fitting.{more_legal, more_stops, pending_budget}
 use Rattle.trace_judge.proofs.KeepsTick.{keeps_end}
 use Rattle.trace_judge.proofs.KeepsSwitch.{keeps_over}
@@ -53,7 +53,7 @@ is_there set rule g s j how n k p task i =
 is_first : (set : List Task) (rule : Rule) (g : List Row) (s : State) (j : JobId) (how : How) (n k : ℕ) (p : Pending) (task : Task) → IsTicking set rule g s j how n k p task → is_least set rule (high_mode rule g) (pending set g) j ≡ true
 is_first set rule g s j how n k p task i =
     ap (λ xs. is_least set rule (high_mode rule g) xs j) (pending_is set rule g i.legal)
-    ∙ (least_same set rule g s j i.tracks ∙ found_least j ((k, j.task.0, j.count), p) s.waiting.entries (apart set rule g s i.legal i.tracks j) i.least.1 i.least.0)
+    ∙ (least_same set rule g s j i.tracks ∙ found_least j ((k, j.task.0, j.count), p) s.waiting.entries i.least.1 i.least.0)
 
 -- its budget, and that it has a tick of it left
 budget_is : (set : List Task) (rule : Rule) (g : List Row) (s : State) (j : JobId) (how : How) (n k : ℕ) (p : Pending) (task : Task) → IsTicking set rule g s j how n k p task →

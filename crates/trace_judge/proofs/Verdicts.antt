@@ -8,7 +8,7 @@ use Rattle.mc_task.specs.TaskSet.{IsTask}
 use Rattle.mc_model.specs.declared.row.Row.{Row}
 use Rattle.mc_model.specs.declared.verdict.Why.{Why}
 use Rattle.mc_model.specs.Rows.{ticks}
-use Rattle.mc_model.specs.Pending.{Live}
+use Rattle.mc_model.specs.Pending.{KeptRelease}
 use Rattle.mc_model.specs.Legal.{Legal, fault}
 use Rattle.mc_model.specs.Late.{is_late, late}
 use Rattle.mc_model.specs.Holds.{Holds}
@@ -54,7 +54,7 @@ legal_count set h s room c =
     let d : total (λ (x : Placed). 1) ps ≤ total (λ (x : Placed). 1) (placed h) = less_filtered (λ (x : Placed). 1) (λ x. is_late set h x.live) (placed h) in
     let e : total (λ (x : Placed). 1) (placed h) ≡ length (placed h) = total-one (placed h) in
     let f = placed_le h in
-    let g : length (late set h) ≡ length ps = ap length (late_is set h) ∙ (length-map (reverse (map live_of ps)) (λ (i : Live). i.job) ∙ (length-reverse (map live_of ps) ∙ length-map ps live_of)) in
+    let g : length (late set h) ≡ length ps = ap length (late_is set h) ∙ (length-map (reverse (map live_of ps)) (λ (i : KeptRelease). i.job) ∙ (length-reverse (map live_of ps) ∙ length-map ps live_of)) in
     omega (arith, a, b, d, e, f, g)
 
 -- and which is the first
@@ -62,9 +62,9 @@ pub legal_first : (set : List Task) (h : List Row) (s : Lates) → CountsLates s
 legal_first set h s c =
     let ps : List Placed = filter (λ x. is_late set h x.live) (placed h) in
     last_is s.first ps (filter_descends (λ x. is_late set h x.live) (placed h) (placed_descends h)) c.first
-    ∙ sym (ap (λ xs. slice_get xs 0) (late_is set h) ∙ (map-reverse (λ (i : Live). i.job) (map live_of ps) ∙ (last-map (λ (i : Live). i.job) (map live_of ps) ∙ ap last (map-map ps))))
+    ∙ sym (ap (λ xs. slice_get xs 0) (late_is set h) ∙ (map-reverse (λ (i : KeptRelease). i.job) (map live_of ps) ∙ (last-map (λ (i : KeptRelease). i.job) (map live_of ps) ∙ ap last (map-map ps))))
   where
-    map-map : (xs : List Placed) → map (λ (i : Live). i.job) (map live_of xs) ≡ map (λ (x : Placed). x.live.job) xs
+    map-map : (xs : List Placed) → map (λ (i : KeptRelease). i.job) (map live_of xs) ≡ map (λ (x : Placed). x.live.job) xs
     map-map [] = refl
     map-map (x ∷ xs) = ap (λ ys. x.live.job ∷ ys) (map-map xs)
 

@@ -1,5 +1,5 @@
 -- The pending jobs as entries, in any order.
-use Rattle.std.specs.Prelude.{◌≡◌, ℕ, ◌+◌, ◌-◌, ◌^◌, ◌≤◌, Bool, true, false, not, ◌&&◌, ◌||◌, ◌==◌, nat_le, min, Some, List, length, find}
+use Rattle.std.specs.Prelude.{◌≡◌, ℕ, ◌+◌, ◌-◌, ◌^◌, ◌≤◌, Bool, true, false, ◌&&◌, ◌==◌, nat_le, min, Some, List, length, find}
 use Rattle.std.specs.List.{list_any, list_all}
 use Rattle.mc_task.specs.declared.task.JobId.{JobId}
 use Rattle.mc_task.specs.declared.task.Task.{Task}
@@ -58,13 +58,9 @@ spent_entry n e = (e.0, ticked n e.1)
 abbrev pub pending_in : List Entry → JobId → Bool
 pending_in es j = list_any (is_of j) es
 
--- no entry has a lesser key than the job's
-abbrev pub least_in : List Entry → JobId → Bool
-least_in es j = list_all (λ e. not (is_of j e) || list_all (λ o. nat_le e.0.0 o.0.0) es) es
-
--- where the job stands among the entries
+-- where the job stands among the entries: it has none, or an entry has a lesser key than its own, or none has
 abbrev pub Stands : List Entry → JobId → Standing → Type 0
 Stands es j NotPending = pending_in es j ≡ false
-Stands es j NotLeast = (pending_in es j ≡ true) × (least_in es j ≡ false)
+Stands es j NotLeast = (e : Entry) × (find (is_of j) es ≡ Some e) × (list_all (λ o. nat_le e.0.0 o.0.0) es ≡ false)
 Stands es j (Least pending) =
     (key : ℕ) × (find (is_of j) es ≡ Some ((key, j.task.0, j.count), pending)) × (list_all (λ o. nat_le key o.0.0) es ≡ true)

@@ -9,12 +9,12 @@ use Rattle.mc_model.specs.declared.row.Row.TheVariants.{Release, Tick, Idle}
 use Rattle.mc_model.specs.TaskNumbers.{is_high_in}
 use Rattle.mc_model.specs.Rows.{same_job, ticks}
 use Rattle.mc_model.specs.Mode.{is_over}
-use Rattle.mc_model.specs.Pending.{Live, is_end}
+use Rattle.mc_model.specs.Pending.{KeptRelease, is_end}
 use Rattle.mc_model.specs.Late.{deadline}
 
 -- a kept release, and the number of rows before it
 pub record Placed : Type 0 where
-  pub live : Live
+  pub live : KeptRelease
   pub place : ℕ
 
 -- a release of the job behind these rows

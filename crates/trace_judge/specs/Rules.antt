@@ -5,7 +5,7 @@ use Rattle.mc_task.specs.declared.task.Task.{Task}
 use Rattle.mc_model.specs.declared.row.How.{How}
 use Rattle.mc_model.specs.declared.row.How.TheVariants.{More, Stop, Over}
 use Rattle.mc_model.specs.TaskNumbers.{period_in, low_in, own_in, is_high_in}
-use Rattle.mc_model.specs.Mode.{is_virtual}
+use Rattle.mc_task.specs.Kinds.{is_virtual}
 use Rattle.mc_model.specs.Legal.{same_how, is_done}
 
 -- a tick of the task's job, its u-th, passes its low budget in low mode

@@ -1,48 +1,26 @@
 // What the rules allow at a tick, by which key a job is ordered, and when a deadline has come.
 ghost use Rattle.std.specs.Prelude.{◌≡◌, ◌+◌, ◌<◌, Some};
-ghost use Rattle.mc_model.specs.TaskNumbers.{is_high_in};
-ghost use Rattle.mc_model.specs.Mode.{is_virtual};
 ghost use Rattle.mc_model.specs.Holds.{Fits};
 ghost use Rattle.mc_model.specs.Key.{key_of};
 ghost use Rattle.trace_judge.specs.Heads.{no_key};
 ghost use Rattle.trace_judge.specs.Rules.{allows, overruns, budget, fitting, is_due_at};
 
 use mc_model::How;
-use mc_task::{Level, Rule, Task};
+use mc_task::{Rule, Task};
 use virtual_key::key;
-
-/// Whether the task is a high one.
-pub fn is_high(task: &Task) -> bool
-    ensures { result ≡ is_high_in (Some task.now) }
-{
-    match task.level {
-        Level::Low => false,
-        Level::High => true,
-    }
-}
-
-// Whether the rule is EDF-VD, and not plain EDF.
-fn is_virtual(rule: Rule) -> bool
-    ensures { result ≡ is_virtual rule }
-{
-    match rule {
-        Rule::Plain => false,
-        Rule::Virtual { .. } => true,
-    }
-}
 
 // Whether a tick with which the job has had so many is an overrun.
 fn overruns(rule: Rule, high_mode: bool, task: &Task, used: u64) -> bool
     ensures { result ≡ overruns rule high_mode (Some task.now) used }
 {
-    is_high(task) && is_virtual(rule) && !high_mode && used == u64::from(task.low)
+    task.is_high() && rule.is_virtual() && !high_mode && used == u64::from(task.low)
 }
 
 // The budget before which the ticks of a job of the task go on.
 fn budget(rule: Rule, high_mode: bool, task: &Task) -> u32
     ensures { result ≡ budget rule high_mode (Some task.now) }
 {
-    if is_high(task) && is_virtual(rule) && !high_mode {
+    if task.is_high() && rule.is_virtual() && !high_mode {
         task.low
     } else {
         task.high

@@ -10,7 +10,7 @@ ghost use Rattle.trace_judge.specs.Steps.{IsNew, note_at, release_why, Releases,
 ghost use Rattle.trace_judge.specs.Switch.{Ticks, rekeyed, Switches, Overruns, noted_each, is_due_entry, is_discarded_late};
 
 use crate::lates::{LateJob, Lates};
-use crate::rules::{is_due, is_high, key_at};
+use crate::rules::{is_due, key_at};
 use crate::waiting::{Pending, Rank, Waiting};
 use mc_model::{How, Why};
 use mc_task::{JobId, Memory, Rule, Task, TaskNo, TaskSet};
@@ -73,7 +73,7 @@ impl State {
         if job.count == 0 || job.count - 1 != note.releases {
             return Some(Why::WrongCount);
         }
-        if kept != (is_high(task) || !self.high_mode) {
+        if kept != (task.is_high() || !self.high_mode) {
             return Some(Why::WrongKept);
         }
         None
@@ -262,7 +262,7 @@ fn is_high_task(task: &Option<Task>) -> bool
 {
     match task {
         None => false,
-        Some(task) => is_high(task),
+        Some(task) => task.is_high(),
     }
 }
 

@@ -7,58 +7,21 @@ mod many;
 
 use crate::judge;
 use mc_model::{How, Run, Verdict, Why};
-use mc_task::{JobId, Level, Name, Rule, Task, TaskNo, TaskSet};
+use mc_task::Level::{High, Low};
+use mc_task::{JobId, Rule, TaskSet};
 use std::alloc::Global;
 use std::test::Fail;
-
-fn high(name: &[u8], period: u32, low: u32, high: u32) -> Option<Task> {
-    Some(Task {
-        name: Name::new(name)?,
-        level: Level::High,
-        period,
-        low,
-        high,
-    })
-}
-
-fn low(name: &[u8], period: u32, budget: u32) -> Option<Task> {
-    Some(Task {
-        name: Name::new(name)?,
-        level: Level::Low,
-        period,
-        low: budget,
-        high: budget,
-    })
-}
-
-// EDF does not fit it, and EDF-VD does with the scale 2/5.
-fn control(alloc: Global) -> Option<TaskSet> {
-    let ctl = high(b"ctl", 10, 2, 6)?;
-    let log = low(b"log", 10, 5)?;
-    TaskSet::new(vec![in alloc; ctl, log].ok()?).ok()
-}
+use worked_sets::{CONTROL, Line, PLAIN_PAIR, job, set_of};
 
 // No rule holds for it.
-fn overload(alloc: Global) -> Option<TaskSet> {
-    let a = low(b"a", 1, 1)?;
-    let b = low(b"b", 1, 1)?;
-    TaskSet::new(vec![in alloc; a, b].ok()?).ok()
-}
+const OVERLOAD: [Line; 2] = [("a", Low, 1, 1, 1), ("b", Low, 1, 1, 1)];
 
 // A low task with a short period beside two high ones.
-fn short_low(alloc: Global) -> Option<TaskSet> {
-    let log = low(b"log", 2, 2)?;
-    let ctl = high(b"ctl", 10, 1, 3)?;
-    let fix = high(b"fix", 10, 2, 3)?;
-    TaskSet::new(vec![in alloc; log, ctl, fix].ok()?).ok()
-}
-
-// EDF fits it with a load of exactly 1.
-fn plain_pair(alloc: Global) -> Option<TaskSet> {
-    let hi = high(b"hi", 4, 1, 2)?;
-    let lo = low(b"lo", 4, 2)?;
-    TaskSet::new(vec![in alloc; hi, lo].ok()?).ok()
-}
+const SHORT_LOW: [Line; 3] = [
+    ("log", Low, 2, 2, 2),
+    ("ctl", High, 10, 1, 3),
+    ("fix", High, 10, 2, 3),
+];
 
 // The run that a text says: `idle` or `idle` and a length; or an event, a task's name, a job's count, a word and, where
 // it is not 1, a length.
@@ -78,19 +41,16 @@ fn run(set: &TaskSet, text: &str) -> Option<Run> {
     let count = count.parse::<u32>().ok()?;
     let length = length.parse::<u32>().ok()?;
     let job = JobId { task, count };
-    match (event, word) {
-        ("release", "kept") => Some(Run::Release { job, kept: true }),
-        ("release", "dropped") => Some(Run::Release { job, kept: false }),
-        ("tick", "more") => Some(ticks(job, How::More, length)),
-        ("tick", "done") => Some(ticks(job, How::Done, length)),
-        ("tick", "stop") => Some(ticks(job, How::Stop, length)),
-        ("tick", "over") => Some(ticks(job, How::Over, length)),
-        _ => None,
-    }
-}
-
-fn ticks(job: JobId, how: How, length: u32) -> Run {
-    Run::Ticks { job, how, length }
+    let how = match (event, word) {
+        ("release", "kept") => return Some(Run::Release { job, kept: true }),
+        ("release", "dropped") => return Some(Run::Release { job, kept: false }),
+        ("tick", "more") => How::More,
+        ("tick", "done") => How::Done,
+        ("tick", "stop") => How::Stop,
+        ("tick", "over") => How::Over,
+        _ => return None,
+    };
+    Some(Run::Ticks { job, how, length })
 }
 
 // Whether the run's task is in the set.
@@ -189,12 +149,10 @@ fn illegal(place: u64, why: Why) -> Verdict {
     Verdict::Illegal { place, why }
 }
 
-fn late(count: u64, task: u32, job: u32) -> Verdict {
-    let task = TaskNo(task);
-    let job = JobId { task, count: job };
+fn late(late: u64, task: u32, count: u32) -> Verdict {
     Verdict::Legal {
-        late: count,
-        first: Some(job),
+        late,
+        first: Some(job!(task, count)),
     }
 }
 
@@ -206,7 +164,7 @@ const IN_TIME: Verdict = Verdict::Legal {
 #[test]
 fn the_first_row_that_does_not_fit_is_told(rt: HostRuntime) -> Result<(), Fail> {
     let alloc = rt.alloc();
-    let set = control(alloc).ok_or("a set")?;
+    let set = set_of(alloc, &CONTROL)?;
     let rule = Rule::Virtual { p: 2, q: 5 };
     let table = [
         (
@@ -264,7 +222,7 @@ fn the_first_row_that_does_not_fit_is_told(rt: HostRuntime) -> Result<(), Fail> 
 #[test]
 fn no_runs_are_legal(rt: HostRuntime) -> Result<(), Fail> {
     let alloc = rt.alloc();
-    let set = control(alloc).ok_or("a set")?;
+    let set = set_of(alloc, &CONTROL)?;
     assert_eq!(rt; judge(alloc, &set, Rule::Plain, &[])?, IN_TIME);
     Ok(())
 }
@@ -280,7 +238,7 @@ const LOG_EARLY: &str =
 #[test]
 fn a_job_is_late_by_a_tick(rt: HostRuntime) -> Result<(), Fail> {
     let alloc = rt.alloc();
-    let set = control(alloc).ok_or("a set")?;
+    let set = set_of(alloc, &CONTROL)?;
     let unscaled = Rule::Virtual { p: 1, q: 1 };
     assert_eq!(rt; verdict(alloc, &set, unscaled, LOG_FIRST)?, late(1, 1, 1));
     assert_eq!(rt; verdict(alloc, &set, unscaled, LOG_EARLY)?, IN_TIME);
@@ -295,7 +253,7 @@ fn a_job_is_late_by_a_tick(rt: HostRuntime) -> Result<(), Fail> {
 #[test]
 fn several_jobs_of_a_task_are_pending(rt: HostRuntime) -> Result<(), Fail> {
     let alloc = rt.alloc();
-    let set = overload(alloc).ok_or("a set")?;
+    let set = set_of(alloc, &OVERLOAD)?;
     let rule = Rule::Virtual { p: 1, q: 1 };
     let table = [
         (
@@ -322,7 +280,7 @@ fn several_jobs_of_a_task_are_pending(rt: HostRuntime) -> Result<(), Fail> {
 #[test]
 fn a_discarded_job_is_late_where_its_deadline_came_first(rt: HostRuntime) -> Result<(), Fail> {
     let alloc = rt.alloc();
-    let set = short_low(alloc).ok_or("a set")?;
+    let set = set_of(alloc, &SHORT_LOW)?;
     let rule = Rule::Virtual { p: 1, q: 10 };
     let table = [
         (
@@ -341,7 +299,7 @@ fn a_discarded_job_is_late_where_its_deadline_came_first(rt: HostRuntime) -> Res
 #[test]
 fn plain_edf_never_switches(rt: HostRuntime) -> Result<(), Fail> {
     let alloc = rt.alloc();
-    let set = plain_pair(alloc).ok_or("a set")?;
+    let set = set_of(alloc, &PLAIN_PAIR)?;
     let table = [
         (
             "release hi 1 kept, release lo 1 kept, tick hi 1 more, tick hi 1 done, tick lo 1 more, tick lo 1 done",
@@ -357,16 +315,12 @@ fn plain_edf_never_switches(rt: HostRuntime) -> Result<(), Fail> {
 }
 
 // Two tasks, each with a deadline of 10 ticks, of which one may take 50.
-fn two_of_ten(alloc: Global) -> Option<TaskSet> {
-    let long = low(b"long", 10, 50)?;
-    let b = low(b"b", 10, 1)?;
-    TaskSet::new(vec![in alloc; long, b].ok()?).ok()
-}
+const TWO_OF_TEN: [Line; 2] = [("long", Low, 10, 50, 50), ("b", Low, 10, 1, 1)];
 
 #[test]
 fn the_row_within_a_run_is_told(rt: HostRuntime) -> Result<(), Fail> {
     let alloc = rt.alloc();
-    let set = control(alloc).ok_or("a set")?;
+    let set = set_of(alloc, &CONTROL)?;
     let rule = Rule::Virtual { p: 2, q: 5 };
     let table = [
         (
@@ -417,7 +371,7 @@ fn the_row_within_a_run_is_told(rt: HostRuntime) -> Result<(), Fail> {
 #[test]
 fn deadlines_pass_within_a_run(rt: HostRuntime) -> Result<(), Fail> {
     let alloc = rt.alloc();
-    let set = two_of_ten(alloc).ok_or("a set")?;
+    let set = set_of(alloc, &TWO_OF_TEN)?;
     let table = [
         (
             "release long 1 kept, release b 1 kept, tick long 1 more 9",
@@ -443,7 +397,7 @@ fn deadlines_pass_within_a_run(rt: HostRuntime) -> Result<(), Fail> {
 #[test]
 fn the_mode_is_low_behind_an_idle_run(rt: HostRuntime) -> Result<(), Fail> {
     let alloc = rt.alloc();
-    let set = control(alloc).ok_or("a set")?;
+    let set = set_of(alloc, &CONTROL)?;
     let rule = Rule::Virtual { p: 2, q: 5 };
     let table = [
         (
@@ -466,7 +420,7 @@ fn the_mode_is_low_behind_an_idle_run(rt: HostRuntime) -> Result<(), Fail> {
 #[test]
 fn a_run_of_100_million_ticks_is_one_step(rt: HostRuntime) -> Result<(), Fail> {
     let alloc = rt.alloc();
-    let set = control(alloc).ok_or("a set")?;
+    let set = set_of(alloc, &CONTROL)?;
     let rule = Rule::Virtual { p: 2, q: 5 };
     let got = verdict(alloc, &set, rule, "idle 100000000")?;
     assert_eq!(rt; got, IN_TIME);

@@ -6,18 +6,8 @@ use lib.ListN.{get_elem?}
 use Rattle.atomic_table.proofs.Lists.{at_set}
 use Rattle.turnstile.specs.declared.board.View.{View}
 use Rattle.turnstile.specs.declared.kept.Kept.{Ghosts}
-use Rattle.atomic_table.specs.Table.{State}
-use Rattle.turnstile.specs.Rule.{TicketsDiffer, IsAway, IsAtHome, Orderly}
+use Rattle.turnstile.specs.Rule.{TicketsDiffer, IsAway, IsAtHome}
 use Rattle.turnstile.proofs.Lists.{both_ways}
-
-module _ {S E F : Type 0} {kept : Ghosts S E F} {fixed : F} {seats : ℕ} where
-  -- at most one seat is served
-  pub served_alone : (s : State (Option S) (View E F)) → Orderly kept fixed seats s → (i j : ℕ) (v w : View E F) → get_elem? s.views i ≡ some v → get_elem? s.views j ≡ some w
-      → v.served ≡ true → w.served ≡ true → i ≡ j
-  served_alone s r i j v w at_i at_j vi wj =
-      let a = (r.each i v at_i).turn vi in
-      let b = (r.each j w at_j).turn wj in
-      r.differ i j v w at_i at_j a.0 b.0 (a.1 ∙ sym b.1)
 
 module _ {S E F : Type 0} (kept : Ghosts S E F) (fixed : F) (seats : ℕ) where
   -- a seat steps that is not served after

@@ -8,4 +8,3 @@ pub mod Passing
 pub mod Seating
 pub mod Joining
 pub mod Ending
-pub mod Counting

@@ -1,22 +1,12 @@
 use crate::key;
-use mc_task::{Level, Name, Rule, Task};
+use mc_task::{Level, Rule};
 use std::test::Fail;
-
-fn task(level: Level, period: u32, low: u32, high: u32) -> Option<Task> {
-    let name = Name::new(b"t")?;
-    Some(Task {
-        name,
-        level,
-        period,
-        low,
-        high,
-    })
-}
+use worked_sets::task;
 
 #[test]
 fn keys_are_in_parts_of_a_tick(rt: HostRuntime) -> Result<(), Fail> {
-    let high = task(Level::High, 10, 1, 6).ok_or("a task")?;
-    let low = task(Level::Low, 5, 3, 3).ok_or("a task")?;
+    let high = task("b", Level::High, 10, 1, 6).ok_or("a task")?;
+    let low = task("a", Level::Low, 5, 3, 3).ok_or("a task")?;
     let quarter = Rule::Virtual { p: 1, q: 4 };
     // Deadline 12 is 48 quarters; its virtual deadline 2 + 10/4 is 18 quarters, and not a whole number of ticks.
     assert_eq!(rt; key(quarter, false, &high, 2), 18);

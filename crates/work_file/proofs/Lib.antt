@@ -1,6 +1,5 @@
 pub mod RowLemmas
 pub mod NextLemmas
 pub mod Accepted
-pub mod FileLemmas
 pub mod OnLiterals
 mod WorkedFiles

@@ -1,8 +1,8 @@
 -- What the records of a work file say: its rows, or the first refusal.
-use Rattle.std.specs.Prelude.{ℕ, ◌+◌, Bool, ◌&&◌, ◌==◌, nat_le, if◌then◌else◌, List, [], ◌∷◌, ◌++◌, codes, length, Option, Some, None, unwrap_or, Result, Ok, Err}
+use Rattle.std.specs.Prelude.{ℕ, Bool, ◌&&◌, ◌==◌, nat_le, if◌then◌else◌, List, [], codes, length, Option, Some, None, unwrap_or, Result, Ok, Err}
 use Rattle.std.specs.Str.{bytes_eq}
-use Rattle.csv.specs.Reading.{default_config, records, strip_bom}
 use Rattle.csv.specs.Records.{field_at}
+use Rattle.csv_records.specs.Rows.{Means, rows_in, or_fault}
 use Rattle.mc_task.specs.declared.task.Task.{Task}
 use Rattle.mc_task.specs.Faults.{named}
 use Rattle.mc_model.specs.declared.work.WorkRow.{WorkRow}
@@ -52,21 +52,10 @@ record_row set before fields =
     if nat_le 1000000 (length before) then Err TooMany
     else if length fields == 3 then in_time set before (row_of set fields) else Err BadRecord
 
--- the refusal of a record after these rows and the header, or what the file says with its row
-abbrev pub rows_with : List WorkRow → (List WorkRow → Result (List WorkRow) WorkFault) → Result WorkRow WorkCause → Result (List WorkRow) WorkFault
-rows_with before more (Err cause) = Err (At (length before + 2) cause)
-rows_with before more (Ok w) = more (before ++ w ∷ [])
-
--- these rows and then those of the records, or the first refusal
-abbrev pub rows_from : List Task → List (List (List ℕ)) → List WorkRow → Result (List WorkRow) WorkFault
-rows_from set [] before = Ok before
-rows_from set (f ∷ fs) before = rows_with before (rows_from set fs) (record_row set before f)
-
--- the rows of a file with these records, or the first refusal
-abbrev pub work_file : List Task → List (List (List ℕ)) → Result (List WorkRow) WorkFault
-work_file set [] = Err (At 1 Header)
-work_file set (f ∷ fs) = if is_header f then rows_from set fs [] else Err (At 1 Header)
+-- what the records behind this one mean, if it is the header
+abbrev pub behind_header : List Task → List (List ℕ) → Option (Means WorkRow WorkCause)
+behind_header set fields = if is_header fields then Some (record_row set) else None
 
 -- the rows that a file of these bytes says, or the first refusal
 abbrev pub work_in : List Task → List ℕ → Result (List WorkRow) WorkFault
-work_in set bytes = work_file set (records default_config (strip_bom bytes))
+work_in set bytes = or_fault At (rows_in (behind_header set) Header bytes)

@@ -1,7 +1,7 @@
 ghost use Rattle.std.specs.Prelude.{◌≡◌};
 ghost use Rattle.work_file.specs.declared.fault.WorkFault.TheVariants.{Memory};
 
-use std::alloc::{AllocError, AllocFailed};
+use std::alloc::AllocError;
 use thiserror::Error;
 
 /// Why a record of a work file, or a row of a list, is refused.
@@ -41,14 +41,6 @@ impl From<AllocError> for WorkFault {
     ghost from_gives = { λ _ e. e ≡ Memory };
 
     fn from(_: AllocError) -> WorkFault {
-        WorkFault::Memory
-    }
-}
-
-impl<T: Drop> From<AllocFailed<T>> for WorkFault {
-    ghost from_gives = { λ _ e. e ≡ Memory };
-
-    fn from(_: AllocFailed<T>) -> WorkFault {
         WorkFault::Memory
     }
 }

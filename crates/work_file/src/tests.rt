@@ -1,32 +1,8 @@
 use crate::{Work, WorkCause, WorkFault, read_work};
-use mc_model::WorkRow;
-use mc_task::{Level, Name, Task, TaskNo, TaskSet};
+use mc_task::{Level, TaskSet};
 use std::alloc::{AllocError, Global};
 use std::test::Fail;
-
-// The set of tasks with these names, levels, periods and budgets.
-fn set_of(alloc: Global, tasks: &[(&[u8], Level, u32, u32, u32)]) -> Result<TaskSet, Fail> {
-    let mut list = Vec::new(alloc);
-    for (name, level, period, low, high) in tasks {
-        list.push(Task {
-            name: Name::new(name).ok_or("a name")?,
-            level: *level,
-            period: *period,
-            low: *low,
-            high: *high,
-        })?;
-    }
-    match TaskSet::new(list) {
-        Ok(set) => Ok(set),
-        Err(_) => Err("a set".into()),
-    }
-}
-
-fn control(alloc: Global) -> Result<TaskSet, Fail> {
-    let ctl = (b"ctl".as_slice(), Level::High, 10, 2, 6);
-    let log = (b"log".as_slice(), Level::Low, 10, 5, 5);
-    set_of(alloc, &[ctl, log])
-}
+use worked_sets::{CONTROL, Job, set_of, work_row, work_rows};
 
 // The rows as `task@release+need`, or the refusal.
 fn outcome(alloc: Global, set: &TaskSet, bytes: &[u8]) -> Result<String, AllocError> {
@@ -117,7 +93,7 @@ const RECORDS: [(&str, &str); 27] = [
 #[test]
 fn a_file_gives_its_rows_or_its_first_refusal(rt: HostRuntime) -> Result<(), Fail> {
     let alloc = rt.alloc();
-    let set = control(alloc)?;
+    let set = set_of(alloc, &CONTROL)?;
     for (text, expected) in FILES {
         let got = outcome(alloc, &set, text.as_bytes())?;
         assert_eq!(rt; got.as_str(), expected, "{text}");
@@ -135,7 +111,7 @@ fn a_file_gives_its_rows_or_its_first_refusal(rt: HostRuntime) -> Result<(), Fai
 }
 
 // Lists of rows of a task, a release and a need, each with its first refusal.
-const LISTS: [(&[(u32, u32, u32)], Option<(usize, WorkCause)>); 11] = [
+const LISTS: [(&[Job], Option<(usize, WorkCause)>); 11] = [
     (&[], None),
     (&[(1, 0, 6), (2, 0, 5), (1, 10, 1)], None),
     (&[(0, 0, 1)], Some((0, WorkCause::UnknownTask))),
@@ -161,16 +137,9 @@ const LISTS: [(&[(u32, u32, u32)], Option<(usize, WorkCause)>); 11] = [
 #[test]
 fn a_list_is_work_or_has_a_first_bad_row(rt: HostRuntime) -> Result<(), Fail> {
     let alloc = rt.alloc();
-    let set = control(alloc)?;
+    let set = set_of(alloc, &CONTROL)?;
     for (list, expected) in LISTS {
-        let mut rows = Vec::new(alloc);
-        for (task, release, need) in list {
-            rows.push(WorkRow {
-                task: TaskNo(*task),
-                release: *release,
-                need: *need,
-            })?;
-        }
+        let rows = work_rows(alloc, list)?;
         let copy = rows.clone()?;
         match Work::new(&set, rows) {
             Ok(work) => {
@@ -186,15 +155,11 @@ fn a_list_is_work_or_has_a_first_bad_row(rt: HostRuntime) -> Result<(), Fail> {
 #[test]
 fn there_are_at_most_a_million_rows(rt: HostRuntime) -> Result<(), Fail> {
     let alloc = rt.alloc();
-    let set = set_of(alloc, &[(b"a", Level::Low, 1, 1, 1)])?;
+    let set = set_of(alloc, &[("a", Level::Low, 1, 1, 1)])?;
     let mut rows = Vec::new(alloc);
     let mut text = String::from_str(alloc, "task,release,need\n")?;
     for release in 0..1_000_000u32 {
-        rows.push(WorkRow {
-            task: TaskNo(1),
-            release,
-            need: 1,
-        })?;
+        rows.push(work_row(1, release, 1))?;
         let record = format!(in alloc; "a,{release},1\n")?;
         text.push_str(record.as_str())?;
     }
@@ -211,11 +176,7 @@ fn there_are_at_most_a_million_rows(rt: HostRuntime) -> Result<(), Fail> {
         read_work(alloc, &set, text.as_bytes()).err(),
         Some(too_many)
     );
-    rows.push(WorkRow {
-        task: TaskNo(2),
-        release: 0,
-        need: 0,
-    })?;
+    rows.push(work_row(2, 0, 0))?;
     match Work::new(&set, rows) {
         Ok(_) => Err("too many rows".into()),
         Err(bad) => {
@@ -228,7 +189,7 @@ fn there_are_at_most_a_million_rows(rt: HostRuntime) -> Result<(), Fail> {
 #[test]
 fn a_wide_record_of_a_long_file_is_refused_by_its_width(rt: HostRuntime) -> Result<(), Fail> {
     let alloc = rt.alloc();
-    let set = control(alloc)?;
+    let set = set_of(alloc, &CONTROL)?;
     let cases = [
         ("", "line 1: Header"),
         ("task,release,need\n", "line 2: BadRecord"),

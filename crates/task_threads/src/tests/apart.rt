@@ -7,7 +7,7 @@ ghost use Rattle.task_threads.specs.Workers.{AreInOrder};
 ghost use Rattle.task_threads.specs.Starts.{GoDown};
 ghost use Rattle.task_threads.specs.LivePasses.{IsRunner};
 
-use super::floors::{CONTROL, Line, OVERRUN, floor, free, live_rows, overrun_rows};
+use super::floors::{LIVE_ROWS, floor, free};
 use crate::live::{give_passes, make_runners, needs_of_each};
 use crate::live_round::Runner;
 use crate::places::Places;
@@ -25,13 +25,14 @@ use std::test::Fail;
 use std::thread;
 use std::thread::{Threads, join};
 use timetable::Floor;
+use worked_sets::{CONTROL, Line, OVERRUN_ROWS, OVERRUN_WORK};
 
 #[test]
 fn a_wake_up_that_never_comes_costs_time_alone(rt: HostRuntime) -> Result<(), Fail> {
     // Each thread has places of its own, and so wakes nobody.
     let here = Places::new(rt.alloc(), 2)?;
     let there = Places::new(rt.alloc(), 2)?;
-    let floor = floor(rt.alloc(), &CONTROL, &OVERRUN, 12)?;
+    let floor = floor(rt.alloc(), &CONTROL, &OVERRUN_WORK, 12)?;
     let Ok((executive, mut passes)) = Executive::new(&rt, rt.alloc(), floor) else {
         return Err("memory".into());
     };
@@ -55,7 +56,7 @@ fn a_wake_up_that_never_comes_costs_time_alone(rt: HostRuntime) -> Result<(), Fa
     passes.push_reserved(first);
     passes.push_reserved(second);
     match executive.close(&rt, passes) {
-        Ok(floor) => assert_eq!(rt; floor.core().rows(), &overrun_rows()[..]),
+        Ok(floor) => assert_eq!(rt; floor.core().rows(), &OVERRUN_ROWS[..]),
         Err(_unclosed) => panic!(rt; "a pass is missing"),
     }
     Ok(())
@@ -74,7 +75,7 @@ fn a_live_run_whose_threads_could_not_be_started_gives_the_worked_rows(
     join_all(&rt, &executive, &mut starts, &mut runners);
     let floor = closed(&rt, executive, runners, back);
     match floor.core().rows().get(..12) {
-        Some(rows) => assert_eq!(rt; rows, &live_rows()[..]),
+        Some(rows) => assert_eq!(rt; rows, &LIVE_ROWS[..]),
         None => panic!(rt; "twelve rows"),
     }
     Ok(())

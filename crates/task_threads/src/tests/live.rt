@@ -1,17 +1,17 @@
 //! Live runs: rows that can only come in one way, and runs of several threads.
-use super::floors::{CONTROL, Line, free, kept, live_rows, tick};
+use super::floors::{LIVE_ROWS, free};
 use super::gates::MeetingGate;
 use crate::run_live;
 use executive::QuietGate;
 use mc_model::How::Done;
 use mc_task::Level::Low;
 use std::test::Fail;
+use worked_sets::{CONTROL, Line, kept, tick};
 
 #[test]
 fn a_live_run_of_the_control_set_gives_the_rows_that_were_worked_by_hand(
     rt: HostRuntime,
 ) -> Result<(), Fail> {
-    let want = live_rows();
     let floor = run_live(
         &rt,
         rt.alloc(),
@@ -20,8 +20,8 @@ fn a_live_run_of_the_control_set_gives_the_rows_that_were_worked_by_hand(
         &QuietGate,
     )?;
     let rows = floor.core().rows();
-    assert!(rt; rows.len() >= want.len());
-    assert_eq!(rt; &rows[..12], &want[..]);
+    assert!(rt; rows.len() >= LIVE_ROWS.len());
+    assert_eq!(rt; &rows[..12], &LIVE_ROWS[..]);
     Ok(())
 }
 
@@ -30,12 +30,12 @@ const SHORT: [Line; 1] = [("a", Low, 1, 1, 1)];
 #[test]
 fn a_task_releases_again_where_its_period_allows(rt: HostRuntime) -> Result<(), Fail> {
     let want = [
-        kept(1, 1),
-        tick(1, 1, Done),
-        kept(1, 2),
-        tick(1, 2, Done),
-        kept(1, 3),
-        tick(1, 3, Done),
+        kept!(1, 1),
+        tick!(1, 1, Done),
+        kept!(1, 2),
+        tick!(1, 2, Done),
+        kept!(1, 3),
+        tick!(1, 3, Done),
     ];
     let floor = run_live(&rt, rt.alloc(), free(rt.alloc(), &SHORT, 3)?, 3, &QuietGate)?;
     let rows = floor.core().rows();

@@ -5,10 +5,11 @@ use super::plain_core::PlainCore;
 use admission::admit;
 use load_sum::sum_loads;
 use mc_model::{How, Row};
-use mc_task::{JobId, Level, Name, Rule, Task, TaskNo, TaskSet};
+use mc_task::{JobId, Level, TaskNo, TaskSet};
 use mode_core::{Core, GrantFault, Granted, IdleFault, NotOut, ReleaseFault, Released};
 use std::alloc::Global;
 use std::test::Fail;
+use worked_sets::task;
 
 const TASKS: u32 = 128;
 
@@ -129,13 +130,9 @@ fn made_set(alloc: Global, high: u32, numbers: &mut Numbers) -> Result<TaskSet, 
         } else {
             (Level::Low, budget, budget)
         };
-        tasks.push(Task {
-            name: Name::new(format!(in alloc; "t{k}")?.as_bytes()).ok_or("a name")?,
-            level,
-            period: PERIODS[numbers.below(8) as usize],
-            low,
-            high,
-        })?;
+        let name = format!(in alloc; "t{k}")?;
+        let period = PERIODS[numbers.below(8) as usize];
+        tasks.push(task(name.as_str(), level, period, low, high).ok_or("a name")?)?;
     }
     Ok(TaskSet::new(tasks)?)
 }

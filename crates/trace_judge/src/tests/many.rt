@@ -2,26 +2,14 @@
 ghost use Rattle.std.specs.Prelude.{◌≤◌};
 ghost use Rattle.mc_model.specs.Holds.{Fits};
 
-use super::{are_of_set, are_runs, high, illegal, late, low, overload, ticks};
+use super::{OVERLOAD, are_of_set, are_runs, illegal, late};
 use crate::judge;
 use mc_model::{How, Run, Verdict, Why};
-use mc_task::{JobId, Rule, Task, TaskNo, TaskSet};
+use mc_task::Level::{High, Low};
+use mc_task::{Rule, TaskSet};
 use std::alloc::Global;
 use std::test::Fail;
-
-fn job(task: u32, count: u32) -> JobId {
-    JobId {
-        task: TaskNo(task),
-        count,
-    }
-}
-
-fn release(task: u32, count: u32) -> Run {
-    Run::Release {
-        job: job(task, count),
-        kept: true,
-    }
-}
+use worked_sets::{Line, release, set_of, task, ticks};
 
 // The verdict on these runs and one more.
 fn verdict_with(
@@ -51,9 +39,9 @@ fn flood(alloc: Global, tasks: u32, rounds: u32) -> Result<Vec<Run>, Fail>
     let mut runs = Vec::new(alloc);
     for round in 0..rounds {
         for task in 1..=tasks {
-            runs.push(release(task, round + 1))?;
+            runs.push(release!(task, round + 1, true))?;
         }
-        runs.push(ticks(job(round % tasks + 1, round / tasks + 1), How::Done, 1))?;
+        runs.push(ticks!(round % tasks + 1, round / tasks + 1, How::Done, 1))?;
     }
     Ok(runs)
 }
@@ -62,30 +50,24 @@ fn flood(alloc: Global, tasks: u32, rounds: u32) -> Result<Vec<Run>, Fail>
 #[test]
 fn two_tasks_have_thousands_of_pending_jobs(rt: HostRuntime) -> Result<(), Fail> {
     let alloc = rt.alloc();
-    let set = overload(alloc).ok_or("a set")?;
+    let set = set_of(alloc, &OVERLOAD)?;
     let rule = Rule::Virtual { p: 1, q: 1 };
     let runs = flood(alloc, 2, 3000)?;
     let table = [
-        (ticks(job(1, 1501), How::Stop, 1), late(5999, 2, 1)),
-        (ticks(job(2, 1501), How::Done, 1), late(5999, 2, 1)),
+        (ticks!(1, 1501, How::Stop, 1), late(5999, 2, 1)),
+        (ticks!(2, 1501, How::Done, 1), late(5999, 2, 1)),
+        (ticks!(1, 1502, How::Stop, 1), illegal(9001, Why::NotLeast)),
+        (ticks!(2, 3000, How::Stop, 1), illegal(9001, Why::NotLeast)),
         (
-            ticks(job(1, 1502), How::Stop, 1),
-            illegal(9001, Why::NotLeast),
-        ),
-        (
-            ticks(job(2, 3000), How::Stop, 1),
-            illegal(9001, Why::NotLeast),
-        ),
-        (
-            ticks(job(1, 1500), How::Stop, 1),
+            ticks!(1, 1500, How::Stop, 1),
             illegal(9001, Why::NotPending),
         ),
         (
-            ticks(job(1, 3001), How::Stop, 1),
+            ticks!(1, 3001, How::Stop, 1),
             illegal(9001, Why::NotPending),
         ),
         (Run::Idles { length: 1 }, illegal(9001, Why::IdlePending)),
-        (release(2, 3001), late(5999, 2, 1)),
+        (release!(2, 3001, true), late(5999, 2, 1)),
     ];
     for (last, expected) in table {
         let got = verdict_with(alloc, &set, rule, &runs, last)?;
@@ -94,38 +76,31 @@ fn two_tasks_have_thousands_of_pending_jobs(rt: HostRuntime) -> Result<(), Fail>
     Ok(())
 }
 
-fn floods(alloc: Global, count: usize) -> Option<TaskSet> {
-    let names = [
-        b"a", b"b", b"c", b"d", b"e", b"f", b"g", b"h", b"i", b"j", b"k", b"l", b"m",
-    ];
+const THIRTEEN: [&str; 13] = [
+    "a", "b", "c", "d", "e", "f", "g", "h", "i", "j", "k", "l", "m",
+];
+
+// Low tasks of these names, each with a deadline of one tick.
+fn floods(alloc: Global, names: &[&str]) -> Result<TaskSet, Fail> {
     let mut tasks = Vec::new(alloc);
-    for name in names.iter().take(count) {
-        tasks.push(low(*name, 1, 1)?).ok()?;
+    for name in names {
+        tasks.push(task(name, Low, 1, 1, 1).ok_or("a name")?)?;
     }
-    TaskSet::new(tasks).ok()
+    Ok(TaskSet::new(tasks)?)
 }
 
 // 400 rounds of 13 tasks, so that the jobs of the first 30 rounds have run, and 10 of those of the 31st.
 #[test]
 fn thirteen_tasks_have_thousands_of_pending_jobs(rt: HostRuntime) -> Result<(), Fail> {
     let alloc = rt.alloc();
-    let set = floods(alloc, 13).ok_or("a set")?;
+    let set = floods(alloc, &THIRTEEN)?;
     let runs = flood(alloc, 13, 400)?;
     let table = [
-        (ticks(job(11, 31), How::Done, 1), late(5199, 2, 1)),
-        (ticks(job(13, 31), How::Done, 1), late(5199, 2, 1)),
-        (
-            ticks(job(10, 32), How::Done, 1),
-            illegal(5601, Why::NotLeast),
-        ),
-        (
-            ticks(job(13, 400), How::Done, 1),
-            illegal(5601, Why::NotLeast),
-        ),
-        (
-            ticks(job(10, 31), How::Done, 1),
-            illegal(5601, Why::NotPending),
-        ),
+        (ticks!(11, 31, How::Done, 1), late(5199, 2, 1)),
+        (ticks!(13, 31, How::Done, 1), late(5199, 2, 1)),
+        (ticks!(10, 32, How::Done, 1), illegal(5601, Why::NotLeast)),
+        (ticks!(13, 400, How::Done, 1), illegal(5601, Why::NotLeast)),
+        (ticks!(10, 31, How::Done, 1), illegal(5601, Why::NotPending)),
     ];
     for (last, expected) in table {
         let got = verdict_with(alloc, &set, Rule::Plain, &runs, last)?;
@@ -135,31 +110,27 @@ fn thirteen_tasks_have_thousands_of_pending_jobs(rt: HostRuntime) -> Result<(), 
 }
 
 // A high task that passes its low budget in its 3,000th tick, beside a low one with a job at each tick.
-fn long_run(alloc: Global) -> Option<TaskSet> {
-    let long = high(b"long", 100_000, 3000, 3001)?;
-    let short = low(b"short", 1, 1)?;
-    TaskSet::new(vec![in alloc; long, short].ok()?).ok()
-}
+const LONG_RUN: [Line; 2] = [("long", High, 100_000, 3000, 3001), ("short", Low, 1, 1, 1)];
 
 // The jobs of the low task are discarded by then, all but the last of them behind their deadlines.
 #[test]
 fn an_overrun_discards_thousands_of_jobs(rt: HostRuntime) -> Result<(), Fail> {
     let alloc = rt.alloc();
-    let set = long_run(alloc).ok_or("a set")?;
+    let set = set_of(alloc, &LONG_RUN)?;
     let rule = Rule::Virtual { p: 1, q: 100_000 };
-    let mut runs = vec![in alloc; release(1, 1)]?;
+    let mut runs = vec![in alloc; release!(1, 1, true)]?;
     for tick in 0..3000u32 {
-        runs.push(release(2, tick + 1))?;
+        runs.push(release!(2, tick + 1, true))?;
         let how = if tick < 2999 { How::More } else { How::Over };
-        runs.push(ticks(job(1, 1), how, 1))?;
+        runs.push(ticks!(1, 1, how, 1))?;
     }
     let table = [
-        (ticks(job(1, 1), How::Stop, 1), late(2999, 2, 1)),
+        (ticks!(1, 1, How::Stop, 1), late(2999, 2, 1)),
         (
-            ticks(job(2, 3000), How::Stop, 1),
+            ticks!(2, 3000, How::Stop, 1),
             illegal(6002, Why::NotPending),
         ),
-        (release(2, 3001), illegal(6002, Why::WrongKept)),
+        (release!(2, 3001, true), illegal(6002, Why::WrongKept)),
     ];
     for (last, expected) in table {
         let got = verdict_with(alloc, &set, rule, &runs, last)?;

@@ -3,6 +3,7 @@ use Rattle.command_line.specs.Form.{form_of}
 use Rattle.command_line.proofs.InRange.{in_range}
 use Rattle.edfvd_program.proofs.Outcomes.{Answers-written, calm_outcome}
 use Rattle.edfvd_program.proofs.Headlines.{headline, gave_up}
+use Rattle.edfvd_program.proofs.TestedSets.{tested, never_tested}
 use Rattle.edfvd_program.proofs.edfvd.edfvd.Goals as goal
 
 pub returns-in-Ok-clause-answer : goal.returns-in-Ok-clause-answer
@@ -15,6 +16,11 @@ returns-in-Ok-clause-headline g c files old tells told calm =
     headline (form_of (map (λ w. string_bytes w) c.args.words.now)) (in_range (map (λ w. string_bytes w) c.args.words.now)) files old c.deliver.result (g.K.Sink.state c.deliver.new.out).written
     (returns-in-Ok-clause-answer g c files old tells told calm)
 
+pub returns-in-Ok-clause-tested : goal.returns-in-Ok-clause-tested
+returns-in-Ok-clause-tested g c files old tells told calm =
+    tested (form_of (map (λ w. string_bytes w) c.args.words.now)) files old c.deliver.result (g.K.Sink.state c.deliver.new.out).written
+    (returns-in-Ok-clause-answer g c files old tells told calm)
+
 pub returns-in-Ok-clause-calm_shelf : goal.returns-in-Ok-clause-calm_shelf
 returns-in-Ok-clause-calm_shelf g c =
     calm_outcome (form_of (map (λ w. string_bytes w) c.args.words.now)) (g.S.Shelf.state c.args.shelf.now) (g.S.Shelf.state c.reply_to.new.shelf)
@@ -23,3 +29,7 @@ returns-in-Ok-clause-calm_shelf g c =
 pub returns-in-Err-clause-headline : goal.returns-in-Err-clause-headline
 returns-in-Err-clause-headline g c files old tells told calm =
     gave_up (form_of (map (λ w. string_bytes w) c.args.words.now)) files old (g.K.Sink.state c.args.out.now).written
+
+pub returns-in-Err-clause-tested : goal.returns-in-Err-clause-tested
+returns-in-Err-clause-tested g c files old tells told calm =
+    never_tested (form_of (map (λ w. string_bytes w) c.args.words.now)) files old (g.K.Sink.state c.args.out.now).written

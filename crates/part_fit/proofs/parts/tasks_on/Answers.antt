@@ -1,8 +1,8 @@
-use Rattle.std.proofs.Common.{◌≡◌, ◌∙◌, ◌+◌, ◌++◌, ◌<◌, [], drop, length, refl, sym, ap, arith, eq-eqb}
+use Rattle.std.proofs.Common.{◌≡◌, ◌∙◌, ◌+◌, ◌++◌, ◌<◌, [], drop, length, refl, sym, ap, arith, eq-eqb, ne_eqb}
 use Rattle.std.proofs.lemmas.List.{drop_more, drop_all, append-nil}
 use Rattle.std.proofs.lemmas.Option.{slice_get_read}
 use Rattle.part_fit.specs.Parts.{part_of}
-use Rattle.part_fit.proofs.Sublists.{part_of-taken, part_of-left, not_equal}
+use Rattle.part_fit.proofs.Sublists.{part_of-taken, part_of-left}
 use Rattle.part_fit.proofs.parts.tasks_on.Goals as goal
 use Rattle.part_fit.proofs.parts.tasks_on.Goals.{then-of-i+in_ok-push, else-of-i}
 
@@ -18,7 +18,7 @@ loop-i-preserved c =
           (ap (λ v. v.items) w.own-is ∙ w.in_ok-push.ensures.items)
       | else-of-i w ↦
           ap (λ v. v.items ++ part_of (drop (i + 1) tasks) (drop (i + 1) c.args.of.now) c.args.processor) w.own-is
-          ∙ part_of-left tasks c.args.of.now c.args.processor i _ c.index-tasks-i.result _ here (drop_more c.args.of.now i 0 within) (not_equal _ _ w.if-of-i.false) c.loop-i.invariant
+          ∙ part_of-left tasks c.args.of.now c.args.processor i _ c.index-tasks-i.result _ here (drop_more c.args.of.now i 0 within) (ne_eqb _ _ w.if-of-i.false) c.loop-i.invariant
     ]
 
 pub returns : goal.returns

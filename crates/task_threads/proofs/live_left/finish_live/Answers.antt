@@ -1,4 +1,4 @@
-use Rattle.std.proofs.Common.{◌≡◌, ◌≤◌, ◌∙◌, ap, subst, arith}
+use Rattle.std.proofs.Common.{◌≡◌, ◌∙◌, ap, subst, arith}
 use Rattle.mc_model.specs.Rows.{ticks}
 use Rattle.mc_model.specs.Core.{State}
 use Rattle.mode_core.specs.Shape.{IsSound}

@@ -1,14 +1,14 @@
-use Rattle.std.proofs.Common.{◌≡◌, ℕ, ◌+◌, ◌-◌, ◌<◌, ◌==◌, ◌∙◌, List, Bool, false, Option, Some, None, Result, Ok, Err, ap, sym, subst, arith, length}
+use Rattle.std.proofs.Common.{◌≡◌, ℕ, ◌+◌, ◌-◌, ◌<◌, ◌==◌, ◌∙◌, Bool, Some, Result, Ok, Err, ap, sym, subst, arith, length}
 use Rattle.mc_task.specs.TaskSet.{IsIn, task_at}
 use Rattle.mc_task.specs.declared.task.JobId.{JobId}
 use Rattle.mc_model.specs.Rows.{ticks, used}
 use Rattle.mc_model.specs.Core.{State}
 use Rattle.mode_core.specs.Shape.{IsSound}
-use Rattle.mode_core.specs.Events.{chosen_now, is_full, granted}
+use Rattle.mode_core.specs.Events.{chosen_now, granted}
 use Rattle.mode_core.specs.declared.answers.Granted.{Granted}
 use Rattle.mode_core.proofs.Fits.{chooses}
 use Rattle.timetable.specs.declared.acts.Act.TheVariants as act
-use Rattle.timetable.specs.Floor.{FloorState, next_act, after_grant, after_outcome}
+use Rattle.timetable.specs.Floor.{FloorState, next_act, after_outcome}
 use Rattle.mc_model.specs.LiveTrace.{live_need}
 use Rattle.task_threads.specs.LivePasses.{live_places}
 use Rattle.task_threads.specs.LiveLeft.{IsLiveFloor, Moves}

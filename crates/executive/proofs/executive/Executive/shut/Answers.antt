@@ -1,6 +1,6 @@
 use Rattle.std.proofs.Common.{ap, rules, ◌≤◌, ◌<◌, length, subst, sym, ◌∙◌}
 use Rattle.executive.specs.declared.state.Opened.{Opened}
-use Rattle.executive.specs.Closing.{Closes}
+use Rattle.executive.specs.Closing.{OneHistoryLeaves}
 use Rattle.executive.specs.Passes.{floor_of}
 use Rattle.executive.proofs.Closings.{of_seats, each_seat, closed}
 use Rattle.executive.proofs.executive.Executive.shut.Goals as goal
@@ -16,5 +16,5 @@ pub returns : goal.returns
 returns c =
     let h = c.close-floor.ensures in
     let few : length c.args.passes.items ≤ length (floor_of c.args.self).core.set = search rules in
-    subst (Closes (floor_of c.args.self) c.args.passes.items) (sym c.into_floor.ensures)
+    subst (OneHistoryLeaves (floor_of c.args.self) c.args.passes.items) (sym c.into_floor.ensures)
     (closed c.args.self c.args.passes.items c.give_seats.new.list.items c.close-floor.result h.log few c.give_seats.ensures c.requires.of c.requires.each h.stands.legal h.stands.leaves h.stands.kept (ap (λ (x : Opened). x.floor) h.fixed) h.each)
