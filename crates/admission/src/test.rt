@@ -5,7 +5,7 @@ ghost use Rattle.mc_task.specs.declared.task.Rule.TheVariants.{Virtual};
 ghost use Rattle.mc_task.specs.TaskSet.{Set, IsScale};
 ghost use Rattle.mc_model.specs.Test.{rule_of, published, test};
 ghost use Rattle.mc_model.specs.Holds.{Holds, HoldsOver, Fits, IsThreeQuarters, IsThreeQuartersOver};
-ghost use Rattle.mc_model.specs.Holds.{TestByHolds, PublishedRuleHolds, TestRuleHolds, AdmittedIfHolds, NoneWherePublishedNone, ThreeQuartersLaw};
+ghost use Rattle.mc_model.specs.Holds.{TestByHolds, PublishedRuleHolds, EdfOrScaled, TestRuleHolds, AdmittedIfHolds, NoneWherePublishedNone, ThreeQuartersLaw};
 ghost use Rattle.load_sum.specs.Belong.{BelongTo, AreOfSomeSet};
 
 use load_sum::Loads;
@@ -20,6 +20,8 @@ pub fn admit(loads: &Loads) -> Option<Rule>
     ensures fits { IfSome result Fits }
     ensures holds { IfSome result (λ rule. (tasks : List Task) → BelongTo tasks loads.now → Holds tasks rule) }
     ensures law { PublishedRuleHolds }
+    // Plain EDF admits nothing more than the scale alone would, but sets of low tasks alone whose load is exactly 1.
+    ensures edf_or_scaled { EdfOrScaled }
 {
     rule_over(
         u128::from(loads.lcm),

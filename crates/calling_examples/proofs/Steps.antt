@@ -10,7 +10,7 @@ use Rattle.mode_core.specs.declared.answers.GrantFault.{GrantFault}
 use Rattle.mode_core.specs.declared.answers.IdleFault.TheVariants as idle_fault
 use Rattle.mode_core.specs.Events.{or_else, refused_if, unless, is_full, chosen_now, granted, grant_answer, after_grant, after_outcome, after_idle}
 use Rattle.mode_core.specs.Shape.{IsSound}
-use Rattle.mode_core.proofs.Keep.{no_held}
+use Rattle.mode_core.proofs.CallerLemmas.{no_held}
 use Rattle.timetable.proofs.Calls.{not_full, given_before, given}
 use Rattle.calling_examples.specs.Loop.{AddsTick}
 

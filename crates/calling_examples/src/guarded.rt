@@ -1,5 +1,5 @@
-// A first program: a set, its rule, and a loop over the core. It looks each task up before it is released or granted, so
-// its proof needs no file.
+// A first program: a set, its rule, and a loop over the core. It looks each task up before it is released, so its proof
+// needs no file.
 ghost use Rattle.std.specs.Prelude.{IfOk, IfSome};
 ghost use Rattle.mc_model.specs.Holds.{Fits, Holds};
 ghost use Rattle.mode_core.specs.Timely.{IsTimely};
@@ -80,11 +80,9 @@ fn release(core: &mut Core, task: TaskNo) {
 fn give_tick(core: &mut Core, done: bool) {
     match core.chosen() {
         Some(job) => {
-            if core.set().get(job.task).is_some() {
-                if let Ok(granted) = core.grant(job.task) {
-                    // Here the job would run for a tick, and say whether it is done with it.
-                    let _ = core.outcome(granted.job, done);
-                }
+            if let Ok(granted) = core.grant(job.task) {
+                // Here the job would run for a tick, and say whether it is done with it.
+                let _ = core.outcome(granted.job, done);
             }
         }
         None => {

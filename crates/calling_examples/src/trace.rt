@@ -21,7 +21,6 @@ pub fn trace_of(alloc: Global, core: &Core) -> Result<Vec<u8>, NoText>
     ensures text { IfOk result (λ text. text.items ≡ trace_text core.now.set (reverse core.now.rows)) }
     ensures too_many { result ≡ Err NoText.TooMany → 2000000 < length core.now.rows }
 {
-    let _sound = core.ticks();
     let rows = core.rows();
     if rows.len() > 2_000_000 {
         return Err(NoText::TooMany);

@@ -20,7 +20,8 @@ use Rattle.replies.specs.Reading.{or_refuse}
 use Rattle.serving.specs.Command.{answer, fetch, need}
 use Rattle.serving.specs.Outcome.{IsAnswer}
 use Rattle.demand_answers.specs.Demand.{TellsFit, TellsTested}
-use Rattle.edfvd_program.specs.Headline.{bytes_of, Succeeds}
+use Rattle.edfvd_program.specs.Headline.{bytes_of}
+use Rattle.edfvd_program.specs.Complete.{Succeeds}
 use Rattle.edfvd_program.specs.Tested.{SaysDemands, Tests}
 use Rattle.edfvd_program.proofs.Cases.{of_held, By, by_need, by_length, other_status}
 

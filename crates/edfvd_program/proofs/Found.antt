@@ -1,5 +1,5 @@
 -- What the headline says of the commands on a trace.
-use Rattle.std.proofs.Common.{◌≡◌, ◌≢◌, inl, inr, ℕ, ◌≤◌, ◌^◌, nat_le, if◌then◌else◌, Bool, true, false, List, [], ◌++◌, reverse, length, Some, Result, Ok, Err, refl, sym, ap, subst, ◌∙◌, arith, le-leb}
+use Rattle.std.proofs.Common.{◌≡◌, ◌≢◌, inl, inr, ℕ, ◌≤◌, ◌^◌, nat_le, if◌then◌else◌, Bool, true, false, List, [], ◌++◌, reverse, length, Option, Some, Result, Ok, Err, refl, sym, ap, subst, ◌∙◌, arith, le-leb}
 use Rattle.std.specs.List.{AllByRecursion}
 use Rattle.mc_task.specs.declared.task.Task.{Task}
 use Rattle.mc_task.specs.declared.task.Rule.{Rule}
@@ -11,6 +11,7 @@ use Rattle.mc_model.specs.Rows.{ticks}
 use Rattle.mc_model.specs.Runs.{expand}
 use Rattle.mc_model.specs.Legal.{Legal, IsOfSet}
 use Rattle.mc_model.specs.Late.{late}
+use Rattle.mc_model.specs.TraceText.{trace_text}
 use Rattle.mc_model.specs.Verdict.{first_unfit, verdict}
 use Rattle.mc_model.proofs.Verdicts.{legal_by_verdict, verdict-good}
 use Rattle.demand_law.proofs.Laws.{none_late}
@@ -26,7 +27,9 @@ use Rattle.replies.specs.Reading.{◌>>=◌, or_refuse, reply_by}
 use Rattle.task_answers.specs.Admitted.{Ruled, under}
 use Rattle.trace_answers.specs.OnTrace.{is_good, rows_in, told, judged, tells}
 use Rattle.trace_answers.proofs.GoodTrace.{no_fault_in, rows_of_runs}
-use Rattle.edfvd_program.specs.Headline.{SaysSet, IsAdmitted, SaysTrace, Succeeds, IsTold, IsTimely, Finds, FindsBy}
+use Rattle.edfvd_program.specs.Headline.{SaysSet, IsAdmitted, SaysTrace, WritesAgain, IsTimely, Finds}
+use Rattle.edfvd_program.specs.Told.{TellsOf}
+use Rattle.edfvd_program.specs.Complete.{IsTold, FindsEach, FindsBy}
 use Rattle.edfvd_program.proofs.Cases.{Second, other_status, Comes, next_of, by_second, second_fits}
 use Rattle.edfvd_program.proofs.Promised.{holds_for, timely, only_ruled}
 
@@ -138,19 +141,39 @@ good_0 telling ruled more reply h is good told (blames other is' bad s) =
     absurd (let clash : true ≡ false = sym good ∙ (sym (ap (λ g. is_good (verdict ruled.set.tasks ruled.rule g)) same) ∙ bad) in cc)
 good_0 telling ruled more reply h is good told (says other text is' good' t k) = ap (λ (r : Reply). r.status) k
 
+-- the trace that `migrate` finds legal is what it tells
+again : (telling : Telling) (ruled : Ruled) (h : List Row) (text old : List ℕ) (new : Option (List ℕ)) → told telling ruled h ≡ Ok text → new ≡ Some (old ++ text) → WritesAgain telling ruled.set.tasks h old new
+again Judge ruled h text old new t w = tt
+again (JudgeBy p q) ruled h text old new t w = tt
+again Chart ruled h text old new t w = tt
+again Report ruled h text old new t w = tt
+again Migrate ruled h text old new t w = let same : text ≡ trace_text ruled.set.tasks (reverse h) = cc in w ∙ ap (λ told. Some (old ++ told)) same
+
 -- what they promise under the test's rule
-pub finds : (telling : Telling) (bytes more old : List ℕ) (reply : Reply) → Comes bytes (TellsNext telling more) reply → Finds telling bytes more old reply.status (Some (old ++ reply.text))
-finds telling bytes more old reply h = record { finds = found; illegal = faulty; complete = complete }
+pub finds : (telling : Telling) (bytes more old : List ℕ) (reply : Reply) → Comes bytes (TellsNext telling more) reply
+    → Finds telling bytes more old reply.status (Some (old ++ reply.text)) × TellsOf telling bytes more old reply.status (Some (old ++ reply.text)) × FindsEach telling bytes more reply.status
+finds telling bytes more old reply h = (
+  record {
+    finds = λ e. (let (set, rule, h, text, legal, a, file, t, w) = found e in
+        (set, rule, h, a, file, again telling (under rule set) h text old (Some (old ++ reply.text)) t w, timely bytes set rule h a legal));
+    illegal = faulty;
+  },
+  λ e. (let (set, rule, h, text, legal, a, file, t, w) = found e in (set, rule, h, text, a, file, t, w)),
+  complete,
+)
   where
-    found_in : (set : Set) (rule : Rule) → IsAdmitted bytes set rule → length more ≤ 2 ^ 27 → Judges telling (under rule set) more reply → reply.status ≡ 0
-        → (set : Set) × (rule : Rule) × (h : List Row) × (text : List ℕ) × IsAdmitted bytes set rule × SaysTrace more set.tasks h × IsTimely set.tasks rule h × (told telling (under rule set) h ≡ Ok text) × (Some (old ++ reply.text) ≡ Some (old ++ text))
+    Found : Type 0
+    Found =
+        (set : Set) × (rule : Rule) × (h : List Row) × (text : List ℕ) × Legal set.tasks rule h
+        × IsAdmitted bytes set rule × SaysTrace more set.tasks h × (told telling (under rule set) h ≡ Ok text) × (Some (old ++ reply.text) ≡ Some (old ++ text))
+
+    found_in : (set : Set) (rule : Rule) → IsAdmitted bytes set rule → length more ≤ 2 ^ 27 → Judges telling (under rule set) more reply → reply.status ≡ 0 → Found
     found_in set rule a short (refuses s none) e = absurd (other_status reply 5 0 s e (λ k. absurd (omega (arith, k))))
     found_in set rule a short (blames h is bad s) e = absurd (other_status reply 6 0 s e (λ k. absurd (omega (arith, k))))
     found_in set rule a short (says h text is good t k) e =
-        (set, rule, h, text, a, (short, is), timely bytes set rule h a (legal_of_good set.tasks rule more h is good), t, ap (λ (r : Reply). Some (old ++ r.text)) k)
+        (set, rule, h, text, legal_of_good set.tasks rule more h is good, a, (short, is), t, ap (λ (r : Reply). Some (old ++ r.text)) k)
 
-    found : reply.status ≡ 0
-        → (set : Set) × (rule : Rule) × (h : List Row) × (text : List ℕ) × IsAdmitted bytes set rule × SaysTrace more set.tasks h × IsTimely set.tasks rule h × (told telling (under rule set) h ≡ Ok text) × (Some (old ++ reply.text) ≡ Some (old ++ text))
+    found : reply.status ≡ 0 → Found
     found e =
         let (set, rule, a, k) = only_ruled bytes (TellsNext telling more) reply 0 (λ z. absurd (omega (arith, z))) (λ z. absurd (omega (arith, z))) (λ z. absurd (omega (arith, z))) h e in
         elim (by_second (2 ^ 27) more (reply ≡ reply_by (tells telling (under rule set) more)) reply k) [
@@ -177,7 +200,7 @@ finds telling bytes more old reply h = record { finds = found; illegal = faulty;
           | inr q ↦ faulty_in set rule a q.1 (judges telling (under rule set) more reply q.0) e
         ]
 
-    complete : (set : Set) (rule : Rule) (h : List Row) → IsAdmitted bytes set rule → SaysTrace more set.tasks h → Legal set.tasks rule h → IsTold telling h → Succeeds reply.status
+    complete : FindsEach telling bytes more reply.status
     complete set rule t a said l told =
         let s = holds_for bytes set rule a in
         let k : reply ≡ reply_by (tells telling (under rule set) more) = second_fits (2 ^ 27) more (reply ≡ reply_by (tells telling (under rule set) more)) reply said.0 (next_of bytes (TellsNext telling more) reply set rule a h) in

@@ -1,4 +1,4 @@
--- The headline follows from the answer.
+-- The headline follows from the answer, and so does what is told, and that nothing is refused without reason.
 use Rattle.std.proofs.Common.{◌≡◌, ◌≢◌, inl, inr, ℕ, ◌≤◌, ◌^◌, nat_lt, List, ◌++◌, length, Option, Some, None, IfSome, Ok, refl, sym, ap, subst, ◌∙◌, arith}
 use Rattle.std.specs.Prelude.{MatchBool}
 use Rattle.mc_task.specs.declared.task.Task.{Task}
@@ -26,12 +26,18 @@ use Rattle.run_answers.specs.Live as live
 use Rattle.run_answers.specs.Soak.{workload_set, Soaks}
 use Rattle.edfvd_program.specs.Commands.{command}
 use Rattle.edfvd_program.specs.Outcome.{Answers}
-use Rattle.edfvd_program.specs.Headline.{bytes_of, SaysSet, SchedulesExactly, SpreadsExactly, Admits, Finds, Soaked, Headline}
+use Rattle.edfvd_program.specs.Headline.{bytes_of, SaysSet, SchedulesExactly, SpreadsExactly, Finds, SumsTimely, Headline}
+use Rattle.edfvd_program.specs.Told.{TellsOf, SumsUp, Told}
+use Rattle.edfvd_program.specs.Complete.{Succeeds, ServesAdmitted, FindsEach, Complete}
 use Rattle.edfvd_program.proofs.Cases.{by_weaker, by_need, of_held, Second, second_weaker, other_status, Comes, comes, by_text, by_ok, by_length, next_of}
 use Rattle.edfvd_program.proofs.Promised.{schedules_exactly}
 use Rattle.edfvd_program.proofs.Scheduled.{Runs, RunsNext, not_1_run, schedules, not_1_live, lives}
 use Rattle.edfvd_program.proofs.Spread.{runs_all}
 use Rattle.edfvd_program.proofs.Found.{TellsNext, not_1_tells, finds, finds_by}
+
+-- all three
+abbrev pub Promises : Option Form → Files → List ℕ → ℕ → Option (List ℕ) → Type 0
+Promises form files old ended new = Headline form files old ended new × Told form files old ended new × Complete form files ended
 
 -- what comes next of `check`
 abbrev ChecksNext : Ruled → Reply → Type 0
@@ -40,7 +46,7 @@ ChecksNext ruled reply = reply ≡ reply_of 0 (check_text ruled.set ruled.rule)
 not_1_check : (ruled : Ruled) (reply : Reply) → ChecksNext ruled reply → reply.status ≢ 1
 not_1_check ruled reply h e = other_status reply 0 1 (ap (λ (r : Reply). r.status) h) e (λ k. absurd (omega (arith, k)))
 
-checks : (bytes : List ℕ) (reply : Reply) → Comes bytes ChecksNext reply → SchedulesExactly bytes reply.status × Admits bytes reply.status
+checks : (bytes : List ℕ) (reply : Reply) → Comes bytes ChecksNext reply → SchedulesExactly bytes reply.status × ServesAdmitted bytes reply.status
 checks bytes reply c = (
   schedules_exactly bytes ChecksNext reply (λ x k. not_1_check x reply k) c,
   λ set rule a. inl (ap (λ (r : Reply). r.status) (next_of bytes ChecksNext reply set rule a c)),
@@ -72,14 +78,15 @@ runs_next files ticks work ruled reply h =
 -- of a command on a trace under the test's rule
 telling_finds : (telling : Telling) (files : Files) (tasks trace old : List ℕ) (reply : Reply)
     → IsAnswer files 1 (fetch tasks (2 ^ 24) (λ bytes. need (admitted bytes) (λ ruled. fetch trace (2 ^ 27) (λ more. answer (λ reply. reply ≡ reply_by (tells telling ruled more)))))) reply
-    → SchedulesExactly (bytes_of files tasks) reply.status × Finds telling (bytes_of files tasks) (bytes_of files trace) old reply.status (Some (old ++ reply.text))
+    → (SchedulesExactly (bytes_of files tasks) reply.status × Finds telling (bytes_of files tasks) (bytes_of files trace) old reply.status (Some (old ++ reply.text)))
+    × TellsOf telling (bytes_of files tasks) (bytes_of files trace) old reply.status (Some (old ++ reply.text)) × FindsEach telling (bytes_of files tasks) (bytes_of files trace) reply.status
 telling_finds telling files tasks trace old reply h =
     let c : Comes (bytes_of files tasks) (TellsNext telling (bytes_of files trace)) reply =
     comes_next files tasks (λ ruled. fetch trace (2 ^ 27) (λ more. answer (λ reply. reply ≡ reply_by (tells telling ruled more)))) (TellsNext telling (bytes_of files trace)) reply
-    (λ ruled k. second_of files (2 ^ 27) trace (λ more. answer (λ reply. reply ≡ reply_by (tells telling ruled more))) reply k) h in (
-      schedules_exactly (bytes_of files tasks) (TellsNext telling (bytes_of files trace)) reply (λ x k. not_1_tells telling (bytes_of files trace) x reply k) c,
-      finds telling (bytes_of files tasks) (bytes_of files trace) old reply c,
-    )
+    (λ ruled k. second_of files (2 ^ 27) trace (λ more. answer (λ reply. reply ≡ reply_by (tells telling ruled more))) reply k) h in
+    let found = finds telling (bytes_of files tasks) (bytes_of files trace) old reply c in
+    let exactly = schedules_exactly (bytes_of files tasks) (TellsNext telling (bytes_of files trace)) reply (λ x k. not_1_tells telling (bytes_of files trace) x reply k) c in
+    ((exactly, found.0), found.1, found.2)
 
 -- under a given rule a set that the file says goes on
 given_next : (p q : ℕ) (files : Files) (tasks trace : List ℕ) (reply : Reply)
@@ -102,50 +109,52 @@ given_next p q files tasks trace reply h set says =
     ruled_ok bytes h = rw h refl
 
 -- what `soak` promises: each workload's set is admitted, so its trace keeps the deadlines
-soaks : (number tasks ticks : ℕ) (old : List ℕ) (reply : Reply) → (2 ≤ tasks) × (tasks ≤ 32) → Soaks number tasks ticks reply → Soaked number tasks ticks old reply.status (Some (old ++ reply.text))
+soaks : (number tasks ticks : ℕ) (old : List ℕ) (reply : Reply) → (2 ≤ tasks) × (tasks ≤ 32) → Soaks number tasks ticks reply
+    → SumsTimely number tasks ticks reply.status × SumsUp number tasks ticks old reply.status (Some (old ++ reply.text)) × Succeeds reply.status
 soaks number tasks ticks old reply range h =
     let set : List Task = workload_set number tasks in
     let is = made_sets-admitted (words_of number) tasks range.0 range.1 in
     let s = h.2 in
-    let keeps = keeps_deadlines (workload_set number tasks) h.0 h.1 is.set.each (published-holds (workload_set number tasks) h.0 is.set s.test) s.follows.legal in
-    record {
-      sums = λ e. (h.0, h.1, s, ap (λ (r : Reply). Some (old ++ r.text)) h.3, (s.follows.legal, keeps));
-      complete = inl (ap (λ (r : Reply). r.status) h.3);
-    }
+    let keeps = keeps_deadlines (workload_set number tasks) h.0 h.1 is.set.each (published-holds (workload_set number tasks) h.0 is.set s.test) s.follows.legal in (
+      λ e. (h.0, h.1, s, (s.follows.legal, keeps)),
+      λ e. (h.0, h.1, s, ap (λ (r : Reply). Some (old ++ r.text)) h.3),
+      inl (ap (λ (r : Reply). r.status) h.3),
+    )
 
--- the headline of a reply that was written whole
-of_form : (form : Form) → IsInRange form → (files : Files) (old : List ℕ) (reply : Reply) → IsAnswer files 1 (command (Some form)) reply → Headline (Some form) files old reply.status (Some (old ++ reply.text))
+-- all three of a reply that was written whole
+of_form : (form : Form) → IsInRange form → (files : Files) (old : List ℕ) (reply : Reply) → IsAnswer files 1 (command (Some form)) reply → Promises (Some form) files old reply.status (Some (old ++ reply.text))
 of_form (check tasks) range files old reply h =
-    checks (bytes_of files tasks) reply (comes (bytes_of files tasks) ChecksNext reply (reply ≡ reply_by (checked (bytes_of files tasks)))
+    let both = checks (bytes_of files tasks) reply (comes (bytes_of files tasks) ChecksNext reply (reply ≡ reply_by (checked (bytes_of files tasks)))
     (λ k. by_text (admitted (bytes_of files tasks)) (λ ruled. Ok (check_text ruled.set ruled.rule)) reply k)
-    (of_held (files tasks) (λ bytes. MatchBool (nat_lt (2 ^ 24) (length bytes)) (reply ≡ refuse (Longer 1 (2 ^ 24))) (reply ≡ reply_by (checked bytes))) h))
+    (of_held (files tasks) (λ bytes. MatchBool (nat_lt (2 ^ 24) (length bytes)) (reply ≡ refuse (Longer 1 (2 ^ 24))) (reply ≡ reply_by (checked bytes))) h)) in (both.0, tt, both.1)
 of_form (run tasks work ticks) range files old reply h =
     let c : Comes (bytes_of files tasks) (RunsNext ticks (bytes_of files work)) reply =
     comes_next files tasks (λ ruled. fetch work (2 ^ 24) (λ more. need (work_of ruled.set.tasks more) (λ rows. answer (TellsTrace ticks ruled.set.tasks ruled.rule rows)))) (RunsNext ticks (bytes_of files work)) reply
-    (λ ruled k. runs_next files ticks work ruled reply k) h in (
-      schedules_exactly (bytes_of files tasks) (RunsNext ticks (bytes_of files work)) reply (λ x k. not_1_run ticks (bytes_of files work) x reply k) c,
-      schedules ticks (bytes_of files tasks) (bytes_of files work) old reply c,
-    )
+    (λ ruled k. runs_next files ticks work ruled reply k) h in
+    let all = schedules ticks (bytes_of files tasks) (bytes_of files work) old reply c in
+    ((schedules_exactly (bytes_of files tasks) (RunsNext ticks (bytes_of files work)) reply (λ x k. not_1_run ticks (bytes_of files work) x reply k) c, all.0), all.1, all.2)
 of_form (live tasks ticks) range files old reply h =
-    let c : Comes (bytes_of files tasks) (live.Lives ticks) reply = comes_next files tasks (λ ruled. answer (live.Lives ticks ruled)) (live.Lives ticks) reply (λ ruled k. k) h in (
-      schedules_exactly (bytes_of files tasks) (live.Lives ticks) reply (λ x k. not_1_live ticks x reply k) c,
-      lives ticks (bytes_of files tasks) old reply c,
-    )
+    let c : Comes (bytes_of files tasks) (live.Lives ticks) reply = comes_next files tasks (λ ruled. answer (live.Lives ticks ruled)) (live.Lives ticks) reply (λ ruled k. k) h in
+    let all = lives ticks (bytes_of files tasks) old reply c in
+    ((schedules_exactly (bytes_of files tasks) (live.Lives ticks) reply (λ x k. not_1_live ticks x reply k) c, all.0), all.1, all.2)
 of_form (soak number tasks ticks) range files old reply h = soaks number tasks ticks old reply (range.0, range.1) h
-of_form (demand demands) range files old reply h = tt
-of_form (partition tasks m) range files old reply h = tt
+of_form (demand demands) range files old reply h = (tt, tt, tt)
+of_form (partition tasks m) range files old reply h = (tt, tt, tt)
 of_form (run_all tasks work ticks m) range files old reply h = runs_all files tasks work ticks m old reply h
-of_form (stretch tasks) range files old reply h = tt
-of_form (accept number sets tasks) range files old reply h = tt
+of_form (stretch tasks) range files old reply h = (tt, tt, tt)
+of_form (accept number sets tasks) range files old reply h = (tt, tt, tt)
 of_form (on_trace Judge tasks trace) range files old reply h = telling_finds Judge files tasks trace old reply h
 of_form (on_trace Chart tasks trace) range files old reply h = telling_finds Chart files tasks trace old reply h
 of_form (on_trace Report tasks trace) range files old reply h = telling_finds Report files tasks trace old reply h
 of_form (on_trace Migrate tasks trace) range files old reply h = telling_finds Migrate files tasks trace old reply h
 of_form (on_trace (JudgeBy p q) tasks trace) range files old reply h =
-    finds_by p q (bytes_of files tasks) (bytes_of files trace) reply (given_next p q files tasks trace reply h)
+    (tt, tt, finds_by p q (bytes_of files tasks) (bytes_of files trace) reply (given_next p q files tasks trace reply h))
 
 pub not_9 : (n m : ℕ) → n ≡ 9 → n ≡ m → m ≢ 9 → ⊥
 not_9 n m a b differ = differ (sym b ∙ a)
+
+not_0 : (n : ℕ) → n ≡ 9 → n ≡ 0 → ⊥
+not_0 n a b = not_9 n 0 a b (λ z. absurd (omega (arith, z)))
 
 gave_up_exactly : (bytes : List ℕ) (ended : ℕ) → ended ≡ 9 → SchedulesExactly bytes ended
 gave_up_exactly bytes ended e = record { refused = λ k. absurd (not_9 ended 1 e k (λ z. absurd (omega (arith, z)))); refuses = λ set s w n. inr e }
@@ -153,57 +162,61 @@ gave_up_exactly bytes ended e = record { refused = λ k. absurd (not_9 ended 1 e
 pub never_spread : (m : ℕ) (bytes : List ℕ) (ended : ℕ) → ended ≡ 9 → SpreadsExactly m bytes ended
 never_spread m bytes ended e = record { refused = λ k. absurd (not_9 ended 12 e k (λ z. absurd (omega (arith, z)))); refuses = λ set task s n. inr e }
 
-finds_none : (telling : Telling) (bytes more old : List ℕ) (ended : ℕ) (new : Option (List ℕ)) → ended ≡ 9 → SchedulesExactly bytes ended × Finds telling bytes more old ended new
+finds_none : (telling : Telling) (bytes more old : List ℕ) (ended : ℕ) (new : Option (List ℕ)) → ended ≡ 9
+    → (SchedulesExactly bytes ended × Finds telling bytes more old ended new) × TellsOf telling bytes more old ended new × FindsEach telling bytes more ended
 finds_none telling bytes more old ended new e = (
-  gave_up_exactly bytes ended e,
-  record {
-    finds = λ k. absurd (not_9 ended 0 e k (λ z. absurd (omega (arith, z))));
-    illegal = λ k. absurd (not_9 ended 6 e k (λ z. absurd (omega (arith, z))));
-    complete = λ set rule h a s l t. inr e;
-  },
+  (
+    gave_up_exactly bytes ended e,
+    record { finds = λ k. absurd (not_0 ended e k); illegal = λ k. absurd (not_9 ended 6 e k (λ z. absurd (omega (arith, z)))) },
+  ),
+  λ k. absurd (not_0 ended e k),
+  λ set rule h a s l t. inr e,
 )
 
 -- and where memory was wanting
-of_none : (form : Option Form) (files : Files) (old : List ℕ) (ended : ℕ) (new : Option (List ℕ)) → ended ≡ 9 → Headline form files old ended new
-of_none None files old ended new e = tt
-of_none (Some (check tasks)) files old ended new e = (gave_up_exactly (bytes_of files tasks) ended e, λ set rule a. inr e)
+of_none : (form : Option Form) (files : Files) (old : List ℕ) (ended : ℕ) (new : Option (List ℕ)) → ended ≡ 9 → Promises form files old ended new
+of_none None files old ended new e = (tt, tt, tt)
+of_none (Some (check tasks)) files old ended new e = (gave_up_exactly (bytes_of files tasks) ended e, tt, λ set rule a. inr e)
 of_none (Some (run tasks work ticks)) files old ended new e = (
-  gave_up_exactly (bytes_of files tasks) ended e,
-  record { writes = λ k. absurd (not_9 ended 0 e k (λ z. absurd (omega (arith, z)))); complete = λ set rule work a s. inr e },
+  (gave_up_exactly (bytes_of files tasks) ended e, λ k. absurd (not_0 ended e k)),
+  λ k. absurd (not_0 ended e k),
+  λ set rule work a s. inr e,
 )
 of_none (Some (live tasks ticks)) files old ended new e = (
-  gave_up_exactly (bytes_of files tasks) ended e,
-  record { writes = λ k. absurd (not_9 ended 0 e k (λ z. absurd (omega (arith, z)))); complete = λ set rule a. inr e },
+  (gave_up_exactly (bytes_of files tasks) ended e, λ k. absurd (not_0 ended e k)),
+  λ k. absurd (not_0 ended e k),
+  λ set rule a. inr e,
 )
-of_none (Some (soak number tasks ticks)) files old ended new e = record { sums = λ k. absurd (not_9 ended 0 e k (λ z. absurd (omega (arith, z)))); complete = inr e }
-of_none (Some (demand demands)) files old ended new e = tt
-of_none (Some (partition tasks m)) files old ended new e = tt
+of_none (Some (soak number tasks ticks)) files old ended new e = (λ k. absurd (not_0 ended e k), λ k. absurd (not_0 ended e k), inr e)
+of_none (Some (demand demands)) files old ended new e = (tt, tt, tt)
+of_none (Some (partition tasks m)) files old ended new e = (tt, tt, tt)
 of_none (Some (run_all tasks work ticks m)) files old ended new e = (
-  never_spread m (bytes_of files tasks) ended e,
-  record { writes = λ k. absurd (not_9 ended 0 e k (λ z. absurd (omega (arith, z)))); complete = λ set of work is s. inr e },
+  (never_spread m (bytes_of files tasks) ended e, λ k. absurd (not_0 ended e k)),
+  λ k. absurd (not_0 ended e k),
+  λ set of work is s. inr e,
 )
-of_none (Some (stretch tasks)) files old ended new e = tt
-of_none (Some (accept number sets tasks)) files old ended new e = tt
+of_none (Some (stretch tasks)) files old ended new e = (tt, tt, tt)
+of_none (Some (accept number sets tasks)) files old ended new e = (tt, tt, tt)
 of_none (Some (on_trace Judge tasks trace)) files old ended new e = finds_none Judge (bytes_of files tasks) (bytes_of files trace) old ended new e
 of_none (Some (on_trace Chart tasks trace)) files old ended new e = finds_none Chart (bytes_of files tasks) (bytes_of files trace) old ended new e
 of_none (Some (on_trace Report tasks trace)) files old ended new e = finds_none Report (bytes_of files tasks) (bytes_of files trace) old ended new e
 of_none (Some (on_trace Migrate tasks trace)) files old ended new e = finds_none Migrate (bytes_of files tasks) (bytes_of files trace) old ended new e
-of_none (Some (on_trace (JudgeBy p q) tasks trace)) files old ended new e = λ set h a s l n. inr e
+of_none (Some (on_trace (JudgeBy p q) tasks trace)) files old ended new e = (tt, tt, λ set h a s l n. inr e)
 
-of_reply : (form : Option Form) → IfSome form IsInRange → (files : Files) (old : List ℕ) (reply : Reply) → IsAnswer files 1 (command form) reply → Headline form files old reply.status (Some (old ++ reply.text))
-of_reply None range files old reply h = tt
+of_reply : (form : Option Form) → IfSome form IsInRange → (files : Files) (old : List ℕ) (reply : Reply) → IsAnswer files 1 (command form) reply → Promises form files old reply.status (Some (old ++ reply.text))
+of_reply None range files old reply h = (tt, tt, tt)
 of_reply (Some form) range files old reply h = of_form form range files old reply h
 
--- the headline, from the answer
-pub headline : (form : Option Form) → IfSome form IsInRange → (files : Files) (old : List ℕ) (ended : ℕ) (new : Option (List ℕ)) → Answers form files old ended new → Headline form files old ended new
-headline form range files old ended new h =
+-- all three, from the answer
+pub promises : (form : Option Form) → IfSome form IsInRange → (files : Files) (old : List ℕ) (ended : ℕ) (new : Option (List ℕ)) → Answers form files old ended new → Promises form files old ended new
+promises form range files old ended new h =
     elim h [
       | inl none ↦ of_none form files old ended new none.0
       | inr r ↦
-          subst (λ n. Headline form files old n new) (sym r.2)
-          (subst (λ o. Headline form files old r.0.status o) (sym r.3) (of_reply form range files old r.0 r.1))
+          subst (λ n. Promises form files old n new) (sym r.2)
+          (subst (λ o. Promises form files old r.0.status o) (sym r.3) (of_reply form range files old r.0 r.1))
     ]
 
 -- and of a call that gave up
-pub gave_up : (form : Option Form) (files : Files) (old : List ℕ) (new : Option (List ℕ)) → Headline form files old 9 new
+pub gave_up : (form : Option Form) (files : Files) (old : List ℕ) (new : Option (List ℕ)) → Promises form files old 9 new
 gave_up form files old new = of_none form files old 9 new refl

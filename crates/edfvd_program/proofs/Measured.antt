@@ -17,7 +17,8 @@ use Rattle.serving.specs.Outcome.{IsAnswer}
 use Rattle.task_answers.specs.Admitted.{set_in}
 use Rattle.study_answers.specs.Stretch.{stretch_text, measured, stretched}
 use Rattle.study_answers.specs.Accept.{Accepts}
-use Rattle.edfvd_program.specs.Headline.{bytes_of, SaysSet, HasNoRangeFault, Succeeds}
+use Rattle.edfvd_program.specs.Headline.{bytes_of, SaysSet, HasNoRangeFault}
+use Rattle.edfvd_program.specs.Complete.{Succeeds}
 use Rattle.edfvd_program.specs.Tested.{Measures, Tabulates}
 use Rattle.edfvd_program.proofs.Cases.{of_held, by_length, other_status, one_set}
 

@@ -3,16 +3,15 @@ use Rattle.std.proofs.Common.{◌≡◌, ◌≢◌, inl, inr, ℕ, ◌≤◌, �
 use Rattle.mc_task.specs.declared.task.Task.{Task}
 use Rattle.mc_task.specs.declared.task.Rule.{Rule}
 use Rattle.mc_task.specs.TaskSet.{Set}
-use Rattle.mc_model.specs.declared.row.Row.{Row}
-use Rattle.mc_model.specs.declared.work.WorkRow.{WorkRow}
-use Rattle.mc_model.specs.LiveTrace.{LiveTrace}
 use Rattle.work_file.specs.WorkFile.{work_in}
 use Rattle.replies.specs.Reply.{Reply}
 use Rattle.replies.specs.Refusal.{Refusal, WorkFile, status_of}
 use Rattle.task_answers.specs.Admitted.{Ruled, under}
 use Rattle.run_answers.specs.Run.{TellsTrace, work_of}
 use Rattle.run_answers.specs.Live as live
-use Rattle.edfvd_program.specs.Headline.{IsAdmitted, IsScheduled, SaysWork, Succeeds, Writes, IsTimely, Schedules, Lives}
+use Rattle.edfvd_program.specs.Headline.{IsAdmitted, WritesTimely}
+use Rattle.edfvd_program.specs.Told.{WritesRun, WritesLive}
+use Rattle.edfvd_program.specs.Complete.{ServesAdmitted, ServesWork}
 use Rattle.edfvd_program.proofs.Cases.{By, Second, other_status, Comes, next_of, by_cases, by_ok, reader_status, by_second, second_fits}
 use Rattle.edfvd_program.proofs.Promised.{timely, only_ruled}
 
@@ -40,19 +39,22 @@ not_1_run ticks more ruled reply h e =
     ]
 
 -- what `run` promises
-pub schedules : (ticks : ℕ) (bytes more old : List ℕ) (reply : Reply) → Comes bytes (RunsNext ticks more) reply → Schedules ticks bytes more old reply.status (Some (old ++ reply.text))
-schedules ticks bytes more old reply h = record { writes = writes; complete = complete }
+pub schedules : (ticks : ℕ) (bytes more old : List ℕ) (reply : Reply) → Comes bytes (RunsNext ticks more) reply
+    → WritesTimely bytes old reply.status (Some (old ++ reply.text)) × WritesRun ticks bytes more old reply.status (Some (old ++ reply.text)) × ServesWork bytes more reply.status
+schedules ticks bytes more old reply h = (
+  λ e. (let (set, rule, work, t, a, says, follows, written) = writes e in (set, rule, t, a, written, timely bytes set rule t a follows.legal)),
+  writes,
+  complete,
+)
   where
-    of_work : (set : Set) (rule : Rule) → IsAdmitted bytes set rule → length more ≤ 2 ^ 24 → Runs ticks (under rule set) more reply → reply.status ≡ 0
-        → (set : Set) × (rule : Rule) × (t : List Row) × IsAdmitted bytes set rule × IsScheduled ticks more set.tasks rule t × Writes set.tasks t old (Some (old ++ reply.text)) × IsTimely set.tasks rule t
+    of_work : (set : Set) (rule : Rule) → IsAdmitted bytes set rule → length more ≤ 2 ^ 24 → Runs ticks (under rule set) more reply → WritesRun ticks bytes more old reply.status (Some (old ++ reply.text))
     of_work set rule a short k e =
         elim (by_cases (work_of set.tasks more) _ reply k) [
           | inl r ↦ let four = work_status set.tasks more r.0 r.1 in let is = r.2 in absurd (omega (arith, four, is, e))
-          | inr w ↦
-              (set, rule, w.2.0, a, record { work = w.0; says = (short, w.1); follows = w.2.1 }, ap (λ (r : Reply). Some (old ++ r.text)) w.2.2, timely bytes set rule w.2.0 a w.2.1.legal)
+          | inr w ↦ (set, rule, w.0, w.2.0, a, (short, w.1), w.2.1, ap (λ (r : Reply). Some (old ++ r.text)) w.2.2)
         ]
 
-    writes : reply.status ≡ 0 → (set : Set) × (rule : Rule) × (t : List Row) × IsAdmitted bytes set rule × IsScheduled ticks more set.tasks rule t × Writes set.tasks t old (Some (old ++ reply.text)) × IsTimely set.tasks rule t
+    writes : WritesRun ticks bytes more old reply.status (Some (old ++ reply.text))
     writes e =
         let (set, rule, a, k) = only_ruled bytes (RunsNext ticks more) reply 0 (λ z. absurd (omega (arith, z))) (λ z. absurd (omega (arith, z))) (λ z. absurd (omega (arith, z))) h e in
         elim (by_second (2 ^ 24) more (Runs ticks (under rule set) more reply) reply k) [
@@ -60,7 +62,7 @@ schedules ticks bytes more old reply h = record { writes = writes; complete = co
           | inr q ↦ of_work set rule a q.1 q.0 e
         ]
 
-    complete : (set : Set) (rule : Rule) (rows : List WorkRow) → IsAdmitted bytes set rule → SaysWork more set.tasks rows → Succeeds reply.status
+    complete : ServesWork bytes more reply.status
     complete set rule rows a says =
         let k : Runs ticks (under rule set) more reply = second_fits (2 ^ 24) more (Runs ticks (under rule set) more reply) reply says.0 (next_of bytes (RunsNext ticks more) reply set rule a h) in
         let r = by_ok (work_of set.tasks more) _ reply rows says.1 k in
@@ -71,13 +73,15 @@ pub not_1_live : (ticks : ℕ) (ruled : Ruled) (reply : Reply) → live.Lives ti
 not_1_live ticks ruled reply h e = other_status reply 0 1 (ap (λ (r : Reply). r.status) h.2) e (λ k. absurd (omega (arith, k)))
 
 -- what it promises
-pub lives : (ticks : ℕ) (bytes old : List ℕ) (reply : Reply) → Comes bytes (live.Lives ticks) reply → Lives ticks bytes old reply.status (Some (old ++ reply.text))
-lives ticks bytes old reply h = record { writes = writes; complete = complete }
+pub lives : (ticks : ℕ) (bytes old : List ℕ) (reply : Reply) → Comes bytes (live.Lives ticks) reply
+    → WritesTimely bytes old reply.status (Some (old ++ reply.text)) × WritesLive ticks bytes old reply.status (Some (old ++ reply.text)) × ServesAdmitted bytes reply.status
+lives ticks bytes old reply h = (
+  λ e. (let (set, rule, t, a, is, written) = writes e in (set, rule, t, a, written, timely bytes set rule t a is.legal)),
+  writes,
+  λ set rule a. inl (ap (λ (r : Reply). r.status) (next_of bytes (live.Lives ticks) reply set rule a h).2),
+)
   where
-    writes : reply.status ≡ 0 → (set : Set) × (rule : Rule) × (t : List Row) × IsAdmitted bytes set rule × LiveTrace set.tasks rule ticks t × Writes set.tasks t old (Some (old ++ reply.text)) × IsTimely set.tasks rule t
+    writes : WritesLive ticks bytes old reply.status (Some (old ++ reply.text))
     writes e =
         let (set, rule, a, k) = only_ruled bytes (live.Lives ticks) reply 0 (λ z. absurd (omega (arith, z))) (λ z. absurd (omega (arith, z))) (λ z. absurd (omega (arith, z))) h e in
-        (set, rule, k.0, a, k.1, ap (λ (r : Reply). Some (old ++ r.text)) k.2, timely bytes set rule k.0 a k.1.legal)
-
-    complete : (set : Set) (rule : Rule) → IsAdmitted bytes set rule → Succeeds reply.status
-    complete set rule a = inl (ap (λ (r : Reply). r.status) (next_of bytes (live.Lives ticks) reply set rule a h).2)
+        (set, rule, k.0, a, k.1, ap (λ (r : Reply). Some (old ++ r.text)) k.2)

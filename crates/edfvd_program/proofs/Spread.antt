@@ -28,7 +28,9 @@ use Rattle.run_answers.specs.Run.{work_of}
 use Rattle.part_answers.specs.Parted.{Parted, tasks_on, spread, fitted, parted}
 use Rattle.part_answers.specs.Partition.{partition_text, placed, partition}
 use Rattle.part_answers.specs.RunAll.{used, IsTraceOn, TellsTraces, run_all}
-use Rattle.edfvd_program.specs.Headline.{bytes_of, SaysSet, SaysWork, Succeeds, IsSpread, SpreadsExactly, IsTimelyOn, WritesAll, SchedulesAll}
+use Rattle.edfvd_program.specs.Headline.{bytes_of, SaysSet, IsSpread, SpreadsExactly, IsTimelyOn, WritesAllTimely}
+use Rattle.edfvd_program.specs.Told.{WritesParts}
+use Rattle.edfvd_program.specs.Complete.{ServesSpread}
 use Rattle.edfvd_program.specs.Tested.{Places}
 use Rattle.edfvd_program.proofs.Cases.{of_held, By, by_weaker, by_need, by_text, by_ok, by_cases, by_length, Second, by_second, second_fits, second_weaker, other_status, one_set}
 use Rattle.edfvd_program.proofs.Promised.{is_set}
@@ -146,19 +148,18 @@ part_holds tasks rule admitted h =
     ]
 
 -- so the trace on a processor keeps the deadlines
-timely_on : (ticks : ℕ) (parted : Parted) (work : List WorkRow) (n : ℕ) (h : List Row) → IsAdmittedPart (tasks_on parted n) → IsTraceOn ticks parted work n h → IsTimelyOn ticks parted work n h
+timely_on : (ticks : ℕ) (parted : Parted) (work : List WorkRow) (n : ℕ) (h : List Row) → IsAdmittedPart (tasks_on parted n) → IsTraceOn ticks parted work n h → IsTimelyOn parted n h
 timely_on ticks parted work n h admitted is =
     let holds = part_holds (tasks_on parted n) is.rule admitted is.test in
     record {
       rule = is.rule;
       test = is.test;
-      follows = is.follows;
       timely = (is.follows.legal, keeps_deadlines (tasks_on parted n) is.rule h holds.0 holds.1 is.follows.legal);
     }
 
 -- and so do all
 all_timely : (ticks : ℕ) (parted : Parted) (work : List WorkRow) (ns : List ℕ) (traces : List (List Row)) → ((n : ℕ) → IsAdmittedPart (tasks_on parted n)) → AllZip (IsTraceOn ticks parted work) ns traces
-    → AllZip (IsTimelyOn ticks parted work) ns traces
+    → AllZip (IsTimelyOn parted) ns traces
 all_timely ticks parted work [] [] admitted h = tt
 all_timely ticks parted work [] (t ∷ ts) admitted h = absurd h
 all_timely ticks parted work (n ∷ ns) [] admitted h = absurd h
@@ -183,31 +184,23 @@ not_12_run ticks m more on reply h e =
           ]
     ]
 
-schedules_all : (ticks m : ℕ) (bytes more old : List ℕ) (reply : Reply) → Spreads m bytes (RunsAllNext ticks m more) reply → SchedulesAll ticks m bytes more old reply.status (Some (old ++ reply.text))
-schedules_all ticks m bytes more old reply h = record { writes = writes; complete = complete }
+schedules_all : (ticks m : ℕ) (bytes more old : List ℕ) (reply : Reply) → Spreads m bytes (RunsAllNext ticks m more) reply
+    → WritesAllTimely m bytes old reply.status (Some (old ++ reply.text)) × WritesParts ticks m bytes more old reply.status (Some (old ++ reply.text)) × ServesSpread m bytes more reply.status
+schedules_all ticks m bytes more old reply h = (
+  λ e. (let (set, of, work, traces, is, says, each, written) = writes e in
+      (set, of, traces, is, written, all_timely ticks (spread set.tasks of) work (used m (spread set.tasks of)) traces (parts_of m bytes set of is).admitted each)),
+  writes,
+  complete,
+)
   where
-    Written : Type 0
-    Written =
-        (set : Set) × (of : List ℕ) × (work : List WorkRow) × (traces : List (List Row)) × IsSpread m bytes set of × SaysWork more set.tasks work
-        × AllZip (IsTimelyOn ticks (spread set.tasks of) work) (used m (spread set.tasks of)) traces × WritesAll m (spread set.tasks of) traces old (Some (old ++ reply.text))
-
-    of_work : (set : Set) (of : List ℕ) → IsSpread m bytes set of → length more ≤ 2 ^ 24 → RunsAll ticks m (spread set.tasks of) more reply → reply.status ≡ 0 → Written
+    of_work : (set : Set) (of : List ℕ) → IsSpread m bytes set of → length more ≤ 2 ^ 24 → RunsAll ticks m (spread set.tasks of) more reply → WritesParts ticks m bytes more old reply.status (Some (old ++ reply.text))
     of_work set of is short k e =
         elim (by_cases (work_of set.tasks more) _ reply k) [
           | inl r ↦ let four = work_status set.tasks more r.0 r.1 in let status = r.2 in absurd (omega (arith, four, status, e))
-          | inr w ↦ (
-            set,
-            of,
-            w.0,
-            w.2.0,
-            is,
-            (short, w.1),
-            all_timely ticks (spread set.tasks of) w.0 (used m (spread set.tasks of)) w.2.0 (parts_of m bytes set of is).admitted w.2.1,
-            ap (λ (r : Reply). Some (old ++ r.text)) w.2.2,
-          )
+          | inr w ↦ (set, of, w.0, w.2.0, is, (short, w.1), w.2.1, ap (λ (r : Reply). Some (old ++ r.text)) w.2.2)
         ]
 
-    writes : reply.status ≡ 0 → Written
+    writes : WritesParts ticks m bytes more old reply.status (Some (old ++ reply.text))
     writes e =
         let (set, of, is, k) = only_spread m bytes (RunsAllNext ticks m more) reply h e in
         elim (by_second (2 ^ 24) more (RunsAll ticks m (spread set.tasks of) more reply) reply k) [
@@ -215,7 +208,7 @@ schedules_all ticks m bytes more old reply h = record { writes = writes; complet
           | inr q ↦ of_work set of is q.1 q.0 e
         ]
 
-    complete : (set : Set) (of : List ℕ) (rows : List WorkRow) → IsSpread m bytes set of → SaysWork more set.tasks rows → Succeeds reply.status
+    complete : ServesSpread m bytes more reply.status
     complete set of rows is says =
         let k : RunsAll ticks m (spread set.tasks of) more reply =
         second_fits (2 ^ 24) more (RunsAll ticks m (spread set.tasks of) more reply) reply says.0 (next_spread m bytes (RunsAllNext ticks m more) reply set of is h) in
@@ -224,12 +217,13 @@ schedules_all ticks m bytes more old reply h = record { writes = writes; complet
 
 -- what `runall` promises
 pub runs_all : (files : Files) (tasks work : List ℕ) (ticks m : ℕ) (old : List ℕ) (reply : Reply) → IsAnswer files 1 (run_all tasks work ticks m) reply
-    → SpreadsExactly m (bytes_of files tasks) reply.status × SchedulesAll ticks m (bytes_of files tasks) (bytes_of files work) old reply.status (Some (old ++ reply.text))
+    → (SpreadsExactly m (bytes_of files tasks) reply.status × WritesAllTimely m (bytes_of files tasks) old reply.status (Some (old ++ reply.text)))
+    × WritesParts ticks m (bytes_of files tasks) (bytes_of files work) old reply.status (Some (old ++ reply.text)) × ServesSpread m (bytes_of files tasks) (bytes_of files work) reply.status
 runs_all files tasks work ticks m old reply h =
-    let c = come in (
-      spreads_exactly m (bytes_of files tasks) (RunsAllNext ticks m (bytes_of files work)) reply (λ x k. not_12_run ticks m (bytes_of files work) x reply k) c,
-      schedules_all ticks m (bytes_of files tasks) (bytes_of files work) old reply c,
-    )
+    let c = come in
+    let all = schedules_all ticks m (bytes_of files tasks) (bytes_of files work) old reply c in
+    let exactly = spreads_exactly m (bytes_of files tasks) (RunsAllNext ticks m (bytes_of files work)) reply (λ x k. not_12_run ticks m (bytes_of files work) x reply k) c in
+    ((exactly, all.0), all.1, all.2)
   where
     rest : Parted → List ℕ → Command
     rest on more = need (work_of on.set more) (λ rows. answer (TellsTraces ticks m on rows))

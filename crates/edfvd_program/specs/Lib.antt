@@ -1,4 +1,6 @@
 pub mod Commands
 pub mod Outcome
 pub mod Headline
+pub mod Complete
+pub mod Told
 pub mod Tested

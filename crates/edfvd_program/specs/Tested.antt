@@ -16,7 +16,8 @@ use Rattle.study.specs.Stretch.{IsStretch}
 use Rattle.study.specs.Acceptance.{accept_table}
 use Rattle.study_answers.specs.Stretch.{stretch_text}
 use Rattle.study_answers.specs.Accept.{table_text}
-use Rattle.edfvd_program.specs.Headline.{bytes_of, SaysSet, HasNoRangeFault, Succeeds, IsSpread, SpreadsExactly}
+use Rattle.edfvd_program.specs.Headline.{bytes_of, SaysSet, HasNoRangeFault, IsSpread, SpreadsExactly}
+use Rattle.edfvd_program.specs.Complete.{Succeeds}
 
 -- the demand file says this set
 abbrev pub SaysDemands : List ℕ → List Demand → Type 0

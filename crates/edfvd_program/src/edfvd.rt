@@ -6,6 +6,8 @@ ghost use Rattle.command_line.specs.Form.{form_of};
 ghost use Rattle.serving.specs.Outcome.{Tells, AskedInOrder};
 ghost use Rattle.edfvd_program.specs.Commands.{command};
 ghost use Rattle.edfvd_program.specs.Headline.{Headline};
+ghost use Rattle.edfvd_program.specs.Told.{Told};
+ghost use Rattle.edfvd_program.specs.Complete.{Complete};
 ghost use Rattle.edfvd_program.specs.Tested.{Tested};
 ghost use Rattle.edfvd_program.specs.Outcome.{IsReply, Outcome, CalmOutcome, Answers};
 
@@ -51,6 +53,18 @@ pub fn edfvd<R: Threads + Wait + Sync, S: Shelf, K: Sink, G: Gate + Sync>(
         → Tells files (S.state shelf.old) (S.state shelf.new)
         → (K.state out.old).written ≡ Some old → (Rose (K.state out.old).faults (K.state out.new).faults → ⊥)
         → Headline (form_of asked) files old result (K.state out.new).written }
+
+    // The trace that is written is that of the set and its work, and what is told of a trace is so.
+    ensures told { let asked = map (λ w. string_bytes w) words.now in (files : Files) (old : List ℕ)
+        → Tells files (S.state shelf.old) (S.state shelf.new)
+        → (K.state out.old).written ≡ Some old → (Rose (K.state out.old).faults (K.state out.new).faults → ⊥)
+        → Told (form_of asked) files old result (K.state out.new).written }
+
+    // Nothing is refused without reason.
+    ensures complete { let asked = map (λ w. string_bytes w) words.now in (files : Files) (old : List ℕ)
+        → Tells files (S.state shelf.old) (S.state shelf.new)
+        → (K.state out.old).written ≡ Some old → (Rose (K.state out.old).faults (K.state out.new).faults → ⊥)
+        → Complete (form_of asked) files result }
 
     // What is told of sets that are tested and not scheduled is so.
     ensures tested { let asked = map (λ w. string_bytes w) words.now in (files : Files) (old : List ℕ)

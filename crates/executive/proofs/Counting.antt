@@ -15,7 +15,7 @@ use Rattle.mode_core.specs.declared.answers.IdleFault.{IdleFault}
 use Rattle.mode_core.specs.declared.answers.ReleaseFault.{ReleaseFault}
 use Rattle.mode_core.specs.Events
 use Rattle.mode_core.specs.Events.{is_of_task, job_in, with_release}
-use Rattle.mode_core.proofs.Held.{releases-held}
+use Rattle.mode_core.proofs.CallerLemmas.{releases-held, jobs-few}
 use Rattle.timetable.specs.declared.acts.PlanFault.{PlanFault}
 use Rattle.timetable.specs.Floor.{FloorState, floor_unless, of_core, plan_answer, release_refusal, releasing, tick_refusal, done_by}
 use Rattle.turnstile.specs.History.{made_by}
@@ -28,7 +28,6 @@ use Rattle.executive.specs.Histories.{MayCall, answer_to, after_call, after, IsL
 use Rattle.mc_model.specs.Sums.{total}
 use Rattle.executive.specs.Counts.{released, ticked, ended, idled, ticks_of, ends_of, idle_ticks}
 use Rattle.executive.proofs.Histories.{with_core, of_both, of_both_cores, of_both_rows}
-use Rattle.mode_core.proofs.Releasing.{jobs-few}
 
 -- the answers in a history that count for one number are those to its own calls
 pub total_own : (by : Entry → ℕ) (f : Answer → ℕ) (k : ℕ) (log : List Entry) → total (λ (e : Entry). cond (by e == k) (f e.answer) 0) log ≡ total (λ (e : Entry). f e.answer) (made_by by k log)

@@ -26,7 +26,7 @@ use Rattle.executive.specs.declared.entry.Answer.TheVariants.{Told, Idled}
 use Rattle.executive.specs.Histories.{MayCall, answer_to, after_call, after, IsLegal}
 use Rattle.executive.specs.Shows.{shown_of, ends_tick, shows_now, shows_from, shows, HasShown, IsUpTo}
 use Rattle.executive.proofs.Histories.{with_core, of_both, of_both_cores, of_both_rows}
-use Rattle.mode_core.proofs.Held.{ticks-held}
+use Rattle.mode_core.proofs.CallerLemmas.{ticks-held}
 
 -- one entry more
 pub shows_more : (f : FloorState) (log : List Entry) (e : Entry) → shows f (log ++ e ∷ []) ≡ shows f log ++ shows_now (after_call (after f log) e.task.0 e.call) e.answer

@@ -2,6 +2,7 @@ pub mod Booleans
 pub mod Bridge
 pub mod Counts
 pub mod Decided
+pub mod EdfOrScaled
 pub mod Fold
 pub mod HighLoads
 pub mod HoldsAdmitted

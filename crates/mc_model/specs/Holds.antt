@@ -1,6 +1,8 @@
 -- When a rule holds for tasks, and the laws that tie it to the test.
-use Rattle.std.specs.Prelude.{◌≡◌, ℕ, ◌+◌, ◌*◌, ◌^◌, ◌≤◌, ◌↔◌, List, Option, Some, None, IsSome}
+use Rattle.std.specs.Prelude.{◌≡◌, ℕ, ◌+◌, ◌-◌, ◌*◌, ◌^◌, ◌<◌, ◌≤◌, ◌↔◌, ◌⊎◌, List, Option, Some, None, IsSome}
+use Rattle.std.specs.List.{AllByRecursion}
 use Rattle.mc_task.specs.declared.task.Task.{Task}
+use Rattle.mc_task.specs.declared.task.Level.TheVariants.{Low}
 use Rattle.mc_task.specs.declared.task.Scale.{Scale}
 use Rattle.mc_task.specs.declared.task.Rule.{Rule}
 use Rattle.mc_task.specs.declared.task.Rule.TheVariants.{Plain, Virtual}
@@ -43,6 +45,23 @@ TestRuleHolds = (set : Set) (rule : Rule) → AreTasks set.tasks → test set �
 -- law: tasks for which some rule holds are admitted
 abbrev pub AdmittedIfHolds : Type 0
 AdmittedIfHolds = (tasks : List Task) (rule : Rule) → AreTasks tasks → Holds tasks rule → IsSome (published tasks)
+
+-- the inequalities of the scaled test alone, of x = U_HL / (1 - U_LL), over n: U_LL < 1 and x*U_LL + U_HH ≤ 1
+abbrev pub PassesScaledOver : ℕ → ℕ → ℕ → ℕ → Type 0
+PassesScaledOver n a b c = (a < n) × (a * b + c * (n - a) ≤ n * (n - a))
+
+-- the tasks pass the scaled test, whether or not plain EDF holds for them
+abbrev pub PassesScaled : List Task → Type 0
+PassesScaled tasks = PassesScaledOver (product tasks) (load_ll tasks) (load_hl tasks) (load_hh tasks)
+
+-- the tasks are low alone, and their load is exactly 1
+pub record AreLowWithLoad1 (tasks : List Task) : Type 0 where
+  pub low : AllByRecursion (λ t. t.level ≡ Low) tasks
+  pub load : load_ll tasks ≡ product tasks
+
+-- law: plain EDF admits no tasks that the scaled test refuses, but low ones alone whose load is exactly 1
+abbrev pub EdfOrScaled : Type 0
+EdfOrScaled = (tasks : List Task) → AreTasks tasks → Holds tasks Plain → PassesScaled tasks ⊎ AreLowWithLoad1 tasks
 
 -- law: the scale of a set neither admits nor refuses: the test gives none exactly where the published test does
 abbrev pub NoneWherePublishedNone : Type 0

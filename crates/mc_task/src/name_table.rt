@@ -1,5 +1,5 @@
 // Where tasks are looked for by their names.
-ghost use Rattle.std.specs.Prelude.{◌≡◌, ◌≤◌, ◌↔◌, length, IfSome, IsSome};
+ghost use Rattle.std.specs.Prelude.{◌≡◌, ◌≤◌, ◌↔◌, length, IfSome, IsSome, option_copied, true};
 ghost use Rattle.mc_task.specs.TaskSet.{IsIn, task_at, name_in};
 
 use crate::{Task, TaskNo};
@@ -43,8 +43,10 @@ impl NameTable {
         let first = place_of(name);
         for step in 0..=255u8 {
             let task = TaskNo(self.numbers[first.wrapping_add(step) as usize] as u32);
-            let known = numbered_task(tasks, task)?;
-            if known.name.bytes() == name {
+            if task.0 == 0 {
+                return None;
+            }
+            if has_name(tasks, task, name) {
                 return Some(task);
             }
         }
@@ -52,15 +54,26 @@ impl NameTable {
     }
 }
 
+/// Whether there is a task with this number, and it has this name.
+pub fn has_name(tasks: &[Task], task: TaskNo, name: &[u8]) -> bool
+    ensures inside { result ≡ true → IsIn tasks.now task.0 }
+    ensures name { result ≡ true → name_in (task_at tasks.now task.0) ≡ name.now }
+{
+    match task_with(tasks, task) {
+        Some(t) => t.name.bytes() == name,
+        None => false,
+    }
+}
+
 /// The task with this number, or `None` exactly where there is none.
-pub fn numbered_task(tasks: &[Task], task: TaskNo) -> Option<Task>
-    ensures value { result ≡ task_at tasks.now task.0 }
+pub fn task_with(tasks: &[Task], task: TaskNo) -> Option<&Task>
+    ensures value { option_copied result ≡ task_at tasks.now task.0 }
     ensures found { IsSome result ↔ IsIn tasks.now task.0 }
 {
     if task.0 == 0 {
         return None;
     }
-    tasks.get(task.0 as usize - 1).copied()
+    tasks.get(task.0 as usize - 1)
 }
 
 // The place at which a name is looked for first.

@@ -82,6 +82,25 @@ fn a_copy_has_the_same_tasks(rt: HostRuntime) -> Result<(), Fail> {
     Ok(())
 }
 
+#[test]
+fn a_task_is_found_from_any_number(rt: HostRuntime) -> Result<(), Fail> {
+    let alloc = rt.alloc();
+    let lines = [
+        (b"ctl".as_slice(), Level::High, 10, 2, 6),
+        (b"log".as_slice(), Level::Low, 10, 5, 5),
+        (b"display".as_slice(), Level::Low, 10, 1, 1),
+    ];
+    let set = TaskSet::new(tasks(alloc, &lines)?).ok().ok_or("a set")?;
+    for near in [0, 1, 2, 3, 4, 4_294_967_295] {
+        for (number, (name, ..)) in [1, 2, 3].into_iter().zip(lines) {
+            let wanted = Some(TaskNo(number));
+            assert_eq!(rt; set.find_near(name, TaskNo(near)), wanted, "near {near}");
+        }
+        assert_eq!(rt; set.find_near(b"lo", TaskNo(near)), None, "near {near}");
+    }
+    Ok(())
+}
+
 #[tactic(auto, unfolding(tick_frac::specs::Numbers::gcd, tick_frac::specs::Numbers::gcd_steps))]
 fn half() -> Scale
     ensures { IsScale result }

@@ -20,3 +20,4 @@ pub mod Releasing
 pub mod ChoiceLaw
 pub mod FewHeld
 pub mod Timely
+pub mod CallerLemmas

@@ -1,6 +1,8 @@
 // The scheduler's state, and what can be read of it.
-ghost use Rattle.std.specs.Prelude.{◌≡◌, ◌<◌, ◌^◌, reverse, IfOk};
+ghost use Rattle.std.specs.Prelude.{◌≡◌, ◌<◌, ◌^◌, reverse, All, IfOk, IfSome};
+ghost use Rattle.mc_task.specs.TaskSet.{IsIn};
 ghost use Rattle.mc_model.specs.Holds.{Fits, Holds};
+ghost use Rattle.mc_model.specs.Legal.{IsOfSet};
 ghost use Rattle.mc_model.specs.Rows.{ticks};
 ghost use Rattle.mc_model.specs.Mode.{high_mode};
 ghost use Rattle.mc_model.specs.Core.{begun, chosen};
@@ -66,9 +68,10 @@ impl Core {
         })
     }
 
-    /// The rows, the oldest first. No job is late in them, and no task has two pending jobs.
+    /// The rows, the oldest first. Each is of the set, no job is late in them, and no task has two pending jobs.
     pub fn rows(&self) -> &[Row]
         ensures value { result.now ≡ reverse self.now.rows }
+        ensures of_set { All (IsOfSet self.now.set) result.now }
         ensures timely { IsTimely self.now }
         ensures one_live { IsOneLive self.now }
     {
@@ -112,6 +115,7 @@ impl Core {
     pub fn chosen(&self) -> Option<JobId>
         ensures value { result ≡ chosen self.now.set self.now.rule self.now.rows }
         ensures law { IsChoice self.now.set self.now.rule self.now.rows result }
+        ensures task { IfSome result (λ job. IsIn self.now.set job.task.0) }
     {
         match self.book.first() {
             Some(x) => Some(x.job),

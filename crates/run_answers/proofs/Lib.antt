@@ -2,3 +2,5 @@ mod SameTrace
 mod Soaked
 mod LivePlaces
 mod LiveRows
+mod TextBytes
+mod TraceBytes

@@ -10,6 +10,8 @@ use Rattle.mc_task.specs.declared.task.Level.TheVariants.{Low, High}
 use Rattle.mc_task.specs.declared.task.Rule.{Rule}
 use Rattle.mc_task.specs.declared.task.Rule.TheVariants.{Plain, Virtual}
 use Rattle.mc_task.specs.TaskSet.{IsTask, AreTasks}
+use Rattle.mc_model.specs.declared.row.Row.{Row}
+use Rattle.mc_model.specs.Core.{State}
 use Rattle.mc_model.specs.Sums.{total}
 use Rattle.mc_model.specs.Loads.{by_level, low_low, high_high, product, load, load_ll, load_hh}
 use Rattle.mc_model.specs.Holds.{HoldsOver, Holds}
@@ -83,9 +85,16 @@ one_more : (n : ℕ) (ts : List Task) → total (λ t. n / t.period + 1) ts ≡ 
 one_more n [] = omega arith
 one_more n (t ∷ ts) = let rest = one_more n ts in omega (arith, rest)
 
-pub few_places : (set : List Task) (rule : Rule) (n : ℕ) → AreTasks set → Holds set rule → live_places set n ≤ 3 * n + 128
+few_places : (set : List Task) (rule : Rule) (n : ℕ) → AreTasks set → Holds set rule → live_places set n ≤ 3 * n + 128
 few_places set rule n is holds =
     let few = is.few in
     let periods = few_periods set rule n is.each holds in
     let one = one_more n set in
     omega (arith, few, periods, one)
+
+-- so rows that have their places in the core of a live run are few
+pub few_live_rows : (set : List Task) (rule : Rule) (n : ℕ) (s t : State) (places : ℕ) (rows : List Row) → AreTasks set → Holds set rule → n ≤ 100000 → s ≡ t → t.places ≡ places → places ≡ live_places set n → length rows ≤ s.places → length rows ≤ 2000000
+few_live_rows set rule n s t places rows is holds ticks same room all inside =
+    let one : s.places ≡ t.places = ap (λ (u : State). u.places) same in
+    let law = few_places set rule n is holds in
+    omega (arith, one, law, ticks, room, all, inside)

@@ -1,5 +1,5 @@
 -- The command `run TASKS WORK TICKS`.
-use Rattle.std.specs.Prelude.{◌≡◌, ℕ, List, reverse, Result}
+use Rattle.std.specs.Prelude.{◌≡◌, ℕ, ◌≤◌, List, length, reverse, Result}
 use Rattle.mc_task.specs.declared.task.Task.{Task}
 use Rattle.mc_task.specs.declared.task.Rule.{Rule}
 use Rattle.mc_model.specs.declared.row.Row.{Row}
@@ -16,6 +16,10 @@ use Rattle.task_answers.specs.Admitted.{admitted, fetch_table}
 -- the text of a trace, with status 0; the newest row of the trace stands first here
 abbrev pub traced : List Task → List Row → Reply
 traced set h = reply_of 0 (trace_text set (reverse h))
+
+-- the text has at most so many bytes
+abbrev pub IsShort : ℕ → Reply → Type 0
+IsShort bytes reply = length reply.text ≤ bytes
 
 -- the work that a work file says of a set
 abbrev pub work_of : List Task → List ℕ → Result (List WorkRow) Refusal

@@ -1,10 +1,11 @@
 // The command `live`.
-ghost use Rattle.std.specs.Prelude.{◌≤◌, IfOk, length, reverse};
+ghost use Rattle.std.specs.Prelude.{◌≤◌, ◌^◌, IfOk, length, reverse};
 ghost use Rattle.mc_model.specs.LiveTrace.{LiveTrace};
 ghost use Rattle.task_threads.specs.LiveLeft.{HasLiveTrace};
 ghost use Rattle.serving.specs.Steps.{IsOwn};
 ghost use Rattle.task_answers.specs.Admitted.{under};
 ghost use Rattle.run_answers.specs.Live.{Lives, live};
+ghost use Rattle.run_answers.specs.Run.{IsShort};
 ghost use Rattle.run_answers.specs.Jobs.{IsLiveJob};
 
 use crate::fresh::fresh_core;
@@ -83,10 +84,12 @@ pub fn finish_live<R: Threads + Wait + Sync, G: Gate + Sync>(
     requires job { IsLiveJob job }
     requires ticks { (1 ≤ ticks) × (ticks ≤ 100000) }
     ensures lives { IfOk result (Lives ticks (under job.rule job.set)) }
+    // So `judge` reads it, which takes as many.
+    ensures short { IfOk result (IsShort (2 ^ 27)) }
     ensures own { IfOk result IsOwn }
 {
     let Admitted { set, rule, .. } = job;
-    // It has at most 128 tasks, so the places are few.
+    // It has at most 128 tasks, so the places are few; and its names are short.
     let _is_set = set.len();
     let places = live_places(&set, ticks) as usize;
     let core = fresh_core(alloc, &set, rule, places)?;

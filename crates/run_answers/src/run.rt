@@ -1,7 +1,7 @@
 // The command `run`.
 ghost use Rattle.std.specs.Prelude.{◌≤◌, IfOk};
 ghost use Rattle.serving.specs.Steps.{IsOwn};
-ghost use Rattle.run_answers.specs.Run.{TellsTrace, run};
+ghost use Rattle.run_answers.specs.Run.{IsShort, TellsTrace, run};
 ghost use Rattle.run_answers.specs.Jobs.{IsRunJob};
 
 use crate::planned::planned;
@@ -109,9 +109,13 @@ pub fn finish_run<R: Threads + Wait + Sync, G: Gate + Sync>(
     requires job { IsRunJob job }
     requires ticks { (1 ≤ ticks) × (ticks ≤ 1000000) }
     ensures trace { IfOk result (TellsTrace ticks job.set.tasks job.rule job.work) }
+    // So `judge` reads it, which takes a trace of at most 2 ^ 27 bytes.
+    ensures short { IfOk result (IsShort 128000024) }
     ensures own { IfOk result IsOwn }
 {
     let RunJob { set, rule, work } = job;
+    // Its names are short.
+    let _is_set = set.len();
     let floor = planned(rt, alloc, &set, rule, work, ticks, gate)?;
     let text = trace_text(alloc, &set, floor.core().rows())?;
     Ok(Reply::new(0, text))

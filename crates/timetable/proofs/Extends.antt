@@ -15,8 +15,7 @@ use Rattle.mc_model.specs.Follows.{Arrival, arrivals, planned, Follows}
 use Rattle.mc_model.specs.Work.{IsNeed, IsWork}
 use Rattle.mode_core.specs.Events.{job_in}
 use Rattle.mode_core.specs.Shape.{IsSound}
-use Rattle.mode_core.proofs.Chosen.{none_pending}
-use Rattle.mode_core.proofs.Fits.{release_legal, idle_legal, tick_legal}
+use Rattle.mode_core.proofs.CallerLemmas.{none_pending, release_legal, idle_legal, tick_legal}
 use Rattle.timetable.specs.Ticks.{is_last, tick_row}
 use Rattle.timetable.specs.Plans.{IsTheTrace, Keeps, settled_by}
 use Rattle.timetable.specs.Shape.{first_job, row_now, next_row, Runs, IsRun}

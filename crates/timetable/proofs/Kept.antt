@@ -18,8 +18,7 @@ use Rattle.mode_core.specs.declared.answers.IdleFault.TheVariants as idle_fault
 use Rattle.mode_core.specs.Events as core_event
 use Rattle.mode_core.specs.Events.{or_else, refused_if, answer, unless, running, is_full, is_of_task, is_out, chosen_now, job_in, granted, with_release}
 use Rattle.mode_core.specs.Shape.{IsSound}
-use Rattle.mode_core.proofs.Keep.{neither, not_if, no_map}
-use Rattle.mode_core.proofs.Sound.{MayGrant, may_grant}
+use Rattle.mode_core.proofs.CallerLemmas.{neither, not_if, no_map, MayGrant, may_grant}
 use Rattle.timetable.specs.declared.plan.Plan.{Plan}
 use Rattle.timetable.specs.declared.plan.Plan.TheVariants.{Free, Rows}
 use Rattle.timetable.specs.declared.needs.Needs.{Needs}

@@ -28,7 +28,7 @@ use Rattle.demand_law.specs.OneLive.{pending_of}
 use Rattle.demand_law.proofs.OneLive.{none_live}
 use Rattle.mode_core.specs.Events.{chosen_now}
 use Rattle.mode_core.specs.Shape.{IsSound}
-use Rattle.mode_core.proofs.Fits.{chooses}
+use Rattle.mode_core.proofs.CallerLemmas.{chooses}
 use Rattle.timetable.specs.Needs.{rows_of, latest_need}
 use Rattle.timetable.specs.Ticks.{is_last}
 use Rattle.timetable.specs.Shape.{Runs, IsRun}

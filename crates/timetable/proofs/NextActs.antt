@@ -18,8 +18,7 @@ use Rattle.mode_core.specs.declared.answers.GrantFault.{GrantFault}
 use Rattle.mode_core.specs.Events as core_event
 use Rattle.mode_core.specs.Events.{chosen_now, granted}
 use Rattle.mode_core.specs.Shape.{IsSound}
-use Rattle.mode_core.proofs.Fits.{chooses}
-use Rattle.mode_core.proofs.Keep.{no_held}
+use Rattle.mode_core.proofs.CallerLemmas.{chooses, no_held}
 use Rattle.timetable.specs.declared.plan.Plan.{Plan}
 use Rattle.timetable.specs.declared.plan.Plan.TheVariants.{Free, Rows}
 use Rattle.timetable.specs.declared.acts.Act.{Act}

@@ -20,8 +20,7 @@ use Rattle.mc_model.specs.Follows.{none_lower, is_lowest}
 use Rattle.mc_model.proofs.Jobs.{same_live, is_in, job_eq, live_eq, each_in, head_in}
 use Rattle.mc_model.proofs.Booleans.{or_true}
 use Rattle.mc_model.proofs.Lists.{Each, Each-map}
-use Rattle.mode_core.proofs.Apart.{Apart, Older, only, pending_apart}
-use Rattle.mode_core.proofs.Chosen.{IsFirst, is_first}
+use Rattle.mode_core.proofs.CallerLemmas.{Apart, Older, only, pending_apart, IsFirst, is_first}
 use Rattle.std.proofs.lemmas.Bool.{and_parts}
 
 -- of one task two with one release time are one

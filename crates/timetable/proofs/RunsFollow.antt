@@ -23,8 +23,7 @@ use Rattle.mc_model.specs.Follows.{Arrival, arrivals, planned, ends_in_tick, don
 use Rattle.mc_model.proofs.Booleans.{eqb-false}
 use Rattle.mc_model.proofs.Lists.{Each, Each-map}
 use Rattle.mc_model.proofs.Jobs.{any_in, same_job-refl}
-use Rattle.mode_core.proofs.Chosen.{Choice, choice, IsFirst, is_first, all_from}
-use Rattle.mode_core.proofs.Fits.{same_bool-refl}
+use Rattle.mode_core.proofs.CallerLemmas.{Choice, choice, IsFirst, is_first, all_from, same_bool-refl}
 use Rattle.timetable.specs.Ticks.{is_last, tick_row}
 use Rattle.timetable.specs.Shape.{first_job, row_now, next_row, Runs}
 use Rattle.mc_model.specs.Work.{AllFollow, IsWork}

@@ -13,8 +13,7 @@ use Rattle.mc_model.specs.Follows.{arrivals, planned}
 use Rattle.mc_model.specs.Work.{IsWork}
 use Rattle.mode_core.specs.Events.{job_in, with_release, chosen_now}
 use Rattle.mode_core.specs.Shape.{IsSound}
-use Rattle.mode_core.proofs.Held.{IsSettled, settled_words}
-use Rattle.mode_core.proofs.Keep.{state, no_held}
+use Rattle.mode_core.proofs.CallerLemmas.{IsSettled, settled_words, state, no_held}
 use Rattle.timetable.specs.declared.plan.Plan.TheVariants.{Rows}
 use Rattle.timetable.specs.Ticks.{is_last, tick_row}
 use Rattle.timetable.specs.Floor.{due_row, due_at}

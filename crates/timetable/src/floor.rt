@@ -1,6 +1,7 @@
 // The floor's state, what can be read of it, and its next act.
 ghost use Rattle.std.specs.Prelude.{◌≡◌, [], None, slice_get};
 ghost use Rattle.mode_core.specs.Shape.{IsSound};
+ghost use Rattle.mode_core.specs.Timely.{IsTimely};
 ghost use Rattle.timetable.specs.Shape.{IsRunBy};
 ghost use Rattle.timetable.specs.Floor.{opening, is_planned, due_row, due, is_finished, next_act};
 ghost use Rattle.timetable.specs.Plans.{IsPlanFor, IsOnPlan};
@@ -47,7 +48,8 @@ impl Floor {
         requires rows { core.rows ≡ [] }
         requires out { core.out ≡ None }
         requires plan { IsPlanFor core plan }
-        ensures { result ≡ opening core plan }
+        ensures value { result ≡ opening core plan }
+        ensures timely { IsTimely result.core }
     {
         let _sound = core.ticks();
         Floor {

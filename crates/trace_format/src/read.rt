@@ -10,7 +10,7 @@ use crate::{TraceCause, TraceFault};
 use csv::ByteRecord;
 use csv_records::{Meaning, Said, read_rows};
 use mc_model::Run;
-use mc_task::TaskSet;
+use mc_task::{TaskNo, TaskSet};
 use std::alloc::Global;
 
 /// Reads a trace: the first record is the header of version 1, `event,tick,task,job,how`, or that of version 2,
@@ -38,11 +38,21 @@ struct TraceRecords<'a> {
     set: &'a TaskSet,
 }
 
-// The version of the records, and the tick that is due behind the runs so far.
+// The version of the records, and the tick that is due behind the runs so far. `near` is the last task that was told, or 0 at
+// first: most records tell it again, or the task behind it.
 #[derive(Clone, Copy)]
 pub struct Reading {
     pub version: Version,
     pub due: u32,
+    pub near: TaskNo,
+}
+
+// The task of this run, or the last one before it where it tells none. Only how soon a task is found hangs on it.
+fn last_told(near: TaskNo, run: Run) -> TaskNo {
+    match run {
+        Run::Release { job, .. } | Run::Ticks { job, .. } => job.task,
+        Run::Idles { .. } => near,
+    }
 }
 
 impl<'a> Meaning for TraceRecords<'a> {
@@ -65,7 +75,11 @@ impl<'a> Meaning for TraceRecords<'a> {
 
     fn header(&self, fields: &ByteRecord) -> Option<Reading> {
         let version = version_of(fields)?;
-        Some(Reading { version, due: 0 })
+        Some(Reading {
+            version,
+            due: 0,
+            near: TaskNo(0),
+        })
     }
 
     fn row(
@@ -74,8 +88,10 @@ impl<'a> Meaning for TraceRecords<'a> {
         before: &[Run],
         fields: &ByteRecord,
     ) -> Result<Run, TraceCause> {
-        let run = record_run(self.set, reading.version, before, reading.due, fields)?;
-        reading.due = tick_after(reading.due, run);
+        let Reading { version, due, near } = *reading;
+        let run = record_run(self.set, version, before, due, near, fields)?;
+        reading.due = tick_after(due, run);
+        reading.near = last_told(near, run);
         Ok(run)
     }
 

@@ -52,10 +52,11 @@ fn is_second_header(fields: &ByteRecord) -> bool
                         && (is(field(fields, 4), "job") && is(field(fields, 5), "how"))))))
 }
 
+// A word is short and its length is known here, so `starts_with` is a compare or two in place, where `==` is a call.
 fn is(field: &[u8], word: &str) -> bool
     ensures { result ≡ bytes_eq field.now word.now }
 {
-    field == word.as_bytes()
+    field.len() == word.len() && field.starts_with(word.as_bytes())
 }
 
 // The field at this place, from 0; empty where there is none.
@@ -99,13 +100,14 @@ pub fn wrong_width(version: Version) -> TraceCause
     }
 }
 
-// The run of a record behind the runs before it, at the tick that is due there.
+// The run of a record behind the runs before it, at the tick that is due there. Its task is looked for near this one first.
 #[tactic(auto, unfolding(crate::specs::TraceFile::record_run))]
 pub fn record_run(
     set: &TaskSet,
     version: Version,
     before: &[Run],
     due: u32,
+    near: TaskNo,
     fields: &ByteRecord,
 ) -> Result<Run, TraceCause>
     requires due { due ≡ total length_of before.now }
@@ -121,7 +123,7 @@ pub fn record_run(
     let Some(told) = event_of(version, fields) else {
         return Err(TraceCause::UnknownEvent);
     };
-    let Some(task) = task_told(set, version, fields, told) else {
+    let Some(task) = task_told(set, version, near, fields, told) else {
         return Err(TraceCause::UnknownTask);
     };
     let Some(numbers) = numbers_told(version, fields, told) else {
@@ -140,11 +142,19 @@ pub fn record_run(
 }
 
 // The task of a release or a tick; an idle record has none, for which 0 stands, the number of no task.
-fn task_told(set: &TaskSet, version: Version, fields: &ByteRecord, told: Event) -> Option<TaskNo>
+fn task_told(
+    set: &TaskSet,
+    version: Version,
+    near: TaskNo,
+    fields: &ByteRecord,
+    told: Event,
+) -> Option<TaskNo>
     ensures { option_map (λ task. task.0) result ≡ file.task_told set.now.tasks version (fields_of fields.now) told }
 {
     match told {
-        Event::Release { .. } | Event::Tick { .. } => set.find(field(fields, task_place(version))),
+        Event::Release { .. } | Event::Tick { .. } => {
+            set.find_near(field(fields, task_place(version)), near)
+        }
         Event::Idle => Some(TaskNo(0)),
     }
 }

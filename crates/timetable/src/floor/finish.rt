@@ -1,8 +1,8 @@
 // A plan, done to its end by one caller.
-ghost use Rattle.std.specs.Prelude.{◌≡◌, true, false, None, []};
-ghost use Rattle.mc_model.specs.Late.{late};
+ghost use Rattle.std.specs.Prelude.{◌≡◌, true, false, None};
 ghost use Rattle.demand_law.specs.NoOver.{NoOver, NoDrop, EndedInTime};
 ghost use Rattle.mode_core.specs.Shape.{IsSound};
+ghost use Rattle.mode_core.specs.Timely.{IsTimely};
 ghost use Rattle.timetable.specs.declared.acts.Act.TheVariants as act;
 ghost use Rattle.timetable.specs.Floor.{is_planned, is_finished, next_act};
 ghost use Rattle.timetable.specs.Plans.{IsTraceOfPlan, HasTaken};
@@ -23,7 +23,7 @@ impl Floor {
         // No other rows follow, whatever made them.
         ensures trace { IsTraceOfPlan self.new.plan self.new.core }
         ensures law { AtMostOneFollows }
-        ensures timely { late self.new.core.set self.new.core.rows ≡ [] }
+        ensures timely { IsTimely self.new.core }
         // Where no job overran, no release was dropped, and each job ended by its deadline.
         ensures kept { NoOver self.new.core.rows → NoDrop self.new.core.rows }
         ensures ended { NoOver self.new.core.rows → EndedInTime self.new.core.set self.new.core.rows }

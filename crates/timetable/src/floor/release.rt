@@ -2,6 +2,7 @@
 ghost use Rattle.std.specs.Prelude.{◌≡◌, ◌≢◌, ℕ, true, None, Err};
 ghost use Rattle.mc_task.specs.TaskSet.{IsIn};
 ghost use Rattle.mode_core.specs.Events as core_event;
+ghost use Rattle.mode_core.specs.Timely.{IsTimely};
 ghost use Rattle.mode_core.specs.declared.answers.ReleaseFault.TheVariants as release_fault;
 ghost use Rattle.timetable.specs.declared.acts.ActFault.TheVariants as act_fault;
 ghost use Rattle.timetable.specs.Floor.{is_planned, release_refusal, release_answer, after_release, of_core, releasing};
@@ -20,6 +21,7 @@ impl Floor {
         requires in_set { IsIn self.old.core.set task.0 }
         ensures answer { result ≡ release_answer self.old task.0 }
         ensures state { self.new ≡ after_release self.old task.0 }
+        ensures timely { IsTimely self.new.core }
         // A planned release comes in time, and finds a place.
         ensures no_too_soon { (next : ℕ) → is_planned self.old.plan ≡ true → result ≢ Err (act_fault.Core (release_fault.TooSoon next)) }
         ensures no_full { is_planned self.old.plan ≡ true → result ≢ Err (act_fault.Core release_fault.Full) }
@@ -32,8 +34,10 @@ impl Floor {
 
     // Why the plan refuses a release of the task.
     fn release_fault(&self, task: TaskNo) -> Option<PlanFault>
-        ensures { result ≡ release_refusal self.now task.0 }
+        ensures value { result ≡ release_refusal self.now task.0 }
+        ensures timely { IsTimely self.now.core }
     {
+        let _timely = self.core.rows();
         match &self.plan {
             Plan::Free => None,
             Plan::Rows { .. } => match self.due() {
@@ -55,6 +59,7 @@ impl Floor {
         requires none { release_refusal self.old task.0 ≡ None }
         ensures answer { result ≡ of_core (core_event.release_answer self.old.core task.0) }
         ensures state { self.new ≡ releasing self.old task.0 }
+        ensures timely { IsTimely self.new.core }
         ensures no_too_soon { (next : ℕ) → is_planned self.old.plan ≡ true → result ≢ Err (act_fault.Core (release_fault.TooSoon next)) }
         ensures no_full { is_planned self.old.plan ≡ true → result ≢ Err (act_fault.Core release_fault.Full) }
     {

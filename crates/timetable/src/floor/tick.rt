@@ -2,6 +2,7 @@
 ghost use Rattle.std.specs.Prelude.{◌≡◌, ◌≢◌, true, None, Err};
 ghost use Rattle.mc_task.specs.TaskSet.{IsIn};
 ghost use Rattle.mode_core.specs.Events as core_event;
+ghost use Rattle.mode_core.specs.Timely.{IsTimely};
 ghost use Rattle.mode_core.specs.declared.answers.GrantFault.TheVariants as grant_fault;
 ghost use Rattle.mode_core.specs.declared.answers.IdleFault.TheVariants as idle_fault;
 ghost use Rattle.timetable.specs.declared.acts.ActFault.TheVariants as act_fault;
@@ -22,6 +23,7 @@ impl Floor {
         requires in_set { IsIn self.old.core.set task.0 }
         ensures answer { result ≡ grant_answer self.old task.0 }
         ensures state { self.new ≡ after_grant self.old task.0 }
+        ensures timely { IsTimely self.new.core }
         // A planned tick finds a place.
         ensures no_full { is_planned self.old.plan ≡ true → result ≢ Err (act_fault.Core grant_fault.Full) }
     {
@@ -33,8 +35,10 @@ impl Floor {
 
     // Why the plan refuses a tick.
     fn tick_fault(&self) -> Option<PlanFault>
-        ensures { result ≡ tick_refusal self.now }
+        ensures value { result ≡ tick_refusal self.now }
+        ensures timely { IsTimely self.now.core }
     {
+        let _timely = self.core.rows();
         match self.due() {
             Some(row) => Some(PlanFault::Due { task: row.task }),
             None => {
@@ -53,6 +57,7 @@ impl Floor {
         requires none { tick_refusal self.old ≡ None }
         ensures answer { result ≡ of_core (core_event.grant_answer self.old.core task.0) }
         ensures state { self.new ≡ record self.old { core = core_event.after_grant self.old.core task.0 } }
+        ensures timely { IsTimely self.new.core }
         ensures no_full { is_planned self.old.plan ≡ true → result ≢ Err (act_fault.Core grant_fault.Full) }
     {
         let _sound = self.core.ticks();
@@ -73,6 +78,7 @@ impl Floor {
     pub fn outcome(&mut self, job: JobId, done: bool) -> Result<How, NotOut>
         ensures answer { result ≡ outcome_answer self.old job done }
         ensures state { self.new ≡ after_outcome self.old job done }
+        ensures timely { IsTimely self.new.core }
     {
         let _sound = self.core.ticks();
         let done = if self.is_planned() { self.last } else { done };
@@ -86,6 +92,7 @@ impl Floor {
     pub fn idle(&mut self) -> Result<u64, ActFault<IdleFault>>
         ensures answer { result ≡ idle_answer self.old }
         ensures state { self.new ≡ after_idle self.old }
+        ensures timely { IsTimely self.new.core }
         // A planned tick finds a place.
         ensures no_full { is_planned self.old.plan ≡ true → result ≢ Err (act_fault.Core idle_fault.Full) }
     {
@@ -100,6 +107,7 @@ impl Floor {
         requires none { tick_refusal self.old ≡ None }
         ensures answer { result ≡ of_core (core_event.idle_answer self.old.core) }
         ensures state { self.new ≡ record self.old { core = core_event.after_idle self.old.core } }
+        ensures timely { IsTimely self.new.core }
         ensures no_full { is_planned self.old.plan ≡ true → result ≢ Err (act_fault.Core idle_fault.Full) }
     {
         let _sound = self.core.ticks();

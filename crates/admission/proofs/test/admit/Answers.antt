@@ -1,4 +1,5 @@
 use Rattle.std.proofs.Common.{◌∙◌}
+use Rattle.mc_model.proofs.EdfOrScaled.{edf_or_scaled}
 use Rattle.mc_model.proofs.RuleHolds.{published-holds}
 use Rattle.admission.proofs.Sets.{high_low-most, high_low-pos, rule_of-published, Holds-from_published}
 use Rattle.admission.proofs.test.admit.Goals as goal
@@ -17,3 +18,6 @@ returns-clause-holds c = Holds-from_published c.args.loads.now c.rule_over.resul
 
 pub returns-clause-law : goal.returns-clause-law
 returns-clause-law c = published-holds
+
+pub returns-clause-edf_or_scaled : goal.returns-clause-edf_or_scaled
+returns-clause-edf_or_scaled c = edf_or_scaled

@@ -1,12 +1,6 @@
 use Rattle.std.proofs.Common.{sym}
-use Rattle.mode_core.proofs.Fits.{chooses}
 use Rattle.calling_examples.proofs.Steps.{is_free, grant_adds, never_refused, idle_adds}
 use Rattle.calling_examples.proofs.schedule.give_tick.Goals as goal
-
-pub grant-requires : goal.grant-requires
-grant-requires g c =
-    let sound = c.ticks-sound.ensures.sound in
-    record { in_set = (chooses c.args.core.now.set c.args.core.now.rule c.args.core.now.rows c.in-Some.job sound.tasks.each sound.good.legal (sym c.in-Some.ensures.value)).inside }
 
 pub returns-in-Ok : goal.returns-in-Ok
 returns-in-Ok g c =

@@ -2,7 +2,7 @@ use Rattle.std.proofs.Common.{map, string_bytes}
 use Rattle.command_line.specs.Form.{form_of}
 use Rattle.command_line.proofs.InRange.{in_range}
 use Rattle.edfvd_program.proofs.Outcomes.{Answers-written, calm_outcome}
-use Rattle.edfvd_program.proofs.Headlines.{headline, gave_up}
+use Rattle.edfvd_program.proofs.Headlines.{promises, gave_up}
 use Rattle.edfvd_program.proofs.TestedSets.{tested, never_tested}
 use Rattle.edfvd_program.proofs.edfvd.edfvd.Goals as goal
 
@@ -13,8 +13,18 @@ returns-in-Ok-clause-answer g c =
 
 pub returns-in-Ok-clause-headline : goal.returns-in-Ok-clause-headline
 returns-in-Ok-clause-headline g c files old tells told calm =
-    headline (form_of (map (λ w. string_bytes w) c.args.words.now)) (in_range (map (λ w. string_bytes w) c.args.words.now)) files old c.deliver.result (g.K.Sink.state c.deliver.new.out).written
-    (returns-in-Ok-clause-answer g c files old tells told calm)
+    (promises (form_of (map (λ w. string_bytes w) c.args.words.now)) (in_range (map (λ w. string_bytes w) c.args.words.now)) files old c.deliver.result (g.K.Sink.state c.deliver.new.out).written
+    (returns-in-Ok-clause-answer g c files old tells told calm)).0
+
+pub returns-in-Ok-clause-told : goal.returns-in-Ok-clause-told
+returns-in-Ok-clause-told g c files old tells told calm =
+    (promises (form_of (map (λ w. string_bytes w) c.args.words.now)) (in_range (map (λ w. string_bytes w) c.args.words.now)) files old c.deliver.result (g.K.Sink.state c.deliver.new.out).written
+    (returns-in-Ok-clause-answer g c files old tells told calm)).1
+
+pub returns-in-Ok-clause-complete : goal.returns-in-Ok-clause-complete
+returns-in-Ok-clause-complete g c files old tells told calm =
+    (promises (form_of (map (λ w. string_bytes w) c.args.words.now)) (in_range (map (λ w. string_bytes w) c.args.words.now)) files old c.deliver.result (g.K.Sink.state c.deliver.new.out).written
+    (returns-in-Ok-clause-answer g c files old tells told calm)).2
 
 pub returns-in-Ok-clause-tested : goal.returns-in-Ok-clause-tested
 returns-in-Ok-clause-tested g c files old tells told calm =
@@ -28,7 +38,15 @@ returns-in-Ok-clause-calm_shelf g c =
 
 pub returns-in-Err-clause-headline : goal.returns-in-Err-clause-headline
 returns-in-Err-clause-headline g c files old tells told calm =
-    gave_up (form_of (map (λ w. string_bytes w) c.args.words.now)) files old (g.K.Sink.state c.args.out.now).written
+    (gave_up (form_of (map (λ w. string_bytes w) c.args.words.now)) files old (g.K.Sink.state c.args.out.now).written).0
+
+pub returns-in-Err-clause-told : goal.returns-in-Err-clause-told
+returns-in-Err-clause-told g c files old tells told calm =
+    (gave_up (form_of (map (λ w. string_bytes w) c.args.words.now)) files old (g.K.Sink.state c.args.out.now).written).1
+
+pub returns-in-Err-clause-complete : goal.returns-in-Err-clause-complete
+returns-in-Err-clause-complete g c files old tells told calm =
+    (gave_up (form_of (map (λ w. string_bytes w) c.args.words.now)) files old (g.K.Sink.state c.args.out.now).written).2
 
 pub returns-in-Err-clause-tested : goal.returns-in-Err-clause-tested
 returns-in-Err-clause-tested g c files old tells told calm =

@@ -1,11 +1,11 @@
 use Rattle.std.proofs.Common.{rules, ◌≡◌, ◌∙◌, reverse, ap, sym, arith}
-use Rattle.std.proofs.lemmas.List.{reverse-reverse}
+use Rattle.std.proofs.lemmas.List.{length-reverse, reverse-reverse}
 use Rattle.mc_model.specs.TraceText.{trace_text}
-use Rattle.mc_model.specs.Core.{State}
 use Rattle.mc_model.proofs.Traces.{rows_of_trace}
 use Rattle.replies.specs.Reply.{reply_of}
-use Rattle.run_answers.proofs.LivePlaces.{few_places}
+use Rattle.run_answers.proofs.LivePlaces.{few_live_rows}
 use Rattle.run_answers.proofs.LiveRows.{live_of}
+use Rattle.run_answers.proofs.TraceBytes.{told_le}
 use Rattle.run_answers.proofs.live.finish_live.Goals as goal
 
 pub trace_text-requires-clause-tasks : goal.trace_text-requires-clause-tasks
@@ -19,12 +19,7 @@ trace_text-requires-clause-tasks g c =
 pub trace_text-requires-clause-few : goal.trace_text-requires-clause-few
 trace_text-requires-clause-few g c =
     let places : c.in-Ok.floor.core.places ≡ c.live_places-places.result = search rules in
-    let core : c.core.result.now.places ≡ c.in-Ok.floor.core.places = ap (λ (s : State). s.places) c.core.ensures.value in
-    let some = c.live_places-places.ensures.places in
-    let law = few_places c.args.job.set.tasks c.args.job.rule c.args.ticks c.len-is_set.ensures.set c.requires.job.holds in
-    let ticks = c.requires.ticks.1 in
-    let few = c.live_rows.ensures.few in
-    omega (arith, places, core, some, law, ticks, few)
+    few_live_rows c.args.job.set.tasks c.args.job.rule c.args.ticks c.core.result.now c.in-Ok.floor.core c.live_places-places.result c.live_rows.result.now c.len-is_set.ensures.set c.requires.job.holds c.requires.ticks.1 c.core.ensures.value places c.live_places-places.ensures.places c.live_rows.ensures.few
 
 pub returns-clause-lives : goal.returns-clause-lives
 returns-clause-lives g c =
@@ -34,3 +29,13 @@ returns-clause-lives g c =
     let live = live_of c.core.result.now c.in-Ok.floor.core c.args.job.set.tasks c.args.job.rule c.args.ticks (reverse c.live_rows.result.now) c.core.ensures.value set rule c.live_rows.ensures.live in
     let text : c.new.result ≡ reply_of 0 c.in_ok-text.text.items = search rules in
     (reverse rows, live, text ∙ ap (reply_of 0) (c.in_ok-text.ensures ∙ ap (trace_text c.args.job.set.tasks) (sym (reverse-reverse rows))))
+
+pub returns-clause-short : goal.returns-clause-short
+unfolding returns-clause-lives
+returns-clause-short g c =
+    let told = returns-clause-lives g c in
+    let places : c.in-Ok.floor.core.places ≡ c.live_places-places.result = search rules in
+    let few = few_live_rows c.args.job.set.tasks c.args.job.rule c.args.ticks c.core.result.now c.in-Ok.floor.core c.live_places-places.result c.live_rows.result.now c.len-is_set.ensures.set c.requires.job.holds c.requires.ticks.1 c.core.ensures.value places c.live_places-places.ensures.places c.live_rows.ensures.few in
+    let rows = length-reverse c.live_rows.result.now in
+    let text = told_le c.args.job.set.tasks c.args.job.rule (reverse c.live_rows.result.now) c.new.result c.len-is_set.ensures.set told.1.legal (omega (arith, few, rows)) told.2 in
+    omega (arith, few, rows, text)

@@ -6,7 +6,7 @@ use Rattle.mc_model.specs.Core.{State}
 use Rattle.mode_core.specs.Shape.{IsSound}
 use Rattle.mode_core.specs.Events.{chosen_now, granted}
 use Rattle.mode_core.specs.declared.answers.Granted.{Granted}
-use Rattle.mode_core.proofs.Fits.{chooses}
+use Rattle.mode_core.proofs.CallerLemmas.{chooses}
 use Rattle.timetable.specs.declared.acts.Act.TheVariants as act
 use Rattle.timetable.specs.Floor.{FloorState, next_act, after_outcome}
 use Rattle.mc_model.specs.LiveTrace.{live_need}

@@ -2,7 +2,7 @@ use Rattle.std.proofs.Common.{◌≡◌, true, None, sym, ◌∙◌, subst}
 use Rattle.timetable.specs.Floor.{FloorState, is_planned}
 use Rattle.timetable.proofs.Determined.{one_follows}
 use Rattle.timetable.proofs.NextActs.{ended}
-use Rattle.mode_core.proofs.Timely.{sound_timely}
+use Rattle.mode_core.proofs.CallerLemmas.{sound_timely}
 use Rattle.timetable.proofs.InTime.{sound_kept, sound_ended}
 use Rattle.timetable.proofs.floor.Floor.finish.Goals as goal
 
@@ -22,7 +22,7 @@ pub returns-clause-law : goal.returns-clause-law
 returns-clause-law c set rule work n g h tasks fits of_g of_h = one_follows set rule work n g h tasks.each fits of_g of_h
 
 pub returns-clause-timely : goal.returns-clause-timely
-returns-clause-timely c = (sound_timely c.loop-self.self.core c.is_finished.ensures.sound).now
+returns-clause-timely c = sound_timely c.loop-self.self.core c.is_finished.ensures.sound
 
 pub returns-clause-kept : goal.returns-clause-kept
 returns-clause-kept c none = sound_kept c.loop-self.self.core c.is_finished.ensures.sound none

@@ -1,0 +1,67 @@
+-- Nothing is refused without reason, where the shelf and the sink tell their bytes and have no fault: what the commands that
+-- schedule a set, or tell of a trace, answer for valid files. The newest row of a trace stands first here.
+use Rattle.std.specs.Prelude.{◌≡◌, ◌⊎◌, ℕ, ◌≤◌, ◌^◌, List, [], length, Option, Some, None, Ok}
+use Rattle.mc_task.specs.declared.task.Task.{Task}
+use Rattle.mc_task.specs.declared.task.Rule.{Rule}
+use Rattle.mc_task.specs.declared.task.Rule.TheVariants.{Virtual}
+use Rattle.mc_task.specs.TaskSet.{Set}
+use Rattle.mc_world.specs.Shelf.{Files}
+use Rattle.mc_model.specs.declared.row.Row.{Row}
+use Rattle.mc_model.specs.declared.work.WorkRow.{WorkRow}
+use Rattle.mc_model.specs.Rows.{ticks}
+use Rattle.mc_model.specs.Legal.{Legal}
+use Rattle.mc_model.specs.Late.{late}
+use Rattle.command_line.specs.declared.form.Telling.{Telling}
+use Rattle.command_line.specs.declared.form.Telling.TheVariants.{JudgeBy, Chart}
+use Rattle.command_line.specs.Form.{Form, check, run, on_trace, soak, live, run_all}
+use Rattle.run_answers.specs.Run.{work_of}
+use Rattle.edfvd_program.specs.Headline.{bytes_of, SaysSet, IsAdmitted, SaysTrace, IsSpread}
+
+-- the call succeeded, or memory was wanting
+abbrev pub Succeeds : ℕ → Type 0
+Succeeds ended = (ended ≡ 0) ⊎ (ended ≡ 9)
+
+-- the work file says this work of the set
+abbrev pub SaysWork : List ℕ → List Task → List WorkRow → Type 0
+SaysWork bytes set work = (length bytes ≤ 2 ^ 24) × (work_of set bytes ≡ Ok work)
+
+-- `check` and `live` succeed for each admitted set
+abbrev pub ServesAdmitted : List ℕ → ℕ → Type 0
+ServesAdmitted bytes ended = (set : Set) (rule : Rule) → IsAdmitted bytes set rule → Succeeds ended
+
+-- `run` does so with each work file
+abbrev pub ServesWork : List ℕ → List ℕ → ℕ → Type 0
+ServesWork bytes more ended = (set : Set) (rule : Rule) (work : List WorkRow)
+    → IsAdmitted bytes set rule → SaysWork more set.tasks work → Succeeds ended
+
+-- `runall` does so for each set that first fit spreads
+abbrev pub ServesSpread : ℕ → List ℕ → List ℕ → ℕ → Type 0
+ServesSpread m bytes more ended = (set : Set) (of : List ℕ) (work : List WorkRow)
+    → IsSpread m bytes set of → SaysWork more set.tasks work → Succeeds ended
+
+-- something can be told of the trace: a chart has at most 2,000,000 ticks
+abbrev pub IsTold : Telling → List Row → Type 0
+IsTold Chart h = ticks h ≤ 2000000
+IsTold telling h = Unit {0}
+
+-- `judge`, `chart`, `report` and `migrate` find each legal trace so under the test's rule
+abbrev pub FindsEach : Telling → List ℕ → List ℕ → ℕ → Type 0
+FindsEach telling bytes more ended = (set : Set) (rule : Rule) (h : List Row)
+    → IsAdmitted bytes set rule → SaysTrace more set.tasks h → Legal set.tasks rule h → IsTold telling h → Succeeds ended
+
+-- `judge` under a rule that the words give finds each legal trace without late jobs good
+abbrev pub FindsBy : Rule → List ℕ → List ℕ → ℕ → Type 0
+FindsBy rule bytes more ended = (set : Set) (h : List Row)
+    → SaysSet bytes set → SaysTrace more set.tasks h → Legal set.tasks rule h → late set.tasks h ≡ [] → Succeeds ended
+
+-- what is answered for valid files, by what they hold and the status
+abbrev pub Complete : Option Form → Files → ℕ → Type 0
+Complete None files ended = Unit {0}
+Complete (Some (check tasks)) files ended = ServesAdmitted (bytes_of files tasks) ended
+Complete (Some (run tasks work ticks)) files ended = ServesWork (bytes_of files tasks) (bytes_of files work) ended
+Complete (Some (live tasks ticks)) files ended = ServesAdmitted (bytes_of files tasks) ended
+Complete (Some (soak number tasks ticks)) files ended = Succeeds ended
+Complete (Some (run_all tasks work ticks processors)) files ended = ServesSpread processors (bytes_of files tasks) (bytes_of files work) ended
+Complete (Some (on_trace (JudgeBy p q) tasks trace)) files ended = FindsBy (Virtual p q) (bytes_of files tasks) (bytes_of files trace) ended
+Complete (Some (on_trace telling tasks trace)) files ended = FindsEach telling (bytes_of files tasks) (bytes_of files trace) ended
+Complete (Some form) files ended = Unit {0}

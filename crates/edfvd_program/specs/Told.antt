@@ -1,0 +1,60 @@
+-- Which traces are written, and what is told of those that are found legal or summed up, where the shelf and the sink tell
+-- their bytes and have no fault. The newest row of a trace stands first here.
+use Rattle.std.specs.Prelude.{◌≡◌, ℕ, List, ◌++◌, Option, Some, None, Ok}
+use Rattle.std.specs.List.{AllZip}
+use Rattle.mc_task.specs.declared.task.Task.{Task}
+use Rattle.mc_task.specs.declared.task.Rule.{Rule}
+use Rattle.mc_task.specs.TaskSet.{Set}
+use Rattle.mc_world.specs.Shelf.{Files}
+use Rattle.mc_model.specs.declared.row.Row.{Row}
+use Rattle.mc_model.specs.declared.work.WorkRow.{WorkRow}
+use Rattle.mc_model.specs.Follows.{Follows}
+use Rattle.mc_model.specs.LiveTrace.{LiveTrace}
+use Rattle.command_line.specs.declared.form.Telling.{Telling}
+use Rattle.command_line.specs.declared.form.Telling.TheVariants.{JudgeBy}
+use Rattle.command_line.specs.Form.{Form, run, on_trace, soak, live, run_all}
+use Rattle.task_answers.specs.Admitted.{under}
+use Rattle.trace_answers.specs.OnTrace.{told}
+use Rattle.run_answers.specs.Soak.{workload_set, soak_text, IsSoaked}
+use Rattle.part_answers.specs.Parted.{spread}
+use Rattle.part_answers.specs.RunAll.{used, IsTraceOn}
+use Rattle.edfvd_program.specs.Headline.{bytes_of, IsAdmitted, SaysTrace, Writes, IsSpread, WritesAll}
+use Rattle.edfvd_program.specs.Complete.{SaysWork}
+
+-- `run` writes the one trace of so many ticks that follows from the set, its rule and the work in the work file
+abbrev pub WritesRun : ℕ → List ℕ → List ℕ → List ℕ → ℕ → Option (List ℕ) → Type 0
+WritesRun ticks bytes more old ended new = ended ≡ 0 → (set : Set) × (rule : Rule) × (work : List WorkRow) × (h : List Row)
+    × IsAdmitted bytes set rule × SaysWork more set.tasks work × Follows set.tasks rule work ticks h × Writes set.tasks h old new
+
+-- `live` writes a live trace of so many ticks
+abbrev pub WritesLive : ℕ → List ℕ → List ℕ → ℕ → Option (List ℕ) → Type 0
+WritesLive ticks bytes old ended new = ended ≡ 0 → (set : Set) × (rule : Rule) × (h : List Row)
+    × IsAdmitted bytes set rule × LiveTrace set.tasks rule ticks h × Writes set.tasks h old new
+
+-- `runall` writes for each processor with tasks the one trace that follows from these, their rule and their work
+abbrev pub WritesParts : ℕ → ℕ → List ℕ → List ℕ → List ℕ → ℕ → Option (List ℕ) → Type 0
+WritesParts ticks m bytes more old ended new = ended ≡ 0 → (set : Set) × (of : List ℕ) × (work : List WorkRow) × (traces : List (List Row))
+    × IsSpread m bytes set of × SaysWork more set.tasks work
+    × AllZip (IsTraceOn ticks (spread set.tasks of) work) (used m (spread set.tasks of)) traces × WritesAll m (spread set.tasks of) traces old new
+
+-- `judge`, `chart`, `report` and `migrate` tell of the trace in the file
+abbrev pub TellsOf : Telling → List ℕ → List ℕ → List ℕ → ℕ → Option (List ℕ) → Type 0
+TellsOf telling bytes more old ended new = ended ≡ 0 → (set : Set) × (rule : Rule) × (h : List Row) × (text : List ℕ)
+    × IsAdmitted bytes set rule × SaysTrace more set.tasks h × (told telling (under rule set) h ≡ Ok text) × (new ≡ Some (old ++ text))
+
+-- `soak` sums up the trace of a workload
+abbrev pub SumsUp : ℕ → ℕ → ℕ → List ℕ → ℕ → Option (List ℕ) → Type 0
+SumsUp number tasks ticks old ended new = ended ≡ 0 → (rule : Rule) × (h : List Row)
+    × IsSoaked number tasks ticks rule h × (new ≡ Some (old ++ soak_text number tasks ticks (workload_set number tasks) rule h))
+
+-- what is told is so, by what the files hold, what was written before, the status and what is written after
+abbrev pub Told : Option Form → Files → List ℕ → ℕ → Option (List ℕ) → Type 0
+Told None files old ended new = Unit {0}
+Told (Some (run tasks work ticks)) files old ended new = WritesRun ticks (bytes_of files tasks) (bytes_of files work) old ended new
+Told (Some (live tasks ticks)) files old ended new = WritesLive ticks (bytes_of files tasks) old ended new
+Told (Some (soak number tasks ticks)) files old ended new = SumsUp number tasks ticks old ended new
+Told (Some (run_all tasks work ticks processors)) files old ended new =
+    WritesParts ticks processors (bytes_of files tasks) (bytes_of files work) old ended new
+Told (Some (on_trace (JudgeBy p q) tasks trace)) files old ended new = Unit {0}
+Told (Some (on_trace telling tasks trace)) files old ended new = TellsOf telling (bytes_of files tasks) (bytes_of files trace) old ended new
+Told (Some form) files old ended new = Unit {0}
