@@ -1,5 +1,5 @@
 -- Tasks that are read one after another.
-use Rattle.std.proofs.Common.{◌≡◌, ◌≢◌, ℕ, ◌+◌, ◌<◌, ◌≤◌, ◌^◌, Bool, true, false, not, ◌||◌, ◌==◌, nat_lt, List, [], ◌∷◌, ◌++◌, length, Result, Ok, Err, IsTrue, refl, sym, ◌∙◌, subst, arith, ltb-false}
+use Rattle.std.proofs.Common.{◌≡◌, ◌≢◌, ℕ, ◌+◌, ◌<◌, ◌≤◌, ◌^◌, Bool, true, false, not, ◌||◌, ◌==◌, nat_lt, List, [], ◌∷◌, ◌++◌, length, Result, Ok, Err, IsTrue, refl, sym, ◌∙◌, subst, arith, le-ltb, lt-ltb}
 use Rattle.std.specs.Str.{bytes_eq}
 use Rattle.std.proofs.lemmas.Bool.{false≢true, or_parts}
 use Rattle.std.proofs.lemmas.Bool.Decides.{nat_tests}
@@ -18,89 +18,40 @@ use Rattle.demand_test.specs.Refusals.{◌>>=◌, refuse_if}
 use Rattle.demand_test.specs.SoFar.{IsSoFar}
 use Rattle.demand_test.proofs.Multiples.{lcm_from-pos}
 
-lcm_from-push : (m : ℕ) (ts : List Demand) (t : Demand) → lcm_from m (ts ++ t ∷ []) ≡ lcm (lcm_from m ts) t.period
+-- the least common multiple with one more period
+pub lcm_from-push : (m : ℕ) (ts : List Demand) (t : Demand) → lcm_from m (ts ++ t ∷ []) ≡ lcm (lcm_from m ts) t.period
 unfolding lcm_from
 lcm_from-push m [] t = refl
 lcm_from-push m (u ∷ us) t = lcm_from-push (lcm m u.period) us t
-
--- the least common multiple with one more period
-pub hyperperiod-push : (ts : List Demand) (t : Demand) → hyperperiod (ts ++ t ∷ []) ≡ lcm (hyperperiod ts) t.period
-hyperperiod-push ts t = lcm_from-push 1 ts t
-
--- before the first task it is 1
-pub hyperperiod-none : hyperperiod [] ≡ 1
-unfolding lcm_from
-hyperperiod-none = refl
 
 -- the tests of the numbers one after the other
 abbrev tested : Bool → Bool → Bool → ℕ → Result ℕ DemandCause
 tested a b c m = refuse_if a ZeroNumber >>= λ _. refuse_if b DeadlineOrder >>= λ _. refuse_if c Range >>= λ _. Ok m
 
--- where each of them is false
-all_false : (a b c : Bool) (m : ℕ) → a ≡ false → b ≡ false → c ≡ false → tested a b c m ≡ Ok m
-all_false false false false m x y z = refl
-all_false true b c m x y z = absurd (cc)
-all_false false true c m x y z = absurd (cc)
-all_false false false true m x y z = absurd (cc)
-
--- where only the last is true
-last_true : (a b c : Bool) (m : ℕ) → a ≡ false → b ≡ false → c ≡ true → tested a b c m ≡ Err Range
-last_true false false true m x y z = refl
-last_true true b c m x y z = absurd (cc)
-last_true false true c m x y z = absurd (cc)
-last_true false false false m x y z = absurd (cc)
-
 -- a number that is tested is given only where each is false
 given : (a b c : Bool) (m n : ℕ) → Ok n ≡ tested a b c m → (a ≡ false) × (b ≡ false) × (c ≡ false) × (n ≡ m)
 given false false false m n h = (refl, refl, refl, cc)
-given true b c m n h = absurd (cc)
-given false true c m n h = absurd (cc)
-given false false true m n h = absurd (cc)
+given a b c m n h = absurd (cc)
 
 no_zero : (p d b : ℕ) → p ≢ 0 → d ≢ 0 → b ≢ 0 → ((p == 0 || d == 0) || b == 0) ≡ false
 no_zero p d b x y z = grind (arith, nat_tests)
 
-not_above : (m n : ℕ) → m ≤ n → nat_lt n m ≡ false
-not_above m n l = grind (arith, nat_tests)
-
-above : (m n : ℕ) → n < m → nat_lt n m ≡ true
-above m n l = grind (arith, nat_tests)
-
 -- numbers in order give the least common multiple with this period
 pub in_order : (before : List Demand) (t : Demand) → t.period ≢ 0 → t.deadline ≢ 0 → t.budget ≢ 0 → t.deadline ≤ t.period → hyperperiod (before ++ t ∷ []) ≤ most_lcm → multiple_with before t ≡ Ok (hyperperiod (before ++ t ∷ []))
-in_order before t p d b o r =
-    all_false _ _ _ (hyperperiod (before ++ t ∷ [])) (no_zero t.period t.deadline t.budget p d b) (not_above t.deadline t.period o) (not_above (hyperperiod (before ++ t ∷ [])) most_lcm r)
+in_order before t p d b o r = rw (no_zero t.period t.deadline t.budget p d b, le-ltb t.period t.deadline o, le-ltb most_lcm (hyperperiod (before ++ t ∷ [])) r) refl
 
 -- a least common multiple past the limit is refused
 pub out_of_range : (before : List Demand) (t : Demand) → t.period ≢ 0 → t.deadline ≢ 0 → t.budget ≢ 0 → t.deadline ≤ t.period → most_lcm < hyperperiod (before ++ t ∷ []) → multiple_with before t ≡ Err Range
-out_of_range before t p d b o r =
-    last_true _ _ _ (hyperperiod (before ++ t ∷ [])) (no_zero t.period t.deadline t.budget p d b) (not_above t.deadline t.period o) (above (hyperperiod (before ++ t ∷ [])) most_lcm r)
+out_of_range before t p d b o r = rw (no_zero t.period t.deadline t.budget p d b, le-ltb t.period t.deadline o, lt-ltb most_lcm (hyperperiod (before ++ t ∷ [])) r) refl
 
 -- what it says of a task that it is given for
-record InOrder (before : List Demand) (t : Demand) (multiple : ℕ) : Type 0 where
-  period : 1 ≤ t.period
-  deadline : 1 ≤ t.deadline
-  budget : 1 ≤ t.budget
-  constrained : t.deadline ≤ t.period
-  range : hyperperiod (before ++ t ∷ []) ≤ most_lcm
-  value : multiple ≡ hyperperiod (before ++ t ∷ [])
-
-order_of : (before : List Demand) (t : Demand) (multiple : ℕ) → Ok multiple ≡ multiple_with before t → InOrder before t multiple
+order_of :
+    (before : List Demand) (t : Demand) (multiple : ℕ) → Ok multiple ≡ multiple_with before t →
+    (1 ≤ t.period) × (1 ≤ t.deadline) × (1 ≤ t.budget) × (t.deadline ≤ t.period) ×
+    (hyperperiod (before ++ t ∷ []) ≤ most_lcm) × (multiple ≡ hyperperiod (before ++ t ∷ []))
 order_of before t multiple e =
     let p = given ((t.period == 0 || t.deadline == 0) || t.budget == 0) (nat_lt t.period t.deadline) (nat_lt most_lcm (hyperperiod (before ++ t ∷ []))) (hyperperiod (before ++ t ∷ [])) multiple e in
-    let q = or_parts (t.period == 0 || t.deadline == 0) (t.budget == 0) p.0 in
-    let r = or_parts (t.period == 0) (t.deadline == 0) q.0 in
-    record {
-      period = some t.period r.0;
-      deadline = some t.deadline r.1;
-      budget = some t.budget q.1;
-      constrained = ltb-false _ _ p.1;
-      range = ltb-false _ _ p.2;
-      value = p.3;
-    }
-  where
-    some : (n : ℕ) → (n == 0) ≡ false → 1 ≤ n
-    some n f = grind (arith, nat_tests)
+    grind (arith, nat_tests)
 
 -- what a name that is taken says
 pub record IsNew (before : List Demand) (name : List ℕ) : Type 0 where
@@ -112,8 +63,7 @@ named before field name e = by (is_name field) (has_name field before) refl refl
   where
     by : (a b : Bool) → is_name field ≡ a → has_name field before ≡ b → Ok name ≡ (refuse_if (not a) BadName >>= λ _. refuse_if b SameName >>= λ _. Ok field) → IsNew before name
     by true false f n h = let same : field ≡ name = cc in subst (IsNew before) same (record { form = f; new = n })
-    by true true f n h = absurd (cc)
-    by false b f n h = absurd (cc)
+    by a b f n h = absurd (cc)
 
 -- names of a list that differ, and one that none of them is
 distinct-push : (ns : List (List ℕ)) (n : List ℕ) → Distinct ns → Each (λ m. m ≢ n) ns → Distinct (ns ++ n ∷ [])
@@ -131,17 +81,19 @@ pub so_far-push : (before : List Demand) (t : Demand) (multiple next : ℕ) → 
     Ok next ≡ multiple_with before t → IsSoFar (before ++ t ∷ []) next
 so_far-push before t multiple next s few new small order =
     let o = order_of before t next order in
+    let is : IsDemand t = record { name = new.form; period = (o.0, small.0); deadline = (o.1, small.1); budget = (o.2, small.2); constrained = o.3 } in
     record {
       few = let l : length (before ++ t ∷ []) ≡ length before + 1 = length-append before (t ∷ []) in omega (arith, l, few);
-      each = Each-append IsDemand before (t ∷ []) s.each (record { name = new.form; period = (o.period, small.0); deadline = (o.deadline, small.1); budget = (o.budget, small.2); constrained = o.constrained }, tt);
+      each = Each-append IsDemand before (t ∷ []) s.each (is, tt);
       names = subst Distinct (sym (map-append (λ (u : Demand). u.name) before (t ∷ []))) (distinct-push (names_of before) t.name s.names (other_names t.name before new.new));
-      value = o.value;
-      range = o.range;
+      value = o.5;
+      range = o.4;
     }
 
 -- before the first task
 pub so_far-none : IsSoFar [] 1
-so_far-none = record { few = omega arith; each = tt; names = tt; value = sym hyperperiod-none; range = let v = hyperperiod-none in omega (arith, v) }
+unfolding lcm_from
+so_far-none = record { few = omega arith; each = tt; names = tt; value = refl; range = omega arith }
 
 -- its least common multiple is above 0
 pub so_far-pos : (before : List Demand) (multiple : ℕ) → IsSoFar before multiple → 1 ≤ multiple

@@ -1,153 +1,120 @@
--- Which case of an answer applies, by what the files say.
-use Rattle.std.proofs.Common.{◌≡◌, ◌≢◌, ◌⊎◌, inl, inr, ℕ, ◌<◌, ◌≤◌, ◌^◌, nat_lt, Bool, true, false, List, [], length, Option, Some, None, Result, Ok, Err, refl, sym, ap, subst, ◌∙◌, arith, leb-true, ltb-false}
-use Rattle.std.specs.Prelude.{MatchBool, IsSomeAnd, ok_or, unwrap_or}
+-- What an answer says, by what the files say.
+use Rattle.std.proofs.Common.{◌≡◌, ◌≢◌, ℕ, ◌+◌, ◌≤◌, ◌^◌, nat_lt, Bool, true, false, List, [], length, Option, Some, None, Result, Ok, Err, refl, ap, subst, ltb-false, le-ltb}
+use Rattle.std.specs.Prelude.{MatchBool, IsSomeAnd, unwrap_or}
 use Rattle.mc_world.specs.Shelf.{Files}
-use Rattle.mc_task.specs.declared.task.Rule.{Rule}
 use Rattle.mc_task.specs.TaskSet.{Set}
-use Rattle.mc_model.specs.Loads.{range_fault}
-use Rattle.mc_model.specs.Test.{test}
 use Rattle.task_file.specs.TaskFile.{task_file}
-use Rattle.task_file.specs.declared.fault.TaskFault.{TaskFault}
 use Rattle.replies.specs.Reply.{Reply}
-use Rattle.replies.specs.Refusal.{Refusal, TaskFile, OutOfRange, NotAdmitted, Longer, status_of, refuse}
-use Rattle.replies.specs.Reading.{◌>>=◌, or_refuse, none_or, reply_by}
-use Rattle.serving.specs.Command.{Command, need}
+use Rattle.replies.specs.Refusal.{Refusal, TaskFile, Longer, status_of, refuse}
+use Rattle.replies.specs.Reading.{◌>>=◌, or_refuse, reply_by}
+use Rattle.serving.specs.Command.{Command, fetch, need}
 use Rattle.serving.specs.Outcome.{IsAnswer}
-use Rattle.task_answers.specs.Admitted.{Ruled, under, set_in, tested, admitted}
-use Rattle.edfvd_program.specs.Headline.{SaysSet, HasNoRangeFault, IsAdmitted}
+use Rattle.task_answers.specs.Admitted.{set_in}
+use Rattle.edfvd_program.specs.Headline.{bytes_of, SaysSet}
 
--- two statuses are one
-pub other_status : (reply : Reply) (m n : ℕ) → reply.status ≡ m → reply.status ≡ n → m ≢ n → ⊥
-other_status reply m n a b differ = differ (sym a ∙ b)
+-- the reply tells that file k is longer than its limit; otherwise this is so
+abbrev pub Held : ℕ → ℕ → List ℕ → Type 0 → Reply → Type 0
+Held k limit bytes Q reply = MatchBool (nat_lt limit (length bytes)) (reply ≡ refuse (Longer k limit)) Q
 
--- the bytes are more than the limit, or within it
-pub by_length : (P Q : Type 0) (limit : ℕ) (bytes : List ℕ) → MatchBool (nat_lt limit (length bytes)) P Q → (P × (limit < length bytes)) ⊎ (Q × (length bytes ≤ limit))
-by_length P Q limit bytes h = go (nat_lt limit (length bytes)) refl h
-  where
-    go : (b : Bool) → nat_lt limit (length bytes) ≡ b → MatchBool b P Q → (P × (limit < length bytes)) ⊎ (Q × (length bytes ≤ limit))
-    go true e p = inl (p, leb-true _ _ e)
-    go false e q = inr (q, ltb-false _ _ e)
-
--- what is so of the bytes of a file that is held is so of its bytes, none where none are held
-pub of_held : (file : Option (List ℕ)) (P : List ℕ → Type 0) → IsSomeAnd file P → P (unwrap_or file [])
-of_held None P h = absurd h
-of_held (Some bytes) P h = h
-
--- the reply is the refusal, or this is so of the value and the reply
-abbrev pub By : {A : Type 0} → Result A Refusal → (A → Reply → Type 0) → Reply → Type 0
-By (Ok x) P reply = P x reply
+-- the reply is the refusal, or this is so of the value
+abbrev pub By : {A : Type 0} → Result A Refusal → (A → Type 0) → Reply → Type 0
+By (Ok x) P reply = P x
 By (Err refusal) P reply = reply ≡ refuse refusal
 
--- so is what follows from it
-pub by_weaker : {A : Type 0} (read : Result A Refusal) (P Q : A → Reply → Type 0) (reply : Reply) → ((x : A) → P x reply → Q x reply) → By read P reply → By read Q reply
-by_weaker (Ok x) P Q reply f h = f x h
-by_weaker (Err refusal) P Q reply f h = h
+-- the reply refuses the file, or this is so of what is read of it
+abbrev pub OfFile : {A : Type 0} → ℕ → ℕ → List ℕ → Result A Refusal → (A → Type 0) → Reply → Type 0
+OfFile k limit bytes read P reply = Held k limit bytes (By read P reply) reply
 
--- the answer of a command that goes on by what was read
-pub by_need : {A : Type 0} (files : Files) (k : ℕ) (read : Result A Refusal) (next : A → Command) (reply : Reply) → IsAnswer files k (need read next) reply → By read (λ x r. IsAnswer files k (next x) r) reply
-by_need files k (Ok x) next reply h = h
-by_need files k (Err refusal) next reply h = h
+-- the reply refuses the task file, or this is so of its set
+abbrev pub OfSet : List ℕ → (Set → Type 0) → Reply → Type 0
+OfSet bytes P reply = OfFile 1 (2 ^ 24) bytes (set_in bytes) P reply
+
+-- the answer of a command that asks for a file, by that of the command that it then is
+pub held : (files : Files) (k limit : ℕ) (name : List ℕ) (next : List ℕ → Command) (Q : List ℕ → Type 0) (reply : Reply)
+    → ((bytes : List ℕ) → IsAnswer files (k + 1) (next bytes) reply → Q bytes) → IsAnswer files k (fetch name limit next) reply
+    → Held k limit (bytes_of files name) (Q (bytes_of files name)) reply
+held files k limit name next Q reply then h = go (files name) h
+  where
+    go : (file : Option (List ℕ)) → IsSomeAnd file (λ bytes. Held k limit bytes (IsAnswer files (k + 1) (next bytes) reply) reply)
+        → Held k limit (unwrap_or file []) (Q (unwrap_or file [])) reply
+    go None h = absurd h
+    go (Some bytes) h =
+        let IsLonger = reply ≡ refuse (Longer k limit) in
+        (elim (nat_lt limit (length bytes)) as (λ b. MatchBool b IsLonger (IsAnswer files (k + 1) (next bytes) reply) → MatchBool b IsLonger (Q bytes)) [
+          | true ↦ λ longer. longer
+          | false ↦ λ answer. then bytes answer
+        ]) h
+
+-- that of one that goes on by what was read
+pub by_need : {A : Type 0} (files : Files) (k : ℕ) (read : Result A Refusal) (next : A → Command) (P : A → Type 0) (reply : Reply)
+    → ((x : A) → IsAnswer files k (next x) reply → P x)
+    → IsAnswer files k (need read next) reply → By read P reply
+by_need files k (Ok x) next P reply then h = then x h
+by_need files k (Err refusal) next P reply then h = h
 
 -- a text by steps, the first of which reads a value
-pub by_text : {A : Type 0} (read : Result A Refusal) (f : A → Result (List ℕ) Refusal) (reply : Reply) → reply ≡ reply_by (read >>= f) → By read (λ x r. r ≡ reply_by (f x)) reply
+pub by_text : {A : Type 0} (read : Result A Refusal) (f : A → Result (List ℕ) Refusal) (reply : Reply) → reply ≡ reply_by (read >>= f)
+    → By read (λ x. reply ≡ reply_by (f x)) reply
 by_text (Ok x) f reply h = h
 by_text (Err refusal) f reply h = h
 
--- the second file is longer than this limit, and the reply tells it; otherwise this is so
-abbrev pub Second : ℕ → List ℕ → Reply → Type 0 → Type 0
-Second limit more reply P = MatchBool (nat_lt limit (length more)) (reply ≡ refuse (Longer 2 limit)) P
+-- and a value by steps
+pub by_steps : {A B : Type 0} (read : Result A Refusal) (f : A → Result B Refusal) (P : B → Type 0) (reply : Reply) → By (read >>= f) P reply
+    → By read (λ x. By (f x) P reply) reply
+by_steps (Ok x) f P reply h = h
+by_steps (Err refusal) f P reply h = h
 
--- so is what follows
-pub second_weaker : (limit : ℕ) (more : List ℕ) (reply : Reply) (P Q : Type 0) → (P → Q) → Second limit more reply P → Second limit more reply Q
-second_weaker limit more reply P Q f h = go (nat_lt limit (length more)) h
+-- the answer of a command that asks for a task file and goes on by what is decided of its set
+pub by_set : {A : Type 0} (files : Files) (tasks : List ℕ) (decide : Set → Result A Refusal) (next : A → Command) (P : A → Type 0) (reply : Reply)
+    → ((x : A) → IsAnswer files 2 (next x) reply → P x)
+    → IsAnswer files 1 (fetch tasks (2 ^ 24) (λ bytes. need (set_in bytes >>= decide) next)) reply → OfSet (bytes_of files tasks) (λ set. By (decide set) P reply) reply
+by_set files tasks decide next P reply then h =
+    held files 1 (2 ^ 24) tasks (λ bytes. need (set_in bytes >>= decide) next) (λ bytes. By (set_in bytes) (λ set. By (decide set) P reply) reply) reply
+    (λ bytes k. by_steps (set_in bytes) decide P reply (by_need files 2 (set_in bytes >>= decide) next P reply then k)) h
+
+-- the file is within its limit, if the status is not that of a longer one
+pub within : (k limit : ℕ) (bytes : List ℕ) (Q : Type 0) (reply : Reply) → reply.status ≢ 7 → Held k limit bytes Q reply → (length bytes ≤ limit) × Q
+within k limit bytes Q reply not_7 h = go (nat_lt limit (length bytes)) refl h
   where
-    go : (b : Bool) → MatchBool b (reply ≡ refuse (Longer 2 limit)) P → MatchBool b (reply ≡ refuse (Longer 2 limit)) Q
-    go true k = k
-    go false k = f k
+    go : (b : Bool) → nat_lt limit (length bytes) ≡ b → MatchBool b (reply ≡ refuse (Longer k limit)) Q → (length bytes ≤ limit) × Q
+    go true e longer = absurd (not_7 (ap (λ r. r.status) longer))
+    go false e q = (ltb-false _ _ e, q)
 
--- what a task file leads to where the test decides: the status of a refusal, or what comes next
-pub data Comes (bytes : List ℕ) (Then : Ruled → Reply → Type 0) (reply : Reply) : Type 0 where
-  long : 2 ^ 24 < length bytes → reply.status ≡ 7 → Comes bytes Then reply
-  refused : ((set : Set) → set_in bytes ≡ Ok set → range_fault set.tasks ≡ None → ⊥) → reply.status ≡ 3 → Comes bytes Then reply
-  no_rule : (set : Set) → SaysSet bytes set → HasNoRangeFault set → test set ≡ None → reply.status ≡ 1 → Comes bytes Then reply
-  ruled : (set : Set) (rule : Rule) → IsAdmitted bytes set rule → Then (under rule set) reply → Comes bytes Then reply
+-- something is read, if the status is none of the reader's refusals
+pub by_reader : {A E : Type 0} (f : E → Refusal) (read : Result A E) (P : A → Type 0) (reply : Reply) → ((e : E) → reply.status ≢ status_of (f e))
+    → By (or_refuse f read) P reply
+    → (x : A) × (or_refuse f read ≡ Ok x) × P x
+by_reader f (Ok x) P reply other h = (x, refl, h)
+by_reader f (Err e) P reply other h = absurd (other e (ap (λ r. r.status) h))
 
-one_ok : {A E : Type 0} (read : Result A E) (a b : A) → read ≡ Ok a → read ≡ Ok b → a ≡ b
-one_ok read a b s t = cc
+-- both of a file
+pub of_file : {A E : Type 0} (k limit : ℕ) (bytes : List ℕ) (f : E → Refusal) (read : Result A E) (P : A → Type 0) (reply : Reply) → reply.status ≢ 7
+    → ((e : E) → reply.status ≢ status_of (f e))
+    → OfFile k limit bytes (or_refuse f read) P reply → (x : A) × ((length bytes ≤ limit) × (or_refuse f read ≡ Ok x)) × P x
+of_file k limit bytes f read P reply not_7 other h =
+    let (short, by) = within k limit bytes (By (or_refuse f read) P reply) reply not_7 h in
+    let (x, is, p) = by_reader f read P reply other by in (x, (short, is), p)
 
--- a file says one set
-pub one_set : (bytes : List ℕ) (a b : Set) → SaysSet bytes a → SaysSet bytes b → a ≡ b
-one_set bytes a b s t = one_ok (set_in bytes) a b s.1 t.1
+pub of_set : (bytes : List ℕ) (P : Set → Type 0) (reply : Reply) → reply.status ≢ 7 → reply.status ≢ 3 → OfSet bytes P reply → (set : Set) × SaysSet bytes set × P set
+of_set bytes P reply not_7 not_3 h = of_file 1 (2 ^ 24) bytes TaskFile (task_file bytes) P reply not_7 (λ fault. not_3) h
 
-by_rule : (bytes : List ℕ) (Then : Ruled → Reply → Type 0) (reply : Reply) (set : Set) → SaysSet bytes set → HasNoRangeFault set
-    → By (ok_or (test set) (NotAdmitted set.tasks) >>= (λ rule. Ok (under rule set))) Then reply → Comes bytes Then reply
-by_rule bytes Then reply set s w h = go (test set) refl h
-  where
-    go : (o : Option Rule) → test set ≡ o → By (ok_or o (NotAdmitted set.tasks) >>= (λ rule. Ok (under rule set))) Then reply → Comes bytes Then reply
-    go None e k = no_rule set s w e (ap (λ r. r.status) k)
-    go (Some rule) e k = ruled set rule (record { says = s; range = w; test = e }) k
+-- what is so of a value is so of the one that is read
+pub by_is : {A : Type 0} (read r : Result A Refusal) (P : A → Type 0) (reply : Reply) → read ≡ r → By read P reply → By r P reply
+by_is read r P reply is h = subst (λ x. By x P reply) is h
 
-by_range : (bytes : List ℕ) (Then : Ruled → Reply → Type 0) (reply : Reply) (set : Set) → SaysSet bytes set → By (tested set) Then reply → Comes bytes Then reply
-by_range bytes Then reply set s h = go (range_fault set.tasks) refl h
-  where
-    go : (o : Option ℕ) → range_fault set.tasks ≡ o → By (none_or OutOfRange o >>= (λ x. ok_or (test set) (NotAdmitted set.tasks) >>= (λ rule. Ok (under rule set)))) Then reply → Comes bytes Then reply
-    go (Some task) e k = refused (λ other says none. outside other says none task e) (ap (λ r. r.status) k)
-      where
-        outside : (other : Set) → set_in bytes ≡ Ok other → range_fault other.tasks ≡ None → (task : ℕ) → range_fault set.tasks ≡ Some task → ⊥
-        outside other says none task e =
-            let same : other ≡ set = one_ok (set_in bytes) other set says s.1 in
-            let clash : Some task ≡ None = sym e ∙ (sym (ap (λ (x : Set). range_fault x.tasks) same) ∙ none) in cc
-    go None e k = by_rule bytes Then reply set s e k
+-- and of what a file within its limit says
+pub for_file : {A : Type 0} (k limit : ℕ) (bytes : List ℕ) (read : Result A Refusal) (P : A → Type 0) (reply : Reply) (x : A) → (length bytes ≤ limit) × (read ≡ Ok x)
+    → OfFile k limit bytes read P reply → P x
+for_file k limit bytes read P reply x says h = by_is read (Ok x) P reply says.1 (rw (le-ltb limit (length bytes) says.0) at h)
 
-by_file : (bytes : List ℕ) (Then : Ruled → Reply → Type 0) (reply : Reply) → length bytes ≤ 2 ^ 24 → By (admitted bytes) Then reply → Comes bytes Then reply
-by_file bytes Then reply short h = go (task_file bytes) refl h
-  where
-    go : (read : Result Set TaskFault) → task_file bytes ≡ read → By (or_refuse TaskFile read >>= (λ set. tested set)) Then reply → Comes bytes Then reply
-    go (Err fault) e k = refused (λ set says none. (let clash : Ok set ≡ Err (TaskFile fault) = sym says ∙ ap (or_refuse TaskFile) e in cc)) (ap (λ r. r.status) k)
-    go (Ok set) e k = by_range bytes Then reply set (short, ap (or_refuse TaskFile) e) k
+-- and of what is decided of the set that a task file says
+pub decided : {A : Type 0} (bytes : List ℕ) (decide : Set → Result A Refusal) (r : Result A Refusal) (P : A → Type 0) (reply : Reply) (set : Set) → SaysSet bytes set
+    → decide set ≡ r
+    → OfSet bytes (λ set. By (decide set) P reply) reply → By r P reply
+decided bytes decide r P reply set says is h =
+    by_is (decide set) r P reply is (for_file 1 (2 ^ 24) bytes (set_in bytes) (λ set. By (decide set) P reply) reply set says h)
 
--- each command under the test's rule comes to one of these
-pub comes : (bytes : List ℕ) (Then : Ruled → Reply → Type 0) (reply : Reply) (Else : Type 0) → (Else → By (admitted bytes) Then reply)
-    → MatchBool (nat_lt (2 ^ 24) (length bytes)) (reply ≡ refuse (Longer 1 (2 ^ 24))) Else → Comes bytes Then reply
-comes bytes Then reply Else next h =
-    elim (by_length (reply ≡ refuse (Longer 1 (2 ^ 24))) Else (2 ^ 24) bytes h) [
-      | inl p ↦ long p.1 (ap (λ r. r.status) p.0)
-      | inr q ↦ by_file bytes Then reply q.1 (next q.0)
-    ]
-
--- of an admitted set the answer is what comes next
-pub next_of : (bytes : List ℕ) (Then : Ruled → Reply → Type 0) (reply : Reply) (set : Set) (rule : Rule) → IsAdmitted bytes set rule → Comes bytes Then reply → Then (under rule set) reply
-next_of bytes Then reply set rule a (long l s) = absurd (let short : length bytes ≤ 2 ^ 24 = a.says.0 in omega (arith, l, short))
-next_of bytes Then reply set rule a (refused none s) = absurd (none set a.says.1 a.range)
-next_of bytes Then reply set rule a (no_rule other s w e st) =
-    let same = one_set bytes other set s a.says in
-    absurd (let clash : None ≡ Some rule = sym e ∙ (ap test same ∙ a.test) in cc)
-next_of bytes Then reply set rule a (ruled other given b h) =
-    let same = one_set bytes other set b.says a.says in
-    let rules : Some given ≡ Some rule = sym b.test ∙ (ap test same ∙ a.test) in
-    let is : given ≡ rule = cc in
-    subst (λ r. Then (under r set) reply) is (subst (λ s. Then (under given s) reply) same h)
-
--- the refusal of a step, or its value
-pub by_cases : {A : Type 0} (read : Result A Refusal) (P : A → Reply → Type 0) (reply : Reply) → By read P reply
-    → ((refusal : Refusal) × (read ≡ Err refusal) × (reply.status ≡ status_of refusal)) ⊎ ((x : A) × (read ≡ Ok x) × P x reply)
-by_cases (Ok x) P reply h = inr (x, refl, h)
-by_cases (Err refusal) P reply h = inl (refusal, refl, ap (λ r. r.status) h)
-
--- what is said of the value that a step gives
-pub by_ok : {A : Type 0} (read : Result A Refusal) (P : A → Reply → Type 0) (reply : Reply) (x : A) → read ≡ Ok x → By read P reply → P x reply
-by_ok read P reply x is h = subst (λ r. By r P reply) is h
-
--- a reader's refusals have one status
-pub reader_status : {A E : Type 0} (f : E → Refusal) (n : ℕ) → ((e : E) → status_of (f e) ≡ n) → (read : Result A E) (refusal : Refusal) → or_refuse f read ≡ Err refusal → status_of refusal ≡ n
-reader_status f n all (Ok x) refusal h = cc
-reader_status f n all (Err e) refusal h = let same : f e ≡ refusal = cc in subst (λ r. status_of r ≡ n) same (all e)
-
--- of a second file: it is too long, with status 7, or this is so
-pub by_second : (limit : ℕ) (more : List ℕ) (P : Type 0) (reply : Reply) → Second limit more reply P
-    → ((reply.status ≡ 7) × (limit < length more)) ⊎ (P × (length more ≤ limit))
-by_second limit more P reply h = elim (by_length (reply ≡ refuse (Longer 2 limit)) P limit more h) [ inl p ↦ inl (ap (λ r. r.status) p.0, p.1) | inr q ↦ inr q ]
-
--- within the limit it is so
-pub second_fits : (limit : ℕ) (more : List ℕ) (P : Type 0) (reply : Reply) → length more ≤ limit → Second limit more reply P → P
-second_fits limit more P reply short h = elim (by_second limit more P reply h) [ inl p ↦ absurd (omega (arith, p.1, short)) | inr q ↦ q.0 ]
+-- a value that is read is the reader's
+pub refuse_ok : {A E : Type 0} (f : E → Refusal) (read : Result A E) (x : A) → or_refuse f read ≡ Ok x → read ≡ Ok x
+refuse_ok f (Ok y) x h = cc
+refuse_ok f (Err e) x h = cc

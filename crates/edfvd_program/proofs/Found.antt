@@ -1,12 +1,11 @@
--- What the headline says of the commands on a trace.
-use Rattle.std.proofs.Common.{◌≡◌, ◌≢◌, inl, inr, ℕ, ◌≤◌, ◌^◌, nat_le, if◌then◌else◌, Bool, true, false, List, [], ◌++◌, reverse, length, Option, Some, Result, Ok, Err, refl, sym, ap, subst, ◌∙◌, arith, le-leb}
+-- What the commands on a trace promise.
+use Rattle.std.proofs.Common.{◌≡◌, ◌≢◌, inl, ℕ, ◌^◌, nat_le, if◌then◌else◌, Bool, true, false, List, ◌++◌, reverse, Option, Some, Result, Ok, Err, refl, sym, ap, ◌∙◌, arith, le-leb}
 use Rattle.std.specs.List.{AllByRecursion}
-use Rattle.mc_task.specs.declared.task.Task.{Task}
+use Rattle.mc_world.specs.Shelf.{Files}
 use Rattle.mc_task.specs.declared.task.Rule.{Rule}
 use Rattle.mc_task.specs.declared.task.Rule.TheVariants.{Virtual}
 use Rattle.mc_task.specs.TaskSet.{Set}
 use Rattle.mc_model.specs.declared.row.Row.{Row}
-use Rattle.mc_model.specs.declared.run.Run.{Run}
 use Rattle.mc_model.specs.Rows.{ticks}
 use Rattle.mc_model.specs.Runs.{expand}
 use Rattle.mc_model.specs.Legal.{Legal, IsOfSet}
@@ -17,199 +16,196 @@ use Rattle.mc_model.proofs.Verdicts.{legal_by_verdict, verdict-good}
 use Rattle.demand_law.proofs.Laws.{none_late}
 use Rattle.sched_chart.specs.ChartText.{chart_text}
 use Rattle.trace_format.specs.TraceFile.{trace_file}
-use Rattle.trace_format.specs.declared.fault.TraceFault.{TraceFault}
 use Rattle.trace_format.proofs.RunsOfSet.{runs_of_set}
 use Rattle.command_line.specs.declared.form.Telling.{Telling}
-use Rattle.command_line.specs.declared.form.Telling.TheVariants.{Judge, JudgeBy, Chart, Report, Migrate}
+use Rattle.command_line.specs.declared.form.Telling.TheVariants.{JudgeBy, Chart, Migrate}
+use Rattle.command_line.specs.Form.{on_trace}
 use Rattle.replies.specs.Reply.{Reply, reply_of}
 use Rattle.replies.specs.Refusal.{Refusal, Trace, BadTrace, LongChart, status_of}
 use Rattle.replies.specs.Reading.{◌>>=◌, or_refuse, reply_by}
-use Rattle.task_answers.specs.Admitted.{Ruled, under}
+use Rattle.serving.specs.Command.{answer, fetch, need}
+use Rattle.serving.specs.Outcome.{IsAnswer}
+use Rattle.task_answers.specs.Admitted.{Ruled, under, tested, admitted}
 use Rattle.trace_answers.specs.OnTrace.{is_good, rows_in, told, judged, tells}
 use Rattle.trace_answers.proofs.GoodTrace.{no_fault_in, rows_of_runs}
-use Rattle.edfvd_program.specs.Headline.{SaysSet, IsAdmitted, SaysTrace, WritesAgain, IsTimely, Finds}
+use Rattle.edfvd_program.specs.Headline.{bytes_of, IsAdmitted, SchedulesExactly, SaysTrace, WritesAgain, Finds}
 use Rattle.edfvd_program.specs.Told.{TellsOf}
-use Rattle.edfvd_program.specs.Complete.{IsTold, FindsEach, FindsBy}
-use Rattle.edfvd_program.proofs.Cases.{Second, other_status, Comes, next_of, by_second, second_fits}
-use Rattle.edfvd_program.proofs.Promised.{holds_for, timely, only_ruled}
+use Rattle.edfvd_program.specs.Complete.{IsTold, FindsEach}
+use Rattle.edfvd_program.proofs.Cases.{By, OfFile, OfSet, held, by_text, by_steps, by_set, within, by_reader, for_file, decided, refuse_ok}
+use Rattle.edfvd_program.proofs.Promised.{Keeps, Comes, holds_for, timely, only_ruled, next_of, schedules_exactly}
 
--- what comes next of a command on a trace
-abbrev pub TellsNext : Telling → List ℕ → Ruled → Reply → Type 0
-TellsNext telling more ruled reply = Second (2 ^ 27) more reply (reply ≡ reply_by (tells telling ruled more))
+-- the reply refuses the trace file, or tells what is asked of its rows
+abbrev TellsNext : Telling → List ℕ → Reply → Ruled → Type 0
+TellsNext telling more reply ruled = OfFile 2 (2 ^ 27) more (rows_in ruled.set.tasks more) (λ h. reply ≡ reply_by (judged telling ruled h)) reply
 
--- a refused trace file has status 5
-rows_status : (set : List Task) (more : List ℕ) (refusal : Refusal) → rows_in set more ≡ Err refusal → status_of refusal ≡ 5
-rows_status set more refusal h = go (trace_file set more) refl h
-  where
-    go : (read : Result (List Run) TraceFault) → trace_file set more ≡ read → (or_refuse Trace read >>= (λ runs. Ok (reverse (expand runs)))) ≡ Err refusal → status_of refusal ≡ 5
-    go (Ok runs) e k = cc
-    go (Err fault) e k = let same : Trace fault ≡ refusal = cc in subst (λ r. status_of r ≡ 5) same refl
-
--- the rows of one are of the set
-rows_of : (set : List Task) (more : List ℕ) (h : List Row) → rows_in set more ≡ Ok h → AllByRecursion (IsOfSet set) h
-rows_of set more h says = go (trace_file set more) refl says
-  where
-    go : (read : Result (List Run) TraceFault) → trace_file set more ≡ read → (or_refuse Trace read >>= (λ runs. Ok (reverse (expand runs)))) ≡ Ok h → AllByRecursion (IsOfSet set) h
-    go (Ok runs) e k = let same : reverse (expand runs) ≡ h = cc in subst (AllByRecursion (IsOfSet set)) same (rows_of_runs set runs (runs_of_set set more runs e))
-    go (Err fault) e k = cc
-
--- a good verdict is that of a legal trace, and a legal trace without late jobs has one
-legal_of_good : (set : List Task) (rule : Rule) (more : List ℕ) (h : List Row) → rows_in set more ≡ Ok h → is_good (verdict set rule h) ≡ true → Legal set rule h
-legal_of_good set rule more h says good = legal_by_verdict set rule h (rows_of set more h says) (no_fault_in (first_unfit set rule h) (late set h) good)
-
-good_of_legal : (set : List Task) (rule : Rule) (h : List Row) → Legal set rule h → late set h ≡ [] → is_good (verdict set rule h) ≡ true
-good_of_legal set rule h l none = ap is_good (verdict-good set rule h l none)
-
--- a chart within its limit
-chart_fits : (set : List Task) (h : List Row) → ticks h ≤ 2000000 → (if nat_le (ticks h) 2000000 then Ok (chart_text set h) else Err (LongChart (ticks h))) ≡ Ok (chart_text set h)
-chart_fits set h short = rw (le-leb (ticks h) 2000000 short) refl
+-- the answer of a command that asks for one
+by_trace : (telling : Telling) (files : Files) (trace : List ℕ) (reply : Reply) (ruled : Ruled)
+    → IsAnswer files 2 (fetch trace (2 ^ 27) (λ more. answer (λ reply. reply ≡ reply_by (tells telling ruled more)))) reply
+    → TellsNext telling (bytes_of files trace) reply ruled
+by_trace telling files trace reply ruled h =
+    held files 2 (2 ^ 27) trace (λ more. answer (λ reply. reply ≡ reply_by (tells telling ruled more)))
+    (λ more. By (rows_in ruled.set.tasks more) (λ h. reply ≡ reply_by (judged telling ruled h)) reply) reply
+    (λ more k. by_text (rows_in ruled.set.tasks more) (judged telling ruled) reply k) h
 
 -- something is told, or a chart is too long
 told_ok : (telling : Telling) (ruled : Ruled) (h : List Row) → IsTold telling h → (text : List ℕ) × (told telling ruled h ≡ Ok text)
-told_ok Judge ruled h k = (_, refl)
-told_ok (JudgeBy p q) ruled h k = (_, refl)
-told_ok Chart ruled h k = (chart_text ruled.set.tasks h, chart_fits ruled.set.tasks h k)
-told_ok Report ruled h k = (_, refl)
-told_ok Migrate ruled h k = (_, refl)
+told_ok Chart ruled h short = (chart_text ruled.set.tasks h, rw (le-leb (ticks h) 2000000 short) refl)
+told_ok telling ruled h k = (_, refl)
 
 told_status : (telling : Telling) (ruled : Ruled) (h : List Row) (refusal : Refusal) → told telling ruled h ≡ Err refusal → status_of refusal ≡ 5
-told_status Judge ruled h refusal k = cc
-told_status (JudgeBy p q) ruled h refusal k = cc
 told_status Chart ruled h refusal k = go (nat_le (ticks h) 2000000) k
   where
     go : (b : Bool) → (if b then Ok (chart_text ruled.set.tasks h) else Err (LongChart (ticks h))) ≡ Err refusal → status_of refusal ≡ 5
     go true e = cc
-    go false e = let same : LongChart (ticks h) ≡ refusal = cc in subst (λ r. status_of r ≡ 5) same refl
-told_status Report ruled h refusal k = cc
-told_status Migrate ruled h refusal k = cc
+    go false e = let same : LongChart (ticks h) ≡ refusal = cc in rw (← same) refl
+told_status telling ruled h refusal k = cc
 
--- what a command on a trace comes to: a refusal with status 5, a verdict that is not good, or what is told of a good one
-data Judges (telling : Telling) (ruled : Ruled) (more : List ℕ) (reply : Reply) : Type 0 where
-  refuses : reply.status ≡ 5 → ((h : List Row) → rows_in ruled.set.tasks more ≡ Ok h → IsTold telling h → ⊥) → Judges telling ruled more reply
-  blames : (h : List Row) → rows_in ruled.set.tasks more ≡ Ok h → is_good (verdict ruled.set.tasks ruled.rule h) ≡ false → reply.status ≡ 6 → Judges telling ruled more reply
-  says : (h : List Row) (text : List ℕ) → rows_in ruled.set.tasks more ≡ Ok h → is_good (verdict ruled.set.tasks ruled.rule h) ≡ true → told telling ruled h ≡ Ok text → reply ≡ reply_of 0 text → Judges telling ruled more reply
+-- the reply to the rows of a trace blames them, or a chart that is too long, or tells what is asked of a good one
+data Judges (telling : Telling) (ruled : Ruled) (h : List Row) (reply : Reply) : Type 0 where
+  blames : is_good (verdict ruled.set.tasks ruled.rule h) ≡ false → reply.status ≡ 6 → Judges telling ruled h reply
+  refuses : reply.status ≡ 5 → Judges telling ruled h reply
+  says : (text : List ℕ) → is_good (verdict ruled.set.tasks ruled.rule h) ≡ true → told telling ruled h ≡ Ok text → reply ≡ reply_of 0 text → Judges telling ruled h reply
 
-one_trace : (read : Result (List Row) Refusal) (a b : List Row) → read ≡ Ok a → read ≡ Ok b → a ≡ b
-one_trace read a b s t = cc
-
-judges_good : (telling : Telling) (ruled : Ruled) (more : List ℕ) (reply : Reply) (h : List Row) → rows_in ruled.set.tasks more ≡ Ok h → is_good (verdict ruled.set.tasks ruled.rule h) ≡ true
-    → reply ≡ reply_by (told telling ruled h) → Judges telling ruled more reply
-judges_good telling ruled more reply h is good k = go (told telling ruled h) refl k
+judges : (telling : Telling) (ruled : Ruled) (h : List Row) (reply : Reply) → reply ≡ reply_by (judged telling ruled h) → Judges telling ruled h reply
+judges telling ruled h reply k = go (is_good (verdict ruled.set.tasks ruled.rule h)) refl k
   where
-    go : (t : Result (List ℕ) Refusal) → told telling ruled h ≡ t → reply ≡ reply_by t → Judges telling ruled more reply
-    go (Ok text) e k = says h text is good e k
-    go (Err refusal) e k = refuses (ap (λ (r : Reply). r.status) k ∙ told_status telling ruled h refusal e) (λ other is' short. too_long other is' short)
-      where
-        too_long : (other : List Row) → rows_in ruled.set.tasks more ≡ Ok other → IsTold telling other → ⊥
-        too_long other is' short =
-            let same = one_trace (rows_in ruled.set.tasks more) other h is' is in
-            let t = told_ok telling ruled h (subst (IsTold telling) same short) in
-            let clash : Ok t.0 ≡ Err refusal = sym t.1 ∙ e in cc
+    tells_it : is_good (verdict ruled.set.tasks ruled.rule h) ≡ true → (t : Result (List ℕ) Refusal) → told telling ruled h ≡ t → reply ≡ reply_by t
+        → Judges telling ruled h reply
+    tells_it good (Ok text) e k = says text good e k
+    tells_it good (Err refusal) e k = refuses (ap (λ (r : Reply). r.status) k ∙ told_status telling ruled h refusal e)
 
-judges_rows : (telling : Telling) (ruled : Ruled) (more : List ℕ) (reply : Reply) (h : List Row) → rows_in ruled.set.tasks more ≡ Ok h → reply ≡ reply_by (judged telling ruled h) → Judges telling ruled more reply
-judges_rows telling ruled more reply h is k = go (is_good (verdict ruled.set.tasks ruled.rule h)) refl k
-  where
-    go : (b : Bool) → is_good (verdict ruled.set.tasks ruled.rule h) ≡ b → reply ≡ reply_by (if b then told telling ruled h else Err (BadTrace ruled.set.tasks (verdict ruled.set.tasks ruled.rule h))) → Judges telling ruled more reply
-    go true e k = judges_good telling ruled more reply h is e k
-    go false e k = blames h is e (ap (λ (r : Reply). r.status) k)
+    go : (b : Bool) → is_good (verdict ruled.set.tasks ruled.rule h) ≡ b
+        → reply ≡ reply_by (if b then told telling ruled h else Err (BadTrace ruled.set.tasks (verdict ruled.set.tasks ruled.rule h))) → Judges telling ruled h reply
+    go true e k = tells_it e (told telling ruled h) refl k
+    go false e k = blames e (ap (λ (r : Reply). r.status) k)
 
-judges : (telling : Telling) (ruled : Ruled) (more : List ℕ) (reply : Reply) → reply ≡ reply_by (tells telling ruled more) → Judges telling ruled more reply
-judges telling ruled more reply k = go (rows_in ruled.set.tasks more) refl k
-  where
-    go : (read : Result (List Row) Refusal) → rows_in ruled.set.tasks more ≡ read → reply ≡ reply_by (read >>= (λ h. judged telling ruled h)) → Judges telling ruled more reply
-    go (Ok h) e k = judges_rows telling ruled more reply h e k
-    go (Err refusal) e k = refuses (ap (λ (r : Reply). r.status) k ∙ rows_status ruled.set.tasks more refusal e) (λ h is short. (let clash : Ok h ≡ Err refusal = sym is ∙ e in cc))
-
-not_1_judges : (telling : Telling) (ruled : Ruled) (more : List ℕ) (reply : Reply) → Judges telling ruled more reply → reply.status ≢ 1
-not_1_judges telling ruled more reply (refuses s none) e = other_status reply 5 1 s e (λ k. absurd (omega (arith, k)))
-not_1_judges telling ruled more reply (blames h is bad s) e = other_status reply 6 1 s e (λ k. absurd (omega (arith, k)))
-not_1_judges telling ruled more reply (says h text is good t k) e = other_status reply 0 1 (ap (λ (r : Reply). r.status) k) e (λ k. absurd (omega (arith, k)))
-
-pub not_1_tells : (telling : Telling) (more : List ℕ) (ruled : Ruled) (reply : Reply) → TellsNext telling more ruled reply → reply.status ≢ 1
-not_1_tells telling more ruled reply h e =
-    elim (by_second (2 ^ 27) more (reply ≡ reply_by (tells telling ruled more)) reply h) [
-      | inl p ↦ other_status reply 7 1 p.0 e (λ k. absurd (omega (arith, k)))
-      | inr q ↦ not_1_judges telling ruled more reply (judges telling ruled more reply q.0) e
-    ]
+-- the rows of the trace file, which are of the set, and the judgement on them, if the status is none of the file's refusals
+judged_of : (telling : Telling) (more : List ℕ) (reply : Reply) (ruled : Ruled) → reply.status ≢ 7 → reply.status ≢ 5 → TellsNext telling more reply ruled
+    → (h : List Row) × SaysTrace more ruled.set.tasks h × AllByRecursion (IsOfSet ruled.set.tasks) h × Judges telling ruled h reply
+judged_of telling more reply ruled not_7 not_5 k =
+    let P : List Row → Type 0 = λ h. reply ≡ reply_by (judged telling ruled h) in
+    let (short, by) = within 2 (2 ^ 27) more (By (rows_in ruled.set.tasks more) P reply) reply not_7 k in
+    let file = trace_file ruled.set.tasks more in
+    let (runs, is, p) = by_reader Trace file (λ runs. P (reverse (expand runs))) reply (λ fault. not_5)
+    (by_steps (or_refuse Trace file) (λ runs. Ok (reverse (expand runs))) P reply by) in (
+      reverse (expand runs),
+      (short, ap (λ read. read >>= (λ runs. Ok (reverse (expand runs)))) is),
+      rows_of_runs ruled.set.tasks runs (runs_of_set ruled.set.tasks more runs (refuse_ok Trace file runs is)),
+      judges telling ruled (reverse (expand runs)) reply p,
+    )
 
 -- a good trace of which something can be told gets a 0
-good_0 : (telling : Telling) (ruled : Ruled) (more : List ℕ) (reply : Reply) (h : List Row) → rows_in ruled.set.tasks more ≡ Ok h → is_good (verdict ruled.set.tasks ruled.rule h) ≡ true → IsTold telling h
-    → Judges telling ruled more reply → reply.status ≡ 0
-good_0 telling ruled more reply h is good told (refuses s none) = absurd (none h is told)
-good_0 telling ruled more reply h is good told (blames other is' bad s) =
-    let same = one_trace (rows_in ruled.set.tasks more) other h is' is in
-    absurd (let clash : true ≡ false = sym good ∙ (sym (ap (λ g. is_good (verdict ruled.set.tasks ruled.rule g)) same) ∙ bad) in cc)
-good_0 telling ruled more reply h is good told (says other text is' good' t k) = ap (λ (r : Reply). r.status) k
+good_0 : (telling : Telling) (more : List ℕ) (reply : Reply) (ruled : Ruled) (h : List Row) → SaysTrace more ruled.set.tasks h
+    → is_good (verdict ruled.set.tasks ruled.rule h) ≡ true → IsTold telling h
+    → TellsNext telling more reply ruled → reply.status ≡ 0
+good_0 telling more reply ruled h said good is k =
+    let (text, t) = told_ok telling ruled h is in
+    let tells : judged telling ruled h ≡ Ok text = rw (good, t) refl in
+    ap (λ (r : Reply). r.status) (for_file 2 (2 ^ 27) more (rows_in ruled.set.tasks more) (λ h. reply ≡ reply_by (judged telling ruled h)) reply h said k
+    ∙ ap reply_by tells)
 
 -- the trace that `migrate` finds legal is what it tells
-again : (telling : Telling) (ruled : Ruled) (h : List Row) (text old : List ℕ) (new : Option (List ℕ)) → told telling ruled h ≡ Ok text → new ≡ Some (old ++ text) → WritesAgain telling ruled.set.tasks h old new
-again Judge ruled h text old new t w = tt
-again (JudgeBy p q) ruled h text old new t w = tt
-again Chart ruled h text old new t w = tt
-again Report ruled h text old new t w = tt
+again : (telling : Telling) (ruled : Ruled) (h : List Row) (text old : List ℕ) (new : Option (List ℕ)) → told telling ruled h ≡ Ok text → new ≡ Some (old ++ text)
+    → WritesAgain telling ruled.set.tasks h old new
 again Migrate ruled h text old new t w = let same : text ≡ trace_text ruled.set.tasks (reverse h) = cc in w ∙ ap (λ told. Some (old ++ told)) same
+again telling ruled h text old new t w = tt
 
--- what they promise under the test's rule
-pub finds : (telling : Telling) (bytes more old : List ℕ) (reply : Reply) → Comes bytes (TellsNext telling more) reply
-    → Finds telling bytes more old reply.status (Some (old ++ reply.text)) × TellsOf telling bytes more old reply.status (Some (old ++ reply.text)) × FindsEach telling bytes more reply.status
-finds telling bytes more old reply h = (
-  record {
-    finds = λ e. (let (set, rule, h, text, legal, a, file, t, w) = found e in
-        (set, rule, h, a, file, again telling (under rule set) h text old (Some (old ++ reply.text)) t w, timely bytes set rule h a legal));
-    illegal = faulty;
-  },
-  λ e. (let (set, rule, h, text, legal, a, file, t, w) = found e in (set, rule, h, text, a, file, t, w)),
-  complete,
+-- a legal trace of an admitted set is good
+good_of : (bytes : List ℕ) (set : Set) (rule : Rule) (h : List Row) → IsAdmitted bytes set rule → Legal set.tasks rule h → is_good (verdict set.tasks rule h) ≡ true
+good_of bytes set rule h a l = let s = holds_for bytes set rule a in ap is_good (verdict-good set.tasks rule h l (none_late set.tasks rule h s.0.each s.1 l))
+
+-- under the test's rule
+pub finds : (telling : Telling) (tasks trace : List ℕ) (files : Files) (old : List ℕ) (reply : Reply)
+    → IsAnswer files 1 (fetch tasks (2 ^ 24) (λ bytes. need (admitted bytes)
+    (λ ruled. fetch trace (2 ^ 27) (λ more. answer (λ reply. reply ≡ reply_by (tells telling ruled more)))))) reply
+    → (SchedulesExactly (bytes_of files tasks) reply.status × Finds telling (bytes_of files tasks) (bytes_of files trace) old reply.status (Some (old ++ reply.text)))
+    × TellsOf telling (bytes_of files tasks) (bytes_of files trace) old reply.status (Some (old ++ reply.text))
+    × FindsEach telling (bytes_of files tasks) (bytes_of files trace) reply.status × Unit {0}
+finds telling tasks trace files old reply h = (
+  (
+    schedules_exactly bytes Next reply not_1 c,
+    record {
+      finds = λ e. (let (set, rule, h, text, legal, a, said, t, w) = found e in
+          (set, rule, h, a, said, again telling (under rule set) h text old (Some (old ++ reply.text)) t w, timely bytes set rule h a legal));
+      illegal = faulty;
+    },
+  ),
+  λ e. (let (set, rule, h, text, legal, a, said, t, w) = found e in (set, rule, h, text, a, said, t, w)),
+  λ set rule t a said legal is. inl (good_0 telling more reply (under rule set) t said (good_of bytes set rule t a legal) is (next_of bytes Next reply set rule a c)),
+  tt,
 )
   where
-    Found : Type 0
-    Found =
-        (set : Set) × (rule : Rule) × (h : List Row) × (text : List ℕ) × Legal set.tasks rule h
-        × IsAdmitted bytes set rule × SaysTrace more set.tasks h × (told telling (under rule set) h ≡ Ok text) × (Some (old ++ reply.text) ≡ Some (old ++ text))
+    bytes : List ℕ
+    bytes = bytes_of files tasks
 
-    found_in : (set : Set) (rule : Rule) → IsAdmitted bytes set rule → length more ≤ 2 ^ 27 → Judges telling (under rule set) more reply → reply.status ≡ 0 → Found
-    found_in set rule a short (refuses s none) e = absurd (other_status reply 5 0 s e (λ k. absurd (omega (arith, k))))
-    found_in set rule a short (blames h is bad s) e = absurd (other_status reply 6 0 s e (λ k. absurd (omega (arith, k))))
-    found_in set rule a short (says h text is good t k) e =
-        (set, rule, h, text, legal_of_good set.tasks rule more h is good, a, (short, is), t, ap (λ (r : Reply). Some (old ++ r.text)) k)
+    more : List ℕ
+    more = bytes_of files trace
 
-    found : reply.status ≡ 0 → Found
-    found e =
-        let (set, rule, a, k) = only_ruled bytes (TellsNext telling more) reply 0 (λ z. absurd (omega (arith, z))) (λ z. absurd (omega (arith, z))) (λ z. absurd (omega (arith, z))) h e in
-        elim (by_second (2 ^ 27) more (reply ≡ reply_by (tells telling (under rule set) more)) reply k) [
-          | inl p ↦ absurd (other_status reply 7 0 p.0 e (λ k. absurd (omega (arith, k))))
-          | inr q ↦ found_in set rule a q.1 (judges telling (under rule set) more reply q.0) e
+    Next : Ruled → Type 0
+    Next ruled = TellsNext telling more reply ruled
+
+    c : Comes bytes Next reply
+    c =
+        by_set files tasks tested (λ ruled. fetch trace (2 ^ 27) (λ more. answer (λ reply. reply ≡ reply_by (tells telling ruled more))))
+        Next reply (by_trace telling files trace reply) h
+
+    not_1 : (ruled : Ruled) → Next ruled → reply.status ≢ 1
+    not_1 ruled k e =
+        let (t, said, of, verdict) = judged_of telling more reply ruled (λ z. absurd (omega arith)) (λ z. absurd (omega arith)) k in
+        elim verdict [
+          | blames bad s ↦ absurd (omega arith)
+          | refuses s ↦ absurd (omega arith)
+          | says text good is w ↦ absurd (omega (arith, ap (λ (r : Reply). r.status) w))
         ]
 
-    faulty_in : (set : Set) (rule : Rule) → IsAdmitted bytes set rule → length more ≤ 2 ^ 27 → Judges telling (under rule set) more reply → reply.status ≡ 6
-        → (set : Set) × (rule : Rule) × (h : List Row) × IsAdmitted bytes set rule × SaysTrace more set.tasks h × (Legal set.tasks rule h → ⊥)
-    faulty_in set rule a short (refuses s none) e = absurd (other_status reply 5 6 s e (λ k. absurd (omega (arith, k))))
-    faulty_in set rule a short (blames h is bad s) e = (set, rule, h, a, (short, is), λ l. not_bad l)
-      where
-        not_bad : Legal set.tasks rule h → ⊥
-        not_bad l =
-            let s = holds_for bytes set rule a in
-            let clash : true ≡ false = sym (good_of_legal set.tasks rule h l (none_late set.tasks rule h s.0.each s.1 l)) ∙ bad in cc
-    faulty_in set rule a short (says h text is good t k) e = absurd (other_status reply 0 6 (ap (λ (r : Reply). r.status) k) e (λ k. absurd (omega (arith, k))))
+    found : reply.status ≡ 0 → (set : Set) × (rule : Rule) × (h : List Row) × (text : List ℕ) × Legal set.tasks rule h
+        × IsAdmitted bytes set rule × SaysTrace more set.tasks h × (told telling (under rule set) h ≡ Ok text) × (Some (old ++ reply.text) ≡ Some (old ++ text))
+    found e =
+        let (set, rule, a, k) = only_ruled bytes Next reply (λ z. absurd (omega arith)) (λ z. absurd (omega arith)) (λ z. absurd (omega arith)) c in
+        let (t, said, of, verdict) = judged_of telling more reply (under rule set) (λ z. absurd (omega arith)) (λ z. absurd (omega arith)) k in
+        elim verdict [
+          | blames bad s ↦ absurd (omega arith)
+          | refuses s ↦ absurd (omega arith)
+          | says text good is w ↦
+              let legal = legal_by_verdict set.tasks rule t of (no_fault_in (first_unfit set.tasks rule t) (late set.tasks t) good) in
+              (set, rule, t, text, legal, a, said, is, ap (λ (r : Reply). Some (old ++ r.text)) w)
+        ]
 
     faulty : reply.status ≡ 6 → (set : Set) × (rule : Rule) × (h : List Row) × IsAdmitted bytes set rule × SaysTrace more set.tasks h × (Legal set.tasks rule h → ⊥)
     faulty e =
-        let (set, rule, a, k) = only_ruled bytes (TellsNext telling more) reply 6 (λ z. absurd (omega (arith, z))) (λ z. absurd (omega (arith, z))) (λ z. absurd (omega (arith, z))) h e in
-        elim (by_second (2 ^ 27) more (reply ≡ reply_by (tells telling (under rule set) more)) reply k) [
-          | inl p ↦ absurd (other_status reply 7 6 p.0 e (λ k. absurd (omega (arith, k))))
-          | inr q ↦ faulty_in set rule a q.1 (judges telling (under rule set) more reply q.0) e
+        let (set, rule, a, k) = only_ruled bytes Next reply (λ z. absurd (omega arith)) (λ z. absurd (omega arith)) (λ z. absurd (omega arith)) c in
+        let (t, said, of, verdict) = judged_of telling more reply (under rule set) (λ z. absurd (omega arith)) (λ z. absurd (omega arith)) k in
+        elim verdict [
+          | blames bad s ↦ (set, rule, t, a, said, λ legal. (let clash : true ≡ false = sym (good_of bytes set rule t a legal) ∙ bad in cc))
+          | refuses s ↦ absurd (omega arith)
+          | says text good is w ↦ absurd (omega (arith, ap (λ (r : Reply). r.status) w))
         ]
 
-    complete : FindsEach telling bytes more reply.status
-    complete set rule t a said l told =
-        let s = holds_for bytes set rule a in
-        let k : reply ≡ reply_by (tells telling (under rule set) more) = second_fits (2 ^ 27) more (reply ≡ reply_by (tells telling (under rule set) more)) reply said.0 (next_of bytes (TellsNext telling more) reply set rule a h) in
-        inl (good_0 telling (under rule set) more reply t said.1 (good_of_legal set.tasks rule t l (none_late set.tasks rule t s.0.each s.1 l)) told (judges telling (under rule set) more reply k))
+-- under a scale that the words give
+pub finds_by : (p q : ℕ) (tasks trace : List ℕ) → Keeps (on_trace (JudgeBy p q) tasks trace)
+finds_by p q tasks trace files old reply h = (
+  tt,
+  tt,
+  λ set t says said legal none.
+      inl (good_0 (JudgeBy p q) more reply (ruled set) t said (ap is_good (verdict-good set.tasks (Virtual p q) t legal none)) tt
+      (decided bytes (λ set. Ok (ruled set)) (Ok (ruled set)) Next reply set says refl c)),
+  tt,
+)
+  where
+    bytes : List ℕ
+    bytes = bytes_of files tasks
 
--- what `judge` promises under a given scale, where the task file says the set
-pub finds_by : (p q : ℕ) (bytes more : List ℕ) (reply : Reply) → ((set : Set) → SaysSet bytes set → TellsNext (JudgeBy p q) more (under (Virtual p q) set) reply)
-    → FindsBy (Virtual p q) bytes more reply.status
-finds_by p q bytes more reply next set h said trace_says legal none =
-    let k : reply ≡ reply_by (tells (JudgeBy p q) (under (Virtual p q) set) more) =
-    second_fits (2 ^ 27) more (reply ≡ reply_by (tells (JudgeBy p q) (under (Virtual p q) set) more)) reply trace_says.0 (next set said) in
-    inl (good_0 (JudgeBy p q) (under (Virtual p q) set) more reply h trace_says.1 (good_of_legal set.tasks (Virtual p q) h legal none) tt (judges (JudgeBy p q) (under (Virtual p q) set) more reply k))
+    more : List ℕ
+    more = bytes_of files trace
+
+    ruled : Set → Ruled
+    ruled set = under (Virtual p q) set
+
+    Next : Ruled → Type 0
+    Next ruled = TellsNext (JudgeBy p q) more reply ruled
+
+    c : OfSet bytes (λ set. By (Ok (ruled set)) Next reply) reply
+    c =
+        by_set files tasks (λ set. Ok (ruled set)) (λ ruled. fetch trace (2 ^ 27) (λ more. answer (λ reply. reply ≡ reply_by (tells (JudgeBy p q) ruled more))))
+        Next reply
+        (by_trace (JudgeBy p q) files trace reply) h

@@ -7,5 +7,4 @@ pub mod Demanded
 pub mod Spread
 pub mod Measured
 pub mod Headlines
-pub mod TestedSets
 pub mod Jobs

@@ -1,30 +1,43 @@
 -- What the headline says of every command under the test's rule.
-use Rattle.std.proofs.Common.{◌≡◌, ◌≢◌, ◌⊎◌, ◌↔◌, inl, ℕ, ◌≤◌, ◌^◌, List, length, Some, None, Ok, Result, Err, refl, sym, ap, ◌∙◌, arith}
+use Rattle.std.proofs.Common.{◌≡◌, ◌≢◌, ◌⊎◌, ◌↔◌, inl, inr, ℕ, List, ◌++◌, Option, Some, None, Ok, Err, refl, ap, arith}
+use Rattle.std.specs.Prelude.{ok_or}
+use Rattle.mc_world.specs.Shelf.{Files}
 use Rattle.mc_task.specs.declared.task.Rule.{Rule}
 use Rattle.mc_task.specs.TaskSet.{Set, IsSet, AreTasks}
 use Rattle.mc_model.specs.declared.row.Row.{Row}
 use Rattle.mc_model.specs.Holds.{Holds}
+use Rattle.mc_model.specs.Loads.{range_fault}
 use Rattle.mc_model.specs.Test.{published, test}
 use Rattle.mc_model.specs.Legal.{Legal}
 use Rattle.mc_model.proofs.ScaledTests.{test-holds, test-none}
 use Rattle.demand_law.proofs.Promise.{keeps_deadlines}
 use Rattle.task_file.specs.TaskFile.{task_file}
-use Rattle.task_file.specs.declared.fault.TaskFault.{TaskFault}
 use Rattle.task_file.proofs.SaysSet.{says_set}
 use Rattle.replies.specs.Reply.{Reply}
-use Rattle.replies.specs.Refusal.{TaskFile}
-use Rattle.replies.specs.Reading.{or_refuse}
-use Rattle.task_answers.specs.Admitted.{Ruled, under, set_in}
-use Rattle.edfvd_program.specs.Headline.{SaysSet, HasNoRangeFault, IsAdmitted, IsTimely, SchedulesExactly}
-use Rattle.edfvd_program.proofs.Cases.{other_status, Comes, long, refused, no_rule, ruled, one_set}
+use Rattle.replies.specs.Refusal.{TaskFile, OutOfRange, NotAdmitted}
+use Rattle.replies.specs.Reading.{◌>>=◌, none_or}
+use Rattle.command_line.specs.Form.{Form}
+use Rattle.serving.specs.Outcome.{IsAnswer}
+use Rattle.task_answers.specs.Admitted.{Ruled, under, set_in, tested}
+use Rattle.edfvd_program.specs.Commands.{command}
+use Rattle.edfvd_program.specs.Headline.{SaysSet, HasNoRangeFault, IsAdmitted, IsTimely, SchedulesExactly, Headline}
+use Rattle.edfvd_program.specs.Told.{Told}
+use Rattle.edfvd_program.specs.Complete.{Complete}
+use Rattle.edfvd_program.specs.Tested.{Tested}
+use Rattle.edfvd_program.proofs.Cases.{By, OfSet, by_steps, of_set, decided, refuse_ok}
+
+-- all that the program promises, by what the files hold, what was written before, the status and what is written after
+abbrev pub Promises : Option Form → Files → List ℕ → ℕ → Option (List ℕ) → Type 0
+Promises form files old ended new = Headline form files old ended new × Told form files old ended new × Complete form files ended × Tested form files old ended new
+
+-- each answer to a form does so, which was written whole
+abbrev pub Keeps : Form → Type 0
+Keeps form =
+    (files : Files) (old : List ℕ) (reply : Reply) → IsAnswer files 1 (command (Some form)) reply → Promises (Some form) files old reply.status (Some (old ++ reply.text))
 
 -- what a task file says is a set
 pub is_set : (bytes : List ℕ) (set : Set) → set_in bytes ≡ Ok set → IsSet set
-is_set bytes set h = go (task_file bytes) refl h
-  where
-    go : (read : Result Set TaskFault) → task_file bytes ≡ read → or_refuse TaskFile read ≡ Ok set → IsSet set
-    go (Ok said) e k = let same : said ≡ set = cc in says_set bytes set (e ∙ ap (λ s. Ok s) same)
-    go (Err fault) e k = cc
+is_set bytes set h = says_set bytes set (refuse_ok TaskFile (task_file bytes) set h)
 
 -- the test's rule holds for the set that a file says
 pub holds_for : (bytes : List ℕ) (set : Set) (rule : Rule) → IsAdmitted bytes set rule → AreTasks set.tasks × Holds set.tasks rule
@@ -38,26 +51,57 @@ timely bytes set rule h a l = let s = holds_for bytes set rule a in (l, keeps_de
 none_of : (bytes : List ℕ) (set : Set) → SaysSet bytes set → (test set ≡ None) ↔ (published set.tasks ≡ None)
 none_of bytes set says = test-none set (is_set bytes set says.1).tasks
 
--- Status 1 comes exactly where the test gives no rule, if what comes next has another status.
-pub schedules_exactly : (bytes : List ℕ) (Then : Ruled → Reply → Type 0) (reply : Reply) → ((x : Ruled) → Then x reply → reply.status ≢ 1) → Comes bytes Then reply → SchedulesExactly bytes reply.status
-schedules_exactly bytes Then reply other h = record { refused = only h; refuses = always h }
+-- the reply refuses the task file or its set, or this is so of the set under the rule that the test gives it
+abbrev pub Comes : List ℕ → (Ruled → Type 0) → Reply → Type 0
+Comes bytes Then reply = OfSet bytes (λ set. By (tested set) Then reply) reply
+
+-- the periods are within range, if the status is not that of a range fault
+pub in_range : (o : Option ℕ) (P : Unit {0} → Type 0) (reply : Reply) → reply.status ≢ 3 → By (none_or OutOfRange o) P reply → (o ≡ None) × P tt
+in_range None P reply not_3 h = (refl, h)
+in_range (Some task) P reply not_3 h = absurd (not_3 (ap (λ r. r.status) h))
+
+-- the test gives no rule, with status 1, or this is so of the one that it gives
+by_test : (set : Set) (Then : Ruled → Type 0) (reply : Reply) → reply.status ≢ 3 → By (tested set) Then reply
+    → HasNoRangeFault set × (((test set ≡ None) × (reply.status ≡ 1)) ⊎ ((rule : Rule) × (test set ≡ Some rule) × Then (under rule set)))
+by_test set Then reply not_3 h =
+    let (range, k) = in_range (range_fault set.tasks) _ reply not_3 (by_steps (none_or OutOfRange (range_fault set.tasks)) _ Then reply h) in
+    (range, go (test set) refl k)
   where
-    only : Comes bytes Then reply → reply.status ≡ 1 → (set : Set) × SaysSet bytes set × HasNoRangeFault set × (published set.tasks ≡ None)
-    only (long l s) e = absurd (other_status reply 7 1 s e (λ k. absurd (omega (arith, k))))
-    only (refused none s) e = absurd (other_status reply 3 1 s e (λ k. absurd (omega (arith, k))))
-    only (no_rule set says w n s) e = (set, says, w, (none_of bytes set says).0 n)
-    only (ruled set rule a k) e = absurd (other (under rule set) k e)
+    go : (o : Option Rule) → test set ≡ o → By (ok_or o (NotAdmitted set.tasks) >>= (λ rule. Ok (under rule set))) Then reply
+        → ((test set ≡ None) × (reply.status ≡ 1)) ⊎ ((rule : Rule) × (test set ≡ Some rule) × Then (under rule set))
+    go None e k = inl (e, ap (λ r. r.status) k)
+    go (Some rule) e k = inr (rule, e, k)
 
-    always : Comes bytes Then reply → (set : Set) → SaysSet bytes set → HasNoRangeFault set → published set.tasks ≡ None → (reply.status ≡ 1) ⊎ (reply.status ≡ 9)
-    always (long l s) set says w n = absurd (let short : length bytes ≤ 2 ^ 24 = says.0 in omega (arith, l, short))
-    always (refused none s) set says w n = absurd (none set says.1 w)
-    always (no_rule set' says' w' n' s) set says w n = inl s
-    always (ruled set' rule a k) set says w n = absurd (let clash : Some rule ≡ None = sym a.test ∙ (ap test (one_set bytes set' set a.says says) ∙ (none_of bytes set says).1 n) in cc)
+-- the set is admitted, if the status is none of the refusals of its file
+pub only_ruled : (bytes : List ℕ) (Then : Ruled → Type 0) (reply : Reply) → reply.status ≢ 7 → reply.status ≢ 3 → reply.status ≢ 1 → Comes bytes Then reply
+    → (set : Set) × (rule : Rule) × IsAdmitted bytes set rule × Then (under rule set)
+only_ruled bytes Then reply not_7 not_3 not_1 h =
+    let (set, says, k) = of_set bytes (λ set. By (tested set) Then reply) reply not_7 not_3 h in
+    let (range, given) = by_test set Then reply not_3 k in
+    elim given [
+      | inl none ↦ absurd (not_1 none.1)
+      | inr r ↦ (set, r.0, record { says = says; range = range; test = r.1 }, r.2)
+    ]
 
--- what is so of an answer with this status is so of what comes next, if no refusal of the first file has the status
-pub only_ruled : (bytes : List ℕ) (Then : Ruled → Reply → Type 0) (reply : Reply) (n : ℕ) → n ≢ 7 → n ≢ 3 → n ≢ 1 → Comes bytes Then reply → reply.status ≡ n
-    → (set : Set) × (rule : Rule) × IsAdmitted bytes set rule × Then (under rule set) reply
-only_ruled bytes Then reply n not_7 not_3 not_1 (long l s) e = absurd (not_7 (sym e ∙ s))
-only_ruled bytes Then reply n not_7 not_3 not_1 (refused none s) e = absurd (not_3 (sym e ∙ s))
-only_ruled bytes Then reply n not_7 not_3 not_1 (no_rule set says w none s) e = absurd (not_1 (sym e ∙ s))
-only_ruled bytes Then reply n not_7 not_3 not_1 (ruled set rule a k) e = (set, rule, a, k)
+-- of an admitted set this is so
+pub next_of : (bytes : List ℕ) (Then : Ruled → Type 0) (reply : Reply) (set : Set) (rule : Rule) → IsAdmitted bytes set rule → Comes bytes Then reply
+    → Then (under rule set)
+next_of bytes Then reply set rule a h =
+    let admits : tested set ≡ Ok (under rule set) = rw (a.range, a.test) refl in
+    decided bytes tested (Ok (under rule set)) Then reply set a.says admits h
+
+-- Status 1 comes exactly where the test gives no rule, if what comes next has another status.
+pub schedules_exactly : (bytes : List ℕ) (Then : Ruled → Type 0) (reply : Reply) → ((x : Ruled) → Then x → reply.status ≢ 1) → Comes bytes Then reply
+    → SchedulesExactly bytes reply.status
+schedules_exactly bytes Then reply other h = record { refused = only; refuses = always }
+  where
+    only : reply.status ≡ 1 → (set : Set) × SaysSet bytes set × HasNoRangeFault set × (published set.tasks ≡ None)
+    only e =
+        let (set, says, k) = of_set bytes (λ set. By (tested set) Then reply) reply (λ z. absurd (omega arith)) (λ z. absurd (omega arith)) h in
+        let (range, given) = by_test set Then reply (λ z. absurd (omega arith)) k in
+        elim given [ inl none ↦ (set, says, range, (none_of bytes set says).0 none.0) | inr r ↦ absurd (other (under r.0 set) r.2 e) ]
+
+    always : (set : Set) → SaysSet bytes set → HasNoRangeFault set → published set.tasks ≡ None → (reply.status ≡ 1) ⊎ (reply.status ≡ 9)
+    always set says range none =
+        let refuses : tested set ≡ Err (NotAdmitted set.tasks) = rw (range, (none_of bytes set says).1 none) refl in
+        inl (ap (λ r. r.status) (decided bytes tested (Err (NotAdmitted set.tasks)) Then reply set says refuses h))

@@ -1,87 +1,117 @@
--- What the headline says of the commands that write a trace: `run` and `live`.
-use Rattle.std.proofs.Common.{◌≡◌, ◌≢◌, inl, inr, ℕ, ◌≤◌, ◌^◌, List, ◌++◌, length, Some, Err, refl, ap, arith}
+-- What `check`, `run` and `live` promise.
+use Rattle.std.proofs.Common.{◌≡◌, ◌≢◌, inl, ℕ, ◌^◌, List, ◌++◌, Some, Ok, ap, arith}
 use Rattle.mc_task.specs.declared.task.Task.{Task}
-use Rattle.mc_task.specs.declared.task.Rule.{Rule}
-use Rattle.mc_task.specs.TaskSet.{Set}
+use Rattle.mc_world.specs.Shelf.{Files}
+use Rattle.mc_model.specs.declared.work.WorkRow.{WorkRow}
+use Rattle.mc_model.specs.CheckText.{check_text}
 use Rattle.work_file.specs.WorkFile.{work_in}
-use Rattle.replies.specs.Reply.{Reply}
-use Rattle.replies.specs.Refusal.{Refusal, WorkFile, status_of}
-use Rattle.task_answers.specs.Admitted.{Ruled, under}
+use Rattle.command_line.specs.Form.{check, run, live}
+use Rattle.replies.specs.Reply.{Reply, reply_of}
+use Rattle.replies.specs.Refusal.{WorkFile}
+use Rattle.replies.specs.Reading.{reply_by}
+use Rattle.serving.specs.Command.{Command, answer, fetch, need}
+use Rattle.serving.specs.Outcome.{IsAnswer}
+use Rattle.task_answers.specs.Admitted.{Ruled, set_in, tested, admitted}
+use Rattle.task_answers.specs.Check.{checked}
 use Rattle.run_answers.specs.Run.{TellsTrace, work_of}
-use Rattle.run_answers.specs.Live as live
-use Rattle.edfvd_program.specs.Headline.{IsAdmitted, WritesTimely}
+use Rattle.run_answers.specs.Live.{Lives}
+use Rattle.edfvd_program.specs.Headline.{bytes_of}
 use Rattle.edfvd_program.specs.Told.{WritesRun, WritesLive}
-use Rattle.edfvd_program.specs.Complete.{ServesAdmitted, ServesWork}
-use Rattle.edfvd_program.proofs.Cases.{By, Second, other_status, Comes, next_of, by_cases, by_ok, reader_status, by_second, second_fits}
-use Rattle.edfvd_program.proofs.Promised.{timely, only_ruled}
+use Rattle.edfvd_program.specs.Complete.{SaysWork, ServesWork}
+use Rattle.edfvd_program.proofs.Cases.{By, OfFile, held, by_need, by_text, by_steps, by_set, of_file, for_file}
+use Rattle.edfvd_program.proofs.Promised.{Keeps, Comes, timely, only_ruled, next_of, schedules_exactly}
 
--- what comes of a work file's bytes
-abbrev pub Runs : ℕ → Ruled → List ℕ → Reply → Type 0
-Runs ticks ruled more reply = By (work_of ruled.set.tasks more) (TellsTrace ticks ruled.set.tasks ruled.rule) reply
+-- the reply refuses the work file, or this is so of its work
+abbrev pub OfWork : List Task → List ℕ → (List WorkRow → Type 0) → Reply → Type 0
+OfWork set more P reply = OfFile 2 (2 ^ 24) more (work_of set more) P reply
 
--- what comes next of `run`
-abbrev pub RunsNext : ℕ → List ℕ → Ruled → Reply → Type 0
-RunsNext ticks more ruled reply = Second (2 ^ 24) more reply (Runs ticks ruled more reply)
+-- the answer of a command that asks for one
+pub by_work : (files : Files) (set : List Task) (work : List ℕ) (next : List WorkRow → Command) (P : List WorkRow → Type 0) (reply : Reply)
+    → ((rows : List WorkRow) → IsAnswer files 3 (next rows) reply → P rows)
+    → IsAnswer files 2 (fetch work (2 ^ 24) (λ more. need (work_of set more) next)) reply → OfWork set (bytes_of files work) P reply
+by_work files set work next P reply then h =
+    held files 2 (2 ^ 24) work (λ more. need (work_of set more) next) (λ more. By (work_of set more) P reply) reply
+    (λ more k. by_need files 3 (work_of set more) next P reply then k) h
 
--- a refused work file has status 4
-pub work_status : (set : List Task) (more : List ℕ) (refusal : Refusal) → work_of set more ≡ Err refusal → status_of refusal ≡ 4
-work_status set more refusal h = reader_status WorkFile 4 (λ e. refl) (work_in set more) refusal h
+-- some work is read, if the status is none of its refusals
+pub of_work : (set : List Task) (more : List ℕ) (P : List WorkRow → Type 0) (reply : Reply) → reply.status ≢ 7 → reply.status ≢ 4 → OfWork set more P reply
+    → (rows : List WorkRow) × SaysWork more set rows × P rows
+of_work set more P reply not_7 not_4 h = of_file 2 (2 ^ 24) more WorkFile (work_in set more) P reply not_7 (λ fault. not_4) h
 
-pub not_1_run : (ticks : ℕ) (more : List ℕ) (ruled : Ruled) (reply : Reply) → RunsNext ticks more ruled reply → reply.status ≢ 1
-not_1_run ticks more ruled reply h e =
-    elim (by_second (2 ^ 24) more (Runs ticks ruled more reply) reply h) [
-      | inl p ↦ other_status reply 7 1 p.0 e (λ k. absurd (omega (arith, k)))
-      | inr q ↦
-          elim (by_cases (work_of ruled.set.tasks more) _ reply q.0) [
-            | inl r ↦ let four = work_status ruled.set.tasks more r.0 r.1 in let is = r.2 in absurd (omega (arith, four, is, e))
-            | inr w ↦ other_status reply 0 1 (ap (λ (r : Reply). r.status) w.2.2) e (λ k. absurd (omega (arith, k)))
-          ]
-    ]
+pub checks : (tasks : List ℕ) → Keeps (check tasks)
+checks tasks files old reply h = (
+  schedules_exactly (bytes_of files tasks) Next reply (λ ruled k e. absurd (omega (arith, ap (λ (r : Reply). r.status) k))) c,
+  tt,
+  λ set rule a. inl (ap (λ r. r.status) (next_of (bytes_of files tasks) Next reply set rule a c)),
+  tt,
+)
+  where
+    Next : Ruled → Type 0
+    Next ruled = reply ≡ reply_of 0 (check_text ruled.set ruled.rule)
 
--- what `run` promises
-pub schedules : (ticks : ℕ) (bytes more old : List ℕ) (reply : Reply) → Comes bytes (RunsNext ticks more) reply
-    → WritesTimely bytes old reply.status (Some (old ++ reply.text)) × WritesRun ticks bytes more old reply.status (Some (old ++ reply.text)) × ServesWork bytes more reply.status
-schedules ticks bytes more old reply h = (
-  λ e. (let (set, rule, work, t, a, says, follows, written) = writes e in (set, rule, t, a, written, timely bytes set rule t a follows.legal)),
+    c : Comes (bytes_of files tasks) Next reply
+    c =
+        held files 1 (2 ^ 24) tasks (λ bytes. answer (λ reply. reply ≡ reply_by (checked bytes)))
+        (λ bytes. By (set_in bytes) (λ set. By (tested set) Next reply) reply) reply
+        (λ bytes k. by_steps (set_in bytes) tested Next reply (by_text (admitted bytes) (λ ruled. Ok (check_text ruled.set ruled.rule)) reply k)) h
+
+pub runs : (tasks work : List ℕ) (ticks : ℕ) → Keeps (run tasks work ticks)
+runs tasks work ticks files old reply h = (
+  (
+    schedules_exactly (bytes_of files tasks) Next reply not_1 c,
+    λ e. (let (set, rule, rows, t, a, says, follows, written) = writes e in (set, rule, t, a, written, timely (bytes_of files tasks) set rule t a follows.legal)),
+  ),
   writes,
   complete,
+  tt,
 )
   where
-    of_work : (set : Set) (rule : Rule) → IsAdmitted bytes set rule → length more ≤ 2 ^ 24 → Runs ticks (under rule set) more reply → WritesRun ticks bytes more old reply.status (Some (old ++ reply.text))
-    of_work set rule a short k e =
-        elim (by_cases (work_of set.tasks more) _ reply k) [
-          | inl r ↦ let four = work_status set.tasks more r.0 r.1 in let is = r.2 in absurd (omega (arith, four, is, e))
-          | inr w ↦ (set, rule, w.0, w.2.0, a, (short, w.1), w.2.1, ap (λ (r : Reply). Some (old ++ r.text)) w.2.2)
-        ]
+    more : List ℕ
+    more = bytes_of files work
 
-    writes : WritesRun ticks bytes more old reply.status (Some (old ++ reply.text))
+    Next : Ruled → Type 0
+    Next ruled = OfWork ruled.set.tasks more (λ rows. TellsTrace ticks ruled.set.tasks ruled.rule rows reply) reply
+
+    c : Comes (bytes_of files tasks) Next reply
+    c =
+        by_set files tasks tested _ Next reply
+        (λ ruled. by_work files ruled.set.tasks work _ (λ rows. TellsTrace ticks ruled.set.tasks ruled.rule rows reply) reply (λ rows t. t)) h
+
+    not_1 : (ruled : Ruled) → Next ruled → reply.status ≢ 1
+    not_1 ruled k e =
+        let (rows, says, t) = of_work ruled.set.tasks more _ reply (λ z. absurd (omega arith)) (λ z. absurd (omega arith)) k in
+        absurd (omega (arith, ap (λ (r : Reply). r.status) t.2))
+
+    writes : WritesRun ticks (bytes_of files tasks) more old reply.status (Some (old ++ reply.text))
     writes e =
-        let (set, rule, a, k) = only_ruled bytes (RunsNext ticks more) reply 0 (λ z. absurd (omega (arith, z))) (λ z. absurd (omega (arith, z))) (λ z. absurd (omega (arith, z))) h e in
-        elim (by_second (2 ^ 24) more (Runs ticks (under rule set) more reply) reply k) [
-          | inl p ↦ absurd (other_status reply 7 0 p.0 e (λ k. absurd (omega (arith, k))))
-          | inr q ↦ of_work set rule a q.1 q.0 e
-        ]
+        let (set, rule, a, k) = only_ruled (bytes_of files tasks) Next reply (λ z. absurd (omega arith)) (λ z. absurd (omega arith)) (λ z. absurd (omega arith)) c in
+        let (rows, says, t) = of_work set.tasks more _ reply (λ z. absurd (omega arith)) (λ z. absurd (omega arith)) k in
+        (set, rule, rows, t.0, a, says, t.1, ap (λ (r : Reply). Some (old ++ r.text)) t.2)
 
-    complete : ServesWork bytes more reply.status
+    complete : ServesWork (bytes_of files tasks) more reply.status
     complete set rule rows a says =
-        let k : Runs ticks (under rule set) more reply = second_fits (2 ^ 24) more (Runs ticks (under rule set) more reply) reply says.0 (next_of bytes (RunsNext ticks more) reply set rule a h) in
-        let r = by_ok (work_of set.tasks more) _ reply rows says.1 k in
-        inl (ap (λ (r : Reply). r.status) r.2)
+        let t = for_file 2 (2 ^ 24) more (work_of set.tasks more) (λ rows. TellsTrace ticks set.tasks rule rows reply) reply rows says
+        (next_of (bytes_of files tasks) Next reply set rule a c) in
+        inl (ap (λ (r : Reply). r.status) t.2)
 
--- what comes next of `live`
-pub not_1_live : (ticks : ℕ) (ruled : Ruled) (reply : Reply) → live.Lives ticks ruled reply → reply.status ≢ 1
-not_1_live ticks ruled reply h e = other_status reply 0 1 (ap (λ (r : Reply). r.status) h.2) e (λ k. absurd (omega (arith, k)))
-
--- what it promises
-pub lives : (ticks : ℕ) (bytes old : List ℕ) (reply : Reply) → Comes bytes (live.Lives ticks) reply
-    → WritesTimely bytes old reply.status (Some (old ++ reply.text)) × WritesLive ticks bytes old reply.status (Some (old ++ reply.text)) × ServesAdmitted bytes reply.status
-lives ticks bytes old reply h = (
-  λ e. (let (set, rule, t, a, is, written) = writes e in (set, rule, t, a, written, timely bytes set rule t a is.legal)),
+pub lives : (tasks : List ℕ) (ticks : ℕ) → Keeps (live tasks ticks)
+lives tasks ticks files old reply h = (
+  (
+    schedules_exactly (bytes_of files tasks) Next reply (λ ruled k e. absurd (omega (arith, ap (λ (r : Reply). r.status) k.2))) c,
+    λ e. (let (set, rule, t, a, is, written) = writes e in (set, rule, t, a, written, timely (bytes_of files tasks) set rule t a is.legal)),
+  ),
   writes,
-  λ set rule a. inl (ap (λ (r : Reply). r.status) (next_of bytes (live.Lives ticks) reply set rule a h).2),
+  λ set rule a. inl (ap (λ (r : Reply). r.status) (next_of (bytes_of files tasks) Next reply set rule a c).2),
+  tt,
 )
   where
-    writes : WritesLive ticks bytes old reply.status (Some (old ++ reply.text))
+    Next : Ruled → Type 0
+    Next ruled = Lives ticks ruled reply
+
+    c : Comes (bytes_of files tasks) Next reply
+    c = by_set files tasks tested _ Next reply (λ ruled k. k) h
+
+    writes : WritesLive ticks (bytes_of files tasks) old reply.status (Some (old ++ reply.text))
     writes e =
-        let (set, rule, a, k) = only_ruled bytes (live.Lives ticks) reply 0 (λ z. absurd (omega (arith, z))) (λ z. absurd (omega (arith, z))) (λ z. absurd (omega (arith, z))) h e in
+        let (set, rule, a, k) = only_ruled (bytes_of files tasks) Next reply (λ z. absurd (omega arith)) (λ z. absurd (omega arith)) (λ z. absurd (omega arith)) c in
         (set, rule, k.0, a, k.1, ap (λ (r : Reply). Some (old ++ r.text)) k.2)

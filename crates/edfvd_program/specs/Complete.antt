@@ -1,6 +1,6 @@
 -- Nothing is refused without reason, where the shelf and the sink tell their bytes and have no fault: what the commands that
 -- schedule a set, or tell of a trace, answer for valid files. The newest row of a trace stands first here.
-use Rattle.std.specs.Prelude.{◌≡◌, ◌⊎◌, ℕ, ◌≤◌, ◌^◌, List, [], length, Option, Some, None, Ok}
+use Rattle.std.specs.Prelude.{◌≡◌, ◌⊎◌, ℕ, ◌≤◌, ◌^◌, List, [], length, Option, Some, Ok}
 use Rattle.mc_task.specs.declared.task.Task.{Task}
 use Rattle.mc_task.specs.declared.task.Rule.{Rule}
 use Rattle.mc_task.specs.declared.task.Rule.TheVariants.{Virtual}
@@ -56,7 +56,6 @@ FindsBy rule bytes more ended = (set : Set) (h : List Row)
 
 -- what is answered for valid files, by what they hold and the status
 abbrev pub Complete : Option Form → Files → ℕ → Type 0
-Complete None files ended = Unit {0}
 Complete (Some (check tasks)) files ended = ServesAdmitted (bytes_of files tasks) ended
 Complete (Some (run tasks work ticks)) files ended = ServesWork (bytes_of files tasks) (bytes_of files work) ended
 Complete (Some (live tasks ticks)) files ended = ServesAdmitted (bytes_of files tasks) ended
@@ -64,4 +63,4 @@ Complete (Some (soak number tasks ticks)) files ended = Succeeds ended
 Complete (Some (run_all tasks work ticks processors)) files ended = ServesSpread processors (bytes_of files tasks) (bytes_of files work) ended
 Complete (Some (on_trace (JudgeBy p q) tasks trace)) files ended = FindsBy (Virtual p q) (bytes_of files tasks) (bytes_of files trace) ended
 Complete (Some (on_trace telling tasks trace)) files ended = FindsEach telling (bytes_of files tasks) (bytes_of files trace) ended
-Complete (Some form) files ended = Unit {0}
+Complete form files ended = Unit {0}

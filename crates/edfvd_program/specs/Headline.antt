@@ -110,7 +110,6 @@ WritesAllTimely m bytes old ended new = ended ≡ 0 → (set : Set) × (of : Lis
 -- the headline, by what the files hold, what was written before, the status and what is written after, of each command that
 -- schedules a set, or tells of a trace under the test's rule
 abbrev pub Headline : Option Form → Files → List ℕ → ℕ → Option (List ℕ) → Type 0
-Headline None files old ended new = Unit {0}
 Headline (Some (check tasks)) files old ended new = SchedulesExactly (bytes_of files tasks) ended
 Headline (Some (run tasks work ticks)) files old ended new =
     SchedulesExactly (bytes_of files tasks) ended × WritesTimely (bytes_of files tasks) old ended new
@@ -122,4 +121,4 @@ Headline (Some (run_all tasks work ticks processors)) files old ended new =
 Headline (Some (on_trace (JudgeBy p q) tasks trace)) files old ended new = Unit {0}
 Headline (Some (on_trace telling tasks trace)) files old ended new =
     SchedulesExactly (bytes_of files tasks) ended × Finds telling (bytes_of files tasks) (bytes_of files trace) old ended new
-Headline (Some form) files old ended new = Unit {0}
+Headline form files old ended new = Unit {0}

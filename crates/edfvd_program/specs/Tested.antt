@@ -1,6 +1,6 @@
 -- What is so of the sets that the program tests and does not schedule, where the shelf and the sink tell their bytes and have
 -- no fault: plain EDF with constrained deadlines, tasks on processors, the room of a set, and how many made sets have room.
-use Rattle.std.specs.Prelude.{◌≡◌, ◌⊎◌, ℕ, ◌≤◌, ◌^◌, List, ◌++◌, length, Option, Some, None, Ok}
+use Rattle.std.specs.Prelude.{◌≡◌, ◌⊎◌, ℕ, ◌≤◌, ◌^◌, List, ◌++◌, length, Option, Some, Ok}
 use Rattle.mc_task.specs.TaskSet.{Set}
 use Rattle.mc_world.specs.Shelf.{Files}
 use Rattle.command_line.specs.Form.{Form, demand, partition, stretch, accept}
@@ -56,10 +56,9 @@ pub record Tabulates (number sets tasks : ℕ) (old : List ℕ) (ended : ℕ) (n
 
 -- what is so of the answer, by what the files hold, what was written before, the status and what is written after
 abbrev pub Tested : Option Form → Files → List ℕ → ℕ → Option (List ℕ) → Type 0
-Tested None files old ended new = Unit {0}
 Tested (Some (demand demands)) files old ended new = Tests (bytes_of files demands) ended
 Tested (Some (partition tasks processors)) files old ended new =
     SpreadsExactly processors (bytes_of files tasks) ended × Places processors (bytes_of files tasks) old ended new
 Tested (Some (stretch tasks)) files old ended new = Measures (bytes_of files tasks) old ended new
 Tested (Some (accept number sets tasks)) files old ended new = Tabulates number sets tasks old ended new
-Tested (Some form) files old ended new = Unit {0}
+Tested form files old ended new = Unit {0}

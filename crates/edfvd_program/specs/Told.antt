@@ -1,8 +1,7 @@
 -- Which traces are written, and what is told of those that are found legal or summed up, where the shelf and the sink tell
 -- their bytes and have no fault. The newest row of a trace stands first here.
-use Rattle.std.specs.Prelude.{◌≡◌, ℕ, List, ◌++◌, Option, Some, None, Ok}
+use Rattle.std.specs.Prelude.{◌≡◌, ℕ, List, ◌++◌, Option, Some, Ok}
 use Rattle.std.specs.List.{AllZip}
-use Rattle.mc_task.specs.declared.task.Task.{Task}
 use Rattle.mc_task.specs.declared.task.Rule.{Rule}
 use Rattle.mc_task.specs.TaskSet.{Set}
 use Rattle.mc_world.specs.Shelf.{Files}
@@ -49,7 +48,6 @@ SumsUp number tasks ticks old ended new = ended ≡ 0 → (rule : Rule) × (h : 
 
 -- what is told is so, by what the files hold, what was written before, the status and what is written after
 abbrev pub Told : Option Form → Files → List ℕ → ℕ → Option (List ℕ) → Type 0
-Told None files old ended new = Unit {0}
 Told (Some (run tasks work ticks)) files old ended new = WritesRun ticks (bytes_of files tasks) (bytes_of files work) old ended new
 Told (Some (live tasks ticks)) files old ended new = WritesLive ticks (bytes_of files tasks) old ended new
 Told (Some (soak number tasks ticks)) files old ended new = SumsUp number tasks ticks old ended new
@@ -57,4 +55,4 @@ Told (Some (run_all tasks work ticks processors)) files old ended new =
     WritesParts ticks processors (bytes_of files tasks) (bytes_of files work) old ended new
 Told (Some (on_trace (JudgeBy p q) tasks trace)) files old ended new = Unit {0}
 Told (Some (on_trace telling tasks trace)) files old ended new = TellsOf telling (bytes_of files tasks) (bytes_of files trace) old ended new
-Told (Some form) files old ended new = Unit {0}
+Told form files old ended new = Unit {0}

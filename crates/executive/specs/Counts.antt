@@ -1,5 +1,5 @@
 -- What a pass counts of its answers, and the rows that it has to agree with.
-use Rattle.std.specs.Prelude.{ℕ, ◌+◌, ◌≤◌, ◌==◌, List, [], ◌∷◌, Ok, Err, cond}
+use Rattle.std.specs.Prelude.{ℕ, ◌+◌, ◌≤◌, ◌==◌, List, [], ◌∷◌, Ok, cond}
 use Rattle.mc_model.specs.declared.row.Row.{Row}
 use Rattle.mc_model.specs.declared.row.Row.TheVariants as row
 use Rattle.mc_model.specs.Pending.{is_end}
@@ -7,43 +7,27 @@ use Rattle.mc_model.specs.Sums.{total}
 use Rattle.executive.specs.declared.count.Count.{Count}
 use Rattle.executive.specs.declared.entry.Entry.{Entry}
 use Rattle.executive.specs.declared.entry.Answer.{Answer}
-use Rattle.executive.specs.declared.entry.Answer.TheVariants.{Released, Taken, Told, Idled, Next}
+use Rattle.executive.specs.declared.entry.Answer.TheVariants.{Released, Told, Idled}
 
 -- 1 for a release that was taken
 abbrev pub released : Answer → ℕ
 released (Released (Ok x)) = 1
-released (Released (Err e)) = 0
-released (Taken r) = 0
-released (Told r) = 0
-released (Idled r) = 0
-released (Next a) = 0
+released _ = 0
 
 -- 1 for the outcome of a tick
 abbrev pub ticked : Answer → ℕ
 ticked (Told (Ok how)) = 1
-ticked (Told (Err e)) = 0
-ticked (Released r) = 0
-ticked (Taken r) = 0
-ticked (Idled r) = 0
-ticked (Next a) = 0
+ticked _ = 0
 
 -- 1 for an outcome that ended its job
 abbrev pub ended : Answer → ℕ
 ended (Told (Ok how)) = cond (is_end how) 1 0
-ended (Told (Err e)) = 0
-ended (Released r) = 0
-ended (Taken r) = 0
-ended (Idled r) = 0
-ended (Next a) = 0
+ended _ = 0
 
 -- 1 for an idle tick
 abbrev pub idled : Answer → ℕ
 idled (Idled (Ok n)) = 1
-idled (Idled (Err e)) = 0
-idled (Released r) = 0
-idled (Taken r) = 0
-idled (Told r) = 0
-idled (Next a) = 0
+idled _ = 0
 
 -- what the answers of these calls count
 abbrev pub tally : List Entry → Count
@@ -73,20 +57,17 @@ pub record IsAtMost (c : Count) (n : ℕ) : Type 0 where
 -- the ticks of task number k
 abbrev pub ticks_of : ℕ → List Row → ℕ
 ticks_of k [] = 0
-ticks_of k (row.Release j kept ∷ g) = ticks_of k g
 ticks_of k (row.Tick j how ∷ g) = cond (j.task.0 == k) 1 0 + ticks_of k g
-ticks_of k (row.Idle ∷ g) = ticks_of k g
+ticks_of k (_ ∷ g) = ticks_of k g
 
 -- those of them that ended a job
 abbrev pub ends_of : ℕ → List Row → ℕ
 ends_of k [] = 0
-ends_of k (row.Release j kept ∷ g) = ends_of k g
 ends_of k (row.Tick j how ∷ g) = cond (j.task.0 == k) (cond (is_end how) 1 0) 0 + ends_of k g
-ends_of k (row.Idle ∷ g) = ends_of k g
+ends_of k (_ ∷ g) = ends_of k g
 
 -- the idle ticks
 abbrev pub idle_ticks : List Row → ℕ
 idle_ticks [] = 0
-idle_ticks (row.Release j kept ∷ g) = idle_ticks g
-idle_ticks (row.Tick j how ∷ g) = idle_ticks g
 idle_ticks (row.Idle ∷ g) = 1 + idle_ticks g
+idle_ticks (_ ∷ g) = idle_ticks g

@@ -22,11 +22,8 @@ no_entry = entry 1 Look (Next act.Finished)
 
 -- an outcome is of the task whose tick is out
 abbrev pub MayCall : FloorState → ℕ → Call → Type 0
-MayCall f k Release = Unit {0}
-MayCall f k Take = Unit {0}
 MayCall f k (Outcome done) = is_of_task f.core.out k ≡ true
-MayCall f k Idle = Unit {0}
-MayCall f k Look = Unit {0}
+MayCall f k _ = Unit {0}
 
 -- the floor's answer to a call of task number k; an outcome is that of the job whose tick is out
 abbrev pub answer_to : FloorState → ℕ → Call → Answer

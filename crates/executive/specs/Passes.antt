@@ -74,12 +74,8 @@ IsGrantOf e t = IsHeldOf e t.held
 -- the job of task number k whose tick is out after a call of the task, by its answer
 abbrev pub job_then : Answer → Option JobId → Option JobId
 job_then (answer.Taken (Ok x)) was = Some x.job
-job_then (answer.Taken (Err e)) was = was
 job_then (answer.Told (Ok how)) was = None
-job_then (answer.Told (Err e)) was = was
-job_then (answer.Released r) was = was
-job_then (answer.Idled r) was = was
-job_then (answer.Next a) was = was
+job_then _ was = was
 
 -- there is one legal history that begins with what was seen and ends with this entry, and it is seen now. The task's calls
 -- in it are those that were made before, and this one
@@ -124,8 +120,6 @@ IsOut t = (log : List Entry) → IsLegal (of_grant t).lists.opening log → Star
 
 -- puts no tick out, and ends none
 abbrev pub IsQuiet : Call → Type 0
-IsQuiet call.Release = Unit {0}
 IsQuiet call.Take = ⊥
 IsQuiet (call.Outcome done) = ⊥
-IsQuiet call.Idle = Unit {0}
-IsQuiet call.Look = Unit {0}
+IsQuiet _ = Unit {0}

@@ -1,5 +1,5 @@
 -- What stands on the board of an executive: after each tick that ended, how many have, and the mode.
-use Rattle.std.specs.Prelude.{◌≡◌, ℕ, List, [], ◌∷◌, ◌++◌, Bool, true, false, Option, Ok, Err, IfSome, cond}
+use Rattle.std.specs.Prelude.{◌≡◌, ℕ, List, [], ◌∷◌, ◌++◌, Bool, true, false, Option, Ok, IfSome, cond}
 use Rattle.mc_model.specs.Rows.{ticks}
 use Rattle.mc_model.specs.Mode.{high_mode}
 use Rattle.timetable.specs.Floor.{FloorState}
@@ -8,7 +8,7 @@ use Rattle.status_board.specs.declared.tokens.Writer.{Writer}
 use Rattle.status_board.specs.Logs.{start, last_of}
 use Rattle.status_board.specs.Tokens.{shown}
 use Rattle.executive.specs.declared.entry.Answer.{Answer}
-use Rattle.executive.specs.declared.entry.Answer.TheVariants.{Released, Taken, Told, Idled, Next}
+use Rattle.executive.specs.declared.entry.Answer.TheVariants.{Told, Idled}
 use Rattle.executive.specs.declared.entry.Entry.{Entry}
 use Rattle.executive.specs.Histories.{after_call}
 
@@ -19,12 +19,8 @@ shown_of f = record { ticks = ticks f.core.rows; high_mode = high_mode f.core.ru
 -- a tick ended: an outcome was answered, or an idle tick was taken
 abbrev pub ends_tick : Answer → Bool
 ends_tick (Told (Ok how)) = true
-ends_tick (Told (Err e)) = false
 ends_tick (Idled (Ok n)) = true
-ends_tick (Idled (Err e)) = false
-ends_tick (Released r) = false
-ends_tick (Taken r) = false
-ends_tick (Next a) = false
+ends_tick _ = false
 
 -- what a call that was answered so adds, where it leaves this floor
 abbrev pub shows_now : FloorState → Answer → List Shown

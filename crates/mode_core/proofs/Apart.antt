@@ -1,12 +1,12 @@
 -- The kept releases of a legal trace: two of one task have different counts and release times.
-use Rattle.std.proofs.Common.{◌≡◌, ℕ, ◌+◌, ◌<◌, ◌≤◌, Bool, true, false, List, [], ◌∷◌, cond, filter, ◌==◌, refl, sym, subst, arith, le_refl, eqb-true}
+use Rattle.std.proofs.Common.{◌≡◌, ℕ, ◌+◌, ◌<◌, ◌≤◌, Bool, true, false, List, [], ◌∷◌, cond, filter, refl, sym, subst, arith, le_refl, eq-eqb, ne_eqb, inl, inr}
 use Rattle.mc_model.proofs.Booleans.{eqb-refl}
-use Rattle.std.proofs.lemmas.Bool.Decides.{nat_tests}
+use Rattle.std.proofs.lemmas.Bool.{cases_Bool, cases_eq}
 use Rattle.mc_task.specs.declared.task.Rule.{Rule}
 use Rattle.mc_task.specs.declared.task.Task.{Task}
 use Rattle.mc_task.specs.declared.task.JobId.{JobId}
 use Rattle.mc_model.specs.declared.row.Row.{Row}
-use Rattle.mc_model.specs.declared.row.Row.TheVariants.{Release, Tick, Idle}
+use Rattle.mc_model.specs.declared.row.Row.TheVariants.{Release}
 use Rattle.std.specs.List.{AllByRecursion}
 use Rattle.mc_task.specs.TaskSet.{IsTask, task_at}
 use Rattle.mc_model.specs.TaskNumbers.{period_in}
@@ -37,13 +37,10 @@ record Past (set : List Task) (h : List Row) (y : KeptRelease) : Type 0 where
 
 -- a release leaves a bound by the next release
 time_grows : (set : List Task) (j : JobId) (kept : Bool) (g : List Row) (r k : ℕ) → next_release set g j.task.0 ≤ ticks g → r + period_in (task_at set k) ≤ next_release set g k → r + period_in (task_at set k) ≤ next_release set (Release j kept ∷ g) k
-time_grows set j kept g r k soon f = go (j.task.0 == k) refl
-  where
-    go : (b : Bool) → (j.task.0 == k) ≡ b → r + period_in (task_at set k) ≤ cond (j.task.0 == k) (ticks g + period_in (task_at set k)) (next_release set g k)
-    go true m =
-        let s : next_release set g k ≤ ticks g = subst (λ i. next_release set g i ≤ ticks g) (eqb-true _ _ m) soon in
-        rw m (omega (arith, s, f))
-    go false m = rw m f
+time_grows set j kept g r k soon f = elim (cases_eq j.task.0 k) [
+  | inl m ↦ rw (eq-eqb _ _ m) (omega (arith, f, subst (λ i. next_release set g i ≤ ticks g) m soon))
+  | inr d ↦ rw (ne_eqb _ _ d) f
+]
 
 -- and so what the rows say of a kept release
 past_release : (set : List Task) (rule : Rule) (j : JobId) (kept : Bool) (g : List Row) → next_release set g j.task.0 ≤ ticks g → (y : KeptRelease) → Past set g y → Past set (Release j kept ∷ g) y
@@ -53,36 +50,26 @@ past_release set rule j kept g soon y p = record {
   period = p.period;
 }
 
--- the count of a job that was just released
-one_count : (k n c : ℕ) → c ≡ n + 1 → c ≤ cond (k == k) 1 0 + n
-one_count k n c h = grind (arith, nat_tests)
-
 -- what the rows say of each kept release
 past : (set : List Task) (rule : Rule) (h : List Row) → AllByRecursion IsTask set → Legal set rule h → Each (Past set h) (released h)
 past set rule [] s l = tt
 past set rule (Release j true ∷ g) s l =
     let fits = release_fits set rule j true g l.1 in (
       record {
-        count = one_count j.task.0 (releases g j.task.0) j.count fits.count;
+        count = rw (eqb-refl j.task.0) (omega (arith, fits.count));
         time = rw (eqb-refl j.task.0) (le_refl _);
         period = (known set j.task.0 s l.0).period;
       },
       Each-map {P = Past set g} (past_release set rule j true g fits.soon) (released g) (past set rule g s l.2),
     )
 past set rule (Release j false ∷ g) s l = Each-map {P = Past set g} (past_release set rule j false g (release_fits set rule j false g l.1).soon) (released g) (past set rule g s l.2)
-past set rule (Tick j how ∷ g) s l = Each-map {P = Past set g} (λ y p. record { count = p.count; time = p.time; period = p.period }) (released g) (past set rule g s l.2)
-past set rule (Idle ∷ g) s l = Each-map {P = Past set g} (λ y p. record { count = p.count; time = p.time; period = p.period }) (released g) (past set rule g s l.2)
+past set rule (row ∷ g) s l = Each-map {P = Past set g} (λ y p. record { count = p.count; time = p.time; period = p.period }) (released g) (past set rule g s l.2)
 
 -- a kept release is newer than each before it of its task
 older : (set : List Task) (j : JobId) (g : List Row) → j.count ≡ releases g j.task.0 + 1 → next_release set g j.task.0 ≤ ticks g → (y : KeptRelease) → Past set g y → Older (record { job = j; release = ticks g }) y
 older set j g c soon y p = record {
-  count = λ e.
-      let d : y.job.count ≤ releases g j.task.0 = subst (λ i. y.job.count ≤ releases g i) (sym e) p.count in
-      omega (arith, c, d);
-  time = λ e.
-      let d : y.release + period_in (task_at set y.job.task.0) ≤ next_release set g j.task.0 = subst (λ i. y.release + period_in (task_at set y.job.task.0) ≤ next_release set g i) (sym e) p.time in
-      let t = p.period in
-      omega (arith, d, t, soon);
+  count = λ e. omega (arith, c, subst (λ i. y.job.count ≤ releases g i) (sym e) p.count);
+  time = λ e. omega (arith, p.period, soon, subst (λ i. y.release + period_in (task_at set y.job.task.0) ≤ next_release set g i) (sym e) p.time);
 }
 
 -- the kept releases of a legal trace are apart
@@ -91,9 +78,7 @@ released_apart set rule [] s l = tt
 released_apart set rule (Release j true ∷ g) s l =
     let fits = release_fits set rule j true g l.1 in
     (Each-map {P = Past set g} (older set j g fits.count fits.soon) (released g) (past set rule g s l.2), released_apart set rule g s l.2)
-released_apart set rule (Release j false ∷ g) s l = released_apart set rule g s l.2
-released_apart set rule (Tick j how ∷ g) s l = released_apart set rule g s l.2
-released_apart set rule (Idle ∷ g) s l = released_apart set rule g s l.2
+released_apart set rule (row ∷ g) s l = released_apart set rule g s l.2
 
 -- a filter keeps that
 Apart-filter : (p : KeptRelease → Bool) (xs : List KeptRelease) → Apart xs → Apart (filter p xs)
@@ -110,31 +95,14 @@ pending_apart set rule h s l = Apart-filter (is_live set h) (released h) (releas
 abbrev pub Only : KeptRelease → List KeptRelease → Type 0
 Only x xs = Each (λ i. same_job x.job i.job ≡ true → i ≡ x) xs
 
--- behind the newest of a task no other has its job
-only_tail : (x y : KeptRelease) (ys : List KeptRelease) → x ≡ y → Each (Older y) ys → Only x ys
-only_tail x y ys e o =
-    Each-map {P = Older y}
-    (λ i p m.
-    let q = same_job_is x.job i.job m in
-    let t : y.job.task.0 ≡ i.job.task.0 = subst (λ (z : KeptRelease). z.job.task.0 ≡ i.job.task.0) e q.0 in
-    let c : y.job.count ≡ i.job.count = subst (λ (z : KeptRelease). z.job.count ≡ i.job.count) e q.1 in
-    let d = p.count t in
-    absurd (omega (arith, c, d)))
-    ys o
-
 -- one of a list that is apart is the only one with its job
 pub only : (x : KeptRelease) (xs : List KeptRelease) → Apart xs → is_in xs x ≡ true → Only x xs
 only x [] a e = tt
-only x (y ∷ ys) a e = go (λ r. only x ys a.1 r) (same_live x y) refl
-  where
-    go : (is_in ys x ≡ true → Only x ys) → (b : Bool) → same_live x y ≡ b → Only x (y ∷ ys)
-    go ih true m = let q = live_eq x y m in (λ k. sym q, only_tail x y ys q a.0)
-    go ih false m =
-        let r : is_in ys x ≡ true = rw m at e in
-        let o : Older y x = each_in (Older y) x ys r a.0 in (
-          λ k.
-              let q = same_job_is x.job y.job k in
-              let d = o.count (sym q.0) in
-              absurd (omega (arith, d, q.1)),
-          ih r,
-        )
+only x (y ∷ ys) a e = elim (cases_Bool (same_live x y)) [
+  | inl m ↦
+      let behind : Only y ys = Each-map {P = Older y} (λ i p k. let q = same_job_is y.job i.job k in absurd (omega (arith, p.count q.0, q.1))) ys a.0 in
+      subst (λ (z : KeptRelease). Only z (y ∷ ys)) (sym (live_eq x y m)) (λ k. refl, behind)
+  | inr m ↦
+      let o : Older y x = each_in (Older y) x ys (rw m at e) a.0 in
+      (λ k. let q = same_job_is x.job y.job k in absurd (omega (arith, o.count (sym q.0), q.1)), only x ys a.1 (rw m at e))
+]

@@ -14,5 +14,5 @@ pub use Rattle.mode_core.proofs.Releasing.{jobs-few}
 -- a good state by its parts, and when nothing is held
 pub use Rattle.mode_core.proofs.Keep.{state, no_held}
 -- when an event is not refused
-pub use Rattle.mode_core.proofs.Keep.{neither, not_if, no_map}
+pub use Rattle.mode_core.proofs.Options.{neither, not_if, no_map}
 pub use Rattle.mode_core.proofs.Sound.{MayGrant, may_grant}

@@ -1,5 +1,5 @@
 -- What is told of the slots after a change.
-use Rattle.std.proofs.Common.{◌≡◌, ℕ, ◌+◌, ◌-◌, ◌<◌, ◌≤◌, Bool, true, false, nat_lt, cond, List, Option, Some, None, option_map, length, get_or, refl, sym, ap, ap₂, subst, ⊎_elim, ◌∙◌, arith}
+use Rattle.std.proofs.Common.{◌≡◌, ℕ, ◌+◌, ◌-◌, ◌<◌, ◌≤◌, true, false, nat_lt, cond, List, Option, Some, None, option_map, length, get_or, refl, sym, ap, ap₂, subst, ◌∙◌, arith, le-ltb, lt-ltb, inl, inr}
 use Rattle.std.specs.Prelude.{slice_set}
 use Rattle.std.proofs.lemmas.Bool.{cases_eq, cases_lt}
 use Rattle.std.proofs.lemmas.Bool.Decides.{nat_tests}
@@ -8,10 +8,9 @@ use Rattle.mc_task.specs.declared.task.Task.{Task}
 use Rattle.mc_task.specs.declared.task.JobId.{JobId}
 use Rattle.mc_task.specs.TaskSet.{IsIn, task_at}
 use Rattle.mc_model.specs.TaskNumbers.{is_high_in}
-use Rattle.mode_core.specs.declared.pending.Pending.{Pending}
 use Rattle.mode_core.specs.declared.live.LiveJob.{LiveJob}
 use Rattle.mode_core.specs.Slots.{Slots, job_at, ticks_at, told, ChangesOnly, GoesHigh}
-use Rattle.mode_core.proofs.Queued.{job_at-this, job_at-other, line-this, line-other}
+use Rattle.mode_core.proofs.Options.{map-cond, same-cond}
 
 -- a job begins
 pub begun :
@@ -22,10 +21,13 @@ begun s j r inside rooms lines = record {
   same_rule = refl;
   same_mode = refl;
   this_task =
-      let last = inside.1 in
-      ap₂ (λ (o : Option LiveJob) (n : ℕ). option_map (told j.task.0 n) o) (job_at-this s.jobs j.task.0 (Some (record { count = j.count; release = r })) inside.0 (omega (arith, rooms, last))) (line-this s.ticks j.task.0 0 inside.0 (omega (arith, lines, last)));
+      let slot = get_or-set_same s.jobs (j.task.0 - 1) (Some (record { count = j.count; release = r })) None (omega (arith, rooms, inside.0, inside.1)) in
+      let line = get_or-set_same s.ticks (j.task.0 - 1) 0 0 (omega (arith, lines, inside.0, inside.1)) in
+      ap₂ (λ (o : Option LiveJob) (n : ℕ). option_map (told j.task.0 n) o) slot line;
   other_tasks = λ i there other.
-      ap₂ (λ (o : Option LiveJob) (n : ℕ). option_map (told i n) o) (job_at-other s.jobs j.task.0 i (Some (record { count = j.count; release = r })) inside.0 there.0 other) (line-other s.ticks j.task.0 i 0 inside.0 there.0 other);
+      let slot = get_or-set_other s.jobs (j.task.0 - 1) (i - 1) (Some (record { count = j.count; release = r })) None (omega (arith, inside.0, there.0, other)) in
+      let line = get_or-set_other s.ticks (j.task.0 - 1) (i - 1) 0 0 (omega (arith, inside.0, there.0, other)) in
+      ap₂ (λ (o : Option LiveJob) (n : ℕ). option_map (told i n) o) slot line;
 }
 
 -- a job ends
@@ -34,8 +36,8 @@ ended s k inside rooms = record {
   same_set = refl;
   same_rule = refl;
   same_mode = refl;
-  this_task = let last = inside.1 in ap (option_map (told k (ticks_at s k))) (job_at-this s.jobs k None inside.0 (omega (arith, rooms, last)));
-  other_tasks = λ i there other. ap (option_map (told i (ticks_at s i))) (job_at-other s.jobs k i None inside.0 there.0 other);
+  this_task = ap (option_map (told k (ticks_at s k))) (get_or-set_same s.jobs (k - 1) None None (omega (arith, rooms, inside.0, inside.1)));
+  other_tasks = λ i there other. ap (option_map (told i (ticks_at s i))) (get_or-set_other s.jobs (k - 1) (i - 1) None None (omega (arith, inside.0, there.0, other)));
 }
 
 -- the mode becomes high
@@ -44,12 +46,8 @@ switched s after cleared = record {
   same_set = refl;
   same_rule = refl;
   mode = refl;
-  each_task = λ i there. ap (option_map (told i (ticks_at s i))) (cleared i there.0) ∙ into (told i (ticks_at s i)) (is_high_in (task_at s.set i)) (job_at s.jobs i);
+  each_task = λ i there. ap (option_map (told i (ticks_at s i))) (cleared i there.0) ∙ map-cond (told i (ticks_at s i)) (is_high_in (task_at s.set i)) (job_at s.jobs i);
 }
-  where
-    into : (f : LiveJob → Pending) (b : Bool) (o : Option LiveJob) → option_map f (cond b o None) ≡ cond b (option_map f o) None
-    into f true o = refl
-    into f false o = refl
 
 -- the slots of low tasks, cleared one by one
 
@@ -65,41 +63,23 @@ cleared_start ts jobs i = let none : nat_lt i 0 ≡ false = grind (arith, nat_te
 pub cleared_more :
     (ts : List Task) (jobs now : List (Option LiveJob)) (n : ℕ) (o : Option LiveJob) → n < length now → ((i : ℕ) → get_or now i None ≡ cleared ts jobs n i) →
     o ≡ cond (is_high_in (task_at ts (n + 1))) (get_or now n None) None → (i : ℕ) → get_or (slice_set now n o) i None ≡ cleared ts jobs (n + 1) i
-cleared_more ts jobs now n o within before e i = ⊎_elim here there (cases_eq i n)
-  where
-    here : i ≡ n → get_or (slice_set now n o) i None ≡ cleared ts jobs (n + 1) i
-    here d =
-        let above : nat_lt n (n + 1) ≡ true = grind (arith, nat_tests) in
-        let self : nat_lt n n ≡ false = grind (arith, nat_tests) in
-        let old : get_or now n None ≡ get_or jobs n None = before n ∙ rw self refl in
-        subst (λ (m : ℕ). get_or (slice_set now n o) m None ≡ cleared ts jobs (n + 1) m) (sym d)
-        (rw above (get_or-set_same now n o None within ∙ (e ∙ ap (λ (x : Option LiveJob). cond (is_high_in (task_at ts (n + 1))) x None) old)))
-
-    there : (i ≡ n → ⊥) → get_or (slice_set now n o) i None ≡ cleared ts jobs (n + 1) i
-    there d =
-        let same : nat_lt i (n + 1) ≡ nat_lt i n = grind (arith, nat_tests) in
-        rw same (get_or-set_other now n i o None d ∙ before i)
+cleared_more ts jobs now n o within before e i = elim (cases_eq i n) [
+  | inl d ↦
+      let old : get_or now n None ≡ get_or jobs n None = rw (le-ltb n n (omega arith)) at (before n) in
+      subst (λ (m : ℕ). get_or (slice_set now n o) m None ≡ cleared ts jobs (n + 1) m) (sym d)
+      (rw (lt-ltb n (n + 1) (omega arith)) (get_or-set_same now n o None within ∙ (e ∙ ap (λ (x : Option LiveJob). cond (is_high_in (task_at ts (n + 1))) x None) old)))
+  | inr d ↦
+      let same : nat_lt i (n + 1) ≡ nat_lt i n = grind (arith, nat_tests) in
+      rw same (get_or-set_other now n i o None d ∙ before i)
+]
 
 -- all
 pub cleared_all :
     (ts : List Task) (jobs now : List (Option LiveJob)) → length now ≡ length jobs → ((i : ℕ) → get_or now i None ≡ cleared ts jobs (length jobs) i) →
     (k : ℕ) → 1 ≤ k → job_at now k ≡ cond (is_high_in (task_at ts k)) (job_at jobs k) None
-cleared_all ts jobs now len at k first = ⊎_elim within past (cases_lt (k - 1) (length jobs))
-  where
-    within : k - 1 < length jobs → job_at now k ≡ cond (is_high_in (task_at ts k)) (job_at jobs k) None
-    within h =
-        let below : nat_lt (k - 1) (length jobs) ≡ true = grind (arith, nat_tests) in
-        let number : (k - 1) + 1 ≡ k = omega arith in
-        subst (λ (n : ℕ). job_at now k ≡ cond (is_high_in (task_at ts n)) (job_at jobs k) None) number (rw below at (at (k - 1)))
-
-    past : length jobs ≤ k - 1 → job_at now k ≡ cond (is_high_in (task_at ts k)) (job_at jobs k) None
-    past h =
-        let none : job_at jobs k ≡ None = get_or_past jobs (k - 1) None h in
-        get_or_past now (k - 1) None (omega (arith, len, h)) ∙ (nothing (is_high_in (task_at ts k)) ∙ ap (λ (x : Option LiveJob). cond (is_high_in (task_at ts k)) x None) (sym none))
-      where
-        no_job : Option LiveJob
-        no_job = None
-
-        nothing : (b : Bool) → no_job ≡ cond b no_job no_job
-        nothing true = refl
-        nothing false = refl
+cleared_all ts jobs now len at k first = elim (cases_lt (k - 1) (length jobs)) [
+  | inl h ↦
+      let number : (k - 1) + 1 ≡ k = omega arith in
+      subst (λ (n : ℕ). job_at now k ≡ cond (is_high_in (task_at ts n)) (job_at jobs k) None) number (rw (lt-ltb (k - 1) (length jobs) h) at (at (k - 1)))
+  | inr h ↦ rw (get_or_past now (k - 1) None (omega arith), get_or_past jobs (k - 1) None h) (sym (same-cond (is_high_in (task_at ts k)) None))
+]

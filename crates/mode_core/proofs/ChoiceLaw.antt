@@ -1,5 +1,6 @@
 -- The job that runs first is the choice.
-use Rattle.std.proofs.Common.{◌≡◌, ℕ, ◌≤◌, Bool, true, false, List, [], ◌∷◌, Option, Some, None, Contains, refl, sym, subst, arith}
+use Rattle.std.proofs.Common.{◌≡◌, Bool, true, false, List, [], ◌∷◌, Option, Some, None, Contains, refl, sym, subst, arith, inl, inr}
+use Rattle.std.proofs.lemmas.Bool.{cases_Bool}
 use Rattle.std.proofs.lemmas.Bool.Decides.{nat_tests}
 use Rattle.std.proofs.lemmas.List.Elements.{All-from_recursion, Contains-append_right}
 use Rattle.mc_task.specs.declared.task.Rule.{Rule}
@@ -8,36 +9,23 @@ use Rattle.mc_task.specs.declared.task.JobId.{JobId}
 use Rattle.mc_model.specs.declared.row.Row.{Row}
 use Rattle.mc_model.specs.Mode.{high_mode}
 use Rattle.mc_model.specs.Pending.{KeptRelease, pending}
-use Rattle.mc_model.specs.Key.{key}
 use Rattle.mc_model.specs.Core.{runs_before, chosen}
 use Rattle.mc_model.proofs.Lists.{Each-map}
 use Rattle.mc_model.proofs.Jobs.{same_live, is_in, live_eq}
 use Rattle.mode_core.specs.Choice.{MayWait, IsChoice}
-use Rattle.mode_core.proofs.Chosen.{is_first, Choice, choice, before, none_pending}
-
--- what does not come before has no lesser key
-no_less : (a s b t : ℕ) → before b t a s ≡ false → a ≤ b
-no_less a s b t h = grind (arith, nat_tests)
-
--- and no lower number where the keys are equal
-no_lower : (a s b t : ℕ) → before b t a s ≡ false → a ≡ b → s ≤ t
-no_lower a s b t h e = grind (arith, nat_tests)
+use Rattle.mode_core.proofs.Chosen.{is_first, Choice, choice, none_pending}
 
 -- a job that does not run before x may wait for it
 may_wait : (set : List Task) (rule : Rule) (high : Bool) (x y : KeptRelease) → runs_before set rule high y x ≡ false → MayWait set rule high x y
-may_wait set rule high x y r = record {
-  order = no_less (key set rule high x) x.job.task.0 (key set rule high y) y.job.task.0 r;
-  tie = λ e. no_lower (key set rule high x) x.job.task.0 (key set rule high y) y.job.task.0 r e;
-}
+may_wait set rule high x y r = record { order = grind (arith, nat_tests); tie = λ e. grind (arith, nat_tests) }
 
 -- what the test finds is an element
 contained : (x : KeptRelease) (xs : List KeptRelease) → is_in xs x ≡ true → Contains xs x
 contained x [] e = cc
-contained x (y ∷ ys) e = go (contained x ys) (same_live x y) refl
-  where
-    go : (is_in ys x ≡ true → Contains ys x) → (b : Bool) → same_live x y ≡ b → Contains (y ∷ ys) x
-    go ih true m = subst (λ (z : KeptRelease). Contains (y ∷ ys) z) (sym (live_eq x y m)) (0, omega arith, refl)
-    go ih false m = Contains-append_right (y ∷ []) ys x (ih (rw m at e))
+contained x (y ∷ ys) e = elim (cases_Bool (same_live x y)) [
+  | inl m ↦ subst (λ (z : KeptRelease). Contains (y ∷ ys) z) (sym (live_eq x y m)) (0, omega arith, refl)
+  | inr m ↦ Contains-append_right (y ∷ []) ys x (contained x ys (rw m at e))
+]
 
 -- the chosen job is the choice
 pub choice_of : (set : List Task) (rule : Rule) (h : List Row) (o : Option JobId) → o ≡ chosen set rule h → IsChoice set rule h o

@@ -1,7 +1,6 @@
 -- The fields of a core after the events of a tick; those after a release are in Releasing.
 use Rattle.std.proofs.Common.{◌≡◌, ℕ, ◌≤◌, Bool, List, [], ◌∷◌, Option, option_map, Some, None, length, reverse, vec_capacity, refl, sym, ap, ◌∙◌, subst, arith}
 use Rattle.mc_task.specs.declared.task.JobId.{JobId}
-use Rattle.mc_model.specs.declared.row.How.{How}
 use Rattle.mc_model.specs.declared.row.Row.{Row}
 use Rattle.mc_model.specs.declared.row.Row.TheVariants.{Tick}
 use Rattle.mode_core.specs.declared.scheduler.Core.TheInside.{Inside}
@@ -11,6 +10,7 @@ use Rattle.mode_core.specs.Entries.{entry}
 use Rattle.mode_core.specs.declared.pending.Pending.{Pending}
 use Rattle.mode_core.specs.Events.{grant_refusal, chosen_now}
 use Rattle.mode_core.specs.Shape.{state_of, IsSound, IsCore}
+use Rattle.mode_core.proofs.Options.{no_map}
 use Rattle.mode_core.proofs.Sound.{giving, ended, sound_grant, sound_end, may_grant, IsTicking, notes_ended}
 use Rattle.mode_core.specs.Noted.{notes_of}
 use Rattle.mc_model.specs.Pending.{KeptRelease}
@@ -23,8 +23,7 @@ made_of w o js = record { set = w.set; rule = w.rule; places = w.places; rows = 
 
 -- the state of a core whose fields are these
 pub same_state : (b : Inside) (w : Written) (o : Option JobId) (js : List JobId) → b.book ≡ w → b.out ≡ o → reverse b.held.items ≡ js → state_of b ≡ made_of w o js
-same_state b w o js p q r =
-    ap (λ (x : Written). made_of x b.out (reverse b.held.items)) p ∙ (ap (λ (x : Option JobId). made_of w x (reverse b.held.items)) q ∙ ap (made_of w o) r)
+same_state b w o js p q r = rw (p, q, r) refl
 
 -- a core whose state is sound
 pub core_from : (b : Inside) (t : State) → state_of b ≡ t → IsSound t → b.arrivals ≡ arrived t.set (notes_of t) → length t.set ≤ vec_capacity b.held → IsCore b
@@ -38,21 +37,16 @@ core_from b t e sound notes room = record {
 pub core_give : (a b : Inside) (k : ℕ) → IsCore a → grant_refusal (state_of a) k ≡ None → b.book ≡ a.book → b.out ≡ chosen_now (state_of a) → b.held.items ≡ a.held.items → vec_capacity b.held ≡ vec_capacity a.held → b.arrivals ≡ a.arrivals → IsCore b
 core_give a b k core r eb eo eh ec en =
     let s : State = state_of a in
-    let t : State = giving s in
-    let e : state_of b ≡ t = same_state b a.book (chosen_now s) (reverse a.held.items) eb eo (ap reverse eh) in
-    core_from b t e (sound_grant s core.sound (may_grant s k core.sound r))
-    (en ∙ core.notes_are)
-    (let h = core.held_room in omega (arith, h, ec))
+    let e = same_state b a.book (chosen_now s) (reverse a.held.items) eb eo (ap reverse eh) in
+    core_from b (giving s) e (sound_grant s core.sound (may_grant s k core.sound r)) (en ∙ core.notes_are) (omega (arith, core.held_room, ec))
 
 -- a core in which a tick has its outcome
 pub core_end : (a b : Inside) (done : Bool) → IsCore a → b.book ≡ record a.book { rows = settle (state_of a) done } → b.out ≡ None → b.held.items ≡ [] → vec_capacity b.held ≡ vec_capacity a.held → b.arrivals ≡ a.arrivals → IsCore b
 core_end a b done core eb eo eh ec en =
     let s : State = state_of a in
-    let t : State = ended s done in
-    let e : state_of b ≡ t = same_state b (record a.book { rows = settle s done }) None [] eb eo (ap reverse eh) in
-    core_from b t e (sound_end s done core.sound)
-    (en ∙ (core.notes_are ∙ ap (arrived s.set) (sym (notes_ended s done core.sound))))
-    (let h = core.held_room in omega (arith, h, ec))
+    let e = same_state b (record a.book { rows = settle s done }) None [] eb eo (ap reverse eh) in
+    core_from b (ended s done) e (sound_end s done core.sound)
+    (en ∙ (core.notes_are ∙ ap (arrived s.set) (sym (notes_ended s done core.sound)))) (omega (arith, core.held_room, ec))
 
 -- the job of the entry that runs first
 pub first_job : (h : List Row) (o : Option KeptRelease) (x : Pending) → Some x ≡ option_map (entry h) o → Some x.job ≡ option_map (λ (i : KeptRelease). i.job) o
@@ -61,18 +55,12 @@ first_job h (Some i) x e = let d : x ≡ entry h i = cc in ap (λ (p : Pending).
 
 -- no job where no entry runs first
 pub no_job_first : (h : List Row) (o : Option KeptRelease) → None ≡ option_map (entry h) o → None ≡ option_map (λ (i : KeptRelease). i.job) o
-no_job_first h None e = refl
-no_job_first h (Some i) e = cc
+no_job_first h o e = rw (no_map (entry h) o (sym e)) refl
 
 -- the rows once the tick's row and the held releases are written
 pub end_book : (a : Inside) (j : JobId) (done : Bool) (w v : Written) (hs : List JobId) → IsTicking (state_of a) j → w ≡ record a.book { rows = Tick j (outcome_of a.book.set a.book.rule a.book.rows j done) ∷ a.book.rows } → hs ≡ a.held.items →
     v ≡ record w { rows = add_held w.set w.rule (reverse hs) w.rows } → v ≡ record a.book { rows = settle (state_of a) done }
-end_book a j done w v hs t ew es ev =
-    let how : How = outcome_of a.book.set a.book.rule a.book.rows j done in
-    let add : Written → List JobId → Written = λ (x : Written) (js : List JobId). record x { rows = add_held x.set x.rule (reverse js) x.rows } in
-    let e1 : add w hs ≡ add (record a.book { rows = Tick j how ∷ a.book.rows }) hs = ap (λ (x : Written). add x hs) ew in
-    let e2 : add (record a.book { rows = Tick j how ∷ a.book.rows }) hs ≡ add (record a.book { rows = Tick j how ∷ a.book.rows }) a.held.items = ap (add (record a.book { rows = Tick j how ∷ a.book.rows })) es in
-    ev ∙ (e1 ∙ (e2 ∙ ap (λ (rs : List Row). let x : Written = record a.book { rows = rs } in x) (sym (t.settle_is done))))
+end_book a j done w v hs t ew es ev = rw (ev, ew, es, t.settle_is done) refl
 
 -- and they are legal
 pub held_legal : (a : Inside) (j : JobId) (done : Bool) (w : Written) (hs : List JobId) → IsCore a → IsTicking (state_of a) j → w ≡ record a.book { rows = Tick j (outcome_of a.book.set a.book.rule a.book.rows j done) ∷ a.book.rows } → hs ≡ a.held.items → Legal w.set w.rule (add_held w.set w.rule (reverse hs) w.rows)

@@ -16,20 +16,17 @@ ticks-held set rule (j ∷ js) g = ticks-held set rule js g
 -- and one release each
 pub releases-held : (set : List Task) (rule : Rule) (js : List JobId) (g : List Row) (k : ℕ) → releases (add_held set rule js g) k ≡ releases g k + jobs_of k js
 releases-held set rule [] g k = omega arith
-releases-held set rule (j ∷ js) g k = let ih = releases-held set rule js g k in omega (arith, ih)
+releases-held set rule (j ∷ js) g k = omega (arith, releases-held set rule js g k)
 
 -- and one row each
 pub length-held : (set : List Task) (rule : Rule) (js : List JobId) (g : List Row) → length (add_held set rule js g) ≡ length g + length js
 length-held set rule [] g = omega arith
-length-held set rule (j ∷ js) g = let ih = length-held set rule js g in omega (arith, ih)
+length-held set rule (j ∷ js) g = omega (arith, length-held set rule js g)
 
 -- the next release counts from the boundary behind the tick
 next-held : (set : List Task) (rule : Rule) (js : List JobId) (g rows : List Row) (k : ℕ) → ticks g ≡ ticks rows + 1 → next_release set g k ≡ next_release set rows k → next_release set (add_held set rule js g) k ≡ next_after set rows js k
 next-held set rule [] g rows k t n = n
-next-held set rule (j ∷ js) g rows k t n =
-    let ih : next_release set (add_held set rule js g) k ≡ next_after set rows js k = next-held set rule js g rows k t n in
-    let e : ticks (add_held set rule js g) ≡ ticks rows + 1 = omega (arith, ticks-held set rule js g, t) in
-    rw (e, ih) refl
+next-held set rule (j ∷ js) g rows k t n = rw (next-held set rule js g rows k t n, ticks-held set rule js g, t) refl
 
 -- the words of these parts are those of the settled rows
 pub record IsSettled (set : List Task) (rule : Rule) (rows : List Row) (out : Option JobId) (held : List JobId) (done : Bool) : Type 0 where

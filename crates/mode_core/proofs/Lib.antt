@@ -1,5 +1,6 @@
 mod CallTable
 pub mod Apart
+pub mod Options
 pub mod ByTask
 pub mod Chosen
 pub mod Fits

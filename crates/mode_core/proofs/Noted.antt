@@ -6,7 +6,7 @@ use Rattle.mc_task.specs.declared.task.Task.{Task}
 use Rattle.mc_task.specs.declared.task.JobId.{JobId}
 use Rattle.mc_task.specs.TaskSet.{AreTasks, IsIn, task_at}
 use Rattle.mc_model.specs.declared.row.Row.{Row}
-use Rattle.mc_model.specs.declared.row.Row.TheVariants.{Release, Tick, Idle}
+use Rattle.mc_model.specs.declared.row.Row.TheVariants.{Release, Tick}
 use Rattle.mc_model.specs.TaskNumbers.{period_in}
 use Rattle.mc_model.specs.Rows.{ticks, releases, next_release}
 use Rattle.mc_model.specs.Core.{State, next_after, jobs_of, released_so_far, add_held, outcome_of, settled, IsOut}
@@ -33,13 +33,12 @@ notes_settled set rule rows (Some j) held done o = notes-held set rule held (Tic
 count-rows : (h : List Row) (k : ℕ) → count (notes_of_rows h) k ≡ releases h k
 count-rows [] k = refl
 count-rows (Release j kept ∷ g) k = ap (λ (n : ℕ). cond (j.task.0 == k) 1 0 + n) (count-rows g k)
-count-rows (Tick j how ∷ g) k = count-rows g k
-count-rows (Idle ∷ g) k = count-rows g k
+count-rows (row ∷ g) k = count-rows g k
 
 -- and so is each held one
 count-held : (at k : ℕ) (js : List JobId) (h : List Row) → count (map (note_at at) js ++ notes_of_rows h) k ≡ releases h k + jobs_of k js
 count-held at k [] h = omega (arith, count-rows h k)
-count-held at k (j ∷ js) h = let ih = count-held at k js h in omega (arith, ih)
+count-held at k (j ∷ js) h = omega (arith, count-held at k js h)
 
 -- a state's notes count the releases of each task
 pub count_noted : (s : State) (k : ℕ) → count (notes_of s) k ≡ released_so_far s k
@@ -49,8 +48,7 @@ count_noted s k = count-held (ticks s.rows + 1) k s.held s.rows
 next-rows : (set : List Task) (h : List Row) (k : ℕ) → Notes.next_after (period_in (task_at set k)) (notes_of_rows h) k ≡ next_release set h k
 next-rows set [] k = refl
 next-rows set (Release j kept ∷ g) k = ap (λ (n : ℕ). cond (j.task.0 == k) (ticks g + period_in (task_at set k)) n) (next-rows set g k)
-next-rows set (Tick j how ∷ g) k = next-rows set g k
-next-rows set (Idle ∷ g) k = next-rows set g k
+next-rows set (row ∷ g) k = next-rows set g k
 
 -- and by those of held ones behind them
 next-held : (set : List Task) (rows : List Row) (js : List JobId) (k : ℕ) → Notes.next_after (period_in (task_at set k)) (map (note_at (ticks rows + 1)) js ++ notes_of_rows rows) k ≡ next_after set rows js k

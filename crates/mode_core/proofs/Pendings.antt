@@ -32,10 +32,9 @@ pending-idle set rule g l = (bridge set rule (Idle ∷ g) l).same ∙ sym (bridg
 -- there are no more ticks than rows
 pub ticks-few : (h : List Row) → ticks h ≤ length h
 ticks-few [] = omega arith
-ticks-few (Release j kept ∷ g) = let ih = ticks-few g in omega (arith, ih)
-ticks-few (Tick j how ∷ g) = let ih = ticks-few g in omega (arith, ih)
-ticks-few (Idle ∷ g) = let ih = ticks-few g in omega (arith, ih)
+ticks-few (Tick j how ∷ g) = omega (arith, ticks-few g)
+ticks-few (row ∷ g) = omega (arith, ticks-few g)
 
 -- a job that was just released has no ticks
 pub unused : (set : List Task) (rule : Rule) (j : JobId) (kept : Bool) (h : List Row) → Legal set rule (Release j kept ∷ h) → used h j ≡ 0
-unused set rule j kept h l = (counted_so set rule h (bridge set rule h l.2).legal).fresh j (let c = (release_fits set rule j kept h l.1).count in omega (arith, c))
+unused set rule j kept h l = (counted_so set rule h (bridge set rule h l.2).legal).fresh j (omega (arith, (release_fits set rule j kept h l.1).count))

@@ -5,7 +5,7 @@ use Rattle.mc_task.specs.declared.task.JobId.{JobId}
 use Rattle.mc_task.specs.declared.task.TaskNo.{TaskNo}
 use Rattle.mc_task.specs.TaskSet.{IsIn}
 use Rattle.mc_model.specs.declared.row.Row.{Row}
-use Rattle.mc_model.specs.declared.row.Row.TheVariants.{Release, Tick, Idle}
+use Rattle.mc_model.specs.declared.row.Row.TheVariants.{Release}
 use Rattle.mc_model.specs.Rows.{ticks, releases}
 use Rattle.mc_model.specs.Legal.{Legal}
 use Rattle.mc_model.specs.Core.{State, begun, next_job, keeps, release_row, tick_out, released_so_far, jobs_of}
@@ -39,24 +39,24 @@ takes a s k core same inside none = record {
   none = subst (λ (t : State). release_refusal t k ≡ None) (sym same) none;
 }
 
+-- what is there
+some_of : (o : Option JobId) → IsSome o → (i : JobId) × (o ≡ Some i)
+some_of (Some i) h = (i, refl)
+some_of None h = cc
+
 -- with a tick out one more was begun than the rows tell
 pub begun_out : (s : State) → IsSome s.out → ticks s.rows + 1 ≡ begun s
-begun_out s h = go s.out h
-  where
-    go : (o : Option JobId) → IsSome o → ticks s.rows + 1 ≡ ticks s.rows + tick_out o
-    go None h = cc
-    go (Some j) h = refl
+begun_out s h = rw (some_of s.out h).1 refl
 
 -- and without one as many
 pub begun_in : (s : State) → s.out ≡ None → ticks s.rows ≡ begun s
-begun_in s e = let none : tick_out s.out ≡ 0 = ap tick_out e in omega (arith, none)
+begun_in s e = omega (arith, ap tick_out e)
 
 -- there are no more releases than rows
 releases-few : (h : List Row) (k : ℕ) → releases h k ≤ length h
 releases-few [] k = omega arith
 releases-few (Release j kept ∷ g) k = let ih : releases g k ≤ length g = releases-few g k in elim (j.task.0 == k) as (λ b. cond b 1 0 + releases g k ≤ length (Release j kept ∷ g)) [ true ↦ omega (arith, ih) | false ↦ omega (arith, ih) ]
-releases-few (Tick j how ∷ g) k = let ih : releases g k ≤ length g = releases-few g k in omega (arith, ih)
-releases-few (Idle ∷ g) k = let ih : releases g k ≤ length g = releases-few g k in omega (arith, ih)
+releases-few (row ∷ g) k = omega (arith, releases-few g k)
 
 -- nor more jobs of one task than jobs
 pub jobs-few : (k : ℕ) (js : List JobId) → jobs_of k js ≤ length js
@@ -65,10 +65,7 @@ jobs-few k (j ∷ js) = let ih : jobs_of k js ≤ length js = jobs-few k js in e
 
 -- the count of the next job is in range
 count_small : (s : State) (k : ℕ) → IsSound s → release_refusal s k ≡ None → released_so_far s k + 1 < 2 ^ 32
-count_small s k sound e =
-    let m = (may_release s k sound e).room in
-    let r = sound.range in
-    omega (arith, m, r, releases-few s.rows k, jobs-few k s.held)
+count_small s k sound e = omega (arith, (may_release s k sound e).room, sound.range, releases-few s.rows k, jobs-few k s.held)
 
 -- the release may be noted
 pub may_note : (a : Inside) (k at : ℕ) → Takes a k → at ≡ begun (state_of a) → MayNote a.arrivals k at
@@ -77,9 +74,9 @@ may_note a k at take e =
     let may = may_release s k take.core.sound take.none in
     subst (λ (slots : List Slot). MayNote slots k at) (sym take.core.notes_are) (record {
       task = HasTask-arrived s.set (notes_of s) k take.inside;
-      few = let few = count_small s k take.core.sound take.none in omega (arith, few, count_of-arrived s.set (notes_of s) k take.inside, count_noted s k);
-      time = let room = may.room in let range = take.core.sound.range in omega (arith, e, room, range, ticks-few s.rows);
-      allowed = let soon = may.soon in omega (arith, e, soon, next_of-arrived s.set (notes_of s) k take.inside.0, next_noted s k take.core.sound.tasks take.inside);
+      few = omega (arith, count_small s k take.core.sound take.none, count_of-arrived s.set (notes_of s) k take.inside, count_noted s k);
+      time = omega (arith, e, may.room, take.core.sound.range, ticks-few s.rows);
+      allowed = omega (arith, e, may.soon, next_of-arrived s.set (notes_of s) k take.inside.0, next_noted s k take.core.sound.tasks take.inside);
     })
 
 -- its job is the next one
@@ -96,19 +93,12 @@ notes_after a slots k at now core noted e =
 
 -- A release that is held
 
--- what is there
-some_of : (o : Option JobId) → IsSome o → (i : JobId) × (o ≡ Some i)
-some_of (Some i) h = (i, refl)
-some_of None h = cc
-
 -- there is room for it
 pub hold_room : (a : Inside) (k : ℕ) → Takes a k → IsSome a.out → length a.held.items < vec_capacity a.held
 hold_room a k take out =
     let i = some_of a.out out in
     let sound = sound_hold (state_of a) k i.0 take.core.sound i.1 take.inside take.none in
-    let few = held_few (holding (state_of a) (next_job (state_of a) k)) sound.tasks sound.good in
-    let room = take.core.held_room in
-    omega (arith, few, room, length-reverse a.held.items)
+    omega (arith, held_few (holding (state_of a) (next_job (state_of a) k)) sound.tasks sound.good, take.core.held_room, length-reverse a.held.items)
 
 -- the state after it
 pub hold_state : (a b : Inside) (k : ℕ) (j : JobId) → j ≡ next_job (state_of a) k → b.book ≡ a.book → b.out ≡ a.out → b.held.items ≡ a.held.items ++ j ∷ [] → state_of b ≡ holding (state_of a) (next_job (state_of a) k)
@@ -121,7 +111,7 @@ core_hold a b k j take out ej eb eo eh ec en =
     let s : State = state_of a in
     let i = some_of a.out out in
     core_from b (holding s (next_job s k)) (hold_state a b k j ej eb eo eh) (sound_hold s k i.0 take.core.sound i.1 take.inside take.none) en
-    (let h = take.core.held_room in omega (arith, h, ec))
+    (omega (arith, take.core.held_room, ec))
 
 -- A release that is written
 
@@ -153,11 +143,7 @@ write_state a b k row er eb eo eh =
 
 -- a release that is written is noted at its row
 notes_written : (s : State) (j : JobId) → s.held ≡ [] → notes_of (writing s j) ≡ note_at (ticks s.rows) j ∷ notes_of s
-notes_written s j h = at s.held h
-  where
-    at : (js : List JobId) → js ≡ [] → notes_of (writing (record s { held = js }) j) ≡ note_at (ticks s.rows) j ∷ notes_of (record s { held = js })
-    at [] e = refl
-    at (i ∷ is) e = cc
+notes_written s j h = rw h refl
 
 -- the core after it
 pub core_write : (a b : Inside) (k : ℕ) (row : Row) → Takes a k → a.out ≡ None → row ≡ row_of (state_of a) k → b.book ≡ record a.book { rows = row ∷ a.book.rows } → b.out ≡ a.out → b.held.items ≡ a.held.items →
@@ -166,4 +152,4 @@ core_write a b k row take out er eb eo eh ec en =
     let s : State = state_of a in
     core_from b (writing s (next_job s k)) (write_state a b k row er eb eo eh) (sound_write s k take.core.sound out take.inside take.none)
     (en ∙ ap (arrived s.set) (sym (notes_written s (next_job s k) (no_held s take.core.sound.good out))))
-    (let h = take.core.held_room in omega (arith, h, ec))
+    (omega (arith, take.core.held_room, ec))

@@ -1,17 +1,18 @@
-use Rattle.std.proofs.Common.{◌≡◌, ◌≢◌, ℕ, ◌+◌, ◌<◌, ◌≤◌, Bool, true, false, not, List, [], ◌∷◌, Option, Some, None, refl, sym, ap, ◌∙◌, subst, arith, ltb-false}
 -- Each event leaves a sound state, and what is noted of releases after it.
+use Rattle.std.proofs.Common.{◌≡◌, ℕ, ◌+◌, ◌<◌, ◌≤◌, Bool, true, false, not, List, [], ◌∷◌, Option, Some, None, length, refl, ap, ◌∙◌, subst, arith, ltb-false}
+use Rattle.std.proofs.lemmas.Bool.{not-false}
 use Rattle.mc_task.specs.declared.task.JobId.{JobId}
+use Rattle.mc_model.specs.declared.row.Row.{Row}
 use Rattle.mc_model.specs.declared.row.Row.TheVariants.{Tick}
 use Rattle.mode_core.specs.Events.{is_full, release_refusal, grant_refusal, outcome_refusal, is_of_task, is_out, chosen_now}
 use Rattle.mode_core.specs.Shape.{IsSound}
 use Rattle.mode_core.specs.Noted.{notes_of}
 use Rattle.mode_core.proofs.Fits.{Chooses, chooses, tick_legal}
 use Rattle.mode_core.proofs.Held.{IsSettled, settled_words}
-use Rattle.mode_core.proofs.Keep.{good_release, good_grant, good_outcome, no_held, neither, not_if, no_map}
+use Rattle.mode_core.proofs.Keep.{good_release, good_grant, good_outcome}
+use Rattle.mode_core.proofs.Options.{neither, not_if, no_map}
 use Rattle.mc_task.specs.TaskSet.{IsIn}
-use Rattle.mc_model.specs.Holds.{Fits}
 use Rattle.mode_core.proofs.Noted.{notes_settled}
-use Rattle.mc_model.specs.Rows.{ticks}
 use Rattle.mc_model.specs.Legal.{Legal}
 use Rattle.mc_model.specs.Core.{State, Good, begun, next, next_job, places_used, tick_out, release_row, add_held, outcome_of, settle, settled, IsOut}
 use Rattle.mc_model.proofs.Booleans.{eqb-false}
@@ -19,7 +20,7 @@ use Rattle.mc_model.proofs.Jobs.{job_eq}
 
 -- a place is left where not each is used
 pub room_left : (s : State) → IsSound s → is_full s ≡ false → places_used s < s.places
-room_left s k f = let n : places_used s ≢ s.places = eqb-false _ _ f in let r = k.room in omega (arith, n, r)
+room_left s k f = omega (arith, eqb-false _ _ f, k.room)
 
 -- what no refusal of a release says
 pub record MayRelease (s : State) (k : ℕ) : Type 0 where
@@ -32,23 +33,20 @@ may_release s k sound e =
     let p = neither _ _ (neither _ _ e).1 in
     record { soon = ltb-false _ _ (not_if _ _ p.0); room = room_left s sound (not_if _ _ p.1) }
 
+-- a sound state with other rows, another tick out or other releases held
+sound_with : (s : State) (rows : List Row) (out : Option JobId) (held : List JobId) → IsSound s → Good (record s { rows = rows; out = out; held = held }) →
+    length rows + length held + tick_out out ≤ s.places → IsSound (record s { rows = rows; out = out; held = held })
+sound_with s rows out held sound good room = record { tasks = sound.tasks; fits = sound.fits; holds = sound.holds; good = good; range = sound.range; room = room }
+
 -- a release that is held
 abbrev pub holding : State → JobId → State
 holding s j = record s { held = j ∷ s.held }
 
 -- it leaves a sound state
 pub sound_hold : (s : State) (k : ℕ) (i : JobId) → IsSound s → s.out ≡ Some i → IsIn s.set k → release_refusal s k ≡ None → IsSound (holding s (next_job s k))
-sound_hold s k i sound o inside e = record {
-  tasks = sound.tasks;
-  fits = sound.fits;
-  holds = sound.holds;
-  good = subst (λ (x : Option JobId). Good (holding (record s { out = x }) (next_job s k))) (sym o) made;
-  range = sound.range;
-  room = let r = (may_release s k sound e).room in omega (arith, r);
-}
-  where
-    made : Good (holding (record s { out = Some i }) (next_job s k))
-    made = good_release s.set s.rule s.places s.rows (Some i) s.held k (subst (λ (x : Option JobId). Good (record s { out = x })) o sound.good) inside (subst (λ (x : Option JobId). next s k ≤ ticks s.rows + tick_out x) o (may_release s k sound e).soon)
+sound_hold s k i sound o inside e =
+    let may = may_release s k sound e in
+    sound_with s s.rows s.out (next_job s k ∷ s.held) sound (good_release s (Some i) k o sound.good inside may.soon) (omega (arith, may.room))
 
 -- a release that is written
 abbrev pub writing : State → JobId → State
@@ -56,17 +54,10 @@ writing s j = record s { rows = release_row s.set s.rule j s.rows ∷ s.rows }
 
 -- it leaves a sound state
 pub sound_write : (s : State) (k : ℕ) → IsSound s → s.out ≡ None → IsIn s.set k → release_refusal s k ≡ None → IsSound (writing s (next_job s k))
-sound_write s k sound o inside e = record {
-  tasks = sound.tasks;
-  fits = sound.fits;
-  holds = sound.holds;
-  good = subst (λ (x : Option JobId). Good (writing (record s { out = x }) (next_job s k))) (sym o) made;
-  range = sound.range;
-  room = let r = (may_release s k sound e).room in omega (arith, r);
-}
-  where
-    made : Good (writing (record s { out = None }) (next_job s k))
-    made = good_release s.set s.rule s.places s.rows None s.held k (subst (λ (x : Option JobId). Good (record s { out = x })) o sound.good) inside (subst (λ (x : Option JobId). next s k ≤ ticks s.rows + tick_out x) o (may_release s k sound e).soon)
+sound_write s k sound o inside e =
+    let may = may_release s k sound e in
+    let row = release_row s.set s.rule (next_job s k) s.rows in
+    sound_with s (row ∷ s.rows) s.out s.held sound (good_release s None k o sound.good inside may.soon) (omega (arith, may.room))
 
 -- a tick that is put out
 abbrev pub giving : State → State
@@ -92,20 +83,9 @@ may_grant s k sound e =
 
 -- it leaves a sound state
 pub sound_grant : (s : State) → IsSound s → MayGrant s → IsSound (giving s)
-sound_grant s sound may = subst (λ (x : Option JobId). IsSound (record s { out = x })) (sym may.chosen) (record {
-  tasks = sound.tasks;
-  fits = sound.fits;
-  holds = sound.holds;
-  good = subst (λ (js : List JobId). Good (record s { out = Some may.job; held = js })) (sym none) made;
-  range = sound.range;
-  room = let r = may.room in let f : tick_out s.out ≡ 0 = ap tick_out may.out in omega (arith, r, f);
-})
-  where
-    none : s.held ≡ []
-    none = no_held s sound.good may.out
-
-    made : Good (record s { out = Some may.job; held = [] })
-    made = good_grant s.set s.rule s.places s.rows may.job sound.tasks.each (subst (λ (js : List JobId). Good (record s { out = None; held = js })) none (subst (λ (x : Option JobId). Good (record s { out = x })) may.out sound.good)) may.chosen
+sound_grant s sound may =
+    let good = good_grant s may.job sound.tasks.each sound.good may.out may.chosen in
+    rw may.chosen (sound_with s s.rows (Some may.job) s.held sound good (omega (arith, may.room, ap tick_out may.out)))
 
 -- a tick that is out
 pub record IsTicking (s : State) (j : JobId) : Type 0 where
@@ -117,12 +97,8 @@ pub record IsTicking (s : State) (j : JobId) : Type 0 where
 
 -- so it is where no refusal of an outcome applies
 pub ticking : (s : State) (j : JobId) → IsSound s → outcome_refusal s j ≡ None → IsTicking s j
-ticking s j sound e = go (s.out) refl (yes _ (not_if _ _ e))
+ticking s j sound e = go (s.out) refl (not-false _ (not_if _ _ e))
   where
-    yes : (b : Bool) → not b ≡ false → b ≡ true
-    yes true h = refl
-    yes false h = cc
-
     go : (o : Option JobId) → s.out ≡ o → is_out o j ≡ true → IsTicking s j
     go None m f = cc
     go (Some i) m f =
@@ -144,14 +120,7 @@ ended s done = record s { rows = settle s done; out = None; held = [] }
 pub sound_end : (s : State) (done : Bool) → IsSound s → IsSound (ended s done)
 sound_end s done sound =
     let w : IsSettled s.set s.rule s.rows s.out s.held done = settled_words s.set s.rule s.rows s.out s.held done sound.good.out in
-    record {
-      tasks = sound.tasks;
-      fits = sound.fits;
-      holds = sound.holds;
-      good = good_outcome s done sound.good;
-      range = sound.range;
-      room = let r = sound.room in let p = w.places in omega (arith, r, p);
-    }
+    sound_with s (settle s done) None [] sound (good_outcome s done sound.good) (omega (arith, sound.room, w.places))
 
 -- and the notes are as they were
 pub notes_ended : (s : State) (done : Bool) → IsSound s → notes_of (ended s done) ≡ notes_of s

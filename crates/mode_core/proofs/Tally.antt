@@ -1,5 +1,7 @@
 -- What a book keeps agrees with its rows after each row.
-use Rattle.std.proofs.Common.{◌≡◌, ◌≢◌, ℕ, ◌+◌, ◌≤◌, Bool, true, false, not, ◌&&◌, ◌||◌, List, [], ◌∷◌, Option, Some, None, option_map, cond, ◌==◌, refl, sym, ap, ap₂, subst, ◌∙◌, arith, eqb-true}
+use Rattle.std.proofs.Common.{◌≡◌, ℕ, ◌+◌, ◌≤◌, Bool, true, false, not, ◌&&◌, ◌||◌, List, [], ◌∷◌, Option, Some, None, option_map, cond, ◌==◌, refl, sym, ap, ap₂, subst, ◌∙◌, arith, eq-eqb, ne_eqb, inl, inr}
+use Rattle.std.proofs.Math.Bool.{and-false}
+use Rattle.std.proofs.lemmas.Bool.{cases_eq}
 use Rattle.std.proofs.lemmas.Option.{same_Some}
 use Rattle.std.specs.List.{AllByRecursion}
 use Rattle.mc_task.specs.declared.task.Rule.{Rule}
@@ -17,22 +19,20 @@ use Rattle.mc_model.specs.Mode.{is_over}
 use Rattle.mc_model.specs.Pending.{KeptRelease, pending, is_end}
 use Rattle.mc_model.specs.Legal.{Legal, is_pending}
 use Rattle.mc_model.specs.Holds.{Holds}
-use Rattle.mc_model.proofs.Booleans.{eqb-false}
 use Rattle.mc_model.proofs.Fold.{stays}
 use Rattle.mc_model.proofs.Jobs.{is_in, each_in, same_job-refl}
-use Rattle.mc_model.proofs.Lists.{Each}
-use Rattle.mc_model.proofs.Live.{IsLiveOk, live_ok}
-use Rattle.mc_model.proofs.Bridge.{IsBridged, bridge, pending-tick}
+use Rattle.mc_model.proofs.Live.{IsLiveOk}
+use Rattle.mc_model.proofs.Bridge.{bridge, pending-tick}
 use Rattle.mc_model.proofs.Steps.{release_fits, TickFits, tick_fits, idle_fits, Hows, more, done, stop, over, hows}
 use Rattle.demand_law.proofs.Laws.{at_most_one, none_at_release}
 use Rattle.mode_core.specs.declared.pending.Pending.{Pending}
 use Rattle.mode_core.specs.Entries.{entry}
-use Rattle.mode_core.specs.declared.live.LiveJob.{LiveJob}
 use Rattle.mode_core.specs.Slots.{Slots, job_at, ticks_at, told, waiting, ChangesOnly, IsLeft, is_left, one_more}
 use Rattle.mode_core.specs.Kept.{job_of, IsTally}
+use Rattle.mode_core.proofs.Options.{mapped, map-cond, same-cond}
 use Rattle.mode_core.proofs.ByTask.{job_of-task, job_of-none, job_of-one, left, job_of-filter, IsThere, pending_there}
+use Rattle.mode_core.proofs.Fits.{each_ok}
 use Rattle.mode_core.proofs.Pendings.{pending-kept, pending-dropped, pending-idle, unused}
-use Rattle.std.proofs.lemmas.Bool.{and_right}
 
 -- after a release that is dropped
 pub tally_dropped : (set : List Task) (rule : Rule) (h : List Row) (t : ℕ) (m : Bool) (slots : ℕ → Option Pending) (j : JobId) → Legal set rule (Release j false ∷ h) → IsTally set rule h t m slots → IsTally set rule (Release j false ∷ h) t m slots
@@ -45,11 +45,7 @@ tally_dropped set rule h t m slots j l y = record {
 
 -- the ticks of a live job are those that are counted
 told_ticks : (s : Slots) (k : ℕ) (p : Pending) → waiting s k ≡ Some p → p.used ≡ ticks_at s k
-told_ticks s k p e = go (job_at s.jobs k) e
-  where
-    go : (o : Option LiveJob) → option_map (told k (ticks_at s k)) o ≡ Some p → p.used ≡ ticks_at s k
-    go None q = cc
-    go (Some x) q = let r : told k (ticks_at s k) x ≡ p = same_Some (told k (ticks_at s k) x) p q in sym (ap (λ (z : Pending). z.used) r)
+told_ticks s k p e = let m = mapped (told k (ticks_at s k)) (job_at s.jobs k) p e in ap (λ (z : Pending). z.used) (sym m.2)
 
 -- a release that is allowed finds its task's slot free
 pub slot_free : (set : List Task) (rule : Rule) (h : List Row) (t : ℕ) (m : Bool) (slots : ℕ → Option Pending) (j : JobId) (kept : Bool) → AllByRecursion IsTask set → Holds set rule → Legal set rule (Release j kept ∷ h) → IsTally set rule h t m slots → slots j.task.0 ≡ None
@@ -57,31 +53,28 @@ slot_free set rule h t m slots j kept s holds l y =
     let soon = (release_fits set rule j kept h l.1).soon in
     y.slots_are j.task.0 l.0 ∙ ap (option_map (entry h)) (job_of-none j.task.0 (pending set h) (none_at_release set rule h s holds l.2 j.task.0 soon))
 
--- after a release that is kept, where its job has its task's slot
-pub tally_kept :
-    (set : List Task) (rule : Rule) (h : List Row) (t : ℕ) (m : Bool) (old new : ℕ → Option Pending) (j : JobId) → Legal set rule (Release j true ∷ h) →
-    new j.task.0 ≡ Some (record { job = j; release = t; used = 0 }) → ((i : ℕ) → IsIn set i → i ≢ j.task.0 → new i ≡ old i) →
-    IsTally set rule h t m old → IsTally set rule (Release j true ∷ h) t m new
-tally_kept set rule h t m old new j l this others y = record {
+-- the slots after a release that is kept, where its job has its task's slot
+pub began :
+    (s new : Slots) (h : List Row) (t : ℕ) (j : JobId) → Legal s.set s.rule (Release j true ∷ h) → ChangesOnly s new j.task.0 (Some (record { job = j; release = t; used = 0 })) →
+    IsTally s.set s.rule h t s.high (waiting s) → IsTally s.set s.rule (Release j true ∷ h) t new.high (waiting new)
+began s new h t j l c y = record {
   legal = l;
   clock_is = y.clock_is;
-  mode_is = y.mode_is;
-  slots_are = λ k i. at k i (j.task.0 == k) refl ∙ ap (λ xs. option_map (entry h) (job_of k xs)) (sym (pending-kept set rule j h l));
+  mode_is = c.same_mode ∙ y.mode_is;
+  slots_are = λ k i. at k i ∙ ap (λ xs. option_map (entry h) (job_of k xs)) (sym (pending-kept s.set s.rule j h l));
 }
   where
     x : KeptRelease
     x = record { job = j; release = ticks h }
 
     same : record { job = j; release = t; used = 0 } ≡ entry h x
-    same = ap₂ {C = Pending} (λ (r u : ℕ). record { job = j; release = r; used = u }) y.clock_is (sym (unused set rule j true h l))
+    same = ap₂ {C = Pending} (λ (r u : ℕ). record { job = j; release = r; used = u }) y.clock_is (sym (unused s.set s.rule j true h l))
 
-    at : (k : ℕ) → IsIn set k → (b : Bool) → (j.task.0 == k) ≡ b → new k ≡ option_map (entry h) (cond (j.task.0 == k) (Some x) (job_of k (pending set h)))
-    at k i true e = rw e (subst (λ (n : ℕ). new n ≡ Some (entry h x)) (eqb-true _ _ e) (this ∙ ap (λ (p : Pending). Some p) same))
-    at k i false e = rw e (others k i (λ (d : k ≡ j.task.0). eqb-false j.task.0 k e (sym d)) ∙ y.slots_are k i)
-
--- what is so of each pending job
-pub each_ok : (set : List Task) (rule : Rule) (h : List Row) → AllByRecursion IsTask set → Legal set rule h → Each (IsLiveOk set rule h) (pending set h)
-each_ok set rule h s l = let b : IsBridged set rule h = bridge set rule h l in subst (Each (IsLiveOk set rule h)) (sym b.same) (live_ok set rule h s b.legal)
+    at : (k : ℕ) → IsIn s.set k → waiting new k ≡ option_map (entry h) (cond (j.task.0 == k) (Some x) (job_of k (pending s.set h)))
+    at k i = elim (cases_eq j.task.0 k) [
+      | inl e ↦ rw (eq-eqb _ _ e) (subst (λ (n : ℕ). waiting new n ≡ Some (entry h x)) e (c.this_task ∙ ap (λ (p : Pending). Some p) same))
+      | inr d ↦ rw (ne_eqb _ _ d) (c.other_tasks k i (λ q. d (sym q)) ∙ y.slots_are k i)
+    ]
 
 -- nothing is pending before an idle tick
 pub quiet : (set : List Task) (rule : Rule) (h : List Row) (t : ℕ) (m : Bool) (slots : ℕ → Option Pending) → Legal set rule (Idle ∷ h) → IsTally set rule h t m slots → (k : ℕ) → IsIn set k → slots k ≡ None
@@ -128,20 +121,19 @@ ticking_line s h t m j how tasks holds l y =
 
 -- a task's job is the one that ticks exactly where the task is its task
 is_it : (set : List Task) (h : List Row) (j : JobId) (k : ℕ) (x : KeptRelease) → Ticks set h j → job_of k (pending set h) ≡ Some x → same_job j x.job ≡ (j.task.0 == k)
-is_it set h j k x t e = go (j.task.0 == k) refl
-  where
-    go : (b : Bool) → (j.task.0 == k) ≡ b → same_job j x.job ≡ (j.task.0 == k)
-    go true m =
-        let a : Some t.live ≡ Some x = sym t.there ∙ (ap (λ n. job_of n (pending set h)) (eqb-true _ _ m) ∙ e) in
-        let b : x.job ≡ j = ap (λ (z : KeptRelease). z.job) (sym (same_Some t.live x a)) ∙ t.job in
-        subst (λ (i : JobId). same_job j i ≡ true) (sym b) (same_job-refl j) ∙ sym m
-    go false m = let n : (j.task.0 == x.job.task.0) ≡ false = subst (λ n. (j.task.0 == n) ≡ false) (sym (job_of-task k (pending set h) x e)) m in rw (n, m) refl
+is_it set h j k x t e = elim (cases_eq j.task.0 k) [
+  | inl m ↦ let a : t.live ≡ x = same_Some t.live x (sym t.there ∙ (ap (λ n. job_of n (pending set h)) m ∙ e)) in
+      rw (eq-eqb _ _ m) (subst (λ (i : JobId). same_job j i ≡ true) (cc (a, t.job)) (same_job-refl j))
+  | inr m ↦
+      let n : (j.task.0 == x.job.task.0) ≡ false = subst (λ n. (j.task.0 == n) ≡ false) (sym (job_of-task k (pending set h) x e)) (ne_eqb _ _ m) in
+      rw (n, ne_eqb _ _ m) refl
+]
 
 -- an overrun is one of EDF-VD
 virtual_over : (set : List Task) (rule : Rule) (h : List Row) (j : JobId) (how : How) → Hows set rule h j how → (is_virtual rule && is_over how) ≡ is_over how
-virtual_over set rule h j More (more a f) = and_right (is_virtual rule) false refl
-virtual_over set rule h j Done (done a) = and_right (is_virtual rule) false refl
-virtual_over set rule h j Stop (stop a) = and_right (is_virtual rule) false refl
+virtual_over set rule h j More (more a f) = and-false (is_virtual rule)
+virtual_over set rule h j Done (done a) = and-false (is_virtual rule)
+virtual_over set rule h j Stop (stop a) = and-false (is_virtual rule)
 virtual_over set rule h j Over (over v m y e a) = rw v refl
 
 -- what stays of a task's job is what is left of its slot
@@ -154,74 +146,47 @@ one_more_tick : (h : List Row) (j : JobId) (how : How) (x : KeptRelease) (b : Bo
 one_more_tick h j how x true m = rw m (ap (λ (u : ℕ). record { job = x.job; release = x.release; used = u }) (omega arith))
 one_more_tick h j how x false m = rw m (ap (λ (u : ℕ). record { job = x.job; release = x.release; used = u }) (omega arith))
 
--- after a tick, where its job's slot had one more and was then left or cleared
-pub tally_tick :
-    (set : List Task) (rule : Rule) (h : List Row) (t : ℕ) (m n : Bool) (old mid new : ℕ → Option Pending) (j : JobId) (how : How) →
-    AllByRecursion IsTask set → Holds set rule → Legal set rule (Tick j how ∷ h) →
-    mid j.task.0 ≡ option_map one_more (old j.task.0) → ((i : ℕ) → IsIn set i → i ≢ j.task.0 → mid i ≡ old i) →
-    ((i : ℕ) → IsIn set i → new i ≡ cond (is_left set j.task.0 how i) (mid i) None) → n ≡ (is_over how || m) →
-    IsTally set rule h t m old → IsTally set rule (Tick j how ∷ h) (t + 1) n new
-tally_tick set rule h t m n old mid new j how s holds l this others leaves mode y = record {
-  legal = l;
-  clock_is = ap (λ c. c + 1) y.clock_is;
-  mode_is = mode ∙ ap₂ (λ (a b : Bool). a || b) (sym (virtual_over set rule h j how (hows set rule h j how fits.how_so))) y.mode_is;
-  slots_are = λ k i. leaves k i ∙ (at k i (job_of k (pending set h)) refl ∙ ap (option_map (entry (Tick j how ∷ h))) (sym (found k)));
-}
-  where
-    fits : TickFits set rule j how h
-    fits = tick_fits set rule j how h (bridge set rule (Tick j how ∷ h) l).legal.1
-
-    it : Ticks set h j
-    it = ticking_job set rule h j how s holds l
-
-    found : (k : ℕ) → job_of k (pending set (Tick j how ∷ h)) ≡ left (stays set j how) (job_of k (pending set h))
-    found k = ap (job_of k) (pending-tick set rule j how h l) ∙ job_of-filter k (stays set j how) (pending set h) (at_most_one set rule h s holds l.2 k)
-
-    counted : (k : ℕ) → IsIn set k → (o : Option KeptRelease) → job_of k (pending set h) ≡ o → mid k ≡ option_map (entry (Tick j how ∷ h)) o
-    counted k i o e = go o e (j.task.0 == k) refl
-      where
-        go : (o : Option KeptRelease) → job_of k (pending set h) ≡ o → (b : Bool) → (j.task.0 == k) ≡ b → mid k ≡ option_map (entry (Tick j how ∷ h)) o
-        go None e true d = subst (λ (q : ℕ). mid q ≡ option_map one_more (old q)) (eqb-true _ _ d) this ∙ ap (option_map one_more) (y.slots_are k i ∙ ap (option_map (entry h)) e)
-        go None e false d = others k i (λ (q : k ≡ j.task.0). eqb-false j.task.0 k d (sym q)) ∙ (y.slots_are k i ∙ ap (option_map (entry h)) e)
-        go (Some x) e true d =
-            subst (λ (q : ℕ). mid q ≡ option_map one_more (old q)) (eqb-true _ _ d) this
-            ∙ (ap (option_map one_more) (y.slots_are k i ∙ ap (option_map (entry h)) e) ∙ ap (λ (p : Pending). Some p) (one_more_tick h j how x true (is_it set h j k x it e ∙ d)))
-        go (Some x) e false d =
-            others k i (λ (q : k ≡ j.task.0). eqb-false j.task.0 k d (sym q))
-            ∙ (y.slots_are k i ∙ (ap (option_map (entry h)) e ∙ ap (λ (p : Pending). Some p) (one_more_tick h j how x false (is_it set h j k x it e ∙ d))))
-
-    at : (k : ℕ) → IsIn set k → (o : Option KeptRelease) → job_of k (pending set h) ≡ o → cond (is_left set j.task.0 how k) (mid k) None ≡ option_map (entry (Tick j how ∷ h)) (left (stays set j how) o)
-    at k i None e = ap (λ (p : Option Pending). cond (is_left set j.task.0 how k) p None) (counted k i None e) ∙ nothing (is_left set j.task.0 how k)
-      where
-        no_job : Option Pending
-        no_job = None
-
-        nothing : (b : Bool) → cond b no_job no_job ≡ no_job
-        nothing true = refl
-        nothing false = refl
-    at k i (Some x) e =
-        ap₂ (λ (b : Bool) (p : Option Pending). cond b p None) (sym (stays_left set h j how k x it e)) (counted k i (Some x) e)
-        ∙ either (stays set j how x)
-      where
-        either : (b : Bool) → cond b (Some (entry (Tick j how ∷ h) x)) None ≡ option_map (entry (Tick j how ∷ h)) (cond b (Some x) None)
-        either true = refl
-        either false = refl
-
--- the slots after a release that is kept
-pub began :
-    (s new : Slots) (h : List Row) (t : ℕ) (j : JobId) → Legal s.set s.rule (Release j true ∷ h) → ChangesOnly s new j.task.0 (Some (record { job = j; release = t; used = 0 })) →
-    IsTally s.set s.rule h t s.high (waiting s) → IsTally s.set s.rule (Release j true ∷ h) t new.high (waiting new)
-began s new h t j l c y =
-    subst (λ (m : Bool). IsTally s.set s.rule (Release j true ∷ h) t m (waiting new)) (sym c.same_mode)
-    (tally_kept s.set s.rule h t s.high (waiting s) (waiting new) j l c.this_task c.other_tasks y)
-
--- the slots after a tick
+-- the slots after a tick, where its job's slot had one more and was then left or cleared
 pub ticked :
     (s mid new : Slots) (h : List Row) (t : ℕ) (j : JobId) (how : How) → AllByRecursion IsTask s.set → Holds s.set s.rule → Legal s.set s.rule (Tick j how ∷ h) →
     ChangesOnly s mid j.task.0 (option_map one_more (waiting s j.task.0)) → IsLeft mid new j.task.0 how →
     IsTally s.set s.rule h t s.high (waiting s) → IsTally s.set s.rule (Tick j how ∷ h) (t + 1) new.high (waiting new)
-ticked s mid new h t j how tasks holds l c leaves y =
-    tally_tick s.set s.rule h t s.high new.high (waiting s) (waiting mid) (waiting new) j how tasks holds l c.this_task c.other_tasks
-    (λ i inside. subst (λ (ts : List Task). IsIn ts i → waiting new i ≡ cond (is_left ts j.task.0 how i) (waiting mid i) None) c.same_set (leaves.each_task i) inside)
-    (leaves.mode ∙ ap (λ (b : Bool). is_over how || b) c.same_mode)
-    y
+ticked s mid new h t j how tasks holds l c leaves y = record {
+  legal = l;
+  clock_is = ap (λ n. n + 1) y.clock_is;
+  mode_is = leaves.mode ∙ ap₂ (λ (a b : Bool). a || b) (sym (virtual_over s.set s.rule h j how (hows s.set s.rule h j how fits.how_so))) (c.same_mode ∙ y.mode_is);
+  slots_are = λ k i. (rw c.same_set at (leaves.each_task k)) i ∙ (at k i (job_of k (pending s.set h)) refl ∙ ap (option_map (entry (Tick j how ∷ h))) (sym (found k)));
+}
+  where
+    fits : TickFits s.set s.rule j how h
+    fits = tick_fits s.set s.rule j how h (bridge s.set s.rule (Tick j how ∷ h) l).legal.1
+
+    it : Ticks s.set h j
+    it = ticking_job s.set s.rule h j how tasks holds l
+
+    found : (k : ℕ) → job_of k (pending s.set (Tick j how ∷ h)) ≡ left (stays s.set j how) (job_of k (pending s.set h))
+    found k = ap (job_of k) (pending-tick s.set s.rule j how h l) ∙ job_of-filter k (stays s.set j how) (pending s.set h) (at_most_one s.set s.rule h tasks holds l.2 k)
+
+    counted : (k : ℕ) → IsIn s.set k → (x : KeptRelease) → job_of k (pending s.set h) ≡ Some x → waiting mid k ≡ Some (entry (Tick j how ∷ h) x)
+    counted k i x e =
+        let before = y.slots_are k i ∙ ap (option_map (entry h)) e in
+        let it_is = is_it s.set h j k x it e in
+        elim (cases_eq j.task.0 k) [
+          | inl d ↦
+              subst (λ (q : ℕ). waiting mid q ≡ option_map one_more (waiting s q)) d c.this_task
+              ∙ (ap (option_map one_more) before ∙ ap (λ (p : Pending). Some p) (one_more_tick h j how x true (it_is ∙ eq-eqb _ _ d)))
+          | inr d ↦ c.other_tasks k i (λ q. d (sym q)) ∙ (before ∙ ap (λ (p : Pending). Some p) (one_more_tick h j how x false (it_is ∙ ne_eqb _ _ d)))
+        ]
+
+    free : (k : ℕ) → IsIn s.set k → job_of k (pending s.set h) ≡ None → waiting mid k ≡ None
+    free k i e =
+        let before = y.slots_are k i ∙ ap (option_map (entry h)) e in
+        elim (cases_eq j.task.0 k) [
+          | inl d ↦ subst (λ (q : ℕ). waiting mid q ≡ option_map one_more (waiting s q)) d c.this_task ∙ ap (option_map one_more) before
+          | inr d ↦ c.other_tasks k i (λ q. d (sym q)) ∙ before
+        ]
+
+    at : (k : ℕ) → IsIn s.set k → (o : Option KeptRelease) → job_of k (pending s.set h) ≡ o →
+        cond (is_left s.set j.task.0 how k) (waiting mid k) None ≡ option_map (entry (Tick j how ∷ h)) (left (stays s.set j how) o)
+    at k i None e = rw (free k i e) (same-cond (is_left s.set j.task.0 how k) None)
+    at k i (Some x) e = rw (counted k i x e, ← stays_left s.set h j how k x it e) (sym (map-cond (entry (Tick j how ∷ h)) (stays s.set j how x) (Some x)))

@@ -22,7 +22,5 @@ sound_one_live s sound = record {
   settled = λ done. at_most_one s.set s.rule (settle s done) sound.tasks.each sound.holds (sound.good.settled done);
   at_release = λ done k n.
       let w : IsSettled s.set s.rule s.rows s.out s.held done = settled_words s.set s.rule s.rows s.out s.held done sound.good.out in
-      let t = w.ticks in
-      let x = w.next k in
-      none_at_release s.set s.rule (settle s done) sound.tasks.each sound.holds (sound.good.settled done) k (omega (arith, t, x, n));
+      none_at_release s.set s.rule (settle s done) sound.tasks.each sound.holds (sound.good.settled done) k (omega (arith, w.ticks, w.next k, n));
 }

@@ -32,12 +32,14 @@ add_one set rule js i d g h = ap (λ xs. add_held set rule xs g) (reverse-more j
 pub legal_one : (set : List Task) (rule : Rule) (js : List JobId) (i : ℕ) (d : JobId) (g : List Row) → i < length js → Legal set rule (add_held set rule (reverse js) g) →
     Legal set rule (release_row set rule (get_or js i d) (add_held set rule (reverse (take i js)) g) ∷ add_held set rule (reverse (take i js)) g)
 legal_one set rule js i d g h l =
-    let split : add_held set rule (reverse js) g ≡ add_held set rule (reverse (drop (i + 1) js)) (add_held set rule (reverse (take (i + 1) js)) g) =
-    ap (λ xs. add_held set rule (reverse xs) g) (sym (take-append-drop (i + 1) js)) ∙ (ap (λ xs. add_held set rule xs g) (reverse-append (take (i + 1) js) (drop (i + 1) js)) ∙ held-append set rule (reverse (drop (i + 1) js)) (reverse (take (i + 1) js)) g) in
-    subst (Legal set rule) (add_one set rule js i d g h) (legal-before set rule (reverse (drop (i + 1) js)) (add_held set rule (reverse (take (i + 1) js)) g) (subst (Legal set rule) split l))
+    let before = add_held set rule (reverse (take (i + 1) js)) g in
+    let split : reverse js ≡ reverse (drop (i + 1) js) ++ reverse (take (i + 1) js) =
+    ap reverse (sym (take-append-drop (i + 1) js)) ∙ reverse-append (take (i + 1) js) (drop (i + 1) js) in
+    let all : Legal set rule (add_held set rule (reverse (drop (i + 1) js)) before) =
+    rw (split, held-append set rule (reverse (drop (i + 1) js)) (reverse (take (i + 1) js)) g) at l in
+    subst (Legal set rule) (add_one set rule js i d g h) (legal-before set rule (reverse (drop (i + 1) js)) before all)
 
 -- and there is room for it
 pub room_one : (set : List Task) (rule : Rule) (js : List JobId) (i n : ℕ) (g : List Row) → i < length js → length g + length js ≤ n → length (add_held set rule (reverse (take i js)) g) < n
 room_one set rule js i n g h r =
-    let t : length (take i js) ≡ i = length-take-le i js (omega (arith, h)) in
-    omega (arith, length-held set rule (reverse (take i js)) g, length-reverse (take i js), t, h, r)
+    omega (arith, length-held set rule (reverse (take i js)) g, length-reverse (take i js), length-take-le i js (omega (arith, h)), h, r)

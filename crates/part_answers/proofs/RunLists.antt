@@ -1,5 +1,5 @@
 -- Lists of runs.
-use Rattle.std.proofs.Common.{◌≡◌, ℕ, suc, ◌<◌, List, [], ◌∷◌, length, get_or, sym, ap, subst, ◌∙◌, arith, Result, Ok, Err, IfOk, Vec, Global}
+use Rattle.std.proofs.Common.{◌≡◌, suc, List, [], ◌∷◌, length, get_or, sym, ap, subst, ◌∙◌, arith, Result, Ok, Err, IfOk, Vec, Global}
 use Rattle.std.specs.Prelude.{All}
 use Rattle.std.specs.List.{AllZip}
 use Rattle.std.proofs.lemmas.List.{length-map, get_or-map}
@@ -15,14 +15,11 @@ runs-AllZip [] (d ∷ ds) long each = absurd (omega arith)
 runs-AllZip (j ∷ js) [] long each = absurd (omega arith)
 runs-AllZip (j ∷ js) (d ∷ ds) long each = (each 0 j (Ok d) (omega arith), runs-AllZip js ds (omega arith) (λ i side r lt. each (suc i) side r (omega arith)))
 
-fresh-at : (sides : List Side) (k : ℕ) (d : Side) → k < length sides → get_or (floors_of sides) k d.floor ≡ (get_or sides k d).floor
-fresh-at sides k d lt = get_or-map (λ side. side.floor) sides k d d.floor lt
-
 -- sides of fresh floors
 pub fresh-sides : (sides : List Side) (floors : List FloorState) → floors_of sides ≡ floors → All IsFresh floors → All IsFreshSide sides
 fresh-sides sides floors is fresh = λ k d lt.
     let long : length floors ≡ length sides = ap length (sym is) ∙ length-map sides (λ side. side.floor) in
-    subst (λ f. IsFresh f) (ap (λ l. get_or l k d.floor) (sym is) ∙ fresh-at sides k d lt) (fresh k d.floor (omega (arith, long, lt)))
+    subst (λ f. IsFresh f) (ap (λ l. get_or l k d.floor) (sym is) ∙ get_or-map (λ side. side.floor) sides k d d.floor lt) (fresh k d.floor (omega (arith, long, lt)))
 
 -- the floors that come back
 pub runs-finished : (sides : List Side) (floors : List FloorState) (results : List (Result FloorState Memory)) (r : Result (Vec FloorState Global) Memory) → floors_of sides ≡ floors

@@ -1,36 +1,33 @@
--- The least of a run of numbers that passes a test.
-use Rattle.std.proofs.Common.{◌≡◌, ℕ, zero, suc, ◌+◌, ◌<◌, ◌≤◌, inl, inr, Bool, true, false, cond, Some, None, refl, sym, ap, ◌∙◌, arith}
+-- What is found in a run of numbers.
+use Rattle.std.proofs.Common.{◌≡◌, ℕ, zero, suc, ◌+◌, ◌<◌, ◌≤◌, inl, inr, Bool, length, true, false, Some, None, refl, ap, sym, ◌∙◌, arith, get_or}
 use Rattle.std.specs.Prelude.{find}
 use Rattle.std.specs.List.{range_with_len}
-use Rattle.std.proofs.lemmas.Bool.Decides.{eqb_tells}
+use Rattle.std.proofs.lemmas.Bool.{cases_Bool}
+use Rattle.std.proofs.lemmas.List.FromFn.{length-range_with_len, get_or-range_with_len}
+use Rattle.std.proofs.lemmas.List.Recursion.{found_at, found_nowhere}
+
+-- the numbers from 1 on, by their indices
+number_at : (m k : ℕ) → k < m → get_or (range_with_len 1 m) k 0 ≡ suc k
+number_at m k inside = get_or-range_with_len 1 m k 0 inside ∙ omega arith
 
 -- where none passes
-pub find-none : (p : ℕ → Bool) (more n : ℕ) → ((j : ℕ) → n ≤ j → j < n + more → p j ≡ false) → find p (range_with_len n more) ≡ None
-find-none p zero n h = refl
-find-none p (suc more) n h = rw (h n (omega arith) (omega arith)) (find-none p more (n + 1) (λ j first last. h j (omega arith) (omega arith)))
+pub find-none : (p : ℕ → Bool) (m : ℕ) → ((k : ℕ) → k < m → p (suc k) ≡ false) → find p (range_with_len 1 m) ≡ None
+find-none p m fails =
+    found_nowhere (find p) p Some None refl (λ _ _. refl) (range_with_len 1 m) 0
+    (λ k inside. let within : k < m = omega (arith, length-range_with_len 1 m) in rw (number_at m k within) (fails k within))
 
--- where k passes and none before it does
-pub find-some : (p : ℕ → Bool) (more n k : ℕ) → n ≤ k → k < n + more → p k ≡ true → ((j : ℕ) → n ≤ j → j < k → p j ≡ false) → find p (range_with_len n more) ≡ Some k
-find-some p zero n k first last here h = absurd (omega arith)
-find-some p (suc more) n k first last here h =
-    elim (eqb_tells n k) [
-      | inl same ↦ rw (same.1, here) refl
-      | inr other ↦
-          let differ = other.1 in
-          rw (h n (omega arith) (omega arith)) (find-some p more (n + 1) k (omega arith) (omega arith) here (λ j low high. h j (omega arith) high))
-    ]
+-- where one passes and none before it does
+pub find-some : (p : ℕ → Bool) (m k : ℕ) → k < m → ((j : ℕ) → j < k → p (suc j) ≡ false) → p (suc k) ≡ true → find p (range_with_len 1 m) ≡ Some (suc k)
+find-some p m k inside fails passes =
+    let before : (j : ℕ) → j < k → p (get_or (range_with_len 1 m) j 0) ≡ false = λ j below. rw (number_at m j (omega arith)) (fails j below) in
+    let within : k < length (range_with_len 1 m) = omega (arith, length-range_with_len 1 m) in
+    found_at (find p) p Some None refl (λ _ _. refl) (range_with_len 1 m) k 0 within before (rw (number_at m k inside) passes) ∙ ap Some (number_at m k inside)
 
 -- what is found is one of them and passes
-pub record IsFound (p : ℕ → Bool) (more n k : ℕ) : Type 0 where
-  pub first : n ≤ k
-  pub last : k < n + more
-  pub passes : p k ≡ true
-
-found_first : (p : ℕ → Bool) (more n k : ℕ) (b : Bool) → p n ≡ b → cond b (Some n) (find p (range_with_len (n + 1) more)) ≡ Some k
-    → (find p (range_with_len (n + 1) more) ≡ Some k → IsFound p more (n + 1) k) → IsFound p (suc more) n k
-found_first p more n k true is h later = (let same : n ≡ k = cc h in record { first = omega arith; last = omega arith; passes = ap p (sym same) ∙ is })
-found_first p more n k false is h later = (let f = later h in record { first = omega (arith, f.first); last = omega (arith, f.last); passes = f.passes })
-
-pub find-IsFound : (p : ℕ → Bool) (more n k : ℕ) → find p (range_with_len n more) ≡ Some k → IsFound p more n k
-find-IsFound p zero n k h = absurd (cc h)
-find-IsFound p (suc more) n k h = found_first p more n k (p n) refl h (find-IsFound p more (n + 1) k)
+pub find-passes : (p : ℕ → Bool) (more n k : ℕ) → find p (range_with_len n more) ≡ Some k → (n ≤ k) × (k < n + more) × (p k ≡ true)
+find-passes p zero n k h = absurd (cc h)
+find-passes p (suc more) n k h =
+    elim (cases_Bool (p n)) [
+      | inl here ↦ (let same : n ≡ k = cc (rw here at h) in (omega arith, omega arith, ap p (sym same) ∙ here))
+      | inr fails ↦ (let later = find-passes p more (n + 1) k (rw fails at h) in (omega (arith, later.0), omega (arith, later.1), later.2))
+    ]

@@ -1,4 +1,3 @@
-mod SameTrace
 mod Soaked
 mod LivePlaces
 mod LiveRows

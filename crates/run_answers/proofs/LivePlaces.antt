@@ -69,12 +69,9 @@ shares n p (t ∷ ts) d =
 -- at most two whole periods a tick
 few_periods : (set : List Task) (rule : Rule) (n : ℕ) → AllByRecursion IsTask set → Holds set rule → periods_in n set ≤ 2 * n
 few_periods set rule n tasks holds =
-    let p : ℕ = product set in
     let loads = loads_hold (product set) (load_ll set) _ (load_hh set) rule holds in
-    let low = loads.0 in
-    let high = loads.1 in
     let all = periods_load (product set) set tasks in
-    let two : periods_in (product set) set ≤ 2 * product set = omega (arith, low, high, all) in
+    let two : periods_in (product set) set ≤ 2 * product set = omega (arith, loads.0, loads.1, all) in
     let scaled : n * periods_in (product set) set ≤ n * (2 * product set) = mul-le-mul_left n two in
     let share = shares n (product set) set (divides set tasks) in
     let more : product set * periods_in n set ≤ product set * (2 * n) = omega (arith, share, scaled) in
@@ -87,10 +84,8 @@ one_more n (t ∷ ts) = let rest = one_more n ts in omega (arith, rest)
 
 few_places : (set : List Task) (rule : Rule) (n : ℕ) → AreTasks set → Holds set rule → live_places set n ≤ 3 * n + 128
 few_places set rule n is holds =
-    let few = is.few in
     let periods = few_periods set rule n is.each holds in
-    let one = one_more n set in
-    omega (arith, few, periods, one)
+    omega (arith, is.few, periods, one_more n set)
 
 -- so rows that have their places in the core of a live run are few
 pub few_live_rows : (set : List Task) (rule : Rule) (n : ℕ) (s t : State) (places : ℕ) (rows : List Row) → AreTasks set → Holds set rule → n ≤ 100000 → s ≡ t → t.places ≡ places → places ≡ live_places set n → length rows ≤ s.places → length rows ≤ 2000000

@@ -14,11 +14,16 @@ use Rattle.mc_model.proofs.Ticks.{ticks-append}
 use Rattle.mode_core.specs.Shape.{IsSound}
 use Rattle.task_threads.specs.LiveLeft.{HasLiveTrace}
 
--- rows that end with a tick have more ticks than those before it
+-- a row that ends with a tick is one, whatever stands before it
+is_tick : (row : Row) (g h : List Row) → ends_with_tick (row ∷ g) ≡ true → (ends_with_tick (row ∷ h) ≡ true) × (ticks (row ∷ h) ≡ ticks h + 1)
+is_tick (Release j kept) g h last = absurd (cc)
+is_tick row g h last = (last, omega arith)
+
+-- so rows that end with one have more ticks than those before it
 more_ticks : (row : Row) (later h : List Row) → ends_with_tick (row ∷ later ++ h) ≡ true → ticks h < ticks (row ∷ later ++ h)
-more_ticks (Release j kept) later h last = absurd (cc)
-more_ticks (Tick j how) later h last = let all = ticks-append later h in omega (arith, all)
-more_ticks Idle later h last = let all = ticks-append later h in omega (arith, all)
+more_ticks row later h last =
+    let one = (is_tick row (later ++ h) (later ++ h) last).1 in
+    omega (arith, one, ticks-append later h)
 
 -- of the same rows there is one part that has so many ticks and ends with one
 same_part : (later other g h : List Row) → later ++ g ≡ other ++ h → ticks g ≡ ticks h → ends_with_tick g ≡ true → ends_with_tick h ≡ true → g ≡ h
@@ -46,21 +51,12 @@ live_part : (s : State) (n i : ℕ) (d : Row) → HasLiveTrace s n → i < lengt
     → ticks (reverse (take i (reverse s.rows))) + 1 ≡ n → LiveTrace s.set s.rule n (reverse (take (i + 1) (reverse s.rows)))
 live_part s n i d live inside tick before =
     let here = up_to_place (reverse s.rows) i d inside in
-    let last : ends_with_tick (reverse (take (i + 1) (reverse s.rows))) ≡ true = ap ends_with_tick here ∙ ends (get_or (reverse s.rows) i d) (reverse (take i (reverse s.rows))) tick in
-    let count : ticks (reverse (take (i + 1) (reverse s.rows))) ≡ ticks (reverse (take i (reverse s.rows))) + 1 = ap ticks here ∙ counts (get_or (reverse s.rows) i d) (reverse (take i (reverse s.rows))) tick in
+    let one = is_tick (get_or (reverse s.rows) i d) [] (reverse (take i (reverse s.rows))) tick in
+    let last : ends_with_tick (reverse (take (i + 1) (reverse s.rows))) ≡ true = ap ends_with_tick here ∙ one.0 in
+    let count : ticks (reverse (take (i + 1) (reverse s.rows))) ≡ ticks (reverse (take i (reverse s.rows))) + 1 = ap ticks here ∙ one.1 in
     let whole = parts (reverse s.rows) (i + 1) ∙ (reverse-reverse s.rows ∙ live.rows) in
     let same : reverse (take (i + 1) (reverse s.rows)) ≡ live.h = same_part (reverse (drop (i + 1) (reverse s.rows))) live.later (reverse (take (i + 1) (reverse s.rows))) live.h whole (count ∙ (before ∙ sym live.live.ticks)) last live.live.last in
     subst (λ h. LiveTrace s.set s.rule n h) (sym same) live.live
-  where
-    ends : (row : Row) (g : List Row) → ends_with_tick (row ∷ []) ≡ true → ends_with_tick (row ∷ g) ≡ true
-    ends (Release j kept) g h = absurd (cc)
-    ends (Tick j how) g h = h
-    ends Idle g h = h
-
-    counts : (row : Row) (g : List Row) → ends_with_tick (row ∷ []) ≡ true → ticks (row ∷ g) ≡ ticks g + 1
-    counts (Release j kept) g h = absurd (cc)
-    counts (Tick j how) g h = omega arith
-    counts Idle g h = omega arith
 
 -- as the code finds them: at this place there is a tick, which is the last that is left
 pub live_front : (s : State) (n i left : ℕ) (rows part : List Row) (d : Row) → HasLiveTrace s n → rows ≡ reverse s.rows → part ≡ take (i + 1) rows → i < length rows

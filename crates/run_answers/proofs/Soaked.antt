@@ -1,5 +1,5 @@
 -- The trace of a workload, and its text.
-use Rattle.std.proofs.Common.{◌≡◌, ℕ, List, ◌++◌, Some, ap, subst, ◌∙◌, append_assoc}
+use Rattle.std.proofs.Common.{◌≡◌, ℕ, List, ◌++◌, Some, subst, append_assoc}
 use Rattle.mc_task.specs.declared.task.Task.{Task}
 use Rattle.mc_task.specs.declared.task.Rule.{Rule}
 use Rattle.mc_model.specs.declared.row.Row.{Row}
@@ -23,8 +23,4 @@ pub soak_text-pieces : (number tasks ticks : ℕ) (set : List Task) (rule : Rule
     → text ≡ front ++ (summary_text set rows ++ verdict_line set (verdict set rule rows)) → text ≡ soak_text number tasks ticks (workload_set number tasks) rule h
 unfolding soak_text
 soak_text-pieces number tasks ticks set rule h rows front text s r f t =
-    t
-    ∙ (ap (λ x. x ++ (summary_text set rows ++ verdict_line set (verdict set rule rows))) f
-    ∙ (append_assoc (call_line number tasks ticks) (rule_line rule) (summary_text set rows ++ verdict_line set (verdict set rule rows))
-    ∙ (ap (λ x. call_line number tasks ticks ++ (rule_line rule ++ (summary_text x rows ++ verdict_line x (verdict x rule rows)))) s
-    ∙ ap (λ x. call_line number tasks ticks ++ (rule_line rule ++ (summary_text (workload_set number tasks) x ++ verdict_line (workload_set number tasks) (verdict (workload_set number tasks) rule x)))) r)))
+    let joined = append_assoc (call_line number tasks ticks) (rule_line rule) (summary_text set rows ++ verdict_line set (verdict set rule rows)) in cc

@@ -1,5 +1,5 @@
 -- How many bytes the text of a trace has: the line of a release at most 66, that of a run of n ticks at most 61 * n.
-use Rattle.std.proofs.Common.{◌≡◌, ℕ, zero, suc, ◌+◌, ◌*◌, ◌-◌, ◌%◌, ◌^◌, ◌<◌, ◌≤◌, ◌==◌, Bool, true, false, ◌&&◌, nat_le, List, [], ◌∷◌, ◌++◌, None, if◌then◌else◌, codes, decimal, length, slice_get, sym, ap, ◌∙◌, arith, leb-true}
+use Rattle.std.proofs.Common.{◌≡◌, ℕ, zero, suc, ◌+◌, ◌*◌, ◌-◌, ◌%◌, ◌^◌, ◌<◌, ◌≤◌, ◌==◌, Bool, true, false, ◌&&◌, nat_le, List, [], ◌∷◌, None, if◌then◌else◌, codes, decimal, length, slice_get, sym, ap, ◌∙◌, arith, leb-true}
 use Rattle.std.specs.List.{AllByRecursion, list_all}
 use Rattle.std.proofs.lemmas.Bool.{and_parts}
 use Rattle.std.proofs.lemmas.Fmt.{decimal_by_steps, length-decimal-le}
@@ -10,14 +10,14 @@ use Rattle.mc_task.specs.declared.task.Task.{Task}
 use Rattle.mc_task.specs.TaskSet.{IsTask, task_at, name_in}
 use Rattle.mc_task.proofs.TaskLemmas.{each_of_all}
 use Rattle.mc_model.specs.declared.row.How.{How}
-use Rattle.mc_model.specs.declared.row.How.TheVariants.{More, Done, Stop, Over}
+use Rattle.mc_model.specs.declared.row.How.TheVariants.{More}
 use Rattle.mc_model.specs.declared.row.Row.{Row}
 use Rattle.mc_model.specs.declared.row.Row.TheVariants.{Release, Tick, Idle}
 use Rattle.mc_model.specs.declared.run.Run.{Run}
 use Rattle.mc_model.specs.declared.run.Run.TheVariants as run
 use Rattle.mc_model.specs.Sums.{total}
 use Rattle.mc_model.specs.Rows.{ticks}
-use Rattle.mc_model.specs.Runs.{row_of, size, rows_of, expand, length_of, IsRun, pack}
+use Rattle.mc_model.specs.Runs.{row_of, size, expand, length_of, IsRun, pack}
 use Rattle.mc_model.specs.TraceText.{how_word, kept_word, line_of, run_line, lines_from, trace_text}
 use Rattle.mc_model.proofs.Packing.{expand-pack, pack-runs}
 use Rattle.mc_model.proofs.Runs.{ticks-expand}
@@ -58,20 +58,9 @@ name_at_place (t ∷ ts) (suc i) is = name_at_place ts i is.1
 name_of_task : (set : List Task) (k : ℕ) → AllByRecursion IsTask set → length (name_in (task_at set k)) ≤ 32
 name_of_task set k is = elim (k == 0) as (λ b. length (name_in (if b then None else slice_get set (k - 1))) ≤ 32) [ true ↦ omega arith | false ↦ name_at_place set (k - 1) is ]
 
--- a field, its comma and what comes behind
-field_length : (field behind : List ℕ) → length (field ++ (codes "," ++ behind)) ≡ length field + 1 + length behind
-field_length field behind = let parts = length-append field (codes "," ++ behind) in omega (arith, parts)
-
 -- a line has its fields, five commas and a line feed
 line_length : (event tick len task job how : List ℕ) → length (line_of event tick len task job how) ≡ length event + length tick + length len + length task + length job + length how + 6
-line_length event tick len task job how =
-    let last : length (how ++ codes "\n") ≡ length how + 1 = length-append how (codes "\n") in
-    let fifth = field_length job (how ++ codes "\n") in
-    let fourth = field_length task (job ++ (codes "," ++ (how ++ codes "\n"))) in
-    let third = field_length len (task ++ (codes "," ++ (job ++ (codes "," ++ (how ++ codes "\n"))))) in
-    let second = field_length tick (len ++ (codes "," ++ (task ++ (codes "," ++ (job ++ (codes "," ++ (how ++ codes "\n"))))))) in
-    let first = field_length event (tick ++ (codes "," ++ (len ++ (codes "," ++ (task ++ (codes "," ++ (job ++ (codes "," ++ (how ++ codes "\n"))))))))) in
-    omega (arith, last, fifth, fourth, third, second, first)
+line_length event tick len task job how = simp length-append (omega arith)
 
 -- the words of a release and of a tick
 kept_length : (kept : Bool) → length (kept_word kept) ≤ 7
@@ -80,9 +69,7 @@ kept_length false = omega arith
 
 how_length : (how : How) → length (how_word how) ≤ 4
 how_length More = omega arith
-how_length Done = omega arith
-how_length Stop = omega arith
-how_length Over = omega arith
+how_length how = omega arith
 
 -- the line of a run has at most 66 bytes for each row, less 5 for each tick
 line_le : (set : List Task) (tick : ℕ) (r : Run) → AllByRecursion IsTask set → IsRun r → HasShortCount (row_of r) → tick + length_of r < 10000000 → length (run_line set tick r) + 5 * length_of r ≤ 66 * size r
@@ -112,10 +99,7 @@ lines_le set tick [] is v counts short = omega arith
 lines_le set tick (r ∷ runs) is v counts short =
     let here = line_le set tick r is v.0 counts.0 (omega (arith, short)) in
     let rest = lines_le set (tick + length_of r) runs is v.1 counts.1 (omega (arith, short)) in
-    let text = length-append (run_line set tick r) (lines_from set (tick + length_of r) runs) in
-    let rows = length-append (rows_of r) (expand runs) in
-    let first = length-replicate (size r) (row_of r) in
-    omega (arith, here, rest, text, rows, first)
+    simp (length-append, length-replicate) (omega (arith, here, rest))
 
 -- so the text of rows has its header of 31 bytes, and at most 66 for each row, less 5 for each tick
 pub text_le : (set : List Task) (rows : List Row) → AllByRecursion IsTask set → AllByRecursion HasShortCount rows → length rows < 10000000 → length (trace_text set rows) + 5 * ticks rows ≤ 31 + 66 * length rows

@@ -1,6 +1,7 @@
 -- How many bytes the text of a legal trace has. The newest row of the trace stands first.
-use Rattle.std.proofs.Common.{◌≡◌, ℕ, ◌+◌, ◌*◌, ◌<◌, ◌≤◌, ◌==◌, nat_lt, Bool, true, false, List, [], ◌∷◌, cond, length, reverse, refl, sym, subst, arith, ltb-true, ltb-false}
+use Rattle.std.proofs.Common.{◌≡◌, inl, inr, ℕ, ◌+◌, ◌*◌, ◌<◌, ◌≤◌, ◌==◌, true, false, List, [], ◌∷◌, cond, length, reverse, sym, subst, arith}
 use Rattle.std.specs.List.{AllByRecursion}
+use Rattle.std.proofs.lemmas.Bool.{cases_lt}
 use Rattle.std.proofs.lemmas.List.{length-reverse}
 use Rattle.mc_task.specs.declared.task.Rule.{Rule}
 use Rattle.mc_task.specs.declared.task.Task.{Task}
@@ -28,19 +29,17 @@ releases_le [] k = omega arith
 releases_le (Release j kept ∷ g) k =
     let rest = releases_le g k in
     elim (j.task.0 == k) as (λ b. cond b 1 0 + releases g k ≤ length (Release j kept ∷ g)) [ true ↦ omega (arith, rest) | false ↦ omega (arith, rest) ]
-releases_le (Tick j how ∷ g) k = let rest = releases_le g k in omega (arith, rest)
-releases_le (Idle ∷ g) k = let rest = releases_le g k in omega (arith, rest)
+releases_le (row ∷ g) k = let rest = releases_le g k in omega (arith, rest)
 
 -- a job that has a tick was released
 was_released : (set : List Task) (rule : Rule) (j : JobId) (how : How) (g : List Row) → Legal set rule (Tick j how ∷ g) → j.count ≤ releases g j.task.0
-was_released set rule j how g legal = go (nat_lt (releases g j.task.0) j.count) refl
-  where
-    go : (b : Bool) → nat_lt (releases g j.task.0) j.count ≡ b → j.count ≤ releases g j.task.0
-    go true more =
-        let none = (counted set rule (Tick j how ∷ g) (bridge set rule (Tick j how ∷ g) legal).legal).fresh j (ltb-true _ _ more) in
-        let one : cond true 1 0 + used g j ≡ 0 = rw (same_job-refl j) at none in
-        absurd (omega (arith, one))
-    go false few = ltb-false _ _ few
+was_released set rule j how g legal =
+    elim (cases_lt (releases g j.task.0) j.count) [
+      | inl more ↦
+          let none = (counted set rule (Tick j how ∷ g) (bridge set rule (Tick j how ∷ g) legal).legal).fresh j more in
+          let one : cond true 1 0 + used g j ≡ 0 = rw (same_job-refl j) at none in absurd (omega (arith, one))
+      | inr few ↦ few
+    ]
 
 -- so the counts of its jobs are no more than its rows
 short_counts : (set : List Task) (rule : Rule) (h : List Row) → Legal set rule h → length h < 10000000 → AllByRecursion HasShortCount h

@@ -1,11 +1,11 @@
 -- The mode of a chart is that of the rule: under plain EDF no Over row is legal.
 use Rattle.std.proofs.Common.{◌≡◌, Bool, ◌&&◌, ◌||◌, List, [], ◌∷◌, refl, ap₂}
 use Rattle.mc_task.specs.declared.task.Rule.{Rule}
-use Rattle.mc_task.specs.declared.task.Rule.TheVariants.{Plain, Virtual}
+use Rattle.mc_task.specs.declared.task.Rule.TheVariants.{Plain}
 use Rattle.mc_task.specs.declared.task.Task.{Task}
 use Rattle.mc_task.specs.declared.task.JobId.{JobId}
 use Rattle.mc_model.specs.declared.row.How.{How}
-use Rattle.mc_model.specs.declared.row.How.TheVariants.{More, Done, Stop, Over}
+use Rattle.mc_model.specs.declared.row.How.TheVariants.{Over}
 use Rattle.mc_model.specs.declared.row.Row.{Row}
 use Rattle.mc_model.specs.declared.row.Row.TheVariants.{Release, Tick, Idle}
 use Rattle.mc_task.specs.Kinds.{is_virtual}
@@ -16,11 +16,8 @@ use Rattle.mc_model.proofs.Steps.{Hows, over, hows, tick_fits}
 
 -- a tick that fits is an overrun under a virtual rule alone
 over_is_virtual : (set : List Task) (rule : Rule) (g : List Row) (j : JobId) (how : How) → Hows set rule g j how → is_over how ≡ (is_virtual rule && is_over how)
-over_is_virtual set (Virtual p q) g j how h = refl
-over_is_virtual set Plain g j More h = refl
-over_is_virtual set Plain g j Done h = refl
-over_is_virtual set Plain g j Stop h = refl
 over_is_virtual set Plain g j Over (over v m y e a) = absurd (cc)
+over_is_virtual set rule g j how h = refl
 
 pub charted_mode : ChartedModeLaw
 charted_mode set rule [] l = refl

@@ -2,4 +2,3 @@ pub mod Filled
 pub mod Lines
 pub mod ChartedMode
 pub mod WorkedCharts
-pub mod Expanded

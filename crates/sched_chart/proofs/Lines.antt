@@ -1,129 +1,98 @@
 -- A character that is set into one of the lines of a chart.
-use Rattle.std.proofs.Common.{◌≡◌, ℕ, zero, suc, ◌+◌, ◌-◌, ◌*◌, ◌<◌, ◌≤◌, ◌≢◌, List, [], ◌∷◌, ◌++◌, Some, length, set, take, replicate, slice_get, codes, IsTrue, refl, sym, ap, ap₂, subst, ◌∙◌, arith, append_assoc}
-use Rattle.std.specs.List.{AllByRecursion}
-use Rattle.std.proofs.lemmas.List.{length-append, length-replicate, replicate-append-replicate, set-append_left, take_all}
+use Rattle.std.proofs.Common.{◌≡◌, ℕ, ◌+◌, ◌-◌, ◌*◌, ◌<◌, ◌≤◌, ◌≢◌, inl, inr, zero, suc, List, get_or, [], ◌∷◌, ◌++◌, length, set, take, replicate, codes, IsTrue, max, refl, sym, ap, ◌∙◌, arith, append_assoc}
+use Rattle.std.proofs.lemmas.List.{length-append, length-replicate, replicate_more, set-append_left, set-append_right, take_all, append-nil}
+use Rattle.std.proofs.lemmas.Bool.{cases_eq}
 use Rattle.std.proofs.lemmas.Bool.Decides.{nat_tests}
 use Rattle.mc_task.specs.NameForm.{is_name}
 use Rattle.mc_task.specs.declared.task.Task.{Task}
-use Rattle.sched_chart.specs.ChartText.{chart_line, name_width}
-use Rattle.sched_chart.specs.Sheet.{line_length, place, lines_with}
+use Rattle.sched_chart.specs.ChartText.{chart_line, name_width, lines_with}
+use Rattle.sched_chart.specs.Sheet.{line_length, place, task_marks_to}
 
 -- a name has at most 32 bytes
 pub short_name : (name : List ℕ) → IsTrue (is_name name) → length name ≤ 32
 short_name name h = grind (arith, nat_tests)
 
--- no name is longer than this
-abbrev pub NamesFit : ℕ → List Task → Type 0
-NamesFit width ts = AllByRecursion (λ t. length t.name ≤ width) ts
+-- no name is longer than the width
+pub name_fits : (ts : List Task) (i : ℕ) (d : Task) → i < length ts → length (get_or ts i d).name ≤ name_width ts
+name_fits [] i d inside = absurd (omega arith)
+name_fits (t ∷ ts) zero d inside = omega arith
+name_fits (t ∷ ts) (suc i) d inside = omega (arith, name_fits ts i d (omega arith))
 
--- no name is longer than a width that is at least that of the set
-pub names_fit : (width : ℕ) (ts : List Task) → name_width ts ≤ width → NamesFit width ts
-names_fit width [] h = tt
-names_fit width (t ∷ ts) h = (omega (arith, h), names_fit width ts (omega (arith, h)))
-
--- the bytes before the characters
-abbrev head : ℕ → List ℕ → List ℕ
-head width name = name ++ (replicate (width - length name) 32 ++ codes " ")
-
-length-head : (width : ℕ) (name : List ℕ) → length name ≤ width → length (head width name) ≡ width + 1
-length-head width name h =
-    let gap : List ℕ = replicate (width - length name) 32 in
-    let a : length (name ++ (gap ++ codes " ")) ≡ length name + length (gap ++ codes " ") = length-append name (gap ++ codes " ") in
-    let b : length (gap ++ codes " ") ≡ length gap + 1 = length-append gap (codes " ") in
-    let c : length gap ≡ width - length name = length-replicate (width - length name) 32 in
-    omega (arith, a, b, c, h)
-
-line_is : (width : ℕ) (name marks : List ℕ) → chart_line width name marks ≡ head width name ++ (marks ++ codes "\n")
-line_is width name marks = simp append_assoc refl
+-- one task more
+pub name_width-more : (ts : List Task) (t : Task) → name_width (ts ++ t ∷ []) ≡ max (name_width ts) (length t.name)
+name_width-more [] t = omega arith
+name_width-more (u ∷ us) t = omega (arith, name_width-more us t)
 
 pub length-line : (width n : ℕ) (name marks : List ℕ) → length name ≤ width → length marks ≡ n → length (chart_line width name marks) ≡ line_length width n
-length-line width n name marks h e =
-    let a : length (chart_line width name marks) ≡ length (head width name) + length (marks ++ codes "\n") = ap length (line_is width name marks) ∙ length-append (head width name) (marks ++ codes "\n") in
-    let b : length (marks ++ codes "\n") ≡ length marks + 1 = length-append marks (codes "\n") in
-    omega (arith, a, b, e, length-head width name h)
+length-line width n name marks h e = simp (length-append, length-replicate) (omega arith)
+
+pub length-lines : (f : ℕ → List ℕ) (width n k : ℕ) (ts : List Task) → name_width ts ≤ width → ((m : ℕ) → length (f m) ≡ n)
+    → length (lines_with f width k ts) ≡ length ts * line_length width n
+length-lines f width n k [] fit e = omega arith
+length-lines f width n k (t ∷ ts) fit e =
+    let rest = length-lines f width n (k + 1) ts (omega arith) e in
+    rw (length-append (chart_line width t.name (f k)) _, length-line width n t.name (f k) (omega arith) (e k), rest) (omega arith)
 
 -- a character that is set behind the first of two lists
 pub set_behind : (front rest : List ℕ) (m i v : ℕ) → length front ≡ m → set (front ++ rest) (m + i) v ≡ front ++ set rest i v
-set_behind [] rest m i v e = let s : m + i ≡ i = omega (arith, e) in rw s refl
-set_behind (x ∷ front) rest m i v e =
-    let s : m + i ≡ suc (length front + i) = omega (arith, e) in
-    rw s (ap (λ (l : List ℕ). x ∷ l) (set_behind front rest (length front) i v refl))
+set_behind front rest m i v e = (let back : m + i - m ≡ i = omega arith in rw (set-append_right front rest m (m + i) v e (omega arith), back) refl)
 
 -- in one line
-pub set-line : (width p v : ℕ) (name marks more : List ℕ) → length name ≤ width → p < length marks
-    → set (chart_line width name marks ++ more) (width + 1 + p) v ≡ chart_line width name (set marks p v) ++ more
-set-line width p v name marks more h inside =
-    let apart : chart_line width name marks ++ more ≡ head width name ++ (marks ++ (codes "\n" ++ more)) = simp append_assoc refl in
-    let after : chart_line width name (set marks p v) ++ more ≡ head width name ++ (set marks p v ++ (codes "\n" ++ more)) = simp append_assoc refl in
-    ap (λ (l : List ℕ). set l (width + 1 + p) v) apart
-    ∙ (set_behind (head width name) (marks ++ (codes "\n" ++ more)) (width + 1) p v (length-head width name h)
-    ∙ (ap (λ (l : List ℕ). head width name ++ l) (set-append_left marks (codes "\n" ++ more) p v inside) ∙ sym after))
+pub set-line : (width p v : ℕ) (name marks : List ℕ) → length name ≤ width → p < length marks
+    → set (chart_line width name marks) (width + 1 + p) v ≡ chart_line width name (set marks p v)
+set-line width p v name marks h inside =
+    let head : List ℕ = name ++ (replicate (width - length name) 32 ++ codes " ") in
+    let long : length head ≡ width + 1 = simp (length-append, length-replicate) (omega arith) in
+    let apart : (ms : List ℕ) → chart_line width name ms ≡ head ++ (ms ++ codes "\n") = λ ms. simp append_assoc refl in
+    rw (apart marks, apart (set marks p v), set_behind head (marks ++ codes "\n") (width + 1) p v long, set-append_left marks (codes "\n") p v inside) refl
 
 -- lines of the same characters
-lines_same : (f g : ℕ → List ℕ) (width k : ℕ) (ts : List Task) → ((m : ℕ) → k ≤ m → g m ≡ f m) → lines_with f width k ts ≡ lines_with g width k ts
+pub lines_same : (f g : ℕ → List ℕ) (width k : ℕ) (ts : List Task) → ((m : ℕ) → k ≤ m → f m ≡ g m) → lines_with f width k ts ≡ lines_with g width k ts
 lines_same f g width k [] h = refl
-lines_same f g width k (t ∷ ts) h =
-    ap₂ (λ (l m : List ℕ). l ++ m) (ap (chart_line width t.name) (sym (h k (omega arith)))) (lines_same f g width (k + 1) ts (λ m a. h m (omega (arith, a))))
+lines_same f g width k (t ∷ ts) h = rw (h k (omega arith), lines_same f g width (k + 1) ts (λ m later. h m (omega arith))) refl
 
-pub length-lines : (f : ℕ → List ℕ) (width n k : ℕ) (ts : List Task) → NamesFit width ts → ((m : ℕ) → length (f m) ≡ n) → length (lines_with f width k ts) ≡ length ts * line_length width n
-length-lines f width n k [] fit e = omega arith
-length-lines f width n k (t ∷ ts) fit e =
-    let a : length (lines_with f width k (t ∷ ts)) ≡ length (chart_line width t.name (f k)) + length (lines_with f width (k + 1) ts) = length-append (chart_line width t.name (f k)) (lines_with f width (k + 1) ts) in
-    let b : length (chart_line width t.name (f k)) ≡ line_length width n = length-line width n t.name (f k) fit.0 (e k) in
-    let c : length (lines_with f width (k + 1) ts) ≡ length ts * line_length width n = length-lines f width n (k + 1) ts fit.1 e in
-    omega (arith, a, b, c)
-
--- in the line of one task: its characters change so, and those of the others stay
-pub set-lines : (f g : ℕ → List ℕ) (width n k i p v : ℕ) (ts : List Task) (more : List ℕ) → NamesFit width ts → ((m : ℕ) → length (f m) ≡ n) → i < length ts → p < n
-    → g (k + i) ≡ set (f (k + i)) p v → ((m : ℕ) → m ≢ k + i → g m ≡ f m)
-    → set (lines_with f width k ts ++ more) (place width n i p) v ≡ lines_with g width k ts ++ more
-set-lines f g width n k i p v [] more fit e inside small here others = absurd (omega (arith, inside))
-set-lines f g width n k zero p v (t ∷ ts) more fit e inside small here others =
-    let at : place width n zero p ≡ width + 1 + p = omega arith in
-    let one : k + 0 ≡ k = omega arith in
-    let tail : lines_with f width (k + 1) ts ≡ lines_with g width (k + 1) ts = lines_same f g width (k + 1) ts (λ m a. others m (λ s. omega (arith, a, s))) in
-    let mine : g k ≡ set (f k) p v = rw one at here in
-    let first : set (chart_line width t.name (f k) ++ (lines_with f width (k + 1) ts ++ more)) (width + 1 + p) v ≡ chart_line width t.name (set (f k) p v) ++ (lines_with f width (k + 1) ts ++ more) =
-    set-line width p v t.name (f k) (lines_with f width (k + 1) ts ++ more) fit.0 (rw (e k) small) in
-    ap₂ (λ (l : List ℕ) (m : ℕ). set l m v) (append_assoc (chart_line width t.name (f k)) (lines_with f width (k + 1) ts) more) at
-    ∙ (first
-    ∙ (ap₂ (λ (l m : List ℕ). chart_line width t.name l ++ (m ++ more)) (sym mine) tail
-    ∙ sym (append_assoc (chart_line width t.name (g k)) (lines_with g width (k + 1) ts) more)))
-set-lines f g width n k (suc i) p v (t ∷ ts) more fit e inside small here others =
+-- in the line of task number i: its characters change so, and those of the others stay
+pub set-lines : (f g : ℕ → List ℕ) (width n k i p v : ℕ) (ts : List Task) (more : List ℕ) → name_width ts ≤ width → ((m : ℕ) → length (f m) ≡ n) → k ≤ i
+    → i < k + length ts → p < n → g i ≡ set (f i) p v → ((m : ℕ) → m ≢ i → f m ≡ g m)
+    → set (lines_with f width k ts ++ more) (place width n (i - k) p) v ≡ lines_with g width k ts ++ more
+set-lines f g width n k i p v [] more fit e first last small here others = absurd (omega arith)
+set-lines f g width n k i p v (t ∷ ts) more fit e first last small here others =
     let line : List ℕ = chart_line width t.name (f k) in
-    let long : length (chart_line width t.name (f k)) ≡ line_length width n = length-line width n t.name (f k) fit.0 (e k) in
-    let at : place width n (suc i) p ≡ line_length width n + place width n i p = omega arith in
-    let next : k + suc i ≡ k + 1 + i = omega arith in
-    let rest : set (lines_with f width (k + 1) ts ++ more) (place width n i p) v ≡ lines_with g width (k + 1) ts ++ more =
-    set-lines f g width n (k + 1) i p v ts more fit.1 e (omega (arith, inside)) small (rw next at here) (λ m a. others m (λ s. a (s ∙ next))) in
-    let same : g k ≡ f k = others k (λ s. omega (arith, s)) in
-    ap₂ (λ (l : List ℕ) (m : ℕ). set l m v) (append_assoc (chart_line width t.name (f k)) (lines_with f width (k + 1) ts) more) at
-    ∙ (set_behind (chart_line width t.name (f k)) (lines_with f width (k + 1) ts ++ more) (line_length width n) (place width n i p) v long
-    ∙ (ap₂ (λ (l m : List ℕ). chart_line width t.name l ++ m) (sym same) rest
-    ∙ sym (append_assoc (chart_line width t.name (g k)) (lines_with g width (k + 1) ts) more)))
+    let rest : List ℕ = lines_with f width (k + 1) ts ++ more in
+    let long : length line ≡ line_length width n = length-line width n t.name (f k) (omega arith) (e k) in
+    let apart = λ (h : ℕ → List ℕ). append_assoc (chart_line width t.name (h k)) (lines_with h width (k + 1) ts) more in
+    elim (cases_eq k i) [
+      | inl same ↦
+          let start : i - k ≡ 0 = omega arith in
+          let at : place width n 0 p ≡ width + 1 + p = omega arith in
+          let mine : g k ≡ set (f k) p v = rw same here in
+          let tail = lines_same f g width (k + 1) ts (λ m later. others m (λ s. omega arith)) in
+          let marked = set-line width p v t.name (f k) (omega arith) (rw (e k) small) in
+          rw (apart f, apart g, start, at, set-append_left line rest (width + 1 + p) v (omega arith), marked, tail, mine) refl
+      | inr other ↦
+          let next : i - k ≡ suc (i - (k + 1)) = omega arith in
+          let far : place width n (suc (i - (k + 1))) p ≡ line_length width n + place width n (i - (k + 1)) p = omega arith in
+          let behind = set-lines f g width n (k + 1) i p v ts more (omega arith) e (omega arith) (omega arith) small here others in
+          rw (apart f, apart g, next, far, set_behind line rest (line_length width n) _ v long, behind, others k other) refl
+    ]
 
--- the name of one of the tasks
-pub fits_at : (width : ℕ) (ts : List Task) (i : ℕ) (t : Task) → NamesFit width ts → slice_get ts i ≡ Some t → length t.name ≤ width
-fits_at width [] i t fit h = cc
-fits_at width (x ∷ xs) zero t fit h = let same : x ≡ t = cc h in subst (λ (u : Task). length u.name ≤ width) same fit.0
-fits_at width (x ∷ xs) (suc i) t fit h = fits_at width xs i t fit.1 h
+-- one line more, with all its ticks to come
+pub lines_more : (n width k : ℕ) (ts : List Task) (t : Task)
+    → lines_with (task_marks_to n []) width k (ts ++ t ∷ []) ≡ lines_with (task_marks_to n []) width k ts ++ chart_line width t.name (replicate n 46)
+lines_more n width k [] t = (let all : n - 0 ≡ n = omega arith in rw all (append-nil _))
+lines_more n width k (u ∷ us) t = rw (lines_more n width (k + 1) us t) (sym (append_assoc (chart_line width u.name (task_marks_to n [] k)) _ _))
+
+-- what is filled up to m with a character
+filled_up : (text : List ℕ) (len m k v : ℕ) → length text ≡ len → m ≡ len + k → take m text ++ replicate (m - len) v ≡ text ++ replicate k v
+filled_up text len m k v long is = (let missing : m - len ≡ k = omega arith in rw (take_all m text (omega arith), missing) refl)
 
 -- a name that is filled up twice, with spaces and with a character, and then ended, is a line
 pub pushed-line : (width n mark l l1 l2 : ℕ) (old t1 t2 t3 t4 name : List ℕ) → length name ≤ width → length old ≡ l → l1 ≡ l + length name → l2 ≡ l + width + 1
-    → t1 ≡ old ++ name → t2 ≡ take (l + width + 1) t1 ++ replicate (l + width + 1 - l1) 32 → t3 ≡ take (l + width + 1 + n) t2 ++ replicate (l + width + 1 + n - l2) mark → t4 ≡ t3 ++ 10 ∷ []
-    → t4 ≡ old ++ chart_line width name (replicate n mark)
+    → t1 ≡ old ++ name → t2 ≡ take (l + width + 1) t1 ++ replicate (l + width + 1 - l1) 32
+    → t3 ≡ take (l + width + 1 + n) t2 ++ replicate (l + width + 1 + n - l2) mark → t4 ≡ t3 ++ 10 ∷ [] → t4 ≡ old ++ chart_line width name (replicate n mark)
 pushed-line width n mark l l1 l2 old t1 t2 t3 t4 name fit e e1 e2 is1 is2 is3 is4 =
-    let gap : List ℕ = replicate (width - length name) 32 in
-    let long1 : length t1 ≡ l + length name = ap length is1 ∙ (length-append old name ∙ ap (λ m. m + length name) e) in
-    let all1 : take (l + width + 1) t1 ≡ t1 = take_all (l + width + 1) t1 (omega (arith, long1, fit)) in
-    let missing : l + width + 1 - l1 ≡ (width - length name) + 1 = omega (arith, e1, fit) in
-    let spaces : replicate (l + width + 1 - l1) 32 ≡ gap ++ codes " " = ap (λ m. replicate m 32) missing ∙ sym (replicate-append-replicate (width - length name) 1 32) in
-    let headed : t2 ≡ (old ++ name) ++ (gap ++ codes " ") = is2 ∙ ap₂ (λ (a b : List ℕ). a ++ b) (all1 ∙ is1) spaces in
-    let long2 : length t2 ≡ l + width + 1 =
-    ap length is2 ∙ (length-append (take (l + width + 1) t1) (replicate (l + width + 1 - l1) 32)
-    ∙ (ap₂ (λ (a b : ℕ). a + b) (ap length all1 ∙ long1) (length-replicate (l + width + 1 - l1) 32) ∙ omega (arith, e1, fit))) in
-    let all2 : take (l + width + 1 + n) t2 ≡ t2 = take_all (l + width + 1 + n) t2 (omega (arith, long2)) in
-    let rest : l + width + 1 + n - l2 ≡ n = omega (arith, e2) in
-    let marked : t3 ≡ ((old ++ name) ++ (gap ++ codes " ")) ++ replicate n mark = is3 ∙ ap₂ (λ (a b : List ℕ). a ++ b) (all2 ∙ headed) (ap (λ m. replicate m mark) rest) in
-    let line : (((old ++ name) ++ (gap ++ codes " ")) ++ replicate n mark) ++ 10 ∷ [] ≡ old ++ chart_line width name (replicate n mark) = simp append_assoc refl in
-    rw is4 (rw marked line)
+    let long1 : length t1 ≡ l1 = omega (arith, ap length is1, length-append old name) in
+    let headed : t2 ≡ t1 ++ replicate (width - length name + 1) 32 = is2 ∙ filled_up t1 l1 (l + width + 1) _ 32 long1 (omega arith) in
+    let long2 : length t2 ≡ l2 = omega (arith, long1, simp (length-append, length-replicate) at (ap length headed)) in
+    let marked : t3 ≡ t2 ++ replicate n mark = is3 ∙ filled_up t2 l2 (l + width + 1 + n) n mark long2 (omega arith) in
+    rw (is4, marked, headed, is1, ← replicate_more {X = ℕ} (width - length name) 32) (simp append_assoc refl)

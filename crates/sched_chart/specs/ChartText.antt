@@ -52,14 +52,14 @@ name_width (t ∷ ts) = max (length t.name) (name_width ts)
 abbrev pub chart_line : ℕ → List ℕ → List ℕ → List ℕ
 chart_line width name marks = name ++ (replicate (width - length name) 32 ++ (codes " " ++ (marks ++ codes "\n")))
 
--- the lines of these tasks, the first of which is number k
-abbrev pub task_lines : ℕ → ℕ → List Task → List Row → List ℕ
-task_lines width k [] h = []
-task_lines width k (t ∷ ts) h = chart_line width t.name (task_marks k h) ++ task_lines width (k + 1) ts h
+-- the lines of these tasks, the first of which is number k, with the characters that are given for each number
+abbrev pub lines_with : (ℕ → List ℕ) → ℕ → ℕ → List Task → List ℕ
+lines_with marks width k [] = []
+lines_with marks width k (t ∷ ts) = chart_line width t.name (marks k) ++ lines_with marks width (k + 1) ts
 
 -- the chart of a set's trace
 unfoldable pub chart_text : List Task → List Row → List ℕ
-chart_text set h = task_lines (name_width set) 1 set h ++ chart_line (name_width set) (codes "(mode)") (mode_marks h)
+chart_text set h = lines_with (λ k. task_marks k h) (name_width set) 1 set ++ chart_line (name_width set) (codes "(mode)") (mode_marks h)
 
 -- law: of a legal trace the chart's mode is the mode under the rule
 abbrev pub ChartedModeLaw : Type 0

@@ -1,8 +1,8 @@
 -- A chart that is filled in tick by tick, and how its lines lie in it. The newest row stands first.
-use Rattle.std.specs.Prelude.{ℕ, ◌+◌, ◌-◌, ◌*◌, ◌≤◌, List, [], ◌∷◌, ◌++◌, replicate, codes}
+use Rattle.std.specs.Prelude.{ℕ, ◌+◌, ◌-◌, ◌*◌, ◌≤◌, List, ◌++◌, replicate, codes}
 use Rattle.mc_task.specs.declared.task.Task.{Task}
 use Rattle.mc_model.specs.Rows.{ticks}
-use Rattle.sched_chart.specs.ChartText.{task_marks, mode_marks, name_width, chart_line}
+use Rattle.sched_chart.specs.ChartText.{task_marks, mode_marks, name_width, chart_line, lines_with}
 use Rattle.mc_model.specs.declared.row.Row.{Row}
 use Rattle.sched_chart.specs.declared.sheet.Sheet.{Sheet}
 
@@ -18,11 +18,6 @@ line_length width n = width + n + 2
 -- where the character of a tick stands: behind so many lines, a name and a space
 abbrev pub place : ℕ → ℕ → ℕ → ℕ → ℕ
 place width n line tick = line * line_length width n + (width + 1 + tick)
-
--- the lines of these tasks, the first of which is number k, with the characters that are given for each number
-abbrev pub lines_with : (ℕ → List ℕ) → ℕ → ℕ → List Task → List ℕ
-lines_with marks width k [] = []
-lines_with marks width k (t ∷ ts) = chart_line width t.name (marks k) ++ lines_with marks width (k + 1) ts
 
 -- the characters of task number k after these rows, and a dot for each tick that is still to come, of n
 abbrev pub task_marks_to : ℕ → List Row → ℕ → List ℕ

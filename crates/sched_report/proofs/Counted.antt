@@ -1,5 +1,5 @@
 -- What a row adds to the tally of a task. The newest row stands first.
-use Rattle.std.proofs.Common.{◌≡◌, ℕ, zero, suc, ◌+◌, ◌-◌, Bool, true, false, not, ◌&&◌, ◌||◌, ◌==◌, List, ◌∷◌, ◌++◌, replicate, Option, Some, None, cond, refl, sym, ap, subst, ◌∙◌, arith, eqb-true}
+use Rattle.std.proofs.Common.{◌≡◌, ℕ, zero, suc, ◌+◌, ◌-◌, Bool, true, false, not, ◌&&◌, ◌==◌, List, ◌∷◌, ◌++◌, replicate, Option, Some, None, cond, refl, sym, ap, ◌∙◌, arith, eqb-true}
 use Rattle.mc_task.specs.declared.task.Rule.{Rule}
 use Rattle.mc_task.specs.declared.task.Task.{Task}
 use Rattle.mc_task.specs.declared.task.JobId.{JobId}
@@ -10,17 +10,19 @@ use Rattle.mc_model.specs.declared.row.Row.{Row}
 use Rattle.mc_model.specs.declared.row.Row.TheVariants.{Release, Tick, Idle}
 use Rattle.mc_task.specs.Kinds.{is_high}
 use Rattle.mc_model.specs.TaskNumbers.{is_high_in}
-use Rattle.mc_model.specs.Pending.{KeptRelease, released, is_end, is_live, ended}
+use Rattle.mc_model.specs.Pending.{KeptRelease, released, is_end, is_live}
 use Rattle.mc_model.specs.Rows.{ticks}
 use Rattle.mc_model.specs.Mode.{is_over}
 use Rattle.mc_model.specs.Legal.{Legal, same_how}
-use Rattle.sched_report.specs.ReportText.{how_many, is_of, is_drop_of, is_tick_of, is_how_of, is_discarded, is_idle, is_switch, greatest}
+use Rattle.sched_report.specs.ReportText.{how_many, is_of, is_drop_of, is_tick_of, is_how_of, is_discarded, greatest}
+use Rattle.std.proofs.Math.Bool.{and-false}
+use Rattle.mc_model.proofs.Booleans.{not_both}
 use Rattle.mc_model.proofs.Lists.{Each-all}
 use Rattle.sched_report.specs.declared.task_tally.TaskTally.{TaskTally}
 use Rattle.sched_report.specs.TaskTally.{level_in, tally_of, with_release, with_tick, with_more, with_response, with_switch}
 use Rattle.sched_report.proofs.HowMany.{one, how_many-cons, how_many_none, how_many-filter}
 use Rattle.sched_report.proofs.Released.{release_of}
-use Rattle.sched_report.proofs.AddUp.{discarded, discarded-release, discarded-idle, discarded-tick, live, ended-tick, none_of, counts_add_up}
+use Rattle.sched_report.proofs.AddUp.{discarded, discarded-release, discarded-idle, discarded-tick, live, ended-tick, one_of, none_of, counts_add_up}
 use Rattle.sched_report.proofs.Responses.{responses-release, responses-tick, responses-other, responses-end}
 
 -- tallies are equal where their parts are
@@ -40,40 +42,28 @@ tally_eq a b level released kept dropped discarded done stopped ticks response =
 -- the kept jobs of a task after a release
 kept-release : (j : JobId) (kept : Bool) (g : List Row) (k : ℕ) → how_many (is_of k) (released (Release j kept ∷ g)) ≡ one ((j.task.0 == k) && kept) + how_many (is_of k) (released g)
 kept-release j false g k = omega (arith, none_of (j.task.0 == k))
-kept-release j true g k = omega (arith, whole (j.task.0 == k), how_many-cons (is_of k) (record { job = j; release = ticks g }) (released g))
-  where
-    whole : (b : Bool) → one (b && true) ≡ one b
-    whole b = grind arith
-
--- and the dropped releases
-dropped-release : (j : JobId) (kept : Bool) (g : List Row) (k : ℕ) → how_many (is_drop_of k) (Release j kept ∷ g) ≡ one ((j.task.0 == k) && not kept) + how_many (is_drop_of k) g
-dropped-release j kept g k = how_many-cons (is_drop_of k) (Release j kept) g
+kept-release j true g k = omega (arith, one_of (j.task.0 == k), how_many-cons (is_of k) (record { job = j; release = ticks g }) (released g))
 
 -- a release of the task
 pub release-mine : (set : List Task) (rule : Rule) (j : JobId) (kept : Bool) (g : List Row) (k : ℕ) → Legal set rule (Release j kept ∷ g) → (j.task.0 == k) ≡ true
     → tally_of set (Release j kept ∷ g) k ≡ with_release kept (tally_of set g k)
 release-mine set rule j kept g k l o =
+    let kept_is : one ((j.task.0 == k) && kept) ≡ cond kept 1 0 = rw o refl in
+    let dropped_is : one ((j.task.0 == k) && not kept) ≡ cond kept 0 1 = rw o (grind arith) in
     tally_eq (tally_of set (Release j kept ∷ g) k) (with_release kept (tally_of set g k)) refl
-    (omega (arith, ap one o)) (kept_so kept) (dropped_so kept) (discarded-release set rule j kept g k l) refl refl refl (ap greatest (responses-release set rule j kept g k l))
-  where
-    kept_so : (kept : Bool) → how_many (is_of k) (released (Release j kept ∷ g)) ≡ how_many (is_of k) (released g) + cond kept 1 0
-    kept_so kept = let e = kept-release j kept g k in let f : one ((j.task.0 == k) && kept) ≡ cond kept 1 0 = rw o refl in omega (arith, e, f)
-
-    dropped_so : (kept : Bool) → how_many (is_drop_of k) (Release j kept ∷ g) ≡ how_many (is_drop_of k) g + cond kept 0 1
-    dropped_so true = let e = dropped-release j true g k in let f : one ((j.task.0 == k) && false) ≡ 0 = rw o refl in omega (arith, e, f)
-    dropped_so false = let e = dropped-release j false g k in let f : one ((j.task.0 == k) && true) ≡ 1 = rw o refl in omega (arith, e, f)
+    (omega (arith, ap one o)) (omega (arith, kept-release j kept g k, kept_is)) (omega (arith, how_many-cons (is_drop_of k) (Release j kept) g, dropped_is))
+    (discarded-release set rule j kept g k l) refl refl refl (ap greatest (responses-release set rule j kept g k l))
 
 -- and of another one
 pub release-other : (set : List Task) (rule : Rule) (j : JobId) (kept : Bool) (g : List Row) (k : ℕ) → Legal set rule (Release j kept ∷ g) → (j.task.0 == k) ≡ false
     → tally_of set (Release j kept ∷ g) k ≡ tally_of set g k
 release-other set rule j kept g k l o =
+    let none : (b : Bool) → one ((j.task.0 == k) && b) ≡ 0 = λ b. rw o refl in
     tally_eq (tally_of set (Release j kept ∷ g) k) (tally_of set g k) refl
-    (omega (arith, ap one o))
-    (let e = kept-release j kept g k in let f : one ((j.task.0 == k) && kept) ≡ 0 = rw o refl in omega (arith, e, f))
-    (let e = dropped-release j kept g k in let f : one ((j.task.0 == k) && not kept) ≡ 0 = rw o refl in omega (arith, e, f))
+    (omega (arith, ap one o)) (omega (arith, kept-release j kept g k, none kept)) (omega (arith, how_many-cons (is_drop_of k) (Release j kept) g, none (not kept)))
     (discarded-release set rule j kept g k l) refl refl refl (ap greatest (responses-release set rule j kept g k l))
 
--- the ticks of a task after one more
+-- the ticks of a task after one more, and those that ended so
 ticks-tick : (j : JobId) (how : How) (g : List Row) (k : ℕ) → how_many (is_tick_of k) (Tick j how ∷ g) ≡ one (j.task.0 == k) + how_many (is_tick_of k) g
 ticks-tick j how g k = how_many-cons (is_tick_of k) (Tick j how) g
 
@@ -111,32 +101,18 @@ discarded-high : (set : List Task) (h : List Row) (k : ℕ) → is_high_in (task
 discarded-high set h k high = how_many_none (λ i. is_of k i && is_discarded set h i) (released h) (Each-all each (released h))
   where
     each : (x : KeptRelease) → (is_of k x && is_discarded set h x) ≡ false
-    each x = go (is_of k x) refl
-      where
-        go : (b : Bool) → is_of k x ≡ b → (is_of k x && is_discarded set h x) ≡ false
-        go false m = rw m refl
-        go true m =
-            let so : is_high_in (task_at set x.job.task.0) ≡ true = subst (λ n. is_high_in (task_at set n) ≡ true) (sym (eqb-true _ _ m)) high in
-            rw (m, so) refl
+    each x = not_both (is_of k x) (is_discarded set h x) (λ m n.
+        let so : is_high_in (task_at set x.job.task.0) ≡ true = rw (eqb-true x.job.task.0 k m) high in
+        cc (rw so at n))
 
 -- after an overrun no job of a low task is pending
 live-low : (set : List Task) (j : JobId) (g : List Row) (k : ℕ) → is_high_in (task_at set k) ≡ false → live set (Tick j Over ∷ g) k ≡ 0
 live-low set j g k low = how_many-filter (is_of k) (is_live set (Tick j Over ∷ g)) (released g) ∙ how_many_none (λ x. is_live set (Tick j Over ∷ g) x && is_of k x) (released g) (Each-all each (released g))
   where
-    none : (a : Bool) → (a && (false || not (true || false))) ≡ false
-    none a = grind arith
-
-    drop : (a : Bool) → (a && false) ≡ false
-    drop a = grind arith
-
     each : (x : KeptRelease) → (is_live set (Tick j Over ∷ g) x && is_of k x) ≡ false
-    each x = go (is_of k x) refl
-      where
-        go : (b : Bool) → is_of k x ≡ b → (is_live set (Tick j Over ∷ g) x && is_of k x) ≡ false
-        go false m = rw m (drop (is_live set (Tick j Over ∷ g) x))
-        go true m =
-            let so : is_high_in (task_at set x.job.task.0) ≡ false = subst (λ n. is_high_in (task_at set n) ≡ false) (sym (eqb-true _ _ m)) low in
-            rw (m, so) (rw (drop (not (ended g x.job))) refl)
+    each x = not_both (is_live set (Tick j Over ∷ g) x) (is_of k x) (λ n m.
+        let so : is_high_in (task_at set x.job.task.0) ≡ false = rw (eqb-true x.job.task.0 k m) low in
+        cc (rw (so, and-false) at n))
 
 -- what an overrun leaves discarded
 discarded-so : (set : List Task) (rule : Rule) (j : JobId) (g : List Row) (k : ℕ) → Legal set rule (Tick j Over ∷ g)
@@ -151,20 +127,23 @@ discarded-so set rule j g k l = go (is_high_in (task_at set k)) refl
         rw (level-high (task_at set k), m)
         (omega (arith, all, live-low set j g k m, ended-tick j Over Done g k, ended-tick j Over Stop g k, none_of (j.task.0 == k)))
 
--- an overrun of the task
-pub over-mine : (set : List Task) (rule : Rule) (j : JobId) (g : List Row) (k : ℕ) → Legal set rule (Tick j Over ∷ g) → (j.task.0 == k) ≡ true
-    → tally_of set (Tick j Over ∷ g) k ≡ with_switch (with_tick Over (tally_of set g k))
-over-mine set rule j g k l o =
-    tally_eq (tally_of set (Tick j Over ∷ g) k) (with_switch (with_tick Over (tally_of set g k))) refl refl refl refl
-    (discarded-so set rule j g k l ∙ ap (λ n. cond (is_high (level_in (task_at set k))) (discarded set g k) n) (omega arith))
-    (ended-mine j Over Done g k o) (ended-mine j Over Stop g k o) (omega (arith, ticks-tick j Over g k, ap one o)) (ap greatest (responses-tick j Over g k refl))
+-- the tallies before an overrun discards jobs, with its tick at task number k
+abbrev pub with_over : (ℕ → TaskTally) → ℕ → ℕ → TaskTally
+with_over f k m = cond (k == m) (with_tick Over (f m)) (f m)
 
--- and of another one
-pub over-other : (set : List Task) (rule : Rule) (j : JobId) (g : List Row) (k : ℕ) → Legal set rule (Tick j Over ∷ g) → (j.task.0 == k) ≡ false
-    → tally_of set (Tick j Over ∷ g) k ≡ with_switch (tally_of set g k)
-over-other set rule j g k l o =
-    tally_eq (tally_of set (Tick j Over ∷ g) k) (with_switch (tally_of set g k)) refl refl refl refl (discarded-so set rule j g k l)
-    (ended-other j Over Done g k o) (ended-other j Over Stop g k o) (omega (arith, ticks-tick j Over g k, ap one o)) (ap greatest (responses-tick j Over g k refl))
+-- an overrun, of the task or of another one
+pub over-same : (set : List Task) (rule : Rule) (j : JobId) (g : List Row) (k : ℕ) → Legal set rule (Tick j Over ∷ g)
+    → tally_of set (Tick j Over ∷ g) k ≡ with_switch (with_over (tally_of set g) j.task.0 k)
+over-same set rule j g k l = go (j.task.0 == k) refl
+  where
+    go : (b : Bool) → (j.task.0 == k) ≡ b → tally_of set (Tick j Over ∷ g) k ≡ with_switch (cond b (with_tick Over (tally_of set g k)) (tally_of set g k))
+    go true o =
+        tally_eq (tally_of set (Tick j Over ∷ g) k) (with_switch (with_tick Over (tally_of set g k))) refl refl refl refl
+        (discarded-so set rule j g k l ∙ ap (λ n. cond (is_high (level_in (task_at set k))) (discarded set g k) n) (omega arith))
+        (ended-mine j Over Done g k o) (ended-mine j Over Stop g k o) (omega (arith, ticks-tick j Over g k, ap one o)) (ap greatest (responses-tick j Over g k refl))
+    go false o =
+        tally_eq (tally_of set (Tick j Over ∷ g) k) (with_switch (tally_of set g k)) refl refl refl refl (discarded-so set rule j g k l)
+        (ended-other j Over Done g k o) (ended-other j Over Stop g k o) (omega (arith, ticks-tick j Over g k, ap one o)) (ap greatest (responses-tick j Over g k refl))
 
 -- an idle tick
 pub idle-same : (set : List Task) (g : List Row) (k : ℕ) → tally_of set (Idle ∷ g) k ≡ tally_of set g k
@@ -187,20 +166,3 @@ more_run-other set j (suc n) g k o = tick-other set j More (replicate n (Tick j 
 pub idle_run-same : (set : List Task) (n : ℕ) (g : List Row) (k : ℕ) → tally_of set (replicate n Idle ++ g) k ≡ tally_of set g k
 idle_run-same set zero g k = refl
 idle_run-same set (suc n) g k = idle-same set (replicate n Idle ++ g) k ∙ idle_run-same set n g k
-
--- the idle ticks and the switches after each
-pub idle-more : (j : JobId) (n : ℕ) (g : List Row) → how_many is_idle (replicate n (Tick j More) ++ g) ≡ how_many is_idle g
-idle-more j zero g = refl
-idle-more j (suc n) g = idle-more j n g
-
-pub switch-more : (j : JobId) (n : ℕ) (g : List Row) → how_many is_switch (replicate n (Tick j More) ++ g) ≡ how_many is_switch g
-switch-more j zero g = refl
-switch-more j (suc n) g = switch-more j n g
-
-pub idle-idle : (n : ℕ) (g : List Row) → how_many is_idle (replicate n Idle ++ g) ≡ how_many is_idle g + n
-idle-idle zero g = omega arith
-idle-idle (suc n) g = let more : how_many is_idle (replicate n Idle ++ g) ≡ how_many is_idle g + n = idle-idle n g in omega (arith, more, how_many-cons is_idle Idle (replicate n Idle ++ g))
-
-pub switch-idle : (n : ℕ) (g : List Row) → how_many is_switch (replicate n Idle ++ g) ≡ how_many is_switch g
-switch-idle zero g = refl
-switch-idle (suc n) g = switch-idle n g

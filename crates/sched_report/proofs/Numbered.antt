@@ -6,7 +6,7 @@ use Rattle.mc_task.specs.TaskSet.{task_at}
 use Rattle.mc_model.proofs.Tasks.{task_at-next}
 use Rattle.mc_model.proofs.Walk.{drop_at}
 use Rattle.sched_report.specs.declared.task_tally.TaskTally.{TaskTally}
-use Rattle.sched_report.specs.TaskTally.{level_in, tally_of}
+use Rattle.sched_report.specs.TaskTally.{tally_of}
 use Rattle.sched_report.specs.Tally.{numbered}
 
 pub length-numbered : {X : Type 0} (f : ℕ → X) → (k : ℕ) (ts : List Task) → length (numbered f k ts) ≡ length ts
@@ -17,31 +17,24 @@ pub numbered_same : {X : Type 0} (f g : ℕ → X) → (k : ℕ) (ts : List Task
 numbered_same f g k [] h = refl
 numbered_same f g k (t ∷ ts) h = ap₂ (λ x xs. x ∷ xs) (h k (omega arith)) (numbered_same f g (k + 1) ts (λ m a. h m (omega (arith, a))))
 
-pub get-numbered : {X : Type 0} (f : ℕ → X) → (k i : ℕ) (ts : List Task) → i < length ts → slice_get (numbered f k ts) i ≡ Some (f (k + i))
-get-numbered f k i [] h = absurd (omega (arith, h))
-get-numbered f k zero (t ∷ ts) h = let same : k ≡ k + 0 = omega arith in ap (λ m. Some (f m)) same
-get-numbered f k (suc i) (t ∷ ts) h =
-    let same : k + 1 + i ≡ k + suc i = omega arith in
-    get-numbered f (k + 1) i ts (omega (arith, h)) ∙ ap (λ m. Some (f m)) same
+pub get-numbered : {X : Type 0} (f : ℕ → X) → (k i n : ℕ) (ts : List Task) → i < length ts → k + i ≡ n → slice_get (numbered f k ts) i ≡ Some (f n)
+get-numbered f k i n [] h e = absurd (omega (arith, h))
+get-numbered f k zero n (t ∷ ts) h e = let same : k ≡ n = omega (arith, e) in ap (λ m. Some (f m)) same
+get-numbered f k (suc i) n (t ∷ ts) h e = get-numbered f (k + 1) i n ts (omega (arith, h)) (omega (arith, e))
 
 -- one of them changed
-pub set-numbered : {X : Type 0} (f g : ℕ → X) → (k i : ℕ) (x : X) (ts : List Task) → i < length ts → g (k + i) ≡ x → ((m : ℕ) → m ≢ k + i → g m ≡ f m) → set (numbered f k ts) i x ≡ numbered g k ts
-set-numbered f g k i x [] h here others = absurd (omega (arith, h))
-set-numbered f g k zero x (t ∷ ts) h here others =
-    let same : k ≡ k + 0 = omega arith in
-    ap₂ (λ y ys. y ∷ ys) (sym here ∙ ap g (sym same)) (numbered_same f g (k + 1) ts (λ m a. sym (others m (λ s. omega (arith, a, s)))))
-set-numbered f g k (suc i) x (t ∷ ts) h here others =
-    let next : k + suc i ≡ k + 1 + i = omega arith in
-    ap₂ (λ y ys. y ∷ ys) (sym (others k (λ s. omega (arith, s))))
-    (set-numbered f g (k + 1) i x ts (omega (arith, h)) (ap g (sym next) ∙ here) (λ m a. others m (λ s. a (s ∙ next))))
+pub set-numbered : {X : Type 0} (f g : ℕ → X) → (k i n : ℕ) (x : X) (ts : List Task) → i < length ts → k + i ≡ n → g n ≡ x → ((m : ℕ) → m ≢ n → g m ≡ f m)
+    → set (numbered f k ts) i x ≡ numbered g k ts
+set-numbered f g k i n x [] h e here others = absurd (omega (arith, h))
+set-numbered f g k zero n x (t ∷ ts) h e here others =
+    let same : n ≡ k = omega (arith, e) in
+    ap₂ (λ y ys. y ∷ ys) (sym here ∙ ap g same) (numbered_same f g (k + 1) ts (λ m a. sym (others m (λ s. omega (arith, a, s, e)))))
+set-numbered f g k (suc i) n x (t ∷ ts) h e here others =
+    ap₂ (λ y ys. y ∷ ys) (sym (others k (λ s. omega (arith, s, e)))) (set-numbered f g (k + 1) i n x ts (omega (arith, h)) (omega (arith, e)) here others)
 
 pub map-numbered : {X Y : Type 0} (f : ℕ → X) (g : X → Y) → (k : ℕ) (ts : List Task) → map g (numbered f k ts) ≡ numbered (λ m. g (f m)) k ts
 map-numbered f g k [] = refl
 map-numbered f g k (t ∷ ts) = ap (λ ys. g (f k) ∷ ys) (map-numbered f g (k + 1) ts)
-
--- the next of them
-pub numbered-drop : {X : Type 0} (f : ℕ → X) → (i : ℕ) (ts : List Task) (t : Task) → slice_get ts i ≡ Some t → numbered f (i + 1) (drop i ts) ≡ f (i + 1) ∷ numbered f (i + 1 + 1) (drop (i + 1) ts)
-numbered-drop f i ts t h = ap (numbered f (i + 1)) (drop_at ts i t h)
 
 -- the tally of no rows
 abbrev no_rows : Level → TaskTally
@@ -54,8 +47,4 @@ pub numbered_next : (tasks : List Task) (i : ℕ) (t : Task) (some more whole : 
 numbered_next tasks i t some more whole found is h =
     let next : i + 1 ≡ 1 + i = omega arith in
     let number : task_at tasks (i + 1) ≡ Some t = ap (task_at tasks) next ∙ (task_at-next tasks i ∙ found) in
-    let none : tally_of tasks [] (i + 1) ≡ no_rows t.level = ap (λ o. no_rows (level_in o)) number in
-    ap (λ l. l ++ numbered (tally_of tasks []) (i + 1 + 1) (drop (i + 1) tasks)) is
-    ∙ (append_assoc some _ (numbered (tally_of tasks []) (i + 1 + 1) (drop (i + 1) tasks))
-    ∙ (ap (λ x. some ++ (x ∷ numbered (tally_of tasks []) (i + 1 + 1) (drop (i + 1) tasks))) (sym none)
-    ∙ (ap (λ l. some ++ l) (sym (numbered-drop (tally_of tasks []) i tasks t found)) ∙ h)))
+    rw (is, append_assoc) (rw (drop_at tasks i t found, number) at h)

@@ -26,9 +26,6 @@ none_of_next set rule j kept g l =
 -- at most one kept release is of a job
 pub once : (set : List Task) (rule : Rule) (h : List Row) (j : JobId) → Legal set rule h → how_many (λ x. same_job j x.job) (released h) ≤ 1
 once set rule [] j l = omega arith
-once set rule (Release i false ∷ g) j l = once set rule g j l.2
-once set rule (Tick i how ∷ g) j l = once set rule g j l.2
-once set rule (Idle ∷ g) j l = once set rule g j l.2
 once set rule (Release i true ∷ g) j l = go (same_job j i) refl (once set rule g j l.2)
   where
     rest : (j ≡ i) → how_many (λ x. same_job j x.job) (released g) ≡ 0
@@ -37,6 +34,7 @@ once set rule (Release i true ∷ g) j l = go (same_job j i) refl (once set rule
     go : (b : Bool) → same_job j i ≡ b → how_many (λ x. same_job j x.job) (released g) ≤ 1 → how_many (λ x. same_job j x.job) (released (Release i true ∷ g)) ≤ 1
     go true m ih = omega (arith, ap one m, rest (job_eq j i m), how_many-cons (λ (x : KeptRelease). same_job j x.job) (record { job = i; release = ticks g }) (released g))
     go false m ih = omega (arith, ap one m, ih, how_many-cons (λ (x : KeptRelease). same_job j x.job) (record { job = i; release = ticks g }) (released g))
+once set rule (row ∷ g) j l = once set rule g j l.2
 
 -- the job's release time; 0 where it has none
 abbrev pub release_of : List Row → JobId → ℕ
@@ -48,9 +46,6 @@ release_of (Idle ∷ g) j = release_of g j
 -- is that of its kept release
 pub release_is : (set : List Task) (rule : Rule) (h : List Row) (j : JobId) → Legal set rule h → Each (λ x. same_job j x.job ≡ true → x.release ≡ release_of h j) (released h)
 release_is set rule [] j l = tt
-release_is set rule (Release i false ∷ g) j l = release_is set rule g j l.2
-release_is set rule (Tick i how ∷ g) j l = release_is set rule g j l.2
-release_is set rule (Idle ∷ g) j l = release_is set rule g j l.2
 release_is set rule (Release i true ∷ g) j l = (λ m. rw m refl, go (same_job j i) refl (release_is set rule g j l.2))
   where
     go : (b : Bool) → same_job j i ≡ b → Each (λ x. same_job j x.job ≡ true → x.release ≡ release_of g j) (released g)
@@ -58,6 +53,7 @@ release_is set rule (Release i true ∷ g) j l = (λ m. rw m refl, go (same_job 
     go false m ih = rw m ih
     go true m ih =
         Each-map {P = λ x. same_job i x.job ≡ false} (λ x n e. absurd (let f : same_job j x.job ≡ false = subst (λ k. same_job k x.job ≡ false) (sym (job_eq j i m)) n in cc (e, f))) (released g) (none_of_next set rule i true g l)
+release_is set rule (row ∷ g) j l = release_is set rule g j l.2
 
 -- what is pending after a release
 pub pending-release : (set : List Task) (rule : Rule) (j : JobId) (kept : Bool) (g : List Row) → Legal set rule (Release j kept ∷ g)

@@ -1,5 +1,5 @@
 -- What a row adds to the responses of a task. The newest row stands first.
-use Rattle.std.proofs.Common.{◌≡◌, ℕ, ◌+◌, ◌-◌, max, Bool, true, false, not, ◌&&◌, ◌||◌, ◌==◌, List, [], ◌∷◌, filter, map, refl, ap, subst, arith}
+use Rattle.std.proofs.Common.{◌≡◌, ℕ, ◌+◌, ◌-◌, max, Bool, true, false, ◌&&◌, ◌||◌, ◌==◌, List, [], ◌∷◌, filter, map, refl, ap, subst, arith}
 use Rattle.mc_task.specs.declared.task.Rule.{Rule}
 use Rattle.mc_task.specs.declared.task.Task.{Task}
 use Rattle.mc_task.specs.declared.task.JobId.{JobId}
@@ -16,7 +16,9 @@ use Rattle.mc_model.proofs.Steps.{release_fits}
 use Rattle.mc_model.proofs.Counts.{counted}
 use Rattle.mc_model.proofs.Bridge.{bridge, not_ended}
 use Rattle.sched_report.proofs.Released.{release_of, release_is, ticks_pending, at_pending}
-use Rattle.std.proofs.lemmas.Bool.{or_parts}
+use Rattle.std.proofs.lemmas.Bool.{and_parts, or_parts}
+use Rattle.std.proofs.Math.Bool.{and-false}
+use Rattle.mc_model.proofs.Booleans.{not_true, or_true}
 
 -- tests that agree, and values that agree where they pass
 same_values : (f g : KeptRelease → ℕ) (p q : KeptRelease → Bool) (xs : List KeptRelease) → Each (λ x. (p x ≡ q x) × (q x ≡ true → f x ≡ g x)) xs → map f (filter p xs) ≡ map g (filter q xs)
@@ -37,16 +39,13 @@ there : (p : KeptRelease → Bool) (j : JobId) (xs : List KeptRelease) → is_pe
 there p j [] h = h
 there p j (x ∷ xs) h = go (p x) refl (there p j xs)
   where
-    or_right : (a b : Bool) → b ≡ true → (a || b) ≡ true
-    or_right a b h = grind arith
-
     either : (a b c : Bool) → (b ≡ true → c ≡ true) → (a || b) ≡ true → (a || c) ≡ true
     either true b c f h = refl
     either false b c f h = f h
 
     go : (b : Bool) → p x ≡ b → (is_pending (filter p xs) j ≡ true → is_pending xs j ≡ true) → is_pending (x ∷ xs) j ≡ true
     go true m ih = either (same_job j x.job) (is_pending (filter p xs) j) (is_pending xs j) ih (rw m at h)
-    go false m ih = or_right (same_job j x.job) (is_pending xs j) (ih (rw m at h))
+    go false m ih = or_true (same_job j x.job) (is_pending xs j) (ih (rw m at h))
 
 -- where the value of one job is added
 record IsAdded (f g : KeptRelease → ℕ) (p q : KeptRelease → Bool) (j : JobId) (v : ℕ) (x : KeptRelease) : Type 0 where
@@ -57,9 +56,6 @@ greatest_with : (f g : KeptRelease → ℕ) (p q : KeptRelease → Bool) (j : Jo
 greatest_with f g p q j v [] t h = cc
 greatest_with f g p q j v (x ∷ xs) t h = go (same_job j x.job) refl (greatest_with f g p q j v xs)
   where
-    goal : Type 0
-    goal = greatest (map f (filter p (x ∷ xs))) ≡ max (greatest (map g (filter q (x ∷ xs)))) v
-
     tail : (b : Bool) → is_pending xs j ≡ b → (is_pending xs j ≡ true → Each (IsAdded f g p q j v) xs → greatest (map f (filter p xs)) ≡ max (greatest (map g (filter q xs))) v)
         → max v (greatest (map f (filter p xs))) ≡ max (greatest (map g (filter q xs))) v
     tail true n ih = let e = ih n h.1 in omega (arith, e)
@@ -83,10 +79,7 @@ responses-release set rule j true g k l =
     let b = (bridge set rule (Release j true ∷ g) l).legal in
     let c : j.count ≡ releases g j.task.0 + 1 = (release_fits set rule j true g b.1).count in
     let fresh : ended g j ≡ false = not_ended g j ((counted set rule g b.2).fresh j (omega (arith, c))) in
-    rw fresh (rw (none (j.task.0 == k)) refl)
-  where
-    none : (a : Bool) → (a && false) ≡ false
-    none a = grind arith
+    rw (fresh, and-false) refl
 
 -- nor does a tick that is not the job's last
 pub responses-tick : (j : JobId) (how : How) (g : List Row) (k : ℕ) → is_end how ≡ false → responses (Tick j how ∷ g) k ≡ responses g k
@@ -103,15 +96,12 @@ responses-other j how g k o =
     each : (x : KeptRelease) → ((is_of k x && ended (Tick j how ∷ g) x.job) ≡ (is_of k x && ended g x.job)) × ((is_of k x && ended g x.job) ≡ true → response (Tick j how ∷ g) x ≡ response g x)
     each x = go (same_job j x.job) refl
       where
-        no_end : (a : Bool) → (a && false) ≡ false
-        no_end a = grind arith
-
         not_of : same_job j x.job ≡ true → is_of k x ≡ false
         not_of m = subst (λ (i : JobId). (i.task.0 == k) ≡ false) (job_eq j x.job m) o
 
         go : (b : Bool) → same_job j x.job ≡ b → ((is_of k x && ended (Tick j how ∷ g) x.job) ≡ (is_of k x && ended g x.job)) × ((is_of k x && ended g x.job) ≡ true → response (Tick j how ∷ g) x ≡ response g x)
         go true m = (rw (not_of m) refl, λ t. absurd (let f = rw (not_of m) at t in cc f))
-        go false m = (rw m (rw (no_end (is_end how)) refl), λ t. rw m (rw (no_end (is_end how)) refl))
+        go false m = (rw (m, and-false) refl, λ t. rw (m, and-false) refl)
 
 -- the last tick of a job of the task adds its response
 pub responses-end : (set : List Task) (rule : Rule) (j : JobId) (how : How) (g : List Row) (k : ℕ) → is_end how ≡ true → (j.task.0 == k) ≡ true → Legal set rule (Tick j how ∷ g)
@@ -121,15 +111,11 @@ responses-end set rule j how g k e o l =
     (there (is_live set g) j (released g) (ticks_pending set rule j how g l))
     (Each-map {P = λ x. same_job j x.job ≡ true → x.release ≡ release_of g j} (λ x r. record { other = other x; mine = mine x r }) (released g) (release_is set rule g j l.2))
   where
-    live_not_ended : (a b : Bool) → (not a && b) ≡ true → a ≡ false
-    live_not_ended true b h = cc
-    live_not_ended false b h = refl
-
     open_job : ended g j ≡ false
     open_job =
         at_pending (λ i r. ended g i ≡ false) j (release_of g j) (pending set g) (ticks_pending set rule j how g l)
         (Each-filter (λ x. same_job j x.job ≡ true → x.release ≡ release_of g j) (is_live set g) (released g) (release_is set rule g j l.2))
-        (Each-filter_if (λ x. ended g x.job ≡ false) (is_live set g) (released g) (Each-all (λ x h. live_not_ended (ended g x.job) _ h) (released g)))
+        (Each-filter_if (λ x. ended g x.job ≡ false) (is_live set g) (released g) (Each-all (λ x h. not_true (ended g x.job) (and_parts _ _ h).0) (released g)))
 
     other : (x : KeptRelease) → same_job j x.job ≡ false → ((is_of k x && ended (Tick j how ∷ g) x.job) ≡ (is_of k x && ended g x.job)) × (response (Tick j how ∷ g) x ≡ response g x)
     other x m = (rw (e, m) refl, rw (e, m) refl)

@@ -1,5 +1,5 @@
 -- The tally after one more row of a legal trace is that of its rows. The newest row stands first.
-use Rattle.std.proofs.Common.{◌≡◌, ◌≢◌, ℕ, zero, suc, ◌+◌, ◌-◌, ◌≤◌, Bool, true, false, not, ◌&&◌, ◌||◌, ◌==◌, List, ◌∷◌, ◌++◌, Some, cond, replicate, length, map, set, slice_get, refl, sym, ap, subst, ◌∙◌, arith}
+use Rattle.std.proofs.Common.{◌≡◌, ℕ, zero, suc, ◌+◌, ◌-◌, ◌≤◌, Bool, true, false, not, ◌&&◌, ◌==◌, List, ◌∷◌, ◌++◌, Some, replicate, map, set, slice_get, refl, sym, ap, subst, ◌∙◌, arith}
 use Rattle.std.proofs.lemmas.Bool.Decides.{nat_tests}
 use Rattle.mc_task.specs.declared.task.Rule.{Rule}
 use Rattle.mc_task.specs.declared.task.Task.{Task}
@@ -12,13 +12,15 @@ use Rattle.mc_model.specs.declared.row.How.TheVariants.{More, Over}
 use Rattle.mc_model.specs.declared.row.Row.{Row}
 use Rattle.mc_model.specs.declared.row.Row.TheVariants.{Release, Tick, Idle}
 use Rattle.mc_task.specs.Kinds.{is_high}
+use Rattle.mc_model.specs.TaskNumbers.{is_high_in}
 use Rattle.mc_model.specs.Pending.{KeptRelease, released, pending, is_end, is_live}
 use Rattle.mc_model.specs.Rows.{same_job}
 use Rattle.mc_model.specs.Mode.{is_over}
 use Rattle.mc_model.specs.Legal.{Legal, IsOfSet}
 use Rattle.mc_model.proofs.Repeats.{ticks_more, pending_more, ticks_idle, pending_idle}
 use Rattle.mc_model.proofs.Fold.{stays}
-use Rattle.mc_model.proofs.Booleans.{eqb-refl}
+use Rattle.std.proofs.lemmas.Bool.{and_parts}
+use Rattle.mc_model.proofs.Booleans.{eqb-refl, not_true}
 use Rattle.mc_model.proofs.Lists.{Each, Each-map, Each-both, Each-filter, Each-filter_if}
 use Rattle.sched_report.specs.declared.task_tally.TaskTally.{TaskTally}
 use Rattle.sched_report.specs.declared.tally.Tally.{Tally}
@@ -26,29 +28,23 @@ use Rattle.sched_report.specs.declared.waiting.Waiting.{Waiting}
 use Rattle.sched_report.specs.TaskTally.{level_in, tally_of, with_tick, with_response, with_switch}
 use Rattle.sched_report.specs.Waiting.{release_in, ChangesOnly}
 use Rattle.sched_report.specs.Tally.{numbered, Tallies, Stays, Releases, GoesOn, Ends, Overruns, Idles}
+use Rattle.sched_report.specs.ReportText.{is_idle, is_switch}
+use Rattle.sched_report.proofs.HowMany.{how_many-replicate}
 use Rattle.sched_report.proofs.Numbered.{get-numbered, set-numbered, map-numbered, numbered_same}
 use Rattle.sched_report.proofs.Released.{none_of_next, release_of, release_is, pending-release, ticks_pending, at_pending}
-use Rattle.sched_report.proofs.Counted.{release-mine, release-other, more_run-mine, more_run-other, end-mine, tick-other, over-mine, over-other, idle_run-same, idle-more, switch-more, idle-idle, switch-idle, level-high}
+use Rattle.sched_report.proofs.Counted.{release-mine, release-other, more_run-mine, more_run-other, end-mine, tick-other, with_over, over-same, idle_run-same, level-high}
 use Rattle.mc_model.proofs.Bridge.{pending-tick}
 
 -- the tally of one task
 pub found : (tasks : List Task) (g : List Row) (k : ℕ) (old : List TaskTally) → IsIn tasks k → old ≡ numbered (tally_of tasks g) 1 tasks → slice_get old (k - 1) ≡ Some (tally_of tasks g k)
 found tasks g k old inside is =
-    let first : 1 ≤ k = inside.0 in
-    let last : k ≤ length tasks = inside.1 in
-    let number : 1 + (k - 1) ≡ k = omega (arith, first) in
-    ap (λ l. slice_get l (k - 1)) is ∙ (get-numbered (tally_of tasks g) 1 (k - 1) tasks (omega (arith, first, last)) ∙ ap (λ m. Some (tally_of tasks g m)) number)
+    ap (λ l. slice_get l (k - 1)) is ∙ get-numbered (tally_of tasks g) 1 (k - 1) k tasks (omega (arith, inside.0, inside.1)) (omega (arith, inside.0))
 
 -- the tallies with that of one task changed
 changed : (f g : ℕ → TaskTally) (tasks : List Task) (k : ℕ) (x : TaskTally) (old : List TaskTally) → IsIn tasks k → old ≡ numbered f 1 tasks → g k ≡ x → ((m : ℕ) → (k == m) ≡ false → g m ≡ f m) → set old (k - 1) x ≡ numbered g 1 tasks
 changed f g tasks k x old inside is here others =
-    let first : 1 ≤ k = inside.0 in
-    let last : k ≤ length tasks = inside.1 in
-    let number : 1 + (k - 1) ≡ k = omega (arith, first) in
-    ap (λ l. set l (k - 1) x) is ∙ set-numbered f g 1 (k - 1) x tasks (omega (arith, first, last)) (ap g number ∙ here) (λ m a. others m (apart m (λ s. a (s ∙ sym number))))
-  where
-    apart : (m : ℕ) → m ≢ k → (k == m) ≡ false
-    apart m a = grind (arith, nat_tests, a)
+    ap (λ l. set l (k - 1) x) is
+    ∙ set-numbered f g 1 (k - 1) k x tasks (omega (arith, inside.0, inside.1)) (omega (arith, inside.0)) here (λ m a. others m (grind (arith, nat_tests, a)))
 
 -- each of these jobs has its release time at hand
 abbrev pub Held : List Task → Waiting → List KeptRelease → Type 0
@@ -93,8 +89,8 @@ pub more_run : (tasks : List Task) (j : JobId) (n : ℕ) (g : List Row) (old new
 more_run tasks j n g old new i t s = record {
   tasks = s.tasks ∙ changed (tally_of tasks g) (tally_of tasks (replicate n (Tick j More) ++ g)) tasks j.task.0 _ old.tasks.items i t.tasks (more_run-mine tasks j n g j.task.0 (eqb-refl j.task.0)) (λ m o. more_run-other tasks j n g m o);
   tick = let a = s.tick in let b = t.tick in omega (arith, a, b, ticks_more j n g);
-  idle = s.idle ∙ (t.idle ∙ sym (idle-more j n g));
-  switches = s.switches ∙ (t.switches ∙ sym (switch-more j n g));
+  idle = let a = s.idle in let b = t.idle in omega (arith, a, b, how_many-replicate is_idle (Tick j More) n g);
+  switches = let a = s.switches in let b = t.switches in omega (arith, a, b, how_many-replicate is_switch (Tick j More) n g);
   waiting = subst (Held tasks new.waiting) (sym (pending_more tasks j n g)) (held-stays tasks old.waiting new.waiting (pending tasks g) s.waiting t.waiting);
 }
 
@@ -112,50 +108,27 @@ end_step tasks rule j how g old new e v l t s = record {
     mine : tally_of tasks (Tick j how ∷ g) j.task.0 ≡ with_response (old.tick + 1 - release_of g j) (with_tick how (tally_of tasks g j.task.0))
     mine = end-mine tasks rule j how g j.task.0 e v l (eqb-refl j.task.0) ∙ ap (λ n. with_response (n + 1 - release_of g j) (with_tick how (tally_of tasks g j.task.0))) (sym t.tick)
 
-    apart : (a b : Bool) → (not (true && a) && b) ≡ true → a ≡ false
-    apart true b h = cc
-    apart false b h = refl
-
     kept : Each (λ i. stays tasks j how i ≡ true → release_in new.waiting (level_in (task_at tasks i.job.task.0)) i.job ≡ Some i.release) (pending tasks g)
     kept =
         Each-map {P = λ i. release_in old.waiting (level_in (task_at tasks i.job.task.0)) i.job ≡ Some i.release}
-        (λ x p st. s.waiting.others _ x.job (apart (same_job j x.job) _ (rw e at st)) ∙ p) (pending tasks g) t.waiting
-
--- the tallies before an overrun discards jobs, with its tick at task number k
-abbrev with_over : (ℕ → TaskTally) → ℕ → ℕ → TaskTally
-with_over f k m = cond (k == m) (with_tick Over (f m)) (f m)
-
-over_at : (f : ℕ → TaskTally) (k m : ℕ) → (k == m) ≡ true → with_over f k m ≡ with_tick Over (f m)
-over_at f k m o = rw o refl
-
-over_apart : (f : ℕ → TaskTally) (k m : ℕ) → (k == m) ≡ false → with_over f k m ≡ f m
-over_apart f k m o = rw o refl
+        (λ x p st. s.waiting.others _ x.job (not_true (same_job j x.job) (and_parts _ _ (rw e at st)).0) ∙ p) (pending tasks g) t.waiting
 
 -- after an overrun
 pub over_step : (tasks : List Task) (rule : Rule) (j : JobId) (g : List Row) (old new : Tally) → Legal tasks rule (Tick j Over ∷ g) → Tallies tasks g old
     → Overruns j (tally_of tasks g j.task.0) old new → Tallies tasks (Tick j Over ∷ g) new
 over_step tasks rule j g old new l t s = record {
   tasks =
-      s.tasks ∙ (ap (map with_switch) (changed (tally_of tasks g) (with_over (tally_of tasks g) j.task.0) tasks j.task.0 _ old.tasks.items l.0 t.tasks (over_at (tally_of tasks g) j.task.0 j.task.0 (eqb-refl j.task.0)) (over_apart (tally_of tasks g) j.task.0))
-      ∙ (map-numbered (with_over (tally_of tasks g) j.task.0) with_switch 1 tasks
-      ∙ numbered_same (λ m. with_switch (with_over (tally_of tasks g) j.task.0 m)) (tally_of tasks (Tick j Over ∷ g)) 1 tasks (λ m a. switched m)));
+      let f : ℕ → TaskTally = tally_of tasks g in
+      let here : with_over f j.task.0 j.task.0 ≡ with_tick Over (f j.task.0) = rw (eqb-refl j.task.0) refl in
+      let ticked = changed f (with_over f j.task.0) tasks j.task.0 (with_tick Over (f j.task.0)) old.tasks.items l.0 t.tasks here (λ m o. rw o refl) in
+      s.tasks ∙ ap (map with_switch) ticked ∙ map-numbered (with_over f j.task.0) with_switch 1 tasks
+      ∙ numbered_same (λ m. with_switch (with_over f j.task.0 m)) (tally_of tasks (Tick j Over ∷ g)) 1 tasks (λ m a. sym (over-same tasks rule j g m l));
   tick = s.tick ∙ ap (λ n. n + 1) t.tick;
   idle = s.idle ∙ t.idle;
   switches = omega (arith, s.switches, t.switches);
   waiting = subst (Held tasks new.waiting) (sym (pending-tick tasks rule j Over g l)) (Each-filter_if (λ i. release_in new.waiting (level_in (task_at tasks i.job.task.0)) i.job ≡ Some i.release) (stays tasks j Over) (pending tasks g) kept);
 }
   where
-    switched : (m : ℕ) → with_switch (with_over (tally_of tasks g) j.task.0 m) ≡ tally_of tasks (Tick j Over ∷ g) m
-    switched m = go (j.task.0 == m) refl
-      where
-        go : (b : Bool) → (j.task.0 == m) ≡ b → with_switch (with_over (tally_of tasks g) j.task.0 m) ≡ tally_of tasks (Tick j Over ∷ g) m
-        go true o = ap with_switch (over_at (tally_of tasks g) j.task.0 m o) ∙ sym (over-mine tasks rule j g m l o)
-        go false o = ap with_switch (over_apart (tally_of tasks g) j.task.0 m o) ∙ sym (over-other tasks rule j g m l o)
-
-    high_left : (a b : Bool) → (not (false && a) && (not true || b)) ≡ true → b ≡ true
-    high_left a true h = refl
-    high_left a false h = cc
-
     at_high : (level : Level) → is_high level ≡ true → level ≡ High
     at_high High h = refl
     at_high Low h = cc
@@ -164,7 +137,8 @@ over_step tasks rule j g old new l t s = record {
     kept =
         Each-map {P = λ i. release_in old.waiting (level_in (task_at tasks i.job.task.0)) i.job ≡ Some i.release}
         (λ x p st.
-        let high : level_in (task_at tasks x.job.task.0) ≡ High = at_high _ (level-high (task_at tasks x.job.task.0) ∙ high_left (same_job j x.job) _ st) in
+        let left : is_high_in (task_at tasks x.job.task.0) ≡ true = (and_parts (not (false && same_job j x.job)) (is_high_in (task_at tasks x.job.task.0)) st).1 in
+        let high : level_in (task_at tasks x.job.task.0) ≡ High = at_high _ (level-high (task_at tasks x.job.task.0) ∙ left) in
         rw high (s.waiting x.job ∙ (rw high at p))) (pending tasks g) t.waiting
 
 -- after n idle ticks
@@ -172,7 +146,7 @@ pub idle_run : (tasks : List Task) (n : ℕ) (g : List Row) (old new : Tally) �
 idle_run tasks n g old new t s = record {
   tasks = s.tasks ∙ (t.tasks ∙ numbered_same (tally_of tasks g) (tally_of tasks (replicate n Idle ++ g)) 1 tasks (λ m a. sym (idle_run-same tasks n g m)));
   tick = let a = s.tick in let b = t.tick in omega (arith, a, b, ticks_idle n g);
-  idle = let a = s.idle in let b = t.idle in omega (arith, a, b, idle-idle n g);
-  switches = s.switches ∙ (t.switches ∙ sym (switch-idle n g));
+  idle = let a = s.idle in let b = t.idle in omega (arith, a, b, how_many-replicate is_idle Idle n g);
+  switches = let a = s.switches in let b = t.switches in omega (arith, a, b, how_many-replicate is_switch Idle n g);
   waiting = subst (Held tasks new.waiting) (sym (pending_idle tasks n g)) (held-stays tasks old.waiting new.waiting (pending tasks g) s.waiting t.waiting);
 }

@@ -1,7 +1,6 @@
 -- Texts that grow piece by piece, and sums that grow task by task.
 use Rattle.std.proofs.Common.{◌≡◌, ℕ, ◌+◌, ◌*◌, ◌^◌, ◌<◌, List, [], ◌∷◌, ◌++◌, Some, length, get_or, drop, take, reverse, slice_get, refl, sym, ap, subst, ◌∙◌, arith, append_assoc}
-use Rattle.std.specs.List.{concat}
-use Rattle.std.proofs.lemmas.List.{append-nil, drop_more, reverse-append, take-append-drop}
+use Rattle.std.proofs.lemmas.List.{drop_more, reverse-append, take-append-drop}
 use Rattle.std.proofs.lemmas.Option.{get_or_from_slice_get}
 use Rattle.mc_task.specs.declared.task.Rule.{Rule}
 use Rattle.mc_task.specs.declared.task.Task.{Task}
@@ -20,24 +19,6 @@ use Rattle.sched_report.specs.declared.counts.Counts as mine
 use Rattle.sched_report.specs.Counts.{counts_in, counts_of_tally, sum_tallies, tally_line, AreAtMost}
 use Rattle.sched_report.proofs.Numbered.{get-numbered}
 
--- six words with their numbers, one behind the other
-pub six_counts :
-    (t0 t1 t2 t3 t4 t5 t6 w1 n1 w2 n2 w3 n3 w4 n4 w5 n5 w6 n6 : List ℕ) → t1 ≡ t0 ++ (w1 ++ n1) → t2 ≡ t1 ++ (w2 ++ n2) → t3 ≡ t2 ++ (w3 ++ n3) → t4 ≡ t3 ++ (w4 ++ n4) → t5 ≡ t4 ++ (w5 ++ n5)
-    → t6 ≡ t5 ++ (w6 ++ n6) → t6 ≡ t0 ++ concat (w1 ∷ n1 ∷ w2 ∷ n2 ∷ w3 ∷ n3 ∷ w4 ∷ n4 ∷ w5 ∷ n5 ∷ w6 ∷ n6 ∷ [])
-six_counts t0 t1 t2 t3 t4 t5 t6 w1 n1 w2 n2 w3 n3 w4 n4 w5 n5 w6 n6 i1 i2 i3 i4 i5 i6 = rw (i6, i5, i4, i3, i2, i1) (simp (append_assoc, append-nil) refl)
-
--- the pieces of a task's line
-pub line_pieces :
-    (t0 t1 t2 t3 t4 t5 t6 t7 task name gap counts w1 n1 w2 n2 end : List ℕ) → t1 ≡ t0 ++ task → t2 ≡ t1 ++ name → t3 ≡ t2 ++ gap → t4 ≡ t3 ++ counts → t5 ≡ t4 ++ (w1 ++ n1)
-    → t6 ≡ t5 ++ (w2 ++ n2) → t7 ≡ t6 ++ end → t7 ≡ t0 ++ concat (task ∷ name ∷ gap ∷ counts ∷ w1 ∷ n1 ∷ w2 ∷ n2 ∷ end ∷ [])
-line_pieces t0 t1 t2 t3 t4 t5 t6 t7 task name gap counts w1 n1 w2 n2 end i1 i2 i3 i4 i5 i6 i7 = rw (i7, i6, i5, i4, i3, i2, i1) (simp (append_assoc, append-nil) refl)
-
--- counts, three words with their numbers, and an end
-pub summary_pieces :
-    (t0 t1 t2 t3 t4 t5 counts w1 n1 w2 n2 w3 n3 end : List ℕ) → t0 ≡ [] → t1 ≡ t0 ++ counts → t2 ≡ t1 ++ (w1 ++ n1) → t3 ≡ t2 ++ (w2 ++ n2) → t4 ≡ t3 ++ (w3 ++ n3) → t5 ≡ t4 ++ end
-    → t5 ≡ concat (counts ∷ w1 ∷ n1 ∷ w2 ∷ n2 ∷ w3 ∷ n3 ∷ end ∷ [])
-summary_pieces t0 t1 t2 t3 t4 t5 counts w1 n1 w2 n2 w3 n3 end i0 i1 i2 i3 i4 i5 = rw (i5, i4, i3, i2, i1, i0) (simp (append_assoc, append-nil) refl)
-
 -- the rows before a row of a legal trace are legal
 legal_behind : (set : List Task) (rule : Rule) (g h : List Row) → Legal set rule (g ++ h) → Legal set rule h
 legal_behind set rule [] h l = l
@@ -54,21 +35,12 @@ pub run_inside : (set : List Task) (rule : Rule) (runs : List Run) (i : ℕ) (d 
 run_inside set rule runs i d h v l =
     inside set rule (row_of (get_or runs i d)) (size (get_or runs i d)) (reverse (expand (take i runs))) (some_rows (get_or runs i d) v) (subst (Legal set rule) (rows_more runs i d h) (legal_first set rule runs (i + 1) l))
 
--- the line of a task, by its tally
-line_is : (set : List Task) (h : List Row) (k : ℕ) (name : List ℕ) → report_line set h k name ≡ tally_line name (tally_of set h k)
-unfolding report_line tally_line
-line_is set h k name = refl
-
 -- one line more
 pub line_more : (set : List Task) (h : List Row) (i : ℕ) (t : Task) (text longer last whole : List ℕ) (s : TaskTally) → slice_get set i ≡ Some t → s ≡ tally_of set h (i + 1) → longer ≡ text ++ tally_line t.name s
     → text ++ (report_lines set h (i + 1) (drop i set) ++ last) ≡ whole → longer ++ (report_lines set h (i + 1 + 1) (drop (i + 1) set) ++ last) ≡ whole
+unfolding report_line tally_line
 line_more set h i t text longer last whole s found is longer_is inv =
-    let rest : List ℕ = report_lines set h (i + 1 + 1) (drop (i + 1) set) ++ last in
-    let line : List ℕ = report_line set h (i + 1) t.name in
-    let next : report_lines set h (i + 1) (drop i set) ++ last ≡ line ++ rest =
-    ap (λ (l : List Task). report_lines set h (i + 1) l ++ last) (drop_at set i t found) ∙ append_assoc line (report_lines set h (i + 1 + 1) (drop (i + 1) set)) last in
-    let same : longer ≡ text ++ line = longer_is ∙ ap (λ l. text ++ l) (ap (tally_line t.name) is ∙ sym (line_is set h (i + 1) t.name)) in
-    ap (λ l. l ++ rest) same ∙ (append_assoc text line rest ∙ (ap (λ l. text ++ l) (sym next) ∙ inv))
+    rw (longer_is, is) (simp append_assoc (simp append_assoc at (rw (drop_at set i t found) at inv)))
 
 -- counts are equal where their parts are
 counts_eq : (a b : JobCounts) → a.released ≡ b.released → a.kept ≡ b.kept → a.dropped ≡ b.dropped → a.discarded ≡ b.discarded → a.done ≡ b.done → a.stopped ≡ b.stopped → a ≡ b
@@ -93,8 +65,7 @@ sum_is set h k (t ∷ ts) = ap (plus (counts_of_tally (tally_of set h k))) (sum_
 -- the tally at an index is that of the next number
 pub tally_at : (set : List Task) (h : List Row) (s : List TaskTally) (i : ℕ) (x : TaskTally) → s ≡ numbered (tally_of set h) 1 set → i < length set → x ≡ get_or s i x → x ≡ tally_of set h (i + 1)
 tally_at set h s i x is inside read =
-    let next : 1 + i ≡ i + 1 = omega arith in
-    let found : slice_get s i ≡ Some (tally_of set h (i + 1)) = ap (λ l. slice_get l i) is ∙ (get-numbered (tally_of set h) 1 i set inside ∙ ap (λ m. Some (tally_of set h m)) next) in
+    let found : slice_get s i ≡ Some (tally_of set h (i + 1)) = ap (λ l. slice_get l i) is ∙ get-numbered (tally_of set h) 1 i (i + 1) set inside (omega arith) in
     read ∙ get_or_from_slice_get s i (tally_of set h (i + 1)) x found
 
 -- the counts of a small tally are small

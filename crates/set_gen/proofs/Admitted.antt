@@ -1,27 +1,21 @@
 -- Each set that is made is admitted.
 use Rattle.std.proofs.Common.{◌≤◌, List, arith}
-use Prim.Native.Nat.{◌∣◌}
 use Rattle.std.proofs.lemmas.Nat.Gcd.{le_of_dvd}
 use Rattle.mc_task.specs.declared.task.Task.{Task}
 use Rattle.mc_model.specs.Loads.{hyperperiod}
 use Rattle.mc_model.specs.Holds.{IsThreeQuarters}
 use Rattle.mc_model.proofs.Hyperperiod.{hyperperiod-IsLeastCommon}
 use Rattle.mc_model.proofs.ThreeQuarters.{three_quarters-admitted}
-use Rattle.set_gen.specs.Words.{word}
-use Rattle.set_gen.specs.MadeSet.{made_set, words_for}
+use Rattle.set_gen.specs.MadeSet.{made_set}
 use Rattle.set_gen.specs.Laws.{MadeSetsAreAdmitted}
-use Rattle.set_gen.proofs.Periods.{period-IsPeriod}
-use Rattle.set_gen.proofs.MadeTasks.{made_task-period, made_set-each, made_set-AreTasks}
+use Rattle.set_gen.proofs.MadeTasks.{made_set-divides, made_set-AreTasks}
 use Rattle.set_gen.proofs.Utilisations.{made-low_low, made-high_low, made-high_high}
 
 pub made_sets-admitted : MadeSetsAreAdmitted
 made_sets-admitted words n some few =
     let set : List Task = made_set words n in
     let is = made_set-AreTasks words n some few in
-    let divides : hyperperiod set ∣ 20000 =
-    (hyperperiod-IsLeastCommon set).least 20000 (made_set-each (λ t. t.period ∣ 20000) words n
-    (λ i first last. rw (made_task-period (words_for words i) n i) (period-IsPeriod (word (words_for words i))).divides)) in
-    let within : hyperperiod set ≤ 20000 = le_of_dvd (omega arith) divides in
+    let within : hyperperiod set ≤ 20000 = le_of_dvd (omega arith) ((hyperperiod-IsLeastCommon set).least 20000 (made_set-divides words n)) in
     let low_low = made-low_low words n some few in
     let high_low = made-high_low words n some few in
     let high_high = made-high_high words n some few in

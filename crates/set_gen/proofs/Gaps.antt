@@ -1,11 +1,11 @@
 -- How far the releases of the tasks that are made stand apart.
-use Rattle.std.proofs.Common.{◌≡◌, ℕ, ◌+◌, ◌-◌, ◌%◌, ◌<◌, ◌≤◌, length, slice_index, refl, sym, subst, ◌∙◌, arith}
+use Rattle.std.proofs.Common.{◌≡◌, ℕ, ◌+◌, ◌-◌, ◌<◌, ◌≤◌, length, slice_index, refl, sym, ◌∙◌, arith}
 use Rattle.std.proofs.lemmas.List.FromFn.{length-map-range_with_len, get_or-map-range_with_len}
 use Rattle.rand_pcg.specs.Lcg.{Lcg}
 use Rattle.mc_task.specs.TaskSet.{task_at}
 use Rattle.mc_model.specs.TaskNumbers.{period_in}
-use Rattle.set_gen.specs.Words.{word, after}
-use Rattle.set_gen.specs.MadeSet.{period, stretch, words_taken, made_task, made_gap, words_for, made_set, made_gaps}
+use Rattle.set_gen.specs.Words.{word}
+use Rattle.set_gen.specs.MadeSet.{period, stretch, made_gap, words_for, made_set, made_gaps}
 use Rattle.set_gen.specs.NextReleases.{AreGaps}
 use Rattle.set_gen.proofs.Periods.{period-IsPeriod}
 use Rattle.set_gen.proofs.MadeTasks.{made_task-period, made_set-length, made_set-at}
@@ -18,9 +18,7 @@ record IsGap (gap period : ℕ) : Type 0 where
 
 made_gap-IsGap : (words : Lcg) (i : ℕ) → IsGap (made_gap words i) (period (word words))
 unfolding made_gap stretch
-made_gap-IsGap words i =
-    let small : word (after (words_taken i - 1) words) % 16 < 16 = omega arith in
-    record { least = omega arith; most = omega arith }
+made_gap-IsGap words i = record { least = omega arith; most = omega arith }
 
 pub made_gaps-length : (words : Lcg) (n : ℕ) → length (made_gaps words n) ≡ n
 unfolding made_gaps
@@ -37,42 +35,28 @@ pub record IsBounded (gap : ℕ) : Type 0 where
 
 pub made_gaps-bounded : (words : Lcg) (n k : ℕ) → k < n → IsBounded (slice_index (made_gaps words n) k)
 made_gaps-bounded words n k few =
-    let w : Lcg = words_for words (1 + k) in
-    let is = made_gap-IsGap w (1 + k) in
-    let p = period-IsPeriod (word w) in
-    let lower : period (word w) ≤ made_gap w (1 + k) = is.least in
-    let upper : made_gap w (1 + k) ≤ period (word w) + 15 = is.most in
-    let least : 200 ≤ period (word w) = p.least in
-    let most : period (word w) ≤ 10000 = p.most in
-    subst (λ z. IsBounded z) (sym (made_gaps-at words n k (1 + k) few refl)) (record { least = omega arith; most = omega arith })
+    let is = made_gap-IsGap (words_for words (1 + k)) (1 + k) in
+    let p = period-IsPeriod (word (words_for words (1 + k))) in
+    rw (made_gaps-at words n k (1 + k) few refl) (record { least = omega (arith, is.least, p.least); most = omega (arith, is.most, p.most) })
 
 pub made_gaps-AreGaps : (words : Lcg) (n : ℕ) → AreGaps (made_set words n) (made_gaps words n)
-made_gaps-AreGaps words n =
-    let count : length (made_gaps words n) ≡ n = made_gaps-length words n in
-    record {
-      count = count ∙ sym (made_set-length words n);
-      each = λ k few.
-          let is = made_gaps-bounded words n k (omega arith) in
-          let least : 200 ≤ slice_index (made_gaps words n) k = is.least in
-          let most : slice_index (made_gaps words n) k ≤ 10015 = is.most in
-          (omega arith, omega arith);
-    }
+made_gaps-AreGaps words n = record {
+  count = made_gaps-length words n ∙ sym (made_set-length words n);
+  each = λ k few.
+      let is = made_gaps-bounded words n k (omega (arith, made_gaps-length words n)) in
+      (omega (arith, is.least), omega (arith, is.most));
+}
 
 far : (words : Lcg) (n i : ℕ) → 1 ≤ i → i ≤ n → period_in (task_at (made_set words n) i) ≤ slice_index (made_gaps words n) (i - 1)
 far words n i first last =
-    let gap : slice_index (made_gaps words n) (i - 1) ≡ made_gap (words_for words i) i = made_gaps-at words n (i - 1) i (omega arith) (omega arith) in
-    let p : (made_task (words_for words i) n i).period ≡ period (word (words_for words i)) = made_task-period (words_for words i) n i in
-    let least : period (word (words_for words i)) ≤ made_gap (words_for words i) i = (made_gap-IsGap (words_for words i) i).least in
-    rw (made_set-at words n i first last) (omega arith)
+    let least = (made_gap-IsGap (words_for words i) i).least in
+    rw (made_set-at words n i first last) (omega (arith, least, made_gaps-at words n (i - 1) i (omega arith) (omega arith), made_task-period (words_for words i) n i))
 
 pub made_gaps-AreFar : (words : Lcg) (n : ℕ) → AreFar (made_set words n) (made_gaps words n)
-made_gaps-AreFar words n =
-    let count : length (made_gaps words n) ≡ n = made_gaps-length words n in
-    record {
-      count = count ∙ sym (made_set-length words n);
-      some = λ i first last.
-          let is = made_gaps-bounded words n (i - 1) (omega arith) in
-          let least : 200 ≤ slice_index (made_gaps words n) (i - 1) = is.least in
-          omega arith;
-      far = λ i first last. far words n i first (omega arith);
-    }
+made_gaps-AreFar words n = record {
+  count = made_gaps-length words n ∙ sym (made_set-length words n);
+  some = λ i first last.
+      let is = made_gaps-bounded words n (i - 1) (omega (arith, made_gaps-length words n)) in
+      omega (arith, is.least);
+  far = λ i first last. far words n i first (omega (arith, made_gaps-length words n));
+}

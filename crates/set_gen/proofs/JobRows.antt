@@ -23,10 +23,8 @@ job_rows-length words set (x ∷ xs) = ap suc (job_rows-length (rest words) set 
 
 need-pos : (o : Option Task) (w : ℕ) → IsKnown o → 1 ≤ need_in o w
 unfolding need_in
-need-pos None w known = absurd (let period : 1 ≤ 0 = known.period in omega arith)
+need-pos None w known = absurd (omega arith)
 need-pos (Some t) w known =
-    let low : 1 ≤ t.low = known.low in
-    let order : t.low ≤ t.high = known.order in
     elim (is_high t.level && (w % 64 == 0)) as (λ b. 1 ≤ cond b t.high (1 + w % t.low)) [ true ↦ omega arith | false ↦ omega arith ]
 
 all_follow : (words : Lcg) (set : List Task) (a : Arrival) (w : ℕ) (more : List Arrival) → Each (Apart set a) more → AllFollow set (job_row set a w) (job_rows words set more)

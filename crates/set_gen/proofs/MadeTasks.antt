@@ -1,5 +1,6 @@
 -- The tasks that are made, one by one, and the set of them.
-use Rattle.std.proofs.Common.{◌≡◌, ◌≢◌, ℕ, zero, suc, ◌+◌, ◌-◌, ◌*◌, ◌/◌, ◌%◌, ◌^◌, ◌<◌, ◌≤◌, Bool, true, false, ◌&&◌, ◌==◌, nat_le, cond, List, ◌∷◌, map, length, Some, IsTrue, refl, ap, sym, ◌∙◌, arith, decimal}
+use Rattle.std.proofs.Common.{◌≡◌, ◌≢◌, ℕ, zero, suc, ◌+◌, ◌-◌, ◌*◌, ◌/◌, ◌%◌, ◌^◌, ◌<◌, ◌≤◌, Bool, true, false, cond, List, ◌∷◌, map, length, Some, IsTrue, refl, ap, sym, ◌∙◌, arith, decimal}
+use Prim.Native.Nat.{◌∣◌}
 use Rattle.std.specs.List.{range_with_len, AllByRecursion, list_all}
 use Rattle.std.proofs.lemmas.Bool.Decides.{nat_tests}
 use Rattle.std.proofs.lemmas.Fmt.{decimal_injective, decimal_by_steps, decimal_nonempty, length-decimal-le}
@@ -13,7 +14,7 @@ use Rattle.mc_task.specs.declared.task.Task.{Task}
 use Rattle.mc_task.specs.TaskSet.{IsTask, AreTasks, Distinct, names_of, task_at}
 use Rattle.mc_model.proofs.Tasks.{task_at-in}
 use Rattle.set_gen.specs.Words.{word, rest}
-use Rattle.set_gen.specs.MadeSet.{period, is_odd, high_tasks, low_tasks, task_name, high_task, low_task, made_task, made_gap, stretch, words_taken, words_for, made_set}
+use Rattle.set_gen.specs.MadeSet.{period, is_odd, high_tasks, low_tasks, task_name, high_task, low_task, made_task, words_for, made_set}
 use Rattle.set_gen.proofs.Periods.{IsPeriod, period-IsPeriod}
 use Rattle.mc_model.proofs.Ranges.{each-map-range, slice_get-map-range}
 
@@ -29,19 +30,12 @@ by_parity P words n i high low = go (is_odd i) refl
     go true e = high e
     go false e = low e
 
--- a quotient by at most 64 of at least 200
-quotient : (p d : ℕ) → 200 ≤ p → 1 ≤ d → d ≤ 64 → 3 ≤ p / d
-quotient p d least some few = le-div 3 p d some (omega arith)
-
 -- its name
 pub made_task-name : (words : Lcg) (n i : ℕ) → (made_task words n i).name ≡ task_name i
 made_task-name words n i = by_parity (λ t. t.name ≡ task_name i) words n i (λ e. unfold high_task in refl) (λ e. unfold low_task in refl)
 
 letters : (ds : List ℕ) → list_all is_name_byte ds ≡ true → 0 < length ds → length ds ≤ 10 → IsTrue (is_name (116 ∷ ds))
-letters ds all some few = go (list_all is_name_byte ds) all
-  where
-    go : (b : Bool) → b ≡ true → ((nat_le 1 (length (116 ∷ ds)) && nat_le (length (116 ∷ ds)) 32) && (is_name_byte 116 && b)) ≡ true
-    go b e = grind (arith, nat_tests)
+letters ds all some few = rw all (grind (arith, nat_tests))
 
 digit : (b : ℕ) → b < 10 → is_name_byte (48 + b) ≡ true
 digit b h = grind (arith, nat_tests)
@@ -65,17 +59,10 @@ task_name-differ i j less small e =
     let same : i ≡ j = decimal_injective i j (omega arith) (omega arith) (cc) in
     omega arith
 
--- how many tasks of a kind there may be, where there are 2 to 32 in all
-some_of : (n : ℕ) → 2 ≤ n → n ≤ 32 → (1 ≤ high_tasks n) × (high_tasks n ≤ 16) × (1 ≤ low_tasks n) × (low_tasks n ≤ 16)
-some_of n some few = (omega arith, omega arith, omega arith, omega arith)
-
 high-IsTask : (name : List ℕ) (p k w : ℕ) → IsTrue (is_name name) → IsPeriod p → 1 ≤ k → k ≤ 16 → IsTask (high_task name p k w)
 unfolding high_task
 high-IsTask name p k w is period some few =
-    let least : 200 ≤ p = period.least in
-    let most : p ≤ 10000 = period.most in
-    let share : 3 ≤ p / (4 * k) = quotient p (4 * k) least (omega arith) (omega arith) in
-    let below : w % (p / (4 * k)) < p / (4 * k) = omega arith in
+    let share : 3 ≤ p / (4 * k) = le-div 3 p (4 * k) (omega arith) (omega arith) in
     let within : p / (4 * k) ≤ p = div-le_self p (4 * k) in
     let three : (3 * p) / (4 * k) ≤ 3 * p = div-le_self (3 * p) (4 * k) in
     let order : p / (4 * k) ≤ (3 * p) / (4 * k) = le-div (p / (4 * k)) (3 * p) (4 * k) (omega arith) (omega (arith, div-mul-le_self p (4 * k))) in
@@ -90,9 +77,7 @@ high-IsTask name p k w is period some few =
 low-IsTask : (name : List ℕ) (p m : ℕ) → IsTrue (is_name name) → IsPeriod p → 1 ≤ m → m ≤ 16 → IsTask (low_task name p m)
 unfolding low_task
 low-IsTask name p m is period some few =
-    let least : 200 ≤ p = period.least in
-    let most : p ≤ 10000 = period.most in
-    let share : 3 ≤ p / (2 * m) = quotient p (2 * m) least (omega arith) (omega arith) in
+    let share : 3 ≤ p / (2 * m) = le-div 3 p (2 * m) (omega arith) (omega arith) in
     let within : p / (2 * m) ≤ p = div-le_self p (2 * m) in
     record {
       name = is;
@@ -105,10 +90,11 @@ low-IsTask name p m is period some few =
 -- each task is one
 pub made_task-IsTask : (words : Lcg) (n i : ℕ) → 2 ≤ n → n ≤ 32 → i < 2 ^ 32 → IsTask (made_task words n i)
 made_task-IsTask words n i some few small =
-    let counts = some_of n some few in
+    let name = task_name-is_name i small in
+    let length = period-IsPeriod (word words) in
     by_parity IsTask words n i
-    (λ e. high-IsTask (task_name i) (period (word words)) (high_tasks n) (word (rest words)) (task_name-is_name i small) (period-IsPeriod (word words)) counts.0 counts.1)
-    (λ e. low-IsTask (task_name i) (period (word words)) (low_tasks n) (task_name-is_name i small) (period-IsPeriod (word words)) counts.2 counts.3)
+    (λ e. high-IsTask (task_name i) (period (word words)) (high_tasks n) (word (rest words)) name length (omega arith) (omega arith))
+    (λ e. low-IsTask (task_name i) (period (word words)) (low_tasks n) name length (omega arith) (omega arith))
 
 -- its period
 pub made_task-period : (words : Lcg) (n i : ℕ) → (made_task words n i).period ≡ period (word words)
@@ -132,6 +118,12 @@ pub made_set-each : (P : Task → Type 0) (words : Lcg) (n : ℕ) → ((i : ℕ)
 unfolding made_set
 made_set-each P words n h = each-map-range P (λ i. made_task (words_for words i) n i) 1 n (λ i first last. h i first (omega arith))
 
+-- their periods divide 20000
+pub made_set-divides : (words : Lcg) (n : ℕ) → AllByRecursion (λ t. t.period ∣ 20000) (made_set words n)
+made_set-divides words n =
+    made_set-each (λ t. t.period ∣ 20000) words n
+    (λ i first last. rw (made_task-period (words_for words i) n i) (period-IsPeriod (word (words_for words i))).divides)
+
 pub made_set-AreTasks : (words : Lcg) (n : ℕ) → 2 ≤ n → n ≤ 32 → AreTasks (made_set words n)
 unfolding made_set
 made_set-AreTasks words n some few =
@@ -151,28 +143,11 @@ made_set-at words n i first last =
     task_at-in (made_set words n) i first ∙ slice_get-map-range (λ j. made_task (words_for words j) n j) 1 n (i - 1) (omega arith)
     ∙ ap (λ j. Some (made_task (words_for words j) n j)) e
 
--- what a high task, by its number, takes, and a low one
-pub made_task-high : (words : Lcg) (n i : ℕ) → i % 2 ≡ 1 → made_task words n i ≡ high_task (task_name i) (period (word words)) (high_tasks n) (word (rest words))
-unfolding made_task is_odd
-made_task-high words n i odd = let yes : (i % 2 == 1) ≡ true = grind (arith, nat_tests) in rw yes refl
+-- the parity of a number
+pub odd : (i : ℕ) → i % 2 ≡ 1 → is_odd i ≡ true
+unfolding is_odd
+odd i e = grind (arith, nat_tests)
 
-pub made_task-low : (words : Lcg) (n i : ℕ) → i % 2 ≢ 1 → made_task words n i ≡ low_task (task_name i) (period (word words)) (low_tasks n)
-unfolding made_task is_odd
-made_task-low words n i even = let no : (i % 2 == 1) ≡ false = grind (arith, nat_tests) in rw no refl
-
-pub words_taken-high : (i : ℕ) → i % 2 ≡ 1 → words_taken i ≡ 3
-unfolding words_taken is_odd
-words_taken-high i odd = let yes : (i % 2 == 1) ≡ true = grind (arith, nat_tests) in rw yes refl
-
-pub words_taken-low : (i : ℕ) → i % 2 ≢ 1 → words_taken i ≡ 2
-unfolding words_taken is_odd
-words_taken-low i even = let no : (i % 2 == 1) ≡ false = grind (arith, nat_tests) in rw no refl
-
--- and the gap, by the word for the stretch
-pub made_gap-high : (words : Lcg) (i : ℕ) → i % 2 ≡ 1 → made_gap words i ≡ period (word words) + word (rest (rest words)) % 16
-unfolding made_gap stretch
-made_gap-high words i odd = rw (words_taken-high i odd) refl
-
-pub made_gap-low : (words : Lcg) (i : ℕ) → i % 2 ≢ 1 → made_gap words i ≡ period (word words) + word (rest words) % 16
-unfolding made_gap stretch
-made_gap-low words i even = rw (words_taken-low i even) refl
+pub even : (i : ℕ) → i % 2 ≢ 1 → is_odd i ≡ false
+unfolding is_odd
+even i e = grind (arith, nat_tests)

@@ -8,10 +8,9 @@ use Rattle.mc_task.specs.declared.task.Task.{Task}
 use Rattle.mc_task.specs.TaskSet.{IsIn, task_at}
 use Rattle.mc_model.specs.TaskNumbers.{period_in}
 use Rattle.mc_model.specs.Follows.{Arrival}
-use Rattle.mc_model.proofs.Lists.{Each, Each-map, Each-filter_if}
+use Rattle.mc_model.proofs.Lists.{Each, Each-map, Each-append, Each-filter_if}
 use Rattle.set_gen.specs.MadeWork.{is_released, releases_at, releases_below}
 use Rattle.mc_model.proofs.Ranges.{each-map, each-range}
-use Rattle.mc_model.proofs.Lists.{Each-append}
 
 -- of two multiples of a gap the later one is at least the gap later
 pub later_multiple : (gap a b : ℕ) → 1 ≤ gap → a % gap ≡ 0 → b % gap ≡ 0 → a < b → a + gap ≤ b
@@ -46,7 +45,7 @@ pub record IsRelease (gaps : List ℕ) (a : Arrival) : Type 0 where
   pub last : a.task ≤ length gaps
   pub multiple : a.at % slice_index gaps (a.task - 1) ≡ 0
 
-abbrev release : ℕ → ℕ → Arrival
+abbrev pub release : ℕ → ℕ → Arrival
 release r i = record { task = i; at = r }
 
 -- those at a boundary are at that boundary
@@ -88,10 +87,9 @@ across set gaps r far x y is below its on = record {
   order = omega arith;
   apart = λ same.
       let multiple : y.at % slice_index gaps (x.task - 1) ≡ 0 = rw (← same) at its.multiple in
-      let some : 1 ≤ slice_index gaps (x.task - 1) = far.some x.task is.first is.last in
-      let gap : x.at + slice_index gaps (x.task - 1) ≤ y.at = later_multiple (slice_index gaps (x.task - 1)) x.at y.at some is.multiple multiple (omega arith) in
-      let period : period_in (task_at set x.task) ≤ slice_index gaps (x.task - 1) = far.far x.task is.first is.last in
-      omega arith;
+      let some = far.some x.task is.first is.last in
+      let gap = later_multiple (slice_index gaps (x.task - 1)) x.at y.at some is.multiple multiple (omega arith) in
+      omega (arith, gap, far.far x.task is.first is.last);
 }
 
 -- all releases below a boundary

@@ -1,11 +1,11 @@
 -- How many releases there are.
-use Rattle.std.proofs.Common.{◌≡◌, ℕ, zero, suc, ◌+◌, ◌-◌, ◌*◌, ◌/◌, ◌%◌, ◌<◌, ◌≤◌, inl, inr, ◌==◌, cond, filter, List, length, slice_index, ap, sym, ◌∙◌, arith, length-append}
+use Rattle.std.proofs.Common.{◌≡◌, ℕ, zero, suc, ◌+◌, ◌-◌, ◌*◌, ◌/◌, ◌%◌, ◌<◌, ◌≤◌, inl, inr, ◌==◌, cond, filter, List, length, slice_index, sym, ◌∙◌, arith, length-append}
 use Rattle.std.specs.List.{range_with_len}
-use Rattle.std.proofs.lemmas.Bool.Decides.{eqb_tells, leb_tells}
+use Rattle.std.proofs.lemmas.Bool.Decides.{eqb_tells}
 use Rattle.std.proofs.lemmas.List.{length-map}
 use Rattle.std.proofs.lemmas.List.FromFn.{length-range_with_len}
 use Rattle.std.proofs.lemmas.Nat.Gcd.{dvd_of_mod-eq-zero}
-use Rattle.std.proofs.Math.Nat.{mul-div_cancel', mul-le-mul_right}
+use Rattle.std.proofs.Math.Nat.{mul-div_cancel', mul-le-mul_right, lt_of_mul-lt-mul_right}
 use Rattle.mc_model.specs.Sums.{total}
 use Rattle.mc_model.proofs.Sums.{total-add}
 use Rattle.set_gen.specs.MadeWork.{is_released, releases_at, releases_below}
@@ -25,26 +25,17 @@ times-gap gap (suc r) some =
     elim (eqb_tells (r % gap) 0) [
       | inl t ↦
           let whole : gap * (r / gap) ≡ r = mul-div_cancel' gap (dvd_of_mod-eq-zero gap t.1) in
-          let most : times gap r ≤ r / gap = few (times gap r) (r / gap) (omega arith) in
-          let below : times gap r * gap ≤ (r / gap) * gap = mul-le-mul_right gap most in
+          let most : times gap r < r / gap + 1 = lt_of_mul-lt-mul_right gap (omega arith) in
+          let below : times gap r * gap ≤ (r / gap) * gap = mul-le-mul_right gap (omega arith) in
           rw (t.0) (omega arith)
       | inr t ↦ rw (t.0) (omega arith)
     ]
-  where
-    few : (m q : ℕ) → m * gap < gap * q + gap → m ≤ q
-    few m q h =
-        elim (leb_tells m q) [
-          | inl t ↦ t.1
-          | inr t ↦ absurd (let more : (q + 1) * gap ≤ m * gap = mul-le-mul_right gap (let less : q < m = t.1 in omega arith) in omega arith)
-        ]
 
 times-few : (gap r : ℕ) → 200 ≤ gap → r ≤ 1000000 → times gap r ≤ 5000
 times-few gap r some most =
     let near : times gap r * gap < r + gap = times-gap gap r (omega arith) in
-    elim (leb_tells (times gap r) 5000) [
-      | inl t ↦ t.1
-      | inr t ↦ absurd (let more : 5001 * gap ≤ times gap r * gap = mul-le-mul_right gap (let less : 5000 < times gap r = t.1 in omega arith) in omega arith)
-    ]
+    let few : times gap r < 5001 = lt_of_mul-lt-mul_right gap (omega arith) in
+    omega arith
 
 one_boundary : (gaps : List ℕ) (r : ℕ) → length (releases_at gaps r) ≡ total (λ i. cond (r % slice_index gaps (i - 1) == 0) 1 0) (range_with_len 1 (length gaps))
 unfolding is_released
@@ -54,10 +45,8 @@ below : (gaps : List ℕ) (r : ℕ) → length (releases_below gaps r) ≡ total
 unfolding times
 below gaps zero = sym (total-zero (range_with_len 1 (length gaps)))
 below gaps (suc r) =
-    length-append (releases_below gaps r) (releases_at gaps r)
-    ∙ ap (λ z. z + length (releases_at gaps r)) (below gaps r)
-    ∙ ap (λ z. total (λ i. times (slice_index gaps (i - 1)) r) (range_with_len 1 (length gaps)) + z) (one_boundary gaps r)
-    ∙ sym (total-add (λ i. times (slice_index gaps (i - 1)) r) (λ i. cond (r % slice_index gaps (i - 1) == 0) 1 0) (range_with_len 1 (length gaps)))
+    let parts = total-add (λ i. times (slice_index gaps (i - 1)) r) (λ i. cond (r % slice_index gaps (i - 1) == 0) 1 0) (range_with_len 1 (length gaps)) in
+    omega (arith, length-append (releases_below gaps r) (releases_at gaps r), below gaps r, one_boundary gaps r, parts)
 
 -- gaps of at least 200 ticks: below 1,000,000 ticks each task has at most 5,000 releases
 pub few_releases : (gaps : List ℕ) (r : ℕ) → ((i : ℕ) → 1 ≤ i → i ≤ length gaps → 200 ≤ slice_index gaps (i - 1)) → length gaps ≤ 32 → r ≤ 1000000 → length (releases_below gaps r) ≤ 1000000

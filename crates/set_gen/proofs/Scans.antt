@@ -1,5 +1,5 @@
 -- One pass over the tasks at a boundary.
-use Rattle.std.proofs.Common.{◌≡◌, ◌≢◌, ℕ, zero, suc, ◌+◌, ◌-◌, ◌%◌, ◌<◌, ◌≤◌, inl, inr, Bool, true, false, ◌==◌, cond, map, filter, List, [], ◌∷◌, ◌++◌, length, slice_index, slice_set, refl, ap, sym, ◌∙◌, arith, append-nil, append_assoc, length-append}
+use Rattle.std.proofs.Common.{◌≡◌, ◌≢◌, ℕ, zero, suc, ◌+◌, ◌-◌, ◌%◌, ◌<◌, ◌≤◌, inl, inr, Bool, true, false, ◌==◌, cond, map, filter, List, [], ◌∷◌, ◌++◌, length, slice_index, slice_set, refl, ap, ◌∙◌, arith, append-nil, append_assoc, length-append}
 use Rattle.std.specs.List.{range_with_len}
 use Rattle.std.proofs.lemmas.Bool.Decides.{nat_tests, eqb_tells}
 use Rattle.std.proofs.lemmas.List.{map-append, get_or-set_same, get_or-set_other}
@@ -15,15 +15,12 @@ use Rattle.set_gen.specs.MadeWork.{is_released, releases_at, releases_below, job
 use Rattle.set_gen.specs.NextReleases.{IsNext, release_of}
 use Rattle.set_gen.proofs.WordLemmas.{after-add}
 use Rattle.mc_model.proofs.Ranges.{range-more, each-range}
-use Rattle.set_gen.proofs.Plans.{later_multiple}
+use Rattle.set_gen.proofs.Plans.{release, later_multiple}
 use Rattle.set_gen.proofs.JobRows.{job_rows-append}
 
 -- the releases at boundary r of the first i tasks
 abbrev pub released_of : List ℕ → ℕ → ℕ → List Arrival
 released_of gaps r i = map (λ k. record { task = k; at = r }) (filter (is_released gaps r) (range_with_len 1 i))
-
-abbrev release : ℕ → ℕ → Arrival
-release r i = record { task = i; at = r }
 
 kept : (r k : ℕ) (b : Bool) → map (release r) (cond b (k ∷ []) []) ≡ cond b (release r k ∷ []) []
 kept r k true = refl
@@ -44,21 +41,14 @@ released_of-more gaps r i =
 pub rows-more : (set : List Task) (words : Lcg) (start rows more : List WorkRow) (left : Lcg) (xs ys : List Arrival)
     → rows ≡ start ++ job_rows words set xs → left ≡ after (length xs) words → more ≡ rows ++ job_rows left set ys → more ≡ start ++ job_rows words set (xs ++ ys)
 rows-more set words start rows more left xs ys first taken then =
-    then ∙ ap (λ r. r ++ job_rows left set ys) first ∙ ap (λ w. (start ++ job_rows words set xs) ++ job_rows w set ys) taken
-    ∙ append_assoc start (job_rows words set xs) (job_rows (after (length xs) words) set ys) ∙ ap (λ r. start ++ r) (sym (job_rows-append words set xs ys))
+    rw (then, first, taken, job_rows-append words set xs ys) (append_assoc start (job_rows words set xs) (job_rows (after (length xs) words) set ys))
 
 pub words-more : (words left last : Lcg) (xs ys : List Arrival) → left ≡ after (length xs) words → last ≡ after (length ys) left → last ≡ after (length (xs ++ ys)) words
-words-more words left last xs ys first then =
-    then ∙ ap (after (length ys)) first ∙ sym (after-add (length xs) (length ys) words) ∙ ap (λ k. after k words) (sym (length-append xs ys))
+words-more words left last xs ys first then = rw (then, first, length-append xs ys, after-add (length xs) (length ys) words) refl
 
--- a task is released where its next release is due, and only there
-pub due : (gap at next : ℕ) → IsNext gap at next → next ≡ at → at % gap ≡ 0
-due gap at next is same = rw same at is.multiple
-
+-- a task is released only where its next release is due
 pub not_due : (gap at next : ℕ) → 1 ≤ gap → IsNext gap at next → next ≢ at → at % gap ≢ 0
 not_due gap at next some is other on =
-    let reached : at ≤ next = is.reached in
-    let near : next < at + gap = is.near in
     let past : at + gap ≤ next = later_multiple gap at next some on is.multiple (omega arith) in
     omega arith
 
@@ -67,10 +57,7 @@ pub next-due : (gap at : ℕ) → 1 ≤ gap → at % gap ≡ 0 → IsNext gap (a
 next-due gap at some on = record { multiple = add-mod_right at gap ∙ on; reached = omega arith; near = omega arith }
 
 pub next-not_due : (gap at next : ℕ) → IsNext gap at next → next ≢ at → IsNext gap (at + 1) next
-next-not_due gap at next is other =
-    let reached : at ≤ next = is.reached in
-    let near : next < at + gap = is.near in
-    record { multiple = is.multiple; reached = omega arith; near = omega arith }
+next-not_due gap at next is other = record { multiple = is.multiple; reached = omega arith; near = omega arith }
 
 -- between a boundary and the next release of each task nothing is released
 pub none_between : (gaps next : List ℕ) (at until r : ℕ) → ((k : ℕ) → k < length gaps → 1 ≤ slice_index gaps k) → ((k : ℕ) → k < length gaps → IsNext (slice_index gaps k) (at + 1) (slice_index next k))
@@ -84,7 +71,6 @@ none_between gaps next at until r some are far after_at before =
     not_there i first last =
         let k : ℕ = i - 1 in
         let is = are k (omega arith) in
-        let near : slice_index next k < (at + 1) + slice_index gaps k = is.near in
         let reached : until ≤ slice_index next k = far k (omega arith) in
         elim (eqb_tells (r % slice_index gaps k) 0) [
           | inl t ↦ absurd (let past : r + slice_index gaps k ≤ slice_index next k = later_multiple (slice_index gaps k) r (slice_index next k) (some k (omega arith)) (t.1) is.multiple (omega arith) in omega arith)
@@ -93,9 +79,7 @@ none_between gaps next at until r some are far after_at before =
 
 -- at the next boundary with a release each task's next release is what it was
 pub next-until : (gap at until next : ℕ) → IsNext gap (at + 1) next → at < until → until ≤ next → IsNext gap until next
-next-until gap at until next is later far =
-    let near : next < (at + 1) + gap = is.near in
-    record { multiple = is.multiple; reached = far; near = omega arith }
+next-until gap at until next is later far = record { multiple = is.multiple; reached = far; near = omega arith }
 
 -- boundaries without a release add none
 jump-by : (gaps : List ℕ) (a d : ℕ) → ((r : ℕ) → a ≤ r → r < a + d → releases_at gaps r ≡ []) → releases_below gaps (a + d) ≡ releases_below gaps a
@@ -112,10 +96,7 @@ releases_below-until gaps at until later none =
     let one : at + 1 ≡ suc at = omega arith in
     ap (releases_below gaps) whole ∙ jump-by gaps (at + 1) d (λ r first last. none r (omega arith) (omega arith)) ∙ ap (releases_below gaps) one
 
--- at a boundary the task is released once, or not at all
-pub release_of-due : (gap at i : ℕ) → at % gap ≡ 0 → release_of gap at i ≡ release at i ∷ []
-release_of-due gap at i on = let yes : (at % gap == 0) ≡ true = grind (arith, nat_tests) in rw yes refl
-
+-- at a boundary that is no multiple of its gap the task is not released
 pub release_of-none : (gap at i : ℕ) → at % gap ≢ 0 → release_of gap at i ≡ []
 release_of-none gap at i off = let no : (at % gap == 0) ≡ false = grind (arith, nat_tests) in rw no refl
 

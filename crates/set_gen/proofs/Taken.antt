@@ -1,5 +1,5 @@
 -- The work that is made is work for its set.
-use Rattle.std.proofs.Common.{◌≡◌, ℕ, ◌-◌, ◌≤◌, List, length, arith}
+use Rattle.std.proofs.Common.{◌≡◌, ℕ, ◌-◌, List, length, arith}
 use Rattle.rand_pcg.specs.Lcg.{Lcg}
 use Rattle.mc_task.specs.declared.task.Task.{Task}
 use Rattle.mc_model.specs.declared.work.WorkRow.{WorkRow}
@@ -23,9 +23,8 @@ made_work-taken words n ticks some few most =
     record {
       work = job_rows-IsWork left (made_set words n) plan (made_set-AreTasks words n some few).each (plan_below (made_set words n) (made_gaps words n) ticks (made_gaps-AreFar words n));
       few =
-          let rows : length (job_rows left (made_set words n) plan) ≡ length plan = job_rows-length left (made_set words n) plan in
-          let all : length plan ≤ 1000000 = few_releases (made_gaps words n) ticks (λ i first last. (made_gaps-bounded words n (i - 1) (omega arith)).least) (omega arith) most in
-          omega arith;
+          let all = few_releases (made_gaps words n) ticks (λ i first last. (made_gaps-bounded words n (i - 1) (omega arith)).least) (omega arith) most in
+          omega (arith, all, job_rows-length left (made_set words n) plan);
     }
 
 -- the jobs of the set, with the words that it leaves, are the work

@@ -1,5 +1,5 @@
 -- What the tasks that are made ask for at most.
-use Rattle.std.proofs.Common.{◌≡◌, ℕ, zero, suc, ◌+◌, ◌*◌, ◌/◌, ◌%◌, ◌<◌, ◌≤◌, ◌⊎◌, inl, inr, true, false, cond, List, [], ◌∷◌, map, refl, ap, sym, subst, ◌∙◌, arith}
+use Rattle.std.proofs.Common.{◌≡◌, ℕ, zero, suc, ◌+◌, ◌*◌, ◌/◌, ◌%◌, ◌≤◌, ◌⊎◌, inl, inr, true, false, cond, List, [], ◌∷◌, map, refl, ap, subst, ◌∙◌, arith}
 use Prim.Native.Nat.{◌∣◌}
 use Rattle.std.specs.List.{range_with_len, AllByRecursion}
 use Rattle.std.proofs.lemmas.Bool.Decides.{eqb_tells}
@@ -31,9 +31,7 @@ load-share budget share c n (t ∷ ts) divides shares =
     let here : (c * budget t) * (n / t.period) ≤ (share t * t.period) * (n / t.period) = mul-le-mul_right (n / t.period) shares.0 in
     let whole : t.period * (n / t.period) ≡ n = mul-div_cancel' t.period divides.0 in
     let all : (share t * t.period) * (n / t.period) ≡ share t * n = mul_assoc (share t) t.period (n / t.period) ∙ ap (λ z. share t * z) whole in
-    let others : c * load budget n ts ≤ total share ts * n = load-share budget share c n ts divides.1 shares.1 in
-    let first : c * (budget t * (n / t.period)) ≡ (c * budget t) * (n / t.period) = sym (mul_assoc c (budget t) (n / t.period)) in
-    omega arith
+    omega (arith, load-share budget share c n ts divides.1 shares.1, mul_assoc c (budget t) (n / t.period))
 
 -- the periods divide their product
 divide_product : (ts : List Task) → AllByRecursion (λ t. t.period ∣ product ts) ts
@@ -63,22 +61,14 @@ made-total low high words n zero = omega arith
 made-total low high words n (suc j) =
     let f : ℕ → Task = λ i. made_task (words_for words i) n i in
     let e : suc j ≡ j + 1 = omega arith in
-    let before : total (parts low high) (map f (range_with_len 1 j)) ≡ low * low_tasks j + high * high_tasks j = made-total low high words n j in
     let more : total (parts low high) (map f (range_with_len 1 (suc j))) ≡ total (parts low high) (map f (range_with_len 1 j)) + (parts low high (f (1 + j)) + 0) =
     ap (λ k. total (parts low high) (map f (range_with_len 1 k))) e ∙ ap (total (parts low high)) (map-range_with_len_more f 1 j (1 + j) refl)
     ∙ total-append (parts low high) (map f (range_with_len 1 j)) (f (1 + j) ∷ []) in
     let one : parts low high (f (1 + j)) ≡ cond (is_odd (1 + j)) high low = made-parts low high (words_for words (1 + j)) n (1 + j) in
+    let before = made-total low high words n j in
     elim (parity j) [
-      | inl p ↦
-          let is : parts low high (f (1 + j)) ≡ high = rw (p.0) at one in
-          let highs : high * high_tasks (suc j) ≡ high * (high_tasks j + 1) = ap (λ z. high * z) (p.1) in
-          let lows : low * low_tasks (suc j) ≡ low * low_tasks j = ap (λ z. low * z) (p.2) in
-          more ∙ omega arith
-      | inr p ↦
-          let is : parts low high (f (1 + j)) ≡ low = rw (p.0) at one in
-          let highs : high * high_tasks (suc j) ≡ high * high_tasks j = ap (λ z. high * z) (p.1) in
-          let lows : low * low_tasks (suc j) ≡ low * (low_tasks j + 1) = ap (λ z. low * z) (p.2) in
-          more ∙ omega arith
+      | inl p ↦ more ∙ omega (arith, before, rw (p.0) at one, ap (λ z. high * z) (p.1), ap (λ z. low * z) (p.2))
+      | inr p ↦ more ∙ omega (arith, before, rw (p.0) at one, ap (λ z. high * z) (p.1), ap (λ z. low * z) (p.2))
     ]
 
 set-total : (low high : ℕ) (words : Lcg) (n : ℕ) → total (parts low high) (made_set words n) ≡ low * low_tasks n + high * high_tasks n
@@ -95,11 +85,9 @@ low_low-share words n i =
 quarter : (p k w : ℕ) → 200 ≤ p → 1 ≤ k → k ≤ 16 → (4 * k) * (1 + w % (p / (4 * k))) ≤ 1 * p
 quarter p k w least some few =
     let share : 3 ≤ p / (4 * k) = le-div 3 p (4 * k) (omega arith) (omega arith) in
-    let below : w % (p / (4 * k)) < p / (4 * k) = omega arith in
     let budget : 1 + w % (p / (4 * k)) ≤ p / (4 * k) = omega arith in
     let most : (4 * k) * (1 + w % (p / (4 * k))) ≤ (4 * k) * (p / (4 * k)) = mul-le-mul_left (4 * k) budget in
-    let all : (4 * k) * (p / (4 * k)) ≤ p = mul-div-le p (4 * k) in
-    omega arith
+    omega (arith, most, mul-div-le p (4 * k))
 
 high_low-share : (words : Lcg) (n i : ℕ) → 2 ≤ n → n ≤ 32 → IsShare high_low (parts 0 1) (4 * high_tasks n) (made_task words n i)
 high_low-share words n i some few =
@@ -113,30 +101,28 @@ high_high-share words n i =
     (λ e. unfold high_task in mul-div-le (3 * period (word words)) (4 * high_tasks n))
     (λ e. unfold low_task in omega arith)
 
--- what so many tasks of a kind have in common is left out
-common : (a b k l p : ℕ) → 1 ≤ k → (a * k) * l ≤ (b * k) * p → a * l ≤ b * p
-common a b k l p some h = let apart : k * (a * l) ≤ k * (b * p) = omega arith in le_of_mul-le-mul_left apart some
+-- where each task asks for at most its parts, each part an (a * k)-th of its period, and there are b * k parts
+utilisation : (budget share : Task → ℕ) (words : Lcg) (n a b k : ℕ) → 1 ≤ k → total share (made_set words n) ≡ b * k
+    → ((i : ℕ) → IsShare budget share (a * k) (made_task (words_for words i) n i))
+    → a * load budget (product (made_set words n)) (made_set words n) ≤ b * product (made_set words n)
+utilisation budget share words n a b k some parts_of each =
+    let set : List Task = made_set words n in
+    let shares = load-share budget share (a * k) (product set) set (divide_product set) (made_set-each (IsShare budget share (a * k)) words n (λ i first last. each i)) in
+    let apart : k * (a * load budget (product set) set) ≤ k * (b * product set) = omega (arith, rw parts_of at shares) in
+    le_of_mul-le-mul_left apart some
 
 -- the three utilisations
 pub made-low_low : (words : Lcg) (n : ℕ) → 2 ≤ n → n ≤ 32 → 2 * load_ll (made_set words n) ≤ product (made_set words n)
 made-low_low words n some few =
-    let set : List Task = made_set words n in
-    let parts_of : total (parts 1 0) set ≡ 1 * low_tasks n = set-total 1 0 words n ∙ omega arith in
-    let shares = load-share low_low (parts 1 0) (2 * low_tasks n) (product set) set (divide_product set) (made_set-each (IsShare low_low (parts 1 0) (2 * low_tasks n)) words n (λ i first last. low_low-share (words_for words i) n i)) in
-    let all : 2 * load_ll set ≤ 1 * product set = common 2 1 (low_tasks n) (load_ll set) (product set) (omega arith) (rw parts_of at shares) in
-    omega arith
+    let each = λ (i : ℕ). low_low-share (words_for words i) n i in
+    omega (arith, utilisation low_low (parts 1 0) words n 2 1 (low_tasks n) (omega arith) (set-total 1 0 words n ∙ omega arith) each)
 
 pub made-high_low : (words : Lcg) (n : ℕ) → 2 ≤ n → n ≤ 32 → 4 * load_hl (made_set words n) ≤ product (made_set words n)
 made-high_low words n some few =
-    let set : List Task = made_set words n in
-    let parts_of : total (parts 0 1) set ≡ 1 * high_tasks n = set-total 0 1 words n ∙ omega arith in
-    let shares = load-share high_low (parts 0 1) (4 * high_tasks n) (product set) set (divide_product set) (made_set-each (IsShare high_low (parts 0 1) (4 * high_tasks n)) words n (λ i first last. high_low-share (words_for words i) n i some few)) in
-    let all : 4 * load_hl set ≤ 1 * product set = common 4 1 (high_tasks n) (load_hl set) (product set) (omega arith) (rw parts_of at shares) in
-    omega arith
+    let each = λ (i : ℕ). high_low-share (words_for words i) n i some few in
+    omega (arith, utilisation high_low (parts 0 1) words n 4 1 (high_tasks n) (omega arith) (set-total 0 1 words n ∙ omega arith) each)
 
 pub made-high_high : (words : Lcg) (n : ℕ) → 2 ≤ n → n ≤ 32 → 4 * load_hh (made_set words n) ≤ 3 * product (made_set words n)
 made-high_high words n some few =
-    let set : List Task = made_set words n in
-    let parts_of : total (parts 0 3) set ≡ 3 * high_tasks n = set-total 0 3 words n ∙ omega arith in
-    let shares = load-share high_high (parts 0 3) (4 * high_tasks n) (product set) set (divide_product set) (made_set-each (IsShare high_high (parts 0 3) (4 * high_tasks n)) words n (λ i first last. high_high-share (words_for words i) n i)) in
-    common 4 3 (high_tasks n) (load_hh set) (product set) (omega arith) (rw parts_of at shares)
+    let each = λ (i : ℕ). high_high-share (words_for words i) n i in
+    utilisation high_high (parts 0 3) words n 4 3 (high_tasks n) (omega arith) (set-total 0 3 words n ∙ omega arith) each

@@ -76,9 +76,7 @@ load_hl-at s ts = ap (λ p. load high_low p (at_percent ts s)) (product-at s ts)
 -- less of its high budget is no more
 budget-grows : (l : Level) (low high r s : ℕ) → r ≤ s → by_level l 0 (by_level l high (percent low high r)) ≤ by_level l 0 (by_level l high (percent low high s))
 budget-grows Low low high r s h = omega arith
-budget-grows High low high r s h =
-    let more : high * r ≤ high * s = mul-le-mul_left high h in
-    omega (arith, more)
+budget-grows High low high r s h = omega (arith, mul-le-mul_left high h)
 
 pub load_high-grows : (n r s : ℕ) (ts : List Task) → r ≤ s → load high_high n (at_percent ts r) ≤ load high_high n (at_percent ts s)
 load_high-grows n r s [] h = omega arith
@@ -87,9 +85,7 @@ load_high-grows n r s (t ∷ ts) h =
     omega (arith, here, load_high-grows n r s ts h)
 
 pub load_hh-grows : (r s : ℕ) (ts : List Task) → r ≤ s → load_hh (at_percent ts r) ≤ load_hh (at_percent ts s)
-load_hh-grows r s ts h =
-    subst (λ p. load high_high p (at_percent ts r) ≤ load_hh (at_percent ts s)) (sym (product-at r ts))
-    (subst (λ p. load high_high (product ts) (at_percent ts r) ≤ load high_high p (at_percent ts s)) (sym (product-at s ts)) (load_high-grows (product ts) r s ts h))
+load_hh-grows r s ts h = rw (product-at r ts, product-at s ts) (load_high-grows (product ts) r s ts h)
 
 -- the same of another product and another load that are equal to these
 over : {p q a b : ℕ} (x l : ℕ) → q ≡ p → b ≡ a → x * p ≡ a * l → x * q ≡ b * l

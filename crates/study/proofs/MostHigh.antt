@@ -32,10 +32,7 @@ record IsWithin (n a b c : ℕ) : Type 0 where
   pub none : n ≤ a → c ≤ 0
 
 plain-scaled : (a b c d : ℕ) → b ≤ d → c ≤ d → a * b + c * d ≤ (a + d) * d
-plain-scaled a b c d low high =
-    let lows : a * b ≤ a * d = mul-le-mul_left a low in
-    let highs : c * d ≤ d * d = mul-le-mul_right d high in
-    omega arith
+plain-scaled a b c d low high = omega (arith, mul-le-mul_left a low, mul-le-mul_right d high)
 
 scale-below : (a b c d : ℕ) → 0 < d → b ≤ c → a * b + c * d ≤ (a + d) * d → b ≤ d
 scale-below a b c d some order scaled =
@@ -82,20 +79,16 @@ full-AdmitsUpTo n a b full = λ c order.
 -- the scaled load fits up to this numerator
 pub part-AdmitsUpTo : (n a b : ℕ) → a < n → b ≤ n - a → AdmitsUpTo n a b (Some ((n * (n - a) - a * b) / (n - a)))
 part-AdmitsUpTo n a b low scale = λ c order.
-    let d : ℕ = n - a in
-    let room : ℕ = n * (n - a) - a * b in
     let lows : a * b ≤ a * (n - a) = mul-le-mul_left a scale in
     let all : a * (n - a) ≤ n * (n - a) = mul-le-mul_right (n - a) (omega arith) in
     elim (leb_tells c ((n * (n - a) - a * b) / (n - a))) [
       | inl fits ↦
-          let one : c * (n - a) ≤ (n * (n - a) - a * b) / (n - a) * (n - a) = mul-le-mul_right (n - a) (fits.1) in
-          let two : (n * (n - a) - a * b) / (n - a) * (n - a) ≤ n * (n - a) - a * b = div-mul-le_self (n * (n - a) - a * b) (n - a) in
-          rw fits.0 (scaled-admitted n a b c low (omega (arith, one, two, lows, all)))
+          let most = mul-le-mul_right (n - a) (fits.1) in
+          rw fits.0 (scaled-admitted n a b c low (omega (arith, most, div-mul-le_self (n * (n - a) - a * b) (n - a), lows, all)))
       | inr past ↦
           rw past.0
           (no_value (rule_of n a b c) (λ rule h.
           let w = within n a b c rule order h in
-          let fits : c * (n - a) ≤ n * (n - a) - a * b = omega (arith, w.scaled, lows, all) in
-          let most : c ≤ (n * (n - a) - a * b) / (n - a) = le-div c (n * (n - a) - a * b) (n - a) (omega arith) fits in
+          let most = le-div c (n * (n - a) - a * b) (n - a) (omega arith) (omega (arith, w.scaled, lows, all)) in
           absurd (omega (arith, most, past.1))))
     ]

@@ -50,18 +50,12 @@ test-at n s set some is divides =
     let a : load low_low n (at_percent set s) ≡ load low_low n set = load-at low_low low_low s n (λ t. refl) set in
     let b : load high_low n (at_percent set s) ≡ load high_low n set = load-at high_low high_low s n (λ t. refl) set in
     let c : load high_high n (at_percent set s) ≡ load (budget_at s) n set = load-at high_high (budget_at s) s n (λ t. refl) set in
-    ap is_some
-    (ap (λ z. rule_of n z (load high_low n set) (load (budget_at s) n set)) (sym a)
-    ∙ ap (λ z. rule_of n (load low_low n (at_percent set s)) z (load (budget_at s) n set)) (sym b)
-    ∙ ap (λ z. rule_of n (load low_low n (at_percent set s)) (load high_low n (at_percent set s)) z) (sym c)
-    ∙ test-over n (at_percent set s) some own.each (at-divides n s set divides))
+    rw (← a, ← b, ← c) (ap is_some (test-over n (at_percent set s) some own.each (at-divides n s set divides)))
 
 order-at : (n s : ℕ) (set : List Task) → AreTasks set → load high_low n set ≤ load (budget_at s) n set
 order-at n s set is =
     let own : AreTasks (at_percent set s) = at_percent-AreTasks set s is in
-    let b : load high_low n (at_percent set s) ≡ load high_low n set = load-at high_low high_low s n (λ t. refl) set in
-    let c : load high_high n (at_percent set s) ≡ load (budget_at s) n set = load-at high_high (budget_at s) s n (λ t. refl) set in
-    omega (arith, b, c, high-order n (at_percent set s) own.each)
+    omega (arith, load-at high_low high_low s n (λ t. refl) set, load-at high_high (budget_at s) s n (λ t. refl) set, high-order n (at_percent set s) own.each)
 
 -- where no numerator is admitted, no percentage is
 pub over-none : (n s : ℕ) (set : List Task) → 0 < n → AreTasks set → AllByRecursion (λ t. t.period ∣ n) set

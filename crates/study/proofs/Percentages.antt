@@ -1,6 +1,6 @@
 -- How much room a set has, by its loads.
-use Rattle.std.proofs.Common.{◌≡◌, ℕ, ◌*◌, ◌≤◌, refl, sym, ap, subst, ◌∙◌, arith, true, nat_le, List, Option, Some, None}
-use Rattle.std.specs.Prelude.{is_some, IsSome}
+use Rattle.std.proofs.Common.{◌≡◌, ℕ, ◌≤◌, refl, sym, ap, ◌∙◌, arith, true, nat_le, List, Option, Some, None}
+use Rattle.std.specs.Prelude.{is_some}
 use Rattle.std.proofs.Math.Nat.{mul-le-mul_left}
 use Rattle.mc_task.specs.declared.task.Task.{Task}
 use Rattle.mc_task.specs.declared.task.Rule.{Rule}
@@ -57,26 +57,17 @@ stretch-greatest set = room-greatest set (stretch set) (greatest_below-IsGreates
 holds-less : (n a b c d : ℕ) (rule : Rule) → d ≤ c → HoldsOver n a b c rule → HoldsOver n a b d rule
 holds-less n a b c d Plain less h = omega arith
 holds-less n a b c d (Virtual p q) less h =
-    let more : q * d ≤ q * c = mul-le-mul_left q less in
-    (h.0, h.1, h.2, omega (arith, more, h.3))
+    (h.0, h.1, h.2, omega (arith, mul-le-mul_left q less, h.3))
 
 value_of : {X : Type 0} (o : Option X) → is_some o ≡ true → (x : X) × (o ≡ Some x)
 value_of None h = absurd (cc h)
 value_of (Some x) h = (x, refl)
-
-some_is : {X : Type 0} (o : Option X) → IsSome o → is_some o ≡ true
-some_is o h = h
 
 -- law: with less of its high budgets an admitted set is admitted
 pub less-admitted : LessIsAdmitted
 less-admitted set r s is le h =
     let (rule, gives) = value_of (published (at_percent set s)) h in
     let holds : Holds (at_percent set s) rule = published-holds (at_percent set s) rule (at_percent-AreTasks set s is) gives in
-    let n : product (at_percent set s) ≡ product (at_percent set r) = product-at s set ∙ sym (product-at r set) in
-    let a : load_ll (at_percent set s) ≡ load_ll (at_percent set r) = load_ll-at s set ∙ sym (load_ll-at r set) in
-    let b : load_hl (at_percent set s) ≡ load_hl (at_percent set r) = load_hl-at s set ∙ sym (load_hl-at r set) in
     let same : HoldsOver (product (at_percent set r)) (load_ll (at_percent set r)) (load_hl (at_percent set r)) (load_hh (at_percent set s)) rule =
-    subst (λ z. HoldsOver z (load_ll (at_percent set r)) (load_hl (at_percent set r)) (load_hh (at_percent set s)) rule) n
-    (subst (λ z. HoldsOver (product (at_percent set s)) z (load_hl (at_percent set r)) (load_hh (at_percent set s)) rule) a
-    (subst (λ z. HoldsOver (product (at_percent set s)) (load_ll (at_percent set s)) z (load_hh (at_percent set s)) rule) b holds)) in
-    some_is (published (at_percent set r)) (holds-admitted (at_percent set r) rule (at_percent-AreTasks set r is) (holds-less _ _ _ _ _ rule (load_hh-grows r s set le) same))
+    rw (load_ll-at r set, load_hl-at r set, product-at r set, product-at s set) (rw (load_ll-at s set, load_hl-at s set, product-at s set) at holds) in
+    holds-admitted (at_percent set r) rule (at_percent-AreTasks set r is) (holds-less _ _ _ _ _ rule (load_hh-grows r s set le) same)

@@ -1,18 +1,14 @@
 -- Which of the percentages a made set reaches.
 use Rattle.std.proofs.Common.{◌≡◌, ℕ, ◌+◌, ◌*◌, ◌<◌, ◌≤◌, inl, inr, refl, sym, ◌∙◌, arith, false, nat_le, le-leb, List, Option, Some, None}
-use Prim.Native.Nat.{◌∣◌}
-use Rattle.std.specs.List.{AllByRecursion}
 use Rattle.std.proofs.lemmas.Bool.{lt-leb, lt-ltb, le-ltb}
 use Rattle.std.proofs.lemmas.Bool.Decides.{leb_tells}
-use Rattle.rand_pcg.specs.Lcg.{Lcg}
 use Rattle.mc_task.specs.declared.task.Task.{Task}
 use Rattle.mc_task.specs.TaskSet.{AreTasks}
 use Rattle.mc_model.specs.Loads.{load, low_low, high_low}
 use Rattle.mc_model.specs.Sums.{total}
-use Rattle.set_gen.specs.Words.{word, words_of}
-use Rattle.set_gen.specs.MadeSet.{made_set, words_for}
-use Rattle.set_gen.proofs.Periods.{period-IsPeriod}
-use Rattle.set_gen.proofs.MadeTasks.{made_task-period, made_set-each, made_set-AreTasks}
+use Rattle.set_gen.specs.Words.{words_of}
+use Rattle.set_gen.specs.MadeSet.{made_set}
+use Rattle.set_gen.proofs.MadeTasks.{made_set-divides, made_set-AreTasks}
 use Rattle.study.specs.Stretch.{is_admitted_at, stretch, IsStretch}
 use Rattle.study.specs.Loads.{budget_at, AdmitsUpTo}
 use Rattle.study.specs.Acceptance.{reaches, made_stretch}
@@ -42,11 +38,6 @@ reaches-less (Some m) r s le h =
       | inr t ↦ lt-leb _ _ (omega (arith, t.1, le))
     ]
 
-made-divides : (words : Lcg) (n : ℕ) → AllByRecursion (λ t. t.period ∣ 20000) (made_set words n)
-made-divides words n =
-    made_set-each (λ t. t.period ∣ 20000) words n
-    (λ i first last. rw (made_task-period (words_for words i) n i) (period-IsPeriod (word (words_for words i))).divides)
-
 pub reached-none : (number n : ℕ) (sums : Sums) → 2 ≤ n → n ≤ 32 → AreSumsOf (made_set (words_of number) n) sums → AdmitsUpTo 20000 sums.low_low sums.high_low None
     → IsReached (made_stretch number n) 0
 unfolding made_stretch
@@ -54,7 +45,7 @@ reached-none number n sums some few are none = λ i lt.
     let set : List Task = made_set (words_of number) n in
     let is : AreTasks set = made_set-AreTasks (words_of number) n some few in
     let admits : AdmitsUpTo 20000 (load low_low 20000 set) (load high_low 20000 set) None = rw (← are.low_low, ← are.high_low) none in
-    reaches-admitted set (100 + 10 * i) is (omega arith) ∙ over-none 20000 (100 + 10 * i) set (omega arith) is (made-divides (words_of number) n) admits ∙ sym (le-ltb _ _ (omega arith))
+    reaches-admitted set (100 + 10 * i) is (omega arith) ∙ over-none 20000 (100 + 10 * i) set (omega arith) is (made_set-divides (words_of number) n) admits ∙ sym (le-ltb _ _ (omega arith))
 
 pub reached-some : (number n most k : ℕ) (sums : Sums) → 2 ≤ n → n ≤ 32 → AreSumsOf (made_set (words_of number) n) sums → AdmitsUpTo 20000 sums.low_low sums.high_low (Some most)
     → IsUpTo sums.highs.items most k → IsReached (made_stretch number n) k
@@ -75,7 +66,7 @@ reached-some number n most k sums some few are admits upto = λ i lt.
     over = rw (← are.low_low, ← are.high_low) admits
 
     at : (i : ℕ) → i < 11 → reaches (100 + 10 * i) (stretch set) ≡ nat_le (load (budget_at (100 + 10 * i)) 20000 set) most
-    at i lt = reaches-admitted set (100 + 10 * i) is (omega arith) ∙ over-some 20000 (100 + 10 * i) most set (omega arith) is (made-divides (words_of number) n) over
+    at i lt = reaches-admitted set (100 + 10 * i) is (omega arith) ∙ over-some 20000 (100 + 10 * i) most set (omega arith) is (made_set-divides (words_of number) n) over
 
     asks : (i : ℕ) → i < 11 → total (asks_at (100 + 10 * i)) sums.highs.items ≡ load (budget_at (100 + 10 * i)) 20000 set
     asks i lt = are.highs (100 + 10 * i) (omega arith) (omega arith)

@@ -5,12 +5,12 @@ use Rattle.std.proofs.Math.Nat.{mul-le-mul_left, mul-le-mul_right, div-mul-le_se
 use Rattle.std.proofs.lemmas.List.{drop_all}
 use Rattle.rand_pcg.specs.Lcg.{Lcg}
 use Rattle.mc_task.specs.declared.task.Task.{Task}
-use Rattle.mc_task.specs.declared.task.Level.{Level}
 use Rattle.mc_task.specs.declared.task.Level.TheVariants.{Low, High as HighLevel}
-use Rattle.mc_task.specs.TaskSet.{IsTask, InOrder}
+use Rattle.mc_task.specs.TaskSet.{IsTask}
 use Rattle.mc_model.specs.Loads.{load, low_low, high_low, by_level}
 use Rattle.mc_model.specs.Sums.{total}
 use Rattle.mc_model.proofs.Sums.{total-append}
+use Rattle.mc_model.proofs.Lists.{Each-append}
 use Rattle.mc_model.proofs.Walk.{load_more}
 use Rattle.set_gen.specs.Words.{after}
 use Rattle.set_gen.specs.MadeSet.{made_task, made_set, words_for, words_before}
@@ -39,8 +39,7 @@ load-step budget n ts i t done all new b p at inv asks period is =
 
 pub load-end : (budget : Task → ℕ) (n : ℕ) (ts : List Task) (i done all : ℕ) → length ts ≤ i → done + load budget n (drop i ts) ≡ all → done ≡ all
 load-end budget n ts i done all past inv =
-    let none : load budget n (drop i ts) ≡ 0 = ap (λ xs. load budget n xs) (drop_all i ts past) in
-    omega (arith, none, inv)
+    omega (arith, ap (λ xs. load budget n xs) (drop_all i ts past), inv)
 
 -- a low task
 pub low-low : (t : Task) (d : Numbers) → AreOf t d → d.level ≡ Low → low_low t ≡ d.low
@@ -62,46 +61,26 @@ high-high t d of is = ap (λ x. by_level x 0 t.low) (sym of.level ∙ is) ∙ sy
 -- with 100 percent or more a small high budget is neither below the low one nor past the limit
 percent-plain : (low high s : ℕ) → low ≤ high → high ≤ 30000 → 100 ≤ s → s ≤ 200 → percent low high s ≡ high * s / 100
 percent-plain low high s order small least most =
-    let more : high * 100 ≤ high * s = mul-le-mul_left high least in
-    let less : high * s ≤ high * 200 = mul-le-mul_left high most in
-    omega (arith, more, less, order, small)
-
-level-order : (l : Level) (low high : ℕ) → l ≡ HighLevel → InOrder l low high → low ≤ high
-level-order Low low high is h = absurd (cc is)
-level-order HighLevel low high is h = h
+    omega (arith, mul-le-mul_left high least, mul-le-mul_left high most, order, small)
 
 pub high-budget : (s : ℕ) (t : Task) (d : Numbers) → IsTask t → AreOf t d → d.level ≡ HighLevel → d.high ≤ 30000 → 100 ≤ s → s ≤ 200 → budget_at s t ≡ d.high * s / 100
 high-budget s t d task of is small least most =
     let level : t.level ≡ HighLevel = sym of.level ∙ is in
-    let order : t.low ≤ t.high = level-order t.level t.low t.high level task.budgets in
+    let order : t.low ≤ t.high = rw level at task.budgets in
     ap (λ x. by_level x 0 (by_level x t.high (percent t.low t.high s))) level ∙ percent-plain t.low t.high s order (omega (arith, of.high, small)) least most
     ∙ ap (λ h. h * s / 100) (sym of.high)
 
 -- one high task more
 pub asks-more : (s : ℕ) (old new : List High) (h : High) → new ≡ old ++ h ∷ [] → total (asks_at s) new ≡ total (asks_at s) old + asks_at s h
 asks-more s old new h is =
-    let all : total (asks_at s) new ≡ total (asks_at s) old + (asks_at s h + 0) = ap (total (asks_at s)) is ∙ total-append (asks_at s) old (h ∷ []) in
-    omega arith
+    omega (arith, ap (total (asks_at s)) is, total-append (asks_at s) old (h ∷ []))
 
 pub small-more : (old new : List High) (h : High) → new ≡ old ++ h ∷ [] → AllByRecursion IsSmall old → IsSmall h → AllByRecursion IsSmall new
-small-more old new h is each one = rw is (go old each)
-  where
-    go : (xs : List High) → AllByRecursion IsSmall xs → AllByRecursion IsSmall (xs ++ h ∷ [])
-    go [] e = (one, tt)
-    go (x ∷ xs) e = (e.0, go xs e.1)
-
--- nothing more
-pub none-more : (x y : ℕ) → x ≡ x + 0 * y
-none-more x y = omega arith
+small-more old new h is each one = rw is (Each-append IsSmall old (h ∷ []) each (one, tt))
 
 -- how many jobs the span has of a made task
 pub jobs-few : (p : ℕ) → 200 ≤ p → 20000 / p ≤ 100
-jobs-few p least =
-    let whole : 20000 / p * p ≤ 20000 = div-mul-le_self 20000 p in
-    let more : 20000 / p * 200 ≤ 20000 / p * p = mul-le-mul_left (20000 / p) least in
-    omega arith
+jobs-few p least = omega (arith, div-mul-le_self 20000 p, mul-le-mul_left (20000 / p) least)
 
 pub ask-small : (low jobs : ℕ) → low ≤ 10000 → jobs ≤ 100 → low * jobs ≤ 1000000
-ask-small low jobs a b =
-    let more : low * jobs ≤ 10000 * jobs = mul-le-mul_right jobs a in
-    omega (arith, more, b)
+ask-small low jobs a b = omega (arith, mul-le-mul_right jobs a, b)

@@ -1,21 +1,19 @@
 -- Lists of workers and of starts, by their tasks.
-use Rattle.std.proofs.Common.{arith, ◌++◌, ℕ, ◌≡◌, ◌<◌, ◌+◌, ◌-◌, ◌==◌, ◌||◌, ◌∙◌, zero, suc, List, [], ◌∷◌, Bool, true, false, length, ap, sym, subst}
+use Rattle.std.proofs.Common.{arith, ◌++◌, ℕ, ◌≡◌, ◌<◌, ◌+◌, ◌-◌, ◌==◌, ◌∙◌, List, [], ◌∷◌, Bool, true, length, sym, subst}
 use Rattle.std.specs.List.{slice_index_or, slice_set}
 use Rattle.std.proofs.lemmas.Bool.{eq-eqb}
+use Rattle.std.proofs.lemmas.List.Folds.{list_any_at}
 use Rattle.std.proofs.lemmas.List.{get_or-set_same, get_or-set_other, length-set, length-append}
 use Rattle.std.proofs.Math.ListN.{get_or-append}
 use Rattle.std.proofs.Math.Seq.{get_or-append_seam}
 use mathlib.Core.Logic.{dite}
 use native.Mathlib.Decide.{ℕ_discrete}
-use Rattle.mc_model.proofs.Booleans.{or_true}
 use Rattle.executive.specs.declared.pass.TaskPass.{TaskPass}
 use Rattle.executive.specs.declared.executive.Executive.{Executive}
 use Rattle.executive.specs.Opening.{AreFresh}
 use Rattle.executive.specs.Passes.{of_pass, floor_of}
 use Rattle.executive.specs.Closing.{has_pass, IsMissing}
 use Rattle.task_threads.specs.declared.starts.Start.{Start}
-use Rattle.task_threads.specs.declared.live_round.Runner.{Runner}
-use Rattle.task_threads.specs.LivePasses.{IsRunner}
 use Rattle.task_threads.specs.Passes.{IsPassFor}
 use Rattle.task_threads.specs.Workers.{AreInOrder}
 use Rattle.task_threads.specs.Starts.{IsStartOf, GoDown}
@@ -24,14 +22,10 @@ use Rattle.task_threads.specs.Starts.{IsStartOf, GoDown}
 pub from_fresh : (e : Executive) (ps : List TaskPass) → AreFresh e ps → AreInOrder IsPassFor e ps
 from_fresh e ps fresh i d lt = ((fresh i d lt).of, (fresh i d lt).task)
 
--- a list that has a pass of the task at some place has one
-has_at : (ps : List TaskPass) (k i : ℕ) → i < length ps → ((d : TaskPass) → (of_pass (slice_index_or ps i d)).task ≡ k) → has_pass ps k ≡ true
-has_at [] k i lt h = absurd (omega arith)
-has_at (p ∷ ps) k zero lt h = ap (λ (b : Bool). b || has_pass ps k) (eq-eqb (of_pass p).task k (h p))
-has_at (p ∷ ps) k (suc i) lt h = or_true ((of_pass p).task == k) (has_pass ps k) (has_at ps k i (omega arith) h)
-
-both_ways : (b : Bool) → b ≡ true → b ≡ false → ⊥
-both_ways b t f = cc
+-- an element of a list that has one
+pub first_of : {A : Type 0} (xs : List A) → 0 < length xs → A
+first_of [] h = absurd (omega (arith, h))
+first_of (x ∷ xs) h = x
 
 -- of as many passes in order as there are tasks, none is missing
 pub none_missing : (e : Executive) (ps : List TaskPass) (k : ℕ) → AreInOrder IsPassFor e ps → IsMissing ps (floor_of e).core.set k → length ps ≡ length (floor_of e).core.set → ⊥
@@ -40,7 +34,9 @@ none_missing e ps k order missing all =
     let b = missing.in_set.1 in
     let lt : k - 1 < length ps = omega (arith, a, b, all) in
     let is : k - 1 + 1 ≡ k = omega (arith, a) in
-    both_ways (has_pass ps k) (has_at ps k (k - 1) lt (λ d. (order (k - 1) d lt).1 ∙ is)) missing.none
+    let d = first_of ps (omega (arith, lt)) in
+    let there : has_pass ps k ≡ true = list_any_at (λ p. (of_pass p).task == k) ps (k - 1) d lt (eq-eqb _ k ((order (k - 1) d lt).1 ∙ is)) in
+    let none = missing.none in cc
 
 -- one more worker, of the next task
 pub one_more : {T : Type 0} (is_of : Executive → ℕ → T → Type 0) (e : Executive) (ws : List T) (w : T) → AreInOrder is_of e ws → is_of e (length ws + 1) w → AreInOrder is_of e (ws ++ w ∷ [])
@@ -50,10 +46,6 @@ one_more is_of e ws w all last i d lt =
     (λ same. subst (λ (j : ℕ). is_of e (j + 1) (slice_index_or (ws ++ w ∷ []) j d)) (sym same) (subst (is_of e (length ws + 1)) (sym (get_or-append_seam ws w [] d)) last))
     (λ other. let before : i < length ws = omega (arith, len, lt, other) in
     subst (is_of e (i + 1)) (sym (get_or-append ws (w ∷ []) d i before)) (all i d before))
-
--- the same of runners
-pub one_more_runner : (e : Executive) (rs : List Runner) (r : Runner) → AreInOrder IsRunner e rs → IsRunner e (length rs + 1) r → AreInOrder IsRunner e (rs ++ r ∷ [])
-one_more_runner = one_more IsRunner
 
 -- of n starts one is replaced by another of its task
 pub replaced : {T : Type 0} (is_of : Executive → ℕ → T → Type 0) (e : Executive) (n m : ℕ) (ss : List (Start T)) (k : ℕ) (s : Start T) → m ≡ n → length ss ≡ n → k < m → GoDown is_of e n ss → IsStartOf is_of e (m - k) s → GoDown is_of e n (slice_set ss k s)

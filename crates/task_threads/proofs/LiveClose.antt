@@ -1,5 +1,5 @@
 -- A closed executive whose passes ended their jobs by their needs.
-use Rattle.std.proofs.Common.{◌≡◌, ℕ, ◌+◌, ◌-◌, ◌<◌, List, [], ◌∷◌, length, None, slice_index_or, refl, ap, sym, ◌∙◌, subst, arith}
+use Rattle.std.proofs.Common.{◌≡◌, ℕ, ◌+◌, ◌-◌, ◌<◌, List, length, None, slice_index_or, refl, ap, sym, ◌∙◌, subst, arith}
 use Rattle.mc_task.specs.TaskSet.{IsIn, task_at}
 use Rattle.mc_task.specs.declared.task.Task.{Task}
 use Rattle.timetable.specs.declared.plan.Plan.TheVariants.{Free}
@@ -15,11 +15,8 @@ use Rattle.task_threads.specs.LiveCalls.{AreByNeed}
 use Rattle.task_threads.specs.LivePasses.{IsLivePass}
 use Rattle.task_threads.specs.Workers.{AreInOrder}
 use Rattle.task_threads.specs.LiveLeft.{IsLiveFloor}
+use Rattle.task_threads.proofs.InOrder.{first_of}
 use Rattle.task_threads.proofs.LiveLaw.{live_rows}
-
-first_of : {A : Type 0} (xs : List A) → 0 < length xs → A
-first_of [] h = absurd (omega (arith, h))
-first_of (x ∷ xs) h = x
 
 -- a pass that made no call
 pub fresh_live : (e : Executive) (k : ℕ) (p : TaskPass) → IsFresh e k p → IsLivePass e k p

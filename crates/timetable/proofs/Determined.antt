@@ -1,9 +1,8 @@
 -- A trace that follows adds at each row what the plan adds.
-use Rattle.std.proofs.Common.{◌≡◌, ℕ, ◌+◌, ◌<◌, ◌≤◌, Bool, true, false, ◌&&◌, ◌||◌, List, [], ◌∷◌, ◌++◌, Option, Some, None, length, cond, filter, map, reverse, slice_get, nat_lt, nat_le, ◌==◌, refl, sym, ap, ap₂, ◌∙◌, subst, arith, ltb-true, ltb-false, ◌-◌, option_map, le_refl, le-leb, zero, suc, append_assoc}
-use Rattle.std.proofs.lemmas.Option.{same_Some}
+use Rattle.std.proofs.Common.{◌≡◌, ℕ, ◌+◌, ◌<◌, ◌≤◌, Bool, true, false, List, [], ◌∷◌, ◌++◌, Option, Some, None, length, reverse, slice_get, nat_lt, refl, sym, ap, ap₂, ◌∙◌, subst, arith, ltb-true, ◌-◌, option_map, le_refl, le-leb, zero, suc, append_assoc, inl, inr, ne_eqb}
+use Rattle.std.proofs.lemmas.Option.{none-some, same_Some}
 use Rattle.std.proofs.lemmas.List.{append-nil, length-reverse}
 use Rattle.std.proofs.lemmas.Grind.{reverse_onto}
-use Rattle.std.proofs.lemmas.Bool.Decides.{nat_tests}
 use Rattle.mc_task.specs.declared.task.Rule.{Rule}
 use Rattle.mc_task.specs.declared.task.Task.{Task}
 use Rattle.mc_task.specs.declared.task.JobId.{JobId}
@@ -27,7 +26,7 @@ use Rattle.mc_model.proofs.Steps.{release_fits, parts_one, parts_three}
 use Rattle.timetable.specs.Ticks.{is_last, tick_row}
 use Rattle.timetable.specs.Shape.{first_job, row_now, next_row, Runs}
 use Rattle.timetable.proofs.OneChosen.{chosen_is}
-use Rattle.std.proofs.lemmas.Bool.{and_parts}
+use Rattle.std.proofs.lemmas.Bool.{and_parts, cases_Bool, cases_order, lt-leb}
 
 -- the arrivals that are still to come are at t or later
 abbrev pub Later : ℕ → List Arrival → Type 0
@@ -37,7 +36,7 @@ Later t (a ∷ xs) = (t ≤ a.at) × Later t xs
 -- what is to come at a later time is to come at an earlier one
 pub Later-less : (t u : ℕ) (xs : List Arrival) → t ≤ u → Later u xs → Later t xs
 Later-less t u [] h l = tt
-Later-less t u (a ∷ xs) h l = let d = l.0 in (omega (arith, h, d), Later-less t u xs h l.1)
+Later-less t u (a ∷ xs) h l = (omega (arith, h, l.0), Later-less t u xs h l.1)
 
 -- the entry after so many
 get_at : (xs : List Arrival) (a : Arrival) (ys : List Arrival) → slice_get (xs ++ a ∷ ys) (length xs) ≡ Some a
@@ -49,14 +48,15 @@ get_past : (xs : List Arrival) → slice_get xs (length xs) ≡ None
 get_past [] = refl
 get_past (x ∷ xs) = get_past xs
 
+-- what is so with a work row's arrival and without it is so of what is planned of the row and those behind it
+pub planned_either : (P : List Arrival → Type 0) (w : WorkRow) (ws : List WorkRow) (n : ℕ) →
+    (w.release < n → P (record { task = w.task.0; at = w.release } ∷ planned ws n)) → P (planned ws n) → P (planned (w ∷ ws) n)
+planned_either P w ws n with without = elim (cases_Bool (nat_lt w.release n)) [ inl m ↦ rw m (with (ltb-true _ _ m)) | inr m ↦ rw m without ]
+
 -- what is planned stands before n
 pub planned_each : (work : List WorkRow) (n : ℕ) → Each (λ a. a.at < n) (planned work n)
 planned_each [] n = tt
-planned_each (w ∷ ws) n = go (planned_each ws n) (nat_lt w.release n) refl
-  where
-    go : Each (λ a. a.at < n) (planned ws n) → (b : Bool) → nat_lt w.release n ≡ b → Each (λ (a : Arrival). a.at < n) (map (λ (v : WorkRow). record { task = v.task.0; at = v.release }) (cond b (w ∷ filter (λ v. nat_lt v.release n) ws) (filter (λ v. nat_lt v.release n) ws)))
-    go ih true m = (ltb-true _ _ m, ih)
-    go ih false m = ih
+planned_each (w ∷ ws) n = planned_either (Each (λ (a : Arrival). a.at < n)) w ws n (λ h. (h, planned_each ws n)) (planned_each ws n)
 
 -- what holds of each holds of one
 each_get : (P : Arrival → Type 0) (xs : List Arrival) (i : ℕ) (a : Arrival) → Each P xs → slice_get xs i ≡ Some a → P a
@@ -67,16 +67,13 @@ each_get P (x ∷ xs) (suc i) a h e = each_get P xs i a h.1 e
 -- by the test of two truth values
 same_bool-is : (a b : Bool) → same_bool a b ≡ true → a ≡ b
 same_bool-is true true h = refl
-same_bool-is true false h = cc
 same_bool-is false false h = refl
-same_bool-is false true h = cc
+same_bool-is a b h = cc
 
 -- the one how that is done
 how_done : (h : How) → is_done h ≡ true → h ≡ Done
-how_done More e = cc
 how_done Done e = refl
-how_done Stop e = cc
-how_done Over e = cc
+how_done h e = cc
 
 -- by the test of two hows
 how_same : (h k : How) → same_how h k ≡ true → h ≡ k
@@ -84,40 +81,18 @@ how_same More More e = refl
 how_same Done Done e = refl
 how_same Stop Stop e = refl
 how_same Over Over e = refl
-how_same More Done e = cc
-how_same More Stop e = cc
-how_same More Over e = cc
-how_same Done More e = cc
-how_same Done Stop e = cc
-how_same Done Over e = cc
-how_same Stop More e = cc
-how_same Stop Done e = cc
-how_same Stop Over e = cc
-how_same Over More e = cc
-how_same Over Done e = cc
-how_same Over Stop e = cc
+how_same h k e = cc
 
 -- the how of a tick is fixed by whether it is done
 how_is : (set : List Task) (rule : Rule) (g : List Row) (j : JobId) (how : How) (d : Bool) → is_allowed_how set rule g j how ≡ true → is_done how ≡ d → how ≡ outcome_of set rule g j d
 how_is set rule g j how true a e = how_done how e
-how_is set rule g j how false a e = how_same how (how_of set rule g j (used g j + 1)) (pick (is_done how) _ _ e a)
-  where
-    pick : (b c d : Bool) → b ≡ false → ((b && c) || d) ≡ true → d ≡ true
-    pick true c d e h = cc
-    pick false c d e h = h
+how_is set rule g j how false a e = how_same how (how_of set rule g j (used g j + 1)) (rw e at a)
 
 -- what a row says of the prefix before it
 
--- tests of numbers
-lt_test : (m n : ℕ) → m < n → nat_le n m ≡ false
-lt_test m n h = grind (arith, nat_tests)
-
-apart_test : (m n : ℕ) → n + 1 ≤ m → (m == n) ≡ false
-apart_test m n h = grind (arith, nat_tests)
-
 -- the next row, by the first release that was not taken
 pub next_at : (set : List Task) (rule : Rule) (work : List WorkRow) (n : ℕ) (g : List Row) (o : Option Arrival) → ticks g < n → slice_get (planned work n) (length (arrivals g)) ≡ o → next_row set rule work n g ≡ Some (row_now set rule work g o)
-next_at set rule work n g o h e = let t = lt_test (ticks g) n h in rw (t, e) refl
+next_at set rule work n g o h e = rw (lt-leb n (ticks g) h, e) refl
 
 -- a release that the trace has is the one that is due
 release_next : (set : List Task) (rule : Rule) (work : List WorkRow) (n : ℕ) (j : JobId) (kept : Bool) (g : List Row) (rest : List Arrival) →
@@ -130,8 +105,8 @@ release_next set rule work n j kept g rest l e =
     let fits = release_fits set rule j kept g l.1 in
     let k : kept ≡ keeps set rule g j.task.0 = same_bool-is kept (keeps set rule g j.task.0) fits.kept_so in
     let job : first_job g j.task.0 ≡ j = ap (λ (c : ℕ). let x : JobId = record { task = j.task; count = c } in x) (sym fits.count) in
-    let t = eqb-refl (ticks g) in
-    next_at set rule work n g (Some a) soon found ∙ rw t (ap (λ (x : JobId). Some (release_row set rule x g)) job ∙ ap (λ (b : Bool). Some (Release j b)) (sym k))
+    next_at set rule work n g (Some a) soon found
+    ∙ rw (eqb-refl (ticks g)) (ap (λ (x : JobId). Some (release_row set rule x g)) job ∙ ap (λ (b : Bool). Some (Release j b)) (sym k))
 
 -- no release is due before a tick
 not_due : (set : List Task) (rule : Rule) (work : List WorkRow) (n : ℕ) (g : List Row) (rest : List Arrival) → ticks g < n → reverse (arrivals g) ++ rest ≡ planned work n → Later (ticks g + 1) rest → next_row set rule work n g ≡ Some (tick_row set rule work g (chosen set rule g))
@@ -141,8 +116,7 @@ not_due set rule work n g [] h e l =
 not_due set rule work n g (a ∷ rest) h e l =
     let found : slice_get (planned work n) (length (arrivals g)) ≡ Some a =
     subst (λ xs. slice_get xs (length (arrivals g)) ≡ Some a) e (subst (λ (i : ℕ). slice_get (reverse (arrivals g) ++ a ∷ rest) i ≡ Some a) (length-reverse (arrivals g)) (get_at (reverse (arrivals g)) a rest)) in
-    let t = apart_test a.at (ticks g) l.0 in
-    next_at set rule work n g (Some a) h found ∙ rw t refl
+    next_at set rule work n g (Some a) h found ∙ rw (ne_eqb a.at (ticks g) (omega (arith, l.0))) refl
 
 -- the newest arrival stands last in the order of time
 pub reverse-move : (a : Arrival) (xs ys : List Arrival) → reverse (a ∷ xs) ++ ys ≡ reverse xs ++ a ∷ ys
@@ -191,31 +165,27 @@ same_length set rule work n (q ∷ h) (r ∷ k) e a b =
 -- none is longer than one to which the plan adds no row
 longer : (set : List Task) (rule : Rule) (work : List WorkRow) (n m : ℕ) (k h : List Row) → length k ≡ m + 1 + length h → Runs set rule work n k → Runs set rule work n h → next_row set rule work n h ≡ None → ⊥
 longer set rule work n m [] h e a b f = omega (arith, e)
-longer set rule work n m (r ∷ k) h e a b f = go (λ i d. longer set rule work n i k h d a.1 b f) m e
-  where
-    no : (x : Row) (o : Option Row) → o ≡ None → o ≡ Some x → ⊥
-    no x o p q = cc
-
-    go : ((i : ℕ) → length k ≡ i + 1 + length h → ⊥) → (m : ℕ) → length (r ∷ k) ≡ m + 1 + length h → ⊥
-    go more zero e = no r (next_row set rule work n h) f (ap (next_row set rule work n) (sym (same_length set rule work n k h (omega (arith, e)) a.1 b)) ∙ a.0)
-    go more (suc m) e = more m (omega (arith, e))
+longer set rule work n zero (r ∷ k) h e a b f =
+    let same = same_length set rule work n k h (omega (arith, e)) a.1 b in
+    none-some r (sym f ∙ (ap (next_row set rule work n) (sym same) ∙ a.0))
+longer set rule work n (suc m) (r ∷ k) h e a b f = longer set rule work n m k h (omega (arith, e)) a.1 b f
 
 -- two to which the plan adds no row are one
 pub one : (set : List Task) (rule : Rule) (work : List WorkRow) (n : ℕ) (h k : List Row) → Runs set rule work n h → Runs set rule work n k → next_row set rule work n h ≡ None → next_row set rule work n k ≡ None → h ≡ k
-one set rule work n h k a b c d = go (nat_lt (length h) (length k)) refl (nat_lt (length k) (length h)) refl
-  where
-    go : (x : Bool) → nat_lt (length h) (length k) ≡ x → (y : Bool) → nat_lt (length k) (length h) ≡ y → h ≡ k
-    go true m y p = let q : length h < length k = ltb-true _ _ m in absurd (longer set rule work n (length k - length h - 1) k h (omega (arith, q)) b a c)
-    go false m true p = let q : length k < length h = ltb-true _ _ p in absurd (longer set rule work n (length h - length k - 1) h k (omega (arith, q)) a b d)
-    go false m false p = same_length set rule work n h k (let x = ltb-false _ _ m in let y = ltb-false _ _ p in omega (arith, x, y)) a b
+one set rule work n h k a b c d = elim (cases_order (length h) (length k)) [
+  | inl e ↦ same_length set rule work n h k e a b
+  | inr (inl q) ↦ absurd (longer set rule work n (length k - length h - 1) k h (omega (arith, q)) b a c)
+  | inr (inr q) ↦ absurd (longer set rule work n (length h - length k - 1) h k (omega (arith, q)) a b d)
+]
 
 -- a trace that follows is one that the plan adds
 pub follows_runs : (set : List Task) (rule : Rule) (work : List WorkRow) (n : ℕ) (h : List Row) → AllByRecursion IsTask set → Fits rule → Follows set rule work n h → Runs set rule work n h
-follows_runs set rule work n h s f x = determined set rule work n h [] s f x.legal (let t = x.ticks in omega (arith, t)) (append-nil (reverse (arrivals h)) ∙ x.releases) tt x.done x.lowest
+follows_runs set rule work n h s f x =
+    determined set rule work n h [] s f x.legal (omega (arith, x.ticks)) (append-nil (reverse (arrivals h)) ∙ x.releases) tt x.done x.lowest
 
 -- and the plan adds no more to it
 pub follows_ends : (set : List Task) (rule : Rule) (work : List WorkRow) (n : ℕ) (h : List Row) → Follows set rule work n h → next_row set rule work n h ≡ None
-follows_ends set rule work n h x = let t : nat_le n (ticks h) ≡ true = le-leb _ _ (let y = x.ticks in omega (arith, y)) in rw t refl
+follows_ends set rule work n h x = rw (le-leb n (ticks h) (omega (arith, x.ticks))) refl
 
 -- at most one trace follows
 pub one_follows : (set : List Task) (rule : Rule) (work : List WorkRow) (n : ℕ) (h k : List Row) → AllByRecursion IsTask set → Fits rule → Follows set rule work n h → Follows set rule work n k → h ≡ k

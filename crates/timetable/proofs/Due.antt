@@ -1,21 +1,21 @@
 -- A release that is due is allowed, and there is room for each row.
-use Rattle.std.proofs.Common.{◌≡◌, ℕ, zero, suc, ◌+◌, ◌<◌, ◌≤◌, Bool, true, false, List, [], ◌∷◌, ◌++◌, Option, Some, None, length, cond, filter, map, reverse, slice_get, nat_lt, ◌==◌, refl, sym, ap, ◌∙◌, subst, arith, ltb-false, eqb-true}
+use Rattle.std.proofs.Common.{◌≡◌, ℕ, zero, suc, ◌+◌, ◌<◌, ◌≤◌, Bool, true, false, List, [], ◌∷◌, ◌++◌, Option, Some, None, length, cond, filter, map, reverse, slice_get, nat_lt, refl, sym, ap, ◌∙◌, subst, arith, ltb-false, eq-eqb, ne_eqb, inl, inr}
 use Rattle.std.proofs.lemmas.List.{length-append, length-reverse, reverse-reverse}
-use Rattle.std.proofs.lemmas.Grind.{reverse_onto}
 use Rattle.mc_task.specs.declared.task.Rule.{Rule}
 use Rattle.mc_task.specs.declared.task.Task.{Task}
 use Rattle.mc_model.specs.declared.row.Row.{Row}
-use Rattle.mc_model.specs.declared.row.Row.TheVariants.{Release, Tick, Idle}
+use Rattle.mc_model.specs.declared.row.Row.TheVariants.{Release}
 use Rattle.mc_model.specs.declared.work.WorkRow.{WorkRow}
 use Rattle.mc_task.specs.TaskSet.{task_at}
 use Rattle.mc_model.specs.TaskNumbers.{period_in}
 use Rattle.mc_model.specs.Rows.{ticks, next_release}
 use Rattle.mc_model.specs.Follows.{Arrival, arrivals, planned}
-use Rattle.mc_model.proofs.Lists.{Each}
+use Rattle.std.proofs.lemmas.Bool.{cases_eq}
+use Rattle.mc_model.proofs.Lists.{Each, Each-reverse}
 use Rattle.timetable.specs.Shape.{Runs}
 use Rattle.mc_model.specs.Work.{AllFollow, IsNeed, IsWork}
-use Rattle.timetable.proofs.Determined.{Later, planned_each}
-use Rattle.timetable.proofs.RunsFollow.{Rest, rest_of, head_at, later_planned}
+use Rattle.timetable.proofs.Determined.{Later, planned_either, planned_each}
+use Rattle.timetable.proofs.RunsFollow.{Rest, rest_of, at_middle, head_at, later_planned}
 
 -- the arrival that a work row asks for
 abbrev pub arrival_of : WorkRow → Arrival
@@ -32,7 +32,7 @@ none_planned set w ws n f h = go (planned ws n) (later_planned set w ws n f) (pl
   where
     go : (xs : List Arrival) → Later w.release xs → Each (λ a. a.at < n) xs → xs ≡ []
     go [] l e = refl
-    go (a ∷ xs) l e = let p = l.0 in let q = e.0 in absurd (omega (arith, p, q, h))
+    go (a ∷ xs) l e = absurd (omega (arith, l.0, e.0, h))
 
 -- what is planned stands in the places of the work
 pub due_index : (set : List Task) (work : List WorkRow) (n i : ℕ) → IsWork set work → slice_get (planned work n) i ≡ due_before n (slice_get work i)
@@ -60,51 +60,28 @@ Spaced set (a ∷ xs) = Each (IsApart set a) xs × Spaced set xs
 -- what is planned behind a work row is apart from it
 apart_planned : (set : List Task) (w : WorkRow) (ws : List WorkRow) (n : ℕ) → AllFollow set w ws → Each (IsApart set (arrival_of w)) (planned ws n)
 apart_planned set w [] n f = tt
-apart_planned set w (v ∷ vs) n f = go (apart_planned set w vs n f.1) (nat_lt v.release n)
-  where
-    go : Each (IsApart set (arrival_of w)) (planned vs n) → (b : Bool) → Each (IsApart set (arrival_of w)) (map (λ (x : WorkRow). record { task = x.task.0; at = x.release }) (cond b (v ∷ filter (λ x. nat_lt x.release n) vs) (filter (λ x. nat_lt x.release n) vs)))
-    go ih true = (record { apart = f.0.apart }, ih)
-    go ih false = ih
+apart_planned set w (v ∷ vs) n f =
+    let behind = apart_planned set w vs n f.1 in
+    planned_either (Each (IsApart set (arrival_of w))) v vs n (λ h. (record { apart = f.0.apart }, behind)) behind
 
 -- what is planned is spaced
 planned_spaced : (set : List Task) (work : List WorkRow) (n : ℕ) → IsWork set work → Spaced set (planned work n)
 planned_spaced set [] n w = tt
-planned_spaced set (v ∷ vs) n w = go (planned_spaced set vs n w.2) (nat_lt v.release n)
-  where
-    go : Spaced set (planned vs n) → (b : Bool) → Spaced set (map (λ (x : WorkRow). record { task = x.task.0; at = x.release }) (cond b (v ∷ filter (λ x. nat_lt x.release n) vs) (filter (λ x. nat_lt x.release n) vs)))
-    go ih true = (apart_planned set v vs n w.1, ih)
-    go ih false = ih
-
--- what holds of each holds of one in the middle
-at_middle : (P : Arrival → Type 0) (front : List Arrival) (a : Arrival) (xs : List Arrival) → Each P (front ++ a ∷ xs) → P a
-at_middle P [] a xs e = e.0
-at_middle P (b ∷ bs) a xs e = at_middle P bs a xs e.1
+planned_spaced set (v ∷ vs) n w = planned_either (Spaced set) v vs n (λ h. (apart_planned set v vs n w.1, planned_spaced set vs n w.2)) (planned_spaced set vs n w.2)
 
 -- each before an arrival is apart from it
 before_each : (set : List Task) (front : List Arrival) (a : Arrival) (xs : List Arrival) → Spaced set (front ++ a ∷ xs) → Each (λ b. IsApart set b a) front
 before_each set [] a xs s = tt
 before_each set (b ∷ bs) a xs s = (at_middle (IsApart set b) bs a xs s.0, before_each set bs a xs s.1)
 
--- what holds of each of two lists holds of each of both
-Each-append : (P : Arrival → Type 0) (xs ys : List Arrival) → Each P xs → Each P ys → Each P (xs ++ ys)
-Each-append P [] ys h k = k
-Each-append P (x ∷ xs) ys h k = (h.0, Each-append P xs ys h.1 k)
-
--- the order does not matter
-Each-reverse : (P : Arrival → Type 0) (xs : List Arrival) → Each P xs → Each P (reverse xs)
-Each-reverse P [] h = tt
-Each-reverse P (x ∷ xs) h = subst (Each P) (sym (reverse_onto xs x [])) (Each-append P (reverse xs) (x ∷ []) (Each-reverse P xs h.1) (h.0, tt))
-
 -- where each arrival is apart from a, the next release of its task may be at a
 next_by : (set : List Task) (h : List Row) (a : Arrival) → Each (λ b. IsApart set b a) (arrivals h) → next_release set h a.task ≤ a.at
 next_by set [] a e = omega arith
-next_by set (Tick j how ∷ g) a e = next_by set g a e
-next_by set (Idle ∷ g) a e = next_by set g a e
-next_by set (Release j kept ∷ g) a e = go (next_by set g a e.1) (j.task.0 == a.task) refl
-  where
-    go : next_release set g a.task ≤ a.at → (b : Bool) → (j.task.0 == a.task) ≡ b → cond b (ticks g + period_in (task_at set a.task)) (next_release set g a.task) ≤ a.at
-    go ih true m = let d : j.task.0 ≡ a.task = eqb-true _ _ m in subst (λ (k : ℕ). ticks g + period_in (task_at set k) ≤ a.at) d (e.0.apart d)
-    go ih false m = ih
+next_by set (Release j kept ∷ g) a e = elim (cases_eq j.task.0 a.task) [
+  | inl d ↦ rw (eq-eqb _ _ d) (subst (λ (k : ℕ). ticks g + period_in (task_at set k) ≤ a.at) d (e.0.apart d))
+  | inr d ↦ rw (ne_eqb _ _ d) (next_by set g a e.1)
+]
+next_by set (row ∷ g) a e = next_by set g a e
 
 -- the release that is due may come now
 pub due_allowed : (set : List Task) (rule : Rule) (work : List WorkRow) (n : ℕ) (h : List Row) (a : Arrival) → IsWork set work → Runs set rule work n h → slice_get (planned work n) (length (arrivals h)) ≡ Some a → next_release set h a.task ≤ a.at
@@ -123,25 +100,21 @@ due_allowed set rule work n h a w r e = go x.rest x.split (sym (head_at work n h
 -- a trace is as long as its ticks and its releases together
 pub length-rows : (h : List Row) → length h ≡ ticks h + length (arrivals h)
 length-rows [] = refl
-length-rows (Release j kept ∷ g) = let ih = length-rows g in omega (arith, ih)
-length-rows (Tick j how ∷ g) = let ih = length-rows g in omega (arith, ih)
-length-rows (Idle ∷ g) = let ih = length-rows g in omega (arith, ih)
+length-rows (Release j kept ∷ g) = omega (arith, length-rows g)
+length-rows (row ∷ g) = omega (arith, length-rows g)
 
 -- no more is planned than the work has rows
 pub planned-few : (work : List WorkRow) (n : ℕ) → length (planned work n) ≤ length work
 planned-few [] n = omega arith
-planned-few (w ∷ ws) n = go (planned-few ws n) (nat_lt w.release n)
-  where
-    go : length (planned ws n) ≤ length ws → (b : Bool) → length (map arrival_of (cond b (w ∷ filter (λ x. nat_lt x.release n) ws) (filter (λ x. nat_lt x.release n) ws))) ≤ length (w ∷ ws)
-    go ih true = omega (arith, ih)
-    go ih false = omega (arith, ih)
+planned-few (w ∷ ws) n =
+    let few : length (planned ws n) ≤ length ws = planned-few ws n in
+    planned_either (λ xs. length xs ≤ length (w ∷ ws)) w ws n (λ h. omega arith) (omega arith)
 
 -- no more was taken than the work has rows
 pub taken-few : (set : List Task) (rule : Rule) (work : List WorkRow) (n : ℕ) (h : List Row) → IsWork set work → Runs set rule work n h → length (arrivals h) ≤ length work
 taken-few set rule work n h w r =
     let x : Rest work n h = rest_of set rule work n h w r in
-    let e : length (reverse (arrivals h) ++ x.rest) ≡ length (planned work n) = ap length x.split in
-    omega (arith, e, length-append (reverse (arrivals h)) x.rest, length-reverse (arrivals h), planned-few work n)
+    omega (arith, ap length x.split, length-append (reverse (arrivals h)) x.rest, length-reverse (arrivals h), planned-few work n)
 
 -- each row of the work is of the set, with a need
 pub need_at : (set : List Task) (work : List WorkRow) (i : ℕ) (w : WorkRow) → IsWork set work → slice_get work i ≡ Some w → IsNeed set w

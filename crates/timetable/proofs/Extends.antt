@@ -1,5 +1,6 @@
 -- What the plan has added so far is the beginning of the trace that follows.
-use Rattle.std.proofs.Common.{◌≡◌, ℕ, zero, suc, ◌+◌, ◌≤◌, Bool, true, false, List, [], ◌∷◌, ◌++◌, Option, Some, None, length, cond, slice_get, nat_le, ◌==◌, refl, sym, subst, arith, leb-true, leb-false, eqb-true, append_assoc}
+use Rattle.std.proofs.Common.{◌≡◌, ℕ, zero, suc, ◌+◌, ◌≤◌, List, [], ◌∷◌, ◌++◌, Option, Some, None, length, slice_get, nat_le, refl, sym, subst, arith, leb-true, leb-false, eq-eqb, ne_eqb, inl, inr, append_assoc}
+use Rattle.std.proofs.lemmas.Bool.{cases_Bool, cases_eq}
 use Rattle.std.specs.List.{AllByRecursion}
 use Rattle.mc_task.specs.declared.task.Rule.{Rule}
 use Rattle.mc_task.specs.declared.task.Task.{Task}
@@ -10,7 +11,7 @@ use Rattle.mc_model.specs.declared.work.WorkRow.{WorkRow}
 use Rattle.mc_model.specs.Rows.{ticks, next_release}
 use Rattle.mc_model.specs.Holds.{Fits}
 use Rattle.mc_model.specs.Legal.{Legal}
-use Rattle.mc_model.specs.Core.{State, chosen, release_row}
+use Rattle.mc_model.specs.Core.{State, chosen}
 use Rattle.mc_model.specs.Follows.{Arrival, arrivals, planned, Follows}
 use Rattle.mc_model.specs.Work.{IsNeed, IsWork}
 use Rattle.mode_core.specs.Events.{job_in}
@@ -44,16 +45,14 @@ row_legal set rule work n g s w l r = go (slice_get (planned work n) (length (ar
 
     go : (o : Option Arrival) → slice_get (planned work n) (length (arrivals g)) ≡ o → Legal set rule (row_now set rule work g o ∷ g)
     go None m = tick
-    go (Some a) m = by (a.at == ticks g) refl
-      where
-        by : (b : Bool) → (a.at == ticks g) ≡ b → Legal set rule (cond b (release_row set rule (first_job g a.task) g) (tick_row set rule work g (chosen set rule g)) ∷ g)
-        by true e =
-            let v : OfTask work (length (arrivals g)) a.task = of_task set work n (length (arrivals g)) a w m in
-            let need : IsNeed set v.row = need_at set work (length (arrivals g)) v.row w v.here in
-            let inside : IsIn set a.task = subst (IsIn set) v.task need.task in
-            let soon : next_release set g a.task ≤ ticks g = subst (λ (t : ℕ). next_release set g a.task ≤ t) (eqb-true _ _ e) (due_allowed set rule work n g a w r m) in
-            release_legal set rule (first_job g a.task) g l inside soon refl
-        by false e = tick
+    go (Some a) m = elim (cases_eq a.at (ticks g)) [
+      | inl e ↦
+          let v : OfTask work (length (arrivals g)) a.task = of_task set work n (length (arrivals g)) a w m in
+          let need : IsNeed set v.row = need_at set work (length (arrivals g)) v.row w v.here in
+          let soon : next_release set g a.task ≤ ticks g = subst (λ (t : ℕ). next_release set g a.task ≤ t) e (due_allowed set rule work n g a w r m) in
+          rw (eq-eqb _ _ e) (release_legal set rule (first_job g a.task) g l (subst (IsIn set) v.task need.task) soon refl)
+      | inr d ↦ rw (ne_eqb _ _ d) tick
+    ]
 
 -- the rows to the end of the plan
 record ToEnd (set : List Task) (rule : Rule) (work : List WorkRow) (n : ℕ) (g : List Row) : Type 0 where
@@ -67,23 +66,20 @@ to_end : (set : List Task) (rule : Rule) (work : List WorkRow) (n left : ℕ) (g
 to_end set rule work n zero g s w l r e =
     let full : n ≤ ticks g = omega (arith, e, length-rows g, taken-few set rule work n g w r) in
     record { later = []; legal = l; runs = r; full = full }
-to_end set rule work n (suc left) g s w l r e = go (to_end set rule work n left) (nat_le n (ticks g)) refl
-  where
-    row : Row
-    row = row_now set rule work g (slice_get (planned work n) (length (arrivals g)))
-
-    go : ((h : List Row) → AllByRecursion IsTask set → IsWork set work → Legal set rule h → Runs set rule work n h → n + length work ≤ left + length h → ToEnd set rule work n h) → (b : Bool) → nat_le n (ticks g) ≡ b → ToEnd set rule work n g
-    go ih true m = record { later = []; legal = l; runs = r; full = leb-true _ _ m }
-    go ih false m =
-        let next : next_row set rule work n g ≡ Some row = next_at set rule work n g _ (leb-false _ _ m) refl in
-        let x : ToEnd set rule work n (row ∷ g) = ih (row ∷ g) s w (row_legal set rule work n g s w l r) (next, r) (omega (arith, e)) in
-        let join : x.later ++ row ∷ g ≡ (x.later ++ row ∷ []) ++ g = sym (append_assoc x.later (row ∷ []) g) in
-        record {
-          later = x.later ++ row ∷ [];
-          legal = subst (λ (h : List Row). Legal set rule h) join x.legal;
-          runs = subst (λ (h : List Row). Runs set rule work n h) join x.runs;
-          full = subst (λ (h : List Row). n ≤ ticks h) join x.full;
-        }
+to_end set rule work n (suc left) g s w l r e = elim (cases_Bool (nat_le n (ticks g))) [
+  | inl m ↦ record { later = []; legal = l; runs = r; full = leb-true _ _ m }
+  | inr m ↦
+      let row : Row = row_now set rule work g (slice_get (planned work n) (length (arrivals g))) in
+      let next : next_row set rule work n g ≡ Some row = next_at set rule work n g _ (leb-false _ _ m) refl in
+      let x : ToEnd set rule work n (row ∷ g) = to_end set rule work n left (row ∷ g) s w (row_legal set rule work n g s w l r) (next, r) (omega (arith, e)) in
+      let join : x.later ++ row ∷ g ≡ (x.later ++ row ∷ []) ++ g = sym (append_assoc x.later (row ∷ []) g) in
+      record {
+        later = x.later ++ row ∷ [];
+        legal = subst (λ (h : List Row). Legal set rule h) join x.legal;
+        runs = subst (λ (h : List Row). Runs set rule work n h) join x.runs;
+        full = subst (λ (h : List Row). n ≤ ticks h) join x.full;
+      }
+]
 
 -- a core that runs by its plan keeps to it
 pub keeps_plan : (s : State) (work : List WorkRow) (n taken : ℕ) → IsSound s → IsRun s work n taken → Keeps work n taken s

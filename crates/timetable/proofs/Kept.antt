@@ -1,5 +1,6 @@
 -- What is kept of a plan is kept by each of the floor's calls, and the core's refusals that never come under a plan.
-use Rattle.std.proofs.Common.{◌≡◌, ℕ, ◌+◌, ◌<◌, Bool, true, false, not, List, [], ◌∷◌, Option, Some, None, Ok, Err, cond, nat_lt, ◌==◌, slice_get, option_map, refl, sym, ap, ◌∙◌, subst, arith, eqb-true, le-ltb, lt-ltb}
+use Rattle.std.proofs.Common.{◌≡◌, ℕ, ◌+◌, ◌<◌, Bool, true, false, not, List, [], ◌∷◌, Option, Some, None, Ok, Err, cond, nat_lt, ◌==◌, slice_get, option_map, refl, sym, ap, ◌∙◌, subst, arith, eqb-true, le-ltb, lt-ltb, inl, inr}
+use Rattle.std.proofs.lemmas.Bool.{cases_Bool, not-false}
 use Rattle.mc_task.specs.declared.task.JobId.{JobId}
 use Rattle.mc_model.specs.declared.row.Row.TheVariants.{Idle}
 use Rattle.mc_model.specs.declared.work.WorkRow.{WorkRow}
@@ -24,7 +25,7 @@ use Rattle.timetable.specs.declared.plan.Plan.TheVariants.{Free, Rows}
 use Rattle.timetable.specs.declared.needs.Needs.{Needs}
 use Rattle.timetable.specs.declared.acts.PlanFault.{PlanFault}
 use Rattle.timetable.specs.declared.acts.PlanFault.TheVariants as plan_fault
-use Rattle.timetable.specs.Floor.{is_planned, due_at, due_row, ends_at, done_by, not_due}
+use Rattle.timetable.specs.Floor.{is_planned, due_at, ends_at, done_by, not_due}
 use Rattle.timetable.specs.Needs.{Tracks, latest_need}
 use Rattle.timetable.specs.Plans.{IsPlanFor, IsOnPlan}
 use Rattle.timetable.specs.Ticks.{is_last}
@@ -37,19 +38,14 @@ use Rattle.timetable.proofs.Extends.{keeps_plan}
 -- what an answer says of the refusal
 
 -- an answer that is no refusal
-ok_none : {T E : Type 0} → (o : Option E) (t x : T) → answer o t ≡ Ok x → o ≡ None
-ok_none None t x e = refl
+ok_none : {T E : Type 0} → (o : Option E) (t x : T) → answer o t ≡ Ok x → (o ≡ None) × (t ≡ x)
+ok_none None t x e = (refl, cc)
 ok_none (Some f) t x e = cc
 
 -- a refusal
 err_some : {T E : Type 0} → (o : Option E) (t : T) (f : E) → answer o t ≡ Err f → o ≡ Some f
 err_some None t f e = cc
 err_some (Some g) t f e = cc
-
--- a negated test that does not hold
-yes : (b : Bool) → not b ≡ false → b ≡ true
-yes true h = refl
-yes false h = cc
 
 -- at the start
 
@@ -77,7 +73,7 @@ due_of work n taken t k e = go (due_at (Rows work n) taken t) refl e
   where
     go : (o : Option WorkRow) → due_at (Rows work n) taken t ≡ o → not_due (Rows work n) o k ≡ None → IsDueOf work n taken t k
     go None m r = cc
-    go (Some w) m r = record { row = w; found = m; due = due_is work n taken t w m; task = eqb-true _ _ (yes _ (not_if _ _ r)) }
+    go (Some w) m r = record { row = w; found = m; due = due_is work n taken t w m; task = eqb-true _ _ (not-false _ (not_if _ _ r)) }
 
 -- the due release may come
 may_of : (s : State) (work : List WorkRow) (n taken k : ℕ) → IsSound s → IsRun s work n taken → IsDueOf work n taken (begun s) k → MayTake s work n taken k
@@ -100,7 +96,7 @@ kept_release (Rows work n) s t taken k old new last w x sound kept d r a e notes
     let by : IsDueOf work n taken (begun s) k = due_of work n taken (begun s) k r in
     let may : MayTake s work n taken k = may_of s work n taken k sound kept.run by in
     let row : slice_get work taken ≡ Some w = (due_is work n taken (begun s) w d).row in
-    let none : core_event.release_refusal s k ≡ None = ok_none _ _ x a in
+    let none : core_event.release_refusal s k ≡ None = (ok_none _ _ x a).0 in
     let after : t ≡ with_release s s.out (next_job s k) = e ∙ ap (λ (o : Option ReleaseFault). unless o (with_release s s.out (next_job s k)) s) none in
     subst (λ (u : State). IsKept u work n (taken + 1) new last) (sym after) (record {
       run = may.run;
@@ -116,8 +112,7 @@ pub record IsRunning (f : ReleaseFault) : Type 0 where
 -- where it is not too soon, and there is a place
 only_running : (o : Option JobId) (b f : Bool) (n : ℕ) (g : ReleaseFault) → b ≡ false → f ≡ false → or_else (option_map release_fault.Running o) (or_else (refused_if b (release_fault.TooSoon n)) (refused_if f release_fault.Full)) ≡ Some g → IsRunning g
 only_running None false false n g p q e = cc
-only_running None true f n g p q e = cc
-only_running None false true n g p q e = cc
+only_running None b f n g p q e = cc
 only_running (Some j) b f n g p q e = record { job = j; is = cc }
 
 -- so it is under a plan
@@ -138,38 +133,26 @@ tick_time : (s : State) (work : List WorkRow) (n taken : ℕ) → IsSound s → 
 tick_time s work n taken sound r e =
     let p = neither _ _ e in
     let none : due_at (Rows work n) taken (begun s) ≡ None = no_map _ _ p.0 in
-    let before : (begun s == n) ≡ false = not_if _ _ p.1 in
-    let apart = eqb-false (begun s) n before in
-    let less = within s work n taken sound r in
-    let soon : begun s < n = omega (arith, apart, less) in
-    record { none = found (nat_lt (begun s) n) (lt-ltb _ _ soon) none; soon = soon }
-  where
-    found : (b : Bool) → b ≡ true → cond b (due_row (slice_get work taken) (begun s)) None ≡ None → due_row (slice_get work taken) (begun s) ≡ None
-    found true m k = k
-    found false m k = cc
+    let soon : begun s < n = omega (arith, eqb-false (begun s) n (not_if _ _ p.1), within s work n taken sound r) in
+    record { none = rw (lt-ltb (begun s) n soon) at none; soon = soon }
 
 -- a grant that is not refused is to the chosen job's task
 grant_task : (s : State) (k : ℕ) (j : JobId) → chosen_now s ≡ Some j → core_event.grant_refusal s k ≡ None → j.task.0 ≡ k
 grant_task s k j c m =
     let p = neither _ _ (neither _ _ m).1 in
-    let is : is_of_task (chosen_now s) k ≡ true = yes _ (not_if _ _ p.0) in
+    let is : is_of_task (chosen_now s) k ≡ true = not-false _ (not_if _ _ p.0) in
     eqb-true _ _ (subst (λ (o : Option JobId). is_of_task o k ≡ true) c is)
-
--- the answer, where nothing is refused
-ok_is : {T E : Type 0} → (o : Option E) (t x : T) → answer o t ≡ Ok x → t ≡ x
-ok_is None t x e = cc
-ok_is (Some f) t x e = cc
 
 -- after a grant to the chosen job's task
 pub kept_grant : (plan : Plan) (s t : State) (taken k need : ℕ) (needs : Needs) (last : Bool) (x : Granted) → IsSound s → IsKeptBy plan s taken needs last → refused plan taken (begun s) ≡ None →
     core_event.grant_answer s k ≡ Ok x → t ≡ core_event.after_grant s k → ((work : List WorkRow) (taken : ℕ) → Tracks work taken needs → need ≡ latest_need work taken k) → IsKeptBy plan t taken needs (x.before + 1 == need)
 kept_grant Free s t taken k need needs last x sound kept r a e at = kept
 kept_grant (Rows work n) s t taken k need needs last x sound kept r a e at =
-    let none : core_event.grant_refusal s k ≡ None = ok_none _ _ x a in
+    let none : core_event.grant_refusal s k ≡ None = (ok_none _ _ x a).0 in
     let may : MayGrant s = may_grant s k sound none in
     let time : IsTickTime s work n taken = tick_time s work n taken sound kept.run r in
     let after : t ≡ record s { out = chosen_now s } = e ∙ ap (λ (o : Option GrantFault). unless o (record s { out = chosen_now s }) s) none in
-    let given : x ≡ granted s may.job = sym (ok_is _ _ x a) ∙ ap (λ (o : Option JobId). granted s (job_in o)) may.chosen in
+    let given : x ≡ granted s may.job = sym (ok_none _ _ x a).1 ∙ ap (λ (o : Option JobId). granted s (job_in o)) may.chosen in
     let task : may.job.task.0 ≡ k = grant_task s k may.job may.chosen none in
     let told : (x.before + 1 == need) ≡ is_last work s.rows may.job =
     ap (λ (y : Granted). y.before + 1 == need) given
@@ -243,24 +226,14 @@ done_is (Rows work n) s taken needs last told d j kept o e = e ∙ subst (λ (x 
 -- an outcome with what is told is one with what the plan says, as it is refused where the tick is not the job's
 pub same_outcome : (plan : Plan) (s : State) (taken : ℕ) (needs : Needs) (last told d : Bool) (j : JobId) → IsKeptBy plan s taken needs last → d ≡ cond (is_planned plan) last told →
     (core_event.outcome_answer s j d ≡ core_event.outcome_answer s j (done_by plan s.rows j told)) × (core_event.after_outcome s j d ≡ core_event.after_outcome s j (done_by plan s.rows j told))
-same_outcome plan s taken needs last told d j kept e = go (is_out s.out j) refl
-  where
-    go : (b : Bool) → is_out s.out j ≡ b → (core_event.outcome_answer s j d ≡ core_event.outcome_answer s j (done_by plan s.rows j told)) × (core_event.after_outcome s j d ≡ core_event.after_outcome s j (done_by plan s.rows j told))
-    go false m = (rw m refl, rw m refl)
-    go true m =
-        let same : d ≡ done_by plan s.rows j told = done_is plan s taken needs last told d j kept (out_is s.out j m) e in
-        (ap (λ (x : Bool). core_event.outcome_answer s j x) same, ap (λ (x : Bool). core_event.after_outcome s j x) same)
+same_outcome plan s taken needs last told d j kept e = elim (cases_Bool (is_out s.out j)) [
+  | inl m ↦
+      let same : d ≡ done_by plan s.rows j told = done_is plan s taken needs last told d j kept (out_is s.out j m) e in
+      (ap (λ (x : Bool). core_event.outcome_answer s j x) same, ap (λ (x : Bool). core_event.after_outcome s j x) same)
+  | inr m ↦ (rw m refl, rw m refl)
+]
 
 -- the core keeps to its plan
 pub on_plan : (plan : Plan) (s : State) (taken : ℕ) (needs : Needs) (last : Bool) → IsSound s → IsKeptBy plan s taken needs last → IsOnPlan plan taken s
 on_plan Free s taken needs last sound kept = kept
 on_plan (Rows work n) s taken needs last sound kept = keeps_plan s work n taken sound kept.run
-
--- a choice by a test that holds, and by one that does not
-pub picked_then : (b x y d : Bool) → b ≡ true → d ≡ x → d ≡ cond b x y
-picked_then true x y d m e = e
-picked_then false x y d m e = cc
-
-pub picked_else : (b x y d : Bool) → b ≡ false → d ≡ y → d ≡ cond b x y
-picked_else true x y d m e = cc
-picked_else false x y d m e = e

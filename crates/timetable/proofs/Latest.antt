@@ -1,8 +1,8 @@
 -- A task's pending job is its latest, so its need is the one that is kept.
-use Rattle.std.proofs.Common.{◌≡◌, ◌≢◌, ℕ, suc, ◌+◌, ◌≤◌, Bool, true, false, List, [], ◌∷◌, Option, Some, None, length, cond, slice_get, take, nat_lt, ◌==◌, refl, sym, ap, ◌∙◌, subst, arith, eqb-true}
+use Rattle.std.proofs.Common.{◌≡◌, ◌≢◌, ℕ, suc, ◌+◌, ◌≤◌, Bool, true, false, List, [], ◌∷◌, Option, Some, None, length, cond, slice_get, take, nat_lt, ◌==◌, refl, sym, ap, ◌∙◌, subst, arith, eq-eqb, ne_eqb, inl, inr}
 use Rattle.std.specs.List.{AllByRecursion}
-use Rattle.std.proofs.lemmas.Option.{same_Some}
-use Rattle.std.proofs.lemmas.Bool.Decides.{nat_tests}
+use Rattle.std.proofs.lemmas.Bool.{cases_Bool, cases_eq}
+use Rattle.std.proofs.lemmas.Option.{cond_some}
 use Rattle.mc_task.specs.declared.task.Rule.{Rule}
 use Rattle.mc_task.specs.declared.task.Task.{Task}
 use Rattle.mc_task.specs.declared.task.JobId.{JobId}
@@ -18,7 +18,7 @@ use Rattle.mc_model.specs.Legal.{is_pending}
 use Rattle.mc_model.specs.Core.{State}
 use Rattle.mc_model.specs.Follows.{Arrival, arrivals, planned, need_of}
 use Rattle.mc_model.specs.Work.{IsWork}
-use Rattle.mc_model.proofs.Booleans.{eqb-false}
+use Rattle.mc_model.proofs.Booleans.{eqb-refl}
 use Rattle.mc_model.proofs.Jobs.{job_eq}
 use Rattle.mc_model.proofs.Lists.{Each, Each-both, Each-filter}
 use Rattle.mc_model.proofs.Fold.{pending, stays, Legal}
@@ -46,37 +46,26 @@ IsLatest h x = x.job.count ≡ releases h x.job.task.0
 -- where none of these is of task number k, each is of another
 others : (k : ℕ) (xs : List KeptRelease) → pending_of k xs ≡ 0 → Each (λ x. k ≢ x.job.task.0) xs
 others k [] e = tt
-others k (x ∷ xs) e = go (others k xs) (x.job.task.0 == k) refl
-  where
-    go : (pending_of k xs ≡ 0 → Each (λ x. k ≢ x.job.task.0) xs) → (b : Bool) → (x.job.task.0 == k) ≡ b → Each (λ x. k ≢ x.job.task.0) (x ∷ xs)
-    go ih true m = absurd (let v : cond true 1 0 + pending_of k xs ≡ 0 = rw m at e in omega (arith, v))
-    go ih false m =
-        let v : cond false 1 0 + pending_of k xs ≡ 0 = rw m at e in
-        (λ d. eqb-false x.job.task.0 k m (sym d), ih (omega (arith, v)))
+others k (x ∷ xs) e = elim (cases_eq x.job.task.0 k) [
+  | inl m ↦ absurd (omega (arith, rw (eq-eqb _ _ m) at e))
+  | inr d ↦ (λ q. d (sym q), others k xs (omega (arith, rw (ne_eqb _ _ d) at e)))
+]
 
 -- a release of another task leaves a job the latest
 not_of : (j : JobId) (kept : Bool) (g : List Row) (x : KeptRelease) → j.task.0 ≢ x.job.task.0 → IsLatest g x → IsLatest (Release j kept ∷ g) x
-not_of j kept g x d e = go (j.task.0 == x.job.task.0) refl
-  where
-    go : (b : Bool) → (j.task.0 == x.job.task.0) ≡ b → x.job.count ≡ cond (j.task.0 == x.job.task.0) 1 0 + releases g x.job.task.0
-    go true m = absurd (d (eqb-true _ _ m))
-    go false m = rw m (omega (arith, e))
+not_of j kept g x d e = rw (ne_eqb j.task.0 x.job.task.0 d) (omega (arith, e))
 
 -- none is pending of a task that is released, so the others stay the latest
 stay_latest : (set : List Task) (rule : Rule) (j : JobId) (kept : Bool) (g : List Row) → AllByRecursion IsTask set → Holds set rule → Legal set rule g → next_release set g j.task.0 ≤ ticks g → Each (IsLatest g) (pending set g) → Each (IsLatest (Release j kept ∷ g)) (pending set g)
 stay_latest set rule j kept g s holds l soon ih =
     Each-both {P = λ x. j.task.0 ≢ x.job.task.0} {Q = IsLatest g} (λ x d e. not_of j kept g x d e) (pending set g) (others j.task.0 (pending set g) (none_live set rule g j.task.0 s holds l soon)) ih
 
--- the count of a job that was just released
-just_released : (k c n : ℕ) → c ≡ n + 1 → c ≡ cond (k == k) 1 0 + n
-just_released k c n h = grind (arith, nat_tests)
-
 -- each pending job is the latest of its task
 latest : (set : List Task) (rule : Rule) (h : List Row) → AllByRecursion IsTask set → Holds set rule → Legal set rule h → Each (IsLatest h) (pending set h)
 latest set rule [] s holds l = tt
 latest set rule (Release j true ∷ g) s holds l =
     let fits = release_fits set rule j true g l.1 in
-    (just_released j.task.0 j.count (releases g j.task.0) fits.count, stay_latest set rule j true g s holds l.2 fits.soon (latest set rule g s holds l.2))
+    (rw (eqb-refl j.task.0) (omega (arith, fits.count)), stay_latest set rule j true g s holds l.2 fits.soon (latest set rule g s holds l.2))
 latest set rule (Release j false ∷ g) s holds l = stay_latest set rule j false g s holds l.2 (release_fits set rule j false g l.1).soon (latest set rule g s holds l.2)
 latest set rule (Tick j how ∷ g) s holds l = Each-filter (IsLatest g) (stays set j how) (pending set g) (latest set rule g s holds l.2)
 latest set rule (Idle ∷ g) s holds l = latest set rule g s holds l.2
@@ -84,11 +73,10 @@ latest set rule (Idle ∷ g) s holds l = latest set rule g s holds l.2
 -- a job that is pending by its name
 named : (h : List Row) (j : JobId) (xs : List KeptRelease) → is_pending xs j ≡ true → Each (IsLatest h) xs → j.count ≡ releases h j.task.0
 named h j [] e a = cc
-named h j (x ∷ xs) e a = go (named h j xs) (same_job j x.job) refl
-  where
-    go : (is_pending xs j ≡ true → Each (IsLatest h) xs → j.count ≡ releases h j.task.0) → (b : Bool) → same_job j x.job ≡ b → j.count ≡ releases h j.task.0
-    go ih true m = subst (λ (i : JobId). i.count ≡ releases h i.task.0) (sym (job_eq j x.job m)) a.0
-    go ih false m = ih (rw m at e) a.1
+named h j (x ∷ xs) e a = elim (cases_Bool (same_job j x.job)) [
+  | inl m ↦ subst (λ (i : JobId). i.count ≡ releases h i.task.0) (sym (job_eq j x.job m)) a.0
+  | inr m ↦ named h j xs (rw m at e) a.1
+]
 
 -- the chosen job is the latest of its task
 chosen_latest : (s : State) (j : JobId) → IsSound s → chosen_now s ≡ Some j → j.count ≡ releases s.rows j.task.0
@@ -111,11 +99,7 @@ of_task set work n i a w e = go (slice_get work i) refl (sym (due_index set work
   where
     go : (o : Option WorkRow) → slice_get work i ≡ o → due_before n o ≡ Some a → OfTask work i a.task
     go None m k = cc
-    go (Some v) m k = by (nat_lt v.release n) k
-      where
-        by : (b : Bool) → cond b (Some (arrival_of v)) None ≡ Some a → OfTask work i a.task
-        by true k = record { row = v; here = m; task = ap (λ (x : Arrival). x.task) (same_Some (arrival_of v) a k) }
-        by false k = cc
+    go (Some v) m k = let p = cond_some (nat_lt v.release n) (arrival_of v) a k in record { row = v; here = m; task = ap (λ (x : Arrival). x.task) p.1 }
 
 -- 1 for equal numbers
 abbrev is_one : ℕ → ℕ → ℕ
@@ -124,8 +108,6 @@ is_one i k = cond (i == k) 1 0
 -- the releases of a task are its rows among those that were taken
 taken_rows : (set : List Task) (rule : Rule) (work : List WorkRow) (n : ℕ) (h : List Row) (k : ℕ) → IsWork set work → Runs set rule work n h → releases h k ≡ rows_of k (take (length (arrivals h)) work)
 taken_rows set rule work n [] k w r = sym (rows-none work k)
-taken_rows set rule work n (Tick j how ∷ g) k w r = taken_rows set rule work n g k w r.1
-taken_rows set rule work n (Idle ∷ g) k w r = taken_rows set rule work n g k w r.1
 taken_rows set rule work n (Release j kept ∷ g) k w r =
     let ih : releases g k ≡ rows_of k (take (length (arrivals g)) work) = taken_rows set rule work n g k w r.1 in
     let x = added set rule work n g (Release j kept) r.0 in
@@ -135,6 +117,7 @@ taken_rows set rule work n (Release j kept ∷ g) k w r =
     let one : length (arrivals (Release j kept ∷ g)) ≡ suc (length (arrivals g)) = omega arith in
     let sum : releases (Release j kept ∷ g) k ≡ rows_of k (take (suc (length (arrivals g))) work) = omega (arith, more, same, ih) in
     sum ∙ ap (λ (i : ℕ). rows_of k (take i work)) (sym one)
+taken_rows set rule work n (row ∷ g) k w r = taken_rows set rule work n g k w r.1
 
 -- whether the next tick of the chosen job is its last, by the need that is kept of its task
 pub told_by_need : (s : State) (work : List WorkRow) (n taken : ℕ) (j : JobId) → IsSound s → IsRun s work n taken → s.out ≡ None → chosen_now s ≡ Some j → (used s.rows j + 1 == latest_need work taken j.task.0) ≡ is_last work s.rows j

@@ -1,11 +1,10 @@
 -- What is kept of each task's needs, at the start and after one more row.
-use Rattle.std.proofs.Common.{◌≡◌, ◌≢◌, ℕ, zero, suc, ◌+◌, ◌-◌, ◌<◌, ◌≤◌, Bool, true, false, List, [], ◌∷◌, Some, length, cond, filter, map, slice_get, slice_index_or, set, get_or, get_or-set_same, get_or-set_other, take, replicate, ◌==◌, refl, sym, ap, ◌∙◌, subst, arith, eqb-true}
-use Rattle.std.proofs.lemmas.Bool.Decides.{nat_tests}
+use Rattle.std.proofs.Common.{◌≡◌, ◌≢◌, ℕ, zero, suc, ◌+◌, ◌-◌, ◌<◌, ◌≤◌, Bool, true, false, List, [], ◌∷◌, Some, length, cond, filter, map, slice_get, slice_index_or, set, get_or, get_or-set_same, get_or-set_other, take, replicate, ◌==◌, refl, sym, ap, ◌∙◌, subst, arith, eqb-true, eq-eqb, ne_eqb}
 use Rattle.std.proofs.lemmas.List.{length-set}
 use Rattle.std.proofs.lemmas.Option.{slice_get-get_or}
 use Rattle.mc_model.specs.declared.work.WorkRow.{WorkRow}
 use Rattle.mc_model.specs.Follows.{needs_of, need_of}
-use Rattle.mc_model.proofs.Booleans.{eqb-refl, eqb-false}
+use Rattle.mc_model.proofs.Booleans.{eqb-false}
 use Rattle.timetable.specs.Needs.{rows_of, latest_need}
 
 -- at the start
@@ -35,16 +34,14 @@ rows-more (v ∷ vs) zero k w e =
     let d : v ≡ w = cc in
     subst (λ (x : WorkRow). cond (v.task.0 == k) 1 0 + rows_of k (take 0 vs) ≡ cond (x.task.0 == k) 1 0 + 0) d (ap (λ (n : ℕ). cond (v.task.0 == k) 1 0 + n) (rows-none vs k))
 rows-more (v ∷ vs) (suc i) k w e =
-    let ih : rows_of k (take (suc i) vs) ≡ cond (w.task.0 == k) 1 0 + rows_of k (take i vs) = rows-more vs i k w e in
-    omega (arith, ih)
+    omega (arith, rows-more vs i k w e)
 
 -- its need stands behind those of the task's rows before it
 need-at : (work : List WorkRow) (i k : ℕ) (w : WorkRow) → slice_get work i ≡ Some w → w.task.0 ≡ k → slice_index_or (needs_of work k) (rows_of k (take i work)) 0 ≡ w.need
 need-at [] i k w e t = cc
 need-at (v ∷ vs) zero k w e t =
     let d : v ≡ w = cc in
-    let m : (v.task.0 == k) ≡ true = subst (λ (x : WorkRow). (x.task.0 == k) ≡ true) (sym d) (subst (λ (n : ℕ). (w.task.0 == n) ≡ true) t (eqb-refl w.task.0)) in
-    rw m (ap (λ (x : WorkRow). x.need) d)
+    rw (eq-eqb v.task.0 k (cc (d, t))) (ap (λ (x : WorkRow). x.need) d)
 need-at (v ∷ vs) (suc i) k w e t = go (need-at vs i k w e t) (v.task.0 == k)
   where
     one_more : (r : ℕ) → 1 + r ≡ suc r
@@ -61,14 +58,10 @@ need-at (v ∷ vs) (suc i) k w e t = go (need-at vs i k w e t) (v.task.0 == k)
 -- so it is that of the job of its count
 need-more : (work : List WorkRow) (i k : ℕ) (w : WorkRow) → slice_get work i ≡ Some w → w.task.0 ≡ k → need_of work k (rows_of k (take i work) + 1) ≡ w.need
 need-more work i k w e t =
-    let n = not_none (rows_of k (take i work)) in
-    rw n (ap (λ (c : ℕ). slice_index_or (needs_of work k) c 0) (back (rows_of k (take i work))) ∙ need-at work i k w e t)
+    rw (ne_eqb (rows_of k (take i work) + 1) 0 (omega arith)) (ap (λ (c : ℕ). slice_index_or (needs_of work k) c 0) back ∙ need-at work i k w e t)
   where
-    not_none : (r : ℕ) → (r + 1 == 0) ≡ false
-    not_none r = grind (arith, nat_tests)
-
-    back : (r : ℕ) → r + 1 - 1 ≡ r
-    back r = omega arith
+    back : rows_of k (take i work) + 1 - 1 ≡ rows_of k (take i work)
+    back = omega arith
 
 -- what is kept after so many rows, in a list by the tasks' numbers
 abbrev pub Tracked : List WorkRow → ℕ → List ℕ → Type 0

@@ -1,5 +1,5 @@
 -- The next act of a plan that is not finished adds a row, where no tick is out, and a finished plan has its trace.
-use Rattle.std.proofs.Common.{◌≡◌, ℕ, ◌<◌, ◌≤◌, Bool, true, false, List, [], ◌∷◌, Option, Some, None, Result, Ok, Err, length, cond, nat_lt, option_map, refl, sym, ap, ◌∙◌, subst, arith, eqb-true}
+use Rattle.std.proofs.Common.{◌≡◌, ℕ, ◌<◌, ◌≤◌, Bool, true, false, List, [], ◌∷◌, Option, Some, None, Result, Ok, Err, length, cond, option_map, refl, sym, ap, ◌∙◌, subst, arith, eqb-true, le-ltb}
 use Rattle.std.proofs.lemmas.List.{length-reverse}
 use Rattle.mc_task.specs.declared.task.TaskNo.{TaskNo}
 use Rattle.mc_task.specs.declared.task.JobId.{JobId}
@@ -12,7 +12,6 @@ use Rattle.mc_model.specs.Core.{State, begun, places_used, next, next_after, tic
 use Rattle.mc_model.specs.Follows.{Arrival, arrivals, planned}
 use Rattle.mc_model.specs.Work.{IsNeed}
 use Rattle.mc_model.proofs.Booleans.{eqb-refl, eqb-false}
-use Rattle.std.proofs.lemmas.Bool.Decides.{nat_tests}
 use Rattle.mode_core.specs.declared.answers.Granted.{Granted}
 use Rattle.mode_core.specs.declared.answers.GrantFault.{GrantFault}
 use Rattle.mode_core.specs.Events as core_event
@@ -92,11 +91,11 @@ adds_row f g row m r e = subst (AddsRow f) (sym e) (record { room = r; row = row
 
 -- the ticks begun are those of the rows
 begun_none : (s : State) → s.out ≡ None → begun s ≡ ticks s.rows
-begun_none s o = let z : tick_out s.out ≡ 0 = ap tick_out o in omega (arith, z)
+begun_none s o = omega (arith, ap tick_out o)
 
 -- what is begun of a plan that is not finished
 soon : (s : State) (work : List WorkRow) (n taken : ℕ) → IsSound s → IsRun s work n taken → ends_at (Rows work n) (begun s) ≡ false → begun s < n
-soon s work n taken sound r e = let w = within s work n taken sound r in let d = eqb-false (begun s) n e in omega (arith, w, d)
+soon s work n taken sound r e = omega (arith, within s work n taken sound r, eqb-false (begun s) n e)
 
 -- the release
 
@@ -133,16 +132,15 @@ release_adds s (Rows work n) taken k p o f sound run e = record {
     time : next_release s.set s.rows k.0 ≤ ticks s.rows
     time =
         let a : next s k.0 ≡ next_release s.set s.rows k.0 = ap (λ (js : List JobId). next_after s.set s.rows js k.0) held in
-        let b = may.soon in
-        omega (arith, a, b, begun_none s o)
+        omega (arith, a, may.soon, begun_none s o)
 
     core : core_event.after_release s k.0 ≡ record s { rows = row ∷ s.rows }
     core = released s k.0 o held time may.room
 
     none : not_due (Rows work n) (due_at (Rows work n) taken (begun s)) k.0 ≡ None
     none =
-        let m = eqb-refl k.0 in
-        ap (λ (x : Option WorkRow). not_due (Rows work n) x k.0) is.due ∙ subst (λ (i : TaskNo). not_due (Rows work n) (Some (record is.row { task = i })) k.0 ≡ None) (sym is.task) (rw m refl)
+        ap (λ (x : Option WorkRow). not_due (Rows work n) x k.0) is.due
+        ∙ subst (λ (i : TaskNo). not_due (Rows work n) (Some (record is.row { task = i })) k.0 ≡ None) (sym is.task) (rw (eqb-refl k.0) refl)
 
     after : after_release (floor s (Rows work n) taken) k.0 ≡ record (floor s (Rows work n) taken) { core = record s { rows = row ∷ s.rows }; taken = (after_release (floor s (Rows work n) taken) k.0).taken }
     after = rw none (ap (λ (t : State). let g : FloorState = record { core = t; plan = Rows work n; taken = (releasing (floor s (Rows work n) taken) k.0).taken } in g) core)
@@ -168,7 +166,7 @@ grant_adds s (Rows work n) taken k p o f sound run e = record {
     room = room_for s work n taken sound run (soon s work n taken sound run f)
 
     none : tick_refusal (floor s (Rows work n) taken) ≡ None
-    none = let m = g.none in rw (m, f) refl
+    none = rw (g.none, f) refl
 
     core : core_event.grant_answer s k.0 ≡ Ok (granted s g.job)
     core = subst (λ (i : TaskNo). core_event.grant_answer s i.0 ≡ Ok (granted s g.job)) g.task (given_before s g.job (core_event.grant_answer s g.job.task.0) o g.chosen room refl)
@@ -214,8 +212,7 @@ ended s (Rows work n) taken p o f sound run = record { trace = trace; taken = al
     all : taken ≡ length (planned work n)
     all = run.taken_are ∙ (ap (λ (g : List Row). length (arrivals g)) rows ∙ (sym (length-reverse (arrivals s.rows)) ∙ ap (λ (xs : List Arrival). length xs) trace.follows.releases))
 
-    late : (a b : ℕ) → a ≡ b → nat_lt a b ≡ false
-    late a b e = grind (arith, nat_tests)
-
     next : next_act (floor s (Rows work n) taken) ≡ act.Finished
-    next = is_over (due (floor s (Rows work n) taken)) s.out (is_finished (floor s (Rows work n) taken)) (chosen_now s) (let m = late (begun s) n full in rw m refl) o f
+    next =
+        is_over (due (floor s (Rows work n) taken)) s.out (is_finished (floor s (Rows work n) taken)) (chosen_now s)
+        (rw (le-ltb (begun s) n (omega (arith, full))) refl) o f

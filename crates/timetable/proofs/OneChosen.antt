@@ -1,5 +1,5 @@
 -- The job that a row's tick takes, of equal keys the lowest number, is the chosen one.
-use Rattle.std.proofs.Common.{◌≡◌, ℕ, ◌+◌, ◌*◌, ◌≤◌, Bool, true, false, not, ◌&&◌, ◌||◌, List, [], ◌∷◌, Option, Some, None, cond, nat_lt, nat_le, ◌==◌, option_map, refl, sym, ap, ◌∙◌, subst, arith}
+use Rattle.std.proofs.Common.{◌≡◌, ℕ, ◌+◌, ◌*◌, ◌≤◌, Bool, true, false, not, ◌&&◌, ◌||◌, List, [], ◌∷◌, Option, Some, None, cond, nat_lt, nat_le, ◌==◌, option_map, refl, sym, ap, ◌∙◌, subst, arith, inl, inr}
 use Rattle.std.specs.List.{list_all, list_any, AllByRecursion}
 use Rattle.std.proofs.lemmas.Bool.Decides.{nat_tests}
 use Rattle.mc_task.specs.declared.task.Rule.{Rule}
@@ -21,30 +21,23 @@ use Rattle.mc_model.proofs.Jobs.{same_live, is_in, job_eq, live_eq, each_in, hea
 use Rattle.mc_model.proofs.Booleans.{or_true}
 use Rattle.mc_model.proofs.Lists.{Each, Each-map}
 use Rattle.mode_core.proofs.CallerLemmas.{Apart, Older, only, pending_apart, IsFirst, is_first}
-use Rattle.std.proofs.lemmas.Bool.{and_parts}
+use Rattle.std.proofs.lemmas.Bool.{and_parts, cases_Bool}
 
--- of one task two with one release time are one
-alike_tail : (x y : KeptRelease) (ys : List KeptRelease) → x ≡ y → Each (Older y) ys → Each (λ i. x.job.task.0 ≡ i.job.task.0 → x.release ≡ i.release → i ≡ x) ys
-alike_tail x y ys e o =
-    Each-map {P = Older y}
-    (λ i p m r.
-    let t : y.job.task.0 ≡ i.job.task.0 = subst (λ (z : KeptRelease). z.job.task.0 ≡ i.job.task.0) e m in
-    let c : y.release ≡ i.release = subst (λ (z : KeptRelease). z.release ≡ i.release) e r in
-    let d = p.time t in
-    absurd (omega (arith, c, d)))
-    ys o
+-- x is the only one of its task and release time
+abbrev Alike : KeptRelease → List KeptRelease → Type 0
+Alike x xs = Each (λ i. x.job.task.0 ≡ i.job.task.0 → x.release ≡ i.release → i ≡ x) xs
 
--- in a list of jobs that are apart, one of this task and release time is this one
-alike : (x : KeptRelease) (xs : List KeptRelease) → Apart xs → is_in xs x ≡ true → Each (λ i. x.job.task.0 ≡ i.job.task.0 → x.release ≡ i.release → i ≡ x) xs
+-- so is one of a list of jobs that are apart
+alike : (x : KeptRelease) (xs : List KeptRelease) → Apart xs → is_in xs x ≡ true → Alike x xs
 alike x [] a e = tt
-alike x (y ∷ ys) a e = go (λ r. alike x ys a.1 r) (same_live x y) refl
-  where
-    go : (is_in ys x ≡ true → Each (λ i. x.job.task.0 ≡ i.job.task.0 → x.release ≡ i.release → i ≡ x) ys) → (b : Bool) → same_live x y ≡ b → Each (λ i. x.job.task.0 ≡ i.job.task.0 → x.release ≡ i.release → i ≡ x) (y ∷ ys)
-    go ih true m = let q = live_eq x y m in (λ k r. sym q, alike_tail x y ys q a.0)
-    go ih false m =
-        let r : is_in ys x ≡ true = rw m at e in
-        let o : Older y x = each_in (Older y) x ys r a.0 in
-        (λ k t. let d = o.time (sym k) in absurd (omega (arith, d, t)), ih r)
+alike x (y ∷ ys) a e = elim (cases_Bool (same_live x y)) [
+  | inl m ↦
+      let behind : Alike y ys = Each-map {P = Older y} (λ i p t r. absurd (omega (arith, p.time t, r))) ys a.0 in
+      subst (λ (z : KeptRelease). Alike z (y ∷ ys)) (sym (live_eq x y m)) (λ t r. refl, behind)
+  | inr m ↦
+      let o : Older y x = each_in (Older y) x ys (rw m at e) a.0 in
+      (λ t r. absurd (omega (arith, o.time (sym t), r)), alike x ys a.1 (rw m at e))
+]
 
 -- one of the pending jobs that passes a test
 record Found (p : KeptRelease → Bool) (xs : List KeptRelease) : Type 0 where
@@ -55,25 +48,23 @@ record Found (p : KeptRelease → Bool) (xs : List KeptRelease) : Type 0 where
 -- there is one
 found : (p : KeptRelease → Bool) (xs : List KeptRelease) → list_any p xs ≡ true → Found p xs
 found p [] e = cc
-found p (x ∷ xs) e = go (found p xs) (p x) refl
-  where
-    go : (list_any p xs ≡ true → Found p xs) → (b : Bool) → p x ≡ b → Found p (x ∷ xs)
-    go ih true m = record { live = x; inside = head_in x xs; passes = m }
-    go ih false m = let f = ih (rw m at e) in record { live = f.live; inside = or_true _ _ f.inside; passes = f.passes }
+found p (x ∷ xs) e = elim (cases_Bool (p x)) [
+  | inl m ↦ record { live = x; inside = head_in x xs; passes = m }
+  | inr m ↦ let f = found p xs (rw m at e) in record { live = f.live; inside = or_true _ _ f.inside; passes = f.passes }
+]
 
 -- what a test says of all it says of one
 listed : (p : KeptRelease → Bool) (x : KeptRelease) (xs : List KeptRelease) → is_in xs x ≡ true → list_all p xs ≡ true → p x ≡ true
 listed p x [] e h = cc
-listed p x (y ∷ ys) e h = go (λ r. listed p x ys r ((and_parts (p y) (list_all p ys) h).1)) (same_live x y) refl
-  where
-    go : (is_in ys x ≡ true → p x ≡ true) → (b : Bool) → same_live x y ≡ b → p x ≡ true
-    go ih true m = subst (λ z. p z ≡ true) (sym (live_eq x y m)) ((and_parts (p y) (list_all p ys) h).0)
-    go ih false m = ih (rw m at e)
+listed p x (y ∷ ys) e h = elim (cases_Bool (same_live x y)) [
+  | inl m ↦ subst (λ z. p z ≡ true) (sym (live_eq x y m)) (and_parts (p y) (list_all p ys) h).0
+  | inr m ↦ listed p x ys (rw m at e) (and_parts (p y) (list_all p ys) h).1
+]
 
 -- a tick has units
 scale-pos : (rule : Rule) → Fits rule → 1 ≤ scale rule
 scale-pos Plain f = omega arith
-scale-pos (Virtual p q) f = let a = f.0 in let b = f.1 in omega (arith, a, b)
+scale-pos (Virtual p q) f = omega (arith, f.0, f.1)
 
 -- equal products of one factor
 times-inj : (q r s : ℕ) → 1 ≤ q → q * r ≡ q * s → r ≡ s

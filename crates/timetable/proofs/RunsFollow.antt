@@ -1,7 +1,7 @@
 -- Rows that the plan adds, until it adds none, follow.
-use Rattle.std.proofs.Common.{◌≡◌, ◌≢◌, ℕ, ◌+◌, ◌<◌, ◌≤◌, Bool, true, false, not, ◌&&◌, ◌||◌, List, [], ◌∷◌, ◌++◌, Option, Some, None, length, cond, filter, map, reverse, slice_get, nat_lt, nat_le, ◌==◌, refl, sym, ap, ap₂, ◌∙◌, subst, arith, leb-false, eqb-true}
+use Rattle.std.proofs.Common.{◌≡◌, ◌≢◌, ℕ, ◌+◌, ◌<◌, ◌≤◌, Bool, true, false, not, ◌&&◌, ◌||◌, List, [], ◌∷◌, ◌++◌, Option, Some, None, length, cond, reverse, slice_get, nat_lt, nat_le, ◌==◌, refl, sym, ap, ap₂, ◌∙◌, subst, arith, leb-false, eq-eqb, ne_eqb, inl, inr}
 use Rattle.std.specs.List.{AllByRecursion}
-use Rattle.std.proofs.lemmas.Option.{same_Some}
+use Rattle.std.proofs.lemmas.Option.{none-some, same_Some}
 use Rattle.std.proofs.lemmas.List.{append-nil, length-reverse}
 use Rattle.std.proofs.lemmas.Bool.Decides.{nat_tests}
 use Rattle.mc_task.specs.declared.task.Rule.{Rule}
@@ -11,7 +11,7 @@ use Rattle.mc_task.specs.TaskSet.{IsTask}
 use Rattle.mc_model.specs.declared.row.How.{How}
 use Rattle.mc_model.specs.declared.row.How.TheVariants.{More, Stop, Over}
 use Rattle.mc_model.specs.declared.row.Row.{Row}
-use Rattle.mc_model.specs.declared.row.Row.TheVariants.{Release, Tick, Idle}
+use Rattle.mc_model.specs.declared.row.Row.TheVariants.{Release, Tick}
 use Rattle.mc_model.specs.declared.work.WorkRow.{WorkRow}
 use Rattle.mc_model.specs.Pending.{pending}
 use Rattle.mc_model.specs.Rows.{ticks, same_job}
@@ -20,15 +20,14 @@ use Rattle.mc_model.specs.Legal.{same_bool, is_done, Legal}
 use Rattle.mc_model.specs.Key.{key}
 use Rattle.mc_model.specs.Core.{chosen, release_row, outcome_of, runs_before}
 use Rattle.mc_model.specs.Follows.{Arrival, arrivals, planned, ends_in_tick, done_by_need, lowest_first, none_lower, is_lowest, Follows}
-use Rattle.mc_model.proofs.Booleans.{eqb-false}
 use Rattle.mc_model.proofs.Lists.{Each, Each-map}
 use Rattle.mc_model.proofs.Jobs.{any_in, same_job-refl}
 use Rattle.mode_core.proofs.CallerLemmas.{Choice, choice, IsFirst, is_first, all_from, same_bool-refl}
 use Rattle.timetable.specs.Ticks.{is_last, tick_row}
 use Rattle.timetable.specs.Shape.{first_job, row_now, next_row, Runs}
 use Rattle.mc_model.specs.Work.{AllFollow, IsWork}
-use Rattle.timetable.proofs.Determined.{Later, Later-less, planned_each, reverse-move}
-use Rattle.std.proofs.lemmas.Bool.{and_from}
+use Rattle.timetable.proofs.Determined.{Later, Later-less, planned_either, planned_each, reverse-move}
+use Rattle.std.proofs.lemmas.Bool.{and_from, cases_Bool, cases_eq}
 
 -- what is added
 
@@ -41,16 +40,10 @@ pub record Added (set : List Task) (rule : Rule) (work : List WorkRow) (n : ℕ)
 
 -- a row that the plan adds
 pub added : (set : List Task) (rule : Rule) (work : List WorkRow) (n : ℕ) (g : List Row) (row : Row) → next_row set rule work n g ≡ Some row → Added set rule work n g row
-added set rule work n g row e = go (nat_le n (ticks g)) refl e
-  where
-    go : (b : Bool) → nat_le n (ticks g) ≡ b → cond b None (Some (row_now set rule work g (slice_get (planned work n) (length (arrivals g))))) ≡ Some row → Added set rule work n g row
-    go true m k = cc
-    go false m k = record {
-      head = slice_get (planned work n) (length (arrivals g));
-      head_is = refl;
-      row_is = same_Some _ row k;
-      soon = leb-false _ _ m;
-    }
+added set rule work n g row e = elim (cases_Bool (nat_le n (ticks g))) [
+  | inl m ↦ absurd (none-some row (rw m at e))
+  | inr m ↦ record { head = slice_get (planned work n) (length (arrivals g)); head_is = refl; row_is = same_Some _ row (rw m at e); soon = leb-false _ _ m }
+]
 
 -- whether the head is due decides between a release and a tick
 pub record IsTickRow (set : List Task) (rule : Rule) (work : List WorkRow) (g : List Row) (head : Option Arrival) (row : Row) : Type 0 where
@@ -60,39 +53,30 @@ pub record IsTickRow (set : List Task) (rule : Rule) (work : List WorkRow) (g : 
 -- what is added is a tick's row where it is no release
 no_release : (set : List Task) (rule : Rule) (work : List WorkRow) (g : List Row) (o : Option Arrival) (row : Row) → ((j : JobId) → release_row set rule j g ≢ row) → row_now set rule work g o ≡ row → IsTickRow set rule work g o row
 no_release set rule work g None row apart e = record { row_is = e; not_due = λ a k. cc }
-no_release set rule work g (Some a) row apart e = go (a.at == ticks g) refl e
-  where
-    go : (b : Bool) → (a.at == ticks g) ≡ b → cond b (release_row set rule (first_job g a.task) g) (tick_row set rule work g (chosen set rule g)) ≡ row → IsTickRow set rule work g (Some a) row
-    go true m k = absurd (apart (first_job g a.task) k)
-    go false m k = record { row_is = k; not_due = λ x d. subst (λ (y : Arrival). y.at ≢ ticks g) (same_Some a x d) (eqb-false _ _ m) }
+no_release set rule work g (Some a) row apart e = elim (cases_eq a.at (ticks g)) [
+  | inl m ↦ absurd (apart (first_job g a.task) (rw (eq-eqb _ _ m) at e))
+  | inr d ↦ record { row_is = rw (ne_eqb _ _ d) at e; not_due = λ x k. subst (λ (y : Arrival). y.at ≢ ticks g) (same_Some a x k) d }
+]
 
 -- an arrival of task number k at t
 abbrev pub arrival : ℕ → ℕ → Arrival
 arrival k t = record { task = k; at = t }
 
+-- a tick's row is no release
+no_tick : (set : List Task) (rule : Rule) (work : List WorkRow) (g : List Row) (c : Option JobId) (j : JobId) (kept : Bool) → tick_row set rule work g c ≢ Release j kept
+no_tick set rule work g None j kept e = cc
+no_tick set rule work g (Some i) j kept e = cc
+
 -- a release that is added is the head, at this boundary
 pub release_rows : (set : List Task) (rule : Rule) (work : List WorkRow) (g : List Row) (o : Option Arrival) (j : JobId) (kept : Bool) → row_now set rule work g o ≡ Release j kept → o ≡ Some (arrival j.task.0 (ticks g))
-release_rows set rule work g None j kept e = no (chosen set rule g) e
-  where
-    no : (c : Option JobId) → tick_row set rule work g c ≡ Release j kept → None ≡ Some (arrival j.task.0 (ticks g))
-    no None k = cc
-    no (Some i) k = cc
-release_rows set rule work g (Some a) j kept e = go (a.at == ticks g) refl e
-  where
-    no : (c : Option JobId) → tick_row set rule work g c ≡ Release j kept → Some a ≡ Some (arrival j.task.0 (ticks g))
-    no None k = cc
-    no (Some i) k = cc
-
-    go : (b : Bool) → (a.at == ticks g) ≡ b → cond b (release_row set rule (first_job g a.task) g) (tick_row set rule work g (chosen set rule g)) ≡ Release j kept → Some a ≡ Some (arrival j.task.0 (ticks g))
-    go true m k =
-        let d : first_job g a.task ≡ j = cc in
-        let t : a.task ≡ j.task.0 = ap (λ (x : JobId). x.task.0) d in
-        let u : a.at ≡ ticks g = eqb-true _ _ m in
-        ap (λ (x : Arrival). Some x) (two a (arrival j.task.0 (ticks g)) t u)
-      where
-        two : (x y : Arrival) → x.task ≡ y.task → x.at ≡ y.at → x ≡ y
-        two x y p q = ap₂ {C = Arrival} (λ (k t : ℕ). record { task = k; at = t }) p q
-    go false m k = no (chosen set rule g) k
+release_rows set rule work g None j kept e = absurd (no_tick set rule work g (chosen set rule g) j kept e)
+release_rows set rule work g (Some a) j kept e = elim (cases_eq a.at (ticks g)) [
+  | inl m ↦
+      let k : release_row set rule (first_job g a.task) g ≡ Release j kept = rw (eq-eqb _ _ m) at e in
+      let d : first_job g a.task ≡ j = cc in
+      ap₂ (λ (i t : ℕ). Some (arrival i t)) (ap (λ (x : JobId). x.task.0) d) m
+  | inr d ↦ absurd (no_tick set rule work g (chosen set rule g) j kept (rw (ne_eqb _ _ d) at e))
+]
 
 -- the job and the how of a tick that is added
 pub record IsChosenTick (set : List Task) (rule : Rule) (work : List WorkRow) (g : List Row) (j : JobId) (how : How) : Type 0 where
@@ -129,23 +113,16 @@ not_lower kx ki tx ti h = grind (arith, nat_tests)
 
 -- no pending job of a lower number has the chosen job's key
 lowest : (set : List Task) (rule : Rule) (g : List Row) (j : JobId) → chosen set rule g ≡ Some j → is_lowest set rule (high_mode rule g) (pending set g) j ≡ true
-lowest set rule g j e = subst (λ (k : JobId). is_lowest set rule (high_mode rule g) (pending set g) k ≡ true) c.job of_live
-  where
-    c : Choice set rule g j
-    c = choice set rule g j e
-
-    high : Bool
-    high = high_mode rule g
-
-    f : IsFirst set rule high (pending set g) c.live
-    f = is_first set rule high (pending set g) c.live c.first
-
-    of_one : none_lower set rule high c.live (pending set g) ≡ true
-    of_one = all_from (λ z. not ((key set rule high z == key set rule high c.live) && nat_lt z.job.task.0 c.live.job.task.0)) (pending set g)
-        (Each-map {P = λ z. runs_before set rule high z c.live ≡ false} (λ z r. not_lower (key set rule high z) (key set rule high c.live) z.job.task.0 c.live.job.task.0 r) (pending set g) f.none_before)
-
-    of_live : is_lowest set rule high (pending set g) c.live.job ≡ true
-    of_live = any_in (λ i. same_job c.live.job i.job && none_lower set rule high i (pending set g)) c.live (pending set g) f.inside (and_from _ _ (same_job-refl c.live.job) of_one)
+lowest set rule g j e =
+    let c : Choice set rule g j = choice set rule g j e in
+    let high : Bool = high_mode rule g in
+    let f : IsFirst set rule high (pending set g) c.live = is_first set rule high (pending set g) c.live c.first in
+    let one : none_lower set rule high c.live (pending set g) ≡ true =
+    all_from (λ z. not ((key set rule high z == key set rule high c.live) && nat_lt z.job.task.0 c.live.job.task.0)) (pending set g)
+    (Each-map {P = λ z. runs_before set rule high z c.live ≡ false}
+    (λ z r. not_lower (key set rule high z) (key set rule high c.live) z.job.task.0 c.live.job.task.0 r) (pending set g) f.none_before) in
+    subst (λ (k : JobId). is_lowest set rule high (pending set g) k ≡ true) c.job
+    (any_in (λ i. same_job c.live.job i.job && none_lower set rule high i (pending set g)) c.live (pending set g) f.inside (and_from _ _ (same_job-refl c.live.job) one))
 
 -- the arrivals that are planned never fall
 abbrev pub Sorted : List Arrival → Type 0
@@ -155,20 +132,14 @@ Sorted (a ∷ xs) = Later a.at xs × Sorted xs
 -- what is planned behind a work row is not before it
 pub later_planned : (set : List Task) (w : WorkRow) (ws : List WorkRow) (n : ℕ) → AllFollow set w ws → Later w.release (planned ws n)
 later_planned set w [] n f = tt
-later_planned set w (v ∷ vs) n f = go (later_planned set w vs n f.1) (nat_lt v.release n)
-  where
-    go : Later w.release (planned vs n) → (b : Bool) → Later w.release (map (λ (x : WorkRow). record { task = x.task.0; at = x.release }) (cond b (v ∷ filter (λ x. nat_lt x.release n) vs) (filter (λ x. nat_lt x.release n) vs)))
-    go ih true = (f.0.order, ih)
-    go ih false = ih
+later_planned set w (v ∷ vs) n f =
+    let behind = later_planned set w vs n f.1 in
+    planned_either (Later w.release) v vs n (λ h. (f.0.order, behind)) behind
 
 -- what is planned never falls
 pub planned_sorted : (set : List Task) (work : List WorkRow) (n : ℕ) → IsWork set work → Sorted (planned work n)
 planned_sorted set [] n w = tt
-planned_sorted set (v ∷ vs) n w = go (planned_sorted set vs n w.2) (nat_lt v.release n)
-  where
-    go : Sorted (planned vs n) → (b : Bool) → Sorted (map (λ (x : WorkRow). record { task = x.task.0; at = x.release }) (cond b (v ∷ filter (λ x. nat_lt x.release n) vs) (filter (λ x. nat_lt x.release n) vs)))
-    go ih true = (later_planned set v vs n w.1, ih)
-    go ih false = ih
+planned_sorted set (v ∷ vs) n w = planned_either Sorted v vs n (λ h. (later_planned set v vs n w.1, planned_sorted set vs n w.2)) (planned_sorted set vs n w.2)
 
 -- all is at 0 or later
 Later-any : (xs : List Arrival) → Later 0 xs
@@ -197,9 +168,7 @@ head_at work n g rest e =
 later_more : (t : ℕ) (rest : List Arrival) → Later t rest → Sorted rest → ((a : Arrival) → slice_get rest 0 ≡ Some a → a.at ≢ t) → Later (t + 1) rest
 later_more t [] l s d = tt
 later_more t (a ∷ xs) l s d =
-    let n : a.at ≢ t = d a refl in
-    let k = l.0 in
-    (omega (arith, n, k), Later-less (t + 1) a.at xs (omega (arith, n, k)) s.0)
+    (omega (arith, d a refl, l.0), Later-less (t + 1) a.at xs (omega (arith, d a refl, l.0)) s.0)
 
 -- behind a row that is no release, what is still to come is later than its tick
 rest_later : (set : List Task) (rule : Rule) (work : List WorkRow) (n : ℕ) (g : List Row) (row : Row) → ((j : JobId) → release_row set rule j g ≢ row) → Added set rule work n g row → (r : Rest work n g) → Later (ticks g + 1) r.rest
@@ -228,60 +197,51 @@ rest_of set rule work n (Release j kept ∷ g) w r =
           sorted = s.1;
           within = t;
         }
-rest_of set rule work n (Tick j how ∷ g) w r =
+rest_of set rule work n (row ∷ g) w r =
     let ih : Rest work n g = rest_of set rule work n g w r.1 in
-    let x = added set rule work n g (Tick j how) r.0 in
-    let s = x.soon in
-    record { rest = ih.rest; split = ih.split; later = rest_later set rule work n g (Tick j how) (λ i e. cc) x ih; sorted = ih.sorted; within = omega (arith, s) }
-rest_of set rule work n (Idle ∷ g) w r =
-    let ih : Rest work n g = rest_of set rule work n g w r.1 in
-    let x = added set rule work n g Idle r.0 in
-    let s = x.soon in
-    record { rest = ih.rest; split = ih.split; later = rest_later set rule work n g Idle (λ i e. cc) x ih; sorted = ih.sorted; within = omega (arith, s) }
+    let x = added set rule work n g row r.0 in
+    record { rest = ih.rest; split = ih.split; later = rest_later set rule work n g row (λ i e. cc) x ih; sorted = ih.sorted; within = omega (arith, x.soon) }
 
 -- each tick that the plan adds is done by its need
 done_parts : (set : List Task) (rule : Rule) (work : List WorkRow) (n : ℕ) (h : List Row) → Runs set rule work n h → done_by_need work h ≡ true
 done_parts set rule work n [] r = refl
-done_parts set rule work n (Release j kept ∷ g) r = done_parts set rule work n g r.1
-done_parts set rule work n (Idle ∷ g) r = done_parts set rule work n g r.1
 done_parts set rule work n (Tick j how ∷ g) r =
     let x = added set rule work n g (Tick j how) r.0 in
     let c = chosen_tick set rule work g j how (no_release set rule work g x.head (Tick j how) (λ i e. cc) x.row_is).row_is in
     let d : is_done how ≡ is_last work g j = ap is_done c.how_is ∙ done_as set rule g j (is_last work g j) in
     and_from _ _ (subst (λ (b : Bool). same_bool b (is_last work g j) ≡ true) (sym d) (same_bool-refl (is_last work g j))) (done_parts set rule work n g r.1)
+done_parts set rule work n (row ∷ g) r = done_parts set rule work n g r.1
 
 -- each tick that the plan adds takes the lowest number
 lowest_parts : (set : List Task) (rule : Rule) (work : List WorkRow) (n : ℕ) (h : List Row) → Runs set rule work n h → lowest_first set rule h ≡ true
 lowest_parts set rule work n [] r = refl
-lowest_parts set rule work n (Release j kept ∷ g) r = lowest_parts set rule work n g r.1
-lowest_parts set rule work n (Idle ∷ g) r = lowest_parts set rule work n g r.1
 lowest_parts set rule work n (Tick j how ∷ g) r =
     let x = added set rule work n g (Tick j how) r.0 in
     let c = chosen_tick set rule work g j how (no_release set rule work g x.head (Tick j how) (λ i e. cc) x.row_is).row_is in
     and_from _ _ (lowest set rule g j c.chosen_is) (lowest_parts set rule work n g r.1)
+lowest_parts set rule work n (row ∷ g) r = lowest_parts set rule work n g r.1
 
 -- after n ticks the last row is of a tick
 ends : (set : List Task) (rule : Rule) (work : List WorkRow) (n : ℕ) (h : List Row) → 1 ≤ n → n ≤ ticks h → Runs set rule work n h → ends_in_tick h ≡ true
 ends set rule work n [] p e r = absurd (omega (arith, p, e))
-ends set rule work n (Release j kept ∷ g) p e r = let s = (added set rule work n g (Release j kept) r.0).soon in absurd (omega (arith, s, e))
-ends set rule work n (Tick j how ∷ g) p e r = refl
-ends set rule work n (Idle ∷ g) p e r = refl
+ends set rule work n (Release j kept ∷ g) p e r = absurd (omega (arith, (added set rule work n g (Release j kept) r.0).soon, e))
+ends set rule work n (row ∷ g) p e r = refl
+
+-- what holds of each holds of one in the middle
+pub at_middle : (P : Arrival → Type 0) (front : List Arrival) (a : Arrival) (xs : List Arrival) → Each P (front ++ a ∷ xs) → P a
+at_middle P [] a xs e = e.0
+at_middle P (b ∷ bs) a xs e = at_middle P bs a xs e.1
 
 -- after n ticks nothing is to come
 nothing_left : (n : ℕ) (rest front : List Arrival) → Later n rest → Each (λ a. a.at < n) (front ++ rest) → rest ≡ []
 nothing_left n [] front l e = refl
-nothing_left n (a ∷ xs) front l e = let x = l.0 in let y = last front e in absurd (omega (arith, x, y))
-  where
-    last : (front : List Arrival) → Each (λ a. a.at < n) (front ++ a ∷ xs) → a.at < n
-    last [] e = e.0
-    last (b ∷ bs) e = last bs e.1
+nothing_left n (a ∷ xs) front l e = absurd (omega (arith, l.0, at_middle (λ (b : Arrival). b.at < n) front a xs e))
 
 -- rows that the plan adds, n ticks long, follow
 pub runs_follow : (set : List Task) (rule : Rule) (work : List WorkRow) (n : ℕ) (h : List Row) → AllByRecursion IsTask set → IsWork set work → 1 ≤ n → Legal set rule h → Runs set rule work n h → n ≤ ticks h → Follows set rule work n h
 runs_follow set rule work n h s w p l r e =
     let x : Rest work n h = rest_of set rule work n h w r in
-    let t = x.within in
-    let full : ticks h ≡ n = omega (arith, t, e) in
+    let full : ticks h ≡ n = omega (arith, x.within, e) in
     let none : x.rest ≡ [] = nothing_left n x.rest (reverse (arrivals h)) (subst (λ (i : ℕ). Later i x.rest) full x.later) (subst (Each (λ (a : Arrival). a.at < n)) (sym x.split) (planned_each work n)) in
     record {
       legal = l;

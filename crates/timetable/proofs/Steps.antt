@@ -1,6 +1,7 @@
 -- Each call of a floor with a plan adds the plan's next row, or none.
-use Rattle.std.proofs.Common.{◌≡◌, ℕ, ◌+◌, ◌<◌, ◌≤◌, Bool, true, false, List, [], ◌∷◌, Option, Some, None, length, cond, slice_get, nat_lt, ◌==◌, refl, sym, ap, ◌∙◌, subst, arith, ltb-true, eqb-true}
-use Rattle.std.proofs.lemmas.Option.{same_Some}
+use Rattle.std.proofs.Common.{◌≡◌, ℕ, ◌+◌, ◌<◌, ◌≤◌, List, [], ◌∷◌, Option, Some, None, length, slice_get, nat_lt, ◌==◌, refl, sym, ap, ◌∙◌, subst, arith, ltb-true, eqb-true, inl, inr}
+use Rattle.std.proofs.lemmas.Bool.{cases_Bool}
+use Rattle.std.proofs.lemmas.Option.{cond_some, none-some}
 use Rattle.mc_task.specs.declared.task.Rule.{Rule}
 use Rattle.mc_task.specs.declared.task.Task.{Task}
 use Rattle.mc_task.specs.declared.task.JobId.{JobId}
@@ -10,7 +11,6 @@ use Rattle.mc_model.specs.declared.work.WorkRow.{WorkRow}
 use Rattle.mc_model.specs.Rows.{ticks, releases, next_release}
 use Rattle.mc_model.specs.Core.{State, begun, places_used, next, next_job, released_so_far, release_row, tick_out, IsOut}
 use Rattle.mc_model.specs.Follows.{arrivals, planned}
-use Rattle.mc_model.specs.Work.{IsWork}
 use Rattle.mode_core.specs.Events.{job_in, with_release, chosen_now}
 use Rattle.mode_core.specs.Shape.{IsSound}
 use Rattle.mode_core.proofs.CallerLemmas.{IsSettled, settled_words, state, no_held}
@@ -40,19 +40,13 @@ read_off work s sound =
 pub room_for : (s : State) (work : List WorkRow) (n taken : ℕ) → IsSound s → IsRun s work n taken → begun s < n → places_used s < s.places
 room_for s work n taken sound r h =
     let x = read_off work s sound in
-    let t = x.ticks in
-    let l = x.places in
-    let p = r.schedule.places in
-    omega (arith, t, l, p, h, length-rows (settled_by work s), taken-few s.set s.rule work n (settled_by work s) r.schedule.is_work r.runs)
+    omega (arith, x.ticks, x.places, r.schedule.places, h, length-rows (settled_by work s), taken-few s.set s.rule work n (settled_by work s) r.schedule.is_work r.runs)
 
 -- no more than n ticks are begun
 pub within : (s : State) (work : List WorkRow) (n taken : ℕ) → IsSound s → IsRun s work n taken → begun s ≤ n
 within s work n taken sound r =
-    let x = read_off work s sound in
     let y : Rest work n (settled_by work s) = rest_of s.set s.rule work n (settled_by work s) r.schedule.is_work r.runs in
-    let t = x.ticks in
-    let w = y.within in
-    omega (arith, t, w)
+    omega (arith, (read_off work s sound).ticks, y.within)
 
 -- a release
 
@@ -64,19 +58,14 @@ pub record IsDueRow (work : List WorkRow) (n taken t : ℕ) (w : WorkRow) : Type
 
 -- a row that is found due is such
 pub due_is : (work : List WorkRow) (n taken t : ℕ) (w : WorkRow) → due_at (Rows work n) taken t ≡ Some w → IsDueRow work n taken t w
-due_is work n taken t w e = go (nat_lt t n) refl e
+due_is work n taken t w e = elim (cases_Bool (nat_lt t n)) [
+  | inl m ↦ let p = found (slice_get work taken) (rw m at e) in record { row = p.0; release = p.1; soon = ltb-true _ _ m }
+  | inr m ↦ absurd (none-some w (rw m at e))
+]
   where
     found : (o : Option WorkRow) → due_row o t ≡ Some w → (o ≡ Some w) × (w.release ≡ t)
     found None k = cc
-    found (Some v) k = by (v.release == t) refl k
-      where
-        by : (b : Bool) → (v.release == t) ≡ b → cond b (Some v) None ≡ Some w → (Some v ≡ Some w) × (w.release ≡ t)
-        by true m i = let d : v ≡ w = same_Some v w i in (i, subst (λ (x : WorkRow). x.release ≡ t) d (eqb-true _ _ m))
-        by false m i = cc
-
-    go : (b : Bool) → nat_lt t n ≡ b → cond b (due_row (slice_get work taken) t) None ≡ Some w → IsDueRow work n taken t w
-    go true m k = let p = found (slice_get work taken) k in record { row = p.0; release = p.1; soon = ltb-true _ _ m }
-    go false m k = cc
+    found (Some v) k = let p = cond_some (v.release == t) v w k in (ap (λ (x : WorkRow). Some x) p.1, subst (λ (x : WorkRow). x.release ≡ t) p.1 (eqb-true _ _ p.0))
 
 -- a release is one row more behind the settled ones
 settled_release : (work : List WorkRow) (set : List Task) (rule : Rule) (places : ℕ) (rows : List Row) (out : Option JobId) (held : List JobId) (i : JobId) → IsOut set rule rows out held →
@@ -84,25 +73,20 @@ settled_release : (work : List WorkRow) (set : List Task) (rule : Rule) (places 
 settled_release work set rule places rows None held i o = refl
 settled_release work set rule places rows (Some j) held i o = refl
 
--- the set and the rule are as before
-same_set : (s : State) (o : Option JobId) (i : JobId) → (with_release s o i).set ≡ s.set
-same_set s None i = refl
-same_set s (Some j) i = refl
-
-same_rule : (s : State) (o : Option JobId) (i : JobId) → (with_release s o i).rule ≡ s.rule
-same_rule s None i = refl
-same_rule s (Some j) i = refl
-
-same_places : (s : State) (o : Option JobId) (i : JobId) → (with_release s o i).places ≡ s.places
-same_places s None i = refl
-same_places s (Some j) i = refl
+-- the set, the rule and the places are as before
+same_parts : (s : State) (o : Option JobId) (i : JobId) →
+    ((with_release s o i).set ≡ s.set) × ((with_release s o i).rule ≡ s.rule) × ((with_release s o i).places ≡ s.places)
+same_parts s None i = (refl, refl, refl)
+same_parts s (Some j) i = (refl, refl, refl)
 
 -- a core with the next row of its plan
-extended : (s t : State) (work : List WorkRow) (n taken more : ℕ) (row : Row) → IsRun s work n taken → t.set ≡ s.set → t.rule ≡ s.rule → t.places ≡ s.places → settled_by work t ≡ row ∷ settled_by work s → next_row s.set s.rule work n (settled_by work s) ≡ Some row →
+extended : (s t : State) (work : List WorkRow) (n taken more : ℕ) (row : Row) → IsRun s work n taken → (t.set ≡ s.set) × (t.rule ≡ s.rule) × (t.places ≡ s.places) → settled_by work t ≡ row ∷ settled_by work s → next_row s.set s.rule work n (settled_by work s) ≡ Some row →
     more ≡ length (arrivals (row ∷ settled_by work s)) → IsRun t work n more
-extended s t work n taken more row r a b c e x m = record {
-  schedule = record { is_work = subst (λ (ts : List Task). IsWork ts work) (sym a) r.schedule.is_work; some = r.schedule.some; most = r.schedule.most; places = subst (λ (p : ℕ). n + length work ≤ p) (sym c) r.schedule.places };
-  runs = subst (λ (ts : List Task). Runs ts t.rule work n (settled_by work t)) (sym a) (subst (λ (x : Rule). Runs s.set x work n (settled_by work t)) (sym b) (subst (λ (g : List Row). Runs s.set s.rule work n g) (sym e) (x, r.runs)));
+extended s t work n taken more row r same e x m = record {
+  schedule = record { is_work = rw same.0 r.schedule.is_work; some = r.schedule.some; most = r.schedule.most; places = rw same.2 r.schedule.places };
+  runs =
+      subst (λ (ts : List Task). Runs ts t.rule work n (settled_by work t)) (sym same.0)
+      (subst (λ (u : Rule). Runs s.set u work n (settled_by work t)) (sym same.1) (subst (λ (g : List Row). Runs s.set s.rule work n g) (sym e) (x, r.runs)));
   taken_are = m ∙ ap (λ (g : List Row). length (arrivals g)) (sym e);
 }
 
@@ -114,9 +98,9 @@ pub record MayTake (s : State) (work : List WorkRow) (n taken k : ℕ) : Type 0 
 
 pub may_take : (s : State) (work : List WorkRow) (n taken : ℕ) (w : WorkRow) → IsSound s → IsRun s work n taken → IsDueRow work n taken (begun s) w → MayTake s work n taken w.task.0
 may_take s work n taken w sound r d = record {
-  soon = let a = x.next w.task.0 in let b = d.release in omega (arith, a, b, soon);
+  soon = omega (arith, x.next w.task.0, d.release, soon);
   room = room_for s work n taken sound r d.soon;
-  run = extended s (with_release s s.out (next_job s w.task.0)) work n taken (taken + 1) row r (same_set s s.out (next_job s w.task.0)) (same_rule s s.out (next_job s w.task.0)) (same_places s s.out (next_job s w.task.0)) settled_is next (let m = r.taken_are in omega (arith, m));
+  run = extended s (with_release s s.out (next_job s w.task.0)) work n taken (taken + 1) row r (same_parts s s.out (next_job s w.task.0)) settled_is next (omega (arith, r.taken_are));
 }
   where
     h : List Row
@@ -129,7 +113,7 @@ may_take s work n taken w sound r d = record {
     now = d.release ∙ sym x.ticks
 
     before : ticks h < n
-    before = let t = x.ticks in let u = d.soon in omega (arith, t, u)
+    before = omega (arith, x.ticks, d.soon)
 
     here : slice_get (planned work n) (length (arrivals h)) ≡ Some (arrival_of w)
     here = subst (λ (i : ℕ). slice_get (planned work n) i ≡ Some (arrival_of w)) r.taken_are (due_planned s.set s.rule work n taken w h r.schedule.is_work d.row now before)
@@ -158,22 +142,16 @@ pub record IsTickTime (s : State) (work : List WorkRow) (n taken : ℕ) : Type 0
 
 -- where no tick is out, the rows are settled
 pub settled_none : (work : List WorkRow) (s : State) → s.out ≡ None → settled_by work s ≡ s.rows
-settled_none work s o = go s.out o
-  where
-    go : (x : Option JobId) → x ≡ None → settled_by work (record s { out = x }) ≡ s.rows
-    go None e = refl
-    go (Some j) e = cc
+settled_none work s o = rw o refl
 
 -- a tick is the next row of the plan
 tick_next : (s : State) (work : List WorkRow) (n taken : ℕ) → IsRun s work n taken → s.out ≡ None → IsTickTime s work n taken → next_row s.set s.rule work n s.rows ≡ Some (tick_row s.set s.rule work s.rows (chosen_now s))
 tick_next s work n taken r o t =
     let rows : settled_by work s ≡ s.rows = settled_none work s o in
-    let none : tick_out s.out ≡ 0 = ap tick_out o in
-    let now : begun s ≡ ticks s.rows = omega (arith, none) in
-    let soon = t.soon in
+    let now : begun s ≡ ticks s.rows = omega (arith, ap tick_out o) in
     let taken_are : taken ≡ length (arrivals s.rows) = r.taken_are ∙ ap (λ (g : List Row). length (arrivals g)) rows in
     let due : due_row (slice_get work (length (arrivals s.rows))) (ticks s.rows) ≡ None = subst (λ (i : ℕ). due_row (slice_get work i) (ticks s.rows) ≡ None) taken_are (subst (λ (u : ℕ). due_row (slice_get work taken) u ≡ None) now t.none) in
-    tick_row_next s.set s.rule work n s.rows r.schedule.is_work due (omega (arith, now, soon))
+    tick_row_next s.set s.rule work n s.rows r.schedule.is_work due (omega (arith, now, t.soon))
 
 -- the tick of the chosen job is the next row
 pub run_grant : (s : State) (work : List WorkRow) (n taken : ℕ) (j : JobId) → IsSound s → IsRun s work n taken → s.out ≡ None → chosen_now s ≡ Some j → IsTickTime s work n taken → IsRun (record s { out = chosen_now s }) work n taken
@@ -189,11 +167,11 @@ run_grant s work n taken j sound r o c t = subst (λ (x : Option JobId). IsRun (
     next = subst (λ (g : List Row). next_row s.set s.rule work n g ≡ Some row) (sym (settled_none work s o)) (tick_next s work n taken r o t ∙ ap (λ (x : Option JobId). Some (tick_row s.set s.rule work s.rows x)) c)
 
     made : IsRun (record s { out = Some j; held = [] }) work n taken
-    made = extended s (record s { out = Some j; held = [] }) work n taken taken row r refl refl refl (ap (λ (g : List Row). row ∷ g) (sym (settled_none work s o))) next r.taken_are
+    made = extended s (record s { out = Some j; held = [] }) work n taken taken row r (refl, refl, refl) (ap (λ (g : List Row). row ∷ g) (sym (settled_none work s o))) next r.taken_are
 
 -- an idle tick is the next row
 pub run_idle : (s : State) (work : List WorkRow) (n taken : ℕ) → IsRun s work n taken → s.out ≡ None → chosen_now s ≡ None → IsTickTime s work n taken → IsRun (record s { rows = Idle ∷ s.rows }) work n taken
-run_idle s work n taken r o c t = extended s (record s { rows = Idle ∷ s.rows }) work n taken taken Idle r refl refl refl rows next r.taken_are
+run_idle s work n taken r o c t = extended s (record s { rows = Idle ∷ s.rows }) work n taken taken Idle r (refl, refl, refl) rows next r.taken_are
   where
     rows : settled_by work (record s { rows = Idle ∷ s.rows }) ≡ Idle ∷ settled_by work s
     rows = settled_none work (record s { rows = Idle ∷ s.rows }) o ∙ ap (λ (g : List Row). Idle ∷ g) (sym (settled_none work s o))

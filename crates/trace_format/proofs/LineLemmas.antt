@@ -1,5 +1,5 @@
 -- The records of a written text.
-use Rattle.std.proofs.Common.{◌≡◌, ℕ, ◌+◌, ◌^◌, ◌≤◌, ◌<◌, Bool, true, false, ◌&&◌, nat_le, List, [], ◌∷◌, ◌++◌, Some, IsTrue, refl, sym, ap, ◌∙◌, arith, length, append_assoc, decimal, codes}
+use Rattle.std.proofs.Common.{◌≡◌, ℕ, ◌+◌, ◌^◌, ◌≤◌, ◌<◌, Bool, true, false, ◌&&◌, nat_le, List, [], ◌∷◌, ◌++◌, Some, IsTrue, refl, arith, length, append_assoc, decimal, codes}
 use Rattle.std.proofs.lemmas.Bool.Decides.{nat_tests}
 use Rattle.std.specs.List.{list_any, list_all, AllByRecursion}
 use Rattle.csv.specs.Machine.{next_record}
@@ -41,12 +41,6 @@ header_fields = codes "event" ∷ codes "tick" ∷ codes "length" ∷ codes "tas
 abbrev IsPlain : List ℕ → Type 0
 IsPlain bytes = list_any (needs_byte default_writer) bytes ≡ false
 
-plain_digit : (b : ℕ) → is_digit b ≡ true → needs_byte default_writer b ≡ false
-plain_digit b h = grind (arith, nat_tests)
-
-plain_name_byte : (b : ℕ) → is_name_byte b ≡ true → needs_byte default_writer b ≡ false
-plain_name_byte b h = grind (arith, nat_tests)
-
 plain_all : (p : ℕ → Bool) → ((b : ℕ) → p b ≡ true → needs_byte default_writer b ≡ false) → (xs : List ℕ) → list_all p xs ≡ true → IsPlain xs
 plain_all p h [] a = refl
 plain_all p h (x ∷ xs) a =
@@ -56,10 +50,11 @@ plain_all p h (x ∷ xs) a =
     rw (first, rest) refl
 
 plain_decimal : (n : ℕ) → n < 2 ^ 64 → IsPlain (decimal n)
-plain_decimal n h = plain_all is_digit plain_digit (decimal n) (digits-decimal n h)
+plain_decimal n h = plain_all is_digit (λ b digit. grind (arith, nat_tests, digit)) (decimal n) (digits-decimal n h)
 
 plain_name : (name : List ℕ) → IsTrue (is_name name) → IsPlain name
-plain_name name h = plain_all is_name_byte plain_name_byte name ((and_parts (nat_le 1 (length name) && nat_le (length name) 32) (list_all is_name_byte name) h).1)
+plain_name name h =
+    plain_all is_name_byte (λ b fits. grind (arith, nat_tests, fits)) name ((and_parts (nat_le 1 (length name) && nat_le (length name) 32) (list_all is_name_byte name) h).1)
 
 plain_kept : (kept : Bool) → IsPlain (kept_word kept)
 plain_kept true = refl
@@ -76,24 +71,24 @@ line_is : (a b c d e f : List ℕ) → IsPlain a → IsPlain b → IsPlain c →
 unfolding fields_text is_blank
 line_is a b c d e f pa pb pc pd pe pf = rw (pa, pb, pc, pd, pe, pf) (simp append_assoc)
 
-run_line_is : (set : List Task) (tick : ℕ) (r : Run) → AreTasks set → tick < 2 ^ 64 → length_of r < 2 ^ 64 → IsWritable set r → row_text default_writer (run_fields set tick r) ≡ run_line set tick r
+run_line_is : (set : List Task) (tick : ℕ) (r : Run) → AreTasks set → tick < 2 ^ 64 → length_of r < 2 ^ 64 → IsWritable set r
+    → row_text default_writer (run_fields set tick r) ≡ run_line set tick r
 unfolding run_line
 run_line_is set tick (Release j kept) s h n w =
-    line_is (codes "release") (decimal tick) [] (name_in (task_at set j.task.0)) (decimal j.count) (kept_word kept) refl (plain_decimal tick h) refl (plain_name (name_in (task_at set j.task.0)) (found_by_name set j.task.0 s w.0).form)
-    (plain_decimal j.count (omega (arith, w.1))) (plain_kept kept)
+    let name = plain_name (name_in (task_at set j.task.0)) (found_by_name set j.task.0 s w.0).form in
+    line_is (codes "release") (decimal tick) [] (name_in (task_at set j.task.0)) (decimal j.count) (kept_word kept)
+    refl (plain_decimal tick h) refl name (plain_decimal j.count (omega (arith, w.1))) (plain_kept kept)
 run_line_is set tick (Ticks j how n) s h m w =
-    line_is (codes "tick") (decimal tick) (decimal n) (name_in (task_at set j.task.0)) (decimal j.count) (how_word how) refl (plain_decimal tick h) (plain_decimal n m) (plain_name (name_in (task_at set j.task.0)) (found_by_name set j.task.0 s w.0).form)
-    (plain_decimal j.count (omega (arith, w.1))) (plain_how how)
+    let name = plain_name (name_in (task_at set j.task.0)) (found_by_name set j.task.0 s w.0).form in
+    line_is (codes "tick") (decimal tick) (decimal n) (name_in (task_at set j.task.0)) (decimal j.count) (how_word how)
+    refl (plain_decimal tick h) (plain_decimal n m) name (plain_decimal j.count (omega (arith, w.1))) (plain_how how)
 run_line_is set tick (Idles n) s h m w = line_is (codes "idle") (decimal tick) (decimal n) [] [] [] refl (plain_decimal tick h) (plain_decimal n m) refl refl refl
 
 read_line : (set : List Task) (tick : ℕ) (r : Run) (tail : List ℕ) → AreTasks set → tick < 2 ^ 64 → length_of r < 2 ^ 64 → IsWritable set r
     → next_record default_config st.StartRecord [] [] (run_line set tick r ++ tail) ≡ Some (run_fields set tick r, st.StartRecord, tail)
-read_line set tick r tail s h n w = ap (λ (t : List ℕ). next_record default_config st.StartRecord [] [] (t ++ tail)) (sym (run_line_is set tick r s h n w)) ∙ many r
-  where
-    many : (r : Run) → next_record default_config st.StartRecord [] [] (row_text default_writer (run_fields set tick r) ++ tail) ≡ Some (run_fields set tick r, st.StartRecord, tail)
-    many (Release j kept) = read-write-many _ _ _ tail
-    many (Ticks j how n) = read-write-many _ _ _ tail
-    many (Idles n) = read-write-many _ _ _ tail
+read_line set tick (Release j kept) tail s h n w = rw (← run_line_is set tick (Release j kept) s h n w) (read-write-many _ _ _ tail)
+read_line set tick (Ticks j how m) tail s h n w = rw (← run_line_is set tick (Ticks j how m) s h n w) (read-write-many _ _ _ tail)
+read_line set tick (Idles m) tail s h n w = rw (← run_line_is set tick (Idles m) s h n w) (read-write-many _ _ _ tail)
 
 lines_reached : (set : List Task) (tick : ℕ) (runs : List Run) → AreTasks set → tick + total length_of runs ≤ 100000000 → AllByRecursion (IsWritable set) runs
     → Reached default_config st.StartRecord (lines_from set tick runs) (fields_from set tick runs) st.StartRecord []
@@ -107,7 +102,8 @@ lines_reached set tick (r ∷ runs) s h w = (
 )
 
 -- the records of what is written
-pub written_records : (set : List Task) (runs : List Run) → AreTasks set → total length_of runs ≤ 100000000 → AllByRecursion (IsWritable set) runs → AreRecords default_config st.StartRecord (strip_bom (runs_text set runs)) (header_fields ∷ fields_from set 0 runs)
+pub written_records : (set : List Task) (runs : List Run) → AreTasks set → total length_of runs ≤ 100000000 → AllByRecursion (IsWritable set) runs
+    → AreRecords default_config st.StartRecord (strip_bom (runs_text set runs)) (header_fields ∷ fields_from set 0 runs)
 unfolding Reached strip_bom next_record
 written_records set runs s h w = (
   st.StartRecord,

@@ -1,6 +1,7 @@
 -- A run added at the end of packed runs.
-use Rattle.std.proofs.Common.{suc, zero, All, ◌≡◌, ℕ, ◌+◌, ◌-◌, ◌≤◌, ◌<◌, Bool, true, false, cond, List, [], ◌∷◌, ◌++◌, Some, None, length, take, drop, get_or, length-take, slice_set, length-set, replicate, refl, sym, ap, ◌∙◌, subst, arith, append_assoc}
-use Rattle.std.proofs.lemmas.List.{append-nil, take-append-drop, take_all, take_more, take_more_set, replicate-append-replicate}
+use Rattle.std.proofs.Common.{suc, zero, All, ◌≡◌, ℕ, ◌+◌, ◌-◌, ◌≤◌, ◌<◌, false, List, [], ◌∷◌, ◌++◌, Some, None, length, take, get_or, length-take, slice_set, length-set, replicate, inl, inr, refl, sym, ap, ◌∙◌, subst, arith, append_assoc}
+use Rattle.std.proofs.lemmas.Bool.{cases_Bool}
+use Rattle.std.proofs.lemmas.List.{append-nil, take_all, take_more, take_more_set, replicate-append-replicate}
 use Rattle.std.proofs.lemmas.List.Elements.{All-from_recursion, recursion_from_All}
 use Rattle.std.proofs.lemmas.Option.{slice_get_within, slice_get-get_or, get_or_from_slice_get, option_and_then_some}
 use Rattle.std.specs.List.{AllByRecursion}
@@ -13,69 +14,49 @@ use Rattle.mc_model.specs.declared.run.Run.TheVariants as run
 use Rattle.mc_model.specs.declared.row.Row.{Row}
 use Rattle.mc_model.specs.Rows.{same_job, ticks}
 use Rattle.mc_model.specs.Sums.{total}
-use Rattle.mc_model.specs.Runs.{row_of, size, rows_of, expand, length_of, joins, run_of, IsRun, AreRuns, IsPacked}
+use Rattle.mc_model.specs.Runs.{row_of, size, rows_of, expand, length_of, joins, run_of, IsRun, AreRuns}
 use Rattle.mc_model.proofs.Jobs.{job_eq}
-use Rattle.mc_model.proofs.Sums.{total-append}
 use Rattle.mc_model.proofs.Ticks.{ticks-le}
 use Rattle.mc_model.proofs.Runs.{some_rows, all_expand, expand-more, ticks-expand}
 use Rattle.trace_format.specs.Packing.{ArePacked, joined, with_last}
+use Rattle.trace_format.proofs.TickLemmas.{total-one, ticks-fit}
 
--- two runs that are one have the rows of both
-joined_rows : (r s both : Run) → joined r s ≡ Some both → rows_of both ≡ rows_of r ++ rows_of s
-joined_rows (run.Idles m) (run.Idles n) both h = let e : both ≡ run.Idles (m + n) = cc in rw e (sym (replicate-append-replicate m n Idle))
-joined_rows (run.Ticks i More m) (run.Ticks j More n) both h = go (same_job i j) refl h
-  where
-    go : (b : Bool) → same_job i j ≡ b → cond b (Some (run.Ticks i More (m + n))) None ≡ Some both → rows_of both ≡ replicate m (Tick i More) ++ replicate n (Tick j More)
-    go true q h =
-        let e : both ≡ run.Ticks i More (m + n) = cc in
-        rw e (sym (replicate-append-replicate m n (Tick i More)) ∙ ap (λ (k : JobId). replicate m (Tick i More) ++ replicate n (Tick k More)) (job_eq i j q))
-    go false q h = cc
-joined_rows r s both h = cc
+-- what two runs that are one have: the rows of both; and it is a run, which joins what the first of them joins
+record JoinedAs (r s both : Run) : Type 0 where
+  rows : rows_of both ≡ rows_of r ++ rows_of s
+  is_run : IsRun r → IsRun both
+  same : (q : Run) → joins q both ≡ joins q r
 
--- and are a run
-joined_is : (r s both : Run) → joined r s ≡ Some both → IsRun r → IsRun both
-joined_is (run.Idles m) (run.Idles n) both h v = let e : both ≡ run.Idles (m + n) = cc in subst IsRun (sym e) (omega (arith, v))
-joined_is (run.Ticks i More m) (run.Ticks j More n) both h v = go (same_job i j) h
-  where
-    go : (b : Bool) → cond b (Some (run.Ticks i More (m + n))) None ≡ Some both → IsRun both
-    go true h = let e : both ≡ run.Ticks i More (m + n) = cc in let some = v.0 in subst IsRun (sym e) (omega (arith, some), λ k. refl)
-    go false h = cc
-joined_is r s both h v = cc
+-- whether a run joins another is not for that one's length to say
+any_length : (q : Run) (m n : ℕ) → ((j : JobId) → joins q (run.Ticks j More m) ≡ joins q (run.Ticks j More n)) × (joins q (run.Idles m) ≡ joins q (run.Idles n))
+any_length (run.Release i kept) m n = ((λ j. refl), refl)
+any_length (run.Ticks i More k) m n = ((λ j. refl), refl)
+any_length (run.Ticks i Done k) m n = ((λ j. refl), refl)
+any_length (run.Ticks i Stop k) m n = ((λ j. refl), refl)
+any_length (run.Ticks i Over k) m n = ((λ j. refl), refl)
+any_length (run.Idles k) m n = ((λ j. refl), refl)
 
--- which joins what the first of them joins
-joined_joins : (q r s both : Run) → joined r s ≡ Some both → joins q both ≡ joins q r
-joined_joins q (run.Idles m) (run.Idles n) both h = let e : both ≡ run.Idles (m + n) = cc in rw e (same q)
-  where
-    same : (q : Run) → joins q (run.Idles (m + n)) ≡ joins q (run.Idles m)
-    same (run.Release j kept) = refl
-    same (run.Ticks j More k) = refl
-    same (run.Ticks j Done k) = refl
-    same (run.Ticks j Stop k) = refl
-    same (run.Ticks j Over k) = refl
-    same (run.Idles k) = refl
-joined_joins q (run.Ticks i More m) (run.Ticks j More n) both h = go (same_job i j) h
-  where
-    same : (q : Run) → joins q (run.Ticks i More (m + n)) ≡ joins q (run.Ticks i More m)
-    same (run.Release j kept) = refl
-    same (run.Ticks j More k) = refl
-    same (run.Ticks j Done k) = refl
-    same (run.Ticks j Stop k) = refl
-    same (run.Ticks j Over k) = refl
-    same (run.Idles k) = refl
-
-    go : (b : Bool) → cond b (Some (run.Ticks i More (m + n))) None ≡ Some both → joins q both ≡ joins q (run.Ticks i More m)
-    go true h = let e : both ≡ run.Ticks i More (m + n) = cc in rw e (same q)
-    go false h = cc
-joined_joins q r s both h = cc
+joined_as : (r s both : Run) → joined r s ≡ Some both → JoinedAs r s both
+joined_as (run.Idles m) (run.Idles n) both h =
+    let is : run.Idles (m + n) ≡ both = cc in
+    subst (JoinedAs (run.Idles m) (run.Idles n)) is
+    (record { rows = sym (replicate-append-replicate m n Idle); is_run = λ v. omega arith; same = λ q. (any_length q (m + n) m).1 })
+joined_as (run.Ticks i More m) (run.Ticks j More n) both h = elim (cases_Bool (same_job i j)) [
+  | inl yes_job ↦
+      let some = rw yes_job at h in
+      let is : run.Ticks i More (m + n) ≡ both = cc in
+      let rows : replicate (m + n) (Tick i More) ≡ replicate m (Tick i More) ++ replicate n (Tick j More) =
+      rw (← job_eq i j yes_job) (sym (replicate-append-replicate m n (Tick i More))) in
+      subst (JoinedAs (run.Ticks i More m) (run.Ticks j More n)) is
+      (record { rows = rows; is_run = λ v. (omega (arith, v.0), λ two. refl); same = λ q. (any_length q (m + n) m).0 i })
+  | inr no_job ↦ (let none = rw no_job at h in absurd (cc))
+]
+joined_as r s both h = absurd (cc)
 
 -- two runs that are not one can't be
 joined_none : (r s : Run) → joined r s ≡ None → joins r s ≡ false
 joined_none (run.Idles m) (run.Idles n) h = cc
-joined_none (run.Ticks i More m) (run.Ticks j More n) h = go (same_job i j) h
-  where
-    go : (b : Bool) → cond b (Some (run.Ticks i More (m + n))) None ≡ None → b ≡ false
-    go true h = cc
-    go false h = refl
+joined_none (run.Ticks i More m) (run.Ticks j More n) h = elim (cases_Bool (same_job i j)) [ inl yes_job ↦ (let some = rw yes_job at h in cc) | inr no_job ↦ no_job ]
 joined_none r s h = refl
 
 -- a list by its last element
@@ -89,67 +70,51 @@ split_last xs l h =
 -- and with another one in its place
 set_last : {X : Type 0} (xs : List X) (y : X) → 1 ≤ length xs → slice_set xs (length xs - 1) y ≡ take (length xs - 1) xs ++ y ∷ []
 set_last xs y h =
-    sym (take_all (length xs - 1 + 1) (slice_set xs (length xs - 1) y) (omega (arith, h, length-set xs (length xs - 1) y))) ∙ take_more_set xs (length xs - 1) y (omega (arith, h))
+    sym (take_all (length xs - 1 + 1) (slice_set xs (length xs - 1) y) (omega (arith, h, length-set xs (length xs - 1) y)))
+    ∙ take_more_set xs (length xs - 1) y (omega (arith, h))
 
--- runs with another one added that the last one can't join
-packed_more : (ts : List Run) (l s : Run) → IsPacked (ts ++ l ∷ []) → joins l s ≡ false → IsPacked (ts ++ l ∷ s ∷ [])
-packed_more [] l s p h = (h, tt)
-packed_more (t ∷ []) l s p h = (p.0, (h, tt))
-packed_more (t ∷ u ∷ ts) l s p h = (p.0, packed_more (u ∷ ts) l s p.1 h)
-
--- or with a longer one in place of the last
-packed_longer : (ts : List Run) (l both : Run) → ((q : Run) → joins q both ≡ joins q l) → IsPacked (ts ++ l ∷ []) → IsPacked (ts ++ both ∷ [])
-packed_longer [] l both same p = tt
-packed_longer (t ∷ []) l both same p = (same t ∙ p.0, tt)
-packed_longer (t ∷ u ∷ ts) l both same p = (p.0, packed_longer (u ∷ ts) l both same p.1)
-
-each_longer : (ts : List Run) (l both : Run) → (IsRun l → IsRun both) → AllByRecursion IsRun (ts ++ l ∷ []) → AllByRecursion IsRun (ts ++ both ∷ [])
-each_longer [] l both is v = (is v.0, tt)
-each_longer (t ∷ ts) l both is v = (v.0, each_longer ts l both is v.1)
-
-each_more : (ts : List Run) (s : Run) → AllByRecursion IsRun ts → IsRun s → AllByRecursion IsRun (ts ++ s ∷ [])
-each_more [] s v is = (is, tt)
-each_more (t ∷ ts) s v is = (v.0, each_more ts s v.1 is)
+-- packed runs with others in place of the last, the first of which joins what it joins
+packed_end : (ts : List Run) (l m : Run) (ms : List Run) → ((q : Run) → joins q m ≡ joins q l) → (IsRun l → ArePacked (m ∷ ms)) → ArePacked (ts ++ l ∷ [])
+    → ArePacked (ts ++ m ∷ ms)
+packed_end [] l m ms same end p = end p.each.0
+packed_end (t ∷ []) l m ms same end p = let rest = end p.each.1.0 in record { each = (p.each.0, rest.each); packed = (same t ∙ p.packed.0, rest.packed) }
+packed_end (t ∷ u ∷ ts) l m ms same end p =
+    let rest = packed_end (u ∷ ts) l m ms same end (record { each = p.each.1; packed = p.packed.1 }) in
+    record { each = (p.each.0, rest.each); packed = (p.packed.0, rest.packed) }
 
 -- the last of packed runs takes one more
-pub taken : (rs new : List Run) (s both : Run) → ArePacked rs → with_last rs s ≡ Some both → new ≡ slice_set rs (length rs - 1) both → (expand new ≡ expand rs ++ rows_of s) × ArePacked new
+pub taken : (rs new : List Run) (s both : Run) → ArePacked rs → with_last rs s ≡ Some both → new ≡ slice_set rs (length rs - 1) both
+    → (expand new ≡ expand rs ++ rows_of s) × ArePacked new
 taken rs new s both p h is = option_and_then_some (λ l. joined l s) (slice_get rs (length rs - 1)) both h (λ l at j.
-    let some : length rs - 1 < length rs = slice_get_within rs (length rs - 1) l at in
+    let f = joined_as l s both j in
     let ts : List Run = take (length rs - 1) rs in
-    let old : rs ≡ take (length rs - 1) rs ++ l ∷ [] = split_last rs l at in
-    let now : new ≡ take (length rs - 1) rs ++ both ∷ [] = is ∙ set_last rs both (omega (arith, some)) in (
-      ap expand now
-          ∙ (expand-more ts both
-          ∙ (ap (λ xs. expand ts ++ xs) (joined_rows l s both j)
-          ∙ (sym (append_assoc (expand ts) (rows_of l) (rows_of s)) ∙ ap (λ xs. xs ++ rows_of s) (sym (expand-more ts l) ∙ ap expand (sym old))))),
-      record {
-        each = subst (AllByRecursion IsRun) (sym now) (each_longer ts l both (joined_is l s both j) (subst (AllByRecursion IsRun) old p.each));
-        packed = subst IsPacked (sym now) (packed_longer ts l both (λ q. joined_joins q l s both j) (subst IsPacked old p.packed));
-      },
+    let old : rs ≡ ts ++ l ∷ [] = split_last rs l at in
+    let now : new ≡ ts ++ both ∷ [] = is ∙ set_last rs both (omega (arith, slice_get_within rs (length rs - 1) l at)) in
+    let rows : expand rs ≡ expand ts ++ rows_of l = ap expand old ∙ expand-more ts l in
+    let end : IsRun l → ArePacked (both ∷ []) = λ is_run. record { each = (f.is_run is_run, tt); packed = tt } in (
+      rw (now, expand-more ts both, f.rows, rows) (sym (append_assoc (expand ts) (rows_of l) (rows_of s))),
+      rw now (packed_end ts l both [] f.same end (subst ArePacked old p)),
     ))
 
 -- a run that it can't take is added
-pub added : (rs new : List Run) (s : Run) → ArePacked rs → IsRun s → with_last rs s ≡ None → new ≡ rs ++ s ∷ [] → (expand new ≡ expand rs ++ rows_of s) × ArePacked new
-added [] new s p v h is = (ap expand is ∙ append-nil (rows_of s), record { each = subst (AllByRecursion IsRun) (sym is) (v, tt); packed = subst IsPacked (sym is) tt })
+pub added : (rs new : List Run) (s : Run) → ArePacked rs → IsRun s → with_last rs s ≡ None → new ≡ rs ++ s ∷ []
+    → (expand new ≡ expand rs ++ rows_of s) × ArePacked new
+added [] new s p v h is = (ap expand is ∙ append-nil (rows_of s), rw is (record { each = (v, tt); packed = tt }))
 added (r ∷ rs) new s p v h is =
     let l : Run = get_or (r ∷ rs) (length (r ∷ rs) - 1) r in
     let at : slice_get (r ∷ rs) (length (r ∷ rs) - 1) ≡ Some l = slice_get-get_or (r ∷ rs) (length (r ∷ rs) - 1) r (omega arith) in
     let apart : joined l s ≡ None = sym (ap (option_and_then (λ last. joined last s)) at) ∙ h in
     let ts : List Run = take (length (r ∷ rs) - 1) (r ∷ rs) in
     let old : r ∷ rs ≡ ts ++ l ∷ [] = split_last (r ∷ rs) l at in
-    let now : new ≡ ts ++ l ∷ s ∷ [] = is ∙ (ap (λ xs. xs ++ s ∷ []) old ∙ append_assoc ts (l ∷ []) (s ∷ [])) in (
-      ap expand is ∙ expand-more (r ∷ rs) s,
-      record {
-        each = subst (AllByRecursion IsRun) (sym is) (each_more (r ∷ rs) s p.each v);
-        packed = subst IsPacked (sym now) (packed_more ts l s (subst IsPacked old p.packed) (joined_none l s apart));
-      },
-    )
+    let now : new ≡ ts ++ l ∷ s ∷ [] = is ∙ (ap (λ xs. xs ++ s ∷ []) old ∙ append_assoc ts (l ∷ []) (s ∷ [])) in
+    let end : IsRun l → ArePacked (l ∷ s ∷ []) = λ is_run. record { each = (is_run, (v, tt)); packed = (joined_none l s apart, tt) } in
+    (ap expand is ∙ expand-more (r ∷ rs) s, rw now (packed_end ts l l (s ∷ []) (λ q. refl) end (subst ArePacked old p)))
 
 -- no run has more ticks than all
 pub last_short : (rs : List Run) (l : Run) → slice_get rs (length rs - 1) ≡ Some l → length_of l ≤ total length_of rs
 last_short rs l at =
-    let t : total length_of rs ≡ total length_of (take (length rs - 1) rs) + total length_of (l ∷ []) = ap (total length_of) (split_last rs l at) ∙ total-append length_of (take (length rs - 1) rs) (l ∷ []) in
-    omega (arith, t)
+    let all = ap (total length_of) (split_last rs l at) ∙ total-one (take (length rs - 1) rs) l in
+    omega (arith, all)
 
 -- the ticks of the runs of the first rows
 pub short_rows : (runs : List Run) (rows : List Row) (i : ℕ) → expand runs ≡ take i rows → total length_of runs ≤ length rows
@@ -169,27 +134,20 @@ all_rows runs rows i h e = e ∙ take_all i rows h
 
 pub short_runs : (merged runs : List Run) (i : ℕ) (d : Run) → i < length runs → AreRuns runs → expand merged ≡ expand (take i runs) → total length_of merged + length_of (get_or runs i d) ≤ 100000000
 short_runs merged runs i d h v e =
-    let short = v.short in
-    let t : total length_of merged ≡ total length_of (take i runs) = sym (ticks-expand merged) ∙ (ap ticks e ∙ ticks-expand (take i runs)) in
-    let more : total length_of (take (i + 1) runs) ≡ total length_of (take i runs) + total length_of (get_or runs i d ∷ []) = ap (total length_of) (take_more runs i d h) ∙ total-append length_of (take i runs) (get_or runs i d ∷ []) in
-    let parts : total length_of runs ≡ total length_of (take (i + 1) runs) + total length_of (drop (i + 1) runs) = ap (total length_of) (sym (take-append-drop (i + 1) runs)) ∙ total-append length_of (take (i + 1) runs) (drop (i + 1) runs) in
-    omega (arith, short, t, more, parts)
+    ticks-fit runs i (total length_of merged) d h v (sym (ticks-expand merged) ∙ (ap ticks e ∙ ticks-expand (take i runs)))
 
 pub all_runs : (merged runs : List Run) (i : ℕ) → length runs ≤ i → expand merged ≡ expand (take i runs) → expand merged ≡ expand runs
 all_runs merged runs i h e = e ∙ ap expand (take_all i runs h)
 
--- what holds of each row of runs holds of the row that each run repeats
-first_row : (P : Row → Type 0) (n : ℕ) (x : Row) (ys : List Row) → 1 ≤ n → AllByRecursion P (replicate n x ++ ys) → P x
-first_row P zero x ys h a = absurd (omega (arith, h))
-first_row P (suc n) x ys h a = a.0
-
-rows_behind : (P : Row → Type 0) (n : ℕ) (x : Row) (ys : List Row) → AllByRecursion P (replicate n x ++ ys) → AllByRecursion P ys
-rows_behind P zero x ys a = a
-rows_behind P (suc n) x ys a = rows_behind P n x ys a.1
+-- what holds of each row of a run, and of those behind it, holds of the row that it repeats, and of those behind it
+row_and_rest : (P : Row → Type 0) (n : ℕ) (x : Row) (ys : List Row) → 1 ≤ n → AllByRecursion P (replicate n x ++ ys) → P x × AllByRecursion P ys
+row_and_rest P zero x ys h a = absurd (omega (arith, h))
+row_and_rest P (suc zero) x ys h a = a
+row_and_rest P (suc (suc n)) x ys h a = row_and_rest P (suc n) x ys (omega arith) a.1
 
 each_of_rows : (P : Row → Type 0) (runs : List Run) → AllByRecursion IsRun runs → AllByRecursion P (expand runs) → AllByRecursion (λ r. P (row_of r)) runs
 each_of_rows P [] v a = tt
-each_of_rows P (r ∷ runs) v a = (first_row P (size r) (row_of r) (expand runs) (some_rows r v.0) a, each_of_rows P runs v.1 (rows_behind P (size r) (row_of r) (expand runs) a))
+each_of_rows P (r ∷ runs) v a = let p = row_and_rest P (size r) (row_of r) (expand runs) (some_rows r v.0) a in (p.0, each_of_rows P runs v.1 p.1)
 
 pub of_rows : (P : Row → Type 0) (runs : List Run) (rows : List Row) → AllByRecursion IsRun runs → expand runs ≡ rows → All P rows → All (λ r. P (row_of r)) runs
 of_rows P runs rows v e a = All-from_recursion (λ r. P (row_of r)) runs (each_of_rows P runs v (recursion_from_All P (expand runs) (subst (All P) (sym e) a)))

@@ -3,7 +3,7 @@ use Rattle.std.proofs.Common.{◌≡◌, ℕ, ◌+◌, ◌≤◌, ◌<◌, ◌==
 use Rattle.std.specs.List.{AllByRecursion}
 use Rattle.std.proofs.lemmas.Bool.Decides.{nat_tests}
 use Rattle.std.proofs.lemmas.List.{length-append}
-use Rattle.std.proofs.lemmas.List.Elements.{All-from_recursion}
+use Rattle.std.proofs.lemmas.List.Elements.{All-nil, All-push}
 use Rattle.csv.specs.Reading.{default_config, records, strip_bom}
 use Rattle.csv_records.specs.Rows.{Means, Refusal, rows_in, or_fault}
 use Rattle.csv_records.proofs.RowLemmas.{file_keeps}
@@ -15,6 +15,7 @@ use Rattle.mc_model.specs.declared.run.Run.{Run}
 use Rattle.mc_model.specs.declared.run.Run.TheVariants as run
 use Rattle.mc_model.specs.Sums.{total}
 use Rattle.mc_model.specs.Runs.{length_of, IsRun, IsRunOfSet, AreRuns}
+use Rattle.mc_model.proofs.Lists.{Each-append}
 use Rattle.mc_model.proofs.Sums.{total-append}
 use Rattle.trace_format.specs.declared.version.Version.{Version}
 use Rattle.trace_format.specs.declared.event.Event.{Event}
@@ -36,93 +37,83 @@ ticks_are j Stop n h = let one : n ≡ 1 = grind (arith, nat_tests, h) in (omega
 ticks_are j Over n h = let one : n ≡ 1 = grind (arith, nat_tests, h) in (omega (arith, one), λ two. absurd (omega (arith, one, two)))
 
 -- the run of a record with these numbers
-told_fits : (set : List Task) (v : Version) (fields : List (List ℕ)) (due : ℕ) (told : Event) (task : ℕ) (n : Numbers) → task_told set v fields told ≡ Some task → not (is_length told n.length) ≡ false → nat_lt 100000000 (due + n.length) ≡ false → MayStandBehind set due (run_told told task n)
-told_fits set v fields due (event.Release kept) task n named length short = record { is_run = tt; task = found (field fields (task_place v)) set task named; short = grind (arith, nat_tests, short) }
-told_fits set v fields due (event.Tick how) task n named length short = record { is_run = ticks_are (job_with task n.count) how n.length length; task = found (field fields (task_place v)) set task named; short = grind (arith, nat_tests, short) }
-told_fits set v fields due event.Idle task n named length short = record { is_run = grind (arith, nat_tests, length); task = tt; short = grind (arith, nat_tests, short) }
+told_is : (set : List Task) (v : Version) (fields : List (List ℕ)) (told : Event) (task : ℕ) (n : Numbers) → task_told set v fields told ≡ Some task
+    → not (is_length told n.length) ≡ false
+    → IsRun (run_told told task n) × IsRunOfSet set (run_told told task n) × (length_of (run_told told task n) ≤ n.length)
+told_is set v fields (event.Release kept) task n named length = (tt, found (field fields (task_place v)) set task named, omega arith)
+told_is set v fields (event.Tick how) task n named length =
+    (ticks_are (job_with task n.count) how n.length length, found (field fields (task_place v)) set task named, omega arith)
+told_is set v fields event.Idle task n named length = (grind (arith, nat_tests, length), tt, omega arith)
 
--- what is read on from the numbers, and from what the record tells
-abbrev from_numbers : ℕ → Event → ℕ → Numbers → Result Run TraceCause
-from_numbers due told task n =
-    cond (not (n.tick == due)) (Err WrongTick) (cond (not (is_length told n.length)) (Err BadLength) (cond (nat_lt 100000000 (due + n.length)) (Err TooManyTicks) (Ok (run_told told task n))))
+-- what is read on is read from a value that is there, and where no test refuses
+from_some : {A : Type 0} (x : Option A) (cause : TraceCause) (more : A → Result Run TraceCause) (q : Run) → given x cause more ≡ Ok q
+    → (y : A) × (x ≡ Some y) × (more y ≡ Ok q)
+from_some None cause more q h = absurd (cc)
+from_some (Some y) cause more q h = (y, refl, h)
 
-abbrev from_told : List Task → Version → ℕ → List (List ℕ) → Event → Result Run TraceCause
-from_told set v due fields told = given (task_told set v fields told) UnknownTask (λ task. given (numbers_told v fields told) BadNumber (from_numbers due told task))
-
-of_numbers : (set : List Task) (v : Version) (due : ℕ) (fields : List (List ℕ)) (told : Event) (task : ℕ) (n : Numbers) (q : Run) → task_told set v fields told ≡ Some task → from_numbers due told task n ≡ Ok q → MayStandBehind set due q
-of_numbers set v due fields told task n q named h = go (not (n.tick == due)) (not (is_length told n.length)) refl (nat_lt 100000000 (due + n.length)) refl h
-  where
-    go : (a b : Bool) → not (is_length told n.length) ≡ b → (c : Bool) → nat_lt 100000000 (due + n.length) ≡ c → cond a (Err WrongTick) (cond b (Err BadLength) (cond c (Err TooManyTicks) (Ok (run_told told task n)))) ≡ Ok q → MayStandBehind set due q
-    go true b length c short h = cc
-    go false true length c short h = cc
-    go false false length true short h = cc
-    go false false length false short h = let same : run_told told task n ≡ q = cc in subst (MayStandBehind set due) same (told_fits set v fields due told task n named length short)
-
-of_told : (set : List Task) (v : Version) (due : ℕ) (fields : List (List ℕ)) (told : Event) (q : Run) → from_told set v due fields told ≡ Ok q → MayStandBehind set due q
-of_told set v due fields told q h = go (task_told set v fields told) refl (numbers_told v fields told) h
-  where
-    go : (task : Option ℕ) → task_told set v fields told ≡ task → (n : Option Numbers) → given task UnknownTask (λ task. given n BadNumber (from_numbers due told task)) ≡ Ok q → MayStandBehind set due q
-    go None named n h = cc
-    go (Some task) named None h = cc
-    go (Some task) named (Some n) h = of_numbers set v due fields told task n q named h
+not_refused : (refuses : Bool) (cause : TraceCause) (more : Result Run TraceCause) (q : Run) → cond refuses (Err cause) more ≡ Ok q → (refuses ≡ false) × (more ≡ Ok q)
+not_refused true cause more q h = absurd (cc)
+not_refused false cause more q h = (refl, h)
 
 -- the run of a record fits behind the runs before it
-pub of_record : (set : List Task) (v : Version) (before : List Run) (fields : List (List ℕ)) (q : Run) → record_run set v before fields ≡ Ok q → (length before < 2000000) × MayStandBehind set (total length_of before) q
+pub of_record : (set : List Task) (v : Version) (before : List Run) (fields : List (List ℕ)) (q : Run) → record_run set v before fields ≡ Ok q
+    → (length before < 2000000) × MayStandBehind set (total length_of before) q
 unfolding record_run
-of_record set v before fields q h = go (nat_le 2000000 (length before)) refl (not (length fields == width v)) (event_of v fields) h
-  where
-    go : (many : Bool) → nat_le 2000000 (length before) ≡ many → (wide : Bool) → (told : Option Event) → cond many (Err TooMany) (cond wide (Err (wrong_width v)) (given told UnknownEvent (from_told set v (total length_of before) fields))) ≡ Ok q
-        → (length before < 2000000) × MayStandBehind set (total length_of before) q
-    go true few wide told h = cc
-    go false few true told h = cc
-    go false few false None h = cc
-    go false few false (Some told) h = (grind (arith, nat_tests, few), of_told set v (total length_of before) fields told q h)
+of_record set v before fields q h =
+    let few = not_refused (nat_le 2000000 (length before)) TooMany _ q h in
+    let wide = not_refused (not (length fields == width v)) (wrong_width v) _ q few.1 in
+    let told = from_some (event_of v fields) UnknownEvent _ q wide.1 in
+    let task = from_some (task_told set v fields told.0) UnknownTask _ q told.2 in
+    let n = from_some (numbers_told v fields told.0) BadNumber _ q task.2 in
+    let tick = not_refused (not (n.0.tick == total length_of before)) WrongTick _ q n.2 in
+    let taken = not_refused (not (is_length told.0 n.0.length)) BadLength _ q tick.1 in
+    let short = not_refused (nat_lt 100000000 (total length_of before + n.0.length)) TooManyTicks _ q taken.1 in
+    let same : run_told told.0 task.0 n.0 ≡ q = cc in
+    let is = told_is set v fields told.0 task.0 n.0 task.1 taken.0 in
+    let fits : MayStandBehind set (total length_of before) (run_told told.0 task.0 n.0) =
+    record { is_run = is.0; task = is.1; short = grind (arith, nat_tests, short.0, is.2) } in
+    (grind (arith, nat_tests, few.0), subst (MayStandBehind set (total length_of before)) same fits)
 
 -- valid runs of the set
-record AreOf (set : List Task) (runs : List Run) : Type 0 where
-  each : AllByRecursion IsRun runs
-  few : length runs ≤ 2000000
-  short : total length_of runs ≤ 100000000
-  tasks : AllByRecursion (IsRunOfSet set) runs
+abbrev AreOf : List Task → List Run → Type 0
+AreOf set runs = AreRuns runs × AllByRecursion (IsRunOfSet set) runs
 
-each_more : (P : Run → Type 0) (before : List Run) (r : Run) → AllByRecursion P before → P r → AllByRecursion P (before ++ r ∷ [])
-each_more P [] r h p = (p, tt)
-each_more P (b ∷ before) r h p = (h.0, each_more P before r h.1 p)
-
-one_more : (set : List Task) (before : List Run) (r : Run) → AreOf set before → length before < 2000000 → MayStandBehind set (total length_of before) r → AreOf set (before ++ r ∷ [])
-one_more set before r a few f = record {
-  each = each_more IsRun before r a.each f.is_run;
-  few = omega (arith, few, length-append before (r ∷ []));
-  short = let s = f.short in omega (arith, s, total-append length_of before (r ∷ []));
-  tasks = each_more (IsRunOfSet set) before r a.tasks f.task;
-}
+one_more : (set : List Task) (before : List Run) (r : Run) → AreOf set before → (length before < 2000000) × MayStandBehind set (total length_of before) r
+    → AreOf set (before ++ r ∷ [])
+one_more set before r a f = (
+  record {
+    each = All-push IsRun before r a.0.each f.1.is_run;
+    few = let few = f.0 in omega (arith, few, length-append before (r ∷ []));
+    short = let short = f.1.short in omega (arith, short, total-append length_of before (r ∷ []));
+  },
+  Each-append (IsRunOfSet set) before (r ∷ []) a.1 (f.1.task, tt),
+)
 
 -- by a header of either version
-of_row : (set : List Task) (first : List (List ℕ)) (means : Means Run TraceCause) → behind_header set first ≡ Some means → (before : List Run) (fields : List (List ℕ)) (r : Run) → AreOf set before → means before fields ≡ Ok r → AreOf set (before ++ r ∷ [])
+of_row : (set : List Task) (first : List (List ℕ)) (means : Means Run TraceCause) → behind_header set first ≡ Some means
+    → (before : List Run) (fields : List (List ℕ)) (r : Run) → AreOf set before → means before fields ≡ Ok r → AreOf set (before ++ r ∷ [])
 of_row set first means is before fields r a read = go (version_of first) is
   where
     go : (v : Option Version) → option_map (record_run set) v ≡ Some means → AreOf set (before ++ r ∷ [])
     go None h = cc
     go (Some v) h =
         let same : record_run set v ≡ means = cc in
-        let fits = of_record set v before fields r (ap (λ (m : Means Run TraceCause). m before fields) same ∙ read) in
-        one_more set before r a fits.0 fits.1
+        one_more set before r a (of_record set v before fields r (ap (λ (m : Means Run TraceCause). m before fields) same ∙ read))
+
+is_read : (read : Result (List Run) (Refusal TraceCause)) (runs : List Run) → or_fault At read ≡ Ok runs → read ≡ Ok runs
+is_read (Err refusal) runs h = cc
+is_read (Ok all) runs h = cc
 
 of_trace : (set : List Task) (text : List ℕ) (runs : List Run) → trace_file set text ≡ Ok runs → AreOf set runs
-of_trace set text runs h = by (rows_in (behind_header set) Header text) refl h
-  where
-    by : (read : Result (List Run) (Refusal TraceCause)) → rows_in (behind_header set) Header text ≡ read → or_fault At read ≡ Ok runs → AreOf set runs
-    by (Err refusal) is h = cc
-    by (Ok all) is h =
-        let same : all ≡ runs = cc in
-        subst (AreOf set) same (file_keeps (AreOf set) (behind_header set) Header (record { each = tt; few = omega arith; short = omega arith; tasks = tt }) (of_row set) (records default_config (strip_bom text)) all is)
+of_trace set text runs h =
+    let none : AreOf set [] = (record { each = All-nil IsRun; few = omega arith; short = omega arith }, tt) in
+    let read = is_read (rows_in (behind_header set) Header text) runs h in
+    file_keeps (AreOf set) (behind_header set) Header none (of_row set) (records default_config (strip_bom text)) runs read
 
 -- the runs of a trace that is read are valid
 pub valid_runs : (set : List Task) (text : List ℕ) (runs : List Run) → trace_file set text ≡ Ok runs → AreRuns runs
-valid_runs set text runs h =
-    let a = of_trace set text runs h in
-    record { each = All-from_recursion IsRun runs a.each; few = a.few; short = a.short }
+valid_runs set text runs h = (of_trace set text runs h).0
 
 -- and of the set
 pub runs_of_set : (set : List Task) (text : List ℕ) (runs : List Run) → trace_file set text ≡ Ok runs → AllByRecursion (IsRunOfSet set) runs
-runs_of_set set text runs h = (of_trace set text runs h).tasks
+runs_of_set set text runs h = (of_trace set text runs h).1

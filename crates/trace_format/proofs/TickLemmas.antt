@@ -13,9 +13,10 @@ pub total-one : (before : List Run) (r : Run) → total length_of (before ++ r �
 total-one before r = let more = total-append length_of before (r ∷ []) in omega (arith, more)
 
 -- the ticks of one run more
-pub ticks-more : (runs : List Run) (i t s : ℕ) (d : Run) → i < length runs → t ≡ total length_of (take i runs) → s ≡ t + length_of (get_or runs i d) → s ≡ total length_of (take (i + 1) runs)
+pub ticks-more : (runs : List Run) (i t s : ℕ) (d : Run) → i < length runs → t ≡ total length_of (take i runs) → s ≡ t + length_of (get_or runs i d)
+    → s ≡ total length_of (take (i + 1) runs)
 ticks-more runs i t s d inside was more =
-    let next : total length_of (take (i + 1) runs) ≡ total length_of (take i runs) + total length_of (get_or runs i d ∷ []) = ap (total length_of) (take_more runs i d inside) ∙ total-append length_of (take i runs) (get_or runs i d ∷ []) in
+    let next = ap (total length_of) (take_more runs i d inside) ∙ total-one (take i runs) (get_or runs i d) in
     omega (arith, was, more, next)
 
 -- are at most all
@@ -23,7 +24,7 @@ pub ticks-fit : (runs : List Run) (i t : ℕ) (d : Run) → i < length runs → 
 ticks-fit runs i t d inside v was =
     let short = v.short in
     let next = ticks-more runs i t (t + length_of (get_or runs i d)) d inside was (omega arith) in
-    let parts : total length_of runs ≡ total length_of (take (i + 1) runs) + total length_of (drop (i + 1) runs) = ap (total length_of) (sym (take-append-drop (i + 1) runs)) ∙ total-append length_of (take (i + 1) runs) (drop (i + 1) runs) in
+    let parts = ap (total length_of) (sym (take-append-drop (i + 1) runs)) ∙ total-append length_of (take (i + 1) runs) (drop (i + 1) runs) in
     omega (arith, short, next, parts)
 
 -- a text with the line of one run more
@@ -31,7 +32,4 @@ pub lines-more : (set : List Task) (runs : List Run) (i t s : ℕ) (d : Run) (ou
     → longer ≡ out ++ run_line set t (get_or runs i d) → out ++ lines_from set t (drop i runs) ≡ text
     → longer ++ lines_from set s (drop (i + 1) runs) ≡ text
 lines-more set runs i t s d out longer text inside ticks more h =
-    let next : lines_from set t (drop i runs) ≡ run_line set t (get_or runs i d) ++ lines_from set s (drop (i + 1) runs) =
-    at_drop_more (lines_from set t) runs i d inside ∙ ap (λ (n : ℕ). run_line set t (get_or runs i d) ++ lines_from set n (drop (i + 1) runs)) (sym ticks) in
-    ap (λ (o : List ℕ). o ++ lines_from set s (drop (i + 1) runs)) more
-    ∙ (append_assoc out (run_line set t (get_or runs i d)) (lines_from set s (drop (i + 1) runs)) ∙ (ap (λ (o : List ℕ). out ++ o) (sym next) ∙ h))
+    rw (more, append_assoc, ticks) (rw (at_drop_more (lines_from set t) runs i d inside) at h)

@@ -1,5 +1,6 @@
 -- The records of a written text give its runs.
-use Rattle.std.proofs.Common.{◌≡◌, ◌≢◌, ℕ, ◌+◌, ◌≤◌, ◌<◌, Bool, true, false, ◌==◌, nat_le, nat_lt, List, [], ◌∷◌, ◌++◌, Some, Ok, All, refl, sym, ap, ◌∙◌, arith, length, append_assoc}
+use Rattle.std.proofs.Common.{◌≡◌, ℕ, ◌+◌, ◌≤◌, ◌<◌, Bool, true, false, nat_le, nat_lt, List, [], ◌∷◌, ◌++◌, Some, Ok, All, refl, sym, ap, ◌∙◌, arith, length, append_assoc}
+use Rattle.std.proofs.lemmas.Bool.{lt-leb}
 use Rattle.std.proofs.lemmas.Bool.Decides.{nat_tests}
 use Rattle.std.proofs.lemmas.List.{append-nil, length-append}
 use Rattle.std.proofs.lemmas.List.Elements.{recursion_from_All}
@@ -24,18 +25,13 @@ use Rattle.trace_format.specs.TraceFile.{is_length, record_run, behind_header, t
 use Rattle.trace_format.specs.Writable.{IsWritable}
 use Rattle.trace_format.specs.declared.fault.TraceCause.TheVariants.{Header}
 use Rattle.trace_format.specs.declared.fault.TraceFault.TheVariants.{At}
-use Rattle.csv_records.specs.Rows.{rows_with, rows_from, rows_of, or_fault}
+use Rattle.csv_records.specs.Rows.{rows_from, rows_of, or_fault}
+use Rattle.mc_model.proofs.Booleans.{eqb-refl}
 use Rattle.mc_model.proofs.Runs.{alone}
 use Rattle.mc_task.proofs.NamedLemmas.{found_by_name}
 use Rattle.csv_records.proofs.RecordLemmas.{same_records, records_are}
 use Rattle.trace_format.proofs.LineLemmas.{run_fields, fields_from, header_fields, written_records}
 use Rattle.trace_format.proofs.TickLemmas.{total-one}
-
-same_tick : (n : ℕ) → (n == n) ≡ true
-same_tick n = grind (arith, nat_tests)
-
-few_runs : (n : ℕ) → n < 2000000 → nat_le 2000000 n ≡ false
-few_runs n h = grind (arith, nat_tests)
 
 few_ticks : (due n : ℕ) → due + n ≤ 100000000 → nat_lt 100000000 (due + n) ≡ false
 few_ticks due n h = grind (arith, nat_tests)
@@ -44,14 +40,11 @@ few_ticks due n h = grind (arith, nat_tests)
 some_ticks : (n : ℕ) → 1 ≤ n → nat_le 1 n ≡ true
 some_ticks n h = grind (arith, nat_tests)
 
-one_tick : (j : JobId) (how : How) (n : ℕ) → IsRun (Ticks j how n) → how ≢ More → (n == 1) ≡ true
-one_tick j how n v other = let one = alone j how n v other in grind (arith, nat_tests, one)
-
 ticks_taken : (j : JobId) (how : How) (n : ℕ) → IsRun (Ticks j how n) → is_length (event.Tick how) n ≡ true
 ticks_taken j More n v = some_ticks n v.0
-ticks_taken j Done n v = one_tick j Done n v (λ e. cc)
-ticks_taken j Stop n v = one_tick j Stop n v (λ e. cc)
-ticks_taken j Over n v = one_tick j Over n v (λ e. cc)
+ticks_taken j Done n v = let one = alone j Done n v (λ e. cc) in grind (arith, nat_tests, one)
+ticks_taken j Stop n v = let one = alone j Stop n v (λ e. cc) in grind (arith, nat_tests, one)
+ticks_taken j Over n v = let one = alone j Over n v (λ e. cc) in grind (arith, nat_tests, one)
 
 -- a word is read as what it stands for
 kept_read : (kept : Bool) → release_event (kept_word kept) ≡ Some (event.Release kept)
@@ -67,35 +60,42 @@ how_read Stop = refl
 how_read Over = refl
 
 -- a run is read from its fields
-record_back : (set : List Task) (before : List Run) (r : Run) → AreTasks set → length before < 2000000 → total length_of before + length_of r ≤ 100000000 → IsRun r → IsWritable set r
-    → record_run set Two before (run_fields set (total length_of before) r) ≡ Ok r
+record_back : (set : List Task) (before : List Run) (r : Run) → AreTasks set → length before < 2000000 → total length_of before + length_of r ≤ 100000000
+    → IsRun r → IsWritable set r → record_run set Two before (run_fields set (total length_of before) r) ≡ Ok r
 unfolding record_run field_at event_of idle_event
 record_back set before (Release j kept) s a h v w =
-    rw (few_runs (length before) a, kept_read kept, (found_by_name set j.task.0 s w.0).number, number-decimal (total length_of before) (omega (arith, h)), number-decimal j.count w.1, same_tick (total length_of before), few_ticks (total length_of before) 0 h) refl
+    let due = total length_of before in
+    let tick = number-decimal due (omega (arith, h)) in
+    let task = (found_by_name set j.task.0 s w.0).number in
+    rw (lt-leb 2000000 (length before) a, kept_read kept, task, tick, number-decimal j.count w.1, eqb-refl due, few_ticks due 0 h) refl
 record_back set before (Ticks j how n) s a h v w =
-    rw (few_runs (length before) a, how_read how, (found_by_name set j.task.0 s w.0).number, number-decimal (total length_of before) (omega (arith, h)), number-decimal n (omega (arith, h)), number-decimal j.count w.1, same_tick (total length_of before), ticks_taken j how n v, few_ticks (total length_of before) n h) refl
+    let due = total length_of before in
+    let tick = number-decimal due (omega (arith, h)) in
+    let task = (found_by_name set j.task.0 s w.0).number in
+    let ticks = number-decimal n (omega (arith, h)) in
+    rw (lt-leb 2000000 (length before) a, how_read how, task, tick, ticks, number-decimal j.count w.1, eqb-refl due, ticks_taken j how n v, few_ticks due n h) refl
 record_back set before (Idles n) s a h v w =
-    rw (few_runs (length before) a, number-decimal (total length_of before) (omega (arith, h)), number-decimal n (omega (arith, h)), same_tick (total length_of before), some_ticks n v, few_ticks (total length_of before) n h) refl
+    let due = total length_of before in
+    let tick = number-decimal due (omega (arith, h)) in
+    rw (lt-leb 2000000 (length before) a, tick, number-decimal n (omega (arith, h)), eqb-refl due, some_ticks n v, few_ticks due n h) refl
 
-runs_back : (set : List Task) (before runs : List Run) → AreTasks set → length before + length runs ≤ 2000000 → total length_of before + total length_of runs ≤ 100000000 → AllByRecursion IsRun runs → AllByRecursion (IsWritable set) runs
+runs_back : (set : List Task) (before runs : List Run) → AreTasks set → length before + length runs ≤ 2000000
+    → total length_of before + total length_of runs ≤ 100000000 → AllByRecursion IsRun runs → AllByRecursion (IsWritable set) runs
     → rows_from (record_run set Two) (fields_from set (total length_of before) runs) before ≡ Ok (before ++ runs)
 runs_back set before [] s a h v w = ap Ok (sym (append-nil before))
 runs_back set before (r ∷ runs) s a h v w =
     let more = total-one before r in
     let longer : length (before ++ r ∷ []) ≡ length before + 1 = length-append before (r ∷ []) in
-    let rest : rows_from (record_run set Two) (fields_from set (total length_of before + length_of r) runs) (before ++ r ∷ []) ≡ Ok ((before ++ r ∷ []) ++ runs) =
-    ap (λ (n : ℕ). rows_from (record_run set Two) (fields_from set n runs) (before ++ r ∷ [])) (sym more) ∙ runs_back set (before ++ r ∷ []) runs s (omega (arith, longer, a)) (omega (arith, more, h)) v.1 w.1 in
-    ap (rows_with before (rows_from (record_run set Two) (fields_from set (total length_of before + length_of r) runs))) (record_back set before r s (omega (arith, a)) (omega (arith, h)) v.0 w.0)
-    ∙ (rest ∙ ap Ok (append_assoc before (r ∷ []) runs))
-
-file_back : (set : List Task) (runs : List Run) → AreTasks set → AreRuns runs → AllByRecursion (IsWritable set) runs → rows_of (behind_header set) Header (header_fields ∷ fields_from set 0 runs) ≡ Ok runs
-unfolding field_at
-file_back set runs s v w = let few = v.few in let short = v.short in runs_back set [] runs s (omega (arith, few)) (omega (arith, short)) (recursion_from_All IsRun runs v.each) w
+    let rest = runs_back set (before ++ r ∷ []) runs s (omega (arith, longer, a)) (omega (arith, more, h)) v.1 w.1 in
+    rw (record_back set before r s (omega (arith, a)) (omega (arith, h)) v.0 w.0) (rw (more, append_assoc) at rest)
 
 -- what is written is read as its runs
-pub read_back : (set : List Task) (runs : List Run) (text : List ℕ) → AreTasks set → AreRuns runs → All (IsWritable set) runs → text ≡ runs_text set runs → trace_file set text ≡ Ok runs
+pub read_back : (set : List Task) (runs : List Run) (text : List ℕ) → AreTasks set → AreRuns runs → All (IsWritable set) runs → text ≡ runs_text set runs
+    → trace_file set text ≡ Ok runs
+unfolding field_at
 read_back set runs text s v writable is =
     let w : AllByRecursion (IsWritable set) runs = recursion_from_All (IsWritable set) runs writable in
     let written = written_records set runs s v.short w in
-    let same = same_records _ _ (records default_config (strip_bom (runs_text set runs))) (header_fields ∷ fields_from set 0 runs) (records_are (strip_bom (runs_text set runs))) written in
-    ap (trace_file set) is ∙ ap (or_fault At) (ap (rows_of (behind_header set) Header) same ∙ file_back set runs s v w)
+    let same = same_records _ _ (records default_config (strip_bom (runs_text set runs))) (header_fields ∷ fields_from set 0 runs) (records_are _) written in
+    let back = runs_back set [] runs s (omega (arith, v.few)) (omega (arith, v.short)) (recursion_from_All IsRun runs v.each) w in
+    ap (trace_file set) is ∙ ap (or_fault At) (ap (rows_of (behind_header set) Header) same ∙ back)

@@ -8,7 +8,7 @@ use Rattle.mc_task.specs.declared.task.JobId.{JobId}
 use Rattle.mc_task.specs.Faults.{named}
 use Rattle.mc_model.specs.Sums.{total}
 use Rattle.mc_model.specs.Runs.{length_of}
-use Rattle.mc_model.specs.declared.row.How.TheVariants.{More, Done, Stop, Over}
+use Rattle.mc_model.specs.declared.row.How.TheVariants.{More}
 use Rattle.mc_model.specs.declared.run.Run.{Run}
 use Rattle.mc_model.specs.declared.run.Run.TheVariants as run
 use Rattle.trace_format.specs.declared.version.Version.{Version}
@@ -60,16 +60,13 @@ length_in Two fields = number (field fields 2)
 
 -- the task of a release or a tick; 0, which is the number of no task, where the record is idle
 abbrev pub task_told : List Task → Version → List (List ℕ) → Event → Option ℕ
-task_told set v fields (event.Release kept) = named (field fields (task_place v)) set
-task_told set v fields (event.Tick how) = named (field fields (task_place v)) set
 task_told set v fields event.Idle = Some 0
+task_told set v fields _ = named (field fields (task_place v)) set
 
 -- a tick, a length and a count, where each of them is a number
 abbrev pub all_numbers : Option ℕ → Option ℕ → Option ℕ → Option Numbers
-all_numbers None length count = None
-all_numbers (Some tick) None count = None
-all_numbers (Some tick) (Some length) None = None
 all_numbers (Some tick) (Some length) (Some count) = Some (record { tick = tick; length = length; count = count })
+all_numbers _ _ _ = None
 
 -- those of a record: a release has no ticks, and an idle record no job
 abbrev pub numbers_told : Version → List (List ℕ) → Event → Option Numbers
@@ -82,9 +79,7 @@ numbers_told v fields event.Idle = all_numbers (number (field fields 1)) (length
 abbrev pub is_length : Event → ℕ → Bool
 is_length (event.Release kept) n = true
 is_length (event.Tick More) n = nat_le 1 n
-is_length (event.Tick Done) n = n == 1
-is_length (event.Tick Stop) n = n == 1
-is_length (event.Tick Over) n = n == 1
+is_length (event.Tick _) n = n == 1
 is_length event.Idle n = nat_le 1 n
 
 -- the job with this count of a task

@@ -1,24 +1,24 @@
 -- What does not fit in a row, from what is kept of the rows before it.
-use Rattle.std.proofs.Common.{[], ◌≡◌, ℕ, ◌+◌, ◌≤◌, Bool, true, false, not, ◌&&◌, ◌||◌, List, ◌∷◌, cond, map, refl, sym, ap, ◌∙◌, arith, zero, suc, ◌≢◌, ◌==◌, nat_lt, nat_le, Option, Some, None, subst, slice_get, slice_index_or, length, ◌-◌}
+use Rattle.std.proofs.Common.{[], ◌≡◌, ℕ, ◌+◌, ◌≤◌, Bool, true, false, not, ◌&&◌, ◌||◌, List, ◌∷◌, cond, map, refl, sym, ap, ◌∙◌, arith, ◌≢◌, ◌==◌, nat_lt, nat_le, Option, Some, None, length, ◌-◌}
 use Rattle.std.proofs.lemmas.Bool.Decides.{nat_tests}
-use Rattle.std.proofs.lemmas.Option.{same_Some}
-use Rattle.std.specs.List.{list_all}
+use Rattle.std.proofs.lemmas.Option.{get_or_from_slice_get}
+use Rattle.std.specs.List.{list_any, list_all}
 use Rattle.std.specs.Prelude.{find}
 use Rattle.mc_task.specs.declared.task.JobId.{JobId}
 use Rattle.mc_task.specs.declared.task.Rule.{Rule}
 use Rattle.mc_task.specs.declared.task.Task.{Task}
 use Rattle.mc_task.specs.TaskSet.{task_at}
 use Rattle.mc_model.specs.declared.row.How.{How}
-use Rattle.mc_model.specs.declared.row.How.TheVariants.{More, Stop, Over}
+use Rattle.mc_model.specs.declared.row.How.TheVariants.{Over}
 use Rattle.mc_model.specs.declared.row.Row.{Row}
 use Rattle.mc_model.specs.declared.row.Row.TheVariants.{Release, Tick, Idle}
 use Rattle.mc_model.specs.declared.verdict.Why.TheVariants.{NotPending, NotLeast, WrongHow, IdlePending}
-use Rattle.mc_model.specs.TaskNumbers.{is_high_in, period_in, own_in, low_in}
+use Rattle.mc_model.specs.TaskNumbers.{period_in}
 use Rattle.mc_model.specs.Rows.{same_job, ticks, used, releases, next_release, is_too_soon}
 use Rattle.mc_task.specs.Kinds.{is_virtual}
 use Rattle.mc_model.specs.Mode.{high_mode}
 use Rattle.mc_model.specs.Key.{key}
-use Rattle.mc_model.specs.Legal.{Legal, is_pending, is_least, is_empty, none_below, fault, fault_among, first_of_parts, same_how}
+use Rattle.mc_model.specs.Legal.{Legal, is_pending, is_least, is_empty, none_below, fault, fault_among, first_of_parts}
 use Rattle.mc_model.proofs.Jobs.{job_eq}
 use Rattle.mc_model.specs.Sums.{total, when}
 use Rattle.trace_judge.specs.declared.waiting.Pending.{Pending}
@@ -31,46 +31,26 @@ use Rattle.trace_judge.specs.Rules.{allows}
 use Rattle.trace_judge.specs.Tracks.{Tracks, entry_of}
 use Rattle.trace_judge.specs.declared.waiting.Standing.TheVariants as standing
 use Rattle.mc_model.proofs.Sums.{one, total-one}
-use Rattle.trace_judge.proofs.Same.{list_any-same, list_all-true, list_any-map, list_all-map, same_any, same_all}
-use Rattle.trace_judge.proofs.Entries.{found_passes, found_pending, least_in, found_least, not_least}
+use Rattle.trace_judge.proofs.Same.{list_all-true, list_any-map, list_all-map, same_any, same_all}
+use Rattle.trace_judge.proofs.Firsts.{found_passes, found_any, found_both, one_fails}
 use Rattle.trace_judge.proofs.Placed.{live_of, pending_is, one_waiting}
 
 -- each entry has a job of its own
 pub apart : (set : List Task) (rule : Rule) (g : List Row) (s : State) → Legal set rule g → Tracks set rule g s → (i : JobId) → total (when (is_of i) one) s.waiting.entries ≤ 1
 apart set rule g s l t i =
-    let a : total (when (λ (x : Placed). same_job i x.live.job) one) (waiting set g) ≤ 1 = one_waiting set rule g l i in
-    let b : total (when (is_of i) one) s.waiting.entries ≡ total (when (λ (x : Placed). same_job i x.live.job) one) (waiting set g) = t.waiting (when (is_of i) one) in
-    omega (arith, a, b)
+    omega (arith, one_waiting set rule g l i, t.waiting (when (is_of i) one))
 
 -- too soon is before the next release that is allowed
 next_le : (set : List Task) (g : List Row) (k : ℕ) → next_release set g k ≤ ticks g + period_in (task_at set k)
 next_le set [] k = omega arith
-next_le set (Tick j how ∷ g) k = let ih : next_release set g k ≤ ticks g + period_in (task_at set k) = next_le set g k in omega arith
-next_le set (Idle ∷ g) k = let ih : next_release set g k ≤ ticks g + period_in (task_at set k) = next_le set g k in omega arith
-next_le set (Release j kept ∷ g) k =
-    let ih : next_release set g k ≤ ticks g + period_in (task_at set k) = next_le set g k in
-    elim (j.task.0 == k) as (λ b. cond b (ticks g + period_in (task_at set k)) (next_release set g k) ≤ ticks g + period_in (task_at set k)) [ true ↦ omega arith | false ↦ omega arith ]
+next_le set (Release j kept ∷ g) k = grind (arith, next_le set g k)
+next_le set (row ∷ g) k = omega (arith, next_le set g k)
 
 -- a release is too soon where the boundary is below the next one that is allowed
 pub too_soon_is : (set : List Task) (now : ℕ) (g : List Row) (k : ℕ) → is_too_soon set now g k ≡ nat_lt now (next_release set g k)
 too_soon_is set now [] k = grind (arith, nat_tests)
-too_soon_is set now (Tick j how ∷ g) k = too_soon_is set now g k
-too_soon_is set now (Idle ∷ g) k = too_soon_is set now g k
-too_soon_is set now (Release j kept ∷ g) k = go (j.task.0 == k) (too_soon_is set now g k) (next_le set g k)
-  where
-    tests : (now a b : ℕ) → b ≤ a → (nat_lt now a || nat_lt now b) ≡ nat_lt now a
-    tests now a b h = grind (arith, nat_tests)
-
-    go : (b : Bool) → is_too_soon set now g k ≡ nat_lt now (next_release set g k) → next_release set g k ≤ ticks g + period_in (task_at set k) →
-        ((b && nat_lt now (ticks g + period_in (task_at set k))) || is_too_soon set now g k) ≡ nat_lt now (cond b (ticks g + period_in (task_at set k)) (next_release set g k))
-    go true ih le = ap (λ c. nat_lt now (ticks g + period_in (task_at set k)) || c) ih ∙ tests now _ _ le
-    go false ih le = ih
-
--- the element at an index
-pub got : {X : Type 0} (xs : List X) (i : ℕ) (v d : X) → slice_get xs i ≡ Some v → slice_index_or xs i d ≡ v
-got [] i v d h = cc
-got (x ∷ xs) zero v d h = same_Some x v h
-got (x ∷ xs) (suc i) v d h = got xs i v d h
+too_soon_is set now (Release j kept ∷ g) k = grind (arith, nat_tests, too_soon_is set now g k, next_le set g k)
+too_soon_is set now (row ∷ g) k = too_soon_is set now g k
 
 -- before the first release
 abbrev none_yet : TaskNote
@@ -80,8 +60,7 @@ none_yet = record { releases = 0; next = 0 }
 note_is : (set : List Task) (rule : Rule) (g : List Row) (s : State) (k : ℕ) → Tracks set rule g s → 1 ≤ k → k ≤ length set → note_at s.tasks.items k ≡ record { releases = releases g k; next = next_release set g k }
 note_is set rule g s k t a b =
     let e : k - 1 + 1 ≡ k = omega arith in
-    let h : slice_get s.tasks.items (k - 1) ≡ Some (record { releases = releases g (k - 1 + 1); next = next_release set g (k - 1 + 1) }) = t.tasks (k - 1) (omega arith) in
-    got s.tasks.items (k - 1) _ none_yet (subst (λ (m : ℕ). slice_get s.tasks.items (k - 1) ≡ Some (record { releases = releases g m; next = next_release set g m })) e h)
+    get_or_from_slice_get s.tasks.items (k - 1) _ none_yet (rw e at (t.tasks (k - 1) (omega arith)))
 
 -- the first part of a release that does not fit
 pub release_fault : (set : List Task) (rule : Rule) (g : List Row) (s : State) (j : JobId) (kept : Bool) (task : Task) → Tracks set rule g s → 1 ≤ j.task.0 → j.task.0 ≤ length set → task_at set j.task.0 ≡ Some task →
@@ -89,10 +68,23 @@ pub release_fault : (set : List Task) (rule : Rule) (g : List Row) (s : State) (
 release_fault set rule g s j kept task t a b at =
     rw (note_is set rule g s j.task.0 t a b, t.ticks, t.mode, at, too_soon_is set (ticks g) g j.task.0) refl
 
+-- the job has an entry, and no entry has a lesser key
+abbrev pub least_in : List Entry → JobId → Bool
+least_in es j = list_any (λ e. is_of j e && list_all (λ o. nat_le e.0.0 o.0.0) es) es
+
+-- so it is where it is found at a key that none is below
+pub found_least : (j : JobId) (e : Entry) (es : List Entry) → list_all (λ (o : Entry). nat_le e.0.0 o.0.0) es ≡ true → find (is_of j) es ≡ Some e → least_in es j ≡ true
+found_least j e es = found_both (is_of j) (λ (x : Entry). list_all (λ (o : Entry). nat_le x.0.0 o.0.0) es) e es
+
+-- and not where it is found at one that some is below, the only entry of its job
+pub not_least : (j : JobId) (e : Entry) (es : List Entry) → total (when (is_of j) one) es ≤ 1 → list_all (λ (o : Entry). nat_le e.0.0 o.0.0) es ≡ false → find (is_of j) es ≡ Some e → least_in es j ≡ false
+not_least j e es = one_fails (is_of j) (λ (x : Entry). list_all (λ (o : Entry). nat_le x.0.0 o.0.0) es) e es
+
 -- the tests of a tick's job among the pending jobs are those among the entries
 pub pending_same : (set : List Task) (rule : Rule) (g : List Row) (s : State) (j : JobId) → Tracks set rule g s → is_pending (map live_of (waiting set g)) j ≡ pending_in s.waiting.entries j
 pending_same set rule g s j t =
-    list_any-map (λ i. same_job j i.job) live_of (waiting set g) ∙ sym (same_any s.waiting.entries (entry_of set rule g) (waiting set g) t.waiting (is_of j))
+    list_any-map (λ i. same_job j i.job) live_of (λ x. same_job j x.live.job) (λ x. refl) (waiting set g)
+    ∙ sym (same_any s.waiting.entries (entry_of set rule g) (waiting set g) t.waiting (is_of j))
 
 -- and so is the test of the least key
 pub least_same : (set : List Task) (rule : Rule) (g : List Row) (s : State) (j : JobId) → Tracks set rule g s → is_least set rule (high_mode rule g) (map live_of (waiting set g)) j ≡ least_in s.waiting.entries j
@@ -100,41 +92,30 @@ least_same set rule g s j t =
     let es : List Entry = s.waiting.entries in
     let ws : List Placed = waiting set g in
     let hi : Bool = high_mode rule g in
-    list_any-map (λ i. same_job j i.job && none_below set rule hi (key set rule hi i) (map live_of ws)) live_of ws
-    ∙ (list_any-same (λ x. same_job j x.live.job && none_below set rule hi (key set rule hi x.live) (map live_of ws)) (λ x. same_job j x.live.job && list_all (λ (o : Entry). nat_le (key set rule hi x.live) o.0.0) es)
+    list_any-map (λ i. same_job j i.job && none_below set rule hi (key set rule hi i) (map live_of ws)) live_of
+    (λ x. same_job j x.live.job && list_all (λ (o : Entry). nat_le (key set rule hi x.live) o.0.0) es)
     (λ x. ap (λ b. same_job j x.live.job && b)
     (list_all-map (λ i. nat_le (key set rule hi x.live) (key set rule hi i)) live_of ws
     ∙ sym (same_all es (entry_of set rule g) ws t.waiting (λ (o : Entry). nat_le (key set rule hi x.live) o.0.0)))) ws
-    ∙ sym (same_any es (entry_of set rule g) ws t.waiting (λ (e : Entry). is_of j e && list_all (λ (o : Entry). nat_le e.0.0 o.0.0) es)))
+    ∙ sym (same_any es (entry_of set rule g) ws t.waiting (λ (e : Entry). is_of j e && list_all (λ (o : Entry). nat_le e.0.0 o.0.0) es))
 
 -- the fault of a tick, by those tests
 pub tick_fault : (set : List Task) (rule : Rule) (g : List Row) (s : State) (j : JobId) (how : How) → Legal set rule g → Tracks set rule g s →
     fault set rule (Tick j how) g ≡ first_of_parts ((pending_in s.waiting.entries j, NotPending) ∷ (least_in s.waiting.entries j, NotLeast) ∷ (allows rule (high_mode rule g) (task_at set j.task.0) (used g j + 1) how, WrongHow) ∷ [])
 tick_fault set rule g s j how l t =
-    let a = pending_is set rule g l in
-    let b = pending_same set rule g s j t in
-    let c = least_same set rule g s j t in
-    ap (λ now. fault_among set rule now (Tick j how) g) a
-    ∙ (ap (λ x. first_of_parts ((x, NotPending) ∷ (is_least set rule (high_mode rule g) (map live_of (waiting set g)) j, NotLeast) ∷ (allows rule (high_mode rule g) (task_at set j.task.0) (used g j + 1) how, WrongHow) ∷ [])) b
-    ∙ ap (λ x. first_of_parts ((pending_in s.waiting.entries j, NotPending) ∷ (x, NotLeast) ∷ (allows rule (high_mode rule g) (task_at set j.task.0) (used g j + 1) how, WrongHow) ∷ [])) c)
+    rw (pending_is set rule g l, pending_same set rule g s j t, least_same set rule g s j t) refl
 
 -- the ticks that an entry's job has used
 pub found_used : (set : List Task) (rule : Rule) (g : List Row) (s : State) (j : JobId) (k : ℕ) (p : Pending) → Tracks set rule g s → find (is_of j) s.waiting.entries ≡ Some ((k, j.task.0, j.count), p) → p.used ≡ used g j
 found_used set rule g s j k p t h =
     let q : Entry → Bool = λ e. not (is_of j e) || (e.1.used == used g j) in
-    let all : list_all q s.waiting.entries ≡ true = same_all s.waiting.entries (entry_of set rule g) (waiting set g) t.waiting q ∙ list_all-true (λ (x : Placed). q (entry_of set rule g x)) (λ x. each x.live.job (same_job j x.live.job) refl) (waiting set g) in
+    let all : list_all q s.waiting.entries ≡ true = same_all s.waiting.entries (entry_of set rule g) (waiting set g) t.waiting q
+    ∙ list_all-true (λ (x : Placed). q (entry_of set rule g x)) each (waiting set g) in
     let r : (not (is_of j ((k, j.task.0, j.count), p)) || (p.used == used g j)) ≡ true = found_passes q (is_of j) ((k, j.task.0, j.count), p) s.waiting.entries all h in
-    last (j.task.0) (j.count) p.used (used g j) r
+    grind (arith, nat_tests)
   where
-    each : (i : JobId) (b : Bool) → same_job j i ≡ b → (not b || (used g i == used g j)) ≡ true
-    each i true m = subst (λ (x : JobId). (used g x == used g j) ≡ true) (job_eq j i m) (eq_refl (used g j))
-      where
-        eq_refl : (n : ℕ) → (n == n) ≡ true
-        eq_refl n = grind (arith, nat_tests)
-    each i false m = refl
-
-    last : (a b m n : ℕ) → (not ((a == a) && (b == b)) || (m == n)) ≡ true → m ≡ n
-    last a b m n h = grind (arith, nat_tests)
+    each : (x : Placed) → (not (is_of j (entry_of set rule g x)) || (used g x.live.job == used g j)) ≡ true
+    each x = let same : same_job j x.live.job ≡ true → used g x.live.job ≡ used g j = λ m. ap (used g) (sym (job_eq j x.live.job m)) in grind (arith, nat_tests, same)
 
 -- the three faults of a tick
 pub stands_not_pending : (set : List Task) (rule : Rule) (g : List Row) (s : State) (j : JobId) (how : How) → Legal set rule g → Tracks set rule g s → Stands s.waiting.entries j standing.NotPending → Some NotPending ≡ fault set rule (Tick j how) g
@@ -143,7 +124,7 @@ stands_not_pending set rule g s j how l t h = sym (tick_fault set rule g s j how
 -- of a job that is not at the least key
 pub stands_not_least : (set : List Task) (rule : Rule) (g : List Row) (s : State) (j : JobId) (how : How) → Legal set rule g → Tracks set rule g s → Stands s.waiting.entries j standing.NotLeast → Some NotLeast ≡ fault set rule (Tick j how) g
 stands_not_least set rule g s j how l t h =
-    let a = found_pending j h.0 s.waiting.entries h.1 in
+    let a = found_any (is_of j) h.0 s.waiting.entries h.1 in
     let b = not_least j h.0 s.waiting.entries (apart set rule g s l t j) h.2 h.1 in
     sym (tick_fault set rule g s j how l t ∙ rw (a, b) refl)
 
@@ -152,22 +133,9 @@ pub stands_least : (set : List Task) (rule : Rule) (g : List Row) (s : State) (j
     fault set rule (Tick j how) g ≡ cond (allows rule s.high_mode (task_at set j.task.0) (p.used + 1) how) None (Some WrongHow)
 stands_least set rule g s j how p l t h =
     let e : Entry = ((h.0, j.task.0, j.count), p) in
-    let a = found_pending j e s.waiting.entries h.1 in
+    let a = found_any (is_of j) e s.waiting.entries h.1 in
     let b = found_least j e s.waiting.entries h.2 h.1 in
     tick_fault set rule g s j how l t ∙ rw (a, b, t.mode, found_used set rule g s j h.0 p t h.1) refl
-
--- the fault of an idle row, by what waits
-idle_is : (set : List Task) (rule : Rule) (g : List Row) → Legal set rule g → fault set rule Idle g ≡ first_of_parts ((is_empty (map live_of (waiting set g)), IdlePending) ∷ [])
-idle_is set rule g l = ap (λ now. fault_among set rule now Idle g) (pending_is set rule g l)
-
--- nothing waits
-pub empty_at : (ws : List Placed) → length ws ≡ 0 → is_empty (map live_of ws) ≡ true
-empty_at [] h = refl
-empty_at (x ∷ ws) h = absurd (omega arith)
-
-pub nothing_at : (ws : List Placed) → length ws ≡ 0 → ws ≡ []
-nothing_at [] h = refl
-nothing_at (x ∷ ws) h = absurd (omega arith)
 
 -- something waits
 not_empty_at : (ws : List Placed) → length ws ≢ 0 → is_empty (map live_of ws) ≡ false
@@ -180,14 +148,9 @@ same_length set rule g s t = sym (total-one s.waiting.entries) ∙ (t.waiting on
 
 -- an idle row that does not fit
 pub idle_some : (set : List Task) (rule : Rule) (g : List Row) (s : State) → Legal set rule g → Tracks set rule g s → length s.waiting.entries ≢ 0 → Some IdlePending ≡ fault set rule Idle g
-idle_some set rule g s l t h = sym (idle_is set rule g l ∙ rw (not_empty_at (waiting set g) (λ e. h (same_length set rule g s t ∙ e))) refl)
+idle_some set rule g s l t h =
+    sym (ap (λ now. fault_among set rule now Idle g) (pending_is set rule g l) ∙ rw (not_empty_at (waiting set g) (λ e. h (same_length set rule g s t ∙ e))) refl)
 
 -- what an Over that is allowed tells of the rule
 pub over_virtual : (rule : Rule) (high : Bool) (t : Option Task) (u : ℕ) → allows rule high t u Over ≡ true → is_virtual rule ≡ true
-over_virtual rule high t u h = go (u == own_in t) (is_high_in t) (is_virtual rule) (not high) (u == low_in t) h
-  where
-    go : (a b v d e : Bool) → same_how Over (cond a Stop (cond (((b && v) && d) && e) Over More)) ≡ true → v ≡ true
-    go a b true d e h = refl
-    go true b false d e h = cc
-    go false true false d e h = cc
-    go false false false d e h = cc
+over_virtual rule high t u h = grind arith

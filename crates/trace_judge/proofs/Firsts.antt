@@ -1,112 +1,133 @@
 -- The first element of a list that passes a test.
-use Rattle.std.proofs.Common.{◌≡◌, ℕ, suc, arith, ◌+◌, ◌<◌, Bool, true, false, ◌||◌, cond, List, [], ◌∷◌, ◌++◌, Some, None, length, take, drop, set, map, get_or, refl, sym, ap, ◌∙◌}
+use Rattle.std.proofs.Common.{◌≡◌, ℕ, suc, ◌<◌, ◌≤◌, Bool, true, false, ◌&&◌, cond, List, [], ◌∷◌, ◌++◌, Some, None, length, take, drop, set, map, get_or, refl, sym, ap, ◌∙◌, arith, append_assoc}
 use Rattle.std.specs.Prelude.{find}
-use Rattle.std.specs.List.{list_any, remove}
-use Rattle.std.proofs.lemmas.List.{take-append-drop, drop_more, set_split}
-use Rattle.std.proofs.lemmas.Option.{same_Some}
-use Rattle.mc_model.proofs.Booleans.{or_left, or_right}
-use Rattle.trace_judge.specs.Firsts.{change_first, remove_first, IsFirstAt}
+use Rattle.std.specs.List.{list_any, list_all, remove}
+use Rattle.std.proofs.lemmas.Bool.{and_parts}
+use Rattle.std.proofs.lemmas.List.{set_split, set-get_or, map-append}
+use Rattle.mc_model.specs.Sums.{total, when}
+use Rattle.mc_model.proofs.Sums.{one}
+use Rattle.trace_judge.specs.Firsts.{edit_first, change_first, remove_first, IsFirstAt}
 
 -- behind elements that fail
 
 pub find_behind : {X : Type 0} (p : X → Bool) (xs ys : List X) → list_any p xs ≡ false → find p (xs ++ ys) ≡ find p ys
 find_behind p [] ys h = refl
-find_behind p (x ∷ xs) ys h = rw (or_left (p x) (list_any p xs) h) (find_behind p xs ys (or_right (p x) (list_any p xs) h))
+find_behind p (x ∷ xs) ys h = grind (arith, find_behind p xs ys)
 
-pub change_behind : {X : Type 0} (p : X → Bool) (f : X → X) (xs ys : List X) → list_any p xs ≡ false → change_first p f (xs ++ ys) ≡ xs ++ change_first p f ys
-change_behind p f [] ys h = refl
-change_behind p f (x ∷ xs) ys h = rw (or_left (p x) (list_any p xs) h) (ap (λ zs. x ∷ zs) (change_behind p f xs ys (or_right (p x) (list_any p xs) h)))
-
-pub remove_behind : {X : Type 0} (p : X → Bool) (xs ys : List X) → list_any p xs ≡ false → remove_first p (xs ++ ys) ≡ xs ++ remove_first p ys
-remove_behind p [] ys h = refl
-remove_behind p (x ∷ xs) ys h = rw (or_left (p x) (list_any p xs) h) (ap (λ zs. x ∷ zs) (remove_behind p xs ys (or_right (p x) (list_any p xs) h)))
+pub edit_behind : {X : Type 0} (p : X → Bool) (k : X → List X) (xs ys : List X) → list_any p xs ≡ false → edit_first p k (xs ++ ys) ≡ xs ++ edit_first p k ys
+edit_behind p k [] ys h = refl
+edit_behind p k (x ∷ xs) ys h = grind (arith, edit_behind p k xs ys)
 
 -- where all elements fail
 
 pub find_none : {X : Type 0} (p : X → Bool) (xs : List X) → list_any p xs ≡ false → find p xs ≡ None
 find_none p [] h = refl
-find_none p (x ∷ xs) h = rw (or_left (p x) (list_any p xs) h) (find_none p xs (or_right (p x) (list_any p xs) h))
+find_none p (x ∷ xs) h = grind (arith, find_none p xs)
 
-pub change_none : {X : Type 0} (p : X → Bool) (f : X → X) (xs : List X) → list_any p xs ≡ false → change_first p f xs ≡ xs
-change_none p f [] h = refl
-change_none p f (x ∷ xs) h = rw (or_left (p x) (list_any p xs) h) (ap (λ zs. x ∷ zs) (change_none p f xs (or_right (p x) (list_any p xs) h)))
-
-pub remove_none : {X : Type 0} (p : X → Bool) (xs : List X) → list_any p xs ≡ false → remove_first p xs ≡ xs
-remove_none p [] h = refl
-remove_none p (x ∷ xs) h = rw (or_left (p x) (list_any p xs) h) (ap (λ zs. x ∷ zs) (remove_none p xs (or_right (p x) (list_any p xs) h)))
-
-pub any_none : {X : Type 0} (p : X → Bool) (xs : List X) → find p xs ≡ None → list_any p xs ≡ false
-any_none p [] h = refl
-any_none p (x ∷ xs) h = go (p x) h (any_none p xs)
-  where
-    go : (b : Bool) → cond b (Some x) (find p xs) ≡ None → (find p xs ≡ None → list_any p xs ≡ false) → (b || list_any p xs) ≡ false
-    go true h ih = cc
-    go false h ih = ih h
-
--- of a mapped list
-
-pub find-map : {X Y : Type 0} (p : Y → Bool) (f : X → Y) (xs : List X) (x : X) → find (λ y. p (f y)) xs ≡ Some x → find p (map f xs) ≡ Some (f x)
-find-map p f [] x h = cc
-find-map p f (y ∷ ys) x h = go (p (f y)) h (find-map p f ys x)
-  where
-    go : (b : Bool) → cond b (Some y) (find (λ y. p (f y)) ys) ≡ Some x → (find (λ y. p (f y)) ys ≡ Some x → find p (map f ys) ≡ Some (f x)) → cond b (Some (f y)) (find p (map f ys)) ≡ Some (f x)
-    go true h ih = let e : y ≡ x = same_Some y x h in ap (λ z. Some (f z)) e
-    go false h ih = ih h
-
-pub change-map : {X Y : Type 0} (p : Y → Bool) (f : X → Y) (g : X → X) (k : Y → Y) → ((x : X) → f (g x) ≡ k (f x)) → (xs : List X) → map f (change_first (λ x. p (f x)) g xs) ≡ change_first p k (map f xs)
-change-map p f g k e [] = refl
-change-map p f g k e (x ∷ xs) =
-    elim (p (f x)) as (λ b. map f (cond b (g x ∷ xs) (x ∷ change_first (λ x. p (f x)) g xs)) ≡ cond b (k (f x) ∷ map f xs) (f x ∷ change_first p k (map f xs)))
-    [ true ↦ ap (λ y. y ∷ map f xs) (e x) | false ↦ ap (λ ys. f x ∷ ys) (change-map p f g k e xs) ]
-
-pub remove-map : {X Y : Type 0} (p : Y → Bool) (f : X → Y) (xs : List X) → map f (remove_first (λ x. p (f x)) xs) ≡ remove_first p (map f xs)
-remove-map p f [] = refl
-remove-map p f (x ∷ xs) =
-    elim (p (f x)) as (λ b. map f (cond b xs (x ∷ remove_first (λ x. p (f x)) xs)) ≡ cond b (map f xs) (f x ∷ remove_first p (map f xs)))
-    [ true ↦ refl | false ↦ ap (λ ys. f x ∷ ys) (remove-map p f xs) ]
+pub edit_none : {X : Type 0} (p : X → Bool) (k : X → List X) (xs : List X) → list_any p xs ≡ false → edit_first p k xs ≡ xs
+edit_none p k [] h = refl
+edit_none p k (x ∷ xs) h = grind (arith, edit_none p k xs)
 
 -- before others
 
 pub find_front : {X : Type 0} (p : X → Bool) (xs ys : List X) (x : X) → find p xs ≡ Some x → find p (xs ++ ys) ≡ Some x
 find_front p [] ys x h = cc
-find_front p (y ∷ xs) ys x h = go (p y) h (find_front p xs ys x)
-  where
-    go : (b : Bool) → cond b (Some y) (find p xs) ≡ Some x → (find p xs ≡ Some x → find p (xs ++ ys) ≡ Some x) → cond b (Some y) (find p (xs ++ ys)) ≡ Some x
-    go true h ih = h
-    go false h ih = ih h
+find_front p (y ∷ xs) ys x h = grind (arith, find_front p xs ys x)
 
-pub change_front : {X : Type 0} (p : X → Bool) (f : X → X) (xs ys : List X) → list_any p ys ≡ false → change_first p f (xs ++ ys) ≡ change_first p f xs ++ ys
-change_front p f [] ys h = change_none p f ys h
-change_front p f (x ∷ xs) ys h =
-    elim (p x) as (λ b. cond b (f x ∷ (xs ++ ys)) (x ∷ change_first p f (xs ++ ys)) ≡ cond b (f x ∷ xs) (x ∷ change_first p f xs) ++ ys)
-    [ true ↦ refl | false ↦ ap (λ zs. x ∷ zs) (change_front p f xs ys h) ]
+pub edit_front : {X : Type 0} (p : X → Bool) (k : X → List X) (xs ys : List X) → list_any p ys ≡ false → edit_first p k (xs ++ ys) ≡ edit_first p k xs ++ ys
+edit_front p k [] ys h = edit_none p k ys h
+edit_front p k (x ∷ xs) ys h = grind (arith, edit_front p k xs ys, append_assoc (k x) xs ys)
 
-pub remove_front : {X : Type 0} (p : X → Bool) (xs ys : List X) → list_any p ys ≡ false → remove_first p (xs ++ ys) ≡ remove_first p xs ++ ys
-remove_front p [] ys h = remove_none p ys h
-remove_front p (x ∷ xs) ys h =
-    elim (p x) as (λ b. cond b (xs ++ ys) (x ∷ remove_first p (xs ++ ys)) ≡ cond b xs (x ∷ remove_first p xs) ++ ys)
-    [ true ↦ refl | false ↦ ap (λ zs. x ∷ zs) (remove_front p xs ys h) ]
+-- of a mapped list, by a test that agrees
 
-pub any-append : {X : Type 0} (p : X → Bool) (xs ys : List X) → list_any p xs ≡ false → list_any p ys ≡ false → list_any p (xs ++ ys) ≡ false
-any-append p [] ys h k = k
-any-append p (x ∷ xs) ys h k = rw (or_left (p x) (list_any p xs) h) (any-append p xs ys (or_right (p x) (list_any p xs) h) k)
+pub find-map : {X Y : Type 0} (p : X → Bool) (q : Y → Bool) (f : X → Y) → ((x : X) → q (f x) ≡ p x) → (xs : List X) (x : X) → find p xs ≡ Some x →
+    find q (map f xs) ≡ Some (f x)
+find-map p q f same [] x h = cc
+find-map p q f same (y ∷ ys) x h = grind (arith, same y, find-map p q f same ys x)
+
+pub none-map : {X Y : Type 0} (p : X → Bool) (q : Y → Bool) (f : X → Y) → ((x : X) → q (f x) ≡ p x) → (xs : List X) → find p xs ≡ None → list_any q (map f xs) ≡ false
+none-map p q f same [] h = refl
+none-map p q f same (x ∷ xs) h = grind (arith, same x, none-map p q f same xs)
+
+pub edit-map : {X Y : Type 0} (p : X → Bool) (q : Y → Bool) (f : X → Y) (k : X → List X) (l : Y → List Y) →
+    ((x : X) → q (f x) ≡ p x) → ((x : X) → map f (k x) ≡ l (f x)) → (xs : List X) → map f (edit_first p k xs) ≡ edit_first q l (map f xs)
+edit-map p q f k l same e [] = refl
+edit-map p q f k l same e (x ∷ xs) = grind (arith, same x, edit-map p q f k l same e xs, e x, map-append f (k x) xs)
 
 -- by the index of the first that passes
 
 parts : {X : Type 0} (xs : List X) (i : ℕ) (d : X) → i < length xs → xs ≡ take i xs ++ get_or xs i d ∷ drop (suc i) xs
-parts xs i d h =
-    let e : i + 1 ≡ suc i = omega arith in
-    sym (take-append-drop i xs) ∙ (ap (λ ys. take i xs ++ ys) (drop_more xs i d h) ∙ ap (λ n. take i xs ++ get_or xs i d ∷ drop n xs) e)
+parts xs i d h = sym (set-get_or xs i d) ∙ set_split xs i (get_or xs i d) h
 
 pub find_at : {X : Type 0} (p : X → Bool) (xs : List X) (i : ℕ) (d : X) → IsFirstAt p xs i → find p xs ≡ Some (get_or xs i d)
 find_at p xs i d a =
     ap (find p) (parts xs i d a.inside) ∙ (find_behind p (take i xs) (get_or xs i d ∷ drop (suc i) xs) a.before ∙ rw (a.here d) refl)
 
-pub change_at : {X : Type 0} (p : X → Bool) (f : X → X) (xs : List X) (i : ℕ) (d : X) → IsFirstAt p xs i → change_first p f xs ≡ set xs i (f (get_or xs i d))
-change_at p f xs i d a =
-    ap (change_first p f) (parts xs i d a.inside)
-    ∙ (change_behind p f (take i xs) (get_or xs i d ∷ drop (suc i) xs) a.before ∙ rw (a.here d) (sym (set_split xs i (f (get_or xs i d)) a.inside)))
+edit_at : {X : Type 0} (p : X → Bool) (k : X → List X) (xs : List X) (i : ℕ) (d : X) → IsFirstAt p xs i →
+    edit_first p k xs ≡ take i xs ++ (k (get_or xs i d) ++ drop (suc i) xs)
+edit_at p k xs i d a =
+    ap (edit_first p k) (parts xs i d a.inside) ∙ (edit_behind p k (take i xs) (get_or xs i d ∷ drop (suc i) xs) a.before ∙ rw (a.here d) refl)
 
-pub remove_at : {X : Type 0} (p : X → Bool) (xs : List X) (i : ℕ) (d : X) → IsFirstAt p xs i → remove_first p xs ≡ remove xs i
-remove_at p xs i d a =
-    ap (remove_first p) (parts xs i d a.inside) ∙ (remove_behind p (take i xs) (get_or xs i d ∷ drop (suc i) xs) a.before ∙ rw (a.here d) refl)
+pub change_at : {X : Type 0} (p : X → Bool) (f : X → X) (xs : List X) (i : ℕ) (d : X) → IsFirstAt p xs i → change_first p f xs ≡ set xs i (f (get_or xs i d))
+change_at p f xs i d a = edit_at p (λ x. f x ∷ []) xs i d a ∙ sym (set_split xs i (f (get_or xs i d)) a.inside)
+
+pub remove_at : {X : Type 0} (p : X → Bool) (xs : List X) (i : ℕ) → IsFirstAt p xs i → remove_first p xs ≡ remove xs i
+remove_at p [] i a = absurd (omega (arith, a.inside))
+remove_at p (x ∷ xs) i a = edit_at p (λ x. []) (x ∷ xs) i x a
+
+-- what is found passes the test
+pub found_is : {X : Type 0} (p : X → Bool) (x : X) (xs : List X) → find p xs ≡ Some x → p x ≡ true
+found_is p x [] h = cc
+found_is p x (y ∷ xs) h = grind (arith, found_is p x xs)
+
+-- and what all elements pass
+pub found_passes : {X : Type 0} (q p : X → Bool) (x : X) (xs : List X) → list_all q xs ≡ true → find p xs ≡ Some x → q x ≡ true
+found_passes q p x [] a h = cc
+found_passes q p x (y ∷ xs) a h = grind (arith, found_passes q p x xs, and_parts (q y) (list_all q xs) a)
+
+-- then some element passes
+pub found_any : {X : Type 0} (p : X → Bool) (x : X) (xs : List X) → find p xs ≡ Some x → list_any p xs ≡ true
+found_any p x [] h = cc
+found_any p x (y ∷ xs) h = grind (arith, found_any p x xs)
+
+-- one that is found and passes another test passes both
+pub found_both : {X : Type 0} (p q : X → Bool) (x : X) (xs : List X) → q x ≡ true → find p xs ≡ Some x → list_any (λ y. p y && q y) xs ≡ true
+found_both p q x [] a h = cc
+found_both p q x (y ∷ xs) a h = grind (arith, found_both p q x xs)
+
+-- where no element passes a test none passes both
+none_both : {X : Type 0} (p q : X → Bool) (xs : List X) → total (when p one) xs ≡ 0 → list_any (λ y. p y && q y) xs ≡ false
+none_both p q [] h = refl
+none_both p q (x ∷ xs) h = grind (arith, none_both p q xs)
+
+-- where the only one that passes a test is found, and fails the other, none passes both
+pub one_fails : {X : Type 0} (p q : X → Bool) (x : X) (xs : List X) → total (when p one) xs ≤ 1 → q x ≡ false → find p xs ≡ Some x → list_any (λ y. p y && q y) xs ≡ false
+one_fails p q x [] u f h = cc
+one_fails p q x (y ∷ xs) u f h = grind (arith, one_fails p q x xs, none_both p q xs)
+
+-- sums over a list in which at most one element passes, after an edit of that element
+
+-- a weight that differs at elements alone that pass is the same where none does
+unchanged : {X : Type 0} (p : X → Bool) (w v : X → ℕ) → (xs : List X) → total (when p one) xs ≡ 0 → total w xs ≡ total (λ x. cond (p x) (v x) (w x)) xs
+unchanged p w v [] h = refl
+unchanged p w v (x ∷ xs) h = grind (arith, unchanged p w v xs)
+
+-- the element is changed
+pub total_changed : {X : Type 0} (p : X → Bool) (g : X → X) (w : X → ℕ) (xs : List X) → total (when p one) xs ≤ 1 → total w (change_first p g xs) ≡ total (λ x. cond (p x) (w (g x)) (w x)) xs
+total_changed p g w [] u = refl
+total_changed p g w (x ∷ xs) u = grind (arith, total_changed p g w xs, unchanged p w (λ x. w (g x)) xs)
+
+-- the element is taken out
+pub total_removed : {X : Type 0} (p : X → Bool) (w : X → ℕ) (xs : List X) → total (when p one) xs ≤ 1 → total w (remove_first p xs) ≡ total (λ x. cond (p x) 0 (w x)) xs
+total_removed p w [] u = refl
+total_removed p w (x ∷ xs) u = grind (arith, total_removed p w xs, unchanged p w (λ x. 0) xs)
+
+-- where none passes, those that pass weigh nothing
+none_weigh : {X : Type 0} (p : X → Bool) (w : X → ℕ) (xs : List X) → total (when p one) xs ≡ 0 → total (when p w) xs ≡ 0
+none_weigh p w [] h = refl
+none_weigh p w (x ∷ xs) h = grind (arith, none_weigh p w xs)
+
+-- what the one that passes is found to weigh is what all of them weigh
+pub total_found : {X : Type 0} (p : X → Bool) (w : X → ℕ) (y : X) (xs : List X) → total (when p one) xs ≤ 1 → find p xs ≡ Some y → total (when p w) xs ≡ w y
+total_found p w y [] u h = cc
+total_found p w y (x ∷ xs) u h = grind (arith, total_found p w y xs, none_weigh p w xs)

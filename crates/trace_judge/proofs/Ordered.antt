@@ -1,12 +1,13 @@
 -- A queue stays in ascending order.
-use Rattle.std.proofs.Common.{◌≡◌, ℕ, zero, suc, ◌+◌, ◌-◌, ◌<◌, ◌≤◌, Bool, true, false, cond, List, [], ◌∷◌, ◌++◌, length, take, drop, get_or, refl, ap, subst, arith}
+use Rattle.std.proofs.Common.{◌≡◌, ℕ, zero, suc, ◌+◌, ◌-◌, ◌<◌, ◌≤◌, Bool, true, false, cond, List, [], ◌∷◌, ◌++◌, length, take, drop, get_or, refl, ap, arith}
 use Rattle.std.specs.List.{AllByRecursion}
 use Rattle.mc_model.specs.Sums.{total}
 use Rattle.mc_model.proofs.Sums.{total-append}
+use Rattle.mc_model.proofs.Lists.{Each-map}
 use Rattle.std.proofs.lemmas.List.{take-append-drop}
 use Rattle.trace_judge.specs.declared.queue.Queued.{Queued}
 use Rattle.trace_judge.specs.Heads.{no_key}
-use Rattle.trace_judge.specs.Firsts.{change_first, remove_first}
+use Rattle.trace_judge.specs.Firsts.{edit_first, change_first, remove_first}
 use Rattle.trace_judge.specs.Queues.{spent_job, head_key, IsQueue, IsPlaceFor}
 
 -- each has at least this key
@@ -15,19 +16,13 @@ AllFrom key qs = AllByRecursion (λ (r : Queued). key ≤ r.key) qs
 
 -- and so at least a lesser one
 pub all_lower : (a b : ℕ) → a ≤ b → (qs : List Queued) → AllFrom b qs → AllFrom a qs
-all_lower a b le [] h = tt
-all_lower a b le (q ∷ qs) h = (let x : b ≤ q.key = h.0 in omega (arith, x, le), all_lower a b le qs h.1)
+all_lower a b le = Each-map {P = λ (q : Queued). b ≤ q.key} (λ q h. omega (arith, le, h))
 
--- greater keys are at least that
-all_greater : (key : ℕ) (qs : List Queued) → AllByRecursion (λ (q : Queued). key < q.key) qs → AllFrom key qs
-all_greater key [] h = tt
-all_greater key (q ∷ qs) h = (let x : key < q.key = h.0 in omega (arith, x), all_greater key qs h.1)
-
--- the key at an index
-all_at : (key : ℕ) (qs : List Queued) (i : ℕ) (d : Queued) → i < length qs → AllFrom key qs → key ≤ (get_or qs i d).key
-all_at key [] i d h a = absurd (omega arith)
-all_at key (q ∷ qs) zero d h a = a.0
-all_at key (q ∷ qs) (suc i) d h a = all_at key qs i d (omega arith) a.1
+-- the element at an index has what each has
+pub each_at : {X : Type 0} (P : X → Type 0) (xs : List X) (i : ℕ) (d : X) → i < length xs → AllByRecursion P xs → P (get_or xs i d)
+each_at P [] i d h a = absurd (omega arith)
+each_at P (x ∷ xs) zero d h a = a.0
+each_at P (x ∷ xs) (suc i) d h a = each_at P xs i d (omega arith) a.1
 
 -- with one more
 all_insert : (key : ℕ) (qs : List Queued) (i : ℕ) (job : Queued) → AllFrom key qs → key ≤ job.key → AllFrom key (take i qs ++ job ∷ drop i qs)
@@ -37,60 +32,47 @@ all_insert key (q ∷ qs) (suc i) job a h = (a.0, all_insert key qs i job a.1 h)
 
 -- a job put in at its place
 pub ordered_insert : (qs : List Queued) (i : ℕ) (job : Queued) → IsQueue qs → job.key < no_key → IsPlaceFor qs job.key i → IsQueue (take i qs ++ job ∷ drop i qs)
-ordered_insert qs zero job q k p = (k, all_greater job.key qs p.before, q)
+ordered_insert qs zero job q k p = (k, Each-map {P = λ (r : Queued). job.key < r.key} (λ r h. omega (arith, h)) qs p.before, q)
 ordered_insert [] (suc i) job q k p = absurd (let h = p.inside in omega (arith, h))
 ordered_insert (x ∷ qs) (suc i) job q k p =
-    (q.0, all_insert x.key qs i job q.1 (le i p), ordered_insert qs i job q.2 k (rest i p))
-  where
-    le : (i : ℕ) → IsPlaceFor (x ∷ qs) job.key (suc i) → x.key ≤ job.key
-    le zero p = p.behind x (omega arith)
-    le (suc i) p =
-        let inside = p.inside in
-        let a : x.key ≤ (get_or qs i x).key = all_at x.key qs i x (omega (arith, inside)) q.1 in
-        let e : suc (suc i) - 1 ≡ suc i = omega arith in
-        let b : (get_or qs i x).key ≤ job.key = subst (λ (n : ℕ). (get_or (x ∷ qs) n x).key ≤ job.key) e (p.behind x (omega arith)) in
-        omega (arith, a, b)
-
-    rest : (i : ℕ) → IsPlaceFor (x ∷ qs) job.key (suc i) → IsPlaceFor qs job.key i
-    rest zero p = record { inside = omega arith; behind = λ d h. absurd (omega (arith, h)); before = p.before }
-    rest (suc i) p = record { inside = (let h = p.inside in omega (arith, h)); behind = λ d h. (let e : suc (suc i) - 1 ≡ suc (suc i - 1) = omega arith in subst (λ (n : ℕ). (get_or (x ∷ qs) n d).key ≤ job.key) e (p.behind d (omega arith))); before = p.before }
+    let there = each_at (λ (r : Queued). x.key ≤ r.key) (x ∷ qs) (suc i - 1) x (omega (arith, p.inside)) (omega arith, q.1) in
+    let least : x.key ≤ job.key = omega (arith, there, p.behind x (omega arith)) in
+    let behind : (d : Queued) → 1 ≤ i → (get_or qs (i - 1) d).key ≤ job.key =
+    λ d h. (let e : suc i - 1 ≡ suc (i - 1) = omega (arith, h) in rw e at (p.behind d (omega arith))) in
+    (q.0, all_insert x.key qs i job q.1 least, ordered_insert qs i job q.2 k (record { inside = omega (arith, p.inside); behind = behind; before = p.before }))
 
 -- it is one more
 pub total_insert : (f : Queued → ℕ) (qs : List Queued) (i : ℕ) (job : Queued) → total f (take i qs ++ job ∷ drop i qs) ≡ f job + total f qs
 total_insert f qs i job =
-    let a = total-append f (take i qs) (job ∷ drop i qs) in
-    let b = total-append f (take i qs) (drop i qs) in
-    let c = ap (total f) (take-append-drop i qs) in
-    omega (arith, a, b, c)
+    omega (arith, total-append f (take i qs) (job ∷ drop i qs), total-append f (take i qs) (drop i qs), ap (total f) (take-append-drop i qs))
 
--- without the first that passes
-pub all_remove : (key : ℕ) (p : Queued → Bool) (qs : List Queued) → AllFrom key qs → AllFrom key (remove_first p qs)
-all_remove key p [] a = tt
-all_remove key p (q ∷ qs) a =
-    elim (p q) as (λ b. AllFrom key (cond b qs (q ∷ remove_first p qs))) [ true ↦ a.1 | false ↦ (a.0, all_remove key p qs a.1) ]
+-- an edit of the first that passes, as one of these keeps to keys that are no less, and to their order
 
+all_edit : (p : Queued → Bool) (k : Queued → List Queued) → ((key : ℕ) (x : Queued) (qs : List Queued) → AllFrom key (x ∷ qs) → AllFrom key (k x ++ qs)) →
+    (key : ℕ) (qs : List Queued) → AllFrom key qs → AllFrom key (edit_first p k qs)
+all_edit p k keeps key [] a = tt
+all_edit p k keeps key (x ∷ qs) a =
+    elim (p x) as (λ b. AllFrom key (cond b (k x ++ qs) (x ∷ edit_first p k qs))) [ true ↦ keeps key x qs a | false ↦ (a.0, all_edit p k keeps key qs a.1) ]
+
+ordered_edit : (p : Queued → Bool) (k : Queued → List Queued) → ((key : ℕ) (x : Queued) (qs : List Queued) → AllFrom key (x ∷ qs) → AllFrom key (k x ++ qs)) →
+    ((x : Queued) (qs : List Queued) → IsQueue (x ∷ qs) → IsQueue (k x ++ qs)) → (qs : List Queued) → IsQueue qs → IsQueue (edit_first p k qs)
+ordered_edit p k keeps order [] q = tt
+ordered_edit p k keeps order (x ∷ qs) q =
+    elim (p x) as (λ b. IsQueue (cond b (k x ++ qs) (x ∷ edit_first p k qs)))
+    [ true ↦ order x qs q | false ↦ (q.0, all_edit p k keeps x.key qs q.1, ordered_edit p k keeps order qs q.2) ]
+
+-- without it
 pub ordered_remove : (p : Queued → Bool) (qs : List Queued) → IsQueue qs → IsQueue (remove_first p qs)
-ordered_remove p [] q = tt
-ordered_remove p (x ∷ qs) q =
-    elim (p x) as (λ b. IsQueue (cond b qs (x ∷ remove_first p qs)))
-    [ true ↦ q.2 | false ↦ (q.0, all_remove x.key p qs q.1, ordered_remove p qs q.2) ]
+ordered_remove p = ordered_edit p (λ x. []) (λ key x qs a. a.1) (λ x qs q. q.2)
 
 -- more ticks change no key
-all_spent : (key n : ℕ) (p : Queued → Bool) (qs : List Queued) → AllFrom key qs → AllFrom key (change_first p (spent_job n) qs)
-all_spent key n p [] a = tt
-all_spent key n p (q ∷ qs) a =
-    elim (p q) as (λ b. AllFrom key (cond b (spent_job n q ∷ qs) (q ∷ change_first p (spent_job n) qs))) [ true ↦ a | false ↦ (a.0, all_spent key n p qs a.1) ]
-
 pub ordered_spent : (n : ℕ) (p : Queued → Bool) (qs : List Queued) → IsQueue qs → IsQueue (change_first p (spent_job n) qs)
-ordered_spent n p [] q = tt
-ordered_spent n p (x ∷ qs) q =
-    elim (p x) as (λ b. IsQueue (cond b (spent_job n x ∷ qs) (x ∷ change_first p (spent_job n) qs)))
-    [ true ↦ q | false ↦ (q.0, all_spent x.key n p qs q.1, ordered_spent n p qs q.2) ]
+ordered_spent n p = ordered_edit p (λ x. spent_job n x ∷ []) (λ key x qs a. a) (λ x qs q. q)
 
 -- nor that at the head
 pub spent_head : (n : ℕ) (p : Queued → Bool) (qs : List Queued) → head_key (change_first p (spent_job n) qs) ≡ head_key qs
 spent_head n p [] = refl
-spent_head n p (q ∷ qs) = elim (p q) as (λ b. head_key (cond b (spent_job n q ∷ qs) (q ∷ change_first p (spent_job n) qs)) ≡ q.key) [ true ↦ refl | false ↦ refl ]
+spent_head n p (q ∷ qs) = grind arith
 
 -- the head's key is the least
 pub head_least : (qs : List Queued) → IsQueue qs → AllFrom (head_key qs) qs

@@ -1,5 +1,5 @@
 -- The kept releases with their places, and those of them that wait.
-use Rattle.std.proofs.Common.{[], ◌≡◌, ◌+◌, ◌≤◌, Bool, true, false, ◌&&◌, List, ◌∷◌, cond, filter, map, refl, sym, ap, ◌∙◌, arith, subst, length}
+use Rattle.std.proofs.Common.{[], ◌≡◌, ◌+◌, ◌≤◌, Bool, true, false, ◌&&◌, List, ◌∷◌, filter, map, refl, sym, ap, ◌∙◌, arith, length}
 use Rattle.mc_task.specs.declared.task.JobId.{JobId}
 use Rattle.mc_task.specs.declared.task.Rule.{Rule}
 use Rattle.mc_task.specs.declared.task.Task.{Task}
@@ -27,29 +27,31 @@ pub placed_count : (set : List Task) (rule : Rule) (h : List Row) → Fold.Legal
 placed_count set rule [] l = tt
 placed_count set rule (Release j true ∷ g) l = (one_more j.task.0 j.count (releases g j.task.0) (release_fits set rule j true g l.1).count, Each-map {P = λ (x : Placed). x.live.job.count ≤ releases g x.live.job.task.0} (λ x k. grows _ _ _ k) (placed g) (placed_count set rule g l.2))
 placed_count set rule (Release j false ∷ g) l = Each-map {P = λ (x : Placed). x.live.job.count ≤ releases g x.live.job.task.0} (λ x k. grows _ _ _ k) (placed g) (placed_count set rule g l.2)
-placed_count set rule (Tick j how ∷ g) l = placed_count set rule g l.2
-placed_count set rule (Idle ∷ g) l = placed_count set rule g l.2
+placed_count set rule (row ∷ g) l = placed_count set rule g l.2
 
 -- the job is live
 abbrev pub live_in : List Task → List Row → Placed → Bool
 live_in set h x = is_live set h x.live
 
--- a release leaves the other jobs as they are
-pub others_live : (set : List Task) (rule : Rule) (j : JobId) (kept : Bool) (g : List Row) → Fold.Legal set rule g → j.count ≡ releases g j.task.0 + 1 → Each (λ x. live_in set (Release j kept ∷ g) x ≡ live_in set g x) (placed g)
-others_live set rule j kept g l c =
-    Each-map {P = λ (x : Placed). x.live.job.count ≤ releases g x.live.job.task.0} (λ x k. let n = other_job g j x.live.job c k in rw n refl) (placed g) (placed_count set rule g l)
-
 -- the count of a release that fits
 pub release_count : (set : List Task) (rule : Rule) (g : List Row) (j : JobId) (kept : Bool) → Legal set rule (Release j kept ∷ g) → j.count ≡ releases g j.task.0 + 1
 release_count set rule g j kept l = let b : IsBridged set rule (Release j kept ∷ g) = bridge set rule (Release j kept ∷ g) l in (release_fits set rule j kept g b.legal.1).count
 
+-- its job has had no tick
+pub fresh_used : (set : List Task) (rule : Rule) (g : List Row) (j : JobId) (kept : Bool) → Legal set rule (Release j kept ∷ g) → used g j ≡ 0
+fresh_used set rule g j kept l = (counted set rule g (bridge set rule g l.2).legal).fresh j (omega (arith, release_count set rule g j kept l))
+
+-- it leaves the other jobs as they are
+pub others_live : (set : List Task) (rule : Rule) (j : JobId) (kept : Bool) (g : List Row) → Legal set rule (Release j kept ∷ g) →
+    Each (λ x. live_in set (Release j kept ∷ g) x ≡ live_in set g x) (placed g)
+others_live set rule j kept g l =
+    let c = release_count set rule g j kept l in
+    Each-map {P = λ (x : Placed). x.live.job.count ≤ releases g x.live.job.task.0} (λ x k. let n = other_job g j x.live.job c k in rw n refl) (placed g)
+    (placed_count set rule g (bridge set rule g l.2).legal)
+
 -- the new job is live
 pub new_live : (set : List Task) (rule : Rule) (j : JobId) (g : List Row) → Legal set rule (Release j true ∷ g) → is_live set (Release j true ∷ g) (record { job = j; release = ticks g }) ≡ true
-new_live set rule j g l =
-    let b : IsBridged set rule (Release j true ∷ g) = bridge set rule (Release j true ∷ g) l in
-    let c = (release_fits set rule j true g b.legal.1).count in
-    let u : used g j ≡ 0 = (counted set rule g b.legal.2).fresh j (omega (arith, c)) in
-    rw (not_ended g j u, same_job-refl j) (or_not (is_high_in (task_at set j.task.0)))
+new_live set rule j g l = rw (not_ended g j (fresh_used set rule g j true l), same_job-refl j) (or_not (is_high_in (task_at set j.task.0)))
 
 -- the live ones of the kept releases wait
 pub waiting_is : (set : List Task) (rule : Rule) (h : List Row) → Legal set rule h → filter (λ x. is_live set h x.live) (placed h) ≡ waiting set h
@@ -59,28 +61,20 @@ waiting_is set rule (Tick j how ∷ g) l =
     filter_ext (live_in set (Tick j how ∷ g)) (λ x. live_in set g x && stays set j how x) (placed g) (Each-all (λ x. tick_live (is_end how) (same_job j x.live.job) (ended g x.live.job) (is_high_in (task_at set x.live.job.task.0)) (is_over how) (over_since g x.live.job)) (placed g))
     ∙ (sym (filter-filter (stays set j how) (live_in set g) (placed g)) ∙ ap (filter (stays set j how)) (waiting_is set rule g l.2))
 waiting_is set rule (Release j false ∷ g) l =
-    let b : IsBridged set rule (Release j false ∷ g) = bridge set rule (Release j false ∷ g) l in
-    let c = (release_fits set rule j false g b.legal.1).count in
-    filter_ext (live_in set (Release j false ∷ g)) (live_in set g) (placed g) (others_live set rule j false g b.legal.2 c) ∙ waiting_is set rule g l.2
+    filter_ext (live_in set (Release j false ∷ g)) (live_in set g) (placed g) (others_live set rule j false g l) ∙ waiting_is set rule g l.2
 waiting_is set rule (Release j true ∷ g) l =
-    let b : IsBridged set rule (Release j true ∷ g) = bridge set rule (Release j true ∷ g) l in
-    let c = (release_fits set rule j true g b.legal.1).count in
-    let u : used g j ≡ 0 = (counted set rule g b.legal.2).fresh j (omega (arith, c)) in
-    let lv : is_live set (Release j true ∷ g) (record { job = j; release = ticks g }) ≡ true =
-    rw (not_ended g j u, same_job-refl j) (or_not (is_high_in (task_at set j.task.0))) in
-    rw lv (ap (λ xs. new_one j g ∷ xs) (filter_ext (live_in set (Release j true ∷ g)) (live_in set g) (placed g) (others_live set rule j true g b.legal.2 c) ∙ waiting_is set rule g l.2))
+    rw (new_live set rule j g l)
+    (ap (λ xs. new_one j g ∷ xs) (filter_ext (live_in set (Release j true ∷ g)) (live_in set g) (placed g) (others_live set rule j true g l) ∙ waiting_is set rule g l.2))
+
+-- the job without its place
+abbrev pub live_of : Placed → KeptRelease
+live_of x = x.live
 
 -- pending is what waits
 pub released_is : (h : List Row) → released h ≡ map (λ (x : Placed). x.live) (placed h)
 released_is [] = refl
 released_is (Release j true ∷ g) = ap (λ xs. record { job = j; release = ticks g } ∷ xs) (released_is g)
-released_is (Release j false ∷ g) = released_is g
-released_is (Tick j how ∷ g) = released_is g
-released_is (Idle ∷ g) = released_is g
-
--- the job without its place
-abbrev pub live_of : Placed → KeptRelease
-live_of x = x.live
+released_is (row ∷ g) = released_is g
 
 -- the pending jobs are those that wait
 pub pending_is : (set : List Task) (rule : Rule) (h : List Row) → Legal set rule h → pending set h ≡ map (λ (x : Placed). x.live) (waiting set h)
@@ -91,34 +85,25 @@ pending_is set rule h l =
 -- the next job of a task was not released
 pub none_placed : (g : List Row) (j : JobId) → j.count ≡ releases g j.task.0 + 1 → (xs : List Placed) → Each (λ x. x.live.job.count ≤ releases g x.live.job.task.0) xs → total (when (λ (x : Placed). same_job j x.live.job) one) xs ≡ 0
 none_placed g j c [] k = refl
-none_placed g j c (x ∷ xs) k = let n = other_job g j x.live.job c k.0 in rw n (let e : total (when (λ (x : Placed). same_job j x.live.job) one) xs ≡ 0 = none_placed g j c xs k.1 in omega arith)
+none_placed g j c (x ∷ xs) k = grind (arith, other_job g j x.live.job c k.0, none_placed g j c xs k.1)
 
 -- each job is released once
 pub one_placed : (set : List Task) (rule : Rule) (h : List Row) → Legal set rule h → (i : JobId) → total (when (λ x. same_job i x.live.job) one) (placed h) ≤ 1
 one_placed set rule [] l i = omega arith
-one_placed set rule (Tick j how ∷ g) l i = one_placed set rule g l.2 i
-one_placed set rule (Idle ∷ g) l i = one_placed set rule g l.2 i
-one_placed set rule (Release j false ∷ g) l i = one_placed set rule g l.2 i
-one_placed set rule (Release j true ∷ g) l i = go (same_job i j) refl (one_placed set rule g l.2 i)
-  where
-    go : (b : Bool) → same_job i j ≡ b → total (when (λ x. same_job i x.live.job) one) (placed g) ≤ 1 → cond b 1 0 + total (when (λ x. same_job i x.live.job) one) (placed g) ≤ 1
-    go true m ih =
-        let e : total (when (λ (x : Placed). same_job i x.live.job) one) (placed g) ≡ 0 = subst (λ k. total (when (λ (x : Placed). same_job k x.live.job) one) (placed g) ≡ 0) (sym (job_eq i j m)) (none_placed g j (release_count set rule g j true l) (placed g) (placed_count set rule g (bridge set rule g l.2).legal)) in
-        omega arith
-    go false m ih = omega arith
+one_placed set rule (Release j true ∷ g) l i =
+    let none : same_job i j ≡ true → total (when (λ (x : Placed). same_job i x.live.job) one) (placed g) ≡ 0 =
+    λ m. rw (job_eq i j m) (none_placed g j (release_count set rule g j true l) (placed g) (placed_count set rule g (bridge set rule g l.2).legal)) in
+    grind (arith, one_placed set rule g l.2 i, none)
+one_placed set rule (row ∷ g) l i = one_placed set rule g l.2 i
 
 -- and waits at most once
 pub one_waiting : (set : List Task) (rule : Rule) (h : List Row) → Legal set rule h → (i : JobId) → total (when (λ x. same_job i x.live.job) one) (waiting set h) ≤ 1
 one_waiting set rule h l i =
-    let a : total (when (λ (x : Placed). same_job i x.live.job) one) (placed h) ≤ 1 = one_placed set rule h l i in
-    let b = less_filtered (when (λ (x : Placed). same_job i x.live.job) one) (λ x. is_live set h x.live) (placed h) in
-    let c = ap (total (when (λ (x : Placed). same_job i x.live.job) one)) (waiting_is set rule h l) in
-    omega (arith, a, b, c)
+    let less = less_filtered (when (λ (x : Placed). same_job i x.live.job) one) (λ x. is_live set h x.live) (placed h) in
+    omega (arith, one_placed set rule h l i, less, ap (total (when (λ (x : Placed). same_job i x.live.job) one)) (waiting_is set rule h l))
 
 -- there are no more kept releases than rows
 pub placed_le : (h : List Row) → length (placed h) ≤ length h
 placed_le [] = omega arith
-placed_le (Release j true ∷ g) = let i : length (placed g) ≤ length g = placed_le g in omega arith
-placed_le (Release j false ∷ g) = let i : length (placed g) ≤ length g = placed_le g in omega arith
-placed_le (Tick j how ∷ g) = let i : length (placed g) ≤ length g = placed_le g in omega arith
-placed_le (Idle ∷ g) = let i : length (placed g) ≤ length g = placed_le g in omega arith
+placed_le (Release j true ∷ g) = omega (arith, placed_le g)
+placed_le (row ∷ g) = omega (arith, placed_le g)

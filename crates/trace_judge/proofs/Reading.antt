@@ -22,13 +22,8 @@ read runs i = reverse (expand (take i runs))
 -- the rows from the newest on, in the midst of the runs
 rows_split : (runs : List Run) (i : ℕ) (d : Run) → i < length runs → reverse (expand runs) ≡ reverse (expand (drop (i + 1) runs)) ++ (rows_of (get_or runs i d) ++ read runs i)
 rows_split runs i d h =
-    let r : Run = get_or runs i d in
     let a : take i runs ++ get_or runs i d ∷ drop (i + 1) runs ≡ runs = ap (λ xs. take i runs ++ xs) (sym (drop_more runs i d h)) ∙ take-append-drop i runs in
-    sym (ap (λ xs. reverse (expand xs)) a)
-    ∙ (ap reverse (expand-append (take i runs) (get_or runs i d ∷ drop (i + 1) runs))
-    ∙ (reverse-append (expand (take i runs)) (rows_of (get_or runs i d) ++ expand (drop (i + 1) runs))
-    ∙ (ap (λ xs. xs ++ read runs i) (reverse-append (rows_of (get_or runs i d)) (expand (drop (i + 1) runs)) ∙ ap (λ xs. reverse (expand (drop (i + 1) runs)) ++ xs) (reverse-copies (size (get_or runs i d)) (row_of (get_or runs i d))))
-    ∙ append_assoc (reverse (expand (drop (i + 1) runs))) (rows_of (get_or runs i d)) (read runs i))))
+    sym (ap (λ xs. reverse (expand xs)) a) ∙ simp (expand-append, reverse-append, reverse-copies, append_assoc)
 
 -- once all runs are read
 pub all_taken : (set : List Task) (rule : Rule) (runs : List Run) (i : ℕ) (s : State) → length runs ≤ i → Legal set rule (read runs i) × Tracks set rule (read runs i) s → Legal set rule (reverse (expand runs)) × Tracks set rule (reverse (expand runs)) s
@@ -36,14 +31,15 @@ all_taken set rule runs i s e h = subst (λ (xs : List Run). Legal set rule (rev
 
 -- valid runs have few rows
 pub few_rows : (runs : List Run) → AreRuns runs → length (reverse (expand runs)) ≤ 102000000
-few_rows runs v = let a = v.few in let b = v.short in omega (arith, a, b, length-expand-le runs, length-reverse (expand runs))
+few_rows runs v = omega (arith, v.few, v.short, length-expand-le runs, length-reverse (expand runs))
 
 -- and those that were read have room for the next run
 pub room_for : (runs : List Run) (i n : ℕ) (r : Run) → AreRuns runs → i < length runs → r ≡ get_or runs i r → n ≤ length (read runs i) → n + size r ≤ 2 ^ 32 - 1
 room_for runs i n r v h e le =
-    let all = few_rows runs v in
     let whole : length (reverse (expand runs)) ≡ length (reverse (expand (drop (i + 1) runs)) ++ (rows_of r ++ read runs i)) = ap length (rows_split runs i r h ∙ ap (λ x. reverse (expand (drop (i + 1) runs)) ++ (rows_of x ++ read runs i)) (sym e)) in
-    omega (arith, all, whole, le, length-append (reverse (expand (drop (i + 1) runs))) (rows_of r ++ read runs i), length-append (rows_of r) (read runs i), length-replicate (size r) (row_of r))
+    let later : List Row = reverse (expand (drop (i + 1) runs)) in
+    let first = length-append later (rows_of r ++ read runs i) in
+    omega (arith, few_rows runs v, whole, le, first, length-append (rows_of r) (read runs i), length-replicate (size r) (row_of r))
 
 -- equal rows, split at one of them
 copies_split : (n k : ℕ) (row : Row) → k < n → replicate n row ≡ replicate (n - k - 1) row ++ row ∷ replicate k row
@@ -56,7 +52,6 @@ pub illegal_at :
     (set : List Task) (rule : Rule) (runs : List Run) (i n : ℕ) (r : Run) (misfit : Misfit) → i < length runs → r ≡ get_or runs i r → n ≡ length (read runs i) →
     StopsAt set rule r (read runs i) misfit → Illegal (n + misfit.after + 1) misfit.why ≡ verdict set rule (reverse (expand runs))
 illegal_at set rule runs i n r misfit h e l s =
-    let after : List Row = replicate misfit.after (row_of r) ++ read runs i in
     let later : List Row = reverse (expand (drop (i + 1) runs)) in
     let more : List Row = replicate (size r - misfit.after - 1) (row_of r) in
     let v = illegal_verdict set rule misfit.why (later ++ more) (row_of r) (replicate misfit.after (row_of r) ++ read runs i) s.before (sym s.there) in
@@ -64,9 +59,7 @@ illegal_at set rule runs i n r misfit h e l s =
     let rows : reverse (expand runs) ≡ (later ++ more) ++ row_of r ∷ (replicate misfit.after (row_of r) ++ read runs i) =
     rows_split runs i r h
     ∙ (ap (λ x. later ++ (rows_of x ++ read runs i)) (sym e)
-    ∙ (ap (λ xs. later ++ (xs ++ read runs i)) (copies_split (size r) misfit.after (row_of r) s.inside)
-    ∙ (ap (λ xs. later ++ xs) (append_assoc more (row_of r ∷ replicate misfit.after (row_of r)) (read runs i))
-    ∙ sym (append_assoc later more (row_of r ∷ (replicate misfit.after (row_of r) ++ read runs i)))))) in
+    ∙ (ap (λ xs. later ++ (xs ++ read runs i)) (copies_split (size r) misfit.after (row_of r) s.inside) ∙ simp append_assoc)) in
     ap (λ (m : ℕ). Illegal m misfit.why) place ∙ (v ∙ ap (verdict set rule) (sym rows))
 
 -- the rows read with the run at index i

@@ -1,5 +1,5 @@
 -- What two lists share that have the same sums.
-use Rattle.std.proofs.Common.{[], ◌≡◌, ℕ, ◌+◌, Bool, true, false, not, ◌&&◌, ◌||◌, List, ◌∷◌, cond, filter, map, refl, sym, ap, ◌∙◌, arith, ◌==◌, nat_lt}
+use Rattle.std.proofs.Common.{[], ◌≡◌, ℕ, Bool, true, ◌&&◌, List, ◌∷◌, filter, map, refl, sym, ap, ◌∙◌, arith, ◌==◌, nat_lt}
 use Rattle.std.proofs.lemmas.Bool.Decides.{nat_tests}
 use Rattle.std.specs.List.{list_any, list_all}
 use Rattle.mc_model.specs.Sums.{total, when}
@@ -8,41 +8,22 @@ use Rattle.mc_model.proofs.Sums.{one, other}
 -- some element passes where those that pass are counted above 0
 pub any_total : {X : Type 0} (p : X → Bool) → (xs : List X) → list_any p xs ≡ nat_lt 0 (total (when p one) xs)
 any_total p [] = grind (arith, nat_tests)
-any_total p (x ∷ xs) = go (p x) (any_total p xs)
-  where
-    go : (b : Bool) → list_any p xs ≡ nat_lt 0 (total (when p one) xs) → (b || list_any p xs) ≡ nat_lt 0 (cond b 1 0 + total (when p one) xs)
-    go true ih = positive (total (when p one) xs)
-      where
-        positive : (n : ℕ) → true ≡ nat_lt 0 (1 + n)
-        positive n = grind (arith, nat_tests)
-    go false ih = ih ∙ ap (nat_lt 0) (let e : total (when p one) xs ≡ 0 + total (when p one) xs = omega arith in e)
+any_total p (x ∷ xs) = grind (arith, nat_tests, any_total p xs)
 
 -- each element passes where those that fail are none
 pub all_total : {X : Type 0} (p : X → Bool) → (xs : List X) → list_all p xs ≡ (total (when (other p) one) xs == 0)
 all_total p [] = grind (arith, nat_tests)
-all_total p (x ∷ xs) = go (p x) (all_total p xs)
-  where
-    go : (b : Bool) → list_all p xs ≡ (total (when (other p) one) xs == 0) → (b && list_all p xs) ≡ (cond (not b) 1 0 + total (when (other p) one) xs == 0)
-    go false ih = positive (total (when (other p) one) xs)
-      where
-        positive : (n : ℕ) → false ≡ (1 + n == 0)
-        positive n = grind (arith, nat_tests)
-    go true ih = ih ∙ ap (λ n. n == 0) (let e : total (when (other p) one) xs ≡ 0 + total (when (other p) one) xs = omega arith in e)
-
--- tests that agree
-pub list_any-same : {X : Type 0} (p q : X → Bool) → ((x : X) → p x ≡ q x) → (xs : List X) → list_any p xs ≡ list_any q xs
-list_any-same p q h [] = refl
-list_any-same p q h (x ∷ xs) = rw (h x, list_any-same p q h xs) refl
+all_total p (x ∷ xs) = grind (arith, nat_tests, all_total p xs)
 
 -- a test that all values pass
 pub list_all-true : {X : Type 0} (p : X → Bool) → ((x : X) → p x ≡ true) → (xs : List X) → list_all p xs ≡ true
 list_all-true p h [] = refl
 list_all-true p h (x ∷ xs) = rw (h x, list_all-true p h xs) refl
 
--- some element of a mapped list passes
-pub list_any-map : {X Y : Type 0} (p : Y → Bool) (f : X → Y) → (xs : List X) → list_any p (map f xs) ≡ list_any (λ x. p (f x)) xs
-list_any-map p f [] = refl
-list_any-map p f (x ∷ xs) = ap (λ b. p (f x) || b) (list_any-map p f xs)
+-- some element of a mapped list passes, by tests that agree
+pub list_any-map : {X Y : Type 0} (p : Y → Bool) (f : X → Y) (q : X → Bool) → ((x : X) → p (f x) ≡ q x) → (xs : List X) → list_any p (map f xs) ≡ list_any q xs
+list_any-map p f q h [] = refl
+list_any-map p f q h (x ∷ xs) = rw (h x, list_any-map p f q h xs) refl
 
 -- each element of a mapped list passes
 pub list_all-map : {X Y : Type 0} (p : Y → Bool) (f : X → Y) → (xs : List X) → list_all p (map f xs) ≡ list_all (λ x. p (f x)) xs
@@ -52,9 +33,7 @@ list_all-map p f (x ∷ xs) = ap (λ b. p (f x) && b) (list_all-map p f xs)
 -- a part of a mapped list
 pub filter-map : {X Y : Type 0} (p : Y → Bool) (f : X → Y) → (xs : List X) → filter p (map f xs) ≡ map f (filter (λ x. p (f x)) xs)
 filter-map p f [] = refl
-filter-map p f (x ∷ xs) =
-    elim (p (f x)) as (λ b. cond b (f x ∷ filter p (map f xs)) (filter p (map f xs)) ≡ map f (cond b (x ∷ filter (λ x. p (f x)) xs) (filter (λ x. p (f x)) xs)))
-    [ true ↦ ap (λ ys. f x ∷ ys) (filter-map p f xs) | false ↦ filter-map p f xs ]
+filter-map p f (x ∷ xs) = grind (arith, filter-map p f xs)
 
 -- xs has the elements that f gives of ys
 abbrev pub SameAs : {X Y : Type 0} → List X → (Y → X) → List Y → Type 0

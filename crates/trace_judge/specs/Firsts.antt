@@ -1,16 +1,19 @@
 -- The first element of a list that passes a test, changed or taken out.
-use Rattle.std.specs.Prelude.{◌≡◌, ℕ, ◌<◌, Bool, true, false, cond, List, [], ◌∷◌, length, take, slice_index_or}
+use Rattle.std.specs.Prelude.{◌≡◌, ℕ, ◌<◌, Bool, true, false, cond, List, [], ◌∷◌, ◌++◌, length, take, slice_index_or}
 use Rattle.std.specs.List.{list_any}
+
+-- these stand in its place
+abbrev pub edit_first : {X : Type 0} → (X → Bool) → (X → List X) → List X → List X
+edit_first p k [] = []
+edit_first p k (x ∷ xs) = cond (p x) (k x ++ xs) (x ∷ edit_first p k xs)
 
 -- it is changed
 abbrev pub change_first : {X : Type 0} → (X → Bool) → (X → X) → List X → List X
-change_first p f [] = []
-change_first p f (x ∷ xs) = cond (p x) (f x ∷ xs) (x ∷ change_first p f xs)
+change_first p f xs = edit_first p (λ x. f x ∷ []) xs
 
 -- it is taken out
 abbrev pub remove_first : {X : Type 0} → (X → Bool) → List X → List X
-remove_first p [] = []
-remove_first p (x ∷ xs) = cond (p x) xs (x ∷ remove_first p xs)
+remove_first p xs = edit_first p (λ x. []) xs
 
 -- it stands at index i
 pub record IsFirstAt {X : Type 0} (p : X → Bool) (xs : List X) (i : ℕ) : Type 0 where

@@ -25,8 +25,7 @@ new_one j g = record { live = record { job = j; release = ticks g }; place = len
 abbrev pub placed : List Row → List Placed
 placed [] = []
 placed (Release j kept ∷ g) = cond kept (new_one j g ∷ placed g) (placed g)
-placed (Tick j how ∷ g) = placed g
-placed (Idle ∷ g) = placed g
+placed (row ∷ g) = placed g
 
 -- what a tick with this outcome leaves pending: an end takes its job out, an overrun the low jobs
 abbrev pub stays : List Task → JobId → How → Placed → Bool
@@ -46,6 +45,5 @@ is_due set now x = nat_le (deadline set x.live) now
 -- the jobs that ended or were discarded at a tick behind their deadlines
 abbrev pub gone_late : List Task → List Row → List Placed
 gone_late set [] = []
-gone_late set (Release j kept ∷ g) = gone_late set g
 gone_late set (Tick j how ∷ g) = filter (λ x. not (stays set j how x) && is_due set (ticks g) x) (waiting set g) ++ gone_late set g
-gone_late set (Idle ∷ g) = gone_late set g
+gone_late set (row ∷ g) = gone_late set g

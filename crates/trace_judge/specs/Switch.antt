@@ -5,7 +5,7 @@ use Rattle.mc_task.specs.declared.task.Rule.{Rule}
 use Rattle.mc_task.specs.declared.task.Task.{Task}
 use Rattle.mc_task.specs.TaskSet.{task_at}
 use Rattle.mc_model.specs.declared.row.How.{How}
-use Rattle.mc_model.specs.declared.row.How.TheVariants.{More, Done, Stop, Over}
+use Rattle.mc_model.specs.declared.row.How.TheVariants.{More, Over}
 use Rattle.mc_model.specs.TaskNumbers.{is_high_in}
 use Rattle.mc_model.specs.Key.{key_of}
 use Rattle.trace_judge.specs.declared.waiting.Pending.{Pending}
@@ -54,6 +54,5 @@ pub record Overruns (set : List Task) (rule : Rule) (j : JobId) (old new : State
 -- n ticks of the job of task t behind which it goes on, or one that ended so
 abbrev pub Ticks : List Task → Rule → Option Task → JobId → Pending → How → ℕ → State → State → Type 0
 Ticks set rule t j p More n old new = GoesOn n j old new
-Ticks set rule t j p Done n old new = Ends t j p old new
-Ticks set rule t j p Stop n old new = Ends t j p old new
 Ticks set rule t j p Over n old new = Overruns set rule j old new
+Ticks set rule t j p how n old new = Ends t j p old new

@@ -1,10 +1,5 @@
 pub mod Lists
 pub mod Histories
-pub mod Views
-pub mod Homes
-pub mod Drawing
-pub mod Looking
-pub mod Passing
+pub mod Stepping
+pub mod Serving
 pub mod Seating
-pub mod Joining
-pub mod Ending

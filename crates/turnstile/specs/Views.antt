@@ -1,12 +1,12 @@
 -- What a seat knows: its view of the turnstile, and what becomes of it at each step.
-use Rattle.std.specs.Prelude.{ℕ, ◌+◌, List, [], ◌∷◌, ◌++◌, Some, None, true, false}
+use Rattle.std.specs.Prelude.{ℕ, ◌+◌, List, [], ◌∷◌, ◌++◌, Option, Some, None, true, false}
 use Rattle.turnstile.specs.declared.board.View.{View}
 use Rattle.turnstile.specs.declared.board.Report.{Report}
 
 module _ {E F : Type 0} where
-  -- A seat that was made last, with number k. It has no ticket, and has seen and made nothing
-  abbrev pub newest_view : F → ℕ → ℕ → View E F
-  newest_view fixed seats k = record {
+  -- A seat that was made last, with number k, and what it knows of the fixed part. It has no ticket, and has seen and made nothing
+  abbrev pub last_view : Option F → ℕ → ℕ → View E F
+  last_view fixed seats k = record {
     number = k;
     live = true;
     has_ticket = false;
@@ -18,8 +18,12 @@ module _ {E F : Type 0} where
     mine = [];
     joined = [];
     seats = seats;
-    fixed = Some fixed;
+    fixed = fixed;
   }
+
+  -- such a seat, which knows the fixed part
+  abbrev pub newest_view : F → ℕ → ℕ → View E F
+  newest_view fixed seats k = last_view (Some fixed) seats k
 
   -- one more seat is made: the seat that made it is the newest no more
   abbrev pub older_view : View E F → View E F
@@ -27,20 +31,7 @@ module _ {E F : Type 0} where
 
   -- and the new seat has the next number
   abbrev pub next_view : View E F → View E F
-  next_view v = record {
-    number = v.next_number;
-    live = true;
-    has_ticket = false;
-    served = false;
-    ticket = 0;
-    is_newest = true;
-    next_number = v.next_number + 1;
-    seen = [];
-    mine = [];
-    joined = [];
-    seats = v.seats;
-    fixed = v.fixed;
-  }
+  next_view v = last_view v.fixed v.seats v.next_number
 
   -- the seat drew a ticket
   abbrev pub drawn_view : View E F → ℕ → View E F

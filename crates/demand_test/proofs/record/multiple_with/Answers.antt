@@ -1,18 +1,17 @@
 use Rattle.std.proofs.Common.{◌≡◌, ℕ, ◌∷◌, ◌++◌, [], ◌<◌, ◌≤◌, Ok, refl, sym, ap, ◌∙◌, subst}
 use Rattle.tick_frac.specs.Numbers.{lcm}
 use Rattle.demand_test.specs.DemandSet.{hyperperiod, most_lcm}
-use Rattle.demand_test.proofs.ReadTasks.{hyperperiod-push, in_order, out_of_range}
+use Rattle.demand_test.proofs.ReadTasks.{lcm_from-push, in_order, out_of_range}
 use Rattle.demand_test.proofs.record.multiple_with.Goals as goal
 
 pub returns-in-Some : goal.returns-in-Some
 returns-in-Some c =
     let same : c.in-Some.multiple ≡ hyperperiod (c.args.before.now ++ c.args.task.now ∷ []) =
-    c.in-Some.ensures.some.0 ∙ ap (λ (m : ℕ). lcm m c.from-2.result) (c.from.ensures ∙ c.requires.multiple) ∙ ap (λ (p : ℕ). lcm (hyperperiod c.args.before.now) p) c.from-2.ensures ∙ sym (hyperperiod-push c.args.before.now c.args.task.now) in
+    cc (lcm_from-push 1 c.args.before.now c.args.task.now, c.in-Some.ensures.some.0) in
     ap Ok same
     ∙ sym (in_order c.args.before.now c.args.task.now c.if-task-eq0.false c.if-task-eq0-2.false c.if-task-eq0-3.false c.if-task.false (subst (λ (m : ℕ). m ≤ most_lcm) same c.in-Some.ensures.some.1))
 
 pub returns-in-None : goal.returns-in-None
 returns-in-None c =
-    let same : lcm c.from.result c.from-2.result ≡ hyperperiod (c.args.before.now ++ c.args.task.now ∷ []) =
-    ap (λ (m : ℕ). lcm m c.from-2.result) (c.from.ensures ∙ c.requires.multiple) ∙ ap (λ (p : ℕ). lcm (hyperperiod c.args.before.now) p) c.from-2.ensures ∙ sym (hyperperiod-push c.args.before.now c.args.task.now) in
+    let same : lcm c.from.result c.from-2.result ≡ hyperperiod (c.args.before.now ++ c.args.task.now ∷ []) = cc (lcm_from-push 1 c.args.before.now c.args.task.now) in
     sym (out_of_range c.args.before.now c.args.task.now c.if-task-eq0.false c.if-task-eq0-2.false c.if-task-eq0-3.false c.if-task.false (subst (λ (m : ℕ). most_lcm < m) same (c.in-None.ensures.none.0 refl)))

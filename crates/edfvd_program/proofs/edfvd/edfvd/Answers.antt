@@ -1,40 +1,31 @@
 use Rattle.std.proofs.Common.{map, string_bytes}
 use Rattle.command_line.specs.Form.{form_of}
 use Rattle.command_line.proofs.InRange.{in_range}
-use Rattle.edfvd_program.proofs.Outcomes.{Answers-written, calm_outcome}
-use Rattle.edfvd_program.proofs.Headlines.{promises, gave_up}
-use Rattle.edfvd_program.proofs.TestedSets.{tested, never_tested}
+use Rattle.edfvd_program.proofs.Outcomes.{answers, kept, calm_outcome}
+use Rattle.edfvd_program.proofs.Headlines.{gave_up}
 use Rattle.edfvd_program.proofs.edfvd.edfvd.Goals as goal
 
 pub returns-in-Ok-clause-answer : goal.returns-in-Ok-clause-answer
-returns-in-Ok-clause-answer g c =
-    Answers-written (form_of (map (λ w. string_bytes w) c.args.words.now)) (g.S.Shelf.state c.args.shelf.now) (g.S.Shelf.state c.reply_to.new.shelf)
-    (g.K.Sink.state c.args.out.now) (g.K.Sink.state c.deliver.new.out) c.in-Ok.reply c.deliver.result c.in-Ok.ensures.reply c.deliver.ensures
+returns-in-Ok-clause-answer g c = answers c.in-Ok.ensures.reply c.deliver.ensures
 
 pub returns-in-Ok-clause-headline : goal.returns-in-Ok-clause-headline
 returns-in-Ok-clause-headline g c files old tells told calm =
-    (promises (form_of (map (λ w. string_bytes w) c.args.words.now)) (in_range (map (λ w. string_bytes w) c.args.words.now)) files old c.deliver.result (g.K.Sink.state c.deliver.new.out).written
-    (returns-in-Ok-clause-answer g c files old tells told calm)).0
+    (kept (in_range (map (λ w. string_bytes w) c.args.words.now)) c.in-Ok.ensures.reply c.deliver.ensures files old tells told calm).0
 
 pub returns-in-Ok-clause-told : goal.returns-in-Ok-clause-told
 returns-in-Ok-clause-told g c files old tells told calm =
-    (promises (form_of (map (λ w. string_bytes w) c.args.words.now)) (in_range (map (λ w. string_bytes w) c.args.words.now)) files old c.deliver.result (g.K.Sink.state c.deliver.new.out).written
-    (returns-in-Ok-clause-answer g c files old tells told calm)).1
+    (kept (in_range (map (λ w. string_bytes w) c.args.words.now)) c.in-Ok.ensures.reply c.deliver.ensures files old tells told calm).1
 
 pub returns-in-Ok-clause-complete : goal.returns-in-Ok-clause-complete
 returns-in-Ok-clause-complete g c files old tells told calm =
-    (promises (form_of (map (λ w. string_bytes w) c.args.words.now)) (in_range (map (λ w. string_bytes w) c.args.words.now)) files old c.deliver.result (g.K.Sink.state c.deliver.new.out).written
-    (returns-in-Ok-clause-answer g c files old tells told calm)).2
+    (kept (in_range (map (λ w. string_bytes w) c.args.words.now)) c.in-Ok.ensures.reply c.deliver.ensures files old tells told calm).2
 
 pub returns-in-Ok-clause-tested : goal.returns-in-Ok-clause-tested
 returns-in-Ok-clause-tested g c files old tells told calm =
-    tested (form_of (map (λ w. string_bytes w) c.args.words.now)) files old c.deliver.result (g.K.Sink.state c.deliver.new.out).written
-    (returns-in-Ok-clause-answer g c files old tells told calm)
+    (kept (in_range (map (λ w. string_bytes w) c.args.words.now)) c.in-Ok.ensures.reply c.deliver.ensures files old tells told calm).3
 
 pub returns-in-Ok-clause-calm_shelf : goal.returns-in-Ok-clause-calm_shelf
-returns-in-Ok-clause-calm_shelf g c =
-    calm_outcome (form_of (map (λ w. string_bytes w) c.args.words.now)) (g.S.Shelf.state c.args.shelf.now) (g.S.Shelf.state c.reply_to.new.shelf)
-    (g.K.Sink.state c.args.out.now) (g.K.Sink.state c.deliver.new.out) c.in-Ok.reply c.deliver.result c.in-Ok.ensures.reply c.deliver.ensures
+returns-in-Ok-clause-calm_shelf g c = calm_outcome c.in-Ok.ensures.reply c.deliver.ensures
 
 pub returns-in-Err-clause-headline : goal.returns-in-Err-clause-headline
 returns-in-Err-clause-headline g c files old tells told calm =
@@ -50,4 +41,4 @@ returns-in-Err-clause-complete g c files old tells told calm =
 
 pub returns-in-Err-clause-tested : goal.returns-in-Err-clause-tested
 returns-in-Err-clause-tested g c files old tells told calm =
-    never_tested (form_of (map (λ w. string_bytes w) c.args.words.now)) files old (g.K.Sink.state c.args.out.now).written
+    (gave_up (form_of (map (λ w. string_bytes w) c.args.words.now)) files old (g.K.Sink.state c.args.out.now).written).3

@@ -1,24 +1,24 @@
-use Rattle.std.proofs.Common.{◌+◌, ◌-◌, ◌++◌, ◌∙◌, filter, length, map, ap, arith, eq-eqb, ne_eqb}
-use Rattle.std.specs.List.{range_with_len}
-use Rattle.std.proofs.lemmas.List.{map-append}
+use Rattle.std.proofs.Common.{◌≡◌, ℕ, ◌+◌, ◌∷◌, [], ◌++◌, ◌∙◌, List, cond, filter, length, map, sym, ap, arith, eq-eqb, ne_eqb}
+use Rattle.std.proofs.lemmas.List.{map-append, append-nil}
 use Rattle.mc_task.specs.declared.task.TaskNo.{TaskNo}
 use Rattle.part_fit.specs.PartWork.{is_on}
 use Rattle.part_answers.proofs.Names.{on-place}
-use Rattle.part_answers.proofs.Processors.{passes-more, fails-more}
+use Rattle.part_answers.proofs.Processors.{made-more, filter-one}
 use Rattle.part_answers.proofs.floors.numbers_on.Goals as goal
 use Rattle.part_answers.proofs.floors.numbers_on.Goals.{then-of-i+in_ok-push, else-of-i}
 
 pub loop-i-preserved : goal.loop-i-preserved
 loop-i-preserved c =
-    let n = c.args.processor in
-    let of = c.args.of.now in
+    let on = is_on c.args.processor c.args.of.now in
     let i = c.loop-i.i in
-    let here = on-place n of i c.loop-i-test.true in
+    let some = map (λ (k : TaskNo). k.0) c.loop-i.numbers.items in
+    let here = on-place c.args.processor c.args.of.now i c.loop-i-test.true in
+    let more = λ (next : List ℕ) (grows : next ≡ some ++ filter on ((i + 1) ∷ [])).
+    made-more (filter on) (λ k. filter on (k ∷ [])) (i + 1) (length c.args.of.now) some next _ (filter-one on) (let t = c.loop-i-test.true in omega (arith, t)) c.loop-i.invariant grows in
     elim c.if-of-i.branch [
       | then-of-i+in_ok-push w ↦
-          passes-more (is_on n of) (i + 1) (length of) (map (λ (k : TaskNo). k.0) c.loop-i.numbers.items) _ _ (let t = c.loop-i-test.true in omega (arith, t)) (here ∙ eq-eqb _ _ w.if-of-i.true)
-          c.loop-i.invariant (ap (λ v. map (λ (k : TaskNo). k.0) v.items) w.numbers-is ∙ ap (λ l. map (λ (k : TaskNo). k.0) l) w.in_ok-push.ensures.items ∙ map-append (λ (k : TaskNo). k.0) c.loop-i.numbers.items _)
+          more _ (ap (λ v. map (λ (k : TaskNo). k.0) v.items) w.numbers-is ∙ ap (λ l. map (λ (k : TaskNo). k.0) l) w.in_ok-push.ensures.items ∙ map-append (λ (k : TaskNo). k.0) c.loop-i.numbers.items _
+          ∙ sym (ap (λ b. some ++ cond b ((i + 1) ∷ []) []) (here ∙ eq-eqb _ _ w.if-of-i.true)))
       | else-of-i w ↦
-          ap (λ v. map (λ (k : TaskNo). k.0) v.items ++ filter (is_on n of) (range_with_len (i + 1 + 1) (length of + 1 - (i + 1 + 1)))) w.numbers-is
-          ∙ fails-more (is_on n of) (i + 1) (length of) (map (λ (k : TaskNo). k.0) c.loop-i.numbers.items) _ (let t = c.loop-i-test.true in omega (arith, t)) (here ∙ ne_eqb _ _ w.if-of-i.false) c.loop-i.invariant
+          more _ (ap (λ v. map (λ (k : TaskNo). k.0) v.items) w.numbers-is ∙ sym (append-nil some) ∙ sym (ap (λ b. some ++ cond b ((i + 1) ∷ []) []) (here ∙ ne_eqb _ _ w.if-of-i.false)))
     ]

@@ -1,5 +1,6 @@
-use Rattle.std.proofs.Common.{◌∙◌, ◌+◌, Some, None, refl, ap, arith}
-use Rattle.part_fit.proofs.Numbers.{numbers-more, number-on, number-off}
+use Rattle.std.proofs.Common.{◌==◌, refl, arith, eq-eqb, ne_eqb}
+use Rattle.std.proofs.lemmas.List.Sums.{count_by_more_yes, count_by_more_no}
+use Rattle.part_fit.proofs.Numbers.{numbers-next}
 use Rattle.part_fit.proofs.work.numbers_on.Goals as goal
 use Rattle.part_fit.proofs.work.numbers_on.Goals.{then-of-i+in_ok-push, else-of-i+in_ok-push-2}
 
@@ -8,24 +9,22 @@ loop-i-init c = record { numbers = c.new-numbers.ensures.items; last = refl; sma
 
 pub loop-i-preserved : goal.loop-i-preserved
 loop-i-preserved c =
-    let n = c.args.processor in
-    let of = c.args.of.now in
     let i = c.loop-i.i in
-    let last = c.loop-i.last in
     let inv = c.loop-i.invariant in
+    let next = numbers-next c.args.processor c.args.of.now i c.loop-i-test.true in
     elim c.if-of-i.branch [
       | then-of-i+in_ok-push w ↦
-          let is = number-on n of i last c.loop-i-test.true w.if-of-i.true inv.last in
+          let on = eq-eqb _ _ w.if-of-i.true in
           record {
-            numbers = numbers-more n of i (Some (last + 1)) _ _ inv.numbers (ap (λ v. v.items) w.numbers-is ∙ w.in_ok-push.ensures.items) is.0;
-            last = w.last-is ∙ is.1;
-            small = omega (arith, w.last-is, inv.small);
+            numbers = rw (w.numbers-is, w.in_ok-push.ensures.items, next, on, inv.numbers, inv.last) refl;
+            last = omega (arith, w.last-is, count_by_more_yes (λ p. p == c.args.processor) c.args.of.now i 0 c.loop-i-test.true on);
+            small = omega (arith, w.last-is);
           }
       | else-of-i+in_ok-push-2 w ↦
-          let is = number-off n of i last c.loop-i-test.true w.if-of-i.false inv.last in
+          let off = ne_eqb _ _ w.if-of-i.false in
           record {
-            numbers = numbers-more n of i None _ _ inv.numbers (ap (λ v. v.items) w.numbers-is ∙ w.in_ok-push-2.ensures.items) is.0;
-            last = w.last-is ∙ is.1;
-            small = omega (arith, w.last-is, inv.small);
+            numbers = rw (w.numbers-is, w.in_ok-push-2.ensures.items, next, off, inv.numbers) refl;
+            last = omega (arith, w.last-is, count_by_more_no (λ p. p == c.args.processor) c.args.of.now i 0 c.loop-i-test.true off);
+            small = omega (arith, w.last-is);
           }
     ]

@@ -1,6 +1,6 @@
-use Rattle.std.proofs.Common.{◌≡◌, ◌++◌, drop}
+use Rattle.std.proofs.Common.{◌≡◌, take}
 use Rattle.part_fit.specs.PartWork.{part_rows}
 use Rattle.part_fit.proofs.work.rows_on.Given as goal
 
 abbrev pub invariant-loop-row : goal.invariant-loop-row
-invariant-loop-row l = l.own.items ++ part_rows l.fn.processor l.fn.of (drop l.row-index l.fn.rows) ≡ part_rows l.fn.processor l.fn.of l.fn.rows
+invariant-loop-row l = l.own.items ≡ part_rows l.fn.processor l.fn.of (take l.row-index l.fn.rows)

@@ -1,8 +1,7 @@
-use Rattle.std.proofs.Common.{rules, ◌≡◌, ◌+◌, ◌≤◌, length, subst}
+use Rattle.std.proofs.Common.{rules, ◌≡◌, subst}
 use Rattle.timetable.specs.declared.plan.Plan.TheVariants.{Rows}
 use Rattle.timetable.specs.declared.plan.Plan.{Plan}
 use Rattle.timetable.specs.Plans.{IsTraceOfPlan}
-use Rattle.run_answers.proofs.SameTrace.{follows_same}
 use Rattle.run_answers.proofs.planned.planned.Goals as goal
 
 pub returns : goal.returns
@@ -11,8 +10,7 @@ returns g c =
     let t = subst (λ (p : Plan). IsTraceOfPlan p c.in-Ok.floor.core) plan c.in-Ok.ensures.trace in
     let same : c.in-Ok.floor.core.set ≡ c.args.set.now.tasks = search rules in
     let is : c.in-Ok.floor.core.rule ≡ c.args.rule = search rules in
-    let few : length c.in-Ok.floor.core.rows ≤ c.args.ticks + 1000000 = search rules in
     record {
-      follows = follows_same c.args.set.now.tasks c.in-Ok.floor.core.set c.args.rule c.in-Ok.floor.core.rule c.args.work c.args.ticks c.in-Ok.floor.core.rows same is t.follows;
-      few = few;
+      follows = rw (same, is) at t.follows;
+      few = search rules;
     }

@@ -3,14 +3,8 @@ use Rattle.mc_task.specs.declared.task.Rule.TheVariants.{Virtual}
 use Rattle.mc_model.proofs.Decided.{decided_runs, decided_trace}
 use Rattle.sched_report.proofs.tests.an_overrun_discards_a_job.Goals as goal
 
-pub report-requires-clause-runs : goal.report-requires-clause-runs
-report-requires-clause-runs g c = decided_runs _ refl
+pub report-requires : goal.report-requires
+report-requires g c = record { runs = decided_runs _ refl; trace = rw c.in_ok-set.ensures (decided_trace _ (Virtual 2 5) _ (lit≤ tt, lit≤ tt, lit≤ tt) refl) }
 
-pub report-requires-clause-trace : goal.report-requires-clause-trace
-report-requires-clause-trace g c = rw c.in_ok-set.ensures (decided_trace _ (Virtual 2 5) _ (lit≤ tt, lit≤ tt, lit≤ tt) refl)
-
-pub summary-requires-clause-runs : goal.summary-requires-clause-runs
-summary-requires-clause-runs g c = decided_runs _ refl
-
-pub summary-requires-clause-trace : goal.summary-requires-clause-trace
-summary-requires-clause-trace g c = rw c.in_ok-set.ensures (decided_trace _ (Virtual 2 5) _ (lit≤ tt, lit≤ tt, lit≤ tt) refl)
+pub summary-requires : goal.summary-requires
+summary-requires g c = record { runs = decided_runs _ refl; trace = rw c.in_ok-set.ensures (decided_trace _ (Virtual 2 5) _ (lit≤ tt, lit≤ tt, lit≤ tt) refl) }

@@ -1,10 +1,11 @@
-use Rattle.std.proofs.Common.{◌≡◌, ◌-◌, ◌++◌, codes, decimal, length, reverse, ap, ◌∙◌, arith}
+use Rattle.std.proofs.Common.{◌≡◌, ◌-◌, append_assoc, length, reverse, refl, ap, ◌∙◌, arith}
 use Rattle.mc_model.specs.Runs.{expand}
-use Rattle.sched_report.specs.ReportText.{counts_text, how_many, is_tick, is_idle, is_switch, sum_counts, summary_text}
+use Rattle.sched_report.specs.ReportText.{how_many, is_tick, summary_text}
 use Rattle.sched_report.specs.Counts.{sum_tallies}
 use Rattle.sched_report.proofs.Bounds.{all_small, few_rows, ticks-idle}
 use Rattle.sched_report.proofs.Numbered.{length-numbered}
-use Rattle.sched_report.proofs.Texts.{sum_is, summary_pieces}
+use Rattle.sched_report.proofs.Texts.{sum_is}
+use Rattle.std.proofs.lemmas.List.{append-nil}
 use Rattle.sched_report.proofs.writing.summary_text.Goals as goal
 
 pub sum_of-requires-clause-few : goal.sum_of-requires-clause-few
@@ -28,11 +29,5 @@ returns c =
     let t = c.in_ok-tally.ensures in
     let sums = c.sum_of.ensures ∙ (ap sum_tallies t.tasks ∙ sum_is set h 1 set) in
     let ran : tally.tick - tally.idle ≡ how_many is_tick h = omega (arith, t.tick, t.idle, ticks-idle h) in
-    summary_pieces c.new-text.result.items c.push_to.new.text.items c.push_count.new.text.items c.push_count-2.new.text.items c.push_count-3.new.text.items c.extend_from_slice.new.self.items
-    (counts_text (sum_counts set h 1 set)) (codes "\nticks ") (decimal (how_many is_tick h)) (codes " idle ") (decimal (how_many is_idle h)) (codes " switches ") (decimal (how_many is_switch h)) (codes "\n")
-    c.new-text.ensures.items
-    (c.in_ok-push_to.ensures ∙ ap (λ x. c.new-text.result.items ++ counts_text x) sums)
-    (c.in_ok-push_count.ensures ∙ ap (λ n. c.push_to.new.text.items ++ (codes "\nticks " ++ decimal n)) ran)
-    (c.in_ok-push_count-2.ensures ∙ ap (λ n. c.push_count.new.text.items ++ (codes " idle " ++ decimal n)) t.idle)
-    (c.in_ok-push_count-3.ensures ∙ ap (λ n. c.push_count-2.new.text.items ++ (codes " switches " ++ decimal n)) t.switches)
-    c.in_ok-extend_from_slice.ensures.items
+    rw (c.in_ok-extend_from_slice.ensures.items, c.in_ok-push_count-3.ensures, c.in_ok-push_count-2.ensures, c.in_ok-push_count.ensures)
+    (rw (c.in_ok-push_to.ensures, c.new-text.ensures.items, sums, ran, t.idle, t.switches) (simp (append_assoc, append-nil) refl))

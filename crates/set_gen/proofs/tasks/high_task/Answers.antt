@@ -1,6 +1,7 @@
-use Rattle.std.proofs.Common.{◌*◌, ◌/◌, ◌≤◌, refl, arith}
+use Rattle.std.proofs.Common.{◌*◌, refl, arith}
 use Rattle.set_gen.specs.MadeSet.{high_task}
-use Rattle.set_gen.proofs.Drawn.{low-within, part-within}
+use Rattle.std.proofs.Math.Nat.{div-le_self}
+use Rattle.set_gen.proofs.Drawn.{low-within}
 use Rattle.set_gen.proofs.tasks.high_task.Goals as goal
 
 pub returns-clause-task : goal.returns-clause-task
@@ -12,5 +13,5 @@ returns-clause-small c = record {
   least = c.requires.least;
   most = c.requires.most;
   low = low-within c.args.period (4 * c.args.count) c.args.word c.requires.least c.requires.most (omega (arith, c.requires.some)) (omega (arith, c.requires.few));
-  high = let within : (3 * c.args.period) / (4 * c.args.count) ≤ 3 * c.args.period = part-within (3 * c.args.period) (4 * c.args.count) in omega (arith, within, c.requires.most);
+  high = omega (arith, div-le_self (3 * c.args.period) (4 * c.args.count), c.requires.most);
 }

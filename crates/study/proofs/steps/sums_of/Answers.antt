@@ -11,7 +11,7 @@ use Rattle.set_gen.proofs.MadeTasks.{made_task-IsTask, made_set-length}
 use Rattle.study.specs.declared.steps.High.{High}
 use Rattle.study.specs.Loads.{budget_at}
 use Rattle.study.specs.Steps.{asks_at}
-use Rattle.study.proofs.Walked.{made-here, load-step, load-end, low-low, low-high, low-budget, high-low, high-high, high-budget, asks-more, small-more, none-more, jobs-few, ask-small}
+use Rattle.study.proofs.Walked.{made-here, load-step, load-end, low-low, low-high, low-budget, high-low, high-high, high-budget, asks-more, small-more, jobs-few, ask-small}
 use Rattle.study.proofs.steps.sums_of.Goals as goal
 use Rattle.study.proofs.steps.sums_of.Goals.{in-Low, in-High}
 
@@ -33,10 +33,10 @@ loop-i-preserved c =
       | in-Low w ↦ record {
         words = words;
         low_low = load-step low_low 20000 set i t c.loop-i.low_low _ _ d.low d.period at inv.low_low (low-low t d of w.in-Low.is) of.period w.low_low-is;
-        high_low = load-step high_low 20000 set i t c.loop-i.high_low _ _ 0 d.period at inv.high_low (low-high t d of w.in-Low.is) of.period (w.high_low-is ∙ none-more c.loop-i.high_low (20000 / d.period));
+        high_low = load-step high_low 20000 set i t c.loop-i.high_low _ _ 0 d.period at inv.high_low (low-high t d of w.in-Low.is) of.period (omega (arith, w.high_low-is));
         highs = λ s least most.
             load-step (budget_at s) 20000 set i t (total (asks_at s) c.loop-i.highs.items) _ _ 0 d.period at (inv.highs s least most) (low-budget s t d of w.in-Low.is) of.period
-            (ap (λ h. total (asks_at s) h.items) w.highs-is ∙ none-more (total (asks_at s) c.loop-i.highs.items) (20000 / d.period));
+            (omega (arith, ap (λ h. total (asks_at s) h.items) w.highs-is));
         few = rw w.highs-is (omega (arith, inv.few));
         small = rw w.highs-is inv.small;
         low_small = omega (arith, w.low_low-is, inv.low_small, ask);
@@ -47,7 +47,7 @@ loop-i-preserved c =
           let items = ap (λ v. v.items) w.highs-is ∙ w.push.ensures.items in
           record {
             words = words;
-            low_low = load-step low_low 20000 set i t c.loop-i.low_low _ _ 0 d.period at inv.low_low (high-low t d of w.in-High.is) of.period (w.low_low-is ∙ none-more c.loop-i.low_low (20000 / d.period));
+            low_low = load-step low_low 20000 set i t c.loop-i.low_low _ _ 0 d.period at inv.low_low (high-low t d of w.in-High.is) of.period (omega (arith, w.low_low-is));
             high_low = load-step high_low 20000 set i t c.loop-i.high_low _ _ d.low d.period at inv.high_low (high-high t d of w.in-High.is) of.period w.high_low-is;
             highs = λ s least most.
                 load-step (budget_at s) 20000 set i t (total (asks_at s) c.loop-i.highs.items) _ _ (d.high * s / 100) d.period at (inv.highs s least most)

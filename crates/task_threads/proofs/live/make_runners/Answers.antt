@@ -6,7 +6,7 @@ use Rattle.status_board.specs.declared.tokens.Watcher.{Watcher}
 use Rattle.executive.specs.Watching.{IsWatcherOf}
 use Rattle.task_threads.specs.LivePasses.{IsRunner}
 use Rattle.task_threads.specs.Workers.{AreInOrder}
-use Rattle.task_threads.proofs.InOrder.{one_more_runner}
+use Rattle.task_threads.proofs.InOrder.{one_more}
 use Rattle.task_threads.proofs.live.make_runners.Goals as goal
 
 pub loop-pass-preserved : goal.loop-pass-preserved
@@ -26,5 +26,5 @@ loop-pass-preserved g c =
       watchers = subst (All (λ (w : Watcher). IsWatcherOf e w)) (sym c.pop.ensures.rest) (All-take (λ (w : Watcher). IsWatcherOf e w) (vec_len watchers - 1) watchers.items kept.watchers);
       left = omega (arith, one_less, kept.left, one_more_yielded);
       room = search rules;
-      runners = subst (AreInOrder IsRunner e) (sym c.push_reserved.ensures.items) (one_more_runner e before.items runner kept.runners last);
+      runners = subst (AreInOrder IsRunner e) (sym c.push_reserved.ensures.items) (one_more IsRunner e before.items runner kept.runners last);
     }

@@ -1,4 +1,4 @@
-use Rattle.std.proofs.Common.{◌≡◌, ◌-◌, ◌++◌, List, Some, length, slice_set, sym, ap, ◌∙◌, arith}
+use Rattle.std.proofs.Common.{◌≡◌, ◌-◌, ◌++◌, ℕ, List, length, slice_set, sym, ap, ◌∙◌, arith}
 use Rattle.mc_model.specs.Runs.{rows_of, expand}
 use Rattle.mc_model.specs.declared.run.Run.{Run}
 use Rattle.trace_format.specs.Packing.{ArePacked, with_last}
@@ -7,18 +7,18 @@ use Rattle.trace_format.proofs.packing.add.Goals.{In-Some, In_ok-push}
 use Rattle.trace_format.proofs.packing.add.Goals as goal
 
 -- the last run takes it
-by_last : (c : In-Some) → with_last c.args.runs.now.items c.args.run ≡ Some c.in-Some.both
-by_last c = ap (λ (runs : List Run). with_last runs c.args.run) (sym c.deref.ensures.value) ∙ (sym c.with_last.ensures ∙ c.in-Some.is)
+by_last : (c : In-Some) (n : ℕ) → n ≡ length c.args.runs.now.items
+    → let new = slice_set c.args.runs.now.items (n - 1) c.in-Some.both in (expand new ≡ expand c.args.runs.now.items ++ rows_of c.args.run) × ArePacked new
+by_last c n all =
+    taken c.args.runs.now.items _ c.args.run c.in-Some.both c.requires.packed
+    (ap (λ (runs : List Run). with_last runs c.args.run) (sym c.deref.ensures.value) ∙ (sym c.with_last.ensures ∙ c.in-Some.is))
+    (ap (λ m. slice_set c.args.runs.now.items (m - 1) c.in-Some.both) all)
 
 pub returns-in-Some-clause-rows : goal.returns-in-Some-clause-rows
-returns-in-Some-clause-rows c =
-    let n : c.len-last.result ≡ length c.args.runs.now.items = omega (arith, c.len-last.ensures, c.args.runs.now.ok.0) in
-    (taken c.args.runs.now.items _ c.args.run c.in-Some.both c.requires.packed (by_last (goal.at.returns-in-Some-clause-rows c).In-Some) (ap (λ m. slice_set c.args.runs.now.items (m - 1) c.in-Some.both) n)).0
+returns-in-Some-clause-rows c = (by_last (goal.at.returns-in-Some-clause-rows c).In-Some _ (omega (arith, c.len-last.ensures, c.args.runs.now.ok.0))).0
 
 pub returns-in-Some-clause-packed : goal.returns-in-Some-clause-packed
-returns-in-Some-clause-packed c =
-    let n : c.len-last.result ≡ length c.args.runs.now.items = omega (arith, c.len-last.ensures, c.args.runs.now.ok.0) in
-    (taken c.args.runs.now.items _ c.args.run c.in-Some.both c.requires.packed (by_last (goal.at.returns-in-Some-clause-packed c).In-Some) (ap (λ m. slice_set c.args.runs.now.items (m - 1) c.in-Some.both) n)).1
+returns-in-Some-clause-packed c = (by_last (goal.at.returns-in-Some-clause-packed c).In-Some _ (omega (arith, c.len-last.ensures, c.args.runs.now.ok.0))).1
 
 -- it is added
 by_itself : (c : In_ok-push) → (expand c.push.new.self.items ≡ expand c.args.runs.now.items ++ rows_of c.args.run) × ArePacked c.push.new.self.items

@@ -19,7 +19,7 @@ loop-run-preserved c = record {
 pub returns-clause-pack : goal.returns-clause-pack
 returns-clause-pack c =
     let p = c.loop-run.invariant.packed in
-    sym (pack-expand c.loop-run.merged.items p.each p.packed) ∙ ap pack (all_runs c.loop-run.merged.items c.args.runs.now c.loop-run.run-index c.loop-run-test.false c.loop-run.invariant.rows)
+    sym (pack-expand _ p.each p.packed) ∙ ap pack (all_runs c.loop-run.merged.items c.args.runs.now _ c.loop-run-test.false c.loop-run.invariant.rows)
 
 pub returns-clause-valid : goal.returns-clause-valid
 returns-clause-valid c = rw (returns-clause-pack c) (repack-valid c.args.runs.now c.requires)
@@ -29,4 +29,5 @@ returns-clause-shorter c = rw (returns-clause-pack c) (length-pack-expand c.args
 
 pub returns-clause-tasks : goal.returns-clause-tasks
 returns-clause-tasks c set a =
-    of_runs (IsOfSet set) c.loop-run.merged.items c.args.runs.now c.loop-run.invariant.packed.each (all_runs c.loop-run.merged.items c.args.runs.now c.loop-run.run-index c.loop-run-test.false c.loop-run.invariant.rows) a
+    let inv = c.loop-run.invariant in
+    of_runs (IsOfSet set) _ c.args.runs.now inv.packed.each (all_runs c.loop-run.merged.items c.args.runs.now _ c.loop-run-test.false inv.rows) a

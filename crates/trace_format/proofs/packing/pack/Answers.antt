@@ -15,7 +15,7 @@ add-requires-clause-short c =
 pub returns-clause-pack : goal.returns-clause-pack
 returns-clause-pack c =
     let p = c.loop-row.invariant.packed in
-    sym (pack-expand c.loop-row.runs.items p.each p.packed) ∙ ap pack (all_rows c.loop-row.runs.items c.args.rows.now c.loop-row.row-index c.loop-row-test.false c.loop-row.invariant.rows)
+    sym (pack-expand _ p.each p.packed) ∙ ap pack (all_rows c.loop-row.runs.items c.args.rows.now _ c.loop-row-test.false c.loop-row.invariant.rows)
 
 pub returns-clause-only : goal.returns-clause-only
 returns-clause-only c others valid packed same = sym (pack-expand others (each_of_all IsRun others valid.each) packed) ∙ (ap pack same ∙ sym (returns-clause-pack c))
@@ -25,4 +25,5 @@ returns-clause-valid c = rw (returns-clause-pack c) (pack-valid c.args.rows.now 
 
 pub returns-clause-tasks : goal.returns-clause-tasks
 returns-clause-tasks c set a =
-    of_rows (IsOfSet set) c.loop-row.runs.items c.args.rows.now c.loop-row.invariant.packed.each (all_rows c.loop-row.runs.items c.args.rows.now c.loop-row.row-index c.loop-row-test.false c.loop-row.invariant.rows) a
+    let inv = c.loop-row.invariant in
+    of_rows (IsOfSet set) _ c.args.rows.now inv.packed.each (all_rows c.loop-row.runs.items c.args.rows.now _ c.loop-row-test.false inv.rows) a

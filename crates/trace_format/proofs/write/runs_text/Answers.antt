@@ -12,6 +12,7 @@ loop-run-preserved c =
     let inside = c.loop-run-test.true in
     record {
       tick = ticks-more c.args.runs.now c.loop-run.run-index c.loop-run.tick _ _ inside inv.tick c.tick_after-tick.ensures;
-      text = lines-more c.args.set.now.tasks c.args.runs.now c.loop-run.run-index c.loop-run.tick _ _ c.loop-run.out.items _ _ inside c.tick_after-tick.ensures c.in_ok-push_run.ensures.line inv.text;
+      text = lines-more c.args.set.now.tasks c.args.runs.now c.loop-run.run-index c.loop-run.tick _ _ c.loop-run.out.items _ _ inside c.tick_after-tick.ensures
+          c.in_ok-push_run.ensures.line inv.text;
       writable = All-more (IsWritable c.args.set.now.tasks) c.args.runs.now c.loop-run.run-index _ inside inv.writable c.push_run.ensures.writable;
     }

@@ -1,11 +1,12 @@
-use Rattle.std.proofs.Common.{◌≡◌, ◌≢◌, ◌∙◌, sym, rules, length, ap}
+use Rattle.std.proofs.Common.{◌≡◌, ◌≢◌, ◌∙◌, [], sym, rules, length, map, ap}
+use Rattle.std.proofs.lemmas.List.{nil_from_length}
 use Rattle.mc_model.specs.Legal.{is_empty}
 use Rattle.mc_model.proofs.Repeats.{idle_legal}
 use Rattle.trace_judge.specs.Placed.{waiting}
-use Rattle.trace_judge.proofs.Placed.{pending_is}
-use Rattle.trace_judge.proofs.Fitting.{at_first}
-use Rattle.trace_judge.proofs.Faults.{idle_some, same_length, empty_at, nothing_at}
-use Rattle.trace_judge.proofs.KeepsRun.{keeps_rest}
+use Rattle.trace_judge.proofs.Placed.{live_of, pending_is}
+use Rattle.trace_judge.proofs.Ticks.{at_first}
+use Rattle.trace_judge.proofs.Faults.{idle_some, same_length}
+use Rattle.trace_judge.proofs.Keeps.{keeps_rest}
 use Rattle.trace_judge.proofs.step.idle.Goals as goal
 
 pub returns-then-not-is_empty : goal.returns-then-not-is_empty
@@ -15,7 +16,8 @@ returns-then-not-is_empty c g l t =
 pub returns : goal.returns
 returns c g l t =
     let h : length c.args.state.now.waiting.entries ≡ 0 = search rules in
-    let none : length (waiting c.args.set.now.tasks g) ≡ 0 = sym (same_length c.args.set.now.tasks c.args.rule g c.args.state.now t) ∙ h in (
-      idle_legal c.args.set.now.tasks c.args.rule c.args.length g l (ap is_empty (pending_is c.args.set.now.tasks c.args.rule g l) ∙ empty_at (waiting c.args.set.now.tasks g) none),
-      keeps_rest c.args.set.now.tasks c.args.rule g c.args.state.now _ c.args.length c.requires.is_run (nothing_at (waiting c.args.set.now.tasks g) none) t c.rest.ensures,
+    let none : waiting c.args.set.now.tasks g ≡ [] = nil_from_length (waiting c.args.set.now.tasks g)
+    (sym (same_length c.args.set.now.tasks c.args.rule g c.args.state.now t) ∙ h) in (
+      idle_legal c.args.set.now.tasks c.args.rule c.args.length g l (ap is_empty (pending_is c.args.set.now.tasks c.args.rule g l ∙ ap (map live_of) none)),
+      keeps_rest c.args.set.now.tasks c.args.rule g c.args.state.now _ c.args.length c.requires.is_run none t c.rest.ensures,
     )

@@ -1,7 +1,7 @@
 use Rattle.std.proofs.Common.{◌∙◌, sym, arith}
-use Rattle.trace_judge.proofs.Fitting.{at_first}
+use Rattle.trace_judge.proofs.Ticks.{at_first}
 use Rattle.trace_judge.proofs.Faults.{release_fault}
-use Rattle.trace_judge.proofs.KeepsRelease.{keeps_release}
+use Rattle.trace_judge.proofs.Keeps.{keeps_release}
 use Rattle.trace_judge.proofs.step.release.Goals as goal
 
 pub returns-in-Some : goal.returns-in-Some

@@ -1,4 +1,4 @@
-use Rattle.trace_judge.proofs.Fitting.{at_first}
+use Rattle.trace_judge.proofs.Ticks.{at_first}
 use Rattle.trace_judge.proofs.Faults.{stands_not_pending, stands_not_least}
 use Rattle.trace_judge.proofs.step.tick.Goals as goal
 

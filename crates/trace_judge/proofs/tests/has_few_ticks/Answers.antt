@@ -1,4 +1,4 @@
-use Rattle.std.proofs.Common.{◌≡◌, ℕ, ◌+◌, ◌<◌, List, ◌∷◌, [], length, take, get_or, ap, ◌∙◌, arith}
+use Rattle.std.proofs.Common.{◌≡◌, ℕ, ◌+◌, ◌<◌, List, ◌∷◌, [], length, take, get_or, ap, arith}
 use Rattle.std.proofs.lemmas.List.{take_more}
 use Rattle.mc_model.specs.Sums.{total}
 use Rattle.mc_model.specs.declared.run.Run.{Run}
@@ -9,8 +9,7 @@ use Rattle.trace_judge.proofs.tests.has_few_ticks.Goals as goal
 -- the ticks of one run more
 one_more : (runs : List Run) (i n m : ℕ) (d : Run) → i < length runs → n ≡ total length_of (take i runs) → m ≡ length_of (get_or runs i d) → n + m ≡ total length_of (take (i + 1) runs)
 one_more runs i n m d h was one =
-    let more : total length_of (take (i + 1) runs) ≡ total length_of (take i runs) + total length_of (get_or runs i d ∷ []) = ap (total length_of) (take_more runs i d h) ∙ total-append length_of (take i runs) (get_or runs i d ∷ []) in
-    omega (arith, more, was, one)
+    omega (arith, ap (total length_of) (take_more runs i d h), total-append length_of (take i runs) (get_or runs i d ∷ []), was, one)
 
 pub loop-run-preserved : goal.loop-run-preserved
 loop-run-preserved c =

@@ -17,4 +17,5 @@ returns c =
     let h = c.close-floor.ensures in
     let few : length c.args.passes.items ≤ length (floor_of c.args.self).core.set = search rules in
     subst (OneHistoryLeaves (floor_of c.args.self) c.args.passes.items) (sym c.into_floor.ensures)
-    (closed c.args.self c.args.passes.items c.give_seats.new.list.items c.close-floor.result h.log few c.give_seats.ensures c.requires.of c.requires.each h.stands.legal h.stands.leaves h.stands.kept (ap (λ (x : Opened). x.floor) h.fixed) h.each)
+    (closed c.args.self c.args.passes.items c.give_seats.new.list.items c.close-floor.result h.log few
+    c.give_seats.ensures c.requires.of c.requires.each h.stands (ap (λ (x : Opened). x.floor) h.fixed) h.each)

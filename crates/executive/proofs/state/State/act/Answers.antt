@@ -15,5 +15,5 @@ show-requires-clause-next c =
       c.requires.shown,
       ap (λ (x : Shown). x.ticks) c.shown.ensures.shown
           ∙ (ap (λ (x : FloorState). ticks x.core.rows) c.answer-answer.ensures.floor
-          ∙ (ticks_law f c.args.task.0 c.args.call c.requires.may ∙ ap (λ (b : Bool). ticks f.core.rows + cond b 1 0) ends)),
+          ∙ (ticks_law f c.args.task.0 c.args.call ∙ ap (λ (b : Bool). ticks f.core.rows + cond b 1 0) ends)),
     )

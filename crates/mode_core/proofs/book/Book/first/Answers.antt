@@ -1,10 +1,9 @@
-use Rattle.std.proofs.Common.{◌≡◌, option_map, subst}
+use Rattle.std.proofs.Common.{◌≡◌, option_map, reverse, subst}
 use Rattle.mc_model.specs.Mode.{high_mode}
 use Rattle.mc_model.specs.Pending.{pending}
 use Rattle.mc_model.specs.Core.{first_to_run}
 use Rattle.mode_core.specs.Entries.{entry}
 use Rattle.mode_core.specs.Written.{Written}
-use Rattle.std.proofs.Common.{reverse}
 use Rattle.mode_core.proofs.FirstJob.{first_told}
 use Rattle.mode_core.proofs.book.Book.first.Goals as goal
 

@@ -9,17 +9,17 @@ use Rattle.mode_core.proofs.Tally.{slot_free, began, tally_dropped}
 use Rattle.mode_core.proofs.Opened.{opened_legal, opened_room, clock_small, one_more_seen, one_more_kept}
 use Rattle.mode_core.proofs.book.Book.push_release.Goals as goal
 
-pub begin-requires-clause-in_set : goal.begin-requires-clause-in_set
-begin-requires-clause-in_set c = (opened_legal c.self.inside c.args.self.now (λ w. row.Release c.args.job c.args.kept) c.self.view_is c.requires.legal).0
-
-pub begin-requires-clause-range : goal.begin-requires-clause-range
-begin-requires-clause-range c = let t = clock_small c.self.inside c.self.invariant in omega (arith, t)
-
-pub begin-requires-clause-free : goal.begin-requires-clause-free
-begin-requires-clause-free c =
+pub begin-requires : goal.begin-requires
+begin-requires c =
     let a = c.self.inside in
-    slot_free a.live.set a.live.rule (reverse a.rows.items) a.ticks a.live.high (waiting a.live) c.args.job c.args.kept c.self.invariant.tasks.each c.self.invariant.holds
-    (opened_legal a c.args.self.now (λ w. row.Release c.args.job c.args.kept) c.self.view_is c.requires.legal) c.self.invariant.tally
+    let l = opened_legal a c.args.self.now (λ w. row.Release c.args.job c.args.kept) c.self.view_is c.requires.legal in
+    record {
+      in_set = l.0;
+      range = omega (arith, clock_small a c.self.invariant);
+      free =
+          slot_free a.live.set a.live.rule (reverse a.rows.items) a.ticks a.live.high (waiting a.live) c.args.job c.args.kept
+          c.self.invariant.tasks.each c.self.invariant.holds l c.self.invariant.tally;
+    }
 
 pub invariant_of-self : goal.invariant_of-self
 invariant_of-self c =

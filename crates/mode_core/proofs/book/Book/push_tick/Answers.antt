@@ -1,11 +1,10 @@
-use Rattle.std.proofs.Common.{◌≡◌, ◌+◌, ◌≤◌, List, ◌∷◌, Bool, reverse, refl, sym, ap, ◌∙◌, subst, arith, rules}
+use Rattle.std.proofs.Common.{◌≡◌, ◌+◌, List, ◌∷◌, Bool, reverse, refl, sym, ap, ◌∙◌, subst, arith, rules}
 use Rattle.mc_task.specs.declared.task.JobId.{JobId}
 use Rattle.mc_task.specs.declared.task.Task.{Task}
-use Rattle.mc_task.specs.TaskSet.{IsIn, task_at}
+use Rattle.mc_task.specs.TaskSet.{IsIn}
 use Rattle.mc_model.specs.declared.row.How.{How}
 use Rattle.mc_model.specs.declared.row.Row.{Row}
 use Rattle.mc_model.specs.declared.row.Row.TheVariants as row
-use Rattle.mc_model.specs.TaskNumbers.{own_in}
 use Rattle.mc_model.specs.Rows.{used}
 use Rattle.mc_model.specs.Legal.{Legal}
 use Rattle.mc_model.specs.Core.{outcome_of}
@@ -30,16 +29,16 @@ outcome : (a : Inside) (j : JobId) (done : Bool) (how : How) → IsBook a → Le
     how ≡ outcome_of a.live.set a.live.rule (reverse a.rows.items) j done
 outcome a j done how k l o = o (reverse a.rows.items) (sym k.tally.mode_is) (line a j done k l)
 
-pub tick-how-requires-clause-in_set : goal.tick-how-requires-clause-in_set
-tick-how-requires-clause-in_set c = (opened_legal c.self.inside c.args.self.now (tick_row c.args.job c.args.done) c.self.view_is c.requires.legal).0
-
-pub tick-how-requires-clause-below : goal.tick-how-requires-clause-below
-tick-how-requires-clause-below c =
+pub tick-how-requires : goal.tick-how-requires
+tick-how-requires c =
     let a = c.self.inside in
     let l = opened_legal a c.args.self.now (tick_row c.args.job c.args.done) c.self.view_is c.requires.legal in
-    let own : used (reverse a.rows.items) c.args.job + 1 ≤ own_in (task_at a.live.set c.args.job.task.0) =
-    ticking_own a.live.set a.live.rule (reverse a.rows.items) c.args.job (outcome_of a.live.set a.live.rule (reverse a.rows.items) c.args.job c.args.done) c.self.invariant.tasks.each c.self.invariant.holds l in
-    omega (arith, own, line a c.args.job c.args.done c.self.invariant l)
+    let how = outcome_of a.live.set a.live.rule (reverse a.rows.items) c.args.job c.args.done in
+    let own = ticking_own a.live.set a.live.rule (reverse a.rows.items) c.args.job how c.self.invariant.tasks.each c.self.invariant.holds l in
+    record {
+      in_set = l.0;
+      below = omega (arith, own, line a c.args.job c.args.done c.self.invariant l);
+    }
 
 pub clear_after-requires : goal.clear_after-requires
 clear_after-requires c =
@@ -62,20 +61,19 @@ invariant_of-self c =
     (ticked s c.tick-how.new.self c.clear_after.new.self (reverse a.rows.items) a.ticks c.args.job c.tick-how.result c.self.invariant.tasks.each c.self.invariant.holds
     (subst (λ (h : How). Legal s.set s.rule (row.Tick c.args.job h ∷ reverse a.rows.items)) (sym how) l) e f c.self.invariant.tally)
 
-pub returns-clause-answer : goal.returns-clause-answer
-returns-clause-answer c =
+pub returns : goal.returns
+returns c =
     let a = c.self.inside in
     let l = opened_legal a c.args.self.now (tick_row c.args.job c.args.done) c.self.view_is c.requires.legal in
-    subst (λ (w : Written). c.tick-how.result ≡ outcome_of w.set w.rule w.rows c.args.job c.args.done) c.self.view_is
-    (outcome a c.args.job c.args.done c.tick-how.result c.self.invariant l c.tick-how.ensures.answer)
-
-pub returns-clause-state : goal.returns-clause-state
-returns-clause-state c =
-    let a = c.self.inside in
-    let l = opened_legal a c.args.self.now (tick_row c.args.job c.args.done) c.self.view_is c.requires.legal in
+    let how = outcome a c.args.job c.args.done c.tick-how.result c.self.invariant l c.tick-how.ensures.answer in
     let e = c.tick-how.ensures.state in
     let f = c.clear_after.ensures in
     let b : Inside = record a { rows = c.push_reserved.new.self; ticks = a.ticks + 1; live = c.clear_after.new.self } in
-    one_more_seen a b (row.Tick c.args.job c.tick-how.result) (record { set = f.same_set ∙ e.same_set; rule = f.same_rule ∙ e.same_rule; places = refl; rows = c.push_reserved.ensures.items })
-    ∙ ap (λ (h : How). let v : Written = record (written a) { rows = row.Tick c.args.job h ∷ reverse a.rows.items } in v) (outcome a c.args.job c.args.done c.tick-how.result c.self.invariant l c.tick-how.ensures.answer)
-    ∙ ap (λ (w : Written). let v : Written = record w { rows = tick_row c.args.job c.args.done w ∷ w.rows } in v) c.self.view_is
+    record {
+      answer = subst (λ (w : Written). c.tick-how.result ≡ outcome_of w.set w.rule w.rows c.args.job c.args.done) c.self.view_is how;
+      state =
+          one_more_seen a b (row.Tick c.args.job c.tick-how.result)
+          (record { set = f.same_set ∙ e.same_set; rule = f.same_rule ∙ e.same_rule; places = refl; rows = c.push_reserved.ensures.items })
+          ∙ ap (λ (h : How). let v : Written = record (written a) { rows = row.Tick c.args.job h ∷ reverse a.rows.items } in v) how
+          ∙ ap (λ (w : Written). let v : Written = record w { rows = tick_row c.args.job c.args.done w ∷ w.rows } in v) c.self.view_is;
+    }

@@ -8,9 +8,10 @@ use Rattle.ready_queue.specs.Items.{Queue, with_item}
 use Rattle.mode_core.specs.declared.pending.Pending.{Pending}
 use Rattle.mode_core.specs.declared.live.LiveJob.{LiveJob}
 use Rattle.mode_core.specs.declared.live.LiveJobs.TheInside.{Inside}
-use Rattle.mode_core.specs.Slots.{Slots, job_at, waiting, ChangesOnly}
+use Rattle.mode_core.specs.Slots.{Slots, job_at, ticks_at, told, waiting, ChangesOnly}
 use Rattle.mode_core.specs.Kept.{slots_of, AreQueued}
-use Rattle.mode_core.proofs.Queued.{not_told, queued_begin}
+use Rattle.mode_core.proofs.Options.{no_map}
+use Rattle.mode_core.proofs.Queued.{queued_begin}
 use Rattle.mode_core.proofs.Changes.{begun}
 use Rattle.mode_core.proofs.live.LiveJobs.begin.Goals as goal
 
@@ -23,22 +24,21 @@ invariant_of-self c =
     let a = c.self.inside in
     let k = c.args.job.task.0 in
     let inside : IsIn a.set.tasks k = subst (λ (s : Slots). IsIn s.set k) (sym c.self.view_is) c.requires.in_set in
-    let free : job_at a.jobs.items k ≡ None = not_told a.jobs.items a.used.ticks k (subst (λ (s : Slots). waiting s k ≡ None) (sym c.self.view_is) c.requires.free) in
-    let last = inside.1 in
-    let slots = c.self.invariant.slots in
+    let none = subst (λ (s : Slots). waiting s k ≡ None) (sym c.self.view_is) c.requires.free in
+    let free : job_at a.jobs.items k ≡ None = no_map (told k (ticks_at (slots_of a) k)) (job_at a.jobs.items k) none in
     let j : LiveJob = record { count = c.args.job.count; release = c.args.release } in
     let jobs : List (Option LiveJob) = slice_set a.jobs.items (k - 1) (Some j) in
     record {
       tasks = c.self.invariant.tasks;
       fits = c.self.invariant.fits;
-      slots = length-set a.jobs.items (k - 1) (Some j) ∙ slots;
+      slots = length-set a.jobs.items (k - 1) (Some j) ∙ c.self.invariant.slots;
       lines = ap (λ (l : Ledger). length l.ticks) c.start.ensures ∙ (length-set a.used.ticks (k - 1) 0 ∙ c.self.invariant.lines);
       budgets = ap (λ (l : Ledger). l.budgets) c.start.ensures ∙ c.self.invariant.budgets;
       places = ap (λ (q : Queue). q.places) c.insert.ensures ∙ c.self.invariant.places;
       queued =
           subst (λ (q : Queue). AreQueued a.set.tasks a.rule a.high jobs q.items) (sym c.insert.ensures)
           (subst (λ (i : Item). AreQueued a.set.tasks a.rule a.high jobs (with_item i a.queue.items)) (sym c.item.ensures)
-          (queued_begin a.set.tasks a.rule a.high a.jobs.items a.queue.items k j c.self.invariant.queued inside (omega (arith, last, slots)) free));
+          (queued_begin a.set.tasks a.rule a.high a.jobs.items a.queue.items k j c.self.invariant.queued inside (omega (arith, inside.1, c.self.invariant.slots)) free));
     }
 
 pub returns : goal.returns

@@ -14,20 +14,18 @@ pub invariant_of-self : goal.invariant_of-self
 invariant_of-self c =
     let a = c.self.inside in
     let inside : IsIn a.set.tasks c.args.task.0 = subst (λ (s : Slots). IsIn s.set c.args.task.0) (sym c.self.view_is) c.requires in
-    let last = inside.1 in
-    let slots = c.self.invariant.slots in
     let none : Option LiveJob = None in
     let jobs : List (Option LiveJob) = slice_set a.jobs.items (c.args.task.0 - 1) none in
     record {
       tasks = c.self.invariant.tasks;
       fits = c.self.invariant.fits;
-      slots = length-set a.jobs.items (c.args.task.0 - 1) none ∙ slots;
+      slots = length-set a.jobs.items (c.args.task.0 - 1) none ∙ c.self.invariant.slots;
       lines = c.self.invariant.lines;
       budgets = c.self.invariant.budgets;
       places = ap (λ (q : Queue). q.places) c.remove.ensures.state ∙ c.self.invariant.places;
       queued =
           subst (λ (q : Queue). AreQueued a.set.tasks a.rule a.high jobs q.items) (sym c.remove.ensures.state)
-          (queued_end a.set.tasks a.rule a.high a.jobs.items a.queue.items c.args.task.0 c.self.invariant.queued inside (omega (arith, last, slots)));
+          (queued_end a.set.tasks a.rule a.high a.jobs.items a.queue.items c.args.task.0 c.self.invariant.queued inside (omega (arith, inside.1, c.self.invariant.slots)));
     }
 
 pub returns : goal.returns

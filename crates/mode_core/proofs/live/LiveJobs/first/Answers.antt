@@ -12,16 +12,12 @@ overflow_sub-task c =
 pub index-requires : goal.index-requires
 index-requires c =
     let f = first_of (slots_of c.self.inside) c.self.inside.queue.places c.self.inside.queue.items c.least.result c.in_ok-task.task c.self.invariant.places c.least.ensures.items c.self.invariant.queued c.least.ensures.value c.in_ok-task.was in
-    let first = f.of_item.inside.0 in
-    let last = f.of_item.inside.1 in
-    let slots = c.self.invariant.slots in
-    omega (arith, first, last, slots, c.self.inside.jobs.ok.0)
+    omega (arith, f.of_item.inside.0, f.of_item.inside.1, c.self.invariant.slots, c.self.inside.jobs.ok.0)
 
 pub used-requires : goal.used-requires
 used-requires c =
     let f = first_of (slots_of c.self.inside) c.self.inside.queue.places c.self.inside.queue.items c.least.result c.in_ok-task.task c.self.invariant.places c.least.ensures.items c.self.invariant.queued c.least.ensures.value c.in_ok-task.was in
-    let last = f.of_item.inside.1 in
-    (f.of_item.inside.0, omega (arith, last, c.self.invariant.lines))
+    (f.of_item.inside.0, omega (arith, f.of_item.inside.1, c.self.invariant.lines))
 
 pub unreachable-requires : goal.unreachable-requires
 unreachable-requires c =

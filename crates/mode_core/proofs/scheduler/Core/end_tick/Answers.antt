@@ -24,15 +24,16 @@ invariant_of-self c =
     let b = end_book c.self.inside c.args.job c.args.done c.push_tick-how.new.self c.write_held.new.book c.deref.result.now t c.push_tick-how.ensures.state c.deref.ensures.value c.write_held.ensures in
     core_end c.self.inside _ c.args.done c.self.invariant b refl c.clear.ensures.items c.clear.ensures.capacity refl
 
-pub returns-clause-answer : goal.returns-clause-answer
-returns-clause-answer c = subst (λ (s : State). c.push_tick-how.result ≡ outcome_of s.set s.rule s.rows c.args.job c.args.done) c.self.view_is c.push_tick-how.ensures.answer
-
-pub returns-clause-state : goal.returns-clause-state
-returns-clause-state c =
+pub returns : goal.returns
+returns c =
+    let a = c.self.inside in
     let r = subst (λ (s : State). outcome_refusal s c.args.job ≡ None) (sym c.self.view_is) c.requires.none in
-    let t = ticking (state_of c.self.inside) c.args.job c.self.invariant.sound r in
-    let b = end_book c.self.inside c.args.job c.args.done c.push_tick-how.new.self c.write_held.new.book c.deref.result.now t c.push_tick-how.ensures.state c.deref.ensures.value c.write_held.ensures in
-    end_state c.self.inside (record c.self.inside { book = c.write_held.new.book; held = c.clear.new.self; out = None }) c.args.done b refl c.clear.ensures.items ∙ ap (λ (s : State). ended s c.args.done) c.self.view_is
-
-pub returns-clause-sound : goal.returns-clause-sound
-returns-clause-sound c = (invariant_of-self c).sound
+    let t = ticking (state_of a) c.args.job c.self.invariant.sound r in
+    let b =
+    end_book a c.args.job c.args.done c.push_tick-how.new.self c.write_held.new.book c.deref.result.now t c.push_tick-how.ensures.state c.deref.ensures.value c.write_held.ensures in
+    let after = record a { book = c.write_held.new.book; held = c.clear.new.self; out = None } in
+    record {
+      answer = subst (λ (s : State). c.push_tick-how.result ≡ outcome_of s.set s.rule s.rows c.args.job c.args.done) c.self.view_is c.push_tick-how.ensures.answer;
+      state = end_state a after c.args.done b refl c.clear.ensures.items ∙ ap (λ (s : State). ended s c.args.done) c.self.view_is;
+      sound = (invariant_of-self c).sound;
+    }

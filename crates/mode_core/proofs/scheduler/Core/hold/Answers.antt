@@ -14,10 +14,9 @@ note_release-job-requires c =
 
 pub push_reserved-requires : goal.push_reserved-requires
 push_reserved-requires c =
-    let room =
-    hold_room c.self.inside c.args.task.0 (takes c.self.inside _ c.args.task.0 c.self.invariant c.self.view_is c.requires.in_set c.requires.none)
-    (subst (λ (s : State). IsSome s.out) (sym c.self.view_is) c.requires.out) in
-    omega (arith, room, c.self.inside.held.ok.0)
+    let take = takes c.self.inside _ c.args.task.0 c.self.invariant c.self.view_is c.requires.in_set c.requires.none in
+    let out = subst (λ (s : State). IsSome s.out) (sym c.self.view_is) c.requires.out in
+    omega (arith, hold_room c.self.inside c.args.task.0 take out, c.self.inside.held.ok.0)
 
 pub invariant_of-self : goal.invariant_of-self
 invariant_of-self c =
@@ -27,19 +26,18 @@ invariant_of-self c =
     refl refl c.push_reserved.ensures.items c.push_reserved.ensures.capacity
     (notes_after c.self.inside c.note_release-job.new.arrivals c.args.task.0 (c.ticks-at.result + 1) (ticks c.self.inside.book.rows + 1) c.self.invariant c.note_release-job.ensures.notes (ap (λ n. n + 1) c.ticks-at.ensures.value))
 
-pub returns-clause-answer : goal.returns-clause-answer
-returns-clause-answer c =
-    let take = takes c.self.inside _ c.args.task.0 c.self.invariant c.self.view_is c.requires.in_set c.requires.none in
-    ap₂ Held (job_is c.self.inside c.args.task _ take c.note_release-job.ensures.job)
-    (ap (λ n. n + 1) c.ticks-at.ensures.value ∙ begun_out (state_of c.self.inside) (subst (λ (s : State). IsSome s.out) (sym c.self.view_is) c.requires.out))
-    ∙ ap (λ (s : State). Held (next_job s c.args.task.0) (begun s)) c.self.view_is
-
-pub returns-clause-state : goal.returns-clause-state
-returns-clause-state c =
-    let take = takes c.self.inside _ c.args.task.0 c.self.invariant c.self.view_is c.requires.in_set c.requires.none in
-    hold_state c.self.inside (record c.self.inside { arrivals = c.note_release-job.new.arrivals; held = c.push_reserved.new.self }) c.args.task.0 c.note_release-job.result
-    (job_is c.self.inside c.args.task _ take c.note_release-job.ensures.job) refl refl c.push_reserved.ensures.items
-    ∙ ap (λ (s : State). holding s (next_job s c.args.task.0)) c.self.view_is
-
-pub returns-clause-sound : goal.returns-clause-sound
-returns-clause-sound c = (invariant_of-self c).sound
+pub returns : goal.returns
+returns c =
+    let a = c.self.inside in
+    let take = takes a _ c.args.task.0 c.self.invariant c.self.view_is c.requires.in_set c.requires.none in
+    let job = job_is a c.args.task _ take c.note_release-job.ensures.job in
+    let after = record a { arrivals = c.note_release-job.new.arrivals; held = c.push_reserved.new.self } in
+    record {
+      answer =
+          ap₂ Held job (ap (λ n. n + 1) c.ticks-at.ensures.value ∙ begun_out (state_of a) (subst (λ (s : State). IsSome s.out) (sym c.self.view_is) c.requires.out))
+          ∙ ap (λ (s : State). Held (next_job s c.args.task.0) (begun s)) c.self.view_is;
+      state =
+          hold_state a after c.args.task.0 c.note_release-job.result job refl refl c.push_reserved.ensures.items
+          ∙ ap (λ (s : State). holding s (next_job s c.args.task.0)) c.self.view_is;
+      sound = (invariant_of-self c).sound;
+    }

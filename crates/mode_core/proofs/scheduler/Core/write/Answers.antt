@@ -26,20 +26,19 @@ invariant_of-self c =
     c.push_release.ensures refl refl refl
     (notes_after c.self.inside c.note_release-job.new.arrivals c.args.task.0 c.ticks-at.result (ticks c.self.inside.book.rows) c.self.invariant c.note_release-job.ensures.notes c.ticks-at.ensures.value)
 
-pub returns-clause-answer : goal.returns-clause-answer
-returns-clause-answer c =
-    let take = takes c.self.inside _ c.args.task.0 c.self.invariant c.self.view_is c.requires.in_set c.requires.none in
-    c.kept_or_dropped.ensures
-    ∙ write_answer c.self.inside c.args.task.0 c.note_release-job.result c.keeps-kept.result c.ticks-at.result (job_is c.self.inside c.args.task _ take c.note_release-job.ensures.job) c.keeps-kept.ensures
-    (c.ticks-at.ensures.value ∙ begun_in (state_of c.self.inside) (ap (λ (s : State). s.out) c.self.view_is ∙ c.requires.out))
-    ∙ ap (λ (s : State). taken s None c.args.task.0) c.self.view_is
-
-pub returns-clause-state : goal.returns-clause-state
-returns-clause-state c =
-    let take = takes c.self.inside _ c.args.task.0 c.self.invariant c.self.view_is c.requires.in_set c.requires.none in
-    write_state c.self.inside (record c.self.inside { book = c.push_release.new.self; arrivals = c.note_release-job.new.arrivals }) c.args.task.0 _
-    (row_is c.self.inside c.args.task.0 _ _ (job_is c.self.inside c.args.task _ take c.note_release-job.ensures.job) c.keeps-kept.ensures) c.push_release.ensures refl refl
-    ∙ ap (λ (s : State). writing s (next_job s c.args.task.0)) c.self.view_is
-
-pub returns-clause-sound : goal.returns-clause-sound
-returns-clause-sound c = (invariant_of-self c).sound
+pub returns : goal.returns
+returns c =
+    let a = c.self.inside in
+    let take = takes a _ c.args.task.0 c.self.invariant c.self.view_is c.requires.in_set c.requires.none in
+    let job = job_is a c.args.task _ take c.note_release-job.ensures.job in
+    let after = record a { book = c.push_release.new.self; arrivals = c.note_release-job.new.arrivals } in
+    let now = c.ticks-at.ensures.value ∙ begun_in (state_of a) (ap (λ (s : State). s.out) c.self.view_is ∙ c.requires.out) in
+    record {
+      answer =
+          c.kept_or_dropped.ensures ∙ write_answer a c.args.task.0 c.note_release-job.result c.keeps-kept.result c.ticks-at.result job c.keeps-kept.ensures now
+          ∙ ap (λ (s : State). taken s None c.args.task.0) c.self.view_is;
+      state =
+          write_state a after c.args.task.0 _ (row_is a c.args.task.0 _ _ job c.keeps-kept.ensures) c.push_release.ensures refl refl
+          ∙ ap (λ (s : State). writing s (next_job s c.args.task.0)) c.self.view_is;
+      sound = (invariant_of-self c).sound;
+    }

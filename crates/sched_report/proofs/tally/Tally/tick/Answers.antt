@@ -1,7 +1,9 @@
-use Rattle.std.proofs.Common.{◌≡◌, ℕ, ◌++◌, replicate, inl, inr, refl, sym, subst}
+use Rattle.std.proofs.Common.{◌≡◌, ℕ, ◌++◌, true, false, replicate, inl, inr, refl, sym, subst}
 use Rattle.mc_model.specs.declared.row.How.{How}
 use Rattle.mc_model.specs.declared.row.Row.TheVariants.{Tick}
 use Rattle.mc_model.specs.Legal.{Legal}
+use Rattle.mc_model.specs.Pending.{is_end}
+use Rattle.mc_model.specs.Mode.{is_over}
 use Rattle.mc_model.proofs.Runs.{alone}
 use Rattle.sched_report.specs.Tally.{Tallies}
 use Rattle.sched_report.proofs.Released.{release_of}
@@ -15,17 +17,12 @@ returns-in-More c = λ tasks rule g l t.
 
 pub returns-in-Done : goal.returns-in-Done
 returns-in-Done c = λ tasks rule g l t.
-    let one : c.args.length ≡ 1 = elim c.in-Done.is [
-      | inl is ↦ alone c.args.job c.args.how c.args.length c.requires.is_run (λ (e : c.args.how ≡ How.More). cc)
-      | inr is ↦ alone c.args.job c.args.how c.args.length c.requires.is_run (λ (e : c.args.how ≡ How.More). cc)
-    ] in
+    let last : (is_end c.args.how ≡ true) × (is_over c.args.how ≡ false) = elim c.in-Done.is [ inl is ↦ rw is (refl, refl) | inr is ↦ rw is (refl, refl) ] in
+    let one = alone c.args.job c.args.how c.args.length c.requires.is_run (λ (e : c.args.how ≡ How.More). cc (rw e at last.0)) in
     let l = subst (λ (n : ℕ). Legal tasks rule (replicate n (Tick c.args.job c.args.how) ++ g)) one l in
     let ends = c.end.ensures _ (release_of g c.args.job) (found tasks g c.args.job.task.0 _ l.0 t.tasks) (held_at tasks rule c.args.job c.args.how g c.args.self.now.waiting l t.waiting) in
     subst (λ (n : ℕ). Tallies tasks (replicate n (Tick c.args.job c.args.how) ++ g) c.end.new.self) (sym one)
-    (elim c.in-Done.is [
-      | inl is ↦ end_step tasks rule c.args.job c.args.how g _ _ (rw is refl) (rw is refl) l t ends
-      | inr is ↦ end_step tasks rule c.args.job c.args.how g _ _ (rw is refl) (rw is refl) l t ends
-    ])
+    (end_step tasks rule c.args.job c.args.how g _ _ last.0 last.1 l t ends)
 
 pub returns-in-Over : goal.returns-in-Over
 returns-in-Over c = λ tasks rule g l t.

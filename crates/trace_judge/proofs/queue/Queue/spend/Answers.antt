@@ -1,9 +1,9 @@
-use Rattle.std.proofs.Common.{◌≡◌, ◌+◌, ◌-◌, ◌^◌, min, ℕ, ◌∙◌, sym, ap, subst, List, set, get_or}
+use Rattle.std.proofs.Common.{◌≡◌, ◌+◌, ◌-◌, ◌^◌, min, ℕ, ◌∙◌, sym, ap, subst, List, [], ◌∷◌, set, get_or}
 use Rattle.std.proofs.lemmas.List.{get_or_read}
 use Rattle.trace_judge.specs.Firsts.{change_first}
 use Rattle.trace_judge.specs.Queues.{has_count, spent_job, IsQueue}
 use Rattle.trace_judge.specs.declared.queue.Queued.{Queued}
-use Rattle.trace_judge.proofs.Firsts.{change_at, change_none}
+use Rattle.trace_judge.proofs.Firsts.{change_at, edit_none}
 use Rattle.trace_judge.proofs.Ordered.{ordered_spent}
 use Rattle.trace_judge.proofs.queue.Queue.spend.Goals as goal
 
@@ -31,4 +31,5 @@ invariant_of-self c = returns-in-Some-clause-ordered c
 
 pub returns-in_default-clause-jobs : goal.returns-in_default-clause-jobs
 returns-in_default-clause-jobs c =
-    sym (subst (λ (qs : List Queued). change_first (has_count c.args.count) (spent_job c.args.ticks) qs ≡ qs) c.self.view_is (change_none (has_count c.args.count) (spent_job c.args.ticks) c.self.inside.jobs.items c.in_default.ensures.none))
+    sym (subst (λ (qs : List Queued). change_first (has_count c.args.count) (spent_job c.args.ticks) qs ≡ qs) c.self.view_is
+    (edit_none (has_count c.args.count) (λ q. spent_job c.args.ticks q ∷ []) c.self.inside.jobs.items c.in_default.ensures.none))

@@ -1,21 +1,15 @@
-use Rattle.std.proofs.Common.{◌≡◌, ◌<◌, ℕ, ◌∙◌, sym, ap, subst, List, [], ◌∷◌, arith, length}
+use Rattle.std.proofs.Common.{◌≡◌, ◌∙◌, sym, ap, subst, List, []}
 use Rattle.trace_judge.specs.Firsts.{remove_first}
 use Rattle.trace_judge.specs.Queues.{has_count, IsQueue}
 use Rattle.trace_judge.specs.declared.queue.Queued.{Queued}
-use Rattle.trace_judge.proofs.Firsts.{remove_at, remove_none}
+use Rattle.trace_judge.proofs.Firsts.{remove_at, edit_none}
 use Rattle.trace_judge.proofs.Ordered.{ordered_remove}
 use Rattle.trace_judge.proofs.queue.Queue.take_out.Goals as goal
 
 pub returns-in-Some-clause-jobs : goal.returns-in-Some-clause-jobs
 returns-in-Some-clause-jobs c =
-    let first = c.in-Some.ensures.first in
-    let inside = first.inside in
-    let d : Queued = a_job c.self.inside.jobs.items c.in-Some.place inside in
-    c.take_at.ensures ∙ (sym (remove_at (has_count c.args.count) c.self.inside.jobs.items c.in-Some.place d first) ∙ ap (remove_first (has_count c.args.count)) c.self.view_is)
-  where
-    a_job : (qs : List Queued) (i : ℕ) → i < length qs → Queued
-    a_job [] i h = absurd (omega arith)
-    a_job (q ∷ qs) i h = q
+    c.take_at.ensures ∙ (sym (remove_at (has_count c.args.count) c.self.inside.jobs.items c.in-Some.place c.in-Some.ensures.first)
+    ∙ ap (remove_first (has_count c.args.count)) c.self.view_is)
 
 pub returns-in-Some-clause-ordered : goal.returns-in-Some-clause-ordered
 returns-in-Some-clause-ordered c =
@@ -26,4 +20,5 @@ invariant_of-self c = returns-in-Some-clause-ordered c
 
 pub returns-in_default-clause-jobs : goal.returns-in_default-clause-jobs
 returns-in_default-clause-jobs c =
-    sym (subst (λ (qs : List Queued). remove_first (has_count c.args.count) qs ≡ qs) c.self.view_is (remove_none (has_count c.args.count) c.self.inside.jobs.items c.in_default.ensures.none))
+    sym (subst (λ (qs : List Queued). remove_first (has_count c.args.count) qs ≡ qs) c.self.view_is
+    (edit_none (has_count c.args.count) (λ q. []) c.self.inside.jobs.items c.in_default.ensures.none))

@@ -1,9 +1,8 @@
-use Rattle.std.proofs.Common.{◌≡◌, ◌≤◌, ◌<◌, ◌^◌, ℕ, List, [], length, replicate, sym, ap, subst, ◌∙◌, arith}
+use Rattle.std.proofs.Common.{◌≤◌, ◌<◌, ◌^◌, ℕ, List, [], replicate, refl, sym, arith}
 use Rattle.std.proofs.lemmas.List.{length-replicate}
 use Rattle.trace_judge.specs.declared.queue.Queued.{Queued}
 use Rattle.trace_judge.specs.Heads.{no_key}
-use Rattle.trace_judge.specs.Entries.{Entry, Held}
-use Rattle.trace_judge.specs.Queues.{AreQueues, entries_from, held}
+use Rattle.trace_judge.specs.Queues.{AreQueues}
 use Rattle.trace_judge.proofs.Queues.{none_entries, none_heads, none_queues}
 use Rattle.trace_judge.proofs.waiting.Waiting.new.Goals as goal
 
@@ -17,19 +16,7 @@ new_queues n some few = record {
 }
 
 pub invariant_of-result : goal.invariant_of-result
-invariant_of-result c =
-    subst (AreQueues c.in_ok-queues.queues.items) (sym c.in_ok-heads.ensures)
-    (subst (λ (qs : List (List Queued)). AreQueues qs (replicate c.args.count no_key)) (sym c.in_ok-queues.ensures) (new_queues c.args.count c.requires c.ranges.count.fits))
-
--- what is held, from its parts
-abbrev a_held : ℕ → List Entry → Held
-a_held n es = record { tasks = n; entries = es }
-
--- what is held by them
-new_held : (n : ℕ) → held (replicate n []) ≡ record { tasks = n; entries = [] }
-new_held n =
-    let count : length (replicate n []) ≡ n = length-replicate {A = List Queued} n [] in
-    ap (λ (m : ℕ). a_held m (entries_from 1 (replicate n []))) count ∙ ap (a_held n) (none_entries 1 n)
+invariant_of-result c = rw (c.in_ok-heads.ensures, c.in_ok-queues.ensures) (new_queues c.args.count c.requires c.ranges.count.fits)
 
 pub returns : goal.returns
-returns c = ap held c.in_ok-queues.ensures ∙ new_held c.args.count
+returns c = rw (c.in_ok-queues.ensures, length-replicate {A = List Queued} c.args.count [], none_entries 1 c.args.count) refl

@@ -1,44 +1,24 @@
-use Rattle.std.proofs.Common.{◌≡◌, ℕ, ◌+◌, ◌-◌, ◌<◌, ◌≤◌, Bool, true, false, cond, List, length, set, get_or, sym, ap, subst, ◌∙◌, arith}
+use Rattle.std.proofs.Common.{◌≡◌, ℕ, ◌+◌, ◌-◌, Bool, cond, List, set, get_or, sym, ap, subst, ◌∙◌, arith}
 use Rattle.std.proofs.lemmas.List.{set-get_or}
 use Rattle.mc_model.specs.Sums.{total}
 use Rattle.trace_judge.specs.declared.queue.Queued.{Queued}
 use Rattle.trace_judge.specs.declared.waiting.Pending.{Pending}
 use Rattle.trace_judge.specs.Entries.{Rank, Held, HasQueue, IsMore}
-use Rattle.trace_judge.specs.Queues.{AreQueues, head_key, entry_in, entries_from, held}
-use Rattle.trace_judge.proofs.Queues.{queues_set, queues_same, more_set}
+use Rattle.trace_judge.specs.Queues.{AreQueues, head_key, entries_from, held}
+use Rattle.trace_judge.proofs.Queues.{place_inside, queues_set, queues_same, more_set}
 use Rattle.trace_judge.proofs.waiting.Waiting.put.Goals as goal
 
 -- a job of this rank
 abbrev a_job : Rank → Pending → Queued
 a_job at p = record { key = at.0; count = at.2; pending = p }
 
--- its queue is among the queues
-place_inside : (h : Held) (qs : List (List Queued)) (at : Rank) → held qs ≡ h → HasQueue h at.1 → at.1 - 1 < length qs
-place_inside h qs at view has =
-    let some : 1 ≤ at.1 = has.0 in
-    let last = has.1 in
-    let tasks : length qs ≡ h.tasks = ap (λ (x : Held). x.tasks) view in
-    omega (arith, some, tasks, last)
-
 -- with one more job in its queue there is one more entry
 one_more : (h : Held) (qs : List (List Queued)) (at : Rank) (p : Pending) (queue new : List Queued) → held qs ≡ h → HasQueue h at.1 → queue ≡ get_or qs (at.1 - 1) queue →
     ((f : Queued → ℕ) → total f new ≡ f (a_job at p) + total f queue) → IsMore (entries_from 1 (set qs (at.1 - 1) new)) (at, p) h.entries
 one_more h qs at p queue new view has here jobs f =
-    let some : 1 ≤ at.1 = has.0 in
-    let number : 1 + (at.1 - 1) ≡ at.1 = omega (arith, some) in
-    let more = more_set 1 qs (at.1 - 1) new queue (a_job at p) (place_inside h qs at view has) (λ g. jobs g ∙ ap (λ (q : List Queued). g (a_job at p) + total g q) here) f in
-    let entry : f (entry_in (1 + (at.1 - 1)) (a_job at p)) ≡ f (at, p) = ap (λ (k : ℕ). f (entry_in k (a_job at p))) number in
-    let seen : total f (entries_from 1 qs) ≡ total f h.entries = ap (λ (x : Held). total f x.entries) view in
-    omega (arith, more, entry, seen)
-
--- where it is first, its key is the one at the head, and otherwise that stays
-head_is : (first : Bool) (key : ℕ) (new old : List Queued) → head_key new ≡ cond first key (head_key old) → first ≡ true → head_key new ≡ key
-head_is true key new old h e = h
-head_is false key new old h e = cc
-
-head_stays : (first : Bool) (key : ℕ) (new old : List Queued) → head_key new ≡ cond first key (head_key old) → first ≡ false → head_key new ≡ head_key old
-head_stays false key new old h e = h
-head_stays true key new old h e = cc
+    more_set at.1 qs (at.1 - 1) new queue (a_job at p) (omega (arith, has.0)) (place_inside h qs at.1 view has)
+    (λ g. jobs g ∙ ap (λ (q : List Queued). g (a_job at p) + total g q) here) f
+    ∙ ap (λ (x : Held). f (at, p) + total f x.entries) view
 
 pub invariant_of-self : goal.invariant_of-self
 invariant_of-self c =
@@ -51,8 +31,7 @@ pub invariant_of-self-then-not-is_first : goal.invariant_of-self-then-not-is_fir
 invariant_of-self-then-not-is_first c =
     let queue : List Queued = c.index_mut-queue.result.now in
     queues_same c.self.inside.queues.items c.self.inside.heads (c.args.at.1 - 1) c.push.new.self queue c.self.invariant c.in_ok-is_first.ensures.ordered
-    (place_inside c.args.self.now c.self.inside.queues.items c.args.at c.self.view_is c.requires.task)
-    (head_stays c.in_ok-is_first.is_first c.args.at.0 c.push.new.self queue c.in_ok-is_first.ensures.head c.if-not-is_first.true ∙ ap head_key c.index_mut-queue.ensures.value)
+    (c.in_ok-is_first.ensures.head ∙ (ap (λ (b : Bool). cond b c.args.at.0 (head_key queue)) c.if-not-is_first.true ∙ ap head_key c.index_mut-queue.ensures.value))
 
 pub returns-then-not-is_first-clause-entries : goal.returns-then-not-is_first-clause-entries
 returns-then-not-is_first-clause-entries c =
@@ -60,10 +39,9 @@ returns-then-not-is_first-clause-entries c =
 
 pub invariant_of-self-2 : goal.invariant_of-self-2
 invariant_of-self-2 c =
-    let i : ℕ = c.args.at.1 - 1 in
-    let head = head_is c.in_ok-is_first.is_first c.args.at.0 c.push.new.self c.index_mut-queue.result.now c.in_ok-is_first.ensures.head c.if-not-is_first.false in
-    let new : c.set.new.self ≡ set c.self.inside.heads i (head_key c.push.new.self) = c.set.ensures ∙ ap (λ (k : ℕ). set c.self.inside.heads i k) (sym head) in
-    subst (AreQueues (set c.self.inside.queues.items i c.push.new.self)) (sym new) (queues_set c.self.inside.queues.items c.self.inside.heads i c.push.new.self c.self.invariant c.in_ok-is_first.ensures.ordered)
+    let head = c.in_ok-is_first.ensures.head ∙ ap (λ (b : Bool). cond b c.args.at.0 (head_key c.index_mut-queue.result.now)) c.if-not-is_first.false in
+    queues_set c.self.inside.queues.items c.self.inside.heads c.set.new.self
+    (c.args.at.1 - 1) c.args.at.0 c.push.new.self c.self.invariant c.in_ok-is_first.ensures.ordered c.set.ensures (sym head)
 
 pub returns-clause-entries : goal.returns-clause-entries
 returns-clause-entries c =

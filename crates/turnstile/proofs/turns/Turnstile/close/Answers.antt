@@ -1,44 +1,49 @@
-use Rattle.std.proofs.Common.{◌∙◌, ◌++◌, ◌==◌, inl, inr, ⊎_elim, sym, ap, subst, slice_get, All}
+use Rattle.std.proofs.Common.{◌≡◌, ◌⊎◌, ℕ, suc, ◌∙◌, ◌++◌, ◌∷◌, ◌==◌, [], List, true, inl, inr, sym, ap, refl, subst, map, All, ne_eqb}
+use Rattle.std.specs.List.{list_any}
 use Rattle.std.specs.Option.{option_to_list}
-use Rattle.std.proofs.lemmas.Bool.{eqb-true}
+use Rattle.std.proofs.lemmas.Bool.{cases_eq}
 use Rattle.std.proofs.lemmas.List.Elements.{All-push, All-same}
+use mathlib.Core.Option.{some}
 use lib.ListN.{get_elem?}
+use Rattle.turnstile.specs.declared.board.Report.{Report}
+use Rattle.turnstile.specs.declared.kept.Kept.{Ghosts}
+use Rattle.turnstile.specs.declared.tokens.Seat.{Seat}
 use Rattle.turnstile.specs.Rule.{HasAllOf}
 use Rattle.turnstile.specs.Views.{report_of}
 use Rattle.turnstile.specs.Seats.{number}
 use Rattle.turnstile.specs.Joined.{report}
-use Rattle.turnstile.proofs.Lists.{found, get_end, told_at, held_first}
+use Rattle.turnstile.proofs.Lists.{held_first}
 use Rattle.turnstile.proofs.turns.Turnstile.close.Goals as goal
 
+-- a number that some seat of a list has is that of the last one, or one of the others told it
+covered : {S E F : Type 0} {kept : Ghosts S E F} (seats : List (Seat S E F kept)) (last : Seat S E F kept) (more : List (Report E)) (k : ℕ)
+    → list_any (λ s. number s == k) (seats ++ last ∷ []) ≡ true
+    → (k ≡ number last) ⊎ ((i : ℕ) × (r : Report E) × (get_elem? (map report seats ++ more) i ≡ some r) × (r.number ≡ k))
+covered [] last more k e = elim (cases_eq (number last) k) [ inl is ↦ inl (sym is) | inr ne ↦ (let no = rw (ne_eqb (number last) k ne) at e in absurd (cc)) ]
+covered (s ∷ seats) last more k e = elim (cases_eq (number s) k) [
+  | inl is ↦ inr (0, report s, refl, is)
+  | inr ne ↦ elim (covered seats last more k (rw (ne_eqb (number s) k ne) at e)) [ inl is ↦ inl is | inr t ↦ inr (suc t.0, t.1, t.2, t.3) ]
+]
+
 pub unseat-requires-clause-all : goal.unseat-requires-clause-all
-unseat-requires-clause-all g c =
-    let rest = c.pop.new.self.items in
-    let first = c.unwrap-first.result in
-    let items = c.pop.ensures.items ∙ ap (λ r. rest ++ option_to_list r) c.unwrap-first.ensures in
-    let me = c.gather.ensures.me in
-    let place = c.into_place-place.ensures.0 in
-    λ k lt. let h = found (λ s. number s == k) _ (c.requires.each k lt) in
-    let is = eqb-true (number h.1) k h.3 in
-    ⊎_elim
-    (λ q. inr (h.0, report h.1, ap (λ m. get_elem? m.0.joined h.0) me ∙ told_at report rest _ h.0 h.1 q, is))
-    (λ q. inl (sym is ∙ (ap number (sym q) ∙ (ap (λ p. p.me.0.number) (sym place) ∙ ap (λ m. m.0.number) (sym me)))))
-    (get_end rest first h.1 h.0 (ap (λ l. slice_get l h.0) (sym items) ∙ h.2))
+unseat-requires-clause-all g c k lt =
+    rw (c.gather.ensures.me, c.into_place-place.ensures.0)
+    (covered c.pop.new.self.items c.unwrap-first.result _ k (rw (c.pop.ensures.items, c.unwrap-first.ensures) at (c.requires.each k lt)))
 
 pub returns : goal.returns
 returns g c =
-    let rest = c.pop.new.self.items in
-    let first = c.unwrap-first.result in
-    let items = c.pop.ensures.items ∙ ap (λ r. rest ++ option_to_list r) c.unwrap-first.ensures in
-    let me = c.gather.ensures.me in
-    let place = c.into_place-place.ensures.0 in
     let u = c.unseat.ensures in
     let by = g.S.Kept.by in
+    let seats = c.pop.new.self.items in
+    let me = c.gather.ensures.me in
     let told = subst (λ m. All (HasAllOf by u.log) m.0.joined) me u.told in
-    let own = subst (λ p. HasAllOf by u.log (report_of p.me.0)) place (subst (λ m. HasAllOf by u.log (report_of m.0)) me u.own) in
+    let own = subst (λ p. HasAllOf by u.log (report_of p.me.0)) c.into_place-place.ensures.0 (subst (λ m. HasAllOf by u.log (report_of m.0)) me u.own) in
+    let items = c.pop.ensures.items ∙ ap (λ r. seats ++ option_to_list r) c.unwrap-first.ensures in
     record {
       log = u.log;
       stands = u.stands;
       fixed = u.fixed;
-      each = All-same (λ s. HasAllOf by u.log (report s)) _ _ items (All-push (λ s. HasAllOf by u.log (report s)) rest first (held_first (HasAllOf by u.log) report rest _ told) own);
+      each = All-same (λ s. HasAllOf by u.log (report s)) _ _ items
+          (All-push (λ s. HasAllOf by u.log (report s)) seats c.unwrap-first.result (held_first (HasAllOf by u.log) report seats _ told) own);
       others = u.others;
     }

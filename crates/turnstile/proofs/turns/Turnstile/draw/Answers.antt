@@ -1,5 +1,5 @@
 use Rattle.std.proofs.Common.{rules}
-use Rattle.turnstile.proofs.Drawing.{draws}
+use Rattle.turnstile.proofs.Serving.{draws}
 use Rattle.turnstile.proofs.turns.Turnstile.draw.Goals as goal
 
 pub fetch_add-requires : goal.fetch_add-requires

@@ -1,6 +1,6 @@
 use Rattle.std.proofs.Common.{rules, ap, sym, ◌∙◌, ◌∷◌, Some}
 use Rattle.atomic_table.specs.Table.{rest}
-use Rattle.turnstile.proofs.Looking.{looks}
+use Rattle.turnstile.proofs.Serving.{looks}
 use Rattle.turnstile.proofs.turns.Turnstile.look.Goals as goal
 
 pub load-requires : goal.load-requires

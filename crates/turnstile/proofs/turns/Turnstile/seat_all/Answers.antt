@@ -1,72 +1,56 @@
-use Rattle.std.proofs.Common.{rules, arith, ◌≡◌, ◌∙◌, ◌+◌, ◌<◌, ◌∷◌, ◌++◌, [], length, List, length-append, sym, ap, subst}
+use Rattle.std.proofs.Common.{rules, arith, ◌≡◌, ◌+◌, ◌∙◌, ◌∷◌, ◌++◌, [], All, length, List, length-append, sym, ap, refl, subst, Some}
 use Rattle.std.proofs.lemmas.List.Elements.{All-push, All-same}
+use Rattle.turnstile.specs.declared.board.View.{View}
 use Rattle.turnstile.specs.declared.kept.Kept.{Ghosts}
 use Rattle.turnstile.specs.declared.tokens.Seat.{Seat}
-use Rattle.turnstile.specs.Views.{newest_view, older_view, next_view}
+use Rattle.turnstile.specs.declared.turns.Turnstile.{Turnstile}
+use Rattle.turnstile.specs.Views.{older_view}
 use Rattle.turnstile.specs.Seats.{IsOf, IsFresh, AreFresh, fixed_part}
 use Rattle.turnstile.proofs.Seating.{splits}
 use Rattle.turnstile.proofs.Lists.{each_last}
 use Rattle.turnstile.proofs.turns.Turnstile.seat_all.Goals as goal
 
--- one more fresh seat at the end
-fresh_last : {S E F : Type 0} {kept : Ghosts S E F} (seats more : List (Seat S E F kept)) (s : Seat S E F kept) → more ≡ seats ++ s ∷ [] → AreFresh seats → IsFresh (length seats) s → AreFresh more
-fresh_last seats more s is old new = subst AreFresh (sym is) (each_last IsFresh seats s old new)
+-- one more seat of the turnstile at the end, of which the view is a fresh one
+one_more : {S E F : Type 0} {kept : Ghosts S E F} (t : Turnstile S E F) (seats more : List (Seat S E F kept)) (s : Seat S E F kept) (v : View E F)
+    → more ≡ seats ++ s ∷ [] → AreFresh seats → All (λ s. IsOf t s) seats → s.place.table_id ≡ t.board.shared.table_id → s.place.me.0 ≡ v
+    → (v.number ≡ length seats) × (v.seen ≡ []) × (v.mine ≡ []) × (v.fixed ≡ Some (fixed_part kept.fixed t)) → AreFresh more × All (λ s. IsOf t s) more
+one_more t seats more s v is fresh all table me new = (
+  subst AreFresh (sym is) (each_last IsFresh seats s fresh (ap (λ w. w.number) me ∙ new.0, ap (λ w. w.seen) me ∙ new.1, ap (λ w. w.mine) me ∙ new.2)),
+  All-same (λ s. IsOf t s) _ _ is (All-push (λ s. IsOf t s) seats s all (table, ap (λ w. w.fixed) me ∙ new.3)),
+)
 
 pub split_seat-next-requires : goal.split_seat-next-requires
 split_seat-next-requires g c =
-    let k = g.S.Kept in
     let l = c.loop-i.invariant in
-    let me = ap (λ m. m.0) l.me in
-    let made = ap (λ v. v.next_number) me in
-    let seats = ap (λ v. v.seats) me in
-    let len = l.len in
-    let lt = c.loop-i-test.true in
-    let room : c.loop-i.place.me.0.next_number < c.loop-i.place.me.0.seats = omega (arith, made, seats, len, lt) in (
+    let lt = c.loop-i-test.true in (
       l.table,
       search rules,
-      splits k _ _ _ _ (ap (λ v. v.live) me, ap (λ v. v.has_ticket) me, ap (λ v. v.served) me) (ap (λ v. v.is_newest) me) room,
+      splits g.S.Kept _ _ c.loop-i.place.id c.loop-i.place.me.0 (rw l.me (refl, refl, refl)) (rw l.me refl) (rw l.me (omega (arith, l.len, lt))),
     )
 
 pub loop-i-preserved : goal.loop-i-preserved
 loop-i-preserved g c =
-    let k = g.S.Kept in
-    let t = c.args.self.now in
     let l = c.loop-i.invariant in
-    let n = length c.loop-i.list.items in
-    let seat = c.of.result in
-    let me : seat.place.me.0 ≡ older_view (newest_view (fixed_part k.fixed t) c.args.seats n) = ap (λ p. p.me.0) c.of.ensures ∙ (ap (λ m. m.0) c.split_seat-next.ensures.2 ∙ ap (λ m. older_view m.0) l.me) in
+    let split = c.split_seat-next.ensures in
     let items = c.push_reserved.ensures.items in
-    let len : length c.push_reserved.new.self.items ≡ n + 1 = ap length items ∙ length-append c.loop-i.list.items (seat ∷ []) in
-    let old = l.len in
+    let more = one_more c.args.self.now c.loop-i.list.items _ _ _ items l.fresh l.all (ap (λ p. p.table_id) c.of.ensures ∙ (split.0 ∙ l.table))
+    (ap (λ p. p.me.0) c.of.ensures ∙ (ap (λ m. m.0) split.2 ∙ ap (λ m. older_view m.0) l.me)) (refl, refl, refl, refl) in
+    let len : length c.push_reserved.new.self.items ≡ length c.loop-i.list.items + 1 = ap length items ∙ length-append c.loop-i.list.items (c.of.result ∷ []) in
     record {
       low = omega arith;
       table = search rules;
-      me = c.split_seat-next.ensures.4 ∙ (ap (λ m. (next_view m.0, [])) l.me ∙ ap (λ i. (newest_view (fixed_part k.fixed t) c.args.seats i, [])) (sym len));
-      len = omega (arith, len, old);
+      me = rw (split.4, l.me, len) refl;
+      len = omega (arith, len, l.len);
       room = search rules;
       capacity = search rules;
-      fresh = fresh_last c.loop-i.list.items _ seat items l.fresh (ap (λ v. v.number) me, ap (λ v. v.seen) me, ap (λ v. v.mine) me);
-      all = All-same (λ s. IsOf t s) _ _ items (All-push (λ s. IsOf t s) c.loop-i.list.items seat l.all
-          (ap (λ p. p.table_id) c.of.ensures ∙ (c.split_seat-next.ensures.0 ∙ l.table), ap (λ v. v.fixed) me));
+      fresh = more.0;
+      all = more.1;
     }
 
 pub returns : goal.returns
 returns g c =
-    let k = g.S.Kept in
-    let t = c.args.self.now in
     let l = c.loop-i.invariant in
-    let n = length c.loop-i.list.items in
-    let seat = c.of-2.result in
-    let me : seat.place.me.0 ≡ newest_view (fixed_part k.fixed t) c.args.seats n = ap (λ p. p.me.0) c.of-2.ensures ∙ ap (λ m. m.0) l.me in
-    let items = c.push_reserved-2.ensures.items in
+    let more = one_more c.args.self.now c.loop-i.list.items _ _ _ c.push_reserved-2.ensures.items l.fresh l.all (ap (λ p. p.table_id) c.of-2.ensures ∙ l.table)
+    (ap (λ p. p.me.0) c.of-2.ensures ∙ ap (λ m. m.0) l.me) (refl, refl, refl, refl) in
     let len = c.push_reserved-2.ensures.len in
-    let old = l.len in
-    record {
-      seats = (
-        search rules,
-        fresh_last c.loop-i.list.items _ seat items l.fresh (ap (λ v. v.number) me, ap (λ v. v.seen) me, ap (λ v. v.mine) me),
-        All-same (λ s. IsOf t s) _ _ items (All-push (λ s. IsOf t s) c.loop-i.list.items seat l.all
-            (ap (λ p. p.table_id) c.of-2.ensures ∙ l.table, ap (λ v. v.fixed) me)),
-      );
-      room = search rules;
-    }
+    record { seats = (search rules, more.0, more.1); room = search rules }

@@ -1,0 +1,34 @@
+-- What a map of an option says of it, what a choice between options is, and what no refusal says.
+use Rattle.std.proofs.Common.{◌≡◌, Bool, true, false, Option, Some, None, option_map, cond, refl}
+use Rattle.std.proofs.lemmas.Option.{same_Some}
+use Rattle.mode_core.specs.Events.{or_else, refused_if}
+
+-- there is one to tell, where one is told
+pub mapped : {D E : Type 0} → (f : D → E) (o : Option D) (y : E) → option_map f o ≡ Some y → (x : D) × (o ≡ Some x) × (f x ≡ y)
+mapped f None y e = cc
+mapped f (Some x) y e = (x, refl, same_Some (f x) y e)
+
+-- there is nothing to tell
+pub no_map : {D E : Type 0} → (f : D → E) (o : Option D) → option_map f o ≡ None → o ≡ None
+no_map f None h = refl
+no_map f (Some x) h = cc
+
+-- the choice between it and none is made before the map or after it
+pub map-cond : {D E : Type 0} → (f : D → E) (b : Bool) (o : Option D) → option_map f (cond b o None) ≡ cond b (option_map f o) None
+map-cond f true o = refl
+map-cond f false o = refl
+
+-- of two that are the same either is chosen
+pub same-cond : {D : Type 0} → (b : Bool) (d : D) → cond b d d ≡ d
+same-cond true d = refl
+same-cond false d = refl
+
+-- neither refusal applies
+pub neither : {E : Type 0} → (a b : Option E) → or_else a b ≡ None → (a ≡ None) × (b ≡ None)
+neither None None h = (refl, refl)
+neither a b h = cc
+
+-- the test of a refusal does not hold
+pub not_if : {E : Type 0} → (b : Bool) (e : E) → refused_if b e ≡ None → b ≡ false
+not_if true e h = cc
+not_if false e h = refl
