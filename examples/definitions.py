@@ -3,7 +3,7 @@
 From the words of the clauses it follows the `use` lines from file to file, and takes of each file the declarations that
 are reached by name. A line counts where it is no comment, no `use` and not blank. Types that the code declares are
 followed to their structs and enums and to the views of these. Names of the toolchain's libraries end the way, and are
-counted. A bound variable that has the name of a declaration counts as that, so the numbers are rather too large.
+counted. A name that its equation binds is no declaration's.
 
 usage: definitions.py [CLAUSE], for all clauses together or one of them
 """
@@ -18,6 +18,8 @@ CRATES = pathlib.Path(__file__).resolve().parent.parent / 'crates'
 TOP = CRATES / 'edfvd_program/src/edfvd.rt'
 HEAD = re.compile(r'^(?:(?:abbrev|unfoldable|pub|record|data) )+([^\s(:{]+)')
 FIXITY = re.compile(r'^infix[lr]? \d+ (\S+)')
+NAME = re.compile(r"[A-Za-z_][\w'-]*")
+HAS_BODY = re.compile(r'\s=(?:\s|$)')
 USE = re.compile(r'^\s*(?:ghost )?use ([\w.]+?)(?:\.\{(.*)\})?(?: as (\w+))?;?$')
 RUST_USE = re.compile(r'^\s*(?:pub )?use (\w+)(?:::\w+)*::(?:\{([^}]*)\}|(\w+));')
 
@@ -100,10 +102,43 @@ class Reader:
             self.pages[path] = Page(path)
         return self.pages[path]
 
-    # Follows each name of a text, as the page has it.
-    def follow(self, page, text):
+    # Whether the name, as the page has it, is that of a function or a record, which no pattern can be.
+    def is_function(self, page, name):
+        if name in page.names:
+            module, name = page.names[name]
+            parts = module.split('.')
+            if parts[3:4] == ['declared'] or parts[0] != 'Rattle' or not (CRATES / parts[1]).is_dir():
+                return False
+            page = self.page(CRATES / parts[1] / 'specs' / ('/'.join(parts[3:]) + '.antt'))
+        return name in page.declared and not page.declared[name].lines[0].startswith('pub data')
+
+    # The names that an equation binds: the variables of its patterns, and those of a λ, a let or a step of a do.
+    def bound(self, page, equation):
+        patterns = re.split(r'\s=(?:\s|$)', equation, maxsplit=1)[0] if HAS_BODY.search(equation) else ''
+        names = {name for name in NAME.findall(patterns)[1:] if name not in page.names or self.is_function(page, name)}
+        for names_of in re.findall(r'λ ([^.]*)\.\s|let \(?([^=:]*?)\)?(?: :[^=]*)? =|^\s+(\S+) ←', equation, re.MULTILINE):
+            names.update(NAME.findall(' '.join(names_of)))
+        for names_of in re.findall(r'\(([^():]+) :', equation):
+            names.update(NAME.findall(names_of))
+        return names
+
+    # Follows each name of a declaration but those that it binds, equation by equation.
+    def follow_all(self, page, lines):
+        equations = []
+        for line in lines:
+            if line[:1].isspace() and equations:
+                equations[-1] += '\n' + line
+            else:
+                equations.append(line)
+        for equation in equations:
+            self.follow(page, equation, self.bound(page, equation) if page.path.suffix == '.antt' else set())
+
+    # Follows each name of a text, as the page has it, but the bound ones.
+    def follow(self, page, text, bound=frozenset()):
         for word in re.split(r'[\s(){};,λ]+', text):
             first, _, rest = word.partition('.')
+            if first in bound:
+                continue
             if first in page.modules and rest:
                 self.reach(page.modules[first], rest.split('.')[0])
             for name in {word, first, f'◌{word}◌'}:
@@ -152,7 +187,7 @@ class Reader:
         place = declaration.page.path, declaration.name
         if place not in self.reached:
             self.reached[place] = declaration
-            self.follow(declaration.page, '\n'.join(declaration.lines))
+            self.follow_all(declaration.page, declaration.lines)
 
 
 # The clauses of the call, by their labels.

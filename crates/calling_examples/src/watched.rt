@@ -3,7 +3,11 @@ ghost use Rattle.std.specs.Prelude.{◌≡◌, ◌+◌, ◌≤◌, ◌∷◌, []
 ghost use Rattle.mc_model.specs.Holds.{Fits, Holds};
 ghost use Rattle.status_board.specs.Logs.{start};
 ghost use Rattle.status_board.specs.Tokens.{seen};
+ghost use Rattle.mode_core.specs.Events.{empty_state};
+ghost use Rattle.timetable.specs.declared.plan.Plan.TheVariants.{Rows};
+ghost use Rattle.timetable.specs.Floor.{opening};
 ghost use Rattle.timetable.specs.Plans.{IsTraceOfPlan};
+ghost use Rattle.executive.specs.Stands.{opening_of};
 ghost use Rattle.executive.specs.Passes.{floor_of};
 ghost use Rattle.executive.specs.Watching.{IsWatcherOf};
 ghost use Rattle.task_threads.specs.Passes.{IsPassFor};
@@ -86,7 +90,8 @@ pub fn planned(
     requires holds { Holds set.tasks rule }
     requires some { 1 ≤ ticks }
     requires most { ticks ≤ 1000000 }
-    ensures { IfSome result IsReady }
+    ensures ready { IfSome result IsReady }
+    ensures floor { IfSome result (λ f. f ≡ opening (empty_state set.tasks rule (ticks + vec_len jobs)) (Rows jobs.items ticks)) }
 {
     if set.len() != 2 {
         return None;
@@ -108,6 +113,8 @@ pub fn run_watched<R: Threads + Wait + Sync>(
 ) -> Result<(Floor, u64), NoMemory>
     requires { IsReady floor }
     ensures trace { IfOk result (λ r. IsTraceOfPlan r.0.plan r.0.core) }
+    // The set, the rule, the places and the plan are as before.
+    ensures same { IfOk result (λ r. opening_of r.0 ≡ floor) }
     ensures seen { IfOk result (λ r. ticks ≤ r.1) }
 {
     let (executive, mut passes, mut watchers) = Executive::with_watchers(rt, alloc, floor, 1)?;
@@ -144,7 +151,8 @@ fn finished<R: Wait>(
     requires passes { IsPassFor executive 1 first × IsPassFor executive 2 second }
     requires room { (vec_len list ≡ 0) × (2 ≤ vec_capacity list) }
     requires floor { IsReady (floor_of executive) }
-    ensures { IsTraceOfPlan result.plan result.core }
+    ensures trace { IsTraceOfPlan result.plan result.core }
+    ensures same { opening_of result ≡ floor_of executive }
 {
     let mut passes = list;
     passes.push_reserved(first);

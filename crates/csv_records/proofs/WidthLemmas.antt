@@ -25,6 +25,11 @@ stripped (a ∷ b ∷ c ∷ rest) = refl
 pub from_third : (text : List ℕ) → take (length text - 3) (drop 3 text) ≡ drop 3 text
 from_third text = ap (λ (n : ℕ). take n (drop 3 text)) (sym (length-drop 3 text)) ∙ take-length (drop 3 text)
 
+-- behind one more record, one fewer stands before the wide one
+pub one_fewer : (n : ℕ) (fields : List (List ℕ)) (left : List (List (List ℕ))) → (n ≡ 0 → ⊥) → StartsWide (drop n (fields ∷ left)) → StartsWide (drop (n - 1) left)
+one_fewer zero fields left some wide = absurd (some refl)
+one_fewer (suc n) fields left some wide = let less : suc n - 1 ≡ n = omega arith in rw less wide
+
 -- a byte that ends a field leaves the machine inside its record
 abbrev FieldInside : State × Action → Type 0
 FieldInside to = to.1 ≡ act.EndField → is_inside to.0 ≡ true

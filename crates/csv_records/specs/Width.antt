@@ -26,11 +26,6 @@ abbrev pub KnowsWide : Option ℕ → List (List (List ℕ)) → Type 0
 KnowsWide None left = ⊤
 KnowsWide (Some n) left = StartsWide (drop n left)
 
--- one record fewer stands before it
-abbrev pub one_less : Option ℕ → Option ℕ
-one_less None = None
-one_less (Some n) = Some (n - 1)
-
 -- the text begins with a byte order mark
 abbrev pub has_mark : List ℕ → Bool
 has_mark [] = false

@@ -1,8 +1,8 @@
 // The records of a text, of which the first that has too many fields is told and not read.
-ghost use Rattle.std.specs.Prelude.{◌≡◌, ◌≢◌, ◌∷◌, [], Ok, OnErr, Some};
+ghost use Rattle.std.specs.Prelude.{◌≡◌, ◌∷◌, [], Ok, OnErr};
 ghost use Rattle.csv.specs.Reading.{default_config, records, strip_bom};
 ghost use Rattle.csv.specs.Records.{fields_of};
-ghost use Rattle.csv_records.specs.Width.{StartsWide, one_less};
+ghost use Rattle.csv_records.specs.Width.{StartsWide};
 ghost use Rattle.csv_records.specs.declared.records.Next.TheVariants as next;
 
 use crate::all::AllRecords;
@@ -55,6 +55,8 @@ impl<'a> Records<'a> {
 
     /// Reads the next record into `fields`, if it has at most 6 fields. In a long text a wider one is told before it is
     /// read, and is next from then on; otherwise it is read too. On want of memory the records are let go.
+    // A call takes as long as much of a short record.
+    #[inline(always)]
     pub fn next(&mut self, fields: &mut ByteRecord) -> Result<Next, AllocError>
         ensures record { result ≡ Ok next.Record → self.old ≡ fields_of fields.new ∷ self.new }
         ensures wide { result ≡ Ok next.Wide → StartsWide self.old }
@@ -63,14 +65,15 @@ impl<'a> Records<'a> {
         ensures ended { result ≡ Ok next.End → self.new ≡ [] }
         ensures memory { OnErr result (self.new ≡ []) }
     {
-        if self.narrow == Some(0) {
-            return Ok(Next::Wide);
+        // It is asked once, and mostly none is known.
+        if let Some(count) = self.narrow {
+            if count == 0 {
+                return Ok(Next::Wide);
+            }
+            self.narrow = Some(count - 1);
         }
         match self.all.next(fields) {
-            Ok(true) => {
-                self.narrow = one_less(self.narrow);
-                Ok(Next::Record)
-            }
+            Ok(true) => Ok(Next::Record),
             Ok(false) => {
                 self.narrow = None;
                 Ok(Next::End)
@@ -80,15 +83,5 @@ impl<'a> Records<'a> {
                 Err(AllocError)
             }
         }
-    }
-}
-
-// One record fewer stands before it.
-fn one_less(narrow: Option<usize>) -> Option<usize>
-    ensures { result ≡ one_less narrow }
-{
-    match narrow {
-        None => None,
-        Some(count) => Some(count.saturating_sub(1)),
     }
 }

@@ -83,14 +83,14 @@ within k limit bytes Q reply not_7 h = go (nat_lt limit (length bytes)) refl h
 -- something is read, if the status is none of the reader's refusals
 pub by_reader : {A E : Type 0} (f : E → Refusal) (read : Result A E) (P : A → Type 0) (reply : Reply) → ((e : E) → reply.status ≢ status_of (f e))
     → By (or_refuse f read) P reply
-    → (x : A) × (or_refuse f read ≡ Ok x) × P x
+    → (x : A) × (read ≡ Ok x) × P x
 by_reader f (Ok x) P reply other h = (x, refl, h)
 by_reader f (Err e) P reply other h = absurd (other e (ap (λ r. r.status) h))
 
 -- both of a file
 pub of_file : {A E : Type 0} (k limit : ℕ) (bytes : List ℕ) (f : E → Refusal) (read : Result A E) (P : A → Type 0) (reply : Reply) → reply.status ≢ 7
     → ((e : E) → reply.status ≢ status_of (f e))
-    → OfFile k limit bytes (or_refuse f read) P reply → (x : A) × ((length bytes ≤ limit) × (or_refuse f read ≡ Ok x)) × P x
+    → OfFile k limit bytes (or_refuse f read) P reply → (x : A) × ((length bytes ≤ limit) × (read ≡ Ok x)) × P x
 of_file k limit bytes f read P reply not_7 other h =
     let (short, by) = within k limit bytes (By (or_refuse f read) P reply) reply not_7 h in
     let (x, is, p) = by_reader f read P reply other by in (x, (short, is), p)
@@ -102,19 +102,14 @@ of_set bytes P reply not_7 not_3 h = of_file 1 (2 ^ 24) bytes TaskFile (task_fil
 pub by_is : {A : Type 0} (read r : Result A Refusal) (P : A → Type 0) (reply : Reply) → read ≡ r → By read P reply → By r P reply
 by_is read r P reply is h = subst (λ x. By x P reply) is h
 
--- and of what a file within its limit says
-pub for_file : {A : Type 0} (k limit : ℕ) (bytes : List ℕ) (read : Result A Refusal) (P : A → Type 0) (reply : Reply) (x : A) → (length bytes ≤ limit) × (read ≡ Ok x)
+-- and of the file, if that is within its limit
+pub for_file : {A : Type 0} (k limit : ℕ) (bytes : List ℕ) (read : Result A Refusal) (P : A → Type 0) (reply : Reply) (x : A) → length bytes ≤ limit → read ≡ Ok x
     → OfFile k limit bytes read P reply → P x
-for_file k limit bytes read P reply x says h = by_is read (Ok x) P reply says.1 (rw (le-ltb limit (length bytes) says.0) at h)
+for_file k limit bytes read P reply x short is h = by_is read (Ok x) P reply is (rw (le-ltb limit (length bytes) short) at h)
 
 -- and of what is decided of the set that a task file says
 pub decided : {A : Type 0} (bytes : List ℕ) (decide : Set → Result A Refusal) (r : Result A Refusal) (P : A → Type 0) (reply : Reply) (set : Set) → SaysSet bytes set
     → decide set ≡ r
     → OfSet bytes (λ set. By (decide set) P reply) reply → By r P reply
 decided bytes decide r P reply set says is h =
-    by_is (decide set) r P reply is (for_file 1 (2 ^ 24) bytes (set_in bytes) (λ set. By (decide set) P reply) reply set says h)
-
--- a value that is read is the reader's
-pub refuse_ok : {A E : Type 0} (f : E → Refusal) (read : Result A E) (x : A) → or_refuse f read ≡ Ok x → read ≡ Ok x
-refuse_ok f (Ok y) x h = cc
-refuse_ok f (Err e) x h = cc
+    by_is (decide set) r P reply is (for_file 1 (2 ^ 24) bytes (set_in bytes) (λ set. By (decide set) P reply) reply set says.0 (ap (or_refuse TaskFile) says.1) h)

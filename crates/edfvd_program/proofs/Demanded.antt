@@ -20,7 +20,7 @@ use Rattle.demand_answers.specs.Demand.{TellsFit, TellsTested}
 use Rattle.edfvd_program.specs.Headline.{bytes_of}
 use Rattle.edfvd_program.specs.Complete.{Succeeds}
 use Rattle.edfvd_program.specs.Tested.{SaysDemands}
-use Rattle.edfvd_program.proofs.Cases.{By, OfFile, held, by_need, of_file, for_file, refuse_ok}
+use Rattle.edfvd_program.proofs.Cases.{By, OfFile, held, by_need, of_file, for_file}
 use Rattle.edfvd_program.proofs.Promised.{Keeps}
 
 -- the answer that the reply tells, by its status
@@ -51,9 +51,7 @@ tests demands files old reply h = (tt, tt, tt, record { none_late = none_late; s
         (λ bytes k. by_need files 2 (or_refuse DemandFile (demands_in bytes)) (λ set. answer (TellsTested set)) (λ set. TellsTested set reply) reply (λ set t. t) k) h
 
     tested : reply.status ≢ 7 → reply.status ≢ 11 → (set : List Demand) × SaysDemands bytes set × TellsTested set reply
-    tested not_7 not_11 =
-        let (set, says, t) = of_file 1 (2 ^ 24) bytes DemandFile (demands_in bytes) (λ set. TellsTested set reply) reply not_7 (λ fault. not_11) c in
-        (set, (says.0, refuse_ok DemandFile (demands_in bytes) set says.1), t)
+    tested not_7 not_11 = of_file 1 (2 ^ 24) bytes DemandFile (demands_in bytes) (λ set. TellsTested set reply) reply not_7 (λ fault. not_11) c
 
     none_late : reply.status ≡ 0 → (set : List Demand) × SaysDemands bytes set × ((h : List EdfRow) → IsRun set h → NoneLate set h)
     none_late e = let (set, says, f) = tested (λ z. absurd (omega arith)) (λ z. absurd (omega arith)) in (set, says, within_of set f.fit reply f.is_set f.is f.told e)
@@ -66,4 +64,4 @@ tests demands files old reply h = (tt, tt, tt, record { none_late = none_late; s
     complete : (set : List Demand) → SaysDemands bytes set → (reply.status ≡ 10) ⊎ Succeeds reply.status
     complete set says =
         let f = for_file 1 (2 ^ 24) bytes (or_refuse DemandFile (demands_in bytes)) (λ set. TellsTested set reply) reply set
-        (says.0, ap (or_refuse DemandFile) says.1) c in either set f.fit reply f.told
+        says.0 (ap (or_refuse DemandFile) says.1) c in either set f.fit reply f.told

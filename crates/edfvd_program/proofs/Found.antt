@@ -1,17 +1,20 @@
 -- What the commands on a trace promise.
 use Rattle.std.proofs.Common.{◌≡◌, ◌≢◌, inl, ℕ, ◌^◌, nat_le, if◌then◌else◌, Bool, true, false, List, ◌++◌, reverse, Option, Some, Result, Ok, Err, refl, sym, ap, ◌∙◌, arith, le-leb}
 use Rattle.std.specs.List.{AllByRecursion}
+use Rattle.std.proofs.lemmas.List.{reverse-reverse}
 use Rattle.mc_world.specs.Shelf.{Files}
 use Rattle.mc_task.specs.declared.task.Rule.{Rule}
 use Rattle.mc_task.specs.declared.task.Rule.TheVariants.{Virtual}
 use Rattle.mc_task.specs.TaskSet.{Set}
 use Rattle.mc_model.specs.declared.row.Row.{Row}
 use Rattle.mc_model.specs.Rows.{ticks}
-use Rattle.mc_model.specs.Runs.{expand}
+use Rattle.mc_model.specs.declared.run.Run.{Run}
+use Rattle.mc_model.specs.Runs.{expand, pack}
 use Rattle.mc_model.specs.Legal.{Legal, IsOfSet}
 use Rattle.mc_model.specs.Late.{late}
 use Rattle.mc_model.specs.TraceText.{trace_text}
 use Rattle.mc_model.specs.Verdict.{first_unfit, verdict}
+use Rattle.mc_model.proofs.Packing.{expand-pack}
 use Rattle.mc_model.proofs.Verdicts.{legal_by_verdict, verdict-good}
 use Rattle.demand_law.proofs.Laws.{none_late}
 use Rattle.sched_chart.specs.ChartText.{chart_text}
@@ -28,10 +31,10 @@ use Rattle.serving.specs.Outcome.{IsAnswer}
 use Rattle.task_answers.specs.Admitted.{Ruled, under, tested, admitted}
 use Rattle.trace_answers.specs.OnTrace.{is_good, rows_in, told, judged, tells}
 use Rattle.trace_answers.proofs.GoodTrace.{no_fault_in, rows_of_runs}
-use Rattle.edfvd_program.specs.Headline.{bytes_of, IsAdmitted, SchedulesExactly, SaysTrace, WritesAgain, Finds}
+use Rattle.edfvd_program.specs.Headline.{bytes_of, IsAdmitted, SchedulesExactly, trace_of, SaysTrace, WritesAgain, Finds}
 use Rattle.edfvd_program.specs.Told.{TellsOf}
 use Rattle.edfvd_program.specs.Complete.{IsTold, FindsEach}
-use Rattle.edfvd_program.proofs.Cases.{By, OfFile, OfSet, held, by_text, by_steps, by_set, within, by_reader, for_file, decided, refuse_ok}
+use Rattle.edfvd_program.proofs.Cases.{By, OfFile, OfSet, held, by_text, by_steps, by_set, within, by_reader, for_file, decided}
 use Rattle.edfvd_program.proofs.Promised.{Keeps, Comes, holds_for, timely, only_ruled, next_of, schedules_exactly}
 
 -- the reply refuses the trace file, or tells what is asked of its rows
@@ -81,34 +84,41 @@ judges telling ruled h reply k = go (is_good (verdict ruled.set.tasks ruled.rule
 
 -- the rows of the trace file, which are of the set, and the judgement on them, if the status is none of the file's refusals
 judged_of : (telling : Telling) (more : List ℕ) (reply : Reply) (ruled : Ruled) → reply.status ≢ 7 → reply.status ≢ 5 → TellsNext telling more reply ruled
-    → (h : List Row) × SaysTrace more ruled.set.tasks h × AllByRecursion (IsOfSet ruled.set.tasks) h × Judges telling ruled h reply
+    → (runs : List Run) × SaysTrace more ruled.set.tasks runs × AllByRecursion (IsOfSet ruled.set.tasks) (trace_of runs) × Judges telling ruled (trace_of runs) reply
 judged_of telling more reply ruled not_7 not_5 k =
     let P : List Row → Type 0 = λ h. reply ≡ reply_by (judged telling ruled h) in
     let (short, by) = within 2 (2 ^ 27) more (By (rows_in ruled.set.tasks more) P reply) reply not_7 k in
     let file = trace_file ruled.set.tasks more in
-    let (runs, is, p) = by_reader Trace file (λ runs. P (reverse (expand runs))) reply (λ fault. not_5)
-    (by_steps (or_refuse Trace file) (λ runs. Ok (reverse (expand runs))) P reply by) in (
-      reverse (expand runs),
-      (short, ap (λ read. read >>= (λ runs. Ok (reverse (expand runs)))) is),
-      rows_of_runs ruled.set.tasks runs (runs_of_set ruled.set.tasks more runs (refuse_ok Trace file runs is)),
-      judges telling ruled (reverse (expand runs)) reply p,
+    let (runs, is, p) = by_reader Trace file (λ runs. P (trace_of runs)) reply (λ fault. not_5)
+    (by_steps (or_refuse Trace file) (λ runs. Ok (trace_of runs)) P reply by) in (
+      runs,
+      (short, is),
+      rows_of_runs ruled.set.tasks runs (runs_of_set ruled.set.tasks more runs is),
+      judges telling ruled (trace_of runs) reply p,
     )
 
 -- a good trace of which something can be told gets a 0
-good_0 : (telling : Telling) (more : List ℕ) (reply : Reply) (ruled : Ruled) (h : List Row) → SaysTrace more ruled.set.tasks h
-    → is_good (verdict ruled.set.tasks ruled.rule h) ≡ true → IsTold telling h
+good_0 : (telling : Telling) (more : List ℕ) (reply : Reply) (ruled : Ruled) (runs : List Run) → SaysTrace more ruled.set.tasks runs
+    → is_good (verdict ruled.set.tasks ruled.rule (trace_of runs)) ≡ true → IsTold telling (trace_of runs)
     → TellsNext telling more reply ruled → reply.status ≡ 0
-good_0 telling more reply ruled h said good is k =
-    let (text, t) = told_ok telling ruled h is in
-    let tells : judged telling ruled h ≡ Ok text = rw (good, t) refl in
-    ap (λ (r : Reply). r.status) (for_file 2 (2 ^ 27) more (rows_in ruled.set.tasks more) (λ h. reply ≡ reply_by (judged telling ruled h)) reply h said k
-    ∙ ap reply_by tells)
+good_0 telling more reply ruled runs said good is k =
+    let (text, t) = told_ok telling ruled (trace_of runs) is in
+    let tells : judged telling ruled (trace_of runs) ≡ Ok text = rw (good, t) refl in
+    let rows : rows_in ruled.set.tasks more ≡ Ok (trace_of runs) = ap (λ read. or_refuse Trace read >>= (λ runs. Ok (trace_of runs))) said.1 in
+    let P : List Row → Type 0 = λ h. reply ≡ reply_by (judged telling ruled h) in
+    ap (λ (r : Reply). r.status) (for_file 2 (2 ^ 27) more (rows_in ruled.set.tasks more) P reply (trace_of runs) said.0 rows k ∙ ap reply_by tells)
 
 -- the trace that `migrate` finds legal is what it tells
-again : (telling : Telling) (ruled : Ruled) (h : List Row) (text old : List ℕ) (new : Option (List ℕ)) → told telling ruled h ≡ Ok text → new ≡ Some (old ++ text)
-    → WritesAgain telling ruled.set.tasks h old new
-again Migrate ruled h text old new t w = let same : text ≡ trace_text ruled.set.tasks (reverse h) = cc in w ∙ ap (λ told. Some (old ++ told)) same
-again telling ruled h text old new t w = tt
+again : (telling : Telling) (ruled : Ruled) (runs : List Run) (text old : List ℕ) (new : Option (List ℕ)) → told telling ruled (trace_of runs) ≡ Ok text
+    → new ≡ Some (old ++ text)
+    → WritesAgain telling ruled.set.tasks runs old new
+again Migrate ruled runs text old new t w =
+    let same : text ≡ trace_text ruled.set.tasks (reverse (trace_of runs)) = cc in (
+      pack (reverse (trace_of runs)),
+      w ∙ ap (λ told. Some (old ++ told)) same,
+      expand-pack (reverse (trace_of runs)) ∙ reverse-reverse (expand runs),
+    )
+again telling ruled runs text old new t w = tt
 
 -- a legal trace of an admitted set is good
 good_of : (bytes : List ℕ) (set : Set) (rule : Rule) (h : List Row) → IsAdmitted bytes set rule → Legal set.tasks rule h → is_good (verdict set.tasks rule h) ≡ true
@@ -125,13 +135,13 @@ finds telling tasks trace files old reply h = (
   (
     schedules_exactly bytes Next reply not_1 c,
     record {
-      finds = λ e. (let (set, rule, h, text, legal, a, said, t, w) = found e in
-          (set, rule, h, a, said, again telling (under rule set) h text old (Some (old ++ reply.text)) t w, timely bytes set rule h a legal));
+      finds = λ e. (let (set, rule, runs, text, legal, a, said, t, w) = found e in
+          (set, rule, runs, a, said, again telling (under rule set) runs text old (Some (old ++ reply.text)) t w, timely bytes set rule (trace_of runs) a legal));
       illegal = faulty;
     },
   ),
-  λ e. (let (set, rule, h, text, legal, a, said, t, w) = found e in (set, rule, h, text, a, said, t, w)),
-  λ set rule t a said legal is. inl (good_0 telling more reply (under rule set) t said (good_of bytes set rule t a legal) is (next_of bytes Next reply set rule a c)),
+  λ e. (let (set, rule, runs, text, legal, a, said, t, w) = found e in (set, rule, runs, text, a, said, t, w)),
+  λ set rule runs a said legal is. inl (good_0 telling more reply (under rule set) runs said (good_of bytes set rule (trace_of runs) a legal) is (next_of bytes Next reply set rule a c)),
   tt,
 )
   where
@@ -158,25 +168,28 @@ finds telling tasks trace files old reply h = (
           | says text good is w ↦ absurd (omega (arith, ap (λ (r : Reply). r.status) w))
         ]
 
-    found : reply.status ≡ 0 → (set : Set) × (rule : Rule) × (h : List Row) × (text : List ℕ) × Legal set.tasks rule h
-        × IsAdmitted bytes set rule × SaysTrace more set.tasks h × (told telling (under rule set) h ≡ Ok text) × (Some (old ++ reply.text) ≡ Some (old ++ text))
+    found : reply.status ≡ 0 → (set : Set) × (rule : Rule) × (runs : List Run) × (text : List ℕ) × Legal set.tasks rule (trace_of runs)
+        × IsAdmitted bytes set rule × SaysTrace more set.tasks runs × (told telling (under rule set) (trace_of runs) ≡ Ok text)
+        × (Some (old ++ reply.text) ≡ Some (old ++ text))
     found e =
         let (set, rule, a, k) = only_ruled bytes Next reply (λ z. absurd (omega arith)) (λ z. absurd (omega arith)) (λ z. absurd (omega arith)) c in
-        let (t, said, of, verdict) = judged_of telling more reply (under rule set) (λ z. absurd (omega arith)) (λ z. absurd (omega arith)) k in
+        let (runs, said, of, verdict) = judged_of telling more reply (under rule set) (λ z. absurd (omega arith)) (λ z. absurd (omega arith)) k in
         elim verdict [
           | blames bad s ↦ absurd (omega arith)
           | refuses s ↦ absurd (omega arith)
           | says text good is w ↦
+              let t = trace_of runs in
               let legal = legal_by_verdict set.tasks rule t of (no_fault_in (first_unfit set.tasks rule t) (late set.tasks t) good) in
-              (set, rule, t, text, legal, a, said, is, ap (λ (r : Reply). Some (old ++ r.text)) w)
+              (set, rule, runs, text, legal, a, said, is, ap (λ (r : Reply). Some (old ++ r.text)) w)
         ]
 
-    faulty : reply.status ≡ 6 → (set : Set) × (rule : Rule) × (h : List Row) × IsAdmitted bytes set rule × SaysTrace more set.tasks h × (Legal set.tasks rule h → ⊥)
+    faulty : reply.status ≡ 6 → (set : Set) × (rule : Rule) × (runs : List Run) × IsAdmitted bytes set rule × SaysTrace more set.tasks runs
+        × (Legal set.tasks rule (trace_of runs) → ⊥)
     faulty e =
         let (set, rule, a, k) = only_ruled bytes Next reply (λ z. absurd (omega arith)) (λ z. absurd (omega arith)) (λ z. absurd (omega arith)) c in
-        let (t, said, of, verdict) = judged_of telling more reply (under rule set) (λ z. absurd (omega arith)) (λ z. absurd (omega arith)) k in
+        let (runs, said, of, verdict) = judged_of telling more reply (under rule set) (λ z. absurd (omega arith)) (λ z. absurd (omega arith)) k in
         elim verdict [
-          | blames bad s ↦ (set, rule, t, a, said, λ legal. (let clash : true ≡ false = sym (good_of bytes set rule t a legal) ∙ bad in cc))
+          | blames bad s ↦ (set, rule, runs, a, said, λ legal. (let clash : true ≡ false = sym (good_of bytes set rule (trace_of runs) a legal) ∙ bad in cc))
           | refuses s ↦ absurd (omega arith)
           | says text good is w ↦ absurd (omega (arith, ap (λ (r : Reply). r.status) w))
         ]
@@ -186,8 +199,8 @@ pub finds_by : (p q : ℕ) (tasks trace : List ℕ) → Keeps (on_trace (JudgeBy
 finds_by p q tasks trace files old reply h = (
   tt,
   tt,
-  λ set t says said legal none.
-      inl (good_0 (JudgeBy p q) more reply (ruled set) t said (ap is_good (verdict-good set.tasks (Virtual p q) t legal none)) tt
+  λ set runs says said legal none.
+      inl (good_0 (JudgeBy p q) more reply (ruled set) runs said (ap is_good (verdict-good set.tasks (Virtual p q) (trace_of runs) legal none)) tt
       (decided bytes (λ set. Ok (ruled set)) (Ok (ruled set)) Next reply set says refl c)),
   tt,
 )

@@ -1,14 +1,15 @@
 -- What `check`, `run` and `live` promise.
-use Rattle.std.proofs.Common.{◌≡◌, ◌≢◌, inl, ℕ, ◌^◌, List, ◌++◌, Some, Ok, ap, arith}
+use Rattle.std.proofs.Common.{◌≡◌, ◌≢◌, inl, ℕ, ◌^◌, List, ◌++◌, reverse, Some, Ok, ap, arith}
 use Rattle.mc_task.specs.declared.task.Task.{Task}
 use Rattle.mc_world.specs.Shelf.{Files}
 use Rattle.mc_model.specs.declared.work.WorkRow.{WorkRow}
+use Rattle.mc_model.specs.Runs.{pack}
 use Rattle.mc_model.specs.CheckText.{check_text}
 use Rattle.work_file.specs.WorkFile.{work_in}
 use Rattle.command_line.specs.Form.{check, run, live}
 use Rattle.replies.specs.Reply.{Reply, reply_of}
 use Rattle.replies.specs.Refusal.{WorkFile}
-use Rattle.replies.specs.Reading.{reply_by}
+use Rattle.replies.specs.Reading.{or_refuse, reply_by}
 use Rattle.serving.specs.Command.{Command, answer, fetch, need}
 use Rattle.serving.specs.Outcome.{IsAnswer}
 use Rattle.task_answers.specs.Admitted.{Ruled, set_in, tested, admitted}
@@ -19,7 +20,7 @@ use Rattle.edfvd_program.specs.Headline.{bytes_of}
 use Rattle.edfvd_program.specs.Told.{WritesRun, WritesLive}
 use Rattle.edfvd_program.specs.Complete.{SaysWork, ServesWork}
 use Rattle.edfvd_program.proofs.Cases.{By, OfFile, held, by_need, by_text, by_steps, by_set, of_file, for_file}
-use Rattle.edfvd_program.proofs.Promised.{Keeps, Comes, timely, only_ruled, next_of, schedules_exactly}
+use Rattle.edfvd_program.proofs.Promised.{Keeps, Comes, timely, timely_runs, only_ruled, next_of, schedules_exactly}
 
 -- the reply refuses the work file, or this is so of its work
 abbrev pub OfWork : List Task → List ℕ → (List WorkRow → Type 0) → Reply → Type 0
@@ -59,7 +60,7 @@ pub runs : (tasks work : List ℕ) (ticks : ℕ) → Keeps (run tasks work ticks
 runs tasks work ticks files old reply h = (
   (
     schedules_exactly (bytes_of files tasks) Next reply not_1 c,
-    λ e. (let (set, rule, rows, t, a, says, follows, written) = writes e in (set, rule, t, a, written, timely (bytes_of files tasks) set rule t a follows.legal)),
+    λ e. (let (set, rule, rows, t, a, says, follows, written) = writes e in (set, rule, pack (reverse t), a, written, timely_runs set.tasks rule t (timely (bytes_of files tasks) set rule t a follows.legal))),
   ),
   writes,
   complete,
@@ -90,7 +91,7 @@ runs tasks work ticks files old reply h = (
 
     complete : ServesWork (bytes_of files tasks) more reply.status
     complete set rule rows a says =
-        let t = for_file 2 (2 ^ 24) more (work_of set.tasks more) (λ rows. TellsTrace ticks set.tasks rule rows reply) reply rows says
+        let t = for_file 2 (2 ^ 24) more (work_of set.tasks more) (λ rows. TellsTrace ticks set.tasks rule rows reply) reply rows says.0 (ap (or_refuse WorkFile) says.1)
         (next_of (bytes_of files tasks) Next reply set rule a c) in
         inl (ap (λ (r : Reply). r.status) t.2)
 
@@ -98,7 +99,7 @@ pub lives : (tasks : List ℕ) (ticks : ℕ) → Keeps (live tasks ticks)
 lives tasks ticks files old reply h = (
   (
     schedules_exactly (bytes_of files tasks) Next reply (λ ruled k e. absurd (omega (arith, ap (λ (r : Reply). r.status) k.2))) c,
-    λ e. (let (set, rule, t, a, is, written) = writes e in (set, rule, t, a, written, timely (bytes_of files tasks) set rule t a is.legal)),
+    λ e. (let (set, rule, t, a, is, written) = writes e in (set, rule, pack (reverse t), a, written, timely_runs set.tasks rule t (timely (bytes_of files tasks) set rule t a is.legal))),
   ),
   writes,
   λ set rule a. inl (ap (λ (r : Reply). r.status) (next_of (bytes_of files tasks) Next reply set rule a c).2),

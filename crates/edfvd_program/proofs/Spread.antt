@@ -1,34 +1,37 @@
 -- What the commands on several processors promise: `partition` and `runall`.
-use Rattle.std.proofs.Common.{◌≡◌, ◌≢◌, ◌⊎◌, inl, inr, ℕ, ◌^◌, List, [], ◌∷◌, ◌++◌, Some, Result, Ok, Err, refl, sym, ap, subst, ◌∙◌, arith}
+use Rattle.std.proofs.Common.{◌≡◌, ◌≢◌, ◌⊎◌, inl, inr, ℕ, ◌^◌, List, [], ◌∷◌, ◌++◌, map, reverse, flat_map, zip, Some, Result, Ok, Err, refl, sym, ap, subst, ◌∙◌, arith}
 use Rattle.std.specs.List.{AllByRecursion, AllZip}
 use Rattle.mc_task.specs.declared.task.Task.{Task}
 use Rattle.mc_task.specs.declared.task.Rule.{Rule}
 use Rattle.mc_task.specs.declared.task.Rule.TheVariants.{Plain}
 use Rattle.mc_task.specs.TaskSet.{Set, IsTask, task_at, name_in}
 use Rattle.mc_model.specs.declared.row.Row.{Row}
+use Rattle.mc_model.specs.declared.run.Run.{Run}
 use Rattle.mc_model.specs.declared.work.WorkRow.{WorkRow}
+use Rattle.mc_model.specs.Runs.{pack}
 use Rattle.mc_model.specs.Test.{published, rule_of}
 use Rattle.mc_model.specs.Holds.{Holds}
 use Rattle.mc_model.proofs.RuleHolds.{published-holds}
 use Rattle.demand_law.proofs.Promise.{keeps_deadlines}
+use Rattle.task_file.proofs.SaysSet.{says_set}
 use Rattle.part_fit.specs.FirstFit.{first_fit}
 use Rattle.part_fit.specs.Partition.{IsPartition, IsAdmittedPart}
 use Rattle.part_fit.proofs.Placed.{first_fit-IsPartition}
 use Rattle.command_line.specs.Form.{partition, run_all}
 use Rattle.replies.specs.Reply.{Reply, reply_of}
-use Rattle.replies.specs.Refusal.{NoRoom}
+use Rattle.replies.specs.Refusal.{NoRoom, WorkFile}
 use Rattle.replies.specs.Reading.{◌>>=◌, or_refuse, reply_by}
 use Rattle.serving.specs.Command.{answer}
 use Rattle.task_answers.specs.Admitted.{set_in}
 use Rattle.run_answers.specs.Run.{work_of}
 use Rattle.part_answers.specs.Parted.{Parted, tasks_on, spread, fitted, parted}
 use Rattle.part_answers.specs.Partition.{partition_text, placed}
-use Rattle.part_answers.specs.RunAll.{used, IsTraceOn, TellsTraces}
-use Rattle.edfvd_program.specs.Headline.{bytes_of, SaysSet, IsSpread, SpreadsExactly, IsTimelyOn}
+use Rattle.part_answers.specs.RunAll.{used, IsTraceOn, TellsTraces, trace_lines}
+use Rattle.edfvd_program.specs.Headline.{bytes_of, SaysSet, IsSpread, SpreadsExactly, IsTimelyOn, runs_lines}
 use Rattle.edfvd_program.specs.Told.{WritesParts}
 use Rattle.edfvd_program.specs.Complete.{ServesSpread}
 use Rattle.edfvd_program.proofs.Cases.{By, OfSet, held, by_text, by_steps, by_set, of_set, for_file, decided}
-use Rattle.edfvd_program.proofs.Promised.{Keeps, is_set}
+use Rattle.edfvd_program.proofs.Promised.{Keeps, timely_runs}
 use Rattle.edfvd_program.proofs.Scheduled.{OfWork, by_work, of_work}
 
 -- the reply refuses the task file, or a task that has no room, or this is so of the set on its processors
@@ -77,7 +80,7 @@ next_spread m bytes Then reply set of is h =
 
 -- each task is on one processor, and the tasks of each are admitted
 parts_of : (m : ℕ) (bytes : List ℕ) (set : Set) (of : List ℕ) → IsSpread m bytes set of → IsPartition set.tasks of m
-parts_of m bytes set of is = first_fit-IsPartition set.tasks m of (is_set bytes set is.0.1).tasks is.1
+parts_of m bytes set of is = first_fit-IsPartition set.tasks m of (says_set bytes set is.0.1).tasks is.1
 
 pub partitions : (tasks : List ℕ) (m : ℕ) → Keeps (partition tasks m)
 partitions tasks m files old reply h = (
@@ -119,30 +122,47 @@ part_holds tasks rule admitted h = elim admitted [ inl none ↦ none_holds tasks
 
 -- so the trace on a processor keeps the deadlines
 timely_on : (ticks : ℕ) (parted : Parted) (work : List WorkRow) (n : ℕ) (h : List Row) → IsAdmittedPart (tasks_on parted n) → IsTraceOn ticks parted work n h
-    → IsTimelyOn parted n h
+    → IsTimelyOn parted n (pack (reverse h))
 timely_on ticks parted work n h admitted is =
     let holds = part_holds (tasks_on parted n) is.rule admitted is.test in
     record {
       rule = is.rule;
       test = is.test;
-      timely = (is.follows.legal, keeps_deadlines (tasks_on parted n) is.rule h holds.0 holds.1 is.follows.legal);
+      timely = timely_runs (tasks_on parted n) is.rule h (is.follows.legal, keeps_deadlines (tasks_on parted n) is.rule h holds.0 holds.1 is.follows.legal);
     }
+
+-- the runs of each trace
+abbrev runs_of : List (List Row) → List (List Run)
+runs_of traces = map (λ h. pack (reverse h)) traces
 
 -- and so do all
 all_timely : (ticks : ℕ) (parted : Parted) (work : List WorkRow) (ns : List ℕ) (traces : List (List Row)) → ((n : ℕ) → IsAdmittedPart (tasks_on parted n))
     → AllZip (IsTraceOn ticks parted work) ns traces
-    → AllZip (IsTimelyOn parted) ns traces
+    → AllZip (IsTimelyOn parted) ns (runs_of traces)
 all_timely ticks parted work [] [] admitted h = tt
 all_timely ticks parted work [] (t ∷ ts) admitted h = absurd h
 all_timely ticks parted work (n ∷ ns) [] admitted h = absurd h
 all_timely ticks parted work (n ∷ ns) (t ∷ ts) admitted h = (timely_on ticks parted work n t (admitted n) h.0, all_timely ticks parted work ns ts admitted h.1)
 
+-- what is written of all is the text of their runs
+lines_of_runs : (parted : Parted) (ns : List ℕ) (traces : List (List Row))
+    → flat_map (trace_lines parted) (zip ns traces) ≡ flat_map (runs_lines parted) (zip ns (runs_of traces))
+lines_of_runs parted [] traces = refl
+lines_of_runs parted (n ∷ ns) [] = refl
+lines_of_runs parted (n ∷ ns) (t ∷ ts) = ap (λ more. trace_lines parted (n, t) ++ more) (lines_of_runs parted ns ts)
+
 pub runs_all : (tasks work : List ℕ) (ticks m : ℕ) → Keeps (run_all tasks work ticks m)
 runs_all tasks work ticks m files old reply h = (
   (
     spreads_exactly m bytes Next reply not_12 c,
-    λ e. (let (set, of, rows, traces, is, says, each, written) = writes e in
-        (set, of, traces, is, written, all_timely ticks (spread set.tasks of) rows (used m (spread set.tasks of)) traces (parts_of m bytes set of is).admitted each)),
+    λ e. (let (set, of, rows, traces, is, says, each, written) = writes e in (
+      set,
+      of,
+      runs_of traces,
+      is,
+      written ∙ ap (λ text. Some (old ++ text)) (lines_of_runs (spread set.tasks of) (used m (spread set.tasks of)) traces),
+      all_timely ticks (spread set.tasks of) rows (used m (spread set.tasks of)) traces (parts_of m bytes set of is).admitted each,
+    )),
   ),
   writes,
   complete,
@@ -174,6 +194,6 @@ runs_all tasks work ticks m files old reply h = (
 
     complete : ServesSpread m bytes more reply.status
     complete set of rows is says =
-        let t = for_file 2 (2 ^ 24) more (work_of set.tasks more) (λ rows. TellsTraces ticks m (spread set.tasks of) rows reply) reply rows says
+        let t = for_file 2 (2 ^ 24) more (work_of set.tasks more) (λ rows. TellsTraces ticks m (spread set.tasks of) rows reply) reply rows says.0 (ap (or_refuse WorkFile) says.1)
         (next_spread m bytes Next reply set of is c) in
         inl (ap (λ (r : Reply). r.status) t.2)

@@ -7,15 +7,16 @@ use Rattle.mc_task.specs.declared.task.Rule.TheVariants.{Virtual}
 use Rattle.mc_task.specs.TaskSet.{Set}
 use Rattle.mc_world.specs.Shelf.{Files}
 use Rattle.mc_model.specs.declared.row.Row.{Row}
+use Rattle.mc_model.specs.declared.run.Run.{Run}
 use Rattle.mc_model.specs.declared.work.WorkRow.{WorkRow}
 use Rattle.mc_model.specs.Rows.{ticks}
 use Rattle.mc_model.specs.Legal.{Legal}
 use Rattle.mc_model.specs.Late.{late}
+use Rattle.work_file.specs.WorkFile.{work_in}
 use Rattle.command_line.specs.declared.form.Telling.{Telling}
 use Rattle.command_line.specs.declared.form.Telling.TheVariants.{JudgeBy, Chart}
 use Rattle.command_line.specs.Form.{Form, check, run, on_trace, soak, live, run_all}
-use Rattle.run_answers.specs.Run.{work_of}
-use Rattle.edfvd_program.specs.Headline.{bytes_of, SaysSet, IsAdmitted, SaysTrace, IsSpread}
+use Rattle.edfvd_program.specs.Headline.{bytes_of, SaysSet, IsAdmitted, trace_of, SaysTrace, IsSpread}
 
 -- the call succeeded, or memory was wanting
 abbrev pub Succeeds : ℕ → Type 0
@@ -23,7 +24,7 @@ Succeeds ended = (ended ≡ 0) ⊎ (ended ≡ 9)
 
 -- the work file says this work of the set
 abbrev pub SaysWork : List ℕ → List Task → List WorkRow → Type 0
-SaysWork bytes set work = (length bytes ≤ 2 ^ 24) × (work_of set bytes ≡ Ok work)
+SaysWork bytes set work = (length bytes ≤ 2 ^ 24) × (work_in set bytes ≡ Ok work)
 
 -- `check` and `live` succeed for each admitted set
 abbrev pub ServesAdmitted : List ℕ → ℕ → Type 0
@@ -46,13 +47,13 @@ IsTold telling h = Unit {0}
 
 -- `judge`, `chart`, `report` and `migrate` find each legal trace so under the test's rule
 abbrev pub FindsEach : Telling → List ℕ → List ℕ → ℕ → Type 0
-FindsEach telling bytes more ended = (set : Set) (rule : Rule) (h : List Row)
-    → IsAdmitted bytes set rule → SaysTrace more set.tasks h → Legal set.tasks rule h → IsTold telling h → Succeeds ended
+FindsEach telling bytes more ended = (set : Set) (rule : Rule) (runs : List Run)
+    → IsAdmitted bytes set rule → SaysTrace more set.tasks runs → Legal set.tasks rule (trace_of runs) → IsTold telling (trace_of runs) → Succeeds ended
 
 -- `judge` under a rule that the words give finds each legal trace without late jobs good
 abbrev pub FindsBy : Rule → List ℕ → List ℕ → ℕ → Type 0
-FindsBy rule bytes more ended = (set : Set) (h : List Row)
-    → SaysSet bytes set → SaysTrace more set.tasks h → Legal set.tasks rule h → late set.tasks h ≡ [] → Succeeds ended
+FindsBy rule bytes more ended = (set : Set) (runs : List Run)
+    → SaysSet bytes set → SaysTrace more set.tasks runs → Legal set.tasks rule (trace_of runs) → late set.tasks (trace_of runs) ≡ [] → Succeeds ended
 
 -- what is answered for valid files, by what they hold and the status
 abbrev pub Complete : Option Form → Files → ℕ → Type 0

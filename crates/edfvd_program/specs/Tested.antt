@@ -3,6 +3,7 @@
 use Rattle.std.specs.Prelude.{◌≡◌, ◌⊎◌, ℕ, ◌≤◌, ◌^◌, List, ◌++◌, length, Option, Some, Ok}
 use Rattle.mc_task.specs.TaskSet.{Set}
 use Rattle.mc_world.specs.Shelf.{Files}
+use Rattle.mc_model.specs.Loads.{IsWithinRange}
 use Rattle.command_line.specs.Form.{Form, demand, partition, stretch, accept}
 use Rattle.demand_test.specs.declared.demand.Demand.{Demand}
 use Rattle.demand_test.specs.declared.row.EdfRow.{EdfRow}
@@ -16,7 +17,7 @@ use Rattle.study.specs.Stretch.{IsStretch}
 use Rattle.study.specs.Acceptance.{accept_table}
 use Rattle.study_answers.specs.Stretch.{stretch_text}
 use Rattle.study_answers.specs.Accept.{table_text}
-use Rattle.edfvd_program.specs.Headline.{bytes_of, SaysSet, HasNoRangeFault, IsSpread, SpreadsExactly}
+use Rattle.edfvd_program.specs.Headline.{bytes_of, SaysSet, IsSpread, SpreadsExactly}
 use Rattle.edfvd_program.specs.Complete.{Succeeds}
 
 -- the demand file says this set
@@ -43,9 +44,9 @@ pub record Places (m : ℕ) (bytes old : List ℕ) (ended : ℕ) (new : Option (
 -- what `stretch` promises
 pub record Measures (bytes old : List ℕ) (ended : ℕ) (new : Option (List ℕ)) : Type 0 where
   -- the published test admits the set at the percentage that it writes, and at none above it up to 1000
-  pub writes : ended ≡ 0 → (set : Set) × (s : Option ℕ) × SaysSet bytes set × HasNoRangeFault set × IsStretch set.tasks s × (new ≡ Some (old ++ stretch_text set.tasks s))
+  pub writes : ended ≡ 0 → (set : Set) × (s : Option ℕ) × SaysSet bytes set × IsWithinRange set.tasks × IsStretch set.tasks s × (new ≡ Some (old ++ stretch_text set.tasks s))
   -- it writes one for each set within range
-  pub complete : (set : Set) → SaysSet bytes set → HasNoRangeFault set → Succeeds ended
+  pub complete : (set : Set) → SaysSet bytes set → IsWithinRange set.tasks → Succeeds ended
 
 -- what `accept` promises
 pub record Tabulates (number sets tasks : ℕ) (old : List ℕ) (ended : ℕ) (new : Option (List ℕ)) : Type 0 where

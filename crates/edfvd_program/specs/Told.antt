@@ -1,24 +1,31 @@
 -- Which traces are written, and what is told of those that are found legal or summed up, where the shelf and the sink tell
 -- their bytes and have no fault. The newest row of a trace stands first here.
-use Rattle.std.specs.Prelude.{◌≡◌, ℕ, List, ◌++◌, Option, Some, Ok}
+use Rattle.std.specs.Prelude.{◌≡◌, ℕ, List, ◌++◌, reverse, Option, Some, Ok, flat_map, zip}
 use Rattle.std.specs.List.{AllZip}
+use Rattle.mc_task.specs.declared.task.Task.{Task}
 use Rattle.mc_task.specs.declared.task.Rule.{Rule}
 use Rattle.mc_task.specs.TaskSet.{Set}
 use Rattle.mc_world.specs.Shelf.{Files}
 use Rattle.mc_model.specs.declared.row.Row.{Row}
+use Rattle.mc_model.specs.declared.run.Run.{Run}
 use Rattle.mc_model.specs.declared.work.WorkRow.{WorkRow}
 use Rattle.mc_model.specs.Follows.{Follows}
 use Rattle.mc_model.specs.LiveTrace.{LiveTrace}
+use Rattle.mc_model.specs.TraceText.{trace_text}
 use Rattle.command_line.specs.declared.form.Telling.{Telling}
 use Rattle.command_line.specs.declared.form.Telling.TheVariants.{JudgeBy}
 use Rattle.command_line.specs.Form.{Form, run, on_trace, soak, live, run_all}
 use Rattle.task_answers.specs.Admitted.{under}
 use Rattle.trace_answers.specs.OnTrace.{told}
 use Rattle.run_answers.specs.Soak.{workload_set, soak_text, IsSoaked}
-use Rattle.part_answers.specs.Parted.{spread}
-use Rattle.part_answers.specs.RunAll.{used, IsTraceOn}
-use Rattle.edfvd_program.specs.Headline.{bytes_of, IsAdmitted, SaysTrace, Writes, IsSpread, WritesAll}
+use Rattle.part_answers.specs.Parted.{Parted, spread}
+use Rattle.part_answers.specs.RunAll.{used, IsTraceOn, trace_lines}
+use Rattle.edfvd_program.specs.Headline.{bytes_of, IsAdmitted, trace_of, SaysTrace, IsSpread}
 use Rattle.edfvd_program.specs.Complete.{SaysWork}
+
+-- the text of the trace is written
+abbrev pub Writes : List Task → List Row → List ℕ → Option (List ℕ) → Type 0
+Writes set h old new = new ≡ Some (old ++ trace_text set (reverse h))
 
 -- `run` writes the one trace of so many ticks that follows from the set, its rule and the work in the work file
 abbrev pub WritesRun : ℕ → List ℕ → List ℕ → List ℕ → ℕ → Option (List ℕ) → Type 0
@@ -30,6 +37,10 @@ abbrev pub WritesLive : ℕ → List ℕ → List ℕ → ℕ → Option (List �
 WritesLive ticks bytes old ended new = ended ≡ 0 → (set : Set) × (rule : Rule) × (h : List Row)
     × IsAdmitted bytes set rule × LiveTrace set.tasks rule ticks h × Writes set.tasks h old new
 
+-- the texts of the traces of the processors with tasks are written
+abbrev pub WritesAll : ℕ → Parted → List (List Row) → List ℕ → Option (List ℕ) → Type 0
+WritesAll m parted traces old new = new ≡ Some (old ++ flat_map (trace_lines parted) (zip (used m parted) traces))
+
 -- `runall` writes for each processor with tasks the one trace that follows from these, their rule and their work
 abbrev pub WritesParts : ℕ → ℕ → List ℕ → List ℕ → List ℕ → ℕ → Option (List ℕ) → Type 0
 WritesParts ticks m bytes more old ended new = ended ≡ 0 → (set : Set) × (of : List ℕ) × (work : List WorkRow) × (traces : List (List Row))
@@ -38,8 +49,8 @@ WritesParts ticks m bytes more old ended new = ended ≡ 0 → (set : Set) × (o
 
 -- `judge`, `chart`, `report` and `migrate` tell of the trace in the file
 abbrev pub TellsOf : Telling → List ℕ → List ℕ → List ℕ → ℕ → Option (List ℕ) → Type 0
-TellsOf telling bytes more old ended new = ended ≡ 0 → (set : Set) × (rule : Rule) × (h : List Row) × (text : List ℕ)
-    × IsAdmitted bytes set rule × SaysTrace more set.tasks h × (told telling (under rule set) h ≡ Ok text) × (new ≡ Some (old ++ text))
+TellsOf telling bytes more old ended new = ended ≡ 0 → (set : Set) × (rule : Rule) × (runs : List Run) × (text : List ℕ)
+    × IsAdmitted bytes set rule × SaysTrace more set.tasks runs × (told telling (under rule set) (trace_of runs) ≡ Ok text) × (new ≡ Some (old ++ text))
 
 -- `soak` sums up the trace of a workload
 abbrev pub SumsUp : ℕ → ℕ → ℕ → List ℕ → ℕ → Option (List ℕ) → Type 0

@@ -23,11 +23,11 @@ use Rattle.mc_model.proofs.Sums.{total-append}
 use Rattle.executive.proofs.Counting.{IsEmpty, few}
 
 -- the state after one entry more stands for one more
-pub stands_more : (x : State) (o : FloorState) (log : List Entry) (e : Entry) → opening_of o ≡ o → IsLegal o log → x.floor ≡ after_call (after o log) e.task.0 e.call
-    → IsLegalEntry (after o log) e → x.last ≡ e → IsKept x.floor → HasShown (shows o (log ++ e ∷ [])) x.writer → Stands (log ++ x.last ∷ []) x
+pub stands_more : (x : State) (o : FloorState) (log : List Entry) (e : Entry) → opening_of o ≡ o → IsLegal o log → x.called.floor ≡ after_call (after o log) e.task.0 e.call
+    → IsLegalEntry (after o log) e → x.called.last ≡ e → IsKept x.called.floor → HasShown (shows o (log ++ e ∷ [])) x.writer → Stands (log ++ x.called.last ∷ []) x
 stands_more x o log e opens legal next one last kept shown =
-    let left : x.floor ≡ after o (log ++ e ∷ []) = next ∙ sym (after_more o log (e ∷ [])) in
-    let same : opening_of x.floor ≡ o = ap opening_of left ∙ (opening_after o (log ++ e ∷ []) ∙ opens) in
+    let left : x.called.floor ≡ after o (log ++ e ∷ []) = next ∙ sym (after_more o log (e ∷ [])) in
+    let same : opening_of x.called.floor ≡ o = ap opening_of left ∙ (opening_after o (log ++ e ∷ []) ∙ opens) in
     subst (λ (y : Entry). Stands (log ++ y ∷ []) x) (sym last) (record {
       legal = subst (λ (g : FloorState). IsLegal g (log ++ e ∷ [])) (sym same) (legal_more o log e legal one);
       leaves = left ∙ ap (λ (g : FloorState). after g (log ++ e ∷ [])) (sym same);

@@ -121,12 +121,12 @@ agrees o log p empty legal held back =
 
 -- the whole
 pub closed : (e : Executive) (ps : List TaskPass) (ss : List OurSeat) (x : State) (log : List Entry) → length ps ≤ length (floor_of e).core.set → AreSeats ps ss → All (λ p. IsPassOf e p) ps → HasPassOfEach ps (floor_of e).core.set
-    → Stands log x → opening_of x.floor ≡ floor_of e → All (IsInLog log) ss → OneHistoryLeaves (floor_of e) ps x.floor
+    → Stands log x → opening_of x.called.floor ≡ floor_of e → All (IsInLog log) ss → OneHistoryLeaves (floor_of e) ps x.called.floor
 closed e ps ss x log few same of all stands is each =
     let o = floor_of e in
     let empty = opens_empty e in
     let legal : IsLegal o log = subst (λ (f : FloorState). IsLegal f log) is stands.legal in
-    let leaves : x.floor ≡ after o log = stands.leaves ∙ ap (λ (f : FloorState). after f log) is in
+    let leaves : x.called.floor ≡ after o log = stands.leaves ∙ ap (λ (f : FloorState). after f log) is in
     let kept : IsKept (after o log) = subst IsKept leaves stands.kept in
     let seats = to_passes (IsInLog log) ps ss same each in
     let back : All (λ p. IsBack o log (of_pass p)) ps = λ k d lt. let p = slice_index_or ps k d in is_back e log legal p.resting p.there (of k d lt) (seats k d lt) in

@@ -37,8 +37,8 @@ lists s = record { opening = floor_or_none s.place.me.0.fixed; seen = seen s; mi
 abbrev pub lists_left : {g : Ghosts State Entry Opened} → Turn State Entry Opened g → Lists
 lists_left t = record {
   opening = floor_or_none t.claim.place.me.0.fixed;
-  seen = history t ++ (state_of t).last ∷ [];
-  mine = turn_mine t ++ (state_of t).last ∷ [];
+  seen = history t ++ (state_of t).called.last ∷ [];
+  mine = turn_mine t ++ (state_of t).called.last ∷ [];
 }
 
 -- the floor after all that was seen

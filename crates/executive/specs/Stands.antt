@@ -17,7 +17,7 @@ opening_of f = opening (empty_state f.core.set f.core.rule f.core.places) f.plan
 
 -- what no call changes
 abbrev pub opened : State → Opened
-opened s = record { floor = opening_of s.floor; board = option_map writer_board s.writer }
+opened s = record { floor = opening_of s.called.floor; board = option_map writer_board s.writer }
 
 -- the core keeps its laws, and keeps to its plan
 pub record IsKept (f : FloorState) : Type 0 where
@@ -26,7 +26,7 @@ pub record IsKept (f : FloorState) : Type 0 where
 
 -- the history is legal from the opening floor, and leaves this one; where there is a board, it was shown there
 pub record Stands (log : List Entry) (s : State) : Type 0 where
-  pub legal : IsLegal (opening_of s.floor) log
-  pub leaves : s.floor ≡ after (opening_of s.floor) log
-  pub kept : IsKept s.floor
-  pub shown : HasShown (shows (opening_of s.floor) log) s.writer
+  pub legal : IsLegal (opening_of s.called.floor) log
+  pub leaves : s.called.floor ≡ after (opening_of s.called.floor) log
+  pub kept : IsKept s.called.floor
+  pub shown : HasShown (shows (opening_of s.called.floor) log) s.writer

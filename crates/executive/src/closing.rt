@@ -57,12 +57,8 @@ impl Executive {
         } = self;
         let Reserved { mut list } = reserved.into_inner();
         give_seats(passes, &mut list);
-        let State {
-            floor,
-            last: _,
-            writer: _,
-        } = turns.close(list);
-        floor.into_floor()
+        let State { called, writer: _ } = turns.close(list);
+        called.into_floor()
     }
 }
 

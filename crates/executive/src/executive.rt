@@ -92,8 +92,8 @@ impl Executive {
         ensures of { IsTurnOf self.now.turns result.0 }
         ensures number { turn_number result.0 ≡ task.0 - 1 }
         ensures adds { Adds (entry task.0 call result.1) (lists seat) (lists_left result.0) }
-        ensures last { (state_of result.0).last ≡ entry task.0 call result.1 }
-        ensures stands { Stands (history result.0 ++ (state_of result.0).last ∷ []) (state_of result.0) }
+        ensures last { (state_of result.0).called.last ≡ entry task.0 call result.1 }
+        ensures stands { Stands (history result.0 ++ (state_of result.0).called.last ∷ []) (state_of result.0) }
         ensures fixed { opened (state_of result.0) ≡ fixed_part opened self.now.turns }
     {
         let mut turn = self.turns.enter(rt, seat);

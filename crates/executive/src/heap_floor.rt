@@ -1,72 +1,92 @@
-//! A floor in a block of its own: a turn then moves a pointer, and not the floor.
+//! A floor in a block of its own, with the call that was made last: a turn then moves a pointer, and neither of them.
 ghost use Rattle.std.specs.Prelude.{◌≡◌, ◌≤◌, ◌^◌, IfOk, IfErr};
 ghost use Rattle.mc_task.specs.TaskSet.{IsIn};
-ghost use Rattle.executive.specs.Histories.{MayCall, answer_to, after_call};
+ghost use Rattle.executive.specs.Histories.{MayCall, answer_to, after_call, entry};
 ghost use Rattle.executive.specs.Stands.{IsKept};
 ghost use Rattle.executive.specs.Shows.{shown_of};
 
-use crate::entry::{Answer, Call};
+use crate::entry::{Answer, Call, Entry};
 use mc_task::TaskNo;
 use status_board::Shown;
 use std::alloc::Global;
 use std::marker::Model;
 use timetable::Floor;
 
-/// A floor on the heap. Contracts see the floor.
+/// A floor, and the call that was made last.
+#[derive(Drop)]
+pub struct CalledFloor {
+    pub floor: Floor,
+    pub last: Entry,
+}
+
+/// A floor on the heap, and the call that was made last. Contracts see both.
 #[derive(Drop)]
 pub struct HeapFloor {
-    block: Box<Floor>,
+    block: Box<CalledFloor>,
 }
 
 impl Model for HeapFloor {
-    ghost use Rattle.timetable.specs.Floor.{FloorState};
+    ghost use Rattle.executive.specs.declared.heap_floor.CalledFloor.{CalledFloor};
 
-    ghost Value = { FloorState };
+    ghost Value = { CalledFloor };
 
     ghost view = { λ f. f.block.value };
 }
 
+impl CalledFloor {
+    fn into_floor(self) -> Floor
+        ensures { result ≡ self.floor }
+    {
+        let CalledFloor { floor, last: _ } = self;
+        floor
+    }
+}
+
 impl HeapFloor {
-    // Puts the floor on the heap. Where there is no memory it comes back.
+    // Puts the floor on the heap, where no call was made yet. Where there is no memory it comes back.
     pub(crate) fn new(alloc: Global, floor: Floor) -> Result<HeapFloor, Floor>
-        ensures ok { IfOk result (λ f. f ≡ floor) }
+        ensures ok { IfOk result (λ called. called.floor ≡ floor) }
         ensures memory { IfErr result (λ f. f ≡ floor) }
     {
-        match Box::new(alloc, floor) {
+        let last = Entry::NONE;
+        match Box::new(alloc, CalledFloor { floor, last }) {
             Ok(block) => Ok(HeapFloor { block }),
-            Err(failed) => Err(failed.value),
+            Err(failed) => Err(failed.value.into_floor()),
         }
     }
 
     // The floor, off the heap.
     pub(crate) fn into_floor(self) -> Floor
-        ensures { result ≡ self }
+        ensures { result ≡ self.floor }
     {
-        Box::into_inner(self.block)
+        Box::into_inner(self.block).into_floor()
     }
 
     // The ticks that ended, and the mode.
     #[tactic(auto, using(crate::proofs::Shows::few_ticks))]
     pub(crate) fn shown(&self) -> Shown
-        ensures shown { result ≡ shown_of self.now }
+        ensures shown { result ≡ shown_of self.now.floor }
         ensures few { result.ticks ≤ 2 ^ 62 }
     {
-        let core = self.block.core();
+        let core = self.block.floor.core();
         Shown {
             ticks: core.ticks(),
             high_mode: core.high_mode(),
         }
     }
 
-    // The answer to a call of a task, which the floor then has.
+    // The answer to a call of a task, which is then the last one.
     pub(crate) fn answer(&mut self, task: TaskNo, call: Call) -> Answer
-        requires in_set { IsIn self.old.core.set task.0 }
-        requires may { MayCall self.old task.0 call }
-        ensures answer { result ≡ answer_to self.old task.0 call }
-        ensures floor { self.new ≡ after_call self.old task.0 call }
-        ensures kept { IsKept self.new }
+        requires in_set { IsIn self.old.floor.core.set task.0 }
+        requires may { MayCall self.old.floor task.0 call }
+        ensures answer { result ≡ answer_to self.old.floor task.0 call }
+        ensures floor { self.new.floor ≡ after_call self.old.floor task.0 call }
+        ensures last { self.new.last ≡ entry task.0 call result }
+        ensures kept { IsKept self.new.floor }
     {
-        answered(&mut self.block, task, call)
+        let answer = answered(&mut self.block.floor, task, call);
+        self.block.last = Entry { task, call, answer };
+        answer
     }
 }
 

@@ -11,7 +11,6 @@ ghost use Rattle.executive.specs.Passes.{floor_of};
 ghost use Rattle.executive.specs.Watching.{IsWatcherOf};
 
 use crate::count::Count;
-use crate::entry::Entry;
 use crate::executive::{Executive, Reserved};
 use crate::heap_floor::HeapFloor;
 use crate::pass::{Held, TaskPass};
@@ -94,15 +93,11 @@ impl Executive {
         let Ok(mut passes) = Vec::with_capacity(alloc, tasks as usize) else {
             return Err(NoMemory { floor });
         };
-        let floor = match HeapFloor::new(alloc, floor) {
-            Ok(floor) => floor,
+        let called = match HeapFloor::new(alloc, floor) {
+            Ok(called) => called,
             Err(floor) => return Err(NoMemory { floor }),
         };
-        let state = State {
-            floor,
-            last: Entry::NONE,
-            writer,
-        };
+        let state = State { called, writer };
         match Turnstile::new(alloc, state, tasks) {
             Ok((turns, seats)) => {
                 let executive = Executive {
@@ -115,13 +110,9 @@ impl Executive {
                 Ok((executive, passes))
             }
             Err(NewFault::Memory(state)) => {
-                let State {
-                    floor,
-                    last: _,
-                    writer: _,
-                } = state;
+                let State { called, writer: _ } = state;
                 Err(NoMemory {
-                    floor: floor.into_floor(),
+                    floor: called.into_floor(),
                 })
             }
         }

@@ -16,11 +16,10 @@ use std::marker::Brand;
 use timetable::Floor;
 use turnstile::{Added, Kept};
 
-/// The floor, the last entry of the history, and the writer, where there is a board.
+/// The floor with the last entry of the history, and the writer, where there is a board.
 #[derive(Drop)]
 pub struct State {
-    pub(crate) floor: HeapFloor,
-    pub(crate) last: Entry,
+    pub(crate) called: HeapFloor,
     pub(crate) writer: Option<Writer>,
 }
 
@@ -56,21 +55,20 @@ impl Added<Entry> for Brand {
 impl State {
     // One call of a task. A tick that it ends is shown on the board, where there is one.
     pub(crate) fn act(&mut self, board: &Option<Board>, task: TaskNo, call: Call) -> Answer
-        requires in_set { IsIn self.old.floor.core.set task.0 }
-        requires may { MayCall self.old.floor task.0 call }
+        requires in_set { IsIn self.old.called.floor.core.set task.0 }
+        requires may { MayCall self.old.called.floor task.0 call }
         requires board { option_map writer_board self.old.writer ≡ option_map board_id board.now }
-        requires shown { IsUpTo (ticks self.old.floor.core.rows) self.old.writer }
-        ensures answer { result ≡ answer_to self.old.floor task.0 call }
-        ensures floor { self.new.floor ≡ after_call self.old.floor task.0 call }
-        ensures last { self.new.last ≡ entry task.0 call result }
-        ensures kept { IsKept self.new.floor }
+        requires shown { IsUpTo (ticks self.old.called.floor.core.rows) self.old.writer }
+        ensures answer { result ≡ answer_to self.old.called.floor task.0 call }
+        ensures floor { self.new.called.floor ≡ after_call self.old.called.floor task.0 call }
+        ensures last { self.new.called.last ≡ entry task.0 call result }
+        ensures kept { IsKept self.new.called.floor }
         ensures board { option_map writer_board self.new.writer ≡ option_map writer_board self.old.writer }
-        ensures shown { (log : List Shown) → HasShown log self.old.writer → HasShown (log ++ shows_now self.new.floor result) self.new.writer }
+        ensures shown { (log : List Shown) → HasShown log self.old.writer → HasShown (log ++ shows_now self.new.called.floor result) self.new.writer }
     {
-        let answer = self.floor.answer(task, call);
-        self.last = Entry { task, call, answer };
+        let answer = self.called.answer(task, call);
         if answer.ends_tick() {
-            show(board, &mut self.writer, self.floor.shown());
+            show(board, &mut self.writer, self.called.shown());
         }
         answer
     }
@@ -84,7 +82,7 @@ impl State {
     pub(crate) fn tell(&mut self, board: &Option<Board>, watcher: &mut Watcher)
         requires board { option_map writer_board self.old.writer ≡ option_map board_id board.now }
         requires watcher { option_map board_id board.now ≡ Some (watcher_board watcher.old) }
-        ensures same { (self.new.floor ≡ self.old.floor) × (self.new.last ≡ self.old.last) }
+        ensures same { (self.new.called.floor ≡ self.old.called.floor) × (self.new.called.last ≡ self.old.called.last) }
         ensures board { option_map writer_board self.new.writer ≡ option_map writer_board self.old.writer }
         ensures watcher { watcher_board watcher.new ≡ watcher_board watcher.old }
         ensures shown { (log : List Shown) → HasShown log self.old.writer → HasShown log self.new.writer }

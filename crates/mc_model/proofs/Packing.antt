@@ -71,17 +71,6 @@ pub pack-runs : (h : List Row) → AllByRecursion IsRun (pack h)
 pack-runs [] = tt
 pack-runs (row ∷ h) = put_is row (pack h) (pack-runs h)
 
--- a run with one row more joins what it joined
-longer_joins : (r s : Run) → joins (longer r) s ≡ joins r s
-longer_joins (run.Release j kept) s = refl
-longer_joins (run.Ticks i More m) (run.Ticks j More n) = refl
-longer_joins (run.Ticks i how m) s = refl
-longer_joins (run.Idles m) s = refl
-
-packed_longer : (r : Run) (rs : List Run) → IsPacked (r ∷ rs) → IsPacked (longer r ∷ rs)
-packed_longer r [] p = tt
-packed_longer r (s ∷ rs) p = (longer_joins r s ∙ p.0, p.1)
-
 -- a run of one row is that row's
 run_of_row : (r : Run) → size r ≡ 1 → run_of (row_of r) ≡ r
 run_of_row (run.Release j kept) e = refl

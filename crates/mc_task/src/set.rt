@@ -1,5 +1,5 @@
-ghost use Rattle.std.specs.Prelude.{◌≡◌, ◌≤◌, ◌↔◌, length, IfOk, IfErr, IfSome, IfNone, All, IsSome, option_map, Some, None, []};
-ghost use Rattle.mc_task.specs.TaskSet.{AreTasks, IsTask, IsScale, IsIn, task_at, unscaled};
+ghost use Rattle.std.specs.Prelude.{◌≡◌, ◌≢◌, ◌≤◌, ◌↔◌, length, true, false, IfOk, IfErr, IfSome, IfNone, All, IsSome, option_map, Some, None, []};
+ghost use Rattle.mc_task.specs.TaskSet.{AreTasks, IsTask, IsScale, IsIn, task_at, name_in, unscaled};
 ghost use Rattle.mc_task.specs.Faults.{first_fault, same_name_from, number_fault, number_fault_from, named};
 
 use crate::name_table::{NameTable, has_name, task_with};
@@ -112,6 +112,20 @@ impl TaskSet {
         task_with(&self.tasks, task).copied()
     }
 
+    /// Whether the set has a task with this number, and it has this name.
+    // A call takes as long as much of it.
+    #[inline(always)]
+    pub fn is_named(&self, task: TaskNo, name: &[u8]) -> bool
+        ensures inside { result ≡ true → IsIn self.now.tasks task.0 }
+        ensures name { result ≡ true → name_in (task_at self.now.tasks task.0) ≡ name.now }
+        ensures other { result ≡ false → IsIn self.now.tasks task.0 → name_in (task_at self.now.tasks task.0) ≢ name.now }
+    {
+        match task_with(&self.tasks, task) {
+            Some(t) => t.name.bytes() == name,
+            None => false,
+        }
+    }
+
     /// The number of the task with this name, or `None` exactly where no task has it.
     // Not inlined, so that a caller of `find_near`, who seldom comes here, stays small.
     #[inline(never)]
@@ -125,7 +139,7 @@ impl TaskSet {
         }
     }
 
-    /// The same as `find`, and sooner where it is the task with this number or the one behind it.
+    /// The same as `find`, and sooner where it is the task with this number or the one behind it; the first is behind the last.
     pub fn find_near(&self, name: &[u8], near: TaskNo) -> Option<TaskNo>
         ensures number { option_map (λ task. task.0) result ≡ named name.now self.now.tasks }
         ensures inside { IfSome result (λ task. IsIn self.now.tasks task.0) }
@@ -133,11 +147,20 @@ impl TaskSet {
         if has_name(&self.tasks, near, name) {
             return Some(near);
         }
-        let next = TaskNo(near.0.saturating_add(1));
+        let next = self.behind(near);
         if has_name(&self.tasks, next, name) {
             return Some(next);
         }
         self.find(name)
+    }
+
+    // The number of the task behind this one; the first is behind the last. Only how soon a task is found hangs on it.
+    fn behind(&self, task: TaskNo) -> TaskNo {
+        if task.0 < self.len() {
+            TaskNo(task.0 + 1)
+        } else {
+            TaskNo(1)
+        }
     }
 
     /// An equal set.

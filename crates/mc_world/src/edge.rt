@@ -1,5 +1,5 @@
 // What is read from any reader, and written to any writer.
-ghost use Rattle.std.specs.Prelude.{◌≡◌, ◌<◌, ◌≤◌, ◌^◌, take, length, IfOk, IfSome, IsErrOf, OnErr};
+ghost use Rattle.std.specs.Prelude.{◌≡◌, ◌+◌, ◌-◌, ◌<◌, ◌≤◌, ◌^◌, min, take, length, IfOk, IfSome, IsErrOf, OnErr};
 ghost use Rattle.std.specs.Io.KnownBytes.{Appends};
 ghost use Rattle.mc_world.specs.Count.{RoseByMoreThan};
 
@@ -24,7 +24,12 @@ pub fn read_whole<T: Read>(
     ensures long { IsErrOf result FetchFault.TooLong → IfSome (T.remaining reader.old) (λ left. limit < length left) }
     ensures long_untold { IsErrOf result FetchFault.TooLong → RoseByMoreThan limit bytes_read.old bytes_read.new }
     ensures more_read { bytes_read.old ≤ bytes_read.new }
+
+    // Each byte that is given was counted once.
+    ensures counted { IfOk result (λ bytes. bytes_read.new ≡ min (bytes_read.old + length bytes.items) (2 ^ 64 - 1)) }
 {
+    // It is a number of 64 bits.
+    let _before = *bytes_read;
     let mut bytes = Vec::new(alloc);
     let mut buffer = [0; PIECE_BYTES];
     // One byte past the limit is asked for, since only that byte shows that there are too many.

@@ -1,4 +1,4 @@
-ghost use Rattle.std.specs.Prelude.{◌≡◌, ◌≤◌, length, if◌then◌else◌, Some, None};
+ghost use Rattle.std.specs.Prelude.{◌≡◌, ◌≤◌, ◌-◌, length, if◌then◌else◌, nat_le, true, Some, None};
 ghost use Rattle.std.specs.List.{list_all};
 ghost use Rattle.numeral.specs.Numeral as text;
 
@@ -16,6 +16,7 @@ pub fn numeral(bytes: &[u8], most_digits: usize) -> Option<u128>
 }
 
 /// The value of 1 to 10 ASCII digits, or `None` exactly where the bytes have another form or the value is past 32 bits.
+#[inline]
 #[tactic(auto, unfolding(crate::specs::Numeral::number))]
 pub fn number(bytes: &[u8]) -> Option<u32>
     ensures { result ≡ text.number bytes.now }
@@ -40,10 +41,7 @@ fn short_numeral(bytes: &[u8]) -> Option<u64>
 fn in_range(value: u64) -> Option<u32>
     ensures { result ≡ text.in_range value }
 {
-    if value > u32::MAX as u64 {
-        return None;
-    }
-    Some(value as u32)
+    u32::try_from(value).ok()
 }
 
 fn is_digit(b: u8) -> bool
@@ -67,6 +65,14 @@ fn value_of(bytes: &[u8]) -> Option<u128>
     Some(value)
 }
 
+// A byte's distance from `0`, which is above 9 where it is no digit.
+fn digit_of(b: u8) -> u64
+    ensures digit { text.is_digit b ≡ nat_le result 9 }
+    ensures value { text.is_digit b ≡ true → result ≡ b - 48 }
+{
+    u64::from(b).wrapping_sub(48)
+}
+
 // The same of few digits, in 64 bits.
 fn short_value_of(bytes: &[u8]) -> Option<u64>
     requires { length bytes.now ≤ 10 }
@@ -74,10 +80,11 @@ fn short_value_of(bytes: &[u8]) -> Option<u64>
 {
     let mut value = 0u64;
     for b in bytes {
-        if !is_digit(*b) {
+        let digit = digit_of(*b);
+        if digit > 9 {
             return None;
         }
-        value = value * 10 + (*b - b'0') as u64;
+        value = value * 10 + digit;
     }
     Some(value)
 }

@@ -8,7 +8,6 @@ use Rattle.replies.specs.Reply.{Reply}
 use Rattle.replies.specs.Refusal.{ReadFault, Longer, refuse}
 use Rattle.serving.specs.Command.{Command, answer, fetch}
 use Rattle.serving.specs.Outcome.{HasBytes, IsReply, Tells, IsAnswer}
-use Rattle.serving.proofs.Replies.{status_7}
 
 -- bytes past a limit
 past : (P Q : Type 0) (limit : ℕ) (bytes : List ℕ) → limit < length bytes → P → MatchBool (nat_lt limit (length bytes)) P Q
@@ -70,13 +69,4 @@ tells_no_fault k (fetch name limit next) before after reply r zero j is =
     elim r [
       | inl refused ↦ elim refused [ inl failed ↦ absurd (never_rose before.faults after.faults zero failed.0.rose) | inr long ↦ absurd (not_longer j k limit (sym is ∙ long.1)) ]
       | inr more ↦ tells_no_fault (k + 1) (next more.0) more.1 after reply more.3 zero j is
-    ]
-
--- no reply has the status of a write fault
-pub not_8 : (k : ℕ) (command : Command) (before after : ShelfState) (reply : Reply) → IsReply k command before after reply → reply.status ≢ 8
-not_8 k (answer Is) before after reply r is = r.2.write is
-not_8 k (fetch name limit next) before after reply r is =
-    elim r [
-      | inl refused ↦ let seven : reply.status ≡ 7 = status_7 k name limit before after reply refused in absurd (omega (arith, seven, is))
-      | inr more ↦ not_8 (k + 1) (next more.0) more.1 after reply more.3 is
     ]

@@ -1,3 +1,2 @@
 mod Lists
 mod Steps
-pub mod Boards

@@ -26,7 +26,7 @@ reach f i lt (z ∷ zs) (k ∷ ks) h =
     counted-cons (nat_lt i) k ks ∙ ap (λ b. cond b 1 0 + more_than i ks) (sym (h.0 i lt)) ∙ ap (λ r. cond (reaches (100 + 10 * i) (f z)) 1 0 + r) (reach f i lt zs ks h.1)
     ∙ sym (counted-cons (λ y. reaches (100 + 10 * i) (f y)) z zs)
 
-map-range-same : (f g : ℕ → ℕ) (a n : ℕ) → ((i : ℕ) → i < a + n → f i ≡ g i) → map f (range_with_len a n) ≡ map g (range_with_len a n)
+pub map-range-same : (f g : ℕ → ℕ) (a n : ℕ) → ((i : ℕ) → i < a + n → f i ≡ g i) → map f (range_with_len a n) ≡ map g (range_with_len a n)
 map-range-same f g a zero h = refl
 map-range-same f g a (suc n) h =
     ap (λ x. x ∷ map f (range_with_len (a + 1) n)) (h a (omega arith)) ∙ ap (λ l. g a ∷ l) (map-range-same f g (a + 1) n (λ i lt. h i (omega arith)))

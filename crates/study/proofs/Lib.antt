@@ -4,5 +4,6 @@ pub mod Greatest
 pub mod MostHigh
 pub mod Percentages
 pub mod Reached
+pub mod Tables
 pub mod Over
 pub mod Walked

@@ -2,3 +2,4 @@ pub mod Stretch
 pub mod Loads
 pub mod Acceptance
 pub mod Steps
+pub mod Shares

@@ -2,7 +2,9 @@
 #![tactic(auto)]
 
 mod acceptance;
+mod counting;
 mod room;
+mod shares;
 mod steps;
 
 pub use acceptance::table;

@@ -97,18 +97,22 @@ abbrev pub given : {A : Type 0} → Option A → TraceCause → (A → Result Ru
 given None cause more = Err cause
 given (Some x) cause more = more x
 
+-- the run of a record that tells this event, at the tick that is due, or the first of its refusals
+abbrev pub run_at : List Task → Version → ℕ → List (List ℕ) → Event → Result Run TraceCause
+run_at set v due fields told =
+    given (task_told set v fields told) UnknownTask (λ task.
+    given (numbers_told v fields told) BadNumber (λ n.
+    if not (n.tick == due) then Err WrongTick
+    else if not (is_length told n.length) then Err BadLength
+    else if nat_lt 100000000 (due + n.length) then Err TooManyTicks
+    else Ok (run_told told task n)))
+
 -- the run of a record behind these runs, or the first of its refusals
 unfoldable pub record_run : List Task → Version → List Run → List (List ℕ) → Result Run TraceCause
 record_run set v before fields =
     if nat_le 2000000 (length before) then Err TooMany
     else if not (length fields == width v) then Err (wrong_width v)
-    else given (event_of v fields) UnknownEvent (λ told.
-    given (task_told set v fields told) UnknownTask (λ task.
-    given (numbers_told v fields told) BadNumber (λ n.
-    if not (n.tick == total length_of before) then Err WrongTick
-    else if not (is_length told n.length) then Err BadLength
-    else if nat_lt 100000000 (total length_of before + n.length) then Err TooManyTicks
-    else Ok (run_told told task n))))
+    else given (event_of v fields) UnknownEvent (run_at set v (total length_of before) fields)
 
 -- what the records behind this one mean, if it is a header
 abbrev pub behind_header : List Task → List (List ℕ) → Option (Means Run TraceCause)

@@ -9,7 +9,7 @@ use crate::write::tick_after;
 use crate::{TraceCause, TraceFault};
 use csv::ByteRecord;
 use csv_records::{Meaning, Said, read_rows};
-use mc_model::Run;
+use mc_model::{How, Run};
 use mc_task::{TaskNo, TaskSet};
 use std::alloc::Global;
 
@@ -38,20 +38,34 @@ struct TraceRecords<'a> {
     set: &'a TaskSet,
 }
 
-// The version of the records, and the tick that is due behind the runs so far. `near` is the last task that was told, or 0 at
-// first: most records tell it again, or the task behind it.
+// The version of the records, the tick that is due behind the runs so far, and the task that the next record is likely to tell.
 #[derive(Clone, Copy)]
 pub struct Reading {
     pub version: Version,
     pub due: u32,
-    pub near: TaskNo,
+    pub likely: TaskNo,
 }
 
-// The task of this run, or the last one before it where it tells none. Only how soon a task is found hangs on it.
-fn last_told(near: TaskNo, run: Run) -> TaskNo {
+// The task that the next record is likely to tell: this run's where its job goes on, and else the one behind it. Only how soon a
+// task is found hangs on it.
+fn likely_behind(set: &TaskSet, likely: TaskNo, run: Run) -> TaskNo {
     match run {
-        Run::Release { job, .. } | Run::Ticks { job, .. } => job.task,
-        Run::Idles { .. } => near,
+        Run::Ticks {
+            job,
+            how: How::More,
+            ..
+        } => job.task,
+        Run::Release { job, .. } | Run::Ticks { job, .. } => task_behind(set, job.task),
+        Run::Idles { .. } => likely,
+    }
+}
+
+// The task behind this one; the first is behind the last.
+fn task_behind(set: &TaskSet, task: TaskNo) -> TaskNo {
+    if task.0 < set.len() {
+        TaskNo(task.0 + 1)
+    } else {
+        TaskNo(1)
     }
 }
 
@@ -78,7 +92,7 @@ impl<'a> Meaning for TraceRecords<'a> {
         Some(Reading {
             version,
             due: 0,
-            near: TaskNo(0),
+            likely: TaskNo(1),
         })
     }
 
@@ -88,10 +102,14 @@ impl<'a> Meaning for TraceRecords<'a> {
         before: &[Run],
         fields: &ByteRecord,
     ) -> Result<Run, TraceCause> {
-        let Reading { version, due, near } = *reading;
-        let run = record_run(self.set, version, before, due, near, fields)?;
+        let Reading {
+            version,
+            due,
+            likely,
+        } = *reading;
+        let run = record_run(self.set, version, before, due, likely, fields)?;
         reading.due = tick_after(due, run);
-        reading.near = last_told(near, run);
+        reading.likely = likely_behind(self.set, likely, run);
         Ok(run)
     }
 

@@ -3,6 +3,7 @@ ghost use Rattle.std.specs.Prelude.{◌≡◌, ◌+◌, ◌≤◌, option_map};
 ghost use Rattle.std.specs.Str.{bytes_eq};
 ghost use Rattle.csv.specs.Records.{fields_of};
 ghost use Rattle.numeral.specs.Numeral as text;
+ghost use Rattle.mc_task.specs.Faults.{named};
 ghost use Rattle.mc_model.specs.Sums.{total};
 ghost use Rattle.mc_model.specs.Runs.{length_of};
 ghost use Rattle.trace_format.specs.Events as event;
@@ -52,14 +53,38 @@ fn is_second_header(fields: &ByteRecord) -> bool
                         && (is(field(fields, 4), "job") && is(field(fields, 5), "how"))))))
 }
 
-// A word is short and its length is known here, so `starts_with` is a compare or two in place, where `==` is a call.
+// Whether the field is this word, which is asked at once where it has four bytes.
+#[inline(always)]
 fn is(field: &[u8], word: &str) -> bool
+    ensures { result ≡ bytes_eq field.now word.now }
+{
+    match (
+        <[u8; 4]>::try_from(field),
+        <[u8; 4]>::try_from(word.as_bytes()),
+    ) {
+        (Ok(field), Ok(word)) => are_same(field, word),
+        _ => is_long(field, word),
+    }
+}
+
+// Whether the four bytes are the same, as one number.
+#[inline(always)]
+fn are_same(bytes: [u8; 4], others: [u8; 4]) -> bool
+    ensures { result ≡ bytes_eq bytes others }
+{
+    u32::from_le_bytes(bytes) == u32::from_le_bytes(others)
+}
+
+// A word is short and its length is known here, so `starts_with` is a compare or two in place, where `==` is a call.
+#[inline(always)]
+fn is_long(field: &[u8], word: &str) -> bool
     ensures { result ≡ bytes_eq field.now word.now }
 {
     field.len() == word.len() && field.starts_with(word.as_bytes())
 }
 
 // The field at this place, from 0; empty where there is none.
+#[inline(always)]
 fn field(fields: &ByteRecord, place: usize) -> &[u8]
     ensures { result.now ≡ event.field (fields_of fields.now) place }
 {
@@ -70,6 +95,7 @@ fn field(fields: &ByteRecord, place: usize) -> &[u8]
 }
 
 // The place of the task's field, which the job's and the how's stand behind.
+#[inline(always)]
 fn task_place(version: Version) -> usize
     ensures place { result ≡ event.task_place version }
     ensures few { result ≤ 3 }
@@ -81,6 +107,7 @@ fn task_place(version: Version) -> usize
 }
 
 // The number of fields.
+#[inline(always)]
 fn width(version: Version) -> usize
     ensures { result ≡ file.width version }
 {
@@ -100,14 +127,15 @@ pub fn wrong_width(version: Version) -> TraceCause
     }
 }
 
-// The run of a record behind the runs before it, at the tick that is due there. Its task is looked for near this one first.
+// The run of a record behind the runs before it, at the tick that is due there. The likely task is looked for first.
+// It has one caller, so that it is taken into the loop over the records.
 #[tactic(auto, unfolding(crate::specs::TraceFile::record_run))]
 pub fn record_run(
     set: &TaskSet,
     version: Version,
     before: &[Run],
     due: u32,
-    near: TaskNo,
+    likely: TaskNo,
     fields: &ByteRecord,
 ) -> Result<Run, TraceCause>
     requires due { due ≡ total length_of before.now }
@@ -120,10 +148,35 @@ pub fn record_run(
     if fields.len() != width(version) {
         return Err(wrong_width(version));
     }
-    let Some(told) = event_of(version, fields) else {
-        return Err(TraceCause::UnknownEvent);
-    };
-    let Some(task) = task_told(set, version, near, fields, told) else {
+    match event_of(version, fields) {
+        Some(Event::Release { kept }) => {
+            let told = Event::Release { kept };
+            run_at(set, version, due, likely, fields, told)
+        }
+        Some(Event::Tick { how }) => {
+            let told = Event::Tick { how };
+            run_at(set, version, due, likely, fields, told)
+        }
+        Some(Event::Idle) => run_at(set, version, due, likely, fields, Event::Idle),
+        None => Err(TraceCause::UnknownEvent),
+    }
+}
+
+// The run of a record that tells this event, at the tick that is due. It is written out for each kind of event by its caller,
+// so that nothing is asked twice of a record.
+#[inline(always)]
+fn run_at(
+    set: &TaskSet,
+    version: Version,
+    due: u32,
+    likely: TaskNo,
+    fields: &ByteRecord,
+    told: Event,
+) -> Result<Run, TraceCause>
+    requires { due ≤ 100000000 }
+    ensures { result ≡ file.run_at set.now.tasks version due (fields_of fields.now) told }
+{
+    let Some(task) = task_told(set, version, likely, fields, told) else {
         return Err(TraceCause::UnknownTask);
     };
     let Some(numbers) = numbers_told(version, fields, told) else {
@@ -142,10 +195,11 @@ pub fn record_run(
 }
 
 // The task of a release or a tick; an idle record has none, for which 0 stands, the number of no task.
+#[inline(always)]
 fn task_told(
     set: &TaskSet,
     version: Version,
-    near: TaskNo,
+    likely: TaskNo,
     fields: &ByteRecord,
     told: Event,
 ) -> Option<TaskNo>
@@ -153,10 +207,22 @@ fn task_told(
 {
     match told {
         Event::Release { .. } | Event::Tick { .. } => {
-            set.find_near(field(fields, task_place(version)), near)
+            find_likely(set, field(fields, task_place(version)), likely)
         }
         Event::Idle => Some(TaskNo(0)),
     }
+}
+
+// The task with this name, which is soonest found where it is the likely one.
+#[inline(always)]
+fn find_likely(set: &TaskSet, name: &[u8], likely: TaskNo) -> Option<TaskNo>
+    ensures { option_map (λ task. task.0) result ≡ named name.now set.now.tasks }
+{
+    let _is_set = set.len();
+    if set.is_named(likely, name) {
+        return Some(likely);
+    }
+    set.find_near(name, likely)
 }
 
 // The tick, the length and the job's count of a record.
@@ -168,32 +234,39 @@ pub struct Numbers {
 }
 
 // Those of a record; `None` where one of them is no number.
+#[inline(always)]
 fn numbers_told(version: Version, fields: &ByteRecord, told: Event) -> Option<Numbers>
     ensures { result ≡ file.numbers_told version (fields_of fields.now) told }
 {
-    let tick = number(field(fields, 1));
     match told {
-        Event::Release { .. } => all_numbers(tick, Some(0), count_in(version, fields)),
-        Event::Tick { .. } => all_numbers(
-            tick,
-            length_in(version, fields),
-            count_in(version, fields),
-        ),
-        Event::Idle => all_numbers(tick, length_in(version, fields), Some(0)),
+        Event::Release { .. } => Some(Numbers {
+            tick: tick_in(fields)?,
+            length: 0,
+            count: count_in(version, fields)?,
+        }),
+        Event::Tick { .. } => Some(Numbers {
+            tick: tick_in(fields)?,
+            length: length_in(version, fields)?,
+            count: count_in(version, fields)?,
+        }),
+        Event::Idle => Some(Numbers {
+            tick: tick_in(fields)?,
+            length: length_in(version, fields)?,
+            count: 0,
+        }),
     }
 }
 
-fn all_numbers(tick: Option<u32>, length: Option<u32>, count: Option<u32>) -> Option<Numbers>
-    ensures { result ≡ file.all_numbers tick length count }
+// The tick of a record.
+#[inline(always)]
+fn tick_in(fields: &ByteRecord) -> Option<u32>
+    ensures { result ≡ text.number (event.field (fields_of fields.now) 1) }
 {
-    Some(Numbers {
-        tick: tick?,
-        length: length?,
-        count: count?,
-    })
+    number(field(fields, 1))
 }
 
 // The count of the job.
+#[inline(always)]
 fn count_in(version: Version, fields: &ByteRecord) -> Option<u32>
     ensures { result ≡ text.number (event.field (fields_of fields.now) (event.task_place version + 1)) }
 {
@@ -201,6 +274,7 @@ fn count_in(version: Version, fields: &ByteRecord) -> Option<u32>
 }
 
 // Whether a record may have so many ticks.
+#[inline(always)]
 fn is_length(told: Event, length: u32) -> bool
     ensures { result ≡ file.is_length told length }
 {
@@ -214,6 +288,7 @@ fn is_length(told: Event, length: u32) -> bool
     }
 }
 
+#[inline(always)]
 fn run_told(told: Event, task: TaskNo, numbers: Numbers) -> Run
     ensures { result ≡ file.run_told told task.0 numbers }
 {
@@ -230,6 +305,7 @@ fn run_told(told: Event, task: TaskNo, numbers: Numbers) -> Run
 }
 
 // The ticks of a tick or idle record.
+#[inline(always)]
 fn length_in(version: Version, fields: &ByteRecord) -> Option<u32>
     ensures { result ≡ file.length_in version (fields_of fields.now) }
 {
@@ -239,6 +315,7 @@ fn length_in(version: Version, fields: &ByteRecord) -> Option<u32>
     }
 }
 
+#[inline(always)]
 #[tactic(auto, unfolding(crate::specs::Events::event_of))]
 fn event_of(version: Version, fields: &ByteRecord) -> Option<Event>
     ensures { result ≡ event.event_of version (fields_of fields.now) }
@@ -262,6 +339,7 @@ fn event_of(version: Version, fields: &ByteRecord) -> Option<Event>
     None
 }
 
+#[inline(always)]
 fn has_no_length(version: Version, fields: &ByteRecord) -> bool
     ensures { result ≡ event.has_no_length version (fields_of fields.now) }
 {
@@ -271,6 +349,7 @@ fn has_no_length(version: Version, fields: &ByteRecord) -> bool
     }
 }
 
+#[inline(always)]
 #[tactic(auto, unfolding(crate::specs::Events::release_event))]
 fn release_event(how: &[u8]) -> Option<Event>
     ensures { result ≡ event.release_event how.now }
@@ -284,6 +363,7 @@ fn release_event(how: &[u8]) -> Option<Event>
     }
 }
 
+#[inline(always)]
 #[tactic(auto, unfolding(crate::specs::Events::tick_event))]
 fn tick_event(how: &[u8]) -> Option<Event>
     ensures { result ≡ event.tick_event how.now }
@@ -301,6 +381,7 @@ fn tick_event(how: &[u8]) -> Option<Event>
     }
 }
 
+#[inline(always)]
 #[tactic(auto, unfolding(crate::specs::Events::idle_event))]
 fn idle_event(task: &[u8], job: &[u8], how: &[u8]) -> Option<Event>
     ensures { result ≡ event.idle_event task.now job.now how.now }

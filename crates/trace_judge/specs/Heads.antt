@@ -17,6 +17,10 @@ IsTreeBut except nodes = (k : ℕ) → 1 ≤ k → 2 * k + 1 < length nodes → 
 abbrev pub IsTree : List ℕ → Type 0
 IsTree nodes = (k : ℕ) → 1 ≤ k → 2 * k + 1 < length nodes → IsLesser nodes k
 
+-- the two below this place have been lowered to this key, and it not yet
+abbrev pub IsLowered : ℕ → ℕ → List ℕ → Type 0
+IsLowered k key nodes = 1 ≤ k → min (slice_index nodes k) key ≡ min (slice_index nodes (2 * k)) (slice_index nodes (2 * k + 1))
+
 -- the last half
 abbrev pub leaves : List ℕ → List ℕ
 leaves nodes = drop (length nodes / 2) nodes

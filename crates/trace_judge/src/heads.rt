@@ -1,8 +1,8 @@
 // The keys at the heads of the tasks' queues, in a tree in one array, as a winner tree (Knuth, The Art of Computer
 // Programming, volume 3, section 5.4.1): the last half are the leaves, and place k holds the lesser of the keys at the
 // places 2k and 2k + 1. Place 0 is not used.
-ghost use Rattle.std.specs.Prelude.{◌≡◌, ◌+◌, ◌*◌, ◌/◌, ◌^◌, ◌<◌, ◌≤◌, ℕ, All, Contains, IfOk, length, drop, slice_set, replicate};
-ghost use Rattle.trace_judge.specs.Heads.{no_key, IsTree, IsTreeBut};
+ghost use Rattle.std.specs.Prelude.{◌≡◌, ◌+◌, ◌*◌, ◌/◌, ◌^◌, ◌<◌, ◌≤◌, ℕ, All, Contains, IfOk, length, drop, slice_index, slice_set, replicate};
+ghost use Rattle.trace_judge.specs.Heads.{no_key, IsTree, IsTreeBut, IsLowered};
 
 use mc_task::Memory;
 use std::alloc::{AllocError, Global};
@@ -45,6 +45,15 @@ impl Heads {
         ensures { self.new ≡ slice_set self.old index key }
     {
         put(&mut self.nodes, index, key);
+    }
+
+    /// Puts a key that is not greater at the head of a queue.
+    pub fn lower(&mut self, index: usize, key: u128)
+        requires index { index < length self.old }
+        requires lesser { key ≤ slice_index self.old index }
+        ensures { self.new ≡ slice_set self.old index key }
+    {
+        put_lesser(&mut self.nodes, index, key);
     }
 
     /// The least of the keys.
@@ -93,6 +102,38 @@ fn climb(nodes: &mut [u128], from: usize)
             return;
         }
         nodes[at] = lesser;
+        at /= 2;
+    }
+}
+
+// Puts a key that is not greater at a leaf, and lowers those above it.
+fn put_lesser(nodes: &mut [u128], leaf: usize, key: u128)
+    requires even { length nodes.old ≡ 2 * (length nodes.old / 2) }
+    requires leaf { leaf < length nodes.old / 2 }
+    requires tree { IsTree nodes.old }
+    requires lesser { key ≤ slice_index nodes.old (length nodes.old / 2 + leaf) }
+    ensures len { length nodes.new ≡ length nodes.old }
+    ensures tree { IsTree nodes.new }
+    ensures leaves { drop (length nodes.old / 2) nodes.new ≡ slice_set (drop (length nodes.old / 2) nodes.old) leaf key }
+{
+    let place = nodes.len() / 2 + leaf;
+    nodes[place] = key;
+    lower_above(nodes, place, key);
+}
+
+// Goes from a place, which was lowered to this key, towards the root, as far as the key is less than what is there: what is beside
+// it need not be looked at.
+fn lower_above(nodes: &mut [u128], from: usize, key: u128)
+    requires pair { 2 * (from / 2) + 1 < length nodes.old }
+    requires tree { IsTreeBut (from / 2) nodes.old }
+    requires lowered { IsLowered (from / 2) key nodes.old }
+    ensures len { length nodes.new ≡ length nodes.old }
+    ensures tree { IsTree nodes.new }
+    ensures leaves { (p : ℕ) → length nodes.old ≤ 2 * p → drop p nodes.new ≡ drop p nodes.old }
+{
+    let mut at = from / 2;
+    while at > 0 && key < nodes[at] {
+        nodes[at] = key;
         at /= 2;
     }
 }

@@ -1,6 +1,6 @@
 // The pending jobs of one task, in ascending order of their keys. Jobs of a task are released in that order, so a new one
 // comes last, and the one that runs is the first.
-ghost use Rattle.std.specs.Prelude.{◌≡◌, ◌+◌, ◌<◌, ◌≤◌, ℕ, [], ◌∷◌, OnOk, OnErr, MatchOption, IfOk, IfSome, IfNone, cond, length, false, find};
+ghost use Rattle.std.specs.Prelude.{◌≡◌, ◌+◌, ◌<◌, ◌≤◌, ℕ, [], ◌∷◌, OnOk, OnErr, MatchOption, IfOk, IfSome, IfNone, cond, length, true, false, find};
 ghost use Rattle.std.specs.List.{list_any, insert, remove};
 ghost use Rattle.mc_model.specs.Sums.{total};
 ghost use Rattle.trace_judge.specs.Heads.{no_key};
@@ -52,9 +52,11 @@ impl Queue {
     }
 
     /// Puts a job in, behind those whose keys are not greater, and tells whether it is the first.
+    #[inline(always)]
     pub fn push(&mut self, job: Queued) -> Result<bool, Memory>
         requires { job.key < no_key }
         ensures head { IfOk result (λ first. head_key self.new ≡ cond first job.key (head_key self.old)) }
+        ensures lesser { IfOk result (λ first. first ≡ true → job.key ≤ head_key self.old) }
         ensures jobs { OnOk result ((f : Queued → ℕ) → total f self.new ≡ f job + total f self.old) }
         ensures ordered { OnOk result (IsQueue self.new) }
         ensures unchanged { OnErr result (self.new ≡ self.old) }
@@ -94,6 +96,7 @@ impl Queue {
     }
 
     /// Takes the first job of this count out.
+    #[inline(always)]
     pub fn take_out(&mut self, count: u32)
         ensures jobs { self.new ≡ remove_first (has_count count) self.old }
         ensures ordered { IsQueue self.new }
@@ -111,11 +114,15 @@ impl Queue {
     }
 }
 
-// The place behind the jobs whose keys are not greater.
+// The place behind the jobs whose keys are not greater. Mostly a task has no other job, so that is asked first.
+#[inline(always)]
 fn place_for(jobs: &VecDeque<Queued>, key: u128) -> usize
     requires { IsQueue jobs.now.items }
     ensures { IsPlaceFor jobs.now.items key result }
 {
+    if jobs.is_empty() {
+        return 0;
+    }
     let mut place = jobs.len();
     while place > 0 && key < jobs[place - 1].key {
         place -= 1;
@@ -124,6 +131,7 @@ fn place_for(jobs: &VecDeque<Queued>, key: u128) -> usize
 }
 
 // Puts a job in at this place, which is the last one for a job that was released behind all others.
+#[inline(always)]
 fn put_at(jobs: &mut VecDeque<Queued>, place: usize, job: Queued) -> Result<(), AllocError>
     requires { place ≤ length jobs.old.items }
     ensures items { OnOk result (jobs.new.items ≡ insert jobs.old.items place job) }
@@ -138,6 +146,7 @@ fn put_at(jobs: &mut VecDeque<Queued>, place: usize, job: Queued) -> Result<(), 
 }
 
 // Takes the job at this place out, which is the first one for a job that runs.
+#[inline(always)]
 fn take_at(jobs: &mut VecDeque<Queued>, place: usize)
     requires { place < length jobs.old.items }
     ensures { jobs.new.items ≡ remove jobs.old.items place }
@@ -149,11 +158,15 @@ fn take_at(jobs: &mut VecDeque<Queued>, place: usize)
     let _ = jobs.pop_front();
 }
 
-// The place of the first job of this count.
+// The place of the first job of this count. Mostly it is the job that runs, so the front is asked first.
+#[inline(always)]
 fn place_of(jobs: &VecDeque<Queued>, count: u32) -> Option<usize>
     ensures first { IfSome result (IsFirstAt (has_count count) jobs.now.items) }
     ensures none { IfNone result (list_any (has_count count) jobs.now.items ≡ false) }
 {
+    if !jobs.is_empty() && count == jobs[0].count {
+        return Some(0);
+    }
     for place in 0..jobs.len() {
         if count == jobs[place].count {
             return Some(place);

@@ -157,7 +157,8 @@ impl State {
         self.place += length;
     }
 
-    // The last tick of a job, which is late where its deadline came before this tick.
+    // The last tick of a job, which is late where its deadline came before this tick. A call takes as long as a good part of it.
+    #[inline(always)]
     fn end(&mut self, task: &Task, job: JobId, pending: Pending)
         requires queue { HasQueue self.old.waiting job.task.0 }
         requires room { self.old.place < 2 ^ 32 - 1 }

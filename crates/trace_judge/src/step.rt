@@ -71,10 +71,10 @@ fn release(
     ensures { IfOk result (λ misfit. IsStep set.now.tasks rule (run.Release job kept) state.old misfit state.new) }
 {
     let task = task_in(set, job.task);
-    if let Some(why) = state.release_why(&task, job, kept) {
+    if let Some(why) = state.release_why(task, job, kept) {
         return Ok(Some(Misfit::first(why)));
     }
-    state.release(rule, &task, job, kept)?;
+    state.release(rule, task, job, kept)?;
     Ok(None)
 }
 
@@ -127,14 +127,14 @@ fn tick_least(
 {
     let _is_set = set.len();
     let task = task_in(set, job.task);
-    let fit = fitting(rule, state.high_mode, &task, pending.used, how, length);
+    let fit = fitting(rule, state.high_mode, task, pending.used, how, length);
     if fit < length {
         return Ok(Some(Misfit {
             after: fit,
             why: Why::WrongHow,
         }));
     }
-    state.tick(alloc, set, rule, &task, job, pending, how, length)?;
+    state.tick(alloc, set, rule, task, job, pending, how, length)?;
     Ok(None)
 }
 
@@ -153,10 +153,10 @@ fn idle(state: &mut State, set: &TaskSet, rule: Rule, length: u32) -> Option<Mis
 }
 
 // The task with this number, which is in the set.
-fn task_in(set: &TaskSet, task: TaskNo) -> Task
+fn task_in(set: &TaskSet, task: TaskNo) -> &Task
     requires first { 1 ≤ task.0 }
     requires last { task.0 ≤ length set.now.tasks }
-    ensures { task_at set.now.tasks task.0 ≡ Some result }
+    ensures { task_at set.now.tasks task.0 ≡ Some result.now }
 {
-    set.get(task).unwrap()
+    &set.as_slice()[task.0 as usize - 1]
 }

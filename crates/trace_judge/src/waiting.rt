@@ -87,6 +87,8 @@ impl Waiting {
     }
 
     /// Puts a pending job in.
+    // A call takes as long as a good part of it.
+    #[inline(always)]
     pub fn put(&mut self, at: Rank, pending: Pending) -> Result<(), Memory>
         requires task { HasQueue self.old at.1 }
         requires key { at.0 < no_key }
@@ -103,7 +105,7 @@ impl Waiting {
         if !is_first {
             return Ok(());
         }
-        self.heads.set(index, at.0);
+        self.heads.lower(index, at.0);
         Ok(())
     }
 
@@ -117,6 +119,7 @@ impl Waiting {
     }
 
     /// Takes the job out.
+    #[inline(always)]
     pub fn take_out(&mut self, job: JobId)
         requires { HasQueue self.old job.task.0 }
         ensures tasks { self.new.tasks ≡ self.old.tasks }

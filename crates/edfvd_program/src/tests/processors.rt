@@ -109,8 +109,8 @@ fn each_part_is_run_by_itself(rt: HostRuntime) -> Result<(), Fail> {
 #[test]
 fn the_parts_are_run_at_once(rt: HostRuntime) -> Result<(), Fail> {
     let alloc = rt.alloc();
-    // Task 1 is on the first processor and task 3 on the second.
-    let gate = MeetingGate::of(1, 3);
+    // Task 2 is on the first processor and task 3 on the second, by their numbers in the whole set.
+    let gate = MeetingGate::of(2, 3);
     let (status, text) = ended_through(
         &rt,
         alloc,

@@ -1,4 +1,4 @@
-use Rattle.std.proofs.Common.{◌+◌, ◌-◌, ◌≤◌, ◌⊎◌, ◌^◌, vec_len}
+use Rattle.std.proofs.Common.{◌≡◌, ◌+◌, ◌-◌, ◌≤◌, ◌^◌, min, vec_len}
 use Rattle.std.specs.Io.KnownBytes.{Consumes}
 use Rattle.mc_world.proofs.edge.read_whole.Given as goal
 
@@ -7,7 +7,7 @@ invariant-pieces g l = record {
   within : vec_len l.bytes ≤ l.limit + 1;
   consumed : Consumes (g.T.Read.remaining l.fn.reader) (g.T.Read.remaining l.reader) l.bytes.items;
   more : l.fn.bytes_read ≤ l.bytes_read;
-  read : (l.fn.bytes_read + vec_len l.bytes ≤ l.bytes_read) ⊎ (2 ^ 64 ≤ l.bytes_read + 1);
+  counted : l.bytes_read ≡ min (l.fn.bytes_read + vec_len l.bytes) (2 ^ 64 - 1);
 }
 
 abbrev pub decreases-pieces : goal.decreases-pieces

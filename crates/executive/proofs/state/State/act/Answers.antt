@@ -9,7 +9,7 @@ use Rattle.executive.proofs.state.State.act.Goals as goal
 
 pub show-requires-clause-next : goal.show-requires-clause-next
 show-requires-clause-next c =
-    let f = c.args.self.now.floor in
+    let f = c.args.self.now.called.floor in
     let ends : ends_tick (answer_to f c.args.task.0 c.args.call) ≡ true = ap ends_tick (sym c.answer-answer.ensures.answer) ∙ (sym c.ends_tick.ensures ∙ c.if-ends_tick.true) in (
       ticks f.core.rows,
       c.requires.shown,

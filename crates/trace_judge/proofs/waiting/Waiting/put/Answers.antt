@@ -40,8 +40,8 @@ returns-then-not-is_first-clause-entries c =
 pub invariant_of-self-2 : goal.invariant_of-self-2
 invariant_of-self-2 c =
     let head = c.in_ok-is_first.ensures.head ∙ ap (λ (b : Bool). cond b c.args.at.0 (head_key c.index_mut-queue.result.now)) c.if-not-is_first.false in
-    queues_set c.self.inside.queues.items c.self.inside.heads c.set.new.self
-    (c.args.at.1 - 1) c.args.at.0 c.push.new.self c.self.invariant c.in_ok-is_first.ensures.ordered c.set.ensures (sym head)
+    queues_set c.self.inside.queues.items c.self.inside.heads c.lower.new.self
+    (c.args.at.1 - 1) c.args.at.0 c.push.new.self c.self.invariant c.in_ok-is_first.ensures.ordered c.lower.ensures (sym head)
 
 pub returns-clause-entries : goal.returns-clause-entries
 returns-clause-entries c =

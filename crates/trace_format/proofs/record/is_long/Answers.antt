@@ -4,7 +4,7 @@ use Rattle.std.specs.Str.{bytes_eq}
 use Rattle.std.proofs.lemmas.Bool.Decides.{Decides-eqb, nat_tests, same_from_decides}
 use Rattle.std.proofs.lemmas.List.{append-nil, drop_all}
 use Rattle.std.proofs.lemmas.Slice.Eq.{starts_is, bytes_eq-Decides}
-use Rattle.trace_format.proofs.record.is.Goals as goal
+use Rattle.trace_format.proofs.record.is_long.Goals as goal
 
 -- a field as long as a word begins with the word exactly where it is the word
 pub returns-then-field-word : goal.returns-then-field-word

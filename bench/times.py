@@ -1,0 +1,41 @@
+"""Times commands that take milliseconds: runs them in turn, so that all meet the same neighbours, and prints of each the least
+and the median time, in milliseconds, the start of its process among it.
+
+usage: times.py RUNS COMMAND.., each command one word with its own words between blanks; where the first of these is `one`, the
+command behind it runs on one processor
+"""
+
+import os
+import statistics
+import sys
+import time
+
+ALL = os.sched_getaffinity(0)
+
+
+# The time of one run, whose output is thrown away.
+def run(words):
+    on_one = words[0] == 'one'
+    os.sched_setaffinity(0, {min(ALL)} if on_one else ALL)
+    words = words[on_one:]
+    start = time.perf_counter()
+    away = [(os.POSIX_SPAWN_OPEN, 1, os.devnull, os.O_WRONLY, 0)]
+    process = os.posix_spawnp(words[0], words, os.environ, file_actions=away)
+    _, status = os.waitpid(process, 0)
+    if status:
+        sys.exit(f'times: {" ".join(words)} failed')
+    return (time.perf_counter() - start) * 1000
+
+
+def main(words):
+    runs, commands = int(words[0]), [command.split() for command in words[1:]]
+    times = [[] for _ in commands]
+    for _ in range(runs):
+        for command, taken in zip(commands, times):
+            taken.append(run(command))
+    for command, taken in zip(commands, times):
+        print(f'{min(taken):.2f} ms at the least, {statistics.median(taken):.2f} by the median: {" ".join(command)}')
+
+
+if __name__ == '__main__':
+    main(sys.argv[1:])

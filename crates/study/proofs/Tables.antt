@@ -1,0 +1,59 @@
+-- The tables of a range of numbers and of its parts.
+use Rattle.std.proofs.Common.{◌≡◌, ℕ, zero, suc, ◌+◌, ◌*◌, ◌<◌, ◌≤◌, min, refl, sym, ap, ◌∙◌, subst, arith, List, [], ◌∷◌, ◌++◌, map, get_or, Option}
+use Rattle.std.specs.List.{AllZip, range_with_len}
+use Rattle.std.proofs.lemmas.List.FromFn.{length-range_with_len}
+use Rattle.std.proofs.lemmas.List.Elements.{AllZip-push}
+use Rattle.std.proofs.lemmas.List.Sums.{count_by-le-length}
+use Rattle.rayon.specs.Shown.{run-append}
+use Rattle.study.specs.Acceptance.{reaches, made_stretch, accepted, percentages, accept_table}
+use Rattle.study.specs.Shares.{pieces_of, sets_at, counts_at, added}
+use Rattle.study.specs.Steps.{IsReached}
+use Rattle.study.proofs.Counts.{map-range-same, parts-add}
+
+-- one set more, with how many of the percentages it reaches
+pub reached-more : (f : ℕ → Option ℕ) (i k : ℕ) (ks more : List ℕ) → AllZip (λ j m. IsReached (f j) m) (range_with_len 0 i) ks → IsReached (f i) k → more ≡ ks ++ k ∷ []
+    → AllZip (λ j m. IsReached (f j) m) (range_with_len 0 (i + 1)) more
+reached-more f i k ks more so_far here is =
+    let at : IsReached (f (0 + i)) k = subst (λ j. IsReached (f j) k) (omega arith) here in
+    subst (λ (ms : List ℕ). AllZip (λ j m. IsReached (f j) m) (range_with_len 0 (i + 1)) ms) (sym is)
+    (subst (λ (is : List ℕ). AllZip (λ j m. IsReached (f j) m) is (ks ++ k ∷ [])) (run-append 0 i 1)
+    (AllZip-push (λ j m. IsReached (f j) m) (range_with_len 0 i) ks (0 + i) k so_far at))
+
+-- no sets count nothing
+pub table-none : (number n : ℕ) → 0 ∷ 0 ∷ 0 ∷ 0 ∷ 0 ∷ 0 ∷ 0 ∷ 0 ∷ 0 ∷ 0 ∷ 0 ∷ [] ≡ accept_table number 0 n
+unfolding accept_table percentages accepted
+table-none number n = refl
+
+-- no more sets are counted than there are
+accepted-most : (number sets n s : ℕ) → accepted number sets n s ≤ sets
+unfolding accepted
+accepted-most number sets n s =
+    let most = count_by-le-length (λ i. reaches s (made_stretch (number + i) n)) (range_with_len 0 sets) in
+    omega (arith, most, length-range_with_len 0 sets)
+
+-- what bounds each value bounds each element, and what stands past the end
+value-most : (f : ℕ → ℕ) (most : ℕ) → ((s : ℕ) → f s ≤ most) → (xs : List ℕ) (k : ℕ) → get_or (map f xs) k 0 ≤ most
+value-most f most h [] k = omega arith
+value-most f most h (x ∷ xs) zero = h x
+value-most f most h (x ∷ xs) (suc k) = value-most f most h xs k
+
+-- no count is above the number of sets
+pub counts-most : (counts : List ℕ) (number sets n k : ℕ) → counts ≡ accept_table number sets n → get_or counts k 0 ≤ sets
+unfolding accept_table
+counts-most counts number sets n k is =
+    subst (λ (l : List ℕ). get_or l k 0 ≤ sets) (sym is) (value-most (accepted number sets n) sets (accepted-most number sets n) percentages k)
+
+-- the tables of two parts, added, are the table of the whole
+pub tables-add : (number first second n : ℕ) → added (accept_table number first n) (accept_table (number + first) second n) ≡ accept_table number (first + second) n
+unfolding accept_table percentages
+tables-add number first second n =
+    map-range-same (λ k. accepted number first n (100 + 10 * k) + accepted (number + first) second n (100 + 10 * k)) (λ k. accepted number (first + second) n (100 + 10 * k)) 0 11
+    (λ k lt. sym (parts-add number first second n (100 + 10 * k)))
+
+-- what the pieces before a place count, with the piece at it
+pub pieces-more : (number sets n place : ℕ) (before piece after : List ℕ) → place < pieces_of sets → before ≡ accept_table number (min sets (128 * place)) n
+    → piece ≡ counts_at number sets n place → after ≡ added before piece → after ≡ accept_table number (min sets (128 * (place + 1))) n
+pieces-more number sets n place before piece after lt b p is =
+    let whole : min sets (128 * place) ≡ 128 * place = omega (arith, lt) in
+    is ∙ (λ t. added (b t) (p t)) ∙ ap (λ k. added (accept_table number k n) (counts_at number sets n place)) whole ∙ tables-add number (128 * place) (sets_at sets place) n
+    ∙ ap (λ k. accept_table number k n) (omega (arith, lt))

@@ -1,0 +1,31 @@
+-- The sets of a table in pieces of 128, which threads share.
+use Rattle.std.specs.Prelude.{◌≡◌, ℕ, ◌+◌, ◌-◌, ◌*◌, ◌/◌, ◌<◌, min, List, map, slice_index, All}
+use Rattle.std.specs.List.{range_with_len}
+use Rattle.arrayvec.specs.ArrayVec.{ArrayVec}
+use Rattle.study.specs.declared.shares.Piece.{Piece}
+use Rattle.study.specs.Acceptance.{accept_table}
+
+-- how many pieces so many sets have
+abbrev pub pieces_of : ℕ → ℕ
+pieces_of sets = (sets + 127) / 128
+
+-- of so many sets the piece at a place has 128, and the last piece those that are left
+abbrev pub sets_at : ℕ → ℕ → ℕ
+sets_at sets place = min 128 (sets - 128 * place)
+
+-- what these count
+abbrev pub counts_at : ℕ → ℕ → ℕ → ℕ → List ℕ
+counts_at number sets n place = accept_table (number + 128 * place) (sets_at sets place) n
+
+-- a piece of so many sets of n tasks, made from this number on, has sets, and what these count
+pub record IsPieceOf (number sets n : ℕ) (piece : Piece) : Type 0 where
+  pub place : piece.place < pieces_of sets
+  pub counts : piece.counts ≡ counts_at number sets n piece.place
+
+-- a thread has taken such pieces; which ones, and whether others have them too, is left open
+abbrev pub IsShareOf : ℕ → ℕ → ℕ → ArrayVec Piece → Type 0
+IsShareOf number sets n share = All (IsPieceOf number sets n) share.items
+
+-- the sums of two lists of eleven counts, place by place
+abbrev pub added : List ℕ → List ℕ → List ℕ
+added first second = map (λ k. slice_index first k + slice_index second k) (range_with_len 0 11)
