@@ -1,5 +1,6 @@
 """Times commands that take milliseconds: runs them in turn, so that all meet the same neighbours, and prints of each the least
-and the median time, in milliseconds, the start of its process among it.
+and the median time, in milliseconds, the start of its process among it, and then how long the host of a virtual machine kept its
+processors from it meanwhile: where that is much, the times say little.
 
 usage: times.py RUNS COMMAND.., each command one word with its own words between blanks; where the first of these is `one`, the
 command behind it runs on one processor
@@ -11,6 +12,12 @@ import sys
 import time
 
 ALL = os.sched_getaffinity(0)
+
+
+# How long the host has kept the processors, in milliseconds.
+def kept_by_host():
+    with open('/proc/stat', encoding='ascii') as stat:
+        return int(stat.readline().split()[8]) * 1000 // os.sysconf('SC_CLK_TCK')
 
 
 # The time of one run, whose output is thrown away.
@@ -30,11 +37,13 @@ def run(words):
 def main(words):
     runs, commands = int(words[0]), [command.split() for command in words[1:]]
     times = [[] for _ in commands]
+    kept = kept_by_host()
     for _ in range(runs):
         for command, taken in zip(commands, times):
             taken.append(run(command))
     for command, taken in zip(commands, times):
         print(f'{min(taken):.2f} ms at the least, {statistics.median(taken):.2f} by the median: {" ".join(command)}')
+    print(f'the host kept the processors for {kept_by_host() - kept} ms')
 
 
 if __name__ == '__main__':

@@ -75,9 +75,12 @@ fn share(next: &AtomicU64, number: u64, sets: u32, tasks: u32) -> Share
 {
     let pieces = pieces_of(sets);
     let mut share = ArrayVec::new();
-    for _turn in 0..pieces {
-        // The system may have put this thread onto the processor of the one that started it, which has others to start.
-        yield_now();
+    for turn in 0..pieces {
+        // The system may have put this thread onto the processor of the one that started it, which has others to start. After
+        // two turns all have started, and beside busy processes a yield costs a slice of theirs.
+        if turn < 2 {
+            yield_now();
+        }
         let place = next.fetch_add(1, Ordering::SeqCst);
         if u64::from(pieces) <= place {
             break;

@@ -4,6 +4,6 @@ use Rattle.study.proofs.shares.share.Given as goal
 
 abbrev pub invariant-loop-turn : goal.invariant-loop-turn
 invariant-loop-turn l = record {
-  few : length l.share.items ≤ l._turn;
+  few : length l.share.items ≤ l.turn;
   taken : IsShareOf l.number l.sets l.tasks l.share;
 }
