@@ -1,7 +1,6 @@
 -- The sets of a table in pieces of 128, which threads share.
 use Rattle.std.specs.Prelude.{◌≡◌, ℕ, ◌+◌, ◌-◌, ◌*◌, ◌/◌, ◌<◌, min, List, map, slice_index, All}
 use Rattle.std.specs.List.{range_with_len}
-use Rattle.arrayvec.specs.ArrayVec.{ArrayVec}
 use Rattle.study.specs.declared.shares.Piece.{Piece}
 use Rattle.study.specs.Acceptance.{accept_table}
 
@@ -22,9 +21,9 @@ pub record IsPieceOf (number sets n : ℕ) (piece : Piece) : Type 0 where
   pub place : piece.place < pieces_of sets
   pub counts : piece.counts ≡ counts_at number sets n piece.place
 
--- a thread has taken such pieces; which ones, and whether others have them too, is left open
-abbrev pub IsShareOf : ℕ → ℕ → ℕ → ArrayVec Piece → Type 0
-IsShareOf number sets n share = All (IsPieceOf number sets n) share.items
+-- threads have taken such pieces; which ones, and whether one of them twice, is left open
+abbrev pub ArePiecesOf : ℕ → ℕ → ℕ → List Piece → Type 0
+ArePiecesOf number sets n pieces = All (IsPieceOf number sets n) pieces
 
 -- the sums of two lists of eleven counts, place by place
 abbrev pub added : List ℕ → List ℕ → List ℕ

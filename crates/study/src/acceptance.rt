@@ -1,10 +1,10 @@
 // How many made sets have how much room.
-ghost use Rattle.std.specs.Prelude.{◌≡◌, ◌+◌, ◌<◌, ◌≤◌, ◌^◌, All, IfOk};
+ghost use Rattle.std.specs.Prelude.{◌≡◌, ◌+◌, ◌<◌, ◌≤◌, ◌^◌, IfOk};
 ghost use Rattle.study.specs.Acceptance as spec;
-ghost use Rattle.study.specs.Shares.{IsShareOf};
+ghost use Rattle.study.specs.Shares.{ArePiecesOf};
 
 use crate::counting::add;
-use crate::shares::{Share, counts_in, pieces_of, shares};
+use crate::shares::{Piece, counts_in, pieces, pieces_of};
 use mc_task::Memory;
 use std::alloc::Global;
 use std::thread::Threads;
@@ -28,14 +28,14 @@ pub fn table<R: Threads + Sync>(
     ensures parts { spec.PartsAdd }
     ensures admitted { spec.AcceptedAreAdmitted }
 {
-    let shares = shares(rt, alloc, number, sets, tasks)?;
-    let counts = total(&shares, number, sets, tasks);
+    let pieces = pieces(rt, alloc, number, sets, tasks)?;
+    let counts = total(&pieces, number, sets, tasks);
     Ok(counts.as_slice().to_vec(alloc)?)
 }
 
 // What all sets count, piece by piece.
-fn total(shares: &[Share], number: u64, sets: u32, tasks: u32) -> [u32; 11]
-    requires shares { All (IsShareOf number sets tasks) shares.now }
+fn total(pieces: &[Piece], number: u64, sets: u32, tasks: u32) -> [u32; 11]
+    requires pieces { ArePiecesOf number sets tasks pieces.now }
     requires few_sets { sets ≤ 10000 }
     requires some_tasks { 2 ≤ tasks }
     requires few_tasks { tasks ≤ 32 }
@@ -44,7 +44,7 @@ fn total(shares: &[Share], number: u64, sets: u32, tasks: u32) -> [u32; 11]
 {
     let mut counts = [0; 11];
     for place in 0..pieces_of(sets) {
-        add(&mut counts, counts_in(shares, number, sets, tasks, place));
+        add(&mut counts, counts_in(pieces, number, sets, tasks, place));
     }
     counts
 }

@@ -1,30 +1,26 @@
 // The sets of a table in pieces, of which each thread takes the next as it comes: one that starts late takes fewer. No contract
 // says what the counter gives them, so what they hand back is looked through for each piece.
-ghost use Rattle.std.specs.Prelude.{◌≡◌, ◌+◌, ◌<◌, ◌≤◌, ◌^◌, All, IfOk};
+ghost use Rattle.std.specs.Prelude.{◌≡◌, ◌+◌, ◌<◌, ◌≤◌, ◌^◌, IfOk};
 ghost use Rattle.study.specs.Shares as spec;
 
 use crate::counting::counts_of;
-use arrayvec::ArrayVec;
-use rayon::prelude::*;
+use rayon::{current_num_threads, join};
 use std::alloc::{AllocError, Global};
 use std::sync::atomic::{AtomicU64, Ordering};
-use std::thread::{Threads, yield_now};
+use std::thread::Threads;
 
 // So many sets are a piece, and the last piece has those that are left.
 const PIECE: u32 = 128;
 
-// A thread takes as long to start as some hundred sets, so there is one for each so many sets, and eight for the most.
+// A thread takes as long to start as some hundred sets, so there is one for each so many sets at the most.
 const LEAST_SHARE: u32 = 1250;
 
 // A piece by its place, and what its sets count.
-#[derive(Clone, Copy, Default)]
+#[derive(Clone, Copy)]
 pub struct Piece {
     place: u32,
     counts: [u32; 11],
 }
-
-// The pieces that one thread has taken, of 79 at most.
-pub type Share = ArrayVec<Piece, 79>;
 
 // How many pieces so many sets have.
 pub fn pieces_of(sets: u32) -> u32
@@ -33,63 +29,92 @@ pub fn pieces_of(sets: u32) -> u32
     sets.div_ceil(PIECE)
 }
 
-// What each thread has taken, and counted.
-pub fn shares<R: Threads + Sync>(
+// The pieces that all threads have taken. Beside this one there are as many as processors, which is one too many, since the system
+// may put the first onto the processor of this one, where it waits.
+pub fn pieces<R: Threads>(
     rt: &R,
     alloc: Global,
     number: u64,
     sets: u32,
     tasks: u32,
-) -> Result<Vec<Share>, AllocError>
+) -> Result<Vec<Piece>, AllocError>
     requires few_sets { sets ≤ 10000 }
     requires some_tasks { 2 ≤ tasks }
     requires few_tasks { tasks ≤ 32 }
     requires numbers { number + sets < 2 ^ 64 }
-    ensures { IfOk result (λ shares. All (spec.IsShareOf number sets tasks) shares.items) }
+    ensures { IfOk result (λ pieces. spec.ArePiecesOf number sets tasks pieces.items) }
 {
-    let next = AtomicU64::new(0);
-    let next = &next;
-    let threads = (sets / LEAST_SHARE).max(1);
-    (0..threads)
-        .into_par_iter()
-        .with_min_len(1)
-        .map(
-            |_thread: u32| -> Share
-                requires few_sets { sets ≤ 10000 }
-                requires some_tasks { 2 ≤ tasks }
-                requires few_tasks { tasks ≤ 32 }
-                requires numbers { number + sets < 2 ^ 64 }
-                ensures { spec.IsShareOf number sets tasks result }
-            { share(next, number, sets, tasks) },
-        )
-        .collect(rt, alloc)
+    let processors = current_num_threads(rt);
+    let others = if processors == 1 {
+        0
+    } else {
+        processors.min((sets / LEAST_SHARE) as usize)
+    };
+    pieces_with(rt, alloc, &AtomicU64::new(0), others, number, sets, tasks)
+}
+
+// Those that this thread and so many others take. It starts them all itself, one after the other, since one that starts others may
+// wait before it does, and gives each its room, so that none has to ask for memory.
+#[cycle(starting)]
+fn pieces_with<R: Threads>(
+    rt: &R,
+    alloc: Global,
+    next: &AtomicU64,
+    others: usize,
+    number: u64,
+    sets: u32,
+    tasks: u32,
+) -> Result<Vec<Piece>, AllocError>
+    requires few_sets { sets ≤ 10000 }
+    requires some_tasks { 2 ≤ tasks }
+    requires few_tasks { tasks ≤ 32 }
+    requires numbers { number + sets < 2 ^ 64 }
+    ensures { IfOk result (λ pieces. spec.ArePiecesOf number sets tasks pieces.items) }
+{
+    let room = Vec::with_capacity(alloc, pieces_of(sets) as usize)?;
+    if others == 0 {
+        return share(room, next, number, sets, tasks);
+    }
+    let one = move || -> Result<Vec<Piece>, AllocError>
+        requires { (sets ≤ 10000) × (2 ≤ tasks) × (tasks ≤ 32) × (number + sets < 2 ^ 64) × spec.ArePiecesOf number sets tasks room.items }
+        ensures { IfOk result (λ pieces. spec.ArePiecesOf number sets tasks pieces.items) }
+    { share(room, next, number, sets, tasks) };
+    let rest = || -> Result<Vec<Piece>, AllocError>
+        requires { (0 < others) × (sets ≤ 10000) × (2 ≤ tasks) × (tasks ≤ 32) × (number + sets < 2 ^ 64) }
+        ensures { IfOk result (λ pieces. spec.ArePiecesOf number sets tasks pieces.items) }
+    { pieces_with(rt, alloc, next, others - 1, number, sets, tasks) };
+    let (one, rest) = join(rt, one, rest);
+    let (mut one, mut rest) = (one?, rest?);
+    one.append(&mut rest)?;
+    Ok(one)
 }
 
 // Takes the next piece that no thread has taken, until there is none.
-fn share(next: &AtomicU64, number: u64, sets: u32, tasks: u32) -> Share
+fn share(
+    mut pieces: Vec<Piece>,
+    next: &AtomicU64,
+    number: u64,
+    sets: u32,
+    tasks: u32,
+) -> Result<Vec<Piece>, AllocError>
+    requires pieces { spec.ArePiecesOf number sets tasks pieces.items }
     requires few_sets { sets ≤ 10000 }
     requires some_tasks { 2 ≤ tasks }
     requires few_tasks { tasks ≤ 32 }
     requires numbers { number + sets < 2 ^ 64 }
-    ensures { spec.IsShareOf number sets tasks result }
+    ensures { IfOk result (λ pieces. spec.ArePiecesOf number sets tasks pieces.items) }
 {
-    let pieces = pieces_of(sets);
-    let mut share = ArrayVec::new();
-    for turn in 0..pieces {
-        // The system may have put this thread onto the processor of the one that started it, which has others to start. After
-        // two turns all have started, and beside busy processes a yield costs a slice of theirs.
-        if turn < 2 {
-            yield_now();
-        }
+    let most = pieces_of(sets);
+    for _turn in 0..most {
         let place = next.fetch_add(1, Ordering::SeqCst);
-        if u64::from(pieces) <= place {
+        if u64::from(most) <= place {
             break;
         }
         let place = place as u32;
         let counts = counts_at(number, sets, tasks, place);
-        share.push(Piece { place, counts });
+        pieces.push(Piece { place, counts })?;
     }
-    share
+    Ok(pieces)
 }
 
 // What the sets of the piece at a place count.
@@ -106,8 +131,8 @@ fn counts_at(number: u64, sets: u32, tasks: u32, place: u32) -> [u32; 11]
 }
 
 // The same, as a thread has handed it back; what none has is counted here.
-pub fn counts_in(shares: &[Share], number: u64, sets: u32, tasks: u32, place: u32) -> [u32; 11]
-    requires shares { All (spec.IsShareOf number sets tasks) shares.now }
+pub fn counts_in(pieces: &[Piece], number: u64, sets: u32, tasks: u32, place: u32) -> [u32; 11]
+    requires pieces { spec.ArePiecesOf number sets tasks pieces.now }
     requires place { place < spec.pieces_of sets }
     requires few_sets { sets ≤ 10000 }
     requires some_tasks { 2 ≤ tasks }
@@ -115,11 +140,9 @@ pub fn counts_in(shares: &[Share], number: u64, sets: u32, tasks: u32, place: u3
     requires numbers { number + sets < 2 ^ 64 }
     ensures { result ≡ spec.counts_at number sets tasks place }
 {
-    for share in shares {
-        for piece in share.as_slice() {
-            if piece.place == place {
-                return piece.counts;
-            }
+    for piece in pieces {
+        if piece.place == place {
+            return piece.counts;
         }
     }
     counts_at(number, sets, tasks, place)

@@ -7,11 +7,11 @@ returns-clause-parts g c = parts-add
 pub returns-clause-admitted : goal.returns-clause-admitted
 returns-clause-admitted g c = accepted-admitted
 
-pub returns-in_err-shares-clause-parts : goal.returns-in_err-shares-clause-parts
-returns-in_err-shares-clause-parts g c = parts-add
+pub returns-in_err-pieces-clause-parts : goal.returns-in_err-pieces-clause-parts
+returns-in_err-pieces-clause-parts g c = parts-add
 
-pub returns-in_err-shares-clause-admitted : goal.returns-in_err-shares-clause-admitted
-returns-in_err-shares-clause-admitted g c = accepted-admitted
+pub returns-in_err-pieces-clause-admitted : goal.returns-in_err-pieces-clause-admitted
+returns-in_err-pieces-clause-admitted g c = accepted-admitted
 
 pub returns-in_err-to_vec-clause-parts : goal.returns-in_err-to_vec-clause-parts
 returns-in_err-to_vec-clause-parts g c = parts-add
