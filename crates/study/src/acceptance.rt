@@ -4,9 +4,10 @@ ghost use Rattle.study.specs.Acceptance as spec;
 ghost use Rattle.study.specs.Shares.{ArePiecesOf};
 
 use crate::counting::add;
-use crate::shares::{Piece, counts_in, pieces, pieces_of};
+use crate::shares::{Piece, counts_in, others_for, pieces, pieces_of};
 use mc_task::Memory;
 use std::alloc::Global;
+use std::sync::atomic::AtomicU64;
 use std::thread::Threads;
 
 /// Of so many made sets of so many tasks, those of `number`, `number + 1` and so on, how many have a stretch of at least 100
@@ -28,7 +29,8 @@ pub fn table<R: Threads + Sync>(
     ensures parts { spec.PartsAdd }
     ensures admitted { spec.AcceptedAreAdmitted }
 {
-    let pieces = pieces(rt, alloc, number, sets, tasks)?;
+    let (next, others) = (AtomicU64::new(0), others_for(rt, sets));
+    let pieces = pieces(rt, alloc, &next, others, number, sets, tasks)?;
     let counts = total(&pieces, number, sets, tasks);
     Ok(counts.as_slice().to_vec(alloc)?)
 }

@@ -29,34 +29,20 @@ pub fn pieces_of(sets: u32) -> u32
     sets.div_ceil(PIECE)
 }
 
-// The pieces that all threads have taken. Beside this one there are as many as processors, which is one too many, since the system
-// may put the first onto the processor of this one, where it waits.
-pub fn pieces<R: Threads>(
-    rt: &R,
-    alloc: Global,
-    number: u64,
-    sets: u32,
-    tasks: u32,
-) -> Result<Vec<Piece>, AllocError>
-    requires few_sets { sets ≤ 10000 }
-    requires some_tasks { 2 ≤ tasks }
-    requires few_tasks { tasks ≤ 32 }
-    requires numbers { number + sets < 2 ^ 64 }
-    ensures { IfOk result (λ pieces. spec.ArePiecesOf number sets tasks pieces.items) }
-{
+// How many threads take pieces beside this one: as many as processors, which is one too many, since the system may put the first
+// onto the processor of this one, where it waits.
+pub fn others_for<R: Threads>(rt: &R, sets: u32) -> usize {
     let processors = current_num_threads(rt);
-    let others = if processors == 1 {
-        0
-    } else {
-        processors.min((sets / LEAST_SHARE) as usize)
-    };
-    pieces_with(rt, alloc, &AtomicU64::new(0), others, number, sets, tasks)
+    if processors == 1 {
+        return 0;
+    }
+    processors.min((sets / LEAST_SHARE) as usize)
 }
 
-// Those that this thread and so many others take. It starts them all itself, one after the other, since one that starts others may
-// wait before it does, and gives each its room, so that none has to ask for memory.
+// The pieces that this thread and so many others take from the next one on. It starts them all itself, one after the other, since
+// one that starts others may wait before it does, and gives each its room, so that none has to ask for memory.
 #[cycle(starting)]
-fn pieces_with<R: Threads>(
+pub fn pieces<R: Threads>(
     rt: &R,
     alloc: Global,
     next: &AtomicU64,
@@ -82,7 +68,7 @@ fn pieces_with<R: Threads>(
     let rest = || -> Result<Vec<Piece>, AllocError>
         requires { (0 < others) × (sets ≤ 10000) × (2 ≤ tasks) × (tasks ≤ 32) × (number + sets < 2 ^ 64) }
         ensures { IfOk result (λ pieces. spec.ArePiecesOf number sets tasks pieces.items) }
-    { pieces_with(rt, alloc, next, others - 1, number, sets, tasks) };
+    { pieces(rt, alloc, next, others - 1, number, sets, tasks) };
     let (one, rest) = join(rt, one, rest);
     let (mut one, mut rest) = (one?, rest?);
     one.append(&mut rest)?;
