@@ -1,6 +1,6 @@
 // The sets of a table in pieces, of which each thread takes the next as it comes: one that starts late takes fewer. No contract
 // says what the counter gives them, so what they hand back is looked through for each piece.
-ghost use Rattle.std.specs.Prelude.{◌≡◌, ◌+◌, ◌<◌, ◌≤◌, ◌^◌, IfOk};
+ghost use Rattle.std.specs.Prelude.{◌≡◌, ◌+◌, ◌/◌, ◌<◌, ◌≤◌, ◌^◌, IfOk};
 ghost use Rattle.study.specs.Shares as spec;
 
 use crate::counting::counts_of;
@@ -29,9 +29,11 @@ pub fn pieces_of(sets: u32) -> u32
     sets.div_ceil(PIECE)
 }
 
-// How many threads take pieces beside this one: as many as processors, which is one too many, since the system may put the first
-// onto the processor of this one, where it waits.
-pub fn others_for<R: Threads>(rt: &R, sets: u32) -> usize {
+// How many threads take pieces beside this one: none on one processor, and otherwise as many as processors. That is one too many,
+// since the system may put the first onto the processor of this one, where it waits.
+pub fn others_for<R: Threads>(rt: &R, sets: u32) -> usize
+    ensures { result ≤ sets / 1250 }
+{
     let processors = current_num_threads(rt);
     if processors == 1 {
         return 0;
@@ -51,6 +53,7 @@ pub fn pieces<R: Threads>(
     sets: u32,
     tasks: u32,
 ) -> Result<Vec<Piece>, AllocError>
+    requires few_others { others ≤ sets / 1250 }
     requires few_sets { sets ≤ 10000 }
     requires some_tasks { 2 ≤ tasks }
     requires few_tasks { tasks ≤ 32 }
@@ -66,7 +69,7 @@ pub fn pieces<R: Threads>(
         ensures { IfOk result (λ pieces. spec.ArePiecesOf number sets tasks pieces.items) }
     { share(room, next, number, sets, tasks) };
     let rest = || -> Result<Vec<Piece>, AllocError>
-        requires { (0 < others) × (sets ≤ 10000) × (2 ≤ tasks) × (tasks ≤ 32) × (number + sets < 2 ^ 64) }
+        requires { (0 < others) × (others ≤ sets / 1250) × (sets ≤ 10000) × (2 ≤ tasks) × (tasks ≤ 32) × (number + sets < 2 ^ 64) }
         ensures { IfOk result (λ pieces. spec.ArePiecesOf number sets tasks pieces.items) }
     { pieces(rt, alloc, next, others - 1, number, sets, tasks) };
     let (one, rest) = join(rt, one, rest);
