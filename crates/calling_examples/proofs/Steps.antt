@@ -1,5 +1,6 @@
 -- A tick adds its row, where none is out and there is a place.
 use Rattle.std.proofs.Common.{◌≡◌, ◌+◌, ◌<◌, Bool, true, false, List, [], ◌∷◌, Option, Some, None, Result, Ok, Err, length, option_map, refl, sym, ap, ◌∙◌, subst, arith}
+use Rattle.std.specs.Option.{option_or}
 use Rattle.mc_task.specs.declared.task.JobId.{JobId}
 use Rattle.mc_model.specs.declared.row.Row.{Row}
 use Rattle.mc_model.specs.declared.row.Row.TheVariants.{Tick, Idle}
@@ -8,7 +9,7 @@ use Rattle.mc_model.specs.Core.{State, places_used, tick_out, outcome_of}
 use Rattle.mode_core.specs.declared.answers.Granted.{Granted}
 use Rattle.mode_core.specs.declared.answers.GrantFault.{GrantFault}
 use Rattle.mode_core.specs.declared.answers.IdleFault.TheVariants as idle_fault
-use Rattle.mode_core.specs.Events.{or_else, refused_if, unless, is_full, chosen_now, granted, grant_answer, after_grant, after_outcome, after_idle}
+use Rattle.mode_core.specs.Events.{refused_if, unless, is_full, chosen_now, granted, grant_answer, after_grant, after_outcome, after_idle}
 use Rattle.mode_core.specs.Shape.{IsSound}
 use Rattle.mode_core.proofs.CallerLemmas.{no_held}
 use Rattle.timetable.proofs.Calls.{not_full, given_before, given}
@@ -56,7 +57,7 @@ pub idle_adds : (s t : State) → IsFree s → chosen_now s ≡ None → t ≡ a
 idle_adds s t f c e = tick_adds s t Idle refl (e ∙ go s.out (chosen_now s) (is_full s) f.out c (not_full s f.room))
   where
     go : (out chosen : Option JobId) (full : Bool) → out ≡ None → chosen ≡ None → full ≡ false →
-        unless (or_else (option_map idle_fault.TickOut out) (or_else (option_map idle_fault.Pending chosen) (refused_if full idle_fault.Full))) (record s { rows = Idle ∷ s.rows }) s ≡ record s { rows = Idle ∷ s.rows }
+        unless (option_or (option_map idle_fault.TickOut out) (option_or (option_map idle_fault.Pending chosen) (refused_if full idle_fault.Full))) (record s { rows = Idle ∷ s.rows }) s ≡ record s { rows = Idle ∷ s.rows }
     go None None false p q r = refl
     go (Some j) chosen full p q r = cc
     go None (Some j) full p q r = cc

@@ -1,11 +1,15 @@
 -- The numbers of each form are within their bounds.
-use Rattle.std.proofs.Common.{◌≡◌, ℕ, ◌+◌, ◌≤◌, ◌-◌, ◌^◌, ◌&&◌, nat_le, nat_lt, Bool, true, false, cond, List, [], ◌∷◌, Option, Some, None, IfSome, option_map, codes, refl, arith, leb-true, ltb-true}
+use Rattle.std.proofs.Common.{◌≡◌, ℕ, ◌+◌, ◌≤◌, ◌-◌, ◌^◌, ◌&&◌, nat_le, nat_lt, Bool, true, false, cond, List, [], ◌∷◌, Option, Some, None, IfSome, option_map, option_and_then, codes, refl, arith, leb-true, ltb-true}
 use Rattle.std.specs.Str.{bytes_eq}
 use Rattle.numeral.specs.Numeral.{numeral}
 use Rattle.command_line.specs.declared.form.Telling.{Telling}
 use Rattle.command_line.specs.declared.form.Telling.TheVariants.{Judge, JudgeBy, Chart, Report, Migrate}
-use Rattle.command_line.specs.Form.{Form, check, run, on_trace, live, demand, partition, stretch, accept, within, number, judge_by, workload, study, parts_run, telling_of, with_one, with_two, with_three, with_four, form_of, IsScale, IsInRange}
+use Rattle.command_line.specs.Form.{Form, check, run, on_trace, live, demand, partition, stretch, accept, number, judge_by, workload, study, parts_run, telling_of, with_one, with_two, with_three, with_four, form_of, IsScale, IsInRange}
 use Rattle.std.proofs.lemmas.Bool.{and_parts}
+
+-- the number, if it is within these bounds
+abbrev within : ℕ → ℕ → Option ℕ → Option ℕ
+within least most o = option_and_then (λ n. cond (nat_le least n && nat_le n most) (Some n) None) o
 
 -- a form of one number is in range where it is so for each number within the bounds
 of_number : (f : ℕ → Form) (least most : ℕ) (o : Option ℕ) → ((n : ℕ) → least ≤ n → n ≤ most → IsInRange (f n)) → IfSome (option_map f (within least most o)) IsInRange

@@ -1,5 +1,5 @@
 -- What the words of the command line ask for.
-use Rattle.std.specs.Prelude.{ℕ, ◌+◌, ◌≤◌, ◌<◌, ◌-◌, ◌^◌, ◌&&◌, nat_le, nat_lt, List, [], ◌∷◌, if◌then◌else◌, Option, Some, None, option_map, codes}
+use Rattle.std.specs.Prelude.{ℕ, ◌+◌, ◌≤◌, ◌<◌, ◌-◌, ◌^◌, ◌&&◌, nat_le, nat_lt, List, [], ◌∷◌, if◌then◌else◌, Option, Some, None, option_map, option_and_then, codes}
 use Rattle.std.specs.Str.{bytes_eq}
 use Rattle.numeral.specs.Numeral.{numeral}
 use Rattle.command_line.specs.declared.form.Telling.{Telling}
@@ -22,20 +22,14 @@ pub data Form : Type 0 where
 abbrev pub usage_line : List ℕ
 usage_line = codes "usage: check TASKS | run TASKS WORK TICKS | judge TASKS TRACE [P Q] | chart TASKS TRACE | report TASKS TRACE | soak NUMBER TASKCOUNT TICKS | migrate TASKS TRACE | live TASKS TICKS | demand DEMANDS | partition TASKS M | runall TASKS WORK TICKS M | stretch TASKS | accept NUMBER SETS TASKCOUNT\n"
 
--- the number, if it is within these bounds
-abbrev pub within : ℕ → ℕ → Option ℕ → Option ℕ
-within least most None = None
-within least most (Some n) = if nat_le least n && nat_le n most then Some n else None
-
 -- a number within these bounds, of 1 to 20 digits
 abbrev pub number : ℕ → ℕ → List ℕ → Option ℕ
-number least most word = within least most (numeral 20 word)
+number least most word = option_and_then (λ n. if nat_le least n && nat_le n most then Some n else None) (numeral 20 word)
 
 -- `judge` under the scale p/q, which is at most 1
 abbrev pub judge_by : Option ℕ → Option ℕ → Option Telling
-judge_by None q = None
-judge_by (Some p) None = None
 judge_by (Some p) (Some q) = if nat_le p q then Some (JudgeBy p q) else None
+judge_by p q = None
 
 -- a workload with these numbers
 abbrev pub workload : Option ℕ → Option ℕ → Option ℕ → Option Form

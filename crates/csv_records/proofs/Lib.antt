@@ -1,3 +1,4 @@
 pub mod RecordLemmas
 pub mod WidthLemmas
 pub mod RowLemmas
+pub mod WordLemmas

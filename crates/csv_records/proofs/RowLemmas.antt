@@ -1,7 +1,8 @@
 -- What is read of records, one by one.
 use Rattle.std.proofs.Common.{◌≡◌, ℕ, zero, suc, ◌+◌, List, [], ◌∷◌, ◌++◌, length, take, Option, Some, None, Result, Ok, Err, slice_get, refl, sym, ap, subst, ◌∙◌, append_assoc}
 use Rattle.std.proofs.lemmas.List.{append-nil}
-use Rattle.csv_records.specs.Rows.{Means, Refusal, rows_with, rows_from, rows_behind, rows_of, EndsWith, IsReadEach}
+use Rattle.std.specs.Option.{option_map_or}
+use Rattle.csv_records.specs.Rows.{Means, Refusal, rows_with, rows_from, rows_of, EndsWith, IsReadEach}
 
 -- each record is one row more
 pub each_is_read : {Row Cause : Type 0} (means : Means Row Cause) (records : List (List (List ℕ))) (before : List Row) → IsReadEach means records before (rows_from means records before)
@@ -41,6 +42,6 @@ pub file_keeps : {Row Cause : Type 0} (P : List Row → Type 0) (header : List (
 file_keeps P header no_header none keep [] rows read = cc
 file_keeps {Row = Row} {Cause = Cause} P header no_header none keep (first ∷ left) rows read = by (header first) refl read
   where
-    by : (says : Option (Means Row Cause)) → header first ≡ says → rows_behind no_header left says ≡ Ok rows → P rows
+    by : (says : Option (Means Row Cause)) → header first ≡ says → option_map_or (λ means. rows_from means left []) says (Err (record { line = 1; cause = no_header })) ≡ Ok rows → P rows
     by None is read = cc
     by (Some means) is read = rows_keep P means (keep first means is) left [] rows none read

@@ -1,5 +1,6 @@
 -- What the records of a text say: a header, and rows behind it, each by those before it; or the first refusal.
-use Rattle.std.specs.Prelude.{◌≡◌, ℕ, ◌+◌, List, [], ◌∷◌, ◌++◌, length, take, slice_get, Option, Some, None, Result, Ok, Err}
+use Rattle.std.specs.Prelude.{◌≡◌, ℕ, ◌+◌, List, [], ◌∷◌, ◌++◌, length, take, slice_get, Option, Some, Result, Ok, Err}
+use Rattle.std.specs.Option.{option_map_or}
 use Rattle.csv.specs.Reading.{default_config, records, strip_bom}
 
 -- what a record means behind some rows: one more row, or the cause for which it is refused
@@ -21,15 +22,11 @@ abbrev pub rows_from : {Row Cause : Type 0} → Means Row Cause → List (List (
 rows_from means [] before = Ok before
 rows_from means (fields ∷ left) before = rows_with before (rows_from means left) (means before fields)
 
--- the rows of the records behind a header, which says what they mean; there may be none
-abbrev pub rows_behind : {Row Cause : Type 0} → Cause → List (List (List ℕ)) → Option (Means Row Cause) → Result (List Row) (Refusal Cause)
-rows_behind no_header left None = Err (record { line = 1; cause = no_header })
-rows_behind no_header left (Some means) = rows_from means left []
-
--- the rows of these records, the first of which is the header
+-- the rows of these records: the first is the header, which says what the records after it mean
 abbrev pub rows_of : {Row Cause : Type 0} → (List (List ℕ) → Option (Means Row Cause)) → Cause → List (List (List ℕ)) → Result (List Row) (Refusal Cause)
 rows_of header no_header [] = Err (record { line = 1; cause = no_header })
-rows_of header no_header (fields ∷ left) = rows_behind no_header left (header fields)
+rows_of header no_header (fields ∷ left) =
+    option_map_or (λ means. rows_from means left []) (header fields) (Err (record { line = 1; cause = no_header }))
 
 -- the rows of a text
 abbrev pub rows_in : {Row Cause : Type 0} → (List (List ℕ) → Option (Means Row Cause)) → Cause → List ℕ → Result (List Row) (Refusal Cause)

@@ -7,8 +7,23 @@ use csv::ByteRecord;
 use std::alloc::{AllocError, Global};
 use std::test::Fail;
 
+// Whether the record has this many fields, and the first of them are these.
+fn has(record: &ByteRecord, len: usize, first: &[&[u8]]) -> bool {
+    for (place, field) in first.iter().enumerate() {
+        if record.get(place) != Some(*field) {
+            return false;
+        }
+    }
+    record.len() == len
+}
+
+// Whether a record comes next, and has this many fields, of which these are the first.
+fn is_next(records: &mut Records, fields: &mut ByteRecord, len: usize, first: &[&[u8]]) -> bool {
+    records.next(fields) == Ok(Next::Record) && has(fields, len, first)
+}
+
 #[test]
-fn records_are_given_in_order(rt: HostRuntime) -> Result<(), Fail> {
+fn records_are_given_in_order(rt: HostRuntime) {
     let alloc = rt.alloc();
     // A byte order mark, quotes, an empty line, both line ends, and a last record without one.
     let text = b"\xEF\xBB\xBFa,b\n\"c,\"\"d\",\r\n\ne";
@@ -16,37 +31,35 @@ fn records_are_given_in_order(rt: HostRuntime) -> Result<(), Fail> {
     let mut fields = ByteRecord::new(alloc);
     let wanted: [&[&[u8]]; 3] = [&[b"a", b"b"], &[b"c,\"d", b""], &[b"e"]];
     for record in wanted {
-        assert_eq!(rt; records.next(&mut fields)?, Next::Record);
-        assert_eq!(rt; fields.len(), record.len());
-        for (place, field) in record.iter().enumerate() {
-            assert_eq!(rt; fields.get(place), Some(*field));
-        }
+        assert!(rt; is_next(&mut records, &mut fields, record.len(), record));
     }
-    assert_eq!(rt; records.next(&mut fields)?, Next::End);
-    Ok(())
+    assert!(rt; records.next(&mut fields) == Ok(Next::End));
 }
 
-#[test]
-fn a_wide_record_of_a_long_text_is_told_and_not_read(rt: HostRuntime) -> Result<(), Fail> {
-    let alloc = rt.alloc();
-    // Two fields, the first of them with seven commas, two quotes and a line feed; then six fields, and then seven.
+// Records of two fields, the first of them with seven commas, two quotes and a line feed; then six fields, and then seven.
+fn long_text(alloc: Global) -> Result<Vec<u8>, AllocError> {
     let mut text = Vec::new(alloc);
     text.extend_from_slice(b"\xEF\xBB\xBF")?;
     for _ in 0..10_000u32 {
         text.extend_from_slice(b"\"a,,,\"\",,\n,,\"\"\",b\r\n")?;
     }
     text.extend_from_slice(b"1,2,3,4,5,\"6\"\n\"1\",2,3,4,5,6,7\n8\n")?;
+    Ok(text)
+}
+
+#[test]
+fn a_wide_record_of_a_long_text_is_told_and_not_read(rt: HostRuntime) -> Result<(), Fail> {
+    let alloc = rt.alloc();
+    let text = long_text(alloc)?;
     let mut records = Records::new(alloc, &text);
     let mut fields = ByteRecord::new(alloc);
     for _ in 0..10_000u32 {
-        assert_eq!(rt; records.next(&mut fields)?, Next::Record);
-        assert_eq!(rt; fields.len(), 2);
-        assert_eq!(rt; fields.get(0), Some(b"a,,,\",,\n,,\"".as_slice()));
+        assert!(rt; is_next(&mut records, &mut fields, 2, &[b"a,,,\",,\n,,\""]));
     }
-    assert_eq!(rt; records.next(&mut fields)?, Next::Record);
-    assert_eq!(rt; fields.len(), 6);
-    assert_eq!(rt; records.next(&mut fields)?, Next::Wide);
-    assert_eq!(rt; records.next(&mut fields)?, Next::Wide);
+    assert!(rt; is_next(&mut records, &mut fields, 6, &[]));
+    for _ in 0..2u32 {
+        assert!(rt; records.next(&mut fields) == Ok(Next::Wide));
+    }
     Ok(())
 }
 
@@ -91,29 +104,29 @@ impl Meaning for Widths {
     ghost few = { λ widths kept rows three. Prim.omega (arith, three) };
 }
 
-// The rows, or the refusal.
-fn outcome(alloc: Global, text: &[u8]) -> Result<String, AllocError> {
-    match read_rows(alloc, text, 9, &Widths)? {
-        Said::Rows { rows, .. } => format!(in alloc; "{rows:?}"),
-        Said::Refused { line, cause } => format!(in alloc; "line {line}: {cause}"),
-    }
+// Whether the text is read so: as these rows, or with this refusal.
+fn is_read_as(alloc: Global, text: &str, expected: &str) -> Result<bool, AllocError> {
+    let got = match read_rows(alloc, text.as_bytes(), 9, &Widths)? {
+        Said::Rows { rows, .. } => format!(in alloc; "{rows:?}")?,
+        Said::Refused { line, cause } => format!(in alloc; "line {line}: {cause}")?,
+    };
+    Ok(got.as_str() == expected)
 }
+
+const TEXTS: [(&str, &str); 7] = [
+    ("", "line 1: 9"),
+    ("a,b\nc\n", "line 1: 9"),
+    ("h", "[]"),
+    ("\u{feff}h\n\n\"a,\n\"\r\nb,c\n", "[1, 2]"),
+    ("h\na\nb\nc\n", "[1, 1, 1]"),
+    ("h\na\n1,2,3\nb\n", "line 3: 1"),
+    ("h\na\nb\nc\nd\n1,2,3\n", "line 5: 3"),
+];
 
 #[test]
 fn a_text_is_read_as_its_rows_or_its_first_refusal(rt: HostRuntime) -> Result<(), Fail> {
-    let alloc = rt.alloc();
-    let cases = [
-        ("", "line 1: 9"),
-        ("a,b\nc\n", "line 1: 9"),
-        ("h", "[]"),
-        ("\u{feff}h\n\n\"a,\n\"\r\nb,c\n", "[1, 2]"),
-        ("h\na\nb\nc\n", "[1, 1, 1]"),
-        ("h\na\n1,2,3\nb\n", "line 3: 1"),
-        ("h\na\nb\nc\nd\n1,2,3\n", "line 5: 3"),
-    ];
-    for (text, expected) in cases {
-        let got = outcome(alloc, text.as_bytes())?;
-        assert_eq!(rt; got.as_str(), expected, "{text}");
+    for (text, expected) in &TEXTS {
+        assert!(rt; is_read_as(rt.alloc(), text, expected)?, "{text}");
     }
     Ok(())
 }

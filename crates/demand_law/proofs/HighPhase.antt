@@ -23,6 +23,7 @@ use Rattle.mc_model.proofs.Live.{IsLiveOk}
 use Rattle.demand_law.proofs.Keys.{above, weight_falls, weight-le, is_taken, none_below-filter, least_low, cancel_scale}
 use Rattle.demand_law.proofs.Share.{new_high, Ledger, ledger_fresh, ledger_less, ledger_tick, ledger_same, ledger_more}
 use Rattle.std.proofs.lemmas.Bool.{and_parts}
+use Rattle.std.proofs.Math.Bool.{beq}
 
 -- what a job with a deadline of at most e may still use of its own budget
 abbrev pub dues : List Task → ℕ → ℕ → ℕ → List Row → KeptRelease → ℕ
@@ -43,7 +44,7 @@ pub high_live : (set : List Task) (p q : ℕ) (h : List Row) → Legal set (Virt
 high_live set p q [] l m = cc
 high_live set p q (Release j true ∷ g) l m = (or_not (is_high_in (task_at set j.task.0)) (rw m at (release_fits set (Virtual p q) j true g l.1).kept_so), high_live set p q g l.2 m)
   where
-    or_not : (a : Bool) → (a || not true) ≡ true → a ≡ true
+    or_not : (a : Bool) → beq true (a || not true) ≡ true → a ≡ true
     or_not true h = refl
     or_not false h = h
 high_live set p q (Release j false ∷ g) l m = high_live set p q g l.2 m

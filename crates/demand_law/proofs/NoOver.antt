@@ -23,6 +23,7 @@ use Rattle.demand_law.specs.NoOver.{is_over_row, NoOver, NoDrop, EndedInTime}
 use Rattle.demand_law.proofs.Laws.{each_in_time}
 use Rattle.std.specs.List.{list_any}
 use Rattle.std.proofs.lemmas.Bool.{or_parts, and_right}
+use Rattle.std.proofs.Math.Bool.{beq}
 
 -- the mode is never high
 low_always : (rule : Rule) (h : List Row) → NoOver h → high_mode rule h ≡ false
@@ -48,7 +49,7 @@ no_drop set rule (Release j false ∷ g) l n =
     let m : high_mode rule g ≡ false = low_always rule g n in
     absurd (never (is_high_in (task_at set j.task.0)) (rw m at k))
   where
-    never : (h : Bool) → not (h || not false) ≡ true → ⊥
+    never : (h : Bool) → beq false (h || not false) ≡ true → ⊥
     never true k = cc
     never false k = cc
 

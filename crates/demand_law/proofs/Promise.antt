@@ -2,6 +2,7 @@
 use Rattle.std.proofs.Common.{◌≡◌, ◌⊎◌, inl, inr, ℕ, ◌+◌, ◌<◌, ◌≤◌, ◌==◌, nat_le, Bool, true, false, not, ◌&&◌, ◌||◌, cond, List, [], ◌∷◌, ◌≢◌, refl, arith, le-leb, eqb-true}
 use Rattle.std.specs.List.{AllByRecursion}
 use Rattle.std.proofs.lemmas.Bool.Decides.{nat_tests}
+use Rattle.std.proofs.Math.Bool.{beq}
 use Rattle.mc_task.specs.declared.task.Rule.{Rule}
 use Rattle.mc_task.specs.declared.task.Task.{Task}
 use Rattle.mc_task.specs.TaskSet.{task_at, IsTask}
@@ -12,7 +13,7 @@ use Rattle.mc_model.specs.TaskNumbers.{is_high_in}
 use Rattle.mc_model.specs.Mode.{high_mode}
 use Rattle.mc_model.specs.Pending.{KeptRelease, released, ended, over_since}
 use Rattle.mc_model.specs.Rows.{ticks}
-use Rattle.mc_model.specs.Legal.{Legal, same_bool}
+use Rattle.mc_model.specs.Legal.{Legal}
 use Rattle.mc_model.specs.Late.{up_to, deadline, is_late}
 use Rattle.mc_model.specs.Promise.{rows_at, OneAtATime, MeetsDeadline, DropsByOverrun, KeepsDeadlines}
 use Rattle.mc_model.proofs.Booleans.{eqb-false}
@@ -60,7 +61,7 @@ meets set h x late due =
     not_late_is (ended (up_to (deadline set x) h) x.job) (is_high_in (task_at set x.job.task.0)) (over_since (up_to (deadline set x) h) x.job) (rw come at late)
 
 -- a dropped release fits only of a low task in high mode
-dropped : (high mode : Bool) → same_bool false (high || not mode) ≡ true → (high ≡ false) × (mode ≡ true)
+dropped : (high mode : Bool) → beq false (high || not mode) ≡ true → (high ≡ false) × (mode ≡ true)
 dropped true mode h = cc
 dropped false true h = (refl, refl)
 dropped false false h = cc

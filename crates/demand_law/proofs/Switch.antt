@@ -39,6 +39,7 @@ use Rattle.mc_model.proofs.Hyperperiod.{product-pos}
 use Rattle.mc_task.specs.declared.task.Level.{Level}
 use Rattle.mc_task.specs.declared.task.Level.TheVariants.{Low, High}
 use Rattle.std.proofs.lemmas.Bool.{and_parts}
+use Rattle.std.proofs.Math.Bool.{beq}
 
 -- of the jobs with keys of at most n, one that was released first
 pub record LeastDue (set : List Task) (p q n : ℕ) (xs : List KeptRelease) : Type 0 where
@@ -123,7 +124,7 @@ at_switch set p q e j how g s pos pq l low high = go (least_due set p q (q * e) 
         }
 
 -- in high mode a release that is kept is high
-high_kept : (a : Bool) → (a || not true) ≡ true → a ≡ true
+high_kept : (a : Bool) → beq true (a || not true) ≡ true → a ≡ true
 high_kept true h = refl
 high_kept false h = h
 

@@ -1,5 +1,6 @@
 -- What a demand file says: its tasks, or its first refusal.
-use Rattle.std.specs.Prelude.{ℕ, Bool, false, not, ◌&&◌, ◌||◌, ◌==◌, nat_le, nat_lt, if◌then◌else◌, List, [], ◌∷◌, ◌++◌, codes, length, unwrap_or, Option, Some, None, Result, Ok, Err}
+use Rattle.std.specs.Prelude.{ℕ, Bool, false, not, ◌||◌, ◌==◌, nat_le, nat_lt, if◌then◌else◌, List, [], ◌∷◌, ◌++◌, codes, length, unwrap_or, Option, Some, None, Result, Ok, Err}
+use lib.Pointwise.{pointwise}
 use Rattle.std.specs.Str.{bytes_eq}
 use Rattle.csv.specs.Records.{field_at}
 use Rattle.csv_records.specs.Rows.{Means, rows_in, or_fault}
@@ -19,10 +20,7 @@ field fields i = unwrap_or (field_at fields i) []
 
 -- the record is `task,period,deadline,budget`
 abbrev pub is_header : List (List ℕ) → Bool
-is_header fields =
-    length fields == 4
-    && (bytes_eq (field fields 0) (codes "task")
-    && (bytes_eq (field fields 1) (codes "period") && (bytes_eq (field fields 2) (codes "deadline") && bytes_eq (field fields 3) (codes "budget"))))
+is_header fields = pointwise bytes_eq fields (codes "task" ∷ codes "period" ∷ codes "deadline" ∷ codes "budget" ∷ [])
 
 -- one of the tasks has the name
 abbrev pub has_name : List ℕ → List Demand → Bool

@@ -1,5 +1,5 @@
 -- What is kept while the counterexample is played: the rows so far, the newest first, and the pending jobs, the oldest first.
-use Rattle.std.specs.Prelude.{◌≡◌, ℕ, ◌+◌, ◌-◌, ◌*◌, ◌<◌, ◌≤◌, Bool, false, List, [], ◌∷◌, Option, Some, None, if◌then◌else◌, cond, nat_le, nat_lt, map, filter, reverse, Contains, ◌⊎◌}
+use Rattle.std.specs.Prelude.{◌≡◌, ℕ, ◌+◌, ◌-◌, ◌*◌, ◌<◌, ◌≤◌, Bool, false, List, [], ◌∷◌, length, Option, Some, None, if◌then◌else◌, cond, nat_le, nat_lt, map, filter, reverse, Contains, ◌⊎◌}
 use Rattle.std.specs.List.{AllByRecursion}
 use Rattle.mc_task.specs.declared.task.JobId.{JobId}
 use Rattle.mc_model.specs.Rows.{same_job}
@@ -26,24 +26,22 @@ pub record IsFirstOf (set : List Demand) (p q : Job) (first : Job) : Type 0 wher
   pub before_p : GoesFirst set (as_released first) (as_released p)
   pub before_q : GoesFirst set (as_released first) (as_released q)
 
--- the first of all jobs has this name
-pub record IsChosen (set : List Demand) (js : List Job) (id : JobId) : Type 0 where
-  pub job : Job
-  pub name : job.id ≡ id
+-- the first of all jobs
+pub record IsFirst (set : List Demand) (js : List Job) (job : Job) : Type 0 where
   pub one : Contains js job
   pub first : AllByRecursion (λ p. GoesFirst set (as_released job) (as_released p)) js
 
--- a job after a tick that was given to the one with this name
-abbrev pub spent_one : JobId → Job → Job
-spent_one id p = record { id = p.id; release = p.release; left = cond (same_job id p.id) (p.left - 1) p.left }
+-- a job after n ticks that were given to the one with this name
+abbrev pub spent_one : ℕ → JobId → Job → Job
+spent_one n id p = record { id = p.id; release = p.release; left = cond (same_job id p.id) (p.left - n) p.left }
 
 -- it has more to do
 abbrev pub has_ticks : Job → Bool
 has_ticks p = nat_lt 0 p.left
 
--- the jobs after that tick
-abbrev pub spent : JobId → List Job → List Job
-spent id js = filter has_ticks (map (spent_one id) js)
+-- the jobs after those ticks
+abbrev pub spent : ℕ → JobId → List Job → List Job
+spent n id js = filter has_ticks (map (spent_one n id) js)
 
 -- the first of the jobs whose deadline has come by n
 abbrev pub first_due : List Demand → ℕ → List Job → Option JobId
@@ -66,3 +64,14 @@ pub record Between (set : List Demand) (b i : ℕ) (h : List EdfRow) (js : List 
   pub next : (k : ℕ) → IsIn set k → IsFirstFrom (cond (nat_le k i) (b + 1) b) (releases h k * period_in (demand_at set k)) (period_in (demand_at set k))
   pub jobs : reverse (map as_released js) ≡ pending set h
   pub left : AllByRecursion (λ p. (1 ≤ p.left) × (p.left + used h p.id ≡ budget_in (demand_at set p.id.task.0))) js
+
+-- the rows end after the releases of boundary b, and no task's next release comes before boundary c
+pub record Awaits (set : List Demand) (b c : ℕ) (h : List EdfRow) (js : List Job) : Type 0 where
+  pub so : Between set b (length set) h js
+  pub away : (k : ℕ) → IsIn set k → c ≤ releases h k * period_in (demand_at set k)
+
+-- no task releases from boundary b to boundary c: before c the rows end after the releases of b, and at c before its releases
+pub record OnTheWay (set : List Demand) (b c : ℕ) (h : List EdfRow) (js : List Job) : Type 0 where
+  pub within : b ≤ c
+  pub before : b < c → Awaits set b c h js
+  pub come : b ≡ c → Between set b 0 h js

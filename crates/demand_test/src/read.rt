@@ -49,6 +49,7 @@ struct DemandRecords;
 impl Meaning for DemandRecords {
     ghost use Rattle.std.proofs.Common.{arith};
     ghost use Rattle.std.proofs.lemmas.Bool.Decides.{nat_tests};
+    ghost use Rattle.csv_records.proofs.WordLemmas.{words_length};
     ghost use Rattle.demand_test.specs.DemandFile.{behind_header, record_task};
     ghost use Rattle.demand_test.specs.SoFar.{IsSoFar};
 
@@ -86,7 +87,7 @@ impl Meaning for DemandRecords {
         }
     }
 
-    ghost narrow = { λ file fields wide. Prim.grind (arith, nat_tests) };
+    ghost narrow = { λ file fields wide. Prim.grind (arith, nat_tests, words_length) };
 
     ghost few = { λ file multiple tasks read. let few = read.few in Prim.omega (arith, few) };
 }

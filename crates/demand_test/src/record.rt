@@ -13,6 +13,7 @@ use numeral::number;
 use tick_frac::lcm_within;
 
 // Whether the record is `task,period,deadline,budget`.
+#[tactic(auto, using(csv_records::proofs::WordLemmas::words_by_place))]
 pub fn is_header(fields: &ByteRecord) -> bool
     ensures { result ≡ file.is_header (fields_of fields.now) }
 {

@@ -10,10 +10,7 @@ const HEADER: &str = "task,period,deadline,budget\n";
 // The set of these records.
 fn set_of(alloc: Global, records: &str) -> Result<DemandSet, Fail> {
     let text = format!(in alloc; "{HEADER}{records}")?;
-    match read_demands(alloc, text.as_bytes()) {
-        Ok(set) => Ok(set),
-        Err(_) => Err("a set".into()),
-    }
+    Ok(read_demands(alloc, text.as_bytes())?)
 }
 
 fn within(length: u64) -> Fit {
@@ -59,57 +56,83 @@ fn sets() -> [(&'static str, Fit); 18] {
     ]
 }
 
+// What the test answers on the set of these records.
+fn fit(alloc: Global, records: &str) -> Result<Fit, Fail> {
+    let set = set_of(alloc, records)?;
+    Ok(check_demand(alloc, &set)?)
+}
+
 #[test]
 fn a_set_is_within_or_past_at_its_least_length(rt: HostRuntime) -> Result<(), Fail> {
     let alloc = rt.alloc();
-    for (records, fit) in sets() {
-        let set = set_of(alloc, records)?;
-        assert_eq!(rt; check_demand(alloc, &set)?, fit, "{records}");
+    for (records, expected) in sets() {
+        assert_eq!(rt; fit(alloc, records)?, expected, "{records}");
     }
     Ok(())
 }
 
-// A set of 128 tasks, of which the last has another budget.
-fn many(alloc: Global, numbers: &str, budget: u32, last: u32) -> Result<DemandSet, Fail> {
+// Adds the record of the task with this number.
+fn push_record(
+    alloc: Global,
+    text: &mut String,
+    number: u32,
+    rest: &str,
+) -> Result<(), AllocError> {
+    let record = format!(in alloc; "t{number},{rest}\n")?;
+    text.push_str(record.as_str())
+}
+
+// The records of 128 tasks, of which the last has another budget.
+fn many(alloc: Global, usual: &str, last: &str) -> Result<String, AllocError> {
     let mut records = String::new(alloc);
-    for i in 1..=128u32 {
-        let budget = if i < 128 { budget } else { last };
-        let record = format!(in alloc; "t{i},{numbers},{budget}\n")?;
-        records.push_str(record.as_str())?;
+    for number in 1..128u32 {
+        push_record(alloc, &mut records, number, usual)?;
     }
-    set_of(alloc, records.as_str())
+    push_record(alloc, &mut records, 128, last)?;
+    Ok(records)
+}
+
+// How many tasks the set of these records has, and what the test answers.
+fn counted_fit(alloc: Global, records: &str) -> Result<(u32, Fit), Fail> {
+    let set = set_of(alloc, records)?;
+    Ok((set.len(), check_demand(alloc, &set)?))
 }
 
 #[test]
 fn a_set_at_the_limits_is_answered(rt: HostRuntime) -> Result<(), Fail> {
     let alloc = rt.alloc();
     let cases = [
-        ("500000,500000", 3906, 3938, within(500_000)),
-        ("500000,500000", 3906, 3939, past(500_000, 500_001)),
-        ("500000,1", u32::MAX, u32::MAX, past(1, 549_755_813_760)),
-        ("1,1", u32::MAX, u32::MAX, past(1, 549_755_813_760)),
+        ("500000,500000,3906", "500000,500000,3938", within(500_000)),
+        (
+            "500000,500000,3906",
+            "500000,500000,3939",
+            past(500_000, 500_001),
+        ),
+        (
+            "500000,1,4294967295",
+            "500000,1,4294967295",
+            past(1, 549_755_813_760),
+        ),
+        ("1,1,4294967295", "1,1,4294967295", past(1, 549_755_813_760)),
     ];
-    for (numbers, budget, last, fit) in cases {
-        let set = many(alloc, numbers, budget, last)?;
-        assert_eq!(rt; set.len(), 128);
-        assert_eq!(rt;
-            check_demand(alloc, &set)?,
-            fit,
-            "{numbers} {budget} {last}"
-        );
+    for (usual, last, expected) in cases {
+        let records = many(alloc, usual, last)?;
+        let counted = counted_fit(alloc, records.as_str())?;
+        assert_eq!(rt; counted, (128, expected), "{last}");
     }
     Ok(())
 }
 
 #[test]
 fn a_set_has_the_tasks_of_its_file(rt: HostRuntime) -> Result<(), Fail> {
-    let alloc = rt.alloc();
-    let set = set_of(alloc, "a,4,2,1\nb-2,500000,4,4294967295\n")?;
-    assert_eq!(rt; set.len(), 2);
-    assert!(rt; set.get(TaskNo(0)).is_none());
-    assert!(rt; is_task(set.get(TaskNo(1)), b"a", (4, 2, 1)));
-    assert!(rt; is_task(set.get(TaskNo(2)), b"b-2", (500_000, 4, u32::MAX)));
-    assert!(rt; set.get(TaskNo(3)).is_none());
+    let set = set_of(rt.alloc(), "a,4,2,1\nb-2,500000,4,4294967295\n")?;
+    let is_first = is_task(set.get(TaskNo(1)), b"a", (4, 2, 1));
+    let is_second = is_task(set.get(TaskNo(2)), b"b-2", (500_000, 4, u32::MAX));
+    let is_none = set.get(TaskNo(0)).is_none() && set.get(TaskNo(3)).is_none();
+    assert_eq!(rt;
+        (set.len(), is_first, is_second, is_none),
+        (2, true, true, true)
+    );
     Ok(())
 }
 
@@ -148,18 +171,26 @@ const COUNTEREXAMPLES: [(&str, &str); 5] = [
     ),
 ];
 
+// The counterexample of a set that is past, or `None` where it is not.
+fn counterexample(alloc: Global, set: &DemandSet) -> Result<Option<Vec<u8>>, Fail> {
+    match check_demand(alloc, set)? {
+        Fit::Past { length, .. } => Ok(Some(counter(alloc, set, length)?)),
+        Fit::Within { .. } => Ok(None),
+    }
+}
+
+// Whether the set of these records has this counterexample.
+fn is_shown(alloc: Global, records: &str, wanted: &str) -> Result<bool, Fail> {
+    let set = set_of(alloc, records)?;
+    let shown = counterexample(alloc, &set)?;
+    Ok(shown.is_some_and(|shown| shown.as_slice() == wanted.as_bytes()))
+}
+
 #[test]
 fn a_counterexample_ends_in_its_first_late_job(rt: HostRuntime) -> Result<(), Fail> {
     let alloc = rt.alloc();
-    for (records, wanted) in COUNTEREXAMPLES {
-        let set = set_of(alloc, records)?;
-        match check_demand(alloc, &set)? {
-            Fit::Past { length, .. } => {
-                let shown = counter(alloc, &set, length)?;
-                assert_eq!(rt; shown.as_slice(), wanted.as_bytes(), "{records}");
-            }
-            Fit::Within { .. } => assert!(rt; false, "{records}"),
-        }
+    for (records, wanted) in &COUNTEREXAMPLES {
+        assert!(rt; is_shown(alloc, records, wanted)?, "{records}");
     }
     Ok(())
 }
@@ -168,16 +199,13 @@ fn a_counterexample_ends_in_its_first_late_job(rt: HostRuntime) -> Result<(), Fa
 fn a_counterexample_of_the_greatest_length_is_shown(rt: HostRuntime) -> Result<(), Fail> {
     let alloc = rt.alloc();
     let set = set_of(alloc, "a,500000,500000,500000\nb,500000,500000,1\n")?;
-    match check_demand(alloc, &set)? {
-        Fit::Past { length, demand } => {
-            assert_eq!(rt; (length, demand), (500_000, 500_001));
-            // Two releases of 17 bytes, 500,000 ticks of 10 bytes and their digits, 2,888,890, and 9 bytes of the late job.
-            let shown = counter(alloc, &set, length)?;
-            assert_eq!(rt; shown.len(), 34 + 5_000_000 + 2_888_890 + 9);
-            assert!(rt; shown.ends_with(b"tick 499999 a 1\nlate b 1\n"));
-        }
-        Fit::Within { .. } => assert!(rt; false),
-    }
+    assert_eq!(rt; check_demand(alloc, &set)?, past(500_000, 500_001));
+    let shown = counterexample(alloc, &set)?.ok_or("a counterexample")?;
+    // Two releases of 17 bytes, 500,000 ticks of 10 bytes and their digits, 2,888,890, and 9 bytes of the late job.
+    assert!(rt;
+        shown.len() == 34 + 5_000_000 + 2_888_890 + 9
+            && shown.ends_with(b"tick 499999 a 1\nlate b 1\n")
+    );
     Ok(())
 }
 
@@ -250,91 +278,113 @@ const RECORDS: [(&str, &str); 34] = [
     ("a,500001,1,1 b,4,2", "line 2: Range"),
 ];
 
-// The tasks, or the refusal.
-fn outcome(alloc: Global, bytes: &[u8]) -> Result<String, AllocError> {
-    let set = match read_demands(alloc, bytes) {
-        Ok(set) => set,
-        Err(fault) => return format!(in alloc; "{fault}"),
-    };
+// The tasks of a set.
+fn tasks_text(alloc: Global, set: &DemandSet) -> Result<String, AllocError> {
     let mut text = String::new(alloc);
     for i in 0..set.len() {
         if let Some(task) = set.get(TaskNo(i + 1)) {
-            let name = String::from_utf8_lossy(alloc, task.name.bytes())?;
-            let (period, deadline, budget) = (task.period, task.deadline, task.budget);
-            let task = format!(in alloc; "{name} {period} {deadline} {budget};")?;
-            text.push_str(task.as_str())?;
+            push_demand(alloc, &mut text, &task)?;
         }
     }
     Ok(text)
 }
 
+fn push_demand(alloc: Global, text: &mut String, task: &Demand) -> Result<(), AllocError> {
+    for byte in task.name.bytes() {
+        text.push(char::from(*byte))?;
+    }
+    let numbers = format!(in alloc; " {} {} {};", task.period, task.deadline, task.budget)?;
+    text.push_str(numbers.as_str())
+}
+
+// Whether the bytes are answered so: by the tasks, or by the refusal.
+fn is_answered(alloc: Global, bytes: &[u8], wanted: &str) -> Result<bool, AllocError> {
+    let text = match read_demands(alloc, bytes) {
+        Ok(set) => tasks_text(alloc, &set)?,
+        Err(fault) => format!(in alloc; "{fault}")?,
+    };
+    Ok(text.as_str() == wanted)
+}
+
+// Whether these records, with spaces between them, are answered so after the header.
+fn are_answered(alloc: Global, records: &str, wanted: &str) -> Result<bool, AllocError> {
+    let lines = records.replace(alloc, " ", "\n")?;
+    let text = format!(in alloc; "{HEADER}{lines}\n")?;
+    is_answered(alloc, text.as_bytes(), wanted)
+}
+
 #[test]
 fn a_file_gives_its_tasks_or_its_first_refusal(rt: HostRuntime) -> Result<(), Fail> {
     let alloc = rt.alloc();
-    for (text, wanted) in FILES {
-        let got = outcome(alloc, text.as_bytes())?;
-        assert_eq!(rt; got.as_str(), wanted, "{text}");
+    for (text, wanted) in &FILES {
+        assert!(rt; is_answered(alloc, text.as_bytes(), wanted)?, "{text}");
     }
-    for (records, wanted) in RECORDS {
-        let mut text = String::from_str(alloc, HEADER)?;
-        for record in records.split(' ') {
-            text.push_str(record)?;
-            text.push('\n')?;
-        }
-        let got = outcome(alloc, text.as_bytes())?;
-        assert_eq!(rt; got.as_str(), wanted, "{records}");
+    for (records, wanted) in &RECORDS {
+        assert!(rt; are_answered(alloc, records, wanted)?, "{records}");
     }
     Ok(())
+}
+
+// A file of 128 tasks.
+fn full_file(alloc: Global) -> Result<String, AllocError> {
+    let records = many(alloc, "1,1,1", "1,1,1")?;
+    format!(in alloc; "{HEADER}{records}")
+}
+
+// The refusal of a text, if any.
+fn refusal(alloc: Global, text: &[u8]) -> Option<DemandFault> {
+    read_demands(alloc, text).err()
 }
 
 #[test]
 fn there_are_at_most_128_tasks(rt: HostRuntime) -> Result<(), Fail> {
     let alloc = rt.alloc();
-    let mut text = String::from_str(alloc, HEADER)?;
-    for i in 1..=128u32 {
-        let record = format!(in alloc; "t{i},1,1,1\n")?;
-        text.push_str(record.as_str())?;
-    }
-    assert!(rt; read_demands(alloc, text.as_bytes()).is_ok());
+    let mut text = full_file(alloc)?;
+    assert_eq!(rt; refusal(alloc, text.as_bytes()), None);
     text.push_str("t1")?;
     let too_many = DemandFault::At {
         line: 130,
         cause: DemandCause::TooMany,
     };
-    assert_eq!(rt; read_demands(alloc, text.as_bytes()).err(), Some(too_many));
+    assert_eq!(rt; refusal(alloc, text.as_bytes()), Some(too_many));
     Ok(())
 }
 
 #[test]
-fn bytes_that_are_no_text_are_refused(rt: HostRuntime) -> Result<(), Fail> {
-    let alloc = rt.alloc();
-    let cases: [(&[u8], DemandCause); 3] = [
-        (b"\xff\xfe\x00", DemandCause::Header),
+fn bytes_that_are_no_text_are_refused(rt: HostRuntime) {
+    let cases: [(&[u8], u32, DemandCause); 3] = [
+        (b"\xff\xfe\x00", 1, DemandCause::Header),
         (
             b"task,period,deadline,budget\n\xff,4,2,1\n",
+            2,
             DemandCause::BadName,
         ),
         (
             b"task,period,deadline,budget\na,4,2,\xb2\n",
+            2,
             DemandCause::BadNumber,
         ),
     ];
-    for (bytes, cause) in cases {
-        let line = if cause == DemandCause::Header { 1 } else { 2 };
+    for (bytes, line, cause) in cases {
         let refused = DemandFault::At { line, cause };
-        assert_eq!(rt; read_demands(alloc, bytes).err(), Some(refused));
+        assert_eq!(rt; refusal(rt.alloc(), bytes), Some(refused));
     }
-    Ok(())
+}
+
+// Whether a record of 200,000 commas after this text is answered so.
+fn is_wide_answered(alloc: Global, before: &str, wanted: &str) -> Result<bool, AllocError> {
+    let mut file = Vec::new(alloc);
+    file.extend_from_slice(before.as_bytes())?;
+    for _ in 0..200_000u32 {
+        file.push(b',')?;
+    }
+    is_answered(alloc, &file, wanted)
 }
 
 #[test]
 fn a_wide_record_of_a_long_file_is_refused_by_its_width(rt: HostRuntime) -> Result<(), Fail> {
     let alloc = rt.alloc();
-    let mut full = String::from_str(alloc, HEADER)?;
-    for i in 1..=128u32 {
-        let record = format!(in alloc; "t{i},1,1,1\n")?;
-        full.push_str(record.as_str())?;
-    }
+    let full = full_file(alloc)?;
     let cases = [
         ("", "line 1: Header"),
         (HEADER, "line 2: BadRecord"),
@@ -345,13 +395,7 @@ fn a_wide_record_of_a_long_file_is_refused_by_its_width(rt: HostRuntime) -> Resu
         (full.as_str(), "line 130: TooMany"),
     ];
     for (before, wanted) in cases {
-        let mut file = Vec::new(alloc);
-        file.extend_from_slice(before.as_bytes())?;
-        for _ in 0..200_000u32 {
-            file.push(b',')?;
-        }
-        let got = outcome(alloc, &file)?;
-        assert_eq!(rt; got.as_str(), wanted, "{before}");
+        assert!(rt; is_wide_answered(alloc, before, wanted)?, "{wanted}");
     }
     Ok(())
 }

@@ -1,3 +1,15 @@
+// A job of a trace, as a gate counts it.
+macro_rules! traced {
+    ($task:expr, $own:expr, $count:expr, $ticks:expr) => {
+        TracedJob {
+            task: $task,
+            own: $own,
+            count: $count,
+            ticks: $ticks,
+        }
+    };
+}
+
 mod at_size;
 mod chart;
 mod check;
@@ -6,14 +18,39 @@ mod faults;
 mod gates;
 mod hostile;
 mod judge;
+mod limits;
 mod live;
 mod outside;
+mod parts;
 mod processors;
 mod room;
 mod run;
 mod runs;
 mod soak;
 mod threads;
+mod usage;
+mod written;
+
+const CHECK: &[&str] = &["check", "tasks.toml"];
+
+const STRETCH: &[&str] = &["stretch", "tasks.toml"];
+
+const DEMAND: &[&str] = &["demand", "tasks.toml"];
+
+const JUDGE: &[&str] = &["judge", "tasks.toml", "second.csv"];
+
+const UNDER_HALF: &[&str] = &["judge", "tasks.toml", "second.csv", "1", "2"];
+
+const UNDER_ONE: &[&str] = &["judge", "tasks.toml", "second.csv", "1", "1"];
+
+const CHART: &[&str] = &["chart", "tasks.toml", "second.csv"];
+
+const REPORT: &[&str] = &["report", "tasks.toml", "second.csv"];
+
+const MIGRATE: &[&str] = &["migrate", "tasks.toml", "second.csv"];
+
+// On two processors, for 5 ticks.
+const RUN_ALL: &[&str] = &["runall", "tasks.toml", "second.csv", "5", "2"];
 
 const CONTROL: &str =
     "[[task]]\nname = \"ctl\"\nlevel = \"high\"\nperiod = 10\nlow = 2\nhigh = 6\n\n[[task]]\nname = \"log\"\nlevel = \"low\"\nperiod = 10\nlow = 5\n";
@@ -44,6 +81,18 @@ const PLANT: &str = "task = [
     {name='log', level='low', period=10, low=5},
 ]";
 
+const PLANT_WORK: &str = "task,release,need\ntap,0,1\narm,0,3\nlog,0,5\ntap,2,1\ntap,4,1\n";
+
+const OVERLOADED: &str = "task = [
+    {name='tap', level='low', period=2, low=1},
+    {name='arm', level='high', period=4, low=1, high=4},
+]";
+
+const LONG_PERIODS: &str = "task = [
+    {name='a', level='low', period=4294967295, low=1},
+    {name='b', level='low', period=4294967294, low=1},
+]";
+
 const QUARTER_SCALE: &str = "task = [
     {name='a', level='low', period=5, low=3},
     {name='b', level='high', period=10, low=1, high=6},
@@ -60,9 +109,12 @@ const PLAIN_PAIR: &str = "task = [
     {name='lo', level='low', period=4, low=2},
 ]";
 
+// A trace without rows.
 const HEADER: &str = "event,tick,task,job,how\n";
 
-const OVERRUN: &str = "release,0,ctl,1,kept
+// A trace of the control set: an overrun ends the low job, until an idle tick.
+const OVERRUN: &str = "event,tick,task,job,how
+release,0,ctl,1,kept
 release,0,log,1,kept
 tick,0,ctl,1,more
 tick,1,ctl,1,over
@@ -79,11 +131,9 @@ tick,10,log,2,more
 tick,11,log,2,more
 ";
 
-// The header of a trace whose equal ticks stand in one record.
-const RUNS_HEADER: &str = "event,tick,length,task,job,how\n";
-
-// The same trace in such records.
-const OVERRUN_RUNS: &str = "release,0,,ctl,1,kept
+// The trace with the overrun, with equal ticks in one record.
+const OVERRUN_RUNS: &str = "event,tick,length,task,job,how
+release,0,,ctl,1,kept
 release,0,,log,1,kept
 tick,0,1,ctl,1,more
 tick,1,1,ctl,1,over
@@ -94,8 +144,12 @@ release,10,,log,2,kept
 tick,10,2,log,2,more
 ";
 
+// The work of the trace with the overrun, which has 12 ticks.
+const OVERRUN_WORK: &str = "task,release,need\nctl,0,6\nlog,0,5\nlog,10,5\n";
+
 // Both jobs are released at 0, and the low task runs first.
-const LOW_FIRST: &str = "release,0,ctl,1,kept
+const LOW_FIRST: &str = "event,tick,task,job,how
+release,0,ctl,1,kept
 release,0,log,1,kept
 tick,0,log,1,more
 tick,1,log,1,more
@@ -108,20 +162,4 @@ tick,7,ctl,1,more
 tick,8,ctl,1,more
 tick,9,ctl,1,more
 tick,10,ctl,1,done
-";
-
-const AVIONICS_WORK: &str = "task,release,need
-attitude,0,400
-gyro,0,600
-engine,0,1500
-nav,0,3000
-display,0,2500
-radio,0,2000
-log,0,8000
-maint,0,10000
-attitude,5000,400
-attitude,10000,400
-gyro,10000,600
-attitude,15000,400
-display,16667,2500
 ";

@@ -46,6 +46,7 @@ impl Executive {
     }
 
     /// Puts the task's tick out, as `Floor::grant`. It may wait for other calls.
+    #[inline(always)]
     pub fn take<R: Wait>(&self, rt: &R, pass: TaskPass) -> Taken
         requires { IsPassOf self.now pass }
         ensures of { IsTakenOf self.now result }
@@ -60,6 +61,7 @@ impl Executive {
 
     /// Ends the granted tick, as `Floor::outcome`; under `Rows` the plan tells whether the job is done. It may wait for other
     /// calls.
+    #[inline(always)]
     pub fn outcome<R: Wait>(&self, rt: &R, grant: Grant, done: bool) -> (TaskPass, How)
         requires { IsGrantOf self.now grant }
         ensures of { IsPassOf self.now result.0 }
@@ -74,6 +76,7 @@ impl Executive {
     }
 
     /// Writes an idle tick, as `Floor::idle`, and answers its number. It may wait for other calls.
+    #[inline(always)]
     pub fn idle<R: Wait>(&self, rt: &R, pass: &mut TaskPass) -> Result<u64, ActFault<IdleFault>>
         requires { IsPassOf self.now pass.old }
         ensures of { IsPassOf self.now pass.new }
@@ -83,6 +86,7 @@ impl Executive {
     }
 
     /// The floor's next act. It changes nothing there, and may wait for other calls.
+    #[inline(always)]
     pub fn look<R: Wait>(&self, rt: &R, pass: &mut TaskPass) -> Act
         requires { IsPassOf self.now pass.old }
         ensures of { IsPassOf self.now pass.new }
@@ -92,6 +96,7 @@ impl Executive {
     }
 
     // A call that puts no tick out, and ends none.
+    #[inline(always)]
     fn call_at_rest<R: Wait>(&self, rt: &R, pass: &mut TaskPass, call: Call) -> Answer
         requires of { IsPassOf self.now pass.old }
         requires quiet { IsQuiet call }

@@ -44,6 +44,11 @@ impl Executive {
     ghost use Rattle.executive.specs.Passes.{floor_of, IsHeldOf, of_held, Adds, Calls};
 
     // A call that is counted.
+    //
+    // Each function that a call passes on its way to the core is inlined, here and in turnstile, timetable and mode_core, so
+    // that each kind of call has code of its own. One function for all of them would branch on the kind three times and clear
+    // a large frame first: a tick of the avionics set would take 660 instructions, where it takes 369.
+    #[inline(always)]
     pub(crate) fn call<R: Wait>(&self, rt: &R, held: Held, call: Call) -> (Held, Answer)
         requires of { IsHeldOf self.now held }
         requires may { MayCall (floor_seen (lists held.seat)) held.task.0 call }
@@ -56,6 +61,7 @@ impl Executive {
     }
 
     // One turn of the task's seat.
+    #[inline(always)]
     fn turn<R: Wait>(
         &self,
         rt: &R,
@@ -77,6 +83,7 @@ impl Executive {
     }
 
     // A turn in which the task's call was made, and which has to be left.
+    #[inline(always)]
     pub(crate) fn begin<R: Wait>(
         &self,
         rt: &R,

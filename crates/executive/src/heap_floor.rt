@@ -76,6 +76,7 @@ impl HeapFloor {
     }
 
     // The answer to a call of a task, which is then the last one.
+    #[inline(always)]
     pub(crate) fn answer(&mut self, task: TaskNo, call: Call) -> Answer
         requires in_set { IsIn self.old.floor.core.set task.0 }
         requires may { MayCall self.old.floor task.0 call }
@@ -91,6 +92,7 @@ impl HeapFloor {
 }
 
 // The floor's answer.
+#[inline(always)]
 fn answered(floor: &mut Floor, task: TaskNo, call: Call) -> Answer
     requires in_set { IsIn floor.old.core.set task.0 }
     requires may { MayCall floor.old task.0 call }

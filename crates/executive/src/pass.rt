@@ -59,6 +59,7 @@ impl Held {
     ghost use Rattle.std.specs.Prelude.{IfSome, []};
 
     // The seat of a task that made one call more, whose answer is counted.
+    #[inline(always)]
     pub(crate) fn counted(task: TaskNo, count: Count, seat: Seat<State>, answer: &Answer) -> Held
         requires some { 1 ≤ task.0 }
         requires number { number seat ≡ task.0 - 1 }
@@ -73,6 +74,7 @@ impl Held {
     }
 
     // A task with no tick out, as a pass.
+    #[inline(always)]
     pub(crate) fn at_rest(self) -> TaskPass
         requires { job_out self.task.0 (lists self.seat) ≡ None }
         ensures same { IfSome result.resting (λ r. r.held ≡ self) }

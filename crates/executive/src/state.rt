@@ -54,6 +54,7 @@ impl Added<Entry> for Brand {
 
 impl State {
     // One call of a task. A tick that it ends is shown on the board, where there is one.
+    #[inline(always)]
     pub(crate) fn act(&mut self, board: &Option<Board>, task: TaskNo, call: Call) -> Answer
         requires in_set { IsIn self.old.called.floor.core.set task.0 }
         requires may { MayCall self.old.called.floor task.0 call }

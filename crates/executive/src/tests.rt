@@ -5,7 +5,7 @@ ghost use Rattle.executive.specs.Passes.{IsPassOf, floor_of};
 ghost use Rattle.executive.specs.Opening.{AreFresh};
 ghost use Rattle.executive.specs.Watching.{IsWatcherOf};
 
-use crate::{Count, Executive, Taken, TaskPass, Unclosed};
+use crate::{Answer, Count, Executive, Taken, TaskPass, Unclosed};
 use admission::admit;
 use load_sum::sum_loads;
 use mc_model::How;
@@ -13,6 +13,7 @@ use mc_task::TaskNo;
 use mode_core::{Core, GrantFault, Granted, IdleFault, ReleaseFault, Released};
 use status_board::{Shown, Watcher};
 use std::alloc::Global;
+use std::process::Abort;
 use std::sync::Wait;
 use std::test::Fail;
 use timetable::{Act, ActFault, Floor, Plan, PlanFault};
@@ -80,184 +81,29 @@ fn put(executive: &Executive, passes: &mut Vec<TaskPass>, pass: TaskPass)
     passes.push_reserved(pass);
 }
 
-// A tick of the task that is not its job's last, or why there is none, with the pass.
-fn ticked<R: Wait>(
+// An executive over a floor of two tasks, and their passes, out of their list.
+fn opened<R: Wait + Abort>(
     rt: &R,
-    executive: &Executive,
-    pass: TaskPass,
-) -> (TaskPass, Result<How, ActFault<GrantFault>>)
-    requires { IsPassOf executive.now pass }
-    ensures { IsPassOf executive.now result.0 }
+    alloc: Global,
+    floor: Floor,
+) -> Result<(Executive, Vec<TaskPass>, TaskPass, TaskPass), Fail>
+    requires rows { floor.core.rows ≡ [] }
+    requires out { floor.core.out ≡ None }
+    ensures passes { IfOk result (λ r. IsPassOf r.0 r.2 × IsPassOf r.0 r.3) }
+    ensures set { IfOk result (λ r. length (floor_of r.0).core.set ≡ 2) }
+    ensures list { IfOk result (λ r. (r.1.items ≡ []) × (2 ≤ vec_capacity r.1)) }
 {
-    match executive.take(rt, pass) {
-        Taken::NotNow(pass, fault) => (pass, Err(fault)),
-        Taken::Given(grant) => {
-            let (pass, how) = executive.outcome(rt, grant, false);
-            (pass, Ok(how))
-        }
+    if floor.core().set().len() != 2 {
+        return Err("tasks".into());
     }
-}
-
-#[test]
-fn close_wants_a_pass_of_each_task(rt: HostRuntime) -> Result<(), Fail> {
-    let floor = planned(rt.alloc(), &HELD_RELEASE_WORK, 4)?;
-    let Ok((executive, mut passes)) = Executive::new(&rt, rt.alloc(), floor) else {
-        return Err("memory".into());
-    };
-    assert!(rt; passes.len() == 2);
-    let (first, second) = two_of(&executive, &mut passes);
-    assert_eq!(rt; first.task(), TaskNo(1));
-    assert_eq!(rt; second.task(), TaskNo(2));
-    assert_eq!(rt; first.count(), count(0, 0, 0, 0));
-    assert_eq!(rt; second.count(), count(0, 0, 0, 0));
-    let (second, fault) = ticked(&rt, &executive, second);
-    let due = PlanFault::Due { task: TaskNo(1) };
-    assert_eq!(rt; fault, Err(ActFault::Plan(due)));
-    put(&executive, &mut passes, first);
-    match executive.close(&rt, passes) {
-        Ok(_floor) => panic!(rt; "it was closed"),
-        Err(unclosed) => {
-            let Unclosed {
-                executive,
-                mut passes,
-                task,
-            } = unclosed;
-            assert_eq!(rt; task, TaskNo(2));
-            assert!(rt; passes.len() == 1);
-            put(&executive, &mut passes, second);
-            match executive.close(&rt, passes) {
-                Ok(floor) => assert!(rt; floor.core().rows().is_empty()),
-                Err(_unclosed) => panic!(rt; "a pass is missing"),
-            }
+    match Executive::new(rt, alloc, floor) {
+        Ok((executive, mut passes)) => {
+            assert!(rt; passes.len() == 2);
+            let (first, second) = two_of(&executive, &mut passes);
+            Ok((executive, passes, first, second))
         }
+        Err(_floor) => Err("memory".into()),
     }
-    Ok(())
-}
-
-#[test]
-fn a_planned_tick_is_taken_and_ended(rt: HostRuntime) -> Result<(), Fail> {
-    let floor = planned(rt.alloc(), &HELD_RELEASE_WORK, 4)?;
-    let Ok((executive, mut passes)) = Executive::new(&rt, rt.alloc(), floor) else {
-        return Err("memory".into());
-    };
-    assert!(rt; passes.len() == 2);
-    let (mut first, mut second) = two_of(&executive, &mut passes);
-    let released = Released::Kept {
-        job: job!(1, 1),
-        at: 0,
-    };
-    assert_eq!(rt; executive.release(&rt, &mut first), Ok(released));
-    let mut first = match executive.take(&rt, first) {
-        Taken::Given(grant) => {
-            let granted = Granted {
-                job: job!(1, 1),
-                at: 0,
-                before: 0,
-            };
-            assert_eq!(rt; grant.granted(), granted);
-            let (first, how) = executive.outcome(&rt, grant, false);
-            assert_eq!(rt; how, How::More);
-            first
-        }
-        Taken::NotNow(_first, _fault) => panic!(rt; "it was not given"),
-    };
-    assert_eq!(rt; executive.look(&rt, &mut first), Act::Grant(TaskNo(1)));
-    let pending = IdleFault::Pending { job: job!(1, 1) };
-    assert_eq!(rt;
-        executive.idle(&rt, &mut first),
-        Err(ActFault::Core(pending))
-    );
-    assert_eq!(rt;
-        executive.release(&rt, &mut second),
-        Err(ActFault::Plan(PlanFault::NotPlanned))
-    );
-    assert_eq!(rt; first.count(), count(1, 1, 0, 0));
-    assert_eq!(rt; second.count(), count(0, 0, 0, 0));
-    put(&executive, &mut passes, first);
-    put(&executive, &mut passes, second);
-    match executive.close(&rt, passes) {
-        Ok(floor) => {
-            let rows = [kept!(1, 1), tick!(1, 1, How::More)];
-            assert!(rt; floor.core().rows() == rows.as_slice());
-        }
-        Err(_unclosed) => panic!(rt; "a pass is missing"),
-    }
-    Ok(())
-}
-
-#[test]
-fn other_tasks_are_answered_while_a_tick_is_out(rt: HostRuntime) -> Result<(), Fail> {
-    let floor = free(rt.alloc())?;
-    let Ok((executive, mut passes)) = Executive::new(&rt, rt.alloc(), floor) else {
-        return Err("memory".into());
-    };
-    assert!(rt; passes.len() == 2);
-    let (mut first, mut second) = two_of(&executive, &mut passes);
-    assert_eq!(rt; executive.idle(&rt, &mut first), Ok(0));
-    assert!(rt; executive.release(&rt, &mut first).is_ok());
-    let too_soon = ReleaseFault::TooSoon { next: 11 };
-    assert_eq!(rt;
-        executive.release(&rt, &mut first),
-        Err(ActFault::Core(too_soon))
-    );
-    let first = match executive.take(&rt, first) {
-        Taken::Given(grant) => {
-            let out = GrantFault::TickOut { job: job!(1, 1) };
-            let (mut other, fault) = ticked(&rt, &executive, second);
-            assert_eq!(rt; fault, Err(ActFault::Core(out)));
-            let out = IdleFault::TickOut { job: job!(1, 1) };
-            assert_eq!(rt; executive.idle(&rt, &mut other), Err(ActFault::Core(out)));
-            let held = Released::Held {
-                job: job!(2, 1),
-                at: 2,
-            };
-            assert_eq!(rt; executive.release(&rt, &mut other), Ok(held));
-            assert_eq!(rt; executive.look(&rt, &mut other), Act::Wait(job!(1, 1)));
-            second = other;
-            let (first, how) = executive.outcome(&rt, grant, false);
-            assert_eq!(rt; how, How::More);
-            first
-        }
-        Taken::NotNow(_first, _fault) => panic!(rt; "it was not given"),
-    };
-    let (first, fault) = ticked(&rt, &executive, first);
-    assert_eq!(rt; fault, Err(ActFault::Core(GrantFault::Full)));
-    assert_eq!(rt; first.count(), count(1, 1, 0, 1));
-    assert_eq!(rt; second.count(), count(1, 0, 0, 0));
-    put(&executive, &mut passes, first);
-    put(&executive, &mut passes, second);
-    match executive.close(&rt, passes) {
-        Ok(floor) => assert!(rt; floor.core().rows().len() == 4),
-        Err(_unclosed) => panic!(rt; "a pass is missing"),
-    }
-    Ok(())
-}
-
-#[test]
-fn a_plan_whose_executive_was_closed_is_finished(rt: HostRuntime) -> Result<(), Fail> {
-    let floor = planned(rt.alloc(), &OVERRUN_WORK, 12)?;
-    let Ok((executive, mut passes)) = Executive::new(&rt, rt.alloc(), floor) else {
-        return Err("memory".into());
-    };
-    assert!(rt; passes.len() == 2);
-    let (mut first, mut second) = two_of(&executive, &mut passes);
-    assert!(rt; executive.release(&rt, &mut first).is_ok());
-    assert!(rt; executive.release(&rt, &mut second).is_ok());
-    let (first, how) = ticked(&rt, &executive, first);
-    assert_eq!(rt; how, Ok(How::More));
-    let (first, how) = ticked(&rt, &executive, first);
-    assert_eq!(rt; how, Ok(How::Over));
-    put(&executive, &mut passes, first);
-    put(&executive, &mut passes, second);
-    match executive.close(&rt, passes) {
-        Ok(mut floor) => {
-            assert!(rt; floor.core().rows() == &OVERRUN_ROWS[..4]);
-            floor.finish();
-            assert!(rt; floor.core().rows() == OVERRUN_ROWS.as_slice());
-        }
-        Err(_unclosed) => panic!(rt; "a pass is missing"),
-    }
-    Ok(())
 }
 
 // An executive over the floor without a plan, with one watcher: the passes of its two tasks, out of their list, and it.
@@ -284,57 +130,340 @@ fn watched<R: Wait>(
     }
 }
 
+// The floor that is left once the executive was closed with both passes.
+fn closed<R: Wait + Abort>(
+    rt: &R,
+    executive: Executive,
+    passes: Vec<TaskPass>,
+    first: TaskPass,
+    second: TaskPass,
+) -> Floor
+    requires passes { IsPassOf executive first × IsPassOf executive second }
+    requires set { length (floor_of executive).core.set ≡ 2 }
+    requires list { (passes.items ≡ []) × (2 ≤ vec_capacity passes) }
+{
+    let mut passes = passes;
+    put(&executive, &mut passes, first);
+    put(&executive, &mut passes, second);
+    match executive.close(rt, passes) {
+        Ok(floor) => floor,
+        Err(_unclosed) => panic!(rt; "a pass is missing"),
+    }
+}
+
+// Closes the executive without the second pass, and then with both: the task that was missing, and the floor that is left.
+fn closed_twice<R: Wait + Abort>(
+    rt: &R,
+    executive: Executive,
+    passes: Vec<TaskPass>,
+    first: TaskPass,
+    second: TaskPass,
+) -> (TaskNo, Floor)
+    requires passes { IsPassOf executive first × IsPassOf executive second }
+    requires set { length (floor_of executive).core.set ≡ 2 }
+    requires list { (passes.items ≡ []) × (2 ≤ vec_capacity passes) }
+{
+    let mut passes = passes;
+    put(&executive, &mut passes, first);
+    match executive.close(rt, passes) {
+        Ok(_floor) => panic!(rt; "it was closed"),
+        Err(unclosed) => {
+            let Unclosed {
+                executive,
+                mut passes,
+                task,
+            } = unclosed;
+            assert!(rt; passes.len() == 1);
+            put(&executive, &mut passes, second);
+            match executive.close(rt, passes) {
+                Ok(floor) => (task, floor),
+                Err(_unclosed) => panic!(rt; "a pass is missing"),
+            }
+        }
+    }
+}
+
+// A tick of the task that is not its job's last, or why there is none, with the pass.
+fn ticked<R: Wait>(
+    rt: &R,
+    executive: &Executive,
+    pass: TaskPass,
+) -> (TaskPass, Result<How, ActFault<GrantFault>>)
+    requires { IsPassOf executive.now pass }
+    ensures { IsPassOf executive.now result.0 }
+{
+    match executive.take(rt, pass) {
+        Taken::NotNow(pass, fault) => (pass, Err(fault)),
+        Taken::Given(grant) => {
+            let (pass, how) = executive.outcome(rt, grant, false);
+            (pass, Ok(how))
+        }
+    }
+}
+
+// What a call of a pass or a watcher gives.
+#[derive(Clone, Copy, Debug, PartialEq, Eq)]
+enum Seen {
+    Released(Result<Released, ActFault<ReleaseFault>>),
+    IsReleased(bool),
+    Granted(Granted),
+    Ticked(Result<How, ActFault<GrantFault>>),
+    Idle(Result<u64, ActFault<IdleFault>>),
+    Next(Act),
+    Shown(Shown),
+}
+
+// Whether it is the pass of the task, and counts nothing.
+fn is_new(pass: &TaskPass, task: TaskNo) -> bool {
+    pass.task() == task && pass.count() == count(0, 0, 0, 0)
+}
+
+#[test]
+fn close_wants_a_pass_of_each_task(rt: HostRuntime) -> Result<(), Fail> {
+    let floor = planned(rt.alloc(), &HELD_RELEASE_WORK, 4)?;
+    let (executive, passes, first, second) = opened(&rt, rt.alloc(), floor)?;
+    let are_new = is_new(&first, TaskNo(1)) && is_new(&second, TaskNo(2));
+    let (second, fault) = ticked(&rt, &executive, second);
+    let (missing, floor) = closed_twice(&rt, executive, passes, first, second);
+    assert!(rt; are_new);
+    let due = ActFault::Plan(PlanFault::Due { task: TaskNo(1) });
+    assert_eq!(rt; (fault, missing), (Err(due), TaskNo(2)));
+    assert!(rt; floor.core().rows().is_empty());
+    Ok(())
+}
+
+// What the calls of `a_planned_tick` give.
+const PLANNED_TICK: [Seen; 6] = [
+    Seen::Released(Ok(Released::Kept {
+        job: job!(1, 1),
+        at: 0,
+    })),
+    Seen::Granted(Granted {
+        job: job!(1, 1),
+        at: 0,
+        before: 0,
+    }),
+    Seen::Ticked(Ok(How::More)),
+    Seen::Next(Act::Grant(TaskNo(1))),
+    Seen::Idle(Err(ActFault::Core(IdleFault::Pending { job: job!(1, 1) }))),
+    Seen::Released(Err(ActFault::Plan(PlanFault::NotPlanned))),
+];
+
+// A tick of the first task, and calls after it.
+fn a_planned_tick<R: Wait>(
+    rt: &R,
+    executive: &Executive,
+    first: TaskPass,
+    second: TaskPass,
+) -> (TaskPass, TaskPass, [Seen; 6])
+    requires { IsPassOf executive.now first × IsPassOf executive.now second }
+    ensures { IsPassOf executive.now result.0 × IsPassOf executive.now result.1 }
+{
+    let mut first = first;
+    let mut second = second;
+    let released = executive.release(rt, &mut first);
+    match executive.take(rt, first) {
+        Taken::Given(grant) => {
+            let granted = grant.granted();
+            let (mut first, how) = executive.outcome(rt, grant, false);
+            let next = executive.look(rt, &mut first);
+            let idle = executive.idle(rt, &mut first);
+            let other = executive.release(rt, &mut second);
+            let seen = [
+                Seen::Released(released),
+                Seen::Granted(granted),
+                Seen::Ticked(Ok(how)),
+                Seen::Next(next),
+                Seen::Idle(idle),
+                Seen::Released(other),
+            ];
+            (first, second, seen)
+        }
+        Taken::NotNow(first, fault) => (first, second, [Seen::Ticked(Err(fault)); 6]),
+    }
+}
+
+#[test]
+fn a_planned_tick_is_taken_and_ended(rt: HostRuntime) -> Result<(), Fail> {
+    let floor = planned(rt.alloc(), &HELD_RELEASE_WORK, 4)?;
+    let (executive, passes, first, second) = opened(&rt, rt.alloc(), floor)?;
+    let (first, second, seen) = a_planned_tick(&rt, &executive, first, second);
+    let counts = (first.count(), second.count());
+    let floor = closed(&rt, executive, passes, first, second);
+    assert_eq!(rt; seen.as_slice(), PLANNED_TICK.as_slice());
+    assert_eq!(rt; counts, (count(1, 1, 0, 0), count(0, 0, 0, 0)));
+    let rows = [kept!(1, 1), tick!(1, 1, How::More)];
+    assert!(rt; floor.core().rows() == rows.as_slice());
+    Ok(())
+}
+
+// What the calls of `beside_a_tick` give.
+const BESIDE_A_TICK: [Seen; 9] = [
+    Seen::Idle(Ok(0)),
+    Seen::IsReleased(true),
+    Seen::Released(Err(ActFault::Core(ReleaseFault::TooSoon { next: 11 }))),
+    Seen::Ticked(Err(ActFault::Core(GrantFault::TickOut { job: job!(1, 1) }))),
+    Seen::Idle(Err(ActFault::Core(IdleFault::TickOut { job: job!(1, 1) }))),
+    Seen::Released(Ok(Released::Held {
+        job: job!(2, 1),
+        at: 2,
+    })),
+    Seen::Next(Act::Wait(job!(1, 1))),
+    Seen::Ticked(Ok(How::More)),
+    Seen::Ticked(Err(ActFault::Core(GrantFault::Full))),
+];
+
+// Calls of the first task until its tick is out, four of the second task, the tick's outcome, and one tick too many.
+fn beside_a_tick<R: Wait>(
+    rt: &R,
+    executive: &Executive,
+    first: TaskPass,
+    second: TaskPass,
+) -> (TaskPass, TaskPass, [Seen; 9])
+    requires { IsPassOf executive.now first × IsPassOf executive.now second }
+    ensures { IsPassOf executive.now result.0 × IsPassOf executive.now result.1 }
+{
+    let mut first = first;
+    let idle = executive.idle(rt, &mut first);
+    let is_released = executive.release(rt, &mut first).is_ok();
+    let again = executive.release(rt, &mut first);
+    match executive.take(rt, first) {
+        Taken::Given(grant) => {
+            let (mut second, other_tick) = ticked(rt, executive, second);
+            let other_idle = executive.idle(rt, &mut second);
+            let other_release = executive.release(rt, &mut second);
+            let other_next = executive.look(rt, &mut second);
+            let (first, how) = executive.outcome(rt, grant, false);
+            let (first, full) = ticked(rt, executive, first);
+            let seen = [
+                Seen::Idle(idle),
+                Seen::IsReleased(is_released),
+                Seen::Released(again),
+                Seen::Ticked(other_tick),
+                Seen::Idle(other_idle),
+                Seen::Released(other_release),
+                Seen::Next(other_next),
+                Seen::Ticked(Ok(how)),
+                Seen::Ticked(full),
+            ];
+            (first, second, seen)
+        }
+        Taken::NotNow(first, fault) => (first, second, [Seen::Ticked(Err(fault)); 9]),
+    }
+}
+
+#[test]
+fn other_tasks_are_answered_while_a_tick_is_out(rt: HostRuntime) -> Result<(), Fail> {
+    let floor = free(rt.alloc())?;
+    let (executive, passes, first, second) = opened(&rt, rt.alloc(), floor)?;
+    let (first, second, seen) = beside_a_tick(&rt, &executive, first, second);
+    let counts = (first.count(), second.count());
+    let floor = closed(&rt, executive, passes, first, second);
+    assert_eq!(rt; seen.as_slice(), BESIDE_A_TICK.as_slice());
+    assert_eq!(rt; counts, (count(1, 1, 0, 1), count(1, 0, 0, 0)));
+    assert!(rt; floor.core().rows().len() == 4);
+    Ok(())
+}
+
+// Finishes the plan, where it is one and no tick is out.
+fn finished(floor: &mut Floor) -> bool {
+    if floor.core().out().is_some() || !floor.is_planned() {
+        return false;
+    }
+    floor.finish();
+    true
+}
+
+#[test]
+fn a_plan_whose_executive_was_closed_is_finished(rt: HostRuntime) -> Result<(), Fail> {
+    let floor = planned(rt.alloc(), &OVERRUN_WORK, 12)?;
+    let (executive, passes, mut first, mut second) = opened(&rt, rt.alloc(), floor)?;
+    let first_is_released = executive.release(&rt, &mut first).is_ok();
+    let second_is_released = executive.release(&rt, &mut second).is_ok();
+    let (first, more) = ticked(&rt, &executive, first);
+    let (first, over) = ticked(&rt, &executive, first);
+    let mut floor = closed(&rt, executive, passes, first, second);
+    assert!(rt; first_is_released && second_is_released);
+    assert_eq!(rt; (more, over), (Ok(How::More), Ok(How::Over)));
+    assert!(rt; floor.core().rows() == &OVERRUN_ROWS[..4]);
+    let is_finished = finished(&mut floor);
+    assert!(rt; is_finished && floor.core().rows() == OVERRUN_ROWS.as_slice());
+    Ok(())
+}
+
 fn shown(ticks: u64, high_mode: bool) -> Shown {
     Shown { ticks, high_mode }
 }
 
 #[test]
 fn a_watcher_that_is_told_sees_the_idle_tick(rt: HostRuntime) -> Result<(), Fail> {
-    let (executive, mut passes, mut first, second, mut watcher) = watched(&rt, rt.alloc())?;
-    assert_eq!(rt; executive.idle(&rt, &mut first), Ok(0));
+    let (executive, passes, mut first, second, mut watcher) = watched(&rt, rt.alloc())?;
+    let idle = executive.idle(&rt, &mut first);
     executive.tell(&rt, &mut first, &mut watcher);
-    assert_eq!(rt; executive.watch(&mut watcher), shown(1, false));
-    assert_eq!(rt; first.count(), count(0, 0, 0, 1));
-    put(&executive, &mut passes, first);
-    put(&executive, &mut passes, second);
-    match executive.close(&rt, passes) {
-        Ok(floor) => assert!(rt; floor.core().rows().len() == 1),
-        Err(_unclosed) => panic!(rt; "a pass is missing"),
-    }
+    let after = executive.watch(&mut watcher);
+    let counted = first.count();
+    let floor = closed(&rt, executive, passes, first, second);
+    assert_eq!(rt; (idle, after), (Ok(0), shown(1, false)));
+    assert_eq!(rt;
+        (counted, floor.core().rows().len()),
+        (count(0, 0, 0, 1), 1)
+    );
     Ok(())
 }
 
 #[test]
 fn a_watcher_that_is_not_told_sees_the_idle_tick_too(rt: HostRuntime) -> Result<(), Fail> {
-    let (executive, mut passes, mut first, second, mut watcher) = watched(&rt, rt.alloc())?;
-    assert_eq!(rt; executive.watch(&mut watcher), shown(0, false));
-    assert_eq!(rt; executive.idle(&rt, &mut first), Ok(0));
-    assert_eq!(rt; executive.watch(&mut watcher), shown(1, false));
-    put(&executive, &mut passes, first);
-    put(&executive, &mut passes, second);
-    match executive.close(&rt, passes) {
-        Ok(floor) => assert!(rt; floor.core().rows().len() == 1),
-        Err(_unclosed) => panic!(rt; "a pass is missing"),
-    }
+    let (executive, passes, mut first, second, mut watcher) = watched(&rt, rt.alloc())?;
+    let before = executive.watch(&mut watcher);
+    let idle = executive.idle(&rt, &mut first);
+    let after = executive.watch(&mut watcher);
+    let floor = closed(&rt, executive, passes, first, second);
+    assert_eq!(rt;
+        (before, idle, after),
+        (shown(0, false), Ok(0), shown(1, false))
+    );
+    assert!(rt; floor.core().rows().len() == 1);
     Ok(())
 }
 
+// What is seen of an overrun, from its release on.
+const OVERRUN: [Seen; 6] = [
+    Seen::IsReleased(true),
+    Seen::Shown(Shown {
+        ticks: 0,
+        high_mode: false,
+    }),
+    Seen::Ticked(Ok(How::More)),
+    Seen::Shown(Shown {
+        ticks: 1,
+        high_mode: false,
+    }),
+    Seen::Ticked(Ok(How::Over)),
+    Seen::Shown(Shown {
+        ticks: 2,
+        high_mode: true,
+    }),
+];
+
 #[test]
 fn an_overrun_is_seen_with_its_mode(rt: HostRuntime) -> Result<(), Fail> {
-    let (executive, mut passes, mut first, second, mut watcher) = watched(&rt, rt.alloc())?;
-    assert!(rt; executive.release(&rt, &mut first).is_ok());
-    assert_eq!(rt; executive.watch(&mut watcher), shown(0, false));
-    let (first, how) = ticked(&rt, &executive, first);
-    assert_eq!(rt; how, Ok(How::More));
-    assert_eq!(rt; executive.watch(&mut watcher), shown(1, false));
-    let (first, how) = ticked(&rt, &executive, first);
-    assert_eq!(rt; how, Ok(How::Over));
-    assert_eq!(rt; executive.watch(&mut watcher), shown(2, true));
-    put(&executive, &mut passes, first);
-    put(&executive, &mut passes, second);
-    match executive.close(&rt, passes) {
-        Ok(floor) => assert!(rt; floor.core().rows().len() == 3),
-        Err(_unclosed) => panic!(rt; "a pass is missing"),
-    }
+    let (executive, passes, mut first, second, mut watcher) = watched(&rt, rt.alloc())?;
+    let is_released = executive.release(&rt, &mut first).is_ok();
+    let at_release = executive.watch(&mut watcher);
+    let (first, more) = ticked(&rt, &executive, first);
+    let at_tick = executive.watch(&mut watcher);
+    let (first, over) = ticked(&rt, &executive, first);
+    let at_overrun = executive.watch(&mut watcher);
+    let floor = closed(&rt, executive, passes, first, second);
+    let seen = [
+        Seen::IsReleased(is_released),
+        Seen::Shown(at_release),
+        Seen::Ticked(more),
+        Seen::Shown(at_tick),
+        Seen::Ticked(over),
+        Seen::Shown(at_overrun),
+    ];
+    assert_eq!(rt; seen.as_slice(), OVERRUN.as_slice());
+    assert!(rt; floor.core().rows().len() == 3);
     Ok(())
 }

@@ -12,12 +12,13 @@ use Rattle.mc_model.specs.declared.verdict.Why.{Why}
 use Rattle.mc_model.specs.TaskNumbers.{period_in, low_in, own_in, is_high_in}
 use Rattle.mc_model.specs.Pending.{KeptRelease}
 use Rattle.mc_model.specs.Rows.{ticks, used, releases, next_release, is_too_soon}
-use Rattle.mc_model.specs.Legal.{is_pending, is_least, is_empty, same_how, is_allowed_how, same_bool, first_of_parts}
+use Rattle.mc_model.specs.Legal.{is_pending, is_least, is_empty, same_how, is_allowed_how, first_of_parts}
 use Rattle.mc_task.specs.Kinds.{is_virtual}
 use Rattle.mc_model.specs.Mode.{high_mode}
 use Rattle.mc_model.proofs.Booleans.{not_true, eqb-false}
 use Rattle.mc_model.proofs.Fold.{pending, fault}
 use Rattle.std.proofs.lemmas.Bool.{or_parts}
+use Rattle.std.proofs.Math.Bool.{beq}
 
 -- where no part fails, the one part is true
 pub parts_one : (a : Bool) (u : Why) → first_of_parts ((a, u) ∷ []) ≡ None → a ≡ true
@@ -35,7 +36,7 @@ parts_three true true false u v w h = cc
 pub record ReleaseFits (set : List Task) (rule : Rule) (j : JobId) (kept : Bool) (g : List Row) : Type 0 where
   pub soon : next_release set g j.task.0 ≤ ticks g
   pub count : j.count ≡ releases g j.task.0 + 1
-  pub kept_so : same_bool kept (is_high_in (task_at set j.task.0) || not (high_mode rule g)) ≡ true
+  pub kept_so : beq kept (is_high_in (task_at set j.task.0) || not (high_mode rule g)) ≡ true
 
 -- with no release too close, the next one is allowed
 pub soon_enough : (set : List Task) (now : ℕ) (g : List Row) (k : ℕ) → is_too_soon set now g k ≡ false → next_release set g k ≤ now

@@ -1,10 +1,10 @@
 -- A verdict finds no fault exactly in legal traces.
 use Rattle.std.proofs.Common.{◌≡◌, ℕ, ◌+◌, List, [], ◌∷◌, Option, Some, None, option_map, length, refl, ap, ◌∙◌}
 use Rattle.std.specs.List.{AllByRecursion}
+use Rattle.std.specs.Option.{option_or}
 use Rattle.mc_task.specs.declared.task.Task.{Task}
 use Rattle.mc_task.specs.declared.task.Rule.{Rule}
 use Rattle.mc_task.specs.declared.task.JobId.{JobId}
-use Rattle.mc_task.specs.Faults.{or_else}
 use Rattle.mc_model.specs.declared.row.Row.{Row}
 use Rattle.mc_model.specs.declared.verdict.Why.{Why}
 use Rattle.mc_model.specs.Late.{late}
@@ -18,7 +18,7 @@ no_fault set rule [] l = refl
 no_fault set rule (row ∷ g) l = rw (no_fault set rule g l.2, l.1) refl
 
 -- neither of the two is there
-neither : (a : Option RowFault) (place : ℕ) (b : Option Why) → or_else a (option_map (λ why. record { place = place; why = why }) b) ≡ None → (a ≡ None) × (b ≡ None)
+neither : (a : Option RowFault) (place : ℕ) (b : Option Why) → option_or a (option_map (λ why. record { place = place; why = why }) b) ≡ None → (a ≡ None) × (b ≡ None)
 neither None place None h = (refl, refl)
 neither None place (Some why) h = cc
 neither (Some fault) place b h = cc

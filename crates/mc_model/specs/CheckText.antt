@@ -9,7 +9,7 @@ use Rattle.tick_frac.specs.Fraction.{lowest, fraction_text}
 use Rattle.mc_model.specs.Loads.{product, load_ll, load_hl, load_hh}
 use Rattle.mc_model.specs.Test.{scale_holds}
 
--- the lines of a rule
+-- the lines that name a rule
 unfoldable pub rule_text : Rule → List ℕ
 rule_text Plain = codes "rule plain\n"
 rule_text (Virtual p q) = codes "rule virtual\nx " ++ (decimal p ++ (codes "/" ++ (decimal q ++ codes "\n")))
@@ -29,7 +29,7 @@ set_load_texts gap tasks = load_texts gap (product tasks) (load_ll tasks) (load_
 unfoldable pub scale_text : Scale → List ℕ
 scale_text x = codes "scale " ++ (decimal x.p ++ (codes "/" ++ (decimal x.q ++ codes " does not hold\n")))
 
--- that line where there is a scale and it does not hold for the tasks, and no line otherwise
+-- the line of the set's scale where it has one that does not hold for its tasks, and nothing otherwise
 abbrev pub unheld_text : List Task → Option Scale → List ℕ
 unheld_text tasks None = []
 unheld_text tasks (Some x) = if scale_holds tasks x then [] else scale_text x

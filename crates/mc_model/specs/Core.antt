@@ -30,12 +30,12 @@ runs_before set rule high i j =
     nat_lt (key set rule high i) (key set rule high j)
     || ((key set rule high i == key set rule high j) && nat_lt i.job.task.0 j.job.task.0)
 
--- the one of the two that runs first, where there are two
+-- of the job found so far, if any, and another one, the job that runs first
 abbrev pub first_of_two : List Task → Rule → Bool → KeptRelease → Option KeptRelease → KeptRelease
 first_of_two set rule high i None = i
 first_of_two set rule high i (Some j) = cond (runs_before set rule high j i) j i
 
--- the job that runs first
+-- of these jobs the one that runs first
 abbrev pub first_to_run : List Task → Rule → Bool → List KeptRelease → Option KeptRelease
 first_to_run set rule high [] = None
 first_to_run set rule high (i ∷ is) = Some (first_of_two set rule high i (first_to_run set rule high is))
@@ -62,11 +62,12 @@ abbrev pub jobs_of : ℕ → List JobId → ℕ
 jobs_of k [] = 0
 jobs_of k (j ∷ js) = cond (j.task.0 == k) 1 0 + jobs_of k js
 
--- the releases of task number k, those that are held among them
+-- how many releases task number k has had, held ones included
 abbrev pub released_so_far : State → ℕ → ℕ
 released_so_far s k = releases s.rows k + jobs_of k s.held
 
--- 0 before the first release of task number k, otherwise its last release time plus its period; a held release counts from the next boundary
+-- 0 before the first release of task number k, otherwise its last release time plus its period; a held release
+-- counts from the next boundary
 abbrev pub next_after : List Task → List Row → List JobId → ℕ → ℕ
 next_after set rows [] k = next_release set rows k
 next_after set rows (j ∷ js) k = cond (j.task.0 == k) (ticks rows + 1 + period_in (task_at set k)) (next_after set rows js k)
@@ -91,7 +92,7 @@ release_row set rule j g = Release j (keeps set rule g j.task.0)
 abbrev pub outcome_of : List Task → Rule → List Row → JobId → Bool → How
 outcome_of set rule g j done = cond done Done (how_of set rule g j (used g j + 1))
 
--- the rows with the held releases behind them
+-- the rows with the held releases after them
 abbrev pub add_held : List Task → Rule → List JobId → List Row → List Row
 add_held set rule [] g = g
 add_held set rule (j ∷ js) g = let h = add_held set rule js g in release_row set rule j h ∷ h
@@ -105,7 +106,7 @@ settled set rule done rows (Some j) held = add_held set rule held (Tick j (outco
 abbrev pub settle : State → Bool → List Row
 settle s done = settled s.set s.rule done s.rows s.out s.held
 
--- without a tick out nothing is held; with one it is the chosen job's
+-- without a tick out nothing is held; a tick that is out is the chosen job's
 abbrev pub IsOut : List Task → Rule → List Row → Option JobId → List JobId → Type 0
 IsOut set rule rows None held = held ≡ []
 IsOut set rule rows (Some j) held = chosen set rule rows ≡ Some j

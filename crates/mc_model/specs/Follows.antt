@@ -1,6 +1,7 @@
 -- When a trace is the one of a work list and a number of ticks. The newest row stands first.
 use Rattle.std.specs.Prelude.{◌≡◌, ℕ, ◌+◌, ◌-◌, Bool, true, false, not, ◌&&◌, List, [], ◌∷◌, if◌then◌else◌, nat_lt, ◌==◌, filter, map, reverse, slice_index_or}
 use Rattle.std.specs.List.{list_all, list_any}
+use Rattle.std.proofs.Math.Bool.{beq}
 use Rattle.mc_task.specs.declared.task.Rule.{Rule}
 use Rattle.mc_task.specs.declared.task.Task.{Task}
 use Rattle.mc_task.specs.declared.task.JobId.{JobId}
@@ -8,12 +9,12 @@ use Rattle.mc_model.specs.Rows.{ticks, same_job, used}
 use Rattle.mc_model.specs.Mode.{high_mode}
 use Rattle.mc_model.specs.Pending.{KeptRelease, pending}
 use Rattle.mc_model.specs.Key.{key}
-use Rattle.mc_model.specs.Legal.{same_bool, is_done, Legal}
+use Rattle.mc_model.specs.Legal.{is_done, Legal}
 use Rattle.mc_model.specs.declared.row.Row.{Row}
-use Rattle.mc_model.specs.declared.row.Row.TheVariants.{Release, Tick, Idle}
+use Rattle.mc_model.specs.declared.row.Row.TheVariants.{Release, Tick}
 use Rattle.mc_model.specs.declared.work.WorkRow.{WorkRow}
 
--- a task number and a release time
+-- a release: a task number and a release time
 pub record Arrival : Type 0 where
   pub task : ℕ
   pub at : ℕ
@@ -22,8 +23,7 @@ pub record Arrival : Type 0 where
 abbrev pub arrivals : List Row → List Arrival
 arrivals [] = []
 arrivals (Release j kept ∷ g) = record { task = j.task.0; at = ticks g } ∷ arrivals g
-arrivals (Tick j how ∷ g) = arrivals g
-arrivals (Idle ∷ g) = arrivals g
+arrivals (_ ∷ g) = arrivals g
 
 -- the releases that the work asks for before boundary n, in its order
 abbrev pub planned : List WorkRow → ℕ → List Arrival
@@ -41,15 +41,13 @@ need_of work k c = if c == 0 then 0 else slice_index_or (needs_of work k) (c - 1
 abbrev pub ends_in_tick : List Row → Bool
 ends_in_tick [] = false
 ends_in_tick (Release j kept ∷ g) = false
-ends_in_tick (Tick j how ∷ g) = true
-ends_in_tick (Idle ∷ g) = true
+ends_in_tick (_ ∷ g) = true
 
 -- each tick is Done exactly where its job has had its need
 abbrev pub done_by_need : List WorkRow → List Row → Bool
 done_by_need work [] = true
-done_by_need work (Release j kept ∷ g) = done_by_need work g
-done_by_need work (Tick j how ∷ g) = same_bool (is_done how) (used g j + 1 == need_of work j.task.0 j.count) && done_by_need work g
-done_by_need work (Idle ∷ g) = done_by_need work g
+done_by_need work (Tick j how ∷ g) = beq (is_done how) (used g j + 1 == need_of work j.task.0 j.count) && done_by_need work g
+done_by_need work (_ ∷ g) = done_by_need work g
 
 -- none of these pending jobs has the key that i has, and a lower task number
 abbrev pub none_lower : List Task → Rule → Bool → KeptRelease → List KeptRelease → Bool
@@ -62,9 +60,8 @@ is_lowest set rule high now j = list_any (λ i. same_job j i.job && none_lower s
 -- of equal keys each tick takes the lowest task number
 abbrev pub lowest_first : List Task → Rule → List Row → Bool
 lowest_first set rule [] = true
-lowest_first set rule (Release j kept ∷ g) = lowest_first set rule g
 lowest_first set rule (Tick j how ∷ g) = is_lowest set rule (high_mode rule g) (pending set g) j && lowest_first set rule g
-lowest_first set rule (Idle ∷ g) = lowest_first set rule g
+lowest_first set rule (_ ∷ g) = lowest_first set rule g
 
 -- the trace is the one that the set, the rule, the work and the number of ticks determine
 pub record Follows (set : List Task) (rule : Rule) (work : List WorkRow) (n : ℕ) (h : List Row) : Type 0 where

@@ -25,12 +25,13 @@ abbrev pub Fits : Rule → Type 0
 Fits Plain = Unit {0}
 Fits (Virtual p q) = (1 ≤ p) × (p ≤ q) × (q ≤ 2 ^ 60)
 
--- the rule of the test for a set, said by Holds: that of its scale, where it has one that holds; otherwise the published one
+-- the rule of the test for a set, said by Holds: that of its scale, where it has one that holds; otherwise the
+-- rule of the published test
 pub record IsRuleOf (set : Set) (rule : Option Rule) : Type 0 where
   pub scaled : (x : Scale) → set.scale ≡ Some x → Holds set.tasks (Virtual x.p x.q) → rule ≡ Some (Virtual x.p x.q)
   pub otherwise : ((x : Scale) → set.scale ≡ Some x → ¬ Holds set.tasks (Virtual x.p x.q)) → rule ≡ published set.tasks
 
--- law: the test gives that rule
+-- law: the test gives the rule of a set's scale where that holds, and otherwise that of the published test
 abbrev pub TestByHolds : Type 0
 TestByHolds = (set : Set) → IsRuleOf set (test set)
 
@@ -38,7 +39,7 @@ TestByHolds = (set : Set) → IsRuleOf set (test set)
 abbrev pub PublishedRuleHolds : Type 0
 PublishedRuleHolds = (tasks : List Task) (rule : Rule) → AreTasks tasks → published tasks ≡ Some rule → Holds tasks rule
 
--- law: the test's rule holds
+-- law: the rule of the test holds for the set's tasks
 abbrev pub TestRuleHolds : Type 0
 TestRuleHolds = (set : Set) (rule : Rule) → AreTasks set.tasks → test set ≡ Some rule → Holds set.tasks rule
 
@@ -46,7 +47,7 @@ TestRuleHolds = (set : Set) (rule : Rule) → AreTasks set.tasks → test set �
 abbrev pub AdmittedIfHolds : Type 0
 AdmittedIfHolds = (tasks : List Task) (rule : Rule) → AreTasks tasks → Holds tasks rule → IsSome (published tasks)
 
--- the inequalities of the scaled test alone, of x = U_HL / (1 - U_LL), over n: U_LL < 1 and x*U_LL + U_HH ≤ 1
+-- the inequalities of the scaled test, of x = U_HL / (1 - U_LL), over n: U_LL < 1 and x*U_LL + U_HH ≤ 1
 abbrev pub PassesScaledOver : ℕ → ℕ → ℕ → ℕ → Type 0
 PassesScaledOver n a b c = (a < n) × (a * b + c * (n - a) ≤ n * (n - a))
 
@@ -63,18 +64,19 @@ pub record AreLowWithLoad1 (tasks : List Task) : Type 0 where
 abbrev pub EdfOrScaled : Type 0
 EdfOrScaled = (tasks : List Task) → AreTasks tasks → Holds tasks Plain → PassesScaled tasks ⊎ AreLowWithLoad1 tasks
 
--- law: the scale of a set neither admits nor refuses: the test gives none exactly where the published test does
+-- law: the scale of a set admits and refuses nothing: the test gives no rule exactly where the published test
+-- gives none
 abbrev pub NoneWherePublishedNone : Type 0
 NoneWherePublishedNone = (set : Set) → AreTasks set.tasks → (test set ≡ None) ↔ (published set.tasks ≡ None)
 
--- U_LL + U_HL ≤ 3/4 and U_HH ≤ 3/4, over n
+-- U_LL + U_HL ≤ 3/4 and U_HH ≤ 3/4, where U_LL = a/n, U_HL = b/n and U_HH = c/n
 abbrev pub IsThreeQuartersOver : ℕ → ℕ → ℕ → ℕ → Type 0
 IsThreeQuartersOver n a b c = (4 * (a + b) ≤ 3 * n) × (4 * c ≤ 3 * n)
 
--- the premise of the 3/4 law
+-- the tasks' loads are at most 3/4: U_LL + U_HL ≤ 3/4 and U_HH ≤ 3/4
 abbrev pub IsThreeQuarters : List Task → Type 0
 IsThreeQuarters tasks = IsThreeQuartersOver (product tasks) (load_ll tasks) (load_hl tasks) (load_hh tasks)
 
--- the 3/4 law: such tasks are admitted
+-- the 3/4 law: tasks with U_LL + U_HL ≤ 3/4 and U_HH ≤ 3/4 are admitted
 abbrev pub ThreeQuartersLaw : Type 0
 ThreeQuartersLaw = (tasks : List Task) → AreTasks tasks → IsThreeQuarters tasks → IsSome (published tasks)

@@ -1,4 +1,4 @@
--- The key by which jobs are ordered, in units of 1/q tick (q = 1 under plain EDF), so that nothing is rounded.
+-- The key by which jobs are ordered, in units of 1/q tick (q = 1 under plain EDF): nothing is rounded.
 use Rattle.std.specs.Prelude.{ℕ, ◌+◌, ◌*◌, Bool, List, Option, cond}
 use Rattle.mc_task.specs.declared.task.Task.{Task}
 use Rattle.mc_task.specs.declared.task.Rule.{Rule}
@@ -17,7 +17,8 @@ abbrev pub low_offset : Rule → Option Task → ℕ
 low_offset Plain t = period_in t
 low_offset (Virtual p q) t = cond (is_high_in t) (p * period_in t) (q * period_in t)
 
--- the key of a job of this task that was released at r: its deadline in high mode, and its virtual deadline in low mode
+-- the key of a job of this task that was released at r: its deadline in high mode, and its virtual deadline in
+-- low mode
 abbrev pub key_of : Rule → Bool → Option Task → ℕ → ℕ
 key_of rule high t r = scale rule * r + cond high (scale rule * period_in t) (low_offset rule t)
 

@@ -13,11 +13,12 @@ abbrev pub up_to : ℕ → List Row → List Row
 up_to d [] = []
 up_to d (row ∷ g) = cond (nat_le (ticks (row ∷ g)) d) (row ∷ g) (up_to d g)
 
--- its release time plus its period
+-- the deadline of a job: its release time plus its period
 abbrev pub deadline : List Task → KeptRelease → ℕ
 deadline set i = i.release + period_in (task_at set i.job.task.0)
 
--- its deadline has come, and among the rows up to it the job has not ended, and is high or has seen no overrun
+-- the job is late: its deadline has come, and in the rows up to it the job has not ended, and is of a high task
+-- or has seen no overrun
 abbrev pub is_late : List Task → List Row → KeptRelease → Bool
 is_late set h i = nat_le (deadline set i) (ticks h) && is_live set (up_to (deadline set i) h) i
 

@@ -1,6 +1,7 @@
 -- When a trace is one of EDF-VD: each row fits the rows before it. The newest row stands first.
 use Rattle.std.specs.Prelude.{◌≡◌, ℕ, ◌+◌, Bool, true, false, not, ◌&&◌, ◌||◌, List, [], ◌∷◌, Option, Some, None, cond, nat_le, ◌==◌}
 use Rattle.std.specs.List.{list_all, list_any}
+use Rattle.std.proofs.Math.Bool.{beq}
 use Rattle.mc_task.specs.declared.task.Task.{Task}
 use Rattle.mc_task.specs.declared.task.Rule.{Rule}
 use Rattle.mc_task.specs.declared.task.JobId.{JobId}
@@ -35,15 +36,15 @@ abbrev pub is_empty : List KeptRelease → Bool
 is_empty [] = true
 is_empty (i ∷ is) = false
 
--- the how of the job's next tick, its u-th, where the job is not done: Stop at its own budget; Over where a high task
--- passes its low budget in low mode; otherwise More
+-- how the job's next tick, its u-th, ends where the job is not done: Stop at its own budget; Over where a high
+-- task passes its low budget in low mode; otherwise More
 abbrev pub how_of : List Task → Rule → List Row → JobId → ℕ → How
 how_of set rule g j u =
     let t = task_at set j.task.0 in
     cond (u == own_in t) Stop
     (cond (is_high_in t && is_virtual rule && not (high_mode rule g) && (u == low_in t)) Over More)
 
--- the two are equal
+-- the two ticks ended alike
 abbrev pub same_how : How → How → Bool
 same_how More More = true
 same_how Done Done = true
@@ -51,26 +52,21 @@ same_how Stop Stop = true
 same_how Over Over = true
 same_how _ _ = false
 
--- the job is done
+-- the tick ended with its job done
 abbrev pub is_done : How → Bool
 is_done Done = true
 is_done _ = false
 
--- a job may be done at each tick up to its own budget; otherwise its how is determined
+-- a job may be done at each tick up to its own budget; where it is not, how the tick ends is determined
 abbrev pub is_allowed_how : List Task → Rule → List Row → JobId → How → Bool
 is_allowed_how set rule g j how =
     let u = used g j + 1 in
     (is_done how && nat_le u (own_in (task_at set j.task.0))) || same_how how (how_of set rule g j u)
 
--- the name of the first part that fails
+-- of these parts of a rule, each with its name, the name of the first that fails
 abbrev pub first_of_parts : List (Bool × Why) → Option Why
 first_of_parts [] = None
 first_of_parts (c ∷ cs) = cond c.0 (first_of_parts cs) (Some c.1)
-
--- the two are equal
-abbrev pub same_bool : Bool → Bool → Bool
-same_bool true b = b
-same_bool false b = not b
 
 -- why a row does not fit the prefix before it, in which these jobs are pending: the first part that fails
 abbrev pub fault_among : List Task → Rule → List KeptRelease → Row → List Row → Option Why
@@ -78,7 +74,7 @@ fault_among set rule now (Release j kept) g =
     first_of_parts (
     (not (is_too_soon set (ticks g) g j.task.0), TooSoon)
     ∷ (j.count == releases g j.task.0 + 1, WrongCount)
-    ∷ (same_bool kept (is_high_in (task_at set j.task.0) || not (high_mode rule g)), WrongKept)
+    ∷ (beq kept (is_high_in (task_at set j.task.0) || not (high_mode rule g)), WrongKept)
     ∷ []
     )
 fault_among set rule now (Tick j how) g =
@@ -90,7 +86,7 @@ fault_among set rule now (Tick j how) g =
     )
 fault_among set rule now Idle g = first_of_parts ((is_empty now, IdlePending) ∷ [])
 
--- why a row does not fit the prefix before it
+-- why a row does not fit the prefix before it: the first part that fails
 abbrev pub fault : List Task → Rule → Row → List Row → Option Why
 fault set rule row g = fault_among set rule (pending set g) row g
 

@@ -1,5 +1,5 @@
--- Live traces: tasks release when they like, as far as their periods allow, and each job ends where its need is met. The
--- newest row stands first.
+-- Live traces: tasks release when they like, as far as their periods allow, and each job ends where its need is
+-- met. The newest row stands first.
 use Rattle.std.specs.Prelude.{◌≡◌, ℕ, ◌+◌, ◌%◌, ◌==◌, ◌&&◌, Bool, true, false, List, [], ◌∷◌, Option, ⊤, if◌then◌else◌}
 use Rattle.mc_task.specs.declared.task.Task.{Task}
 use Rattle.mc_task.specs.declared.task.Rule.{Rule}
@@ -10,7 +10,8 @@ use Rattle.mc_model.specs.declared.row.Row.TheVariants as row
 use Rattle.mc_model.specs.Rows.{ticks, used}
 use Rattle.mc_model.specs.Legal.{is_done, Legal}
 
--- the ticks that the job with this count needs: of a high task each fourth job needs the high budget, and all others the low one
+-- the ticks that the job with this count needs: of a high task each fourth job needs the high budget, and all
+-- other jobs need the low one
 abbrev pub live_need : Option Task → ℕ → ℕ
 live_need task count = if is_high_in task && (count % 4 == 0) then own_in task else low_in task
 

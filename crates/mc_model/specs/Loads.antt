@@ -8,7 +8,7 @@ use Rattle.mc_task.specs.declared.task.Level.{Level}
 use Rattle.mc_task.specs.declared.task.Level.TheVariants.{Low, High}
 use Rattle.tick_frac.specs.Numbers.{lcm}
 
--- one number for a low task, another for a high one
+-- the first number for a low task, the second for a high one
 abbrev pub by_level : Level → ℕ → ℕ → ℕ
 by_level Low low high = low
 by_level High low high = high

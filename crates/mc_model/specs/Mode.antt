@@ -3,16 +3,14 @@ use Rattle.std.specs.Prelude.{Bool, true, false, ◌&&◌, ◌||◌, List, [], �
 use Rattle.mc_task.specs.declared.task.Rule.{Rule}
 use Rattle.mc_task.specs.Kinds.{is_virtual}
 use Rattle.mc_model.specs.declared.row.How.{How}
-use Rattle.mc_model.specs.declared.row.How.TheVariants.{More, Done, Stop, Over}
+use Rattle.mc_model.specs.declared.row.How.TheVariants.{Over}
 use Rattle.mc_model.specs.declared.row.Row.{Row}
 use Rattle.mc_model.specs.declared.row.Row.TheVariants.{Release, Tick, Idle}
 
--- an overrun
+-- whether the tick ended with an overrun
 abbrev pub is_over : How → Bool
-is_over More = false
-is_over Done = false
-is_over Stop = false
 is_over Over = true
+is_over _ = false
 
 -- whether the mode is high: under Virtual, an Over row stands after the last Idle row
 abbrev pub high_mode : Rule → List Row → Bool

@@ -1,4 +1,4 @@
--- The pending jobs: released and kept, not ended, and not discarded by an overrun. The newest row stands first.
+-- The pending jobs: released and kept, not ended, not discarded by an overrun. The newest row stands first.
 use Rattle.std.specs.Prelude.{ℕ, Bool, true, false, not, ◌&&◌, ◌||◌, List, [], ◌∷◌, cond, filter}
 use Rattle.std.specs.List.{list_any}
 use Rattle.mc_task.specs.declared.task.Task.{Task}
@@ -8,7 +8,7 @@ use Rattle.mc_model.specs.TaskNumbers.{is_high_in}
 use Rattle.mc_model.specs.Rows.{same_job, ticks}
 use Rattle.mc_model.specs.Mode.{is_over}
 use Rattle.mc_model.specs.declared.row.How.{How}
-use Rattle.mc_model.specs.declared.row.How.TheVariants.{More, Done, Stop, Over}
+use Rattle.mc_model.specs.declared.row.How.TheVariants.{Done, Stop}
 use Rattle.mc_model.specs.declared.row.Row.{Row}
 use Rattle.mc_model.specs.declared.row.Row.TheVariants.{Release, Tick, Idle}
 
@@ -21,27 +21,24 @@ pub record KeptRelease : Type 0 where
 abbrev pub released : List Row → List KeptRelease
 released [] = []
 released (Release j kept ∷ g) = cond kept (record { job = j; release = ticks g } ∷ released g) (released g)
-released (Tick j how ∷ g) = released g
-released (Idle ∷ g) = released g
+released (_ ∷ g) = released g
 
--- the job's last tick
+-- whether the tick is its job's last
 abbrev pub is_end : How → Bool
-is_end More = false
 is_end Done = true
 is_end Stop = true
-is_end Over = false
+is_end _ = false
 
--- a Done or Stop row of the job
+-- whether the row is a Done or Stop row of the job
 abbrev pub ends : JobId → Row → Bool
-ends j (Release i kept) = false
 ends j (Tick i how) = is_end how && same_job i j
-ends j Idle = false
+ends j _ = false
 
--- the job has such a row
+-- whether the job has a Done or Stop row
 abbrev pub ended : List Row → JobId → Bool
 ended h j = list_any (ends j) h
 
--- an Over row stands after the job's Release row
+-- whether an Over row stands after the job's Release row
 abbrev pub over_since : List Row → JobId → Bool
 over_since [] j = false
 over_since (Release i kept ∷ g) j = not (same_job i j) && over_since g j

@@ -7,30 +7,28 @@ use Rattle.mc_model.specs.TaskNumbers.{period_in}
 use Rattle.mc_model.specs.declared.row.Row.{Row}
 use Rattle.mc_model.specs.declared.row.Row.TheVariants.{Release, Tick, Idle}
 
--- the two are one job
+-- whether the two are the same job
 abbrev pub same_job : JobId → JobId → Bool
 same_job i j = (i.task.0 == j.task.0) && (i.count == j.count)
 
--- the number of Tick and Idle rows; of a prefix, the number of the next tick, and the release time of a Release row behind it
+-- how many Tick and Idle rows there are: the number of the tick that comes next, and the release time of a Release
+-- row that comes next
 abbrev pub ticks : List Row → ℕ
 ticks [] = 0
 ticks (Release j kept ∷ g) = ticks g
-ticks (Tick j how ∷ g) = ticks g + 1
-ticks (Idle ∷ g) = ticks g + 1
+ticks (_ ∷ g) = ticks g + 1
 
--- the Tick rows of the job
+-- how many Tick rows the job has
 abbrev pub used : List Row → JobId → ℕ
 used [] i = 0
-used (Release j kept ∷ g) i = used g i
 used (Tick j how ∷ g) i = cond (same_job j i) 1 0 + used g i
-used (Idle ∷ g) i = used g i
+used (_ ∷ g) i = used g i
 
--- the Release rows of task number k
+-- how many Release rows task number k has
 abbrev pub releases : List Row → ℕ → ℕ
 releases [] k = 0
 releases (Release j kept ∷ g) k = cond (j.task.0 == k) 1 0 + releases g k
-releases (Tick j how ∷ g) k = releases g k
-releases (Idle ∷ g) k = releases g k
+releases (_ ∷ g) k = releases g k
 
 -- 0 before the first release of task number k, otherwise its last release time plus its period
 abbrev pub next_release : List Task → List Row → ℕ → ℕ
@@ -39,10 +37,9 @@ next_release set (Release j kept ∷ g) k = cond (j.task.0 == k) (ticks g + peri
 next_release set (Tick j how ∷ g) k = next_release set g k
 next_release set (Idle ∷ g) k = next_release set g k
 
--- at boundary now an earlier release of task number k is less than its period ago
+-- whether at boundary now a release of task number k is less than its period ago
 abbrev pub is_too_soon : List Task → ℕ → List Row → ℕ → Bool
 is_too_soon set now [] k = false
 is_too_soon set now (Release j kept ∷ g) k =
     ((j.task.0 == k) && nat_lt now (ticks g + period_in (task_at set k))) || is_too_soon set now g k
-is_too_soon set now (Tick j how ∷ g) k = is_too_soon set now g k
-is_too_soon set now (Idle ∷ g) k = is_too_soon set now g k
+is_too_soon set now (_ ∷ g) k = is_too_soon set now g k

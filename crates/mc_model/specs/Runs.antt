@@ -1,4 +1,4 @@
--- Runs: equal rows of a trace in one record. Runs and rows stand in the order of the text here, THE OLDEST FIRST.
+-- Runs: equal rows of a trace in one record. Runs and rows stand in the order of the text, THE OLDEST FIRST.
 use Rattle.std.specs.Prelude.{◌≡◌, ◌≤◌, ℕ, ◌+◌, Bool, true, false, List, [], ◌∷◌, ◌++◌, cond, length, replicate, All}
 use Rattle.mc_task.specs.declared.task.Task.{Task}
 use Rattle.mc_model.specs.Sums.{total}
@@ -16,7 +16,7 @@ row_of (run.Release j kept) = Release j kept
 row_of (run.Ticks j how n) = Tick j how
 row_of (run.Idles n) = Idle
 
--- how often: a release stands once
+-- how many rows the run stands for: a release stands once
 abbrev pub size : Run → ℕ
 size (run.Release j kept) = 1
 size (run.Ticks j how n) = n
@@ -37,7 +37,7 @@ length_of (run.Release j kept) = 0
 length_of (run.Ticks j how n) = n
 length_of (run.Idles n) = n
 
--- a run has a row, and several ticks of a job stand in one run only where the job goes on behind each of them
+-- a run has a row, and several ticks of a job stand in one run only where the job goes on after each of them
 abbrev pub IsRun : Run → Type 0
 IsRun (run.Release j kept) = Unit {0}
 IsRun (run.Ticks j how n) = (1 ≤ n) × (2 ≤ n → how ≡ More)
@@ -53,13 +53,13 @@ pub record AreRuns (runs : List Run) : Type 0 where
 abbrev pub IsRunOfSet : List Task → Run → Type 0
 IsRunOfSet set r = IsOfSet set (row_of r)
 
--- the two could be one run: idle ticks, or ticks behind which one job goes on
+-- whether the two could be one run: idle ticks, or ticks of one job that goes on after each
 abbrev pub joins : Run → Run → Bool
 joins (run.Idles m) (run.Idles n) = true
 joins (run.Ticks i More m) (run.Ticks j More n) = same_job i j
 joins _ _ = false
 
--- no two neighbours could be one run
+-- no two neighbours in the list could be one run
 abbrev pub IsPacked : List Run → Type 0
 IsPacked [] = Unit {0}
 IsPacked (r ∷ []) = Unit {0}

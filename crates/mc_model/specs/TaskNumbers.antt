@@ -1,24 +1,21 @@
 -- What is known of a task by its number; all 0 where no task has that number.
-use Rattle.std.specs.Prelude.{ℕ, Bool, false, Option, None, Some}
+use Rattle.std.specs.Prelude.{ℕ, Bool, false, Option}
+use Rattle.std.specs.Option.{option_map_or}
 use Rattle.mc_task.specs.declared.task.Task.{Task}
 use Rattle.mc_task.specs.Kinds.{is_high}
 
--- its period
+-- the period of a task, where there is one
 abbrev pub period_in : Option Task → ℕ
-period_in None = 0
-period_in (Some t) = t.period
+period_in task = option_map_or (λ t. t.period) task 0
 
--- its low budget
+-- the low budget of a task, where there is one
 abbrev pub low_in : Option Task → ℕ
-low_in None = 0
-low_in (Some t) = t.low
+low_in task = option_map_or (λ t. t.low) task 0
 
--- its own budget: the high one, which a low task's low one is too
+-- the own budget of a task, where there is one: the high one, to which a low task's low one is equal
 abbrev pub own_in : Option Task → ℕ
-own_in None = 0
-own_in (Some t) = t.high
+own_in task = option_map_or (λ t. t.high) task 0
 
--- whether it is a high task
+-- whether there is a task and it is high
 abbrev pub is_high_in : Option Task → Bool
-is_high_in None = false
-is_high_in (Some t) = is_high t.level
+is_high_in task = option_map_or (λ t. is_high t.level) task false

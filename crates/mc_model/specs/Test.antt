@@ -1,4 +1,4 @@
--- The test of EDF-VD (Baruah et al., ECRTS 2012): EDF where its load fits, else the scale x = U_HL / (1 - U_LL).
+-- The test of EDF-VD (Baruah et al., ECRTS 2012): EDF where its load fits, else x = U_HL / (1 - U_LL).
 -- That plain EDF is tried first, and that a set may have a scale of its own, is this profile's.
 use Rattle.std.specs.Prelude.{ℕ, ◌+◌, ◌-◌, ◌*◌, Bool, ◌&&◌, nat_lt, nat_le, if◌then◌else◌, List, Option, Some, None}
 use Rattle.mc_task.specs.declared.task.Task.{Task}

@@ -1,5 +1,5 @@
--- The text of a trace: a header line, and a line for each run of equal rows. Runs and rows stand in the order of the
--- text, THE OLDEST FIRST.
+-- The text of a trace: a header line, and a line for each run of equal rows. Runs and rows stand in the order of
+-- the text, THE OLDEST FIRST.
 use Rattle.std.specs.Prelude.{ℕ, ◌+◌, Bool, true, false, List, [], ◌∷◌, ◌++◌, codes, decimal}
 use Rattle.mc_task.specs.declared.task.Task.{Task}
 use Rattle.mc_task.specs.TaskSet.{task_at, name_in}
@@ -27,7 +27,7 @@ abbrev pub line_of : List ℕ → List ℕ → List ℕ → List ℕ → List �
 line_of event tick length task job how =
     event ++ (codes "," ++ (tick ++ (codes "," ++ (length ++ (codes "," ++ (task ++ (codes "," ++ (job ++ (codes "," ++ (how ++ codes "\n"))))))))))
 
--- the line of a run behind so many ticks
+-- the line of a run that starts at this tick
 unfoldable pub run_line : List Task → ℕ → Run → List ℕ
 run_line set tick (Release j kept) =
     line_of (codes "release") (decimal tick) [] (name_in (task_at set j.task.0)) (decimal j.count) (kept_word kept)
@@ -35,12 +35,12 @@ run_line set tick (Ticks j how n) =
     line_of (codes "tick") (decimal tick) (decimal n) (name_in (task_at set j.task.0)) (decimal j.count) (how_word how)
 run_line set tick (Idles n) = line_of (codes "idle") (decimal tick) (decimal n) [] [] []
 
--- the lines of runs that stand behind so many ticks
+-- the lines of runs of which the first starts at this tick
 abbrev pub lines_from : List Task → ℕ → List Run → List ℕ
 lines_from set tick [] = []
 lines_from set tick (r ∷ runs) = run_line set tick r ++ lines_from set (tick + length_of r) runs
 
--- the text of these runs
+-- the text of these runs: the header and their lines
 abbrev pub runs_text : List Task → List Run → List ℕ
 runs_text set runs = codes "event,tick,length,task,job,how\n" ++ lines_from set 0 runs
 

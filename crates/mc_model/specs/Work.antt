@@ -5,12 +5,12 @@ use Rattle.mc_task.specs.TaskSet.{task_at, IsIn}
 use Rattle.mc_model.specs.TaskNumbers.{period_in}
 use Rattle.mc_model.specs.declared.work.WorkRow.{WorkRow}
 
--- v may stand after w: it is not released earlier, and a period later where it is of the same task
+-- v may stand after w: it is not released earlier, and at least a period later where it is of the same task
 pub record MayFollow (set : List Task) (w v : WorkRow) : Type 0 where
   pub order : w.release ≤ v.release
   pub apart : w.task.0 ≡ v.task.0 → w.release + period_in (task_at set w.task.0) ≤ v.release
 
--- each of the list may stand after w
+-- each row of the list may stand after w
 abbrev pub AllFollow : List Task → WorkRow → List WorkRow → Type 0
 AllFollow set w [] = Unit {0}
 AllFollow set w (v ∷ vs) = MayFollow set w v × AllFollow set w vs
@@ -20,7 +20,7 @@ pub record IsNeed (set : List Task) (w : WorkRow) : Type 0 where
   pub task : IsIn set w.task.0
   pub need : 1 ≤ w.need
 
--- a list of work
+-- a list of work: each row may stand after those before it, is of a task of the set, and needs a tick
 abbrev pub IsWork : List Task → List WorkRow → Type 0
 IsWork set [] = Unit {0}
 IsWork set (w ∷ ws) = IsNeed set w × AllFollow set w ws × IsWork set ws

@@ -5,15 +5,16 @@ use Rattle.std.proofs.lemmas.Bool.Decides.{nat_tests}
 use Rattle.std.proofs.lemmas.Bool.{false≢true}
 use Rattle.std.proofs.lemmas.Slice.Eq.{bytes_eq-Decides}
 use Rattle.std.specs.List.{AllByRecursion}
+use Rattle.std.specs.Option.{option_or}
 use Rattle.mc_task.specs.declared.task.Task.{Task}
 use Rattle.mc_task.specs.declared.task.Level.{Level}
 use Rattle.mc_task.specs.declared.task.Level.TheVariants.{Low, High}
 use Rattle.mc_task.specs.declared.set.SetFault.{SetFault}
 use Rattle.mc_task.specs.declared.set.SetFault.TheVariants.{Empty, TooMany}
 use Rattle.mc_task.specs.TaskSet.{IsTask, AreTasks, InOrder, Distinct, names_of}
-use Rattle.mc_task.specs.Faults.{or_else, out_of_order, number_fault, number_fault_from, first_fault, same_name_from, named_from}
+use Rattle.mc_task.specs.Faults.{out_of_order, number_fault, number_fault_from, first_fault, same_name_from, named_from}
 
-parts : (a b : Option SetFault) → or_else a b ≡ None → (a ≡ None) × (b ≡ None)
+parts : (a b : Option SetFault) → option_or a b ≡ None → (a ≡ None) × (b ≡ None)
 parts None b h = (refl, h)
 parts (Some e) b h = absurd (cc)
 
@@ -82,7 +83,7 @@ record Faultless (ts : List Task) : Type 0 where
 
 faultless : (ts : List Task) → first_fault ts ≡ None → Faultless ts
 faultless ts h =
-    let p = chosen (length ts == 0) (nat_lt 128 (length ts)) Empty (TooMany (length ts)) (or_else (number_fault_from 0 ts) (same_name_from [] ts)) h in
+    let p = chosen (length ts == 0) (nat_lt 128 (length ts)) Empty (TooMany (length ts)) (option_or (number_fault_from 0 ts) (same_name_from [] ts)) h in
     let q = parts (number_fault_from 0 ts) (same_name_from [] ts) (p.2) in
     let some : 1 ≤ length ts = grind (arith, nat_tests, p.0) in
     let few : length ts ≤ 128 = grind (arith, nat_tests, p.1) in

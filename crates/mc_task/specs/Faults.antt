@@ -2,16 +2,12 @@
 -- a number of it is 0, or its budgets are out of order; then two tasks have one name.
 use Rattle.std.specs.Prelude.{ℕ, ◌+◌, Bool, not, ◌==◌, ◌||◌, nat_lt, if◌then◌else◌, List, [], ◌∷◌, ◌++◌, length, Option, Some, None, option_map}
 use Rattle.std.specs.Str.{bytes_eq}
+use Rattle.std.specs.Option.{option_or}
 use Rattle.mc_task.specs.declared.task.Task.{Task}
 use Rattle.mc_task.specs.declared.task.Level.{Level}
 use Rattle.mc_task.specs.declared.task.Level.TheVariants.{Low, High}
 use Rattle.mc_task.specs.declared.set.SetFault.{SetFault}
 use Rattle.mc_task.specs.declared.set.SetFault.TheVariants.{Empty, TooMany, ZeroNumber, BudgetOrder, SameName}
-
--- the first if there is one, else the second
-abbrev pub or_else : {A : Type 0} → Option A → Option A → Option A
-or_else (Some x) o = Some x
-or_else None o = o
 
 -- a low task's budgets differ, or a high task's low budget is above its high one
 abbrev pub out_of_order : Level → ℕ → ℕ → Bool
@@ -24,10 +20,10 @@ number_fault k t =
     if (t.period == 0 || t.low == 0) || t.high == 0 then Some (ZeroNumber (record { 0 = k }))
     else if out_of_order t.level t.low t.high then Some (BudgetOrder (record { 0 = k })) else None
 
--- that of the first task that has one, where so many tasks stand before the list
+-- the number fault of the first task that has one, where this many tasks stand before the list
 abbrev pub number_fault_from : ℕ → List Task → Option SetFault
 number_fault_from before [] = None
-number_fault_from before (t ∷ ts) = or_else (number_fault (before + 1) t) (number_fault_from (before + 1) ts)
+number_fault_from before (t ∷ ts) = option_or (number_fault (before + 1) t) (number_fault_from (before + 1) ts)
 
 -- the number of the first task with this name, the list's first task being number k
 abbrev pub named_from : ℕ → List ℕ → List Task → Option ℕ
@@ -38,16 +34,16 @@ named_from k name (t ∷ ts) = if bytes_eq t.name name then Some k else named_fr
 abbrev pub named : List ℕ → List Task → Option ℕ
 named = named_from 1
 
--- the first task that has the name of one before it, with the first that has that name
+-- the first task that has the name of an earlier one, and the first task with that name
 abbrev pub same_name_from : List Task → List Task → Option SetFault
 same_name_from before [] = None
 same_name_from before (t ∷ ts) =
-    or_else (option_map (λ first. SameName (record { 0 = first }) (record { 0 = length before + 1 })) (named t.name before))
+    option_or (option_map (λ first. SameName (record { 0 = first }) (record { 0 = length before + 1 })) (named t.name before))
     (same_name_from (before ++ t ∷ []) ts)
 
--- the first fault of all
+-- the first fault of a list of tasks
 abbrev pub first_fault : List Task → Option SetFault
 first_fault tasks =
     if length tasks == 0 then Some Empty
     else if nat_lt 128 (length tasks) then Some (TooMany (length tasks))
-    else or_else (number_fault_from 0 tasks) (same_name_from [] tasks)
+    else option_or (number_fault_from 0 tasks) (same_name_from [] tasks)

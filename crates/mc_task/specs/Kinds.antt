@@ -10,7 +10,7 @@ abbrev pub is_high : Level → Bool
 is_high Low = false
 is_high High = true
 
--- EDF-VD, and not plain EDF
+-- whether the rule is EDF-VD, and not plain EDF
 abbrev pub is_virtual : Rule → Bool
 is_virtual Plain = false
 is_virtual (Virtual p q) = true

@@ -3,7 +3,7 @@ use Rattle.std.specs.Prelude.{◌≡◌, ℕ, ◌-◌, List, ◌++◌, length, t
 use Rattle.mc_task.specs.NameForm.{is_name}
 use Rattle.mc_task.specs.declared.name.Name.TheInside.{Inside}
 
--- the bytes in an array of 32, the unused places 0
+-- the bytes of a name in an array of 32, in which unused places are 0
 unfoldable pub padded : List ℕ → List ℕ
 padded bytes = bytes ++ replicate (32 - length bytes) 0
 

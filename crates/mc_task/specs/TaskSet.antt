@@ -18,7 +18,7 @@ abbrev pub InOrder : Level → ℕ → ℕ → Type 0
 InOrder Low low high = low ≡ high
 InOrder High low high = low ≤ high
 
--- one task: its name, its period, and its budgets in order
+-- a task with a name, a period, and budgets in order
 pub record IsTask (t : Task) : Type 0 where
   pub name : IsTrue (is_name t.name)
   pub period : IsTickCount t.period

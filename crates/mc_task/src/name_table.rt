@@ -1,6 +1,7 @@
 // Where tasks are looked for by their names.
 ghost use Rattle.std.specs.Prelude.{◌≡◌, ◌≤◌, ◌↔◌, length, IfSome, IsSome, option_copied, true};
 ghost use Rattle.mc_task.specs.TaskSet.{IsIn, task_at, name_in};
+ghost use Rattle.std.specs.Str.{bytes_eq};
 
 use crate::{Task, TaskNo};
 
@@ -66,8 +67,8 @@ pub fn has_name(tasks: &[Task], task: TaskNo, name: &[u8]) -> bool
 }
 
 // Names of a set differ mostly in their last byte, so it is looked at before a call compares them all.
-fn is_same(own: &[u8], name: &[u8]) -> bool
-    ensures { result ≡ true → own.now ≡ name.now }
+pub fn is_same(own: &[u8], name: &[u8]) -> bool
+    ensures { result ≡ bytes_eq own.now name.now }
 {
     own.last() == name.last() && own == name
 }

@@ -1,8 +1,8 @@
-ghost use Rattle.std.specs.Prelude.{◌≡◌, ◌≢◌, ◌≤◌, ◌↔◌, length, true, false, IfOk, IfErr, IfSome, IfNone, All, IsSome, option_map, Some, None, []};
+ghost use Rattle.std.specs.Prelude.{◌≡◌, ◌≢◌, ◌≤◌, ◌↔◌, ◌+◌, nat_lt, if◌then◌else◌, length, true, false, IfOk, IfErr, IfSome, IfNone, All, IsSome, option_map, Some, None, []};
 ghost use Rattle.mc_task.specs.TaskSet.{AreTasks, IsTask, IsScale, IsIn, task_at, name_in, unscaled};
 ghost use Rattle.mc_task.specs.Faults.{first_fault, same_name_from, number_fault, number_fault_from, named};
 
-use crate::name_table::{NameTable, has_name, task_with};
+use crate::name_table::{NameTable, has_name, is_same, task_with};
 use crate::{Level, Scale, Task, TaskNo};
 use std::alloc::{AllocError, Global};
 use std::marker::Model;
@@ -113,7 +113,7 @@ impl TaskSet {
     }
 
     /// Whether the set has a task with this number, and it has this name.
-    // A call takes as long as much of it.
+    // Inlined: the call would cost about as much as the body.
     #[inline(always)]
     pub fn is_named(&self, task: TaskNo, name: &[u8]) -> bool
         ensures inside { result ≡ true → IsIn self.now.tasks task.0 }
@@ -139,7 +139,7 @@ impl TaskSet {
         }
     }
 
-    /// The same as `find`, and sooner where it is the task with this number or the one behind it; the first is behind the last.
+    /// The same as `find`, and sooner where it is the task with this number or the one after it.
     pub fn find_near(&self, name: &[u8], near: TaskNo) -> Option<TaskNo>
         ensures number { option_map (λ task. task.0) result ≡ named name.now self.now.tasks }
         ensures inside { IfSome result (λ task. IsIn self.now.tasks task.0) }
@@ -147,15 +147,17 @@ impl TaskSet {
         if has_name(&self.tasks, near, name) {
             return Some(near);
         }
-        let next = self.behind(near);
+        let next = self.task_after(near);
         if has_name(&self.tasks, next, name) {
             return Some(next);
         }
         self.find(name)
     }
 
-    // The number of the task behind this one; the first is behind the last. Only how soon a task is found hangs on it.
-    fn behind(&self, task: TaskNo) -> TaskNo {
+    /// The number of the task after this one; after the last comes the first.
+    pub fn task_after(&self, task: TaskNo) -> TaskNo
+        ensures { result.0 ≡ if nat_lt task.0 (length self.now.tasks) then task.0 + 1 else 1 }
+    {
         if task.0 < self.len() {
             TaskNo(task.0 + 1)
         } else {
@@ -248,7 +250,7 @@ fn numbered(tasks: &[Task], name: &[u8]) -> Option<TaskNo>
     ensures inside { IfSome result (λ task. IsIn tasks.now task.0) }
 {
     for (i, t) in tasks.iter().enumerate() {
-        if t.name.bytes() == name {
+        if is_same(t.name.bytes(), name) {
             return Some(TaskNo(i as u32 + 1));
         }
     }

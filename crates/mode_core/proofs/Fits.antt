@@ -13,12 +13,13 @@ use Rattle.mc_model.specs.declared.verdict.Why.{Why}
 use Rattle.mc_model.specs.declared.verdict.Why.TheVariants.{TooSoon, WrongCount, WrongKept, NotPending, NotLeast, WrongHow}
 use Rattle.mode_core.proofs.Chosen.{Choice, choice, is_first, least, pending_one}
 use Rattle.std.specs.List.{AllByRecursion}
+use Rattle.std.proofs.Math.Bool.{beq}
 use Rattle.mc_task.specs.TaskSet.{IsTask, task_at, IsIn}
 use Rattle.mc_model.specs.TaskNumbers.{period_in, own_in}
 use Rattle.mc_model.specs.Pending.{pending}
 use Rattle.mc_model.specs.Rows.{ticks, used, releases, next_release, is_too_soon}
 use Rattle.mc_model.specs.Mode.{high_mode}
-use Rattle.mc_model.specs.Legal.{same_how, is_allowed_how, same_bool, first_of_parts, how_of, is_least, is_pending, fault_among, Legal}
+use Rattle.mc_model.specs.Legal.{same_how, is_allowed_how, first_of_parts, how_of, is_least, is_pending, fault_among, Legal}
 use Rattle.mc_model.specs.Core.{chosen, keeps, release_row, outcome_of}
 use Rattle.mc_model.proofs.Lists.{Each}
 use Rattle.mc_model.proofs.Jobs.{each_in}
@@ -42,7 +43,7 @@ three : (a b c : Bool) (u v w : Why) → a ≡ true → b ≡ true → c ≡ tru
 three a b c u v w p q r = rw (p, q, r) refl
 
 -- each test is itself
-pub same_bool-refl : (b : Bool) → same_bool b b ≡ true
+pub same_bool-refl : (b : Bool) → beq b b ≡ true
 same_bool-refl true = refl
 same_bool-refl false = refl
 

@@ -1,7 +1,8 @@
 -- What a map of an option says of it, what a choice between options is, and what no refusal says.
 use Rattle.std.proofs.Common.{◌≡◌, Bool, true, false, Option, Some, None, option_map, cond, refl}
 use Rattle.std.proofs.lemmas.Option.{same_Some}
-use Rattle.mode_core.specs.Events.{or_else, refused_if}
+use Rattle.std.specs.Option.{option_or}
+use Rattle.mode_core.specs.Events.{refused_if}
 
 -- there is one to tell, where one is told
 pub mapped : {D E : Type 0} → (f : D → E) (o : Option D) (y : E) → option_map f o ≡ Some y → (x : D) × (o ≡ Some x) × (f x ≡ y)
@@ -24,7 +25,7 @@ same-cond true d = refl
 same-cond false d = refl
 
 -- neither refusal applies
-pub neither : {E : Type 0} → (a b : Option E) → or_else a b ≡ None → (a ≡ None) × (b ≡ None)
+pub neither : {E : Type 0} → (a b : Option E) → option_or a b ≡ None → (a ≡ None) × (b ≡ None)
 neither None None h = (refl, refl)
 neither a b h = cc
 

@@ -1,5 +1,6 @@
 -- The four events: when each is refused, what it answers, and the state after it.
 use Rattle.std.specs.Prelude.{ℕ, Bool, false, not, List, [], ◌∷◌, Option, Some, None, Result, Ok, Err, cond, nat_lt, ◌==◌, option_map}
+use Rattle.std.specs.Option.{option_or}
 use Rattle.mc_task.specs.declared.task.Task.{Task}
 use Rattle.mc_task.specs.declared.task.Rule.{Rule}
 use Rattle.mc_task.specs.declared.task.JobId.{JobId}
@@ -21,11 +22,6 @@ use Rattle.mc_model.specs.Core.{State, chosen, begun, places_used, next, next_jo
 -- a state with no rows, no tick out and nothing held
 abbrev pub empty_state : List Task → Rule → ℕ → State
 empty_state set rule places = record { set = set; rule = rule; places = places; rows = []; out = None; held = [] }
-
--- the first refusal if there is one, else the later ones
-abbrev pub or_else : {E : Type 0} → Option E → Option E → Option E
-or_else (Some e) later = Some e
-or_else None later = later
 
 -- the refusal, where the test holds
 abbrev pub refused_if : {E : Type 0} → Bool → E → Option E
@@ -53,8 +49,8 @@ is_full s = places_used s == s.places
 -- why a release of task k is refused: its tick is out, it is too soon, or each place is used
 abbrev pub release_refusal : State → ℕ → Option ReleaseFault
 release_refusal s k =
-    or_else (option_map release_fault.Running (running s.out k))
-    (or_else (refused_if (nat_lt (begun s) (next s k)) (release_fault.TooSoon (next s k)))
+    option_or (option_map release_fault.Running (running s.out k))
+    (option_or (refused_if (nat_lt (begun s) (next s k)) (release_fault.TooSoon (next s k)))
     (refused_if (is_full s) release_fault.Full))
 
 -- the answer to a release that is taken: held with a tick out, otherwise kept or dropped
@@ -87,8 +83,8 @@ chosen_now s = chosen s.set s.rule s.rows
 -- why task k gets no tick: one is out, the chosen job is not of task k, or each place is used
 abbrev pub grant_refusal : State → ℕ → Option GrantFault
 grant_refusal s k =
-    or_else (option_map grant_fault.TickOut s.out)
-    (or_else (refused_if (not (is_of_task (chosen_now s) k)) (grant_fault.NotChosen (chosen_now s)))
+    option_or (option_map grant_fault.TickOut s.out)
+    (option_or (refused_if (not (is_of_task (chosen_now s) k)) (grant_fault.NotChosen (chosen_now s)))
     (refused_if (is_full s) grant_fault.Full))
 
 -- a job of no task
@@ -132,8 +128,8 @@ after_outcome s j done = unless (outcome_refusal s j) (record s { rows = settle 
 -- why a tick is not idle: one is out, something is pending, or each place is used
 abbrev pub idle_refusal : State → Option IdleFault
 idle_refusal s =
-    or_else (option_map idle_fault.TickOut s.out)
-    (or_else (option_map idle_fault.Pending (chosen_now s))
+    option_or (option_map idle_fault.TickOut s.out)
+    (option_or (option_map idle_fault.Pending (chosen_now s))
     (refused_if (is_full s) idle_fault.Full))
 
 -- the answer to an idle tick: its number

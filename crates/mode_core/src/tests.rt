@@ -1,6 +1,6 @@
 use crate::{Core, GrantFault, Granted, IdleFault, NotOut, ReleaseFault, Released};
 use mc_model::How;
-use mc_task::{Rule, TaskNo};
+use mc_task::{JobId, Rule, TaskNo};
 use std::alloc::Global;
 use std::test::Fail;
 use worked_sets::{CONTROL, job, set_of};
@@ -24,58 +24,112 @@ fn grant(core: &mut Core, task: u32) -> Option<Result<Granted, GrantFault>> {
     Some(core.grant(TaskNo(task)))
 }
 
-#[test]
-fn calls_are_answered_in_turn(rt: HostRuntime) -> Result<(), Fail> {
-    let mut core = control(rt.alloc(), 4)?;
+// A call of a core.
+#[derive(Clone, Copy, Debug, PartialEq, Eq)]
+enum Call {
+    Release(u32),
+    Grant(u32),
+    Outcome(JobId, bool),
+    Idle,
+}
+
+// What it answers.
+#[derive(Clone, Copy, Debug, PartialEq, Eq)]
+enum Answer {
+    Released(Option<Result<Released, ReleaseFault>>),
+    Granted(Option<Result<Granted, GrantFault>>),
+    Outcome(Result<How, NotOut>),
+    Idle(Result<u64, IdleFault>),
+}
+
+fn ask(core: &mut Core, call: Call) -> Answer {
+    match call {
+        Call::Release(task) => Answer::Released(release(core, task)),
+        Call::Grant(task) => Answer::Granted(grant(core, task)),
+        Call::Outcome(job, done) => Answer::Outcome(core.outcome(job, done)),
+        Call::Idle => Answer::Idle(core.idle()),
+    }
+}
+
+// The calls of a core with four places, and their answers.
+fn four_places() -> [(Call, Answer); 13] {
     let ctl = job!(1, 1);
     let log = job!(2, 1);
-    assert_eq!(rt; core.idle(), Ok(0));
-    assert_eq!(rt;
-        release(&mut core, 1),
-        Some(Ok(Released::Kept { job: ctl, at: 1 }))
-    );
-    assert_eq!(rt;
-        release(&mut core, 1),
-        Some(Err(ReleaseFault::TooSoon { next: 11 }))
-    );
     let not_chosen = GrantFault::NotChosen { chosen: Some(ctl) };
-    assert_eq!(rt; grant(&mut core, 2), Some(Err(not_chosen)));
     let not_out = NotOut {
         given: ctl,
         out: None,
     };
-    assert_eq!(rt; core.outcome(ctl, true), Err(not_out));
     let granted = Granted {
         job: ctl,
         at: 1,
         before: 0,
     };
-    assert_eq!(rt; grant(&mut core, 1), Some(Ok(granted)));
-    assert_eq!(rt;
-        grant(&mut core, 1),
-        Some(Err(GrantFault::TickOut { job: ctl }))
-    );
-    assert_eq!(rt; core.idle(), Err(IdleFault::TickOut { job: ctl }));
-    assert_eq!(rt;
-        release(&mut core, 1),
-        Some(Err(ReleaseFault::Running { job: ctl }))
-    );
-    assert_eq!(rt;
-        release(&mut core, 2),
-        Some(Ok(Released::Held { job: log, at: 2 }))
-    );
-    assert_eq!(rt; core.outcome(ctl, false), Ok(How::More));
-    assert_eq!(rt; core.idle(), Err(IdleFault::Pending { job: ctl }));
-    assert_eq!(rt; grant(&mut core, 1), Some(Err(GrantFault::Full)));
+    [
+        (Call::Idle, Answer::Idle(Ok(0))),
+        (
+            Call::Release(1),
+            Answer::Released(Some(Ok(Released::Kept { job: ctl, at: 1 }))),
+        ),
+        (
+            Call::Release(1),
+            Answer::Released(Some(Err(ReleaseFault::TooSoon { next: 11 }))),
+        ),
+        (Call::Grant(2), Answer::Granted(Some(Err(not_chosen)))),
+        (Call::Outcome(ctl, true), Answer::Outcome(Err(not_out))),
+        (Call::Grant(1), Answer::Granted(Some(Ok(granted)))),
+        (
+            Call::Grant(1),
+            Answer::Granted(Some(Err(GrantFault::TickOut { job: ctl }))),
+        ),
+        (
+            Call::Idle,
+            Answer::Idle(Err(IdleFault::TickOut { job: ctl })),
+        ),
+        (
+            Call::Release(1),
+            Answer::Released(Some(Err(ReleaseFault::Running { job: ctl }))),
+        ),
+        (
+            Call::Release(2),
+            Answer::Released(Some(Ok(Released::Held { job: log, at: 2 }))),
+        ),
+        (Call::Outcome(ctl, false), Answer::Outcome(Ok(How::More))),
+        (
+            Call::Idle,
+            Answer::Idle(Err(IdleFault::Pending { job: ctl })),
+        ),
+        (Call::Grant(1), Answer::Granted(Some(Err(GrantFault::Full)))),
+    ]
+}
+
+// The calls of a core with one place, and their answers.
+fn one_place() -> [(Call, Answer); 3] {
+    [
+        (Call::Idle, Answer::Idle(Ok(0))),
+        (
+            Call::Release(1),
+            Answer::Released(Some(Err(ReleaseFault::Full))),
+        ),
+        (Call::Idle, Answer::Idle(Err(IdleFault::Full))),
+    ]
+}
+
+#[test]
+fn calls_are_answered_in_turn(rt: HostRuntime) -> Result<(), Fail> {
+    let mut core = control(rt.alloc(), 4)?;
+    for (call, answer) in four_places() {
+        assert_eq!(rt; ask(&mut core, call), answer, "{call:?}");
+    }
     Ok(())
 }
 
 #[test]
 fn one_place_is_one_row(rt: HostRuntime) -> Result<(), Fail> {
     let mut core = control(rt.alloc(), 1)?;
-    assert_eq!(rt; core.idle(), Ok(0));
-    assert_eq!(rt; release(&mut core, 1), Some(Err(ReleaseFault::Full)));
-    assert_eq!(rt; core.idle(), Err(IdleFault::Full));
+    for (call, answer) in one_place() {
+        assert_eq!(rt; ask(&mut core, call), answer, "{call:?}");
+    }
     Ok(())
 }
 
@@ -88,37 +142,55 @@ fn started(alloc: Global) -> Result<Core, Fail> {
     Ok(core)
 }
 
-#[test]
-fn a_release_beside_the_switch_is_dropped_in_either_order(rt: HostRuntime) -> Result<(), Fail> {
-    let alloc = rt.alloc();
+// The calls of a release in the tick that switches: before the tick's outcome, or after it.
+fn beside_the_switch(early: bool) -> [(Call, Answer); 3] {
+    let log = job!(2, 1);
     let granted = Granted {
         job: job!(1, 1),
         at: 1,
         before: 1,
     };
-    let log = job!(2, 1);
+    let grant = (Call::Grant(1), Answer::Granted(Some(Ok(granted))));
+    let over = (
+        Call::Outcome(job!(1, 1), false),
+        Answer::Outcome(Ok(How::Over)),
+    );
+    if early {
+        let held = Released::Held { job: log, at: 2 };
+        [
+            grant,
+            (Call::Release(2), Answer::Released(Some(Ok(held)))),
+            over,
+        ]
+    } else {
+        let dropped = Released::Dropped { job: log, at: 2 };
+        [
+            grant,
+            over,
+            (Call::Release(2), Answer::Released(Some(Ok(dropped)))),
+        ]
+    }
+}
+
+// Whether the cores are alike after the switch.
+fn stand_alike(early: &Core, late: &Core) -> bool {
+    early.rows() == late.rows()
+        && (early.rule(), early.out(), early.high_mode(), early.chosen())
+            == (Rule::Virtual { p: 2, q: 5 }, None, true, Some(job!(1, 1)))
+        && (early.ticks(), early.ticks_begun(), early.places()) == (2, 2, 9)
+}
+
+#[test]
+fn a_release_beside_the_switch_is_dropped_in_either_order(rt: HostRuntime) -> Result<(), Fail> {
+    let alloc = rt.alloc();
     let mut early = started(alloc)?;
-    assert_eq!(rt; grant(&mut early, 1), Some(Ok(granted)));
-    assert_eq!(rt;
-        release(&mut early, 2),
-        Some(Ok(Released::Held { job: log, at: 2 }))
-    );
-    assert_eq!(rt; early.outcome(job!(1, 1), false), Ok(How::Over));
+    for (call, answer) in beside_the_switch(true) {
+        assert_eq!(rt; ask(&mut early, call), answer, "{call:?}");
+    }
     let mut late = started(alloc)?;
-    assert_eq!(rt; grant(&mut late, 1), Some(Ok(granted)));
-    assert_eq!(rt; late.outcome(job!(1, 1), false), Ok(How::Over));
-    assert_eq!(rt;
-        release(&mut late, 2),
-        Some(Ok(Released::Dropped { job: log, at: 2 }))
-    );
-    assert_eq!(rt; early.rows(), late.rows());
-    assert_eq!(rt;
-        (early.rule(), early.out(), early.high_mode(), early.chosen()),
-        (Rule::Virtual { p: 2, q: 5 }, None, true, Some(job!(1, 1)))
-    );
-    assert_eq!(rt;
-        (early.ticks(), early.ticks_begun(), early.places()),
-        (2, 2, 9)
-    );
+    for (call, answer) in beside_the_switch(false) {
+        assert_eq!(rt; ask(&mut late, call), answer, "{call:?}");
+    }
+    assert!(rt; stand_alike(&early, &late));
     Ok(())
 }

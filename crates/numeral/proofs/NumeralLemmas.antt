@@ -1,11 +1,11 @@
 -- Values of digits, and decimal texts.
-use Rattle.std.proofs.Common.{◌≡◌, ℕ, ◌+◌, ◌-◌, ◌*◌, ◌^◌, ◌<◌, ◌≤◌, Bool, true, ◌&&◌, nat_le, List, ◌∷◌, length, Some, sym, ap, ◌∙◌, arith, rules, decimal}
+use Rattle.std.proofs.Common.{◌≡◌, ℕ, ◌+◌, ◌-◌, ◌*◌, ◌^◌, ◌<◌, ◌≤◌, Bool, true, ◌&&◌, nat_le, nat_lt, cond, List, ◌∷◌, length, Some, None, sym, ap, ◌∙◌, arith, rules, decimal}
 use Rattle.std.specs.List.{list_all}
 use Rattle.std.proofs.lemmas.Bool.Decides.{nat_tests}
 use Rattle.std.proofs.lemmas.Grind.{pow_more}
 use Rattle.std.proofs.lemmas.Fmt.{digits_decimal, digits_value-decimal, decimal_nonempty, length-decimal-le}
 use Rattle.std.proofs.lemmas.Str.Parse.{IsNumeralModel, numerals_by_weight}
-use Rattle.numeral.specs.Numeral.{is_digit, is_numeral, value, numeral, number, in_range}
+use Rattle.numeral.specs.Numeral.{is_digit, is_numeral, value, numeral, number}
 
 spread : (v e p r n : ℕ) → v * (p * 10) + (e * p + r) ≡ n → (v * 10 + e) * p + r ≡ n
 spread v e p r n h = omega arith
@@ -49,5 +49,5 @@ number-decimal n h =
     has_form : (k : ℕ) (b : Bool) → 0 < k → k ≤ 10 → b ≡ true → ((nat_le 1 k && nat_le k 10) && b) ≡ true
     has_form k b x y z = grind (arith, nat_tests)
 
-    fits : (n : ℕ) → n < 2 ^ 32 → in_range n ≡ Some n
+    fits : (n : ℕ) → n < 2 ^ 32 → cond (nat_lt n (2 ^ 32)) (Some n) None ≡ Some n
     fits n h = grind (arith, nat_tests)

@@ -1,5 +1,5 @@
 -- Numbers as decimal digits.
-use Rattle.std.specs.Prelude.{ℕ, ◌+◌, ◌-◌, ◌*◌, ◌^◌, Bool, ◌&&◌, nat_le, nat_lt, List, [], ◌∷◌, length, Option, Some, None, if◌then◌else◌}
+use Rattle.std.specs.Prelude.{ℕ, ◌+◌, ◌-◌, ◌*◌, ◌^◌, Bool, ◌&&◌, nat_le, nat_lt, List, [], ◌∷◌, length, Option, Some, None, option_and_then, if◌then◌else◌}
 use Rattle.std.specs.List.{list_all}
 
 -- an ASCII digit
@@ -19,15 +19,6 @@ value (d ∷ ds) = (d - 48) * 10 ^ length ds + value ds
 unfoldable pub numeral : ℕ → List ℕ → Option ℕ
 numeral most bytes = if is_numeral most bytes then Some (value bytes) else None
 
--- the value, if it is below 2^32
-abbrev pub in_range : ℕ → Option ℕ
-in_range n = if nat_lt n (2 ^ 32) then Some n else None
-
--- the same, where there is a value
-abbrev pub in_range_of : Option ℕ → Option ℕ
-in_range_of None = None
-in_range_of (Some n) = in_range n
-
 -- the value of 1 to 10 digits, if it is below 2^32
 unfoldable pub number : List ℕ → Option ℕ
-number bytes = in_range_of (numeral 10 bytes)
+number bytes = option_and_then (λ n. if nat_lt n (2 ^ 32) then Some n else None) (numeral 10 bytes)

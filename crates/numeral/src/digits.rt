@@ -1,4 +1,4 @@
-ghost use Rattle.std.specs.Prelude.{◌≡◌, ◌≤◌, ◌-◌, length, if◌then◌else◌, nat_le, true, Some, None};
+ghost use Rattle.std.specs.Prelude.{◌≡◌, ◌≤◌, ◌-◌, length, if◌then◌else◌, nat_le, nat_lt, ◌^◌, true, Some, None};
 ghost use Rattle.std.specs.List.{list_all};
 ghost use Rattle.numeral.specs.Numeral as text;
 
@@ -39,7 +39,7 @@ fn short_numeral(bytes: &[u8]) -> Option<u64>
 }
 
 fn in_range(value: u64) -> Option<u32>
-    ensures { result ≡ text.in_range value }
+    ensures { result ≡ if nat_lt value (2 ^ 32) then Some value else None }
 {
     u32::try_from(value).ok()
 }

@@ -20,10 +20,6 @@ use Rattle.serving.specs.Command.{Command, answer}
 abbrev pub workload_set : ℕ → ℕ → List Task
 workload_set number tasks = made_set (words_of number) tasks
 
--- its work
-abbrev pub workload_work : ℕ → ℕ → ℕ → List WorkRow
-workload_work number tasks ticks = made_work (words_of number) tasks ticks
-
 -- the line of the call, which makes the same bytes again
 abbrev pub call_line : ℕ → ℕ → ℕ → List ℕ
 call_line number tasks ticks = codes "soak " ++ (decimal number ++ (codes " " ++ (decimal tasks ++ (codes " " ++ (decimal ticks ++ codes "\n")))))
@@ -38,10 +34,10 @@ unfoldable pub soak_text : ℕ → ℕ → ℕ → List Task → Rule → List R
 soak_text number tasks ticks set rule h =
     call_line number tasks ticks ++ (rule_line rule ++ (summary_text set h ++ verdict_line set (verdict set rule h)))
 
--- the trace is that of the workload, under the rule that the test gives its set
+-- the trace is that of the workload, its set with its work, under the rule that the test gives the set
 pub record IsSoaked (number tasks ticks : ℕ) (rule : Rule) (h : List Row) : Type 0 where
   pub test : published (workload_set number tasks) ≡ Some rule
-  pub follows : Follows (workload_set number tasks) rule (workload_work number tasks ticks) ticks h
+  pub follows : Follows (workload_set number tasks) rule (made_work (words_of number) tasks ticks) ticks h
 
 -- the text of that trace, with status 0
 abbrev pub Soaks : ℕ → ℕ → ℕ → Reply → Type 0

@@ -1,7 +1,7 @@
 -- A chart with one more row filled in. The newest row stands first.
-use Rattle.std.proofs.Common.{◌≡◌, ℕ, suc, ◌+◌, ◌-◌, ◌*◌, ◌<◌, ◌≤◌, ◌≢◌, ◌==◌, Bool, true, false, cond, List, [], ◌∷◌, ◌++◌, length, set, replicate, codes, refl, sym, ◌∙◌, arith, append_assoc, ne_eqb}
+use Rattle.std.proofs.Common.{◌≡◌, ℕ, zero, suc, ◌||◌, ap, take, drop, ◌+◌, ◌-◌, ◌*◌, ◌<◌, ◌≤◌, ◌≢◌, ◌==◌, Bool, true, false, cond, List, [], ◌∷◌, ◌++◌, length, set, replicate, codes, refl, sym, ◌∙◌, arith, append_assoc, ne_eqb}
 use Rattle.std.proofs.lemmas.Bool.{cond_both}
-use Rattle.std.proofs.lemmas.List.{length-append, length-replicate, set_at, append-nil}
+use Rattle.std.proofs.lemmas.List.{length-append, length-replicate, length-drop, length-take-le, drop-drop, set_at, append-nil}
 use Rattle.mc_task.specs.declared.task.JobId.{JobId}
 use Rattle.mc_task.specs.declared.task.Task.{Task}
 use Rattle.mc_task.specs.TaskSet.{IsIn}
@@ -10,9 +10,10 @@ use Rattle.mc_model.specs.declared.row.How.TheVariants.{More}
 use Rattle.mc_model.specs.declared.row.Row.{Row}
 use Rattle.mc_model.specs.declared.row.Row.TheVariants.{Release, Tick, Idle}
 use Rattle.mc_model.specs.Rows.{ticks}
+use Rattle.mc_model.specs.Mode.{is_over}
 use Rattle.mc_model.proofs.Booleans.{eqb-refl}
 use Rattle.sched_chart.specs.ChartText.{how_mark, task_marks, over_stands, mode_mark, mode_marks, name_width, lines_with, chart_line, chart_text}
-use Rattle.sched_chart.specs.Sheet.{line_length, place, task_marks_to, mode_marks_to, chart_to}
+use Rattle.sched_chart.specs.Sheet.{line_length, place, filled, task_marks_to, mode_marks_to, chart_to}
 use Rattle.sched_chart.proofs.Lines.{set_behind, set-line, set-lines, lines_same, length-line, length-lines}
 
 -- the first blank taken from those that are left
@@ -120,3 +121,138 @@ chart-whole tasks n g h =
     let none : n - ticks g ≡ 0 = omega arith in
     let lines = lines_same (task_marks_to n g) (λ k. task_marks k g) (name_width tasks) 1 tasks (λ m later. rw none (append-nil (task_marks m g))) in
     rw (lines, none, append-nil (mode_marks g)) refl
+
+-- rows before others of their kind
+copies-between : (m : ℕ) (row : Row) (g : List Row) → replicate m row ++ (row ∷ g) ≡ row ∷ (replicate m row ++ g)
+copies-between zero row g = refl
+copies-between (suc m) row g = ap (λ (h : List Row). row ∷ h) (copies-between m row g)
+
+ticks-span : (m : ℕ) (j : JobId) (how : How) (g : List Row) → ticks (replicate m (Tick j how) ++ g) ≡ m + ticks g
+ticks-span zero j how g = omega arith
+ticks-span (suc m) j how g = omega (arith, ticks-span m j how g)
+
+-- a tick in the line of its task
+task-tick : (tasks : List Task) (n v : ℕ) (j : JobId) (how : How) (g : List Row) (marks : List ℕ) → IsIn tasks j.task.0 → ticks g < n → v ∷ [] ≡ how_mark how
+    → set (chart_with tasks (task_marks_to n g) marks) (place (name_width tasks) n (j.task.0 - 1) (ticks g)) v ≡ chart_with tasks (task_marks_to n (Tick j how ∷ g)) marks
+task-tick tasks n v j how g marks inside h is =
+    let k : ℕ = j.task.0 in
+    let last : List ℕ = chart_line (name_width tasks) (codes "(mode)") marks in
+    let after : ℕ → List ℕ = task_marks_to n (Tick j how ∷ g) in
+    let mine : after k ≡ set (task_marks_to n g k) (ticks g) v = rw (eqb-refl k, ← is) (sym (set_next n (ticks g) 46 v (task_marks k g) h (length-marks k g))) in
+    let others : (m : ℕ) → m ≢ k → task_marks_to n g m ≡ after m = λ m other. rw (ne_eqb k m (λ same. other (sym same))) (blank_next n (ticks g) 46 (task_marks m g) h) in
+    let each = length-task_marks_to n g (omega arith) in
+    set-lines (task_marks_to n g) after (name_width tasks) n 1 k (ticks g) v tasks last (omega arith) each inside.0 (omega (arith, inside.1)) h mine others
+
+-- and m ticks
+task-span : (tasks : List Task) (n v m : ℕ) (j : JobId) (how : How) (g : List Row) (marks : List ℕ) → IsIn tasks j.task.0 → ticks g + m ≤ n → v ∷ [] ≡ how_mark how
+    → filled (place (name_width tasks) n (j.task.0 - 1) (ticks g)) m v (chart_with tasks (task_marks_to n g) marks)
+    ≡ chart_with tasks (task_marks_to n (replicate m (Tick j how) ++ g)) marks
+task-span tasks n v zero j how g marks inside h is = refl
+task-span tasks n v (suc m) j how g marks inside h is =
+    let first = task-tick tasks n v j how g marks inside (omega (arith, h)) is in
+    let next : place (name_width tasks) n (j.task.0 - 1) (ticks g) + 1 ≡ place (name_width tasks) n (j.task.0 - 1) (ticks g + 1) = omega arith in
+    let rest = task-span tasks n v m j how (Tick j how ∷ g) marks inside (omega (arith, h)) is in
+    rw (first, next) (rest ∙ ap (λ (h : List Row). chart_with tasks (task_marks_to n h) marks) (copies-between m (Tick j how) g))
+
+-- the mode stays high
+mode-high : (tasks : List Task) (n m : ℕ) (f : ℕ → List ℕ) (j : JobId) (how : How) (g : List Row) → ((m : ℕ) → length (f m) ≡ n) → ticks g + m ≤ n → over_stands g ≡ true
+    → filled (place (name_width tasks) n (length tasks) (ticks g)) m 72 (chart_with tasks f (mode_marks_to n g))
+    ≡ chart_with tasks f (mode_marks_to n (replicate m (Tick j how) ++ g))
+mode-high tasks n zero f j how g each h high = refl
+mode-high tasks n (suc m) f j how g each h high =
+    let first : set (chart_with tasks f (mode_marks_to n g)) (place (name_width tasks) n (length tasks) (ticks g)) 72 ≡ chart_with tasks f (mode_marks_to n (Tick j how ∷ g)) =
+    rw high (mode_line tasks n f g true each (omega (arith, h))) in
+    let next : place (name_width tasks) n (length tasks) (ticks g) + 1 ≡ place (name_width tasks) n (length tasks) (ticks g + 1) = omega arith in
+    let rest = mode-high tasks n m f j how (Tick j how ∷ g) each (omega (arith, h)) (still (is_over how) (over_stands g) high) in
+    rw (first, next) (rest ∙ ap (λ (h : List Row). chart_with tasks f (mode_marks_to n h)) (copies-between m (Tick j how) g))
+  where
+    still : (a b : Bool) → b ≡ true → (a || b) ≡ true
+    still a b e = grind arith
+
+-- the mode stays low after ticks of a job that goes on, and where there is one tick
+mode-low : (tasks : List Task) (n m : ℕ) (f : ℕ → List ℕ) (j : JobId) (how : How) (g : List Row) → ((m : ℕ) → length (f m) ≡ n) → ticks g + m ≤ n → over_stands g ≡ false → (2 ≤ m → how ≡ More)
+    → chart_with tasks f (mode_marks_to n g) ≡ chart_with tasks f (mode_marks_to n (replicate m (Tick j how) ++ g))
+mode-low tasks n zero f j how g each h low one = refl
+mode-low tasks n (suc zero) f j how g each h low one = rw low (mode_line tasks n f g false each (omega (arith, h)))
+mode-low tasks n (suc (suc m)) f j how g each h low one =
+    let more : how ≡ More = one (omega arith) in
+    let first : chart_with tasks f (mode_marks_to n g) ≡ chart_with tasks f (mode_marks_to n (Tick j how ∷ g)) = rw low (mode_line tasks n f g false each (omega (arith, h))) in
+    let rest = mode-low tasks n (suc m) f j how (Tick j how ∷ g) each (omega (arith, h)) (rw more low) (λ two. more) in
+    first ∙ (rest ∙ ap (λ (h : List Row). chart_with tasks f (mode_marks_to n h)) (copies-between (suc m) (Tick j how) g))
+
+-- ticks of a job in high mode
+pub ticks-high : (tasks : List Task) (n v m : ℕ) (j : JobId) (how : How) (g : List Row) → IsIn tasks j.task.0 → ticks g + m ≤ n → v ∷ [] ≡ how_mark how → over_stands g ≡ true
+    → filled (place (name_width tasks) n (length tasks) (ticks g)) m 72 (filled (place (name_width tasks) n (j.task.0 - 1) (ticks g)) m v (chart_to tasks n g))
+    ≡ chart_to tasks n (replicate m (Tick j how) ++ g)
+unfolding chart_to
+ticks-high tasks n v m j how g inside h is high =
+    let h' : List Row = replicate m (Tick j how) ++ g in
+    let each = length-task_marks_to n h' (omega (arith, ticks-span m j how g)) in
+    rw (task-span tasks n v m j how g (mode_marks_to n g) inside h is) (mode-high tasks n m (task_marks_to n h') j how g each h high)
+
+-- and in low mode
+pub ticks-low : (tasks : List Task) (n v m : ℕ) (j : JobId) (how : How) (g : List Row) → IsIn tasks j.task.0 → ticks g + m ≤ n → v ∷ [] ≡ how_mark how → over_stands g ≡ false
+    → (2 ≤ m → how ≡ More)
+    → filled (place (name_width tasks) n (j.task.0 - 1) (ticks g)) m v (chart_to tasks n g) ≡ chart_to tasks n (replicate m (Tick j how) ++ g)
+unfolding chart_to
+ticks-low tasks n v m j how g inside h is low one =
+    let h' : List Row = replicate m (Tick j how) ++ g in
+    let each = length-task_marks_to n h' (omega (arith, ticks-span m j how g)) in
+    task-span tasks n v m j how g (mode_marks_to n g) inside h is ∙ mode-low tasks n m (task_marks_to n h') j how g each h low one
+
+-- idle ticks in low mode
+idles-low : (tasks : List Task) (n m : ℕ) (g : List Row) → ticks g + m ≤ n → over_stands g ≡ false → chart_to tasks n g ≡ chart_to tasks n (replicate m Idle ++ g)
+idles-low tasks n zero g h low = refl
+idles-low tasks n (suc m) g h low =
+    chart-idle tasks n g false (omega (arith, h)) low
+    ∙ (idles-low tasks n m (Idle ∷ g) (omega (arith, h)) refl ∙ ap (λ (h : List Row). chart_to tasks n h) (copies-between m Idle g))
+
+-- idle ticks, of which the first one has the mode before them
+pub idles : (tasks : List Task) (n m : ℕ) (g : List Row) (high : Bool) → 1 ≤ m → ticks g + m ≤ n → over_stands g ≡ high
+    → with_mode high tasks n (ticks g) (chart_to tasks n g) ≡ chart_to tasks n (replicate m Idle ++ g)
+idles tasks n zero g high some h mode = absurd (omega arith)
+idles tasks n (suc m) g high some h mode =
+    chart-idle tasks n g high (omega (arith, h)) mode
+    ∙ (idles-low tasks n m (Idle ∷ g) (omega (arith, h)) refl ∙ ap (λ (h : List Row). chart_to tasks n h) (copies-between m Idle g))
+
+-- the mode after m ticks
+pub over-ticks : (m : ℕ) (j : JobId) (how : How) (g : List Row) → 1 ≤ m → over_stands (replicate m (Tick j how) ++ g) ≡ (is_over how || over_stands g)
+over-ticks zero j how g some = absurd (omega arith)
+over-ticks (suc zero) j how g some = refl
+over-ticks (suc (suc m)) j how g some = twice (is_over how) (over_stands g) _ (over-ticks (suc m) j how g (omega arith))
+  where
+    twice : (a b c : Bool) → c ≡ (a || b) → (a || c) ≡ (a || b)
+    twice a b c e = grind arith
+
+pub stays-high : (over stands high : Bool) → stands ≡ high → high ≡ true → high ≡ (over || stands)
+stays-high over stands high e h = grind arith
+
+pub turns-high : (over stands high : Bool) → stands ≡ high → high ≡ false → over ≡ (over || stands)
+turns-high over stands high e h = grind arith
+
+pub over-idles : (m : ℕ) (g : List Row) → 1 ≤ m → over_stands (replicate m Idle ++ g) ≡ false
+over-idles zero g some = absurd (omega arith)
+over-idles (suc m) g some = refl
+
+filled-after : (x at m v : ℕ) (xs : List ℕ) → filled (suc at) m v (x ∷ xs) ≡ x ∷ filled at m v xs
+filled-after x at zero v xs = refl
+filled-after x at (suc m) v xs = (let e : suc at + 1 ≡ suc (at + 1) = omega arith in rw e (filled-after x (at + 1) m v (set xs at v)))
+
+-- what is filled in at once
+pub filled-at : (xs : List ℕ) (at m v : ℕ) → at + m ≤ length xs → take at xs ++ (replicate m v ++ drop (at + m) xs) ≡ filled at m v xs
+filled-at [] zero zero v h = refl
+filled-at [] (suc at) m v h = absurd (omega arith)
+filled-at [] zero (suc m) v h = absurd (omega arith)
+filled-at (x ∷ xs) zero zero v h = refl
+filled-at (x ∷ xs) zero (suc m) v h =
+    let e : 0 + suc m ≡ suc (0 + m) = omega arith in
+    rw e (ap (λ (ys : List ℕ). v ∷ ys) (filled-at xs zero m v (omega arith)) ∙ sym (filled-after v zero m v xs))
+filled-at (x ∷ xs) (suc at) m v h =
+    let e : suc at + m ≡ suc (at + m) = omega arith in
+    rw e (ap (λ (ys : List ℕ). x ∷ ys) (filled-at xs at m v (omega arith)) ∙ sym (filled-after x at m v xs))
+
+pub filled-in : (xs : List ℕ) (at m v : ℕ) → at + m ≤ length xs → take at xs ++ (replicate (length (take m (drop at xs))) v ++ drop m (drop at xs)) ≡ filled at m v xs
+filled-in xs at m v h =
+    let left : length (drop at xs) ≡ length xs - at = length-drop at xs in
+    let part : length (take m (drop at xs)) ≡ m = length-take-le m (drop at xs) (omega (arith, left)) in
+    rw (part, drop-drop m at xs) (filled-at xs at m v h)

@@ -1,5 +1,5 @@
--- A chart that is filled in tick by tick, and how its lines lie in it. The newest row stands first.
-use Rattle.std.specs.Prelude.{ℕ, ◌+◌, ◌-◌, ◌*◌, ◌≤◌, List, ◌++◌, replicate, codes}
+-- A chart that is filled in run by run, and how its lines lie in it. The newest row stands first.
+use Rattle.std.specs.Prelude.{ℕ, zero, suc, ◌+◌, ◌-◌, ◌*◌, ◌≤◌, List, ◌++◌, replicate, slice_set, codes}
 use Rattle.mc_task.specs.declared.task.Task.{Task}
 use Rattle.mc_model.specs.Rows.{ticks}
 use Rattle.sched_chart.specs.ChartText.{task_marks, mode_marks, name_width, chart_line, lines_with}
@@ -18,6 +18,11 @@ line_length width n = width + n + 2
 -- where the character of a tick stands: behind so many lines, a name and a space
 abbrev pub place : ℕ → ℕ → ℕ → ℕ → ℕ
 place width n line tick = line * line_length width n + (width + 1 + tick)
+
+-- a text with n equal characters from a place on
+abbrev pub filled : ℕ → ℕ → ℕ → List ℕ → List ℕ
+filled at zero v text = text
+filled at (suc n) v text = filled (at + 1) n v (slice_set text at v)
 
 -- the characters of task number k after these rows, and a dot for each tick that is still to come, of n
 abbrev pub task_marks_to : ℕ → List Row → ℕ → List ℕ

@@ -1,14 +1,14 @@
 // The chart, drawn on a text of blank ticks.
-ghost use Rattle.std.specs.Prelude.{◌≡◌, ◌+◌, ◌^◌, ◌++◌, ◌<◌, ◌≤◌, [], IfOk, OnOk, length, replicate, reverse, vec_len};
+ghost use Rattle.std.specs.Prelude.{◌≡◌, ◌+◌, ◌^◌, ◌++◌, ◌≤◌, [], IfOk, OnOk, length, replicate, reverse, vec_len};
 ghost use Rattle.sched_chart.specs.ChartText.{chart_line, chart_text, name_width, ChartedModeLaw};
 ghost use Rattle.mc_model.specs.Rows.{ticks};
 ghost use Rattle.mc_model.specs.Traces.{IsTraceOf};
-ghost use Rattle.mc_model.specs.Runs.{expand, rows_of, size, AreRuns};
-ghost use Rattle.sched_chart.specs.Sheet.{chart_to, line_length, IsSheet};
+ghost use Rattle.mc_model.specs.Runs.{expand, AreRuns};
+ghost use Rattle.sched_chart.specs.Sheet.{chart_to, IsSheet};
 
-use crate::marks::{mark_rows, tick_after};
+use crate::marks::{mark_runs, tick_after};
 use crate::sheet::Sheet;
-use mc_model::{Row, Run};
+use mc_model::Run;
 use mc_task::{Memory, Task, TaskSet};
 use std::alloc::{AllocError, Global};
 
@@ -24,49 +24,23 @@ pub fn chart(alloc: Global, set: &TaskSet, runs: &[Run]) -> Result<Vec<u8>, Memo
     // The mode of the chart is that of each rule under which the rows are legal.
     ensures mode { ChartedModeLaw }
 {
-    let rows = expanded(alloc, runs)?;
-    let text = drawn(alloc, set, &rows)?;
+    let text = drawn(alloc, set, runs)?;
     Ok(text)
 }
 
-fn drawn(alloc: Global, set: &TaskSet, rows: &[Row]) -> Result<Vec<u8>, AllocError>
-    requires trace { IsTraceOf set.now.tasks (reverse rows.now) }
-    requires few { ticks rows.now ≤ 2000000 }
-    ensures { IfOk result (λ text. text.items ≡ chart_text set.now.tasks (reverse rows.now)) }
+fn drawn(alloc: Global, set: &TaskSet, runs: &[Run]) -> Result<Vec<u8>, AllocError>
+    requires runs { AreRuns runs.now }
+    requires trace { IsTraceOf set.now.tasks (reverse (expand runs.now)) }
+    requires few { ticks (expand runs.now) ≤ 2000000 }
+    ensures { IfOk result (λ text. text.items ≡ chart_text set.now.tasks (reverse (expand runs.now))) }
 {
     let sheet = Sheet {
         width: name_width(set.as_slice()),
-        ticks: count_ticks(rows),
+        ticks: count_ticks(runs),
     };
     let mut text = blank(alloc, set, sheet)?;
-    mark_rows(&mut text, set, sheet, rows);
+    mark_runs(&mut text, set, sheet, runs);
     Ok(text)
-}
-
-// The rows of runs. A chart has a character for each tick, so it is no shorter than they are.
-fn expanded(alloc: Global, runs: &[Run]) -> Result<Vec<Row>, AllocError>
-    requires { AreRuns runs.now }
-    ensures { IfOk result (λ rows. rows.items ≡ expand runs.now) }
-{
-    let mut rows = Vec::new(alloc);
-    for run in runs {
-        push_run(&mut rows, *run)?;
-    }
-    Ok(rows)
-}
-
-fn push_run(rows: &mut Vec<Row>, run: Run) -> Result<(), AllocError>
-    requires { vec_len rows.old + size run ≤ 102000000 }
-    ensures { OnOk result (rows.new.items ≡ rows.old.items ++ rows_of run) }
-{
-    match run {
-        Run::Release { job, kept } => rows.push(Row::Release { job, kept })?,
-        Run::Ticks { job, how, length } => {
-            rows.resize(rows.len() + length as usize, Row::Tick { job, how })?
-        }
-        Run::Idles { length } => rows.resize(rows.len() + length as usize, Row::Idle)?,
-    }
-    Ok(())
 }
 
 // The greater of 6 and the length of the longest name.
@@ -81,14 +55,14 @@ fn name_width(tasks: &[Task]) -> usize
     width
 }
 
-fn count_ticks(rows: &[Row]) -> usize
-    requires { ticks rows.now ≤ 2000000 }
-    ensures ticks { result ≡ ticks (reverse rows.now) }
+fn count_ticks(runs: &[Run]) -> usize
+    requires { ticks (expand runs.now) ≤ 2000000 }
+    ensures ticks { result ≡ ticks (reverse (expand runs.now)) }
     ensures most { result ≤ 2000000 }
 {
     let mut tick = 0;
-    for row in rows {
-        tick = tick_after(tick, *row);
+    for run in runs {
+        tick = tick_after(tick, *run);
     }
     tick
 }

@@ -1,12 +1,20 @@
 -- One task more.
-use Rattle.std.proofs.Common.{◌≡◌, ℕ, suc, ◌+◌, ◌-◌, List, [], ◌∷◌, ◌++◌, map, ap, sym, ◌∙◌, arith}
+use Rattle.std.proofs.Common.{◌≡◌, ℕ, suc, ◌+◌, ◌-◌, ◌/◌, List, [], ◌∷◌, ◌++◌, map, ap, sym, ◌∙◌, arith}
 use Rattle.std.specs.List.{range_with_len}
 use Rattle.std.specs.Int.{div_ceil}
 use Rattle.std.proofs.lemmas.List.FromFn.{map-range_with_len_more}
 use Rattle.rand_pcg.specs.Lcg.{Lcg}
 use Rattle.set_gen.specs.Words.{after}
-use Rattle.set_gen.specs.MadeSet.{words_taken, words_before, words_for, high_tasks}
+use Rattle.set_gen.specs.MadeSet.{words_taken, words_before, words_for}
 use Rattle.set_gen.proofs.WordLemmas.{after-add}
+
+-- how many of n tasks are high
+abbrev pub high_tasks : ℕ → ℕ
+high_tasks n = (n + 1) / 2
+
+-- how many of n tasks are low
+abbrev pub low_tasks : ℕ → ℕ
+low_tasks n = n / 2
 
 -- half of them, rounded up
 pub halves : (n : ℕ) → div_ceil n 2 ≡ high_tasks n

@@ -19,14 +19,6 @@ period w = slice_index periods (w % 12)
 unfoldable pub is_odd : ℕ → Bool
 is_odd i = i % 2 == 1
 
--- how many of n tasks are high
-abbrev pub high_tasks : ℕ → ℕ
-high_tasks n = (n + 1) / 2
-
--- how many of n tasks are low
-abbrev pub low_tasks : ℕ → ℕ
-low_tasks n = n / 2
-
 -- the name of task number i: `t` and the number
 unfoldable pub task_name : ℕ → List ℕ
 task_name i = codes "t" ++ decimal i
@@ -40,11 +32,12 @@ high_task name period k w =
 unfoldable pub low_task : List ℕ → ℕ → ℕ → Task
 low_task name period m = record { name = name; level = Low; period = period; low = period / (2 * m); high = period / (2 * m) }
 
--- task number i of n, made with the words that are left: the first is for its period, and of a high task the next for its low budget
+-- task number i of n, of which half are high, rounded up, made with the words that are left: the first is for its period, and of
+-- a high task the next for its low budget
 unfoldable pub made_task : Lcg → ℕ → ℕ → Task
 made_task words n i =
-    if is_odd i then high_task (task_name i) (period (word words)) (high_tasks n) (word (rest words))
-    else low_task (task_name i) (period (word words)) (low_tasks n)
+    if is_odd i then high_task (task_name i) (period (word words)) ((n + 1) / 2) (word (rest words))
+    else low_task (task_name i) (period (word words)) (n / 2)
 
 -- how many words task number i takes: the last is for its stretch
 unfoldable pub words_taken : ℕ → ℕ

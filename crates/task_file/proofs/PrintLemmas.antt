@@ -15,7 +15,6 @@ use Rattle.toml.proofs.Views.{Entry}
 use Rattle.mc_task.specs.NameForm.{is_name, is_name_byte}
 use Rattle.task_file.specs.Keys.{key_bytes}
 use Rattle.task_file.specs.Printed.{put_member}
-use Rattle.mc_task.specs.declared.task.Task.{Task}
 use Rattle.task_file.specs.declared.key.KeyName.TheVariants as key
 
 match_members : (o : Ordering) (a b c : List Entry) → members_view (match_ordering o a b c) ≡ match_ordering o (members_view a) (members_view b) (members_view c)

@@ -12,7 +12,7 @@ use Rattle.mc_task.specs.declared.task.Level.{Level}
 use Rattle.mc_task.specs.declared.task.Level.TheVariants.{Low, High}
 use Rattle.mc_task.specs.NameForm.{is_name}
 use Rattle.mc_task.specs.TaskSet.{AreTasks, IsScale, IsSet, Set, IsTask, IsTickCount}
-use Rattle.task_file.specs.TaskTable.{first_other, fields_of, kinds_of, task_of_fields, task_of, is_tick_count}
+use Rattle.task_file.specs.TaskTable.{first_other, task_of, is_tick_count}
 use Rattle.task_file.specs.TaskFile.{task_file, tree_set, tasks_from}
 use Rattle.task_file.specs.Printed.{after_high, common_members, task_members, task_tables, tasks_and_version, after_scale, file_members}
 use Rattle.task_file.proofs.TaskLemmas.{known_document}
@@ -47,12 +47,12 @@ tick_count n h = grind (arith, nat_tests, h.0, h.1)
 -- a low task's table reads as the task, and so does a high task's
 low_task : (n : ℕ) (name : List ℕ) (period low : ℕ) → is_name name ≡ true → is_tick_count period ≡ true → is_tick_count low ≡ true
     → let t : Task = record { name = name; level = Low; period = period; low = low; high = low } in task_of n (table (task_members t)) ≡ Ok t
-unfolding first_other fields_of kinds_of task_of_fields task_of
+unfolding first_other task_of
 low_task n name period low a b c = rw (a, b, c)
 
 high_task : (n : ℕ) (name : List ℕ) (period low high : ℕ) → is_name name ≡ true → is_tick_count period ≡ true → is_tick_count low ≡ true → is_tick_count high ≡ true
     → let t : Task = record { name = name; level = High; period = period; low = low; high = high } in task_of n (table (task_members t)) ≡ Ok t
-unfolding first_other fields_of kinds_of task_of_fields task_of
+unfolding first_other task_of
 high_task n name period low high a b c d = rw (a, b, c, d)
 
 -- a task's table reads as the task

@@ -1,5 +1,5 @@
 -- How refusals follow each other: the first one is the answer.
-use Rattle.std.specs.Prelude.{ℕ, Bool, true, false, List, Option, Some, None, Result, Ok, Err}
+use Rattle.std.specs.Prelude.{ℕ, List, Option, Some, None, Result, Ok, Err}
 use Rattle.task_file.specs.KeyText.{shown}
 use Rattle.task_file.specs.declared.fault.TaskFault.{TaskFault}
 
@@ -13,11 +13,6 @@ abbrev pub ◌>>=◌ : {A B : Type 0} → Result A TaskFault → (A → Result B
 abbrev pub or_refuse : {A : Type 0} → TaskFault → Option A → Result A TaskFault
 or_refuse e (Some x) = Ok x
 or_refuse e None = Err e
-
--- nothing, or the refusal where the test is false
-abbrev pub want : TaskFault → Bool → Result (Unit {0}) TaskFault
-want e true = Ok tt
-want e false = Err e
 
 -- nothing, or the refusal that shows the key where there is one
 abbrev pub refuse_key : (List ℕ → TaskFault) → Option (List ℕ) → Result (Unit {0}) TaskFault

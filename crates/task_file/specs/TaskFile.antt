@@ -1,15 +1,14 @@
 -- What a task file says: the tasks of a set in order and its scale, or the first refusal.
-use Rattle.std.specs.Prelude.{ℕ, ◌+◌, pos, Bool, true, false, ◌||◌, ◌==◌, if◌then◌else◌, List, [], ◌∷◌, Option, Some, None, Result, Ok, Err}
+use Rattle.std.specs.Prelude.{ℕ, ◌+◌, pos, ◌||◌, ◌==◌, if◌then◌else◌, List, [], ◌∷◌, Option, Some, None, unwrap_or, Result, Ok, Err}
+use Rattle.std.specs.Option.{option_map_or}
 use Rattle.std.specs.Str.{is_utf8}
 use Rattle.toml.specs.Data.{Data, integer, array, Items, no_items, item, Members}
 use Rattle.toml.specs.Parse.{parse_document}
 use Rattle.mc_task.specs.declared.task.Task.{Task}
-use Rattle.mc_task.specs.declared.task.Scale.{Scale}
-use Rattle.mc_task.specs.declared.set.SetFault.{SetFault}
 use Rattle.mc_task.specs.TaskSet.{Set}
 use Rattle.mc_task.specs.Faults.{first_fault}
 use Rattle.task_file.specs.Keys.{is_top_key}
-use Rattle.task_file.specs.Refusals.{◌>>=◌, or_refuse, want, refuse_key}
+use Rattle.task_file.specs.Refusals.{◌>>=◌, or_refuse, refuse_key}
 use Rattle.task_file.specs.TaskTable.{first_other, at_key, task_of}
 use Rattle.task_file.specs.ScaleArray.{scale_in}
 use Rattle.task_file.specs.declared.key.KeyName.TheVariants as key
@@ -17,16 +16,11 @@ use Rattle.task_file.specs.declared.fault.TaskFault.{TaskFault}
 use Rattle.task_file.specs.declared.fault.TaskFault.TheVariants.{NotToml, TopKey, BadVersion, NoTasks, WrongKind}
 use Rattle.task_file.specs.declared.fault.TaskFault.TheVariants as fault
 
--- `version` is absent, or the whole number 1 or 2
-abbrev pub is_version : Option Data → Bool
-is_version None = true
-is_version (Some (integer (pos n))) = n == 1 || n == 2
-is_version (Some _) = false
-
--- `version` is the whole number 2, which alone may have a scale
-abbrev pub is_second_version : Option Data → Bool
-is_second_version (Some (integer (pos n))) = n == 2
-is_second_version _ = false
+-- `version`: 1 where it is absent, otherwise the whole number 1 or 2, and version 2 alone may have a scale
+abbrev pub version_in : Option Data → Option ℕ
+version_in None = Some 1
+version_in (Some (integer (pos n))) = if n == 1 || n == 2 then Some n else None
+version_in (Some _) = None
 
 -- the items under `task`, which is an array and not empty
 abbrev pub task_items : Option Data → Result Items TaskFault
@@ -43,25 +37,16 @@ tasks_from n (item d ds) = do
   ts ← tasks_from (n + 1) ds
   Ok (t ∷ ts)
 
--- the set of the tasks and the scale, unless the tasks have a fault as a set
-abbrev pub set_of : List Task → Option Scale → Option SetFault → Result Set TaskFault
-set_of ts scale None = Ok (record { tasks = ts; scale = scale })
-set_of ts scale (Some e) = Err (fault.Set e)
-
--- the set that a document's tree says
+-- the set that a document's tree says: the tasks and the scale, unless the tasks have a fault as a set
 unfoldable pub tree_set : Members → Result Set TaskFault
 tree_set ms = do
-  _ ← refuse_key TopKey (first_other (is_top_key (is_second_version (at_key key.Version ms))) ms)
-  _ ← want BadVersion (is_version (at_key key.Version ms))
+  _ ← refuse_key TopKey (first_other (is_top_key (unwrap_or (version_in (at_key key.Version ms)) 1 == 2)) ms)
+  _ ← or_refuse BadVersion (version_in (at_key key.Version ms))
   scale ← scale_in (at_key key.Scale ms)
   ds ← task_items (at_key key.Task ms)
   ts ← tasks_from 1 ds
-  set_of ts scale (first_fault ts)
+  option_map_or (λ e. Err (fault.Set e)) (first_fault ts) (Ok (record { tasks = ts; scale = scale }))
 
--- the tree of the bytes, which are UTF-8
-abbrev pub document : List ℕ → Option Members
-document bytes = if is_utf8 bytes then parse_document bytes else None
-
--- the set that a file says
+-- the set that a file says, which is UTF-8
 unfoldable pub task_file : List ℕ → Result Set TaskFault
-task_file bytes = or_refuse NotToml (document bytes) >>= tree_set
+task_file bytes = or_refuse NotToml (if is_utf8 bytes then parse_document bytes else None) >>= tree_set

@@ -1,13 +1,13 @@
 -- One task of a task file: what its table says, or the first refusal. n is the task's number, from 1.
-use Rattle.std.specs.Prelude.{ℕ, ◌^◌, pos, Bool, true, ◌&&◌, nat_le, nat_lt, if◌then◌else◌, is_some, List, [], codes, Option, Some, None, Result, Ok, Err, unwrap_or}
+use Rattle.std.specs.Prelude.{ℕ, ℤ, ◌^◌, pos, Bool, ◌&&◌, nat_le, nat_lt, if◌then◌else◌, List, [], ◌∷◌, codes, find, Option, Some, None, Result, Ok, Err}
 use Rattle.std.specs.Str.{bytes_eq}
-use Rattle.toml.specs.Data.{Data, integer, table, Members, no_members, member, get_member, as_str, as_integer}
+use Rattle.toml.specs.Data.{Data, Members, no_members, member, get_member, as_str, as_integer, as_table}
 use Rattle.mc_task.specs.declared.task.Task.{Task}
 use Rattle.mc_task.specs.declared.task.Level.{Level}
 use Rattle.mc_task.specs.declared.task.Level.TheVariants.{Low, High}
 use Rattle.mc_task.specs.NameForm.{is_name}
 use Rattle.task_file.specs.Keys.{key_bytes, is_task_key}
-use Rattle.task_file.specs.Refusals.{◌>>=◌, or_refuse, want, refuse_key}
+use Rattle.task_file.specs.Refusals.{◌>>=◌, or_refuse, refuse_key}
 use Rattle.task_file.specs.declared.key.KeyName.{KeyName}
 use Rattle.task_file.specs.declared.key.KeyName.TheVariants as key
 use Rattle.task_file.specs.declared.fault.TaskFault.{TaskFault}
@@ -22,86 +22,36 @@ first_other known (member k d ms) = if known k then first_other known ms else So
 abbrev pub at_key : KeyName → Members → Option Data
 at_key k ms = get_member (key_bytes k) ms
 
--- the table that a task is
-abbrev pub table_of : ℕ → Data → Result Members TaskFault
-table_of n (table ms) = Ok ms
-table_of n _ = Err (WrongKind n key.Task)
-
 -- the value at a key that each task has
 abbrev pub need : ℕ → KeyName → Members → Result Data TaskFault
 need n k ms = or_refuse (KeyMissing n k) (at_key k ms)
-
--- the five values of a task, the last one not in each
-pub record Fields : Type 0 where
-  pub name : Data
-  pub level : Data
-  pub period : Data
-  pub low : Data
-  pub high : Option Data
-
--- the values that the table has
-unfoldable pub fields_of : ℕ → Members → Result Fields TaskFault
-fields_of n ms = do
-  name ← need n key.Name ms
-  level ← need n key.Level ms
-  period ← need n key.Period ms
-  low ← need n key.Low ms
-  Ok (record { name = name; level = level; period = period; low = low; high = at_key key.High ms })
-
--- a text
-abbrev pub is_text : Data → Bool
-is_text d = is_some (as_str d)
-
--- a whole number
-abbrev pub is_whole : Data → Bool
-is_whole d = is_some (as_integer d)
-
--- a whole number where there is one
-abbrev pub is_whole_if_some : Option Data → Bool
-is_whole_if_some None = true
-is_whole_if_some (Some d) = is_whole d
-
--- each value is of its kind
-unfoldable pub kinds_of : ℕ → Fields → Result (Unit {0}) TaskFault
-kinds_of n f = do
-  _ ← want (WrongKind n key.Name) (is_text f.name)
-  _ ← want (WrongKind n key.Level) (is_text f.level)
-  _ ← want (WrongKind n key.Period) (is_whole f.period)
-  _ ← want (WrongKind n key.Low) (is_whole f.low)
-  want (WrongKind n key.High) (is_whole_if_some f.high)
-
--- the bytes of a text
-abbrev pub text_of : Data → List ℕ
-text_of d = unwrap_or (as_str d) []
-
--- a text that is a name
-abbrev pub name_of : ℕ → Data → Result (List ℕ) TaskFault
-name_of n d = if is_name (text_of d) then Ok (text_of d) else Err (BadName n)
 
 -- a level as it stands in a file
 abbrev pub level_bytes : Level → List ℕ
 level_bytes Low = codes "low"
 level_bytes High = codes "high"
 
--- a text that is a level
-abbrev pub level_of : ℕ → Data → Result Level TaskFault
-level_of n d =
-    if bytes_eq (text_of d) (level_bytes Low) then Ok Low
-    else if bytes_eq (text_of d) (level_bytes High) then Ok High else Err (OutOfRange n key.Level)
-
 -- 1 to 4,294,967,295 ticks
 abbrev pub is_tick_count : ℕ → Bool
 is_tick_count m = nat_le 1 m && nat_lt m (2 ^ 32)
 
+-- a text that is a name
+abbrev pub name_of : ℕ → List ℕ → Result (List ℕ) TaskFault
+name_of n text = if is_name text then Ok text else Err (BadName n)
+
+-- a text that is a level
+abbrev pub level_of : ℕ → List ℕ → Result Level TaskFault
+level_of n text = or_refuse (OutOfRange n key.Level) (find (λ l. bytes_eq text (level_bytes l)) (Low ∷ High ∷ []))
+
 -- a whole number that is a period or a budget
-abbrev pub number_of : ℕ → KeyName → Data → Result ℕ TaskFault
-number_of n k (integer (pos m)) = if is_tick_count m then Ok m else Err (OutOfRange n k)
+abbrev pub number_of : ℕ → KeyName → ℤ → Result ℕ TaskFault
+number_of n k (pos m) = if is_tick_count m then Ok m else Err (OutOfRange n k)
 number_of n k _ = Err (OutOfRange n k)
 
--- the same where there is one
-abbrev pub number_if_some : ℕ → KeyName → Option Data → Result (Option ℕ) TaskFault
-number_if_some n k None = Ok None
-number_if_some n k (Some d) = number_of n k d >>= λ m. Ok (Some m)
+-- the same of a value that may be absent
+abbrev pub if_some : {A B : Type 0} → (A → Result B TaskFault) → Option A → Result (Option B) TaskFault
+if_some read None = Ok None
+if_some read (Some x) = read x >>= λ y. Ok (Some y)
 
 -- the high budget: what a high task has at that key, and a low task's low budget
 abbrev pub high_of : ℕ → Level → ℕ → Option ℕ → Result ℕ TaskFault
@@ -110,22 +60,24 @@ high_of n High low None = Err (KeyMissing n key.High)
 high_of n Low low None = Ok low
 high_of n Low low (Some high) = Err (HighOnLow n)
 
--- the task that five values of the right kinds say
-unfoldable pub task_of_fields : ℕ → Fields → Result Task TaskFault
-task_of_fields n f = do
-  name ← name_of n f.name
-  level ← level_of n f.level
-  period ← number_of n key.Period f.period
-  low ← number_of n key.Low f.low
-  given ← number_if_some n key.High f.high
-  high ← high_of n level low given
-  Ok (record { name = name; level = level; period = period; low = low; high = high })
-
 -- the task that a value says
 unfoldable pub task_of : ℕ → Data → Result Task TaskFault
 task_of n d = do
-  ms ← table_of n d
+  ms ← or_refuse (WrongKind n key.Task) (as_table d)
   _ ← refuse_key (KeyUnknown n) (first_other is_task_key ms)
-  f ← fields_of n ms
-  _ ← kinds_of n f
-  task_of_fields n f
+  name ← need n key.Name ms
+  level ← need n key.Level ms
+  period ← need n key.Period ms
+  low ← need n key.Low ms
+  name ← or_refuse (WrongKind n key.Name) (as_str name)
+  level ← or_refuse (WrongKind n key.Level) (as_str level)
+  period ← or_refuse (WrongKind n key.Period) (as_integer period)
+  low ← or_refuse (WrongKind n key.Low) (as_integer low)
+  given ← if_some (λ d. or_refuse (WrongKind n key.High) (as_integer d)) (at_key key.High ms)
+  name ← name_of n name
+  level ← level_of n level
+  period ← number_of n key.Period period
+  low ← number_of n key.Low low
+  given ← if_some (number_of n key.High) given
+  high ← high_of n level low given
+  Ok (record { name = name; level = level; period = period; low = low; high = high })

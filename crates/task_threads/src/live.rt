@@ -14,7 +14,7 @@ use crate::live_left::finish_live;
 use crate::live_needs::Needs;
 use crate::live_round::{Runner, release_first};
 use crate::places::Places;
-use crate::starts::in_threads;
+use crate::starts::{Start, in_threads};
 use crate::threads::Memory;
 use executive::{Executive, Gate, TaskPass};
 use mc_task::{TaskNo, TaskSet};
@@ -46,12 +46,13 @@ pub fn run_live<R: Threads + Wait + Sync, G: Gate + Sync>(
     ensures none_out { IfOk result (λ f. f.core.out ≡ None) }
 {
     let tasks = floor.core().set().len();
-    let most = tasks as usize;
-    let places = Places::new(alloc, tasks)?;
-    let starts = Vec::with_capacity(alloc, most)?;
-    let mut needs = Vec::with_capacity(alloc, most)?;
-    let mut runners = Vec::with_capacity(alloc, most)?;
-    let mut back = Vec::with_capacity(alloc, most)?;
+    let Rooms {
+        places,
+        starts,
+        mut needs,
+        mut runners,
+        mut back,
+    } = make_rooms(alloc, tasks)?;
     needs_of_each(floor.core().set(), &mut needs);
     let (executive, passes, watchers) = Executive::with_watchers(rt, alloc, floor, tasks)?;
     let all = needs.as_slice();
@@ -75,6 +76,37 @@ pub fn run_live<R: Threads + Wait + Sync, G: Gate + Sync>(
         }
         Err(_unclosed) => unreachable!(),
     }
+}
+
+// Where the tasks wait, and room for each task in each list of a live run.
+#[derive(Drop)]
+struct Rooms {
+    places: Places,
+    starts: Vec<Start<Runner>>,
+    needs: Vec<Needs>,
+    runners: Vec<Runner>,
+    back: Vec<TaskPass>,
+}
+
+fn make_rooms(alloc: Global, tasks: u32) -> Result<Rooms, Memory>
+    ensures starts { IfOk result (λ r. (r.starts.items ≡ []) × (tasks ≤ vec_capacity r.starts)) }
+    ensures needs { IfOk result (λ r. (r.needs.items ≡ []) × (tasks ≤ vec_capacity r.needs)) }
+    ensures runners { IfOk result (λ r. (r.runners.items ≡ []) × (tasks ≤ vec_capacity r.runners)) }
+    ensures back { IfOk result (λ r. (r.back.items ≡ []) × (tasks ≤ vec_capacity r.back)) }
+{
+    let most = tasks as usize;
+    let places = Places::new(alloc, tasks)?;
+    let starts = Vec::with_capacity(alloc, most)?;
+    let needs = Vec::with_capacity(alloc, most)?;
+    let runners = Vec::with_capacity(alloc, most)?;
+    let back = Vec::with_capacity(alloc, most)?;
+    Ok(Rooms {
+        places,
+        starts,
+        needs,
+        runners,
+        back,
+    })
 }
 
 // What the jobs of each task need.

@@ -61,6 +61,9 @@ pub struct Places {
     places: Vec<Place>,
     caller: Spot,
     acts: AtomicU64,
+    // A lower bound of the ticks at which a task may release, and 0 where one was woken for its release. While a thread looks at
+    // all places it may be too high.
+    soonest: AtomicU64,
 }
 
 impl Places {
@@ -79,6 +82,7 @@ impl Places {
             places,
             caller: Spot::new(),
             acts: AtomicU64::new(0),
+            soonest: AtomicU64::new(0),
         })
     }
 
@@ -111,24 +115,37 @@ impl Places {
     pub fn set_release(&self, task: TaskNo, boundary: u64) {
         if let Some(place) = self.of(task) {
             place.next_release.store(boundary, SeqCst);
+            self.keep_soonest(boundary);
+        }
+    }
+
+    // After the boundary stands at its place: a look that began before this call has lowered the soonest one itself.
+    fn keep_soonest(&self, boundary: u64) {
+        if boundary < self.soonest.load(SeqCst) {
+            self.soonest.fetch_min(boundary, SeqCst);
         }
     }
 
     // Wakes the first other task that may release after so many ticks. Whether there is one, or one that was woken for that and
-    // has not released yet.
+    // has not released yet. It looks at all places only where the soonest boundary has come.
     pub fn wake_due(&self, task: TaskNo, ticks: u64) -> bool {
+        self.soonest.load(SeqCst) <= ticks && self.wake_first_due(task, ticks)
+    }
+
+    // The soonest boundary is raised first and then lowered place by place, so a boundary that is set meanwhile is kept.
+    fn wake_first_due(&self, task: TaskNo, ticks: u64) -> bool {
         let mut is_awaited = false;
+        self.soonest.store(NEVER, SeqCst);
         for place in &self.places {
-            if place.task == task {
-                continue;
-            }
             let next = place.next_release.load(SeqCst);
-            if next <= ticks {
+            if next <= ticks && place.task != task {
                 place.next_release.store(AWAITED, SeqCst);
+                self.soonest.store(0, SeqCst);
                 self.wake(place.task);
                 return true;
             }
-            is_awaited = is_awaited || next == AWAITED;
+            is_awaited = is_awaited || next == AWAITED && place.task != task;
+            self.keep_soonest(if next == AWAITED { 0 } else { next });
         }
         is_awaited
     }

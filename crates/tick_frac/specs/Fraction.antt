@@ -16,6 +16,6 @@ pub record IsLowest (f : Fraction) : Type 0 where
   pub den : 0 < f.den
   pub coprime : gcd f.num f.den ≡ 1
 
--- `num/den`
+-- the text of a fraction: `num/den`
 abbrev pub fraction_text : Fraction → List ℕ
 fraction_text f = decimal f.num ++ (codes "/" ++ decimal f.den)

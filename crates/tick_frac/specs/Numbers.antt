@@ -17,7 +17,7 @@ gcd a b = gcd_steps (suc b) a b
 unfoldable pub lcm : ℕ → ℕ → ℕ
 lcm a b = a * (b / gcd a b)
 
--- m is a multiple of both, and divides each common multiple
+-- m is the least common multiple: a multiple of both numbers that divides each common multiple of them
 pub record IsLcm (a b m : ℕ) : Type 0 where
   pub first : a ∣ m
   pub second : b ∣ m

@@ -17,7 +17,7 @@ use Rattle.mc_model.specs.Holds.{Fits}
 use Rattle.mc_model.specs.Pending.{KeptRelease, pending}
 use Rattle.mc_model.specs.Rows.{ticks, used}
 use Rattle.mc_model.specs.Mode.{high_mode}
-use Rattle.mc_model.specs.Legal.{same_bool, same_how, is_done, is_empty, is_allowed_how, how_of, Legal}
+use Rattle.mc_model.specs.Legal.{same_how, is_done, is_empty, is_allowed_how, how_of, Legal}
 use Rattle.mc_model.specs.Core.{chosen, keeps, release_row, outcome_of, first_to_run}
 use Rattle.mc_model.specs.Follows.{Arrival, arrivals, planned, done_by_need, lowest_first, Follows}
 use Rattle.mc_model.proofs.Lists.{Each}
@@ -27,6 +27,7 @@ use Rattle.timetable.specs.Ticks.{is_last, tick_row}
 use Rattle.timetable.specs.Shape.{first_job, row_now, next_row, Runs}
 use Rattle.timetable.proofs.OneChosen.{chosen_is}
 use Rattle.std.proofs.lemmas.Bool.{and_parts, cases_Bool, cases_order, lt-leb}
+use Rattle.std.proofs.Math.Bool.{beq}
 
 -- the arrivals that are still to come are at t or later
 abbrev pub Later : ℕ → List Arrival → Type 0
@@ -65,7 +66,7 @@ each_get P (x ∷ xs) zero a h e = let d : x ≡ a = cc in subst P d h.0
 each_get P (x ∷ xs) (suc i) a h e = each_get P xs i a h.1 e
 
 -- by the test of two truth values
-same_bool-is : (a b : Bool) → same_bool a b ≡ true → a ≡ b
+same_bool-is : (a b : Bool) → beq a b ≡ true → a ≡ b
 same_bool-is true true h = refl
 same_bool-is false false h = refl
 same_bool-is a b h = cc

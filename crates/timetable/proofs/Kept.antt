@@ -1,6 +1,7 @@
 -- What is kept of a plan is kept by each of the floor's calls, and the core's refusals that never come under a plan.
 use Rattle.std.proofs.Common.{◌≡◌, ℕ, ◌+◌, ◌<◌, Bool, true, false, not, List, [], ◌∷◌, Option, Some, None, Ok, Err, cond, nat_lt, ◌==◌, slice_get, option_map, refl, sym, ap, ◌∙◌, subst, arith, eqb-true, le-ltb, lt-ltb, inl, inr}
 use Rattle.std.proofs.lemmas.Bool.{cases_Bool, not-false}
+use Rattle.std.specs.Option.{option_or}
 use Rattle.mc_task.specs.declared.task.JobId.{JobId}
 use Rattle.mc_model.specs.declared.row.Row.TheVariants.{Idle}
 use Rattle.mc_model.specs.declared.work.WorkRow.{WorkRow}
@@ -17,7 +18,7 @@ use Rattle.mode_core.specs.declared.answers.GrantFault.TheVariants as grant_faul
 use Rattle.mode_core.specs.declared.answers.IdleFault.{IdleFault}
 use Rattle.mode_core.specs.declared.answers.IdleFault.TheVariants as idle_fault
 use Rattle.mode_core.specs.Events as core_event
-use Rattle.mode_core.specs.Events.{or_else, refused_if, answer, unless, running, is_full, is_of_task, is_out, chosen_now, job_in, granted, with_release}
+use Rattle.mode_core.specs.Events.{refused_if, answer, unless, running, is_full, is_of_task, is_out, chosen_now, job_in, granted, with_release}
 use Rattle.mode_core.specs.Shape.{IsSound}
 use Rattle.mode_core.proofs.CallerLemmas.{neither, not_if, no_map, MayGrant, may_grant}
 use Rattle.timetable.specs.declared.plan.Plan.{Plan}
@@ -110,7 +111,7 @@ pub record IsRunning (f : ReleaseFault) : Type 0 where
   pub is : f ≡ release_fault.Running job
 
 -- where it is not too soon, and there is a place
-only_running : (o : Option JobId) (b f : Bool) (n : ℕ) (g : ReleaseFault) → b ≡ false → f ≡ false → or_else (option_map release_fault.Running o) (or_else (refused_if b (release_fault.TooSoon n)) (refused_if f release_fault.Full)) ≡ Some g → IsRunning g
+only_running : (o : Option JobId) (b f : Bool) (n : ℕ) (g : ReleaseFault) → b ≡ false → f ≡ false → option_or (option_map release_fault.Running o) (option_or (refused_if b (release_fault.TooSoon n)) (refused_if f release_fault.Full)) ≡ Some g → IsRunning g
 only_running None false false n g p q e = cc
 only_running None b f n g p q e = cc
 only_running (Some j) b f n g p q e = record { job = j; is = cc }
@@ -126,7 +127,7 @@ release_faults (Rows work n) s taken k needs last f p sound kept r a =
 
 -- why a plan of which so many releases were taken refuses a tick at boundary t
 abbrev pub refused : Plan → ℕ → ℕ → Option PlanFault
-refused plan taken t = or_else (option_map (λ (w : WorkRow). plan_fault.Due w.task) (due_at plan taken t)) (refused_if (ends_at plan t) plan_fault.Finished)
+refused plan taken t = option_or (option_map (λ (w : WorkRow). plan_fault.Due w.task) (due_at plan taken t)) (refused_if (ends_at plan t) plan_fault.Finished)
 
 -- it is time for one where the plan refuses nothing
 tick_time : (s : State) (work : List WorkRow) (n taken : ℕ) → IsSound s → IsRun s work n taken → refused (Rows work n) taken (begun s) ≡ None → IsTickTime s work n taken
@@ -192,7 +193,7 @@ grant_not_full Free s taken k needs last p sound kept r a = cc
 grant_not_full (Rows work n) s taken k needs last p sound kept r a =
     no s.out (is_of_task (chosen_now s) k) (chosen_now s) (is_full s) (not_full s (room_for s work n taken sound kept.run (tick_time s work n taken sound kept.run r).soon)) (err_some _ _ grant_fault.Full a)
   where
-    no : (o : Option JobId) (b : Bool) (c : Option JobId) (f : Bool) → f ≡ false → or_else (option_map grant_fault.TickOut o) (or_else (refused_if (not b) (grant_fault.NotChosen c)) (refused_if f grant_fault.Full)) ≡ Some grant_fault.Full → ⊥
+    no : (o : Option JobId) (b : Bool) (c : Option JobId) (f : Bool) → f ≡ false → option_or (option_map grant_fault.TickOut o) (option_or (refused_if (not b) (grant_fault.NotChosen c)) (refused_if f grant_fault.Full)) ≡ Some grant_fault.Full → ⊥
     no (Some j) b c f m e = cc
     no None false c f m e = cc
     no None true c true m e = cc
@@ -205,7 +206,7 @@ idle_not_full Free s taken needs last p sound kept r a = cc
 idle_not_full (Rows work n) s taken needs last p sound kept r a =
     no s.out (chosen_now s) (is_full s) (not_full s (room_for s work n taken sound kept.run (tick_time s work n taken sound kept.run r).soon)) (err_some _ _ idle_fault.Full a)
   where
-    no : (o c : Option JobId) (f : Bool) → f ≡ false → or_else (option_map idle_fault.TickOut o) (or_else (option_map idle_fault.Pending c) (refused_if f idle_fault.Full)) ≡ Some idle_fault.Full → ⊥
+    no : (o c : Option JobId) (f : Bool) → f ≡ false → option_or (option_map idle_fault.TickOut o) (option_or (option_map idle_fault.Pending c) (refused_if f idle_fault.Full)) ≡ Some idle_fault.Full → ⊥
     no (Some j) c f m e = cc
     no None (Some i) f m e = cc
     no None None true m e = cc

@@ -16,7 +16,7 @@ use Rattle.mc_model.specs.declared.work.WorkRow.{WorkRow}
 use Rattle.mc_model.specs.Pending.{pending}
 use Rattle.mc_model.specs.Rows.{ticks, same_job}
 use Rattle.mc_model.specs.Mode.{high_mode}
-use Rattle.mc_model.specs.Legal.{same_bool, is_done, Legal}
+use Rattle.mc_model.specs.Legal.{is_done, Legal}
 use Rattle.mc_model.specs.Key.{key}
 use Rattle.mc_model.specs.Core.{chosen, release_row, outcome_of, runs_before}
 use Rattle.mc_model.specs.Follows.{Arrival, arrivals, planned, ends_in_tick, done_by_need, lowest_first, none_lower, is_lowest, Follows}
@@ -28,6 +28,7 @@ use Rattle.timetable.specs.Shape.{first_job, row_now, next_row, Runs}
 use Rattle.mc_model.specs.Work.{AllFollow, IsWork}
 use Rattle.timetable.proofs.Determined.{Later, Later-less, planned_either, planned_each, reverse-move}
 use Rattle.std.proofs.lemmas.Bool.{and_from, cases_Bool, cases_eq}
+use Rattle.std.proofs.Math.Bool.{beq}
 
 -- what is added
 
@@ -209,7 +210,7 @@ done_parts set rule work n (Tick j how ∷ g) r =
     let x = added set rule work n g (Tick j how) r.0 in
     let c = chosen_tick set rule work g j how (no_release set rule work g x.head (Tick j how) (λ i e. cc) x.row_is).row_is in
     let d : is_done how ≡ is_last work g j = ap is_done c.how_is ∙ done_as set rule g j (is_last work g j) in
-    and_from _ _ (subst (λ (b : Bool). same_bool b (is_last work g j) ≡ true) (sym d) (same_bool-refl (is_last work g j))) (done_parts set rule work n g r.1)
+    and_from _ _ (subst (λ (b : Bool). beq b (is_last work g j) ≡ true) (sym d) (same_bool-refl (is_last work g j))) (done_parts set rule work n g r.1)
 done_parts set rule work n (row ∷ g) r = done_parts set rule work n g r.1
 
 -- each tick that the plan adds takes the lowest number

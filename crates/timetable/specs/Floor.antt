@@ -1,6 +1,7 @@
 -- A floor is a core with a plan: when the plan refuses a call, what each call answers, the state after it, and the next
 -- act.
 use Rattle.std.specs.Prelude.{ℕ, ◌+◌, Bool, true, false, not, List, Option, Some, None, Result, Ok, Err, cond, nat_lt, ◌==◌, slice_get, option_map}
+use Rattle.std.specs.Option.{option_or}
 use Rattle.mc_task.specs.declared.task.JobId.{JobId}
 use Rattle.mc_model.specs.declared.row.How.{How}
 use Rattle.mc_model.specs.declared.row.Row.{Row}
@@ -13,7 +14,7 @@ use Rattle.mode_core.specs.declared.answers.ReleaseFault.{ReleaseFault}
 use Rattle.mode_core.specs.declared.answers.GrantFault.{GrantFault}
 use Rattle.mode_core.specs.declared.answers.IdleFault.{IdleFault}
 use Rattle.mode_core.specs.Events
-use Rattle.mode_core.specs.Events.{or_else, refused_if, running, chosen_now}
+use Rattle.mode_core.specs.Events.{refused_if, running, chosen_now}
 use Rattle.timetable.specs.declared.plan.Plan.{Plan}
 use Rattle.timetable.specs.declared.plan.Plan.TheVariants.{Free, Rows}
 use Rattle.timetable.specs.declared.acts.PlanFault.{PlanFault}
@@ -80,7 +81,7 @@ release_refusal f k = not_due f.plan (due f) k
 -- why the plan refuses a tick, granted or idle: a release is due, or the plan's ticks were begun
 abbrev pub tick_refusal : FloorState → Option PlanFault
 tick_refusal f =
-    or_else (option_map (λ (w : WorkRow). plan_fault.Due w.task) (due f))
+    option_or (option_map (λ (w : WorkRow). plan_fault.Due w.task) (due f))
     (refused_if (is_finished f) plan_fault.Finished)
 
 -- the core's answer

@@ -83,6 +83,7 @@ impl Floor {
 
     /// What the floor waits for: the due release, unless its task's tick is out; otherwise the outcome of the tick that is
     /// out; otherwise nothing, once the plan's ticks were begun; otherwise a tick of the chosen job, or an idle one.
+    #[inline(always)]
     pub fn next_act(&self) -> Act
         ensures { result ≡ next_act self.now }
     {

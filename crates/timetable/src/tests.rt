@@ -7,14 +7,16 @@ mod side_by_side;
 use crate::{Act, ActFault, Floor, Plan, PlanFault};
 use admission::admit;
 use load_sum::sum_loads;
+use mc_model::How;
 use mc_model::How::{Done, More, Over};
-use mc_task::TaskNo;
-use mode_core::{Core, GrantFault, Granted, IdleFault, ReleaseFault, Released};
+use mc_task::{JobId, TaskNo};
+use mode_core::{Core, GrantFault, Granted, IdleFault, NotOut, ReleaseFault, Released};
 use std::alloc::Global;
 use std::test::Fail;
 use work_file::Work;
 use worked_sets::{
-    CONTROL, HELD_RELEASE_ROWS, HELD_RELEASE_WORK, Job, Line, PLANS, job, set_of, work_rows,
+    CONTROL, HELD_RELEASE_ROWS, HELD_RELEASE_WORK, Job, Line, PLANS, WorkedPlan, job, set_of,
+    work_rows,
 };
 
 // A floor with no rows, whose plan is the jobs.
@@ -48,72 +50,134 @@ fn grant(floor: &mut Floor, task: u32) -> Option<Result<Granted, ActFault<GrantF
     Some(floor.grant(TaskNo(task)))
 }
 
+// Whether the floor has ended as the plan says.
+fn ended_as(floor: &Floor, plan: &WorkedPlan) -> bool {
+    let core = floor.core();
+    core.rule() == plan.rule && core.rows() == plan.rows && floor.next_act() == Act::Finished
+}
+
 #[test]
 fn runs_give_the_rows_that_were_worked_by_hand(rt: HostRuntime) -> Result<(), Fail> {
     for plan in PLANS {
-        let shows = plan.shows;
         let mut floor = floor(rt.alloc(), plan.lines, plan.jobs, plan.ticks)?;
         floor.finish();
-        assert_eq!(rt; floor.core().rule(), plan.rule, "{shows}");
-        assert_eq!(rt; floor.core().rows(), plan.rows, "{shows}");
-        assert_eq!(rt; floor.next_act(), Act::Finished, "{shows}");
+        assert!(rt; ended_as(&floor, &plan), "{}", plan.shows);
     }
     Ok(())
+}
+
+// A call of a floor.
+#[derive(Clone, Copy, Debug, PartialEq, Eq)]
+enum Call {
+    Next,
+    Release(u32),
+    Grant(u32),
+    Outcome(JobId, bool),
+    Idle,
+    Finish,
+}
+
+// What it answers.
+#[derive(Clone, Copy, Debug, PartialEq, Eq)]
+enum Answer {
+    Next(Act),
+    Released(Option<Result<Released, ActFault<ReleaseFault>>>),
+    Granted(Option<Result<Granted, ActFault<GrantFault>>>),
+    Outcome(Result<How, NotOut>),
+    Idle(Result<u64, ActFault<IdleFault>>),
+    Finished(Option<()>),
+}
+
+fn ask(floor: &mut Floor, call: Call) -> Answer {
+    match call {
+        Call::Next => Answer::Next(floor.next_act()),
+        Call::Release(task) => Answer::Released(release(floor, task)),
+        Call::Grant(task) => Answer::Granted(grant(floor, task)),
+        Call::Outcome(job, done) => Answer::Outcome(floor.outcome(job, done)),
+        Call::Idle => Answer::Idle(floor.idle()),
+        Call::Finish => Answer::Finished(finished(floor)),
+    }
+}
+
+const DUE_CTL: PlanFault = PlanFault::Due { task: TaskNo(1) };
+
+const DUE_LOG: PlanFault = PlanFault::Due { task: TaskNo(2) };
+
+// The calls of the plan with a release that is held, and their answers.
+fn held_release() -> [(Call, Answer); 18] {
+    [
+        (Call::Next, Answer::Next(Act::Release(TaskNo(1)))),
+        (
+            Call::Grant(1),
+            Answer::Granted(Some(Err(ActFault::Plan(DUE_CTL)))),
+        ),
+        (Call::Idle, Answer::Idle(Err(ActFault::Plan(DUE_CTL)))),
+        (
+            Call::Release(2),
+            Answer::Released(Some(Err(ActFault::Plan(DUE_CTL)))),
+        ),
+        (
+            Call::Release(1),
+            Answer::Released(Some(Ok(Released::Kept {
+                job: job!(1, 1),
+                at: 0,
+            }))),
+        ),
+        (Call::Next, Answer::Next(Act::Grant(TaskNo(1)))),
+        (
+            Call::Release(2),
+            Answer::Released(Some(Err(ActFault::Plan(PlanFault::NotPlanned)))),
+        ),
+        (
+            Call::Grant(1),
+            Answer::Granted(Some(Ok(Granted {
+                job: job!(1, 1),
+                at: 0,
+                before: 0,
+            }))),
+        ),
+        (Call::Outcome(job!(1, 1), false), Answer::Outcome(Ok(More))),
+        (
+            Call::Grant(1),
+            Answer::Granted(Some(Ok(Granted {
+                job: job!(1, 1),
+                at: 1,
+                before: 1,
+            }))),
+        ),
+        (Call::Next, Answer::Next(Act::Release(TaskNo(2)))),
+        (
+            Call::Grant(2),
+            Answer::Granted(Some(Err(ActFault::Plan(DUE_LOG)))),
+        ),
+        (
+            Call::Release(2),
+            Answer::Released(Some(Ok(Released::Held {
+                job: job!(2, 1),
+                at: 2,
+            }))),
+        ),
+        (Call::Next, Answer::Next(Act::Wait(job!(1, 1)))),
+        (Call::Outcome(job!(1, 1), false), Answer::Outcome(Ok(Over))),
+        (Call::Finish, Answer::Finished(Some(()))),
+        (
+            Call::Idle,
+            Answer::Idle(Err(ActFault::Plan(PlanFault::Finished))),
+        ),
+        (
+            Call::Grant(1),
+            Answer::Granted(Some(Err(ActFault::Plan(PlanFault::Finished)))),
+        ),
+    ]
 }
 
 #[test]
 fn the_calls_of_a_planned_floor_are_answered_in_turn(rt: HostRuntime) -> Result<(), Fail> {
     let mut floor = floor(rt.alloc(), &CONTROL, &HELD_RELEASE_WORK, 4)?;
-    let due_ctl = PlanFault::Due { task: TaskNo(1) };
-    let due_log = PlanFault::Due { task: TaskNo(2) };
     assert!(rt; floor.is_planned());
-    assert_eq!(rt; floor.next_act(), Act::Release(TaskNo(1)));
-    assert_eq!(rt; grant(&mut floor, 1), Some(Err(ActFault::Plan(due_ctl))));
-    assert_eq!(rt; floor.idle(), Err(ActFault::Plan(due_ctl)));
-    assert_eq!(rt; release(&mut floor, 2), Some(Err(ActFault::Plan(due_ctl))));
-    assert_eq!(rt;
-        release(&mut floor, 1),
-        Some(Ok(Released::Kept {
-            job: job!(1, 1),
-            at: 0
-        }))
-    );
-    assert_eq!(rt; floor.next_act(), Act::Grant(TaskNo(1)));
-    assert_eq!(rt;
-        release(&mut floor, 2),
-        Some(Err(ActFault::Plan(PlanFault::NotPlanned)))
-    );
-    let first = Granted {
-        job: job!(1, 1),
-        at: 0,
-        before: 0,
-    };
-    assert_eq!(rt; grant(&mut floor, 1), Some(Ok(first)));
-    assert_eq!(rt; floor.outcome(job!(1, 1), false), Ok(More));
-    let second = Granted {
-        job: job!(1, 1),
-        at: 1,
-        before: 1,
-    };
-    assert_eq!(rt; grant(&mut floor, 1), Some(Ok(second)));
-    assert_eq!(rt; floor.next_act(), Act::Release(TaskNo(2)));
-    assert_eq!(rt; grant(&mut floor, 2), Some(Err(ActFault::Plan(due_log))));
-    assert_eq!(rt;
-        release(&mut floor, 2),
-        Some(Ok(Released::Held {
-            job: job!(2, 1),
-            at: 2
-        }))
-    );
-    assert_eq!(rt; floor.next_act(), Act::Wait(job!(1, 1)));
-    assert_eq!(rt; floor.outcome(job!(1, 1), false), Ok(Over));
-    assert_eq!(rt; finished(&mut floor), Some(()));
-    assert_eq!(rt; floor.next_act(), Act::Finished);
-    assert_eq!(rt; floor.idle(), Err(ActFault::Plan(PlanFault::Finished)));
-    assert_eq!(rt;
-        grant(&mut floor, 1),
-        Some(Err(ActFault::Plan(PlanFault::Finished)))
-    );
+    for (call, answer) in held_release() {
+        assert_eq!(rt; ask(&mut floor, call), answer, "{call:?}");
+    }
     assert_eq!(rt; floor.core().rows(), &HELD_RELEASE_ROWS[..]);
     Ok(())
 }
@@ -127,6 +191,46 @@ fn finished(floor: &mut Floor) -> Option<()> {
     Some(())
 }
 
+// The calls of a floor with no plan, and their answers.
+fn free_calls() -> [(Call, Answer); 10] {
+    let too_soon = ReleaseFault::TooSoon { next: 11 };
+    let chosen = GrantFault::NotChosen {
+        chosen: Some(job!(2, 1)),
+    };
+    let out = IdleFault::TickOut { job: job!(2, 1) };
+    [
+        (Call::Next, Answer::Next(Act::Idle)),
+        (Call::Idle, Answer::Idle(Ok(0))),
+        (
+            Call::Release(2),
+            Answer::Released(Some(Ok(Released::Kept {
+                job: job!(2, 1),
+                at: 1,
+            }))),
+        ),
+        (
+            Call::Release(2),
+            Answer::Released(Some(Err(ActFault::Core(too_soon)))),
+        ),
+        (
+            Call::Grant(1),
+            Answer::Granted(Some(Err(ActFault::Core(chosen)))),
+        ),
+        (
+            Call::Grant(2),
+            Answer::Granted(Some(Ok(Granted {
+                job: job!(2, 1),
+                at: 1,
+                before: 0,
+            }))),
+        ),
+        (Call::Next, Answer::Next(Act::Wait(job!(2, 1)))),
+        (Call::Idle, Answer::Idle(Err(ActFault::Core(out)))),
+        (Call::Outcome(job!(2, 1), true), Answer::Outcome(Ok(Done))),
+        (Call::Next, Answer::Next(Act::Idle)),
+    ]
+}
+
 #[test]
 fn a_free_floor_answers_as_its_core_does(rt: HostRuntime) -> Result<(), Fail> {
     let alloc = rt.alloc();
@@ -135,33 +239,8 @@ fn a_free_floor_answers_as_its_core_does(rt: HostRuntime) -> Result<(), Fail> {
     let core = Core::new(alloc, set, rule, 4)?;
     let mut floor = Floor::new(core, Plan::Free);
     assert!(rt; !floor.is_planned());
-    assert_eq!(rt; floor.next_act(), Act::Idle);
-    assert_eq!(rt; floor.idle(), Ok(0));
-    assert_eq!(rt;
-        release(&mut floor, 2),
-        Some(Ok(Released::Kept {
-            job: job!(2, 1),
-            at: 1
-        }))
-    );
-    let too_soon = ReleaseFault::TooSoon { next: 11 };
-    assert_eq!(rt; release(&mut floor, 2), Some(Err(ActFault::Core(too_soon))));
-    let chosen = GrantFault::NotChosen {
-        chosen: Some(job!(2, 1)),
-    };
-    assert_eq!(rt; grant(&mut floor, 1), Some(Err(ActFault::Core(chosen))));
-    let granted = Granted {
-        job: job!(2, 1),
-        at: 1,
-        before: 0,
-    };
-    assert_eq!(rt; grant(&mut floor, 2), Some(Ok(granted)));
-    assert_eq!(rt; floor.next_act(), Act::Wait(job!(2, 1)));
-    assert_eq!(rt;
-        floor.idle(),
-        Err(ActFault::Core(IdleFault::TickOut { job: job!(2, 1) }))
-    );
-    assert_eq!(rt; floor.outcome(job!(2, 1), true), Ok(Done));
-    assert_eq!(rt; floor.next_act(), Act::Idle);
+    for (call, answer) in free_calls() {
+        assert_eq!(rt; ask(&mut floor, call), answer, "{call:?}");
+    }
     Ok(())
 }

@@ -26,7 +26,7 @@ use Rattle.trace_format.specs.declared.fault.TraceCause.TheVariants.{Header, Unk
 use Rattle.trace_format.specs.declared.fault.TraceFault.TheVariants.{At}
 use Rattle.trace_format.specs.Events.{field, task_place, event_of}
 use Rattle.trace_format.specs.Reading.{MayStandBehind}
-use Rattle.trace_format.specs.TraceFile.{width, wrong_width, task_told, numbers_told, is_length, job_with, run_told, given, record_run, behind_header, version_of, trace_file}
+use Rattle.trace_format.specs.TraceFile.{header_words, wrong_width, task_told, numbers_told, is_length, job_with, run_told, given, record_run, behind_header, version_of, trace_file}
 use Rattle.mc_task.proofs.NamedLemmas.{found}
 
 -- a length that is taken makes a run
@@ -61,7 +61,7 @@ pub of_record : (set : List Task) (v : Version) (before : List Run) (fields : Li
 unfolding record_run
 of_record set v before fields q h =
     let few = not_refused (nat_le 2000000 (length before)) TooMany _ q h in
-    let wide = not_refused (not (length fields == width v)) (wrong_width v) _ q few.1 in
+    let wide = not_refused (not (length fields == length (header_words v))) (wrong_width v) _ q few.1 in
     let told = from_some (event_of v fields) UnknownEvent _ q wide.1 in
     let task = from_some (task_told set v fields told.0) UnknownTask _ q told.2 in
     let n = from_some (numbers_told v fields told.0) BadNumber _ q task.2 in

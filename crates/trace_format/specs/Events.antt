@@ -1,7 +1,8 @@
 -- What the words of a record tell.
-use Rattle.std.specs.Prelude.{ℕ, ◌+◌, Bool, true, false, ◌&&◌, ◌==◌, if◌then◌else◌, List, [], codes, length, Option, Some, None, unwrap_or}
+use Rattle.std.specs.Prelude.{ℕ, ◌+◌, Bool, true, false, ◌&&◌, ◌==◌, if◌then◌else◌, List, [], ◌∷◌, codes, length, find, Option, Some, None, option_map, unwrap_or}
 use Rattle.std.specs.Str.{bytes_eq}
 use Rattle.csv.specs.Records.{field_at}
+use Rattle.mc_model.specs.TraceText.{kept_word, how_word}
 use Rattle.mc_model.specs.declared.row.How.TheVariants.{More, Done, Stop, Over}
 use Rattle.trace_format.specs.declared.event.Event.{Event}
 use Rattle.trace_format.specs.declared.event.Event.TheVariants.{Release, Tick, Idle}
@@ -12,21 +13,13 @@ use Rattle.trace_format.specs.declared.version.Version.TheVariants.{One, Two}
 abbrev pub field : List (List ℕ) → ℕ → List ℕ
 field fields i = unwrap_or (field_at fields i) []
 
--- the release that the last field tells
+-- the release that the last field names, by the words that are written
 unfoldable pub release_event : List ℕ → Option Event
-release_event how =
-    if bytes_eq how (codes "kept") then Some (Release true)
-    else if bytes_eq how (codes "dropped") then Some (Release false)
-    else None
+release_event how = option_map Release (find (λ kept. bytes_eq how (kept_word kept)) (true ∷ false ∷ []))
 
 -- the tick that the last field tells
 unfoldable pub tick_event : List ℕ → Option Event
-tick_event how =
-    if bytes_eq how (codes "more") then Some (Tick More)
-    else if bytes_eq how (codes "done") then Some (Tick Done)
-    else if bytes_eq how (codes "stop") then Some (Tick Stop)
-    else if bytes_eq how (codes "over") then Some (Tick Over)
-    else None
+tick_event how = option_map Tick (find (λ h. bytes_eq how (how_word h)) (More ∷ Done ∷ Stop ∷ Over ∷ []))
 
 -- nothing pending, where the task, the job and the last field are empty
 unfoldable pub idle_event : List ℕ → List ℕ → List ℕ → Option Event

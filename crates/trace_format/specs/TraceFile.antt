@@ -1,5 +1,6 @@
 -- What the text of a trace says: its runs, the oldest first, or the first refusal. The first record decides the version.
-use Rattle.std.specs.Prelude.{ℕ, ◌+◌, Bool, true, not, ◌&&◌, ◌==◌, nat_le, nat_lt, if◌then◌else◌, List, codes, length, Option, Some, None, option_map, Result, Ok, Err}
+use Rattle.std.specs.Prelude.{ℕ, ◌+◌, Bool, true, not, ◌==◌, nat_le, nat_lt, if◌then◌else◌, List, [], ◌∷◌, codes, length, find, Option, Some, None, option_map, Result, Ok, Err}
+use lib.Pointwise.{pointwise}
 use Rattle.std.specs.Str.{bytes_eq}
 use Rattle.csv_records.specs.Rows.{Means, rows_in, or_fault}
 use Rattle.numeral.specs.Numeral.{number}
@@ -22,33 +23,16 @@ use Rattle.trace_format.specs.declared.fault.TraceFault.TheVariants.{At}
 use Rattle.trace_format.specs.declared.record.Numbers.{Numbers}
 use Rattle.trace_format.specs.Events.{field, event_of, task_place}
 
--- the record is `event,tick,task,job,how`
-abbrev pub is_first_header : List (List ℕ) → Bool
-is_first_header fields =
-    length fields == 5
-    && (bytes_eq (field fields 0) (codes "event")
-    && (bytes_eq (field fields 1) (codes "tick")
-    && (bytes_eq (field fields 2) (codes "task") && (bytes_eq (field fields 3) (codes "job") && bytes_eq (field fields 4) (codes "how")))))
-
--- the record is `event,tick,length,task,job,how`
-abbrev pub is_second_header : List (List ℕ) → Bool
-is_second_header fields =
-    length fields == 6
-    && (bytes_eq (field fields 0) (codes "event")
-    && (bytes_eq (field fields 1) (codes "tick")
-    && (bytes_eq (field fields 2) (codes "length")
-    && (bytes_eq (field fields 3) (codes "task") && (bytes_eq (field fields 4) (codes "job") && bytes_eq (field fields 5) (codes "how"))))))
+-- the header of a version, and a record has as many fields
+abbrev pub header_words : Version → List (List ℕ)
+header_words One = codes "event" ∷ codes "tick" ∷ codes "task" ∷ codes "job" ∷ codes "how" ∷ []
+header_words Two = codes "event" ∷ codes "tick" ∷ codes "length" ∷ codes "task" ∷ codes "job" ∷ codes "how" ∷ []
 
 -- the version that the record is the header of
 abbrev pub version_of : List (List ℕ) → Option Version
-version_of fields = if is_first_header fields then Some One else if is_second_header fields then Some Two else None
+version_of fields = find (λ v. pointwise bytes_eq fields (header_words v)) (One ∷ Two ∷ [])
 
--- the number of fields
-abbrev pub width : Version → ℕ
-width One = 5
-width Two = 6
-
--- the refusal of another number
+-- the refusal of another number of fields
 abbrev pub wrong_width : Version → TraceCause
 wrong_width One = BadRecord
 wrong_width Two = NotSix
@@ -111,7 +95,7 @@ run_at set v due fields told =
 unfoldable pub record_run : List Task → Version → List Run → List (List ℕ) → Result Run TraceCause
 record_run set v before fields =
     if nat_le 2000000 (length before) then Err TooMany
-    else if not (length fields == width v) then Err (wrong_width v)
+    else if not (length fields == length (header_words v)) then Err (wrong_width v)
     else given (event_of v fields) UnknownEvent (run_at set v (total length_of before) fields)
 
 -- what the records behind this one mean, if it is a header

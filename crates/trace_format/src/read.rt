@@ -38,7 +38,7 @@ struct TraceRecords<'a> {
     set: &'a TaskSet,
 }
 
-// The version of the records, the tick that is due behind the runs so far, and the task that the next record is likely to tell.
+// The version of the records, the tick that is due after the runs so far, and the task that the next record likely names.
 #[derive(Clone, Copy)]
 pub struct Reading {
     pub version: Version,
@@ -46,32 +46,24 @@ pub struct Reading {
     pub likely: TaskNo,
 }
 
-// The task that the next record is likely to tell: this run's where its job goes on, and else the one behind it. Only how soon a
-// task is found hangs on it.
-fn likely_behind(set: &TaskSet, likely: TaskNo, run: Run) -> TaskNo {
+// The task that the next record likely names: this run's where its job goes on, and else the one after it. It decides only how
+// soon a task is found.
+fn likely_after(set: &TaskSet, likely: TaskNo, run: Run) -> TaskNo {
     match run {
         Run::Ticks {
             job,
             how: How::More,
             ..
         } => job.task,
-        Run::Release { job, .. } | Run::Ticks { job, .. } => task_behind(set, job.task),
+        Run::Release { job, .. } | Run::Ticks { job, .. } => set.task_after(job.task),
         Run::Idles { .. } => likely,
-    }
-}
-
-// The task behind this one; the first is behind the last.
-fn task_behind(set: &TaskSet, task: TaskNo) -> TaskNo {
-    if task.0 < set.len() {
-        TaskNo(task.0 + 1)
-    } else {
-        TaskNo(1)
     }
 }
 
 impl<'a> Meaning for TraceRecords<'a> {
     ghost use Rattle.std.proofs.Common.{arith};
     ghost use Rattle.std.proofs.lemmas.Bool.Decides.{nat_tests};
+    ghost use Rattle.csv_records.proofs.WordLemmas.{words_length};
     ghost use Rattle.trace_format.specs.Reading.{AreRead};
     ghost use Rattle.trace_format.specs.TraceFile.{behind_header, record_run};
 
@@ -109,7 +101,7 @@ impl<'a> Meaning for TraceRecords<'a> {
         } = *reading;
         let run = record_run(self.set, version, before, due, likely, fields)?;
         reading.due = tick_after(due, run);
-        reading.likely = likely_behind(self.set, likely, run);
+        reading.likely = likely_after(self.set, likely, run);
         Ok(run)
     }
 
@@ -122,7 +114,7 @@ impl<'a> Meaning for TraceRecords<'a> {
         }
     }
 
-    ghost narrow = { λ trace fields wide. Prim.grind (arith, nat_tests) };
+    ghost narrow = { λ trace fields wide. Prim.grind (arith, nat_tests, words_length) };
 
     ghost few = { λ trace reading runs read. let few = read.few in Prim.omega (arith, few) };
 }

@@ -1,5 +1,6 @@
 // A record as a run.
-ghost use Rattle.std.specs.Prelude.{◌≡◌, ◌+◌, ◌≤◌, option_map};
+ghost use Rattle.std.specs.Prelude.{◌≡◌, ◌+◌, ◌≤◌, length, option_map};
+ghost use lib.Pointwise.{pointwise};
 ghost use Rattle.std.specs.Str.{bytes_eq};
 ghost use Rattle.csv.specs.Records.{fields_of};
 ghost use Rattle.numeral.specs.Numeral as text;
@@ -31,8 +32,9 @@ pub fn version_of(fields: &ByteRecord) -> Option<Version>
 }
 
 // Whether the record is `event,tick,task,job,how`.
+#[tactic(auto, using(csv_records::proofs::WordLemmas::words_by_place))]
 fn is_first_header(fields: &ByteRecord) -> bool
-    ensures { result ≡ file.is_first_header (fields_of fields.now) }
+    ensures { result ≡ pointwise bytes_eq (fields_of fields.now) (file.header_words Version.One) }
 {
     fields.len() == 5
         && (is(field(fields, 0), "event")
@@ -42,8 +44,9 @@ fn is_first_header(fields: &ByteRecord) -> bool
 }
 
 // Whether the record is `event,tick,length,task,job,how`.
+#[tactic(auto, using(csv_records::proofs::WordLemmas::words_by_place))]
 fn is_second_header(fields: &ByteRecord) -> bool
-    ensures { result ≡ file.is_second_header (fields_of fields.now) }
+    ensures { result ≡ pointwise bytes_eq (fields_of fields.now) (file.header_words Version.Two) }
 {
     fields.len() == 6
         && (is(field(fields, 0), "event")
@@ -109,7 +112,7 @@ fn task_place(version: Version) -> usize
 // The number of fields.
 #[inline(always)]
 fn width(version: Version) -> usize
-    ensures { result ≡ file.width version }
+    ensures { result ≡ length (file.header_words version) }
 {
     match version {
         Version::One => 5,
@@ -222,7 +225,7 @@ fn find_likely(set: &TaskSet, name: &[u8], likely: TaskNo) -> Option<TaskNo>
     if set.is_named(likely, name) {
         return Some(likely);
     }
-    set.find_near(name, likely)
+    set.find_near(name, set.task_after(likely))
 }
 
 // The tick, the length and the job's count of a record.

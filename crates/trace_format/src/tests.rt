@@ -8,6 +8,8 @@ use worked_sets::{CONTROL, OVERRUN_RUNS, kept, release, set_of, tick, ticks};
 
 const HEADER: &str = "event,tick,task,job,how\n";
 
+const SECOND_HEADER: &str = "event,tick,length,task,job,how\n";
+
 // A job of ctl runs over its low budget and on to its end; log's job is discarded, and its next one runs.
 const OVERRUN: &str = "\
 event,tick,task,job,how
@@ -42,49 +44,77 @@ release,10,,log,2,kept
 tick,10,2,log,2,more
 ";
 
+// The runs of a trace, one for each record, and the same merged.
+fn read_and_merged(alloc: Global, set: &TaskSet, text: &str) -> Result<(Vec<Run>, Vec<Run>), Fail> {
+    let runs = read_trace(alloc, set, text.as_bytes())?;
+    let merged = merge(alloc, &runs)?;
+    Ok((runs, merged))
+}
+
+// The runs of a trace, and the trace that is written of them.
+fn read_and_written(alloc: Global, set: &TaskSet, text: &str) -> Result<(Vec<Run>, Vec<u8>), Fail> {
+    let runs = read_trace(alloc, set, text.as_bytes())?;
+    let written = write_trace(alloc, set, &runs)?;
+    Ok((runs, written))
+}
+
+// Whether there are so many runs, with this one at this place.
+fn has(runs: &[Run], len: usize, place: usize, run: Run) -> bool {
+    runs.len() == len && runs.get(place) == Some(&run)
+}
+
 #[test]
 fn an_overrun_is_read_and_merged(rt: HostRuntime) -> Result<(), Fail> {
     let alloc = rt.alloc();
     let set = set_of(alloc, &CONTROL)?;
-    let runs = read_trace(alloc, &set, OVERRUN.as_bytes())?;
-    assert_eq!(rt; runs.len(), 15);
-    assert_eq!(rt; runs.get(1), Some(&release!(2, 1, true)));
-    assert_eq!(rt; runs.get(3), Some(&ticks!(1, 1, Over, 1)));
-    assert_eq!(rt; runs.get(11), Some(&Run::Idles { length: 1 }));
-    let merged = merge(alloc, &runs)?;
-    assert_eq!(rt; merged.as_slice(), OVERRUN_RUNS.as_slice());
-    let again = read_trace(alloc, &set, PACKED.as_bytes())?;
-    assert_eq!(rt; again.as_slice(), merged.as_slice());
-    let text = write_trace(alloc, &set, &again)?;
-    assert_eq!(rt; text.as_slice(), PACKED.as_bytes());
+    let (runs, merged) = read_and_merged(alloc, &set, OVERRUN)?;
+    for (place, run) in [
+        (1, release!(2, 1, true)),
+        (3, ticks!(1, 1, Over, 1)),
+        (11, Run::Idles { length: 1 }),
+    ] {
+        assert!(rt; has(&runs, 15, place, run));
+    }
+    assert!(rt; merged.as_slice() == OVERRUN_RUNS.as_slice());
     Ok(())
 }
 
 #[test]
-fn equal_rows_that_stand_together_are_packed(rt: HostRuntime) -> Result<(), Fail> {
+fn merged_runs_are_written_in_version_2(rt: HostRuntime) -> Result<(), Fail> {
     let alloc = rt.alloc();
-    let rows = [
-        Row::Idle,
-        kept!(1, 1),
-        Row::Idle,
-        Row::Idle,
-        tick!(1, 1, More),
-        tick!(1, 1, More),
-        tick!(1, 2, More),
-        tick!(1, 2, Done),
-        Row::Idle,
-    ];
-    let runs = pack(alloc, &rows)?;
-    let expected = [
-        Run::Idles { length: 1 },
-        release!(1, 1, true),
-        Run::Idles { length: 2 },
-        ticks!(1, 1, More, 2),
-        ticks!(1, 2, More, 1),
-        ticks!(1, 2, Done, 1),
-        Run::Idles { length: 1 },
-    ];
-    assert_eq!(rt; runs.as_slice(), expected.as_slice());
+    let set = set_of(alloc, &CONTROL)?;
+    let (runs, written) = read_and_written(alloc, &set, PACKED)?;
+    assert!(rt; runs.as_slice() == OVERRUN_RUNS.as_slice());
+    assert!(rt; written.as_slice() == PACKED.as_bytes());
+    Ok(())
+}
+
+const ROWS: [Row; 9] = [
+    Row::Idle,
+    kept!(1, 1),
+    Row::Idle,
+    Row::Idle,
+    tick!(1, 1, More),
+    tick!(1, 1, More),
+    tick!(1, 2, More),
+    tick!(1, 2, Done),
+    Row::Idle,
+];
+
+const PACKED_ROWS: [Run; 7] = [
+    Run::Idles { length: 1 },
+    release!(1, 1, true),
+    Run::Idles { length: 2 },
+    ticks!(1, 1, More, 2),
+    ticks!(1, 2, More, 1),
+    ticks!(1, 2, Done, 1),
+    Run::Idles { length: 1 },
+];
+
+#[test]
+fn equal_rows_that_stand_together_are_packed(rt: HostRuntime) -> Result<(), Fail> {
+    let runs = pack(rt.alloc(), &ROWS)?;
+    assert!(rt; runs.as_slice() == PACKED_ROWS.as_slice());
     Ok(())
 }
 
@@ -95,6 +125,31 @@ fn outcome(alloc: Global, set: &TaskSet, text: &str) -> Result<String, AllocErro
         Err(TraceFault::Memory) => Err(AllocError),
         Err(fault) => format!(in alloc; "{fault}"),
     }
+}
+
+fn is_answered(
+    alloc: Global,
+    set: &TaskSet,
+    text: &str,
+    expected: &str,
+) -> Result<bool, AllocError> {
+    Ok(outcome(alloc, set, text)?.as_str() == expected)
+}
+
+// Whether records behind this header are answered as their line says: it has spaces between them, and the answer at its
+// end.
+fn is_line_answered(
+    alloc: Global,
+    set: &TaskSet,
+    header: &str,
+    line: &str,
+) -> Result<bool, AllocError> {
+    let Some((records, expected)) = line.split_once(" => ") else {
+        return Ok(false);
+    };
+    let lines = records.replace(alloc, " ", "\n")?;
+    let text = format!(in alloc; "{header}{lines}\n")?;
+    is_answered(alloc, set, text.as_str(), expected)
 }
 
 // Texts without a header, or with another, each with what is answered.
@@ -149,9 +204,8 @@ tick,00000000000,ctl,1,more => line 2: BadNumber
 fn another_header_is_refused(rt: HostRuntime) -> Result<(), Fail> {
     let alloc = rt.alloc();
     let set = set_of(alloc, &CONTROL)?;
-    for (text, expected) in HEADERS {
-        let got = outcome(alloc, &set, text)?;
-        assert_eq!(rt; got.as_str(), expected, "{text}");
+    for (text, expected) in &HEADERS {
+        assert!(rt; is_answered(alloc, &set, text, expected)?, "{text}");
     }
     Ok(())
 }
@@ -161,11 +215,7 @@ fn the_first_refusal_of_the_records_is_the_answer(rt: HostRuntime) -> Result<(),
     let alloc = rt.alloc();
     let set = set_of(alloc, &CONTROL)?;
     for line in RECORDS.lines() {
-        let (records, expected) = line.split_once(" => ").ok_or(line)?;
-        let lines = records.replace(alloc, " ", "\n")?;
-        let text = format!(in alloc; "{HEADER}{lines}\n")?;
-        let got = outcome(alloc, &set, text.as_str())?;
-        assert_eq!(rt; got.as_str(), expected, "{records}");
+        assert!(rt; is_line_answered(alloc, &set, HEADER, line)?, "{line}");
     }
     Ok(())
 }
@@ -220,26 +270,60 @@ fn the_first_refusal_of_version_2_is_the_answer(rt: HostRuntime) -> Result<(), F
     let alloc = rt.alloc();
     let set = set_of(alloc, &CONTROL)?;
     for line in SECOND.lines() {
-        let (records, expected) = line.split_once(" => ").ok_or(line)?;
-        let lines = records.replace(alloc, " ", "\n")?;
-        let text = format!(in alloc; "event,tick,length,task,job,how\n{lines}\n")?;
-        let got = outcome(alloc, &set, text.as_str())?;
-        assert_eq!(rt; got.as_str(), expected, "{records}");
+        assert!(rt;
+            is_line_answered(alloc, &set, SECOND_HEADER, line)?,
+            "{line}"
+        );
     }
     Ok(())
 }
 
-// A text longer than the part of a record that is read unseen: `lines` of the first line behind the header, and then the last.
+// A record of version 2 with quotes.
+const QUOTED: &str = "\"release\",0,,\"ctl\",\"1\",kept\n";
+
+// Long texts: a header, a text that stands behind it so many times, the last text, and what is answered.
+const LONG_TEXTS: [(&str, u32, &str, &str, &str); 9] = [
+    ("", 200_000, ",", "\n", "line 1: Header"),
+    (HEADER, 200_000, ",", "", "line 2: BadRecord"),
+    (SECOND_HEADER, 200_000, ",", "", "line 2: NotSix"),
+    // Quotes, and line feeds within them.
+    (SECOND_HEADER, 50_000, "\"\n\",", "", "line 2: NotSix"),
+    (SECOND_HEADER, 50_000, "\"\"\"\",", "", "line 2: NotSix"),
+    (
+        SECOND_HEADER,
+        10_000,
+        QUOTED,
+        "x,,,,,,\n",
+        "line 10002: NotSix",
+    ),
+    (
+        SECOND_HEADER,
+        10_000,
+        QUOTED,
+        "\"x\",,,,,\n",
+        "line 10002: UnknownEvent",
+    ),
+    (
+        SECOND_HEADER,
+        10_000,
+        QUOTED,
+        "\",,,,,,\",,,,,\n",
+        "line 10002: UnknownEvent",
+    ),
+    (SECOND_HEADER, 10_000, QUOTED, "", "10000 runs"),
+];
+
+// A text longer than the part of a record that is read unseen: a header, that many times the first text, and the last.
 fn long_text(
     alloc: Global,
     header: &str,
-    lines: u32,
+    count: u32,
     first: &str,
     last: &str,
 ) -> Result<String, AllocError> {
     let mut text = String::new(alloc);
     text.push_str(header)?;
-    for _ in 0..lines {
+    for _ in 0..count {
         text.push_str(first)?;
     }
     text.push_str(last)?;
@@ -250,53 +334,37 @@ fn long_text(
 fn a_wide_record_of_a_long_text_is_refused_by_its_width(rt: HostRuntime) -> Result<(), Fail> {
     let alloc = rt.alloc();
     let set = set_of(alloc, &CONTROL)?;
-    let second = "event,tick,length,task,job,how\n";
-    let quoted = "\"release\",0,,\"ctl\",\"1\",kept\n";
-    let cases = [
-        ("", 200_000, ",", "\n", "line 1: Header"),
-        (HEADER, 200_000, ",", "", "line 2: BadRecord"),
-        (second, 200_000, ",", "", "line 2: NotSix"),
-        // Quotes, and line feeds within them.
-        (second, 50_000, "\"\n\",", "", "line 2: NotSix"),
-        (second, 50_000, "\"\"\"\",", "", "line 2: NotSix"),
-        (second, 10_000, quoted, "x,,,,,,\n", "line 10002: NotSix"),
-        (
-            second,
-            10_000,
-            quoted,
-            "\"x\",,,,,\n",
-            "line 10002: UnknownEvent",
-        ),
-        (
-            second,
-            10_000,
-            quoted,
-            "\",,,,,,\",,,,,\n",
-            "line 10002: UnknownEvent",
-        ),
-        (second, 10_000, quoted, "", "10000 runs"),
-    ];
-    for (header, lines, first, last, expected) in cases {
-        let text = long_text(alloc, header, lines, first, last)?;
-        let got = outcome(alloc, &set, text.as_str())?;
-        assert_eq!(rt; got.as_str(), expected, "{first} {last}");
+    for (header, count, first, last, expected) in LONG_TEXTS {
+        let text = long_text(alloc, header, count, first, last)?;
+        assert!(rt;
+            is_answered(alloc, &set, text.as_str(), expected)?,
+            "{first} {last}"
+        );
     }
     Ok(())
+}
+
+// A trace of that many jobs.
+fn many_jobs(alloc: Global, count: u32) -> Result<String, AllocError> {
+    let mut text = String::from_str(alloc, SECOND_HEADER)?;
+    for k in 0..count {
+        push_tick(alloc, &mut text, k)?;
+    }
+    Ok(text)
+}
+
+fn push_tick(alloc: Global, text: &mut String, k: u32) -> Result<(), AllocError> {
+    let row = format!(in alloc; "tick,{k},1,ctl,{},done\n", k.wrapping_add(1))?;
+    text.push_str(row.as_str())
 }
 
 #[test]
 fn a_text_of_many_runs_is_read_and_written(rt: HostRuntime) -> Result<(), Fail> {
     let alloc = rt.alloc();
     let set = set_of(alloc, &CONTROL)?;
-    let mut text = String::from_str(alloc, "event,tick,length,task,job,how\n")?;
-    for k in 0..50_000u32 {
-        let row = format!(in alloc; "tick,{k},1,ctl,{},done\n", k + 1)?;
-        text.push_str(row.as_str())?;
-    }
-    let runs = read_trace(alloc, &set, text.as_bytes())?;
-    assert_eq!(rt; runs.len(), 50_000);
-    assert_eq!(rt; runs.get(49_999), Some(&ticks!(1, 50_000, Done, 1)));
-    let written = write_trace(alloc, &set, &runs)?;
+    let text = many_jobs(alloc, 50_000)?;
+    let (runs, written) = read_and_written(alloc, &set, text.as_str())?;
+    assert!(rt; has(&runs, 50_000, 49_999, ticks!(1, 50_000, Done, 1)));
     assert!(rt; written.as_slice() == text.as_bytes());
     Ok(())
 }

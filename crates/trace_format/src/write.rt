@@ -1,4 +1,4 @@
-ghost use Rattle.std.specs.Prelude.{◌≡◌, ◌+◌, ◌++◌, ◌≤◌, All, Ok, IfOk, OnOk, decimal, codes};
+ghost use Rattle.std.specs.Prelude.{◌≡◌, ◌+◌, ◌++◌, ◌≤◌, [], All, Ok, IfOk, OnOk, decimal, codes};
 ghost use Rattle.mc_model.specs.Runs.{length_of, AreRuns, IsRunOfSet};
 ghost use Rattle.mc_model.specs.TraceText.{how_word, kept_word, line_of, run_line, runs_text};
 ghost use Rattle.trace_format.specs.TraceFile.{trace_file};
@@ -72,7 +72,7 @@ fn push_run(out: &mut Vec<u8>, set: &TaskSet, tick: u32, run: Run) -> Result<(),
         }
         Run::Idles { length } => {
             let length = length_buffer.format(length);
-            push_line(out, "idle", tick, length, b"", "", "")
+            push_idles(out, tick, length)
         }
     }
 }
@@ -112,7 +112,19 @@ fn push_line(
     push_field(out, task)?;
     push_field(out, job.as_bytes())?;
     out.extend_from_slice(how.as_bytes())?;
-    out.extend_from_slice(b"\n")?;
+    out.push(b'\n')?;
+    Ok(())
+}
+
+// The line of idle ticks, which has no job.
+fn push_idles(out: &mut Vec<u8>, tick: u32, length: &str) -> Result<(), AllocError>
+    ensures { OnOk result (out.new.items ≡ out.old.items ++ line_of (codes "idle") (decimal tick) length.now [] [] []) }
+{
+    let mut buffer = Buffer::new();
+    out.extend_from_slice(b"idle,")?;
+    push_field(out, buffer.format(tick).as_bytes())?;
+    out.extend_from_slice(length.as_bytes())?;
+    out.extend_from_slice(b",,,\n")?;
     Ok(())
 }
 
@@ -120,6 +132,6 @@ fn push_field(out: &mut Vec<u8>, field: &[u8]) -> Result<(), AllocError>
     ensures { OnOk result (out.new.items ≡ out.old.items ++ (field.now ++ codes ",")) }
 {
     out.extend_from_slice(field)?;
-    out.extend_from_slice(b",")?;
+    out.push(b',')?;
     Ok(())
 }

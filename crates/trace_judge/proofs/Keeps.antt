@@ -21,7 +21,7 @@ use Rattle.mc_model.specs.Pending.{is_end}
 use Rattle.mc_model.specs.declared.row.How.TheVariants.{Over, More}
 use Rattle.mc_model.proofs.Booleans.{eqb-refl}
 use Rattle.mc_model.proofs.Lists.{Each, Each-all, filter_none}
-use Rattle.mc_model.proofs.Sums.{total-append, total-map, total-filter, total-ext, total-same}
+use Rattle.mc_model.proofs.Sums.{one, total-append, total-map, total-filter, total-ext, total-same, total-mono}
 use Rattle.mc_model.proofs.Repeats.{ticks_more, releases_more, next_more, mode_more, used_more, ticks_idle, releases_idle, next_idle, mode_idle, length_copies}
 use Rattle.trace_judge.specs.declared.waiting.Pending.{Pending}
 use Rattle.trace_judge.specs.Entries.{Entry, is_of, spent_entry, late_job_of, late_job}
@@ -33,8 +33,7 @@ use Rattle.trace_judge.specs.Tracks.{Tracks, entry_of, late_job_in}
 use Rattle.trace_judge.specs.Lates.{CountsLates, noted}
 use Rattle.trace_judge.specs.Rules.{is_due_at}
 use Rattle.trace_judge.specs.declared.lates.LateJob.{LateJob}
-use Rattle.trace_judge.specs.Firsts.{change_first}
-use Rattle.trace_judge.specs.Switch.{moved, rekeyed, noted_each, Overruns, is_discarded_late}
+use Rattle.trace_judge.specs.Switch.{moved, rekeyed, noted_each, Switches, Overruns, is_discarded_late}
 use Rattle.trace_judge.proofs.Placed.{release_count, fresh_used}
 use Rattle.trace_judge.proofs.Firsts.{total_removed, total_found, total_changed}
 use Rattle.trace_judge.proofs.Noted.{IsSum, counts_same, counts_note, counts_all}
@@ -137,8 +136,8 @@ waits_after set rule g s j how f v t h =
     ∙ sym (total-filter (λ x. f (entry_of set rule (Tick j how ∷ g) x)) (stays set j how) (waiting set g)))
 
 -- a count of ticks, where it is not at its end, with n more of the job's own
-spent_same : (f : ℕ → ℕ) (mine : Bool) (n u : ℕ) → u + n ≤ 2 ^ 32 - 1 → cond mine (f (min (u + n) (2 ^ 32 - 1))) (f u) ≡ f (cond mine n 0 + u)
-spent_same f true n u room = let e : min (u + n) (2 ^ 32 - 1) ≡ n + u = omega arith in rw e refl
+spent_same : (f : ℕ → ℕ) (mine : Bool) (n u : ℕ) → u + n ≤ 2 ^ 64 - 1 → cond mine (f (min (u + n) (2 ^ 64 - 1))) (f u) ≡ f (cond mine n 0 + u)
+spent_same f true n u room = let e : min (u + n) (2 ^ 64 - 1) ≡ n + u = omega arith in rw e refl
 spent_same f false n u room = let e : 0 + u ≡ u = omega arith in rw e refl
 
 -- what the jobs that are gone late sum up to
@@ -209,8 +208,17 @@ keeps_end set rule g s s' j how k p task l t ends over at found m = record {
     noted_so false e =
         counts_same s.lates (lates_of set g) (lates_of set (Tick j how ∷ g)) (λ f. let none = rw e at (adds f) in omega (arith, none)) t.lates
 
+-- each job has one entry after a switch, as it had before
+still_apart : (set : List Task) (rule : Rule) (i : JobId) (old new : List Entry) → Switches set rule old new → total (when (is_of i) one) old ≤ 1 → total (when (is_of i) one) new ≤ 1
+still_apart set rule i old new switches u =
+    omega (arith, switches (when (is_of i) one), total-mono (when (is_of i) one) (moved set rule (when (is_of i) one)) old (Each-all (λ e. no_more (task_at set e.0.1) e) old), u)
+  where
+    no_more : (o : Option Task) (e : Entry) → cond (is_high_in o) (when (is_of i) one (rekeyed rule o e.0 e.1, e.1)) 0 ≤ when (is_of i) one e
+    no_more None e = omega arith
+    no_more (Some task) e = grind arith
+
 -- what is kept follows an overrun
-pub keeps_over : (set : List Task) (rule : Rule) (g : List Row) (s s' : State) (j : JobId) → Legal set rule g → Tracks set rule g s → s.ticks + 1 ≤ 2 ^ 32 - 1 → is_virtual rule ≡ true →
+pub keeps_over : (set : List Task) (rule : Rule) (g : List Row) (s s' : State) (j : JobId) → Legal set rule g → Tracks set rule g s → s.ticks + 1 ≤ 2 ^ 64 - 1 → is_virtual rule ≡ true →
     Overruns set rule j s s' → Tracks set rule (Tick j Over ∷ g) s'
 keeps_over set rule g s s' j l t room virtual m = record {
   ticks = omega (arith, t.ticks, m.moves.ticks);
@@ -219,54 +227,49 @@ keeps_over set rule g s s' j l t room virtual m = record {
   count = ap length m.moves.tasks ∙ t.count;
   tasks = λ n h. ap (λ xs. slice_get xs n) m.moves.tasks ∙ t.tasks n h;
   queues = m.moves.queues ∙ t.queues;
-  waiting = λ f. m.waiting f ∙ (spends (moved set rule f) ∙ waits_after set rule g s j Over f (ticked_at 1 j (moved set rule f)) t (Each-all (λ x. each f x) (waiting set g)));
+  waiting = λ f. ap (total f) m.waiting
+      ∙ (total_changed (is_of j) (spent_entry 1) f m.switched (still_apart set rule j s.waiting.entries m.switched m.switches (apart set rule g s l t j))
+      ∙ (m.switches (ticked_at 1 j f) ∙ waits_after set rule g s j Over f (moved set rule (ticked_at 1 j f)) t (Each-all (λ x. each f x) (waiting set g))));
   lates = subst (λ x. CountsLates x (lates_of set (Tick j Over ∷ g))) (sym m.lates)
-      (counts_same (noted_each (is_discarded_late set s.ticks) s.lates es) (λ f. total (when (is_discarded_late set s.ticks) (λ e. f (late_job_of e))) es + lates_of set g f) (lates_of set (Tick j Over ∷ g))
-      (λ f. let w : Entry → ℕ = when (is_discarded_late set s.ticks) (λ e. f (late_job_of e)) in
-      omega (arith, spends w, lates_after set rule g s j Over f (ticked_at 1 j w) t (Each-all (λ x. gone f x) (waiting set g))))
-      (counts_all (is_discarded_late set s.ticks) s.lates (lates_of set g) es (sums_of set g) t.lates));
+      (counts_same (noted_each (is_discarded_late set s.ticks) s.lates s.waiting.entries) (λ f. total (when (is_discarded_late set s.ticks) (λ e. f (late_job_of e))) s.waiting.entries + lates_of set g f) (lates_of set (Tick j Over ∷ g))
+      (λ f. lates_after set rule g s j Over f (when (is_discarded_late set s.ticks) (λ e. f (late_job_of e))) t (Each-all (λ x. gone f x) (waiting set g)))
+      (counts_all (is_discarded_late set s.ticks) s.lates (lates_of set g) s.waiting.entries (sums_of set g) t.lates));
 }
   where
-    es : List Entry
-    es = change_first (is_of j) (spent_entry 1) s.waiting.entries
-
     mode_high : high_mode rule (Tick j Over ∷ g) ≡ true
     mode_high = rw virtual refl
 
-    spends : (w : Entry → ℕ) → total w es ≡ total (ticked_at 1 j w) s.waiting.entries
-    spends w = total_changed (is_of j) (spent_entry 1) w s.waiting.entries (apart set rule g s l t j)
+    -- an entry at its new key, with one more tick where it is the job's
+    entry_moved : (f : Entry → ℕ) (n k c r u place : ℕ) (o : Option Task) (h : Bool) → h ≡ true → u + 1 ≤ 2 ^ 64 - 1 →
+        cond (is_high_in o) (ticked_at 1 j f (rekeyed rule o (n, k, c) (a_pending r u place), a_pending r u place)) 0
+        ≡ cond (is_high_in o) (f (an_entry (key_of rule h o r) k c (a_pending r (cond ((j.task.0 == k) && (j.count == c)) 1 0 + u) place))) 0
+    entry_moved f n k c r u place None h high room = refl
+    entry_moved f n k c r u place (Some task) h high room =
+        rw high (ap (λ (v : ℕ). cond (is_high_in (Some task)) v 0)
+        (spent_same (λ u. f (an_entry (key_of rule true (Some task) r) k c (a_pending r u place))) ((j.task.0 == k) && (j.count == c)) 1 u room))
 
-    -- an entry at its new key, of the job or of another
-    entry_moved : (f : Entry → ℕ) (n k c r u place : ℕ) (o : Option Task) (mine : Bool) (h : Bool) → h ≡ true → u + 1 ≤ 2 ^ 32 - 1 →
-        cond mine (cond (is_high_in o) (f (rekeyed rule o (n, k, c) (a_pending r (min (u + 1) (2 ^ 32 - 1)) place), a_pending r (min (u + 1) (2 ^ 32 - 1)) place)) 0)
-        (cond (is_high_in o) (f (rekeyed rule o (n, k, c) (a_pending r u place), a_pending r u place)) 0)
-        ≡ cond (is_high_in o) (f (an_entry (key_of rule h o r) k c (a_pending r (cond mine 1 0 + u) place))) 0
-    entry_moved f n k c r u place None mine h high room = grind arith
-    entry_moved f n k c r u place (Some task) mine h high room =
-        rw high (spent_same (λ u. cond (is_high_in (Some task)) (f (an_entry (key_of rule true (Some task) r) k c (a_pending r u place))) 0) mine 1 u room)
-
-    each : (f : Entry → ℕ) (x : Placed) → ticked_at 1 j (moved set rule f) (entry_of set rule g x) ≡ cond (stays set j Over x) (f (entry_of set rule (Tick j Over ∷ g) x)) 0
+    each : (f : Entry → ℕ) (x : Placed) → moved set rule (ticked_at 1 j f) (entry_of set rule g x) ≡ cond (stays set j Over x) (f (entry_of set rule (Tick j Over ∷ g) x)) 0
     each f x =
         entry_moved f (key set rule (high_mode rule g) x.live) x.live.job.task.0 x.live.job.count x.live.release (used g x.live.job) x.place
-        (task_at set x.live.job.task.0) (same_job j x.live.job) (high_mode rule (Tick j Over ∷ g)) mode_high (omega (arith, room, t.ticks, used_le g x.live.job))
+        (task_at set x.live.job.task.0) (high_mode rule (Tick j Over ∷ g)) mode_high (omega (arith, room, t.ticks, used_le g x.live.job))
 
-    gone : (f : LateJob → ℕ) (x : Placed) → ticked_at 1 j (when (is_discarded_late set s.ticks) (λ e. f (late_job_of e))) (entry_of set rule g x) ≡ cond (not (stays set j Over x) && is_due set (ticks g) x) (f (late_job_in x)) 0
+    gone : (f : LateJob → ℕ) (x : Placed) → when (is_discarded_late set s.ticks) (λ e. f (late_job_of e)) (entry_of set rule g x) ≡ cond (not (stays set j Over x) && is_due set (ticks g) x) (f (late_job_in x)) 0
     gone f x = rw t.ticks (grind arith)
 
 -- a tick behind which its job goes on leaves all that waits
-waiting_more : (set : List Task) (j : JobId) (n : ℕ) (g : List Row) → waiting set (replicate n (Tick j More) ++ g) ≡ waiting set g
+pub waiting_more : (set : List Task) (j : JobId) (n : ℕ) (g : List Row) → waiting set (replicate n (Tick j More) ++ g) ≡ waiting set g
 waiting_more set j zero g = refl
 waiting_more set j (suc n) g = filter_true (waiting set (replicate n (Tick j More) ++ g)) ∙ waiting_more set j n g
 
 -- and none that is late by it
-gone_more : (set : List Task) (j : JobId) (n : ℕ) (g : List Row) → gone_late set (replicate n (Tick j More) ++ g) ≡ gone_late set g
+pub gone_more : (set : List Task) (j : JobId) (n : ℕ) (g : List Row) → gone_late set (replicate n (Tick j More) ++ g) ≡ gone_late set g
 gone_more set j zero g = refl
 gone_more set j (suc n) g =
     ap (λ xs. xs ++ gone_late set (replicate n (Tick j More) ++ g)) (filter_none (λ x. false) (waiting set (replicate n (Tick j More) ++ g)) (Each-all (λ x. refl) _))
     ∙ gone_more set j n g
 
 -- what is kept follows n ticks behind which their job goes on
-pub keeps_more : (set : List Task) (rule : Rule) (g : List Row) (s s' : State) (j : JobId) (n : ℕ) → Legal set rule g → Tracks set rule g s → s.ticks + n ≤ 2 ^ 32 - 1 →
+pub keeps_more : (set : List Task) (rule : Rule) (g : List Row) (s s' : State) (j : JobId) (n : ℕ) → Legal set rule g → Tracks set rule g s → s.ticks + n ≤ 2 ^ 64 - 1 →
     GoesOn n j s s' → Tracks set rule (replicate n (Tick j More) ++ g) s'
 keeps_more set rule g s s' j n l t room m = record {
   ticks = omega (arith, t.ticks, m.moves.ticks, ticks_more j n g);
@@ -289,11 +292,11 @@ keeps_more set rule g s s' j n l t room m = record {
 
 -- idle ticks leave what waits, and what was late
 
-waiting_idle : (set : List Task) (n : ℕ) (g : List Row) → waiting set (replicate n Idle ++ g) ≡ waiting set g
+pub waiting_idle : (set : List Task) (n : ℕ) (g : List Row) → waiting set (replicate n Idle ++ g) ≡ waiting set g
 waiting_idle set zero g = refl
 waiting_idle set (suc n) g = waiting_idle set n g
 
-gone_idle : (set : List Task) (n : ℕ) (g : List Row) → gone_late set (replicate n Idle ++ g) ≡ gone_late set g
+pub gone_idle : (set : List Task) (n : ℕ) (g : List Row) → gone_late set (replicate n Idle ++ g) ≡ gone_late set g
 gone_idle set zero g = refl
 gone_idle set (suc n) g = gone_idle set n g
 

@@ -11,3 +11,5 @@ pub mod Verdicts
 pub mod Reading
 pub mod Keeps
 pub mod Ticks
+pub mod Watching
+pub mod TurnedLate

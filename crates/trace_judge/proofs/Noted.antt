@@ -19,7 +19,7 @@ pub record IsSum (weigh : (LateJob → ℕ) → ℕ) : Type 0 where
 
 -- the sum alone tells how many and which first
 pub counts_same : (s : Lates) (v w : (LateJob → ℕ) → ℕ) → ((f : LateJob → ℕ) → v f ≡ w f) → CountsLates s v → CountsLates s w
-counts_same s v w h c = record { count = c.count ∙ ap (λ n. min n (2 ^ 32 - 1)) (h (λ x. 1)); first = earliest s.first c.first }
+counts_same s v w h c = record { count = c.count ∙ ap (λ n. min n (2 ^ 64 - 1)) (h (λ x. 1)); first = earliest s.first c.first }
   where
     earliest : (o : Option LateJob) → IsEarliest o v → IsEarliest o w
     earliest None e = sym (h (λ x. 1)) ∙ e

@@ -1,9 +1,9 @@
 -- The entries of the queues.
-use Rattle.std.proofs.Common.{◌≡◌, ◌≢◌, ℕ, zero, suc, ◌+◌, ◌-◌, ◌<◌, ◌≤◌, ◌==◌, Bool, true, false, nat_le, List, [], ◌∷◌, ◌++◌, Some, None, length, map, set, get_or, replicate, refl, sym, ap, ◌∙◌, arith, append_assoc}
+use Rattle.std.proofs.Common.{◌≡◌, ◌≢◌, ℕ, zero, suc, ◌+◌, ◌-◌, ◌<◌, ◌≤◌, ◌==◌, Bool, true, false, nat_le, List, [], ◌∷◌, ◌++◌, Some, None, length, map, set, get_or, drop, replicate, refl, sym, ap, ◌∙◌, arith, append_assoc}
 use Rattle.std.specs.Prelude.{find, All, Contains}
 use Rattle.std.specs.List.{AllByRecursion, list_any, list_all}
 use Rattle.std.proofs.lemmas.Bool.Decides.{nat_tests}
-use Rattle.std.proofs.lemmas.List.{length-map, length-set, map-set, set-get_or}
+use Rattle.std.proofs.lemmas.List.{length-map, length-set, map-set, set-get_or, drop_more, drop_all}
 use Rattle.std.proofs.lemmas.List.Folds.{list_any-append, list_all-append}
 use Rattle.std.proofs.Math.ListN.{get_or-map}
 use Rattle.mc_task.specs.declared.task.JobId.{JobId}
@@ -14,7 +14,7 @@ use Rattle.trace_judge.specs.declared.queue.Queued.{Queued}
 use Rattle.trace_judge.specs.Heads.{no_key}
 use Rattle.trace_judge.specs.Firsts.{edit_first}
 use Rattle.trace_judge.specs.Entries.{Entry, Held, HasQueue, IsMore, is_of}
-use Rattle.trace_judge.specs.Queues.{has_count, head_key, IsQueue, AreQueues, entry_in, entries_from, held}
+use Rattle.trace_judge.specs.Queues.{has_count, head_key, IsQueue, AreQueues, entry_in, entries_from, held, rest_of}
 use Rattle.trace_judge.proofs.Firsts.{find_behind, find_front, find-map, none-map, edit_behind, edit_front, edit-map}
 use Rattle.trace_judge.proofs.Ordered.{AllFrom, all_lower, head_least}
 
@@ -182,3 +182,34 @@ pub place_inside : (h : Held) (qs : List (List Queued)) (k : ℕ) → held qs �
 place_inside h qs k view has =
     let tasks : length qs ≡ h.tasks = ap (λ (x : Held). x.tasks) view in
     omega (arith, has.0, has.1, tasks)
+
+-- the entries that are left, from a job of the first queue on
+in_queue : (k : ℕ) (q : List Queued) (es : List Entry) (at : ℕ) (job : Queued) → at < length q → job ≡ get_or q at job → drop at (map (entry_in k) q ++ es) ≡ entry_in k job ∷ drop (at + 1) (map (entry_in k) q ++ es)
+in_queue k [] es at job h e = absurd (omega arith)
+in_queue k (x ∷ q) es zero job h e = ap (λ (y : Queued). entry_in k y ∷ (map (entry_in k) q ++ es)) (sym e)
+in_queue k (x ∷ q) es (suc at) job h e = let next : suc at + 1 ≡ suc (at + 1) = omega arith in rw next (in_queue k q es at job (omega (arith, h)) e)
+
+-- the entries after the last one of a queue are those of the queues after it
+past_queue : (k : ℕ) (q : List Queued) (es : List Entry) (at : ℕ) → at ≡ length q → drop at (map (entry_in k) q ++ es) ≡ es
+past_queue k [] es at e = rw e refl
+past_queue k (x ∷ q) es at e = rw e (past_queue k q es (length q) refl)
+
+-- the queues from one on
+from_queue : (qs : List (List Queued)) (next : ℕ) (q : List Queued) → next < length qs → q ≡ get_or qs next q → entries_from (next + 1) (drop next qs) ≡ map (entry_in (next + 1)) q ++ entries_from (next + 1 + 1) (drop (next + 1) qs)
+from_queue qs next q h e = ap (entries_from (next + 1)) (drop_more qs next q h ∙ ap (λ (r : List Queued). r ∷ drop (next + 1) qs) (sym e))
+
+pub take_one : (qs : List (List Queued)) (next at : ℕ) (q : List Queued) (job : Queued) → next < length qs → q ≡ get_or qs next q → at < length q → job ≡ get_or q at job →
+    rest_of qs next at ≡ entry_in (next + 1) job ∷ rest_of qs next (at + 1)
+take_one qs next at q job h e i j =
+    ap (drop at) (from_queue qs next q h e)
+    ∙ (in_queue (next + 1) q (entries_from (next + 1 + 1) (drop (next + 1) qs)) at job i j
+    ∙ sym (ap (λ (es : List Entry). entry_in (next + 1) job ∷ drop (at + 1) es) (from_queue qs next q h e)))
+
+pub next_queue : (qs : List (List Queued)) (next at : ℕ) (q : List Queued) → next < length qs → q ≡ get_or qs next q → at ≡ length q → rest_of qs next at ≡ rest_of qs (next + 1) 0
+next_queue qs next at q h e i = ap (drop at) (from_queue qs next q h e) ∙ past_queue (next + 1) q (entries_from (next + 1 + 1) (drop (next + 1) qs)) at i
+
+-- after the last queue there are no entries
+pub none_left : (qs : List (List Queued)) (next at : ℕ) → length qs ≤ next → at ≤ 0 → rest_of qs next at ≡ []
+none_left qs next at h i =
+    let first : at ≡ 0 = omega (arith, i) in
+    rw first (ap (entries_from (next + 1)) (drop_all next qs h))

@@ -98,7 +98,7 @@ at_first set rule r g m why e some l f = subst (StopsAt set rule r g) (sym e) (r
 pub record IsTicking (set : List Task) (rule : Rule) (g : List Row) (s : State) (j : JobId) (how : How) (n k : ℕ) (p : Pending) (task : Task) : Type 0 where
   pub legal : Legal set rule g
   pub tracks : Tracks set rule g s
-  pub room : s.ticks + n ≤ 2 ^ 32 - 1
+  pub room : s.ticks + n ≤ 2 ^ 62
   pub least : (find (is_of j) s.waiting.entries ≡ Some ((k, j.task.0, j.count), p)) × (list_all (λ (o : Entry). nat_le k o.0.0) s.waiting.entries ≡ true)
   pub at : task_at set j.task.0 ≡ Some task
   pub inside : IsIn set j.task.0
@@ -166,7 +166,7 @@ stops set rule g s j how n k p task i fit e h = one_stops set rule g s j how n k
 pub goes :
     (set : List Task) (rule : Rule) (g : List Row) (s s' : State) (j : JobId) (how : How) (n k : ℕ) (p : Pending) (task : Task) → IsTicking set rule g s j how n k p task →
     n ≤ fitting rule s.high_mode (Some task) p.used how n → Ticks set rule (Some task) j p how n s s' → Legal set rule (replicate n (Tick j how) ++ g) × Tracks set rule (replicate n (Tick j how) ++ g) s'
-goes set rule g s s' j More n k p task i h m = (more_fit set rule g s j n k p task i n (omega (arith, h)), keeps_more set rule g s s' j n i.legal i.tracks i.room m)
+goes set rule g s s' j More n k p task i h m = (more_fit set rule g s j n k p task i n (omega (arith, h)), keeps_more set rule g s s' j n i.legal i.tracks (omega (arith, i.room)) m)
 goes set rule g s s' j Over n k p task i h m =
     let f = one_fits set rule g s j Over n k p task i (λ e. cc) h in
     subst (λ (c : ℕ). Legal set rule (replicate c (Tick j Over) ++ g) × Tracks set rule (replicate c (Tick j Over) ++ g) s') (sym f.0)

@@ -3,9 +3,9 @@ use Rattle.std.proofs.Common.{[], ◌≡◌, Bool, true, false, List, ◌∷◌,
 use Rattle.std.specs.List.{AllByRecursion}
 use Rattle.std.proofs.lemmas.Bool.Decides.{nat_tests}
 use Rattle.std.proofs.lemmas.List.{reverse-append, map-append, length-reverse, length-map}
+use Rattle.std.specs.Option.{option_or}
 use Rattle.mc_task.specs.declared.task.JobId.{JobId}
 use Rattle.mc_task.specs.declared.task.Task.{Task}
-use Rattle.mc_task.specs.Faults.{or_else}
 use Rattle.mc_task.specs.declared.task.Rule.{Rule}
 use Rattle.mc_task.specs.TaskSet.{IsTask}
 use Rattle.mc_model.specs.declared.row.Row.{Row}
@@ -14,10 +14,9 @@ use Rattle.mc_model.specs.Rows.{same_job, ticks}
 use Rattle.mc_model.specs.Pending.{KeptRelease, released}
 use Rattle.mc_model.specs.Late.{is_late, late}
 use Rattle.mc_model.specs.Sums.{total, when}
-use Rattle.mc_model.specs.declared.verdict.Why.{Why}
-use Rattle.mc_model.specs.Legal.{Legal, fault}
+use Rattle.mc_model.specs.Legal.{Legal}
 use Rattle.mc_model.specs.Holds.{Holds}
-use Rattle.mc_model.specs.Verdict.{RowFault, first_unfit, verdict, verdict_of, HasNoLate}
+use Rattle.mc_model.specs.Verdict.{RowFault, first_unfit, verdict, HasNoLate}
 use Rattle.mc_model.specs.declared.verdict.Verdict.TheVariants as verdicts
 use Rattle.mc_model.proofs.Lists.{Each, Each-map, Each-filter}
 use Rattle.mc_model.proofs.Jobs.{job_eq}
@@ -65,17 +64,17 @@ filter_descends p (x ∷ xs) h =
 -- the last element
 abbrev pub last : {X : Type 0} → List X → Option X
 last [] = None
-last (x ∷ xs) = or_else (last xs) (Some x)
+last (x ∷ xs) = option_or (last xs) (Some x)
 
 -- the first, with one more at the end
-first_push : {X : Type 0} (xs : List X) (x : X) → slice_get (xs ++ x ∷ []) 0 ≡ or_else (slice_get xs 0) (Some x)
+first_push : {X : Type 0} (xs : List X) (x : X) → slice_get (xs ++ x ∷ []) 0 ≡ option_or (slice_get xs 0) (Some x)
 first_push [] x = refl
 first_push (y ∷ ys) x = refl
 
 -- the first of a reversed list is the last
 pub first-reverse : {X : Type 0} (xs : List X) → slice_get (reverse xs) 0 ≡ last xs
 first-reverse [] = refl
-first-reverse (x ∷ xs) = ap (λ ys. slice_get ys 0) (reverse-append (x ∷ []) xs) ∙ (first_push (reverse xs) x ∙ ap (λ o. or_else o (Some x)) (first-reverse xs))
+first-reverse (x ∷ xs) = ap (λ ys. slice_get ys 0) (reverse-append (x ∷ []) xs) ∙ (first_push (reverse xs) x ∙ ap (λ o. option_or o (Some x)) (first-reverse xs))
 
 -- what stands first of late jobs whose places fall is the last of them
 pub last_is : (o : Option LateJob) (xs : List Placed) → Descends xs → IsEarliest o (λ f. total (λ x. f (late_job_in x)) xs) → option_map (λ (m : LateJob). m.job) o ≡ last (map (λ (x : Placed). x.live.job) xs)
@@ -88,7 +87,7 @@ last_is (Some m) (x ∷ y ∷ ys) d e =
     let some = rw other at e.0 in
     last_is (Some m) (y ∷ ys) d.1 (omega (arith, some), omega (arith, e.1)) ∙ keep (last (map (λ (z : Placed). z.live.job) ys))
   where
-    keep : (o : Option JobId) → or_else o (Some y.live.job) ≡ or_else (or_else o (Some y.live.job)) (Some x.live.job)
+    keep : (o : Option JobId) → option_or o (Some y.live.job) ≡ option_or (option_or o (Some y.live.job)) (Some x.live.job)
     keep o = grind arith
 
 -- a reversed list, mapped
@@ -122,7 +121,7 @@ noted_at_end set rule h s l t =
     (counts_all (is_due_entry set s.ticks) s.lates (lates_of set h) s.waiting.entries (sums_of set h) t.lates)
 
 -- how many are late
-pub legal_count : (set : List Task) (h : List Row) (s : Lates) → length h < 2 ^ 32 → CountsLates s (λ f. total (λ x. f (late_job_in x)) (filter (λ x. is_late set h x.live) (placed h))) → s.count ≡ length (late set h)
+pub legal_count : (set : List Task) (h : List Row) (s : Lates) → length h < 2 ^ 64 → CountsLates s (λ f. total (λ x. f (late_job_in x)) (filter (λ x. is_late set h x.live) (placed h))) → s.count ≡ length (late set h)
 legal_count set h s room c =
     let ps : List Placed = filter (λ x. is_late set h x.live) (placed h) in
     let many : length (late set h) ≡ length ps = ap length (late_is set h)
@@ -141,14 +140,8 @@ pub fault_stays : (set : List Task) (rule : Rule) (p : RowFault) (xs h : List Ro
 fault_stays set rule p [] h e = e
 fault_stays set rule p (x ∷ xs) h e = rw (fault_stays set rule p xs h e) refl
 
--- the verdict where a row behind a legal trace does not fit
-pub illegal_verdict : (set : List Task) (rule : Rule) (why : Why) (later : List Row) (row : Row) (g : List Row) → Legal set rule g → Some why ≡ fault set rule row g → verdicts.Illegal (length g + 1) why ≡ verdict set rule (later ++ row ∷ g)
-illegal_verdict set rule why later row g l e =
-    let here : first_unfit set rule (row ∷ g) ≡ Some (record { place = length g + 1; why = why }) = rw (no_fault set rule g l, ← e) refl in
-    sym (ap (λ o. verdict_of o (late set (later ++ row ∷ g))) (fault_stays set rule (record { place = length g + 1; why = why }) later (row ∷ g) here))
-
 -- the verdict on a legal trace
-pub legal_verdict : (set : List Task) (rule : Rule) (h : List Row) (s : State) → Legal set rule h → Tracks set rule h s → length h < 2 ^ 32 → (lates : Lates) → lates ≡ noted_each (is_due_entry set s.ticks) s.lates s.waiting.entries →
+pub legal_verdict : (set : List Task) (rule : Rule) (h : List Row) (s : State) → Legal set rule h → Tracks set rule h s → length h < 2 ^ 64 → (lates : Lates) → lates ≡ noted_each (is_due_entry set s.ticks) s.lates s.waiting.entries →
     verdicts.Legal lates.count (option_map (λ (m : LateJob). m.job) lates.first) ≡ verdict set rule h
 legal_verdict set rule h s l t room lates is =
     let c = subst (λ (x : Lates). CountsLates x (λ f. total (λ x. f (late_job_in x)) (filter (λ x. is_late set h x.live) (placed h)))) (sym is) (noted_at_end set rule h s l t) in

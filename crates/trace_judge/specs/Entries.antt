@@ -48,7 +48,7 @@ late_job_of e = late_job (record { task = record { 0 = e.0.1 }; count = e.0.2 })
 
 -- with n more ticks used, as far as a count can go
 abbrev pub ticked : ℕ → Pending → Pending
-ticked n p = record { release = p.release; used = min (p.used + n) (2 ^ 32 - 1); place = p.place }
+ticked n p = record { release = p.release; used = min (p.used + n) (2 ^ 64 - 1); place = p.place }
 
 -- so has the entry's job
 abbrev pub spent_entry : ℕ → Entry → Entry

@@ -11,7 +11,7 @@ earlier (Some first) late = cond (nat_lt late.place first.place) (Some late) (So
 
 -- with one more late job, as far as a count can go
 abbrev pub noted : Lates → LateJob → Lates
-noted s late = record { count = min (s.count + 1) (2 ^ 32 - 1); first = earlier s.first late }
+noted s late = record { count = min (s.count + 1) (2 ^ 64 - 1); first = earlier s.first late }
 
 -- the two are one job, released at one place
 abbrev pub same_late : LateJob → LateJob → Bool
@@ -25,5 +25,5 @@ IsEarliest (Some m) weigh = (1 ≤ weigh (λ x. cond (same_late m x) 1 0)) × (w
 
 -- these are so many, and this is the first of them
 pub record CountsLates (s : Lates) (weigh : (LateJob → ℕ) → ℕ) : Type 0 where
-  pub count : s.count ≡ min (weigh (λ x. 1)) (2 ^ 32 - 1)
+  pub count : s.count ≡ min (weigh (λ x. 1)) (2 ^ 64 - 1)
   pub first : IsEarliest s.first weigh

@@ -8,3 +8,5 @@ pub mod Steps
 pub mod Switch
 pub mod Placed
 pub mod Tracks
+pub mod Watched
+pub mod Turned

@@ -42,9 +42,14 @@ entries_from k (q ∷ qs) = map (entry_in k) q ++ entries_from (k + 1) qs
 abbrev pub held : List (List Queued) → Held
 held queues = record { tasks = length queues; entries = entries_from 1 queues }
 
--- the entries of the queues from this index on
-abbrev pub rest_of : List (List Queued) → ℕ → List Entry
-rest_of queues next = entries_from (next + 1) (drop next queues)
+-- the entries of the queues from this index on, without the first `at` of them
+abbrev pub rest_of : List (List Queued) → ℕ → ℕ → List Entry
+rest_of queues next at = drop at (entries_from (next + 1) (drop next queues))
+
+-- these are entries of the queue at the index
+pub record IsRest (queues : List (List Queued)) (next at : ℕ) : Type 0 where
+  pub few : length queues < 2 ^ 32
+  pub inside : at ≤ length (slice_index_or queues next [])
 
 -- each is a queue, and these are the keys of their heads
 pub record AreQueues (queues : List (List Queued)) (heads : List ℕ) : Type 0 where

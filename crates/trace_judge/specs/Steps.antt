@@ -1,5 +1,6 @@
 -- What a row does to what is kept: the state before it and after it.
 use Rattle.std.specs.Prelude.{◌≡◌, ℕ, ◌+◌, ◌-◌, Bool, true, false, not, ◌||◌, ◌==◌, nat_lt, List, [], ◌∷◌, Option, None, slice_set, slice_index_or, cond, replicate}
+use Rattle.std.proofs.Math.Bool.{beq}
 use Rattle.mc_task.specs.declared.task.Rule.{Rule}
 use Rattle.mc_task.specs.declared.task.Task.{Task}
 use Rattle.mc_task.specs.declared.task.JobId.{JobId}
@@ -7,7 +8,7 @@ use Rattle.mc_model.specs.declared.verdict.Why.{Why}
 use Rattle.mc_model.specs.declared.verdict.Why.TheVariants.{TooSoon, WrongCount, WrongKept}
 use Rattle.mc_model.specs.TaskNumbers.{period_in, is_high_in}
 use Rattle.mc_model.specs.Key.{key_of}
-use Rattle.mc_model.specs.Legal.{first_of_parts, same_bool}
+use Rattle.mc_model.specs.Legal.{first_of_parts}
 use Rattle.trace_judge.specs.declared.waiting.Pending.{Pending}
 use Rattle.trace_judge.specs.declared.state.TaskNote.{TaskNote}
 use Rattle.trace_judge.specs.declared.state.State.{State}
@@ -26,7 +27,7 @@ release_why now high note t j kept =
     first_of_parts (
     (not (nat_lt now note.next), TooSoon)
     ∷ (j.count == note.releases + 1, WrongCount)
-    ∷ (same_bool kept (is_high_in t || not high), WrongKept)
+    ∷ (beq kept (is_high_in t || not high), WrongKept)
     ∷ []
     )
 

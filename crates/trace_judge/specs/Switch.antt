@@ -48,8 +48,10 @@ Switches set rule old new = (f : Entry → ℕ) → total f new ≡ total (moved
 pub record Overruns (set : List Task) (rule : Rule) (j : JobId) (old new : State) : Type 0 where
   pub moves : Moves 1 old new
   pub mode : new.high_mode ≡ true
-  pub waiting : Switches set rule (change_first (is_of j) (spent_entry 1) old.waiting.entries) new.waiting.entries
-  pub lates : new.lates ≡ noted_each (is_discarded_late set old.ticks) old.lates (change_first (is_of j) (spent_entry 1) old.waiting.entries)
+  pub switched : List Entry
+  pub switches : Switches set rule old.waiting.entries switched
+  pub waiting : new.waiting.entries ≡ change_first (is_of j) (spent_entry 1) switched
+  pub lates : new.lates ≡ noted_each (is_discarded_late set old.ticks) old.lates old.waiting.entries
 
 -- n ticks of the job of task t behind which it goes on, or one that ended so
 abbrev pub Ticks : List Task → Rule → Option Task → JobId → Pending → How → ℕ → State → State → Type 0

@@ -7,14 +7,14 @@ use mc_task::JobId;
 /// A late job, and the number of rows before its release.
 #[derive(Clone, Copy, Debug, PartialEq, Eq)]
 pub struct LateJob {
-    pub place: u32,
+    pub place: u64,
     pub job: JobId,
 }
 
 /// How many jobs were late, and which of them was released first.
 #[derive(Clone, Copy, Debug, PartialEq, Eq)]
 pub struct Lates {
-    pub count: u32,
+    pub count: u64,
     pub first: Option<LateJob>,
 }
 

@@ -3,13 +3,17 @@
 
 mod heads;
 mod lates;
+mod monitor;
 mod queue;
 mod rules;
 mod state;
 mod step;
 #[cfg(test)]
 mod tests;
+mod unfit;
 mod verdict;
 mod waiting;
 
+pub use monitor::{Monitor, ObserveFault, Turned};
+pub use unfit::Unfit;
 pub use verdict::judge;

@@ -1,6 +1,6 @@
 // The pending jobs of one task, in ascending order of their keys. Jobs of a task are released in that order, so a new one
 // comes last, and the one that runs is the first.
-ghost use Rattle.std.specs.Prelude.{◌≡◌, ◌+◌, ◌<◌, ◌≤◌, ℕ, [], ◌∷◌, OnOk, OnErr, MatchOption, IfOk, IfSome, IfNone, cond, length, true, false, find};
+ghost use Rattle.std.specs.Prelude.{◌≡◌, ◌+◌, ◌<◌, ◌≤◌, ℕ, [], OnOk, OnErr, IfOk, IfSome, IfNone, cond, length, slice_index_or, true, false, find};
 ghost use Rattle.std.specs.List.{list_any, insert, remove};
 ghost use Rattle.mc_model.specs.Sums.{total};
 ghost use Rattle.trace_judge.specs.Heads.{no_key};
@@ -91,7 +91,7 @@ impl Queue {
     {
         if let Some(place) = place_of(&self.jobs, count) {
             let used = self.jobs[place].pending.used;
-            self.jobs[place].pending.used = used.saturating_add(ticks);
+            self.jobs[place].pending.used = used.saturating_add(u64::from(ticks));
         }
     }
 
@@ -106,11 +106,19 @@ impl Queue {
         }
     }
 
-    /// Takes the first job out.
-    pub fn pop(&mut self) -> Option<Queued>
-        ensures { MatchOption result (self.old ≡ []) (λ job. self.old ≡ job ∷ self.new) }
+    /// How many jobs there are.
+    pub fn len(&self) -> usize
+        ensures { result ≡ length self.now }
     {
-        self.jobs.pop_front()
+        self.jobs.len()
+    }
+
+    /// The job at this index.
+    pub fn at(&self, index: usize) -> Queued
+        requires { index < length self.now }
+        ensures { (d : Queued) → result ≡ slice_index_or self.now index d }
+    {
+        self.jobs[index]
     }
 }
 

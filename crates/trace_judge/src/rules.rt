@@ -1,5 +1,5 @@
 // What the rules allow at a tick, by which key a job is ordered, and when a deadline has come.
-ghost use Rattle.std.specs.Prelude.{◌≡◌, ◌+◌, ◌<◌, Some};
+ghost use Rattle.std.specs.Prelude.{◌≡◌, ◌+◌, ◌<◌, ◌==◌, Some};
 ghost use Rattle.mc_model.specs.Holds.{Fits};
 ghost use Rattle.mc_model.specs.Key.{key_of};
 ghost use Rattle.trace_judge.specs.Heads.{no_key};
@@ -9,11 +9,18 @@ use mc_model::How;
 use mc_task::{Rule, Task};
 use virtual_key::key;
 
-// Whether a tick with which the job has had so many is an overrun.
-fn overruns(rule: Rule, high_mode: bool, task: &Task, used: u64) -> bool
-    ensures { result ≡ overruns rule high_mode (Some task.now) used }
+// Whether the next tick of a job that has had `used` ticks is the last one of this budget.
+fn is_last(used: u64, budget: u32) -> bool
+    ensures { result ≡ (used + 1 == budget) }
 {
-    task.is_high() && rule.is_virtual() && !high_mode && used == u64::from(task.low)
+    u64::from(budget).saturating_sub(used) == 1
+}
+
+// Whether the next tick of a job that has had `used` ticks is an overrun.
+fn overruns(rule: Rule, high_mode: bool, task: &Task, used: u64) -> bool
+    ensures { result ≡ overruns rule high_mode (Some task.now) (used + 1) }
+{
+    task.is_high() && rule.is_virtual() && !high_mode && is_last(used, task.low)
 }
 
 // The budget before which the ticks of a job of the task go on.
@@ -28,13 +35,13 @@ fn budget(rule: Rule, high_mode: bool, task: &Task) -> u32
 }
 
 /// How many of so many next ticks of a job of the task may end so, where it has had so many ticks.
-pub fn fitting(rule: Rule, high_mode: bool, task: &Task, used: u32, how: How, length: u32) -> u32
+pub fn fitting(rule: Rule, high_mode: bool, task: &Task, used: u64, how: How, length: u32) -> u32
     ensures { result ≡ fitting rule high_mode (Some task.now) used how length }
 {
     match how {
         How::More => {
-            let left = budget(rule, high_mode, task).saturating_sub(used);
-            length.min(left.saturating_sub(1))
+            let left = u64::from(budget(rule, high_mode, task)).saturating_sub(used);
+            u64::from(length).min(left.saturating_sub(1)) as u32
         }
         How::Done | How::Stop | How::Over => {
             if is_allowed(rule, high_mode, task, used, how) {
@@ -47,32 +54,33 @@ pub fn fitting(rule: Rule, high_mode: bool, task: &Task, used: u32, how: How, le
 }
 
 // Whether the next tick of a job of the task may end so, where it has had so many ticks.
-fn is_allowed(rule: Rule, high_mode: bool, task: &Task, used: u32, how: How) -> bool
+fn is_allowed(rule: Rule, high_mode: bool, task: &Task, used: u64, how: How) -> bool
     ensures { result ≡ allows rule high_mode (Some task.now) (used + 1) how }
 {
-    let used = u64::from(used) + 1;
-    let own = u64::from(task.high);
+    let last = is_last(used, task.high);
     match how {
-        How::Done => used <= own,
-        How::Stop => used == own,
-        How::Over => used != own && overruns(rule, high_mode, task, used),
-        How::More => used != own && !overruns(rule, high_mode, task, used),
+        How::Done => used < u64::from(task.high),
+        How::Stop => last,
+        How::Over => !last && overruns(rule, high_mode, task, used),
+        How::More => !last && !overruns(rule, high_mode, task, used),
     }
 }
 
 /// Whether the deadline of a job of the task that was released at this boundary has come at boundary `now`.
-pub fn is_due(task: &Task, release: u32, now: u32) -> bool
+pub fn is_due(task: &Task, release: u64, now: u64) -> bool
     ensures { result ≡ is_due_at (Some task.now) release now }
 {
-    u64::from(release) + u64::from(task.period) <= u64::from(now)
+    let period = u64::from(task.period);
+    period <= now && release <= now - period
 }
 
 /// The key of a job of the task that was released at this boundary. It is less than what stands for an empty queue.
-pub fn key_at(rule: Rule, high_mode: bool, task: &Task, release: u32) -> u128
+pub fn key_at(rule: Rule, high_mode: bool, task: &Task, release: u64) -> u128
     requires { Fits rule }
     ensures key { result ≡ key_of rule high_mode (Some task.now) release }
     ensures below { result < no_key }
 {
     let _period = task.period;
-    key(rule, high_mode, task, u64::from(release))
+    let _release = release;
+    key(rule, high_mode, task, release)
 }

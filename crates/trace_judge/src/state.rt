@@ -1,5 +1,5 @@
 // What is kept of the rows so far, and what each kind of row does to it.
-ghost use Rattle.std.specs.Prelude.{◌≡◌, ◌+◌, ◌-◌, ◌^◌, ◌<◌, ◌≤◌, OnOk, IfOk, IsSome, Some, length};
+ghost use Rattle.std.specs.Prelude.{◌≡◌, ◌+◌, ◌-◌, ◌^◌, ◌<◌, ◌≤◌, OnOk, OnErr, IfOk, IsSome, Some, length};
 ghost use Rattle.mc_task.specs.TaskSet.{IsIn, task_at};
 ghost use Rattle.mc_model.specs.Holds.{Fits};
 ghost use Rattle.mc_model.specs.TaskNumbers.{is_high_in};
@@ -15,7 +15,6 @@ use crate::waiting::{Pending, Rank, Waiting};
 use mc_model::{How, Why};
 use mc_task::{JobId, Memory, Rule, Task, TaskNo, TaskSet};
 use std::alloc::Global;
-use std::mem::replace;
 
 /// What is kept of a task: how many releases there were, and the first boundary at which the next may come.
 #[derive(Clone, Copy, Debug, PartialEq, Eq)]
@@ -28,8 +27,8 @@ pub struct TaskNote {
 /// the jobs that ended or were discarded late.
 #[derive(Drop)]
 pub struct State {
-    pub ticks: u32,
-    pub place: u32,
+    pub ticks: u64,
+    pub place: u64,
     pub high_mode: bool,
     pub tasks: Vec<TaskNote>,
     pub waiting: Waiting,
@@ -67,7 +66,7 @@ impl State {
         ensures { result ≡ release_why self.now.ticks self.now.high_mode (note_at self.now.tasks.items job.task.0) (Some task.now) job kept }
     {
         let note = self.tasks[job.task.0 as usize - 1];
-        if u64::from(self.ticks) < note.next {
+        if self.ticks < note.next {
             return Some(Why::TooSoon);
         }
         if job.count == 0 || job.count - 1 != note.releases {
@@ -85,8 +84,10 @@ impl State {
         requires first { 1 ≤ job.task.0 }
         requires last { job.task.0 ≤ length self.old.tasks.items }
         requires queue { HasQueue self.old.waiting job.task.0 }
-        requires room { self.old.place < 2 ^ 32 - 1 }
-        ensures { OnOk result (Releases rule (Some task.now) job kept self.old self.new) }
+        requires room { self.old.place < 2 ^ 62 }
+        requires time { self.old.ticks < 2 ^ 62 }
+        ensures follows { OnOk result (Releases rule (Some task.now) job kept self.old self.new) }
+        ensures unchanged { OnErr result (self.new ≡ self.old) }
     {
         if kept {
             let key = key_at(rule, self.high_mode, task, self.ticks);
@@ -99,7 +100,7 @@ impl State {
         }
         self.tasks[job.task.0 as usize - 1] = TaskNote {
             releases: job.count,
-            next: u64::from(self.ticks) + u64::from(task.period),
+            next: self.ticks + u64::from(task.period),
         };
         self.place += 1;
         Ok(())
@@ -107,12 +108,12 @@ impl State {
 
     /// Follows so many idle ticks.
     pub fn rest(&mut self, length: u32)
-        requires room { self.old.place + length ≤ 2 ^ 32 - 1 }
-        requires time { self.old.ticks + length ≤ 2 ^ 32 - 1 }
+        requires room { self.old.place + length ≤ 2 ^ 62 }
+        requires time { self.old.ticks + length ≤ 2 ^ 62 }
         ensures { Rests length self.old self.new }
     {
-        self.ticks += length;
-        self.place += length;
+        self.ticks += u64::from(length);
+        self.place += u64::from(length);
         self.high_mode = false;
     }
 
@@ -132,9 +133,10 @@ impl State {
         requires task { IsIn set.now.tasks job.task.0 }
         requires queues { HasQueues self.old.waiting set.now.tasks }
         requires some { 1 ≤ length }
-        requires room { self.old.place + length ≤ 2 ^ 32 - 1 }
-        requires time { self.old.ticks + length ≤ 2 ^ 32 - 1 }
-        ensures { OnOk result (Ticks set.now.tasks rule (Some task.now) job pending how length self.old self.new) }
+        requires room { self.old.place + length ≤ 2 ^ 62 }
+        requires time { self.old.ticks + length ≤ 2 ^ 62 }
+        ensures follows { OnOk result (Ticks set.now.tasks rule (Some task.now) job pending how length self.old self.new) }
+        ensures unchanged { OnErr result (self.new ≡ self.old) }
     {
         match how {
             How::More => self.go_on(job, length),
@@ -148,21 +150,21 @@ impl State {
     // So many ticks behind which the job goes on. No job ends or is discarded at them, so that none is found late.
     fn go_on(&mut self, job: JobId, length: u32)
         requires queue { HasQueue self.old.waiting job.task.0 }
-        requires room { self.old.place + length ≤ 2 ^ 32 - 1 }
-        requires time { self.old.ticks + length ≤ 2 ^ 32 - 1 }
+        requires room { self.old.place + length ≤ 2 ^ 62 }
+        requires time { self.old.ticks + length ≤ 2 ^ 62 }
         ensures { GoesOn length job self.old self.new }
     {
         self.waiting.spend(job, length);
-        self.ticks += length;
-        self.place += length;
+        self.ticks += u64::from(length);
+        self.place += u64::from(length);
     }
 
     // The last tick of a job, which is late where its deadline came before this tick. A call takes as long as a good part of it.
     #[inline(always)]
     fn end(&mut self, task: &Task, job: JobId, pending: Pending)
         requires queue { HasQueue self.old.waiting job.task.0 }
-        requires room { self.old.place < 2 ^ 32 - 1 }
-        requires time { self.old.ticks < 2 ^ 32 - 1 }
+        requires room { self.old.place < 2 ^ 62 }
+        requires time { self.old.ticks < 2 ^ 62 }
         ensures { Ends (Some task.now) job pending self.old self.new }
     {
         self.waiting.take_out(job);
@@ -184,49 +186,50 @@ impl State {
         requires fits { Fits rule }
         requires task { IsIn set.now.tasks job.task.0 }
         requires queues { HasQueues self.old.waiting set.now.tasks }
-        requires room { self.old.place < 2 ^ 32 - 1 }
-        requires time { self.old.ticks < 2 ^ 32 - 1 }
-        ensures { OnOk result (Overruns set.now.tasks rule job self.old self.new) }
+        requires room { self.old.place < 2 ^ 62 }
+        requires time { self.old.ticks < 2 ^ 62 }
+        ensures follows { OnOk result (Overruns set.now.tasks rule job self.old self.new) }
+        ensures unchanged { OnErr result (self.new ≡ self.old) }
     {
+        let (waiting, lates) = self.switched(alloc, set, rule)?;
+        self.waiting = waiting;
+        self.lates = lates;
         self.waiting.spend(job, 1);
-        self.switch(alloc, set, rule)?;
         self.high_mode = true;
         self.ticks += 1;
         self.place += 1;
         Ok(())
     }
 
-    // Discards the low jobs, and gives the high ones their keys of high mode. A job that is discarded is late where
-    // its deadline came before this tick.
-    fn switch(&mut self, alloc: Global, set: &TaskSet, rule: Rule) -> Result<(), Memory>
+    // The pending jobs without the low ones, which are discarded, and with the high ones at their keys of high mode; and
+    // the late jobs with those discarded: such a job is late where its deadline came before this tick.
+    fn switched(&self, alloc: Global, set: &TaskSet, rule: Rule) -> Result<(Waiting, Lates), Memory>
         requires { Fits rule }
-        ensures queues { OnOk result (HasQueues self.new.waiting set.now.tasks) }
-        ensures waiting { OnOk result (Switches set.now.tasks rule self.old.waiting.entries self.new.waiting.entries) }
-        ensures lates { OnOk result (self.new.lates ≡ noted_each (is_discarded_late set.now.tasks self.old.ticks) self.old.lates self.old.waiting.entries) }
-        ensures ticks { OnOk result (self.new.ticks ≡ self.old.ticks) }
-        ensures place { OnOk result (self.new.place ≡ self.old.place) }
-        ensures tasks { OnOk result (self.new.tasks.items ≡ self.old.tasks.items) }
+        ensures queues { IfOk result (λ r. HasQueues r.0 set.now.tasks) }
+        ensures waiting { IfOk result (λ r. Switches set.now.tasks rule self.now.waiting.entries r.0.entries) }
+        ensures lates { IfOk result (λ r. r.1 ≡ noted_each (is_discarded_late set.now.tasks self.now.ticks) self.now.lates self.now.waiting.entries) }
     {
-        let none = Waiting::new(alloc, set.len())?;
-        let mut rest = replace(&mut self.waiting, none).into_rest();
+        let mut waiting = Waiting::new(alloc, set.len())?;
+        let mut lates = self.lates;
+        let mut rest = self.waiting.rest();
         while let Some((at, pending)) = rest.pop() {
             let task = set.get(TaskNo(at.1));
             if is_high_task(&task) {
                 let at = rekeyed(rule, &task, at, pending);
-                self.waiting.put(at, pending)?;
+                waiting.put(at, pending)?;
             } else if is_due_task(&task, pending.release, self.ticks) {
-                self.lates.note(late_job(job_at(at), pending));
+                lates.note(late_job(job_at(at), pending));
             }
         }
-        Ok(())
+        Ok((waiting, lates))
     }
 
-    /// The late jobs of the whole trace: those so far, and the pending ones whose deadlines have come.
-    pub fn finish(self, set: &TaskSet) -> Lates
-        ensures { result ≡ noted_each (is_due_entry set.now.tasks self.ticks) self.lates self.waiting.entries }
+    /// The late jobs so far: those that ended or were discarded late, and the pending ones whose deadlines have come.
+    pub fn all_lates(&self, set: &TaskSet) -> Lates
+        ensures { result ≡ noted_each (is_due_entry set.now.tasks self.now.ticks) self.now.lates self.now.waiting.entries }
     {
         let mut lates = self.lates;
-        let mut rest = self.waiting.into_rest();
+        let mut rest = self.waiting.rest();
         while let Some((at, pending)) = rest.pop() {
             let task = set.get(TaskNo(at.1));
             if is_due_task(&task, pending.release, self.ticks) {
@@ -237,8 +240,8 @@ impl State {
     }
 }
 
-// The job of this rank.
-fn job_at(at: Rank) -> JobId
+/// The job of this rank.
+pub fn job_at(at: Rank) -> JobId
     ensures { result ≡ record { task = record { 0 = at.1 }; count = at.2 } }
 {
     JobId {
@@ -267,8 +270,8 @@ fn is_high_task(task: &Option<Task>) -> bool
     }
 }
 
-// Whether the deadline of a job of the task has come.
-fn is_due_task(task: &Option<Task>, release: u32, now: u32) -> bool
+/// Whether the deadline of a job of the task has come.
+pub fn is_due_task(task: &Option<Task>, release: u64, now: u64) -> bool
     ensures { result ≡ is_due_at task.now release now }
 {
     match task {

@@ -1,5 +1,5 @@
 // One run: whether its rows fit what is kept of the rows before it, and what is kept after it.
-ghost use Rattle.std.specs.Prelude.{◌≡◌, ◌≢◌, ◌-◌, ◌+◌, ◌^◌, ◌≤◌, IfOk, Some, length};
+ghost use Rattle.std.specs.Prelude.{◌≡◌, ◌≢◌, ◌-◌, ◌+◌, ◌^◌, ◌≤◌, IfOk, OnErr, IsSome, Some, length};
 ghost use Rattle.mc_task.specs.TaskSet.{task_at};
 ghost use Rattle.mc_model.specs.Holds.{Fits};
 ghost use Rattle.mc_model.specs.Runs.{size, IsRun, IsRunOfSet};
@@ -44,9 +44,11 @@ pub fn step(
     requires is_run { IsRun run }
     requires count { length state.old.tasks.items ≡ length set.now.tasks }
     requires queues { HasQueues state.old.waiting set.now.tasks }
-    requires room { state.old.place + size run ≤ 2 ^ 32 - 1 }
-    requires time { state.old.ticks + size run ≤ 2 ^ 32 - 1 }
-    ensures { IfOk result (λ misfit. IsStep set.now.tasks rule run state.old misfit state.new) }
+    requires room { state.old.place + size run ≤ 2 ^ 62 }
+    requires time { state.old.ticks + size run ≤ 2 ^ 62 }
+    ensures step { IfOk result (λ misfit. IsStep set.now.tasks rule run state.old misfit state.new) }
+    ensures misfit { IfOk result (λ misfit. IsSome misfit → state.new ≡ state.old) }
+    ensures unchanged { OnErr result (state.new ≡ state.old) }
 {
     match run {
         Run::Release { job, kept } => release(state, set, rule, job, kept),
@@ -67,8 +69,11 @@ fn release(
     requires task { IsRunOfSet set.now.tasks (run.Release job kept) }
     requires count { length state.old.tasks.items ≡ length set.now.tasks }
     requires queues { HasQueues state.old.waiting set.now.tasks }
-    requires room { state.old.place + 1 ≤ 2 ^ 32 - 1 }
-    ensures { IfOk result (λ misfit. IsStep set.now.tasks rule (run.Release job kept) state.old misfit state.new) }
+    requires room { state.old.place + 1 ≤ 2 ^ 62 }
+    requires time { state.old.ticks + 1 ≤ 2 ^ 62 }
+    ensures step { IfOk result (λ misfit. IsStep set.now.tasks rule (run.Release job kept) state.old misfit state.new) }
+    ensures misfit { IfOk result (λ misfit. IsSome misfit → state.new ≡ state.old) }
+    ensures unchanged { OnErr result (state.new ≡ state.old) }
 {
     let task = task_in(set, job.task);
     if let Some(why) = state.release_why(task, job, kept) {
@@ -92,9 +97,11 @@ fn tick(
     requires task { IsRunOfSet set.now.tasks (run.Ticks job how length) }
     requires is_run { IsRun (run.Ticks job how length) }
     requires queues { HasQueues state.old.waiting set.now.tasks }
-    requires room { state.old.place + length ≤ 2 ^ 32 - 1 }
-    requires time { state.old.ticks + length ≤ 2 ^ 32 - 1 }
-    ensures { IfOk result (λ misfit. IsStep set.now.tasks rule (run.Ticks job how length) state.old misfit state.new) }
+    requires room { state.old.place + length ≤ 2 ^ 62 }
+    requires time { state.old.ticks + length ≤ 2 ^ 62 }
+    ensures step { IfOk result (λ misfit. IsStep set.now.tasks rule (run.Ticks job how length) state.old misfit state.new) }
+    ensures misfit { IfOk result (λ misfit. IsSome misfit → state.new ≡ state.old) }
+    ensures unchanged { OnErr result (state.new ≡ state.old) }
 {
     match state.waiting.standing_of(job) {
         Standing::NotPending => Ok(Some(Misfit::first(Why::NotPending))),
@@ -120,10 +127,12 @@ fn tick_least(
     requires task { IsRunOfSet set.now.tasks (run.Ticks job how length) }
     requires is_run { IsRun (run.Ticks job how length) }
     requires queues { HasQueues state.old.waiting set.now.tasks }
-    requires room { state.old.place + length ≤ 2 ^ 32 - 1 }
-    requires time { state.old.ticks + length ≤ 2 ^ 32 - 1 }
+    requires room { state.old.place + length ≤ 2 ^ 62 }
+    requires time { state.old.ticks + length ≤ 2 ^ 62 }
     requires least { Stands state.old.waiting.entries job (standing.Least pending) }
-    ensures { IfOk result (λ misfit. IsStep set.now.tasks rule (run.Ticks job how length) state.old misfit state.new) }
+    ensures step { IfOk result (λ misfit. IsStep set.now.tasks rule (run.Ticks job how length) state.old misfit state.new) }
+    ensures misfit { IfOk result (λ misfit. IsSome misfit → state.new ≡ state.old) }
+    ensures unchanged { OnErr result (state.new ≡ state.old) }
 {
     let _is_set = set.len();
     let task = task_in(set, job.task);
@@ -141,9 +150,10 @@ fn tick_least(
 // Idle ticks, which fit or not as the first of them does.
 fn idle(state: &mut State, set: &TaskSet, rule: Rule, length: u32) -> Option<Misfit>
     requires is_run { IsRun (run.Idles length) }
-    requires room { state.old.place + length ≤ 2 ^ 32 - 1 }
-    requires time { state.old.ticks + length ≤ 2 ^ 32 - 1 }
-    ensures { IsStep set.now.tasks rule (run.Idles length) state.old result state.new }
+    requires room { state.old.place + length ≤ 2 ^ 62 }
+    requires time { state.old.ticks + length ≤ 2 ^ 62 }
+    ensures step { IsStep set.now.tasks rule (run.Idles length) state.old result state.new }
+    ensures misfit { IsSome result → state.new ≡ state.old }
 {
     if !state.waiting.is_empty() {
         return Some(Misfit::first(Why::IdlePending));

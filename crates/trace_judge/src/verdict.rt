@@ -1,13 +1,14 @@
-// The verdict, run by run.
-ghost use Rattle.std.specs.Prelude.{◌≡◌, ◌+◌, ◌<◌, IfOk, All, reverse, option_map};
+// The verdict on a whole trace.
+ghost use Rattle.std.specs.Prelude.{◌≡◌, IfOk, All, reverse};
 ghost use Rattle.mc_model.specs.Holds.{Fits, Holds};
 ghost use Rattle.mc_model.specs.Runs.{expand, AreRuns, IsRunOfSet};
-ghost use Rattle.mc_model.specs.declared.verdict.Verdict.TheVariants.{Legal, Illegal};
+ghost use Rattle.mc_model.specs.declared.verdict.Verdict.TheVariants.{Illegal};
 ghost use Rattle.mc_model.specs.Verdict.{verdict, HasNoLate};
 
-use crate::lates::Lates;
+use crate::monitor::{legal, unfit_after};
 use crate::state::State;
-use crate::step::{Misfit, step};
+use crate::step::step;
+use crate::unfit::Unfit;
 use mc_model::{Run, Verdict};
 use mc_task::{Memory, Rule, TaskSet};
 use std::alloc::Global;
@@ -30,32 +31,18 @@ pub fn judge(alloc: Global, set: &TaskSet, rule: Rule, runs: &[Run]) -> Result<V
     for run in runs {
         let before = state.place;
         if let Some(misfit) = step(&mut state, alloc, set, rule, *run)? {
-            return Ok(illegal(before, misfit));
+            return Ok(illegal(unfit_after(before, misfit)));
         }
     }
-    Ok(legal(state.finish(set)))
+    Ok(legal(state.all_lates(set)))
 }
 
-// The verdict where a row of a run does not fit, with so many rows before the run.
-fn illegal(before: u32, misfit: Misfit) -> Verdict
-    ensures { result ≡ Illegal (before + misfit.after + 1) misfit.why }
+// The verdict where this row is the first that does not fit.
+fn illegal(unfit: Unfit) -> Verdict
+    ensures { result ≡ Illegal unfit.place unfit.why }
 {
     Verdict::Illegal {
-        place: u64::from(before) + u64::from(misfit.after) + 1,
-        why: misfit.why,
-    }
-}
-
-// The verdict where each row fits.
-fn legal(lates: Lates) -> Verdict
-    ensures { result ≡ Legal lates.count (option_map (λ late. late.job) lates.first) }
-{
-    let first = match lates.first {
-        None => None,
-        Some(late) => Some(late.job),
-    };
-    Verdict::Legal {
-        late: u64::from(lates.count),
-        first,
+        place: unfit.place,
+        why: unfit.why,
     }
 }

@@ -1,5 +1,5 @@
 // The pending jobs: those of each task in a queue, and the least key of each queue.
-ghost use Rattle.std.specs.Prelude.{◌≡◌, ◌+◌, ◌<◌, ◌≤◌, ◌==◌, [], ◌∷◌, ◌^◌, IfOk, OnOk, MatchOption, length, replicate};
+ghost use Rattle.std.specs.Prelude.{◌≡◌, ◌+◌, ◌-◌, ◌<◌, ◌≤◌, ◌==◌, min, [], ◌∷◌, ◌^◌, IfOk, OnOk, OnErr, MatchOption, length, replicate};
 ghost use Rattle.trace_judge.specs.Heads.{no_key};
 ghost use Rattle.trace_judge.specs.Firsts.{change_first, remove_first};
 ghost use Rattle.trace_judge.specs.Entries.{HasQueue, IsMore, Stands, is_of, spent_entry};
@@ -13,9 +13,9 @@ use std::marker::Model;
 /// What is kept of a pending job: its release time, the ticks that it has had, and the number of rows before its release.
 #[derive(Clone, Copy, Debug, PartialEq, Eq)]
 pub struct Pending {
-    pub release: u32,
-    pub used: u32,
-    pub place: u32,
+    pub release: u64,
+    pub used: u64,
+    pub place: u64,
 }
 
 /// A job's key, its task's number and its count.
@@ -67,6 +67,18 @@ impl Waiting {
         self.heads.least() == NO_KEY
     }
 
+    /// How many jobs there are, as far as a count can go.
+    pub fn count(&self) -> u64
+        ensures { result ≡ min (length self.now.entries) (2 ^ 64 - 1) }
+    {
+        let mut count = 0u64;
+        let mut rest = self.rest();
+        while let Some(_) = rest.pop() {
+            count = count.saturating_add(1);
+        }
+        count
+    }
+
     /// Where the job stands.
     pub fn standing_of(&self, job: JobId) -> Standing
         requires { HasQueue self.now job.task.0 }
@@ -94,6 +106,7 @@ impl Waiting {
         requires key { at.0 < no_key }
         ensures tasks { OnOk result (self.new.tasks ≡ self.old.tasks) }
         ensures entries { OnOk result (IsMore self.new.entries (at, pending) self.old.entries) }
+        ensures unchanged { OnErr result (self.new ≡ self.old) }
     {
         let index = at.1 as usize - 1;
         let queue = &mut self.queues[index];
@@ -132,12 +145,13 @@ impl Waiting {
     }
 
     /// All jobs, to be gone through.
-    pub fn into_rest(self) -> Rest
-        ensures { result ≡ self.entries }
+    pub fn rest(&self) -> Rest<'_>
+        ensures { result ≡ self.now.entries }
     {
         Rest {
-            queues: self.queues,
+            queues: &self.queues,
             next: 0,
+            at: 0,
         }
     }
 }
@@ -153,37 +167,42 @@ fn empty_queues(alloc: Global, count: u32) -> Result<Vec<Queue>, AllocError>
     Ok(queues)
 }
 
-/// Pending jobs that are gone through, task by task.
+/// Pending jobs that are gone through, task by task: those of the queues from `next` on, without the first `at`.
 #[derive(Drop)]
-pub struct Rest {
-    queues: Vec<Queue>,
+pub struct Rest<'a> {
+    queues: &'a [Queue],
     next: usize,
+    at: usize,
 }
 
-impl Model for Rest {
-    ghost use Rattle.std.specs.Prelude.{◌^◌, ◌<◌, List, length};
+impl<'a> Model for Rest<'a> {
+    ghost use Rattle.std.specs.Prelude.{List};
     ghost use Rattle.trace_judge.specs.Entries.{Entry};
 
     ghost Value = { List Entry };
 
-    ghost use Rattle.trace_judge.specs.Queues.{rest_of};
+    ghost use Rattle.trace_judge.specs.Queues.{rest_of, IsRest};
 
-    ghost view = { λ a. rest_of a.queues.items a.next };
+    ghost view = { λ a. rest_of a.queues.now a.next a.at };
 
-    ghost invariant = { λ a. length a.queues.items < 2 ^ 32 };
+    ghost invariant = { λ a. IsRest a.queues.now a.next a.at };
 }
 
-impl Rest {
+impl<'a> Rest<'a> {
     /// The next job.
     pub fn pop(&mut self) -> Option<(Rank, Pending)>
         ensures { MatchOption result (self.old ≡ []) (λ e. self.old ≡ e ∷ self.new) }
     {
         while self.next < self.queues.len() {
-            let task = self.next as u32 + 1;
-            if let Some(job) = self.queues[self.next].pop() {
+            let queue = &self.queues[self.next];
+            if self.at < queue.len() {
+                let job = queue.at(self.at);
+                let task = self.next as u32 + 1;
+                self.at += 1;
                 return Some(((job.key, task, job.count), job.pending));
             }
             self.next += 1;
+            self.at = 0;
         }
         None
     }

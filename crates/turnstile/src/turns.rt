@@ -45,6 +45,7 @@ impl<S: Kept> Turnstile<S> {
     /// Draws a ticket, looks until it is served, and takes the state. It may wait for other turns to end, and nothing is said of
     /// how long. After a look that finds another ticket it backs off, and after some of these it yields the processor until
     /// another thread's `leave` wakes it, or for a while.
+    #[inline(always)]
     pub fn enter<R: Wait>(&self, rt: &R, seat: Seat<S>) -> Turn<'_, S>
         requires of { IsOf self.now seat }
         ensures of { IsTurnOf self.now result }

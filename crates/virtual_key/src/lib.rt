@@ -1,7 +1,7 @@
 //! The key by which a pending job is ordered.
 #![tactic(auto)]
 
-ghost use Rattle.std.specs.Prelude.{◌≡◌, ◌≤◌, ◌^◌, Some};
+ghost use Rattle.std.specs.Prelude.{◌≡◌, Some};
 ghost use Rattle.mc_model.specs.Key.{key_of};
 ghost use Rattle.mc_model.specs.Holds.{Fits};
 
@@ -23,7 +23,6 @@ use mc_task::{Level, Rule, Task};
 /// In high mode no job of a low task is pending. It takes no memory and cannot fail.
 pub fn key(rule: Rule, high_mode: bool, task: &Task, release: u64) -> u128
     requires fits { Fits rule }
-    requires release { release ≤ 2 ^ 62 }
     ensures { result ≡ key_of rule high_mode (Some task.now) release }
 {
     let release = u128::from(release);

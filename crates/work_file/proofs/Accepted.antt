@@ -1,9 +1,9 @@
 -- A list of work is taken as it stands.
 use Rattle.std.proofs.Common.{◌≡◌, ℕ, ◌+◌, ◌≤◌, inl, inr, false, ◌==◌, nat_le, nat_lt, cond, List, [], ◌∷◌, ◌++◌, length, Option, Some, None, refl, sym, subst, arith, append_assoc, length-append}
 use Rattle.std.proofs.lemmas.Bool.Decides.{nat_tests, eqb_tells}
+use Rattle.std.specs.Option.{option_or}
 use Rattle.mc_task.specs.declared.task.Task.{Task}
 use Rattle.mc_task.specs.TaskSet.{IsTask, task_at}
-use Rattle.mc_task.specs.Faults.{or_else}
 use Rattle.mc_model.specs.TaskNumbers.{period_in}
 use Rattle.mc_model.specs.Work.{MayFollow, AllFollow, IsNeed, IsWork}
 use Rattle.mc_model.specs.declared.work.WorkRow.{WorkRow}
@@ -36,7 +36,7 @@ next-le set (v ∷ vs) w h = go (last_of w.task.0 vs) (next-le set vs w h.1)
     p : ℕ
     p = period_in (task_at set w.task.0)
 
-    go : (o : Option WorkRow) → period_after (period_in (task_at set w.task.0)) o ≤ w.release → period_after (period_in (task_at set w.task.0)) (or_else o (cond (v.task.0 == w.task.0) (Some v) None)) ≤ w.release
+    go : (o : Option WorkRow) → period_after (period_in (task_at set w.task.0)) o ≤ w.release → period_after (period_in (task_at set w.task.0)) (option_or o (cond (v.task.0 == w.task.0) (Some v) None)) ≤ w.release
     go (Some x) known = known
     go None known =
         elim (eqb_tells v.task.0 w.task.0) [

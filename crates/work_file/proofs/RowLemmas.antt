@@ -1,9 +1,9 @@
 -- What is known of a row that may stand after others.
 use Rattle.std.proofs.Common.{IfNone, set, ◌≡◌, ℕ, ◌+◌, ◌-◌, ◌≤◌, ◌⊎◌, inl, inr, Bool, true, false, ◌==◌, nat_lt, cond, List, [], ◌∷◌, ◌++◌, length, Option, Some, None, refl, sym, ap, ◌∙◌, subst, arith, slice_get}
 use Rattle.std.proofs.lemmas.Bool.Decides.{nat_tests}
+use Rattle.std.specs.Option.{option_or}
 use Rattle.mc_task.specs.declared.task.Task.{Task}
 use Rattle.mc_task.specs.TaskSet.{task_at, IsIn}
-use Rattle.mc_task.specs.Faults.{or_else}
 use Rattle.mc_model.specs.TaskNumbers.{period_in}
 use Rattle.mc_model.specs.Work.{MayFollow, AllFollow, IsNeed, IsWork}
 use Rattle.mc_model.specs.declared.work.WorkRow.{WorkRow}
@@ -23,20 +23,20 @@ last_some (v ∷ us) w h =
     at_last v us w (subst (λ (n : ℕ). slice_get (v ∷ us) n ≡ Some w) place h)
 
 -- one more row is the last of its task, and no other task's
-more_cases : (o : Option WorkRow) (a b : Bool) (v w : WorkRow) → or_else (cond a (Some w) o) (cond b (Some v) None) ≡ cond a (Some w) (or_else o (cond b (Some v) None))
+more_cases : (o : Option WorkRow) (a b : Bool) (v w : WorkRow) → option_or (cond a (Some w) o) (cond b (Some v) None) ≡ cond a (Some w) (option_or o (cond b (Some v) None))
 more_cases o true b v w = refl
 more_cases o false b v w = refl
 
 pub last_of-more : (k : ℕ) (ws : List WorkRow) (w : WorkRow) → last_of k (ws ++ w ∷ []) ≡ cond (w.task.0 == k) (Some w) (last_of k ws)
 last_of-more k [] w = refl
 last_of-more k (v ∷ vs) w =
-    ap (λ (o : Option WorkRow). or_else o (cond (v.task.0 == k) (Some v) None)) (last_of-more k vs w)
+    ap (λ (o : Option WorkRow). option_or o (cond (v.task.0 == k) (Some v) None)) (last_of-more k vs w)
     ∙ more_cases (last_of k vs) (w.task.0 == k) (v.task.0 == k) v w
 
 -- the second choice is taken where there is no first
-or_else-cases : {A : Type 0} (a b : Option A) (x : A) → or_else a b ≡ Some x → (a ≡ Some x) ⊎ ((a ≡ None) × (b ≡ Some x))
-or_else-cases (Some y) b x h = inl h
-or_else-cases None b x h = inr (refl, h)
+option_or-cases : {A : Type 0} (a b : Option A) (x : A) → option_or a b ≡ Some x → (a ≡ Some x) ⊎ ((a ≡ None) × (b ≡ Some x))
+option_or-cases (Some y) b x h = inl h
+option_or-cases None b x h = inr (refl, h)
 
 chosen : {A : Type 0} (t : Bool) (x y : A) → cond t (Some x) None ≡ Some y → (t ≡ true) × (x ≡ y)
 chosen true x y h = (refl, cc)
@@ -52,7 +52,7 @@ follow-last_of : (set : List Task) (v : WorkRow) (us : List WorkRow) (x : WorkRo
     → v.release + period_in (task_at set v.task.0) ≤ x.release
 follow-last_of set v [] x h e = absurd (cc)
 follow-last_of set v (u ∷ us) x h e =
-    elim (or_else-cases (last_of v.task.0 us) (cond (u.task.0 == v.task.0) (Some u) None) x e) [
+    elim (option_or-cases (last_of v.task.0 us) (cond (u.task.0 == v.task.0) (Some u) None) x e) [
       | inl later ↦ follow-last_of set v us x (h.1) later
       | inr this ↦
           let is = chosen (u.task.0 == v.task.0) u x (this.1) in
@@ -69,7 +69,7 @@ rest-last : (v : WorkRow) (vs : List WorkRow) (r : ℕ) → last_release (v ∷ 
 rest-last v [] r h = omega arith
 rest-last v (u ∷ us) r h = h
 
-rest-next : (p r : ℕ) (o first : Option WorkRow) → period_after p (or_else o first) ≤ r → period_after p o ≤ r
+rest-next : (p r : ℕ) (o first : Option WorkRow) → period_after p (option_or o first) ≤ r → period_after p o ≤ r
 rest-next p r None first h = omega arith
 rest-next p r (Some x) first h = h
 
@@ -78,7 +78,7 @@ first-apart : (set : List Task) (v : WorkRow) (vs : List WorkRow) (r : ℕ) → 
     → v.release + period_in (task_at set v.task.0) ≤ r
 first-apart set v vs r h next = by (last_of v.task.0 vs) refl next
   where
-    by : (o : Option WorkRow) → last_of v.task.0 vs ≡ o → period_after (period_in (task_at set v.task.0)) (or_else o (cond (v.task.0 == v.task.0) (Some v) None)) ≤ r
+    by : (o : Option WorkRow) → last_of v.task.0 vs ≡ o → period_after (period_in (task_at set v.task.0)) (option_or o (cond (v.task.0 == v.task.0) (Some v) None)) ≤ r
         → v.release + period_in (task_at set v.task.0) ≤ r
     by (Some x) e h2 = let later : v.release + period_in (task_at set v.task.0) ≤ x.release = follow-last_of set v vs x h e in omega arith
     by None e h2 = grind (arith, nat_tests, h2)

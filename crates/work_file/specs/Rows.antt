@@ -1,8 +1,8 @@
 -- Which row may stand after others. Times are in ticks, and the last row of a list is the newest.
 use Rattle.std.specs.Prelude.{ℕ, ◌+◌, ◌==◌, nat_le, nat_lt, if◌then◌else◌, List, [], ◌∷◌, ◌++◌, length, Option, Some, None, option_map}
+use Rattle.std.specs.Option.{option_or}
 use Rattle.mc_task.specs.declared.task.Task.{Task}
 use Rattle.mc_task.specs.TaskSet.{task_at}
-use Rattle.mc_task.specs.Faults.{or_else}
 use Rattle.mc_model.specs.TaskNumbers.{period_in}
 use Rattle.mc_model.specs.declared.work.WorkRow.{WorkRow}
 use Rattle.work_file.specs.declared.fault.WorkCause.{WorkCause}
@@ -18,7 +18,7 @@ last_release (w ∷ v ∷ ws) = last_release (v ∷ ws)
 -- the last row of task number k
 abbrev pub last_of : ℕ → List WorkRow → Option WorkRow
 last_of k [] = None
-last_of k (w ∷ ws) = or_else (last_of k ws) (if w.task.0 == k then Some w else None)
+last_of k (w ∷ ws) = option_or (last_of k ws) (if w.task.0 == k then Some w else None)
 
 -- a period after the release of the row; 0 where there is no row
 abbrev pub period_after : ℕ → Option WorkRow → ℕ
@@ -50,7 +50,7 @@ row_fault set before w = if nat_le 1000000 (length before) then Some TooMany els
 abbrev pub first_bad_after : List Task → List WorkRow → List WorkRow → Option BadRow
 first_bad_after set before [] = None
 first_bad_after set before (w ∷ ws) =
-    or_else (option_map (λ cause. record { index = length before; cause = cause }) (row_fault set before w))
+    option_or (option_map (λ cause. record { index = length before; cause = cause }) (row_fault set before w))
     (first_bad_after set (before ++ w ∷ []) ws)
 
 -- the first row that may not stand after those before it, and why

@@ -1,5 +1,6 @@
 -- What the records of a work file say: its rows, or the first refusal.
-use Rattle.std.specs.Prelude.{ℕ, Bool, ◌&&◌, ◌==◌, nat_le, if◌then◌else◌, List, [], codes, length, Option, Some, None, unwrap_or, Result, Ok, Err}
+use Rattle.std.specs.Prelude.{ℕ, Bool, ◌==◌, nat_le, if◌then◌else◌, List, [], ◌∷◌, codes, length, Option, Some, None, unwrap_or, Result, Ok, Err}
+use lib.Pointwise.{pointwise}
 use Rattle.std.specs.Str.{bytes_eq}
 use Rattle.csv.specs.Records.{field_at}
 use Rattle.csv_records.specs.Rows.{Means, rows_in, or_fault}
@@ -19,7 +20,7 @@ field fields i = unwrap_or (field_at fields i) []
 
 -- the record is `task,release,need`
 abbrev pub is_header : List (List ℕ) → Bool
-is_header fields = length fields == 3 && (bytes_eq (field fields 0) (codes "task") && (bytes_eq (field fields 1) (codes "release") && bytes_eq (field fields 2) (codes "need")))
+is_header fields = pointwise bytes_eq fields (codes "task" ∷ codes "release" ∷ codes "need" ∷ [])
 
 -- the row of a task, a release and a need, where both are numbers
 abbrev pub numbered_row : ℕ → Option ℕ → Option ℕ → Result WorkRow WorkCause

@@ -40,6 +40,7 @@ struct WorkRecords<'a> {
 impl<'a> Meaning for WorkRecords<'a> {
     ghost use Rattle.std.proofs.Common.{arith};
     ghost use Rattle.std.proofs.lemmas.Bool.Decides.{nat_tests};
+    ghost use Rattle.csv_records.proofs.WordLemmas.{words_length};
     ghost use Rattle.work_file.specs.Reading.{AreRead};
     ghost use Rattle.work_file.specs.WorkFile.{behind_header, record_row};
 
@@ -81,7 +82,7 @@ impl<'a> Meaning for WorkRecords<'a> {
         }
     }
 
-    ghost narrow = { λ file fields wide. Prim.grind (arith, nat_tests) };
+    ghost narrow = { λ file fields wide. Prim.grind (arith, nat_tests, words_length) };
 
     ghost few = { λ file next rows read. let few = read.few in Prim.omega (arith, few) };
 }

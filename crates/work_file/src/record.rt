@@ -11,10 +11,11 @@ use crate::WorkCause;
 use crate::next::NextReleases;
 use csv::ByteRecord;
 use mc_model::WorkRow;
-use mc_task::TaskSet;
+use mc_task::{TaskNo, TaskSet};
 use numeral::number;
 
 // Whether the record is `task,release,need`.
+#[tactic(auto, using(csv_records::proofs::WordLemmas::words_by_place))]
 pub fn is_header(fields: &ByteRecord) -> bool
     ensures { result ≡ file.is_header (fields_of fields.now) }
 {
@@ -59,19 +60,27 @@ pub fn record_row(
     if fields.len() != 3 {
         return Err(WorkCause::BadRecord);
     }
-    let row = row_of(set, fields)?;
+    let row = row_of(set, near(before), fields)?;
     match next.take(set, before, row) {
         Some(cause) => Err(cause),
         None => Ok(row),
     }
 }
 
+// The task of the last row, near which the next row's likely is. It decides only how soon a task is found.
+fn near(before: &[WorkRow]) -> TaskNo {
+    match before.last() {
+        Some(row) => row.task,
+        None => TaskNo(1),
+    }
+}
+
 // The row that three fields say.
-fn row_of(set: &TaskSet, fields: &ByteRecord) -> Result<WorkRow, WorkCause>
+fn row_of(set: &TaskSet, near: TaskNo, fields: &ByteRecord) -> Result<WorkRow, WorkCause>
     ensures row { result ≡ file.row_of set.now.tasks (fields_of fields.now) }
     ensures task { IfOk result (λ row. IsIn set.now.tasks row.task.0) }
 {
-    let Some(task) = set.find(field(fields, 0)) else {
+    let Some(task) = set.find_near(field(fields, 0), near) else {
         return Err(WorkCause::UnknownTask);
     };
     let Some(release) = number(field(fields, 1)) else {

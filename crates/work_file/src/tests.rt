@@ -1,21 +1,50 @@
 use crate::{Work, WorkCause, WorkFault, read_work};
+use mc_model::WorkRow;
 use mc_task::{Level, TaskSet};
 use std::alloc::{AllocError, Global};
 use std::test::Fail;
 use worked_sets::{CONTROL, Job, set_of, work_row, work_rows};
 
-// The rows as `task@release+need`, or the refusal.
-fn outcome(alloc: Global, set: &TaskSet, bytes: &[u8]) -> Result<String, AllocError> {
-    let work = match read_work(alloc, set, bytes) {
-        Ok(work) => work,
-        Err(fault) => return format!(in alloc; "{fault}"),
-    };
+// The rows as `task@release+need`.
+fn rows_text(alloc: Global, rows: &[WorkRow]) -> Result<String, AllocError> {
     let mut text = String::new(alloc);
-    for row in work.rows() {
-        let row = format!(in alloc; "{}@{}+{} ", row.task.0, row.release, row.need)?;
-        text.push_str(row.as_str())?;
+    for row in rows {
+        push_row(alloc, &mut text, *row)?;
     }
     Ok(text)
+}
+
+fn push_row(alloc: Global, text: &mut String, row: WorkRow) -> Result<(), AllocError> {
+    let row = format!(in alloc; "{}@{}+{} ", row.task.0, row.release, row.need)?;
+    text.push_str(row.as_str())
+}
+
+// Whether the file is answered so: by its rows, or by its refusal.
+fn is_answered(
+    alloc: Global,
+    set: &TaskSet,
+    bytes: &[u8],
+    expected: &str,
+) -> Result<bool, AllocError> {
+    let got = match read_work(alloc, set, bytes) {
+        Ok(work) => rows_text(alloc, work.rows())?,
+        Err(fault) => format!(in alloc; "{fault}")?,
+    };
+    Ok(got.as_str() == expected)
+}
+
+const HEADER: &str = "task,release,need\n";
+
+// Whether these records, with spaces between them, are answered so after the header.
+fn are_answered(
+    alloc: Global,
+    set: &TaskSet,
+    records: &str,
+    expected: &str,
+) -> Result<bool, AllocError> {
+    let lines = records.replace(alloc, " ", "\n")?;
+    let text = format!(in alloc; "{HEADER}{lines}\n")?;
+    is_answered(alloc, set, text.as_bytes(), expected)
 }
 
 // Files, each with its rows or its first refusal.
@@ -94,18 +123,14 @@ const RECORDS: [(&str, &str); 27] = [
 fn a_file_gives_its_rows_or_its_first_refusal(rt: HostRuntime) -> Result<(), Fail> {
     let alloc = rt.alloc();
     let set = set_of(alloc, &CONTROL)?;
-    for (text, expected) in FILES {
-        let got = outcome(alloc, &set, text.as_bytes())?;
-        assert_eq!(rt; got.as_str(), expected, "{text}");
+    for (text, expected) in &FILES {
+        assert!(rt;
+            is_answered(alloc, &set, text.as_bytes(), expected)?,
+            "{text}"
+        );
     }
-    for (records, expected) in RECORDS {
-        let mut text = String::from_str(alloc, "task,release,need\n")?;
-        for record in records.split(' ') {
-            text.push_str(record)?;
-            text.push('\n')?;
-        }
-        let got = outcome(alloc, &set, text.as_bytes())?;
-        assert_eq!(rt; got.as_str(), expected, "{records}");
+    for (records, expected) in &RECORDS {
+        assert!(rt; are_answered(alloc, &set, records, expected)?, "{records}");
     }
     Ok(())
 }
@@ -134,56 +159,94 @@ const LISTS: [(&[Job], Option<(usize, WorkCause)>); 11] = [
     (&[(1, u32::MAX, u32::MAX)], None),
 ];
 
+// Whether the list is work with these rows, or has this first bad row.
+fn is_judged(
+    alloc: Global,
+    set: &TaskSet,
+    list: &[Job],
+    expected: Option<(usize, WorkCause)>,
+) -> Result<bool, AllocError> {
+    let rows = work_rows(alloc, list)?;
+    let copy = work_rows(alloc, list)?;
+    match Work::new(set, rows) {
+        Ok(work) => Ok(expected.is_none() && work.rows() == copy.as_slice()),
+        Err(bad) => Ok(expected == Some((bad.index, bad.cause))),
+    }
+}
+
 #[test]
 fn a_list_is_work_or_has_a_first_bad_row(rt: HostRuntime) -> Result<(), Fail> {
     let alloc = rt.alloc();
     let set = set_of(alloc, &CONTROL)?;
     for (list, expected) in LISTS {
-        let rows = work_rows(alloc, list)?;
-        let copy = rows.clone()?;
-        match Work::new(&set, rows) {
-            Ok(work) => {
-                assert!(rt; expected.is_none());
-                assert!(rt; work.rows() == copy.as_slice());
-            }
-            Err(bad) => assert_eq!(rt; Some((bad.index, bad.cause)), expected),
-        }
+        assert!(rt; is_judged(alloc, &set, list, expected)?, "{list:?}");
     }
     Ok(())
+}
+
+// A million rows of one task.
+fn million_rows(alloc: Global) -> Result<Vec<WorkRow>, AllocError> {
+    let mut rows = Vec::new(alloc);
+    for release in 0..1_000_000u32 {
+        rows.push(work_row(1, release, 1))?;
+    }
+    Ok(rows)
+}
+
+// The file of a million rows.
+fn million_records(alloc: Global) -> Result<String, AllocError> {
+    let mut text = String::from_str(alloc, HEADER)?;
+    for release in 0..1_000_000u32 {
+        push_record(alloc, &mut text, release)?;
+    }
+    Ok(text)
+}
+
+fn push_record(alloc: Global, text: &mut String, release: u32) -> Result<(), AllocError> {
+    let record = format!(in alloc; "a,{release},1\n")?;
+    text.push_str(record.as_str())
+}
+
+// Whether the file has these rows.
+fn has_rows(alloc: Global, set: &TaskSet, text: &str, rows: &[WorkRow]) -> bool {
+    match read_work(alloc, set, text.as_bytes()) {
+        Ok(work) => work.rows() == rows,
+        Err(_) => false,
+    }
 }
 
 #[test]
 fn there_are_at_most_a_million_rows(rt: HostRuntime) -> Result<(), Fail> {
     let alloc = rt.alloc();
     let set = set_of(alloc, &[("a", Level::Low, 1, 1, 1)])?;
-    let mut rows = Vec::new(alloc);
-    let mut text = String::from_str(alloc, "task,release,need\n")?;
-    for release in 0..1_000_000u32 {
-        rows.push(work_row(1, release, 1))?;
-        let record = format!(in alloc; "a,{release},1\n")?;
-        text.push_str(record.as_str())?;
-    }
-    match read_work(alloc, &set, text.as_bytes()) {
-        Ok(work) => assert!(rt; work.rows() == rows.as_slice()),
-        Err(_) => return Err("a million rows".into()),
-    }
+    let mut rows = million_rows(alloc)?;
+    let mut text = million_records(alloc)?;
+    assert!(rt; has_rows(alloc, &set, text.as_str(), &rows));
     text.push_str("none")?;
+    rows.push(work_row(2, 0, 0))?;
     let too_many = WorkFault::At {
         line: 1_000_002,
         cause: WorkCause::TooMany,
     };
-    assert_eq!(rt;
-        read_work(alloc, &set, text.as_bytes()).err(),
-        Some(too_many)
-    );
-    rows.push(work_row(2, 0, 0))?;
-    match Work::new(&set, rows) {
-        Ok(_) => Err("too many rows".into()),
-        Err(bad) => {
-            assert_eq!(rt; (bad.index, bad.cause), (1_000_000, WorkCause::TooMany));
-            Ok(())
-        }
+    assert!(rt; read_work(alloc, &set, text.as_bytes()).err() == Some(too_many));
+    let bad = Work::new(&set, rows).err();
+    assert!(rt; bad.map(|bad| (bad.index, bad.cause)) == Some((1_000_000, WorkCause::TooMany)));
+    Ok(())
+}
+
+// Whether a record of 200,000 commas after this text is answered so.
+fn is_wide_answered(
+    alloc: Global,
+    set: &TaskSet,
+    before: &str,
+    expected: &str,
+) -> Result<bool, AllocError> {
+    let mut file = Vec::new(alloc);
+    file.extend_from_slice(before.as_bytes())?;
+    for _ in 0..200_000u32 {
+        file.push(b',')?;
     }
+    is_answered(alloc, set, &file, expected)
 }
 
 #[test]
@@ -192,20 +255,17 @@ fn a_wide_record_of_a_long_file_is_refused_by_its_width(rt: HostRuntime) -> Resu
     let set = set_of(alloc, &CONTROL)?;
     let cases = [
         ("", "line 1: Header"),
-        ("task,release,need\n", "line 2: BadRecord"),
+        (HEADER, "line 2: BadRecord"),
         (
             "task,release,need\n\"ctl\",\"0\",\"6\"\n",
             "line 3: BadRecord",
         ),
     ];
     for (before, expected) in cases {
-        let mut file = Vec::new(alloc);
-        file.extend_from_slice(before.as_bytes())?;
-        for _ in 0..200_000u32 {
-            file.push(b',')?;
-        }
-        let got = outcome(alloc, &set, &file)?;
-        assert_eq!(rt; got.as_str(), expected, "{before}");
+        assert!(rt;
+            is_wide_answered(alloc, &set, before, expected)?,
+            "{before}"
+        );
     }
     Ok(())
 }

@@ -1,123 +1,256 @@
-use super::outside::{Outside, assert_ends, ended, words_of};
-use super::{CONTROL, CONTROL_TEXT, HEADER, LOW_FIRST};
-use crate::edfvd::edfvd;
+// Files that cannot be read, and writes that fail.
+use super::outside::{Faults, NO_FAULTS, Outside, calm_status, ends};
+use super::{
+    CHECK, CONTROL, CONTROL_TEXT, HEADER, JUDGE, LONG_PERIODS, LOW_FIRST, OVERLOADED, OVERRUN_WORK,
+    PLANT, PLANT_WORK, RUN_ALL, UNDER_HALF, UNDER_ONE,
+};
 use executive::QuietGate;
-use mc_world::{CalmShelf, CalmSink};
-use std::alloc::{AllocError, Global};
-use std::test::Fail;
 
-const CHECK: [&str; 2] = ["check", "tasks.toml"];
+const RUN: &[&str] = &["run", "tasks.toml", "second.csv", "12"];
 
-const RUN: [&str; 4] = ["run", "tasks.toml", "second.csv", "12"];
+const ONE_TICK: &[&str] = &["run", "tasks.toml", "second.csv", "1"];
 
-const JUDGE: [&str; 5] = ["judge", "tasks.toml", "second.csv", "1", "1"];
+const NO_WORK: &str = "task,release,need\n";
 
-const WORK: &str = "task,release,need\nctl,0,6\nlog,0,5\nlog,10,5\n";
+const NO_FIRST: Faults<'static> = Faults {
+    fetches: &[1],
+    ..NO_FAULTS
+};
 
-const OVERLOADED: &str = "task = [
-    {name='tap', level='low', period=2, low=1},
-    {name='arm', level='high', period=4, low=1, high=4},
-]";
+const NO_SECOND: Faults<'static> = Faults {
+    fetches: &[2],
+    ..NO_FAULTS
+};
 
-#[test]
-fn each_fault_has_its_status_and_keeps_what_was_written(rt: HostRuntime) -> Result<(), Fail> {
-    let alloc = rt.alloc();
-    let set = Outside::new(CONTROL, "");
-    let fails = Outside {
-        failed_fetches: &[1],
-        ..set
-    };
-    assert_ends(&rt, rt.alloc(), &CHECK, &fails, 7, "read fault on file 1\n")?;
-    let fails = Outside {
-        failed_fetches: &[2],
-        failed_writes: &[1],
-        ..Outside::new(CONTROL, WORK)
-    };
-    assert_ends(&rt, rt.alloc(), &RUN, &fails, 8, "")?;
-    // Into a sink that takes a byte of each write, of which one fails or takes nothing.
-    for done in 0..54u64 {
-        let next = [done + 1];
-        let slow = Outside { most: 1, ..set };
-        for outside in [
-            Outside {
-                failed_writes: &next,
-                ..slow
-            },
-            Outside {
-                stopped_writes: &next,
-                ..slow
-            },
-        ] {
-            let (ended, written) = ended(&rt, alloc, &CHECK, &outside)?;
-            assert_eq!(rt; ended, 8, "at byte {done}");
-            assert_eq!(rt; written.len() as u64, done);
-            assert!(rt; CONTROL_TEXT.starts_with(written.as_str()));
-        }
-    }
-    let stops = Outside {
-        most: 8,
-        stopped_writes: &[2],
-        ..set
-    };
-    assert_ends(&rt, rt.alloc(), &CHECK, &stops, 8, "tasks 2\n")?;
-    let fails = Outside {
-        failed_writes: &[1],
-        ..Outside::new(OVERLOADED, "")
-    };
-    assert_ends(&rt, rt.alloc(), &CHECK, &fails, 8, "")?;
-    let trace = format!(in alloc; "{HEADER}{LOW_FIRST}")?;
-    let fails = Outside {
-        failed_fetches: &[2],
-        ..Outside::new(CONTROL, &trace)
-    };
-    assert_ends(&rt, rt.alloc(), &JUDGE, &fails, 7, "read fault on file 2\n")?;
+const NO_WRITE: Faults<'static> = Faults {
+    writes: &[1],
+    ..NO_FAULTS
+};
+
+// The words, the two files, what goes wrong, and the status and the text.
+type FaultCase = (
+    &'static [&'static str],
+    &'static str,
+    &'static str,
+    Faults<'static>,
+    u8,
+    &'static str,
+);
+
+const CASES: &[FaultCase] = &[
+    (CHECK, CONTROL, "", NO_FIRST, 7, "read fault on file 1\n"),
+    (
+        &["check", "absent.toml"],
+        CONTROL,
+        "",
+        NO_FAULTS,
+        7,
+        "read fault on file 1\n",
+    ),
+    (
+        JUDGE,
+        CONTROL,
+        HEADER,
+        NO_FIRST,
+        7,
+        "read fault on file 1\n",
+    ),
+    (
+        UNDER_HALF,
+        CONTROL,
+        HEADER,
+        NO_SECOND,
+        7,
+        "read fault on file 2\n",
+    ),
+    (
+        UNDER_ONE,
+        CONTROL,
+        LOW_FIRST,
+        NO_SECOND,
+        7,
+        "read fault on file 2\n",
+    ),
+    (
+        ONE_TICK,
+        CONTROL,
+        NO_WORK,
+        NO_FIRST,
+        7,
+        "read fault on file 1\n",
+    ),
+    (
+        ONE_TICK,
+        CONTROL,
+        NO_WORK,
+        NO_SECOND,
+        7,
+        "read fault on file 2\n",
+    ),
+    (
+        RUN_ALL,
+        PLANT,
+        PLANT_WORK,
+        NO_SECOND,
+        7,
+        "read fault on file 2\n",
+    ),
+    // The second file is not asked for.
+    (CHECK, CONTROL, "", NO_SECOND, 0, CONTROL_TEXT),
+    (
+        JUDGE,
+        OVERLOADED,
+        HEADER,
+        NO_SECOND,
+        1,
+        "not admitted: U_LL 1/2 U_HL 1/4 U_HH 1/1\n",
+    ),
+    (
+        JUDGE,
+        LONG_PERIODS,
+        HEADER,
+        NO_SECOND,
+        3,
+        "task file: task 2: periods out of range\n",
+    ),
+    (
+        ONE_TICK,
+        "task = [{name='a', level='low', period=1, low=2}]",
+        NO_WORK,
+        NO_SECOND,
+        1,
+        "not admitted: U_LL 2/1 U_HL 0/1 U_HH 0/1\n",
+    ),
+    (
+        &["runall", "tasks.toml", "second.csv", "5", "1"],
+        PLANT,
+        PLANT_WORK,
+        NO_SECOND,
+        12,
+        "not partitioned: task log fits on none of 1\n",
+    ),
+    // A write fails or takes nothing.
+    (CHECK, OVERLOADED, "", NO_WRITE, 8, ""),
+    (
+        RUN,
+        CONTROL,
+        OVERRUN_WORK,
+        Faults {
+            fetches: &[2],
+            ..NO_WRITE
+        },
+        8,
+        "",
+    ),
+    (
+        CHECK,
+        CONTROL,
+        "",
+        Faults {
+            writes: &[2],
+            most: 8,
+            ..NO_FAULTS
+        },
+        8,
+        "tasks 2\n",
+    ),
+    (
+        CHECK,
+        CONTROL,
+        "",
+        Faults {
+            stops: &[2],
+            most: 8,
+            ..NO_FAULTS
+        },
+        8,
+        "tasks 2\n",
+    ),
     // A write that both fails and is to take nothing fails, and no write comes after a fault.
-    let both = Outside {
-        most: 8,
-        failed_writes: &[3],
-        stopped_writes: &[3],
-        ..set
-    };
-    assert_ends(&rt, rt.alloc(), &CHECK, &both, 8, "tasks 2\nU_LL 1/2")?;
+    (
+        CHECK,
+        CONTROL,
+        "",
+        Faults {
+            writes: &[3],
+            stops: &[3],
+            most: 8,
+            ..NO_FAULTS
+        },
+        8,
+        "tasks 2\nU_LL 1/2",
+    ),
     // The fetch and the write after the last one are never made.
-    let later = Outside {
-        most: 27,
-        failed_fetches: &[2],
-        failed_writes: &[3],
-        stopped_writes: &[3],
-        ..set
-    };
-    assert_ends(&rt, rt.alloc(), &CHECK, &later, 0, CONTROL_TEXT)
-}
-
-// A calm shelf that holds a task file and a second file of these texts.
-fn calm_files(alloc: Global, tasks: &str, second: &str) -> Result<CalmShelf, AllocError> {
-    let mut files = Vec::new(alloc);
-    let tasks_name = String::from_str(alloc, "tasks.toml")?;
-    files.push((tasks_name, tasks.as_bytes().to_vec(alloc)?))?;
-    let second_name = String::from_str(alloc, "second.csv")?;
-    files.push((second_name, second.as_bytes().to_vec(alloc)?))?;
-    Ok(CalmShelf::new(alloc, files))
-}
+    (
+        CHECK,
+        CONTROL,
+        "",
+        Faults {
+            fetches: &[2],
+            writes: &[3],
+            stops: &[3],
+            most: 27,
+        },
+        0,
+        CONTROL_TEXT,
+    ),
+];
 
 #[test]
-fn nothing_fails_over_a_calm_shelf_and_a_calm_sink(rt: HostRuntime) -> Result<(), Fail> {
-    let alloc = rt.alloc();
-    // A name that the shelf lacks holds no bytes: as a task file it has no tasks, as a list of work no header.
-    let cases = [
-        (CHECK.as_slice(), 0),
-        (RUN.as_slice(), 0),
-        (["check", "absent.toml"].as_slice(), 3),
-        (["run", "tasks.toml", "absent.csv", "12"].as_slice(), 4),
-    ];
-    for (words, status) in cases {
-        let words = words_of(alloc, words)?;
-        let mut shelf = calm_files(alloc, CONTROL, WORK)?;
-        let mut sink = CalmSink::new();
-        assert_eq!(rt;
-            edfvd(&rt, alloc, &words, &mut shelf, &mut sink, &QuietGate),
-            status
+fn each_fault_has_its_status_and_keeps_what_was_written(rt: HostRuntime) {
+    for (index, (words, tasks, second, faults, status, text)) in CASES.iter().enumerate() {
+        let outside = Outside {
+            tasks,
+            second,
+            faults: *faults,
+        };
+        assert!(rt;
+            ends(&rt, rt.alloc(), words, &outside, &QuietGate, *status, text),
+            "{index}"
         );
     }
-    Ok(())
+}
+
+#[test]
+fn a_sink_of_single_bytes_keeps_those_before_the_fault(rt: HostRuntime) {
+    for done in 0..54usize {
+        let next = [done as u64 + 1];
+        let fails = Faults {
+            writes: &next,
+            most: 1,
+            ..NO_FAULTS
+        };
+        let stops = Faults {
+            stops: &next,
+            most: 1,
+            ..NO_FAULTS
+        };
+        let text = CONTROL_TEXT.get(..done).unwrap_or(CONTROL_TEXT);
+        for faults in [fails, stops] {
+            let outside = Outside {
+                faults,
+                ..Outside::new(CONTROL, "")
+            };
+            assert!(rt;
+                ends(&rt, rt.alloc(), CHECK, &outside, &QuietGate, 8, text),
+                "{done}"
+            );
+        }
+    }
+}
+
+// A name that the shelf lacks holds no bytes: as a task file it has no tasks, as a list of work no header.
+const CALM_CASES: &[(&[&str], u8)] = &[
+    (CHECK, 0),
+    (RUN, 0),
+    (&["check", "absent.toml"], 3),
+    (&["run", "tasks.toml", "absent.csv", "12"], 4),
+];
+
+#[test]
+fn nothing_fails_over_a_calm_shelf_and_a_calm_sink(rt: HostRuntime) {
+    let outside = Outside::new(CONTROL, OVERRUN_WORK);
+    for (words, status) in CALM_CASES {
+        assert!(rt; calm_status(&rt, rt.alloc(), words, &outside) == Some(*status));
+    }
 }

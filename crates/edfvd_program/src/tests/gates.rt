@@ -1,5 +1,6 @@
 //! Gates for tests of threads: two hold calls until another call came, and one counts its calls.
 use executive::{Gate, Grant, TaskPass};
+use mc_task::TaskNo;
 use std::alloc::{AllocError, Global};
 use std::sync::atomic::Ordering::SeqCst;
 use std::sync::atomic::{AtomicBool, AtomicU64};
@@ -126,10 +127,12 @@ impl Gate for StepGate {
     }
 }
 
-// A job as a trace has it: its task, its count, and how many ticks it had.
+// A job as a trace has it: the number of its task in the whole set, and among the tasks of its processor; its count, and how many
+// ticks it had.
 #[derive(Clone, Copy)]
 pub struct TracedJob {
     pub task: u32,
+    pub own: u32,
     pub count: u32,
     pub ticks: u32,
 }
@@ -179,8 +182,11 @@ impl CountingGate {
         each && self.others.load(SeqCst) == 0
     }
 
-    fn line(&self, task: u32, count: u64) -> Option<&Line> {
-        self.lines.iter().find(|line| line.job.task == task && u64::from(line.job.count) == count)
+    // The job that is named by the number in the whole set, and by what the thread's own executive lends.
+    fn line(&self, task: u32, own: TaskNo, count: u64) -> Option<&Line> {
+        self.lines.iter().find(|line| {
+            line.job.task == task && line.job.own == own.0 && u64::from(line.job.count) == count
+        })
     }
 }
 
@@ -188,7 +194,7 @@ impl Gate for CountingGate {
     fn enter(&self, _task: u32, _pass: &TaskPass) {}
 
     fn released(&self, task: u32, pass: &TaskPass) {
-        match self.line(task, pass.count().releases) {
+        match self.line(task, pass.task(), pass.count().releases) {
             Some(line) => line.releases.fetch_add(1, SeqCst),
             None => self.others.fetch_add(1, SeqCst),
         };
@@ -196,10 +202,7 @@ impl Gate for CountingGate {
 
     fn step(&self, task: u32, grant: &Grant) {
         let granted = grant.granted();
-        let line = match granted.job.task.0 == task {
-            true => self.line(task, u64::from(granted.job.count)),
-            false => None,
-        };
+        let line = self.line(task, granted.job.task, u64::from(granted.job.count));
         match line.and_then(|line| line.steps.get(granted.before as usize)) {
             Some(times) => times.fetch_add(1, SeqCst),
             None => self.others.fetch_add(1, SeqCst),

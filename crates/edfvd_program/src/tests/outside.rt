@@ -1,51 +1,78 @@
-//! The outside of a run, in memory: two files, and a sink.
+//! Calls of the program over two files and a sink in memory, and tables of them.
+ghost use Rattle.std.specs.Prelude.{IfOk};
+ghost use Rattle.mc_world.specs.Shelf.{NamesDiffer};
+ghost use Rattle.mc_world.specs.MemoryShelfState.{files_of};
+
 use crate::edfvd::edfvd;
 use executive::{Gate, QuietGate};
-use mc_world::{MemoryShelf, MemorySink};
+use mc_world::{CalmShelf, CalmSink, MemoryShelf, MemorySink, Shelf, Sink};
 use std::alloc::{AllocError, Global};
-use std::process::Abort;
 use std::sync::Wait;
-use std::test::Fail;
 use std::thread::Threads;
 
-/// The files `tasks.toml` and `second.csv`, the sink's room, and what goes wrong: the fetches and the writes that fail, the
-/// writes that take nothing, and how many bytes a write takes at most.
+const ROOM: usize = 1_000_000;
+
+/// What goes wrong: the fetches and the writes that fail, the writes that take nothing, and how many bytes a write takes at most.
+#[derive(Clone, Copy)]
+pub struct Faults<'a> {
+    pub fetches: &'a [u64],
+    pub writes: &'a [u64],
+    pub stops: &'a [u64],
+    pub most: usize,
+}
+
+pub const NO_FAULTS: Faults<'static> = Faults {
+    fetches: &[],
+    writes: &[],
+    stops: &[],
+    most: ROOM,
+};
+
+/// The files `tasks.toml` and `second.csv`, and what goes wrong.
 #[derive(Clone, Copy)]
 pub struct Outside<'a> {
-    pub tasks: &'a [u8],
-    pub second: &'a [u8],
-    pub room: usize,
-    pub most: usize,
-    pub failed_fetches: &'a [u64],
-    pub failed_writes: &'a [u64],
-    pub stopped_writes: &'a [u64],
+    pub tasks: &'a str,
+    pub second: &'a str,
+    pub faults: Faults<'a>,
 }
 
 impl<'a> Outside<'a> {
     /// These files, and nothing goes wrong.
     pub fn new(tasks: &'a str, second: &'a str) -> Outside<'a> {
         Outside {
-            tasks: tasks.as_bytes(),
-            second: second.as_bytes(),
-            room: 2000,
-            most: 2000,
-            failed_fetches: &[],
-            failed_writes: &[],
-            stopped_writes: &[],
+            tasks,
+            second,
+            faults: NO_FAULTS,
         }
     }
 
     fn shelf(&self, alloc: Global) -> Result<MemoryShelf, AllocError> {
-        let mut files = Vec::new(alloc);
-        let tasks = String::from_str(alloc, "tasks.toml")?;
-        files.push((tasks, self.tasks.to_vec(alloc)?))?;
-        let second = String::from_str(alloc, "second.csv")?;
-        files.push((second, self.second.to_vec(alloc)?))?;
-        Ok(MemoryShelf::new(alloc, files, self.failed_fetches.to_vec(alloc)?))
+        let files = files(alloc, self.tasks, self.second)?;
+        let fails = self.faults.fetches.to_vec(alloc)?;
+        Ok(MemoryShelf::new(alloc, files, fails))
+    }
+
+    fn sink(&self, alloc: Global) -> Option<MemorySink> {
+        let fails = self.faults.writes.to_vec(alloc).ok()?;
+        let stops = self.faults.stops.to_vec(alloc).ok()?;
+        // A sink takes one byte of a write at least.
+        let most = self.faults.most.max(1);
+        MemorySink::with_stops(alloc, ROOM, most, fails, stops).ok()
     }
 }
 
-pub fn words_of(alloc: Global, words: &[&str]) -> Result<Vec<String>, AllocError> {
+fn files(alloc: Global, tasks: &str, second: &str) -> Result<Vec<(String, Vec<u8>)>, AllocError>
+    ensures { IfOk result (λ files. NamesDiffer (files_of files.items)) }
+{
+    let mut files = Vec::new(alloc);
+    let tasks_name = String::from_str(alloc, "tasks.toml")?;
+    files.push((tasks_name, tasks.as_bytes().to_vec(alloc)?))?;
+    let second_name = String::from_str(alloc, "second.csv")?;
+    files.push((second_name, second.as_bytes().to_vec(alloc)?))?;
+    Ok(files)
+}
+
+fn words_of(alloc: Global, words: &[&str]) -> Result<Vec<String>, AllocError> {
     let mut list = Vec::new(alloc);
     for word in words {
         list.push(String::from_str(alloc, word)?)?;
@@ -53,46 +80,100 @@ pub fn words_of(alloc: Global, words: &[&str]) -> Result<Vec<String>, AllocError
     Ok(list)
 }
 
-/// The status of these words, and what is written.
-pub fn ended<R: Threads + Wait + Sync>(
+// The status of these words, or nothing if memory runs out. All tests call the program here.
+fn status_of<R: Threads + Wait + Sync, S: Shelf, K: Sink, G: Gate + Sync>(
+    rt: &R,
+    alloc: Global,
+    words: &[&str],
+    shelf: &mut S,
+    out: &mut K,
+    gate: &G,
+) -> Option<u8> {
+    let words = words_of(alloc, words).ok()?;
+    Some(edfvd(rt, alloc, &words, shelf, out, gate))
+}
+
+/// The status of these words over a shelf and a sink that never fail.
+pub fn calm_status<R: Threads + Wait + Sync>(
     rt: &R,
     alloc: Global,
     words: &[&str],
     outside: &Outside<'_>,
-) -> Result<(u8, String), Fail> {
-    ended_through(rt, alloc, words, outside, &QuietGate)
+) -> Option<u8> {
+    let files = files(alloc, outside.tasks, outside.second).ok()?;
+    let mut shelf = CalmShelf::new(alloc, files);
+    let mut sink = CalmSink::new();
+    status_of(rt, alloc, words, &mut shelf, &mut sink, &QuietGate)
 }
 
-/// The same, with a gate that is told of the threads.
-pub fn ended_through<R: Threads + Wait + Sync, G: Gate + Sync>(
+/// The status of these words and what they write, or nothing if memory runs out. The gate is told of the threads.
+pub fn ended<R: Threads + Wait + Sync, G: Gate + Sync>(
     rt: &R,
     alloc: Global,
     words: &[&str],
     outside: &Outside<'_>,
     gate: &G,
-) -> Result<(u8, String), Fail> {
-    let words = words_of(alloc, words)?;
-    let mut shelf = outside.shelf(alloc)?;
-    let failed = outside.failed_writes.to_vec(alloc)?;
-    let stopped = outside.stopped_writes.to_vec(alloc)?;
-    // A sink takes one byte of a write at least.
-    let most = outside.most.max(1);
-    let mut sink = MemorySink::with_stops(alloc, outside.room, most, failed, stopped)?;
-    let status = edfvd(rt, alloc, &words, &mut shelf, &mut sink, gate);
-    Ok((status, String::from_utf8(sink.written().to_vec(alloc)?)?))
+) -> Option<(u8, Vec<u8>)> {
+    let mut shelf = outside.shelf(alloc).ok()?;
+    let mut sink = outside.sink(alloc)?;
+    let status = status_of(rt, alloc, words, &mut shelf, &mut sink, gate)?;
+    Some((status, sink.written().to_vec(alloc).ok()?))
 }
 
-/// Wants this status and this text of these words.
-pub fn assert_ends<R: Threads + Wait + Sync + Abort>(
+/// Whether these words have this status and write this text.
+pub fn ends<R: Threads + Wait + Sync, G: Gate + Sync>(
     rt: &R,
     alloc: Global,
     words: &[&str],
     outside: &Outside<'_>,
+    gate: &G,
     status: u8,
     text: &str,
-) -> Result<(), Fail> {
-    let (ended, written) = ended(rt, alloc, words, outside)?;
-    assert_eq!(rt; ended, status, "{text}");
-    assert_eq!(rt; written.as_str(), text);
-    Ok(())
+) -> bool {
+    match ended(rt, alloc, words, outside, gate) {
+        Some((ended, written)) => ended == status && written.as_slice() == text.as_bytes(),
+        None => false,
+    }
+}
+
+/// The words, the two files, and the status and the text that they give.
+pub type Case = (
+    &'static [&'static str],
+    &'static str,
+    &'static str,
+    u8,
+    &'static str,
+);
+
+/// Whether the case ends as it says. The gate is told of the threads.
+pub fn ends_as<R: Threads + Wait + Sync, G: Gate + Sync>(
+    rt: &R,
+    alloc: Global,
+    case: &Case,
+    gate: &G,
+) -> bool {
+    let (words, tasks, second, status, text) = *case;
+    ends(
+        rt,
+        alloc,
+        words,
+        &Outside::new(tasks, second),
+        gate,
+        status,
+        text,
+    )
+}
+
+/// The index of the first case that does not end as it says.
+pub fn first_wrong<R: Threads + Wait + Sync>(
+    rt: &R,
+    alloc: Global,
+    cases: &[Case],
+) -> Option<usize> {
+    for (index, case) in cases.iter().enumerate() {
+        if !ends_as(rt, alloc, case, &QuietGate) {
+            return Some(index);
+        }
+    }
+    None
 }

@@ -73,6 +73,7 @@ impl Core {
     ///
     /// The answer is `Done` where `done`; otherwise `Stop` at the job's own budget, `Over` where a high task passes its low
     /// budget in low mode under `Virtual`, and `More` in the other cases. A refusal changes nothing.
+    #[inline(always)]
     pub fn outcome(&mut self, job: JobId, done: bool) -> Result<How, NotOut>
         ensures answer { result ≡ outcome_answer self.old job done }
         ensures state { self.new ≡ after_outcome self.old job done }

@@ -47,12 +47,24 @@ pub fn crowd(alloc: Global, periods: u32, ticks: u32) -> Result<Floor, Fail>
     requires { periods ≤ 1000 }
     ensures { IfOk result (λ f. (is_planned f.plan ≡ true) × (f.core.rows ≡ []) × (f.core.out ≡ None)) }
 {
+    planned(alloc, crowd_set(alloc)?, crowd_rows(alloc, periods)?, ticks)
+}
+
+// Tasks 1 to 20 are low, and 21 to 32 are high.
+fn crowd_set(alloc: Global) -> Result<TaskSet, Fail> {
     let mut tasks = Vec::new(alloc);
     for number in 0..32u32 {
         let name = format!(in alloc; "t{number:02}")?;
         let (level, high) = if number < 20 { (Low, 1) } else { (High, 4) };
         tasks.push(task(name.as_str(), level, 64, 1, high).ok_or("a name")?)?;
     }
+    Ok(TaskSet::new(tasks)?)
+}
+
+// A release of each task in each period.
+fn crowd_rows(alloc: Global, periods: u32) -> Result<Vec<WorkRow>, Fail>
+    requires { periods ≤ 1000 }
+{
     let mut rows = Vec::new(alloc);
     for period in 0..periods {
         for number in 1..=32u32 {
@@ -60,7 +72,7 @@ pub fn crowd(alloc: Global, periods: u32, ticks: u32) -> Result<Floor, Fail>
             rows.push(work_row(number, 64 * period, need))?;
         }
     }
-    planned(alloc, TaskSet::new(tasks)?, rows, ticks)
+    Ok(rows)
 }
 
 // A floor with no rows, of a set that is admitted.

@@ -17,6 +17,7 @@ impl Floor {
     ///
     /// Under `Rows` it is refused with `Due` where the release of another task is due, and with `NotPlanned` where none
     /// is. Otherwise the answer is the core's. A refusal changes nothing.
+    #[inline(always)]
     pub fn release(&mut self, task: TaskNo) -> Result<Released, ActFault<ReleaseFault>>
         requires in_set { IsIn self.old.core.set task.0 }
         ensures answer { result ≡ release_answer self.old task.0 }

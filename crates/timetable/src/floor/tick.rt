@@ -19,6 +19,7 @@ impl Floor {
     ///
     /// It is refused with `Due` where a release is due, and with `Finished` where the plan's ticks were begun. Otherwise
     /// the answer is the core's. A refusal changes nothing.
+    #[inline(always)]
     pub fn grant(&mut self, task: TaskNo) -> Result<Granted, ActFault<GrantFault>>
         requires in_set { IsIn self.old.core.set task.0 }
         ensures answer { result ≡ grant_answer self.old task.0 }
@@ -52,6 +53,7 @@ impl Floor {
     }
 
     // A grant that the plan does not refuse.
+    #[inline(always)]
     fn grant_now(&mut self, task: TaskNo) -> Result<Granted, ActFault<GrantFault>>
         requires in_set { IsIn self.old.core.set task.0 }
         requires none { tick_refusal self.old ≡ None }
@@ -75,6 +77,7 @@ impl Floor {
     ///
     /// Under `Rows` the job is done where this tick is the last that its row of the work needs, and `done` is not read.
     /// The answer is the core's. A refusal changes nothing.
+    #[inline(always)]
     pub fn outcome(&mut self, job: JobId, done: bool) -> Result<How, NotOut>
         ensures answer { result ≡ outcome_answer self.old job done }
         ensures state { self.new ≡ after_outcome self.old job done }
@@ -89,6 +92,7 @@ impl Floor {
     ///
     /// It is refused with `Due` and `Finished` as a grant is. Otherwise the answer is the core's. A refusal changes
     /// nothing.
+    #[inline(always)]
     pub fn idle(&mut self) -> Result<u64, ActFault<IdleFault>>
         ensures answer { result ≡ idle_answer self.old }
         ensures state { self.new ≡ after_idle self.old }
@@ -103,6 +107,7 @@ impl Floor {
     }
 
     // An idle tick that the plan does not refuse.
+    #[inline(always)]
     fn idle_now(&mut self) -> Result<u64, ActFault<IdleFault>>
         requires none { tick_refusal self.old ≡ None }
         ensures answer { result ≡ of_core (core_event.idle_answer self.old.core) }

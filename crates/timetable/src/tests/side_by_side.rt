@@ -144,24 +144,37 @@ fn both(alloc: Global, set: TaskSet) -> Result<(Core, PlainCore), Fail> {
     Ok((Core::new(alloc, set, rule, PLACES)?, plain))
 }
 
+// A call of both, and what each shows after it.
+fn step(
+    numbers: &mut Numbers,
+    core: &mut Core,
+    plain: &mut PlainCore,
+) -> Result<(Call, Seen, Seen), Fail> {
+    let call = next_call(numbers, plain);
+    let seen = ask(core, call).ok_or("a task")?;
+    let wanted = ask_plain(plain, call).ok_or("memory")?;
+    Ok((call, seen, wanted))
+}
+
+// Whether both wrote the same rows, one in each place, with an overrun where one is wanted.
+fn ended_alike(core: &Core, plain: &PlainCore, overrun: bool) -> bool {
+    let rows = core.rows();
+    let over = |row: &Row| matches!(row, Row::Tick { how: How::Over, .. });
+    rows == plain.rows() && rows.len() == PLACES && rows.iter().any(over) == overrun
+}
+
 #[test]
 fn the_core_answers_as_a_plain_one(rt: HostRuntime) -> Result<(), Fail> {
     let alloc = rt.alloc();
+    // Only the first set is run without a switch.
     for (seed, high) in [(1, 1), (2, 3), (3, 3)] {
         let mut numbers = Numbers { last: seed };
         let (mut core, mut plain) = both(alloc, made_set(alloc, high, &mut numbers)?)?;
         for k in 0..CALLS {
-            let call = next_call(&mut numbers, &plain);
-            let seen = ask(&mut core, call).ok_or("a task")?;
-            let wanted = ask_plain(&mut plain, call).ok_or("memory")?;
+            let (call, seen, wanted) = step(&mut numbers, &mut core, &mut plain)?;
             assert_eq!(rt; seen, wanted, "call {k} from {seed}: {call:?}");
         }
-        let rows = core.rows();
-        assert_eq!(rt; rows, plain.rows());
-        assert_eq!(rt; rows.len(), PLACES);
-        // Only the first set is run without a switch.
-        let over = |row: &Row| matches!(row, Row::Tick { how: How::Over, .. });
-        assert_eq!(rt; rows.iter().any(over), high > 1);
+        assert!(rt; ended_alike(&core, &plain, high > 1));
     }
     Ok(())
 }

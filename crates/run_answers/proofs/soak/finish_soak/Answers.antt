@@ -3,14 +3,16 @@ use Rattle.std.proofs.lemmas.List.{reverse-reverse}
 use Rattle.mc_model.specs.Test.{published}
 use Rattle.mc_model.specs.Core.{State}
 use Rattle.replies.specs.Reply.{reply_of}
-use Rattle.run_answers.specs.Soak.{workload_set, workload_work}
+use Rattle.set_gen.specs.Words.{words_of}
+use Rattle.set_gen.specs.MadeWork.{made_work}
+use Rattle.run_answers.specs.Soak.{workload_set}
 use Rattle.run_answers.proofs.Soaked.{is_soaked, soak_text-pieces}
 use Rattle.run_answers.proofs.soak.finish_soak.Goals as goal
 
 pub returns-clause-soaks : goal.returns-clause-soaks
 returns-clause-soaks g c =
     let set : c.in-Ok.field-0.set.tasks ≡ workload_set c.args.number c.args.tasks = search rules in
-    let work : c.in-Ok.field-0.work ≡ workload_work c.args.number c.args.tasks c.args.ticks = search rules in
+    let work : c.in-Ok.field-0.work ≡ made_work (words_of c.args.number) c.args.tasks c.args.ticks = search rules in
     let rule : published c.in-Ok.field-0.set.tasks ≡ Some c.in-Ok.field-0.rule = search rules in
     let rows : reverse c.rows.result.now ≡ c.in_ok-floor.floor.core.rows =
     ap reverse c.rows.ensures.value ∙ (reverse-reverse c.core.result.now.rows ∙ ap (λ (s : State). s.rows) c.core.ensures.value) in

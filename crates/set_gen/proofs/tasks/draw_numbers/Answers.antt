@@ -1,7 +1,7 @@
 use Rattle.std.proofs.Common.{◌≡◌, refl, ap, ◌∙◌}
 use Rattle.set_gen.specs.Words.{word, rest}
-use Rattle.set_gen.specs.MadeSet.{period, task_name, high_tasks, made_task, words_taken, made_gap, stretch}
-use Rattle.set_gen.proofs.Draws.{halves}
+use Rattle.set_gen.specs.MadeSet.{period, task_name, made_task, words_taken, made_gap, stretch}
+use Rattle.set_gen.proofs.Draws.{high_tasks, halves}
 use Rattle.set_gen.proofs.MadeTasks.{odd, even}
 use Rattle.set_gen.proofs.tasks.draw_numbers.Goals as goal
 use Rattle.set_gen.proofs.tasks.draw_numbers.Goals.{then-number-eq1, else-number-eq1}

@@ -4,13 +4,13 @@ use Rattle.trace_judge.proofs.Faults.{release_fault}
 use Rattle.trace_judge.proofs.Keeps.{keeps_release}
 use Rattle.trace_judge.proofs.step.release.Goals as goal
 
-pub returns-in-Some : goal.returns-in-Some
-returns-in-Some c g l t =
+pub returns-in-Some-clause-step : goal.returns-in-Some-clause-step
+returns-in-Some-clause-step c g l t =
     let at = c.task_in-task.ensures in
     at_first c.args.set.now.tasks c.args.rule _ g _ _ c.first.ensures (omega arith) l (sym c.in-Some.is ∙ (c.release_why.ensures ∙ release_fault c.args.set.now.tasks c.args.rule g c.args.state.now c.args.job c.args.kept c.task_in-task.result.now t c.requires.task.0 c.requires.task.1 at))
 
-pub returns : goal.returns
-returns c g l t =
+pub returns-clause-step : goal.returns-clause-step
+returns-clause-step c g l t =
     let at = c.task_in-task.ensures in
     let n = sym c.in_default.is ∙ (c.release_why.ensures ∙ release_fault c.args.set.now.tasks c.args.rule g c.args.state.now c.args.job c.args.kept c.task_in-task.result.now t c.requires.task.0 c.requires.task.1 at) in
-    ((c.requires.task, sym n, l), keeps_release c.args.set.now.tasks c.args.rule g c.args.state.now _ c.args.job c.args.kept c.task_in-task.result.now (c.requires.task, sym n, l) t at c.in_ok-release.ensures)
+    ((c.requires.task, sym n, l), keeps_release c.args.set.now.tasks c.args.rule g c.args.state.now _ c.args.job c.args.kept c.task_in-task.result.now (c.requires.task, sym n, l) t at c.in_ok-release.ensures.follows)

@@ -8,4 +8,4 @@ returns-then-has_name-clause-number c =
 
 pub returns-then-has_name-2-clause-number : goal.returns-then-has_name-2-clause-number
 returns-then-has_name-2-clause-number c =
-    rw (← c.self.view_is) (sym (found_task c.self.inside.tasks.items c.behind-next.result.0 c.args.name.now c.self.invariant.tasks (rw c.deref-2.ensures.value at (c.if-has_name-2.ensures.inside refl)) (rw c.deref-2.ensures.value at (c.if-has_name-2.ensures.name refl))))
+    rw (← c.self.view_is) (sym (found_task c.self.inside.tasks.items c.task_after-next.result.0 c.args.name.now c.self.invariant.tasks (rw c.deref-2.ensures.value at (c.if-has_name-2.ensures.inside refl)) (rw c.deref-2.ensures.value at (c.if-has_name-2.ensures.name refl))))

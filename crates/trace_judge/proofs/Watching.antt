@@ -1,0 +1,128 @@
+-- The first row that does not fit, in the middle of a run and after later rows.
+use Rattle.std.proofs.Common.{◌≡◌, ℕ, ◌+◌, ◌-◌, ◌^◌, ◌<◌, min, true, filter, List, [], ◌∷◌, slice_get, ◌++◌, Option, Some, None, length, replicate, option_map, refl, sym, ap, ◌∙◌, subst, arith, append_assoc}
+use Rattle.std.proofs.lemmas.List.{length-append, length-map, length-replicate, get_or-replicate}
+use Rattle.std.proofs.lemmas.Option.{slice_get-get_or}
+use Rattle.mc_task.specs.declared.task.Rule.{Rule}
+use Rattle.mc_task.specs.declared.task.Task.{Task}
+use Rattle.mc_task.specs.TaskSet.{Set}
+use Rattle.mc_model.specs.declared.row.Row.{Row}
+use Rattle.mc_model.specs.declared.run.Run.{Run}
+use Rattle.mc_model.specs.declared.verdict.Why.{Why}
+use Rattle.mc_model.specs.declared.verdict.Verdict.{Verdict}
+use Rattle.mc_model.specs.declared.verdict.Verdict.TheVariants.{Illegal}
+use Rattle.mc_model.specs.Late.{late}
+use Rattle.mc_model.specs.Legal.{Legal}
+use Rattle.mc_model.specs.Runs.{row_of, size, rows_of}
+use Rattle.mc_model.specs.Verdict.{RowFault, first_unfit, verdict, verdict_of}
+use Rattle.mc_model.proofs.Verdicts.{no_fault}
+use Rattle.trace_judge.specs.declared.step.Misfit.{Misfit}
+use Rattle.trace_judge.specs.declared.unfit.Unfit.{Unfit}
+use Rattle.mc_model.specs.Pending.{is_live, pending}
+use Rattle.mc_model.specs.Sums.{total}
+use Rattle.mc_model.proofs.Sums.{one, total-one, less_filtered}
+use Rattle.trace_judge.specs.Placed.{placed, waiting}
+use Rattle.trace_judge.proofs.Placed.{live_of, pending_is, waiting_is, placed_le}
+use Rattle.trace_judge.proofs.Faults.{same_length}
+use Rattle.trace_judge.specs.declared.lates.LateJob.{LateJob}
+use Rattle.trace_judge.specs.declared.state.TaskNote.{TaskNote}
+use Rattle.trace_judge.specs.declared.state.State.{State}
+use Rattle.trace_judge.specs.Entries.{Held}
+use Rattle.trace_judge.specs.Lates.{IsEarliest}
+use Rattle.trace_judge.specs.Steps.{IsNew}
+use Rattle.trace_judge.specs.Tracks.{Tracks, StopsAt}
+use Rattle.trace_judge.specs.Watched.{Watched, Watches, Follows, unfit_in, is_none}
+use Rattle.trace_judge.proofs.Reading.{copies_split}
+use Rattle.trace_judge.proofs.Verdicts.{fault_stays}
+
+-- a fault from its parts
+abbrev an_unfit : ℕ → Why → Unfit
+an_unfit n why = record { place = n; why = why }
+
+-- the first row that does not fit is that of the run at which the steps stop
+pub stops_unfit : (set : List Task) (rule : Rule) (r : Run) (g : List Row) (n : ℕ) (m : Misfit) → n ≡ length g → StopsAt set rule r g m → unfit_in set rule (rows_of r ++ g) ≡ Some (an_unfit (n + m.after + 1) m.why)
+stops_unfit set rule r g n m l s =
+    let row : Row = row_of r in
+    let k : List Row = replicate m.after row ++ g in
+    let f : RowFault = record { place = length k + 1; why = m.why } in
+    let here : first_unfit set rule (row ∷ k) ≡ Some f = rw (no_fault set rule k s.before, s.there) refl in
+    let more : List Row = replicate (size r - m.after - 1) row in
+    let rows : rows_of r ++ g ≡ more ++ row ∷ k = ap (λ xs. xs ++ g) (copies_split (size r) m.after row s.inside) ∙ append_assoc more (row ∷ replicate m.after row) g in
+    let place : length k + 1 ≡ n + m.after + 1 = omega (arith, l, length-append (replicate m.after row) g, length-replicate m.after row) in
+    ap (unfit_in set rule) rows
+    ∙ (ap (option_map (λ (x : RowFault). an_unfit x.place x.why)) (fault_stays set rule f more (row ∷ k) here)
+    ∙ ap (λ (p : ℕ). Some (an_unfit p m.why)) place)
+
+-- of a fault that is known
+known_unfit : (set : List Task) (rule : Rule) (h : List Row) (u : Unfit) (o : Option RowFault) → first_unfit set rule h ≡ o → option_map (λ (x : RowFault). an_unfit x.place x.why) o ≡ Some u → first_unfit set rule h ≡ Some (record { place = u.place; why = u.why })
+known_unfit set rule h u None e k = cc
+known_unfit set rule h u (Some p) e k = grind (arith, e, k)
+
+-- it stays the first
+pub unfit_stays : (set : List Task) (rule : Rule) (u : Unfit) (xs h : List Row) → unfit_in set rule h ≡ Some u → unfit_in set rule (xs ++ h) ≡ Some u
+unfit_stays set rule u xs h e =
+    ap (option_map (λ (x : RowFault). an_unfit x.place x.why))
+    (fault_stays set rule (record { place = u.place; why = u.why }) xs h (known_unfit set rule h u (first_unfit set rule h) refl e))
+
+-- and gives the verdict
+pub unfit_verdict : (set : List Task) (rule : Rule) (u : Unfit) (h : List Row) → unfit_in set rule h ≡ Some u → Illegal u.place u.why ≡ verdict set rule h
+unfit_verdict set rule u h e = sym (ap (λ o. verdict_of o (late set h)) (known_unfit set rule h u (first_unfit set rule h) refl e))
+
+-- where all rows are legal there is no first row that does not fit
+pub none_unfit : (set : List Task) (rule : Rule) (h : List Row) → Legal set rule h → None ≡ unfit_in set rule h
+none_unfit set rule h l = sym (ap (option_map (λ (x : RowFault). an_unfit x.place x.why)) (no_fault set rule h l))
+
+-- what is kept before the first row
+pub tracks_none : (set : List Task) (rule : Rule) (n : ℕ) (s : State) → n ≡ length set → IsNew n s → Tracks set rule [] s
+tracks_none set rule n s e i = record {
+  ticks = i.ticks;
+  place = i.place;
+  mode = i.mode;
+  count = ap length i.tasks ∙ (length-replicate n none_yet ∙ e);
+  tasks = λ k h. ap (λ (xs : List TaskNote). slice_get xs k) i.tasks ∙ no_note k (omega (arith, h, e));
+  queues = ap (λ (h : Held). h.tasks) i.waiting ∙ e;
+  waiting = λ f. ap (λ (h : Held). total f h.entries) i.waiting;
+  lates = record { count = i.count_zero; first = subst (λ (o : Option LateJob). IsEarliest o (λ f. 0)) (sym i.first) refl };
+}
+  where
+    none_yet : TaskNote
+    none_yet = record { releases = 0; next = 0 }
+
+    no_note : (k : ℕ) → k < n → slice_get (replicate n none_yet) k ≡ Some none_yet
+    no_note k h = slice_get-get_or (replicate n none_yet) k none_yet (omega (arith, h, length-replicate n none_yet)) ∙ ap (λ (x : TaskNote). Some x) (get_or-replicate n k none_yet none_yet h)
+
+-- so the verdict stays
+pub verdict_stays : (set : List Task) (rule : Rule) (u : Unfit) (xs h : List Row) → unfit_in set rule h ≡ Some u → verdict set rule h ≡ verdict set rule (xs ++ h)
+verdict_stays set rule u xs h e = sym (unfit_verdict set rule u h e) ∙ unfit_verdict set rule u (xs ++ h) (unfit_stays set rule u xs h e)
+
+-- a monitor, from its parts
+abbrev pub a_monitor : Set → Rule → State → Option Unfit → Watched
+a_monitor set rule s u = record { set = set; rule = rule; state = s; unfit = u }
+
+-- of a monitor that has found no row that does not fit, what is kept follows the rows
+pub tracked : (h : List Row) (m : Watched) → m.unfit ≡ None → Watches h m → Legal m.set.tasks m.rule h × Tracks m.set.tasks m.rule h m.state
+tracked h m e w = subst (λ (o : Option Unfit). Follows h m.set.tasks m.rule m.state o) e w
+
+-- it has found none where each row has fitted
+pub none_found : (o : Option Unfit) → is_none o ≡ true → o ≡ None
+none_found None e = refl
+none_found (Some u) e = cc
+
+-- and of one that has found one, it stays the first
+pub stays_found : (xs h : List Row) (m : Watched) (u : Unfit) → m.unfit ≡ Some u → Watches h m → unfit_in m.set.tasks m.rule (xs ++ h) ≡ Some u
+stays_found xs h m u e w = unfit_stays m.set.tasks m.rule u xs h (subst (λ (o : Option Unfit). Follows h m.set.tasks m.rule m.state o) e w)
+
+-- so it has seen the later rows
+pub still_watches : (xs h : List Row) (m : Watched) (u : Unfit) → m.unfit ≡ Some u → Watches h m → Watches (xs ++ h) m
+still_watches xs h m u e w = subst (λ (o : Option Unfit). Follows (xs ++ h) m.set.tasks m.rule m.state o) (sym e) (stays_found xs h m u e w)
+
+-- a verdict on all rows that a monitor may have seen is that on these, by its set and its rule
+pub said_of : (h : List Row) (m : Watched) (v : Verdict) → Watches h m → ((k : List Row) → Watches k m → v ≡ verdict m.set.tasks m.rule k) →
+    (set : List Task) (rule : Rule) → m.set.tasks ≡ set → m.rule ≡ rule → v ≡ verdict set rule h
+said_of h m v w says set rule s r = says h w ∙ (ap (λ (tasks : List Task). verdict tasks m.rule h) s ∙ ap (λ (x : Rule). verdict set x h) r)
+
+-- there are as many entries as pending jobs
+pub pending_count : (set : List Task) (rule : Rule) (h : List Row) (s : State) → Legal set rule h → Tracks set rule h s → s.place < 2 ^ 64 → min (length s.waiting.entries) (2 ^ 64 - 1) ≡ length (pending set h)
+pending_count set rule h s l t room =
+    let many : length (pending set h) ≡ length (waiting set h) = ap length (pending_is set rule h l) ∙ length-map (waiting set h) live_of in
+    let same : length (filter (λ x. is_live set h x.live) (placed h)) ≡ length (waiting set h) = ap length (waiting_is set rule h l) in
+    omega (arith, many, same, same_length set rule h s t, total-one (filter (λ x. is_live set h x.live) (placed h)), less_filtered one (λ x. is_live set h x.live) (placed h), total-one (placed h), placed_le h, t.place, room)

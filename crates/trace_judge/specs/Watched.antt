@@ -1,0 +1,52 @@
+-- What a monitor has seen of a schedule. The newest row stands first.
+use Rattle.std.specs.Prelude.{◌≡◌, ℕ, Bool, true, false, List, Option, Some, None, option_map}
+use Rattle.mc_task.specs.declared.task.Rule.{Rule}
+use Rattle.mc_task.specs.declared.task.Task.{Task}
+use Rattle.mc_task.specs.TaskSet.{Set}
+use Rattle.mc_model.specs.declared.row.Row.{Row}
+use Rattle.mc_model.specs.Holds.{Fits}
+use Rattle.mc_model.specs.Legal.{Legal}
+use Rattle.mc_model.specs.Verdict.{first_unfit}
+use Rattle.trace_judge.specs.declared.unfit.Unfit.{Unfit}
+use Rattle.trace_judge.specs.declared.state.State.{State}
+use Rattle.trace_judge.specs.Tracks.{Tracks}
+
+-- a monitor: the set, the rule, what is kept of the rows that fit, and the first row that did not
+pub record Watched : Type 0 where
+  pub set : Set
+  pub rule : Rule
+  pub state : State
+  pub unfit : Option Unfit
+
+-- the oldest row that does not fit the rows before it: its number, from 1, and the first of its parts that fails
+abbrev pub unfit_in : List Task → Rule → List Row → Option Unfit
+unfit_in set rule h = option_map (λ f. record { place = f.place; why = f.why }) (first_unfit set rule h)
+
+-- what is kept follows these rows, or one of them is the first that does not fit
+abbrev pub Follows : List Row → List Task → Rule → State → Option Unfit → Type 0
+Follows h set rule s None = Legal set rule h × Tracks set rule h s
+Follows h set rule s (Some u) = unfit_in set rule h ≡ Some u
+
+-- the monitor has seen these rows
+abbrev pub Watches : List Row → Watched → Type 0
+Watches h m = Follows h m.set.tasks m.rule m.state m.unfit
+
+-- the rule fits, and what is kept follows some rows
+pub record IsWatched (set : List Task) (rule : Rule) (s : State) : Type 0 where
+  pub fits : Fits rule
+  pub rows : List Row
+  pub legal : Legal set rule rows
+  pub tracks : Tracks set rule rows s
+
+-- there is none
+abbrev pub is_none : Option Unfit → Bool
+is_none None = true
+is_none (Some u) = false
+
+-- the number of rows that fitted
+abbrev pub seen : Watched → ℕ
+seen m = m.state.place
+
+-- each row has fitted
+abbrev pub fits_so_far : Watched → Bool
+fits_so_far m = is_none m.unfit
