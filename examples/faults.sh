@@ -1,7 +1,11 @@
 #!/bin/sh
 # Runs the built program against real faults of files and of standard output, and, where there is a C compiler,
-# refuses each open, each read, each write and each start of a thread of a few runs in turn. Each run ends, with its own
-# status, and what was written is a front of the text. No run may take longer than a minute.
+# refuses each open, each read, each write and each start of a thread of a few runs in turn, and has a signal interrupt each open,
+# read and write. Each run ends, with its own status, and what was written is a front of the text. No run may take longer than a
+# minute.
+# usage: faults.sh
+. "$(dirname -- "$0")/usage.sh"
+takes 0 0 "$@"
 cd "$(dirname -- "$0")" || exit 1
 . ./expect.sh
 
@@ -131,11 +135,16 @@ is_cut_short() {
     [ "$status" -eq 8 ] && is_front
 }
 
+# is_tried_again: the run ended as the one without interruptions, and each of its calls was interrupted three times
+is_tried_again() {
+    is_as_ever && [ "$(told calls)" -eq "$count" ] && [ "$(told interruptions)" -eq $((3 * count)) ]
+}
+
 # fails NUMBER WORDS..: with this call refused, and if it is a write, with one that takes nothing in its place
 fails() {
     call=$1
     shift
-    refuse "MOST=$most_bytes CALL=$call" "$@"
+    refuse "MOST=$most_bytes CALL=$call INTERRUPT=$signals" "$@"
     # `accept` asks for no file: what it opens tells how many processors it may use, and it does without.
     case $1:$(told refused) in
     'accept:open '* | 'accept:read '*)
@@ -154,7 +163,7 @@ fails() {
     fi
 }
 
-# calls MOST WORDS..: with each call of their run refused, whose writes take at most MOST bytes
+# calls MOST WORDS..: with each call of their run interrupted, and with each refused, whose writes take at most MOST bytes
 calls() {
     most_bytes=$1
     shift
@@ -162,13 +171,18 @@ calls() {
     ordinary=$?
     refuse "MOST=$most_bytes" "$@"
     judge "$ordinary" "$status" "$work/ordinary" "$*, written in pieces"
+    count=$(told calls)
+    refuse "MOST=$most_bytes INTERRUPT=3" "$@"
+    wants is_tried_again "$* with each call interrupted three times"
     reads=0
     writes=0
-    each "$(told calls)" fails "$@"
+    each "$count" fails "$@"
     echo "edfvd $*: in pieces of $most_bytes, $reads opens and reads refused, $writes writes refused and stopped"
     [ "$writes" -gt 0 ] || failed=$((failed + 1))
 }
 
+# How many signals interrupt a call before it is refused.
+signals=0
 calls 1 check control/tasks.toml
 calls 1000 check control/tasks.toml
 calls 1000 run overrun/tasks.toml overrun/work.csv 12
@@ -178,6 +192,8 @@ calls 1000 runall several/tasks.toml several/work.csv 5 2
 calls 1 stretch control/tasks.toml
 calls 1 accept 1 200 8
 for_examples calls 8
+signals=2
+calls 1000 run overrun/tasks.toml overrun/work.csv 12
 
 # starts NUMBER WORDS..: with this start of a thread refused, or all of them where the number is 0: the run ends as ever
 starts() {

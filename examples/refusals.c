@@ -2,10 +2,11 @@
  * GROWTH is the number, from 1, of the growth of memory that is refused, by whichever thread it is asked for.
  * CALL is that of the call that fails, among the opens, the reads, and the writes to standard output; STOP that of a write
  * that takes nothing and answers 0. MOST is the most bytes that a write takes. Before call CUT the file CUT_FILE is cut to 0
- * bytes. Files of /sys, by which processors are counted, are none of these calls.
+ * bytes. Files of /sys, by which processors are counted, are none of these calls. A signal interrupts each of them INTERRUPT
+ * times before it goes through; the tries that are interrupted are not counted among the calls.
  * START is the number of the start of a thread that fails; all fail where it is 0.
- * At the end it tells on standard error how many growths, calls and starts there were, and which call failed: an open or a
- * read with its file's number, or a write. */
+ * At the end it tells on standard error how many growths, calls, interruptions and starts there were, and which call failed: an
+ * open or a read with its file's number, or a write. */
 #define _GNU_SOURCE
 #include <dlfcn.h>
 #include <errno.h>
@@ -27,6 +28,7 @@
 
 static long growths;
 static long calls;
+static long interruptions;
 static long opens;
 /* The last opened file of /sys, while no other has its number. */
 static int uncounted = -1;
@@ -60,6 +62,21 @@ void *realloc(void *old, size_t size)
     return is_growth_refused() ? NULL : next(old, size);
 }
 
+/* Whether a signal interrupts this try of the next call. */
+static int is_interrupted(void)
+{
+    static long tries;
+    const char *times = getenv("INTERRUPT");
+    if (times == NULL || tries == atol(times)) {
+        tries = 0;
+        return 0;
+    }
+    tries += 1;
+    interruptions += 1;
+    errno = EINTR;
+    return 1;
+}
+
 /* Whether this call, the next one, is to fail. */
 static int fails(const char *kind, long file)
 {
@@ -88,6 +105,8 @@ int open(const char *path, int flags, ...)
     }
     if (strncmp(path, "/sys/", 5) == 0)
         return uncounted = next(path, flags, mode);
+    if (is_interrupted())
+        return -1;
     opens += 1;
     if (fails("open", opens))
         return -1;
@@ -102,7 +121,7 @@ ssize_t read(int file, void *bytes, size_t count)
     NEXT(read);
     if (file == uncounted)
         return next(file, bytes, count);
-    return fails("read", opens) ? -1 : next(file, bytes, count);
+    return is_interrupted() || fails("read", opens) ? -1 : next(file, bytes, count);
 }
 
 ssize_t write(int file, const void *bytes, size_t count)
@@ -112,7 +131,7 @@ ssize_t write(int file, const void *bytes, size_t count)
     NEXT(write);
     if (file != 1)
         return next(file, bytes, count);
-    if (fails("write", 0))
+    if (is_interrupted() || fails("write", 0))
         return -1;
     if (is_number("STOP", calls))
         return 0;
@@ -137,7 +156,8 @@ int pthread_create(pthread_t *thread, const pthread_attr_t *attributes, void *(*
 void _exit(int status)
 {
     char lines[192];
-    int length = snprintf(lines, sizeof lines, "growths %ld\ncalls %ld\nstarts %ld\nrefused %s\n", growths, calls, starts, failed);
+    int length = snprintf(lines, sizeof lines, "growths %ld\ncalls %ld\ninterruptions %ld\nstarts %ld\nrefused %s\n",
+                          growths, calls, interruptions, starts, failed);
     NEXT(_exit);
     if (write(2, lines, (size_t)length) != length)
         status = 127;

@@ -92,36 +92,34 @@ fn held<'a>(files: &'a [(String, Vec<u8>)], name: &str) -> &'a [u8]
 #[cfg(test)]
 mod tests {
     use super::*;
-    use std::test::Fail;
+    use crate::tests::gives;
+    use std::alloc::AllocError;
 
-    // A fetch as a program calls it, which knows no more than that there is a shelf.
-    fn fetch_from<S: Shelf>(
-        shelf: &mut S,
-        alloc: Global,
-        name: &str,
-        limit: u32,
-    ) -> Result<Vec<u8>, FetchFault> {
-        shelf.fetch(alloc, name, limit as usize)
+    fn shelf_with(alloc: Global, bytes: &[u8]) -> Result<CalmShelf, AllocError> {
+        let mut files = Vec::new(alloc);
+        files.push((String::from_str(alloc, "s.toml")?, bytes.to_vec(alloc)?))?;
+        Ok(CalmShelf::new(alloc, files))
+    }
+
+    // How many names were asked, where each fetch gives what is said here.
+    fn asked(alloc: Global) -> Option<usize> {
+        let mut shelf = shelf_with(alloc, b"abcd").ok()?;
+        let fetches = [
+            ("s.toml", 4, Ok("abcd")),
+            ("s", 4, Ok("")),
+            ("s.toml", 4, Ok("abcd")),
+            ("s.toml", 3, Err(FetchFault::TooLong)),
+        ];
+        for (name, limit, answer) in fetches {
+            if !gives(&mut shelf, alloc, name, limit, answer) {
+                return None;
+            }
+        }
+        Some(shelf.asked.len())
     }
 
     #[test]
-    fn an_absent_name_holds_no_bytes(rt: HostRuntime) -> Result<(), Fail> {
-        let alloc = rt.alloc();
-        let mut files = Vec::new(alloc);
-        files.push((String::from_str(alloc, "s.toml")?, b"abcd".to_vec(alloc)?))?;
-        let mut shelf = CalmShelf::new(alloc, files);
-        for (name, bytes) in [("s.toml", "abcd"), ("s", ""), ("s.toml", "abcd")] {
-            assert_eq!(rt;
-                fetch_from(&mut shelf, alloc, name, 4)?.as_slice(),
-                bytes.as_bytes(),
-                "at {name}"
-            );
-        }
-        assert_eq!(rt;
-            fetch_from(&mut shelf, alloc, "s.toml", 3).err(),
-            Some(FetchFault::TooLong)
-        );
-        assert_eq!(rt; shelf.asked.len(), 4);
-        Ok(())
+    fn an_absent_name_holds_no_bytes(rt: HostRuntime) {
+        assert_eq!(rt; asked(rt.alloc()), Some(4));
     }
 }

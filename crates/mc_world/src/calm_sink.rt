@@ -28,19 +28,13 @@ impl Sink for CalmSink {
 #[cfg(test)]
 mod tests {
     use super::*;
-    use std::test::Fail;
-
-    // A write as a program makes it, which knows no more than that there is a sink.
-    fn write_to<K: Sink>(sink: &mut K, piece: &[u8]) -> Result<usize, SinkFault> {
-        sink.write(piece)
-    }
+    use crate::tests::write_to;
 
     #[test]
-    fn takes_every_piece_whole(rt: HostRuntime) -> Result<(), Fail> {
+    fn takes_every_piece_whole(rt: HostRuntime) {
         let mut sink = CalmSink::new();
         for (piece, count) in [("tasks 2\n", 8), ("", 0), ("x 2/5\n", 6)] {
             assert_eq!(rt; write_to(&mut sink, piece.as_bytes()), Ok(count));
         }
-        Ok(())
     }
 }

@@ -1,8 +1,10 @@
-// What is read from any reader, and written to any writer.
-ghost use Rattle.std.specs.Prelude.{◌≡◌, ◌+◌, ◌-◌, ◌<◌, ◌≤◌, ◌^◌, min, take, length, IfOk, IfSome, IsErrOf, OnErr};
-ghost use Rattle.std.specs.Io.KnownBytes.{Appends};
-ghost use Rattle.mc_world.specs.Count.{RoseByMoreThan};
+// What is read from any reader, and written to any writer. A call that a signal interrupts is tried again.
+ghost use Rattle.std.specs.Prelude.{◌≡◌, ◌+◌, ◌-◌, ◌<◌, ◌≤◌, ◌^◌, ◌⊎◌, min, take, length, false, IfOk, IfSome, IsErrOf, OnErr, OnOk};
+ghost use Rattle.std.specs.Io.{WritesAtMost};
+ghost use Rattle.std.specs.Io.KnownBytes.{Appends, Keeps};
+ghost use Rattle.mc_world.specs.Count.{RoseByMoreThan, one_more};
 
+use crate::device::{CallError, Device};
 use crate::{FetchFault, SinkFault};
 use std::alloc::Global;
 use std::io::{Read, Write};
@@ -12,21 +14,25 @@ const PIECE_BYTES: usize = 8192;
 // All bytes that a reader has left, if there are at most `limit`. Those that are read are counted.
 pub fn read_whole<T: Read>(
     alloc: Global,
-    reader: &mut T,
+    reader: &mut Device<T>,
     limit: usize,
     bytes_read: &mut u64,
 ) -> Result<Vec<u8>, FetchFault>
     requires { limit < 2 ^ 40 }
 
     // Where the reader tells what it has left, that is given, and too long is what is longer than the limit.
-    ensures whole { IfOk result (λ bytes. IfSome (T.remaining reader.old) (λ left. bytes.items ≡ left)) }
+    ensures whole { IfOk result (λ bytes. IfSome (T.remaining reader.old.inner) (λ left. bytes.items ≡ left)) }
     ensures short { IfOk result (λ bytes. length bytes.items ≤ limit) }
-    ensures long { IsErrOf result FetchFault.TooLong → IfSome (T.remaining reader.old) (λ left. limit < length left) }
+    ensures long { IsErrOf result FetchFault.TooLong → IfSome (T.remaining reader.old.inner) (λ left. limit < length left) }
     ensures long_untold { IsErrOf result FetchFault.TooLong → RoseByMoreThan limit bytes_read.old bytes_read.new }
     ensures more_read { bytes_read.old ≤ bytes_read.new }
 
     // Each byte that is given was counted once.
     ensures counted { IfOk result (λ bytes. bytes_read.new ≡ min (bytes_read.old + length bytes.items) (2 ^ 64 - 1)) }
+
+    // It fails only where a read failed, and an interruption is none.
+    ensures failed { IsErrOf result FetchFault.Failed → reader.new.tally.failures ≡ one_more reader.old.tally.failures }
+    ensures no_failure { (reader.new.tally.failures ≡ reader.old.tally.failures) ⊎ IsErrOf result FetchFault.Failed }
 {
     // It is a number of 64 bits.
     let _before = *bytes_read;
@@ -43,7 +49,8 @@ pub fn read_whole<T: Read>(
                     return Err(FetchFault::Memory);
                 }
             }
-            Err(_) => return Err(FetchFault::Failed),
+            Err(CallError::Interrupted) => continue,
+            Err(CallError::Failed) => return Err(FetchFault::Failed),
         }
     }
     Err(FetchFault::TooLong)
@@ -51,19 +58,52 @@ pub fn read_whole<T: Read>(
 
 // Writes bytes from the front of the piece, and sees that they do not wait in a buffer. It answers how many: none only of an
 // empty piece.
-pub fn write_piece<W: Write>(out: &mut W, piece: &[u8]) -> Result<usize, SinkFault>
+pub fn write_piece<W: Write>(out: &mut Device<W>, piece: &[u8]) -> Result<usize, SinkFault>
     ensures count { IfOk result (λ n. n ≤ length piece.now) }
     ensures some { IfOk result (λ n. n ≡ 0 → length piece.now ≡ 0) }
 
     // Where the writer tells what it holds, that grows by them.
-    ensures appends { IfOk result (λ n. Appends (W.contents out.old) (W.contents out.new) (take n piece.now)) }
+    ensures appends { IfOk result (λ n. Appends (W.contents out.old.inner) (W.contents out.new.inner) (take n piece.now)) }
+
+    // They were flushed: a flush that failed is a fault.
+    ensures flushed { OnOk result (out.new.waits ≡ false) }
+
+    // A fault comes only where the write or the flush failed, and an interruption is none.
+    ensures failed { OnErr result (out.new.tally.failures ≡ one_more out.old.tally.failures) }
+    ensures no_failure { OnOk result (out.new.tally.failures ≡ out.old.tally.failures) }
 {
-    match out.write(piece) {
-        Ok(n) if 0 < n || piece.is_empty() => match out.flush() {
-            Ok(()) => Ok(n),
-            // What waits in a buffer has not been written.
-            Err(_) => Err(SinkFault),
-        },
-        _ => Err(SinkFault),
+    let n = write_some(out, piece)?;
+    flush_all(out)?;
+    Ok(n)
+}
+
+fn write_some<W: Write>(out: &mut Device<W>, piece: &[u8]) -> Result<usize, SinkFault>
+    ensures bound { WritesAtMost result piece.now }
+    ensures some { IfOk result (λ n. n ≡ 0 → length piece.now ≡ 0) }
+    ensures appends { IfOk result (λ n. Appends (W.contents out.old.inner) (W.contents out.new.inner) (take n piece.now)) }
+    ensures failed { OnErr result (out.new.tally.failures ≡ one_more out.old.tally.failures) }
+    ensures no_failure { OnOk result (out.new.tally.failures ≡ out.old.tally.failures) }
+{
+    'tries: loop {
+        match out.write(piece) {
+            Ok(n) => return Ok(n),
+            Err(CallError::Interrupted) => {}
+            Err(CallError::Failed) => return Err(SinkFault),
+        }
+    }
+}
+
+fn flush_all<W: Write>(out: &mut Device<W>) -> Result<(), SinkFault>
+    ensures keeps { Keeps (W.contents out.old.inner) (W.contents out.new.inner) }
+    ensures flushed { OnOk result (out.new.waits ≡ false) }
+    ensures failed { OnErr result (out.new.tally.failures ≡ one_more out.old.tally.failures) }
+    ensures no_failure { OnOk result (out.new.tally.failures ≡ out.old.tally.failures) }
+{
+    'tries: loop {
+        match out.flush() {
+            Ok(()) => return Ok(()),
+            Err(CallError::Interrupted) => {}
+            Err(CallError::Failed) => return Err(SinkFault),
+        }
     }
 }

@@ -1,5 +1,6 @@
 ghost use Rattle.std.specs.Prelude.{◌≡◌, None};
 
+use crate::device::Device;
 use crate::edge::read_whole;
 use crate::{FetchFault, Shelf};
 use std::alloc::Global;
@@ -51,11 +52,11 @@ impl<R: Files> Shelf for FileShelf<'_, R> {
     } };
 
     fn fetch(&mut self, alloc: Global, name: &str, limit: usize) -> Result<Vec<u8>, FetchFault> {
-        let Ok(mut file) = File::open(self.rt, name) else {
+        let Ok(file) = File::open(self.rt, name) else {
             self.faults = self.faults.saturating_add(1);
             return Err(FetchFault::Failed);
         };
-        let answer = read_whole(alloc, &mut file, limit, &mut self.bytes_read);
+        let answer = read_whole(alloc, &mut Device::new(file), limit, &mut self.bytes_read);
         match answer {
             Err(FetchFault::Failed) => self.faults = self.faults.saturating_add(1),
             Err(FetchFault::Memory) => self.wanted = self.wanted.saturating_add(1),
@@ -68,60 +69,63 @@ impl<R: Files> Shelf for FileShelf<'_, R> {
 #[cfg(test)]
 mod tests {
     use super::*;
+    use std::alloc::AllocError;
     use std::fs;
     use std::test::Fail;
 
     const NAME: &str = "file_shelf_test";
 
-    #[test]
-    fn reads_a_file_of_more_than_two_pieces(rt: HostRuntime) -> Result<(), Fail> {
-        let alloc = rt.alloc();
-        let content = vec![in alloc; 7u8; 20_000]?;
-        fs::write(&rt, NAME, content.as_slice())?;
-        let mut shelf = FileShelf::new(&rt);
-        assert_eq!(rt;
-            shelf.fetch(alloc, NAME, 20_000)?.as_slice(),
-            content.as_slice()
-        );
-        assert_eq!(rt; shelf.bytes_read, 20_000);
-        assert_eq!(rt;
-            shelf.fetch(alloc, NAME, 19_999).err(),
-            Some(FetchFault::TooLong)
-        );
-        assert_eq!(rt; (shelf.bytes_read, shelf.faults), (40_000, 0));
-        fs::remove_file(&rt, NAME)?;
-        Ok(())
+    // Whether a file with this content is read whole at its length, and is too long at one byte less. Both read all of it.
+    fn is_read_back(rt: &HostRuntime, content: &[u8]) -> bool {
+        if fs::write(rt, NAME, content).is_err() {
+            return false;
+        }
+        let mut shelf = FileShelf::new(rt);
+        is_whole(&mut shelf, rt.alloc(), content)
+            && is_too_long(&mut shelf, rt.alloc(), content)
+            && fs::remove_file(rt, NAME).is_ok()
     }
 
-    #[test]
-    fn keeps_the_order_of_pieces_and_a_last_byte(rt: HostRuntime) -> Result<(), Fail> {
-        let alloc = rt.alloc();
+    fn is_whole(shelf: &mut FileShelf<'_, HostRuntime>, alloc: Global, content: &[u8]) -> bool {
+        match shelf.fetch(alloc, NAME, content.len().min(20_000)) {
+            Ok(bytes) => bytes.as_slice() == content && shelf.bytes_read == content.len() as u64,
+            Err(_) => false,
+        }
+    }
+
+    fn is_too_long(shelf: &mut FileShelf<'_, HostRuntime>, alloc: Global, content: &[u8]) -> bool {
+        let answer = shelf.fetch(alloc, NAME, content.len().saturating_sub(1).min(20_000));
+        matches!(answer, Err(FetchFault::TooLong))
+            && shelf.bytes_read / 2 == content.len() as u64
+            && shelf.faults == 0
+    }
+
+    // More than a piece, with a last byte of its own.
+    fn in_order(alloc: Global) -> Result<Vec<u8>, AllocError> {
         let mut content = Vec::new(alloc);
         for place in 0..8193u32 {
             content.push((place % 251) as u8)?;
         }
-        fs::write(&rt, "pieces", content.as_slice())?;
-        let mut shelf = FileShelf::new(&rt);
-        assert_eq!(rt;
-            shelf.fetch(alloc, "pieces", 8193)?.as_slice(),
-            content.as_slice()
-        );
-        fs::remove_file(&rt, "pieces")?;
+        Ok(content)
+    }
+
+    #[test]
+    fn keeps_the_order_of_more_than_two_pieces_and_a_last_byte(
+        rt: HostRuntime,
+    ) -> Result<(), Fail> {
+        let content = in_order(rt.alloc())?;
+        assert!(rt; is_read_back(&rt, &[7u8; 20_000]));
+        assert!(rt; is_read_back(&rt, content.as_slice()));
         Ok(())
     }
 
     #[test]
-    fn what_cannot_be_read_is_a_fault(rt: HostRuntime) -> Result<(), Fail> {
-        let alloc = rt.alloc();
+    fn what_cannot_be_read_is_a_fault(rt: HostRuntime) {
         let mut shelf = FileShelf::new(&rt);
         for (name, faults) in [("no such file", 1), (".", 2), ("", 3)] {
-            assert_eq!(rt;
-                shelf.fetch(alloc, name, 100).err(),
-                Some(FetchFault::Failed),
-                "at {name}"
-            );
-            assert_eq!(rt; shelf.faults, faults);
+            let answer = shelf.fetch(rt.alloc(), name, 100);
+            let failed = matches!(answer, Err(FetchFault::Failed));
+            assert!(rt; failed && shelf.faults == faults, "at {name}");
         }
-        Ok(())
     }
 }

@@ -3,6 +3,7 @@
 
 mod calm_shelf;
 mod calm_sink;
+mod device;
 mod edge;
 mod file_shelf;
 mod memory_shelf;
@@ -23,3 +24,6 @@ pub use stdout_sink::StdoutSink;
 /// Want of memory.
 #[derive(Clone, Copy, Debug, PartialEq, Eq)]
 pub struct Memory;
+
+#[cfg(test)]
+mod tests;

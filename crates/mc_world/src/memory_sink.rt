@@ -155,58 +155,88 @@ fn is_listed(writes: &[u64], write: u64) -> bool
 #[cfg(test)]
 mod tests {
     use super::*;
-    use std::test::Fail;
+    use crate::tests::write_to;
 
-    // A write as a program makes it, which knows no more than that there is a sink.
-    fn write_to<K: Sink>(sink: &mut K, piece: &[u8]) -> Result<usize, SinkFault> {
-        sink.write(piece)
+    // A sink and the writes to it: each with its piece, its answer and the count of faults after it.
+    struct Case {
+        shows: &'static str,
+        room: usize,
+        most: usize,
+        fails: &'static [u64],
+        stops: &'static [u64],
+        writes: &'static [(&'static str, Result<usize, SinkFault>, u64)],
+        written: &'static str,
     }
 
-    #[test]
-    fn a_failed_second_write_leaves_the_first_eight_bytes(rt: HostRuntime) -> Result<(), Fail> {
-        let alloc = rt.alloc();
-        let mut sink = MemorySink::new(alloc, 100, 8, vec![in alloc; 2]?)?;
-        assert_eq!(rt; write_to(&mut sink, b"tasks 2\nU_LL 1/2\n"), Ok(8));
-        assert_eq!(rt; write_to(&mut sink, b"U_LL 1/2\n"), Err(SinkFault));
-        assert_eq!(rt; sink.written(), b"tasks 2\n".as_slice());
-        assert_eq!(rt; (sink.writes, sink.faults), (2, 1));
-        Ok(())
-    }
+    const CASES: [Case; 3] = [
+        Case {
+            shows: "a failed second write leaves the first eight bytes",
+            room: 100,
+            most: 8,
+            fails: &[2],
+            stops: &[],
+            writes: &[
+                ("tasks 2\nU_LL 1/2\n", Ok(8), 0),
+                ("U_LL 1/2\n", Err(SinkFault), 1),
+            ],
+            written: "tasks 2\n",
+        },
+        Case {
+            shows: "a stop takes nothing and is a fault",
+            room: 12,
+            most: 8,
+            fails: &[3],
+            stops: &[2, 3, 5],
+            writes: &[
+                ("tasks 2\nU_LL 1/2\n", Ok(8), 0),
+                ("U_LL 1/2\n", Ok(0), 1),
+                ("U_LL 1/2\n", Err(SinkFault), 2),
+                ("U_LL 1/2\n", Ok(4), 2),
+                (" 1/2\n", Err(SinkFault), 3),
+            ],
+            written: "tasks 2\nU_LL",
+        },
+        Case {
+            shows: "it fails where it is full, and an empty piece needs no room",
+            room: 3,
+            most: 8,
+            fails: &[],
+            stops: &[],
+            writes: &[("abcd", Ok(3), 0), ("", Ok(0), 0), ("d", Err(SinkFault), 1)],
+            written: "abc",
+        },
+    ];
 
-    #[test]
-    fn a_stop_takes_nothing_and_is_a_fault(rt: HostRuntime) -> Result<(), Fail> {
-        let alloc = rt.alloc();
-        let stops = vec![in alloc; 2, 3, 5]?;
-        let mut sink = MemorySink::with_stops(alloc, 12, 8, vec![in alloc; 3]?, stops)?;
-        let writes = [
-            ("tasks 2\nU_LL 1/2\n", Ok(8), 0),
-            ("U_LL 1/2\n", Ok(0), 1),
-            ("U_LL 1/2\n", Err(SinkFault), 2),
-            ("U_LL 1/2\n", Ok(4), 2),
-            (" 1/2\n", Err(SinkFault), 3),
-        ];
-        for (piece, answer, faults) in writes {
-            assert_eq!(rt; write_to(&mut sink, piece.as_bytes()), answer);
-            assert_eq!(rt; sink.faults, faults);
+    fn sink_of(alloc: Global, case: &Case) -> Option<MemorySink> {
+        let fails = case.fails.to_vec(alloc).ok()?;
+        let most = case.most.max(1);
+        if case.stops.is_empty() {
+            return MemorySink::new(alloc, case.room, most, fails).ok();
         }
-        assert_eq!(rt; sink.written(), b"tasks 2\nU_LL".as_slice());
-        Ok(())
+        let stops = case.stops.to_vec(alloc).ok()?;
+        MemorySink::with_stops(alloc, case.room, most, fails, stops).ok()
+    }
+
+    fn takes(sink: &mut MemorySink, case: &Case) -> bool {
+        for (piece, answer, faults) in case.writes {
+            if write_to(sink, piece.as_bytes()) != *answer || sink.faults != *faults {
+                return false;
+            }
+        }
+        sink.written() == case.written.as_bytes() && sink.writes == case.writes.len() as u64
+    }
+
+    fn is_met(alloc: Global, case: &Case) -> bool {
+        match sink_of(alloc, case) {
+            Some(mut sink) => takes(&mut sink, case),
+            None => false,
+        }
     }
 
     #[test]
-    fn fails_where_it_is_full(rt: HostRuntime) -> Result<(), Fail> {
-        let alloc = rt.alloc();
-        let mut sink = MemorySink::new(alloc, 3, 8, Vec::new(alloc))?;
-        assert_eq!(rt; write_to(&mut sink, b"abcd"), Ok(3));
-        assert_eq!(rt;
-            write_to(&mut sink, b""),
-            Ok(0),
-            "an empty piece needs no room"
-        );
-        assert_eq!(rt; sink.faults, 0);
-        assert_eq!(rt; write_to(&mut sink, b"d"), Err(SinkFault));
-        assert_eq!(rt; sink.written(), b"abc".as_slice());
-        assert_eq!(rt; sink.faults, 1);
-        Ok(())
+    fn fails_and_stops_where_it_is_told_to_and_where_it_is_full(rt: HostRuntime) {
+        for case in &CASES {
+            assert!(rt; is_met(rt.alloc(), case), "{}", case.shows);
+        }
     }
 }

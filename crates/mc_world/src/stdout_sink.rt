@@ -1,5 +1,6 @@
 ghost use Rattle.std.specs.Prelude.{◌≡◌, None};
 
+use crate::device::Device;
 use crate::edge::write_piece;
 use crate::{Sink, SinkFault};
 use std::io;
@@ -39,7 +40,7 @@ impl<R: Print> Sink for StdoutSink<'_, R> {
     ghost state = { λ s. record { written = None; faults = s.faults; since_fault = s.since_fault } };
 
     fn write(&mut self, piece: &[u8]) -> Result<usize, SinkFault> {
-        match write_piece(&mut io::writer(self.rt), piece) {
+        match write_piece(&mut Device::new(io::writer(self.rt)), piece) {
             Ok(n) => {
                 self.since_fault = self.since_fault.saturating_add(n as u64);
                 Ok(n)
@@ -56,8 +57,8 @@ impl<R: Print> Sink for StdoutSink<'_, R> {
 #[cfg(test)]
 mod tests {
     use super::*;
+    use std::cell::Cell;
     use std::fmt::Display;
-    use std::test::Fail;
 
     // An output that nobody reads.
     struct ClosedOutput;
@@ -76,20 +77,54 @@ mod tests {
         }
     }
 
-    #[test]
-    fn prints_and_counts_no_fault(rt: HostRuntime) -> Result<(), Fail> {
-        let mut sink = StdoutSink::new(&rt);
-        assert_eq!(rt; sink.write(b"printed by a sink\n"), Ok(18));
-        assert_eq!(rt; sink.write(b""), Ok(0));
-        assert_eq!(rt; sink.faults, 0);
-        Ok(())
+    // An output at which a signal interrupts each write but every third.
+    #[derive(Drop)]
+    struct SignalledOutput {
+        writes: Cell<u64>,
+    }
+
+    impl Print for SignalledOutput {
+        fn print<D: Display + Drop>(&self, _value: D) -> io::Result<()> {
+            self.write_all(b"")
+        }
+
+        fn println<D: Display + Drop>(&self, _value: D) -> io::Result<()> {
+            self.write_all(b"")
+        }
+
+        fn write_all(&self, _bytes: &[u8]) -> io::Result<()> {
+            self.writes.set(self.writes.get().saturating_add(1));
+            if self.writes.get() % 3 == 0 {
+                Ok(())
+            } else {
+                Err(io::Error::from(io::ErrorKind::Interrupted))
+            }
+        }
+    }
+
+    // Whether the write of this piece is answered so, and leaves that many faults.
+    fn answers<R: Print>(
+        sink: &mut StdoutSink<'_, R>,
+        piece: &str,
+        answer: Result<usize, SinkFault>,
+        faults: u64,
+    ) -> bool {
+        sink.write(piece.as_bytes()) == answer && sink.faults == faults
     }
 
     #[test]
-    fn a_failed_write_is_counted(rt: HostRuntime) -> Result<(), Fail> {
-        let mut sink = StdoutSink::new(&ClosedOutput);
-        assert_eq!(rt; sink.write(b"lost\n"), Err(SinkFault));
-        assert_eq!(rt; sink.faults, 1);
-        Ok(())
+    fn a_failed_write_is_counted_and_an_interrupted_one_is_not(rt: HostRuntime) {
+        let mut sink = StdoutSink::new(&rt);
+        assert!(rt; answers(&mut sink, "printed by a sink\n", Ok(18), 0));
+        assert!(rt; answers(&mut sink, "", Ok(0), 0));
+        let mut closed = StdoutSink::new(&ClosedOutput);
+        assert!(rt; answers(&mut closed, "lost\n", Err(SinkFault), 1));
+        let output = SignalledOutput {
+            writes: Cell::new(0),
+        };
+        let mut signalled = StdoutSink::new(&output);
+        assert!(rt; answers(&mut signalled, "tasks 2\n", Ok(8), 0));
+        assert!(rt; answers(&mut signalled, "x 2/5\n", Ok(6), 0));
+        assert_eq!(rt; output.writes.get(), 6);
     }
 }
