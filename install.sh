@@ -1,7 +1,11 @@
 #!/bin/sh
-# install.sh PREFIX: puts the proved program to PREFIX/bin/edfvd and its page to PREFIX/share/man/man1/edfvd.1.
-# What is installed needs the C library alone: neither this folder, nor the wrapper, nor the command rt.
+# Puts the proved program to PREFIX/bin/edfvd and its page to PREFIX/share/man/man1/edfvd.1. What is installed needs the C library
+# alone: neither this folder, nor the wrapper, nor the command rt.
+# usage: install.sh PREFIX
+#        as in install.sh ~/.local
 set -u
+here=$(dirname -- "$(readlink -f -- "$0")")
+. "$here/examples/usage.sh"
 
 # refuse WHY: ends with nothing installed
 refuse() {
@@ -9,19 +13,13 @@ refuse() {
     exit "${2:-1}"
 }
 
-if [ $# -ne 1 ]; then
-    refuse 'usage: install.sh PREFIX, as in install.sh ~/.local' 2
-fi
+takes 1 1 "$@"
 prefix=$1
-case $prefix in
-    '') refuse 'the prefix is empty' 2 ;;
-    -*) refuse "the prefix $prefix begins with a minus: write ./$prefix" 2 ;;
-esac
+[ -n "$prefix" ] || refuse 'the prefix is empty' 2
 if [ -e "$prefix" ] && ! [ -d "$prefix" ]; then
     refuse "$prefix is no folder"
 fi
 
-here=$(dirname -- "$(readlink -f -- "$0")")
 program=$here/crates/edfvd_program/out/edfvd_program
 page=$here/man/edfvd.1
 if ! [ -x "$program" ]; then
@@ -32,8 +30,9 @@ fi
 
 bin=$prefix/bin
 man=$prefix/share/man/man1
-mkdir -p "$bin" "$man" || refuse "$bin and $man cannot be made"
-for folder in "$bin" "$man"; do
+doc=$prefix/share/doc/edfvd
+mkdir -p "$bin" "$man" "$doc" || refuse "$bin, $man and $doc cannot be made"
+for folder in "$bin" "$man" "$doc"; do
     [ -w "$folder" ] || refuse "$folder cannot be written"
 done
 for file in "$bin/edfvd" "$man/edfvd.1"; do
@@ -48,9 +47,35 @@ put() {
         refuse "$3 cannot be written"
     fi
 }
+
+# release: the text of RELEASE, which says version, commit, kit and the sha256 of each installed file. A version that CHANGELOG.md has changes after is marked so. The sums are compared by
+# `sha256sum -c share/doc/edfvd/RELEASE` in the prefix.
+release() {
+    awk '/^version: / { version = $2 } /^## Since / { changes = "+changes" } END { print "# edfvd " version changes }' \
+        "$here/CITATION.cff" "$here/CHANGELOG.md"
+    commit=unknown
+    if [ -e "$here/.git" ] && commit=$(git -C "$here" rev-parse HEAD); then
+        [ -z "$(git -C "$here" status --porcelain)" ] || commit="$commit, and changes that are not committed"
+    fi
+    echo "# commit $commit"
+    echo "# kit $(cat "$here/KIT")"
+    (cd "$prefix" && sha256sum bin/edfvd share/man/man1/edfvd.1 share/doc/edfvd/README.md share/doc/edfvd/LICENSE-*)
+}
+
 put 755 "$program" "$bin/edfvd"
 put 644 "$page" "$man/edfvd.1"
+for file in README.md LICENSE-APACHE LICENSE-MIT; do
+    put 644 "$here/$file" "$doc/$file"
+done
+text=$doc/.release.$$
+if ! release >"$text"; then
+    rm -f "$text"
+    refuse "$doc/RELEASE cannot be written"
+fi
+put 644 "$text" "$doc/RELEASE"
+rm -f "$text"
 echo "installed $bin/edfvd and $man/edfvd.1"
+echo "version, commit, kit and checksums are in $doc/RELEASE"
 case :$PATH: in
     *":$bin:"*) ;;
     *) echo "$bin is not on the PATH" ;;

@@ -1,6 +1,9 @@
 #!/bin/sh
 # Runs the built program with 128 tasks beside 8 processes that take all the processors they get. Each run is over within a
 # minute, and the text of a plan is what it is without them.
+# usage: calm.sh
+. "$(dirname -- "$0")/usage.sh"
+takes 0 0 "$@"
 cd "$(dirname -- "$0")" || exit 1
 . ./expect.sh
 

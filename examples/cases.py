@@ -5,8 +5,9 @@ import os
 import random
 import shutil
 import subprocess
-import sys
 import tempfile
+
+from usage import WrongWords, numbers
 
 
 class Dice:
@@ -22,10 +23,11 @@ class Dice:
         return items[self.below(len(items))]
 
 
-def program_count_seed(count):
-    """The words of the command line: the program, how many cases, by default so many, and the seed."""
-    words = sys.argv[1:]
-    return os.path.abspath(words[0]), int(words[1]) if len(words) > 1 else count, int(words[2]) if len(words) > 2 else 1
+def program_count_seed(words, count):
+    """What the words say: the program, the number of cases, by default this count, and the seed."""
+    if not words:
+        raise WrongWords
+    return os.path.abspath(words[0]), *numbers(words[1:], count, 1)
 
 
 class Runner:

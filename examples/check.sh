@@ -1,6 +1,9 @@
 #!/bin/sh
 # Runs the program on the examples and on files at the limits, and the page for callers beside the code that it quotes,
 # and compares each status and text with what is written here or beside the example.
+# usage: check.sh
+. "$(dirname -- "$0")/usage.sh"
+takes 0 0 "$@"
 cd "$(dirname -- "$0")" || exit 1
 . ./expect.sh
 # By the words that a user writes.
@@ -17,6 +20,9 @@ cmp overrun/run.txt runs/runs.csv || failed=$((failed + 1))
 expect 0 control/check.txt check control/tasks.toml
 (cd control && "$edfvd" check tasks.toml) >"$work/out"
 judge 0 $? control/check.txt 'check, from another folder'
+# A file that is standard input.
+"$program" check /dev/stdin <control/tasks.toml >"$work/out"
+judge 0 $? control/check.txt 'check, of standard input'
 for file in refused/*.toml; do
     expect "$(cat "${file%.toml}.status")" "${file%.toml}.txt" check "$file"
 done
@@ -96,6 +102,116 @@ wc -l <"$work/avionics.csv" | tr -d ' ' >"$work/out"
 judge 0 "$status" "$(says 40)" 'run, the avionics set'
 expect 0 judged/legal.txt judge avionics/tasks.toml "$work/avionics.csv"
 expect 0 avionics/report.txt report avionics/tasks.toml "$work/avionics.csv"
+
+# Scripts that write files for the program, and one that draws a trace.
+# writes STATUS TEXT SCRIPT WORDS..: the script gives this status and text
+writes() {
+    want=$1
+    text=$2
+    shift 2
+    bounded python3 -B "$@" >"$work/out" 2>"$work/err"
+    judge "$want" $? "$text" "by $*"
+}
+# draws COUNT CLASS: the picture has COUNT of these, the one of its legend among them
+draws() {
+    grep -c "class=\"$2\"" "$work/picture.svg" >"$work/out"
+    judge 0 0 "$(says "$1")" "by svg.py, of $2"
+}
+try_scripts() {
+    # Each divisor of the number that divisors.py goes by is a product of powers of these primes. What a period up to a million
+    # loses is counted without that, by a division for each.
+    cat >"$work/loss.py" <<'END'
+import divisors
+dense = 897612484786617600
+print(dense == 2**8 * 3**4 * 5**2 * 7**2 * 11 * 13 * 17 * 19 * 23 * 29 * 31 * 37 == divisors.DENSE, dense < 2**60)
+print(9 * 5 * 3 * 3 * 2**8 == len(divisors.divisors(dense)) == 103680)
+for number in dense, 720720, 10000:
+    last, lost, worst = 1, 0, 1
+    for period in range(1, 1000001):
+        last = period if number % period == 0 else last
+        assert period > 40 or number < dense or last == period
+        if period >= 10000 and (period - last) * worst > lost * period:
+            lost, worst = period - last, period
+    print(f'{100 * lost / worst:.2f} % at {worst}, to {worst - lost}')
+END
+    cat >"$work/divisors.txt" <<'END'
+True True
+True
+0.52 % at 12739, to 12673
+50.00 % at 720719, to 360360
+99.00 % at 1000000, to 10000
+END
+    writes 0 "$work/divisors.txt" - <"$work/loss.py"
+    # 12,673 is 19 * 23 * 29, and 41 a prime that does not divide the number.
+    table='[[task]]\nname = "%s"\nlevel = "low"\nperiod = %s\nlow = 1\n'
+    # shellcheck disable=SC2059
+    printf "version = 2\nscale = [1, 2]\n\n$table\n$table\n$table" a 12739 b 41 c 720720 >"$work/odd.toml"
+    sed 's/12739/12673/; s/41/40/' "$work/odd.toml" >"$work/even.toml"
+    writes 0 "$work/even.toml" divisors.py "$work/odd.toml"
+    printf 'a: period 12739 is now 12673, 0.52 %% less\nb: period 41 is now 40, 2.44 %% less\n' >"$work/lost.txt"
+    echo 'c: period 720720 is now 720720, 0.00 % less' >>"$work/lost.txt"
+    cmp "$work/lost.txt" "$work/err" || failed=$((failed + 1))
+    sed 's/12739/10000/; s/41/40/; s/720720/10000/' "$work/odd.toml" >"$work/even.toml"
+    writes 0 "$work/even.toml" divisors.py "$work/odd.toml" 10000
+    # Two tasks of period 4,294,615,752 with a budget of 1.
+    python3 -B divisors.py refused/periods.toml >"$work/even.toml" 2>"$work/err"
+    printf 'tasks 2\nU_LL 1/2147307876\nU_HL 0/1\nU_HH 0/1\nrule plain\n' >"$work/even.txt"
+    expect 0 "$work/even.txt" check "$work/even.toml"
+    writes 3 "$work/empty" divisors.py refused/zero_period.toml
+    writes 1 "$work/empty" divisors.py "$work/odd.toml" 1009
+
+    # Of budgets of 1 each need is known: the second job of arm overruns, and tap's releases at 6 and 8 are dropped.
+    head -n 13 several/tasks.toml >"$work/two.toml"
+    printf '%s\n' task,release,need tap,0,1 arm,0,1 tap,2,1 tap,4,1 arm,4,3 tap,6,1 tap,8,1 arm,8,1 >"$work/jobs.csv"
+    writes 0 "$work/jobs.csv" jobs.py "$work/two.toml" 9 --overruns 2
+    bounded "$program" run "$work/two.toml" "$work/jobs.csv" 9 >"$work/trace.csv"
+    cat >"$work/report.txt" <<'END'
+task tap released 5 kept 3 dropped 2 discarded 0 done 3 stopped 0 ticks 3 response 1
+task arm released 3 kept 3 dropped 0 discarded 0 done 3 stopped 0 ticks 5 response 4
+idle 1
+switches 1
+END
+    expect 0 "$work/report.txt" report "$work/two.toml" "$work/trace.csv"
+    # A seed makes the same work again, another seed other work, in which without overruns no need is above the low budget.
+    python3 -B jobs.py avionics/tasks.toml 200000 --overruns 0 >"$work/jobs.csv"
+    writes 0 "$work/jobs.csv" jobs.py avionics/tasks.toml 200000 --overruns 0 --seed 1
+    python3 -B jobs.py avionics/tasks.toml 200000 --overruns 0 --seed 2 | cmp -s - "$work/jobs.csv" && failed=$((failed + 1))
+    bounded "$program" run avionics/tasks.toml "$work/jobs.csv" 200000 >"$work/trace.csv"
+    bounded "$program" report avionics/tasks.toml "$work/trace.csv" | tail -n 1 >"$work/out"
+    judge 0 0 "$(says 'switches 0')" 'report, of work without overruns'
+    python3 -B jobs.py avionics/tasks.toml 1000000 >"$work/jobs.csv"
+    bounded "$program" run avionics/tasks.toml "$work/jobs.csv" 1000000 >"$work/trace.csv"
+    expect 0 judged/legal.txt judge avionics/tasks.toml "$work/trace.csv"
+
+    # Processor 1 of runall.txt: four releases, two of them dropped, two deadlines, and high mode from boundary 2 to 5.
+    sed -n '2,/^processor 2/p' several/runall.txt | sed '$d' >"$work/trace.csv"
+    python3 -B svg.py several/tasks.toml "$work/trace.csv" 0 6 >"$work/picture.svg" || failed=$((failed + 1))
+    draws 5 release
+    draws 3 dropped
+    draws 3 deadline
+    draws 2 low
+    draws 2 over
+    draws 3 high
+    draws 3 'done'
+    draws 1 stop
+    draws 0 discarded
+    grep -q '<title>high mode, ticks 2 to 4</title>' "$work/picture.svg" || failed=$((failed + 1))
+    python3 -B svg.py several/tasks.toml "$work/trace.csv" 2 4 >"$work/picture.svg" || failed=$((failed + 1))
+    draws 1 low
+    draws 3 high
+    python3 -c 'import sys, xml.dom.minidom; xml.dom.minidom.parse(sys.argv[1])' "$work/picture.svg" || failed=$((failed + 1))
+    # Of the overrun: log's first job is discarded at boundary 2.
+    python3 -B svg.py overrun/tasks.toml overrun/run.txt 0 12 >"$work/picture.svg" || failed=$((failed + 1))
+    draws 1 discarded
+    grep -q '<title>log 1, discarded at 2</title>' "$work/picture.svg" || failed=$((failed + 1))
+    writes 5 "$work/empty" svg.py overrun/tasks.toml overrun/work.csv 0 12
+    writes 2 "$work/empty" svg.py overrun/tasks.toml overrun/run.txt 12 12
+}
+if python3 -c 'import tomllib' 2>/dev/null; then
+    try_scripts
+else
+    echo 'check: divisors.py, jobs.py and svg.py are skipped, there is no python3 of version 3.11 or later'
+fi
 
 # A workload, as another program worked it out from the rules.
 cat >"$work/soak.txt" <<'END'
@@ -312,31 +428,49 @@ for text in "$rows" "$runs_header"; do
     expect 7 "$(says 'file 2 is longer than 134217728 bytes')" judge judged/tasks.toml "$work/trace.csv"
 done
 
-# A record that is wider than its header is refused by its width, in little more memory than its file.
-# wide STATUS LINE MEBIBYTES WORDS..: the run is refused with this line where there is so much memory
-wide() {
-    want=$1
-    text=$(says "$2")
-    limit=$3
+# in_memory MEBIBYTES STATUS TEXT WORDS..: the words give this status and the text of this file in this much memory
+in_memory() {
+    limit=$1
+    want=$2
+    text=$3
     shift 3
     (ulimit -v $((limit * 1024)) && bounded "$program" "$@") >"$work/out"
     judge "$want" $? "$text" "$* in $limit MiB"
 }
+# A record that is wider than its header is refused by its width, in little more memory than its file.
 # wides LINE HEADER: a trace with this header and one record, of commas and of line feeds in quotes
 wides() {
     # shellcheck disable=SC2059
     { printf "$2"; head -c $((134217728 - 64)) /dev/zero | tr '\0' ','; } >"$work/trace.csv"
-    wide 5 "trace line $1" 200 judge judged/tasks.toml "$work/trace.csv"
+    in_memory 200 5 "$(says "trace line $1")" judge judged/tasks.toml "$work/trace.csv"
     { printf "$2"; printf '"'; yes '","' | head -c $((134217728 - 64)); } >"$work/trace.csv"
-    wide 5 "trace line $1" 200 judge judged/tasks.toml "$work/trace.csv"
+    in_memory 200 5 "$(says "trace line $1")" judge judged/tasks.toml "$work/trace.csv"
 }
 wides '1: header is of no trace version' ''
 wides '2: not five fields' "$rows\n"
 wides '2: not six fields' "$runs_header\n"
 { printf '%s\n' "$header"; head -c $((16777216 - 64)) /dev/zero | tr '\0' ','; } >"$work/work.csv"
-wide 4 'work file line 2: not three fields' 64 run overrun/tasks.toml "$work/work.csv" 10
+in_memory 64 4 "$(says 'work file line 2: not three fields')" run overrun/tasks.toml "$work/work.csv" 10
 { echo task,period,deadline,budget; head -c $((16777216 - 64)) /dev/zero | tr '\0' ','; } >"$work/work.csv"
-wide 11 'demand file line 2: not four fields' 64 demand "$work/work.csv"
+in_memory 64 11 "$(says 'demand file line 2: not four fields')" demand "$work/work.csv"
+
+# A task file that says a set takes little more memory than its size. The tree of another one may take 600 times its size: where
+# there is less memory, nothing is written.
+# tables COUNT: a task file with this many inline tables, each with 79 in it
+tables() {
+    awk -v count="$1" 'BEGIN {
+        for (i = 1; i < 80; i++) key = key "a."
+        printf "x=["
+        for (i = 0; i < count; i++) printf "{%sa=1},", key
+        print "]" }' >"$work/tables.toml"
+}
+length=$(wc -c <control/tasks.toml)
+{ cat control/tasks.toml; yes '# {a.a.a} [[b.b.b]]' | head -c $((16777216 - length - 1)); echo; } >"$work/full.toml"
+in_memory 32 0 control/check.txt check "$work/full.toml"
+tables 400
+in_memory 64 3 "$(says 'task file: unknown key x')" check "$work/tables.toml"
+tables 102000
+in_memory 64 9 "$work/empty" check "$work/tables.toml"
 
 { printf '%s\n' "$runs_header"; awk 'BEGIN { for (i = 0; i <= 2000000; i++) print "idle," i ",1,,," }'; } >"$work/trace.csv"
 expect 5 "$(says 'trace line 2000002: more than 2000000 rows')" judge judged/tasks.toml "$work/trace.csv"

@@ -1,7 +1,5 @@
 """Compares the program with model.py, which was written from the rules alone, on cases that are made by a seed.
 
-usage: compare.py PROGRAM [CASES [SEED]]
-
 A case is a command, its files and its words: sets whose loads lie round 1 or at it, also with periods at the limits;
 random work; legal traces of a few ticks or up to a hundred million, with random choices, such traces cut short or with
 a spoilt row, also by scales that do not hold; made workloads; sets for several processors; sets with a scale of their own,
@@ -11,13 +9,14 @@ text have to be the model's, nothing stands on standard error, and no job is lat
 texts that `live` may write the model says whether this is one. What came of the cases is counted. A comparison of as
 many cases as by default fails, too, where one of STATUSES or OUTCOMES never came, since it then shows less than it
 says. Files of cases that differ are kept, and named.
+
+usage: compare.py PROGRAM [CASES [SEED]]
 """
 
 import collections
 import json
 import math
 import re
-import sys
 from fractions import Fraction
 from typing import NamedTuple, Optional
 
@@ -26,6 +25,7 @@ from cases import Dice, Runner, keep, program_count_seed, tell
 from model import (
     DONE, DROPPED, EVENTS, HIGH, IDLE, KEPT, LOW, MORE, MOST, MOST_TICKS, OVER, PLAIN, RELEASES, STOP, TICKS,
     TRACE_HEADERS, Demand, Job, Run, Scale, Task, TaskSet, Trace, Work, demand_file, rows_of, run_fields, with_before)
+from usage import ends
 
 DEFAULT_CASES = 4800
 
@@ -1286,8 +1286,8 @@ def never_came(statuses, came):
         f'{form}: {words}' for form in OUTCOMES for words in OUTCOMES[form] if not came[form, words]]
 
 
-def main():
-    program, count, seed = program_count_seed(DEFAULT_CASES)
+def main(words):
+    program, count, seed = program_count_seed(words, DEFAULT_CASES)
     dice = Dice(seed)
     comparison = Comparison(program)
     for number, case in enumerate(cases(count, dice), 1):
@@ -1302,4 +1302,4 @@ def main():
 
 
 if __name__ == '__main__':
-    sys.exit(main())
+    ends(main, __doc__)

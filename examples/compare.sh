@@ -2,6 +2,8 @@
 # Compares the built program with examples/model.py, another one that was written from the rules alone: first that one
 # with its worked examples, then both on cases made by a fixed seed, 4800 or as many as are asked for.
 # usage: compare.sh [CASES [SEED]]
+. "$(dirname -- "$0")/usage.sh"
+takes_numbers "$@"
 cd "$(dirname -- "$0")" || exit 1
 if ! python3 -c 'import sys; sys.exit(sys.version_info < (3, 9))' 2>/dev/null; then
     echo "compare: skipped, there is no python3 of version 3.9 or later"

@@ -5,14 +5,16 @@ are reached by name. A line counts where it is no comment, no `use` and not blan
 followed to their structs and enums and to the views of these. Names of the toolchain's libraries end the way, and are
 counted. A name that its equation binds is no declaration's.
 
-usage: definitions.py [CLAUSE], for all clauses together or one of them
+usage: definitions.py [CLAUSE]
+       for all clauses together, or one of them
 """
 
 import collections
 import pathlib
 import re
-import sys
 from typing import NamedTuple
+
+from usage import WrongWords, ends
 
 CRATES = pathlib.Path(__file__).resolve().parent.parent / 'crates'
 TOP = CRATES / 'edfvd_program/src/edfvd.rt'
@@ -236,9 +238,8 @@ def total_line(label, reader):
 
 def main(words):
     known = clauses()
-    if any(word not in known for word in words):
-        print(f'the clauses are {", ".join(known)}', file=sys.stderr)
-        return 2
+    if len(words) > 1 or any(word not in known for word in words):
+        raise WrongWords(f'the clauses are {", ".join(known)}')
     reader = read(words or known)
     by_file = collections.defaultdict(list)
     for (path, _), declaration in reader.reached.items():
@@ -256,4 +257,4 @@ def main(words):
 
 
 if __name__ == '__main__':
-    sys.exit(main(sys.argv[1:]))
+    ends(main, __doc__)

@@ -8,10 +8,10 @@ usage: demand_runs.py [SETS [SEED]]
 """
 
 import random
-import sys
 
 import model
 from model import Demand, EdfRow, Job
+from usage import ends, numbers
 
 PERIODS = [1, 2, 3, 4, 5, 6, 8, 10, 12]
 
@@ -65,7 +65,8 @@ def counter_fault(demands, length):
     return None if model.edf_late(demands, rows) else 'no job is late'
 
 
-def main(count=300, seed=1):
+def main(words):
+    count, seed = numbers(words, 300, 1)
     dice = random.Random(seed)
     within = past = runs = late = 0
     for _ in range(count):
@@ -88,7 +89,8 @@ def main(count=300, seed=1):
             late += bool(model.edf_late(demands, run_of(dice, demands, min(2 * multiple, 40) + 5)))
     print(f'demand runs: {count} sets, {within} within and {runs} runs of them without a late job, {past} past, '
           f'each with its counterexample; {late} of as many other runs of these had a late job')
+    return 0
 
 
 if __name__ == '__main__':
-    main(*map(int, sys.argv[1:]))
+    ends(main, __doc__)

@@ -6,11 +6,11 @@ first line and its status are those of `judge`.
 usage: explain.py TASKS TRACE [P Q]
 """
 
-import sys
 from fractions import Fraction
 
 import model
 from model import EVENTS, IDLE
+from usage import WrongWords, ends
 from walk import Walk, go_through, read_task_file, read_trace_file
 
 # The words of `judge`, each as a sentence on the row.
@@ -121,19 +121,17 @@ def explain(task_set, words, header, trace):
 
 def main(words):
     if len(words) not in (2, 4):
-        print(__doc__.splitlines()[-1], file=sys.stderr)
-        return 2
+        raise WrongWords
     try:
         task_set = read_task_file(words[0])
         status, told = explain(task_set, words[2:], *read_trace_file(task_set.tasks, words[1]))
     except model.Refusal as refusal:
+        if refusal.line == model.USAGE:
+            raise WrongWords from None
         status, told = refusal.status, [refusal.line[:-1]]
-    except OSError as error:
-        print(f'{error.filename}: {error.strerror}', file=sys.stderr)
-        return 7
     print('\n'.join(told))
     return status
 
 
 if __name__ == '__main__':
-    sys.exit(main(sys.argv[1:]))
+    ends(main, __doc__)

@@ -3,6 +3,8 @@
 # 100 cases made by a fixed seed, or as many as are asked for. Then perfetto.py, record/sched.py on the kept recordings (nothing
 # is recorded), flight.py, and pages of docs beside what they speak of. No built program is needed.
 # usage: explain.sh [CASES [SEED]]
+. "$(dirname -- "$0")/usage.sh"
+takes_numbers "$@"
 cd "$(dirname -- "$0")" || exit 1
 if ! python3 -c 'import tomllib' 2>/dev/null; then
     echo "explain: skipped, there is no python3 of version 3.11 or later"
@@ -46,19 +48,59 @@ for name in by_hand by_hand_late_loop; do
 done
 wants 0 judged/legal.txt explain.py control/tasks.toml record/by_hand.csv
 wants 6 record/by_hand_late_loop.judged explain.py control/tasks.toml record/by_hand_late_loop.csv
+# refuses LINE WORDS..: sched.py refuses the recording with this line
 : >"$work/nothing"
-wants 1 "$work/nothing" record/sched.py control/tasks.toml record/by_hand.txt 1000 0 ctl=ctl log=log
-grep -q '^sched: line 3: thread ticker-70 is in no map$' "$work/err" || failed=$((failed + 1))
+refuses() {
+    line=$1
+    shift
+    wants 1 "$work/nothing" record/sched.py "$@"
+    if ! grep -qxF "sched: $line" "$work/err"; then
+        failed=$((failed + 1))
+        echo "sched.py $*: $(cat "$work/err"), wanted: $line"
+    fi
+}
+refuses 'line 3: thread ticker-70 is in no map' control/tasks.toml record/by_hand.txt 1000 0 ctl=ctl log=log
 for lost in '[LOST 7 EVENTS]' '[EVENTS DROPPED]' '[7 EVENTS DROPPED]'; do
     (sed 4q record/by_hand.txt; echo "CPU:0 $lost") >"$work/lost.txt"
-    wants 1 "$work/nothing" record/sched.py control/tasks.toml "$work/lost.txt" 1000 0 ctl=ctl log=log ticker=-
-    grep -q '^sched: line 5: events were lost$' "$work/err" || failed=$((failed + 1))
+    refuses 'line 5: events were lost' control/tasks.toml "$work/lost.txt" 1000 0 ctl=ctl log=log ticker=-
 done
+# What would be an empty trace, or one of idle ticks alone: another processor, a tick of seconds in place of milliseconds, and
+# markers without any switch, with `finish` after eight ticks and without.
+refuses 'no whole tick of 1000 us is recorded on this processor' control/tasks.toml record/by_hand.txt 1000 1 ctl=ctl log=log ticker=-
+refuses 'no whole tick of 1000000 us is recorded on this processor' control/tasks.toml record/by_hand.txt 1000000 0 ctl=ctl log=log ticker=-
+grep -v sched_switch record/by_hand.txt >"$work/markers.txt"
+refuses 'no whole tick of 1000 us is recorded on this processor' control/tasks.toml "$work/markers.txt" 1000 0 ctl=ctl
+echo ' ticker-70 [000] 100.008020: print: tracing_mark_write: finish' >>"$work/markers.txt"
+refuses 'tick 0: no thread is recorded on this processor' control/tasks.toml "$work/markers.txt" 1000 0 ctl=ctl
+# A task that is released and has no tick is taken only by the option: here the time of its thread is overhead.
+sed 13d record/by_hand.txt >"$work/unserved.txt"
+refuses 'line 5: log is released and has no tick, which --unserved takes' control/tasks.toml "$work/unserved.txt" 1000 0 ctl=ctl log=- ticker=-
+{ sed 5q record/by_hand.csv; echo idle,2,6,,,; } >"$work/unserved.csv"
+wants 0 "$work/unserved.csv" record/sched.py --unserved control/tasks.toml "$work/unserved.txt" 1000 0 ctl=ctl log=- ticker=-
+sed 's/release log/drop log/' "$work/unserved.txt" >"$work/dropped.txt"
+sed 's/log,1,kept/log,1,dropped/' "$work/unserved.csv" >"$work/dropped.csv"
+wants 0 "$work/dropped.csv" record/sched.py control/tasks.toml "$work/dropped.txt" 1000 0 ctl=ctl log=- ticker=-
+
+# The same events as a CSV file, whose lines have the numbers of those of the text.
+wants 0 record/by_hand.csv record/sched.py control/tasks.toml record/by_hand_events.csv 1000
+cmp record/by_hand.moves "$work/err" || failed=$((failed + 1))
+# refused_events WORDS LINE: that file spoilt by these words of sed is refused with this line
+refused_events() {
+    sed "$1" record/by_hand_events.csv >"$work/spoilt.csv"
+    refuses "$2" control/tasks.toml "$work/spoilt.csv" 1000
+}
+refused_events 1d 'line 1: the header is not time,event,task'
+refused_events '5s/,log//' 'line 5: not three fields'
+refused_events '5s/14/0.014s/' 'line 5: 0.014s is no time'
+refused_events '5s/14/9/' 'line 5: its time is before that of line 4'
+refused_events '5s/release/ready/' 'line 5: ready is no event'
+refused_events '5s/log/logger/' 'line 5: release of logger, which is no task'
+refused_events '/,run,/d' 'no whole tick of 1000 us is recorded on this processor'
+refused_events '/,log/d;s/release,ctl/release,log/' 'line 4: log is released and has no tick, which --unserved takes'
 # An ordinary process in the place of idleness, which * takes for it; a real-time thread it does not take.
 sed 's,swapper/0:0,make:900,g' record/by_hand.txt >"$work/made.txt"
 wants 0 record/by_hand.csv record/sched.py control/tasks.toml "$work/made.txt" 1000 0 ctl=ctl log=log ticker=- '*=.'
-wants 1 "$work/nothing" record/sched.py control/tasks.toml "$work/made.txt" 1000 0 ctl=ctl log=log '*=.'
-grep -q '^sched: line 3: thread ticker-70 is in no map$' "$work/err" || failed=$((failed + 1))
+refuses 'line 3: thread ticker-70 is in no map' control/tasks.toml "$work/made.txt" 1000 0 ctl=ctl log=log '*=.'
 
 # of_fifo STATUS TRACE REPORT: sched.py on a recording of fifo
 of_fifo() {
@@ -68,11 +110,7 @@ of_fifo() {
 # refused_with WORDS LINE: fifo's recording spoilt by these words of sed is refused with this line
 refused_with() {
     sed "$1" record/rules.txt >"$work/spoilt.txt"
-    of_fifo 1 "$work/nothing" "$work/spoilt.txt"
-    if ! grep -qxF "sched: $2" "$work/err"; then
-        failed=$((failed + 1))
-        echo "rules.txt by sed '$1': $(cat "$work/err")"
-    fi
+    refuses "$2" record/tasks.toml "$work/spoilt.txt" 10000 1 ctl=ctl nav=nav log=log ticker=- migration/1=- rest=.
 }
 
 # Recordings of real threads, and the verdicts on them.

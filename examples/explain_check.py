@@ -4,13 +4,12 @@ of explain.py on traces of either version, and the trace that follows a list of 
 usage: explain_check.py [CASES [SEED]]
 """
 
-import sys
-
 import compare
 import explain
 import model
 import walk
 from cases import Dice
+from usage import ends, numbers
 
 MAKERS = [compare.judge_case, compare.judge_by_scale_case]
 
@@ -45,7 +44,7 @@ def is_admitted(task_set):
 
 
 def main(words):
-    count, seed = [int(word) for word in words + ['200', '1'][len(words):]]
+    count, seed = numbers(words, 200, 1)
     dice, failed, illegal = Dice(seed), 0, 0
     for number in range(count):
         case = MAKERS[number % len(MAKERS)](dice)
@@ -61,4 +60,4 @@ def main(words):
 
 
 if __name__ == '__main__':
-    sys.exit(main(sys.argv[1:]))
+    ends(main, __doc__)

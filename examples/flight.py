@@ -10,12 +10,12 @@ usage: flight.py FOLDER [SEED]
 import collections
 import hashlib
 import pathlib
-import sys
 from itertools import islice
 
 import model
 import walk
 from model import HIGH, LOW, Task, Work
+from usage import WrongWords, ends, numbers
 
 TASKS = [
     Task('attitude', HIGH, 50, 4, 8), Task('gyros', HIGH, 100, 5, 10), Task('engine_left', HIGH, 200, 10, 20),
@@ -66,10 +66,9 @@ def digest(text):
 
 
 def main(words):
-    if not 1 <= len(words) <= 2:
-        print(__doc__.splitlines()[-1], file=sys.stderr)
-        return 2
-    jobs = work(int(words[1]) if len(words) > 1 else 12)
+    if not words:
+        raise WrongWords
+    jobs = work(*numbers(words[1:], 12))
     rule = model.published(TASKS)
     texts = {'tasks.toml': task_text(), 'work.csv': work_text(jobs)}
     for name, text in texts.items():
@@ -87,4 +86,4 @@ def main(words):
 
 
 if __name__ == '__main__':
-    sys.exit(main(sys.argv[1:]))
+    ends(main, __doc__)

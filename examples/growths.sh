@@ -1,6 +1,9 @@
 #!/bin/sh
 # Refuses each growth of memory of a run of each command in turn: each run then ends with status 9 and writes nothing,
 # or does without that growth and ends as ever.
+# usage: growths.sh
+. "$(dirname -- "$0")/usage.sh"
+takes 0 0 "$@"
 cd "$(dirname -- "$0")" || exit 1
 . ./expect.sh
 if ! has_library; then

@@ -7,14 +7,16 @@ those of docs/RULES.md, docs/FORMATS.md and docs/COMMANDS.md.
 Left out are TOML as text (a task file is the tree that the text stands for), records with quotes, carriage returns or a
 byte order mark, files that are too long or cannot be read, and want of memory.
 
-usage: model.py, which works out the examples at the end of this file and compares them with what is written there
+usage: model.py
+       works out the examples at the end of this file and compares them with what is written there
 """
 
 import math
-import sys
 from fractions import Fraction
 from itertools import islice
 from typing import NamedTuple, Optional
+
+from usage import ends, numbers
 
 # ---- Tasks, rules, rows ----
 
@@ -1856,7 +1858,8 @@ def accept_examples():
     yield 'accept_by_parts', [int(line.split()[1]) for line in accept_text(18, 20, 5).splitlines()], added
 
 
-def main():
+def main(words):
+    numbers(words)
     count = failed = 0
     for name, found, wanted in examples():
         count += 1
@@ -1868,4 +1871,4 @@ def main():
 
 
 if __name__ == '__main__':
-    sys.exit(main())
+    ends(main, __doc__)

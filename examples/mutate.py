@@ -1,21 +1,21 @@
 """Spoils the example files by a fixed seed, and asserts what the program answers to each.
 
-usage: mutate.py PROGRAM [CASES [SEED]]
-
 A case is a command on its example files, of which one or more were spoilt: cut at a place, with bytes flipped, put in or
 taken out, with records doubled, dropped or swapped, with numbers, words and values replaced, with quotes, other line ends
 or a byte order mark. Each case is run twice, and ends both times within SECONDS of processor time and BYTES of memory,
 with the same status and text: one of those that docs/FORMATS.md and docs/COMMANDS.md name for the command, and nothing
 on standard error. Of `live` the text may be another one. A trace that is written is judged legal. Files with another
 answer are kept, and named.
+
+usage: mutate.py PROGRAM [CASES [SEED]]
 """
 
 import glob
 import re
 import resource
-import sys
 
 from cases import Dice, Runner, keep, program_count_seed, tell
+from usage import ends
 
 SECONDS = 2
 BYTES = 16 * 1024 * 1024
@@ -463,8 +463,8 @@ def outcome(runner, command, contents, words):
     return form, status, fault
 
 
-def main():
-    program, count, seed = program_count_seed(3000)
+def main(words):
+    program, count, seed = program_count_seed(words, 3000)
     files = {}
     for _, names, _ in EXAMPLES:
         for name in names:
@@ -486,4 +486,4 @@ def main():
 
 
 if __name__ == '__main__':
-    sys.exit(main())
+    ends(main, __doc__)

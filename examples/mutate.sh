@@ -2,6 +2,8 @@
 # Spoils the example files by a fixed seed, 3000 cases or as many as are asked for, and asserts that each answer is one of
 # the named ones, twice the same, in bounded time and memory.
 # usage: mutate.sh [CASES [SEED]]
+. "$(dirname -- "$0")/usage.sh"
+takes_numbers "$@"
 cd "$(dirname -- "$0")" || exit 1
 if ! command -v python3 >/dev/null 2>&1; then
     echo "mutate: skipped, there is no python3"

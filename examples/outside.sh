@@ -1,13 +1,13 @@
 #!/bin/sh
-# outside.sh [prove]: makes a repository of one's own in a new folder by the commands of docs/CALLING.md, and runs its program
+# Makes a repository of one's own in a new folder by the commands of docs/CALLING.md, and runs its program
 # by `rt try`, which proves nothing, so no crate is proved anew. With the word prove `rt ci first` proves it there too: that
 # takes of the crates below what `rt ci` here has kept, and stops where one of them would have to be proved again.
+# usage: outside.sh [prove]
+. "$(dirname -- "$0")/usage.sh"
+takes 0 1 "$@"
+[ "${1-prove}" = prove ] || wrong_words
 cd "$(dirname -- "$0")/.." || exit 1
 edfvd=$PWD
-if [ $# -gt 1 ] || [ "${1:-prove}" != prove ]; then
-    echo 'usage: outside.sh [prove]' >&2
-    exit 2
-fi
 work=$(mktemp -d) || exit 1
 prover=
 # The prover's own group ends with this script, and nothing else does.

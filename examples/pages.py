@@ -4,15 +4,21 @@
 - FORMATS.md shows the files that it names as they are.
 - EVIDENCE.md names each clause and definition by its line, and tells the totals of definitions.py.
 - README.md tells the total of the headline.
+- overrun.svg is what svg.py draws of the overrun.
+- CITATION.cff has the newest version of CHANGELOG.md.
 
-usage: pages.py [mend], which writes the lines and totals of EVIDENCE.md and README.md anew
+usage: pages.py [mend]
+       with the word, writes the lines and totals of EVIDENCE.md and README.md anew
 """
 
 import pathlib
 import re
-import sys
 
 import definitions
+import model
+import reading
+import svg
+from usage import WrongWords, ends
 
 ROOT = pathlib.Path(__file__).resolve().parent.parent
 
@@ -98,12 +104,33 @@ def readme_faults():
     return [] if page == readme_mended(page) else ['README.md tells another number of lines of definitions']
 
 
-CHECKS = [messages_not_named, samples_that_differ, evidence_faults, readme_faults]
-MENDED = [('docs/EVIDENCE.md', evidence_mended), ('README.md', readme_mended)]
+def overrun_drawn(_page):
+    """The picture of the twelve ticks of the overrun, whatever the page has."""
+    folder = ROOT / 'examples/overrun'
+    tasks = reading.tasks_in(folder / 'tasks.toml')
+    return model.lines(svg.picture(tasks, reading.runs_in(tasks, folder / 'run.txt'), 0, 12))
+
+
+def picture_faults():
+    page = (ROOT / 'docs/overrun.svg').read_text(encoding='utf-8')
+    return [] if page == overrun_drawn(page) else ['overrun.svg is not what svg.py draws']
+
+
+def citation_faults():
+    """The version of CITATION.cff is that of the first heading of CHANGELOG.md which is one: changes since it have none."""
+    cited = re.search(r'^version: (.*)$', (ROOT / 'CITATION.cff').read_text(encoding='utf-8'), re.MULTILINE)[1]
+    newest = re.search(r'^## ([0-9.]+)', (ROOT / 'CHANGELOG.md').read_text(encoding='utf-8'), re.MULTILINE)[1]
+    return [] if cited == newest else [f'CITATION.cff has version {cited}, and CHANGELOG.md {newest}']
+
+
+CHECKS = [messages_not_named, samples_that_differ, evidence_faults, readme_faults, picture_faults, citation_faults]
+MENDED = [('docs/EVIDENCE.md', evidence_mended), ('README.md', readme_mended), ('docs/overrun.svg', overrun_drawn)]
 
 
 def main(words):
-    if words == ['mend']:
+    if words not in ([], ['mend']):
+        raise WrongWords
+    if words:
         for name, mended in MENDED:
             page = ROOT / name
             page.write_text(mended(page.read_text(encoding='utf-8')), encoding='utf-8')
@@ -115,4 +142,4 @@ def main(words):
 
 
 if __name__ == '__main__':
-    sys.exit(main(sys.argv[1:]))
+    ends(main, __doc__)

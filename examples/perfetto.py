@@ -1,4 +1,4 @@
-"""Writes a trace as Chrome trace events, for a viewer that zooms (ui.perfetto.dev, chrome://tracing, speedscope).
+"""Writes a trace as Chrome trace events, for a viewer that zooms: https://ui.perfetto.dev opens the file.
 
 Each task has a lane, in which its jobs run and its releases, overruns and ends are marked; the mode is a counter. A tick is
 shown as a microsecond. The trace may be of either version, and is taken as it is: `judge` says whether it is legal.
@@ -11,6 +11,7 @@ import sys
 
 import model
 from model import DONE, EVENTS, IDLE, OVER, RELEASES, STOP
+from usage import WrongWords, ends
 from walk import read_task_file, read_trace_file
 
 
@@ -73,21 +74,18 @@ def events(tasks, runs):
 
 def main(words):
     if len(words) != 2:
-        print(__doc__.splitlines()[-1], file=sys.stderr)
-        return 2
+        raise WrongWords
     try:
         tasks = read_task_file(words[0]).tasks
         runs = [placed.run for placed in read_trace_file(tasks, words[1])[1]]
     except model.Refusal as refusal:
         print(refusal.line, end='', file=sys.stderr)
         return refusal.status
-    except OSError as error:
-        print(f'{error.filename}: {error.strerror}', file=sys.stderr)
-        return 7
     json.dump({'traceEvents': list(events(tasks, runs)), 'displayTimeUnit': 'ns'}, sys.stdout, indent=0)
     print()
+    print('open the file at https://ui.perfetto.dev, by "Open trace file"', file=sys.stderr)
     return 0
 
 
 if __name__ == '__main__':
-    sys.exit(main(sys.argv[1:]))
+    ends(main, __doc__)

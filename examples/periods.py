@@ -6,7 +6,8 @@ usage: periods.py [SETS [SEED]]
 
 import math
 import random
-import sys
+
+from usage import ends, numbers
 
 MOST = 2 ** 60
 
@@ -21,7 +22,7 @@ def past(sets, count, period):
 
 
 def main(words):
-    sets, seed = [int(word) for word in words + ['200', '1'][len(words):]]
+    sets, seed = numbers(words, 200, 1)
     for least, most, count in [(10, 1000, 5), (10, 1000, 10), (10, 1000, 20), (10, 1000, 50), (1000, 1000000, 5)]:
         dice = random.Random(seed)
         out = past(sets, count, lambda: log_uniform(dice, least, most))
@@ -30,7 +31,8 @@ def main(words):
         dice = random.Random(seed)
         divisors = [number for number in range(10, whole + 1) if whole % number == 0]
         print(f'50 periods from the divisors of {whole}: {past(sets, 50, lambda: dice.choice(divisors))} of {sets}')
+    return 0
 
 
 if __name__ == '__main__':
-    main(sys.argv[1:])
+    ends(main, __doc__)

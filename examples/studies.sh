@@ -3,6 +3,9 @@
 # resumed, and the sum is what one call for all sets writes, byte for byte; a lost part and a doubled one are noticed. By study.py
 # alone, and by GNU parallel where it is there. With the word slurm by Slurm, too, on this machine alone, which only root can.
 # usage: studies.sh [slurm]
+. "$(dirname -- "$0")/usage.sh"
+takes 0 1 "$@"
+[ "${1-slurm}" = slurm ] || wrong_words
 cd "$(dirname -- "$0")" || exit 1
 if ! python3 -c 'import sys; sys.exit(sys.version_info < (3, 9))' 2>/dev/null; then
     echo "studies: skipped, there is no python3 of version 3.9 or later"
@@ -89,9 +92,38 @@ sed '$d' "$STUDY/parts/3.txt" >"$STUDY/parts/copy.txt"
 wants 1 "$work/empty" 'copy.txt is no part' python3 -B study/study.py sum "$STUDY"
 rm "$STUDY/parts/copy.txt" "$STUDY/parts/9.txt"
 wants 1 "$work/empty" "no part has the numbers $((9 * size + 1)) to $sets" python3 -B study/study.py sum "$STUDY"
+# Without the program nothing is begun, and the remedy is named.
+missing="there is no program $work/none: \`install.sh PREFIX\` puts edfvd to PREFIX/bin"
+wants 1 "$work/empty" "$missing" env EDFVD="$work/none" python3 -B study/study.py part "$STUDY" 9
+wants 1 "$work/empty" "$missing" env EDFVD="$work/none" study/parallel.sh "$STUDY"
+[ ! -e "$STUDY/jobs.txt" ] || failed=$((failed + 1))
 # A program that fails leaves no part.
 wants 1 "$work/empty" 'status 1' env EDFVD=false python3 -B study/study.py part "$STUDY" 9
 wants 1 "$work/empty" "no part has the numbers $((9 * size + 1)) to $sets" python3 -B study/study.py sum "$STUDY"
+wants 0 "$work/empty" '' python3 -B study/study.py part "$STUDY" 9
+# With nothing left the table is written, by neither parallel nor Slurm; a sum that fails leaves nothing, and the table as it was.
+mkdir "$work/tools"
+printf '#!/bin/sh\necho "$*" >>"%s/handed.txt"\necho 4713\n' "$work" >"$work/tools/sbatch"
+chmod +x "$work/tools/sbatch"
+wants 0 "$work/empty" 'nothing is left, so nothing is handed in' env PATH="$work/tools:$PATH" study/slurm.sh "$STUDY" 3
+cp "$STUDY/table.txt" "$work/out"
+judge 0 0 "$work/uncut.txt" 'slurm.sh with nothing left, its table'
+wants 0 "$work/uncut.txt" '' study/parallel.sh "$STUDY"
+cp "$STUDY/parts/3.txt" "$STUDY/parts/copy.txt"
+ls -A "$STUDY" >"$work/folder.txt"
+wants 1 "$work/empty" 'begins before' study/parallel.sh "$STUDY"
+wants 1 "$work/empty" 'begins before' sh study/sum.sbatch study "$STUDY"
+ls -A "$STUDY" >"$work/out"
+judge 0 0 "$work/folder.txt" 'what a failed sum leaves'
+cp "$STUDY/table.txt" "$work/out"
+judge 0 0 "$work/uncut.txt" 'the table after a failed sum'
+[ ! -e "$work/handed.txt" ] || failed=$((failed + 1))
+# With parts left an array and the job that adds up are handed in.
+rm "$STUDY/parts/copy.txt" "$STUDY/parts/9.txt"
+wants 0 "$(says 4713)" '' env PATH="$work/tools:$PATH" study/slurm.sh "$STUDY" 3
+sed -n 's/.*\(--array=[^ ]*\|--dependency=[^ ]*\).*/\1/p' "$work/handed.txt" >"$work/out"
+judge 0 0 "$(says '--array=0-2
+--dependency=afterany:4713')" 'what slurm.sh hands in'
 wants 1 "$work/empty" 'has another study' python3 -B study/study.py new "$STUDY" 1 "$sets" 8 1
 wants 1 "$work/empty" 'are 2^64 or more together' python3 -B study/study.py new "$work/none" 18446744073709551615 1 8 1
 
@@ -141,6 +173,48 @@ by_slurm() {
     cp "$STUDY/table.txt" "$work/out"
     judge 0 0 "$work/uncut.txt" 'slurm.sh, its table'
 }
+
+# A table at each per cent, beside one by model.py; the picture of two such tables; and the lines of STUDIES.md for sets of one's own.
+finer_and_own() {
+    EDFVD=$program
+    export EDFVD
+    python3 -B - >"$work/finer.txt" <<'END'
+import model
+stretches = [model.stretch(model.make(number, 4, 0)[0]) for number in range(1, 21)]
+counts = [(percent, sum(stretch >= percent for stretch in stretches)) for percent in range(100, 1001)]
+print(*(f'{percent} {count}' for percent, count in counts if count), sep='\n')
+print(next(percent for percent, count in counts if not count), 0)
+END
+    wants 0 "$work/finer.txt" '' python3 -B study/finer.py 1 20 4
+    printf '#!/bin/sh\n[ "$1" = accept ] && exec echo 100 19\nexec "%s" "$@"\n' "$program" >"$work/wrong.sh"
+    chmod +x "$work/wrong.sh"
+    wants 1 "$work/empty" '20 sets at 100, accept counts 19' env EDFVD="$work/wrong.sh" python3 -B study/finer.py 1 20 4
+    wants 1 "$work/empty" 'false stretch /dev/stdin: status 1' env EDFVD=false python3 -B study/finer.py 1 20 4
+    wants 2 "$work/empty" 'usage: finer.py' python3 -B study/finer.py 1 20
+    if command -v gnuplot >/dev/null 2>&1; then
+        bounded "$program" accept 1 20 8 >"$work/tenths.txt"
+        last=$(awk '$2 == 0 { print $1; exit }' "$work/tenths.txt")
+        gnuplot -e "tables = '$work/finer.txt $work/tenths.txt'; tasks = '4 8'; picture = '$work/accept.svg'" \
+            study/accept.gp -e 'print sprintf("%d", last)' 2>"$work/out"
+        judge 0 $? "$(says "$( (tail -n 1 "$work/finer.txt" | cut -d ' ' -f 1; echo "$last") | sort -n | tail -n 1)")" 'accept.gp'
+        for tasks in 4 8; do
+            grep -q ">$tasks tasks<" "$work/accept.svg" || failed=$((failed + 1))
+        done
+    else
+        echo 'studies: accept.gp is skipped, there is no gnuplot'
+    fi
+
+    mkdir "$work/bin" && ln -s "$program" "$work/bin/edfvd"
+    awk '/^```python$/ { lines = 1; next } /^```/ { lines = 0 } lines' ../docs/STUDIES.md >"$work/own.py"
+    awk '/^```python$/ { marks = 1 } marks && /^```$/ { marks++; next } marks == 3 && !/^\$/' ../docs/STUDIES.md >"$work/own.txt"
+    wants 0 "$work/own.txt" '' env PATH="$work/bin:$PATH" PYTHONPATH="$PWD" python3 -B "$work/own.py"
+    grep -q '^100   0 |$' "$work/own.txt" || failed=$((failed + 1))
+}
+if python3 -c 'import tomllib' 2>/dev/null; then
+    finer_and_own
+else
+    echo 'studies: finer.py and sets of one'"'"'s own are skipped, there is no python3 of version 3.11 or later'
+fi
 
 [ "${1:-}" != slurm ] || by_slurm
 ends studies

@@ -17,9 +17,10 @@ from model import DONE, DROPPED, HIGH, IDLE, KEPT, LOW, MORE, OVER, PLAIN, RELEA
 # The set of a task file.
 def read_task_file(name):
     with open(name, 'rb') as file:
+        # A wrong text and wrong bytes are errors of values, and so is a number of thousands of digits.
         try:
             return model.read_set(tomllib.load(file))
-        except (tomllib.TOMLDecodeError, UnicodeDecodeError):
+        except ValueError:
             raise model.Refusal(3, 'task file: not TOML\n') from None
 
 

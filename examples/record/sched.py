@@ -1,18 +1,24 @@
-"""Turns the text of `trace-cmd report` on one processor into a trace of a task file, and tells how far each event was moved.
+"""Turns a recording of one processor into a trace of a task file, and says how far each event was moved. A recording is the
+text of `trace-cmd report`, or a CSV file of one's own.
 
-It reads the events sched_switch and sched_waking and the user markers `release TASK`, `drop TASK`, `end TASK` and `finish`,
-which a program writes to trace_marker. Where no marker releases, each sched_waking of a task's thread is a release. Boundary 0
-is the first release, and nothing behind `finish` counts; a release goes to the nearest boundary, and a tick to the thread that
+Of the text it reads the events sched_switch and sched_waking and the user markers `release TASK`, `drop TASK`, `end TASK` and
+`finish`, which a program writes to trace_marker. A CSV file has the header `time,event,task`, times in microseconds, and the
+events `run` (from then on the task has the processor), `release`, `drop`, `end` and `finish`. Where no marker releases, each sched_waking of a task's thread is a release. Boundary 0
+is the first release, and nothing after `finish` counts; a release goes to the nearest boundary, and a tick to the thread that
 has most of it. A job's last tick before its end is `done`. What the program itself thinks of budgets and modes is not recorded:
 `stop`, `over` and the mode are what the budgets of the file say. THREAD=- is a thread whose time is overhead, and THREAD=. one
-whose time is idleness. What has time of a tick and is in no map is refused by its line, as is a task's thread elsewhere.
+whose time is idleness; so are `-` and `.` in the place of a task that runs, in a CSV file. What has time of a tick and is in no
+map is refused by its line, as is a task's thread elsewhere. A recording without a whole tick is refused, and one in which a
+task is released and never has a tick.
 
-usage: sched.py TASKS REPORT TICK CPU THREAD=TASK..
-       TICK in microseconds; THREAD a name, or name-pid, or * for all others that have no real-time priority; the trace goes to
-       standard output, the moves to standard error
+usage: sched.py [--unserved] TASKS REPORT TICK CPU THREAD=TASK..
+       sched.py [--unserved] TASKS CSV TICK
+       TICK in microseconds; THREAD a name, or name-pid, or * for all others that have no real-time priority; --unserved takes
+       a recording in which a task is released and has no tick; the trace goes to standard output, the moves to standard error
 """
 
 import collections
+import csv
 import pathlib
 import re
 import sys
@@ -21,6 +27,7 @@ from typing import NamedTuple
 
 sys.path.insert(0, str(pathlib.Path(__file__).resolve().parent.parent))
 import model
+from usage import WrongWords, ends
 from walk import read_task_file
 
 # The processor stands in brackets, with the columns of flags behind it or without, or before them, as `report -l` has it.
@@ -36,9 +43,11 @@ LOST = re.compile(r'^\s*CPU:\d+ \[(LOST .*EVENTS|.*EVENTS DROPPED)\]')
 SPEAKS = re.compile(r': (sched_switch|sched_waking|b?print|tracing_mark_write):')
 OVERHEAD, IDLENESS, OTHERS, IDLE_THREAD = '-', '.', '*', re.compile(r'^(swapper/\d+|<idle>)$')
 FIRST_ORDINARY = 100  # the kernel's least priority that is not a real-time one
+CSV_HEADER, CSV_MARKERS = ['time', 'event', 'task'], ('release', 'drop', 'end')
+UNSERVED = '--unserved'
 
 
-# A line of the report that counts: its number, its time in nanoseconds, and what it says.
+# A line of the recording that counts: its number, its time in nanoseconds, and what it says.
 class Event(NamedTuple):
     line: int
     time: int
@@ -55,7 +64,7 @@ class Refused(Exception):
     pass
 
 
-# ---- Reading ----
+# ---- Reading a report ----
 
 def nanoseconds(text):
     return int(Fraction(text) * 10 ** 9)
@@ -140,6 +149,41 @@ def read_events(lines, processor, threads, tasks):
                 return
 
 
+# ---- Reading a CSV file ----
+
+# The events of the records, up to the first that finishes.
+def read_csv(lines, tasks):
+    names, reader = {task.name for task in tasks}, csv.reader(lines)
+    try:
+        if next(reader, None) != CSV_HEADER:
+            raise Refused(f'line 1: the header is not {",".join(CSV_HEADER)}')
+        for record in filter(None, reader):
+            event = event_of_record(reader.line_num, record, names)
+            yield event
+            if event.word == 'finish':
+                return
+    except csv.Error as error:
+        raise Refused(f'line {reader.line_num}: {error}') from None
+
+
+def event_of_record(line, record, names):
+    if len(record) != 3:
+        raise Refused(f'line {line}: not three fields')
+    time, word, task = record
+    if not is_number(time):
+        raise Refused(f'line {line}: {time} is no time')
+    time = int(Fraction(time) * 1000)
+    if word == 'finish':
+        return Event(line, time, word, None)
+    if word == 'run' and task in (OVERHEAD, IDLENESS):
+        return Event(line, time, word, None if task == IDLENESS else task)
+    if word not in ('run', *CSV_MARKERS):
+        raise Refused(f'line {line}: {word} is no event')
+    if task not in names:
+        raise Refused(f'line {line}: {word} of {task}, which is no task')
+    return Event(line, time, word, task)
+
+
 # ---- Ticks ----
 
 # How much of each tick up to the end each task, overhead and idleness has.
@@ -167,8 +211,16 @@ def owner_of(part):
     return (max(found)[1] or None) if found else None
 
 
+# The events as they are, which have to be in the order of their times.
+def in_order(events):
+    for before, event in zip(events, events[1:]):
+        if event.time < before.time:
+            raise Refused(f'line {event.line}: its time is before that of line {before.line}')
+    return events
+
+
 class Recording:
-    def __init__(self, task_set, events, tick):
+    def __init__(self, task_set, events, tick, takes_unserved):
         self.tasks, self.rule, self.tick, self.moves = task_set.tasks, model.test(task_set), tick, []
         marked = any(event.word in ('release', 'drop') for event in events)
         words = ('release', 'drop') if marked else ('waking',)
@@ -177,7 +229,14 @@ class Recording:
             raise Refused('no release is recorded')
         self.start = released[0].time
         self.parts = shares(events, self.start, tick, self.end_of(events))
+        if not self.parts:
+            raise Refused(f'no whole tick of {micro(tick)} is recorded on this processor')
+        if not all(self.parts):
+            raise Refused(f'tick {[bool(part) for part in self.parts].index(False)}: no thread is recorded on this processor')
         self.owners = [owner_of(part) for part in self.parts]
+        for event in released:
+            if event.word != 'drop' and event.name not in self.owners and not takes_unserved:
+                raise Refused(f'line {event.line}: {event.name} is released and has no tick, which {UNSERVED} takes')
         self.releases = collections.defaultdict(list)
         for event in released:
             self.releases[self.boundary(event)].append(event)
@@ -257,44 +316,66 @@ class Recording:
             lost = self.tick - part[name]
             if lost:
                 yield f'tick {place}: of {name or "no task"} but for {micro(lost)}'
-        most = max((abs(by) for _, _, by in self.moves), default=0)
-        lost = max((self.tick - part[name] for part, name in zip(self.parts, self.owners)), default=0)
-        yield f'a tick is {micro(self.tick)}; moved by {micro(most)} at most, {micro(lost)} of a tick lost at most'
+        lost = max(self.tick - part[name] for part, name in zip(self.parts, self.owners))
+        moved = [(event.line, by) for event, _, by in self.moves if by]
+        ends = [(event.line, by) for event, _, by in self.moves if event.word == 'end']
+        back = [(line, by) for line, by in ends if by < 0]
+        yield (f'a tick is {micro(self.tick)}, of one {micro(lost)} lost at most; moved: {len(moved)} of {len(self.moves)} events'
+               f'{reach(moved)}; moved back: {len(back)} of {len(ends)} ends{reach(back)}')
+
+
+# How far these moves go, and the first line of them.
+def reach(moves):
+    return f', by {micro(max(abs(by) for _, by in moves))} at most, the first in line {min(moves)[0]}' if moves else ''
 
 
 def micro(time):
-    return f'{float(Fraction(time, 1000)):g} us'
+    return f'{time / 1000:.3f}'.rstrip('0').rstrip('.') + ' us'
 
 
 def is_number(text):
     return re.fullmatch(r'\d+(\.\d+)?', text) is not None
 
 
+# The map of threads to tasks, overhead and idleness that the words are.
+def thread_map(tasks, words):
+    threads = dict(word.rsplit('=', 1) for word in words)
+    for thread, task in threads.items():
+        if task not in (OVERHEAD, IDLENESS) and model.task_number(tasks, task) is None:
+            raise Refused(f'{thread}={task}: no task has the name')
+    return threads
+
+
+# The events of a file: of a report on this processor, or of a CSV file where no processor and map are given.
+def events_of(name, tasks, words):
+    if not words:
+        with open(name, encoding='utf-8-sig', errors='replace', newline='') as records:
+            return list(read_csv(records, tasks))
+    threads = thread_map(tasks, words[1:])
+    with open(name, encoding='utf-8', errors='replace') as report:
+        return list(read_events(report, int(words[0]), threads, tasks))
+
+
 def main(words):
-    if len(words) < 5 or not is_number(words[2]) or not words[3].isdigit() or any('=' not in word for word in words[4:]):
-        print(__doc__.split('\n\n')[-1].strip(), file=sys.stderr)
-        return 2
+    takes_unserved, words = UNSERVED in words, [word for word in words if word != UNSERVED]
+    if len(words) != 3 and (len(words) < 5 or not re.fullmatch('[0-9]+', words[3]) or any('=' not in word for word in words[4:])):
+        raise WrongWords
+    tick = int(Fraction(words[2]) * 1000) if is_number(words[2]) else 0
+    if tick == 0:
+        raise WrongWords
     try:
         task_set = read_task_file(words[0])
-        tasks = task_set.tasks
-        threads = dict(word.rsplit('=', 1) for word in words[4:])
-        for thread, task in threads.items():
-            if task not in (OVERHEAD, IDLENESS) and model.task_number(tasks, task) is None:
-                raise Refused(f'{thread}={task}: no task has the name')
-        with open(words[1], encoding='utf-8', errors='replace') as report:
-            events = list(read_events(report, int(words[3]), threads, tasks))
-        recording = Recording(task_set, events, int(Fraction(words[2]) * 1000))
-        text = model.trace_text(tasks, list(recording.rows()))
+        events = in_order(events_of(words[1], task_set.tasks, words[3:]))
+        recording = Recording(task_set, events, tick, takes_unserved)
+        text = model.trace_text(task_set.tasks, list(recording.rows()))
     except (Refused, model.Refusal) as refused:
         print(f'sched: {getattr(refused, "line", refused)}'.rstrip('\n'), file=sys.stderr)
         return 1
-    except OSError as error:
-        print(f'sched: {error.filename}: {error.strerror}', file=sys.stderr)
-        return 7
     sys.stdout.write(text)
+    sys.stdout.flush()
     print('\n'.join(recording.moved()), file=sys.stderr)
     return 0
 
 
 if __name__ == '__main__':
-    sys.exit(main(sys.argv[1:]))
+    ends(main, __doc__)

@@ -1,8 +1,11 @@
 #!/bin/sh
-# engine.sh COMMAND..: runs the command beside a Slurm of its own, on this machine alone: munged, slurmctld and slurmd in a new
-# folder, with a key of their own, which all end behind the command. To try slurm.sh where there is no cluster. Run by root; of
-# Debian it wants the package slurm-wlm.
+# Runs the command beside a Slurm of its own, on this machine alone: munged, slurmctld and slurmd in a new folder, with a key of
+# their own, which all end after the command. To try slurm.sh where there is no cluster. Run by root; of Debian it wants the
+# package slurm-wlm.
+# usage: engine.sh COMMAND..
 set -u
+. "$(dirname -- "$0")/../usage.sh"
+takes 1 $# "$@"
 for tool in munged mungekey slurmctld slurmd sbatch; do
     command -v "$tool" >/dev/null 2>&1 || { echo "engine.sh: there is no $tool" >&2; exit 1; }
 done

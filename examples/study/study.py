@@ -3,7 +3,7 @@
 A study is a folder. `new` writes down of which sets it is, and in parts of how many. `left` tells the numbers of the parts,
 from 0, that are not worked out yet. `part` works some out, by calls of at most 10,000 sets each, and `share` those of one of
 several jobs: each JOBS-th part from JOB on that is left. `sum` adds all parts up and writes the table that one call for all sets
-would write; where a set is in no part or in two it tells which, and writes no table.
+would write, and `table` keeps it as FOLDER/table.txt; where a set is in no part or in two they tell which, and there is no table.
 
 A part's file has the part's call in its first line, and takes its name in one step when it is whole, so that a job that is killed
 leaves none. A part that was worked out twice has one file. Files from other machines are copied to `parts`.
@@ -13,17 +13,22 @@ usage: study.py new FOLDER NUMBER SETS TASKCOUNT SIZE
        study.py part FOLDER PART..
        study.py share FOLDER JOB JOBS
        study.py sum FOLDER
-
-The program is the one that the environment variable EDFVD names, by default `edfvd`.
+       study.py table FOLDER
+       study.py program
+       the program is the one that the environment variable EDFVD names, by default `edfvd`; `program` writes its name
 """
 
 import os
 import pathlib
 import re
+import shutil
 import subprocess
 import sys
 import tempfile
 from typing import NamedTuple
+
+sys.path.insert(0, str(pathlib.Path(__file__).resolve().parent.parent))
+from usage import WrongWords, ends
 
 MOST_SETS = 10000
 PERCENTS = range(100, 201, 10)
@@ -32,11 +37,6 @@ NUMBERS = 2 ** 64
 
 # Why there is no answer.
 class Fault(Exception):
-    pass
-
-
-# Words that are none of the forms.
-class Usage(Exception):
     pass
 
 
@@ -93,7 +93,7 @@ def read(folder):
         first, second = (folder / 'study.txt').read_text().split('\n')[:2]
     except (OSError, ValueError):
         raise Fault(f'{folder} has no study') from None
-    sets, size = sets_of(first), re.fullmatch('in parts of ([0-9]+)', second)
+    sets, size = sets_of(first), re.fullmatch('in parts of ([1-9][0-9]*)', second)
     if sets is None or size is None:
         raise Fault(f'{folder}/study.txt has no study')
     return sets, int(size[1])
@@ -115,12 +115,17 @@ def new(folder, *words):
 
 # A file that is whole as soon as it is there.
 def put(place, text):
-    with tempfile.NamedTemporaryFile('w', dir=place.parent, prefix='.', delete=False) as file:
-        file.write(text)
-        file.flush()
-        os.fsync(file.fileno())
-    os.chmod(file.name, 0o644)
-    os.replace(file.name, place)
+    file = tempfile.NamedTemporaryFile('w', dir=place.parent, prefix='.', delete=False)
+    try:
+        with file:
+            file.write(text)
+            file.flush()
+            os.fsync(file.fileno())
+        os.chmod(file.name, 0o644)
+        os.replace(file.name, place)
+    except OSError:
+        os.unlink(file.name)
+        raise
 
 
 def place_of(folder, part):
@@ -146,9 +151,17 @@ def left(folder):
 
 # ---- Working a part out ----
 
+# The name of the program, which has to be there.
+def program_name():
+    name = os.environ.get('EDFVD') or 'edfvd'
+    if shutil.which(name) is None:
+        raise Fault(f'there is no program {name}: `install.sh PREFIX` puts edfvd to PREFIX/bin, which has to be on the PATH, '
+                    'or the environment variable EDFVD names another place')
+    return name
+
+
 # The counts of at most MOST_SETS sets, by the program.
-def accept(sets):
-    program = os.environ.get('EDFVD', 'edfvd')
+def accept(program, sets):
     ended = subprocess.run([program] + sets.call().split(), stdin=subprocess.DEVNULL, capture_output=True, text=True)
     counts = counts_of(ended.stdout, sets) if ended.returncode == 0 else None
     if counts is None:
@@ -157,10 +170,11 @@ def accept(sets):
 
 
 def work_out(folder, parts):
+    program = program_name()
     sets, size = read(folder)
     for part in parts:
         own = Sets(sets.number + part * size, min(size, sets.count - part * size), sets.tasks)
-        counts = [sum(column) for column in zip(*(accept(piece) for piece in own.pieces(MOST_SETS)))]
+        counts = [sum(column) for column in zip(*(accept(program, piece) for piece in own.pieces(MOST_SETS)))]
         put(place_of(folder, part), f'{own.call()}\n{table_of(counts)}')
 
 
@@ -194,7 +208,12 @@ def add_up(folder):
 
 
 # What is written, by the words of the call.
-def answer(command, folder, *words):
+def answer(words):
+    if words == ['program']:
+        return f'{program_name()}\n'
+    if len(words) < 2:
+        raise WrongWords
+    command, folder, words = words[0], pathlib.Path(words[1]), words[2:]
     if command == 'new' and len(words) == 4:
         new(folder, *words)
     elif command == 'left' and not words:
@@ -209,19 +228,16 @@ def answer(command, folder, *words):
         work_out(folder, [part for part in left(folder) if part % jobs == job])
     elif command == 'sum' and not words:
         return add_up(folder)
+    elif command == 'table' and not words:
+        put(folder / 'table.txt', add_up(folder))
     else:
-        raise Usage
+        raise WrongWords
     return ''
 
 
 def main(words):
     try:
-        if len(words) < 2:
-            raise Usage
-        text = answer(words[0], pathlib.Path(words[1]), *words[2:])
-    except Usage:
-        print(__doc__[__doc__.index('usage'):].strip(), file=sys.stderr)
-        return 2
+        text = answer(words)
     except (Fault, OSError) as fault:
         print(f'study: {fault}', file=sys.stderr)
         return 1
@@ -230,4 +246,4 @@ def main(words):
 
 
 if __name__ == '__main__':
-    sys.exit(main(sys.argv[1:]))
+    ends(main, __doc__)

@@ -1,0 +1,131 @@
+#!/bin/sh
+# Calls each script of this folder and of those below it: `--help` writes its usage, with status 0, and words that are none of its
+# forms get its usage on standard error, with status 2; none do where it needs some. Each answers at once: no program is built,
+# tried or recorded. A closed pipe and a full disk end it with one line.
+# usage: usages.sh
+. "$(dirname -- "$0")/usage.sh"
+takes 0 0 "$@"
+cd "$(dirname -- "$0")" || exit 1
+work=$(mktemp -d) || exit 1
+trap 'rm -rf "$work"' EXIT
+trap 'exit 1' HUP INT TERM
+calls=0
+failed=0
+# A script that goes on to the program finds none.
+PROGRAM=$work/none
+export PROGRAM
+
+# call SCRIPT WORDS..: within a minute; the status is in $work/status, standard error in $work/err
+call() {
+    case $1 in
+    *.py) timeout 60 python3 -B "$@" ;;
+    *) timeout 60 "$@" ;;
+    esac 2>"$work/err"
+    echo $? >"$work/status"
+}
+
+# notes WORDS TEST..: notes one call, for which the test has to hold
+notes() {
+    words=$1
+    shift
+    calls=$((calls + 1))
+    if ! "$@"; then
+        failed=$((failed + 1))
+        echo "usages: $words: status $(cat "$work/status"), standard error:"
+        head -n 5 "$work/err"
+    fi
+}
+
+# has STATUS USAGE EMPTY: the call had this status, this file begins with the usage of the script, and that one is empty
+has() {
+    [ "$(cat "$work/status")" -eq "$1" ] && head -n 1 "$2" | grep -q "^usage: $name\( \|\$\)" && [ ! -s "$3" ]
+}
+
+# refuses SCRIPT WORDS..: the script refuses these words
+refuses() {
+    name=${1##*/}
+    call "$@" >"$work/out"
+    notes "$*" has 2 "$work/err" "$work/out"
+}
+
+# has_line: the call had a status of failure, and at most one line on standard error; of Python exactly one, with status 8
+has_line() {
+    case $name in
+    *.py) [ "$(cat "$work/status")" -eq 8 ] && [ "$(wc -l <"$work/err")" -eq 1 ] ;;
+    *) [ "$(wc -l <"$work/err")" -le 1 ] ;;
+    esac
+}
+
+# takes_nothing SCRIPT WORDS..: standard output is a full disk, and a pipe whose reader has gone
+takes_nothing() {
+    name=${1##*/}
+    if [ -w /dev/full ]; then
+        call "$@" >/dev/full
+        notes "$*, to a full disk" has_line
+    fi
+    { sleep 0.1; call "$@"; } | :
+    notes "$*, to a closed pipe" has_line
+}
+
+# scripts: those that can be called
+scripts() {
+    find . -name '*.sh' -perm -u+x | sort
+    if python3 -c 'import tomllib' 2>/dev/null; then
+        find . -name '*.py' -exec grep -l "__name__ == '__main__'" {} + | sort
+    else
+        echo 'usages: those in Python are skipped, there is no python3 of version 3.11 or later' >&2
+    fi
+}
+scripts >"$work/scripts"
+while read -r script; do
+    name=${script##*/}
+    call "$script" --help >"$work/out"
+    notes "$script --help" has 0 "$work/out" "$work/err"
+    usage=$(sed 's/ \[--[a-z]*\]//;1q' "$work/out")
+    refuses "$script" --wrong
+    case $usage in
+    *COMMAND..) ;;
+    *) refuses "$script" 1 2 3 4 5 6 7 8 9 ;;
+    esac
+    case $usage in
+    "usage: $name" | "usage: $name ["*) ;;
+    *) refuses "$script" ;;
+    esac
+    takes_nothing "$script" --help
+done <"$work/scripts"
+
+refuses ./compare.sh x
+refuses ./explain.sh 1 ''
+refuses ./mutate.sh 1 -1
+refuses ./outside.sh proves
+refuses ./studies.sh slurms
+refuses record/record.sh text plan
+refuses study/slurm.sh study 0
+refuses ../install.sh
+if grep -q 'py$' "$work/scripts"; then
+    refuses compare.py program x
+    refuses definitions.py footline
+    refuses demand_runs.py 1 x
+    refuses explain.py judged/tasks.toml judged/late.csv 2 1
+    refuses explain_check.py 1 1 1
+    refuses flight.py "$work" x
+    refuses mutate.py program 1 x
+    refuses pages.py mended
+    refuses periods.py ''
+    refuses record/sched.py control/tasks.toml record/by_hand_events.csv 0
+    refuses record/sched.py control/tasks.toml record/by_hand.txt 1000 0 ctl
+    refuses study/study.py sum
+
+    python3 -B study/study.py new "$work/study" 1 10 8 5
+    takes_nothing definitions.py headline
+    takes_nothing demand_runs.py 1
+    takes_nothing explain.py judged/tasks.toml judged/illegal.csv
+    takes_nothing explain_check.py 1
+    takes_nothing flight.py "$work"
+    takes_nothing perfetto.py runs/tasks.toml runs/runs.csv
+    takes_nothing periods.py 1
+    takes_nothing record/sched.py control/tasks.toml record/by_hand_events.csv 1000
+    takes_nothing study/study.py left "$work/study"
+fi
+echo "usages: $(wc -l <"$work/scripts") scripts, $calls calls, $failed failed"
+[ "$failed" -eq 0 ]
