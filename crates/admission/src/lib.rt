@@ -5,5 +5,3 @@ mod test;
 
 pub use test::{admit, admit_scaled, holds_for, three_quarters};
 
-#[cfg(test)]
-mod tests;

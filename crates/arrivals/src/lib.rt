@@ -2,7 +2,5 @@
 #![tactic(auto)]
 
 mod arrivals;
-#[cfg(test)]
-mod tests;
 
 pub use arrivals::{Arrivals, TooSoon};

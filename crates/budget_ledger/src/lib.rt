@@ -1,8 +1,6 @@
 //! How many ticks each task's live job has had, against the task's budgets.
 #![tactic(auto)]
 
-#[cfg(test)]
-mod tests;
 mod used;
 
 pub use used::{Spent, Used};

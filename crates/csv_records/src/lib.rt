@@ -5,8 +5,6 @@ mod all;
 mod meaning;
 mod records;
 mod rows;
-#[cfg(test)]
-mod tests;
 mod width;
 
 pub use meaning::{Meaning, Said};

@@ -5,7 +5,5 @@
 #![tactic(auto)]
 
 mod law;
-#[cfg(test)]
-mod tests;
 
 pub use law::{low_mode_law, no_over_law, one_live_law, plain_law, switch_law};

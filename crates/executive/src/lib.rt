@@ -11,8 +11,6 @@ mod heap_floor;
 mod opening;
 mod pass;
 mod state;
-#[cfg(test)]
-mod tests;
 mod watching;
 
 pub use calls::Taken;

@@ -5,8 +5,6 @@ mod name;
 mod name_table;
 mod set;
 mod task;
-#[cfg(test)]
-mod tests;
 
 pub use name::Name;
 pub use set::{Memory, SetFault, TaskSet};

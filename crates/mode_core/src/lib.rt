@@ -7,8 +7,6 @@ mod live;
 mod pending;
 mod scheduler;
 mod steps;
-#[cfg(test)]
-mod tests;
 
 pub use answers::{GrantFault, Granted, IdleFault, NotOut, ReleaseFault, Released};
 pub use scheduler::Core;

@@ -3,8 +3,6 @@
 
 mod item;
 mod queue;
-#[cfg(test)]
-mod tests;
 mod tree;
 
 pub use item::Item;

@@ -4,7 +4,5 @@
 mod drawing;
 mod marks;
 mod sheet;
-#[cfg(test)]
-mod tests;
 
 pub use drawing::chart;

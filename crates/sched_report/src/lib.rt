@@ -4,8 +4,6 @@
 mod counts;
 mod tally;
 mod task_tally;
-#[cfg(test)]
-mod tests;
 mod waiting;
 mod writing;
 

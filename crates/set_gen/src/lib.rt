@@ -10,5 +10,3 @@ pub use made::{Made, make};
 pub use tasks::{Numbers, draw_numbers};
 pub use words::words_of;
 
-#[cfg(test)]
-mod tests;

@@ -10,5 +10,3 @@ mod steps;
 pub use acceptance::table;
 pub use room::{high_at, stretch};
 
-#[cfg(test)]
-mod tests;

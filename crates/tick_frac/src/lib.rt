@@ -3,8 +3,6 @@
 
 mod divisor;
 mod ratio;
-#[cfg(test)]
-mod tests;
 
 pub use divisor::{gcd, lcm_within};
 pub use ratio::Ratio;

@@ -5,8 +5,6 @@ mod acts;
 mod floor;
 mod needs;
 mod plan;
-#[cfg(test)]
-mod tests;
 
 pub use acts::{Act, ActFault, PlanFault};
 pub use floor::Floor;

@@ -6,8 +6,6 @@ mod fault;
 mod packing;
 mod read;
 mod record;
-#[cfg(test)]
-mod tests;
 mod version;
 mod write;
 

@@ -8,8 +8,6 @@ mod queue;
 mod rules;
 mod state;
 mod step;
-#[cfg(test)]
-mod tests;
 mod unfit;
 mod verdict;
 mod waiting;

@@ -5,8 +5,6 @@ ghost use Rattle.std.specs.Prelude.{◌≡◌, Some};
 ghost use Rattle.mc_model.specs.Key.{key_of};
 ghost use Rattle.mc_model.specs.Holds.{Fits};
 
-#[cfg(test)]
-mod tests;
 
 use mc_task::{Level, Rule, Task};
 

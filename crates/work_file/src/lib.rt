@@ -11,5 +11,3 @@ pub use fault::{WorkCause, WorkFault};
 pub use read::read_work;
 pub use work::{BadRow, Work};
 
-#[cfg(test)]
-mod tests;

@@ -1,0 +1,401 @@
+use demand_test::{
+    Demand, DemandCause, DemandFault, DemandSet, Fit, check_demand, counter, read_demands,
+};
+use mc_task::TaskNo;
+use std::alloc::{AllocError, Global};
+use std::test::Fail;
+
+const HEADER: &str = "task,period,deadline,budget\n";
+
+// The set of these records.
+fn set_of(alloc: Global, records: &str) -> Result<DemandSet, Fail> {
+    let text = format!(in alloc; "{HEADER}{records}")?;
+    Ok(read_demands(alloc, text.as_bytes())?)
+}
+
+fn within(length: u64) -> Fit {
+    Fit::Within { length }
+}
+
+fn past(length: u64, demand: u64) -> Fit {
+    Fit::Past { length, demand }
+}
+
+// Sets of tasks of a name, a period, a deadline and a budget. In the answers the lengths and what is asked for in them are
+// added up by hand, and by examples/model.py.
+fn sets() -> [(&'static str, Fit); 18] {
+    [
+        ("a,4,2,1\nb,6,3,2\n", within(12)),
+        ("a,4,2,1\nb,6,3,3\n", past(3, 4)),
+        // Buttazzo, Hard Real-Time Computing Systems, on EDF with deadlines below periods: 16 ticks ask for 16.
+        ("a,6,4,2\nb,8,5,2\nc,9,7,3\n", within(72)),
+        ("a,6,4,2\nb,8,5,2\nc,9,7,4\n", past(7, 8)),
+        // Burns and Wellings, Real-Time Systems and Programming Languages, on deadline-monotonic priorities, and then with
+        // ever more for its last task.
+        ("a,20,5,3\nb,15,7,3\nc,10,10,4\nd,20,20,3\n", within(60)),
+        ("a,20,5,3\nb,15,7,3\nc,10,10,4\nd,20,20,5\n", past(40, 41)),
+        ("a,20,5,3\nb,15,7,3\nc,10,10,4\nd,20,20,6\n", past(22, 23)),
+        ("a,20,5,3\nb,15,7,3\nc,10,10,4\nd,20,20,7\n", past(20, 21)),
+        // Each budget over its deadline adds up to more than 1, and the tasks fit.
+        ("a,4,1,1\nb,4,2,1\nc,4,3,1\nd,4,4,1\n", within(4)),
+        ("a,3,2,1\nb,4,4,2\n", within(12)),
+        // 6 and 8 ticks are used up by the second set, and at 13 both of its tasks have one more deadline.
+        ("a,5,3,2\nb,7,6,3\n", within(35)),
+        ("a,5,3,2\nb,7,6,4\n", past(13, 14)),
+        // Full use, with each deadline at its period.
+        ("a,2,2,1\nb,3,3,1\nc,6,6,1\n", within(6)),
+        // Past only at the least common multiple itself.
+        ("a,2,2,1\nb,3,3,1\nc,6,6,2\n", past(6, 7)),
+        ("a,1,1,1\n", within(1)),
+        ("a,1,1,4294967295\n", past(1, 4_294_967_295)),
+        ("a,500000,500000,500000\n", within(500_000)),
+        (
+            "a,500000,1,1\nb,500000,499999,499999\n",
+            past(499_999, 500_000),
+        ),
+    ]
+}
+
+// What the test answers on the set of these records.
+fn fit(alloc: Global, records: &str) -> Result<Fit, Fail> {
+    let set = set_of(alloc, records)?;
+    Ok(check_demand(alloc, &set)?)
+}
+
+#[test]
+fn a_set_is_within_or_past_at_its_least_length(rt: HostRuntime) -> Result<(), Fail> {
+    let alloc = rt.alloc();
+    for (records, expected) in sets() {
+        assert_eq!(rt; fit(alloc, records)?, expected, "{records}");
+    }
+    Ok(())
+}
+
+// Adds the record of the task with this number.
+fn push_record(
+    alloc: Global,
+    text: &mut String,
+    number: u32,
+    rest: &str,
+) -> Result<(), AllocError> {
+    let record = format!(in alloc; "t{number},{rest}\n")?;
+    text.push_str(record.as_str())
+}
+
+// The records of 128 tasks, of which the last has another budget.
+fn many(alloc: Global, usual: &str, last: &str) -> Result<String, AllocError> {
+    let mut records = String::new(alloc);
+    for number in 1..128u32 {
+        push_record(alloc, &mut records, number, usual)?;
+    }
+    push_record(alloc, &mut records, 128, last)?;
+    Ok(records)
+}
+
+// How many tasks the set of these records has, and what the test answers.
+fn counted_fit(alloc: Global, records: &str) -> Result<(u32, Fit), Fail> {
+    let set = set_of(alloc, records)?;
+    Ok((set.len(), check_demand(alloc, &set)?))
+}
+
+#[test]
+fn a_set_at_the_limits_is_answered(rt: HostRuntime) -> Result<(), Fail> {
+    let alloc = rt.alloc();
+    let cases = [
+        ("500000,500000,3906", "500000,500000,3938", within(500_000)),
+        (
+            "500000,500000,3906",
+            "500000,500000,3939",
+            past(500_000, 500_001),
+        ),
+        (
+            "500000,1,4294967295",
+            "500000,1,4294967295",
+            past(1, 549_755_813_760),
+        ),
+        ("1,1,4294967295", "1,1,4294967295", past(1, 549_755_813_760)),
+    ];
+    for (usual, last, expected) in cases {
+        let records = many(alloc, usual, last)?;
+        let counted = counted_fit(alloc, records.as_str())?;
+        assert_eq!(rt; counted, (128, expected), "{last}");
+    }
+    Ok(())
+}
+
+#[test]
+fn a_set_has_the_tasks_of_its_file(rt: HostRuntime) -> Result<(), Fail> {
+    let set = set_of(rt.alloc(), "a,4,2,1\nb-2,500000,4,4294967295\n")?;
+    let is_first = is_task(set.get(TaskNo(1)), b"a", (4, 2, 1));
+    let is_second = is_task(set.get(TaskNo(2)), b"b-2", (500_000, 4, u32::MAX));
+    let is_none = set.get(TaskNo(0)).is_none() && set.get(TaskNo(3)).is_none();
+    assert_eq!(rt;
+        (set.len(), is_first, is_second, is_none),
+        (2, true, true, true)
+    );
+    Ok(())
+}
+
+fn is_task(task: Option<Demand>, name: &[u8], numbers: (u32, u32, u32)) -> bool {
+    match task {
+        Some(task) => {
+            task.name.bytes() == name && (task.period, task.deadline, task.budget) == numbers
+        }
+        None => false,
+    }
+}
+
+// Sets that are past, each with its counterexample.
+const COUNTEREXAMPLES: [(&str, &str); 5] = [
+    (
+        "a,4,2,1\nb,6,3,3\n",
+        "release a 1 at 0\nrelease b 1 at 0\ntick 0 a 1\ntick 1 b 1\ntick 2 b 1\nlate b 1\n",
+    ),
+    // Of equal deadlines the lowest task number runs first. Both b and a are late, and b was released first.
+    (
+        "z,4,4,1\na,2,2,1\nb,4,4,1\nc,4,3,2\n",
+        "release z 1 at 0\nrelease a 1 at 0\nrelease b 1 at 0\nrelease c 1 at 0\ntick 0 a 1\ntick 1 c 1\nrelease a 2 at 2\ntick 2 c 1\ntick 3 z 1\nlate b 1\n",
+    ),
+    (
+        "a,2,2,1\nb,3,3,1\nc,6,6,2\n",
+        "release a 1 at 0\nrelease b 1 at 0\nrelease c 1 at 0\ntick 0 a 1\ntick 1 b 1\nrelease a 2 at 2\ntick 2 a 2\nrelease b 2 at 3\ntick 3 b 2\nrelease a 3 at 4\ntick 4 a 3\ntick 5 c 1\nlate c 1\n",
+    ),
+    // b goes on when a is released with a later deadline, and lacks a tick where both have the deadline 13.
+    (
+        "a,5,3,2\nb,7,6,4\n",
+        "release a 1 at 0\nrelease b 1 at 0\ntick 0 a 1\ntick 1 a 1\ntick 2 b 1\ntick 3 b 1\ntick 4 b 1\nrelease a 2 at 5\ntick 5 b 1\ntick 6 a 2\nrelease b 2 at 7\ntick 7 a 2\ntick 8 b 2\ntick 9 b 2\nrelease a 3 at 10\ntick 10 a 3\ntick 11 a 3\ntick 12 b 2\nlate b 2\n",
+    ),
+    (
+        "a,1,1,4294967295\n",
+        "release a 1 at 0\ntick 0 a 1\nlate a 1\n",
+    ),
+];
+
+// The counterexample of a set that is past, or `None` where it is not.
+fn counterexample(alloc: Global, set: &DemandSet) -> Result<Option<Vec<u8>>, Fail> {
+    match check_demand(alloc, set)? {
+        Fit::Past { length, .. } => Ok(Some(counter(alloc, set, length)?)),
+        Fit::Within { .. } => Ok(None),
+    }
+}
+
+// Whether the set of these records has this counterexample.
+fn is_shown(alloc: Global, records: &str, wanted: &str) -> Result<bool, Fail> {
+    let set = set_of(alloc, records)?;
+    let shown = counterexample(alloc, &set)?;
+    Ok(shown.is_some_and(|shown| shown.as_slice() == wanted.as_bytes()))
+}
+
+#[test]
+fn a_counterexample_ends_in_its_first_late_job(rt: HostRuntime) -> Result<(), Fail> {
+    let alloc = rt.alloc();
+    for (records, wanted) in &COUNTEREXAMPLES {
+        assert!(rt; is_shown(alloc, records, wanted)?, "{records}");
+    }
+    Ok(())
+}
+
+#[test]
+fn a_counterexample_of_the_greatest_length_is_shown(rt: HostRuntime) -> Result<(), Fail> {
+    let alloc = rt.alloc();
+    let set = set_of(alloc, "a,500000,500000,500000\nb,500000,500000,1\n")?;
+    assert_eq!(rt; check_demand(alloc, &set)?, past(500_000, 500_001));
+    let shown = counterexample(alloc, &set)?.ok_or("a counterexample")?;
+    // Two releases of 17 bytes, 500,000 ticks of 10 bytes and their digits, 2,888,890, and 9 bytes of the late job.
+    assert!(rt;
+        shown.len() == 34 + 5_000_000 + 2_888_890 + 9
+            && shown.ends_with(b"tick 499999 a 1\nlate b 1\n")
+    );
+    Ok(())
+}
+
+// Files, each with its tasks as `name period deadline budget;`, or its first refusal.
+const FILES: [(&str, &str); 14] = [
+    ("", "line 1: Header"),
+    ("\n\n", "line 1: Header"),
+    ("task,period,deadline\n", "line 1: Header"),
+    ("task,period,deadline,budget,\n", "line 1: Header"),
+    ("task,deadline,period,budget\na,4,2,1\n", "line 1: Header"),
+    ("Task,period,deadline,budget\na,4,2,1\n", "line 1: Header"),
+    ("task, period,deadline,budget\na,4,2,1\n", "line 1: Header"),
+    ("a,4,2,1\n", "line 1: Header"),
+    ("task,period,deadline,budget", "line 1: Empty"),
+    ("task,period,deadline,budget\r\n\r\n", "line 1: Empty"),
+    (
+        "task,period,deadline,budget\ntask,period,deadline,budget\n",
+        "line 2: BadNumber",
+    ),
+    (
+        "\u{feff}\"task\",period,deadline,budget\r\n\n\"a\",4,\"2\",1",
+        "a 4 2 1;",
+    ),
+    (
+        "\n\ntask,period,deadline,budget\n\n\na,4,2,1\n\nb,4,5,1",
+        "line 3: DeadlineOrder",
+    ),
+    (
+        "task,period,deadline,budget\n\"a\nb\",4,2,1\n",
+        "line 2: BadName",
+    ),
+];
+
+// Records behind the header, with spaces between them, each list with its tasks or its first refusal.
+const RECORDS: [(&str, &str); 34] = [
+    ("a,4,2", "line 2: BadRecord"),
+    ("a,4,2,1,", "line 2: BadRecord"),
+    ("a,4,2,1,1", "line 2: BadRecord"),
+    ("a", "line 2: BadRecord"),
+    ("a,4,2,1 b,4,2", "line 3: BadRecord"),
+    (",4,2,1", "line 2: BadName"),
+    ("a.b,4,2,1", "line 2: BadName"),
+    ("a,4,2,1 a,6,3,2", "line 3: SameName"),
+    ("a,4,2,1 b,6,3,2 a,4,2,1", "line 4: SameName"),
+    ("a,+4,2,1", "line 2: BadNumber"),
+    ("a,4,-2,1", "line 2: BadNumber"),
+    ("a,4,2,", "line 2: BadNumber"),
+    ("a,4,2,1x", "line 2: BadNumber"),
+    ("a,00000000004,2,1", "line 2: BadNumber"),
+    ("a,0000000004,2,1", "a 4 2 1;"),
+    ("a,4,2,4294967296", "line 2: BadNumber"),
+    ("a,4,2,4294967295", "a 4 2 4294967295;"),
+    ("a,0,2,1", "line 2: ZeroNumber"),
+    ("a,4,0,1", "line 2: ZeroNumber"),
+    ("a,4,2,0", "line 2: ZeroNumber"),
+    ("a,4,5,1", "line 2: DeadlineOrder"),
+    ("a,4,4,1", "a 4 4 1;"),
+    ("a,500000,1,1", "a 500000 1 1;"),
+    ("a,500001,1,1", "line 2: Range"),
+    ("a,4294967295,1,1", "line 2: Range"),
+    ("a,1000,1,1 b,501,1,1", "line 3: Range"),
+    ("a,500000,1,1 b,250000,1,1 c,3,1,1", "line 4: Range"),
+    // Where several causes stand together, the first in their order is told.
+    ("a.b,4", "line 2: BadRecord"),
+    ("a.b,x,2,1", "line 2: BadName"),
+    ("a,4,2,1 a,x,3,2", "line 3: SameName"),
+    ("a,0,x,1", "line 2: BadNumber"),
+    ("a,4,5,0", "line 2: ZeroNumber"),
+    ("a,600000,600001,1", "line 2: DeadlineOrder"),
+    ("a,500001,1,1 b,4,2", "line 2: Range"),
+];
+
+// The tasks of a set.
+fn tasks_text(alloc: Global, set: &DemandSet) -> Result<String, AllocError> {
+    let mut text = String::new(alloc);
+    for i in 0..set.len() {
+        if let Some(task) = set.get(TaskNo(i + 1)) {
+            push_demand(alloc, &mut text, &task)?;
+        }
+    }
+    Ok(text)
+}
+
+fn push_demand(alloc: Global, text: &mut String, task: &Demand) -> Result<(), AllocError> {
+    for byte in task.name.bytes() {
+        text.push(char::from(*byte))?;
+    }
+    let numbers = format!(in alloc; " {} {} {};", task.period, task.deadline, task.budget)?;
+    text.push_str(numbers.as_str())
+}
+
+// Whether the bytes are answered so: by the tasks, or by the refusal.
+fn is_answered(alloc: Global, bytes: &[u8], wanted: &str) -> Result<bool, AllocError> {
+    let text = match read_demands(alloc, bytes) {
+        Ok(set) => tasks_text(alloc, &set)?,
+        Err(fault) => format!(in alloc; "{fault}")?,
+    };
+    Ok(text.as_str() == wanted)
+}
+
+// Whether these records, with spaces between them, are answered so after the header.
+fn are_answered(alloc: Global, records: &str, wanted: &str) -> Result<bool, AllocError> {
+    let lines = records.replace(alloc, " ", "\n")?;
+    let text = format!(in alloc; "{HEADER}{lines}\n")?;
+    is_answered(alloc, text.as_bytes(), wanted)
+}
+
+#[test]
+fn a_file_gives_its_tasks_or_its_first_refusal(rt: HostRuntime) -> Result<(), Fail> {
+    let alloc = rt.alloc();
+    for (text, wanted) in &FILES {
+        assert!(rt; is_answered(alloc, text.as_bytes(), wanted)?, "{text}");
+    }
+    for (records, wanted) in &RECORDS {
+        assert!(rt; are_answered(alloc, records, wanted)?, "{records}");
+    }
+    Ok(())
+}
+
+// A file of 128 tasks.
+fn full_file(alloc: Global) -> Result<String, AllocError> {
+    let records = many(alloc, "1,1,1", "1,1,1")?;
+    format!(in alloc; "{HEADER}{records}")
+}
+
+// The refusal of a text, if any.
+fn refusal(alloc: Global, text: &[u8]) -> Option<DemandFault> {
+    read_demands(alloc, text).err()
+}
+
+#[test]
+fn there_are_at_most_128_tasks(rt: HostRuntime) -> Result<(), Fail> {
+    let alloc = rt.alloc();
+    let mut text = full_file(alloc)?;
+    assert_eq!(rt; refusal(alloc, text.as_bytes()), None);
+    text.push_str("t1")?;
+    let too_many = DemandFault::At {
+        line: 130,
+        cause: DemandCause::TooMany,
+    };
+    assert_eq!(rt; refusal(alloc, text.as_bytes()), Some(too_many));
+    Ok(())
+}
+
+#[test]
+fn bytes_that_are_no_text_are_refused(rt: HostRuntime) {
+    let cases: [(&[u8], u32, DemandCause); 3] = [
+        (b"\xff\xfe\x00", 1, DemandCause::Header),
+        (
+            b"task,period,deadline,budget\n\xff,4,2,1\n",
+            2,
+            DemandCause::BadName,
+        ),
+        (
+            b"task,period,deadline,budget\na,4,2,\xb2\n",
+            2,
+            DemandCause::BadNumber,
+        ),
+    ];
+    for (bytes, line, cause) in cases {
+        let refused = DemandFault::At { line, cause };
+        assert_eq!(rt; refusal(rt.alloc(), bytes), Some(refused));
+    }
+}
+
+// Whether a record of 200,000 commas after this text is answered so.
+fn is_wide_answered(alloc: Global, before: &str, wanted: &str) -> Result<bool, AllocError> {
+    let mut file = Vec::new(alloc);
+    file.extend_from_slice(before.as_bytes())?;
+    for _ in 0..200_000u32 {
+        file.push(b',')?;
+    }
+    is_answered(alloc, &file, wanted)
+}
+
+#[test]
+fn a_wide_record_of_a_long_file_is_refused_by_its_width(rt: HostRuntime) -> Result<(), Fail> {
+    let alloc = rt.alloc();
+    let full = full_file(alloc)?;
+    let cases = [
+        ("", "line 1: Header"),
+        (HEADER, "line 2: BadRecord"),
+        (
+            "task,period,deadline,budget\n\"a\",4,2,1\n",
+            "line 3: BadRecord",
+        ),
+        (full.as_str(), "line 130: TooMany"),
+    ];
+    for (before, wanted) in cases {
+        assert!(rt; is_wide_answered(alloc, before, wanted)?, "{wanted}");
+    }
+    Ok(())
+}

@@ -1,0 +1,370 @@
+use mc_model::How::{Done, More, Over};
+use mc_model::{Row, Run};
+use mc_task::TaskSet;
+use std::alloc::{AllocError, Global};
+use std::test::Fail;
+use trace_format::{TraceFault, merge, pack, read_trace, write_trace};
+use worked_sets::{CONTROL, OVERRUN_RUNS, kept, release, set_of, tick, ticks};
+
+const HEADER: &str = "event,tick,task,job,how\n";
+
+const SECOND_HEADER: &str = "event,tick,length,task,job,how\n";
+
+// A job of ctl runs over its low budget and on to its end; log's job is discarded, and its next one runs.
+const OVERRUN: &str = "\
+event,tick,task,job,how
+release,0,ctl,1,kept
+release,0,log,1,kept
+tick,0,ctl,1,more
+tick,1,ctl,1,over
+tick,2,ctl,1,more
+tick,3,ctl,1,more
+tick,4,ctl,1,more
+tick,5,ctl,1,done
+idle,6,,,
+idle,7,,,
+idle,8,,,
+idle,9,,,
+release,10,log,2,kept
+tick,10,log,2,more
+tick,11,log,2,more
+";
+
+// The same in version 2.
+const PACKED: &str = "\
+event,tick,length,task,job,how
+release,0,,ctl,1,kept
+release,0,,log,1,kept
+tick,0,1,ctl,1,more
+tick,1,1,ctl,1,over
+tick,2,3,ctl,1,more
+tick,5,1,ctl,1,done
+idle,6,4,,,
+release,10,,log,2,kept
+tick,10,2,log,2,more
+";
+
+// The runs of a trace, one for each record, and the same merged.
+fn read_and_merged(alloc: Global, set: &TaskSet, text: &str) -> Result<(Vec<Run>, Vec<Run>), Fail> {
+    let runs = read_trace(alloc, set, text.as_bytes())?;
+    let merged = merge(alloc, &runs)?;
+    Ok((runs, merged))
+}
+
+// The runs of a trace, and the trace that is written of them.
+fn read_and_written(alloc: Global, set: &TaskSet, text: &str) -> Result<(Vec<Run>, Vec<u8>), Fail> {
+    let runs = read_trace(alloc, set, text.as_bytes())?;
+    let written = write_trace(alloc, set, &runs)?;
+    Ok((runs, written))
+}
+
+// Whether there are so many runs, with this one at this place.
+fn has(runs: &[Run], len: usize, place: usize, run: Run) -> bool {
+    runs.len() == len && runs.get(place) == Some(&run)
+}
+
+#[test]
+fn an_overrun_is_read_and_merged(rt: HostRuntime) -> Result<(), Fail> {
+    let alloc = rt.alloc();
+    let set = set_of(alloc, &CONTROL)?;
+    let (runs, merged) = read_and_merged(alloc, &set, OVERRUN)?;
+    for (place, run) in [
+        (1, release!(2, 1, true)),
+        (3, ticks!(1, 1, Over, 1)),
+        (11, Run::Idles { length: 1 }),
+    ] {
+        assert!(rt; has(&runs, 15, place, run));
+    }
+    assert!(rt; merged.as_slice() == OVERRUN_RUNS.as_slice());
+    Ok(())
+}
+
+#[test]
+fn merged_runs_are_written_in_version_2(rt: HostRuntime) -> Result<(), Fail> {
+    let alloc = rt.alloc();
+    let set = set_of(alloc, &CONTROL)?;
+    let (runs, written) = read_and_written(alloc, &set, PACKED)?;
+    assert!(rt; runs.as_slice() == OVERRUN_RUNS.as_slice());
+    assert!(rt; written.as_slice() == PACKED.as_bytes());
+    Ok(())
+}
+
+const ROWS: [Row; 9] = [
+    Row::Idle,
+    kept!(1, 1),
+    Row::Idle,
+    Row::Idle,
+    tick!(1, 1, More),
+    tick!(1, 1, More),
+    tick!(1, 2, More),
+    tick!(1, 2, Done),
+    Row::Idle,
+];
+
+const PACKED_ROWS: [Run; 7] = [
+    Run::Idles { length: 1 },
+    release!(1, 1, true),
+    Run::Idles { length: 2 },
+    ticks!(1, 1, More, 2),
+    ticks!(1, 2, More, 1),
+    ticks!(1, 2, Done, 1),
+    Run::Idles { length: 1 },
+];
+
+#[test]
+fn equal_rows_that_stand_together_are_packed(rt: HostRuntime) -> Result<(), Fail> {
+    let runs = pack(rt.alloc(), &ROWS)?;
+    assert!(rt; runs.as_slice() == PACKED_ROWS.as_slice());
+    Ok(())
+}
+
+// The refusal's text, or how many runs there are.
+fn outcome(alloc: Global, set: &TaskSet, text: &str) -> Result<String, AllocError> {
+    match read_trace(alloc, set, text.as_bytes()) {
+        Ok(runs) => format!(in alloc; "{} runs", runs.len()),
+        Err(TraceFault::Memory) => Err(AllocError),
+        Err(fault) => format!(in alloc; "{fault}"),
+    }
+}
+
+fn is_answered(
+    alloc: Global,
+    set: &TaskSet,
+    text: &str,
+    expected: &str,
+) -> Result<bool, AllocError> {
+    Ok(outcome(alloc, set, text)?.as_str() == expected)
+}
+
+// Whether records behind this header are answered as their line says: it has spaces between them, and the answer at its
+// end.
+fn is_line_answered(
+    alloc: Global,
+    set: &TaskSet,
+    header: &str,
+    line: &str,
+) -> Result<bool, AllocError> {
+    let Some((records, expected)) = line.split_once(" => ") else {
+        return Ok(false);
+    };
+    let lines = records.replace(alloc, " ", "\n")?;
+    let text = format!(in alloc; "{header}{lines}\n")?;
+    is_answered(alloc, set, text.as_str(), expected)
+}
+
+// Texts without a header, or with another, each with what is answered.
+const HEADERS: [(&str, &str); 10] = [
+    ("", "line 1: Header"),
+    ("\n\n", "line 1: Header"),
+    ("event,tick,task,job,how\n", "0 runs"),
+    ("event,tick,task,job,how", "0 runs"),
+    ("\u{feff}event,tick,task,job,how\r\n", "0 runs"),
+    ("event,tick,task,job\n", "line 1: Header"),
+    ("event,tick,task,job,how,\n", "line 1: Header"),
+    ("idle,0,,,\n", "line 1: Header"),
+    ("event,tick,length,task,job,how", "0 runs"),
+    ("event,tick,length,task,job\n", "line 1: Header"),
+];
+
+// Records behind the header, and what is answered.
+const RECORDS: &str = "\
+release,0,ctl,1,kept tick,0,ct => line 3: BadRecord
+release,0,ctl,1,kept tick,0,ctl,1,mor => line 3: UnknownEvent
+idle,0,,, idle,0,,, => line 3: WrongTick
+idle,1,,, => line 2: WrongTick
+idle,0,,, idle,1,,, => 2 runs
+\"idle\",0,\"\",,  idle,1,,, => 2 runs
+release,0,ctl,1,kept, => line 2: BadRecord
+release,0,,ctl,1,kept => line 2: BadRecord
+release,0,ctl,1 => line 2: BadRecord
+Release,0,ctl,1,kept => line 2: UnknownEvent
+release,0,ctl,1,more => line 2: UnknownEvent
+tick,0,ctl,1,kept => line 2: UnknownEvent
+tick,0,ctl,1, => line 2: UnknownEvent
+idle,0,ctl,, => line 2: UnknownEvent
+idle,0,,1, => line 2: UnknownEvent
+idle,0,,,more => line 2: UnknownEvent
+idle,x,ctl,1, => line 2: UnknownEvent
+tick,x,nix,x,mor => line 2: UnknownEvent
+tick,x,nix,x,more => line 2: UnknownTask
+tick,0,,1,more => line 2: UnknownTask
+tick,1,ctl,x,more => line 2: BadNumber
+tick,,ctl,1,more => line 2: BadNumber
+tick,+0,ctl,1,more => line 2: BadNumber
+idle,,,, => line 2: BadNumber
+tick,1,ctl,1,more => line 2: WrongTick
+tick,0,ctl,4294967295,more tick,0000000001,log,0000000000,done => 2 runs
+tick,0,ctl,4294967296,more => line 2: BadNumber
+tick,0,ctl,9999999999,more => line 2: BadNumber
+tick,0,ctl,00000000001,more => line 2: BadNumber
+tick,00000000000,ctl,1,more => line 2: BadNumber
+";
+
+#[test]
+fn another_header_is_refused(rt: HostRuntime) -> Result<(), Fail> {
+    let alloc = rt.alloc();
+    let set = set_of(alloc, &CONTROL)?;
+    for (text, expected) in &HEADERS {
+        assert!(rt; is_answered(alloc, &set, text, expected)?, "{text}");
+    }
+    Ok(())
+}
+
+#[test]
+fn the_first_refusal_of_the_records_is_the_answer(rt: HostRuntime) -> Result<(), Fail> {
+    let alloc = rt.alloc();
+    let set = set_of(alloc, &CONTROL)?;
+    for line in RECORDS.lines() {
+        assert!(rt; is_line_answered(alloc, &set, HEADER, line)?, "{line}");
+    }
+    Ok(())
+}
+
+// Records behind the header of version 2, and what is answered.
+const SECOND: &str = "\
+idle,0,1,, => line 2: NotSix
+release,0,ctl,1,kept => line 2: NotSix
+x,x,x,x => line 2: NotSix
+tick,x,x,nix,x,mor => line 2: UnknownEvent
+release,0,1,ctl,1,kept => line 2: UnknownEvent
+release,0,0,nix,x,kept => line 2: UnknownEvent
+idle,0,1,ctl,, => line 2: UnknownEvent
+idle,0,1,,1, => line 2: UnknownEvent
+idle,0,1,,,more => line 2: UnknownEvent
+tick,x,x,nix,x,more => line 2: UnknownTask
+release,1,,nix,1,kept => line 2: UnknownTask
+tick,1,x,ctl,1,more => line 2: BadNumber
+tick,1,1,ctl,x,more => line 2: BadNumber
+tick,0,,ctl,1,more => line 2: BadNumber
+tick,0,4294967296,ctl,1,more => line 2: BadNumber
+release,,,ctl,1,kept => line 2: BadNumber
+idle,x,1,,, => line 2: BadNumber
+idle,0,,,, => line 2: BadNumber
+idle,0,+1,,, => line 2: BadNumber
+idle,0,00000000001,,, => line 2: BadNumber
+idle,1,0,,, => line 2: WrongTick
+tick,1,2,ctl,1,done => line 2: WrongTick
+idle,0,3,,, idle,1,1,,, => line 3: WrongTick
+idle,0,3,,, release,4,,ctl,1,kept => line 3: WrongTick
+idle,0,0,,, => line 2: BadLength
+tick,0,0,ctl,1,more => line 2: BadLength
+tick,0,0,ctl,1,done => line 2: BadLength
+tick,0,2,ctl,1,over => line 2: BadLength
+tick,0,2,ctl,1,stop => line 2: BadLength
+release,0,,ctl,1,kept tick,0,2,ctl,1,done => line 3: BadLength
+tick,0,100000001,ctl,1,done => line 2: BadLength
+idle,0,100000001,,, => line 2: TooManyTicks
+idle,0,4294967295,,, => line 2: TooManyTicks
+idle,0,99999999,,, tick,99999999,2,ctl,1,more => line 3: TooManyTicks
+idle,0,100000000,,, idle,100000000,1,,, => line 3: TooManyTicks
+idle,0,100000000,,, => 1 runs
+idle,0,100000000,,, release,100000000,,ctl,1,kept => 2 runs
+idle,0,99999999,,, idle,99999999,1,,, => 2 runs
+idle,0,0000000003,,, idle,3,1,,, => 2 runs
+release,0,,ctl,1,kept tick,0,2,ctl,1,more => 2 runs
+release,0,,ctl,1,kept tick,0,1,ctl,1,done => 2 runs
+";
+
+#[test]
+fn the_first_refusal_of_version_2_is_the_answer(rt: HostRuntime) -> Result<(), Fail> {
+    let alloc = rt.alloc();
+    let set = set_of(alloc, &CONTROL)?;
+    for line in SECOND.lines() {
+        assert!(rt;
+            is_line_answered(alloc, &set, SECOND_HEADER, line)?,
+            "{line}"
+        );
+    }
+    Ok(())
+}
+
+// A record of version 2 with quotes.
+const QUOTED: &str = "\"release\",0,,\"ctl\",\"1\",kept\n";
+
+// Long texts: a header, a text that stands behind it so many times, the last text, and what is answered.
+const LONG_TEXTS: [(&str, u32, &str, &str, &str); 9] = [
+    ("", 200_000, ",", "\n", "line 1: Header"),
+    (HEADER, 200_000, ",", "", "line 2: BadRecord"),
+    (SECOND_HEADER, 200_000, ",", "", "line 2: NotSix"),
+    // Quotes, and line feeds within them.
+    (SECOND_HEADER, 50_000, "\"\n\",", "", "line 2: NotSix"),
+    (SECOND_HEADER, 50_000, "\"\"\"\",", "", "line 2: NotSix"),
+    (
+        SECOND_HEADER,
+        10_000,
+        QUOTED,
+        "x,,,,,,\n",
+        "line 10002: NotSix",
+    ),
+    (
+        SECOND_HEADER,
+        10_000,
+        QUOTED,
+        "\"x\",,,,,\n",
+        "line 10002: UnknownEvent",
+    ),
+    (
+        SECOND_HEADER,
+        10_000,
+        QUOTED,
+        "\",,,,,,\",,,,,\n",
+        "line 10002: UnknownEvent",
+    ),
+    (SECOND_HEADER, 10_000, QUOTED, "", "10000 runs"),
+];
+
+// A text longer than the part of a record that is read unseen: a header, that many times the first text, and the last.
+fn long_text(
+    alloc: Global,
+    header: &str,
+    count: u32,
+    first: &str,
+    last: &str,
+) -> Result<String, AllocError> {
+    let mut text = String::new(alloc);
+    text.push_str(header)?;
+    for _ in 0..count {
+        text.push_str(first)?;
+    }
+    text.push_str(last)?;
+    Ok(text)
+}
+
+#[test]
+fn a_wide_record_of_a_long_text_is_refused_by_its_width(rt: HostRuntime) -> Result<(), Fail> {
+    let alloc = rt.alloc();
+    let set = set_of(alloc, &CONTROL)?;
+    for (header, count, first, last, expected) in LONG_TEXTS {
+        let text = long_text(alloc, header, count, first, last)?;
+        assert!(rt;
+            is_answered(alloc, &set, text.as_str(), expected)?,
+            "{first} {last}"
+        );
+    }
+    Ok(())
+}
+
+// A trace of that many jobs.
+fn many_jobs(alloc: Global, count: u32) -> Result<String, AllocError> {
+    let mut text = String::from_str(alloc, SECOND_HEADER)?;
+    for k in 0..count {
+        push_tick(alloc, &mut text, k)?;
+    }
+    Ok(text)
+}
+
+fn push_tick(alloc: Global, text: &mut String, k: u32) -> Result<(), AllocError> {
+    let row = format!(in alloc; "tick,{k},1,ctl,{},done\n", k.wrapping_add(1))?;
+    text.push_str(row.as_str())
+}
+
+#[test]
+fn a_text_of_many_runs_is_read_and_written(rt: HostRuntime) -> Result<(), Fail> {
+    let alloc = rt.alloc();
+    let set = set_of(alloc, &CONTROL)?;
+    let text = many_jobs(alloc, 50_000)?;
+    let (runs, written) = read_and_written(alloc, &set, text.as_str())?;
+    assert!(rt; has(&runs, 50_000, 49_999, ticks!(1, 50_000, Done, 1)));
+    assert!(rt; written.as_slice() == text.as_bytes());
+    Ok(())
+}

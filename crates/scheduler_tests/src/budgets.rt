@@ -1,0 +1,100 @@
+ghost use Rattle.std.specs.Prelude.{◌≡◌, length, map};
+ghost use Rattle.budget_ledger.specs.Ledger.{budget};
+
+use budget_ledger::{Spent, Used};
+use mc_task::{Level, Name, Task, TaskNo, TaskSet};
+use std::alloc::Global;
+use std::test::Fail;
+
+// A high task with budgets 2 and 4, a low one with budget 2, and a high one with 2 and 2.
+fn three_tasks(alloc: Global) -> Option<TaskSet> {
+    let wide = Task {
+        name: Name::new(b"wide")?,
+        level: Level::High,
+        period: 10,
+        low: 2,
+        high: 4,
+    };
+    let low = Task {
+        name: Name::new(b"low")?,
+        level: Level::Low,
+        high: 2,
+        ..wide
+    };
+    let even = Task {
+        name: Name::new(b"even")?,
+        high: 2,
+        ..wide
+    };
+    TaskSet::new(vec![in alloc; wide, low, even].ok()?).ok()
+}
+
+// What one more tick of the task comes to, if the task is in the set and its ticks are below its own budget.
+fn spend(used: &mut Used, set: &TaskSet, task: u32) -> Option<Spent>
+    requires budgets { used.old.budgets ≡ map budget set.now.tasks }
+    requires ticks { length used.old.ticks ≡ length set.now.tasks }
+    ensures budgets { used.new.budgets ≡ map budget set.now.tasks }
+    ensures ticks { length used.new.ticks ≡ length set.now.tasks }
+{
+    let own = set.get(TaskNo(task))?.high;
+    if used.used(TaskNo(task)) < own {
+        Some(used.spend(TaskNo(task)))
+    } else {
+        None
+    }
+}
+
+// Begins a job of the task, if the task is in the set.
+fn start(used: &mut Used, set: &TaskSet, task: u32) -> Option<u32>
+    requires budgets { used.old.budgets ≡ map budget set.now.tasks }
+    requires ticks { length used.old.ticks ≡ length set.now.tasks }
+    ensures budgets { used.new.budgets ≡ map budget set.now.tasks }
+    ensures ticks { length used.new.ticks ≡ length set.now.tasks }
+{
+    set.get(TaskNo(task))?;
+    let before = used.used(TaskNo(task));
+    used.start(TaskNo(task));
+    Some(before)
+}
+
+// What five more ticks of the task come to.
+fn five_ticks(used: &mut Used, set: &TaskSet, task: u32) -> [Option<Spent>; 5]
+    requires budgets { used.old.budgets ≡ map budget set.now.tasks }
+    requires ticks { length used.old.ticks ≡ length set.now.tasks }
+    ensures budgets { used.new.budgets ≡ map budget set.now.tasks }
+    ensures ticks { length used.new.ticks ≡ length set.now.tasks }
+{
+    let first = spend(used, set, task);
+    let second = spend(used, set, task);
+    let third = spend(used, set, task);
+    let fourth = spend(used, set, task);
+    let fifth = spend(used, set, task);
+    [first, second, third, fourth, fifth]
+}
+
+const BELOW: Option<Spent> = Some(Spent::Below);
+
+const AT_LOW: Option<Spent> = Some(Spent::AtLow);
+
+const AT_OWN: Option<Spent> = Some(Spent::AtOwn);
+
+#[test]
+fn a_job_comes_to_its_low_budget_and_then_to_its_own(rt: HostRuntime) -> Result<(), Fail> {
+    let set = three_tasks(rt.alloc()).ok_or("a set")?;
+    let mut used = Used::new(rt.alloc(), &set)?;
+    let wide = five_ticks(&mut used, &set, 1);
+    let low = five_ticks(&mut used, &set, 2);
+    let even = five_ticks(&mut used, &set, 3);
+    let nobody = five_ticks(&mut used, &set, 4);
+    assert_eq!(rt; wide, [BELOW, AT_LOW, BELOW, AT_OWN, None]);
+    assert_eq!(rt; low, [BELOW, AT_OWN, None, None, None]);
+    assert_eq!(rt; even, [BELOW, AT_OWN, None, None, None]);
+    assert_eq!(rt; nobody, [None, None, None, None, None]);
+    // The next job of a task begins anew, and the others keep their ticks.
+    assert_eq!(rt; start(&mut used, &set, 1), Some(4));
+    assert_eq!(rt; spend(&mut used, &set, 1), BELOW);
+    assert_eq!(rt; start(&mut used, &set, 1), Some(1));
+    assert_eq!(rt; start(&mut used, &set, 2), Some(2));
+    assert_eq!(rt; start(&mut used, &set, 2), Some(0));
+    Ok(())
+}

@@ -1,0 +1,246 @@
+ghost use Rattle.std.specs.Prelude.{◌≡◌, true, None, IfOk};
+ghost use Rattle.timetable.specs.Floor.{is_planned};
+
+mod plain_core;
+mod side_by_side;
+
+use admission::admit;
+use load_sum::sum_loads;
+use mc_model::How;
+use mc_model::How::{Done, More, Over};
+use mc_task::{JobId, TaskNo};
+use mode_core::{Core, GrantFault, Granted, IdleFault, NotOut, ReleaseFault, Released};
+use std::alloc::Global;
+use std::test::Fail;
+use timetable::{Act, ActFault, Floor, Plan, PlanFault};
+use work_file::Work;
+use worked_sets::{
+    CONTROL, HELD_RELEASE_ROWS, HELD_RELEASE_WORK, Job, Line, PLANS, WorkedPlan, job, set_of,
+    work_rows,
+};
+
+// A floor with no rows, whose plan is the jobs.
+fn floor(alloc: Global, lines: &[Line], jobs: &[Job], ticks: u32) -> Result<Floor, Fail>
+    ensures { IfOk result (λ floor. (is_planned floor.plan ≡ true) × (floor.core.out ≡ None)) }
+{
+    if ticks == 0 || ticks > 1000 {
+        return Err("ticks".into());
+    }
+    let set = set_of(alloc, lines)?;
+    let rule = admit(&sum_loads(&set)?).ok_or("not admitted")?;
+    let work = Work::new(&set, work_rows(alloc, jobs)?)?;
+    let places = ticks as usize + work.rows().len();
+    let core = Core::new(alloc, set, rule, places)?;
+    let plan = Plan::Rows {
+        work,
+        ticks: u64::from(ticks),
+    };
+    Ok(Floor::new(core, plan))
+}
+
+// The answer to a release of the task, if it is in the set.
+fn release(floor: &mut Floor, task: u32) -> Option<Result<Released, ActFault<ReleaseFault>>> {
+    floor.core().set().get(TaskNo(task))?;
+    Some(floor.release(TaskNo(task)))
+}
+
+// The answer to a grant to the task, if it is in the set.
+fn grant(floor: &mut Floor, task: u32) -> Option<Result<Granted, ActFault<GrantFault>>> {
+    floor.core().set().get(TaskNo(task))?;
+    Some(floor.grant(TaskNo(task)))
+}
+
+// Whether the floor has ended as the plan says.
+fn ended_as(floor: &Floor, plan: &WorkedPlan) -> bool {
+    let core = floor.core();
+    core.rule() == plan.rule && core.rows() == plan.rows && floor.next_act() == Act::Finished
+}
+
+#[test]
+fn runs_give_the_rows_that_were_worked_by_hand(rt: HostRuntime) -> Result<(), Fail> {
+    for plan in PLANS {
+        let mut floor = floor(rt.alloc(), plan.lines, plan.jobs, plan.ticks)?;
+        floor.finish();
+        assert!(rt; ended_as(&floor, &plan), "{}", plan.shows);
+    }
+    Ok(())
+}
+
+// A call of a floor.
+#[derive(Clone, Copy, Debug, PartialEq, Eq)]
+enum Call {
+    Next,
+    Release(u32),
+    Grant(u32),
+    Outcome(JobId, bool),
+    Idle,
+    Finish,
+}
+
+// What it answers.
+#[derive(Clone, Copy, Debug, PartialEq, Eq)]
+enum Answer {
+    Next(Act),
+    Released(Option<Result<Released, ActFault<ReleaseFault>>>),
+    Granted(Option<Result<Granted, ActFault<GrantFault>>>),
+    Outcome(Result<How, NotOut>),
+    Idle(Result<u64, ActFault<IdleFault>>),
+    Finished(Option<()>),
+}
+
+fn ask(floor: &mut Floor, call: Call) -> Answer {
+    match call {
+        Call::Next => Answer::Next(floor.next_act()),
+        Call::Release(task) => Answer::Released(release(floor, task)),
+        Call::Grant(task) => Answer::Granted(grant(floor, task)),
+        Call::Outcome(job, done) => Answer::Outcome(floor.outcome(job, done)),
+        Call::Idle => Answer::Idle(floor.idle()),
+        Call::Finish => Answer::Finished(finished(floor)),
+    }
+}
+
+const DUE_CTL: PlanFault = PlanFault::Due { task: TaskNo(1) };
+
+const DUE_LOG: PlanFault = PlanFault::Due { task: TaskNo(2) };
+
+// The calls of the plan with a release that is held, and their answers.
+fn held_release() -> [(Call, Answer); 18] {
+    [
+        (Call::Next, Answer::Next(Act::Release(TaskNo(1)))),
+        (
+            Call::Grant(1),
+            Answer::Granted(Some(Err(ActFault::Plan(DUE_CTL)))),
+        ),
+        (Call::Idle, Answer::Idle(Err(ActFault::Plan(DUE_CTL)))),
+        (
+            Call::Release(2),
+            Answer::Released(Some(Err(ActFault::Plan(DUE_CTL)))),
+        ),
+        (
+            Call::Release(1),
+            Answer::Released(Some(Ok(Released::Kept {
+                job: job!(1, 1),
+                at: 0,
+            }))),
+        ),
+        (Call::Next, Answer::Next(Act::Grant(TaskNo(1)))),
+        (
+            Call::Release(2),
+            Answer::Released(Some(Err(ActFault::Plan(PlanFault::NotPlanned)))),
+        ),
+        (
+            Call::Grant(1),
+            Answer::Granted(Some(Ok(Granted {
+                job: job!(1, 1),
+                at: 0,
+                before: 0,
+            }))),
+        ),
+        (Call::Outcome(job!(1, 1), false), Answer::Outcome(Ok(More))),
+        (
+            Call::Grant(1),
+            Answer::Granted(Some(Ok(Granted {
+                job: job!(1, 1),
+                at: 1,
+                before: 1,
+            }))),
+        ),
+        (Call::Next, Answer::Next(Act::Release(TaskNo(2)))),
+        (
+            Call::Grant(2),
+            Answer::Granted(Some(Err(ActFault::Plan(DUE_LOG)))),
+        ),
+        (
+            Call::Release(2),
+            Answer::Released(Some(Ok(Released::Held {
+                job: job!(2, 1),
+                at: 2,
+            }))),
+        ),
+        (Call::Next, Answer::Next(Act::Wait(job!(1, 1)))),
+        (Call::Outcome(job!(1, 1), false), Answer::Outcome(Ok(Over))),
+        (Call::Finish, Answer::Finished(Some(()))),
+        (
+            Call::Idle,
+            Answer::Idle(Err(ActFault::Plan(PlanFault::Finished))),
+        ),
+        (
+            Call::Grant(1),
+            Answer::Granted(Some(Err(ActFault::Plan(PlanFault::Finished)))),
+        ),
+    ]
+}
+
+#[test]
+fn the_calls_of_a_planned_floor_are_answered_in_turn(rt: HostRuntime) -> Result<(), Fail> {
+    let mut floor = floor(rt.alloc(), &CONTROL, &HELD_RELEASE_WORK, 4)?;
+    assert!(rt; floor.is_planned());
+    for (call, answer) in held_release() {
+        assert_eq!(rt; ask(&mut floor, call), answer, "{call:?}");
+    }
+    assert_eq!(rt; floor.core().rows(), &HELD_RELEASE_ROWS[..]);
+    Ok(())
+}
+
+// Finishes the plan, where it is one and no tick is out.
+fn finished(floor: &mut Floor) -> Option<()> {
+    if floor.core().out().is_some() || !floor.is_planned() {
+        return None;
+    }
+    floor.finish();
+    Some(())
+}
+
+// The calls of a floor with no plan, and their answers.
+fn free_calls() -> [(Call, Answer); 10] {
+    let too_soon = ReleaseFault::TooSoon { next: 11 };
+    let chosen = GrantFault::NotChosen {
+        chosen: Some(job!(2, 1)),
+    };
+    let out = IdleFault::TickOut { job: job!(2, 1) };
+    [
+        (Call::Next, Answer::Next(Act::Idle)),
+        (Call::Idle, Answer::Idle(Ok(0))),
+        (
+            Call::Release(2),
+            Answer::Released(Some(Ok(Released::Kept {
+                job: job!(2, 1),
+                at: 1,
+            }))),
+        ),
+        (
+            Call::Release(2),
+            Answer::Released(Some(Err(ActFault::Core(too_soon)))),
+        ),
+        (
+            Call::Grant(1),
+            Answer::Granted(Some(Err(ActFault::Core(chosen)))),
+        ),
+        (
+            Call::Grant(2),
+            Answer::Granted(Some(Ok(Granted {
+                job: job!(2, 1),
+                at: 1,
+                before: 0,
+            }))),
+        ),
+        (Call::Next, Answer::Next(Act::Wait(job!(2, 1)))),
+        (Call::Idle, Answer::Idle(Err(ActFault::Core(out)))),
+        (Call::Outcome(job!(2, 1), true), Answer::Outcome(Ok(Done))),
+        (Call::Next, Answer::Next(Act::Idle)),
+    ]
+}
+
+#[test]
+fn a_free_floor_answers_as_its_core_does(rt: HostRuntime) -> Result<(), Fail> {
+    let alloc = rt.alloc();
+    let set = set_of(alloc, &CONTROL)?;
+    let rule = admit(&sum_loads(&set)?).ok_or("not admitted")?;
+    let core = Core::new(alloc, set, rule, 4)?;
+    let mut floor = Floor::new(core, Plan::Free);
+    assert!(rt; !floor.is_planned());
+    for (call, answer) in free_calls() {
+        assert_eq!(rt; ask(&mut floor, call), answer, "{call:?}");
+    }
+    Ok(())
+}

@@ -1,0 +1,49 @@
+use demand_law::{low_mode_law, no_over_law, one_live_law, plain_law, switch_law};
+use mc_task::Rule;
+use std::test::Fail;
+use worked_sets::{
+    CONTROL, OVERRUN_ROWS, PLAIN_PAIR, PLAIN_PAIR_ROWS, QUARTER_SCALE, QUARTER_SCALE_ROWS,
+    TAP_AND_ARM, TAP_AND_ARM_ROWS, set_of,
+};
+
+// A high job goes past its low budget under EDF, where nothing switches.
+#[test]
+fn under_plain_edf_no_job_is_late(rt: HostRuntime) -> Result<(), Fail> {
+    let set = set_of(rt.alloc(), &PLAIN_PAIR)?;
+    plain_law(&set, Rule::Plain, &PLAIN_PAIR_ROWS);
+    one_live_law(&set, Rule::Plain, &PLAIN_PAIR_ROWS);
+    no_over_law(&set, Rule::Plain, &PLAIN_PAIR_ROWS);
+    Ok(())
+}
+
+// The virtual deadline of the high job is four and a half ticks, before the five of the low one.
+#[test]
+fn in_low_mode_no_virtual_deadline_is_due(rt: HostRuntime) -> Result<(), Fail> {
+    let set = set_of(rt.alloc(), &QUARTER_SCALE)?;
+    let quarter = Rule::Virtual { p: 1, q: 4 };
+    low_mode_law(&set, quarter, &QUARTER_SCALE_ROWS);
+    switch_law(&set, quarter, &QUARTER_SCALE_ROWS);
+    one_live_law(&set, quarter, &QUARTER_SCALE_ROWS);
+    no_over_law(&set, quarter, &QUARTER_SCALE_ROWS);
+    Ok(())
+}
+
+// The high job overruns, the low one is discarded, and the mode is low again after an idle tick.
+#[test]
+fn an_overrun_and_the_return_leave_no_job_late(rt: HostRuntime) -> Result<(), Fail> {
+    let set = set_of(rt.alloc(), &CONTROL)?;
+    let two_fifths = Rule::Virtual { p: 2, q: 5 };
+    switch_law(&set, two_fifths, &OVERRUN_ROWS);
+    one_live_law(&set, two_fifths, &OVERRUN_ROWS);
+    Ok(())
+}
+
+// The job that overruns ends in the last tick before its deadline.
+#[test]
+fn a_deadline_is_met_exactly_in_high_mode(rt: HostRuntime) -> Result<(), Fail> {
+    let set = set_of(rt.alloc(), &TAP_AND_ARM)?;
+    let half = Rule::Virtual { p: 1, q: 2 };
+    switch_law(&set, half, &TAP_AND_ARM_ROWS);
+    one_live_law(&set, half, &TAP_AND_ARM_ROWS);
+    Ok(())
+}

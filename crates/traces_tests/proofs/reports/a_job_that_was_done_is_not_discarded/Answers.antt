@@ -1,0 +1,10 @@
+use Rattle.std.proofs.Common.{refl, lit≤}
+use Rattle.mc_task.specs.declared.task.Rule.TheVariants.{Virtual}
+use Rattle.mc_model.proofs.Decided.{decided_runs, decided_trace}
+use Rattle.traces_tests.proofs.reports.a_job_that_was_done_is_not_discarded.Goals as goal
+
+pub report-requires : goal.report-requires
+report-requires g c = record { runs = decided_runs _ refl; trace = rw c.in_ok-set.ensures (decided_trace _ (Virtual 1 2) _ (lit≤ tt, lit≤ tt, lit≤ tt) refl) }
+
+pub summary-requires : goal.summary-requires
+summary-requires g c = record { runs = decided_runs _ refl; trace = rw c.in_ok-set.ensures (decided_trace _ (Virtual 1 2) _ (lit≤ tt, lit≤ tt, lit≤ tt) refl) }

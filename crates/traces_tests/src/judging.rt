@@ -1,0 +1,492 @@
+ghost use Rattle.std.specs.Prelude.{◌≡◌, ◌<◌, ◌≤◌, ◌^◌, IsTrue, All};
+ghost use Rattle.mc_model.specs.Holds.{Fits};
+ghost use Rattle.mc_model.specs.Sums.{total};
+ghost use Rattle.mc_model.specs.Runs.{length_of, IsRun, AreRuns, IsRunOfSet};
+
+// Verdicts in a few words. They are macros, since a constant's value cannot call a function.
+macro_rules! illegal {
+    ($row:expr, $why:expr) => {
+        Verdict::Illegal {
+            place: $row,
+            why: $why,
+        }
+    };
+}
+
+macro_rules! late {
+    ($late:expr, $task:expr, $count:expr) => {
+        Verdict::Legal {
+            late: $late,
+            first: Some(job!($task, $count)),
+        }
+    };
+}
+
+mod many;
+mod watched;
+
+use mc_model::{How, Run, Verdict, Why};
+use mc_task::Level::{High, Low};
+use mc_task::{JobId, Rule, TaskSet};
+use std::alloc::Global;
+use std::test::Fail;
+use trace_judge::judge;
+use worked_sets::{CONTROL, Line, PLAIN_PAIR, job, set_of};
+
+// The rule of the test for `CONTROL`.
+const SCALED: Rule = Rule::Virtual { p: 2, q: 5 };
+
+const UNSCALED: Rule = Rule::Virtual { p: 1, q: 1 };
+
+// No rule holds for it.
+const OVERLOAD: [Line; 2] = [("a", Low, 1, 1, 1), ("b", Low, 1, 1, 1)];
+
+// A low task with a short period beside two high ones.
+const SHORT_LOW: [Line; 3] = [
+    ("log", Low, 2, 2, 2),
+    ("ctl", High, 10, 1, 3),
+    ("fix", High, 10, 2, 3),
+];
+
+// How a tick ends, by its word.
+fn how(word: &str) -> Option<How> {
+    match word {
+        "more" => Some(How::More),
+        "done" => Some(How::Done),
+        "stop" => Some(How::Stop),
+        "over" => Some(How::Over),
+        _ => None,
+    }
+}
+
+// The run of this event of a job.
+fn run_of(event: &str, job: JobId, word: &str, length: u32) -> Option<Run> {
+    match event {
+        "release" if word == "kept" => Some(Run::Release { job, kept: true }),
+        "release" if word == "dropped" => Some(Run::Release { job, kept: false }),
+        "tick" => Some(Run::Ticks {
+            job,
+            how: how(word)?,
+            length,
+        }),
+        _ => None,
+    }
+}
+
+// The number that a text says.
+fn number(text: &str) -> Option<u32> {
+    text.parse::<u32>().ok()
+}
+
+// The run that a text says: `idle` or `idle` and a length; or an event, a task's name, a job's count, a word and, where
+// it is not 1, a length.
+fn run(set: &TaskSet, text: &str) -> Option<Run> {
+    let (event, rest) = text.split_once(' ').unwrap_or((text, "1"));
+    if event == "idle" {
+        let length = number(rest)?;
+        return Some(Run::Idles { length });
+    }
+    let (name, rest) = rest.split_once(' ')?;
+    let (count, rest) = rest.split_once(' ')?;
+    let (word, length) = rest.split_once(' ').unwrap_or((rest, "1"));
+    let task = set.find(name.as_bytes())?;
+    let count = number(count)?;
+    run_of(event, JobId { task, count }, word, number(length)?)
+}
+
+// The runs of a text.
+fn runs_of(alloc: Global, set: &TaskSet, text: &str) -> Result<Vec<Run>, Fail> {
+    let mut runs = Vec::new(alloc);
+    for part in text.split(", ") {
+        runs.push(run(set, part).ok_or("a run")?)?;
+    }
+    Ok(runs)
+}
+
+// Whether the run's task is in the set.
+fn is_of_set(set: &TaskSet, run: &Run) -> bool
+    ensures { IsTrue result → IsRunOfSet set.now.tasks run.now }
+{
+    match run {
+        Run::Release { job, .. } => set.get(job.task).is_some(),
+        Run::Ticks { job, .. } => set.get(job.task).is_some(),
+        Run::Idles { .. } => true,
+    }
+}
+
+fn are_of_set(set: &TaskSet, runs: &[Run]) -> bool
+    ensures { IsTrue result → All (IsRunOfSet set.now.tasks) runs.now }
+{
+    runs.iter().all(|run| is_of_set(set, run))
+}
+
+fn is_run(run: &Run) -> bool
+    ensures { IsTrue result → IsRun run.now }
+{
+    match run {
+        Run::Release { .. } => true,
+        Run::Ticks { how, length, .. } => match how {
+            How::More => *length >= 1,
+            How::Done | How::Stop | How::Over => *length == 1,
+        },
+        Run::Idles { length } => *length >= 1,
+    }
+}
+
+fn length_of(run: &Run) -> u64
+    ensures length { result ≡ length_of run.now }
+    ensures short { result < 2 ^ 32 }
+{
+    match run {
+        Run::Release { .. } => 0,
+        Run::Ticks { length, .. } => u64::from(*length),
+        Run::Idles { length } => u64::from(*length),
+    }
+}
+
+fn has_few_ticks(runs: &[Run]) -> bool
+    ensures { IsTrue result → total length_of runs.now ≤ 100000000 }
+{
+    let mut ticks = 0;
+    for run in runs {
+        if ticks > 100_000_000 {
+            return false;
+        }
+        ticks += length_of(run);
+    }
+    ticks <= 100_000_000
+}
+
+fn are_runs(runs: &[Run]) -> bool
+    ensures { IsTrue result → AreRuns runs.now }
+{
+    runs.len() <= 2_000_000 && runs.iter().all(is_run) && has_few_ticks(runs)
+}
+
+fn fits(rule: Rule) -> bool
+    ensures { IsTrue result → Fits rule }
+{
+    match rule {
+        Rule::Plain => true,
+        Rule::Virtual { p, q } => 1 <= p && p <= q && q <= 1 << 60,
+    }
+}
+
+// The verdict on these runs.
+fn judged(alloc: Global, set: &TaskSet, rule: Rule, runs: &[Run]) -> Result<Verdict, Fail> {
+    if !fits(rule) || !are_of_set(set, runs) || !are_runs(runs) {
+        return Err(Fail::from("runs of the set"));
+    }
+    Ok(judge(alloc, set, rule, runs)?)
+}
+
+// The verdict on the runs of a text.
+fn verdict(alloc: Global, set: &TaskSet, rule: Rule, text: &str) -> Result<Verdict, Fail> {
+    let runs = runs_of(alloc, set, text)?;
+    judged(alloc, set, rule, &runs)
+}
+
+// The first of the texts on which the verdict is another than is told beside it, and the verdict.
+fn first_wrong<'a>(
+    alloc: Global,
+    lines: &[Line],
+    rule: Rule,
+    table: &[(&'a str, Verdict)],
+) -> Result<Option<(&'a str, Verdict)>, Fail> {
+    let set = set_of(alloc, lines)?;
+    for (text, expected) in table {
+        let got = verdict(alloc, &set, rule, text)?;
+        if got != *expected {
+            return Ok(Some((*text, got)));
+        }
+    }
+    Ok(None)
+}
+
+const IN_TIME: Verdict = Verdict::Legal {
+    late: 0,
+    first: None,
+};
+
+const FIRST_MISFITS: [(&str, Verdict); 15] = [
+    (
+        "release log 1 kept, tick log 1 done, release log 2 kept",
+        illegal!(3, Why::TooSoon),
+    ),
+    ("release ctl 2 kept", illegal!(1, Why::WrongCount)),
+    ("release ctl 1 dropped", illegal!(1, Why::WrongKept)),
+    ("tick ctl 1 more", illegal!(1, Why::NotPending)),
+    (
+        "release ctl 1 kept, release log 1 kept, tick log 1 more",
+        illegal!(3, Why::NotLeast),
+    ),
+    (
+        "release ctl 1 kept, tick ctl 1 more, tick ctl 1 more",
+        illegal!(3, Why::WrongHow),
+    ),
+    // The same in one run.
+    (
+        "release ctl 1 kept, tick ctl 1 more 2",
+        illegal!(3, Why::WrongHow),
+    ),
+    ("release ctl 1 kept, idle", illegal!(2, Why::IdlePending)),
+    (
+        "release ctl 1 kept, release log 1 kept, tick ctl 1 more, tick ctl 1 over, tick log 1 more",
+        illegal!(5, Why::NotPending),
+    ),
+    (
+        "release ctl 1 kept, tick ctl 1 more, tick ctl 1 over, tick ctl 1 done, idle, release log 1 dropped",
+        illegal!(6, Why::WrongKept),
+    ),
+    (
+        "release log 1 kept, tick log 1 more, tick log 1 more, tick log 1 more, tick log 1 more, tick log 1 over",
+        illegal!(6, Why::WrongHow),
+    ),
+    // The same in one run.
+    (
+        "release log 1 kept, tick log 1 more 4, tick log 1 over",
+        illegal!(6, Why::WrongHow),
+    ),
+    (
+        "release ctl 1 kept, tick ctl 1 more, tick ctl 1 over, release log 1 kept",
+        illegal!(4, Why::WrongKept),
+    ),
+    (
+        "release log 1 kept, tick log 1 done, tick log 1 more",
+        illegal!(3, Why::NotPending),
+    ),
+    ("release ctl 1 kept, tick ctl 1 done, idle", IN_TIME),
+];
+
+#[test]
+fn the_first_row_that_does_not_fit_is_told(rt: HostRuntime) -> Result<(), Fail> {
+    assert_eq!(rt;
+        first_wrong(rt.alloc(), &CONTROL, SCALED, &FIRST_MISFITS)?,
+        None
+    );
+    Ok(())
+}
+
+#[test]
+fn no_runs_are_legal(rt: HostRuntime) -> Result<(), Fail> {
+    let alloc = rt.alloc();
+    let set = set_of(alloc, &CONTROL)?;
+    assert_eq!(rt; judge(alloc, &set, Rule::Plain, &[])?, IN_TIME);
+    Ok(())
+}
+
+// Both jobs at once, log's five ticks first, and then ctl's six with an overrun.
+const LOG_FIRST: &str =
+    "release ctl 1 kept, release log 1 kept, tick log 1 more, tick log 1 more, tick log 1 more, tick log 1 more, tick log 1 done, tick ctl 1 more, tick ctl 1 over, tick ctl 1 more, tick ctl 1 more, tick ctl 1 more, tick ctl 1 done";
+
+// The same with four ticks of log, so that ctl ends exactly at its deadline.
+const LOG_EARLY: &str =
+    "release ctl 1 kept, release log 1 kept, tick log 1 more, tick log 1 more, tick log 1 more, tick log 1 done, tick ctl 1 more, tick ctl 1 over, tick ctl 1 more, tick ctl 1 more, tick ctl 1 more, tick ctl 1 done";
+
+const BY_A_TICK: [(&str, Verdict); 2] = [(LOG_FIRST, late!(1, 1, 1)), (LOG_EARLY, IN_TIME)];
+
+#[test]
+fn a_job_is_late_by_a_tick(rt: HostRuntime) -> Result<(), Fail> {
+    let alloc = rt.alloc();
+    let log_waits = [(LOG_FIRST, illegal!(3, Why::NotLeast))];
+    assert_eq!(rt; first_wrong(alloc, &CONTROL, UNSCALED, &BY_A_TICK)?, None);
+    assert_eq!(rt; first_wrong(alloc, &CONTROL, SCALED, &log_waits)?, None);
+    Ok(())
+}
+
+const SEVERAL_PENDING: [(&str, Verdict); 4] = [
+    (
+        "release a 1 kept, release b 1 kept, tick a 1 done",
+        late!(1, 2, 1),
+    ),
+    (
+        "release a 1 kept, release b 1 kept, tick a 1 done, release a 2 kept, release b 2 kept, tick b 1 done, release a 3 kept, release b 3 kept, tick a 2 done, release a 4 kept, release b 4 kept, tick b 2 done",
+        late!(7, 2, 1),
+    ),
+    (
+        "release a 1 kept, release b 1 kept, tick b 1 done, release a 2 kept, release b 2 kept, tick a 2 done",
+        illegal!(6, Why::NotLeast),
+    ),
+    (
+        "release a 1 kept, release b 1 kept, tick b 1 done, release a 2 kept, tick a 1 stop, release a 3 kept, tick a 1 stop",
+        illegal!(7, Why::NotPending),
+    ),
+];
+
+#[test]
+fn several_jobs_of_a_task_are_pending(rt: HostRuntime) -> Result<(), Fail> {
+    assert_eq!(rt;
+        first_wrong(rt.alloc(), &OVERLOAD, UNSCALED, &SEVERAL_PENDING)?,
+        None
+    );
+    Ok(())
+}
+
+const DISCARDED: [(&str, Verdict); 2] = [
+    (
+        "release log 1 kept, release ctl 1 kept, tick ctl 1 done, release fix 1 kept, tick fix 1 more, tick fix 1 over",
+        late!(1, 1, 1),
+    ),
+    (
+        "release log 1 kept, release fix 1 kept, tick fix 1 more, tick fix 1 over",
+        IN_TIME,
+    ),
+];
+
+#[test]
+fn a_discarded_job_is_late_where_its_deadline_came_first(rt: HostRuntime) -> Result<(), Fail> {
+    assert_eq!(rt;
+        first_wrong(
+            rt.alloc(),
+            &SHORT_LOW,
+            Rule::Virtual { p: 1, q: 10 },
+            &DISCARDED
+        )?,
+        None
+    );
+    Ok(())
+}
+
+const PLAIN: [(&str, Verdict); 2] = [
+    (
+        "release hi 1 kept, release lo 1 kept, tick hi 1 more, tick hi 1 done, tick lo 1 more, tick lo 1 done",
+        IN_TIME,
+    ),
+    (
+        "release hi 1 kept, tick hi 1 over",
+        illegal!(2, Why::WrongHow),
+    ),
+];
+
+#[test]
+fn plain_edf_never_switches(rt: HostRuntime) -> Result<(), Fail> {
+    assert_eq!(rt;
+        first_wrong(rt.alloc(), &PLAIN_PAIR, Rule::Plain, &PLAIN)?,
+        None
+    );
+    Ok(())
+}
+
+// Two tasks, each with a deadline of 10 ticks, of which one may take 50.
+const TWO_OF_TEN: [Line; 2] = [("long", Low, 10, 50, 50), ("b", Low, 10, 1, 1)];
+
+const WITHIN_RUNS: [(&str, Verdict); 11] = [
+    (
+        "release log 1 kept, tick log 1 more 5",
+        illegal!(6, Why::WrongHow),
+    ),
+    (
+        "release log 1 kept, tick log 1 more 1000, idle",
+        illegal!(6, Why::WrongHow),
+    ),
+    ("release log 1 kept, tick log 1 more 4", IN_TIME),
+    (
+        "release log 1 kept, tick log 1 more 4, tick log 1 stop, idle 5, release log 2 kept, tick log 2 more 4, tick log 2 more 1",
+        illegal!(17, Why::WrongHow),
+    ),
+    // The own budget of a high job in high mode.
+    (
+        "release ctl 1 kept, tick ctl 1 more, tick ctl 1 over, tick ctl 1 more 4",
+        illegal!(7, Why::WrongHow),
+    ),
+    (
+        "release ctl 1 kept, tick ctl 1 more, tick ctl 1 over, tick ctl 1 more 3, tick ctl 1 stop",
+        IN_TIME,
+    ),
+    (
+        "idle 20, release ctl 1 kept, idle 7",
+        illegal!(22, Why::IdlePending),
+    ),
+    ("idle 20, tick ctl 1 more", illegal!(21, Why::NotPending)),
+    (
+        "idle 7, release ctl 1 kept, release log 1 kept, tick log 1 more 3",
+        illegal!(10, Why::NotLeast),
+    ),
+    // A release in the midst of idle ticks is too soon by one.
+    (
+        "release log 1 kept, tick log 1 done, idle 8, release log 2 kept",
+        illegal!(11, Why::TooSoon),
+    ),
+    (
+        "release log 1 kept, tick log 1 done, idle 9, release log 2 kept",
+        IN_TIME,
+    ),
+];
+
+#[test]
+fn the_row_within_a_run_is_told(rt: HostRuntime) -> Result<(), Fail> {
+    assert_eq!(rt;
+        first_wrong(rt.alloc(), &CONTROL, SCALED, &WITHIN_RUNS)?,
+        None
+    );
+    Ok(())
+}
+
+const PASSED_WITHIN_RUNS: [(&str, Verdict); 4] = [
+    (
+        "release long 1 kept, release b 1 kept, tick long 1 more 9",
+        IN_TIME,
+    ),
+    (
+        "release long 1 kept, release b 1 kept, tick long 1 more 10",
+        late!(2, 1, 1),
+    ),
+    (
+        "release b 1 kept, release long 1 kept, tick long 1 more 49, tick long 1 stop, tick b 1 done",
+        late!(2, 2, 1),
+    ),
+    (
+        "release long 1 kept, tick long 1 more 9, tick long 1 done, idle 1000, release b 1 kept, tick b 1 done",
+        IN_TIME,
+    ),
+];
+
+#[test]
+fn deadlines_pass_within_a_run(rt: HostRuntime) -> Result<(), Fail> {
+    assert_eq!(rt;
+        first_wrong(rt.alloc(), &TWO_OF_TEN, Rule::Plain, &PASSED_WITHIN_RUNS)?,
+        None
+    );
+    Ok(())
+}
+
+const BACK_IN_LOW_MODE: [(&str, Verdict); 3] = [
+    (
+        "release ctl 1 kept, tick ctl 1 more, tick ctl 1 over, tick ctl 1 done, idle 1, release log 1 kept",
+        IN_TIME,
+    ),
+    (
+        "release ctl 1 kept, tick ctl 1 more, tick ctl 1 over, tick ctl 1 done, idle 9, release log 1 dropped",
+        illegal!(14, Why::WrongKept),
+    ),
+    (
+        "release ctl 1 kept, tick ctl 1 more, tick ctl 1 over, tick ctl 1 more 3, release log 1 kept",
+        illegal!(7, Why::WrongKept),
+    ),
+];
+
+#[test]
+fn the_mode_is_low_behind_an_idle_run(rt: HostRuntime) -> Result<(), Fail> {
+    assert_eq!(rt;
+        first_wrong(rt.alloc(), &CONTROL, SCALED, &BACK_IN_LOW_MODE)?,
+        None
+    );
+    Ok(())
+}
+
+const LONG_RUNS: [(&str, Verdict); 2] = [
+    ("idle 100000000", IN_TIME),
+    (
+        "idle 99999998, release ctl 1 kept, tick ctl 1 more 2",
+        illegal!(100_000_001, Why::WrongHow),
+    ),
+];
+
+#[test]
+fn a_run_of_100_million_ticks_is_one_step(rt: HostRuntime) -> Result<(), Fail> {
+    assert_eq!(rt;
+        first_wrong(rt.alloc(), &CONTROL, SCALED, &LONG_RUNS)?,
+        None
+    );
+    Ok(())
+}

@@ -1,0 +1,9 @@
+//! Tests of what is said of a trace: the judge and its monitor, charts and reports.
+#![tactic(auto)]
+
+#[cfg(test)]
+mod charts;
+#[cfg(test)]
+mod judging;
+#[cfg(test)]
+mod reports;
