@@ -1,5 +1,5 @@
 use crate::{TaskFault, print_tasks, read_tasks};
-use mc_task::{Level, Scale, TaskNo, TaskSet};
+use mc_task::{Level, Name, Scale, Task, TaskNo, TaskSet};
 use std::alloc::{AllocError, Global};
 use std::test::Fail;
 
@@ -18,19 +18,29 @@ period = 10
 low = 5
 ";
 
-// The refusal's text, with the key that it shows, or `ok`.
-fn outcome(alloc: Global, bytes: &[u8]) -> Result<String, AllocError> {
-    let fault = match read_tasks(alloc, bytes) {
-        Ok(_) => return String::from_str(alloc, "ok"),
-        Err(fault) => fault,
-    };
-    match &fault {
+// The refusal's text, with the key that it shows.
+fn refusal(alloc: Global, fault: &TaskFault) -> Result<String, AllocError> {
+    match fault {
         TaskFault::TopKey { key } | TaskFault::KeyUnknown { key, .. } => {
             let key = String::from_utf8_lossy(alloc, key.bytes())?;
             format!(in alloc; "{fault} {key}")
         }
         _ => format!(in alloc; "{fault}"),
     }
+}
+
+// Why the file is refused, if it is.
+fn fault_of(alloc: Global, bytes: &[u8]) -> Option<TaskFault> {
+    read_tasks(alloc, bytes).err()
+}
+
+// Whether the file is answered so: by its refusal's text, or by `ok`.
+fn is_answered(alloc: Global, bytes: &[u8], expected: &str) -> Result<bool, AllocError> {
+    let Some(fault) = fault_of(alloc, bytes) else {
+        return Ok(expected == "ok");
+    };
+    let text = refusal(alloc, &fault)?;
+    Ok(text.as_str() == expected)
 }
 
 // Files, each with its first fault.
@@ -100,17 +110,24 @@ const DOCUMENTS: [(&str, &str); 36] = [
     ),
 ];
 
+// Whether the tasks are answered so in a file of this version.
+fn is_answered_in(alloc: Global, version: u32, expected: &str) -> Result<bool, AllocError> {
+    let text = format!(in alloc; "version = {version}\n{CONTROL}")?;
+    is_answered(alloc, text.as_bytes(), expected)
+}
+
 #[test]
 fn the_first_fault_of_a_document_is_the_answer(rt: HostRuntime) -> Result<(), Fail> {
     let alloc = rt.alloc();
-    for (text, expected) in DOCUMENTS {
-        let got = outcome(alloc, text.as_bytes())?;
-        assert_eq!(rt; got.as_str(), expected, "{text}");
+    for (text, expected) in &DOCUMENTS {
+        assert!(rt; is_answered(alloc, text.as_bytes(), expected)?, "{text}");
     }
-    assert_eq!(rt; outcome(alloc, &[b'#', 0xFF])?.as_str(), "not TOML");
+    assert!(rt; is_answered(alloc, &[b'#', 0xFF], "not TOML")?);
     for (version, expected) in [(1, "ok"), (2, "ok"), (3, "unknown version")] {
-        let text = format!(in alloc; "version = {version}\n{CONTROL}")?;
-        assert_eq!(rt; outcome(alloc, text.as_bytes())?.as_str(), expected);
+        assert!(rt;
+            is_answered_in(alloc, version, expected)?,
+            "version {version}"
+        );
     }
     Ok(())
 }
@@ -146,36 +163,47 @@ name = 'a', level = 'high', period = 1, low = 3, high = 3 => ok
  => task 1: missing key Name
 ";
 
+// Whether the file of one task is answered as the line says.
+fn is_line_answered(alloc: Global, line: &str) -> Result<bool, AllocError> {
+    let Some((fields, expected)) = line.split_once(" => ") else {
+        return Ok(false);
+    };
+    let text = format!(in alloc; "task = [{{{fields}}}]")?;
+    is_answered(alloc, text.as_bytes(), expected)
+}
+
 #[test]
 fn the_first_fault_of_a_task_is_the_answer(rt: HostRuntime) -> Result<(), Fail> {
     let alloc = rt.alloc();
     for line in TASKS.lines() {
-        let (fields, expected) = line.split_once(" => ").ok_or(line)?;
-        let text = format!(in alloc; "task = [{{{fields}}}]")?;
-        let got = outcome(alloc, text.as_bytes())?;
-        assert_eq!(rt; got.as_str(), expected, "{fields}");
+        assert!(rt; is_line_answered(alloc, line)?, "{line}");
     }
     Ok(())
 }
 
-// So many low tasks with different names.
-fn many_tasks(alloc: Global, count: u32) -> Result<String, AllocError> {
-    let mut text = String::new(alloc);
+// That many low tasks with different names, after the head of their file.
+fn many_tasks(alloc: Global, head: &str, count: u32) -> Result<String, AllocError> {
+    let mut text = String::from_str(alloc, head)?;
     for k in 0..count {
-        let task = format!(in alloc;
-            "[[task]]\nname = 't{k}'\nlevel = 'low'\nperiod = 10\nlow = 1\n"
-        )?;
-        text.push_str(task.as_str())?;
+        push_task(alloc, &mut text, k)?;
     }
     Ok(text)
+}
+
+fn push_task(alloc: Global, text: &mut String, k: u32) -> Result<(), AllocError> {
+    let task = format!(in alloc; "[[task]]\nname = 't{k}'\nlevel = 'low'\nperiod = 10\nlow = 1\n")?;
+    text.push_str(task.as_str())
 }
 
 #[test]
 fn a_file_has_at_most_128_tasks(rt: HostRuntime) -> Result<(), Fail> {
     let alloc = rt.alloc();
     for (count, expected) in [(128, "ok"), (129, "TooMany { count: 129 }")] {
-        let text = many_tasks(alloc, count)?;
-        assert_eq!(rt; outcome(alloc, text.as_bytes())?.as_str(), expected);
+        let text = many_tasks(alloc, "", count)?;
+        assert!(rt;
+            is_answered(alloc, text.as_bytes(), expected)?,
+            "{count} tasks"
+        );
     }
     Ok(())
 }
@@ -197,68 +225,69 @@ name = \"log\"
 period = 10
 ";
 
-// The task's name, level, period, low and high.
-fn task_line(alloc: Global, set: &TaskSet, task: u32) -> Result<String, AllocError> {
-    let Some(task) = set.get(TaskNo(task)) else {
-        return String::from_str(alloc, "none");
-    };
-    let name = String::from_utf8_lossy(alloc, task.name.bytes())?;
-    let level = match task.level {
-        Level::Low => "low",
-        Level::High => "high",
-    };
-    format!(in alloc; "{name} {level} {} {} {}", task.period, task.low, task.high)
+// The set's file, and the set that is read from it.
+fn printed(alloc: Global, set: &TaskSet) -> Result<(Vec<u8>, TaskSet), Fail> {
+    let text = print_tasks(alloc, set)?;
+    let back = read_tasks(alloc, &text)?;
+    Ok((text, back))
+}
+
+fn task(name: &str, level: Level, period: u32, low: u32, high: u32) -> Option<Task> {
+    let name = Name::new(name.as_bytes())?;
+    Some(Task {
+        name,
+        level,
+        period,
+        low,
+        high,
+    })
+}
+
+// Whether the set has the two tasks of `CONTROL` and no third one.
+fn is_control(set: &TaskSet) -> bool {
+    set.get(TaskNo(1)) == task("ctl", Level::High, 10, 2, 6)
+        && set.get(TaskNo(2)) == task("log", Level::Low, 10, 5, 5)
+        && set.get(TaskNo(3)).is_none()
 }
 
 #[test]
 fn a_printed_set_is_read_back(rt: HostRuntime) -> Result<(), Fail> {
     let alloc = rt.alloc();
     let set = read_tasks(alloc, CONTROL.as_bytes())?;
-    let Ok(printed) = print_tasks(alloc, &set) else {
-        return Err("want of memory".into());
-    };
-    assert_eq!(rt; printed.as_slice(), PRINTED.as_bytes());
-    let back = read_tasks(alloc, &printed)?;
-    for (task, expected) in [(1, "ctl high 10 2 6"), (2, "log low 10 5 5"), (3, "none")] {
-        assert_eq!(rt; task_line(alloc, &set, task)?.as_str(), expected);
-        assert_eq!(rt; task_line(alloc, &back, task)?.as_str(), expected);
-    }
+    let (text, back) = printed(alloc, &set)?;
+    assert!(rt; text.as_slice() == PRINTED.as_bytes());
+    assert!(rt; is_control(&set) && is_control(&back));
     Ok(())
 }
+
+const HALF: Option<Scale> = Some(Scale { p: 1, q: 2 });
 
 #[test]
 fn a_printed_scale_is_read_back(rt: HostRuntime) -> Result<(), Fail> {
     let alloc = rt.alloc();
     let text = format!(in alloc; "version = 2\nscale = [2, 4]\n{CONTROL}")?;
-    let set = read_tasks(alloc, text.as_bytes())?;
-    assert_eq!(rt; set.scale(), Some(Scale { p: 1, q: 2 }));
-    let Ok(printed) = print_tasks(alloc, &set) else {
-        return Err("want of memory".into());
-    };
     let expected = format!(in alloc; "scale = [1, 2]\n{PRINTED}")?;
-    assert_eq!(rt; printed.as_slice(), expected.as_bytes());
-    let back = read_tasks(alloc, &printed)?;
-    assert_eq!(rt; (back.scale(), back.len()), (Some(Scale { p: 1, q: 2 }), 2));
+    let set = read_tasks(alloc, text.as_bytes())?;
+    let (text, back) = printed(alloc, &set)?;
+    assert!(rt; text.as_slice() == expected.as_bytes());
+    assert!(rt; (set.scale(), back.scale(), back.len()) == (HALF, HALF, 2));
     Ok(())
+}
+
+// Whether the task with this number is the one that `many_tasks` names by k.
+fn has_task(alloc: Global, set: &TaskSet, number: u32, k: u32) -> Result<bool, AllocError> {
+    let name = format!(in alloc; "t{k}")?;
+    Ok(set.get(TaskNo(number)) == task(name.as_str(), Level::Low, 10, 1, 1))
 }
 
 #[test]
 fn a_printed_set_of_128_tasks_is_read_back(rt: HostRuntime) -> Result<(), Fail> {
     let alloc = rt.alloc();
-    let tasks = many_tasks(alloc, 128)?;
-    let text = format!(in alloc; "version = 2\nscale = [2, 4]\n{tasks}")?;
-    let set = read_tasks(alloc, text.as_bytes())?;
-    let Ok(printed) = print_tasks(alloc, &set) else {
-        return Err("want of memory".into());
-    };
-    let back = read_tasks(alloc, &printed)?;
-    assert_eq!(rt;
-        (back.scale(), back.len()),
-        (Some(Scale { p: 1, q: 2 }), 128)
-    );
+    let text = many_tasks(alloc, "version = 2\nscale = [2, 4]\n", 128)?;
+    let (_, set) = printed(alloc, &read_tasks(alloc, text.as_bytes())?)?;
+    assert!(rt; (set.scale(), set.len()) == (HALF, 128));
     for k in 0..128u32 {
-        let expected = format!(in alloc; "t{k} low 10 1 1")?;
-        assert_eq!(rt; task_line(alloc, &back, k + 1)?.as_str(), expected.as_str());
+        assert!(rt; has_task(alloc, &set, k + 1, k)?, "task {k}");
     }
     Ok(())
 }
