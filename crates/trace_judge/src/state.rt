@@ -7,12 +7,12 @@ ghost use Rattle.trace_judge.specs.Rules.{is_due_at};
 ghost use Rattle.trace_judge.specs.Heads.{no_key};
 ghost use Rattle.trace_judge.specs.Entries.{HasQueue, HasQueues, late_job};
 ghost use Rattle.trace_judge.specs.Steps.{IsNew, note_at, release_why, Releases, GoesOn, Ends, Rests};
-ghost use Rattle.trace_judge.specs.Switch.{Ticks, rekeyed, Switches, Overruns, noted_each, is_due_entry, is_discarded_late};
+ghost use Rattle.trace_judge.specs.Switch.{rekeyed, Switches, Overruns, noted_each, is_due_entry, is_discarded_late};
 
 use crate::lates::{LateJob, Lates};
 use crate::rules::{is_due, key_at};
 use crate::waiting::{Pending, Rank, Waiting};
-use mc_model::{How, Why};
+use mc_model::Why;
 use mc_task::{JobId, Memory, Rule, Task, TaskNo, TaskSet};
 use std::alloc::Global;
 
@@ -117,38 +117,8 @@ impl State {
         self.high_mode = false;
     }
 
-    /// Follows so many ticks of a job of the task, or one that ended it or overran.
-    pub fn tick(
-        &mut self,
-        alloc: Global,
-        set: &TaskSet,
-        rule: Rule,
-        task: &Task,
-        job: JobId,
-        pending: Pending,
-        how: How,
-        length: u32,
-    ) -> Result<(), Memory>
-        requires fits { Fits rule }
-        requires task { IsIn set.now.tasks job.task.0 }
-        requires queues { HasQueues self.old.waiting set.now.tasks }
-        requires some { 1 ≤ length }
-        requires room { self.old.place + length ≤ 2 ^ 62 }
-        requires time { self.old.ticks + length ≤ 2 ^ 62 }
-        ensures follows { OnOk result (Ticks set.now.tasks rule (Some task.now) job pending how length self.old self.new) }
-        ensures unchanged { OnErr result (self.new ≡ self.old) }
-    {
-        match how {
-            How::More => self.go_on(job, length),
-            How::Done => self.end(task, job, pending),
-            How::Stop => self.end(task, job, pending),
-            How::Over => return self.overrun(alloc, set, rule, job),
-        }
-        Ok(())
-    }
-
-    // So many ticks behind which the job goes on. No job ends or is discarded at them, so that none is found late.
-    fn go_on(&mut self, job: JobId, length: u32)
+    /// Follows that many ticks after which the job goes on. No job ends or is discarded at them, so that none is found late.
+    pub fn go_on(&mut self, job: JobId, length: u32)
         requires queue { HasQueue self.old.waiting job.task.0 }
         requires room { self.old.place + length ≤ 2 ^ 62 }
         requires time { self.old.ticks + length ≤ 2 ^ 62 }
@@ -159,9 +129,10 @@ impl State {
         self.place += u64::from(length);
     }
 
-    // The last tick of a job, which is late where its deadline came before this tick. A call takes as long as a good part of it.
+    /// Follows the last tick of a job, which is late if its deadline came before this tick.
+    // Inlined: the call would cost about as much as the body.
     #[inline(always)]
-    fn end(&mut self, task: &Task, job: JobId, pending: Pending)
+    pub fn end(&mut self, task: &Task, job: JobId, pending: Pending)
         requires queue { HasQueue self.old.waiting job.task.0 }
         requires room { self.old.place < 2 ^ 62 }
         requires time { self.old.ticks < 2 ^ 62 }
@@ -175,8 +146,8 @@ impl State {
         self.place += 1;
     }
 
-    // An overrun.
-    fn overrun(
+    /// Follows an overrun.
+    pub fn overrun(
         &mut self,
         alloc: Global,
         set: &TaskSet,

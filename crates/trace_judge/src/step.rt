@@ -31,6 +31,14 @@ impl Misfit {
     }
 }
 
+// Equal ticks of a job: how each of them ended, and how many they are.
+#[derive(Clone, Copy)]
+struct JobTicks {
+    job: JobId,
+    how: How,
+    length: u32,
+}
+
 /// The first row of the run that does not fit. Where there is none, the state follows the run, in one step.
 pub fn step(
     state: &mut State,
@@ -52,7 +60,9 @@ pub fn step(
 {
     match run {
         Run::Release { job, kept } => release(state, set, rule, job, kept),
-        Run::Ticks { job, how, length } => tick(state, alloc, set, rule, job, how, length),
+        Run::Ticks { job, how, length } => {
+            tick(state, alloc, set, rule, JobTicks { job, how, length })
+        }
         Run::Idles { length } => Ok(idle(state, set, rule, length)),
     }
 }
@@ -89,26 +99,22 @@ fn tick(
     alloc: Global,
     set: &TaskSet,
     rule: Rule,
-    job: JobId,
-    how: How,
-    length: u32,
+    ticks: JobTicks,
 ) -> Result<Option<Misfit>, Memory>
     requires fits { Fits rule }
-    requires task { IsRunOfSet set.now.tasks (run.Ticks job how length) }
-    requires is_run { IsRun (run.Ticks job how length) }
+    requires task { IsRunOfSet set.now.tasks (run.Ticks ticks.job ticks.how ticks.length) }
+    requires is_run { IsRun (run.Ticks ticks.job ticks.how ticks.length) }
     requires queues { HasQueues state.old.waiting set.now.tasks }
-    requires room { state.old.place + length ≤ 2 ^ 62 }
-    requires time { state.old.ticks + length ≤ 2 ^ 62 }
-    ensures step { IfOk result (λ misfit. IsStep set.now.tasks rule (run.Ticks job how length) state.old misfit state.new) }
+    requires room { state.old.place + ticks.length ≤ 2 ^ 62 }
+    requires time { state.old.ticks + ticks.length ≤ 2 ^ 62 }
+    ensures step { IfOk result (λ misfit. IsStep set.now.tasks rule (run.Ticks ticks.job ticks.how ticks.length) state.old misfit state.new) }
     ensures misfit { IfOk result (λ misfit. IsSome misfit → state.new ≡ state.old) }
     ensures unchanged { OnErr result (state.new ≡ state.old) }
 {
-    match state.waiting.standing_of(job) {
+    match state.waiting.standing_of(ticks.job) {
         Standing::NotPending => Ok(Some(Misfit::first(Why::NotPending))),
         Standing::NotLeast => Ok(Some(Misfit::first(Why::NotLeast))),
-        Standing::Least { pending } => tick_least(
-            state, alloc, set, rule, job, how, length, pending,
-        ),
+        Standing::Least { pending } => tick_least(state, alloc, set, rule, ticks, pending),
     }
 }
 
@@ -118,23 +124,22 @@ fn tick_least(
     alloc: Global,
     set: &TaskSet,
     rule: Rule,
-    job: JobId,
-    how: How,
-    length: u32,
+    ticks: JobTicks,
     pending: Pending,
 ) -> Result<Option<Misfit>, Memory>
     requires fits { Fits rule }
-    requires task { IsRunOfSet set.now.tasks (run.Ticks job how length) }
-    requires is_run { IsRun (run.Ticks job how length) }
+    requires task { IsRunOfSet set.now.tasks (run.Ticks ticks.job ticks.how ticks.length) }
+    requires is_run { IsRun (run.Ticks ticks.job ticks.how ticks.length) }
     requires queues { HasQueues state.old.waiting set.now.tasks }
-    requires room { state.old.place + length ≤ 2 ^ 62 }
-    requires time { state.old.ticks + length ≤ 2 ^ 62 }
-    requires least { Stands state.old.waiting.entries job (standing.Least pending) }
-    ensures step { IfOk result (λ misfit. IsStep set.now.tasks rule (run.Ticks job how length) state.old misfit state.new) }
+    requires room { state.old.place + ticks.length ≤ 2 ^ 62 }
+    requires time { state.old.ticks + ticks.length ≤ 2 ^ 62 }
+    requires least { Stands state.old.waiting.entries ticks.job (standing.Least pending) }
+    ensures step { IfOk result (λ misfit. IsStep set.now.tasks rule (run.Ticks ticks.job ticks.how ticks.length) state.old misfit state.new) }
     ensures misfit { IfOk result (λ misfit. IsSome misfit → state.new ≡ state.old) }
     ensures unchanged { OnErr result (state.new ≡ state.old) }
 {
     let _is_set = set.len();
+    let JobTicks { job, how, length } = ticks;
     let task = task_in(set, job.task);
     let fit = fitting(rule, state.high_mode, task, pending.used, how, length);
     if fit < length {
@@ -143,7 +148,11 @@ fn tick_least(
             why: Why::WrongHow,
         }));
     }
-    state.tick(alloc, set, rule, task, job, pending, how, length)?;
+    match how {
+        How::More => state.go_on(job, length),
+        How::Done | How::Stop => state.end(task, job, pending),
+        How::Over => state.overrun(alloc, set, rule, job)?,
+    }
     Ok(None)
 }
 

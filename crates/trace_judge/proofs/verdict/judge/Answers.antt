@@ -1,9 +1,9 @@
-use Rattle.std.proofs.Common.{◌≡◌, ℕ, ◌+◌, ◌≤◌, List, ◌++◌, drop, take, reverse, length, Some, ap, ◌∙◌, sym, subst, arith}
+use Rattle.std.proofs.Common.{◌≡◌, ℕ, ◌+◌, ◌≤◌, List, drop, take, reverse, length, Some, ap, ◌∙◌, sym, subst, arith}
 use Rattle.std.proofs.lemmas.List.{get_or_default, take_all, take-append-drop, length-append, length-reverse}
 use Rattle.mc_model.specs.declared.row.Row.{Row}
 use Rattle.mc_model.specs.declared.run.Run.{Run}
 use Rattle.mc_model.specs.Legal.{Legal}
-use Rattle.mc_model.specs.Runs.{expand, rows_of, AreRuns}
+use Rattle.mc_model.specs.Runs.{expand, AreRuns}
 use Rattle.mc_model.specs.Verdict.{HasNoLate}
 use Rattle.mc_model.proofs.Runs.{expand-append}
 use Rattle.mc_model.proofs.Ticks.{ticks-le}
