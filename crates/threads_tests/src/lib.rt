@@ -1,9 +1,7 @@
-//! Tests of what threads share: a turnstile, a status board, an executive.
+//! Tests of what threads share: a status board and an executive.
 #![tactic(auto)]
 
 #[cfg(test)]
 mod boards;
 #[cfg(test)]
 mod executives;
-#[cfg(test)]
-mod turns;

@@ -7,6 +7,8 @@ mod closing;
 mod kept;
 mod opening;
 mod plays;
+#[cfg(test)]
+mod tests;
 mod tokens;
 mod turns;
 

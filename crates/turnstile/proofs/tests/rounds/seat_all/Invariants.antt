@@ -1,7 +1,7 @@
 use Rattle.std.proofs.Common.{◌≡◌, ℕ, ◌+◌, ◌<◌, ◌≤◌, length, vec_len, vec_capacity, All, slice_index_or}
-use Rattle.threads_tests.specs.declared.turns.counters.Player.{Player}
+use Rattle.turnstile.specs.declared.tests.counters.Player.{Player}
 use Rattle.turnstile.specs.Seats.{IsOf, AreFresh, mine}
-use Rattle.threads_tests.proofs.turns.rounds.seat_all.Given as goal
+use Rattle.turnstile.proofs.tests.rounds.seat_all.Given as goal
 
 abbrev pub invariant-loop-seat : goal.invariant-loop-seat
 invariant-loop-seat l = record {

@@ -1,5 +1,5 @@
 use Rattle.std.proofs.Common.{◌≡◌, ◌≤◌, vec_len, vec_capacity, map}
-use Rattle.threads_tests.proofs.turns.rounds.give_seats.Given as goal
+use Rattle.turnstile.proofs.tests.rounds.give_seats.Given as goal
 
 abbrev pub invariant-loop-player : goal.invariant-loop-player
 invariant-loop-player l = record {

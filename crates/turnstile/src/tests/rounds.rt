@@ -3,11 +3,11 @@ ghost use Rattle.std.specs.Prelude.{◌≡◌, ℕ, ◌+◌, ◌<◌, ◌≤◌,
 ghost use Rattle.turnstile.specs.Seats.{IsOf, AreFresh, mine, fixed_part, seats_of};
 
 use super::counters::{Counters, Player};
+use crate::{Seat, Turnstile};
 use std::alloc::Global;
 use std::process::Abort;
 use std::sync::Wait;
 use std::thread::{Threads, map_vec};
-use turnstile::{Seat, Turnstile};
 
 /// A turnstile over counters that are 0, a player for each seat, and the list that the seats came in.
 pub fn opened<R: Abort>(

@@ -1,6 +1,6 @@
 use Rattle.std.proofs.Common.{◌≡◌, ◌+◌, length}
 use Rattle.turnstile.specs.Seats.{IsOf, mine}
-use Rattle.threads_tests.proofs.turns.counters.Player.play.Given as goal
+use Rattle.turnstile.proofs.tests.counters.Player.play.Given as goal
 
 abbrev pub invariant-loop : goal.invariant-loop
 invariant-loop g l = record {

@@ -3,9 +3,9 @@ ghost use Rattle.std.specs.Prelude.{◌≡◌, ◌+◌, ◌<◌, ◌∷◌, ◌+
 ghost use Rattle.turnstile.specs.Seats.{IsOf, number, mine, fixed_part};
 ghost use Rattle.turnstile.specs.Counting.{CountsTurns};
 
+use crate::{Added, Kept, Seat, Turnstile};
 use std::marker::Brand;
 use std::sync::Wait;
-use turnstile::{Added, Kept, Seat, Turnstile};
 
 /// A counter for each seat.
 #[derive(Drop)]

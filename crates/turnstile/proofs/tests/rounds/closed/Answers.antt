@@ -5,11 +5,11 @@ use Rattle.std.proofs.lemmas.Bool.{cases_eq, eq-eqb, eqb-true}
 use Rattle.std.proofs.lemmas.List.{get_or_default}
 use Rattle.std.proofs.lemmas.List.Elements.{All-map}
 use Rattle.std.proofs.Math.Nat.{mod-eq_of_lt}
-use Rattle.threads_tests.specs.declared.turns.counters.Player.{Player}
+use Rattle.turnstile.specs.declared.tests.counters.Player.{Player}
 use Rattle.turnstile.specs.History.{made_by}
 use Rattle.turnstile.specs.Seats.{IsOf, mine, number, seats_of, IsIn}
 use Rattle.turnstile.proofs.Lists.{found, all_get}
-use Rattle.threads_tests.proofs.turns.rounds.closed.Goals as goal
+use Rattle.turnstile.proofs.tests.rounds.closed.Goals as goal
 
 abbrev Order : ℕ → List Player → Type 0
 Order n ps = (k : ℕ) (d : Player) → k < length ps → (slice_index_or ps k d).which + k + 1 ≡ n
