@@ -4,4 +4,3 @@
 mod test;
 
 pub use test::{admit, admit_scaled, holds_for, three_quarters};
-

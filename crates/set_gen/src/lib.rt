@@ -9,4 +9,3 @@ mod words;
 pub use made::{Made, make};
 pub use tasks::{Numbers, draw_numbers};
 pub use words::words_of;
-

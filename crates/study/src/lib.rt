@@ -9,4 +9,3 @@ mod steps;
 
 pub use acceptance::table;
 pub use room::{high_at, stretch};
-

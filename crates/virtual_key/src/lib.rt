@@ -5,7 +5,6 @@ ghost use Rattle.std.specs.Prelude.{◌≡◌, Some};
 ghost use Rattle.mc_model.specs.Key.{key_of};
 ghost use Rattle.mc_model.specs.Holds.{Fits};
 
-
 use mc_task::{Level, Rule, Task};
 
 /// The key of a job of this task that was released at this boundary: the job with the least key runs.

@@ -10,4 +10,3 @@ mod work;
 pub use fault::{WorkCause, WorkFault};
 pub use read::read_work;
 pub use work::{BadRow, Work};
-
