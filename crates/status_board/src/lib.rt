@@ -5,6 +5,8 @@ mod board;
 mod opening;
 mod plays;
 mod shown;
+#[cfg(test)]
+mod tests;
 mod tokens;
 
 pub use board::Board;

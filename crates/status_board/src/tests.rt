@@ -3,7 +3,7 @@ ghost use Rattle.std.specs.Prelude.{◌≡◌, ◌≤◌, ◌^◌, ◌∷◌, []
 ghost use Rattle.status_board.specs.Logs.{start};
 ghost use Rattle.status_board.specs.Tokens.{shown, IsWriterOf, IsWatcherOf};
 
-use status_board::{Board, Shown, Watcher, Writer};
+use crate::{Board, Shown, Watcher, Writer};
 use std::test::Fail;
 use std::thread::join;
 
@@ -14,7 +14,7 @@ fn pair(ticks: u64, high_mode: bool) -> Shown
 }
 
 // Shows the ticks from 1 on. Every third one is in high mode.
-#[tactic(auto, using(status_board::proofs::Lists::last_more))]
+#[tactic(auto, using(crate::proofs::Lists::last_more))]
 fn show_all(board: &Board, mut writer: Writer, ticks: u64)
     requires writer { IsWriterOf board.now writer × (shown writer ≡ start ∷ []) }
     requires few { ticks ≤ 1_000_000 }
