@@ -1,8 +1,9 @@
-//! The judge, the report and the migration of a trace in plain Rust, by the standard library alone: to measure the program
-//! beside. It takes task files as bench writes them, and records without quotes; it reads no others. The set has to be one
-//! that the test admits.
+//! The judge, the report, the migration and the chart of a trace, and a live run, in plain Rust, by the standard library alone: to
+//! measure the program beside. It takes task files as bench writes them, and records without quotes; it reads no others. The set
+//! has to be one that the test admits.
 //!
-//! usage: plain judge|report|migrate TASKS TRACE
+//! usage: plain judge|report|migrate|chart TASKS TRACE
+//!        plain live TASKS TICKS
 
 use std::collections::btree_map::Entry;
 use std::collections::{BTreeMap, HashMap};
@@ -578,12 +579,142 @@ fn migrated(tasks: &[Task], runs: &[Run]) -> String {
     text
 }
 
+// ---- The chart ----
+
+const MOST_CHARTED: u64 = 2_000_000;
+
+fn charted(tasks: &[Task], runs: &[Run]) -> String {
+    let ticks = ticks_of(runs) as usize;
+    let mut marks = vec![vec![b'.'; ticks]; tasks.len()];
+    let mut modes = vec![b'L'; ticks];
+    let (mut tick, mut switched) = (0, None);
+    for run in runs {
+        match *run {
+            Run::Release { .. } => {}
+            Run::Ticks {
+                task, how, length, ..
+            } => {
+                let mark = match how {
+                    How::More => b'#',
+                    How::Done => b'D',
+                    How::Stop => b'S',
+                    How::Over => b'O',
+                };
+                marks[task][tick..tick + length as usize].fill(mark);
+                tick += length as usize;
+                if how == How::Over && switched.is_none() {
+                    switched = Some(tick);
+                }
+            }
+            Run::Idles { length } => {
+                // The tick after which the mode is low again is the first idle one.
+                if let Some(from) = switched.take() {
+                    modes[from..=tick].fill(b'H');
+                }
+                tick += length as usize;
+            }
+        }
+    }
+    if let Some(from) = switched {
+        modes[from..].fill(b'H');
+    }
+    let width = tasks.iter().map(|task| task.name.len()).fold(6, usize::max);
+    let names = tasks.iter().map(|task| &task.name[..]).chain(["(mode)"]);
+    let mut text = Vec::with_capacity((tasks.len() + 1) * (width + ticks + 2));
+    for (name, marks) in names.zip(marks.iter().chain([&modes])) {
+        text.extend_from_slice(format!("{name:width$} ").as_bytes());
+        text.extend_from_slice(marks);
+        text.push(b'\n');
+    }
+    String::from_utf8(text).expect("ASCII alone")
+}
+
+fn ticks_of(runs: &[Run]) -> u64 {
+    runs.iter()
+        .map(|run| match *run {
+            Run::Release { .. } => 0,
+            Run::Ticks { length, .. } | Run::Idles { length } => length.into(),
+        })
+        .sum()
+}
+
+// ---- A live run ----
+
+// Tick by tick, on one thread: each task releases as soon as it may, and each fourth job of a high task needs its high budget.
+fn live(tasks: &[Task], rule: Rule, ticks: u64) -> Vec<Run> {
+    let mut notes = vec![Note::default(); tasks.len()];
+    // By key, then by task: the job's number and release, and the ticks that it had.
+    let mut pending: BTreeMap<Key, Pending> = BTreeMap::new();
+    let (mut runs, mut high_mode) = (Vec::new(), false);
+    for now in 0..ticks {
+        for (task, note) in notes.iter_mut().enumerate() {
+            if now < note.next {
+                continue;
+            }
+            let of = &tasks[task];
+            note.releases += 1;
+            note.next = now + of.period;
+            let (job, kept) = (note.releases, of.high || !high_mode);
+            runs.push(Run::Release { task, job, kept });
+            if kept {
+                let job = Pending {
+                    release: now,
+                    used: 0,
+                    place: 0,
+                };
+                pending.insert((key(rule, high_mode, of, now), task, note.releases), job);
+            }
+        }
+        let Some(mut entry) = pending.first_entry() else {
+            high_mode = false;
+            runs.push(Run::Idles { length: 1 });
+            continue;
+        };
+        let (_, task, job) = *entry.key();
+        let of = &tasks[task];
+        let need = if of.high && job % 4 == 0 {
+            of.own
+        } else {
+            of.low
+        };
+        let used = entry.get().used + 1;
+        entry.get_mut().used = used;
+        let how = if used == need {
+            entry.remove();
+            How::Done
+        } else if of.high && !high_mode && used == of.low && matches!(rule, Rule::Virtual { .. }) {
+            high_mode = true;
+            pending = std::mem::take(&mut pending)
+                .into_iter()
+                .filter(|((_, task, _), _)| tasks[*task].high)
+                .map(|((_, task, job), at)| {
+                    ((key(rule, true, &tasks[task], at.release), task, job), at)
+                })
+                .collect();
+            How::Over
+        } else {
+            How::More
+        };
+        runs.push(Run::Ticks {
+            task,
+            job,
+            how,
+            length: 1,
+        });
+    }
+    runs
+}
+
 // ---- The program ----
 
 // The status and the text.
 fn answer(command: &str, tasks: &str, trace: &str) -> Option<(i32, String)> {
     let tasks = read_tasks(&fs::read_to_string(tasks).ok()?)?;
     let rule = rule_of(&tasks)?;
+    if command == "live" {
+        let runs = live(&tasks, rule, trace.parse().ok()?);
+        return Some((0, migrated(&tasks, &runs)));
+    }
     let runs = match read_trace(&tasks, &fs::read(trace).ok()?) {
         Ok(runs) => runs,
         Err((line, why)) => return Some((5, format!("trace line {line}: {why}\n"))),
@@ -615,6 +746,8 @@ fn answer(command: &str, tasks: &str, trace: &str) -> Option<(i32, String)> {
         "judge" => Some((0, String::from("legal late 0\n"))),
         "report" => Some((0, report(&tasks, &runs))),
         "migrate" => Some((0, migrated(&tasks, &runs))),
+        "chart" if ticks_of(&runs) > MOST_CHARTED => None,
+        "chart" => Some((0, charted(&tasks, &runs))),
         _ => None,
     }
 }

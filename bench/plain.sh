@@ -1,6 +1,7 @@
 #!/bin/sh
-# Counts the instructions of the program beside those of plain.rs, a judge, a report and a migration in plain Rust, on the same
-# traces, and sees that both give the same text. PROGRAM=FILE measures another built program.
+# Counts the instructions of the program beside those of plain.rs, a judge, a report, a migration, a chart and a live run in plain
+# Rust, on the same files, and sees that both give the same text; of a live run, of which many texts are right, that both texts are
+# legal. PROGRAM=FILE measures another built program.
 cd "$(dirname -- "$0")" || exit 1
 for command in valgrind rustc; do
     if ! command -v "$command" >/dev/null 2>&1; then
@@ -52,7 +53,7 @@ beside() {
         echo "$1: the texts differ"
         failed=1
     fi
-    awk -v name="$1" -v mine="$mine" -v other="$other" 'BEGIN { printf "%s: %d, in plain Rust %d: %.2f times\n", name, mine, other, mine / other }'
+    awk -v name="$1" -v mine="$mine" -v other="$other" 'BEGIN { printf "%s: %.0f, in plain Rust %.0f: %.2f times\n", name, mine, other, mine / other }'
 }
 
 # each NAME MAKE VERSION: the instructions of a record, by 20,000 and 40,000 of them
@@ -82,4 +83,26 @@ turns 2 2000000 >"$work/full.csv"
 for command in judge report migrate; do
     beside "$command, 2,000,000 records of 8 tasks in turn" $command "$work/turns.toml" "$work/full.csv"
 done
+
+# The avionics run in records of equal ticks, as `run` writes it.
+. ./workloads.sh
+"$program" run "$work/avionics.toml" "$work/avionics.csv" 1000000 >"$work/packed.csv"
+for command in judge report migrate chart; do
+    beside "$command, the avionics run, 1,000,000 ticks in $(wc -l <"$work/packed.csv") records" $command "$work/avionics.toml" "$work/packed.csv"
+done
+
+# The instructions of a tick of `live`, of 32 tasks of period 200 that need 2 or 3 ticks, by 2,000 and 6,000 ticks.
+awk 'BEGIN { for (i = 1; i <= 32; i++)
+    printf "[[task]]\nname = \"t%d\"\nlevel = \"%s\"\nperiod = 200\nlow = %d\n%s\n", i, i % 2 ? "high" : "low", i % 2 ? 2 : 3, i % 2 ? "high = 5\n" : "" }' >"$work/live.toml"
+for of in "$program" "$work/plain"; do
+    for ticks in 2000 6000; do
+        count "$of" live "$work/live.toml" $ticks >>"$work/counts"
+        if ! "$program" judge "$work/live.toml" "$work/text" >"$work/verdict"; then
+            echo "live of $of: $(cat "$work/verdict")"
+            failed=1
+        fi
+    done
+done
+awk '{ counts[NR] = $1 } END { mine = (counts[2] - counts[1]) / 4000; other = (counts[4] - counts[3]) / 4000
+    printf "live, 32 tasks: %d a tick, in plain Rust %d: %.2f times\n", mine, other, mine / other }' "$work/counts"
 exit $failed

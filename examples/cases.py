@@ -33,21 +33,25 @@ def program_count_seed(words, count):
 class Runner:
     """Runs the program on files in a folder of its own, and counts."""
 
-    def __init__(self, program, limit=None):
+    def __init__(self, program, limit=None, seconds=60):
         self.program = program
         self.limit = limit
+        self.seconds = seconds
         self.folder = tempfile.mkdtemp()
         atexit.register(shutil.rmtree, self.folder, ignore_errors=True)
         self.runs = 0
 
     def run(self, command, contents, words):
-        """The status, the text, and what stands on standard error; status 124 where a run takes longer than a minute."""
-        names = written(self.folder, contents)
+        """As `call`, on files of these contents."""
+        return self.call(command, written(self.folder, contents), words)
+
+    def call(self, command, names, words):
+        """The status, the text, and what stands on standard error; status 124 where a run takes longer than it may."""
         self.runs += 1
         try:
             ended = subprocess.run(
                 [self.program, command] + names + words, stdin=subprocess.DEVNULL, capture_output=True,
-                preexec_fn=self.limit, timeout=60)
+                preexec_fn=self.limit, timeout=self.seconds)
         except subprocess.TimeoutExpired:
             return 124, b'', b''
         return ended.returncode, ended.stdout, ended.stderr

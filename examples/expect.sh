@@ -1,4 +1,4 @@
-# Sourced by check.sh, growths.sh and faults.sh, in this folder: runs the program, and compares with what is wanted of it.
+# Sourced by each script of this folder that runs the built program: runs it, and compares with what is wanted of it.
 edfvd=$PWD/../edfvd
 # The built program itself. It is proved and built where it is not there.
 program=${PROGRAM:-$PWD/../crates/edfvd_program/out/edfvd_program}

@@ -105,11 +105,15 @@ def rule_words(rule):
     return 'plain' if rule == model.PLAIN else f'virtual {rule.p}/{rule.q}'
 
 
-# The status, and the lines, for the header of a trace and its runs in their places; the rule is of the words, or that of the
-# set's test.
-def explain(task_set, words, header, trace):
+# The rule of the words after the files, or that of the set's test. A set without one is refused before its trace is read.
+def rule_of(task_set, words):
     scale = model.read_words('judge', words)
-    walk = Walk(task_set.tasks, model.virtual(*scale) if scale else model.admitted(task_set))
+    return model.virtual(*scale) if scale else model.admitted(task_set)
+
+
+# The status, and the lines, for the header of a trace and its runs in their places.
+def explain(tasks, rule, header, trace):
+    walk = Walk(tasks, rule)
     misfit = go_through(walk, trace)
     if misfit is not None:
         return 6, [f'illegal row {walk.rows + 1} {misfit.why}', *explanation(misfit, header)]
@@ -124,7 +128,8 @@ def main(words):
         raise WrongWords
     try:
         task_set = read_task_file(words[0])
-        status, told = explain(task_set, words[2:], *read_trace_file(task_set.tasks, words[1]))
+        rule = rule_of(task_set, words[2:])
+        status, told = explain(task_set.tasks, rule, *read_trace_file(task_set.tasks, words[1]))
     except model.Refusal as refusal:
         if refusal.line == model.USAGE:
             raise WrongWords from None

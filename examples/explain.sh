@@ -32,6 +32,9 @@ wants 6 explained/discarded.txt explain.py judged/tasks.toml judged/illegal.csv
 wants 6 explained/not_least.txt explain.py judged/tasks.toml judged/late.csv
 wants 6 judged/late.txt explain.py judged/tasks.toml judged/late.csv 1 1
 wants 0 judged/legal.txt explain.py judged/tasks.toml judged/legal.csv
+# A set that is refused, with a trace that is none.
+wants 3 refused/periods.txt explain.py refused/periods.toml overrun/work.csv
+wants 1 refused/high_load.txt explain.py refused/high_load.toml overrun/work.csv
 wants 6 explained/in_a_run.txt explain.py runs/tasks.toml explained/in_a_run.csv
 wants 6 explained/too_soon.txt explain.py runs/tasks.toml explained/too_soon.csv
 wants 0 judged/legal.txt explain.py runs/tasks.toml runs/long.csv

@@ -18,7 +18,8 @@ MAKERS = [compare.judge_case, compare.judge_by_scale_case]
 def found(case):
     try:
         task_set = model.read_set(case.tree)
-        status, told = explain.explain(task_set, case.words, *walk.placed_in(task_set.tasks, case.second.splitlines()))
+        rule = explain.rule_of(task_set, case.words)
+        status, told = explain.explain(task_set.tasks, rule, *walk.placed_in(task_set.tasks, case.second.splitlines()))
         return status, told[0] + '\n'
     except model.Refusal as refusal:
         return refusal.status, refusal.line

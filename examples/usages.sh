@@ -94,15 +94,21 @@ while read -r script; do
     takes_nothing "$script" --help
 done <"$work/scripts"
 
+refuses ./bounds.sh x
 refuses ./compare.sh x
 refuses ./explain.sh 1 ''
+refuses ./lasting.sh x
+refuses ./memcheck.sh race
 refuses ./mutate.sh 1 -1
+refuses ./night.sh x
 refuses ./outside.sh proves
+refuses ./second.sh 1 x
 refuses ./studies.sh slurms
 refuses record/record.sh text plan
 refuses study/slurm.sh study 0
 refuses ../install.sh
 if grep -q 'py$' "$work/scripts"; then
+    refuses bounds.py program plain x
     refuses compare.py program x
     refuses definitions.py footline
     refuses demand_runs.py 1 x
@@ -110,10 +116,12 @@ if grep -q 'py$' "$work/scripts"; then
     refuses explain_check.py 1 1 1
     refuses flight.py "$work" x
     refuses mutate.py program 1 x
+    refuses night.py program 1 x "$work"
     refuses pages.py mended
     refuses periods.py ''
     refuses record/sched.py control/tasks.toml record/by_hand_events.csv 0
     refuses record/sched.py control/tasks.toml record/by_hand.txt 1000 0 ctl
+    refuses second.py program plain x
     refuses study/study.py sum
 
     python3 -B study/study.py new "$work/study" 1 10 8 5

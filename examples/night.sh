@@ -1,0 +1,20 @@
+#!/bin/sh
+# Tries new cases on the built program for some minutes: cases beside the model, spoilt files, documents of a TOML grammar, and
+# what explain.py says. The seed is that of the day where none is given, and is printed first; the same seed makes the same
+# cases. A case that fails is made smaller and written to a file, with the call that repeats it; put into found/, it is tried by
+# every run. FOLDER=NAME has these files elsewhere than in a new folder below /tmp.
+# usage: night.sh MINUTES [SEED]
+. "$(dirname -- "$0")/usage.sh"
+takes 1 2 "$@"
+takes_numbers "$@"
+cd "$(dirname -- "$0")" || exit 1
+seed=${2:-$(date -u +%Y%m%d)}
+echo "night: seed $seed, $1 minutes"
+if ! python3 -c 'import sys; sys.exit(sys.version_info < (3, 9))' 2>/dev/null; then
+    echo "night: skipped, there is no python3 of version 3.9 or later"
+    exit 0
+fi
+python3 -c 'import tomllib' 2>/dev/null || echo 'night: no second reader of TOML, since this python3 has no tomllib'
+[ -n "${PROGRAM:-}" ] || ../edfvd >/dev/null
+exec python3 -B night.py "${PROGRAM:-../crates/edfvd_program/out/edfvd_program}" "$1" "$seed" \
+    "${FOLDER:-${TMPDIR:-/tmp}/edfvd-night-$seed}"

@@ -1,0 +1,19 @@
+#!/bin/sh
+# Compares the built program with a second one, bench/plain.rs in plain Rust, on large traces: of 128 tasks over 100,000 ticks with
+# overruns, of a million records, of 100,000,000 ticks, in both versions, and 20 spoilt ones by a fixed seed or as many as are asked
+# for: status and whole text of `judge`, `report` and `migrate`.
+# usage: second.sh [CASES [SEED]]
+. "$(dirname -- "$0")/usage.sh"
+takes_numbers "$@"
+cd "$(dirname -- "$0")" || exit 1
+if ! command -v rustc >/dev/null 2>&1; then
+    echo 'second: skipped, there is no rustc'
+    exit 0
+fi
+if ! python3 -c 'import sys; sys.exit(sys.version_info < (3, 9))' 2>/dev/null; then
+    echo "second: skipped, there is no python3 of version 3.9 or later"
+    exit 0
+fi
+. ./expect.sh
+rustc -O --edition 2021 -o "$work/plain" ../bench/plain.rs || exit 1
+python3 -B second.py "$program" "$work/plain" "$@"
