@@ -2,8 +2,11 @@
 
 From the words of the clauses it follows the `use` lines from file to file, and takes of each file the declarations that
 are reached by name. A line counts where it is no comment, no `use` and not blank. Types that the code declares are
-followed to their structs and enums and to the views of these. Names of the toolchain's libraries end the way, and are
-counted. A name that its equation binds is no declaration's.
+followed to their structs and enums; a type with a Model is read as the Value of that Model, since clauses do not see how
+its fields make up the value. Names of the toolchain's libraries end the way, and are counted. A name that its equation
+binds is no declaration's.
+
+The headline stays below 800 lines of definitions, none of them longer than 110 characters: otherwise the status is 1.
 
 usage: definitions.py [CLAUSE]
        for all clauses together, or one of them
@@ -18,11 +21,12 @@ from usage import WrongWords, ends
 
 CRATES = pathlib.Path(__file__).resolve().parent.parent / 'crates'
 TOP = CRATES / 'edfvd_program/src/edfvd.rt'
+TOO_MANY_LINES, LONGEST_LINE = 800, 110
 HEAD = re.compile(r'^(?:(?:abbrev|unfoldable|pub|record|data) )+([^\s(:{]+)')
 FIXITY = re.compile(r'^infix[lr]? \d+ (\S+)')
 NAME = re.compile(r"[A-Za-z_][\w'-]*")
 HAS_BODY = re.compile(r'\s=(?:\s|$)')
-USE = re.compile(r'^\s*(?:ghost )?use ([\w.]+?)(?:\.\{(.*)\})?(?: as (\w+))?;?$')
+USE = re.compile(r'^\s*(?:ghost |pub )?use ([\w.]+?)(?:\.\{(.*)\})?(?: as (\w+))?;?$')
 RUST_USE = re.compile(r'^\s*(?:pub )?use (\w+)(?:::\w+)*::(?:\{([^}]*)\}|(\w+));')
 
 
@@ -77,14 +81,18 @@ class Page:
                     found.setdefault(constructor[1], current)
         return found
 
-    # The structs and enums of a file of the code, each with its view.
+    # The structs and enums of a file of the code; one with a Model is the line of its Value.
     def types(self, lines):
         found = {}
         for place, line in enumerate(lines):
             head = re.match(r'^(?:pub )?(?:struct|enum) (\w+)|^impl.* Model for (\w+)', line)
-            if head:
-                name = head[1] or head[2]
-                found.setdefault(name, Declaration(self, name, [])).lines.extend(counted(self.item(lines, place)))
+            if head and head[1]:
+                found.setdefault(head[1], Declaration(self, head[1], counted(self.item(lines, place))))
+            elif head:
+                values = [inside for inside in self.item(lines, place) if 'ghost Value =' in inside]
+                if len(values) != 1 or not values[0].endswith('};'):
+                    raise LookupError(f'{self.path}: the Value of {head[2]} is not one line')
+                found[head[2]] = Declaration(self, head[2], values)
         return found
 
     # The lines of the item that begins here.
@@ -236,6 +244,24 @@ def total_line(label, reader):
             f'in {type_files}; {len(reader.outside)} names of libraries')
 
 
+# The longest line of definitions that is reached: its length, its file and its declaration.
+def longest(reader):
+    lines = ((len(line), path.relative_to(CRATES), name) for (path, name), declaration in reader.reached.items()
+             if path.suffix == '.antt' for line in declaration.lines)
+    return max(lines, key=lambda line: (line[0], str(line[1])))
+
+
+# What the headline reaches past its limits.
+def faults():
+    reader = read(['headline'])
+    (_, lines, _), _ = totals(reader).values()
+    length, path, name = longest(reader)
+    if lines >= TOO_MANY_LINES:
+        yield f'the headline reaches {lines} lines, and has to stay below {TOO_MANY_LINES}'
+    if length > LONGEST_LINE:
+        yield f'{path}: a line of {name} has {length} characters, and may have {LONGEST_LINE}'
+
+
 def main(words):
     known = clauses()
     if len(words) > 1 or any(word not in known for word in words):
@@ -253,7 +279,12 @@ def main(words):
         for label in known:
             print(total_line(label, read([label])))
     print(total_line(words[0] if words else 'all clauses', reader))
-    return 0
+    length, path, name = longest(reader)
+    print(f'longest line: {length} characters, of {name} in {path}')
+    found = list(faults())
+    for fault in found:
+        print(f'definitions: {fault}')
+    return 1 if found else 0
 
 
 if __name__ == '__main__':

@@ -1,7 +1,7 @@
 #!/bin/sh
 # Compares what explain.py says of the judged examples with the texts in explained/, and what walk.py finds with model.py on
 # 100 cases made by a fixed seed, or as many as are asked for. Then perfetto.py, record/sched.py on the kept recordings (nothing
-# is recorded), flight.py, and pages of docs beside what they speak of. No built program is needed.
+# is recorded), flight.py, pages of docs beside what they speak of, and definitions.py's limits. No built program is needed.
 # usage: explain.sh [CASES [SEED]]
 . "$(dirname -- "$0")/usage.sh"
 takes_numbers "$@"
@@ -149,5 +149,8 @@ wants 0 flight/expected.txt flight.py "$work"
 
 python3 -B explain_check.py "${1:-100}" "${2:-1}" || failed=$((failed + 1))
 python3 -B pages.py || failed=$((failed + 1))
+# How many lines of definitions the headline reaches, and the longest of them; too many or too long is a failure.
+python3 -B definitions.py headline >"$work/out" || failed=$((failed + 1))
+grep -E '^(headline|longest line|definitions):' "$work/out"
 echo "explain: $failed failed"
 [ "$failed" -eq 0 ]

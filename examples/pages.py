@@ -4,6 +4,7 @@
 - FORMATS.md shows the files that it names as they are.
 - EVIDENCE.md names each clause and definition by its line, and tells the totals of definitions.py.
 - README.md tells the total of the headline.
+- DEFINITIONS.md leads to each definition that the headline reaches, before its part on all others.
 - overrun.svg is what svg.py draws of the overrun.
 - CITATION.cff has the newest version of CHANGELOG.md.
 
@@ -104,6 +105,14 @@ def readme_faults():
     return [] if page == readme_mended(page) else ['README.md tells another number of lines of definitions']
 
 
+# The definitions that the headline reaches and the parts in reading order do not name.
+def definitions_faults():
+    page = (ROOT / 'docs/DEFINITIONS.md').read_text(encoding='utf-8').split('## 4.')[0]
+    named = set(re.findall(r'`([^`]+)`', page))
+    return [f'DEFINITIONS.md does not lead to {name} of {path.relative_to(definitions.CRATES)}'
+            for path, name in definitions.read(['headline']).reached if name not in named]
+
+
 def overrun_drawn(_page):
     """The picture of the twelve ticks of the overrun, whatever the page has."""
     folder = ROOT / 'examples/overrun'
@@ -123,7 +132,7 @@ def citation_faults():
     return [] if cited == newest else [f'CITATION.cff has version {cited}, and CHANGELOG.md {newest}']
 
 
-CHECKS = [messages_not_named, samples_that_differ, evidence_faults, readme_faults, picture_faults, citation_faults]
+CHECKS = [messages_not_named, samples_that_differ, evidence_faults, readme_faults, definitions_faults, picture_faults, citation_faults]
 MENDED = [('docs/EVIDENCE.md', evidence_mended), ('README.md', readme_mended), ('docs/overrun.svg', overrun_drawn)]
 
 

@@ -3,7 +3,8 @@ use Rattle.std.proofs.Common.{◌≡◌, ℕ, ◌+◌, ◌-◌, ◌*◌, ◌^◌
 use Rattle.std.proofs.Math.Nat.{mul-le-mul_right, le_of_mul-le-mul_left}
 use Rattle.mc_task.specs.declared.task.Rule.TheVariants.{Plain, Virtual}
 use Rattle.tick_frac.specs.Fraction.{Fraction, lowest}
-use Rattle.mc_model.specs.Test.{rule_of, virtual_rule}
+use Rattle.mc_model.specs.Test.{rule_of}
+use Rattle.mc_model.proofs.RuleCases.{virtual_rule}
 use Rattle.mc_model.specs.Holds.{HoldsOver, Fits}
 use Rattle.mc_model.proofs.RuleHolds.{rule_of-fits}
 

@@ -43,4 +43,5 @@ next_of slots k = (slot_of slots k).next
 
 -- what is kept after one more release of it, at this boundary
 abbrev pub with_note : List Slot → ℕ → ℕ → List Slot
-with_note slots k at = let s : Slot = slot_of slots k in slice_set slots (k - 1) (record { period = s.period; count = s.count + 1; next = at + s.period })
+with_note slots k at = let s : Slot = slot_of slots k in slice_set slots (k - 1)
+    (record { period = s.period; count = s.count + 1; next = at + s.period })

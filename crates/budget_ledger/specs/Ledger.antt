@@ -23,14 +23,14 @@ HasTask ledger k = (1 ≤ k) × (k ≤ length ledger.ticks)
 abbrev pub budget_of : Ledger → ℕ → Budget
 budget_of ledger k = slice_index_or ledger.budgets (k - 1) (record { low = 0; own = 0 })
 
--- the ticks of its live job
+-- the ticks that the live job of task number k has used
 abbrev pub ticks_of : Ledger → ℕ → ℕ
 ticks_of ledger k = slice_index ledger.ticks (k - 1)
 
--- the ledger with so many ticks of it
+-- the ledger where the live job of task number k has used this many ticks
 abbrev pub with_ticks : Ledger → ℕ → ℕ → Ledger
 with_ticks ledger k ticks = record ledger { ticks = slice_set ledger.ticks (k - 1) ticks }
 
--- where so many ticks stand
+-- where this many ticks stand beside a budget: at the own one, at the low one, or below
 abbrev pub spent : Budget → ℕ → Spent
 spent b ticks = if ticks == b.own then AtOwn else if ticks == b.low then AtLow else Below

@@ -6,7 +6,7 @@ use Rattle.work_file.specs.Rows.{first_bad}
 use Rattle.calling_examples.specs.declared.threads.NotRun.{NotRun}
 use Rattle.calling_examples.specs.declared.threads.NotRun.TheVariants.{Memory, BadJob}
 
--- the first job that may not stand after those before it; memory is wanting only where each may
+-- the first job that may not stand after the jobs before it; memory runs out only where each job may
 abbrev pub IsRefusal : List Task → List WorkRow → NotRun → Type 0
 IsRefusal set jobs Memory = first_bad set jobs ≡ None
 IsRefusal set jobs (BadJob bad) = first_bad set jobs ≡ Some bad

@@ -3,7 +3,7 @@ use Rattle.std.specs.Prelude.{◌≡◌, ℕ, ◌+◌, ◌≤◌, length}
 use Rattle.mc_model.specs.Rows.{ticks}
 use Rattle.mc_model.specs.Core.{State}
 
--- the rows are more by at most so many releases, and nothing else is changed
+-- the rows are more by at most n releases, and nothing else is changed
 pub record AddsReleases (n : ℕ) (old new : State) : Type 0 where
   pub stays : new ≡ record old { rows = new.rows }
   pub no_tick : ticks new.rows ≡ ticks old.rows

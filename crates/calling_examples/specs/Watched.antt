@@ -7,7 +7,7 @@ use Rattle.executive.specs.declared.executive.Executive.{Executive}
 use Rattle.executive.specs.Watching.{IsWatcherOf}
 use Rattle.calling_examples.specs.declared.watched.Panel.{Panel}
 
--- its watcher is one of the executive, and it shows the last that the watcher has seen
+-- the panel's watcher is one of the executive, and the panel shows the last pair that the watcher has seen
 pub record IsPanelOf (e : Executive) (p : Panel) : Type 0 where
   pub of : IsWatcherOf e p.watcher
   pub last : p.shown ≡ last_of start (seen p.watcher)

@@ -1,22 +1,46 @@
--- What the words of the command line ask for.
-use Rattle.std.specs.Prelude.{ℕ, ◌+◌, ◌≤◌, ◌<◌, ◌-◌, ◌^◌, ◌&&◌, nat_le, nat_lt, List, [], ◌∷◌, if◌then◌else◌, Option, Some, None, option_map, option_and_then, codes}
+-- The command line: which command the words name, in the types of the code.
+use Rattle.std.specs.Prelude.{◌≡◌, ℕ, ◌+◌, ◌≤◌, ◌<◌, ◌-◌, ◌^◌, nat_le, nat_lt, List, [], ◌∷◌, if◌then◌else◌, Option, Some, None, option_map, option_and_then, codes, map, String, string_bytes}
 use Rattle.std.specs.Str.{bytes_eq}
+use Rattle.std.specs.declared.alloc.Global.{Global}
 use Rattle.numeral.specs.Numeral.{numeral}
-use Rattle.command_line.specs.declared.form.Telling.{Telling}
-use Rattle.command_line.specs.declared.form.Telling.TheVariants.{Judge, JudgeBy, Chart, Report, Migrate}
+use Rattle.replies.specs.Reply.{Reply, reply_of}
+use Rattle.serving.specs.Command.{Command, answer}
+use Rattle.serving.specs.Within.{within}
+use Rattle.task_answers.specs.Check.{check}
+use Rattle.trace_answers.specs.OnTrace.{on_trace, IsScale}
+use Rattle.trace_answers.specs.declared.telling.Telling.{Telling}
+use Rattle.trace_answers.specs.declared.telling.Telling.TheVariants.{Judge, JudgeBy, Chart, Report, Migrate}
+use Rattle.run_answers.specs.Run.{run}
+use Rattle.run_answers.specs.Soak.{soak}
+use Rattle.run_answers.specs.Live.{live}
+use Rattle.demand_answers.specs.Demand.{demand}
+use Rattle.part_answers.specs.Partition.{partition}
+use Rattle.part_answers.specs.RunAll.{run_all}
+use Rattle.study_answers.specs.Stretch.{stretch}
+use Rattle.study_answers.specs.Accept.{accept}
+use Rattle.command_line.specs.declared.form.Form.{Form}
+use Rattle.command_line.specs.declared.form.Form.TheVariants as form
 
--- a form of the command line, with the names of its files and its numbers
-pub data Form : Type 0 where
-  check : (tasks : List ℕ) → Form
-  run : (tasks work : List ℕ) (ticks : ℕ) → Form
-  on_trace : Telling → (tasks trace : List ℕ) → Form
-  soak : (number tasks ticks : ℕ) → Form
-  live : (tasks : List ℕ) (ticks : ℕ) → Form
-  demand : (demands : List ℕ) → Form
-  partition : (tasks : List ℕ) (processors : ℕ) → Form
-  run_all : (tasks work : List ℕ) (ticks processors : ℕ) → Form
-  stretch : (tasks : List ℕ) → Form
-  accept : (number sets tasks : ℕ) → Form
+-- the command of a form
+abbrev pub command_of : Form → Command
+command_of (form.Check c) = check c.tasks
+command_of (form.Run c) = run c.tasks c.work c.ticks
+command_of (form.OnTrace c) = on_trace c.telling c.tasks c.trace
+command_of (form.Soak c) = soak c.number c.tasks c.ticks
+command_of (form.Live c) = live c.tasks c.ticks
+command_of (form.Demand c) = demand c.demands
+command_of (form.Partition c) = partition c.tasks c.processors
+command_of (form.RunAll c) = run_all c.tasks c.work c.ticks c.processors
+command_of (form.Stretch c) = stretch c.tasks
+command_of (form.Accept c) = accept c.number c.sets c.tasks
+
+-- what is asked of a form's numbers besides the bounds of their types: a scale is at most 1, the tasks of a workload are 2 to
+-- 32, and the numbers of a study's sets are below 2^64
+abbrev pub IsInRange : Form → Type 0
+IsInRange (form.OnTrace c) = IsScale c.telling
+IsInRange (form.Soak c) = (2 ≤ c.tasks) × (c.tasks ≤ 32)
+IsInRange (form.Accept c) = c.number + c.sets < 2 ^ 64
+IsInRange c = Unit {0}
 
 -- the one line that names every form
 abbrev pub usage_line : List ℕ
@@ -24,29 +48,31 @@ usage_line = codes "usage: check TASKS | run TASKS WORK TICKS | judge TASKS TRAC
 
 -- a number within these bounds, of 1 to 20 digits
 abbrev pub number : ℕ → ℕ → List ℕ → Option ℕ
-number least most word = option_and_then (λ n. if nat_le least n && nat_le n most then Some n else None) (numeral 20 word)
+number least most word = option_and_then (within least most) (numeral 20 word)
 
 -- `judge` under the scale p/q, which is at most 1
 abbrev pub judge_by : Option ℕ → Option ℕ → Option Telling
 judge_by (Some p) (Some q) = if nat_le p q then Some (JudgeBy p q) else None
 judge_by p q = None
 
--- a workload with these numbers
+-- a workload of n tasks, made from number k
 abbrev pub workload : Option ℕ → Option ℕ → Option ℕ → Option Form
-workload (Some number) (Some tasks) (Some ticks) = Some (soak number tasks ticks)
+workload (Some k) (Some n) (Some ticks) = Some (form.Soak (record { number = k; tasks = n; ticks = ticks }))
 workload number tasks ticks = None
 
--- a study of so many sets, whose numbers are below 2^64
+-- a study of n sets of m tasks with the numbers from k on, which are below 2^64
 abbrev pub study : Option ℕ → Option ℕ → Option ℕ → Option Form
-study (Some number) (Some sets) (Some tasks) = if nat_lt (number + sets) (2 ^ 64) then Some (accept number sets tasks) else None
+study (Some k) (Some n) (Some m) =
+    if nat_lt (k + n) (2 ^ 64) then Some (form.Accept (record { number = k; sets = n; tasks = m })) else None
 study number sets tasks = None
 
--- runs of a set's parts with these numbers
+-- runs of the parts of a set, with its work, on this many processors
 abbrev pub parts_run : List ℕ → List ℕ → Option ℕ → Option ℕ → Option Form
-parts_run tasks work (Some ticks) (Some processors) = Some (run_all tasks work ticks processors)
+parts_run tasks work (Some ticks) (Some processors) =
+    Some (form.RunAll (record { tasks = tasks; work = work; ticks = ticks; processors = processors }))
 parts_run tasks work ticks processors = None
 
--- what is told of a trace, by its word
+-- the command on a trace that the word names
 abbrev pub telling_of : List ℕ → Option Telling
 telling_of word =
     if bytes_eq word (codes "judge") then Some Judge
@@ -54,31 +80,42 @@ telling_of word =
     else if bytes_eq word (codes "report") then Some Report
     else if bytes_eq word (codes "migrate") then Some Migrate else None
 
--- a command with one more word
+-- the form of a command on a trace
+abbrev pub trace_form : List ℕ → List ℕ → Telling → Form
+trace_form tasks trace telling = form.OnTrace (record { telling = telling; tasks = tasks; trace = trace })
+
+-- the form of a command with one more word
 abbrev pub with_one : List ℕ → List ℕ → Option Form
 with_one word a =
-    if bytes_eq word (codes "check") then Some (check a)
-    else if bytes_eq word (codes "demand") then Some (demand a)
-    else if bytes_eq word (codes "stretch") then Some (stretch a) else None
+    if bytes_eq word (codes "check") then Some (form.Check (record { tasks = a }))
+    else if bytes_eq word (codes "demand") then Some (form.Demand (record { demands = a }))
+    else if bytes_eq word (codes "stretch") then Some (form.Stretch (record { tasks = a })) else None
 
--- with two
+-- the form of a command with two more words
 abbrev pub with_two : List ℕ → List ℕ → List ℕ → Option Form
 with_two word a b =
-    if bytes_eq word (codes "live") then option_map (λ ticks. live a ticks) (number 1 100000 b)
-    else if bytes_eq word (codes "partition") then option_map (λ m. partition a m) (number 1 16 b)
-    else option_map (λ t. on_trace t a b) (telling_of word)
+    if bytes_eq word (codes "live")
+    then option_map (λ ticks. form.Live (record { tasks = a; ticks = ticks })) (number 1 100000 b)
+    else if bytes_eq word (codes "partition")
+    then option_map (λ m. form.Partition (record { tasks = a; processors = m })) (number 1 16 b)
+    else option_map (trace_form a b) (telling_of word)
 
--- with three
+-- the form of a command with three more words
 abbrev pub with_three : List ℕ → List ℕ → List ℕ → List ℕ → Option Form
 with_three word a b c =
-    if bytes_eq word (codes "run") then option_map (λ ticks. run a b ticks) (number 1 1000000 c)
-    else if bytes_eq word (codes "soak") then workload (number 0 (2 ^ 64 - 1) a) (number 2 32 b) (number 1 1000000 c)
-    else if bytes_eq word (codes "accept") then study (number 0 (2 ^ 64 - 1) a) (number 1 10000 b) (number 2 32 c) else None
+    if bytes_eq word (codes "run")
+    then option_map (λ ticks. form.Run (record { tasks = a; work = b; ticks = ticks })) (number 1 1000000 c)
+    else if bytes_eq word (codes "soak")
+    then workload (number 0 (2 ^ 64 - 1) a) (number 2 32 b) (number 1 1000000 c)
+    else if bytes_eq word (codes "accept")
+    then study (number 0 (2 ^ 64 - 1) a) (number 1 10000 b) (number 2 32 c)
+    else None
 
--- with four
+-- the form of a command with four more words
 abbrev pub with_four : List ℕ → List ℕ → List ℕ → List ℕ → List ℕ → Option Form
 with_four word a b p q =
-    if bytes_eq word (codes "judge") then option_map (λ t. on_trace t a b) (judge_by (number 1 (2 ^ 32 - 1) p) (number 1 (2 ^ 32 - 1) q))
+    if bytes_eq word (codes "judge")
+    then option_map (trace_form a b) (judge_by (number 1 (2 ^ 32 - 1) p) (number 1 (2 ^ 32 - 1) q))
     else if bytes_eq word (codes "runall") then parts_run a b (number 1 1000000 p) (number 1 16 q) else None
 
 -- the form that the words have, if any
@@ -89,20 +126,15 @@ form_of (word ∷ a ∷ b ∷ c ∷ []) = with_three word a b c
 form_of (word ∷ a ∷ b ∷ c ∷ d ∷ []) = with_four word a b c d
 form_of words = None
 
--- a scale p/q of at most 1 has parts below 2^32
-abbrev pub IsScale : Telling → Type 0
-IsScale (JudgeBy p q) = (1 ≤ p) × (p ≤ q) × (q < 2 ^ 32)
-IsScale telling = Unit {0}
+-- the form that the program's words have, if any, by their bytes
+abbrev pub form_in : List (String Global) → Option Form
+form_in words = form_of (map (λ w. string_bytes w) words)
 
--- its numbers are within their bounds
-abbrev pub IsInRange : Form → Type 0
-IsInRange (check tasks) = Unit {0}
-IsInRange (run tasks work ticks) = (1 ≤ ticks) × (ticks ≤ 1000000)
-IsInRange (on_trace telling tasks trace) = IsScale telling
-IsInRange (soak number tasks ticks) = (2 ≤ tasks) × (tasks ≤ 32) × (1 ≤ ticks) × (ticks ≤ 1000000)
-IsInRange (live tasks ticks) = (1 ≤ ticks) × (ticks ≤ 100000)
-IsInRange (demand demands) = Unit {0}
-IsInRange (partition tasks processors) = (1 ≤ processors) × (processors ≤ 16)
-IsInRange (run_all tasks work ticks processors) = (1 ≤ ticks) × (ticks ≤ 1000000) × (1 ≤ processors) × (processors ≤ 16)
-IsInRange (stretch tasks) = Unit {0}
-IsInRange (accept number sets tasks) = (1 ≤ sets) × (sets ≤ 10000) × (2 ≤ tasks) × (tasks ≤ 32) × (number + sets < 2 ^ 64)
+-- status 2: the words have none of the forms
+abbrev pub usage : Reply
+usage = reply_of 2 usage_line
+
+-- the command of a form, or of words that have none
+abbrev pub command : Option Form → Command
+command None = answer (λ reply. reply ≡ usage)
+command (Some form) = command_of form

@@ -1,94 +1,76 @@
-// The forms of the command line.
-ghost use Rattle.std.specs.Prelude.{◌≡◌, map, option_map, string_bytes, IfOk, IfSome};
-ghost use Rattle.numeral.specs.Numeral as numbers;
+// The forms of the command line: which words ask for which command.
+ghost use Rattle.std.specs.Prelude.{◌≡◌, IfOk, IfSome};
+ghost use Rattle.serving.specs.Serves.{Serves};
+ghost use Rattle.trace_answers.specs.OnTrace.{IsScale};
 ghost use Rattle.command_line.specs.Form as spec;
-ghost use Rattle.command_line.specs.FormView.{form_view};
 
+use demand_answers::Demand;
+use executive::Gate;
+use mc_world::Shelf;
 use numeral::numeral;
+use part_answers::{Partition, RunAll};
+use replies::{Reply, Stop};
+use run_answers::{Live, Run, Soak, TaskCount};
+use serving::{FileName, Within};
 use std::alloc::{AllocError, Global};
+use std::sync::Wait;
+use std::thread::Threads;
+use study_answers::{Accept, SetCount, Stretch};
+use task_answers::Check;
+use trace_answers::{OnTrace, Telling};
 
-/// The most ticks of a run.
-const MOST_TICKS: u64 = 1_000_000;
+// A number of a scale `p/q`.
+type ScalePart = Within<1, 4_294_967_295>;
 
-/// The most ticks of a live run.
-const MOST_LIVE_TICKS: u64 = 100_000;
+// The number of a set that is made from it.
+type SetNumber = Within<0, 18_446_744_073_709_551_615>;
 
-/// The most tasks of a workload, and of a set of a study.
-const MOST_TASKS: u64 = 32;
-
-/// The most processors that a set is spread over.
-const MOST_PROCESSORS: u64 = 16;
-
-/// The most sets of a study.
-const MOST_SETS: u64 = 10_000;
-
-/// What a command tells of a good trace.
-#[derive(Clone, Copy, Debug, PartialEq, Eq)]
-pub enum Telling {
-    /// The verdict under the test's rule.
-    Judge,
-    /// The verdict under EDF-VD with the scale `p/q`, also for a set that the test refuses.
-    JudgeBy { p: u64, q: u64 },
-    /// The chart.
-    Chart,
-    /// The report.
-    Report,
-    /// The trace itself, equal ticks in one record.
-    Migrate,
-}
-
-/// A form of the command line, with the names of its files and its numbers.
+/// A command, as the words of the command line name it.
 #[derive(Drop)]
 pub enum Form<'a> {
-    Check {
-        tasks: &'a str,
-    },
-    Run {
-        tasks: &'a str,
-        work: &'a str,
-        ticks: u64,
-    },
-    OnTrace {
-        telling: Telling,
-        tasks: &'a str,
-        trace: &'a str,
-    },
-    Soak {
-        number: u64,
-        tasks: u32,
-        ticks: u64,
-    },
-    Live {
-        tasks: &'a str,
-        ticks: u64,
-    },
-    Demand {
-        demands: &'a str,
-    },
-    Partition {
-        tasks: &'a str,
-        processors: u32,
-    },
-    RunAll {
-        tasks: &'a str,
-        work: &'a str,
-        ticks: u64,
-        processors: u32,
-    },
-    Stretch {
-        tasks: &'a str,
-    },
-    Accept {
-        number: u64,
-        sets: u32,
-        tasks: u32,
-    },
+    Check(Check<'a>),
+    Run(Run<'a>),
+    OnTrace(OnTrace<'a>),
+    Soak(Soak),
+    Live(Live<'a>),
+    Demand(Demand<'a>),
+    Partition(Partition<'a>),
+    RunAll(RunAll<'a>),
+    Stretch(Stretch<'a>),
+    Accept(Accept),
+}
+
+impl<'a> Form<'a> {
+    /// The reply to the command. `run`, `soak`, `live` and `runall` run a thread for each task, and may wait.
+    pub fn reply<R: Threads + Wait + Sync, S: Shelf, G: Gate + Sync>(
+        &self,
+        rt: &R,
+        alloc: Global,
+        shelf: &mut S,
+        gate: &G,
+    ) -> Result<Reply, Stop>
+        requires { spec.IsInRange self.now }
+        ensures { Serves 1 (spec.command_of self.now) (S.state shelf.old) (S.state shelf.new) result }
+    {
+        match self {
+            Form::Check(check) => check.reply(alloc, shelf),
+            Form::Run(run) => run.reply(rt, alloc, shelf, gate),
+            Form::OnTrace(on_trace) => on_trace.reply(alloc, shelf),
+            Form::Soak(soak) => soak.reply(rt, alloc, gate),
+            Form::Live(live) => live.reply(rt, alloc, shelf, gate),
+            Form::Demand(demand) => demand.reply(alloc, shelf),
+            Form::Partition(partition) => partition.reply(alloc, shelf),
+            Form::RunAll(run_all) => run_all.reply(rt, alloc, shelf, gate),
+            Form::Stretch(stretch) => stretch.reply(alloc, shelf),
+            Form::Accept(accept) => accept.reply(rt, alloc),
+        }
+    }
 }
 
 /// The form that the words have, if any.
 pub fn form_of(words: &[String]) -> Option<Form<'_>>
-    ensures form { option_map form_view result ≡ spec.form_of (map (λ w. string_bytes w) words.now) }
-    ensures range { IfSome result (λ form. spec.IsInRange (form_view form)) }
+    ensures form { result ≡ spec.form_in words.now }
+    ensures range { IfSome result spec.IsInRange }
 {
     match words {
         [word, a] => with_one(word.as_str(), a.as_str()),
@@ -117,53 +99,47 @@ pub fn usage_line(alloc: Global) -> Result<Vec<u8>, AllocError>
 }
 
 fn with_one<'a>(word: &str, file: &'a str) -> Option<Form<'a>>
-    ensures form { option_map form_view result ≡ spec.with_one word.now file.now }
-    ensures range { IfSome result (λ form. spec.IsInRange (form_view form)) }
+    ensures form { result ≡ spec.with_one word.now file.now }
+    ensures range { IfSome result spec.IsInRange }
 {
+    let file = FileName::new(file);
     match word {
-        "check" => Some(Form::Check { tasks: file }),
-        "demand" => Some(Form::Demand { demands: file }),
-        "stretch" => Some(Form::Stretch { tasks: file }),
+        "check" => Some(Form::Check(Check { tasks: file })),
+        "demand" => Some(Form::Demand(Demand { demands: file })),
+        "stretch" => Some(Form::Stretch(Stretch { tasks: file })),
         _ => None,
     }
 }
 
 fn with_two<'a>(word: &str, tasks: &'a str, second: &'a str) -> Option<Form<'a>>
-    ensures form { option_map form_view result ≡ spec.with_two word.now tasks.now second.now }
-    ensures range { IfSome result (λ form. spec.IsInRange (form_view form)) }
+    ensures form { result ≡ spec.with_two word.now tasks.now second.now }
+    ensures range { IfSome result spec.IsInRange }
 {
     match word {
         "live" => {
-            let ticks = number(second, 1, MOST_LIVE_TICKS)?;
-            Some(Form::Live { tasks, ticks })
+            let tasks = FileName::new(tasks);
+            let ticks = bounded(second)?;
+            Some(Form::Live(Live { tasks, ticks }))
         }
         "partition" => {
-            let processors = number(second, 1, MOST_PROCESSORS)? as u32;
-            Some(Form::Partition { tasks, processors })
+            let tasks = FileName::new(tasks);
+            let processors = bounded(second)?;
+            Some(Form::Partition(Partition { tasks, processors }))
         }
-        _ => {
-            let telling = telling_of(word)?;
-            Some(Form::OnTrace {
-                telling,
-                tasks,
-                trace: second,
-            })
-        }
+        _ => Some(on_trace(telling_of(word)?, tasks, second)),
     }
 }
 
 fn with_three<'a>(word: &str, first: &'a str, second: &'a str, third: &str) -> Option<Form<'a>>
-    ensures form { option_map form_view result ≡ spec.with_three word.now first.now second.now third.now }
-    ensures range { IfSome result (λ form. spec.IsInRange (form_view form)) }
+    ensures form { result ≡ spec.with_three word.now first.now second.now third.now }
+    ensures range { IfSome result spec.IsInRange }
 {
     match word {
         "run" => {
-            let ticks = number(third, 1, MOST_TICKS)?;
-            Some(Form::Run {
-                tasks: first,
-                work: second,
-                ticks,
-            })
+            let tasks = FileName::new(first);
+            let work = FileName::new(second);
+            let ticks = bounded(third)?;
+            Some(Form::Run(Run { tasks, work, ticks }))
         }
         "soak" => workload(first, second, third),
         "accept" => study(first, second, third),
@@ -178,35 +154,42 @@ fn with_four<'a>(
     third: &str,
     fourth: &str,
 ) -> Option<Form<'a>>
-    ensures form { option_map form_view result ≡ spec.with_four word.now tasks.now second.now third.now fourth.now }
-    ensures range { IfSome result (λ form. spec.IsInRange (form_view form)) }
+    ensures form { result ≡ spec.with_four word.now tasks.now second.now third.now fourth.now }
+    ensures range { IfSome result spec.IsInRange }
 {
     match word {
-        "judge" => {
-            let telling = judge_by(third, fourth)?;
-            Some(Form::OnTrace {
-                telling,
-                tasks,
-                trace: second,
-            })
-        }
+        "judge" => Some(on_trace(judge_by(third, fourth)?, tasks, second)),
         "runall" => {
-            let ticks = number(third, 1, MOST_TICKS)?;
-            let processors = number(fourth, 1, MOST_PROCESSORS)? as u32;
-            Some(Form::RunAll {
+            let tasks = FileName::new(tasks);
+            let work = FileName::new(second);
+            let ticks = bounded(third)?;
+            let processors = bounded(fourth)?;
+            Some(Form::RunAll(RunAll {
                 tasks,
-                work: second,
+                work,
                 ticks,
                 processors,
-            })
+            }))
         }
         _ => None,
     }
 }
 
+fn on_trace<'a>(telling: Telling, tasks: &'a str, trace: &'a str) -> Form<'a>
+    ensures { result ≡ spec.trace_form tasks.now trace.now telling }
+{
+    let tasks = FileName::new(tasks);
+    let trace = FileName::new(trace);
+    Form::OnTrace(OnTrace {
+        telling,
+        tasks,
+        trace,
+    })
+}
+
 fn telling_of(word: &str) -> Option<Telling>
     ensures form { result ≡ spec.telling_of word.now }
-    ensures scale { IfSome result spec.IsScale }
+    ensures scale { IfSome result IsScale }
 {
     match word {
         "judge" => Some(Telling::Judge),
@@ -219,10 +202,11 @@ fn telling_of(word: &str) -> Option<Telling>
 
 fn judge_by(p: &str, q: &str) -> Option<Telling>
     ensures form { result ≡ spec.judge_by (spec.number 1 4294967295 p.now) (spec.number 1 4294967295 q.now) }
-    ensures scale { IfSome result spec.IsScale }
+    ensures scale { IfSome result IsScale }
 {
-    let p = number(p, 1, u64::from(u32::MAX))?;
-    let q = number(q, 1, u64::from(u32::MAX))?;
+    let p: ScalePart = bounded(p)?;
+    let q: ScalePart = bounded(q)?;
+    let (p, q) = (p.get(), q.get());
     if p <= q {
         Some(Telling::JudgeBy { p, q })
     } else {
@@ -231,45 +215,48 @@ fn judge_by(p: &str, q: &str) -> Option<Telling>
 }
 
 fn workload<'a>(seed: &str, tasks: &str, ticks: &str) -> Option<Form<'a>>
-    ensures form { option_map form_view result
+    ensures form { result
         ≡ spec.workload (spec.number 0 18446744073709551615 seed.now) (spec.number 2 32 tasks.now) (spec.number 1 1000000 ticks.now) }
-    ensures range { IfSome result (λ form. spec.IsInRange (form_view form)) }
+    ensures range { IfSome result spec.IsInRange }
 {
-    let number_of_set = number(seed, 0, u64::MAX)?;
-    let tasks = number(tasks, 2, MOST_TASKS)?;
-    let ticks = number(ticks, 1, MOST_TICKS)?;
-    Some(Form::Soak {
-        number: number_of_set,
-        tasks: tasks as u32,
+    let seed: SetNumber = bounded(seed)?;
+    let tasks: TaskCount = bounded(tasks)?;
+    let ticks = bounded(ticks)?;
+    // The tasks are within their bounds.
+    let _count = tasks.get();
+    Some(Form::Soak(Soak {
+        number: seed.get(),
+        tasks,
         ticks,
-    })
+    }))
 }
 
 fn study<'a>(first: &str, sets: &str, tasks: &str) -> Option<Form<'a>>
-    ensures form { option_map form_view result
+    ensures form { result
         ≡ spec.study (spec.number 0 18446744073709551615 first.now) (spec.number 1 10000 sets.now) (spec.number 2 32 tasks.now) }
-    ensures range { IfSome result (λ form. spec.IsInRange (form_view form)) }
+    ensures range { IfSome result spec.IsInRange }
 {
-    let number_of_first = number(first, 0, u64::MAX)?;
-    let sets = number(sets, 1, MOST_SETS)?;
-    let count = number(tasks, 2, MOST_TASKS)?;
-    if sets > u64::MAX - number_of_first {
+    let first: SetNumber = bounded(first)?;
+    let number = first.get();
+    let sets: SetCount = bounded(sets)?;
+    let tasks = bounded(tasks)?;
+    if sets.get() > u64::MAX - number {
         return None;
     }
-    Some(Form::Accept {
-        number: number_of_first,
-        sets: sets as u32,
-        tasks: count as u32,
-    })
+    Some(Form::Accept(Accept {
+        number,
+        sets,
+        tasks,
+    }))
 }
 
-// A number from `least` to `most`.
-fn number(word: &str, least: u64, most: u64) -> Option<u64>
-    ensures { result ≡ spec.number least most word.now }
+// A number within the bounds of its type.
+fn bounded<const LEAST: u64, const MOST: u64>(word: &str) -> Option<Within<LEAST, MOST>>
+    ensures { result ≡ spec.number LEAST MOST word.now }
 {
     match numeral(word.as_bytes(), 20) {
-        Some(number) if u128::from(least) <= number && number <= u128::from(most) => {
-            Some(number as u64)
+        Some(number) if u128::from(LEAST) <= number && number <= u128::from(MOST) => {
+            Within::new(number as u64)
         }
         _ => None,
     }

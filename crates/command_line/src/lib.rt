@@ -3,4 +3,4 @@
 
 mod form;
 
-pub use form::{Form, Telling, form_of, usage_line};
+pub use form::{Form, form_of, usage_line};

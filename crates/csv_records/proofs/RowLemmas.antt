@@ -2,7 +2,9 @@
 use Rattle.std.proofs.Common.{◌≡◌, ℕ, zero, suc, ◌+◌, List, [], ◌∷◌, ◌++◌, length, take, Option, Some, None, Result, Ok, Err, slice_get, refl, sym, ap, subst, ◌∙◌, append_assoc}
 use Rattle.std.proofs.lemmas.List.{append-nil}
 use Rattle.std.specs.Option.{option_map_or}
-use Rattle.csv_records.specs.Rows.{Means, Refusal, rows_with, rows_from, rows_of, EndsWith, IsReadEach}
+use Rattle.csv_records.specs.declared.fault.Fault.{Fault}
+use Rattle.csv_records.specs.declared.fault.Fault.TheVariants.{Memory, At}
+use Rattle.csv_records.specs.Rows.{Means, rows_with, rows_from, rows_of, EndsWith, IsReadEach}
 
 -- each record is one row more
 pub each_is_read : {Row Cause : Type 0} (means : Means Row Cause) (records : List (List (List ℕ))) (before : List Row) → IsReadEach means records before (rows_from means records before)
@@ -14,9 +16,10 @@ each_is_read {Row = Row} {Cause = Cause} means (f ∷ fs) before = go (means bef
     each r is more others zero fields row here there = ap (λ rows. means rows fields) (append-nil before) ∙ cc
     each r is more others (suc i) fields row here there = ap (λ rows. means rows fields) (sym (append_assoc before (r ∷ []) (take i more))) ∙ others i fields row here there
 
-    ends : (r : Row) (more : List Row) (read : Result (List Row) (Refusal Cause)) → EndsWith means fs (before ++ r ∷ []) more read → EndsWith means (f ∷ fs) before (r ∷ more) read
+    ends : (r : Row) (more : List Row) (read : Result (List Row) (Fault Cause)) → EndsWith means fs (before ++ r ∷ []) more read → EndsWith means (f ∷ fs) before (r ∷ more) read
     ends r more (Ok rows) e = (e.0 ∙ append_assoc before (r ∷ []) more, ap suc e.1)
-    ends r more (Err refusal) e = subst (λ rows. (fields : List (List ℕ)) × (slice_get fs (length more) ≡ Some fields) × (means rows fields ≡ Err refusal.cause) × (refusal.line ≡ length rows + 2)) (append_assoc before (r ∷ []) more) e
+    ends r more (Err Memory) e = e
+    ends r more (Err (At line cause)) e = subst (λ rows. (fields : List (List ℕ)) × (slice_get fs (length more) ≡ Some fields) × (means rows fields ≡ Err cause) × (line ≡ length rows + 2)) (append_assoc before (r ∷ []) more) e
 
     go : (one : Result Row Cause) → means before f ≡ one → ((rows : List Row) → IsReadEach means fs rows (rows_from means fs rows)) → IsReadEach means (f ∷ fs) before (rows_with before (rows_from means fs) one)
     go (Err cause) is others =
@@ -42,6 +45,6 @@ pub file_keeps : {Row Cause : Type 0} (P : List Row → Type 0) (header : List (
 file_keeps P header no_header none keep [] rows read = cc
 file_keeps {Row = Row} {Cause = Cause} P header no_header none keep (first ∷ left) rows read = by (header first) refl read
   where
-    by : (says : Option (Means Row Cause)) → header first ≡ says → option_map_or (λ means. rows_from means left []) says (Err (record { line = 1; cause = no_header })) ≡ Ok rows → P rows
+    by : (says : Option (Means Row Cause)) → header first ≡ says → option_map_or (λ means. rows_from means left []) says (Err (At 1 no_header)) ≡ Ok rows → P rows
     by None is read = cc
     by (Some means) is read = rows_keep P means (keep first means is) left [] rows none read

@@ -22,7 +22,7 @@ abbrev pub records_left : Bool → Reader (Bor (List ℕ)) → List (List (List 
 records_left true r = []
 records_left false r = records_after r.state (source_of bytes_left r)
 
--- the errors of reading records of any lengths: that of the reader underneath, and want of memory
+-- the errors of reading records of any lengths: a failed read of the bytes, and a failed allocation
 abbrev pub IsOfReader : ErrorKind → Type 0
 IsOfReader (kind.Io e) = ⊤
 IsOfReader (kind.UnequalLengths pos expected len) = ⊥
@@ -31,7 +31,7 @@ IsOfReader kind.OutOfMemory = ⊤
 IsOfReader (kind.Serialize text) = ⊥
 IsOfReader (kind.Deserialize pos err) = ⊥
 
--- it gives the records of the bytes that are left, as they are and of any lengths
+-- the reader gives the records of the bytes that are left, as they are and of any lengths
 pub record GivesRecords (r : Reader (Bor (List ℕ))) : Type 0 where
   pub trim : r.trim ≡ trim.None
   pub ready : Ready r
@@ -39,6 +39,6 @@ pub record GivesRecords (r : Reader (Bor (List ℕ))) : Type 0 where
   pub config : r.config ≡ default_config
   pub source : IsSome (source_of bytes_left r)
 
--- so does a reader that was not let go
+-- a reader that was not let go gives the records of the bytes that are left
 abbrev pub ReadsText : Bool → Reader (Bor (List ℕ)) → Type 0
 ReadsText let_go r = let_go ≡ false → GivesRecords r

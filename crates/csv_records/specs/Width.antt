@@ -60,8 +60,8 @@ is_inside state.InQuoted = true
 is_inside state.AfterQuote = true
 is_inside state.InEscape = true
 
--- behind i bytes of the text so many records ended, and the next one goes on from the place with so many fields, some
--- fields and a part of one
+-- after i bytes of the text the counts are right: how many records ended, how many fields the next one has so far, and in
+-- which state of csv's machine it goes on
 pub record CountsFields (text : List ℕ) (i : ℕ) (count : Count) : Type 0 where
   pub fields : List (List ℕ)
   pub part : List ℕ
@@ -70,4 +70,5 @@ pub record CountsFields (text : List ℕ) (i : ℕ) (count : Count) : Type 0 whe
   pub order : count.records ≤ i
   pub left :
       drop count.records (records default_config text)
-      ≡ records_next (records_from default_config (length text - count.records)) (next_record default_config (state_of count.place) fields part (drop i text))
+      ≡ records_next (records_from default_config (length text - count.records))
+      (next_record default_config (state_of count.place) fields part (drop i text))

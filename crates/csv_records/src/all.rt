@@ -41,7 +41,7 @@ impl<'a> AllRecords<'a> {
         }
     }
 
-    // Reads the next record into `fields`, or answers `false` where none is left. On want of memory the records are let go.
+    // Reads the next record into `fields`, or answers `false` where none is left. Out of memory, it lets the records go.
     pub fn next(&mut self, fields: &mut ByteRecord) -> Result<bool, AllocError>
         ensures record { result ≡ Ok true → self.old ≡ fields_of fields.new ∷ self.new }
         ensures none { result ≡ Ok false → self.old ≡ [] }

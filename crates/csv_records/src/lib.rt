@@ -2,11 +2,15 @@
 #![tactic(auto)]
 
 mod all;
+mod fault;
+mod fields;
 mod meaning;
 mod records;
 mod rows;
 mod width;
 
-pub use meaning::{Meaning, Said};
+pub use fault::Fault;
+pub use fields::{field, is};
+pub use meaning::Meaning;
 pub use records::{Next, Records};
 pub use rows::read_rows;

@@ -1,15 +1,7 @@
 // What the records of a text mean.
 use csv::ByteRecord;
 
-/// What a text says: its rows, with what is kept of them, or its first refusal. Lines are numbers of records, and the header
-/// is line 1.
-#[derive(Drop)]
-pub enum Said<R: Drop, K: Drop, C: Drop> {
-    Rows { rows: Vec<R>, kept: K },
-    Refused { line: u32, cause: C },
-}
-
-/// What the records of a text mean: the first is a header, and each other one is a row behind the rows before it, or is
+/// What the records of a text mean: the first is a header, and each other one is a row, by the rows before it, or is
 /// refused.
 pub trait Meaning {
     ghost use Rattle.std.specs.Prelude.{◌≡◌, ◌<◌, ◌≤◌, ◌++◌, ◌∷◌, [], ℕ, List, length, Option, None, Some, IfNone, IfSome, Err, OnOk, IfOk};
@@ -26,7 +18,7 @@ pub trait Meaning {
     /// What is kept of the header and of the rows so far.
     type Kept: Drop;
 
-    /// What the records behind this one mean, if it is a header.
+    /// What the records after this one mean, if it is a header.
     ghost header: { Self → List (List ℕ) → Option (Means Self.Row Self.Cause) };
 
     /// What records mean, by what is kept.
@@ -41,7 +33,7 @@ pub trait Meaning {
         ensures some { IfSome result (λ kept. header self.now (fields_of fields.now) ≡ Some (means self.now kept)) }
         ensures kept { IfSome result (λ kept. keeps self.now kept []) };
 
-    /// The row that a record is behind these rows, or why it is refused. A row is kept from then on.
+    /// The row that a record is after these rows, or why it is refused. A row is kept from then on.
     fn row(
         &self,
         kept: &mut Self::Kept,
@@ -53,7 +45,7 @@ pub trait Meaning {
         ensures same { OnOk result (means self.now kept.new ≡ means self.now kept.old) }
         ensures kept { IfOk result (λ row. keeps self.now kept.new (before.now ++ row ∷ [])) };
 
-    /// Why a record with more than 6 fields is refused behind these rows, whatever its fields are.
+    /// Why a record with more than 6 fields is refused after these rows, whatever its fields are.
     fn too_wide(&self, kept: &Self::Kept, before: &[Self::Row]) -> Self::Cause
         requires { keeps self.now kept.now before.now }
         ensures { (fields : List (List ℕ)) → most_fields < length fields → means self.now kept.now before.now fields ≡ Err result };

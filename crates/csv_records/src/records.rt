@@ -1,4 +1,4 @@
-// The records of a text, of which the first that has too many fields is told and not read.
+// The records of a text, of which the first that has too many fields is reported and not read.
 ghost use Rattle.std.specs.Prelude.{◌≡◌, ◌∷◌, [], Ok, OnErr};
 ghost use Rattle.csv.specs.Reading.{default_config, records, strip_bom};
 ghost use Rattle.csv.specs.Records.{fields_of};
@@ -53,8 +53,8 @@ impl<'a> Records<'a> {
         }
     }
 
-    /// Reads the next record into `fields`, if it has at most 6 fields. In a long text a wider one is told before it is
-    /// read, and is next from then on; otherwise it is read too. On want of memory the records are let go.
+    /// Reads the next record into `fields`, if it has at most 6 fields. In a long text a wider one is reported before it is
+    /// read, and is next from then on; otherwise it is read too. Out of memory, it lets the records go.
     // A call takes as long as much of a short record.
     #[inline(always)]
     pub fn next(&mut self, fields: &mut ByteRecord) -> Result<Next, AllocError>

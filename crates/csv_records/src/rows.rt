@@ -1,30 +1,31 @@
 // The rows of a text, by what its records mean.
 ghost use Rattle.std.specs.Prelude.{[], IfOk};
+ghost use Rattle.csv_records.specs.Gives.{Gives};
 ghost use Rattle.csv_records.specs.Rows.{EachIsRead, rows_from, rows_in};
-ghost use Rattle.csv_records.specs.Said.{IsSaid, IsKept};
 
-use crate::meaning::{Meaning, Said};
+use crate::fault::Fault;
+use crate::meaning::Meaning;
 use crate::records::{Next, Records};
 use csv::ByteRecord;
-use std::alloc::{AllocError, Global};
+use std::alloc::Global;
 
-/// Reads the rows of a text up to the first record that is refused. The first record is the header; where it is absent or is
-/// none, that is refused at line 1, for the cause that is handed in.
+/// Reads the rows of a text, with what is kept of them, or its first refusal. The first record is the header; where it is
+/// absent or is none, that is refused at line 1, for the cause that is handed in.
 #[tactic(auto, using(crate::proofs::RowLemmas::each_is_read))]
 pub fn read_rows<M: Meaning>(
     alloc: Global,
     text: &[u8],
     no_header: M::Cause,
     meaning: &M,
-) -> Result<Said<M::Row, M::Kept, M::Cause>, AllocError>
-    ensures said { IfOk result (IsSaid (rows_in (M.header meaning.now) no_header text.now)) }
-    ensures kept { IfOk result (IsKept (M.keeps meaning.now)) }
+) -> Result<(Vec<M::Row>, M::Kept), Fault<M::Cause>>
+    ensures rows { Gives (λ read. read.0.items) result (rows_in (M.header meaning.now) no_header text.now) }
+    ensures kept { IfOk result (λ read. M.keeps meaning.now read.1 read.0.items) }
 
-    // What `rows_in` says of the records behind the header, one by one.
+    // What `rows_in` says of the records after the header, one by one.
     ensures law { EachIsRead M.Row M.Cause }
 {
     let mut records = Records::new(alloc, text);
-    // One record for all of them, so that a row takes no memory beside its place in the list.
+    // One record for all of them, so that a row takes no memory other than its place in the list.
     let mut fields = ByteRecord::new(alloc);
     let header = match records.next(&mut fields)? {
         Next::Record => meaning.header(&fields),
@@ -32,37 +33,37 @@ pub fn read_rows<M: Meaning>(
     };
     match header {
         Some(kept) => read_behind(alloc, &mut records, &mut fields, meaning, kept),
-        None => Ok(Said::Refused {
+        None => Err(Fault::At {
             line: 1,
             cause: no_header,
         }),
     }
 }
 
-// Reads the rows behind the header.
+// Reads the rows after the header.
 fn read_behind<M: Meaning>(
     alloc: Global,
     records: &mut Records,
     fields: &mut ByteRecord,
     meaning: &M,
     kept: M::Kept,
-) -> Result<Said<M::Row, M::Kept, M::Cause>, AllocError>
+) -> Result<(Vec<M::Row>, M::Kept), Fault<M::Cause>>
     requires { M.keeps meaning.now kept [] }
-    ensures said { IfOk result (IsSaid (rows_from (M.means meaning.now kept) records.old [])) }
-    ensures kept { IfOk result (IsKept (M.keeps meaning.now)) }
+    ensures rows { Gives (λ read. read.0.items) result (rows_from (M.means meaning.now kept) records.old []) }
+    ensures kept { IfOk result (λ read. M.keeps meaning.now read.1 read.0.items) }
 {
     let mut kept = kept;
     let mut rows = Vec::new(alloc);
     'records: loop {
         let row = match records.next(fields)? {
-            Next::End => return Ok(Said::Rows { rows, kept }),
+            Next::End => return Ok((rows, kept)),
             Next::Wide => Err(meaning.too_wide(&kept, &rows)),
             Next::Record => meaning.row(&mut kept, &rows, fields),
         };
         match row {
             Ok(row) => rows.push(row)?,
             Err(cause) => {
-                return Ok(Said::Refused {
+                return Err(Fault::At {
                     line: rows.len() as u32 + 2,
                     cause,
                 });

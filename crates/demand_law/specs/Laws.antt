@@ -1,4 +1,5 @@
--- The laws on deadlines, in a set for which the rule holds and a trace that is legal under it. The newest row stands first.
+-- The laws on deadlines, for a set for which the rule holds and a trace that is legal under the rule. The newest row
+-- stands first.
 use Rattle.std.specs.Prelude.{◌≡◌, ◌*◌, ◌<◌, false, List, []}
 use Rattle.std.specs.List.{AllByRecursion}
 use Rattle.mc_task.specs.declared.task.Task.{Task}
@@ -12,14 +13,15 @@ use Rattle.mc_model.specs.Late.{late}
 use Rattle.mc_model.specs.Holds.{Holds}
 use Rattle.mc_model.specs.declared.row.Row.{Row}
 
--- it is so of every set for which the rule holds, and of every trace of it that is legal under the rule
+-- the law holds of every set for which the rule holds, with every trace of the set that is legal under the rule
 abbrev pub Everywhere : Rule → (List Task → List Row → Type 0) → Type 0
-Everywhere rule Law = (set : List Task) (h : List Row) → AreTasks set → Holds set rule → Legal set rule h → Law set h
+Everywhere rule Law =
+    (set : List Task) (h : List Row) → AreTasks set → Holds set rule → Legal set rule h → Law set h
 
 -- no job is late
 abbrev pub NoneLate : List Task → List Row → Type 0
 NoneLate set h = late set h ≡ []
 
--- in low mode each pending job's key, its virtual deadline, is still to come
+-- the virtual deadline of each pending job, which is its key in low mode, is still to come
 abbrev pub NoneDue : List Task → Rule → List Row → Type 0
 NoneDue set rule h = AllByRecursion (λ i. scale rule * ticks h < key set rule false i) (pending set h)

@@ -9,26 +9,28 @@ use Rattle.mc_model.specs.Late.{up_to, deadline}
 use Rattle.mc_model.specs.declared.row.Row.{Row}
 use Rattle.mc_model.specs.declared.row.Row.TheVariants.{Release, Tick, Idle}
 
--- the row is an overrun
+-- whether the row is an overrun
 abbrev pub is_over_row : Row → Bool
 is_over_row (Release j kept) = false
 is_over_row (Tick j how) = is_over how
 is_over_row Idle = false
 
--- no row is
+-- no row of the trace is an overrun
 abbrev pub NoOver : List Row → Type 0
 NoOver h = list_any is_over_row h ≡ false
 
--- the row is a release that was dropped
+-- whether the row is a release that was dropped
 abbrev pub is_drop : Row → Bool
 is_drop (Release j kept) = not kept
 is_drop (Tick j how) = false
 is_drop Idle = false
 
--- no row is
+-- no row of the trace is a dropped release
 abbrev pub NoDrop : List Row → Type 0
 NoDrop h = list_any is_drop h ≡ false
 
--- each kept job whose deadline has come has its Done or Stop row among the rows up to it
+-- each kept job whose deadline has come has a Done or Stop row by that deadline
 abbrev pub EndedInTime : List Task → List Row → Type 0
-EndedInTime set h = AllByRecursion (λ i. deadline set i ≤ ticks h → ended (up_to (deadline set i) h) i.job ≡ true) (released h)
+EndedInTime set h =
+    AllByRecursion (λ i. deadline set i ≤ ticks h → ended (up_to (deadline set i) h) i.job ≡ true)
+    (released h)

@@ -14,6 +14,7 @@ pending_of k (i ∷ is) = cond (i.job.task.0 == k) 1 0 + pending_of k is
 abbrev pub AtMostOne : List Task → List Row → Type 0
 AtMostOne set h = (k : ℕ) → pending_of k (pending set h) ≤ 1
 
--- each task has none where its next release may come: before its first one, and where its last one is a period ago
+-- a task has no pending job where its next one may be released: before its first release, or once its period has passed
+-- since the last
 abbrev pub NoneAtRelease : List Task → List Row → Type 0
 NoneAtRelease set h = (k : ℕ) → next_release set h k ≤ ticks h → pending_of k (pending set h) ≡ 0

@@ -12,7 +12,7 @@ use Rattle.demand_test.specs.declared.row.EdfRow.{EdfRow}
 use Rattle.demand_test.specs.declared.row.EdfRow.TheVariants.{Release, Tick, Idle}
 use Rattle.demand_test.specs.DemandSet.{IsDemand, IsIn, demand_at, deadline_in}
 use Rattle.demand_test.specs.Runs.{ticks, Released, released, releases, is_marked, pending, deadline}
-use Rattle.demand_test.specs.EdfRuns.{MayRun, IsRun}
+use Rattle.demand_test.specs.EdfRuns.{MayRun, IsEdfSchedule}
 use Rattle.demand_test.specs.Counter.{AtMultiples, InTaskOrder, IsLowest, LowestFirst, IsCounter}
 use Rattle.demand_test.specs.Play.{GoesFirst}
 use Rattle.demand_test.proofs.Membership.{In, in_list, each_of}
@@ -23,7 +23,7 @@ use Rattle.demand_test.proofs.Played.{IsAtMultiple, IsPlaced, IsNext, placed_mor
 
 -- the rows have come to boundary b, where the first i tasks had their turn to release
 record IsPart (set : List Demand) (b i : ℕ) (h : List EdfRow) : Type 0 where
-  run : IsRun set h
+  run : IsEdfSchedule set h
   boundary : ticks h ≡ b
   multiples : AtMultiples set h
   order : InTaskOrder (released h)
@@ -41,7 +41,7 @@ placed_before (Idle ∷ g) b l = placed_before g b (omega arith)
 
 -- where only tasks up to m are released at b, the next release of a later one comes less than a period after b
 next_soon :
-    (set : List Demand) (h : List EdfRow) (k b m : ℕ) → 1 ≤ period_of set k → IsRun set h → AtMultiples set h → m < k → Each (IsPlaced b m) (released h) →
+    (set : List Demand) (h : List EdfRow) (k b m : ℕ) → 1 ≤ period_of set k → IsEdfSchedule set h → AtMultiples set h → m < k → Each (IsPlaced b m) (released h) →
     releases h k * period_of set k < b + period_of set k
 next_soon set [] k b m pos r a l p = omega arith
 next_soon set (Tick j last ∷ g) k b m pos r a l p = next_soon set g k b m pos r.1 a l p
@@ -108,7 +108,7 @@ before_release set b i j g is w = record {
 
 -- behind a tick all tasks had their turn
 before_tick :
-    (set : List Demand) (b i : ℕ) (g : List EdfRow) → AllByRecursion IsDemand set → IsRun set g → AtMultiples set g → InTaskOrder (released g) →
+    (set : List Demand) (b i : ℕ) (g : List EdfRow) → AllByRecursion IsDemand set → IsEdfSchedule set g → AtMultiples set g → InTaskOrder (released g) →
     ((j : JobId) → is_marked g j ≡ false) → LowestFirst set g → ticks g + 1 ≡ b → ((k : ℕ) → IsIn set k → IsNext set g (cond (nat_le k i) (b + 1) b) k) →
     IsPart set (ticks g) (length set) g
 before_tick set b i g is run multiples order whole lowest t next = record {
@@ -163,7 +163,7 @@ goes_first set g j run low a =
 
 -- it is determined
 same_tick :
-    (set : List Demand) (g : List EdfRow) (j j' : JobId) → AllByRecursion IsDemand set → IsRun set g → AtMultiples set g →
+    (set : List Demand) (g : List EdfRow) (j j' : JobId) → AllByRecursion IsDemand set → IsEdfSchedule set g → AtMultiples set g →
     MayRun set g j → IsLowest set g j → MayRun set g j' → IsLowest set g j' → j ≡ j'
 same_tick set g j j' is r a run low run' low' =
     let x = low.x in

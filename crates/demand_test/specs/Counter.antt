@@ -8,16 +8,19 @@ use Rattle.demand_test.specs.declared.row.EdfRow.{EdfRow}
 use Rattle.demand_test.specs.declared.row.EdfRow.TheVariants.{Release, Tick, Idle}
 use Rattle.demand_test.specs.DemandSet.{IsIn, demand_at, period_in}
 use Rattle.demand_test.specs.Runs.{ticks, Released, released, releases, is_marked, pending, deadline, late}
-use Rattle.demand_test.specs.EdfRuns.{IsRun}
+use Rattle.demand_test.specs.EdfRuns.{IsEdfSchedule}
 
--- each job is released at a multiple of its task's period: the first at 0, and the c-th so many periods after it
+-- each job is released at a multiple of its task's period: the first at 0, and the c-th c - 1 periods later
 abbrev pub AtMultiples : List Demand → List EdfRow → Type 0
-AtMultiples set h = AllByRecursion (λ x. x.release + period_in (demand_at set x.job.task.0) ≡ x.job.count * period_in (demand_at set x.job.task.0)) (released h)
+AtMultiples set h = AllByRecursion
+    (λ x. x.release + period_in (demand_at set x.job.task.0) ≡ x.job.count * period_in (demand_at set x.job.task.0))
+    (released h)
 
--- released jobs, the newest first: those of one boundary stand in task order
+-- released jobs, the newest first: jobs of one boundary stand in task order
 abbrev pub InTaskOrder : List Released → Type 0
 InTaskOrder [] = Unit {0}
-InTaskOrder (x ∷ xs) = AllByRecursion (λ y. y.release ≡ x.release → y.job.task.0 < x.job.task.0) xs × InTaskOrder xs
+InTaskOrder (x ∷ xs) =
+    AllByRecursion (λ y. y.release ≡ x.release → y.job.task.0 < x.job.task.0) xs × InTaskOrder xs
 
 -- the job is pending, and no pending job with the same deadline has a lower task number
 pub record IsLowest (set : List Demand) (g : List EdfRow) (j : JobId) : Type 0 where
@@ -33,15 +36,15 @@ LowestFirst set (Release j ∷ g) = LowestFirst set g
 LowestFirst set (Tick j last ∷ g) = IsLowest set g j × LowestFirst set g
 LowestFirst set (Idle ∷ g) = LowestFirst set g
 
--- the run of n ticks in which each task releases at every multiple of its period below n, every job uses its whole budget,
--- and ties go to the lowest task number
+-- the schedule of n ticks in which each task releases at every multiple of its period below n, every job uses its whole
+-- budget, and ties go to the lowest task number
 pub record IsCounter (set : List Demand) (n : ℕ) (h : List EdfRow) : Type 0 where
-  pub run : IsRun set h
+  pub run : IsEdfSchedule set h
   pub ticks : ticks h ≡ n
   pub multiples : AtMultiples set h
   -- no task's next release would come before n
   pub every : (k : ℕ) → IsIn set k → n ≤ releases h k * period_in (demand_at set k)
-  -- and none comes at n or behind it
+  -- no release comes at n or later
   pub below : AllByRecursion (λ x. x.release < n) (released h)
   pub order : InTaskOrder (released h)
   -- no tick is marked as its job's last

@@ -17,9 +17,10 @@ name_in (Some t) = t.name
 abbrev pub job_text : List Demand → JobId → List ℕ
 job_text set j = codes " " ++ (name_in (demand_at set j.task.0) ++ (codes " " ++ decimal j.count))
 
--- the line of a row behind so many ticks
+-- the line of a row after n ticks
 unfoldable pub row_line : List Demand → ℕ → EdfRow → List ℕ
-row_line set tick (Release j) = codes "release" ++ (job_text set j ++ (codes " at " ++ (decimal tick ++ codes "\n")))
+row_line set tick (Release j) =
+    codes "release" ++ (job_text set j ++ (codes " at " ++ (decimal tick ++ codes "\n")))
 row_line set tick (Tick j last) = codes "tick " ++ (decimal tick ++ (job_text set j ++ codes "\n"))
 row_line set tick Idle = codes "idle " ++ (decimal tick ++ codes "\n")
 

@@ -1,33 +1,30 @@
 -- What a demand file says: its tasks, or its first refusal.
-use Rattle.std.specs.Prelude.{ℕ, Bool, false, not, ◌||◌, ◌==◌, nat_le, nat_lt, if◌then◌else◌, List, [], ◌∷◌, ◌++◌, codes, length, unwrap_or, Option, Some, None, Result, Ok, Err}
+use Rattle.std.specs.Prelude.{ℕ, Bool, false, not, ◌||◌, ◌==◌, nat_le, nat_lt, if◌then◌else◌, List, [], ◌∷◌, ◌++◌, codes, length, Option, Some, None, Result, Ok, Err}
 use lib.Pointwise.{pointwise}
 use Rattle.std.specs.Str.{bytes_eq}
-use Rattle.csv.specs.Records.{field_at}
-use Rattle.csv_records.specs.Rows.{Means, rows_in, or_fault}
+use Rattle.csv_records.specs.Fields.{field}
+use Rattle.csv_records.specs.Rows.{Means, rows_in}
+use Rattle.csv_records.specs.declared.fault.Fault.{Fault}
+use Rattle.csv_records.specs.declared.fault.Fault.TheVariants.{At}
 use Rattle.mc_task.specs.NameForm.{is_name}
 use Rattle.numeral.specs.Numeral.{number}
 use Rattle.demand_test.specs.Refusals.{◌>>=◌, refuse_if, or_refuse}
 use Rattle.demand_test.specs.declared.demand.Demand.{Demand}
 use Rattle.demand_test.specs.declared.fault.DemandCause.{DemandCause}
 use Rattle.demand_test.specs.declared.fault.DemandCause.TheVariants.{Header, Empty, TooMany, BadRecord, BadName, SameName, BadNumber, ZeroNumber, DeadlineOrder, Range}
-use Rattle.demand_test.specs.declared.fault.DemandFault.{DemandFault}
-use Rattle.demand_test.specs.declared.fault.DemandFault.TheVariants.{At}
 use Rattle.demand_test.specs.DemandSet.{hyperperiod, most_lcm}
-
--- the field at a place, from 0; empty where there is none
-abbrev pub field : List (List ℕ) → ℕ → List ℕ
-field fields i = unwrap_or (field_at fields i) []
 
 -- the record is `task,period,deadline,budget`
 abbrev pub is_header : List (List ℕ) → Bool
-is_header fields = pointwise bytes_eq fields (codes "task" ∷ codes "period" ∷ codes "deadline" ∷ codes "budget" ∷ [])
+is_header fields =
+    pointwise bytes_eq fields (codes "task" ∷ codes "period" ∷ codes "deadline" ∷ codes "budget" ∷ [])
 
 -- one of the tasks has the name
 abbrev pub has_name : List ℕ → List Demand → Bool
 has_name name [] = false
 has_name name (t ∷ ts) = bytes_eq t.name name || has_name name ts
 
--- the name in a field of a record behind these tasks
+-- the name in a field of a record after these tasks
 abbrev pub name_of : List Demand → List ℕ → Result (List ℕ) DemandCause
 name_of before name = do
   _ ← refuse_if (not (is_name name)) BadName
@@ -42,7 +39,7 @@ numbered_task name fields = do
   budget ← or_refuse BadNumber (number (field fields 3))
   Ok (record { name = name; period = period; deadline = deadline; budget = budget })
 
--- the least common multiple of the periods with this task's, where its numbers may stand behind those before
+-- the hyperperiod with this task's period, where its numbers may stand after the tasks before it
 abbrev pub multiple_with : List Demand → Demand → Result ℕ DemandCause
 multiple_with before t = do
   _ ← refuse_if ((t.period == 0 || t.deadline == 0) || t.budget == 0) ZeroNumber
@@ -50,7 +47,7 @@ multiple_with before t = do
   _ ← refuse_if (nat_lt most_lcm (hyperperiod (before ++ t ∷ []))) Range
   Ok (hyperperiod (before ++ t ∷ []))
 
--- the task of a record behind these tasks
+-- the task of a record after these tasks
 unfoldable pub record_task : List Demand → List (List ℕ) → Result Demand DemandCause
 record_task before fields = do
   _ ← refuse_if (nat_le 128 (length before)) TooMany
@@ -60,17 +57,17 @@ record_task before fields = do
   _ ← multiple_with before t
   Ok t
 
--- what the records behind this one mean, if it is the header
+-- what the records after this one mean, if it is the header
 abbrev pub behind_header : List (List ℕ) → Option (Means Demand DemandCause)
 behind_header fields = if is_header fields then Some record_task else None
 
 -- these tasks, of which there is one at least
-abbrev pub some_tasks : List Demand → Result (List Demand) DemandFault
+abbrev pub some_tasks : List Demand → Result (List Demand) (Fault DemandCause)
 some_tasks [] = Err (At 1 Empty)
 some_tasks (t ∷ ts) = Ok (t ∷ ts)
 
 -- the tasks of a file of these bytes
-abbrev pub demands_in : List ℕ → Result (List Demand) DemandFault
+abbrev pub demands_in : List ℕ → Result (List Demand) (Fault DemandCause)
 demands_in bytes = do
-  tasks ← or_fault At (rows_in behind_header Header bytes)
+  tasks ← rows_in behind_header Header bytes
   some_tasks tasks

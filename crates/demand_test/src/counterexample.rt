@@ -1,5 +1,5 @@
-ghost use Rattle.std.specs.Prelude.{◌≡◌, ◌≤◌, IfOk};
-ghost use Rattle.demand_test.specs.DemandSet.{hyperperiod, most_lcm};
+ghost use Rattle.std.specs.Prelude.{◌≡◌, IfOk};
+ghost use Rattle.demand_test.specs.DemandSet.{hyperperiod};
 ghost use Rattle.demand_test.specs.DemandBound.{IsPast};
 ghost use Rattle.demand_test.specs.Counter.{OneCounter};
 ghost use Rattle.demand_test.specs.CounterText.{ShowsCounter};
@@ -9,29 +9,19 @@ use crate::DemandSet;
 use crate::lines::{push_late, push_rows};
 use crate::play::{Job, deadline, played};
 use mc_task::{JobId, Memory};
-use std::alloc::{AllocError, Global};
+use std::alloc::Global;
 
 /// A counterexample for a set that is past at `length`: the text of a run of that many ticks under plain EDF in which a
 /// job is late. In it each task releases at every multiple of its period, each job uses its whole budget, and ties go to
 /// the lowest task number.
+#[tactic(auto, using(crate::proofs::Unique::one_counter))]
 pub fn counter(alloc: Global, set: &DemandSet, length: u64) -> Result<Vec<u8>, Memory>
     requires past { IsPast set.now (hyperperiod set.now) length }
     ensures text { IfOk result (λ text. ShowsCounter set.now length text.items) }
     ensures law { OneCounter set.now length }
 {
     let _is_set = set.len();
-    match text(alloc, set, length as u32) {
-        Ok(text) => Ok(text),
-        Err(_) => Err(Memory),
-    }
-}
-
-fn text(alloc: Global, set: &DemandSet, length: u32) -> Result<Vec<u8>, AllocError>
-    requires past { IsPast set.now (hyperperiod set.now) length }
-    requires few { length ≤ most_lcm }
-    ensures { IfOk result (λ text. ShowsCounter set.now length text.items) }
-{
-    let _is_set = set.len();
+    let length = length as u32;
     let play = played(alloc, set, length)?;
     let mut out = Vec::new(alloc);
     push_rows(&mut out, set, &play.rows)?;

@@ -1,13 +1,13 @@
 ghost use Rattle.std.specs.Prelude.{IfOk};
+ghost use Rattle.csv_records.specs.Gives.{Gives};
 ghost use Rattle.demand_test.specs.DemandFile.{demands_in, some_tasks};
 ghost use Rattle.demand_test.specs.DemandSet.{IsDemandSet};
-ghost use Rattle.demand_test.specs.Refusals.{Gives};
 ghost use Rattle.demand_test.specs.SoFar.{IsSoFar};
 
 use crate::record::{is_header, record_task};
 use crate::{Demand, DemandCause, DemandFault, DemandSet};
 use csv::ByteRecord;
-use csv_records::{Meaning, Said, read_rows};
+use csv_records::{Meaning, read_rows};
 use std::alloc::Global;
 
 /// Reads a demand file: records of four fields, the first of them the header `task,period,deadline,budget`, each other
@@ -18,19 +18,17 @@ use std::alloc::Global;
 /// then for each record in turn `TooMany`, the 129th task; `BadRecord`; `BadName`; `SameName`; `BadNumber`;
 /// `ZeroNumber`; `DeadlineOrder`; `Range`.
 pub fn read_demands(alloc: Global, bytes: &[u8]) -> Result<DemandSet, DemandFault>
-    ensures file { Gives result (demands_in bytes.now) }
+    ensures file { Gives (λ set. set) result (demands_in bytes.now) }
     ensures set { IfOk result (λ set. IsDemandSet set) }
 {
-    match read_rows(alloc, bytes, DemandCause::Header, &DemandRecords)? {
-        Said::Rows { rows, kept } => set_of(rows, kept),
-        Said::Refused { line, cause } => Err(DemandFault::At { line, cause }),
-    }
+    let (tasks, multiple) = read_rows(alloc, bytes, DemandCause::Header, &DemandRecords)?;
+    set_of(tasks, multiple)
 }
 
 // The set of these tasks, of whose periods this is the least common multiple.
 fn set_of(tasks: Vec<Demand>, multiple: u32) -> Result<DemandSet, DemandFault>
     requires { IsSoFar tasks.items multiple }
-    ensures file { Gives result (some_tasks tasks.items) }
+    ensures file { Gives (λ set. set) result (some_tasks tasks.items) }
     ensures set { IfOk result (λ set. IsDemandSet set) }
 {
     if tasks.is_empty() {

@@ -1,6 +1,5 @@
 // A record as a task.
 ghost use Rattle.std.specs.Prelude.{◌≡◌, ◌<◌, ◌≤◌, ◌^◌, ◌++◌, ◌∷◌, [], IfOk, OnOk, length};
-ghost use Rattle.std.specs.Str.{bytes_eq};
 ghost use Rattle.csv.specs.Records.{fields_of};
 ghost use Rattle.demand_test.specs.DemandSet.{hyperperiod};
 ghost use Rattle.demand_test.specs.DemandFile as file;
@@ -8,6 +7,7 @@ ghost use Rattle.demand_test.specs.SoFar.{IsSoFar};
 
 use crate::{Demand, DemandCause};
 use csv::ByteRecord;
+use csv_records::{field, is};
 use mc_task::Name;
 use numeral::number;
 use tick_frac::lcm_within;
@@ -23,23 +23,7 @@ pub fn is_header(fields: &ByteRecord) -> bool
                 && (is(field(fields, 2), "deadline") && is(field(fields, 3), "budget"))))
 }
 
-fn is(field: &[u8], word: &str) -> bool
-    ensures { result ≡ bytes_eq field.now word.now }
-{
-    field == word.as_bytes()
-}
-
-// The field at this place, from 0; empty where there is none.
-fn field(fields: &ByteRecord, place: usize) -> &[u8]
-    ensures { result.now ≡ file.field (fields_of fields.now) place }
-{
-    match fields.get(place) {
-        Some(field) => field,
-        None => b"",
-    }
-}
-
-// The task of a record behind these tasks, of whose periods this is the least common multiple. From then on it is one of
+// The task of a record after these tasks, of whose periods this is the least common multiple. From then on it is one of
 // them.
 #[tactic(auto, unfolding(crate::specs::DemandFile::record_task))]
 pub fn record_task(
@@ -112,7 +96,7 @@ fn numbered_task(name: Name, fields: &ByteRecord) -> Result<Demand, DemandCause>
     })
 }
 
-// The least common multiple of the periods with this task's, where its numbers may stand behind those before.
+// The least common multiple of the periods with this task's, where its numbers may stand after theirs.
 fn multiple_with(before: &[Demand], multiple: u32, task: &Demand) -> Result<u32, DemandCause>
     requires multiple { multiple ≡ hyperperiod before.now }
     requires some { 1 ≤ multiple }

@@ -14,26 +14,27 @@ use Rattle.mc_model.specs.Legal.{Legal, IsOfSet}
 use Rattle.mc_model.specs.Late.{late}
 use Rattle.mc_model.specs.TraceText.{trace_text}
 use Rattle.mc_model.specs.Verdict.{first_unfit, verdict}
-use Rattle.mc_model.proofs.Packing.{expand-pack}
+use Rattle.mc_model.proofs.Packing.{expand-pack, pack-runs}
 use Rattle.mc_model.proofs.Verdicts.{legal_by_verdict, verdict-good}
 use Rattle.demand_law.proofs.Laws.{none_late}
 use Rattle.sched_chart.specs.ChartText.{chart_text}
 use Rattle.trace_format.specs.TraceFile.{trace_file}
 use Rattle.trace_format.proofs.RunsOfSet.{runs_of_set}
-use Rattle.command_line.specs.declared.form.Telling.{Telling}
-use Rattle.command_line.specs.declared.form.Telling.TheVariants.{JudgeBy, Chart, Migrate}
-use Rattle.command_line.specs.Form.{on_trace}
+use Rattle.trace_answers.specs.declared.telling.Telling.{Telling}
+use Rattle.trace_answers.specs.declared.telling.Telling.TheVariants.{JudgeBy, Chart, Migrate}
+use Rattle.command_line.specs.declared.form.Form.TheVariants as form
+use Rattle.trace_answers.specs.declared.on_trace.OnTrace.{OnTrace}
 use Rattle.replies.specs.Reply.{Reply, reply_of}
 use Rattle.replies.specs.Refusal.{Refusal, Trace, BadTrace, LongChart, status_of}
 use Rattle.replies.specs.Reading.{◌>>=◌, or_refuse, reply_by}
 use Rattle.serving.specs.Command.{answer, fetch, need}
 use Rattle.serving.specs.Outcome.{IsAnswer}
 use Rattle.task_answers.specs.Admitted.{Ruled, under, tested, admitted}
-use Rattle.trace_answers.specs.OnTrace.{is_good, rows_in, told, judged, tells}
+use Rattle.trace_answers.specs.OnTrace.{is_good, rows_in, told, judged, tells, on_trace}
 use Rattle.trace_answers.proofs.GoodTrace.{no_fault_in, rows_of_runs}
-use Rattle.edfvd_program.specs.Headline.{bytes_of, IsAdmitted, SchedulesExactly, trace_of, SaysTrace, WritesAgain, Finds}
-use Rattle.edfvd_program.specs.Told.{TellsOf}
-use Rattle.edfvd_program.specs.Complete.{IsTold, FindsEach}
+use Rattle.edfvd_program.specs.Headline.{bytes_of, IsAdmitted, SchedulesExactly, trace_of, SaysTrace, WritesAgain, Finds, FindsUnder}
+use Rattle.edfvd_program.specs.Told.{TellsOf, TellsUnder}
+use Rattle.edfvd_program.specs.Complete.{IsTold, FindsEach, FindsBy, FindsAll}
 use Rattle.edfvd_program.proofs.Cases.{By, OfFile, OfSet, held, by_text, by_steps, by_set, within, by_reader, for_file, decided}
 use Rattle.edfvd_program.proofs.Promised.{Keeps, Comes, holds_for, timely, only_ruled, next_of, schedules_exactly}
 
@@ -115,6 +116,7 @@ again : (telling : Telling) (ruled : Ruled) (runs : List Run) (text old : List �
 again Migrate ruled runs text old new t w =
     let same : text ≡ trace_text ruled.set.tasks (reverse (trace_of runs)) = cc in (
       pack (reverse (trace_of runs)),
+      pack-runs (reverse (trace_of runs)),
       w ∙ ap (λ told. Some (old ++ told)) same,
       expand-pack (reverse (trace_of runs)) ∙ reverse-reverse (expand runs),
     )
@@ -125,7 +127,7 @@ good_of : (bytes : List ℕ) (set : Set) (rule : Rule) (h : List Row) → IsAdmi
 good_of bytes set rule h a l = let s = holds_for bytes set rule a in ap is_good (verdict-good set.tasks rule h l (none_late set.tasks rule h s.0.each s.1 l))
 
 -- under the test's rule
-pub finds : (telling : Telling) (tasks trace : List ℕ) (files : Files) (old : List ℕ) (reply : Reply)
+finds : (telling : Telling) (tasks trace : List ℕ) (files : Files) (old : List ℕ) (reply : Reply)
     → IsAnswer files 1 (fetch tasks (2 ^ 24) (λ bytes. need (admitted bytes)
     (λ ruled. fetch trace (2 ^ 27) (λ more. answer (λ reply. reply ≡ reply_by (tells telling ruled more)))))) reply
     → (SchedulesExactly (bytes_of files tasks) reply.status × Finds telling (bytes_of files tasks) (bytes_of files trace) old reply.status (Some (old ++ reply.text)))
@@ -195,7 +197,8 @@ finds telling tasks trace files old reply h = (
         ]
 
 -- under a scale that the words give
-pub finds_by : (p q : ℕ) (tasks trace : List ℕ) → Keeps (on_trace (JudgeBy p q) tasks trace)
+finds_by : (p q : ℕ) (tasks trace : List ℕ) (files : Files) (old : List ℕ) (reply : Reply) → IsAnswer files 1 (on_trace (JudgeBy p q) tasks trace) reply
+    → Unit {0} × Unit {0} × FindsBy (Virtual p q) (bytes_of files tasks) (bytes_of files trace) reply.status × Unit {0}
 finds_by p q tasks trace files old reply h = (
   tt,
   tt,
@@ -222,3 +225,13 @@ finds_by p q tasks trace files old reply h = (
         by_set files tasks (λ set. Ok (ruled set)) (λ ruled. fetch trace (2 ^ 27) (λ more. answer (λ reply. reply ≡ reply_by (tells (JudgeBy p q) ruled more))))
         Next reply
         (by_trace (JudgeBy p q) files trace reply) h
+
+under_rule : (telling : Telling) (tasks trace : List ℕ) (files : Files) (old : List ℕ) (reply : Reply) → IsAnswer files 1 (on_trace telling tasks trace) reply
+    → FindsUnder telling (bytes_of files tasks) (bytes_of files trace) old reply.status (Some (old ++ reply.text))
+    × TellsUnder telling (bytes_of files tasks) (bytes_of files trace) old reply.status (Some (old ++ reply.text))
+    × FindsAll telling (bytes_of files tasks) (bytes_of files trace) reply.status × Unit {0}
+under_rule (JudgeBy p q) tasks trace = finds_by p q tasks trace
+under_rule telling tasks trace = finds telling tasks trace
+
+pub tells_of_trace : (command : OnTrace) → Keeps (form.OnTrace command)
+tells_of_trace command = under_rule command.telling command.tasks command.trace

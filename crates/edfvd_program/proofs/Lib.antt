@@ -3,8 +3,6 @@ pub mod Cases
 pub mod Promised
 pub mod Scheduled
 pub mod Found
-pub mod Demanded
 pub mod Spread
-pub mod Measured
+pub mod Tested
 pub mod Headlines
-pub mod Jobs

@@ -4,12 +4,12 @@ use Rattle.mc_world.specs.Count.{Rose}
 use Rattle.mc_world.specs.Shelf.{Files, ShelfState}
 use Rattle.mc_world.specs.Sink.{SinkState}
 use Rattle.replies.specs.Reply.{Reply}
-use Rattle.command_line.specs.Form.{Form, IsInRange}
+use Rattle.command_line.specs.declared.form.Form.{Form}
+use Rattle.command_line.specs.Form.{IsInRange, command}
 use Rattle.serving.specs.Written.{IsWritten, IsCutShort}
 use Rattle.serving.specs.Outcome.{Tells}
 use Rattle.serving.proofs.Outcomes.{is_answer, tells_no_fault}
 use Rattle.serving.proofs.Written.{wrote_whole, one_more-rose}
-use Rattle.edfvd_program.specs.Commands.{command}
 use Rattle.edfvd_program.specs.Outcome.{IsReply, Answers, CalmOutcome}
 use Rattle.edfvd_program.proofs.Promised.{Promises}
 use Rattle.edfvd_program.proofs.Headlines.{promises}

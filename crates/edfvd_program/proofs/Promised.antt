@@ -16,18 +16,18 @@ use Rattle.mc_model.specs.Test.{published, test}
 use Rattle.mc_model.specs.Legal.{Legal}
 use Rattle.mc_model.specs.Runs.{pack}
 use Rattle.mc_model.proofs.Hyperperiod.{range_fault-past}
-use Rattle.mc_model.proofs.Packing.{expand-pack}
+use Rattle.mc_model.proofs.Packing.{expand-pack, pack-runs}
 use Rattle.mc_model.proofs.ScaledTests.{test-holds, test-none}
 use Rattle.demand_law.proofs.Promise.{keeps_deadlines}
 use Rattle.task_file.proofs.SaysSet.{says_set}
 use Rattle.replies.specs.Reply.{Reply}
 use Rattle.replies.specs.Refusal.{OutOfRange, NotAdmitted}
 use Rattle.replies.specs.Reading.{◌>>=◌, none_or}
-use Rattle.command_line.specs.Form.{Form}
+use Rattle.command_line.specs.declared.form.Form.{Form}
 use Rattle.serving.specs.Outcome.{IsAnswer}
 use Rattle.task_answers.specs.Admitted.{Ruled, under, tested}
-use Rattle.edfvd_program.specs.Commands.{command}
-use Rattle.edfvd_program.specs.Headline.{SaysSet, IsAdmitted, IsTimely, trace_of, SchedulesExactly, Headline}
+use Rattle.command_line.specs.Form.{command}
+use Rattle.edfvd_program.specs.Headline.{SaysSet, IsAdmitted, IsTimely, AreTimely, trace_of, SchedulesExactly, Headline}
 use Rattle.edfvd_program.specs.Told.{Told}
 use Rattle.edfvd_program.specs.Complete.{Complete}
 use Rattle.edfvd_program.specs.Tested.{Tested}
@@ -54,9 +54,9 @@ timely bytes set rule h a l = let s = holds_for bytes set rule a in (l, keeps_de
 packed : (h : List Row) → trace_of (pack (reverse h)) ≡ h
 packed h = ap reverse (expand-pack (reverse h)) ∙ reverse-reverse h
 
--- which so keep the deadlines where it does
-pub timely_runs : (set : List Task) (rule : Rule) (h : List Row) → IsTimely set rule h → IsTimely set rule (trace_of (pack (reverse h)))
-timely_runs set rule h is = subst (λ rows. IsTimely set rule rows) (sym (packed h)) is
+-- the packed runs of a trace that keeps the deadlines are valid, and their trace keeps the deadlines
+pub timely_runs : (set : List Task) (rule : Rule) (h : List Row) → IsTimely set rule h → AreTimely set rule (pack (reverse h))
+timely_runs set rule h is = (pack-runs (reverse h), subst (λ rows. IsTimely set rule rows) (sym (packed h)) is)
 
 -- the test gives a set that a file says no rule exactly where the published test gives none
 none_of : (bytes : List ℕ) (set : Set) → SaysSet bytes set → (test set ≡ None) ↔ (published set.tasks ≡ None)

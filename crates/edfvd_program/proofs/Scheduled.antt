@@ -6,7 +6,10 @@ use Rattle.mc_model.specs.declared.work.WorkRow.{WorkRow}
 use Rattle.mc_model.specs.Runs.{pack}
 use Rattle.mc_model.specs.CheckText.{check_text}
 use Rattle.work_file.specs.WorkFile.{work_in}
-use Rattle.command_line.specs.Form.{check, run, live}
+use Rattle.command_line.specs.declared.form.Form.TheVariants as form
+use Rattle.task_answers.specs.declared.check.Check.{Check}
+use Rattle.run_answers.specs.declared.run.Run.{Run}
+use Rattle.run_answers.specs.declared.live.Live.{Live}
 use Rattle.replies.specs.Reply.{Reply, reply_of}
 use Rattle.replies.specs.Refusal.{WorkFile}
 use Rattle.replies.specs.Reading.{or_refuse, reply_by}
@@ -39,28 +42,28 @@ pub of_work : (set : List Task) (more : List ℕ) (P : List WorkRow → Type 0) 
     → (rows : List WorkRow) × SaysWork more set rows × P rows
 of_work set more P reply not_7 not_4 h = of_file 2 (2 ^ 24) more WorkFile (work_in set more) P reply not_7 (λ fault. not_4) h
 
-pub checks : (tasks : List ℕ) → Keeps (check tasks)
-checks tasks files old reply h = (
-  schedules_exactly (bytes_of files tasks) Next reply (λ ruled k e. absurd (omega (arith, ap (λ (r : Reply). r.status) k))) c,
+pub checks : (command : Check) → Keeps (form.Check command)
+checks command files old reply h = (
+  schedules_exactly (bytes_of files command.tasks) Next reply (λ ruled k e. absurd (omega (arith, ap (λ (r : Reply). r.status) k))) c,
   tt,
-  λ set rule a. inl (ap (λ r. r.status) (next_of (bytes_of files tasks) Next reply set rule a c)),
+  λ set rule a. inl (ap (λ r. r.status) (next_of (bytes_of files command.tasks) Next reply set rule a c)),
   tt,
 )
   where
     Next : Ruled → Type 0
     Next ruled = reply ≡ reply_of 0 (check_text ruled.set ruled.rule)
 
-    c : Comes (bytes_of files tasks) Next reply
+    c : Comes (bytes_of files command.tasks) Next reply
     c =
-        held files 1 (2 ^ 24) tasks (λ bytes. answer (λ reply. reply ≡ reply_by (checked bytes)))
+        held files 1 (2 ^ 24) command.tasks (λ bytes. answer (λ reply. reply ≡ reply_by (checked bytes)))
         (λ bytes. By (set_in bytes) (λ set. By (tested set) Next reply) reply) reply
         (λ bytes k. by_steps (set_in bytes) tested Next reply (by_text (admitted bytes) (λ ruled. Ok (check_text ruled.set ruled.rule)) reply k)) h
 
-pub runs : (tasks work : List ℕ) (ticks : ℕ) → Keeps (run tasks work ticks)
-runs tasks work ticks files old reply h = (
+pub runs : (command : Run) → Keeps (form.Run command)
+runs command files old reply h = (
   (
-    schedules_exactly (bytes_of files tasks) Next reply not_1 c,
-    λ e. (let (set, rule, rows, t, a, says, follows, written) = writes e in (set, rule, pack (reverse t), a, written, timely_runs set.tasks rule t (timely (bytes_of files tasks) set rule t a follows.legal))),
+    schedules_exactly (bytes_of files command.tasks) Next reply not_1 c,
+    λ e. (let (set, rule, rows, t, a, says, follows, written) = writes e in (set, rule, pack (reverse t), a, written, timely_runs set.tasks rule t (timely (bytes_of files command.tasks) set rule t a follows.legal))),
   ),
   writes,
   complete,
@@ -68,51 +71,51 @@ runs tasks work ticks files old reply h = (
 )
   where
     more : List ℕ
-    more = bytes_of files work
+    more = bytes_of files command.work
 
     Next : Ruled → Type 0
-    Next ruled = OfWork ruled.set.tasks more (λ rows. TellsTrace ticks ruled.set.tasks ruled.rule rows reply) reply
+    Next ruled = OfWork ruled.set.tasks more (λ rows. TellsTrace command.ticks ruled.set.tasks ruled.rule rows reply) reply
 
-    c : Comes (bytes_of files tasks) Next reply
+    c : Comes (bytes_of files command.tasks) Next reply
     c =
-        by_set files tasks tested _ Next reply
-        (λ ruled. by_work files ruled.set.tasks work _ (λ rows. TellsTrace ticks ruled.set.tasks ruled.rule rows reply) reply (λ rows t. t)) h
+        by_set files command.tasks tested _ Next reply
+        (λ ruled. by_work files ruled.set.tasks command.work _ (λ rows. TellsTrace command.ticks ruled.set.tasks ruled.rule rows reply) reply (λ rows t. t)) h
 
     not_1 : (ruled : Ruled) → Next ruled → reply.status ≢ 1
     not_1 ruled k e =
         let (rows, says, t) = of_work ruled.set.tasks more _ reply (λ z. absurd (omega arith)) (λ z. absurd (omega arith)) k in
         absurd (omega (arith, ap (λ (r : Reply). r.status) t.2))
 
-    writes : WritesRun ticks (bytes_of files tasks) more old reply.status (Some (old ++ reply.text))
+    writes : WritesRun command.ticks (bytes_of files command.tasks) more old reply.status (Some (old ++ reply.text))
     writes e =
-        let (set, rule, a, k) = only_ruled (bytes_of files tasks) Next reply (λ z. absurd (omega arith)) (λ z. absurd (omega arith)) (λ z. absurd (omega arith)) c in
+        let (set, rule, a, k) = only_ruled (bytes_of files command.tasks) Next reply (λ z. absurd (omega arith)) (λ z. absurd (omega arith)) (λ z. absurd (omega arith)) c in
         let (rows, says, t) = of_work set.tasks more _ reply (λ z. absurd (omega arith)) (λ z. absurd (omega arith)) k in
         (set, rule, rows, t.0, a, says, t.1, ap (λ (r : Reply). Some (old ++ r.text)) t.2)
 
-    complete : ServesWork (bytes_of files tasks) more reply.status
+    complete : ServesWork (bytes_of files command.tasks) more reply.status
     complete set rule rows a says =
-        let t = for_file 2 (2 ^ 24) more (work_of set.tasks more) (λ rows. TellsTrace ticks set.tasks rule rows reply) reply rows says.0 (ap (or_refuse WorkFile) says.1)
-        (next_of (bytes_of files tasks) Next reply set rule a c) in
+        let t = for_file 2 (2 ^ 24) more (work_of set.tasks more) (λ rows. TellsTrace command.ticks set.tasks rule rows reply) reply rows says.0 (ap (or_refuse WorkFile) says.1)
+        (next_of (bytes_of files command.tasks) Next reply set rule a c) in
         inl (ap (λ (r : Reply). r.status) t.2)
 
-pub lives : (tasks : List ℕ) (ticks : ℕ) → Keeps (live tasks ticks)
-lives tasks ticks files old reply h = (
+pub lives : (command : Live) → Keeps (form.Live command)
+lives command files old reply h = (
   (
-    schedules_exactly (bytes_of files tasks) Next reply (λ ruled k e. absurd (omega (arith, ap (λ (r : Reply). r.status) k.2))) c,
-    λ e. (let (set, rule, t, a, is, written) = writes e in (set, rule, pack (reverse t), a, written, timely_runs set.tasks rule t (timely (bytes_of files tasks) set rule t a is.legal))),
+    schedules_exactly (bytes_of files command.tasks) Next reply (λ ruled k e. absurd (omega (arith, ap (λ (r : Reply). r.status) k.2))) c,
+    λ e. (let (set, rule, t, a, is, written) = writes e in (set, rule, pack (reverse t), a, written, timely_runs set.tasks rule t (timely (bytes_of files command.tasks) set rule t a is.legal))),
   ),
   writes,
-  λ set rule a. inl (ap (λ (r : Reply). r.status) (next_of (bytes_of files tasks) Next reply set rule a c).2),
+  λ set rule a. inl (ap (λ (r : Reply). r.status) (next_of (bytes_of files command.tasks) Next reply set rule a c).2),
   tt,
 )
   where
     Next : Ruled → Type 0
-    Next ruled = Lives ticks ruled reply
+    Next ruled = Lives command.ticks ruled reply
 
-    c : Comes (bytes_of files tasks) Next reply
-    c = by_set files tasks tested _ Next reply (λ ruled k. k) h
+    c : Comes (bytes_of files command.tasks) Next reply
+    c = by_set files command.tasks tested _ Next reply (λ ruled k. k) h
 
-    writes : WritesLive ticks (bytes_of files tasks) old reply.status (Some (old ++ reply.text))
+    writes : WritesLive command.ticks (bytes_of files command.tasks) old reply.status (Some (old ++ reply.text))
     writes e =
-        let (set, rule, a, k) = only_ruled (bytes_of files tasks) Next reply (λ z. absurd (omega arith)) (λ z. absurd (omega arith)) (λ z. absurd (omega arith)) c in
+        let (set, rule, a, k) = only_ruled (bytes_of files command.tasks) Next reply (λ z. absurd (omega arith)) (λ z. absurd (omega arith)) (λ z. absurd (omega arith)) c in
         (set, rule, k.0, a, k.1, ap (λ (r : Reply). Some (old ++ r.text)) k.2)

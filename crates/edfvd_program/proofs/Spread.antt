@@ -17,7 +17,9 @@ use Rattle.task_file.proofs.SaysSet.{says_set}
 use Rattle.part_fit.specs.FirstFit.{first_fit}
 use Rattle.part_fit.specs.Partition.{IsPartition, IsAdmittedPart}
 use Rattle.part_fit.proofs.Placed.{first_fit-IsPartition}
-use Rattle.command_line.specs.Form.{partition, run_all}
+use Rattle.command_line.specs.declared.form.Form.TheVariants as form
+use Rattle.part_answers.specs.declared.partition.Partition.{Partition}
+use Rattle.part_answers.specs.declared.run_parts.RunAll.{RunAll}
 use Rattle.replies.specs.Reply.{Reply, reply_of}
 use Rattle.replies.specs.Refusal.{NoRoom, WorkFile}
 use Rattle.replies.specs.Reading.{◌>>=◌, or_refuse, reply_by}
@@ -82,31 +84,31 @@ next_spread m bytes Then reply set of is h =
 parts_of : (m : ℕ) (bytes : List ℕ) (set : Set) (of : List ℕ) → IsSpread m bytes set of → IsPartition set.tasks of m
 parts_of m bytes set of is = first_fit-IsPartition set.tasks m of (says_set bytes set is.0.1).tasks is.1
 
-pub partitions : (tasks : List ℕ) (m : ℕ) → Keeps (partition tasks m)
-partitions tasks m files old reply h = (
+pub partitions : (command : Partition) → Keeps (form.Partition command)
+partitions command files old reply h = (
   tt,
   tt,
   tt,
   (
-    spreads_exactly m bytes Next reply (λ on k e. absurd (omega (arith, ap (λ (r : Reply). r.status) k))) c,
+    spreads_exactly command.processors bytes Next reply (λ on k e. absurd (omega (arith, ap (λ (r : Reply). r.status) k))) c,
     record {
-      writes = λ e. (let (set, of, is, k) = only_spread m bytes Next reply c e in (set, of, is, parts_of m bytes set of is, ap (λ (r : Reply). Some (old ++ r.text)) k));
-      complete = λ set of is. inl (ap (λ (r : Reply). r.status) (next_spread m bytes Next reply set of is c));
+      writes = λ e. (let (set, of, is, k) = only_spread command.processors bytes Next reply c e in (set, of, is, parts_of command.processors bytes set of is, ap (λ (r : Reply). Some (old ++ r.text)) k));
+      complete = λ set of is. inl (ap (λ (r : Reply). r.status) (next_spread command.processors bytes Next reply set of is c));
     },
   ),
 )
   where
     bytes : List ℕ
-    bytes = bytes_of files tasks
+    bytes = bytes_of files command.tasks
 
     Next : Parted → Type 0
-    Next on = reply ≡ reply_of 0 (partition_text m on)
+    Next on = reply ≡ reply_of 0 (partition_text command.processors on)
 
-    c : Spreads m bytes Next reply
+    c : Spreads command.processors bytes Next reply
     c =
-        held files 1 (2 ^ 24) tasks (λ bytes. answer (λ reply. reply ≡ reply_by (placed m bytes)))
-        (λ bytes. By (set_in bytes) (λ set. By (fitted m set.tasks) Next reply) reply) reply
-        (λ bytes k. by_steps (set_in bytes) (λ set. fitted m set.tasks) Next reply (by_text (parted m bytes) (λ on. Ok (partition_text m on)) reply k)) h
+        held files 1 (2 ^ 24) command.tasks (λ bytes. answer (λ reply. reply ≡ reply_by (placed command.processors bytes)))
+        (λ bytes. By (set_in bytes) (λ set. By (fitted command.processors set.tasks) Next reply) reply) reply
+        (λ bytes k. by_steps (set_in bytes) (λ set. fitted command.processors set.tasks) Next reply (by_text (parted command.processors bytes) (λ on. Ok (partition_text command.processors on)) reply k)) h
 
 -- no tasks have the plain rule, which holds for them
 none_holds : (tasks : List Task) (rule : Rule) → tasks ≡ [] → published tasks ≡ Some rule → AllByRecursion IsTask tasks × Holds tasks rule
@@ -151,17 +153,17 @@ lines_of_runs parted [] traces = refl
 lines_of_runs parted (n ∷ ns) [] = refl
 lines_of_runs parted (n ∷ ns) (t ∷ ts) = ap (λ more. trace_lines parted (n, t) ++ more) (lines_of_runs parted ns ts)
 
-pub runs_all : (tasks work : List ℕ) (ticks m : ℕ) → Keeps (run_all tasks work ticks m)
-runs_all tasks work ticks m files old reply h = (
+pub runs_all : (command : RunAll) → Keeps (form.RunAll command)
+runs_all command files old reply h = (
   (
-    spreads_exactly m bytes Next reply not_12 c,
+    spreads_exactly command.processors bytes Next reply not_12 c,
     λ e. (let (set, of, rows, traces, is, says, each, written) = writes e in (
       set,
       of,
       runs_of traces,
       is,
-      written ∙ ap (λ text. Some (old ++ text)) (lines_of_runs (spread set.tasks of) (used m (spread set.tasks of)) traces),
-      all_timely ticks (spread set.tasks of) rows (used m (spread set.tasks of)) traces (parts_of m bytes set of is).admitted each,
+      written ∙ ap (λ text. Some (old ++ text)) (lines_of_runs (spread set.tasks of) (used command.processors (spread set.tasks of)) traces),
+      all_timely command.ticks (spread set.tasks of) rows (used command.processors (spread set.tasks of)) traces (parts_of command.processors bytes set of is).admitted each,
     )),
   ),
   writes,
@@ -170,30 +172,30 @@ runs_all tasks work ticks m files old reply h = (
 )
   where
     bytes : List ℕ
-    bytes = bytes_of files tasks
+    bytes = bytes_of files command.tasks
 
     more : List ℕ
-    more = bytes_of files work
+    more = bytes_of files command.work
 
     Next : Parted → Type 0
-    Next on = OfWork on.set more (λ rows. TellsTraces ticks m on rows reply) reply
+    Next on = OfWork on.set more (λ rows. TellsTraces command.ticks command.processors on rows reply) reply
 
-    c : Spreads m bytes Next reply
-    c = by_set files tasks (λ set. fitted m set.tasks) _ Next reply (λ on. by_work files on.set work _ (λ rows. TellsTraces ticks m on rows reply) reply (λ rows t. t)) h
+    c : Spreads command.processors bytes Next reply
+    c = by_set files command.tasks (λ set. fitted command.processors set.tasks) _ Next reply (λ on. by_work files on.set command.work _ (λ rows. TellsTraces command.ticks command.processors on rows reply) reply (λ rows t. t)) h
 
     not_12 : (on : Parted) → Next on → reply.status ≢ 12
     not_12 on k e =
         let (rows, says, t) = of_work on.set more _ reply (λ z. absurd (omega arith)) (λ z. absurd (omega arith)) k in
         absurd (omega (arith, ap (λ (r : Reply). r.status) t.2))
 
-    writes : WritesParts ticks m bytes more old reply.status (Some (old ++ reply.text))
+    writes : WritesParts command.ticks command.processors bytes more old reply.status (Some (old ++ reply.text))
     writes e =
-        let (set, of, is, k) = only_spread m bytes Next reply c e in
+        let (set, of, is, k) = only_spread command.processors bytes Next reply c e in
         let (rows, says, t) = of_work set.tasks more _ reply (λ z. absurd (omega arith)) (λ z. absurd (omega arith)) k in
         (set, of, rows, t.0, is, says, t.1, ap (λ (r : Reply). Some (old ++ r.text)) t.2)
 
-    complete : ServesSpread m bytes more reply.status
+    complete : ServesSpread command.processors bytes more reply.status
     complete set of rows is says =
-        let t = for_file 2 (2 ^ 24) more (work_of set.tasks more) (λ rows. TellsTraces ticks m (spread set.tasks of) rows reply) reply rows says.0 (ap (or_refuse WorkFile) says.1)
-        (next_spread m bytes Next reply set of is c) in
+        let t = for_file 2 (2 ^ 24) more (work_of set.tasks more) (λ rows. TellsTraces command.ticks command.processors (spread set.tasks of) rows reply) reply rows says.0 (ap (or_refuse WorkFile) says.1)
+        (next_spread command.processors bytes Next reply set of is c) in
         inl (ap (λ (r : Reply). r.status) t.2)

@@ -13,9 +13,10 @@ use Rattle.mc_model.specs.Rows.{ticks}
 use Rattle.mc_model.specs.Legal.{Legal}
 use Rattle.mc_model.specs.Late.{late}
 use Rattle.work_file.specs.WorkFile.{work_in}
-use Rattle.command_line.specs.declared.form.Telling.{Telling}
-use Rattle.command_line.specs.declared.form.Telling.TheVariants.{JudgeBy, Chart}
-use Rattle.command_line.specs.Form.{Form, check, run, on_trace, soak, live, run_all}
+use Rattle.trace_answers.specs.declared.telling.Telling.{Telling}
+use Rattle.trace_answers.specs.declared.telling.Telling.TheVariants.{JudgeBy, Chart}
+use Rattle.command_line.specs.declared.form.Form.{Form}
+use Rattle.command_line.specs.declared.form.Form.TheVariants as form
 use Rattle.edfvd_program.specs.Headline.{bytes_of, SaysSet, IsAdmitted, trace_of, SaysTrace, IsSpread}
 
 -- the call succeeded, or memory was wanting
@@ -55,13 +56,17 @@ abbrev pub FindsBy : Rule → List ℕ → List ℕ → ℕ → Type 0
 FindsBy rule bytes more ended = (set : Set) (runs : List Run)
     → SaysSet bytes set → SaysTrace more set.tasks runs → Legal set.tasks rule (trace_of runs) → late set.tasks (trace_of runs) ≡ [] → Succeeds ended
 
+-- each command on a trace succeeds for good traces, under the rule that the words give or else the test's
+abbrev pub FindsAll : Telling → List ℕ → List ℕ → ℕ → Type 0
+FindsAll (JudgeBy p q) bytes more ended = FindsBy (Virtual p q) bytes more ended
+FindsAll telling bytes more ended = FindsEach telling bytes more ended
+
 -- what is answered for valid files, by what they hold and the status
 abbrev pub Complete : Option Form → Files → ℕ → Type 0
-Complete (Some (check tasks)) files ended = ServesAdmitted (bytes_of files tasks) ended
-Complete (Some (run tasks work ticks)) files ended = ServesWork (bytes_of files tasks) (bytes_of files work) ended
-Complete (Some (live tasks ticks)) files ended = ServesAdmitted (bytes_of files tasks) ended
-Complete (Some (soak number tasks ticks)) files ended = Succeeds ended
-Complete (Some (run_all tasks work ticks processors)) files ended = ServesSpread processors (bytes_of files tasks) (bytes_of files work) ended
-Complete (Some (on_trace (JudgeBy p q) tasks trace)) files ended = FindsBy (Virtual p q) (bytes_of files tasks) (bytes_of files trace) ended
-Complete (Some (on_trace telling tasks trace)) files ended = FindsEach telling (bytes_of files tasks) (bytes_of files trace) ended
+Complete (Some (form.Check c)) files ended = ServesAdmitted (bytes_of files c.tasks) ended
+Complete (Some (form.Run c)) files ended = ServesWork (bytes_of files c.tasks) (bytes_of files c.work) ended
+Complete (Some (form.Live c)) files ended = ServesAdmitted (bytes_of files c.tasks) ended
+Complete (Some (form.Soak c)) files ended = Succeeds ended
+Complete (Some (form.RunAll c)) files ended = ServesSpread c.processors (bytes_of files c.tasks) (bytes_of files c.work) ended
+Complete (Some (form.OnTrace c)) files ended = FindsAll c.telling (bytes_of files c.tasks) (bytes_of files c.trace) ended
 Complete form files ended = Unit {0}

@@ -1,9 +1,9 @@
--- The headline of the program, where the shelf and the sink tell their bytes and have no fault: it schedules a set exactly
--- where the published test holds, and every trace that it writes, or finds legal for such a set, keeps the deadlines. Which
--- traces these are, and what is told of them, stands in Told; that nothing is refused without reason, in Complete. The newest
--- row of a trace stands first here, and the oldest of its runs.
+-- The headline of the program, where the shelf and the sink expose their bytes and have no fault: it schedules a set exactly
+-- where the published test holds, and every trace that it writes, or finds legal for such a set, keeps the deadlines. Told
+-- says which traces these are, and Complete that nothing is refused without reason. The newest row of a trace stands first
+-- here, and the oldest of its runs.
 use Rattle.std.specs.Prelude.{◌≡◌, ◌⊎◌, ℕ, ◌≤◌, ◌^◌, List, [], ◌++◌, length, reverse, codes, decimal, Option, Some, None, Ok, Err, flat_map, zip, unwrap_or}
-use Rattle.std.specs.List.{AllZip}
+use Rattle.std.specs.List.{AllByRecursion, AllZip}
 use Rattle.mc_task.specs.declared.task.Task.{Task}
 use Rattle.mc_task.specs.declared.task.Rule.{Rule}
 use Rattle.mc_task.specs.TaskSet.{Set}
@@ -13,12 +13,13 @@ use Rattle.mc_model.specs.declared.run.Run.{Run}
 use Rattle.mc_model.specs.Loads.{IsWithinRange}
 use Rattle.mc_model.specs.Test.{published, test}
 use Rattle.mc_model.specs.Legal.{Legal}
-use Rattle.mc_model.specs.Runs.{expand}
+use Rattle.mc_model.specs.Runs.{expand, IsRun}
 use Rattle.mc_model.specs.TraceText.{runs_text}
 use Rattle.mc_model.specs.Promise.{KeepsDeadlines}
-use Rattle.command_line.specs.declared.form.Telling.{Telling}
-use Rattle.command_line.specs.declared.form.Telling.TheVariants.{JudgeBy, Migrate}
-use Rattle.command_line.specs.Form.{Form, check, run, on_trace, soak, live, run_all}
+use Rattle.trace_answers.specs.declared.telling.Telling.{Telling}
+use Rattle.trace_answers.specs.declared.telling.Telling.TheVariants.{JudgeBy, Migrate}
+use Rattle.command_line.specs.declared.form.Form.{Form}
+use Rattle.command_line.specs.declared.form.Form.TheVariants as form
 use Rattle.task_file.specs.TaskFile.{task_file}
 use Rattle.trace_format.specs.TraceFile.{trace_file}
 use Rattle.part_fit.specs.FirstFit.{first_fit}
@@ -26,7 +27,7 @@ use Rattle.run_answers.specs.Soak.{workload_set, IsSoaked}
 use Rattle.part_answers.specs.Parted.{Parted, tasks_on, spread}
 use Rattle.part_answers.specs.RunAll.{used}
 
--- the bytes under a name, none where none are held
+-- the bytes of the file of this name; none where there is no such file
 abbrev pub bytes_of : Files → List ℕ → List ℕ
 bytes_of files name = unwrap_or (files name) []
 
@@ -40,40 +41,58 @@ pub record IsAdmitted (bytes : List ℕ) (set : Set) (rule : Rule) : Type 0 wher
   pub range : IsWithinRange set.tasks
   pub test : test set ≡ Some rule
 
--- a set within range is refused, with status 1, exactly where the published test holds for none of its rules
+-- a set within range is refused, with status 1, exactly where the published test gives it no rule, unless memory runs out
+-- (status 9)
 pub record SchedulesExactly (bytes : List ℕ) (ended : ℕ) : Type 0 where
-  pub refused : ended ≡ 1 → (set : Set) × SaysSet bytes set × IsWithinRange set.tasks × (published set.tasks ≡ None)
-  pub refuses : (set : Set) → SaysSet bytes set → IsWithinRange set.tasks → published set.tasks ≡ None → (ended ≡ 1) ⊎ (ended ≡ 9)
+  pub refused : ended ≡ 1 → (s : Set) × SaysSet bytes s × IsWithinRange s.tasks × (published s.tasks ≡ None)
+  pub refuses : (set : Set) → SaysSet bytes set → IsWithinRange set.tasks → published set.tasks ≡ None
+      → (ended ≡ 1) ⊎ (ended ≡ 9)
 
 -- the trace is legal, and keeps the deadlines
 abbrev pub IsTimely : List Task → Rule → List Row → Type 0
 IsTimely set rule h = Legal set rule h × KeepsDeadlines set rule h
 
--- the trace of these runs: the rows that they stand for
+-- the trace of these runs: the rows that they stand for, the newest first
 abbrev pub trace_of : List Run → List Row
 trace_of runs = reverse (expand runs)
 
+-- each run has a row, and several ticks of a job stand in one run only where the job goes on after each of them; their
+-- trace is legal, and keeps the deadlines
+abbrev pub AreTimely : List Task → Rule → List Run → Type 0
+AreTimely set rule runs = AllByRecursion IsRun runs × IsTimely set rule (trace_of runs)
+
 -- every trace that `run` or `live` writes keeps the deadlines
 abbrev pub WritesTimely : List ℕ → List ℕ → ℕ → Option (List ℕ) → Type 0
-WritesTimely bytes old ended new = ended ≡ 0 → (set : Set) × (rule : Rule) × (runs : List Run)
-    × IsAdmitted bytes set rule × (new ≡ Some (old ++ runs_text set.tasks runs)) × IsTimely set.tasks rule (trace_of runs)
+WritesTimely bytes old ended new = ended ≡ 0 → (set : Set) × (r : Rule) × (runs : List Run)
+    × IsAdmitted bytes set r × (new ≡ Some (old ++ runs_text set.tasks runs)) × AreTimely set.tasks r runs
 
 -- the trace file says these runs of the set
 abbrev pub SaysTrace : List ℕ → List Task → List Run → Type 0
 SaysTrace bytes set runs = (length bytes ≤ 2 ^ 27) × (trace_file set bytes ≡ Ok runs)
 
--- `migrate` writes the trace that it finds legal
+-- `migrate` writes the trace that it finds legal: runs that stand for its rows, with several ticks of a job in one run only
+-- where the job goes on after each of them
 abbrev pub WritesAgain : Telling → List Task → List Run → List ℕ → Option (List ℕ) → Type 0
-WritesAgain Migrate set runs old new = (again : List Run) × (new ≡ Some (old ++ runs_text set again)) × (expand again ≡ expand runs)
+WritesAgain Migrate set runs old new = (again : List Run) × AllByRecursion IsRun again
+    × (new ≡ Some (old ++ runs_text set again)) × (expand again ≡ expand runs)
 WritesAgain telling set runs old new = Unit {0}
 
 -- what `judge`, `chart`, `report` and `migrate` promise under the test's rule
-pub record Finds (telling : Telling) (bytes more old : List ℕ) (ended : ℕ) (new : Option (List ℕ)) : Type 0 where
+pub record Finds (telling : Telling) (bytes more old : List ℕ) (ended : ℕ)
+    (new : Option (List ℕ)) : Type 0 where
   -- every trace that they find legal keeps the deadlines
   pub finds : ended ≡ 0 → (set : Set) × (rule : Rule) × (runs : List Run)
-      × IsAdmitted bytes set rule × SaysTrace more set.tasks runs × WritesAgain telling set.tasks runs old new × IsTimely set.tasks rule (trace_of runs)
+      × IsAdmitted bytes set rule × SaysTrace more set.tasks runs × WritesAgain telling set.tasks runs old new
+      × IsTimely set.tasks rule (trace_of runs)
   -- what they refuse by the verdict is illegal, and not merely late
-  pub illegal : ended ≡ 6 → (set : Set) × (rule : Rule) × (runs : List Run) × IsAdmitted bytes set rule × SaysTrace more set.tasks runs × (Legal set.tasks rule (trace_of runs) → ⊥)
+  pub illegal : ended ≡ 6 → (set : Set) × (rule : Rule) × (runs : List Run)
+      × IsAdmitted bytes set rule × SaysTrace more set.tasks runs × (Legal set.tasks rule (trace_of runs) → ⊥)
+
+-- the promise of each command on a trace; under a rule that the words give there is none
+abbrev pub FindsUnder : Telling → List ℕ → List ℕ → List ℕ → ℕ → Option (List ℕ) → Type 0
+FindsUnder (JudgeBy p q) bytes more old ended new = Unit {0}
+FindsUnder telling bytes more old ended new =
+    SchedulesExactly bytes ended × Finds telling bytes more old ended new
 
 -- every trace that `soak` sums up keeps the deadlines
 abbrev pub SumsTimely : ℕ → ℕ → ℕ → ℕ → Type 0
@@ -84,39 +103,42 @@ SumsTimely number tasks ticks ended = ended ≡ 0 → (rule : Rule) × (h : List
 abbrev pub IsSpread : ℕ → List ℕ → Set → List ℕ → Type 0
 IsSpread m bytes set of = SaysSet bytes set × (first_fit set.tasks m ≡ Ok of)
 
--- a set is refused, with status 12, exactly where one of its tasks fits on none of processors 1 to m
+-- a set is refused, with status 12, exactly where one of its tasks fits on none of processors 1 to m, unless memory runs
+-- out (status 9)
 pub record SpreadsExactly (m : ℕ) (bytes : List ℕ) (ended : ℕ) : Type 0 where
   pub refused : ended ≡ 12 → (set : Set) × (task : ℕ) × SaysSet bytes set × (first_fit set.tasks m ≡ Err task)
-  pub refuses : (set : Set) (task : ℕ) → SaysSet bytes set → first_fit set.tasks m ≡ Err task → (ended ≡ 12) ⊎ (ended ≡ 9)
+  pub refuses : (s : Set) (k : ℕ) → SaysSet bytes s → first_fit s.tasks m ≡ Err k → (ended ≡ 12) ⊎ (ended ≡ 9)
 
--- the trace of these runs is of the tasks on processor n, under the rule that the published test gives them, and keeps the deadlines
+-- the trace of these runs is one of the tasks on processor n, under the rule that the published test gives them, and keeps
+-- the deadlines
 pub record IsTimelyOn (parted : Parted) (n : ℕ) (runs : List Run) : Type 0 where
   pub rule : Rule
   pub test : published (tasks_on parted n) ≡ Some rule
-  pub timely : IsTimely (tasks_on parted n) rule (trace_of runs)
+  pub timely : AreTimely (tasks_on parted n) rule runs
 
--- what is written of a processor and these runs
+-- the lines that are written of a processor and the runs of its trace
 abbrev pub runs_lines : Parted → ℕ × List Run → List ℕ
-runs_lines parted on = codes "processor " ++ (decimal on.0 ++ (codes "\n" ++ runs_text (tasks_on parted on.0) on.1))
+runs_lines p on = codes "processor " ++ (decimal on.0 ++ (codes "\n" ++ runs_text (tasks_on p on.0) on.1))
 
 -- every trace that `runall` writes, one for each processor with tasks, keeps the deadlines
 abbrev pub WritesAllTimely : ℕ → List ℕ → List ℕ → ℕ → Option (List ℕ) → Type 0
 WritesAllTimely m bytes old ended new = ended ≡ 0 → (set : Set) × (of : List ℕ) × (traces : List (List Run))
-    × IsSpread m bytes set of × (new ≡ Some (old ++ flat_map (runs_lines (spread set.tasks of)) (zip (used m (spread set.tasks of)) traces)))
+    × IsSpread m bytes set of × (new ≡ Some (old ++ flat_map (runs_lines (spread set.tasks of))
+    (zip (used m (spread set.tasks of)) traces)))
     × AllZip (IsTimelyOn (spread set.tasks of)) (used m (spread set.tasks of)) traces
 
--- the headline, by what the files hold, what was written before, the status and what is written after, of each command that
--- schedules a set, or tells of a trace under the test's rule
+-- the headline, for each command that schedules a set, or judges a trace under the test's rule: by the files, the bytes that
+-- were written before, the status, and the bytes that are written after
 abbrev pub Headline : Option Form → Files → List ℕ → ℕ → Option (List ℕ) → Type 0
-Headline (Some (check tasks)) files old ended new = SchedulesExactly (bytes_of files tasks) ended
-Headline (Some (run tasks work ticks)) files old ended new =
-    SchedulesExactly (bytes_of files tasks) ended × WritesTimely (bytes_of files tasks) old ended new
-Headline (Some (live tasks ticks)) files old ended new =
-    SchedulesExactly (bytes_of files tasks) ended × WritesTimely (bytes_of files tasks) old ended new
-Headline (Some (soak number tasks ticks)) files old ended new = SumsTimely number tasks ticks ended
-Headline (Some (run_all tasks work ticks processors)) files old ended new =
-    SpreadsExactly processors (bytes_of files tasks) ended × WritesAllTimely processors (bytes_of files tasks) old ended new
-Headline (Some (on_trace (JudgeBy p q) tasks trace)) files old ended new = Unit {0}
-Headline (Some (on_trace telling tasks trace)) files old ended new =
-    SchedulesExactly (bytes_of files tasks) ended × Finds telling (bytes_of files tasks) (bytes_of files trace) old ended new
+Headline (Some (form.Check c)) files old ended new = SchedulesExactly (bytes_of files c.tasks) ended
+Headline (Some (form.Run c)) files old ended new =
+    SchedulesExactly (bytes_of files c.tasks) ended × WritesTimely (bytes_of files c.tasks) old ended new
+Headline (Some (form.Live c)) files old ended new =
+    SchedulesExactly (bytes_of files c.tasks) ended × WritesTimely (bytes_of files c.tasks) old ended new
+Headline (Some (form.Soak c)) files old ended new = SumsTimely c.number c.tasks c.ticks ended
+Headline (Some (form.RunAll c)) files old ended new =
+    SpreadsExactly c.processors (bytes_of files c.tasks) ended
+    × WritesAllTimely c.processors (bytes_of files c.tasks) old ended new
+Headline (Some (form.OnTrace c)) files old ended new =
+    FindsUnder c.telling (bytes_of files c.tasks) (bytes_of files c.trace) old ended new
 Headline form files old ended new = Unit {0}

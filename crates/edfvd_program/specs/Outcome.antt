@@ -1,14 +1,15 @@
 -- What a call of the program leaves behind, whose words have a form or none: its reply, the files it fetched, the bytes it wrote.
 use Rattle.std.specs.Prelude.{◌≡◌, ◌≢◌, ◌⊎◌, ℕ, List, ◌++◌, Option, None, Some}
+use Rattle.mc_world.specs.Count.{Rose}
 use Rattle.mc_world.specs.Shelf.{Files, ShelfState}
 use Rattle.mc_world.specs.Sink.{SinkState}
 use Rattle.replies.specs.Reply.{Reply}
 use Rattle.replies.specs.Refusal.{ReadFault, refuse}
-use Rattle.command_line.specs.Form.{Form}
+use Rattle.command_line.specs.declared.form.Form.{Form}
 use Rattle.serving.specs.Outcome as serving
-use Rattle.serving.specs.Outcome.{IsAnswer}
+use Rattle.serving.specs.Outcome.{IsAnswer, Tells}
 use Rattle.serving.specs.Written.{IsWritten, IsCutShort}
-use Rattle.edfvd_program.specs.Commands.{command}
+use Rattle.command_line.specs.Form.{command}
 
 -- the reply to the words; status 2 comes only where they have no form
 pub record IsReply (form : Option Form) (before after : ShelfState) (reply : Reply) : Type 0 where
@@ -34,3 +35,11 @@ abbrev pub Answers : Option Form → Files → List ℕ → ℕ → Option (List
 Answers form files old ended new =
     ((ended ≡ 9) × (new ≡ Some old))
     ⊎ ((reply : Reply) × IsAnswer files 1 (command form) reply × (ended ≡ reply.status) × (new ≡ Some (old ++ reply.text)))
+
+-- where the shelf exposes its files, the sink exposes what was written, and neither fails, this holds of the files, of what was
+-- written before, of the status and of what is written after
+abbrev pub WhereReported : (Files → List ℕ → ℕ → Option (List ℕ) → Type 0)
+    → ShelfState → ShelfState → SinkState → SinkState → ℕ → Type 0
+WhereReported Is shelf_before shelf_after sink_before sink_after ended =
+    (files : Files) (old : List ℕ) → Tells files shelf_before shelf_after → sink_before.written ≡ Some old
+    → (Rose sink_before.faults sink_after.faults → ⊥) → Is files old ended sink_after.written

@@ -4,10 +4,11 @@ use Rattle.std.specs.Prelude.{◌≡◌, ◌⊎◌, ℕ, ◌≤◌, ◌^◌, Lis
 use Rattle.mc_task.specs.TaskSet.{Set}
 use Rattle.mc_world.specs.Shelf.{Files}
 use Rattle.mc_model.specs.Loads.{IsWithinRange}
-use Rattle.command_line.specs.Form.{Form, demand, partition, stretch, accept}
+use Rattle.command_line.specs.declared.form.Form.{Form}
+use Rattle.command_line.specs.declared.form.Form.TheVariants as form
 use Rattle.demand_test.specs.declared.demand.Demand.{Demand}
 use Rattle.demand_test.specs.declared.row.EdfRow.{EdfRow}
-use Rattle.demand_test.specs.EdfRuns.{IsRun, NoneLate}
+use Rattle.demand_test.specs.EdfRuns.{IsEdfSchedule, NoneLate}
 use Rattle.demand_test.specs.Counter.{SomeLate}
 use Rattle.demand_test.specs.DemandFile.{demands_in}
 use Rattle.part_fit.specs.Partition.{IsPartition}
@@ -27,9 +28,9 @@ SaysDemands bytes set = (length bytes ≤ 2 ^ 24) × (demands_in bytes ≡ Ok se
 -- what `demand` promises of plain EDF
 pub record Tests (bytes : List ℕ) (ended : ℕ) : Type 0 where
   -- no job of any run of a set that it finds schedulable is late
-  pub none_late : ended ≡ 0 → (set : List Demand) × SaysDemands bytes set × ((h : List EdfRow) → IsRun set h → NoneLate set h)
+  pub none_late : ended ≡ 0 → (set : List Demand) × SaysDemands bytes set × ((h : List EdfRow) → IsEdfSchedule set h → NoneLate set h)
   -- there is a run of one that it does not, in which a job is late
-  pub some_late : ended ≡ 10 → (set : List Demand) × (h : List EdfRow) × SaysDemands bytes set × IsRun set h × SomeLate set h
+  pub some_late : ended ≡ 10 → (set : List Demand) × (h : List EdfRow) × SaysDemands bytes set × IsEdfSchedule set h × SomeLate set h
   -- it finds each set so
   pub complete : (set : List Demand) → SaysDemands bytes set → (ended ≡ 10) ⊎ Succeeds ended
 
@@ -57,9 +58,9 @@ pub record Tabulates (number sets tasks : ℕ) (old : List ℕ) (ended : ℕ) (n
 
 -- what is so of the answer, by what the files hold, what was written before, the status and what is written after
 abbrev pub Tested : Option Form → Files → List ℕ → ℕ → Option (List ℕ) → Type 0
-Tested (Some (demand demands)) files old ended new = Tests (bytes_of files demands) ended
-Tested (Some (partition tasks processors)) files old ended new =
-    SpreadsExactly processors (bytes_of files tasks) ended × Places processors (bytes_of files tasks) old ended new
-Tested (Some (stretch tasks)) files old ended new = Measures (bytes_of files tasks) old ended new
-Tested (Some (accept number sets tasks)) files old ended new = Tabulates number sets tasks old ended new
+Tested (Some (form.Demand c)) files old ended new = Tests (bytes_of files c.demands) ended
+Tested (Some (form.Partition c)) files old ended new =
+    SpreadsExactly c.processors (bytes_of files c.tasks) ended × Places c.processors (bytes_of files c.tasks) old ended new
+Tested (Some (form.Stretch c)) files old ended new = Measures (bytes_of files c.tasks) old ended new
+Tested (Some (form.Accept c)) files old ended new = Tabulates c.number c.sets c.tasks old ended new
 Tested form files old ended new = Unit {0}

@@ -12,9 +12,10 @@ use Rattle.mc_model.specs.declared.work.WorkRow.{WorkRow}
 use Rattle.mc_model.specs.Follows.{Follows}
 use Rattle.mc_model.specs.LiveTrace.{LiveTrace}
 use Rattle.mc_model.specs.TraceText.{trace_text}
-use Rattle.command_line.specs.declared.form.Telling.{Telling}
-use Rattle.command_line.specs.declared.form.Telling.TheVariants.{JudgeBy}
-use Rattle.command_line.specs.Form.{Form, run, on_trace, soak, live, run_all}
+use Rattle.trace_answers.specs.declared.telling.Telling.{Telling}
+use Rattle.trace_answers.specs.declared.telling.Telling.TheVariants.{JudgeBy}
+use Rattle.command_line.specs.declared.form.Form.{Form}
+use Rattle.command_line.specs.declared.form.Form.TheVariants as form
 use Rattle.task_answers.specs.Admitted.{under}
 use Rattle.trace_answers.specs.OnTrace.{told}
 use Rattle.run_answers.specs.Soak.{workload_set, soak_text, IsSoaked}
@@ -52,6 +53,11 @@ abbrev pub TellsOf : Telling → List ℕ → List ℕ → List ℕ → ℕ → 
 TellsOf telling bytes more old ended new = ended ≡ 0 → (set : Set) × (rule : Rule) × (runs : List Run) × (text : List ℕ)
     × IsAdmitted bytes set rule × SaysTrace more set.tasks runs × (told telling (under rule set) (trace_of runs) ≡ Ok text) × (new ≡ Some (old ++ text))
 
+-- what each command on a trace writes; of one under a rule that the words give nothing is said here
+abbrev pub TellsUnder : Telling → List ℕ → List ℕ → List ℕ → ℕ → Option (List ℕ) → Type 0
+TellsUnder (JudgeBy p q) bytes more old ended new = Unit {0}
+TellsUnder telling bytes more old ended new = TellsOf telling bytes more old ended new
+
 -- `soak` sums up the trace of a workload
 abbrev pub SumsUp : ℕ → ℕ → ℕ → List ℕ → ℕ → Option (List ℕ) → Type 0
 SumsUp number tasks ticks old ended new = ended ≡ 0 → (rule : Rule) × (h : List Row)
@@ -59,11 +65,10 @@ SumsUp number tasks ticks old ended new = ended ≡ 0 → (rule : Rule) × (h : 
 
 -- what is told is so, by what the files hold, what was written before, the status and what is written after
 abbrev pub Told : Option Form → Files → List ℕ → ℕ → Option (List ℕ) → Type 0
-Told (Some (run tasks work ticks)) files old ended new = WritesRun ticks (bytes_of files tasks) (bytes_of files work) old ended new
-Told (Some (live tasks ticks)) files old ended new = WritesLive ticks (bytes_of files tasks) old ended new
-Told (Some (soak number tasks ticks)) files old ended new = SumsUp number tasks ticks old ended new
-Told (Some (run_all tasks work ticks processors)) files old ended new =
-    WritesParts ticks processors (bytes_of files tasks) (bytes_of files work) old ended new
-Told (Some (on_trace (JudgeBy p q) tasks trace)) files old ended new = Unit {0}
-Told (Some (on_trace telling tasks trace)) files old ended new = TellsOf telling (bytes_of files tasks) (bytes_of files trace) old ended new
+Told (Some (form.Run c)) files old ended new = WritesRun c.ticks (bytes_of files c.tasks) (bytes_of files c.work) old ended new
+Told (Some (form.Live c)) files old ended new = WritesLive c.ticks (bytes_of files c.tasks) old ended new
+Told (Some (form.Soak c)) files old ended new = SumsUp c.number c.tasks c.ticks old ended new
+Told (Some (form.RunAll c)) files old ended new =
+    WritesParts c.ticks c.processors (bytes_of files c.tasks) (bytes_of files c.work) old ended new
+Told (Some (form.OnTrace c)) files old ended new = TellsUnder c.telling (bytes_of files c.tasks) (bytes_of files c.trace) old ended new
 Told form files old ended new = Unit {0}

@@ -4,7 +4,6 @@
 mod edfvd;
 #[cfg(test)]
 mod tests;
-mod threaded;
 
 use edfvd::edfvd;
 use executive::QuietGate;

@@ -23,11 +23,11 @@ use Rattle.executive.specs.Passes.{PassState, of_pass}
 abbrev pub has_pass : List TaskPass → ℕ → Bool
 has_pass passes k = list_any (λ p. (of_pass p).task == k) passes
 
--- it has one of each task of the set
+-- the list has a pass of each task of the set
 abbrev pub HasPassOfEach : List TaskPass → List Task → Type 0
 HasPassOfEach passes set = (k : ℕ) → IsIn set k → has_pass passes k ≡ true
 
--- of task number k, which is in the set, it has none, and of each lower one it has one
+-- task number k is the first of the set of which the list has no pass
 pub record IsMissing (passes : List TaskPass) (set : List Task) (k : ℕ) : Type 0 where
   pub in_set : IsIn set k
   pub none : has_pass passes k ≡ false
@@ -50,12 +50,12 @@ pub record OneHistoryLeaves (opening : FloorState) (passes : List TaskPass) (f :
   pub legal : IsLegal opening log
   pub leaves : f ≡ after opening log
   pub each : All (λ p. IsPartOf log (of_pass p)) passes
-  -- its set, rule, places and plan are those that the executive was made with, no tick is out, and it keeps its laws
+  -- the floor has the set, rule, capacity and plan that the executive was made with, no tick out, and keeps its laws
   pub same : opening_of f ≡ opening
   pub none_out : f.core.out ≡ None
   pub none_held : f.core.held ≡ []
   pub kept : IsKept f
-  -- the counts of the passes are those of its rows, and there are no other idle ticks
+  -- the counts of the passes are those of the floor's rows, and there are no other idle ticks
   pub counts : All (λ p. AgreesWith f (of_pass p)) passes
   pub idles : total (λ p. (of_pass p).count.idles) passes ≡ idle_ticks f.core.rows
 

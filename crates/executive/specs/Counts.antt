@@ -60,7 +60,7 @@ ticks_of k [] = 0
 ticks_of k (row.Tick j how ∷ g) = cond (j.task.0 == k) 1 0 + ticks_of k g
 ticks_of k (_ ∷ g) = ticks_of k g
 
--- those of them that ended a job
+-- the ticks of task number k that ended a job
 abbrev pub ends_of : ℕ → List Row → ℕ
 ends_of k [] = 0
 ends_of k (row.Tick j how ∷ g) = cond (j.task.0 == k) (cond (is_end how) 1 0) 0 + ends_of k g

@@ -1,4 +1,4 @@
--- What a gate is told of.
+-- What a gate is asked about.
 use Rattle.std.specs.Prelude.{◌≡◌, List, [], ◌∷◌, ◌++◌, Ok}
 use Rattle.mode_core.specs.declared.answers.Released.{Released}
 use Rattle.executive.specs.declared.entry.Call.TheVariants as call

@@ -25,7 +25,7 @@ abbrev pub MayCall : FloorState → ℕ → Call → Type 0
 MayCall f k (Outcome done) = is_of_task f.core.out k ≡ true
 MayCall f k _ = Unit {0}
 
--- the floor's answer to a call of task number k; an outcome is that of the job whose tick is out
+-- the floor's answer to a call of task number k; an outcome is for the job whose tick is out
 abbrev pub answer_to : FloorState → ℕ → Call → Answer
 answer_to f k Release = Released (release_answer f k)
 answer_to f k Take = Taken (grant_answer f k)

@@ -20,11 +20,11 @@ pub record Lists : Type 0 where
   pub seen : List Entry
   pub mine : List Entry
 
--- a floor of no task, where none is told
+-- a floor of no tasks, which stands where no floor is given
 abbrev pub no_floor : FloorState
 no_floor = opening (empty_state [] Plain 0) Free
 
--- the floor that is told
+-- the floor that is given, or the one of no tasks
 abbrev pub floor_or_none : Option Opened → FloorState
 floor_or_none (Some o) = o.floor
 floor_or_none None = no_floor

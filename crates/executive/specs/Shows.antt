@@ -29,7 +29,8 @@ shows_now f a = cond (ends_tick a) (shown_of f ∷ []) []
 -- what these calls add
 abbrev pub shows_from : FloorState → List Entry → List Shown
 shows_from f [] = []
-shows_from f (e ∷ es) = shows_now (after_call f e.task.0 e.call) e.answer ++ shows_from (after_call f e.task.0 e.call) es
+shows_from f (e ∷ es) =
+    shows_now (after_call f e.task.0 e.call) e.answer ++ shows_from (after_call f e.task.0 e.call) es
 
 -- (0, low), and for each tick that ended in the history the ticks and the mode that it left
 abbrev pub shows : FloorState → List Entry → List Shown

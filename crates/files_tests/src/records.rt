@@ -3,7 +3,7 @@ ghost use Rattle.std.proofs.Common.{arith};
 ghost use Rattle.std.proofs.lemmas.Bool.Decides.{nat_tests};
 
 use csv::ByteRecord;
-use csv_records::{Meaning, Next, Records, Said, read_rows};
+use csv_records::{Meaning, Next, Records, read_rows};
 use std::alloc::{AllocError, Global};
 use std::test::Fail;
 
@@ -106,9 +106,9 @@ impl Meaning for Widths {
 
 // Whether the text is read so: as these rows, or with this refusal.
 fn is_read_as(alloc: Global, text: &str, expected: &str) -> Result<bool, AllocError> {
-    let got = match read_rows(alloc, text.as_bytes(), 9, &Widths)? {
-        Said::Rows { rows, .. } => format!(in alloc; "{rows:?}")?,
-        Said::Refused { line, cause } => format!(in alloc; "line {line}: {cause}")?,
+    let got = match read_rows(alloc, text.as_bytes(), 9, &Widths) {
+        Ok((rows, _)) => format!(in alloc; "{rows:?}")?,
+        Err(fault) => format!(in alloc; "{fault}")?,
     };
     Ok(got.as_str() == expected)
 }

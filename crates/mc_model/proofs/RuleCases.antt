@@ -2,9 +2,13 @@
 use Rattle.std.proofs.Common.{◌≡◌, ℕ, suc, ◌+◌, ◌-◌, ◌*◌, ◌<◌, ◌≤◌, ◌⊎◌, inl, inr, arith, Some}
 use Rattle.std.proofs.lemmas.Bool.Decides.{leb_tells}
 use Rattle.mc_task.specs.declared.task.Rule.{Rule}
-use Rattle.mc_task.specs.declared.task.Rule.TheVariants.{Plain}
-use Rattle.tick_frac.specs.Fraction.{lowest}
-use Rattle.mc_model.specs.Test.{rule_of, virtual_rule}
+use Rattle.mc_task.specs.declared.task.Rule.TheVariants.{Plain, Virtual}
+use Rattle.tick_frac.specs.Fraction.{Fraction, lowest}
+use Rattle.mc_model.specs.Test.{rule_of}
+
+-- the rule whose scale is this fraction
+abbrev pub virtual_rule : Fraction → Rule
+virtual_rule x = Virtual x.num x.den
 
 -- plain EDF does not fit, and with the scale b / (n - a) EDF-VD does
 pub record OnlyVirtualFits (n a b c : ℕ) : Type 0 where

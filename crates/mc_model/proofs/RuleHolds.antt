@@ -9,10 +9,10 @@ use Rattle.tick_frac.specs.Fraction.{lowest}
 use Rattle.tick_frac.proofs.Numbers.{gcd_pos_second}
 use Rattle.tick_frac.proofs.Fractions.{whole_num, whole_den}
 use Rattle.mc_model.specs.Loads.{product, load_ll, load_hl, load_hh}
-use Rattle.mc_model.specs.Test.{rule_of, published, virtual_rule}
+use Rattle.mc_model.specs.Test.{rule_of, published}
 use Rattle.mc_model.specs.Holds.{HoldsOver, Fits, PublishedRuleHolds}
 use Rattle.mc_model.proofs.HighLoads.{load_hl-pos}
-use Rattle.mc_model.proofs.RuleCases.{OnlyVirtualFits, rule_of-cases}
+use Rattle.mc_model.proofs.RuleCases.{virtual_rule, OnlyVirtualFits, rule_of-cases}
 
 -- the scale b/d is at most 1: above 1, the scaled load would fit only where a + c ≤ n
 scale-most : (n a b c d : ℕ) → 0 < d → n < a + c → a * b + c * d ≤ n * d → b ≤ d

@@ -19,7 +19,8 @@ unfoldable pub load_texts : List ℕ → ℕ → ℕ → ℕ → ℕ → List �
 load_texts gap n a b c =
     codes "U_LL "
     ++ (fraction_text (lowest a n)
-    ++ (gap ++ (codes "U_HL " ++ (fraction_text (lowest b n) ++ (gap ++ (codes "U_HH " ++ fraction_text (lowest c n)))))))
+    ++ (gap ++ (codes "U_HL "
+    ++ (fraction_text (lowest b n) ++ (gap ++ (codes "U_HH " ++ fraction_text (lowest c n)))))))
 
 -- the three loads of the tasks
 abbrev pub set_load_texts : List ℕ → List Task → List ℕ
@@ -29,7 +30,7 @@ set_load_texts gap tasks = load_texts gap (product tasks) (load_ll tasks) (load_
 unfoldable pub scale_text : Scale → List ℕ
 scale_text x = codes "scale " ++ (decimal x.p ++ (codes "/" ++ (decimal x.q ++ codes " does not hold\n")))
 
--- the line of the set's scale where it has one that does not hold for its tasks, and nothing otherwise
+-- the line of a scale that does not hold for the tasks; empty where there is no scale, or it holds
 abbrev pub unheld_text : List Task → Option Scale → List ℕ
 unheld_text tasks None = []
 unheld_text tasks (Some x) = if scale_holds tasks x then [] else scale_text x
@@ -39,7 +40,8 @@ unfoldable pub check_text : Set → Rule → List ℕ
 check_text set rule =
     codes "tasks "
     ++ (decimal (length set.tasks)
-    ++ (codes "\n" ++ (set_load_texts (codes "\n") set.tasks ++ (codes "\n" ++ (rule_text rule ++ unheld_text set.tasks set.scale)))))
+    ++ (codes "\n" ++ (set_load_texts (codes "\n") set.tasks
+    ++ (codes "\n" ++ (rule_text rule ++ unheld_text set.tasks set.scale)))))
 
 -- the line of tasks that are not admitted
 unfoldable pub not_admitted_text : List Task → List ℕ

@@ -15,7 +15,8 @@ use Rattle.mc_model.specs.declared.row.How.TheVariants.{Done}
 use Rattle.mc_model.specs.declared.row.Row.{Row}
 use Rattle.mc_model.specs.declared.row.Row.TheVariants.{Release, Tick}
 
--- the rows, the job whose tick is out, and the releases that are held until its outcome
+-- a scheduler's state: its set and rule, how many rows it may have, its rows, the job whose tick is out, and the
+-- releases that are held until that tick has its outcome
 pub record State : Type 0 where
   pub set : List Task
   pub rule : Rule
@@ -30,12 +31,12 @@ runs_before set rule high i j =
     nat_lt (key set rule high i) (key set rule high j)
     || ((key set rule high i == key set rule high j) && nat_lt i.job.task.0 j.job.task.0)
 
--- of the job found so far, if any, and another one, the job that runs first
+-- the one of two jobs that runs first; the only one where there is no second
 abbrev pub first_of_two : List Task → Rule → Bool → KeptRelease → Option KeptRelease → KeptRelease
 first_of_two set rule high i None = i
 first_of_two set rule high i (Some j) = cond (runs_before set rule high j i) j i
 
--- of these jobs the one that runs first
+-- the job of the list that runs first; none where the list is empty
 abbrev pub first_to_run : List Task → Rule → Bool → List KeptRelease → Option KeptRelease
 first_to_run set rule high [] = None
 first_to_run set rule high (i ∷ is) = Some (first_of_two set rule high i (first_to_run set rule high is))
@@ -44,16 +45,16 @@ first_to_run set rule high (i ∷ is) = Some (first_of_two set rule high i (firs
 abbrev pub chosen : List Task → Rule → List Row → Option JobId
 chosen set rule h = option_map (λ i. i.job) (first_to_run set rule (high_mode rule h) (pending set h))
 
--- 1 with a tick out
+-- how many ticks are out: 1 where a job has a tick without an outcome yet, otherwise 0
 abbrev pub tick_out : Option JobId → ℕ
 tick_out None = 0
 tick_out (Some j) = 1
 
--- the ticks that were begun
+-- how many ticks were begun: those with a row, and one that is out
 abbrev pub begun : State → ℕ
 begun s = ticks s.rows + tick_out s.out
 
--- the places that are used: a tick that is out keeps one for its row
+-- how many rows there are or will be: the rows, the held releases, and a tick that is out
 abbrev pub places_used : State → ℕ
 places_used s = length s.rows + length s.held + tick_out s.out
 
@@ -66,11 +67,12 @@ jobs_of k (j ∷ js) = cond (j.task.0 == k) 1 0 + jobs_of k js
 abbrev pub released_so_far : State → ℕ → ℕ
 released_so_far s k = releases s.rows k + jobs_of k s.held
 
--- 0 before the first release of task number k, otherwise its last release time plus its period; a held release
--- counts from the next boundary
+-- from when task number k may be released next: 0 before its first release, otherwise its last release time plus
+-- its period; a held release counts from the next boundary
 abbrev pub next_after : List Task → List Row → List JobId → ℕ → ℕ
 next_after set rows [] k = next_release set rows k
-next_after set rows (j ∷ js) k = cond (j.task.0 == k) (ticks rows + 1 + period_in (task_at set k)) (next_after set rows js k)
+next_after set rows (j ∷ js) k =
+    cond (j.task.0 == k) (ticks rows + 1 + period_in (task_at set k)) (next_after set rows js k)
 
 -- the boundary from which task number k may be released
 abbrev pub next : State → ℕ → ℕ
@@ -97,21 +99,23 @@ abbrev pub add_held : List Task → Rule → List JobId → List Row → List Ro
 add_held set rule [] g = g
 add_held set rule (j ∷ js) g = let h = add_held set rule js g in release_row set rule j h ∷ h
 
--- the rows once this job's tick has its outcome, and then the held releases
+-- the rows, then the row of the job's tick by its outcome, then the held releases
 abbrev pub settled : List Task → Rule → Bool → List Row → Option JobId → List JobId → List Row
 settled set rule done rows None held = rows
-settled set rule done rows (Some j) held = add_held set rule held (Tick j (outcome_of set rule rows j done) ∷ rows)
+settled set rule done rows (Some j) held =
+    add_held set rule held (Tick j (outcome_of set rule rows j done) ∷ rows)
 
--- the rows once the tick that is out has its outcome: its row, then the held releases
+-- the rows that the state has once the tick that is out has its outcome, with the held releases after it
 abbrev pub settle : State → Bool → List Row
 settle s done = settled s.set s.rule done s.rows s.out s.held
 
--- without a tick out nothing is held; a tick that is out is the chosen job's
+-- no releases are held where no tick is out; a tick that is out belongs to the chosen job
 abbrev pub IsOut : List Task → Rule → List Row → Option JobId → List JobId → Type 0
 IsOut set rule rows None held = held ≡ []
 IsOut set rule rows (Some j) held = chosen set rule rows ≡ Some j
 
--- what every event keeps
+-- what every event keeps: the rows are legal, the tick that is out is the chosen job's, and the rows stay legal with
+-- either outcome of it
 pub record Good (s : State) : Type 0 where
   pub legal : Legal s.set s.rule s.rows
   pub out : IsOut s.set s.rule s.rows s.out s.held

@@ -29,38 +29,41 @@ arrivals (_ ∷ g) = arrivals g
 abbrev pub planned : List WorkRow → ℕ → List Arrival
 planned work n = map (λ w. record { task = w.task.0; at = w.release }) (filter (λ w. nat_lt w.release n) work)
 
--- the needs of task number k, row by row
+-- the needs of the jobs of task number k, in the order of the work
 abbrev pub needs_of : List WorkRow → ℕ → List ℕ
 needs_of work k = map (λ w. w.need) (filter (λ w. w.task.0 == k) work)
 
--- the need of the c-th of the task's rows, counted from 1; 0 where there is none
+-- the need of the c-th job of task number k, counted from 1; 0 where there is none
 abbrev pub need_of : List WorkRow → ℕ → ℕ → ℕ
 need_of work k c = if c == 0 then 0 else slice_index_or (needs_of work k) (c - 1) 0
 
--- the trace does not end in a release
+-- whether the newest row is a Tick or Idle row
 abbrev pub ends_in_tick : List Row → Bool
 ends_in_tick [] = false
 ends_in_tick (Release j kept ∷ g) = false
 ends_in_tick (_ ∷ g) = true
 
--- each tick is Done exactly where its job has had its need
+-- whether each Tick row is Done exactly where its job has had the ticks that it needs
 abbrev pub done_by_need : List WorkRow → List Row → Bool
 done_by_need work [] = true
-done_by_need work (Tick j how ∷ g) = beq (is_done how) (used g j + 1 == need_of work j.task.0 j.count) && done_by_need work g
+done_by_need work (Tick j how ∷ g) =
+    beq (is_done how) (used g j + 1 == need_of work j.task.0 j.count) && done_by_need work g
 done_by_need work (_ ∷ g) = done_by_need work g
 
--- none of these pending jobs has the key that i has, and a lower task number
+-- whether none of these pending jobs has the key of job i and a lower task number than i
 abbrev pub none_lower : List Task → Rule → Bool → KeptRelease → List KeptRelease → Bool
-none_lower set rule high i now = list_all (λ x. not ((key set rule high x == key set rule high i) && nat_lt x.job.task.0 i.job.task.0)) now
+none_lower set rule high i now =
+    list_all (λ x. not ((key set rule high x == key set rule high i) && nat_lt x.job.task.0 i.job.task.0)) now
 
--- the job is one of these pending jobs, and none of a lower task number has its key
+-- whether the job is one of these pending jobs, and none of them has its key and a lower task number
 abbrev pub is_lowest : List Task → Rule → Bool → List KeptRelease → JobId → Bool
 is_lowest set rule high now j = list_any (λ i. same_job j i.job && none_lower set rule high i now) now
 
--- of equal keys each tick takes the lowest task number
+-- whether each tick, where keys are equal, goes to the lowest task number
 abbrev pub lowest_first : List Task → Rule → List Row → Bool
 lowest_first set rule [] = true
-lowest_first set rule (Tick j how ∷ g) = is_lowest set rule (high_mode rule g) (pending set g) j && lowest_first set rule g
+lowest_first set rule (Tick j how ∷ g) =
+    is_lowest set rule (high_mode rule g) (pending set g) j && lowest_first set rule g
 lowest_first set rule (_ ∷ g) = lowest_first set rule g
 
 -- the trace is the one that the set, the rule, the work and the number of ticks determine

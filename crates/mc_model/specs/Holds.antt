@@ -25,19 +25,22 @@ abbrev pub Fits : Rule → Type 0
 Fits Plain = Unit {0}
 Fits (Virtual p q) = (1 ≤ p) × (p ≤ q) × (q ≤ 2 ^ 60)
 
--- the rule of the test for a set, said by Holds: that of its scale, where it has one that holds; otherwise the
+-- the rule of the test for a set, said by Holds: the rule of its scale, if it has one that holds; otherwise the
 -- rule of the published test
 pub record IsRuleOf (set : Set) (rule : Option Rule) : Type 0 where
-  pub scaled : (x : Scale) → set.scale ≡ Some x → Holds set.tasks (Virtual x.p x.q) → rule ≡ Some (Virtual x.p x.q)
-  pub otherwise : ((x : Scale) → set.scale ≡ Some x → ¬ Holds set.tasks (Virtual x.p x.q)) → rule ≡ published set.tasks
+  pub scaled : (x : Scale) → set.scale ≡ Some x → Holds set.tasks (Virtual x.p x.q)
+      → rule ≡ Some (Virtual x.p x.q)
+  pub otherwise : ((x : Scale) → set.scale ≡ Some x → ¬ Holds set.tasks (Virtual x.p x.q))
+      → rule ≡ published set.tasks
 
--- law: the test gives the rule of a set's scale where that holds, and otherwise that of the published test
+-- law: the test gives the rule of a set's scale where that holds, and otherwise the rule of the published test
 abbrev pub TestByHolds : Type 0
 TestByHolds = (set : Set) → IsRuleOf set (test set)
 
 -- law: the rule of the published test holds
 abbrev pub PublishedRuleHolds : Type 0
-PublishedRuleHolds = (tasks : List Task) (rule : Rule) → AreTasks tasks → published tasks ≡ Some rule → Holds tasks rule
+PublishedRuleHolds =
+    (tasks : List Task) (rule : Rule) → AreTasks tasks → published tasks ≡ Some rule → Holds tasks rule
 
 -- law: the rule of the test holds for the set's tasks
 abbrev pub TestRuleHolds : Type 0
@@ -45,7 +48,8 @@ TestRuleHolds = (set : Set) (rule : Rule) → AreTasks set.tasks → test set �
 
 -- law: tasks for which some rule holds are admitted
 abbrev pub AdmittedIfHolds : Type 0
-AdmittedIfHolds = (tasks : List Task) (rule : Rule) → AreTasks tasks → Holds tasks rule → IsSome (published tasks)
+AdmittedIfHolds =
+    (tasks : List Task) (rule : Rule) → AreTasks tasks → Holds tasks rule → IsSome (published tasks)
 
 -- the inequalities of the scaled test, of x = U_HL / (1 - U_LL), over n: U_LL < 1 and x*U_LL + U_HH ≤ 1
 abbrev pub PassesScaledOver : ℕ → ℕ → ℕ → ℕ → Type 0
@@ -55,14 +59,15 @@ PassesScaledOver n a b c = (a < n) × (a * b + c * (n - a) ≤ n * (n - a))
 abbrev pub PassesScaled : List Task → Type 0
 PassesScaled tasks = PassesScaledOver (product tasks) (load_ll tasks) (load_hl tasks) (load_hh tasks)
 
--- the tasks are low alone, and their load is exactly 1
+-- the tasks are all low, and their load is exactly 1
 pub record AreLowWithLoad1 (tasks : List Task) : Type 0 where
   pub low : AllByRecursion (λ t. t.level ≡ Low) tasks
   pub load : load_ll tasks ≡ product tasks
 
--- law: plain EDF admits no tasks that the scaled test refuses, but low ones alone whose load is exactly 1
+-- law: plain EDF admits no tasks that the scaled test refuses, except low tasks alone with a load of exactly 1
 abbrev pub EdfOrScaled : Type 0
-EdfOrScaled = (tasks : List Task) → AreTasks tasks → Holds tasks Plain → PassesScaled tasks ⊎ AreLowWithLoad1 tasks
+EdfOrScaled =
+    (tasks : List Task) → AreTasks tasks → Holds tasks Plain → PassesScaled tasks ⊎ AreLowWithLoad1 tasks
 
 -- law: the scale of a set admits and refuses nothing: the test gives no rule exactly where the published test
 -- gives none

@@ -7,7 +7,7 @@ use Rattle.mc_task.specs.TaskSet.{task_at}
 use Rattle.mc_model.specs.TaskNumbers.{period_in, is_high_in}
 use Rattle.mc_model.specs.Pending.{KeptRelease}
 
--- how many units a tick has
+-- how many units of the keys a tick has
 abbrev pub scale : Rule → ℕ
 scale Plain = 1
 scale (Virtual p q) = q
@@ -22,6 +22,6 @@ low_offset (Virtual p q) t = cond (is_high_in t) (p * period_in t) (q * period_i
 abbrev pub key_of : Rule → Bool → Option Task → ℕ → ℕ
 key_of rule high t r = scale rule * r + cond high (scale rule * period_in t) (low_offset rule t)
 
--- the key of a job
+-- the key of a released job, by its task and its release time
 abbrev pub key : List Task → Rule → Bool → KeptRelease → ℕ
 key set rule high i = key_of rule high (task_at set i.job.task.0) i.release

@@ -1,4 +1,4 @@
--- The late jobs: those whose deadline has come, and which were live at it. The newest row stands first.
+-- The late jobs: those that were still pending at their deadline. The newest row stands first.
 use Rattle.std.specs.Prelude.{ℕ, ◌+◌, Bool, ◌&&◌, List, [], ◌∷◌, cond, nat_le, filter, map, reverse}
 use Rattle.mc_task.specs.declared.task.Task.{Task}
 use Rattle.mc_task.specs.declared.task.JobId.{JobId}
@@ -8,7 +8,7 @@ use Rattle.mc_model.specs.Rows.{ticks}
 use Rattle.mc_model.specs.Pending.{KeptRelease, released, is_live}
 use Rattle.mc_model.specs.declared.row.Row.{Row}
 
--- the part of the trace up to its d-th Tick or Idle row
+-- the part of the trace before its tick number d, counted from 0: all that happens by boundary d
 abbrev pub up_to : ℕ → List Row → List Row
 up_to d [] = []
 up_to d (row ∷ g) = cond (nat_le (ticks (row ∷ g)) d) (row ∷ g) (up_to d g)

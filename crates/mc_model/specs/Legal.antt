@@ -19,19 +19,20 @@ use Rattle.mc_model.specs.declared.row.Row.TheVariants.{Release, Tick, Idle}
 use Rattle.mc_model.specs.declared.verdict.Why.{Why}
 use Rattle.mc_model.specs.declared.verdict.Why.TheVariants.{TooSoon, WrongCount, WrongKept, NotPending, NotLeast, WrongHow, IdlePending}
 
--- one of these pending jobs is the job
+-- whether the job is one of these pending jobs
 abbrev pub is_pending : List KeptRelease → JobId → Bool
 is_pending now j = list_any (λ i. same_job j i.job) now
 
--- none of these pending jobs has a key below least
+-- whether none of these pending jobs has a key below the number
 abbrev pub none_below : List Task → Rule → Bool → ℕ → List KeptRelease → Bool
 none_below set rule high least now = list_all (λ i. nat_le least (key set rule high i)) now
 
--- the job is one of these pending jobs, and its key is a least one of theirs
+-- whether the job is one of these pending jobs, and none of them has a lower key
 abbrev pub is_least : List Task → Rule → Bool → List KeptRelease → JobId → Bool
-is_least set rule high now j = list_any (λ i. same_job j i.job && none_below set rule high (key set rule high i) now) now
+is_least set rule high now j =
+    list_any (λ i. same_job j i.job && none_below set rule high (key set rule high i) now) now
 
--- nothing is pending
+-- whether no job is pending
 abbrev pub is_empty : List KeptRelease → Bool
 is_empty [] = true
 is_empty (i ∷ is) = false
@@ -44,7 +45,7 @@ how_of set rule g j u =
     cond (u == own_in t) Stop
     (cond (is_high_in t && is_virtual rule && not (high_mode rule g) && (u == low_in t)) Over More)
 
--- the two ticks ended alike
+-- whether two ticks ended alike
 abbrev pub same_how : How → How → Bool
 same_how More More = true
 same_how Done Done = true
@@ -52,41 +53,35 @@ same_how Stop Stop = true
 same_how Over Over = true
 same_how _ _ = false
 
--- the tick ended with its job done
+-- whether the tick ended with its job done
 abbrev pub is_done : How → Bool
 is_done Done = true
 is_done _ = false
 
--- a job may be done at each tick up to its own budget; where it is not, how the tick ends is determined
+-- whether the job's next tick may end so: it may be done up to its own budget; otherwise the end is determined
 abbrev pub is_allowed_how : List Task → Rule → List Row → JobId → How → Bool
 is_allowed_how set rule g j how =
     let u = used g j + 1 in
     (is_done how && nat_le u (own_in (task_at set j.task.0))) || same_how how (how_of set rule g j u)
 
--- of these parts of a rule, each with its name, the name of the first that fails
+-- the name of the first part that fails, of parts that each have a name; none where all parts hold
 abbrev pub first_of_parts : List (Bool × Why) → Option Why
 first_of_parts [] = None
 first_of_parts (c ∷ cs) = cond c.0 (first_of_parts cs) (Some c.1)
 
--- why a row does not fit the prefix before it, in which these jobs are pending: the first part that fails
+-- the first part that fails for a row after the prefix g, in which these jobs are pending; none where the row fits
 abbrev pub fault_among : List Task → Rule → List KeptRelease → Row → List Row → Option Why
 fault_among set rule now (Release j kept) g =
-    first_of_parts (
-    (not (is_too_soon set (ticks g) g j.task.0), TooSoon)
-    ∷ (j.count == releases g j.task.0 + 1, WrongCount)
-    ∷ (beq kept (is_high_in (task_at set j.task.0) || not (high_mode rule g)), WrongKept)
-    ∷ []
-    )
+    first_of_parts
+    ((not (is_too_soon set (ticks g) g j.task.0), TooSoon) ∷ (j.count == releases g j.task.0 + 1, WrongCount)
+    ∷ (beq kept (is_high_in (task_at set j.task.0) || not (high_mode rule g)), WrongKept) ∷ [])
 fault_among set rule now (Tick j how) g =
-    first_of_parts (
-    (is_pending now j, NotPending)
-    ∷ (is_least set rule (high_mode rule g) now j, NotLeast)
-    ∷ (is_allowed_how set rule g j how, WrongHow)
-    ∷ []
-    )
+    first_of_parts
+    ((is_pending now j, NotPending) ∷ (is_least set rule (high_mode rule g) now j, NotLeast)
+    ∷ (is_allowed_how set rule g j how, WrongHow) ∷ [])
 fault_among set rule now Idle g = first_of_parts ((is_empty now, IdlePending) ∷ [])
 
--- why a row does not fit the prefix before it: the first part that fails
+-- why a row does not fit the prefix g before it: the first part that fails; none where the row fits
 abbrev pub fault : List Task → Rule → Row → List Row → Option Why
 fault set rule row g = fault_among set rule (pending set g) row g
 

@@ -1,6 +1,6 @@
 -- Live traces: tasks release when they like, as far as their periods allow, and each job ends where its need is
 -- met. The newest row stands first.
-use Rattle.std.specs.Prelude.{◌≡◌, ℕ, ◌+◌, ◌%◌, ◌==◌, ◌&&◌, Bool, true, false, List, [], ◌∷◌, Option, ⊤, if◌then◌else◌}
+use Rattle.std.specs.Prelude.{◌≡◌, ℕ, ◌+◌, ◌%◌, ◌==◌, ◌&&◌, true, List, [], ◌∷◌, Option, ⊤, if◌then◌else◌}
 use Rattle.mc_task.specs.declared.task.Task.{Task}
 use Rattle.mc_task.specs.declared.task.Rule.{Rule}
 use Rattle.mc_task.specs.TaskSet.{task_at}
@@ -9,6 +9,7 @@ use Rattle.mc_model.specs.declared.row.Row.{Row}
 use Rattle.mc_model.specs.declared.row.Row.TheVariants as row
 use Rattle.mc_model.specs.Rows.{ticks, used}
 use Rattle.mc_model.specs.Legal.{is_done, Legal}
+use Rattle.mc_model.specs.Follows.{ends_in_tick}
 
 -- the ticks that the job with this count needs: of a high task each fourth job needs the high budget, and all
 -- other jobs need the low one
@@ -19,19 +20,13 @@ live_need task count = if is_high_in task && (count % 4 == 0) then own_in task e
 abbrev pub EndByNeed : List Task → List Row → Type 0
 EndByNeed set [] = ⊤
 EndByNeed set (row.Release j kept ∷ g) = EndByNeed set g
-EndByNeed set (row.Tick j how ∷ g) = (is_done how ≡ (used g j + 1 == live_need (task_at set j.task.0) j.count)) × EndByNeed set g
+EndByNeed set (row.Tick j how ∷ g) =
+    (is_done how ≡ (used g j + 1 == live_need (task_at set j.task.0) j.count)) × EndByNeed set g
 EndByNeed set (row.Idle ∷ g) = EndByNeed set g
-
--- the last row is a Tick or Idle row
-abbrev pub ends_with_tick : List Row → Bool
-ends_with_tick [] = false
-ends_with_tick (row.Release j kept ∷ g) = false
-ends_with_tick (row.Tick j how ∷ g) = true
-ends_with_tick (row.Idle ∷ g) = true
 
 -- a legal trace of n ticks, to the row of the last of them, in which jobs end by their needs
 pub record LiveTrace (set : List Task) (rule : Rule) (n : ℕ) (h : List Row) : Type 0 where
   pub legal : Legal set rule h
   pub ticks : ticks h ≡ n
-  pub last : ends_with_tick h ≡ true
+  pub last : ends_in_tick h ≡ true
   pub ends : EndByNeed set h

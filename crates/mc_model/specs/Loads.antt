@@ -8,20 +8,20 @@ use Rattle.mc_task.specs.declared.task.Level.{Level}
 use Rattle.mc_task.specs.declared.task.Level.TheVariants.{Low, High}
 use Rattle.tick_frac.specs.Numbers.{lcm}
 
--- the first number for a low task, the second for a high one
+-- the first number for the low level, the second for the high one
 abbrev pub by_level : Level → ℕ → ℕ → ℕ
 by_level Low low high = low
 by_level High low high = high
 
--- the budget of a low task; a high task counts 0
+-- a low task's budget, and 0 for a high task
 abbrev pub low_low : Task → ℕ
 low_low t = by_level t.level t.low 0
 
--- the low budget of a high task; a low task counts 0
+-- a high task's low budget, and 0 for a low task
 abbrev pub high_low : Task → ℕ
 high_low t = by_level t.level 0 t.low
 
--- the high budget of a high task; a low task counts 0
+-- a high task's high budget, and 0 for a low task
 abbrev pub high_high : Task → ℕ
 high_high t = by_level t.level 0 t.high
 
@@ -52,29 +52,30 @@ unfoldable pub lcm_from : ℕ → List Task → ℕ
 lcm_from m [] = m
 lcm_from m (t ∷ ts) = lcm_from (lcm m t.period) ts
 
--- the least common multiple of the periods
+-- the hyperperiod: the least common multiple of the periods
 abbrev pub hyperperiod : List Task → ℕ
 hyperperiod = lcm_from 1
 
--- m is a multiple of each period, and divides each common multiple of them
+-- m is the least common multiple of the periods: their common multiple that divides each common multiple
 pub record IsLeastCommon (set : List Task) (m : ℕ) : Type 0 where
   pub common : AllByRecursion (λ t. t.period ∣ m) set
   pub least : (k : ℕ) → AllByRecursion (λ t. t.period ∣ k) set → m ∣ k
 
--- the greatest least common multiple that is within range
+-- the greatest hyperperiod that is within range
 abbrev pub most_lcm : ℕ
 most_lcm = 2 ^ 60
 
--- the set is within range
+-- the tasks are within range: their hyperperiod is at most 2^60
 abbrev pub IsWithinRange : List Task → Type 0
 IsWithinRange set = hyperperiod set ≤ most_lcm
 
--- the number of the first task whose period takes the least common multiple so far, m, past the limit;
--- the list's first task is number k
+-- the number of the first task whose period takes m, the least common multiple so far, past the limit;
+-- the list's first task has number k
 unfoldable pub range_fault_from : ℕ → ℕ → List Task → Option ℕ
 range_fault_from k m [] = None
-range_fault_from k m (t ∷ ts) = if nat_lt most_lcm (lcm m t.period) then Some k else range_fault_from (k + 1) (lcm m t.period) ts
+range_fault_from k m (t ∷ ts) =
+    if nat_lt most_lcm (lcm m t.period) then Some k else range_fault_from (k + 1) (lcm m t.period) ts
 
--- the task that takes the periods out of range, if the set is not within it
+-- the number of the first task whose period takes the hyperperiod past the limit, if any
 abbrev pub range_fault : List Task → Option ℕ
 range_fault = range_fault_from 1 1

@@ -1,5 +1,5 @@
 -- The headline: what every legal trace promises under a rule that holds for its set. The newest row stands first.
-use Rattle.std.specs.Prelude.{◌≡◌, ◌⊎◌, ℕ, ◌+◌, ◌<◌, ◌≤◌, ◌==◌, Bool, true, false, cond, List, [], ◌∷◌}
+use Rattle.std.specs.Prelude.{◌≡◌, ◌⊎◌, ℕ, ◌+◌, ◌<◌, ◌≤◌, ◌==◌, true, false, cond, List, [], ◌∷◌}
 use Rattle.std.specs.List.{AllByRecursion}
 use Rattle.mc_task.specs.declared.task.Task.{Task}
 use Rattle.mc_task.specs.declared.task.Rule.{Rule}
@@ -12,32 +12,23 @@ use Rattle.mc_model.specs.Late.{up_to, deadline, late}
 use Rattle.mc_model.specs.declared.row.Row.{Row}
 use Rattle.mc_model.specs.declared.row.Row.TheVariants.{Release}
 
--- how many Tick and Idle rows have number n: n such rows stand before them
+-- how many Tick and Idle rows have exactly n Tick and Idle rows before them, and so stand at tick n
 abbrev pub rows_at : ℕ → List Row → ℕ
 rows_at n [] = 0
 rows_at n (Release j kept ∷ g) = rows_at n g
 rows_at n (_ ∷ g) = cond (ticks g == n) 1 0 + rows_at n g
 
--- each tick is given to at most one job: one row has its number, the Tick row of one job or an Idle row
+-- each tick goes to at most one job: exactly one row stands at it, the Tick row of one job or an Idle row
 abbrev pub OneAtATime : List Row → Type 0
 OneAtATime h = (n : ℕ) → n < ticks h → rows_at n h ≡ 1
 
--- the job has a Done or Stop row by its deadline
-abbrev pub EndsInTime : List Task → List Row → KeptRelease → Type 0
-EndsInTime set h i = ended (up_to (deadline set i) h) i.job ≡ true
-
--- an overrun came after the job's release and by its deadline
-abbrev pub IsDiscarded : List Task → List Row → KeptRelease → Type 0
-IsDiscarded set h i = over_since (up_to (deadline set i) h) i.job ≡ true
-
--- the job is of a high task
-abbrev pub is_high_job : List Task → KeptRelease → Bool
-is_high_job set i = is_high_in (task_at set i.job.task.0)
-
--- where the job's deadline has come, a high job ended by it, and so did a low one unless an overrun discarded it
+-- if the job's deadline has come: among the rows up to the deadline it has a Done or Stop row; or it is a low task's
+-- job, which an overrun discarded: an Over row came after its release
 abbrev pub MeetsDeadline : List Task → List Row → KeptRelease → Type 0
 MeetsDeadline set h i =
-    deadline set i ≤ ticks h → EndsInTime set h i ⊎ ((is_high_job set i ≡ false) × IsDiscarded set h i)
+    let past = up_to (deadline set i) h in
+    deadline set i ≤ ticks h → (ended past i.job ≡ true)
+    ⊎ ((is_high_in (task_at set i.job.task.0) ≡ false) × (over_since past i.job ≡ true))
 
 -- only releases of low tasks in high mode are dropped, and only an overrun makes the mode high
 abbrev pub DropsByOverrun : List Task → Rule → List Row → Type 0

@@ -7,7 +7,7 @@ use Rattle.mc_model.specs.TaskNumbers.{period_in}
 use Rattle.mc_model.specs.declared.row.Row.{Row}
 use Rattle.mc_model.specs.declared.row.Row.TheVariants.{Release, Tick, Idle}
 
--- whether the two are the same job
+-- whether two jobs are the same one: of one task, with one number
 abbrev pub same_job : JobId → JobId → Bool
 same_job i j = (i.task.0 == j.task.0) && (i.count == j.count)
 
@@ -33,7 +33,8 @@ releases (_ ∷ g) k = releases g k
 -- 0 before the first release of task number k, otherwise its last release time plus its period
 abbrev pub next_release : List Task → List Row → ℕ → ℕ
 next_release set [] k = 0
-next_release set (Release j kept ∷ g) k = cond (j.task.0 == k) (ticks g + period_in (task_at set k)) (next_release set g k)
+next_release set (Release j kept ∷ g) k =
+    cond (j.task.0 == k) (ticks g + period_in (task_at set k)) (next_release set g k)
 next_release set (Tick j how ∷ g) k = next_release set g k
 next_release set (Idle ∷ g) k = next_release set g k
 

@@ -16,26 +16,25 @@ row_of (run.Release j kept) = Release j kept
 row_of (run.Ticks j how n) = Tick j how
 row_of (run.Idles n) = Idle
 
--- how many rows the run stands for: a release stands once
-abbrev pub size : Run → ℕ
-size (run.Release j kept) = 1
-size (run.Ticks j how n) = n
-size (run.Idles n) = n
-
--- the rows of a run
-abbrev pub rows_of : Run → List Row
-rows_of r = replicate (size r) (row_of r)
-
--- the rows of a list of runs: each run stands as its rows
-abbrev pub expand : List Run → List Row
-expand [] = []
-expand (r ∷ rs) = rows_of r ++ expand rs
-
--- the ticks of a run
+-- how many ticks the run has
 abbrev pub length_of : Run → ℕ
 length_of (run.Release j kept) = 0
 length_of (run.Ticks j how n) = n
 length_of (run.Idles n) = n
+
+-- how many rows the run stands for: one where it is a release, otherwise one for each tick
+abbrev pub size : Run → ℕ
+size (run.Release j kept) = 1
+size r = length_of r
+
+-- the rows that a run stands for
+abbrev pub rows_of : Run → List Row
+rows_of r = replicate (size r) (row_of r)
+
+-- the rows that a list of runs stands for
+abbrev pub expand : List Run → List Row
+expand [] = []
+expand (r ∷ rs) = rows_of r ++ expand rs
 
 -- a run has a row, and several ticks of a job stand in one run only where the job goes on after each of them
 abbrev pub IsRun : Run → Type 0

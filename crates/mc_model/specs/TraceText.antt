@@ -25,17 +25,18 @@ kept_word false = codes "dropped"
 -- six fields joined by commas, and a line feed
 abbrev pub line_of : List ℕ → List ℕ → List ℕ → List ℕ → List ℕ → List ℕ → List ℕ
 line_of event tick length task job how =
-    event ++ (codes "," ++ (tick ++ (codes "," ++ (length ++ (codes "," ++ (task ++ (codes "," ++ (job ++ (codes "," ++ (how ++ codes "\n"))))))))))
+    event ++ (codes "," ++ (tick ++ (codes "," ++ (length
+    ++ (codes "," ++ (task ++ (codes "," ++ (job ++ (codes "," ++ (how ++ codes "\n"))))))))))
 
--- the line of a run that starts at this tick
+-- the line of a run whose first tick has this number
 unfoldable pub run_line : List Task → ℕ → Run → List ℕ
-run_line set tick (Release j kept) =
-    line_of (codes "release") (decimal tick) [] (name_in (task_at set j.task.0)) (decimal j.count) (kept_word kept)
-run_line set tick (Ticks j how n) =
-    line_of (codes "tick") (decimal tick) (decimal n) (name_in (task_at set j.task.0)) (decimal j.count) (how_word how)
+run_line set tick (Release j kept) = line_of (codes "release") (decimal tick) []
+    (name_in (task_at set j.task.0)) (decimal j.count) (kept_word kept)
+run_line set tick (Ticks j how n) = line_of (codes "tick") (decimal tick) (decimal n)
+    (name_in (task_at set j.task.0)) (decimal j.count) (how_word how)
 run_line set tick (Idles n) = line_of (codes "idle") (decimal tick) (decimal n) [] [] []
 
--- the lines of runs of which the first starts at this tick
+-- the lines of runs, the first of which starts at this tick
 abbrev pub lines_from : List Task → ℕ → List Run → List ℕ
 lines_from set tick [] = []
 lines_from set tick (r ∷ runs) = run_line set tick r ++ lines_from set (tick + length_of r) runs
@@ -44,6 +45,6 @@ lines_from set tick (r ∷ runs) = run_line set tick r ++ lines_from set (tick +
 abbrev pub runs_text : List Task → List Run → List ℕ
 runs_text set runs = codes "event,tick,length,task,job,how\n" ++ lines_from set 0 runs
 
--- the text of a trace: that of its runs
+-- the text of a trace: the text of its packed runs
 abbrev pub trace_text : List Task → List Row → List ℕ
 trace_text set rows = runs_text set (pack rows)

@@ -1,5 +1,5 @@
--- The verdict on a trace: the first row that does not fit the rows before it, or else who is late. The newest row
--- stands first.
+-- The verdict on a trace: the first row that does not fit the rows before it, or else how many jobs are late. The
+-- newest row stands first.
 use Rattle.std.specs.Prelude.{◌≡◌, ℕ, ◌+◌, List, [], ◌∷◌, Option, Some, None, length, option_map, slice_get}
 use Rattle.std.specs.Option.{option_or}
 use Rattle.mc_task.specs.declared.task.Task.{Task}
@@ -17,11 +17,12 @@ pub record RowFault : Type 0 where
   pub place : ℕ
   pub why : Why
 
--- the oldest row that does not fit the rows before it
+-- the oldest row that does not fit the rows before it, if any
 abbrev pub first_unfit : List Task → Rule → List Row → Option RowFault
 first_unfit set rule [] = None
 first_unfit set rule (row ∷ g) =
-    option_or (first_unfit set rule g) (option_map (λ why. record { place = length g + 1; why = why }) (fault set rule row g))
+    option_or (first_unfit set rule g)
+    (option_map (λ why. record { place = length g + 1; why = why }) (fault set rule row g))
 
 -- the first row that does not fit, or, where each row fits, how many jobs are late and which was released first
 abbrev pub verdict_of : Option RowFault → List JobId → Verdict

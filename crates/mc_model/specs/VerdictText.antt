@@ -21,9 +21,12 @@ why_word IdlePending = codes "idle_pending"
 -- the first late job, where there is one: its task's name and its count
 abbrev pub first_words : List Task → Option JobId → List ℕ
 first_words set None = []
-first_words set (Some j) = codes " first " ++ (name_in (task_at set j.task.0) ++ (codes " " ++ decimal j.count))
+first_words set (Some j) =
+    codes " first " ++ (name_in (task_at set j.task.0) ++ (codes " " ++ decimal j.count))
 
 -- the line of a verdict
 unfoldable pub verdict_line : List Task → Verdict → List ℕ
-verdict_line set (Legal late first) = codes "legal late " ++ (decimal late ++ (first_words set first ++ codes "\n"))
-verdict_line set (Illegal place why) = codes "illegal row " ++ (decimal place ++ (codes " " ++ (why_word why ++ codes "\n")))
+verdict_line set (Legal late first) =
+    codes "legal late " ++ (decimal late ++ (first_words set first ++ codes "\n"))
+verdict_line set (Illegal place why) =
+    codes "illegal row " ++ (decimal place ++ (codes " " ++ (why_word why ++ codes "\n")))

@@ -5,7 +5,7 @@ use Rattle.mc_task.specs.TaskSet.{task_at, IsIn}
 use Rattle.mc_model.specs.TaskNumbers.{period_in}
 use Rattle.mc_model.specs.declared.work.WorkRow.{WorkRow}
 
--- v may stand after w: it is not released earlier, and at least a period later where it is of the same task
+-- v may stand after w: it is not released earlier, and if both are of one task, at least a period later
 pub record MayFollow (set : List Task) (w v : WorkRow) : Type 0 where
   pub order : w.release ≤ v.release
   pub apart : w.task.0 ≡ v.task.0 → w.release + period_in (task_at set w.task.0) ≤ v.release

@@ -20,10 +20,10 @@ number_fault k t =
     if (t.period == 0 || t.low == 0) || t.high == 0 then Some (ZeroNumber (record { 0 = k }))
     else if out_of_order t.level t.low t.high then Some (BudgetOrder (record { 0 = k })) else None
 
--- the number fault of the first task that has one, where this many tasks stand before the list
+-- the number fault of the first task that has one, where n tasks stand before the list
 abbrev pub number_fault_from : ℕ → List Task → Option SetFault
-number_fault_from before [] = None
-number_fault_from before (t ∷ ts) = option_or (number_fault (before + 1) t) (number_fault_from (before + 1) ts)
+number_fault_from n [] = None
+number_fault_from n (t ∷ ts) = option_or (number_fault (n + 1) t) (number_fault_from (n + 1) ts)
 
 -- the number of the first task with this name, the list's first task being number k
 abbrev pub named_from : ℕ → List ℕ → List Task → Option ℕ
@@ -34,11 +34,11 @@ named_from k name (t ∷ ts) = if bytes_eq t.name name then Some k else named_fr
 abbrev pub named : List ℕ → List Task → Option ℕ
 named = named_from 1
 
--- the first task that has the name of an earlier one, and the first task with that name
+-- the first task of the list whose name a task before it has, and the first task with that name
 abbrev pub same_name_from : List Task → List Task → Option SetFault
 same_name_from before [] = None
-same_name_from before (t ∷ ts) =
-    option_or (option_map (λ first. SameName (record { 0 = first }) (record { 0 = length before + 1 })) (named t.name before))
+same_name_from before (t ∷ ts) = option_or
+    (option_map (λ k. SameName (record { 0 = k }) (record { 0 = length before + 1 })) (named t.name before))
     (same_name_from (before ++ t ∷ []) ts)
 
 -- the first fault of a list of tasks

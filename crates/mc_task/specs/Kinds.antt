@@ -1,4 +1,4 @@
--- What kind of level, and of rule.
+-- Whether a level is high, and whether a rule is EDF-VD.
 use Rattle.std.specs.Prelude.{Bool, true, false}
 use Rattle.mc_task.specs.declared.task.Level.{Level}
 use Rattle.mc_task.specs.declared.task.Level.TheVariants.{Low, High}

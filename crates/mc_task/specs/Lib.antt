@@ -3,3 +3,4 @@ pub mod Name
 pub mod TaskSet
 pub mod Kinds
 pub mod Faults
+pub mod Refusals

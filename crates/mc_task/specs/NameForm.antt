@@ -4,7 +4,9 @@ use Rattle.std.specs.List.{list_all}
 
 -- an ASCII letter, a digit, `_` or `-`
 abbrev pub is_name_byte : ℕ → Bool
-is_name_byte b = (((nat_le 97 b && nat_le b 122) || (nat_le 65 b && nat_le b 90)) || (nat_le 48 b && nat_le b 57)) || (b == 95 || b == 45)
+is_name_byte b =
+    (((nat_le 97 b && nat_le b 122) || (nat_le 65 b && nat_le b 90)) || (nat_le 48 b && nat_le b 57))
+    || (b == 95 || b == 45)
 
 -- a name: 1 to 32 ASCII letters, digits, `_` or `-`
 abbrev pub is_name : List ℕ → Bool

@@ -1,7 +1,8 @@
 -- What a task set is: dual-criticality sporadic tasks with implicit deadlines (Baruah et al., ECRTS 2012).
 -- That a low task has one budget, and how many tasks and how large numbers there may be, is this profile's.
-use Rattle.std.specs.Prelude.{◌≡◌, ◌≢◌, ℕ, ◌-◌, ◌<◌, ◌≤◌, ◌^◌, ◌==◌, if◌then◌else◌, List, [], ◌∷◌, length, map, slice_get, Option, Some, None, IfSome, IsTrue}
+use Rattle.std.specs.Prelude.{◌≡◌, ◌≢◌, ℕ, ◌-◌, ◌<◌, ◌≤◌, ◌^◌, ◌==◌, if◌then◌else◌, List, [], ◌∷◌, length, map, slice_get, Option, None, IfSome, IsTrue}
 use Rattle.std.specs.List.{AllByRecursion}
+use Rattle.std.specs.Option.{option_map_or}
 use Rattle.tick_frac.specs.Numbers.{gcd}
 use Rattle.mc_task.specs.NameForm.{is_name}
 use Rattle.mc_task.specs.declared.task.Task.{Task}
@@ -26,7 +27,7 @@ pub record IsTask (t : Task) : Type 0 where
   pub high : IsTickCount t.high
   pub budgets : InOrder t.level t.low t.high
 
--- the names of the list differ
+-- no two names of the list are equal
 abbrev pub Distinct : List (List ℕ) → Type 0
 Distinct [] = Unit {0}
 Distinct (n ∷ ns) = AllByRecursion (λ m. n ≢ m) ns × Distinct ns
@@ -49,17 +50,17 @@ pub record IsScale (x : Scale) : Type 0 where
   pub small : x.q < 2 ^ 32
   pub lowest : gcd x.p x.q ≡ 1
 
--- tasks, and the scale that was chosen for them, or none
+-- a set: tasks, and the scale that was chosen for them, if any
 pub record Set : Type 0 where
   pub tasks : List Task
   pub scale : Option Scale
 
--- a set: its tasks are those of a set, and its scale, where it has one, is a scale
+-- a valid set: the tasks are 1 to 128 valid tasks with different names, and the scale, if any, is a valid scale
 pub record IsSet (set : Set) : Type 0 where
   pub tasks : AreTasks set.tasks
   pub scale : IfSome set.scale IsScale
 
--- the tasks with no scale
+-- the set of these tasks with no scale of its own
 abbrev pub unscaled : List Task → Set
 unscaled tasks = record { tasks = tasks; scale = None }
 
@@ -67,11 +68,10 @@ unscaled tasks = record { tasks = tasks; scale = None }
 abbrev pub IsIn : List Task → ℕ → Type 0
 IsIn tasks k = (1 ≤ k) × (k ≤ length tasks)
 
--- task number k
+-- task number k, if there is one
 abbrev pub task_at : List Task → ℕ → Option Task
 task_at tasks k = if k == 0 then None else slice_get tasks (k - 1)
 
--- the name of a task, where there is one
+-- the name of a task; empty where there is no task
 abbrev pub name_in : Option Task → List ℕ
-name_in None = []
-name_in (Some t) = t.name
+name_in task = option_map_or (λ t. t.name) task []

@@ -7,7 +7,7 @@ use Rattle.mc_world.specs.Shelf.{Fetch, fetch_of, file_at}
 use Rattle.mc_world.specs.declared.shelf.FetchFault.{FetchFault}
 use Rattle.mc_world.specs.declared.shelf.FetchFault.TheVariants.{Failed, TooLong, Memory}
 
--- a shelf in memory: its files, what it is told to do, and what was asked of it
+-- a shelf in memory: its files, which fetches it fails, and what was asked of it
 pub record MemoryShelfState : Type 0 where
   -- the files, each a name and its bytes
   pub files : List (List ℕ × List ℕ)
@@ -40,9 +40,10 @@ answer_of (Some bytes) limit = if nat_lt limit (length bytes) then Err TooLong e
 -- what the next fetch answers, where it has the memory; the first fetch is number 1
 abbrev pub next_answer : MemoryShelfState → List ℕ → ℕ → Result (List ℕ) FetchFault
 next_answer s name limit =
-    if list_any (nat_eq (length s.fetches + 1)) s.fails then Err Failed else answer_of (file_at name s.files) limit
+    if list_any (nat_eq (length s.fetches + 1)) s.fails then Err Failed
+    else answer_of (file_at name s.files) limit
 
--- this is the answer, or memory was wanting
+-- the result of a fetch is this answer, or an allocation failed
 abbrev pub Answers : Result (Vec ℕ Global) FetchFault → Result (List ℕ) FetchFault → Type 0
 Answers (Err Memory) answer = ⊤
 Answers (Err fault) answer = answer ≡ Err fault
@@ -51,5 +52,6 @@ Answers (Ok bytes) answer = answer ≡ Ok bytes.items
 -- the shelf after a fetch of that name with that answer
 abbrev pub after_fetch : MemoryShelfState → List ℕ → Result (Vec ℕ Global) FetchFault → MemoryShelfState
 after_fetch s name (Err Memory) = record s { wanted = one_more s.wanted }
-after_fetch s name (Err Failed) = record s { fetches = s.fetches ++ fetch_of name true ∷ []; faults = s.faults + 1 }
+after_fetch s name (Err Failed) =
+    record s { fetches = s.fetches ++ fetch_of name true ∷ []; faults = s.faults + 1 }
 after_fetch s name _ = record s { fetches = s.fetches ++ fetch_of name false ∷ [] }

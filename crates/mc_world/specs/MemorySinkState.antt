@@ -2,7 +2,7 @@
 use Rattle.std.specs.Prelude.{ℕ, ◌+◌, ◌-◌, ◌^◌, ◌++◌, List, [], length, min, take}
 use Rattle.mc_world.specs.Count.{one_more}
 
--- a sink in memory: what was written, what it is told to do, and its counts
+-- a sink in memory: what was written, which writes it takes or fails, and its counts
 pub record MemorySinkState : Type 0 where
   -- the bytes written
   pub written : List ℕ
@@ -23,15 +23,28 @@ pub record MemorySinkState : Type 0 where
 
 -- a sink to which nothing has been written
 abbrev pub new_sink : ℕ → ℕ → List ℕ → List ℕ → MemorySinkState
-new_sink room most fails stops = record { written = []; room = room; most = most; fails = fails; stops = stops; writes = 0; faults = 0; since_fault = 0 }
+new_sink room most fails stops = record {
+  written = [];
+  room = room;
+  most = most;
+  fails = fails;
+  stops = stops;
+  writes = 0;
+  faults = 0;
+  since_fault = 0;
+}
 
 -- how many bytes of a piece the next write takes, unless it is to fail or to take nothing
 abbrev pub next_count : MemorySinkState → List ℕ → ℕ
 next_count s piece = min (min (length piece) s.most) (s.room - length s.written)
 
--- the sink after a write that took so many bytes of the piece
+-- the sink after a write that took n bytes of the piece
 abbrev pub after_write : MemorySinkState → List ℕ → ℕ → MemorySinkState
-after_write s piece count = record s { written = s.written ++ take count piece; writes = one_more s.writes; since_fault = min (s.since_fault + count) (2 ^ 64 - 1) }
+after_write s piece count = record s {
+  written = s.written ++ take count piece;
+  writes = one_more s.writes;
+  since_fault = min (s.since_fault + count) (2 ^ 64 - 1);
+}
 
 -- the sink after a write that failed, or was to take nothing
 abbrev pub after_fault : MemorySinkState → MemorySinkState

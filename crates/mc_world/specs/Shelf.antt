@@ -22,11 +22,11 @@ abbrev pub is_failed : {T : Type 0} → Result T FetchFault → Bool
 is_failed (Err Failed) = true
 is_failed answer = false
 
--- what a shelf is seen as
+-- a shelf as contracts see it
 pub record ShelfState : Type 0 where
-  -- the bytes under each name that has some, where the shelf tells them
+  -- the bytes under each name that has some, where the shelf exposes them
   pub holds : Option Files
-  -- the fetches that were answered, the first one first, where the shelf tells them
+  -- the fetches that were answered, the first one first, where the shelf exposes them
   pub fetches : Option (List Fetch)
   -- how many fetches have failed
   pub faults : ℕ

@@ -1,13 +1,13 @@
 -- What a sink is seen as, and what a write does to the bytes written.
 use Rattle.std.specs.Prelude.{◌≡◌, ℕ, List, ◌++◌, take, Option, option_map}
 
--- the first n bytes of the piece stand at the end, where the sink tells
+-- the first n bytes of the piece stand at the end, where the sink exposes its bytes
 abbrev pub Appends : Option (List ℕ) → Option (List ℕ) → List ℕ → ℕ → Type 0
 Appends old new piece n = new ≡ option_map (λ bytes. bytes ++ take n piece) old
 
--- what a sink is seen as
+-- a sink as contracts see it
 pub record SinkState : Type 0 where
-  -- the bytes written so far, where the sink tells them
+  -- the bytes written so far, where the sink exposes them
   pub written : Option (List ℕ)
   -- how many writes have failed
   pub faults : ℕ

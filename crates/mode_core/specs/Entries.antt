@@ -1,4 +1,4 @@
--- A pending job, as it is told, and as it is queued.
+-- A pending job, as callers see it, and as it is queued.
 use Rattle.std.specs.Prelude.{ℕ, Bool, true, List}
 use Rattle.mc_task.specs.declared.task.Task.{Task}
 use Rattle.mc_task.specs.declared.task.Rule.{Rule}

@@ -21,7 +21,8 @@ use Rattle.mc_model.specs.Core.{State, chosen, begun, places_used, next, next_jo
 
 -- a state with no rows, no tick out and nothing held
 abbrev pub empty_state : List Task → Rule → ℕ → State
-empty_state set rule places = record { set = set; rule = rule; places = places; rows = []; out = None; held = [] }
+empty_state set rule places =
+    record { set = set; rule = rule; places = places; rows = []; out = None; held = [] }
 
 -- the refusal, where the test holds
 abbrev pub refused_if : {E : Type 0} → Bool → E → Option E
@@ -56,7 +57,8 @@ release_refusal s k =
 -- the answer to a release that is taken: held with a tick out, otherwise kept or dropped
 abbrev pub taken : State → Option JobId → ℕ → Released
 taken s (Some j) k = Held (next_job s k) (begun s)
-taken s None k = cond (keeps s.set s.rule s.rows k) (Kept (next_job s k) (begun s)) (Dropped (next_job s k) (begun s))
+taken s None k =
+    cond (keeps s.set s.rule s.rows k) (Kept (next_job s k) (begun s)) (Dropped (next_job s k) (begun s))
 
 -- the state with this release: held with a tick out, otherwise in the rows
 abbrev pub with_release : State → Option JobId → JobId → State
@@ -123,7 +125,8 @@ outcome_answer s j done = answer (outcome_refusal s j) (outcome_of s.set s.rule 
 
 -- the state after an outcome of the job: the tick has its row, and then the held releases have theirs
 abbrev pub after_outcome : State → JobId → Bool → State
-after_outcome s j done = unless (outcome_refusal s j) (record s { rows = settle s done; out = None; held = [] }) s
+after_outcome s j done =
+    unless (outcome_refusal s j) (record s { rows = settle s done; out = None; held = [] }) s
 
 -- why a tick is not idle: one is out, something is pending, or each place is used
 abbrev pub idle_refusal : State → Option IdleFault

@@ -22,11 +22,13 @@ use Rattle.mode_core.specs.Written.{Written}
 
 -- what stands in the live jobs, by their fields
 abbrev pub slots_of : live_jobs.Inside → Slots
-slots_of a = record { set = a.set.tasks; rule = a.rule; high = a.high; jobs = a.jobs.items; ticks = a.used.ticks }
+slots_of a =
+    record { set = a.set.tasks; rule = a.rule; high = a.high; jobs = a.jobs.items; ticks = a.used.ticks }
 
 -- the queue has the live job of each task, and no other
 abbrev pub AreQueued : List Task → Rule → Bool → List (Option LiveJob) → List Item → Type 0
-AreQueued set rule high jobs items = (k : ℕ) → IsIn set k → item_of items k ≡ option_map (λ j. item set rule high k j.release) (job_at jobs k)
+AreQueued set rule high jobs items =
+    (k : ℕ) → IsIn set k → item_of items k ≡ option_map (λ j. item set rule high k j.release) (job_at jobs k)
 
 -- each task has a slot, a line of the ledger against its budgets, and a place in the queue, which has the live jobs
 pub record IsLiveJobs (a : live_jobs.Inside) : Type 0 where
@@ -47,7 +49,8 @@ abbrev pub job_of : ℕ → List KeptRelease → Option KeptRelease
 job_of k jobs = find (λ i. i.job.task.0 == k) jobs
 
 -- clock, mode and slots agree with the rows, which are legal: the live job of each task is its pending job, with its ticks
-pub record IsTally (set : List Task) (rule : Rule) (h : List Row) (clock : ℕ) (high : Bool) (slots : ℕ → Option Pending) : Type 0 where
+pub record IsTally (set : List Task) (rule : Rule) (h : List Row) (clock : ℕ) (high : Bool)
+    (slots : ℕ → Option Pending) : Type 0 where
   pub legal : Legal set rule h
   pub clock_is : clock ≡ ticks h
   pub mode_is : high ≡ high_mode rule h

@@ -4,9 +4,10 @@ use Rattle.mc_model.specs.Pending.{pending}
 use Rattle.mc_model.specs.Core.{State, begun, next, settle}
 use Rattle.demand_law.specs.OneLive.{pending_of, AtMostOne}
 
--- each task has at most one pending job, now and once the tick that is out has its outcome; and none behind that
--- outcome where its next release may come
+-- each task has at most one pending job, now and once the tick that is out has its outcome; and after that outcome no
+-- pending job where it may be released
 pub record IsOneLive (s : State) : Type 0 where
   pub now : AtMostOne s.set s.rows
   pub settled : (done : Bool) → AtMostOne s.set (settle s done)
-  pub at_release : (done : Bool) (k : ℕ) → next s k ≤ begun s → pending_of k (pending s.set (settle s done)) ≡ 0
+  pub at_release : (done : Bool) (k : ℕ) → next s k ≤ begun s
+      → pending_of k (pending s.set (settle s done)) ≡ 0

@@ -9,7 +9,14 @@ use Rattle.mode_core.specs.Noted.{notes_of}
 
 -- the state, by the fields
 abbrev pub state_of : Inside → State
-state_of a = record { set = a.book.set; rule = a.book.rule; places = a.book.places; rows = a.book.rows; out = a.out; held = reverse a.held.items }
+state_of a = record {
+  set = a.book.set;
+  rule = a.book.rule;
+  places = a.book.places;
+  rows = a.book.rows;
+  out = a.out;
+  held = reverse a.held.items;
+}
 
 -- what holds of the state of every core
 pub record IsSound (s : State) : Type 0 where

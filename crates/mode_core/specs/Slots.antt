@@ -31,9 +31,10 @@ job_at jobs k = slice_index_or jobs (k - 1) None
 abbrev pub ticks_at : Slots → ℕ → ℕ
 ticks_at s k = slice_index s.ticks (k - 1)
 
--- a job of task number k with so many ticks
+-- a job of task number k that has used n ticks
 abbrev pub told : ℕ → ℕ → LiveJob → Pending
-told k n j = record { job = record { task = record { 0 = k }; count = j.count }; release = j.release; used = n }
+told k n j =
+    record { job = record { task = record { 0 = k }; count = j.count }; release = j.release; used = n }
 
 -- the live job of task number k, with its ticks
 abbrev pub waiting : Slots → ℕ → Option Pending
@@ -41,7 +42,13 @@ waiting s k = option_map (told k (ticks_at s k)) (job_at s.jobs k)
 
 -- no live job of any task, in low mode
 abbrev pub free_slots : List Task → Rule → Slots
-free_slots set rule = record { set = set; rule = rule; high = false; jobs = replicate (length set) None; ticks = replicate (length set) 0 }
+free_slots set rule = record {
+  set = set;
+  rule = rule;
+  high = false;
+  jobs = replicate (length set) None;
+  ticks = replicate (length set) 0;
+}
 
 -- task number k has this job now, and all else is as it was
 pub record ChangesOnly (old new : Slots) (k : ℕ) (entry : Option Pending) : Type 0 where
@@ -60,30 +67,34 @@ pub record GoesHigh (old new : Slots) : Type 0 where
   pub same_set : new.set ≡ old.set
   pub same_rule : new.rule ≡ old.rule
   pub mode : new.high ≡ true
-  pub each_task : (i : ℕ) → IsIn old.set i → waiting new i ≡ cond (is_high_in (task_at old.set i)) (waiting old i) None
+  pub each_task : (i : ℕ) → IsIn old.set i
+      → waiting new i ≡ cond (is_high_in (task_at old.set i)) (waiting old i) None
 
 -- a tick of task number k with this outcome leaves the live job of task number i: an end clears the task's own slot, and an
--- overrun those of the low tasks
+-- overrun clears the slots of the low tasks
 abbrev pub is_left : List Task → ℕ → How → ℕ → Bool
 is_left set k how i = not (is_end how && (k == i)) && (not (is_over how) || is_high_in (task_at set i))
 
--- new is what such a tick leaves of old
+-- new is what a tick of task number k with this outcome leaves of old
 pub record IsLeft (old new : Slots) (k : ℕ) (how : How) : Type 0 where
   pub same_set : new.set ≡ old.set
   pub same_rule : new.rule ≡ old.rule
   pub mode : new.high ≡ (is_over how || old.high)
-  pub each_task : (i : ℕ) → IsIn old.set i → waiting new i ≡ cond (is_left old.set k how i) (waiting old i) None
+  pub each_task : (i : ℕ) → IsIn old.set i
+      → waiting new i ≡ cond (is_left old.set k how i) (waiting old i) None
 
--- the outcome of the job's next tick, behind any rows in this mode by which it has had these ticks
+-- the outcome of the job's next tick, after any rows in this mode in which the job has had these ticks
 abbrev pub IsOutcome : Slots → JobId → Bool → How → Type 0
-IsOutcome s j done how = (g : List Row) → high_mode s.rule g ≡ s.high → used g j ≡ ticks_at s j.task.0 → how ≡ outcome_of s.set s.rule g j done
+IsOutcome s j done how = (g : List Row) → high_mode s.rule g ≡ s.high → used g j ≡ ticks_at s j.task.0
+    → how ≡ outcome_of s.set s.rule g j done
 
 -- no task has a live job
 abbrev pub IsQuiet : Slots → Type 0
 IsQuiet s = (k : ℕ) → IsIn s.set k → waiting s k ≡ None
 
--- it is the live job of its task, and no live job runs before it
+-- the job is the live job of its task, and no live job runs before it
 pub record RunsFirst (s : Slots) (p : Pending) : Type 0 where
   pub inside : IsIn s.set p.job.task.0
   pub there : waiting s p.job.task.0 ≡ Some p
-  pub others : (k : ℕ) (q : Pending) → IsIn s.set k → waiting s k ≡ Some q → runs_before s.set s.rule s.high (live_of q) (live_of p) ≡ false
+  pub others : (k : ℕ) (q : Pending) → IsIn s.set k → waiting s k ≡ Some q
+      → runs_before s.set s.rule s.high (live_of q) (live_of p) ≡ false

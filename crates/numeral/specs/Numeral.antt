@@ -2,11 +2,11 @@
 use Rattle.std.specs.Prelude.{ℕ, ◌+◌, ◌-◌, ◌*◌, ◌^◌, Bool, ◌&&◌, nat_le, nat_lt, List, [], ◌∷◌, length, Option, Some, None, option_and_then, if◌then◌else◌}
 use Rattle.std.specs.List.{list_all}
 
--- an ASCII digit
+-- whether the byte is an ASCII digit
 abbrev pub is_digit : ℕ → Bool
 is_digit b = nat_le 48 b && nat_le b 57
 
--- 1 to so many digits
+-- whether the bytes are 1 to n digits
 abbrev pub is_numeral : ℕ → List ℕ → Bool
 is_numeral most bytes = (nat_le 1 (length bytes) && nat_le (length bytes) most) && list_all is_digit bytes
 
@@ -15,7 +15,7 @@ abbrev pub value : List ℕ → ℕ
 value [] = 0
 value (d ∷ ds) = (d - 48) * 10 ^ length ds + value ds
 
--- the value of 1 to so many digits
+-- the value of 1 to n digits; none where the bytes are not such
 unfoldable pub numeral : ℕ → List ℕ → Option ℕ
 numeral most bytes = if is_numeral most bytes then Some (value bytes) else None
 

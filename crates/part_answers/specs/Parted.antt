@@ -21,7 +21,7 @@ tasks_on parted n = part_of parted.set parted.of n
 abbrev pub spread : List Task → List ℕ → Parted
 spread set of = record { set = set; of = of }
 
--- a set on processors 1 to m by first fit, or the refusal of the first task that fits on none
+-- a set on processors 1 to m by first fit, or the refusal of the first task that fits on no processor
 abbrev pub fitted : ℕ → List Task → Result Parted Refusal
 fitted m set = do
   of ← or_refuse (λ k. NoRoom (name_in (task_at set k)) m) (first_fit set m)

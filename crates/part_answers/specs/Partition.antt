@@ -8,7 +8,7 @@ use Rattle.serving.specs.Command.{Command, answer}
 use Rattle.task_answers.specs.Admitted.{fetch_table}
 use Rattle.part_answers.specs.Parted.{Parted, tasks_on, parted}
 
--- the names of the tasks, each behind a space
+-- the names of the tasks, each after a space
 abbrev pub spaced_names : List Task → List ℕ
 spaced_names tasks = flat_map (λ t. codes " " ++ t.name) tasks
 
@@ -20,12 +20,12 @@ processor_line parted n = codes "processor " ++ (decimal n ++ (spaced_names (tas
 abbrev pub partition_text : ℕ → Parted → List ℕ
 partition_text m parted = flat_map (processor_line parted) (range_with_len 1 m)
 
--- where the tasks of the set go that a task file says
+-- what `partition` writes: the processors of the tasks of the set that a task file says, or the refusal
 abbrev pub placed : ℕ → List ℕ → Result (List ℕ) Refusal
 placed m bytes = do
   spread ← parted m bytes
   Ok (partition_text m spread)
 
--- the command
+-- the command `partition`
 abbrev pub partition : List ℕ → ℕ → Command
 partition tasks m = fetch_table tasks (λ bytes. answer (λ reply. reply ≡ reply_by (placed m bytes)))

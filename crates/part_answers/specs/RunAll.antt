@@ -1,5 +1,5 @@
 -- The command `runall TASKS WORK TICKS M`.
-use Rattle.std.specs.Prelude.{◌≡◌, ℕ, ◌<◌, Bool, nat_lt, List, ◌++◌, length, filter, flat_map, zip, reverse, codes, decimal, Some}
+use Rattle.std.specs.Prelude.{◌≡◌, ℕ, Bool, nat_lt, List, ◌++◌, length, filter, flat_map, zip, reverse, codes, decimal, Some}
 use Rattle.std.specs.List.{range_with_len, AllZip}
 use Rattle.mc_task.specs.declared.task.Rule.{Rule}
 use Rattle.mc_model.specs.declared.row.Row.{Row}
@@ -18,7 +18,7 @@ use Rattle.part_answers.specs.Parted.{Parted, tasks_on, parted}
 abbrev pub is_used : Parted → ℕ → Bool
 is_used parted n = nat_lt 0 (length (tasks_on parted n))
 
--- those of processors 1 to m that have tasks
+-- the processors from 1 to m that have tasks
 abbrev pub used : ℕ → Parted → List ℕ
 used m parted = filter (is_used parted) (range_with_len 1 m)
 
@@ -39,8 +39,12 @@ TellsTraces ticks m parted work reply =
     (traces : List (List Row)) × AllZip (IsTraceOn ticks parted work) (used m parted) traces
     × (reply ≡ reply_of 0 (flat_map (trace_lines parted) (zip (used m parted) traces)))
 
+-- the runs of the parts of the set in the task file, which has these bytes, with the work in the second file
+abbrev pub run_all_on : List ℕ → ℕ → ℕ → List ℕ → Command
+run_all_on work ticks m bytes =
+    need (parted m bytes) (λ spread.
+    fetch_table work (λ more. need (work_of spread.set more) (λ rows. answer (TellsTraces ticks m spread rows))))
+
 -- the command
 abbrev pub run_all : List ℕ → List ℕ → ℕ → ℕ → Command
-run_all tasks work ticks m =
-    fetch_table tasks (λ bytes. need (parted m bytes) (λ spread.
-    fetch_table work (λ more. need (work_of spread.set more) (λ rows. answer (TellsTraces ticks m spread rows)))))
+run_all tasks work ticks m = fetch_table tasks (run_all_on work ticks m)

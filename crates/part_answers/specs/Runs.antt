@@ -14,7 +14,7 @@ pub record IsFresh (floor : FloorState) : Type 0 where
   pub rows : floor.core.rows ≡ []
   pub out : floor.core.out ≡ None
 
--- the floor at the end of its plan, with the rows of the one trace that follows, of which no job is late
+-- the floor at the end of its plan, with the rows of the one trace that follows, in which no job is late
 pub record IsRunOf (floor done : FloorState) : Type 0 where
   pub same : opening_of done ≡ floor
   pub trace : IsTraceOfPlan done.plan done.core
@@ -26,7 +26,7 @@ pub record IsRunOf (floor done : FloorState) : Type 0 where
 abbrev pub floors_of : List Side → List FloorState
 floors_of sides = map (λ side. side.floor) sides
 
--- the results that these floors are
+-- the results of runs that gave these floors
 abbrev pub results_of : List FloorState → List (Result FloorState Memory)
 results_of floors = map (λ f. Ok f) floors
 
@@ -34,6 +34,6 @@ results_of floors = map (λ f. Ok f) floors
 abbrev pub IsFreshSide : Side → Type 0
 IsFreshSide side = IsFresh side.floor
 
--- each result is the run of the floor at its place, or want of memory
+-- each result is the run of the floor at its place, or a failed allocation
 abbrev pub RunsEach : List Side → List (Result FloorState Memory) → Type 0
 RunsEach sides results = (i : ℕ) (side : Side) (r : Result FloorState Memory) → i < length sides → IfOk (slice_index_or results i r) (IsRunOf (slice_index_or sides i side).floor)

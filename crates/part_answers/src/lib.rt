@@ -9,7 +9,7 @@ mod run_parts;
 mod side_by_side;
 mod traces;
 
-pub use parted::Parted;
+pub use parted::{Parted, Processors};
 pub use partition::Partition;
 pub use run_parts::{RunAll, RunAllJob, finish_run_all};
 pub use side_by_side::run_all;

@@ -1,13 +1,14 @@
 // The set that a task file says, on several processors.
-ghost use Rattle.std.specs.Prelude.{◌≤◌, IfOk};
-ghost use Rattle.task_answers.specs.Given.{Gives};
+ghost use Rattle.std.specs.Prelude.{◌≤◌};
+ghost use Rattle.replies.specs.Stop.{Gives};
 ghost use Rattle.part_answers.specs.Parted.{fitted, parted};
 ghost use Rattle.part_answers.specs.Given.{IsParted};
 
 use mc_task::TaskSet;
 use part_fit::{FitFault, Parts, fit};
-use replies::{Reply, refused};
-use std::alloc::{AllocError, Global};
+use replies::{Stop, refused};
+use serving::Within;
+use std::alloc::Global;
 use task_answers::read_set;
 
 /// A set, and the processor of each of its tasks.
@@ -17,31 +18,26 @@ pub struct Parted {
     pub parts: Parts,
 }
 
-/// The set that the bytes of a task file say, on 1 to 16 processors by first fit; or the reply that refuses it.
-pub fn read_parted(
-    alloc: Global,
-    bytes: &[u8],
-    processors: u32,
-) -> Result<Result<Parted, Reply>, AllocError>
-    requires { (1 ≤ processors) × (processors ≤ 16) }
-    ensures { IfOk result (Gives (IsParted processors) (parted processors bytes.now)) }
+/// How many processors a set is spread over, 1 to 16.
+pub type Processors = Within<1, 16>;
+
+/// The set in a task file with these bytes, on this many processors by first fit.
+pub fn read_parted(alloc: Global, bytes: &[u8], processors: &Processors) -> Result<Parted, Stop>
+    ensures { Gives (IsParted processors.now) (parted processors.now bytes.now) result }
 {
-    match read_set(alloc, bytes)? {
-        Ok(set) => fitted(alloc, set, processors),
-        Err(reply) => Ok(Err(reply)),
-    }
+    fitted(alloc, read_set(alloc, bytes)?, processors.get() as u32)
 }
 
-fn fitted(alloc: Global, set: TaskSet, processors: u32) -> Result<Result<Parted, Reply>, AllocError>
+fn fitted(alloc: Global, set: TaskSet, processors: u32) -> Result<Parted, Stop>
     requires { (1 ≤ processors) × (processors ≤ 16) }
-    ensures { IfOk result (Gives (IsParted processors) (fitted processors set.tasks)) }
+    ensures { Gives (IsParted processors) (fitted processors set.tasks) result }
 {
     match fit(alloc, &set, processors) {
-        Ok(parts) => Ok(Ok(Parted { set, parts })),
+        Ok(parts) => Ok(Parted { set, parts }),
         Err(FitFault::NoRoom { task }) => {
             let task = set.get(task).unwrap();
-            Ok(Err(refused::no_room(alloc, &task.name, processors)?))
+            Err(refused::no_room(alloc, &task.name, processors))
         }
-        Err(FitFault::Memory) => Err(AllocError),
+        Err(FitFault::Memory) => Err(Stop::Memory),
     }
 }

@@ -1,58 +1,35 @@
 // The command `partition`.
 ghost use Rattle.std.specs.Prelude.{◌≡◌, ◌≤◌, ◌++◌, IfOk, OnOk, length};
+ghost use Rattle.serving.specs.Serves.{Serves};
 ghost use Rattle.part_answers.specs.Partition as spec;
+ghost use Rattle.part_answers.specs.Partition.{partition};
 ghost use Rattle.part_answers.specs.Planned.{parted_of};
 
-use crate::parted::{Parted, read_parted};
+use crate::parted::{Parted, Processors, read_parted};
 use mc_task::Task;
+use mc_world::Shelf;
 use part_fit::part;
-use replies::Reply;
-use serving::{Command, Next, Served};
+use replies::{Reply, Stop};
+use serving::{FileName, fetch};
 use std::alloc::{AllocError, Global};
 use task_answers::MOST_TABLE_BYTES;
 
 /// `partition TASKS M`.
 #[derive(Drop)]
 pub struct Partition<'a> {
-    pub tasks: &'a str,
-    /// 1 to 16.
-    pub processors: u32,
+    pub tasks: FileName<'a>,
+    pub processors: Processors,
 }
 
-impl<'a> Command for Partition<'a> {
-    ghost use Rattle.std.specs.Prelude.{◌≤◌};
-    ghost use Rattle.part_answers.specs.Partition.{partition};
-
-    type Opened = ();
-
-    type Job = ();
-
-    ghost asks = { λ c. partition c.tasks.now c.processors };
-
-    ghost valid = { λ c. (1 ≤ c.processors) × (c.processors ≤ 16) };
-
-    ghost opens = { λ c bytes opened. Unit {0} };
-
-    ghost leaves = { λ c job. ⊥ };
-
-    ghost gives = { λ c job reply. ⊥ };
-
-    fn start<'b>(&'b self, _: Global) -> Result<Next<'b, (), ()>, AllocError> {
-        Ok(Next::Ask {
-            name: self.tasks,
-            limit: MOST_TABLE_BYTES,
-            kept: (),
-        })
-    }
-
-    fn open<'b>(&'b self, alloc: Global, bytes: &[u8]) -> Result<Next<'b, (), ()>, AllocError> {
-        let reply = match read_parted(alloc, bytes, self.processors)? {
-            Ok(parted) => Reply::new(0, partition_text(alloc, &parted, self.processors)?),
-            Err(reply) => reply,
-        };
-        Ok(Next::Ready {
-            served: Served::Done { reply },
-        })
+impl<'a> Partition<'a> {
+    /// The reply: on which processor each task of the set in the file is.
+    pub fn reply<S: Shelf>(&self, alloc: Global, shelf: &mut S) -> Result<Reply, Stop>
+        ensures { Serves 1 (partition self.now.tasks self.now.processors) (S.state shelf.old) (S.state shelf.new) result }
+    {
+        let bytes = fetch(alloc, shelf, 1, &self.tasks, MOST_TABLE_BYTES)?;
+        let parted = read_parted(alloc, &bytes, &self.processors)?;
+        let processors = self.processors.get() as u32;
+        Ok(Reply::new(0, partition_text(alloc, &parted, processors)?))
     }
 }
 
@@ -84,7 +61,7 @@ fn processor_line(alloc: Global, parted: &Parted, processor: u32) -> Result<Vec<
     Ok(line)
 }
 
-// Adds the names of the tasks, each behind a space.
+// Adds the names of the tasks, each after a space.
 fn add_names(line: &mut Vec<u8>, tasks: &[Task]) -> Result<(), AllocError>
     ensures { OnOk result (line.new.items ≡ line.old.items ++ spec.spaced_names tasks.now) }
 {

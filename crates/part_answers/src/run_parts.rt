@@ -1,31 +1,32 @@
 // The command `runall`.
-ghost use Rattle.std.specs.Prelude.{◌≤◌, IfOk};
-ghost use Rattle.serving.specs.Steps.{IsOwn};
-ghost use Rattle.part_answers.specs.RunAll.{TellsTraces};
-ghost use Rattle.part_answers.specs.Planned.{parted_of, IsRunAllJob};
+ghost use Rattle.std.specs.Prelude.{◌≤◌};
+ghost use Rattle.replies.specs.Stop.{Replies};
+ghost use Rattle.serving.specs.Serves.{Serves, IsOwn, Prepares};
+ghost use Rattle.part_answers.specs.RunAll.{run_all, run_all_on};
+ghost use Rattle.part_answers.specs.Planned.{IsRunAllJob, RepliesToRunAll};
 
 use crate::floors::{PartFloors, floors_of};
-use crate::parted::{Parted, read_parted};
+use crate::parted::{Parted, Processors, read_parted};
 use crate::side_by_side::run_all;
 use crate::traces::traces_text;
 use executive::Gate;
-use replies::{Reply, refused};
-use serving::{Command, Next, Served};
-use std::alloc::{AllocError, Global};
+use mc_world::Shelf;
+use replies::{Reply, Stop};
+use run_answers::{Ticks, read_work_of};
+use serving::{FileName, fetch};
+use std::alloc::Global;
 use std::sync::Wait;
 use std::thread::Threads;
 use task_answers::MOST_TABLE_BYTES;
-use work_file::{Work, read_work};
+use work_file::Work;
 
 /// `runall TASKS WORK TICKS M`.
 #[derive(Drop)]
 pub struct RunAll<'a> {
-    pub tasks: &'a str,
-    pub work: &'a str,
-    /// 1 to 1,000,000.
-    pub ticks: u64,
-    /// 1 to 16.
-    pub processors: u32,
+    pub tasks: FileName<'a>,
+    pub work: FileName<'a>,
+    pub ticks: Ticks,
+    pub processors: Processors,
 }
 
 /// A set on several processors, and its work to run.
@@ -35,76 +36,50 @@ pub struct RunAllJob {
     pub work: Work,
 }
 
-impl<'a> Command for RunAll<'a> {
-    ghost use Rattle.std.specs.Prelude.{◌≤◌, Ok};
-    ghost use Rattle.serving.specs.Steps.{IsOwn};
-    ghost use Rattle.task_answers.specs.Given.{Gives};
-    ghost use Rattle.part_answers.specs.Parted.{parted};
-    ghost use Rattle.part_answers.specs.Given.{IsParted};
-    ghost use Rattle.part_answers.specs.RunAll.{TellsTraces, run_all};
-    ghost use Rattle.part_answers.specs.Planned.{parted_of, IsRunAllJob};
-
-    type Opened = Parted;
-
-    type Job = RunAllJob;
-
-    ghost asks = { λ c. run_all c.tasks.now c.work.now c.ticks c.processors };
-
-    ghost valid = { λ c. (1 ≤ c.ticks) × (c.ticks ≤ 1000000) × (1 ≤ c.processors) × (c.processors ≤ 16) };
-
-    ghost opens = { λ c bytes opened. Gives (IsParted c.processors) (parted c.processors bytes) (Ok opened) };
-
-    ghost leaves = { λ c job. IsRunAllJob c.processors job };
-
-    ghost gives = { λ c job reply. TellsTraces c.ticks c.processors (parted_of job.parted) job.work reply × IsOwn reply };
-
-    fn start<'b>(&'b self, _: Global) -> Result<Next<'b, (), RunAllJob>, AllocError> {
-        Ok(Next::Ask {
-            name: self.tasks,
-            limit: MOST_TABLE_BYTES,
-            kept: (),
-        })
-    }
-
-    fn open<'b>(
-        &'b self,
+impl<'a> RunAll<'a> {
+    /// The reply. The files are read first; then each processor with tasks has an executive and each task a thread, and the gate
+    /// is called at its steps by the number that the task has in the whole set. This may wait.
+    pub fn reply<R: Threads + Wait + Sync, S: Shelf, G: Gate + Sync>(
+        &self,
+        rt: &R,
         alloc: Global,
-        bytes: &[u8],
-    ) -> Result<Next<'b, Parted, RunAllJob>, AllocError> {
-        match read_parted(alloc, bytes, self.processors)? {
-            Ok(parted) => Ok(Next::Ask {
-                name: self.work,
-                limit: MOST_TABLE_BYTES,
-                kept: parted,
-            }),
-            Err(reply) => Ok(Next::Ready {
-                served: Served::Done { reply },
-            }),
-        }
+        shelf: &mut S,
+        gate: &G,
+    ) -> Result<Reply, Stop>
+        ensures { Serves 1 (run_all self.now.tasks self.now.work self.now.ticks self.now.processors) (S.state shelf.old) (S.state shelf.new) result }
+    {
+        let job = self.job(alloc, shelf)?;
+        let processors = self.processors.get() as u32;
+        finish_run_all(rt, alloc, job, self.ticks.get(), processors, gate)
     }
 
-    fn finish(
+    /// What is to be run, by both files. Without a runtime this cannot wait.
+    pub fn job<S: Shelf>(&self, alloc: Global, shelf: &mut S) -> Result<RunAllJob, Stop>
+        ensures { Prepares 1 (run_all self.now.tasks self.now.work self.now.ticks self.now.processors)
+            (IsRunAllJob self.now.processors) (RepliesToRunAll self.now.ticks self.now.processors) (S.state shelf.old) (S.state shelf.new) result }
+    {
+        let bytes = fetch(alloc, shelf, 1, &self.tasks, MOST_TABLE_BYTES)?;
+        self.job_on(alloc, shelf, &bytes)
+    }
+
+    // What is to be run, by the bytes of the task file and by the work file.
+    fn job_on<S: Shelf>(
         &self,
         alloc: Global,
-        opened: Parted,
+        shelf: &mut S,
         bytes: &[u8],
-    ) -> Result<Served<RunAllJob>, AllocError> {
-        match read_work(alloc, &opened.set, bytes) {
-            Ok(work) => Ok(Served::Left {
-                job: RunAllJob {
-                    parted: opened,
-                    work,
-                },
-            }),
-            Err(fault) => Ok(Served::Done {
-                reply: refused::work_file(alloc, &fault)?,
-            }),
-        }
+    ) -> Result<RunAllJob, Stop>
+        ensures { Prepares 2 (run_all_on self.now.work self.now.ticks self.now.processors bytes.now)
+            (IsRunAllJob self.now.processors) (RepliesToRunAll self.now.ticks self.now.processors) (S.state shelf.old) (S.state shelf.new) result }
+    {
+        let parted = read_parted(alloc, bytes, &self.processors)?;
+        let bytes = fetch(alloc, shelf, 2, &self.work, MOST_TABLE_BYTES)?;
+        let work = read_work_of(alloc, &parted.set, &bytes)?;
+        Ok(RunAllJob { parted, work })
     }
 }
 
-/// The reply of a `runall` of so many ticks on so many processors to its job: each processor with tasks has an executive, and
-/// each task a thread; the gate is told of it by the numbers of the whole set. It may wait.
+/// The reply of a `runall` of this many ticks on this many processors, as [`RunAll::reply`] gives it once the files are read.
 pub fn finish_run_all<R: Threads + Wait + Sync, G: Gate + Sync>(
     rt: &R,
     alloc: Global,
@@ -112,12 +87,12 @@ pub fn finish_run_all<R: Threads + Wait + Sync, G: Gate + Sync>(
     ticks: u64,
     processors: u32,
     gate: &G,
-) -> Result<Reply, AllocError>
+) -> Result<Reply, Stop>
     requires job { IsRunAllJob processors job }
     requires ticks { (1 ≤ ticks) × (ticks ≤ 1000000) }
     requires processors { (1 ≤ processors) × (processors ≤ 16) }
-    ensures traces { IfOk result (TellsTraces ticks processors (parted_of job.parted) job.work) }
-    ensures own { IfOk result IsOwn }
+    ensures traces { Replies (RepliesToRunAll ticks processors job) result }
+    ensures own { Replies IsOwn result }
 {
     let PartFloors {
         used,
@@ -125,7 +100,7 @@ pub fn finish_run_all<R: Threads + Wait + Sync, G: Gate + Sync>(
         numbers,
     } = floors_of(alloc, &job.parted, &job.work, ticks, processors)?;
     let Ok(done) = run_all(rt, alloc, floors, numbers, gate) else {
-        return Err(AllocError);
+        return Err(Stop::Memory);
     };
     let text = traces_text(alloc, &used, &done)?;
     Ok(Reply::new(0, text))

@@ -1,17 +1,14 @@
 // The text of several traces.
-ghost use Rattle.std.specs.Prelude.{◌≡◌, ◌≤◌, IfOk, length, flat_map, zip, All};
+ghost use Rattle.std.specs.Prelude.{◌≡◌, IfOk, length, flat_map, zip, All};
 ghost use Rattle.part_answers.specs.Traced.{IsTraced, floor_lines};
 
+use mc_task::Memory;
 use run_answers::trace_text;
-use std::alloc::{AllocError, Global};
+use std::alloc::Global;
 use timetable::Floor;
 
 /// The traces of these processors' floors, each behind a line with its processor.
-pub fn traces_text(
-    alloc: Global,
-    processors: &[u32],
-    floors: &[Floor],
-) -> Result<Vec<u8>, AllocError>
+pub fn traces_text(alloc: Global, processors: &[u32], floors: &[Floor]) -> Result<Vec<u8>, Memory>
     requires long { length processors.now ≡ length floors.now }
     requires traced { All IsTraced floors.now }
     ensures { IfOk result (λ text. text.items ≡ flat_map floor_lines (zip processors.now floors.now)) }
@@ -24,7 +21,7 @@ pub fn traces_text(
 }
 
 // The processor, and the trace of its floor.
-fn floor_lines(alloc: Global, processor: u32, floor: &Floor) -> Result<Vec<u8>, AllocError>
+fn floor_lines(alloc: Global, processor: u32, floor: &Floor) -> Result<Vec<u8>, Memory>
     requires { IsTraced floor.now }
     ensures { IfOk result (λ lines. lines.items ≡ floor_lines (processor, floor.now)) }
 {

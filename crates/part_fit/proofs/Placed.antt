@@ -1,5 +1,5 @@
 -- The processors of first fit, task by task.
-use Rattle.std.proofs.Common.{◌≡◌, ℕ, zero, suc, ◌+◌, ◌≤◌, inl, inr, List, [], ◌∷◌, ◌++◌, length, drop, Option, Some, None, slice_get, Ok, Err, refl, sym, ap, subst, ◌∙◌, arith, length-append}
+use Rattle.std.proofs.Common.{◌≡◌, ℕ, zero, suc, ◌+◌, ◌≤◌, Bool, inl, inr, List, [], ◌∷◌, ◌++◌, length, drop, Option, Some, None, slice_get, Ok, Err, refl, sym, ap, subst, ◌∙◌, arith, length-append}
 use Rattle.std.specs.List.{AllByRecursion}
 use Rattle.std.specs.Option.{option_map_or}
 use Rattle.std.proofs.lemmas.List.{drop_all}
@@ -11,11 +11,15 @@ use Rattle.mc_task.specs.TaskSet.{AreTasks}
 use Rattle.mc_model.proofs.Lists.{Each-append}
 use Rattle.mc_model.proofs.Walk.{drop_at}
 use Rattle.part_fit.specs.Parts.{part_of}
-use Rattle.part_fit.specs.FirstFit.{fits, takes, processor_for, placed, first_fit}
+use Rattle.part_fit.specs.FirstFit.{fits, processor_for, placed, first_fit}
 use Rattle.part_fit.specs.Partition.{IsAdmittedPart, IsPartition}
 use Rattle.part_fit.proofs.Sublists.{part_of-none, part_of-more, with_next-AreTasks}
 use Rattle.part_fit.proofs.Least.{find-passes}
 use Rattle.part_fit.proofs.OnOne.{IsProcessor, each-on_one}
+
+-- whether the task fits on processor n with the tasks that are there
+abbrev pub takes : List Task → List ℕ → Task → ℕ → Bool
+takes set of t n = fits (part_of set of n ++ t ∷ [])
 
 -- the task at a place has a processor, or it has none
 pub placed-next : (set : List Task) (m i : ℕ) (of : List ℕ) (t : Task) → slice_get set i ≡ Some t

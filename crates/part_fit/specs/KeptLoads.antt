@@ -27,11 +27,11 @@ pub record AreSmall (loads : Loads) : Type 0 where
   pub high_low : loads.high_low ≤ most_lcm
   pub high_high : loads.high_high ≤ most_lcm
 
--- a load over n, over a multiple m of n, with that of a task behind it
+-- a load over n, taken over a multiple m of n, with the load of one more task
 abbrev pub load_over : ℕ → ℕ → ℕ → ℕ → ℕ → ℕ
 load_over n m load budget period = load * (m / n) + budget * (m / period)
 
--- the loads with a task behind them
+-- the loads with those of one more task
 abbrev pub with_task : Loads → Task → Loads
 with_task loads t = record {
   lcm = lcm loads.lcm t.period;
@@ -40,12 +40,12 @@ with_task loads t = record {
   high_high = load_over loads.lcm (lcm loads.lcm t.period) loads.high_high (high_high t) t.period;
 }
 
--- the tasks have these loads, and are a set with the task behind them
+-- the tasks have these loads, and are the tasks of a set together with one more
 pub record IsNext (tasks : List Task) (loads : Loads) (t : Task) : Type 0 where
   pub have : AreLoadsOf tasks loads
   pub together : AreTasks (tasks ++ t ∷ [])
 
--- so it is of some tasks
+-- the loads are those of some tasks, which are the tasks of a set together with one more
 pub record IsNextOfSome (loads : Loads) (t : Task) : Type 0 where
   pub tasks : List Task
   pub next : IsNext tasks loads t
@@ -57,7 +57,8 @@ IsTried tasks (Some loads) = (fits tasks ≡ true) × AreLoadsOf tasks loads
 
 -- the loads of each processor, from the first on, where the processors of the first tasks of the set are known
 abbrev pub AreKept : List Task → List ℕ → List Loads → Type 0
-AreKept set of all = (i : ℕ) (loads : Loads) → slice_get all i ≡ Some loads → AreLoadsOf (part_of set of (suc i)) loads × AreSmall loads
+AreKept set of all = (i : ℕ) (loads : Loads) → slice_get all i ≡ Some loads
+    → AreLoadsOf (part_of set of (suc i)) loads × AreSmall loads
 
 -- the loads are kept, and the task is the next to be placed
 pub record IsToPlace (set : List Task) (of : List ℕ) (all : List Loads) (t : Task) : Type 0 where
@@ -65,7 +66,7 @@ pub record IsToPlace (set : List Task) (of : List ℕ) (all : List Loads) (t : T
   pub next : slice_get set (length of) ≡ Some t
   pub kept : AreKept set of all
 
--- so it is of some set
+-- the loads are kept for some set, of which the task is the next to be placed
 pub record IsToPlaceInSome (all : List Loads) (t : Task) : Type 0 where
   pub set : List Task
   pub of : List ℕ
@@ -75,4 +76,5 @@ pub record IsToPlaceInSome (all : List Loads) (t : Task) : Type 0 where
 abbrev pub IsPlace : List Task → List ℕ → List Loads → Task → Option (ℕ × Loads) → Type 0
 IsPlace set of all t None = processor_for set of t (length all) ≡ None
 IsPlace set of all t (Some found) =
-    (processor_for set of t (length all) ≡ Some (suc found.0)) × AreLoadsOf (part_of set of (suc found.0) ++ t ∷ []) found.1 × (found.0 < length all)
+    (processor_for set of t (length all) ≡ Some (suc found.0))
+    × AreLoadsOf (part_of set of (suc found.0) ++ t ∷ []) found.1 × (found.0 < length all)

@@ -50,8 +50,9 @@ by_real i = record i { key = i.real }
 -- the tasks' numbers rise, all above this one and none above places
 abbrev pub AreItemsFrom : ℕ → ℕ → List Item → Type 0
 AreItemsFrom above places [] = Unit {0}
-AreItemsFrom above places (i ∷ is) = (above < i.task.0) × (i.task.0 ≤ places) × AreItemsFrom i.task.0 places is
+AreItemsFrom above places (i ∷ is) =
+    (above < i.task.0) × (i.task.0 ≤ places) × AreItemsFrom i.task.0 places is
 
--- they are items of different tasks of the numbers 1 to places, in their order
+-- the items are of different tasks with numbers from 1 to places, in the order of these numbers
 abbrev pub AreItems : ℕ → List Item → Type 0
 AreItems places items = AreItemsFrom 0 places items

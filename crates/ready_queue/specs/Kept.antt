@@ -11,7 +11,7 @@ items_in [] = []
 items_in (None ∷ leaves) = items_in leaves
 items_in (Some i ∷ leaves) = i ∷ items_in leaves
 
--- each leaf is free or holds the item of its own task, the first leaf being that of task number k
+-- each leaf is free or holds the item of its own task; the first leaf belongs to task number k
 abbrev pub AreLeavesFrom : ℕ → List (Option Item) → Type 0
 AreLeavesFrom k [] = Unit {0}
 AreLeavesFrom k (None ∷ leaves) = AreLeavesFrom (k + 1) leaves
@@ -29,11 +29,11 @@ pub record AreNodes (places : ℕ) (nodes : List (Option Item)) : Type 0 where
   pub own : AreLeavesFrom 1 (drop places nodes)
   pub tree : IsTree nodes
 
--- what a contract sees of them
+-- the queue of these nodes, as contracts see it
 abbrev pub queue_at : ℕ → List (Option Item) → Queue
 queue_at places nodes = record { places = places; items = items_at places nodes }
 
--- and so of a queue
+-- a queue as contracts see it: its capacity and its items
 abbrev pub queue_of : Inside → Queue
 queue_of a = queue_at a.places a.nodes.items
 

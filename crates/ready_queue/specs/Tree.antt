@@ -8,7 +8,7 @@ abbrev pub winner : Option Item → Option Item → Option Item
 winner None b = b
 winner (Some i) b = Some (first_of_two i b)
 
--- what is left of it in high mode
+-- what is left of an item in high mode: a high task's, by its real deadline; a low task's is discarded
 abbrev pub rekeyed : Option Item → Option Item
 rekeyed None = None
 rekeyed (Some i) = cond i.high (Some (by_real i)) None
@@ -21,10 +21,10 @@ node nodes k = slice_index_or nodes k None
 abbrev pub IsPlayed : List (Option Item) → ℕ → Type 0
 IsPlayed nodes k = node nodes k ≡ winner (node nodes (2 * k)) (node nodes (2 * k + 1))
 
--- so does each place that has two below it, except perhaps this one
+-- each place that has two below it, except perhaps this one, holds the winner of these two
 abbrev pub IsTreeBut : ℕ → List (Option Item) → Type 0
 IsTreeBut except nodes = (k : ℕ) → 1 ≤ k → 2 * k + 1 < length nodes → k ≢ except → IsPlayed nodes k
 
--- so does each place that has two below it
+-- each place that has two below it holds the winner of these two
 abbrev pub IsTree : List (Option Item) → Type 0
 IsTree nodes = (k : ℕ) → 1 ≤ k → 2 * k + 1 < length nodes → IsPlayed nodes k

@@ -3,3 +3,4 @@ pub mod TaskLines
 pub mod RowLines
 pub mod Refusal
 pub mod Reading
+pub mod Stop

@@ -5,12 +5,13 @@ use Rattle.mc_model.specs.declared.verdict.Verdict.{Verdict}
 use Rattle.mc_model.specs.CheckText.{not_admitted_text}
 use Rattle.mc_model.specs.VerdictText.{verdict_line}
 use Rattle.task_file.specs.declared.fault.TaskFault.{TaskFault}
-use Rattle.work_file.specs.declared.fault.WorkFault.{WorkFault}
-use Rattle.trace_format.specs.declared.fault.TraceFault.{TraceFault}
-use Rattle.demand_test.specs.declared.fault.DemandFault.{DemandFault}
+use Rattle.csv_records.specs.declared.fault.Fault.{Fault}
+use Rattle.work_file.specs.declared.fault.WorkCause.{WorkCause}
+use Rattle.trace_format.specs.declared.fault.TraceCause.{TraceCause}
+use Rattle.demand_test.specs.declared.fault.DemandCause.{DemandCause}
 use Rattle.replies.specs.Reply.{Reply, reply_of}
 use Rattle.replies.specs.TaskLines.{task_fault_line, range_line}
-use Rattle.replies.specs.RowLines.{work_fault_line, trace_fault_line, demand_fault_line}
+use Rattle.replies.specs.RowLines.{fault_line, work_cause_words, trace_cause_words, demand_cause_words}
 
 -- the reasons: of a file's number or a task's, of what a file says, and of a set or the verdict on a trace of it
 pub data Refusal : Type 0 where
@@ -19,11 +20,11 @@ pub data Refusal : Type 0 where
   TaskFile : TaskFault → Refusal
   OutOfRange : (task : ℕ) → Refusal
   NotAdmitted : List Task → Refusal
-  WorkFile : WorkFault → Refusal
-  Trace : TraceFault → Refusal
+  WorkFile : Fault WorkCause → Refusal
+  Trace : Fault TraceCause → Refusal
   BadTrace : List Task → Verdict → Refusal
   LongChart : (ticks : ℕ) → Refusal
-  DemandFile : DemandFault → Refusal
+  DemandFile : Fault DemandCause → Refusal
   NoRoom : (name : List ℕ) (processors : ℕ) → Refusal
 
 -- the status of each
@@ -45,15 +46,15 @@ abbrev pub line_of : Refusal → List ℕ
 line_of (NotAdmitted set) = not_admitted_text set
 line_of (TaskFile fault) = task_fault_line fault
 line_of (OutOfRange task) = range_line task
-line_of (WorkFile fault) = work_fault_line fault
-line_of (Trace fault) = trace_fault_line fault
+line_of (WorkFile fault) = fault_line (codes "work file") work_cause_words fault
+line_of (Trace fault) = fault_line (codes "trace") trace_cause_words fault
 line_of (LongChart ticks) = codes "trace has " ++ (decimal ticks ++ codes " ticks, a chart has at most 2000000\n")
 line_of (BadTrace set verdict) = verdict_line set verdict
-line_of (DemandFile fault) = demand_fault_line fault
+line_of (DemandFile fault) = fault_line (codes "demand file") demand_cause_words fault
 line_of (NoRoom name processors) = codes "not partitioned: task " ++ (name ++ (codes " fits on none of " ++ (decimal processors ++ codes "\n")))
 line_of (ReadFault file) = codes "read fault on file " ++ (decimal file ++ codes "\n")
 line_of (Longer file limit) = codes "file " ++ (decimal file ++ (codes " is longer than " ++ (decimal limit ++ codes " bytes\n")))
 
--- the reply that tells it
+-- the reply to a refusal: its status and its line
 abbrev pub refuse : Refusal → Reply
 refuse refusal = reply_of (status_of refusal) (line_of refusal)

@@ -1,17 +1,18 @@
 -- The lines that refuse a work file, a trace or a demand file, by the number of a record.
 use Rattle.std.specs.Prelude.{ℕ, List, [], ◌++◌, codes, decimal}
+use Rattle.csv_records.specs.declared.fault.Fault.{Fault}
+use Rattle.csv_records.specs.declared.fault.Fault.TheVariants.{Memory, At}
 use Rattle.work_file.specs.declared.fault.WorkCause.{WorkCause}
 use Rattle.work_file.specs.declared.fault.WorkCause.TheVariants as cause
-use Rattle.work_file.specs.declared.fault.WorkFault.{WorkFault}
-use Rattle.work_file.specs.declared.fault.WorkFault.TheVariants as work
 use Rattle.trace_format.specs.declared.fault.TraceCause.{TraceCause}
 use Rattle.trace_format.specs.declared.fault.TraceCause.TheVariants as row
-use Rattle.trace_format.specs.declared.fault.TraceFault.{TraceFault}
-use Rattle.trace_format.specs.declared.fault.TraceFault.TheVariants as trace
 use Rattle.demand_test.specs.declared.fault.DemandCause.{DemandCause}
 use Rattle.demand_test.specs.declared.fault.DemandCause.TheVariants as task
-use Rattle.demand_test.specs.declared.fault.DemandFault.{DemandFault}
-use Rattle.demand_test.specs.declared.fault.DemandFault.TheVariants as demand
+
+-- which file is refused, at which line, and the words for why; Memory is no refusal and has no line
+abbrev pub fault_line : {Cause : Type 0} → List ℕ → (Cause → List ℕ) → Fault Cause → List ℕ
+fault_line file words Memory = []
+fault_line file words (At line cause) = file ++ (codes " line " ++ (decimal line ++ (codes ": " ++ words cause)))
 
 -- why a record of a work file is refused
 abbrev pub work_cause_words : WorkCause → List ℕ
@@ -23,11 +24,6 @@ work_cause_words cause.ZeroNeed = codes "need is 0\n"
 work_cause_words cause.Unsorted = codes "release before the last one\n"
 work_cause_words (cause.TooSoon next) = codes "too soon, next " ++ (decimal next ++ codes "\n")
 work_cause_words cause.TooMany = codes "more than 1000000 rows\n"
-
--- the work file is refused; Memory is no refusal and has no line
-abbrev pub work_fault_line : WorkFault → List ℕ
-work_fault_line work.Memory = []
-work_fault_line (work.At line cause) = codes "work file line " ++ (decimal line ++ (codes ": " ++ work_cause_words cause))
 
 -- why a record of a trace is refused
 abbrev pub trace_cause_words : TraceCause → List ℕ
@@ -42,11 +38,6 @@ trace_cause_words row.BadLength = codes "bad length\n"
 trace_cause_words row.TooManyTicks = codes "more than 100000000 ticks\n"
 trace_cause_words row.NotSix = codes "not six fields\n"
 
--- the trace is refused; Memory is no refusal and has no line
-abbrev pub trace_fault_line : TraceFault → List ℕ
-trace_fault_line trace.Memory = []
-trace_fault_line (trace.At line cause) = codes "trace line " ++ (decimal line ++ (codes ": " ++ trace_cause_words cause))
-
 -- why a record of a demand file is refused
 abbrev pub demand_cause_words : DemandCause → List ℕ
 demand_cause_words task.Header = codes "header is not task,period,deadline,budget\n"
@@ -59,8 +50,3 @@ demand_cause_words task.BadNumber = codes "bad number\n"
 demand_cause_words task.ZeroNumber = codes "number is 0\n"
 demand_cause_words task.DeadlineOrder = codes "deadline after period\n"
 demand_cause_words task.Range = codes "periods out of range\n"
-
--- the demand file is refused; Memory is no refusal and has no line
-abbrev pub demand_fault_line : DemandFault → List ℕ
-demand_fault_line demand.Memory = []
-demand_fault_line (demand.At line cause) = codes "demand file line " ++ (decimal line ++ (codes ": " ++ demand_cause_words cause))

@@ -9,31 +9,32 @@ use Rattle.mc_model.specs.declared.row.Row.{Row}
 use Rattle.mc_model.specs.declared.row.Row.TheVariants.{Release, Tick, Idle}
 use Rattle.mc_model.specs.Core.{State}
 use Rattle.mc_model.specs.Rows.{ticks}
-use Rattle.mc_model.specs.LiveTrace.{LiveTrace, ends_with_tick}
+use Rattle.mc_model.specs.Follows.{ends_in_tick}
+use Rattle.mc_model.specs.LiveTrace.{LiveTrace}
 use Rattle.mc_model.proofs.Ticks.{ticks-append}
 use Rattle.mode_core.specs.Shape.{IsSound}
 use Rattle.task_threads.specs.LiveLeft.{HasLiveTrace}
 
 -- a row that ends with a tick is one, whatever stands before it
-is_tick : (row : Row) (g h : List Row) → ends_with_tick (row ∷ g) ≡ true → (ends_with_tick (row ∷ h) ≡ true) × (ticks (row ∷ h) ≡ ticks h + 1)
+is_tick : (row : Row) (g h : List Row) → ends_in_tick (row ∷ g) ≡ true → (ends_in_tick (row ∷ h) ≡ true) × (ticks (row ∷ h) ≡ ticks h + 1)
 is_tick (Release j kept) g h last = absurd (cc)
 is_tick row g h last = (last, omega arith)
 
 -- so rows that end with one have more ticks than those before it
-more_ticks : (row : Row) (later h : List Row) → ends_with_tick (row ∷ later ++ h) ≡ true → ticks h < ticks (row ∷ later ++ h)
+more_ticks : (row : Row) (later h : List Row) → ends_in_tick (row ∷ later ++ h) ≡ true → ticks h < ticks (row ∷ later ++ h)
 more_ticks row later h last =
     let one = (is_tick row (later ++ h) (later ++ h) last).1 in
     omega (arith, one, ticks-append later h)
 
 -- of the same rows there is one part that has so many ticks and ends with one
-same_part : (later other g h : List Row) → later ++ g ≡ other ++ h → ticks g ≡ ticks h → ends_with_tick g ≡ true → ends_with_tick h ≡ true → g ≡ h
+same_part : (later other g h : List Row) → later ++ g ≡ other ++ h → ticks g ≡ ticks h → ends_in_tick g ≡ true → ends_in_tick h ≡ true → g ≡ h
 same_part [] [] g h same n a b = same
 same_part [] (row ∷ other) g h same n a b =
-    let more = more_ticks row other h (subst (λ x. ends_with_tick x ≡ true) same a) in
+    let more = more_ticks row other h (subst (λ x. ends_in_tick x ≡ true) same a) in
     let t = ap ticks same in
     absurd (omega (arith, more, t, n))
 same_part (row ∷ later) [] g h same n a b =
-    let more = more_ticks row later g (subst (λ x. ends_with_tick x ≡ true) (sym same) b) in
+    let more = more_ticks row later g (subst (λ x. ends_in_tick x ≡ true) (sym same) b) in
     let t = ap ticks same in
     absurd (omega (arith, more, t, n))
 same_part (row ∷ later) (next ∷ other) g h same n a b = same_part later other g h (cc) n a b
@@ -47,12 +48,12 @@ parts : (rows : List Row) (i : ℕ) → reverse (drop i rows) ++ reverse (take i
 parts rows i = sym (reverse-append (take i rows) (drop i rows)) ∙ ap reverse (take-append-drop i rows)
 
 -- the rows up to the place of the last of so many ticks are the live trace
-live_part : (s : State) (n i : ℕ) (d : Row) → HasLiveTrace s n → i < length (reverse s.rows) → ends_with_tick (get_or (reverse s.rows) i d ∷ []) ≡ true
+live_part : (s : State) (n i : ℕ) (d : Row) → HasLiveTrace s n → i < length (reverse s.rows) → ends_in_tick (get_or (reverse s.rows) i d ∷ []) ≡ true
     → ticks (reverse (take i (reverse s.rows))) + 1 ≡ n → LiveTrace s.set s.rule n (reverse (take (i + 1) (reverse s.rows)))
 live_part s n i d live inside tick before =
     let here = up_to_place (reverse s.rows) i d inside in
     let one = is_tick (get_or (reverse s.rows) i d) [] (reverse (take i (reverse s.rows))) tick in
-    let last : ends_with_tick (reverse (take (i + 1) (reverse s.rows))) ≡ true = ap ends_with_tick here ∙ one.0 in
+    let last : ends_in_tick (reverse (take (i + 1) (reverse s.rows))) ≡ true = ap ends_in_tick here ∙ one.0 in
     let count : ticks (reverse (take (i + 1) (reverse s.rows))) ≡ ticks (reverse (take i (reverse s.rows))) + 1 = ap ticks here ∙ one.1 in
     let whole = parts (reverse s.rows) (i + 1) ∙ (reverse-reverse s.rows ∙ live.rows) in
     let same : reverse (take (i + 1) (reverse s.rows)) ≡ live.h = same_part (reverse (drop (i + 1) (reverse s.rows))) live.later (reverse (take (i + 1) (reverse s.rows))) live.h whole (count ∙ (before ∙ sym live.live.ticks)) last live.live.last in
@@ -63,11 +64,11 @@ pub live_front : (s : State) (n i left : ℕ) (rows part : List Row) (d : Row) �
     → ((j : JobId) × (how : How) × (get_or rows i d ≡ Tick j how)) ⊎ (get_or rows i d ≡ Idle) → 1 ≤ left → left - 1 ≡ 0 → ticks (reverse (take i rows)) + left ≡ n
     → LiveTrace s.set s.rule n (reverse part)
 live_front s n i left rows part d live is front inside tick some none sum =
-    let here : ends_with_tick (get_or rows i d ∷ []) ≡ true = elim tick [ inl t ↦ ap (λ row. ends_with_tick (row ∷ [])) t.2 | inr t ↦ ap (λ row. ends_with_tick (row ∷ [])) t ] in
+    let here : ends_in_tick (get_or rows i d ∷ []) ≡ true = elim tick [ inl t ↦ ap (λ row. ends_in_tick (row ∷ [])) t.2 | inr t ↦ ap (λ row. ends_in_tick (row ∷ [])) t ] in
     let one : ticks (reverse (take i rows)) + 1 ≡ n = omega (arith, some, none, sum) in
     subst (λ xs. LiveTrace s.set s.rule n (reverse xs)) (sym front)
     (subst (λ xs. LiveTrace s.set s.rule n (reverse (take (i + 1) xs))) (sym is)
-    (live_part s n i d live (subst (λ xs. i < length xs) is inside) (subst (λ xs. ends_with_tick (get_or xs i d ∷ []) ≡ true) is here) (subst (λ xs. ticks (reverse (take i xs)) + 1 ≡ n) is one)))
+    (live_part s n i d live (subst (λ xs. i < length xs) is inside) (subst (λ xs. ends_in_tick (get_or xs i d ∷ []) ≡ true) is here) (subst (λ xs. ticks (reverse (take i xs)) + 1 ≡ n) is one)))
 
 -- they are no more than the places
 pub few_rows : (s : State) (i : ℕ) (rows part : List Row) → IsSound s → rows ≡ reverse s.rows → part ≡ take i rows → length part ≤ s.places

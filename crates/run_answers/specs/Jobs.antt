@@ -1,16 +1,36 @@
--- What is left to do in threads.
+-- What is left to do in threads when a command's files are read.
+use Rattle.std.specs.Prelude.{◌≡◌, ℕ, List}
+use Rattle.mc_task.specs.declared.task.Task.{Task}
+use Rattle.mc_model.specs.declared.work.WorkRow.{WorkRow}
 use Rattle.mc_model.specs.Holds.{Fits, Holds}
 use Rattle.mc_model.specs.Work.{IsWork}
-use Rattle.task_answers.specs.declared.admitted.Admitted.{Admitted}
+use Rattle.replies.specs.Reply.{Reply}
+use Rattle.task_answers.specs.declared.ruled.Ruled.{Ruled}
+use Rattle.task_answers.specs.Admitted.{under}
 use Rattle.run_answers.specs.declared.run.RunJob.{RunJob}
+use Rattle.run_answers.specs.Run.{TellsTrace}
+use Rattle.run_answers.specs.Live.{Lives}
 
--- the rule fits and holds for the set
-pub record IsLiveJob (job : Admitted) : Type 0 where
+-- a job of `live`: the rule fits, and holds for the set
+pub record IsLiveJob (job : Ruled) : Type 0 where
   pub fits : Fits job.rule
   pub holds : Holds job.set.tasks job.rule
 
--- and the work is for the set
+-- the reply to a job of `live`, of this many ticks
+abbrev pub RepliesToLive : ℕ → Ruled → Reply → Type 0
+RepliesToLive ticks job reply = Lives ticks (under job.rule job.set) reply
+
+-- a job of `run`: the rule fits and holds for the set, and the work is for the set
 pub record IsRunJob (job : RunJob) : Type 0 where
   pub fits : Fits job.rule
   pub holds : Holds job.set.tasks job.rule
   pub is_work : IsWork job.set.tasks job.work
+
+-- the reply to a job of `run`, of this many ticks
+abbrev pub RepliesToRun : ℕ → RunJob → Reply → Type 0
+RepliesToRun ticks job reply = TellsTrace ticks job.set.tasks job.rule job.work reply
+
+-- the code's work is the work in the file, and is for the set
+pub record IsWorkOf (set : List Task) (read given : List WorkRow) : Type 0 where
+  pub same : given ≡ read
+  pub is_work : IsWork set given

@@ -7,10 +7,10 @@ use Rattle.serving.specs.Command.{Command, answer, need}
 use Rattle.task_answers.specs.Admitted.{Ruled, admitted, fetch_table}
 use Rattle.run_answers.specs.Run.{traced}
 
--- a live trace of so many ticks, of a set under its rule
+-- the reply is the text of a live trace of this many ticks, of a set under its rule
 abbrev pub Lives : ℕ → Ruled → Reply → Type 0
 Lives ticks ruled reply = (h : List Row) × LiveTrace ruled.set.tasks ruled.rule ticks h × (reply ≡ traced ruled.set.tasks h)
 
--- the command
+-- the command `live`
 abbrev pub live : List ℕ → ℕ → Command
 live tasks ticks = fetch_table tasks (λ bytes. need (admitted bytes) (λ ruled. answer (Lives ticks ruled)))

@@ -29,8 +29,12 @@ work_of set bytes = or_refuse WorkFile (work_in set bytes)
 abbrev pub TellsTrace : ℕ → List Task → Rule → List WorkRow → Reply → Type 0
 TellsTrace ticks set rule work reply = (h : List Row) × Follows set rule work ticks h × (reply ≡ traced set h)
 
+-- the run of the set in the task file, which has these bytes, with the work in the second file
+abbrev pub run_on : List ℕ → ℕ → List ℕ → Command
+run_on work ticks bytes =
+    need (admitted bytes) (λ ruled.
+    fetch_table work (λ more. need (work_of ruled.set.tasks more) (λ rows. answer (TellsTrace ticks ruled.set.tasks ruled.rule rows))))
+
 -- the command
 abbrev pub run : List ℕ → List ℕ → ℕ → Command
-run tasks work ticks =
-    fetch_table tasks (λ bytes. need (admitted bytes) (λ ruled.
-    fetch_table work (λ more. need (work_of ruled.set.tasks more) (λ rows. answer (TellsTrace ticks ruled.set.tasks ruled.rule rows)))))
+run tasks work ticks = fetch_table tasks (run_on work ticks)

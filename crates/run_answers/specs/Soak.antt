@@ -4,7 +4,6 @@ use Rattle.mc_task.specs.declared.task.Task.{Task}
 use Rattle.mc_task.specs.declared.task.Rule.{Rule}
 use Rattle.mc_task.specs.declared.task.Rule.TheVariants.{Plain, Virtual}
 use Rattle.mc_model.specs.declared.row.Row.{Row}
-use Rattle.mc_model.specs.declared.work.WorkRow.{WorkRow}
 use Rattle.mc_model.specs.Test.{published}
 use Rattle.mc_model.specs.Follows.{Follows}
 use Rattle.mc_model.specs.Verdict.{verdict}

@@ -2,100 +2,87 @@
 ghost use Rattle.std.specs.Prelude.{◌≤◌, ◌^◌, IfOk, length, reverse};
 ghost use Rattle.mc_model.specs.LiveTrace.{LiveTrace};
 ghost use Rattle.task_threads.specs.LiveLeft.{HasLiveTrace};
-ghost use Rattle.serving.specs.Steps.{IsOwn};
-ghost use Rattle.task_answers.specs.Admitted.{under};
-ghost use Rattle.run_answers.specs.Live.{Lives, live};
+ghost use Rattle.replies.specs.Stop.{Replies};
+ghost use Rattle.serving.specs.Serves.{Serves, IsOwn, Prepares};
+ghost use Rattle.run_answers.specs.Live.{live};
 ghost use Rattle.run_answers.specs.Run.{IsShort};
-ghost use Rattle.run_answers.specs.Jobs.{IsLiveJob};
+ghost use Rattle.run_answers.specs.Jobs.{IsLiveJob, RepliesToLive};
 
-use crate::fresh::fresh_core;
+use crate::planned::fresh_core;
 use crate::traced::trace_text;
 use executive::Gate;
 use mc_model::Row;
+use mc_world::Shelf;
 use mode_core::Core;
-use replies::Reply;
-use serving::{Command, Next, Served};
-use std::alloc::{AllocError, Global};
+use replies::{Reply, Stop};
+use serving::{FileName, Within, fetch};
+use std::alloc::Global;
 use std::sync::Wait;
 use std::thread::Threads;
-use task_answers::{Admitted, MOST_TABLE_BYTES, read_admitted};
+use task_answers::{Admitted, MOST_TABLE_BYTES, Ruled, read_admitted};
 use task_threads::{live_places, run_live};
 use timetable::{Floor, Plan};
+
+/// How many ticks a live run has, 1 to 100,000.
+pub type LiveTicks = Within<1, 100_000>;
 
 /// `live TASKS TICKS`.
 #[derive(Drop)]
 pub struct Live<'a> {
-    pub tasks: &'a str,
-    /// 1 to 100,000.
-    pub ticks: u64,
+    pub tasks: FileName<'a>,
+    pub ticks: LiveTicks,
 }
 
-impl<'a> Command for Live<'a> {
-    ghost use Rattle.std.specs.Prelude.{◌≤◌};
-    ghost use Rattle.serving.specs.Steps.{IsOwn};
-    ghost use Rattle.task_answers.specs.Admitted.{under};
-    ghost use Rattle.run_answers.specs.Live.{Lives, live};
-    ghost use Rattle.run_answers.specs.Jobs.{IsLiveJob};
-
-    type Opened = ();
-
-    type Job = Admitted;
-
-    ghost asks = { λ c. live c.tasks.now c.ticks };
-
-    ghost valid = { λ c. (1 ≤ c.ticks) × (c.ticks ≤ 100000) };
-
-    ghost opens = { λ c bytes opened. Unit {0} };
-
-    ghost leaves = { λ c job. IsLiveJob job };
-
-    ghost gives = { λ c job reply. Lives c.ticks (under job.rule job.set) reply × IsOwn reply };
-
-    fn start<'b>(&'b self, _: Global) -> Result<Next<'b, (), Admitted>, AllocError> {
-        Ok(Next::Ask {
-            name: self.tasks,
-            limit: MOST_TABLE_BYTES,
-            kept: (),
-        })
-    }
-
-    fn open<'b>(
-        &'b self,
+impl<'a> Live<'a> {
+    /// The reply. The file is read first; then each task runs in a thread that releases when it may, and the gate is called at
+    /// its steps. This may wait.
+    pub fn reply<R: Threads + Wait + Sync, S: Shelf, G: Gate + Sync>(
+        &self,
+        rt: &R,
         alloc: Global,
-        bytes: &[u8],
-    ) -> Result<Next<'b, (), Admitted>, AllocError> {
-        let served = match read_admitted(alloc, bytes)? {
-            Ok(admitted) => Served::Left { job: admitted },
-            Err(reply) => Served::Done { reply },
-        };
-        Ok(Next::Ready { served })
+        shelf: &mut S,
+        gate: &G,
+    ) -> Result<Reply, Stop>
+        ensures serves { Serves 1 (live self.now.tasks self.now.ticks) (S.state shelf.old) (S.state shelf.new) result }
+        // `judge` reads a trace of at most this many bytes.
+        ensures short { IfOk result (IsShort (2 ^ 27)) }
+    {
+        let job = self.job(alloc, shelf)?;
+        finish_live(rt, alloc, job, self.ticks.get(), gate)
+    }
+
+    /// What is to be run, by the file. Without a runtime this cannot wait.
+    pub fn job<S: Shelf>(&self, alloc: Global, shelf: &mut S) -> Result<Ruled, Stop>
+        ensures { Prepares 1 (live self.now.tasks self.now.ticks) IsLiveJob (RepliesToLive self.now.ticks) (S.state shelf.old) (S.state shelf.new) result }
+    {
+        let bytes = fetch(alloc, shelf, 1, &self.tasks, MOST_TABLE_BYTES)?;
+        let Admitted { set, rule, .. } = read_admitted(alloc, &bytes)?;
+        Ok(Ruled { set, rule })
     }
 }
 
-/// The reply of a `live` of so many ticks to its job, each task in a thread that releases when it may; the gate is told of it.
-/// It may wait.
+/// The reply of a `live` of this many ticks, as [`Live::reply`] gives it once the file is read.
 pub fn finish_live<R: Threads + Wait + Sync, G: Gate + Sync>(
     rt: &R,
     alloc: Global,
-    job: Admitted,
+    job: Ruled,
     ticks: u64,
     gate: &G,
-) -> Result<Reply, AllocError>
+) -> Result<Reply, Stop>
     requires job { IsLiveJob job }
     requires ticks { (1 ≤ ticks) × (ticks ≤ 100000) }
-    ensures lives { IfOk result (Lives ticks (under job.rule job.set)) }
-    // So `judge` reads it, which takes as many.
+    ensures lives { Replies (RepliesToLive ticks job) result }
     ensures short { IfOk result (IsShort (2 ^ 27)) }
-    ensures own { IfOk result IsOwn }
+    ensures own { Replies IsOwn result }
 {
-    let Admitted { set, rule, .. } = job;
+    let Ruled { set, rule } = job;
     // It has at most 128 tasks, so the places are few; and its names are short.
     let _is_set = set.len();
     let places = live_places(&set, ticks) as usize;
     let core = fresh_core(alloc, &set, rule, places)?;
     let floor = Floor::new(core, Plan::Free);
     let Ok(floor) = run_live(rt, alloc, floor, ticks, gate) else {
-        return Err(AllocError);
+        return Err(Stop::Memory);
     };
     let text = trace_text(alloc, &set, live_rows(floor.core(), ticks))?;
     Ok(Reply::new(0, text))

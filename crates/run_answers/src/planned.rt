@@ -1,13 +1,14 @@
-// A plan, run to its end.
-ghost use Rattle.std.specs.Prelude.{◌≤◌, IfOk};
+// A core with no rows, and a plan run to its end.
+ghost use Rattle.std.specs.Prelude.{◌≡◌, ◌<◌, ◌≤◌, ◌^◌, IfOk};
 ghost use Rattle.mc_model.specs.Holds.{Fits, Holds};
 ghost use Rattle.mc_model.specs.Work.{IsWork};
+ghost use Rattle.mode_core.specs.Events.{empty_state};
 ghost use Rattle.run_answers.specs.Planned.{IsPlanned};
 
-use crate::fresh::fresh_core;
 use executive::Gate;
-use mc_task::{Rule, TaskSet};
-use std::alloc::{AllocError, Global};
+use mc_task::{Memory, Rule, TaskSet};
+use mode_core::Core;
+use std::alloc::Global;
 use std::sync::Wait;
 use std::thread::Threads;
 use task_threads::run_threads;
@@ -23,7 +24,7 @@ pub fn planned<R: Threads + Wait + Sync, G: Gate + Sync>(
     work: Work,
     ticks: u64,
     gate: &G,
-) -> Result<Floor, AllocError>
+) -> Result<Floor, Memory>
     requires fits { Fits rule }
     requires holds { Holds set.now.tasks rule }
     requires work { IsWork set.now.tasks work }
@@ -35,9 +36,23 @@ pub fn planned<R: Threads + Wait + Sync, G: Gate + Sync>(
     let core = fresh_core(alloc, set, rule, places)?;
     let floor = Floor::new(core, Plan::Rows { work, ticks });
     let Ok(floor) = run_threads(rt, alloc, floor, gate) else {
-        return Err(AllocError);
+        return Err(Memory);
     };
     // Each row has its place.
     let _places = floor.core().places();
     Ok(floor)
+}
+
+/// A core for a copy of the set, with so many places and no rows.
+pub fn fresh_core(alloc: Global, set: &TaskSet, rule: Rule, places: usize) -> Result<Core, Memory>
+    requires fits { Fits rule }
+    requires holds { Holds set.now.tasks rule }
+    requires places { places < 2 ^ 32 }
+    ensures { IfOk result (λ core. core ≡ empty_state set.now.tasks rule places) }
+{
+    let copy = set.copy(alloc)?;
+    match Core::new(alloc, copy, rule, places) {
+        Ok(core) => Ok(core),
+        Err(_) => Err(Memory),
+    }
 }

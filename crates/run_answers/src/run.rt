@@ -1,28 +1,32 @@
 // The command `run`.
-ghost use Rattle.std.specs.Prelude.{◌≤◌, IfOk};
-ghost use Rattle.serving.specs.Steps.{IsOwn};
-ghost use Rattle.run_answers.specs.Run.{IsShort, TellsTrace, run};
-ghost use Rattle.run_answers.specs.Jobs.{IsRunJob};
+ghost use Rattle.std.specs.Prelude.{◌≤◌, IfOk, IfErr};
+ghost use Rattle.replies.specs.Stop.{StopsBy, Gives, Replies};
+ghost use Rattle.serving.specs.Serves.{Serves, IsOwn, Prepares};
+ghost use Rattle.run_answers.specs.Run.{IsShort, work_of, run, run_on};
+ghost use Rattle.run_answers.specs.Jobs.{IsRunJob, RepliesToRun, IsWorkOf};
 
 use crate::planned::planned;
 use crate::traced::trace_text;
 use executive::Gate;
 use mc_task::{Rule, TaskSet};
-use replies::{Reply, refused};
-use serving::{Command, Next, Served};
-use std::alloc::{AllocError, Global};
+use mc_world::Shelf;
+use replies::{Reply, Stop, refused};
+use serving::{FileName, Within, fetch};
+use std::alloc::Global;
 use std::sync::Wait;
 use std::thread::Threads;
 use task_answers::{Admitted, MOST_TABLE_BYTES, read_admitted};
 use work_file::{Work, read_work};
 
+/// How many ticks a run has, 1 to 1,000,000.
+pub type Ticks = Within<1, 1_000_000>;
+
 /// `run TASKS WORK TICKS`.
 #[derive(Drop)]
 pub struct Run<'a> {
-    pub tasks: &'a str,
-    pub work: &'a str,
-    /// 1 to 1,000,000.
-    pub ticks: u64,
+    pub tasks: FileName<'a>,
+    pub work: FileName<'a>,
+    pub ticks: Ticks,
 }
 
 /// A set, the rule and the work to run.
@@ -33,85 +37,66 @@ pub struct RunJob {
     pub work: Work,
 }
 
-impl<'a> Command for Run<'a> {
-    ghost use Rattle.std.specs.Prelude.{◌≤◌, Ok};
-    ghost use Rattle.serving.specs.Steps.{IsOwn};
-    ghost use Rattle.task_answers.specs.Admitted.{admitted};
-    ghost use Rattle.task_answers.specs.Given.{Gives, IsGivenAs};
-    ghost use Rattle.run_answers.specs.Run.{TellsTrace, run};
-    ghost use Rattle.run_answers.specs.Jobs.{IsRunJob};
-
-    type Opened = Admitted;
-
-    type Job = RunJob;
-
-    ghost asks = { λ c. run c.tasks.now c.work.now c.ticks };
-
-    ghost valid = { λ c. (1 ≤ c.ticks) × (c.ticks ≤ 1000000) };
-
-    ghost opens = { λ c bytes opened. Gives IsGivenAs (admitted bytes) (Ok opened) };
-
-    ghost leaves = { λ c job. IsRunJob job };
-
-    ghost gives = { λ c job reply. TellsTrace c.ticks job.set.tasks job.rule job.work reply × IsOwn reply };
-
-    fn start<'b>(&'b self, _: Global) -> Result<Next<'b, (), RunJob>, AllocError> {
-        Ok(Next::Ask {
-            name: self.tasks,
-            limit: MOST_TABLE_BYTES,
-            kept: (),
-        })
-    }
-
-    fn open<'b>(
-        &'b self,
-        alloc: Global,
-        bytes: &[u8],
-    ) -> Result<Next<'b, Admitted, RunJob>, AllocError> {
-        match read_admitted(alloc, bytes)? {
-            Ok(admitted) => Ok(Next::Ask {
-                name: self.work,
-                limit: MOST_TABLE_BYTES,
-                kept: admitted,
-            }),
-            Err(reply) => Ok(Next::Ready {
-                served: Served::Done { reply },
-            }),
-        }
-    }
-
-    fn finish(
+impl<'a> Run<'a> {
+    /// The reply. The files are read first; then each task runs in a thread, and the gate is called at its steps. This may wait.
+    pub fn reply<R: Threads + Wait + Sync, S: Shelf, G: Gate + Sync>(
         &self,
+        rt: &R,
         alloc: Global,
-        opened: Admitted,
-        bytes: &[u8],
-    ) -> Result<Served<RunJob>, AllocError> {
-        let Admitted { set, rule, .. } = opened;
-        match read_work(alloc, &set, bytes) {
-            Ok(work) => Ok(Served::Left {
-                job: RunJob { set, rule, work },
-            }),
-            Err(fault) => Ok(Served::Done {
-                reply: refused::work_file(alloc, &fault)?,
-            }),
-        }
+        shelf: &mut S,
+        gate: &G,
+    ) -> Result<Reply, Stop>
+        ensures serves { Serves 1 (run self.now.tasks self.now.work self.now.ticks) (S.state shelf.old) (S.state shelf.new) result }
+        // `judge` reads a trace of at most 2 ^ 27 bytes.
+        ensures short { IfOk result (IsShort 128000024) }
+    {
+        let job = self.job(alloc, shelf)?;
+        finish_run(rt, alloc, job, self.ticks.get(), gate)
+    }
+
+    /// What is to be run, by both files. Without a runtime this cannot wait.
+    pub fn job<S: Shelf>(&self, alloc: Global, shelf: &mut S) -> Result<RunJob, Stop>
+        ensures { Prepares 1 (run self.now.tasks self.now.work self.now.ticks) IsRunJob (RepliesToRun self.now.ticks) (S.state shelf.old) (S.state shelf.new) result }
+    {
+        let bytes = fetch(alloc, shelf, 1, &self.tasks, MOST_TABLE_BYTES)?;
+        self.job_on(alloc, shelf, &bytes)
+    }
+
+    // What is to be run, by the bytes of the task file and by the work file.
+    fn job_on<S: Shelf>(&self, alloc: Global, shelf: &mut S, bytes: &[u8]) -> Result<RunJob, Stop>
+        ensures { Prepares 2 (run_on self.now.work self.now.ticks bytes.now) IsRunJob (RepliesToRun self.now.ticks) (S.state shelf.old) (S.state shelf.new) result }
+    {
+        let Admitted { set, rule, .. } = read_admitted(alloc, bytes)?;
+        let bytes = fetch(alloc, shelf, 2, &self.work, MOST_TABLE_BYTES)?;
+        let work = read_work_of(alloc, &set, &bytes)?;
+        Ok(RunJob { set, rule, work })
     }
 }
 
-/// The reply of a `run` of so many ticks to its job, each task in a thread; the gate is told of it. It may wait.
+/// The work for the set in a work file with these bytes.
+pub fn read_work_of(alloc: Global, set: &TaskSet, bytes: &[u8]) -> Result<Work, Stop>
+    ensures work { Gives (IsWorkOf set.now.tasks) (work_of set.now.tasks bytes.now) result }
+    ensures own { IfErr result (StopsBy IsOwn) }
+{
+    match read_work(alloc, set, bytes) {
+        Ok(work) => Ok(work),
+        Err(fault) => Err(refused::work_file(alloc, &fault)),
+    }
+}
+
+/// The reply of a `run` of this many ticks, as [`Run::reply`] gives it once the files are read.
 pub fn finish_run<R: Threads + Wait + Sync, G: Gate + Sync>(
     rt: &R,
     alloc: Global,
     job: RunJob,
     ticks: u64,
     gate: &G,
-) -> Result<Reply, AllocError>
+) -> Result<Reply, Stop>
     requires job { IsRunJob job }
     requires ticks { (1 ≤ ticks) × (ticks ≤ 1000000) }
-    ensures trace { IfOk result (TellsTrace ticks job.set.tasks job.rule job.work) }
-    // So `judge` reads it, which takes a trace of at most 2 ^ 27 bytes.
+    ensures trace { Replies (RepliesToRun ticks job) result }
     ensures short { IfOk result (IsShort 128000024) }
-    ensures own { IfOk result IsOwn }
+    ensures own { Replies IsOwn result }
 {
     let RunJob { set, rule, work } = job;
     // Its names are short.

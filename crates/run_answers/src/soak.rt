@@ -5,17 +5,19 @@ ghost use Rattle.mc_model.specs.Legal.{Legal};
 ghost use Rattle.mc_model.specs.Verdict.{verdict};
 ghost use Rattle.mc_model.specs.VerdictText.{verdict_line};
 ghost use Rattle.sched_report.specs.ReportText.{summary_text};
-ghost use Rattle.serving.specs.Steps.{IsOwn};
+ghost use Rattle.replies.specs.Stop.{Replies};
+ghost use Rattle.serving.specs.Serves.{ServesAlone, IsOwn};
 ghost use Rattle.run_answers.specs.Soak as spec;
 ghost use Rattle.run_answers.specs.Soak.{soak};
 
 use crate::planned::planned;
+use crate::run::Ticks;
 use executive::Gate;
 use mc_model::Row;
-use mc_task::{Rule, TaskSet};
-use replies::{Reply, verdict_line};
+use mc_task::{Memory, Rule, TaskSet};
+use replies::{Reply, Stop, verdict_line};
 use sched_report::summary;
-use serving::{Command, Next, Served};
+use serving::Within;
 use set_gen::{Made, make};
 use std::alloc::{AllocError, Global};
 use std::sync::Wait;
@@ -23,62 +25,48 @@ use std::thread::Threads;
 use trace_format::pack;
 use trace_judge::judge;
 
+/// How many tasks a workload has, 2 to 32.
+pub type TaskCount = Within<2, 32>;
+
 /// `soak NUMBER TASKS TICKS`.
 #[derive(Drop)]
 pub struct Soak {
     pub number: u64,
-    /// 2 to 32.
-    pub tasks: u32,
-    /// 1 to 1,000,000.
-    pub ticks: u64,
+    pub tasks: TaskCount,
+    pub ticks: Ticks,
 }
 
-impl Command for Soak {
-    ghost use Rattle.std.specs.Prelude.{◌≤◌};
-    ghost use Rattle.serving.specs.Steps.{IsOwn};
-    ghost use Rattle.run_answers.specs.Soak.{Soaks, soak};
-
-    type Opened = ();
-
-    type Job = ();
-
-    ghost asks = { λ c. soak c.number c.tasks c.ticks };
-
-    ghost valid = { λ c. (2 ≤ c.tasks) × (c.tasks ≤ 32) × (1 ≤ c.ticks) × (c.ticks ≤ 1000000) };
-
-    ghost opens = { λ c bytes opened. Unit {0} };
-
-    ghost leaves = { λ c job. Unit {0} };
-
-    ghost gives = { λ c job reply. Soaks c.number c.tasks c.ticks reply × IsOwn reply };
-
-    fn start<'b>(&'b self, _: Global) -> Result<Next<'b, (), ()>, AllocError> {
-        Ok(Next::Ready {
-            served: Served::Left { job: () },
-        })
+impl Soak {
+    /// The reply, which needs no file. Each task of the workload runs in a thread, and the gate is called at its steps; the trace
+    /// is judged and summed up. This may wait.
+    pub fn reply<R: Threads + Wait + Sync, G: Gate + Sync>(
+        &self,
+        rt: &R,
+        alloc: Global,
+        gate: &G,
+    ) -> Result<Reply, Stop>
+        ensures { ServesAlone (soak self.now.number self.now.tasks self.now.ticks) result }
+    {
+        let tasks = self.tasks.get() as u32;
+        finish_soak(rt, alloc, self.number, tasks, self.ticks.get(), gate)
     }
 }
 
-/// The reply of a `soak` of these numbers: the workload is run, each task in a thread, judged and summed up; the gate is told
-/// of it. It may wait.
-pub fn finish_soak<R: Threads + Wait + Sync, G: Gate + Sync>(
+// The reply of a `soak` of these numbers.
+fn finish_soak<R: Threads + Wait + Sync, G: Gate + Sync>(
     rt: &R,
     alloc: Global,
     number: u64,
     tasks: u32,
     ticks: u64,
     gate: &G,
-) -> Result<Reply, AllocError>
-    requires some { 2 ≤ tasks }
-    requires few { tasks ≤ 32 }
-    requires first { 1 ≤ ticks }
-    requires last { ticks ≤ 1000000 }
-    ensures soaks { IfOk result (spec.Soaks number tasks ticks) }
-    ensures own { IfOk result IsOwn }
+) -> Result<Reply, Stop>
+    requires tasks { (2 ≤ tasks) × (tasks ≤ 32) }
+    requires ticks { (1 ≤ ticks) × (ticks ≤ 1000000) }
+    ensures soaks { Replies (spec.Soaks number tasks ticks) result }
+    ensures own { Replies IsOwn result }
 {
-    let Ok(Made { set, rule, work }) = make(alloc, number, tasks, ticks) else {
-        return Err(AllocError);
-    };
+    let Made { set, rule, work } = make(alloc, number, tasks, ticks)?;
     let floor = planned(rt, alloc, &set, rule, work, ticks, gate)?;
     let front = front_of(alloc, number, tasks, ticks, rule)?;
     let text = with_sums(alloc, front, &set, rule, floor.core().rows())?;
@@ -116,21 +104,15 @@ fn with_sums(
     set: &TaskSet,
     rule: Rule,
     rows: &[Row],
-) -> Result<Vec<u8>, AllocError>
+) -> Result<Vec<u8>, Memory>
     requires fits { Fits rule }
     requires legal { Legal set.now.tasks rule (reverse rows.now) }
     requires few { length rows.now ≤ 2000000 }
     ensures { IfOk result (λ text. text.items ≡ front.items ++ (summary_text set.now.tasks (reverse rows.now) ++ verdict_line set.now.tasks (verdict set.now.tasks rule (reverse rows.now)))) }
 {
-    let Ok(runs) = pack(alloc, rows) else {
-        return Err(AllocError);
-    };
-    let Ok(sums) = summary(alloc, set, &runs) else {
-        return Err(AllocError);
-    };
-    let Ok(verdict) = judge(alloc, set, rule, &runs) else {
-        return Err(AllocError);
-    };
+    let runs = pack(alloc, rows)?;
+    let sums = summary(alloc, set, &runs)?;
+    let verdict = judge(alloc, set, rule, &runs)?;
     let line = verdict_line(alloc, set, verdict)?;
     let mut text = front;
     text.extend_from_slice(&sums)?;

@@ -50,7 +50,8 @@ name_width (t ∷ ts) = max (length t.name) (name_width ts)
 
 -- a line: a name, filled with spaces to the width, a space, and the characters
 abbrev pub chart_line : ℕ → List ℕ → List ℕ → List ℕ
-chart_line width name marks = name ++ (replicate (width - length name) 32 ++ (codes " " ++ (marks ++ codes "\n")))
+chart_line width name marks =
+    name ++ (replicate (width - length name) 32 ++ (codes " " ++ (marks ++ codes "\n")))
 
 -- the lines of these tasks, the first of which is number k, with the characters that are given for each number
 abbrev pub lines_with : (ℕ → List ℕ) → ℕ → ℕ → List Task → List ℕ
@@ -59,8 +60,10 @@ lines_with marks width k (t ∷ ts) = chart_line width t.name (marks k) ++ lines
 
 -- the chart of a set's trace
 unfoldable pub chart_text : List Task → List Row → List ℕ
-chart_text set h = lines_with (λ k. task_marks k h) (name_width set) 1 set ++ chart_line (name_width set) (codes "(mode)") (mode_marks h)
+chart_text set h = lines_with (λ k. task_marks k h) (name_width set) 1 set
+    ++ chart_line (name_width set) (codes "(mode)") (mode_marks h)
 
 -- law: of a legal trace the chart's mode is the mode under the rule
 abbrev pub ChartedModeLaw : Type 0
-ChartedModeLaw = (set : List Task) (rule : Rule) (h : List Row) → Legal set rule h → over_stands h ≡ high_mode rule h
+ChartedModeLaw =
+    (set : List Task) (rule : Rule) (h : List Row) → Legal set rule h → over_stands h ≡ high_mode rule h

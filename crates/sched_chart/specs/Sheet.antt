@@ -15,7 +15,7 @@ pub record IsSheet (s : Sheet) : Type 0 where
 abbrev pub line_length : ℕ → ℕ → ℕ
 line_length width n = width + n + 2
 
--- where the character of a tick stands: behind so many lines, a name and a space
+-- where the character of a tick stands: after the lines above it, a name and a space
 abbrev pub place : ℕ → ℕ → ℕ → ℕ → ℕ
 place width n line tick = line * line_length width n + (width + 1 + tick)
 
@@ -35,4 +35,5 @@ mode_marks_to n h = mode_marks h ++ replicate (n - ticks h) 76
 -- the chart of n ticks, as far as these rows go
 unfoldable pub chart_to : List Task → ℕ → List Row → List ℕ
 chart_to set n h =
-    lines_with (task_marks_to n h) (name_width set) 1 set ++ chart_line (name_width set) (codes "(mode)") (mode_marks_to n h)
+    lines_with (task_marks_to n h) (name_width set) 1 set
+    ++ chart_line (name_width set) (codes "(mode)") (mode_marks_to n h)

@@ -16,6 +16,7 @@ use std::alloc::{AllocError, Global};
 ///
 /// A tick is `#`, `D`, `S` or `O` in the line of its task, as it ended with more to do, done, stopped or over its low
 /// budget, and `.` in the other lines. The mode is that before the tick, `H` or `L`.
+#[tactic(auto, using(crate::proofs::ChartedMode::charted_mode))]
 pub fn chart(alloc: Global, set: &TaskSet, runs: &[Run]) -> Result<Vec<u8>, Memory>
     requires runs { AreRuns runs.now }
     requires trace { IsTraceOf set.now.tasks (reverse (expand runs.now)) }
@@ -23,16 +24,6 @@ pub fn chart(alloc: Global, set: &TaskSet, runs: &[Run]) -> Result<Vec<u8>, Memo
     ensures text { IfOk result (λ text. text.items ≡ chart_text set.now.tasks (reverse (expand runs.now))) }
     // The mode of the chart is that of each rule under which the rows are legal.
     ensures mode { ChartedModeLaw }
-{
-    let text = drawn(alloc, set, runs)?;
-    Ok(text)
-}
-
-fn drawn(alloc: Global, set: &TaskSet, runs: &[Run]) -> Result<Vec<u8>, AllocError>
-    requires runs { AreRuns runs.now }
-    requires trace { IsTraceOf set.now.tasks (reverse (expand runs.now)) }
-    requires few { ticks (expand runs.now) ≤ 2000000 }
-    ensures { IfOk result (λ text. text.items ≡ chart_text set.now.tasks (reverse (expand runs.now))) }
 {
     let sheet = Sheet {
         width: name_width(set.as_slice()),

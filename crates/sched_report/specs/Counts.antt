@@ -7,11 +7,25 @@ use Rattle.sched_report.specs.declared.task_tally.TaskTally.{TaskTally}
 
 -- the counts, as the model has them
 abbrev pub counts_in : Counts → model.JobCounts
-counts_in c = record { released = c.released; kept = c.kept; dropped = c.dropped; discarded = c.discarded; done = c.done; stopped = c.stopped }
+counts_in c = record {
+  released = c.released;
+  kept = c.kept;
+  dropped = c.dropped;
+  discarded = c.discarded;
+  done = c.done;
+  stopped = c.stopped;
+}
 
--- those of a task
+-- the counts of a task's tally, as the model has them
 abbrev pub counts_of_tally : TaskTally → model.JobCounts
-counts_of_tally t = record { released = t.released; kept = t.kept; dropped = t.dropped; discarded = t.discarded; done = t.done; stopped = t.stopped }
+counts_of_tally t = record {
+  released = t.released;
+  kept = t.kept;
+  dropped = t.dropped;
+  discarded = t.discarded;
+  done = t.done;
+  stopped = t.stopped;
+}
 
 -- none of the counts is above this
 pub record AreAtMost (n : ℕ) (c : Counts) : Type 0 where

@@ -59,7 +59,7 @@ is_switch (Release j kept) = false
 is_switch (Tick j how) = is_over how
 is_switch Idle = false
 
--- the row, behind these, is the first Over row after the job's Release row: with it there is one, and before it there was none
+-- the row is the first Over row after the job's Release row: with it there is one, and the rows before it have none
 abbrev pub is_first_over : Row → List Row → JobId → Bool
 is_first_over row g j = over_since (row ∷ g) j && not (over_since g j)
 
@@ -71,7 +71,8 @@ before_over (row ∷ g) j = cond (is_first_over row g j) g (before_over g j)
 -- a low task's job with an Over row after its Release row, and no Done or Stop row of its own before the first such row
 abbrev pub is_discarded : List Task → List Row → KeptRelease → Bool
 is_discarded set h i =
-    not (is_high_in (task_at set i.job.task.0)) && (over_since h i.job && not (ended (before_over h i.job) i.job))
+    not (is_high_in (task_at set i.job.task.0))
+    && (over_since h i.job && not (ended (before_over h i.job) i.job))
 
 -- the number of the job's Done or Stop tick
 abbrev pub end_tick : List Row → JobId → ℕ
@@ -84,7 +85,7 @@ end_tick (Idle ∷ g) j = end_tick g j
 abbrev pub response : List Row → KeptRelease → ℕ
 response h i = end_tick h i.job + 1 - i.release
 
--- the responses of task number k: those of its jobs that ended
+-- the responses of the jobs of task number k that ended
 abbrev pub responses : List Row → ℕ → List ℕ
 responses h k = map (response h) (filter (λ i. is_of k i && ended h i.job) (released h))
 
@@ -128,9 +129,10 @@ plus a b = record {
 abbrev pub CountsAddUp : Type 0
 CountsAddUp =
     (set : List Task) (rule : Rule) (h : List Row) (k : ℕ) → Legal set rule h
-    → (counts_of set h k).kept ≡ (counts_of set h k).done + (counts_of set h k).stopped + (counts_of set h k).discarded + how_many (is_of k) (pending set h)
+    → (counts_of set h k).kept ≡ (counts_of set h k).done + (counts_of set h k).stopped
+    + (counts_of set h k).discarded + how_many (is_of k) (pending set h)
 
--- the counts, each behind its word
+-- the counts, each after its word
 unfoldable pub counts_text : JobCounts → List ℕ
 counts_text c =
     concat (
@@ -144,7 +146,8 @@ counts_text c =
 -- the greatest response of task number k; a dash where no job of it was done or stopped
 abbrev pub response_text : List Task → List Row → ℕ → List ℕ
 response_text set h k =
-    cond ((counts_of set h k).done + (counts_of set h k).stopped == 0) (codes "-") (decimal (greatest (responses h k)))
+    cond ((counts_of set h k).done + (counts_of set h k).stopped == 0) (codes "-")
+    (decimal (greatest (responses h k)))
 
 -- the line of task number k, whose name this is
 unfoldable pub report_line : List Task → List Row → ℕ → List ℕ → List ℕ
@@ -163,7 +166,8 @@ report_lines set h k (t ∷ ts) = report_line set h k t.name ++ report_lines set
 unfoldable pub report_text : List Task → List Row → List ℕ
 report_text set h =
     report_lines set h 1 set
-    ++ concat (codes "idle " ∷ decimal (how_many is_idle h) ∷ codes "\nswitches " ∷ decimal (how_many is_switch h) ∷ codes "\n" ∷ [])
+    ++ concat (codes "idle " ∷ decimal (how_many is_idle h) ∷ codes "\nswitches "
+    ∷ decimal (how_many is_switch h) ∷ codes "\n" ∷ [])
 
 -- the sums of the counts of these tasks, the first of which is number k
 abbrev pub sum_counts : List Task → List Row → ℕ → List Task → JobCounts

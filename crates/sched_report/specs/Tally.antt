@@ -23,20 +23,21 @@ use Rattle.sched_report.specs.declared.waiting.Waiting.{Waiting}
 use Rattle.sched_report.specs.TaskTally.{level_in, tally_of, with_release, with_tick, with_more, with_response, with_switch, IsSmall}
 use Rattle.sched_report.specs.Waiting.{release_in, ChangesOnly}
 
--- one of each number from k on, as many as there are tasks
+-- f of each number from k on, as many as there are tasks
 abbrev pub numbered : {X : Type 0} → (ℕ → X) → ℕ → List Task → List X
 numbered f k [] = []
 numbered f k (t ∷ ts) = f k ∷ numbered f (k + 1) ts
 
--- the tally is that of the rows, and the release time of each pending job is at hand
+-- the tally counts these rows, and the release time of each pending job is at hand
 pub record Tallies (set : List Task) (h : List Row) (s : Tally) : Type 0 where
   pub tasks : s.tasks.items ≡ numbered (tally_of set h) 1 set
   pub tick : s.tick ≡ ticks h
   pub idle : s.idle ≡ how_many is_idle h
   pub switches : s.switches ≡ how_many is_switch h
-  pub waiting : AllByRecursion (λ i. release_in s.waiting (level_in (task_at set i.job.task.0)) i.job ≡ Some i.release) (pending set h)
+  pub waiting : AllByRecursion
+      (λ i. release_in s.waiting (level_in (task_at set i.job.task.0)) i.job ≡ Some i.release) (pending set h)
 
--- the row's task is one of so many
+-- the row's task is one of n tasks
 abbrev pub IsAmong : ℕ → Row → Type 0
 IsAmong n (Release j kept) = (1 ≤ j.task.0) × (j.task.0 ≤ n)
 IsAmong n (Tick j how) = (1 ≤ j.task.0) × (j.task.0 ≤ n)
@@ -58,9 +59,10 @@ abbrev pub Waits : Bool → Waiting → Waiting → Level → JobId → ℕ → 
 Waits true old new level j now = ChangesOnly old new level j (Some now)
 Waits false old new level j now = Stays old new
 
--- the tally follows the rows of a run, where they are legal behind the rows before it
-abbrev pub Follows : Run → Tally → Tally → Type 0
-Follows run old new = (set : List Task) (rule : Rule) (g : List Row) → Legal set rule (rows_of run ++ g) → Tallies set g old → Tallies set (rows_of run ++ g) new
+-- the new tally is the old one with the rows of a run, where these are legal after the rows of the old one
+abbrev pub AddsRun : Run → Tally → Tally → Type 0
+AddsRun run old new = (set : List Task) (rule : Rule) (g : List Row)
+    → Legal set rule (rows_of run ++ g) → Tallies set g old → Tallies set (rows_of run ++ g) new
 
 -- after a release of the job, whose task has this tally
 pub record Releases (j : JobId) (kept : Bool) (t : TaskTally) (old new : Tally) : Type 0 where
@@ -80,7 +82,8 @@ pub record GoesOn (n : ℕ) (j : JobId) (t : TaskTally) (old new : Tally) : Type
 
 -- after the job's last tick, where it was released at r
 pub record Ends (j : JobId) (how : How) (t : TaskTally) (r : ℕ) (old new : Tally) : Type 0 where
-  pub tasks : new.tasks.items ≡ slice_set old.tasks.items (j.task.0 - 1) (with_response (old.tick + 1 - r) (with_tick how t))
+  pub tasks : new.tasks.items ≡ slice_set old.tasks.items (j.task.0 - 1)
+      (with_response (old.tick + 1 - r) (with_tick how t))
   pub waiting : ChangesOnly old.waiting new.waiting t.level j None
   pub tick : new.tick ≡ old.tick + 1
   pub idle : new.idle ≡ old.idle

@@ -12,7 +12,7 @@ use Rattle.mc_model.specs.declared.row.How.TheVariants.{Done, Stop}
 use Rattle.mc_model.specs.declared.row.Row.{Row}
 use Rattle.sched_report.specs.declared.task_tally.TaskTally.{TaskTally}
 
--- its level; low where no task has the number
+-- the level of a task; low where there is no task
 abbrev pub level_in : Option Task → Level
 level_in None = Low
 level_in (Some t) = t.level
@@ -43,13 +43,18 @@ pub record IsSmall (t : TaskTally) : Type 0 where
 
 -- one more release
 abbrev pub with_release : Bool → TaskTally → TaskTally
-with_release kept t = record t { released = t.released + 1; kept = t.kept + cond kept 1 0; dropped = t.dropped + cond kept 0 1 }
+with_release kept t =
+    record t { released = t.released + 1; kept = t.kept + cond kept 1 0; dropped = t.dropped + cond kept 0 1 }
 
 -- one more tick
 abbrev pub with_tick : How → TaskTally → TaskTally
-with_tick how t = record t { ticks = t.ticks + 1; done = t.done + cond (same_how how Done) 1 0; stopped = t.stopped + cond (same_how how Stop) 1 0 }
+with_tick how t = record t {
+  ticks = t.ticks + 1;
+  done = t.done + cond (same_how how Done) 1 0;
+  stopped = t.stopped + cond (same_how how Stop) 1 0;
+}
 
--- n more ticks behind which the job goes on
+-- the tally with n more ticks after which the job goes on
 abbrev pub with_more : ℕ → TaskTally → TaskTally
 with_more n t = record t { ticks = t.ticks + n }
 

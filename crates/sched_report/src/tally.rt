@@ -4,7 +4,7 @@ ghost use Rattle.mc_model.specs.declared.run.Run.TheVariants as run;
 ghost use Rattle.mc_model.specs.Runs.{row_of, length_of, IsRun};
 ghost use Rattle.sched_report.specs.declared.task_tally.TaskTally.{TaskTally};
 ghost use Rattle.sched_report.specs.Waiting.{release_in};
-ghost use Rattle.sched_report.specs.Tally.{Tallies, Follows, IsAmong, HasRoom, Releases, GoesOn, Ends, Overruns, Idles};
+ghost use Rattle.sched_report.specs.Tally.{Tallies, AddsRun, IsAmong, HasRoom, Releases, GoesOn, Ends, Overruns, Idles};
 
 use crate::task_tally::TaskTally;
 use crate::waiting::Waiting;
@@ -47,7 +47,7 @@ impl Tally {
         requires is_run { IsRun run }
         requires short { length_of run ≤ 100000000 }
         requires room { HasRoom self.old }
-        ensures { OnOk result (Follows run self.old self.new) }
+        ensures { OnOk result (AddsRun run self.old self.new) }
     {
         match run {
             Run::Release { job, kept } => self.release(job, kept)?,
@@ -63,7 +63,7 @@ impl Tally {
         requires is_run { IsRun (run.Ticks job how length) }
         requires short { length ≤ 100000000 }
         requires room { HasRoom self.old }
-        ensures { Follows (run.Ticks job how length) self.old self.new }
+        ensures { AddsRun (run.Ticks job how length) self.old self.new }
     {
         match how {
             How::More => self.go_on(job, length),

@@ -15,31 +15,13 @@ use std::alloc::{AllocError, Global};
 
 /// The report of a trace: for each task in order how many jobs were released, kept, dropped, discarded, done and
 /// stopped, its ticks and its greatest response in ticks, and then the idle ticks and the switches to high mode.
+#[tactic(auto, using(crate::proofs::AddUp::counts_add_up))]
 pub fn report(alloc: Global, set: &TaskSet, runs: &[Run]) -> Result<Vec<u8>, Memory>
     requires runs { AreRuns runs.now }
     requires trace { IsTraceOf set.now.tasks (reverse (expand runs.now)) }
     ensures text { IfOk result (λ text. text.items ≡ report_text set.now.tasks (reverse (expand runs.now))) }
     // The counts of each task add up.
     ensures law { CountsAddUp }
-{
-    let text = report_text(alloc, set, runs)?;
-    Ok(text)
-}
-
-/// The sums of a report over all tasks, in one line, and the ticks of jobs, the idle ticks and the switches in another.
-pub fn summary(alloc: Global, set: &TaskSet, runs: &[Run]) -> Result<Vec<u8>, Memory>
-    requires runs { AreRuns runs.now }
-    requires trace { IsTraceOf set.now.tasks (reverse (expand runs.now)) }
-    ensures { IfOk result (λ text. text.items ≡ summary_text set.now.tasks (reverse (expand runs.now))) }
-{
-    let text = summary_text(alloc, set, runs)?;
-    Ok(text)
-}
-
-fn report_text(alloc: Global, set: &TaskSet, runs: &[Run]) -> Result<Vec<u8>, AllocError>
-    requires runs { AreRuns runs.now }
-    requires trace { IsTraceOf set.now.tasks (reverse (expand runs.now)) }
-    ensures { IfOk result (λ text. text.items ≡ report_text set.now.tasks (reverse (expand runs.now))) }
 {
     let tally = tally_of(alloc, set, runs)?;
     let mut text = Vec::new(alloc);
@@ -53,7 +35,8 @@ fn report_text(alloc: Global, set: &TaskSet, runs: &[Run]) -> Result<Vec<u8>, Al
     Ok(text)
 }
 
-fn summary_text(alloc: Global, set: &TaskSet, runs: &[Run]) -> Result<Vec<u8>, AllocError>
+/// The sums of a report over all tasks, in one line, and the ticks of jobs, the idle ticks and the switches in another.
+pub fn summary(alloc: Global, set: &TaskSet, runs: &[Run]) -> Result<Vec<u8>, Memory>
     requires runs { AreRuns runs.now }
     requires trace { IsTraceOf set.now.tasks (reverse (expand runs.now)) }
     ensures { IfOk result (λ text. text.items ≡ summary_text set.now.tasks (reverse (expand runs.now))) }

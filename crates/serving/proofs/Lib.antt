@@ -1,3 +1,3 @@
-pub mod Replies
 pub mod Outcomes
 pub mod Written
+pub mod Serving

@@ -9,7 +9,7 @@ pub data Command : Type 1 where
   answer : (Reply → Type 0) → Command
   fetch : (name : List ℕ) (limit : ℕ) → (List ℕ → Command) → Command
 
--- it goes on by what was read, or is refused
+-- the command that goes on by what was read, or answers with the refusal
 abbrev pub need : {A : Type 0} → Result A Refusal → (A → Command) → Command
 need (Ok x) next = next x
 need (Err refusal) next = answer (λ reply. reply ≡ refuse refusal)

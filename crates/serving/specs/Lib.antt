@@ -1,5 +1,5 @@
 pub mod Command
-pub mod Steps
 pub mod Outcome
 pub mod Written
-pub mod Fetched
+pub mod Serves
+pub mod Within

@@ -6,23 +6,23 @@ use Rattle.replies.specs.Reply.{Reply}
 use Rattle.replies.specs.Refusal.{ReadFault, Longer, refuse}
 use Rattle.serving.specs.Command.{Command, answer, fetch}
 
--- a fetch of this name was answered, which failed or did not, where the shelf tells its fetches
+-- one more fetch of this name was answered, which failed or did not, as far as the shelf exposes its fetches
 abbrev pub AddsFetch : List ℕ → Bool → ShelfState → ShelfState → Type 0
 AddsFetch name failed before after = after.fetches ≡ option_map (λ fetches. fetches ++ fetch_of name failed ∷ []) before.fetches
 
--- the file could not be read
+-- a fetch of the file failed: the count of faults rose, and the fetch is noted as failed
 pub record IsFailed (name : List ℕ) (before after : ShelfState) : Type 0 where
   pub rose : Rose before.faults after.faults
   pub adds : AddsFetch name true before after
 
--- the file is longer than its limit, where the shelf tells; otherwise more bytes than that were read
+-- the file is longer than its limit, where the shelf exposes it; otherwise more bytes than the limit were read
 pub record IsLonger (name : List ℕ) (limit : ℕ) (before after : ShelfState) : Type 0 where
   pub told : IfSome before.holds (λ files. IsSomeAnd (files name) (λ bytes. limit < length bytes))
   pub untold : before.holds ≡ None → RoseByMoreThan limit before.bytes_read after.bytes_read
   pub calm : after.faults ≡ before.faults
   pub adds : AddsFetch name false before after
 
--- the file has these bytes, within its limit: those that the shelf holds, where it tells
+-- the file has these bytes, within its limit: those that the shelf holds, where it exposes them
 pub record HasBytes (name : List ℕ) (limit : ℕ) (bytes : List ℕ) (before after : ShelfState) : Type 0 where
   pub told : IfSome before.holds (λ files. files name ≡ Some bytes)
   pub short : length bytes ≤ limit
@@ -30,47 +30,47 @@ pub record HasBytes (name : List ℕ) (limit : ℕ) (bytes : List ℕ) (before a
   pub adds : AddsFetch name false before after
   pub same : after.holds ≡ before.holds
 
--- its status is none of those that tell a fault of the shelf, a fault of the sink, or want of memory
+-- the reply's status is none of those for a fault of the shelf, a fault of the sink, or failed allocations
 pub record TellsNoFault (reply : Reply) : Type 0 where
   pub read : reply.status ≢ 7
   pub write : reply.status ≢ 8
   pub memory : reply.status ≢ 9
 
--- the file, which has number k, could not be read or is too long, and the reply tells it
+-- file number k could not be read or is too long, and the reply says so
 abbrev pub IsRefused : ℕ → List ℕ → ℕ → ShelfState → ShelfState → Reply → Type 0
 IsRefused k name limit before after reply =
     (IsFailed name before after × (reply ≡ refuse (ReadFault k))) ⊎ (IsLonger name limit before after × (reply ≡ refuse (Longer k limit)))
 
--- the reply to a command that asks for its file number k next: its answer, which tells no fault; or that the file is refused;
--- or, by the file's bytes, the reply to the command that it then is
+-- the reply to a command that asks for its file number k next: its answer, which has no status of a fault; or that the file
+-- is refused; or, by the file's bytes, the reply to the command that it then is
 abbrev pub IsReply : ℕ → Command → ShelfState → ShelfState → Reply → Type 0
 IsReply k (answer Is) before after reply = (after ≡ before) × Is reply × TellsNoFault reply
 IsReply k (fetch name limit next) before after reply =
     IsRefused k name limit before after reply
     ⊎ ((bytes : List ℕ) × (mid : ShelfState) × HasBytes name limit bytes before mid × IsReply (k + 1) (next bytes) mid after reply)
 
--- so is the reply, and its status is not that of words that are no command
+-- the reply is one to the command, and its status is not that of words that name no command
 abbrev pub IsOwnReply : ℕ → Command → ShelfState → ShelfState → Reply → Type 0
 IsOwnReply k command before after reply = IsReply k command before after reply × (reply.status ≢ 2)
 
--- the fetches are as before, or one of this name was answered
+-- no fetch was answered, or one of this name
 abbrev pub AddsAtMost : List ℕ → ShelfState → ShelfState → Type 0
 AddsAtMost name before after = (after.fetches ≡ before.fetches) ⊎ ((failed : Bool) × AddsFetch name failed before after)
 
--- also where memory is wanting, no file is asked for but the command's, in their order: none behind one that failed or is too
--- long, and each only where those before it let the command go on
+-- no file is asked for except the command's, in their order, even if memory runs out: none after one that failed or is too
+-- long, and each only where the files before it let the command go on
 abbrev pub AskedInOrder : Command → ShelfState → ShelfState → Type 0
 AskedInOrder (answer Is) before after = after.fetches ≡ before.fetches
 AskedInOrder (fetch name limit next) before after =
     AddsAtMost name before after
     ⊎ ((bytes : List ℕ) × (mid : ShelfState) × HasBytes name limit bytes before mid × AskedInOrder (next bytes) mid after)
 
--- the shelf tells that it holds these files, and its count of faults does not rise
+-- the shelf exposes that it holds these files, and its count of faults does not rise
 pub record Tells (files : Files) (before after : ShelfState) : Type 0 where
   pub told : before.holds ≡ Some files
   pub calm : Rose before.faults after.faults → ⊥
 
--- where these are the files, the reply is the answer of a command that asks for its file number k next
+-- the reply is the answer, by these files, of a command that asks for its file number k next
 abbrev pub IsAnswer : Files → ℕ → Command → Reply → Type 0
 IsAnswer files k (answer Is) reply = Is reply
 IsAnswer files k (fetch name limit next) reply =

@@ -4,7 +4,7 @@ use Rattle.mc_world.specs.Count.{one_more}
 use Rattle.mc_world.specs.Sink.{SinkState}
 use Rattle.replies.specs.Reply.{Reply}
 
--- the first n bytes of the text were written, where the sink tells
+-- the first n bytes of the text were written, where the sink exposes its bytes
 abbrev pub Wrote : ℕ → List ℕ → SinkState → SinkState → Type 0
 Wrote n text before after = after.written ≡ option_map (λ bytes. bytes ++ take n text) before.written
 
@@ -14,7 +14,7 @@ pub record IsWritten (reply : Reply) (ended : ℕ) (before after : SinkState) : 
   pub text : Wrote (length reply.text) reply.text before after
   pub faults : after.faults ≡ before.faults
 
--- the sink failed when a front of the reply was written, and no more was written to it
+-- the sink failed once a front of the reply was written, and nothing more was written to it
 pub record IsCutShort (reply : Reply) (ended : ℕ) (before after : SinkState) : Type 0 where
   pub status : ended ≡ 8
   pub text : (n : ℕ) × (n ≤ length reply.text) × Wrote n reply.text before after

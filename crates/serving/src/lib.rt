@@ -1,12 +1,16 @@
-//! A command in one place: what it asks for and answers, and the one function that serves each.
+//! How a command is served: its words give it names of files and numbers, each of its files is fetched, and its reply is
+//! written.
 #![tactic(auto)]
 
-mod command;
 mod delivery;
-mod served;
+mod fetching;
+mod file_name;
+mod within;
+
+pub use delivery::deliver;
+pub use fetching::fetch;
+pub use file_name::FileName;
+pub use within::Within;
+
 #[cfg(test)]
 mod tests;
-
-pub use command::{Command, Next, Served};
-pub use delivery::deliver;
-pub use served::{ask, serve};

@@ -5,8 +5,12 @@ use Rattle.std.specs.Int.{div_ceil}
 use Rattle.std.proofs.lemmas.List.FromFn.{map-range_with_len_more}
 use Rattle.rand_pcg.specs.Lcg.{Lcg}
 use Rattle.set_gen.specs.Words.{after}
-use Rattle.set_gen.specs.MadeSet.{words_taken, words_before, words_for}
+use Rattle.set_gen.specs.MadeSet.{words_taken, words_before}
 use Rattle.set_gen.proofs.WordLemmas.{after-add}
+
+-- the words that are left once the tasks before number i have theirs
+abbrev pub words_for : Lcg → ℕ → Lcg
+words_for words i = after (words_before (i - 1)) words
 
 -- how many of n tasks are high
 abbrev pub high_tasks : ℕ → ℕ

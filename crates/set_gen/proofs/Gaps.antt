@@ -5,8 +5,9 @@ use Rattle.rand_pcg.specs.Lcg.{Lcg}
 use Rattle.mc_task.specs.TaskSet.{task_at}
 use Rattle.mc_model.specs.TaskNumbers.{period_in}
 use Rattle.set_gen.specs.Words.{word}
-use Rattle.set_gen.specs.MadeSet.{period, stretch, made_gap, words_for, made_set, made_gaps}
+use Rattle.set_gen.specs.MadeSet.{period, made_gap, made_set, made_gaps}
 use Rattle.set_gen.specs.NextReleases.{AreGaps}
+use Rattle.set_gen.proofs.Draws.{words_for}
 use Rattle.set_gen.proofs.Periods.{period-IsPeriod}
 use Rattle.set_gen.proofs.MadeTasks.{made_task-period, made_set-length, made_set-at}
 use Rattle.set_gen.proofs.Plans.{AreFar}
@@ -17,7 +18,7 @@ record IsGap (gap period : ℕ) : Type 0 where
   pub most : gap ≤ period + 15
 
 made_gap-IsGap : (words : Lcg) (i : ℕ) → IsGap (made_gap words i) (period (word words))
-unfolding made_gap stretch
+unfolding made_gap
 made_gap-IsGap words i = record { least = omega arith; most = omega arith }
 
 pub made_gaps-length : (words : Lcg) (n : ℕ) → length (made_gaps words n) ≡ n

@@ -14,9 +14,9 @@ use Rattle.mc_task.specs.declared.task.Task.{Task}
 use Rattle.mc_task.specs.TaskSet.{IsTask, AreTasks, Distinct, names_of, task_at}
 use Rattle.mc_model.proofs.Tasks.{task_at-in}
 use Rattle.set_gen.specs.Words.{word, rest}
-use Rattle.set_gen.specs.MadeSet.{period, is_odd, task_name, high_task, low_task, made_task, words_for, made_set}
+use Rattle.set_gen.specs.MadeSet.{period, is_odd, task_name, high_task, low_task, made_task, made_set}
 use Rattle.set_gen.proofs.Periods.{IsPeriod, period-IsPeriod}
-use Rattle.set_gen.proofs.Draws.{high_tasks, low_tasks}
+use Rattle.set_gen.proofs.Draws.{words_for, high_tasks, low_tasks}
 use Rattle.mc_model.proofs.Ranges.{each-map-range, slice_get-map-range}
 
 -- what is so of a high task and of a low task, by the number of the task, is so of the task that is made

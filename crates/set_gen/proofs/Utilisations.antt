@@ -14,11 +14,11 @@ use Rattle.mc_model.specs.Sums.{total}
 use Rattle.mc_model.proofs.Lists.{Each-map}
 use Rattle.mc_model.proofs.Hyperperiod.{periods-dvd, lcm_from-dvd}
 use Rattle.set_gen.specs.Words.{word, rest}
-use Rattle.set_gen.specs.MadeSet.{period, is_odd, high_task, low_task, made_task, words_for, made_set}
+use Rattle.set_gen.specs.MadeSet.{period, is_odd, high_task, low_task, made_task, made_set}
 use Rattle.set_gen.proofs.Periods.{period-IsPeriod}
 use Rattle.mc_model.proofs.Sums.{total-append}
 use Rattle.set_gen.proofs.MadeTasks.{by_parity, made_set-each}
-use Rattle.set_gen.proofs.Draws.{high_tasks, low_tasks}
+use Rattle.set_gen.proofs.Draws.{words_for, high_tasks, low_tasks}
 
 -- the budget is at most share parts of the period, each part a c-th
 abbrev IsShare : (Task → ℕ) → (Task → ℕ) → ℕ → Task → Type 0

@@ -11,7 +11,8 @@ use Rattle.mc_model.specs.declared.work.WorkRow.{WorkRow}
 use Rattle.set_gen.specs.MadeSet.{made_set}
 use Rattle.set_gen.specs.MadeWork.{made_work}
 
--- a set whose periods are within range, with U_LL ≤ 1/2, U_HL ≤ 1/4 and U_HH ≤ 3/4: by the 3/4 law the published test gives it a rule
+-- a set whose periods are within range, with U_LL ≤ 1/2, U_HL ≤ 1/4 and U_HH ≤ 3/4: by the 3/4 law the published test
+-- gives it a rule
 pub record AreWithinThreeQuarters (tasks : List Task) : Type 0 where
   pub set : AreTasks tasks
   pub range : IsWithinRange tasks
@@ -32,4 +33,5 @@ pub record IsTaken (set : List Task) (rows : List WorkRow) : Type 0 where
 
 -- law: whatever the words, the work of such a set below at most 1,000,000 ticks is work for it
 abbrev pub MadeWorkIsTaken : Type 0
-MadeWorkIsTaken = (words : Lcg) (n ticks : ℕ) → 2 ≤ n → n ≤ 32 → ticks ≤ 1000000 → IsTaken (made_set words n) (made_work words n ticks)
+MadeWorkIsTaken = (words : Lcg) (n ticks : ℕ) → 2 ≤ n → n ≤ 32 → ticks ≤ 1000000
+    → IsTaken (made_set words n) (made_work words n ticks)

@@ -3,7 +3,7 @@ use Rattle.std.specs.Prelude.{◌≡◌, ◌≤◌}
 use Rattle.mc_task.specs.declared.task.Task.{Task}
 use Rattle.set_gen.specs.declared.tasks.Numbers.{Numbers}
 
--- the numbers are those of the task
+-- the numbers are the task's level, period and budgets
 pub record AreOf (task : Task) (numbers : Numbers) : Type 0 where
   pub level : numbers.level ≡ task.level
   pub period : numbers.period ≡ task.period

@@ -15,7 +15,7 @@ periods = 200 ∷ 250 ∷ 400 ∷ 500 ∷ 800 ∷ 1000 ∷ 1250 ∷ 2000 ∷ 250
 unfoldable pub period : ℕ → ℕ
 period w = slice_index periods (w % 12)
 
--- a task of an odd number is high
+-- whether the number is odd: the tasks with odd numbers are high
 unfoldable pub is_odd : ℕ → Bool
 is_odd i = i % 2 == 1
 
@@ -23,47 +23,40 @@ is_odd i = i % 2 == 1
 unfoldable pub task_name : ℕ → List ℕ
 task_name i = codes "t" ++ decimal i
 
--- one of k high tasks: its low budget is 1 to a k-th of a quarter of its period, its high budget a k-th of three quarters
+-- one of k high tasks with this name and period p: its low budget is 1 to p / 4k, by the word w; its high budget is
+-- 3p / 4k; both quotients are rounded down
 unfoldable pub high_task : List ℕ → ℕ → ℕ → ℕ → Task
-high_task name period k w =
-    record { name = name; level = High; period = period; low = 1 + w % (period / (4 * k)); high = (3 * period) / (4 * k) }
+high_task name p k w =
+    record { name = name; level = High; period = p; low = 1 + w % (p / (4 * k)); high = (3 * p) / (4 * k) }
 
--- one of m low tasks: its budget is an m-th of half its period
+-- one of m low tasks with this name and period p: its budget is p / 2m, rounded down
 unfoldable pub low_task : List ℕ → ℕ → ℕ → Task
-low_task name period m = record { name = name; level = Low; period = period; low = period / (2 * m); high = period / (2 * m) }
+low_task name p m = record { name = name; level = Low; period = p; low = p / (2 * m); high = p / (2 * m) }
 
--- task number i of n, of which half are high, rounded up, made with the words that are left: the first is for its period, and of
--- a high task the next for its low budget
+-- task number i of n, made with the words that are left: the first is for its period, the next for the low budget of a
+-- high task. Half of the tasks are high, rounded up
 unfoldable pub made_task : Lcg → ℕ → ℕ → Task
 made_task words n i =
     if is_odd i then high_task (task_name i) (period (word words)) ((n + 1) / 2) (word (rest words))
     else low_task (task_name i) (period (word words)) (n / 2)
 
--- how many words task number i takes: the last is for its stretch
+-- how many words task number i takes, the last of them for the gap between its releases
 unfoldable pub words_taken : ℕ → ℕ
 words_taken i = if is_odd i then 3 else 2
 
--- how much longer than its period the releases of task number i stand apart, made with the words that are left: 0 to 15 ticks
-unfoldable pub stretch : Lcg → ℕ → ℕ
-stretch words i = word (after (words_taken i - 1) words) % 16
-
--- how far the releases of task number i stand apart
+-- how far the releases of task number i stand apart, made with the words that are left: its period and 0 to 15 ticks more
 unfoldable pub made_gap : Lcg → ℕ → ℕ
-made_gap words i = period (word words) + stretch words i
+made_gap words i = period (word words) + word (after (words_taken i - 1) words) % 16
 
 -- how many words the first n tasks take
 abbrev pub words_before : ℕ → ℕ
 words_before zero = 0
 words_before (suc i) = words_before i + words_taken (i + 1)
 
--- the words that are left once the tasks before number i have theirs
-abbrev pub words_for : Lcg → ℕ → Lcg
-words_for words i = after (words_before (i - 1)) words
-
--- the set of n tasks
+-- the set of n tasks that the words make, each with the words that the tasks before it leave
 unfoldable pub made_set : Lcg → ℕ → List Task
-made_set words n = map (λ i. made_task (words_for words i) n i) (range_with_len 1 n)
+made_set words n = map (λ i. made_task (after (words_before (i - 1)) words) n i) (range_with_len 1 n)
 
--- how far the releases of each of the n tasks stand apart, in ticks
+-- how many ticks the releases of each of the n tasks stand apart
 unfoldable pub made_gaps : Lcg → ℕ → List ℕ
-made_gaps words n = map (λ i. made_gap (words_for words i) i) (range_with_len 1 n)
+made_gaps words n = map (λ i. made_gap (after (words_before (i - 1)) words) i) (range_with_len 1 n)

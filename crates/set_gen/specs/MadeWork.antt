@@ -1,4 +1,5 @@
--- The work that is made for a set: task number i is released at 0 and at each multiple of the i-th gap, and each job takes a word for its need.
+-- The work that is made for a set: task number i is released at 0 and at each multiple of the i-th gap, and each job takes
+-- a word for its need.
 use Rattle.std.specs.Prelude.{ℕ, zero, suc, ◌+◌, ◌-◌, ◌%◌, ◌==◌, ◌&&◌, Bool, if◌then◌else◌, List, [], ◌∷◌, ◌++◌, length, map, filter, slice_index, Option, None, Some}
 use Rattle.std.specs.List.{range_with_len}
 use Rattle.rand_pcg.specs.Lcg.{Lcg}
@@ -10,13 +11,14 @@ use Rattle.mc_model.specs.declared.work.WorkRow.{WorkRow}
 use Rattle.set_gen.specs.Words.{word, rest, after}
 use Rattle.set_gen.specs.MadeSet.{made_set, made_gaps, words_before}
 
--- task number i is released at boundary r
+-- whether task number i is released at boundary r
 unfoldable pub is_released : List ℕ → ℕ → ℕ → Bool
 is_released gaps r i = r % slice_index gaps (i - 1) == 0
 
 -- the releases at boundary r, by task number
 abbrev pub releases_at : List ℕ → ℕ → List Arrival
-releases_at gaps r = map (λ i. record { task = i; at = r }) (filter (is_released gaps r) (range_with_len 1 (length gaps)))
+releases_at gaps r =
+    map (λ i. record { task = i; at = r }) (filter (is_released gaps r) (range_with_len 1 (length gaps)))
 
 -- the releases below boundary r, by release and then by task number
 abbrev pub releases_below : List ℕ → ℕ → List Arrival
@@ -30,13 +32,14 @@ need_in (Some t) w = if is_high t.level && w % 64 == 0 then t.high else 1 + w % 
 
 -- the job of a release, by its word
 unfoldable pub job_row : List Task → Arrival → ℕ → WorkRow
-job_row set a w = record { task = record { 0 = a.task }; release = a.at; need = need_in (task_at set a.task) w }
+job_row ts a w = record { task = record { 0 = a.task }; release = a.at; need = need_in (task_at ts a.task) w }
 
 -- the jobs of these releases, each with the next word
 abbrev pub job_rows : Lcg → List Task → List Arrival → List WorkRow
 job_rows words set [] = []
 job_rows words set (a ∷ more) = job_row set a (word words) ∷ job_rows (rest words) set more
 
--- the work of n tasks below so many ticks, with the words that the set leaves
+-- the work of n tasks with releases before this many ticks, made with the words that the set leaves
 unfoldable pub made_work : Lcg → ℕ → ℕ → List WorkRow
-made_work words n ticks = job_rows (after (words_before n) words) (made_set words n) (releases_below (made_gaps words n) ticks)
+made_work words n ticks =
+    job_rows (after (words_before n) words) (made_set words n) (releases_below (made_gaps words n) ticks)

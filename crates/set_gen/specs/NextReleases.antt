@@ -17,7 +17,7 @@ pub record IsNext (gap boundary next : ℕ) : Type 0 where
   pub reached : boundary ≤ next
   pub near : next < boundary + gap
 
--- that of each gap
+-- for each gap, its least multiple that is not below the boundary
 pub record AreNext (gaps : List ℕ) (boundary : ℕ) (next : List ℕ) : Type 0 where
   pub count : length next ≡ length gaps
   pub each : (k : ℕ) → k < length gaps → IsNext (slice_index gaps k) boundary (slice_index next k)
@@ -26,7 +26,7 @@ pub record AreNext (gaps : List ℕ) (boundary : ℕ) (next : List ℕ) : Type 0
 abbrev pub release_of : ℕ → ℕ → ℕ → List Arrival
 release_of gap at i = if at % gap == 0 then record { task = i; at = at } ∷ [] else []
 
--- the job of the task at index i is added, if it is released at boundary `at`, and its next release behind that is kept
+-- the job of the task at index i is added, if it is released at boundary `at`, and its next release after that is kept
 pub record Visit (set : List Task) (gap at i : ℕ) (old new : Jobs) (later : ℕ) : Type 0 where
   pub rows : new.rows.items ≡ old.rows.items ++ job_rows old.words set (release_of gap at (i + 1))
   pub words : new.words ≡ after (length (release_of gap at (i + 1))) old.words

@@ -89,8 +89,8 @@ pub fn draw_numbers(words: &mut Lcg64Xsh32, count: u32, number: u32) -> (Numbers
     } else {
         low_task(period, count / 2)
     };
-    let stretch = take(words) % 16;
-    (numbers, period + stretch)
+    let extra_gap = take(words) % 16;
+    (numbers, period + extra_gap)
 }
 
 #[tactic(auto, unfolding(crate::specs::MadeSet::task_name))]

@@ -19,6 +19,17 @@ id_of t = record {
 -- two names are one in at most one way
 abbrev pub board_id_coded : Coded BoardId
 board_id_coded =
-    code_by (ℕ × (ℕ × (ℕ × (ℕ × (ℕ × (ℕ × List ℕ)))))) (coded× coded_ℕ (coded× coded_ℕ (coded× coded_ℕ (coded× coded_ℕ (coded× coded_ℕ (coded× coded_ℕ (coded_list coded_ℕ)))))))
+    code_by (ℕ × (ℕ × (ℕ × (ℕ × (ℕ × (ℕ × List ℕ))))))
+    (coded× coded_ℕ (coded× coded_ℕ
+    (coded× coded_ℕ (coded× coded_ℕ (coded× coded_ℕ (coded× coded_ℕ (coded_list coded_ℕ)))))))
     (λ b. (b.words, (b.slots, (b.views_name, (b.atom, (b.block, (b.offset, b.slot_names)))))))
-    (λ t. record { words = t.0; slots = t.1.0; views_name = t.1.1.0; atom = t.1.1.1.0; block = t.1.1.1.1.0; offset = t.1.1.1.1.1.0; slot_names = t.1.1.1.1.1.1 }) (λ b k. b)
+    (λ t. record {
+      words = t.0;
+      slots = t.1.0;
+      views_name = t.1.1.0;
+      atom = t.1.1.1.0;
+      block = t.1.1.1.1.0;
+      offset = t.1.1.1.1.1.0;
+      slot_names = t.1.1.1.1.1.1;
+    })
+    (λ b k. b)

@@ -21,13 +21,16 @@ abbrev pub IsLog : List Shown → Type 0
 IsLog [] = ⊥
 IsLog (x ∷ xs) = (x.ticks ≡ 0) × ((x.high_mode ≡ false) × Rises 0 xs)
 
+-- any two proofs that pairs rise so are equal
 pub Rises-prop : (n : ℕ) (xs : List Shown) → IsProp (Rises n xs)
 Rises-prop n [] = Unit-prop
 Rises-prop n (x ∷ xs) = ×_prop (Coded-set coded_ℕ x.ticks (n + 1)) (Rises-prop (n + 1) xs)
 
+-- any two proofs that pairs are a log are equal
 pub IsLog-prop : (xs : List Shown) → IsProp (IsLog xs)
 IsLog-prop [] = λ a b. absurd a
-IsLog-prop (x ∷ xs) = ×_prop (Coded-set coded_ℕ x.ticks 0) (×_prop (Coded-set coded_bool x.high_mode false) (Rises-prop 0 xs))
+IsLog-prop (x ∷ xs) =
+    ×_prop (Coded-set coded_ℕ x.ticks 0) (×_prop (Coded-set coded_bool x.high_mode false) (Rises-prop 0 xs))
 
 -- the last of the pairs, and d where there is none
 abbrev pub last_of : Shown → List Shown → Shown

@@ -17,7 +17,7 @@ AllBegin log (x ∷ xs) = StartsWith log x × AllBegin log xs
 pub record IsTokenOf (log : List Shown) (id : ℕ) (v : View) : Type 0 where
   -- the writer has the first place
   pub first : v.writes ≡ true → id ≡ 0
-  -- what it showed or saw, and what it was told, is a beginning of the log
+  -- what the token showed or saw, and what it learned from others, is a beginning of the log
   pub seen : v.live ≡ true → StartsWith log v.list
   pub told : AllBegin log v.told
 

@@ -1,4 +1,4 @@
--- What each step on the word tells the token that makes it.
+-- What each step on the word lets the token know that makes it.
 use Rattle.std.specs.Prelude.{◌≡◌, ℕ, List}
 use Rattle.atomic_table.specs.Table.{Me, Step}
 use Rattle.status_board.specs.declared.shown.Shown.{Shown}
@@ -11,11 +11,12 @@ use Rattle.status_board.specs.Rule.{AllBegin}
 abbrev pub Standing : Type 0
 Standing = Me (Unit {0}) View
 
--- a pair was shown
+-- the step showed a pair: the one whose word was found, after the pairs before it
 abbrev pub Shows : Step (Unit {0}) → Standing → ℕ → Standing → Type 0
-Shows st before found after = (now : Shown) × (word_of now ≡ found) × IsLog after.0.list × (after ≡ (shown_view now before.0, before.1))
+Shows st before found after =
+    (now : Shown) × (word_of now ≡ found) × IsLog after.0.list × (after ≡ (shown_view now before.0, before.1))
 
--- The log was seen. It begins with all that was seen and told before, and the number found is the word of its last pair
+-- the step saw the log, which begins with all that the token knew before, and found the word of its last pair
 abbrev pub Looks : Step (Unit {0}) → Standing → ℕ → Standing → Type 0
 Looks st before found after = (log : List Shown)
     × IsLog log

@@ -13,7 +13,8 @@ use Rattle.mc_model.proofs.Sums.{total-append}
 use Rattle.mc_model.proofs.Lists.{Each-append}
 use Rattle.mc_model.proofs.Walk.{load_more}
 use Rattle.set_gen.specs.Words.{after}
-use Rattle.set_gen.specs.MadeSet.{made_task, made_set, words_for, words_before}
+use Rattle.set_gen.specs.MadeSet.{made_task, made_set, words_before}
+use Rattle.set_gen.proofs.Draws.{words_for}
 use Rattle.set_gen.specs.MadeNumbers.{AreOf}
 use Rattle.set_gen.specs.declared.tasks.Numbers.{Numbers}
 use Rattle.mc_model.proofs.Ranges.{slice_get-map-range}

@@ -1,4 +1,4 @@
--- How many made sets have how much room.
+-- How many random sets have how large a stretch.
 use Rattle.std.specs.Prelude.{◌≡◌, ℕ, ◌+◌, ◌≤◌, Bool, false, nat_le, List, [], ◌∷◌, map, count_by, Option, None, Some}
 use Rattle.std.specs.List.{range_with_len}
 use Rattle.set_gen.specs.Words.{words_of}
@@ -14,23 +14,25 @@ reaches s (Some most) = nat_le s most
 unfoldable pub made_stretch : ℕ → ℕ → Option ℕ
 made_stretch number n = stretch (made_set (words_of number) n)
 
--- of so many sets of n tasks, made from this number on, how many have a stretch of at least s percent
+-- how many of the sets of n tasks with the numbers from this one on have a stretch of at least s percent
 unfoldable pub accepted : ℕ → ℕ → ℕ → ℕ → ℕ
 accepted number sets n s = count_by (λ i. reaches s (made_stretch (number + i) n)) (range_with_len 0 sets)
 
--- 100, 110 and so on to 200
+-- the percentages of the table: 100, 110 and so on to 200
 unfoldable pub percentages : List ℕ
 percentages = 100 ∷ 110 ∷ 120 ∷ 130 ∷ 140 ∷ 150 ∷ 160 ∷ 170 ∷ 180 ∷ 190 ∷ 200 ∷ []
 
--- that number at each of these
+-- how many of the sets have a stretch of at least each percentage of the table
 unfoldable pub accept_table : ℕ → ℕ → ℕ → List ℕ
 accept_table number sets n = map (accepted number sets n) percentages
 
 -- law: what a range of numbers counts is what its two parts count
 abbrev pub PartsAdd : Type 0
-PartsAdd = (number first second n s : ℕ) → accepted number (first + second) n s ≡ accepted number first n s + accepted (number + first) second n s
+PartsAdd = (number first second n s : ℕ)
+    → accepted number (first + second) n s ≡ accepted number first n s + accepted (number + first) second n s
 
 -- law: as many have a stretch of at least s percent, up to 1000, as the published test admits at s percent
 abbrev pub AcceptedAreAdmitted : Type 0
 AcceptedAreAdmitted = (number sets n s : ℕ) → 2 ≤ n → n ≤ 32 → s ≤ 1000
-    → accepted number sets n s ≡ count_by (λ i. is_admitted_at (made_set (words_of (number + i)) n) s) (range_with_len 0 sets)
+    → accepted number sets n s ≡ count_by (λ i. is_admitted_at (made_set (words_of (number + i)) n) s)
+    (range_with_len 0 sets)

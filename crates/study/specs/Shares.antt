@@ -4,19 +4,19 @@ use Rattle.std.specs.List.{range_with_len}
 use Rattle.study.specs.declared.shares.Piece.{Piece}
 use Rattle.study.specs.Acceptance.{accept_table}
 
--- how many pieces so many sets have
+-- how many pieces of at most 128 sets there are
 abbrev pub pieces_of : ℕ → ℕ
 pieces_of sets = (sets + 127) / 128
 
--- of so many sets the piece at a place has 128, and the last piece those that are left
+-- how many sets the piece at a place has: 128, and the last piece has those that are left
 abbrev pub sets_at : ℕ → ℕ → ℕ
 sets_at sets place = min 128 (sets - 128 * place)
 
--- what these count
+-- the counts of the piece at a place
 abbrev pub counts_at : ℕ → ℕ → ℕ → ℕ → List ℕ
 counts_at number sets n place = accept_table (number + 128 * place) (sets_at sets place) n
 
--- a piece of so many sets of n tasks, made from this number on, has sets, and what these count
+-- the piece is one of the sets of n tasks made from this number on, and its counts are theirs
 pub record IsPieceOf (number sets n : ℕ) (piece : Piece) : Type 0 where
   pub place : piece.place < pieces_of sets
   pub counts : piece.counts ≡ counts_at number sets n piece.place

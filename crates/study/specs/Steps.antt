@@ -1,4 +1,4 @@
--- How many of the eleven percentages a made set reaches.
+-- How many of the eleven percentages a random set reaches.
 use Rattle.std.specs.Prelude.{◌≡◌, ℕ, ◌+◌, ◌*◌, ◌/◌, ◌<◌, ◌≤◌, nat_lt, List, length, count_by, Option}
 use Rattle.std.specs.List.{AllByRecursion}
 use Rattle.mc_task.specs.declared.task.Task.{Task}

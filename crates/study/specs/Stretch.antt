@@ -33,8 +33,10 @@ stretch set = greatest_below (is_admitted_at set) 1001
 -- the set is admitted at this percentage and at none above it up to 1000; where there is none, at none up to 1000
 abbrev pub IsStretch : List Task → Option ℕ → Type 0
 IsStretch set None = (s : ℕ) → s ≤ 1000 → is_admitted_at set s ≡ false
-IsStretch set (Some s) = (s ≤ 1000) × (is_admitted_at set s ≡ true) × ((r : ℕ) → s < r → r ≤ 1000 → is_admitted_at set r ≡ false)
+IsStretch set (Some s) =
+    (s ≤ 1000) × (is_admitted_at set s ≡ true) × ((r : ℕ) → s < r → r ≤ 1000 → is_admitted_at set r ≡ false)
 
 -- law: a set that is admitted at s percent is admitted at each lower percentage
 abbrev pub LessIsAdmitted : Type 0
-LessIsAdmitted = (set : List Task) (r s : ℕ) → AreTasks set → r ≤ s → is_admitted_at set s ≡ true → is_admitted_at set r ≡ true
+LessIsAdmitted = (set : List Task) (r s : ℕ) → AreTasks set → r ≤ s → is_admitted_at set s ≡ true
+    → is_admitted_at set r ≡ true

@@ -1,10 +1,10 @@
--- The command `accept NUMBER SETS TASKCOUNT`: how many made sets have how much room.
+-- The command `accept NUMBER SETS TASKCOUNT`: how many random sets have how large a stretch.
 use Rattle.std.specs.Prelude.{◌≡◌, ℕ, ◌+◌, List, [], ◌∷◌, ◌++◌, codes, decimal}
 use Rattle.study.specs.Acceptance.{accept_table}
 use Rattle.replies.specs.Reply.{Reply, reply_of}
 use Rattle.serving.specs.Command.{Command, answer}
 
--- a line for each count: the percentage that it is of, and the count; the first is of s percent, each other of 10 more
+-- a line for each count, with its percentage: s for the first count, and 10 more for each next one
 abbrev pub lines_from : ℕ → List ℕ → List ℕ
 lines_from s [] = []
 lines_from s (count ∷ counts) = (decimal s ++ (codes " " ++ (decimal count ++ codes "\n"))) ++ lines_from (s + 10) counts
@@ -13,10 +13,10 @@ lines_from s (count ∷ counts) = (decimal s ++ (codes " " ++ (decimal count ++ 
 abbrev pub table_text : List ℕ → List ℕ
 table_text counts = lines_from 100 counts
 
--- the reply tells the table of these sets
+-- the reply is the table of these sets, with status 0
 abbrev pub Accepts : ℕ → ℕ → ℕ → Reply → Type 0
 Accepts number sets tasks reply = reply ≡ reply_of 0 (table_text (accept_table number sets tasks))
 
--- the command
+-- the command `accept`
 abbrev pub accept : ℕ → ℕ → ℕ → Command
 accept number sets tasks = answer (Accepts number sets tasks)

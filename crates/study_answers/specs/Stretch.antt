@@ -1,4 +1,4 @@
--- The command `stretch TASKS`: how much room the high budgets of a set have.
+-- The command `stretch TASKS`: by how much the high budgets of a set could be greater.
 use Rattle.std.specs.Prelude.{◌≡◌, ℕ, ◌+◌, nat_lt, if◌then◌else◌, List, [], ◌++◌, codes, decimal, Option, None, Some, Result, Ok}
 use Rattle.mc_task.specs.declared.task.Task.{Task}
 use Rattle.tick_frac.specs.Fraction.{lowest, fraction_text}
@@ -27,12 +27,12 @@ measured set = do
   _ ← none_or OutOfRange (range_fault set)
   Ok (stretch_text set (room.stretch set))
 
--- that of the set that a task file says
+-- the stretch of the set that a task file says, or the refusal
 abbrev pub stretched : List ℕ → Result (List ℕ) Refusal
 stretched bytes = do
   set ← set_in bytes
   measured set.tasks
 
--- the command
+-- the command `stretch`
 abbrev pub stretch : List ℕ → Command
 stretch tasks = fetch_table tasks (λ bytes. answer (λ reply. reply ≡ reply_by (stretched bytes)))

@@ -4,5 +4,5 @@
 mod accept;
 mod stretch;
 
-pub use accept::{Accept, finish_accept};
+pub use accept::{Accept, SetCount};
 pub use stretch::Stretch;

@@ -2,68 +2,37 @@
 ghost use Rattle.std.specs.Prelude.{◌≡◌, ◌≤◌, IfOk, string_bytes};
 ghost use Rattle.load_sum.specs.Belong.{BelongTo};
 ghost use Rattle.study.specs.Stretch as room;
-ghost use Rattle.replies.specs.Reading.{reply_by};
+ghost use Rattle.serving.specs.Serves.{Serves};
 ghost use Rattle.study_answers.specs.Stretch as spec;
+ghost use Rattle.study_answers.specs.Stretch.{stretch};
 
 use load_sum::{LoadFault, Loads, sum_loads};
 use mc_task::TaskSet;
-use replies::{Reply, refused};
-use serving::{Command, Next, Served};
+use mc_world::Shelf;
+use replies::{Reply, Stop, refused};
+use serving::{FileName, fetch};
 use std::alloc::{AllocError, Global};
 use study::high_at;
-use task_answers::MOST_TABLE_BYTES;
-use task_file::read_tasks;
+use task_answers::{MOST_TABLE_BYTES, read_set};
 use tick_frac::Ratio;
 
 /// `stretch TASKS`.
 #[derive(Drop)]
 pub struct Stretch<'a> {
-    pub tasks: &'a str,
+    pub tasks: FileName<'a>,
 }
 
-impl<'a> Command for Stretch<'a> {
-    ghost use Rattle.study_answers.specs.Stretch.{stretch};
-
-    type Opened = ();
-
-    type Job = ();
-
-    ghost asks = { λ c. stretch c.tasks.now };
-
-    ghost valid = { λ c. Unit {0} };
-
-    ghost opens = { λ c bytes opened. Unit {0} };
-
-    ghost leaves = { λ c job. ⊥ };
-
-    ghost gives = { λ c job reply. ⊥ };
-
-    fn start<'b>(&'b self, _: Global) -> Result<Next<'b, (), ()>, AllocError> {
-        Ok(Next::Ask {
-            name: self.tasks,
-            limit: MOST_TABLE_BYTES,
-            kept: (),
-        })
-    }
-
-    fn open<'b>(&'b self, alloc: Global, bytes: &[u8]) -> Result<Next<'b, (), ()>, AllocError> {
-        let reply = match read_tasks(alloc, bytes) {
-            Ok(set) => measured(alloc, &set)?,
-            Err(fault) => refused::task_file(alloc, &fault)?,
-        };
-        Ok(Next::Ready {
-            served: Served::Done { reply },
-        })
-    }
-}
-
-// The reply that tells the stretch of a set, or that its periods are out of range.
-fn measured(alloc: Global, set: &TaskSet) -> Result<Reply, AllocError>
-    ensures { IfOk result (λ reply. reply ≡ reply_by (spec.measured set.now.tasks)) }
-{
-    match sum_loads(set) {
-        Ok(loads) => Ok(Reply::new(0, stretch_text(alloc, set, &loads)?)),
-        Err(LoadFault::Range { task }) => refused::out_of_range(alloc, task),
+impl<'a> Stretch<'a> {
+    /// The reply: how far the high budgets of the set in the file can be stretched.
+    pub fn reply<S: Shelf>(&self, alloc: Global, shelf: &mut S) -> Result<Reply, Stop>
+        ensures { Serves 1 (stretch self.now.tasks) (S.state shelf.old) (S.state shelf.new) result }
+    {
+        let bytes = fetch(alloc, shelf, 1, &self.tasks, MOST_TABLE_BYTES)?;
+        let set = read_set(alloc, &bytes)?;
+        match sum_loads(&set) {
+            Ok(loads) => Ok(Reply::new(0, stretch_text(alloc, &set, &loads)?)),
+            Err(LoadFault::Range { task }) => Err(refused::out_of_range(alloc, task)),
+        }
     }
 }
 

@@ -9,12 +9,12 @@ use Rattle.replies.specs.Refusal.{Refusal, TaskFile, OutOfRange, NotAdmitted}
 use Rattle.replies.specs.Reading.{◌>>=◌, or_refuse, none_or}
 use Rattle.serving.specs.Command.{Command, fetch}
 
--- a set, and the rule under which its jobs are ordered
+-- a set with the rule under which its jobs are ordered
 pub record Ruled : Type 0 where
   pub set : Set
   pub rule : Rule
 
--- the set under the rule
+-- the set with this rule
 abbrev pub under : Rule → Set → Ruled
 under rule set = record { set = set; rule = rule }
 

@@ -6,12 +6,12 @@ use Rattle.replies.specs.Reading.{◌>>=◌, reply_by}
 use Rattle.serving.specs.Command.{Command, answer}
 use Rattle.task_answers.specs.Admitted.{admitted, fetch_table}
 
--- the loads of an admitted set, and its rule
+-- what `check` writes: the loads of an admitted set, and its rule; or the refusal
 abbrev pub checked : List ℕ → Result (List ℕ) Refusal
 checked bytes = do
   ruled ← admitted bytes
   Ok (check_text ruled.set ruled.rule)
 
--- the command
+-- the command `check`
 abbrev pub check : List ℕ → Command
 check tasks = fetch_table tasks (λ bytes. answer (λ reply. reply ≡ reply_by (checked bytes)))

@@ -1,18 +1,10 @@
 -- What the code gives for what is read.
-use Rattle.std.specs.Prelude.{◌≡◌, Result, Ok, Err}
+use Rattle.std.specs.Prelude.{◌≡◌}
 use Rattle.mc_model.specs.Holds.{Holds, Fits}
 use Rattle.load_sum.specs.Belong.{BelongTo}
-use Rattle.replies.specs.Reply.{Reply}
-use Rattle.replies.specs.Refusal.{Refusal, refuse}
 use Rattle.task_answers.specs.Admitted.{Ruled}
 use Rattle.task_answers.specs.declared.admitted.Admitted.{Admitted}
 use Rattle.task_answers.specs.declared.ruled.Ruled.{Ruled as Given}
-
--- what is given is so of what is read, or the reply tells the refusal
-abbrev pub Gives : {A B : Type 0} → (A → B → Type 0) → Result A Refusal → Result B Reply → Type 0
-Gives Is (Ok read) (Ok given) = Is read given
-Gives Is (Err refusal) (Err reply) = reply ≡ refuse refusal
-Gives Is read given = ⊥
 
 -- the set, its loads and the rule, which holds
 pub record IsGivenAs (ruled : Ruled) (given : Admitted) : Type 0 where

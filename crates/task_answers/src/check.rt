@@ -1,50 +1,27 @@
 // The command `check`.
+ghost use Rattle.serving.specs.Serves.{Serves};
+ghost use Rattle.task_answers.specs.Check.{check};
+
 use crate::admitted::{Admitted, MOST_TABLE_BYTES, read_admitted};
 use crate::check_lines::check_text;
-use replies::Reply;
-use serving::{Command, Next, Served};
-use std::alloc::{AllocError, Global};
+use mc_world::Shelf;
+use replies::{Reply, Stop};
+use serving::{FileName, fetch};
+use std::alloc::Global;
 
 /// `check TASKS`.
 #[derive(Drop)]
 pub struct Check<'a> {
-    pub tasks: &'a str,
+    pub tasks: FileName<'a>,
 }
 
-impl<'a> Command for Check<'a> {
-    ghost use Rattle.task_answers.specs.Check.{check};
-
-    type Opened = ();
-
-    type Job = ();
-
-    ghost asks = { λ c. check c.tasks.now };
-
-    ghost valid = { λ c. Unit {0} };
-
-    ghost opens = { λ c bytes opened. Unit {0} };
-
-    ghost leaves = { λ c job. ⊥ };
-
-    ghost gives = { λ c job reply. ⊥ };
-
-    fn start<'b>(&'b self, _: Global) -> Result<Next<'b, (), ()>, AllocError> {
-        Ok(Next::Ask {
-            name: self.tasks,
-            limit: MOST_TABLE_BYTES,
-            kept: (),
-        })
-    }
-
-    fn open<'b>(&'b self, alloc: Global, bytes: &[u8]) -> Result<Next<'b, (), ()>, AllocError> {
-        let reply = match read_admitted(alloc, bytes)? {
-            Ok(Admitted { set, loads, rule }) => {
-                Reply::new(0, check_text(alloc, &set, &loads, rule)?)
-            }
-            Err(reply) => reply,
-        };
-        Ok(Next::Ready {
-            served: Served::Done { reply },
-        })
+impl<'a> Check<'a> {
+    /// The reply: the loads of the set in the file, and its rule, if the test admits it.
+    pub fn reply<S: Shelf>(&self, alloc: Global, shelf: &mut S) -> Result<Reply, Stop>
+        ensures { Serves 1 (check self.now.tasks) (S.state shelf.old) (S.state shelf.new) result }
+    {
+        let bytes = fetch(alloc, shelf, 1, &self.tasks, MOST_TABLE_BYTES)?;
+        let Admitted { set, loads, rule } = read_admitted(alloc, &bytes)?;
+        Ok(Reply::new(0, check_text(alloc, &set, &loads, rule)?))
     }
 }

@@ -1,13 +1,13 @@
-// The set that a task file says, under a rule.
-ghost use Rattle.std.specs.Prelude.{◌≡◌, List, ℕ, IfOk, IfSome};
+// The set in a task file, under a rule.
 ghost use Rattle.mc_model.specs.Holds.{Fits};
+ghost use Rattle.replies.specs.Stop.{Gives};
 ghost use Rattle.task_answers.specs.Admitted.{ruled_by};
-ghost use Rattle.task_answers.specs.Given.{Gives, IsRuled};
+ghost use Rattle.task_answers.specs.Given.{IsRuled};
 
 use crate::admitted::read_set;
 use mc_task::{Rule, TaskSet};
-use replies::Reply;
-use std::alloc::{AllocError, Global};
+use replies::Stop;
+use std::alloc::Global;
 
 /// A set, and the rule under which its jobs are ordered.
 #[derive(Drop)]
@@ -16,17 +16,11 @@ pub struct Ruled {
     pub rule: Rule,
 }
 
-/// The set that the bytes of a task file say, under this rule; or the reply that refuses them.
-pub fn read_ruled(
-    alloc: Global,
-    rule: Rule,
-    bytes: &[u8],
-) -> Result<Result<Ruled, Reply>, AllocError>
+/// The set in a task file with these bytes, under this rule.
+pub fn read_ruled(alloc: Global, rule: Rule, bytes: &[u8]) -> Result<Ruled, Stop>
     requires { Fits rule }
-    ensures { IfOk result (Gives IsRuled (ruled_by rule bytes.now)) }
+    ensures { Gives IsRuled (ruled_by rule bytes.now) result }
 {
-    match read_set(alloc, bytes)? {
-        Ok(set) => Ok(Ok(Ruled { set, rule })),
-        Err(reply) => Ok(Err(reply)),
-    }
+    let set = read_set(alloc, bytes)?;
+    Ok(Ruled { set, rule })
 }

@@ -12,10 +12,10 @@ use Rattle.mc_task.specs.declared.task.Level.{Level}
 use Rattle.mc_task.specs.declared.task.Level.TheVariants.{Low, High}
 use Rattle.mc_task.specs.NameForm.{is_name}
 use Rattle.mc_task.specs.TaskSet.{AreTasks, IsScale, IsSet, Set, IsTask, IsTickCount}
-use Rattle.task_file.specs.TaskTable.{first_other, task_of, is_tick_count}
+use Rattle.task_file.specs.TaskTable.{first_other, task_of}
 use Rattle.task_file.specs.TaskFile.{task_file, tree_set, tasks_from}
 use Rattle.task_file.specs.Printed.{after_high, common_members, task_members, task_tables, tasks_and_version, after_scale, file_members}
-use Rattle.task_file.proofs.TaskLemmas.{known_document}
+use Rattle.task_file.proofs.TaskLemmas.{is_tick_count, known_document}
 use Rattle.task_file.proofs.ScaleLemmas.{scale_back, scale_none}
 use Rattle.mc_task.proofs.FaultLemmas.{first_fault-set}
 

@@ -17,10 +17,11 @@ use Rattle.mc_task.specs.TaskSet.{IsSet, Set, IsTask, IsTickCount, InOrder}
 use Rattle.mc_task.specs.Faults.{first_fault}
 use Rattle.mc_task.proofs.TaskLemmas.{each_in_order, AreTasks-each}
 use Rattle.task_file.specs.Refusals.{◌>>=◌, or_refuse, refuse_key}
-use Rattle.task_file.specs.TaskTable.{name_of, level_of, number_of, if_some, high_of, is_tick_count, task_of, first_other, at_key, need}
+use Rattle.task_file.specs.TaskTable.{name_of, level_of, number_of, if_some, high_of, task_of, first_other, at_key, need}
 use Rattle.task_file.specs.TaskFile.{tasks_from, tree_set, task_file, task_items, version_in}
 use Rattle.task_file.specs.ScaleArray.{scale_in}
 use Rattle.task_file.proofs.ScaleLemmas.{scale_in-IsScale}
+use Rattle.task_file.proofs.TaskLemmas.{is_tick_count}
 use Rattle.task_file.specs.Keys.{is_task_key, is_top_key}
 use Rattle.task_file.specs.declared.key.KeyName.{KeyName}
 use Rattle.task_file.specs.declared.key.KeyName.TheVariants as key

@@ -16,7 +16,8 @@ use Rattle.task_file.specs.declared.key.KeyName.TheVariants as key
 -- the members with this value at the key, which has its place in the order
 unfoldable pub put_member : List ℕ → Data → Members → Members
 put_member k d no_members = member k d no_members
-put_member k d (member l e ms) = match_ordering (slice_cmp nat_cmp k l) (member k d (member l e ms)) (member l d ms) (member l e (put_member k d ms))
+put_member k d (member l e ms) = match_ordering (slice_cmp nat_cmp k l) (member k d (member l e ms))
+    (member l d ms) (member l e (put_member k d ms))
 
 -- what a task of either level has, in the order of the keys
 abbrev pub common_members : Task → Members
@@ -26,7 +27,7 @@ common_members t =
     (member (key_bytes key.Name) (string t.name)
     (member (key_bytes key.Period) (integer (pos t.period)) no_members)))
 
--- the same, in a high task after its high budget
+-- these members, in a high task after its high budget
 abbrev pub after_high : Level → ℕ → Members → Members
 after_high Low high ms = ms
 after_high High high ms = member (key_bytes key.High) (integer (pos high)) ms
@@ -45,7 +46,8 @@ scale_array x = array (item (integer (pos x.p)) (item (integer (pos x.q)) no_ite
 
 -- the tasks and the version 2
 abbrev pub tasks_and_version : List Task → Members
-tasks_and_version ts = member (key_bytes key.Task) (array (items_of (task_tables ts))) (member (key_bytes key.Version) (integer (pos 2)) no_members)
+tasks_and_version ts = member (key_bytes key.Task) (array (items_of (task_tables ts)))
+    (member (key_bytes key.Version) (integer (pos 2)) no_members)
 
 -- members after a scale, where there is one
 abbrev pub after_scale : Option Scale → Members → Members

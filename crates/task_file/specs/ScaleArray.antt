@@ -17,12 +17,13 @@ numbers_of _ = None
 abbrev pub lowest_scale : ℕ → ℕ → Scale
 lowest_scale p q = record { p = (lowest p q).num; q = (lowest p q).den }
 
--- that scale, where 1 ≤ p ≤ q ≤ 4,294,967,295
+-- the scale p/q in lowest terms, where 1 ≤ p ≤ q ≤ 4,294,967,295
 abbrev pub scale_of : ℤ → ℤ → Option Scale
-scale_of (pos p) (pos q) = if nat_le 1 p && (nat_le p q && nat_lt q (2 ^ 32)) then Some (lowest_scale p q) else None
+scale_of (pos p) (pos q) =
+    if nat_le 1 p && (nat_le p q && nat_lt q (2 ^ 32)) then Some (lowest_scale p q) else None
 scale_of _ _ = None
 
--- the scale that a file says, where it has one
+-- the scale that a file says, if it has one, or the first refusal
 unfoldable pub scale_in : Option Data → Result (Option Scale) TaskFault
 scale_in None = Ok None
 scale_in (Some d) = do

@@ -18,11 +18,11 @@ unfoldable pub first_other : (List ℕ → Bool) → Members → Option (List �
 first_other known no_members = None
 first_other known (member k d ms) = if known k then first_other known ms else Some k
 
--- what a table has at a key
+-- the value of a table at a key, if any
 abbrev pub at_key : KeyName → Members → Option Data
 at_key k ms = get_member (key_bytes k) ms
 
--- the value at a key that each task has
+-- the value at a key, which each task must have
 abbrev pub need : ℕ → KeyName → Members → Result Data TaskFault
 need n k ms = or_refuse (KeyMissing n k) (at_key k ms)
 
@@ -31,29 +31,25 @@ abbrev pub level_bytes : Level → List ℕ
 level_bytes Low = codes "low"
 level_bytes High = codes "high"
 
--- 1 to 4,294,967,295 ticks
-abbrev pub is_tick_count : ℕ → Bool
-is_tick_count m = nat_le 1 m && nat_lt m (2 ^ 32)
-
--- a text that is a name
+-- the text, where it is a name; otherwise the refusal
 abbrev pub name_of : ℕ → List ℕ → Result (List ℕ) TaskFault
 name_of n text = if is_name text then Ok text else Err (BadName n)
 
--- a text that is a level
+-- the level that the text t names, or the refusal
 abbrev pub level_of : ℕ → List ℕ → Result Level TaskFault
-level_of n text = or_refuse (OutOfRange n key.Level) (find (λ l. bytes_eq text (level_bytes l)) (Low ∷ High ∷ []))
+level_of n t = or_refuse (OutOfRange n key.Level) (find (λ l. bytes_eq t (level_bytes l)) (Low ∷ High ∷ []))
 
--- a whole number that is a period or a budget
+-- the whole number, where it may be a period or a budget, 1 to 4,294,967,295 ticks; otherwise the refusal
 abbrev pub number_of : ℕ → KeyName → ℤ → Result ℕ TaskFault
-number_of n k (pos m) = if is_tick_count m then Ok m else Err (OutOfRange n k)
+number_of n k (pos m) = if nat_le 1 m && nat_lt m (2 ^ 32) then Ok m else Err (OutOfRange n k)
 number_of n k _ = Err (OutOfRange n k)
 
--- the same of a value that may be absent
+-- nothing where the value is absent, otherwise what is read of it, or the refusal
 abbrev pub if_some : {A B : Type 0} → (A → Result B TaskFault) → Option A → Result (Option B) TaskFault
 if_some read None = Ok None
 if_some read (Some x) = read x >>= λ y. Ok (Some y)
 
--- the high budget: what a high task has at that key, and a low task's low budget
+-- the high budget: a high task must give its high budget; a low task must not, and its high budget is its low one
 abbrev pub high_of : ℕ → Level → ℕ → Option ℕ → Result ℕ TaskFault
 high_of n High low (Some high) = Ok high
 high_of n High low None = Err (KeyMissing n key.High)

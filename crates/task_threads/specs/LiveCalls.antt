@@ -7,12 +7,12 @@ use Rattle.executive.specs.declared.entry.Answer.{Answer}
 use Rattle.executive.specs.declared.entry.Answer.TheVariants.{Taken}
 use Rattle.executive.specs.declared.entry.Entry.{Entry}
 
--- what the task was granted last, once a call was answered so
+-- the last grant of the task, after a call with this answer
 abbrev pub granted_then : Answer → Option Granted → Option Granted
 granted_then (Taken (Ok g)) was = Some g
 granted_then _ was = was
 
--- and after these calls
+-- the last grant of the task, after these calls
 abbrev pub granted_last : Option Granted → List Entry → Option Granted
 granted_last was [] = was
 granted_last was (e ∷ es) = granted_last (granted_then e.answer was) es
@@ -22,7 +22,7 @@ abbrev pub IsByNeed : (ℕ → ℕ) → Option Granted → Call → Type 0
 IsByNeed need last (Outcome done) = IfSome last (λ g. done ≡ (g.before + 1 == need g.job.count))
 IsByNeed need last _ = ⊤
 
--- so is each outcome among these calls
+-- each outcome among these calls is done exactly where the job that was granted last has had its need
 abbrev pub AreByNeed : (ℕ → ℕ) → Option Granted → List Entry → Type 0
 AreByNeed need was [] = ⊤
 AreByNeed need was (e ∷ es) = IsByNeed need was e.call × AreByNeed need (granted_then e.answer was) es

@@ -17,13 +17,14 @@ use Rattle.task_threads.specs.Passes.{IsPassFor}
 abbrev pub need_by : Needs → ℕ → ℕ
 need_by n count = if count % 4 == 0 then n.fourth else n.low
 
--- the needs are those of the task
+-- by these needs each job of the task needs what a live trace asks of it
 abbrev pub AreNeedsOf : Option Task → Needs → Type 0
 AreNeedsOf task n = (count : ℕ) → need_by n count ≡ live_need task count
 
 -- the needs of the tasks from 1 on
 abbrev pub AreNeeds : List Task → List Needs → Type 0
-AreNeeds set needs = (i : ℕ) (d : Needs) → i < length needs → AreNeedsOf (task_at set (i + 1)) (slice_index_or needs i d)
+AreNeeds set needs =
+    (i : ℕ) (d : Needs) → i < length needs → AreNeedsOf (task_at set (i + 1)) (slice_index_or needs i d)
 
 -- the calls of task number k ended its jobs by their needs
 abbrev pub EndsByNeed : List Task → ℕ → PassState → Type 0
@@ -39,6 +40,6 @@ pub record IsRunner (e : Executive) (k : ℕ) (r : Runner) : Type 0 where
   pub watches : IsWatcherOf e r.watcher
   pub needs : AreNeedsOf (task_at (floor_of e).core.set k) r.needs
 
--- the places that so many ticks need: one for each tick, and one for each release that the periods allow before the last
+-- the capacity that n ticks need: a row for each tick, and one for each release that the periods allow before the last
 abbrev pub live_places : List Task → ℕ → ℕ
 live_places set n = n + total (λ t. n / t.period + 1) set

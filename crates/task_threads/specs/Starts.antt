@@ -11,6 +11,7 @@ module _ {T : Type 0} where
       × IfSome s.worker (λ w. is_of e k w)
       × (IsSome s.handle ⊎ IsSome s.worker)
 
-  -- those of the tasks from n down
+  -- the starts are those of the tasks from number n down
   abbrev pub GoDown : (Executive → ℕ → T → Type 0) → Executive → ℕ → List (Start T) → Type 0
-  GoDown is_of e n starts = (i : ℕ) (d : Start T) → i < length starts → IsStartOf is_of e (n - i) (slice_index_or starts i d)
+  GoDown is_of e n starts = (i : ℕ) (d : Start T) → i < length starts
+      → IsStartOf is_of e (n - i) (slice_index_or starts i d)

@@ -16,6 +16,7 @@ use crate::live_round::{Runner, release_first};
 use crate::places::Places;
 use crate::starts::{Start, in_threads};
 use crate::threads::Memory;
+use crate::worker::Serving;
 use executive::{Executive, Gate, TaskPass};
 use mc_task::{TaskNo, TaskSet};
 use status_board::Watcher;
@@ -24,8 +25,8 @@ use std::sync::Wait;
 use std::thread::Threads;
 use timetable::Floor;
 
-/// Runs a floor without a plan, with no rows and no tick out, for so many ticks, in a thread for each task, and tells the gate
-/// of it. Each task is released once in the beginning, and its thread releases it again where its period allows.
+/// Runs a floor without a plan, with no rows and no tick out, for `ticks` ticks, in a thread for each task, and calls the gate on
+/// the way. Each task is released once in the beginning, and its thread releases it again where its period allows.
 ///
 /// The rows up to the last of these ticks are then a live trace. It may wait, and nothing is said of how long.
 pub fn run_live<R: Threads + Wait + Sync, G: Gate + Sync>(
@@ -56,18 +57,14 @@ pub fn run_live<R: Threads + Wait + Sync, G: Gate + Sync>(
     needs_of_each(floor.core().set(), &mut needs);
     let (executive, passes, watchers) = Executive::with_watchers(rt, alloc, floor, tasks)?;
     let all = needs.as_slice();
-    make_runners(
+    let serving = Serving {
         rt,
-        &executive,
+        executive: &executive,
         gate,
-        &places,
-        all,
-        ticks,
-        passes,
-        watchers,
-        &mut runners,
-    );
-    let runners = in_threads(rt, &executive, gate, &places, runners, starts);
+        places: &places,
+    };
+    make_runners(&serving, all, ticks, passes, watchers, &mut runners);
+    let runners = in_threads(&serving, runners, starts);
     give_passes(&executive, runners, &mut back);
     match executive.close(rt, back) {
         Ok(mut floor) => {
@@ -124,62 +121,46 @@ pub fn needs_of_each(set: &TaskSet, needs: &mut Vec<Needs>)
 
 // Releases each task, in their order, and gives each pass a watcher.
 pub fn make_runners<R: Wait, G: Gate>(
-    rt: &R,
-    executive: &Executive,
-    gate: &G,
-    places: &Places,
+    serving: &Serving<'_, R, G>,
     needs: &[Needs],
     ticks: u64,
     passes: Vec<TaskPass>,
     watchers: Vec<Watcher>,
     runners: &mut Vec<Runner>,
 )
-    requires passes { AreFresh executive.now passes.items × (vec_len passes ≤ length needs.now) × (vec_len passes ≤ 128) }
-    requires needs { AreNeeds (floor_of executive.now).core.set needs.now }
-    requires watchers { (vec_len watchers ≡ vec_len passes) × All (λ w. IsWatcherOf executive.now w) watchers.items }
+    requires passes { AreFresh serving.now.executive.now passes.items × (vec_len passes ≤ length needs.now) × (vec_len passes ≤ 128) }
+    requires needs { AreNeeds (floor_of serving.now.executive.now).core.set needs.now }
+    requires watchers { (vec_len watchers ≡ vec_len passes) × All (λ w. IsWatcherOf serving.now.executive.now w) watchers.items }
     requires runners { (runners.old.items ≡ []) × (vec_len passes ≤ vec_capacity runners.old) }
-    ensures { (vec_len runners.new ≡ vec_len passes) × AreInOrder IsRunner executive.now runners.new.items }
+    ensures { (vec_len runners.new ≡ vec_len passes) × AreInOrder IsRunner serving.now.executive.now runners.new.items }
 {
     let mut watchers = watchers;
     for pass in passes {
         let watcher = watchers.pop().unwrap();
         let place = runners.len();
         let task = TaskNo(place as u32 + 1);
-        runners.push_reserved(first_runner(
-            rt,
-            executive,
-            gate,
-            places,
-            needs[place],
-            ticks,
-            pass,
-            watcher,
-            task,
-        ));
+        runners.push_reserved(first_runner(serving, needs[place], ticks, pass, watcher, task));
     }
 }
 
 // The first release of a task, whose pass then has the watcher.
 #[tactic(auto, using(crate::proofs::LiveClose::fresh_live))]
 fn first_runner<R: Wait, G: Gate>(
-    rt: &R,
-    executive: &Executive,
-    gate: &G,
-    places: &Places,
+    serving: &Serving<'_, R, G>,
     needs: Needs,
     ticks: u64,
     pass: TaskPass,
     watcher: Watcher,
     task: TaskNo,
 ) -> Runner
-    requires pass { IsFresh executive.now task.0 pass }
-    requires watcher { IsWatcherOf executive.now watcher }
-    requires needs { AreNeedsOf (task_at (floor_of executive.now).core.set task.0) needs }
-    ensures { IsRunner executive.now task.0 result }
+    requires pass { IsFresh serving.now.executive.now task.0 pass }
+    requires watcher { IsWatcherOf serving.now.executive.now watcher }
+    requires needs { AreNeedsOf (task_at (floor_of serving.now.executive.now).core.set task.0) needs }
+    ensures { IsRunner serving.now.executive.now task.0 result }
 {
-    let pass = release_first(rt, executive, gate, pass, task);
+    let pass = release_first(serving, pass, task);
     let next = u64::from(needs.period);
-    places.set_release(task, next);
+    serving.places.set_release(task, next);
     Runner {
         pass,
         watcher,

@@ -10,7 +10,7 @@ use crate::live_needs::Needs;
 use mc_task::TaskNo;
 use timetable::{Act, Floor};
 
-// Ticks until there are so many. Before each the tasks are released that may be.
+// Makes ticks until there are `ticks` of them. Before each one, every task that may release does.
 pub fn finish_live(floor: &mut Floor, needs: &[Needs], ticks: u64)
     requires live { IsLiveFloor floor.old }
     requires needs { AreNeeds floor.old.core.set needs.now × (length needs.now ≡ length floor.old.core.set) }

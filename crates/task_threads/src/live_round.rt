@@ -7,7 +7,7 @@ ghost use Rattle.task_threads.specs.LivePasses.{IsLivePass, IsRunner, AreNeedsOf
 
 use crate::live_needs::Needs;
 use crate::places::Places;
-use crate::worker::{Came, Worker};
+use crate::worker::{Came, Serving, Worker};
 use executive::{Executive, Gate, Taken, TaskPass};
 use mc_model::How;
 use mc_task::TaskNo;
@@ -22,7 +22,7 @@ pub struct Runner {
     pub pass: TaskPass,
     pub watcher: Watcher,
     pub needs: Needs,
-    // How many ticks there are to be.
+    // The ticks of the whole run.
     pub ticks: u64,
     // The boundary from which the task may release again.
     pub next: u64,
@@ -35,15 +35,8 @@ impl Worker for Runner {
         &self.pass
     }
 
-    // A watch; then, unless so many ticks have ended, a release where one is allowed, and a look with what is next.
-    fn round<R: Wait, G: Gate>(
-        self,
-        rt: &R,
-        executive: &Executive,
-        gate: &G,
-        places: &Places,
-        task: TaskNo,
-    ) -> (Runner, Came) {
+    // Watches; then, unless all ticks have ended, releases where that is allowed, looks, and does what is next.
+    fn round<R: Wait, G: Gate>(self, serving: &Serving<'_, R, G>, task: TaskNo) -> (Runner, Came) {
         let Runner {
             pass,
             mut watcher,
@@ -51,14 +44,14 @@ impl Worker for Runner {
             ticks,
             next,
         } = self;
-        let now = executive.watch(&mut watcher).ticks;
+        let now = serving.executive.watch(&mut watcher).ticks;
         let (pass, next, came) = if now < ticks {
-            act_at(rt, executive, gate, places, needs, pass, next, now, task)
+            act_at(serving, needs, pass, next, now, task)
         } else {
             (pass, next, Came::Finished)
         };
         if came == Came::Finished {
-            places.leave(task);
+            serving.places.leave(task);
         }
         let runner = Runner {
             pass,
@@ -71,28 +64,25 @@ impl Worker for Runner {
     }
 }
 
-// What a task does once so many ticks were seen to have ended. The pass comes back with the boundary of the next release.
+// What a task does once it saw that `now` ticks have ended. The pass comes back with the boundary of the next release.
 fn act_at<R: Wait, G: Gate>(
-    rt: &R,
-    executive: &Executive,
-    gate: &G,
-    places: &Places,
+    serving: &Serving<'_, R, G>,
     needs: Needs,
     pass: TaskPass,
     next: u64,
     now: u64,
     task: TaskNo,
 ) -> (TaskPass, u64, Came)
-    requires pass { IsLivePass executive.now task.0 pass }
-    requires needs { AreNeedsOf (task_at (floor_of executive.now).core.set task.0) needs }
-    ensures { IsLivePass executive.now task.0 result.0 }
+    requires pass { IsLivePass serving.now.executive.now task.0 pass }
+    requires needs { AreNeedsOf (task_at (floor_of serving.now.executive.now).core.set task.0) needs }
+    ensures { IsLivePass serving.now.executive.now task.0 result.0 }
 {
-    let (pass, next, release) = release_due(rt, executive, gate, needs, pass, next, now, task);
+    let (pass, next, release) = release_due(serving, needs, pass, next, now, task);
     if release == Came::Finished {
         return (pass, next, Came::Finished);
     }
-    places.set_release(task, next);
-    let (pass, came) = act(rt, executive, gate, places, needs, pass, now, task);
+    serving.places.set_release(task, next);
+    let (pass, came) = act(serving, needs, pass, now, task);
     // A task that released is the one that acted last, also where its tick was idle.
     if came == Came::Idled {
         (pass, next, came.max(release))
@@ -101,7 +91,7 @@ fn act_at<R: Wait, G: Gate>(
     }
 }
 
-// What came of an act after which the task has no job to go on with: it rests where another may release after so many ticks.
+// What came of an act after which the task has no job to go on with: it rests if another task may release after that many ticks.
 fn unless_due(places: &Places, task: TaskNo, ticks: u64, came: Came) -> Came {
     if places.wake_due(task, ticks) {
         Came::Waits
@@ -129,18 +119,16 @@ fn released<R: Wait>(
 
 // The first release of a task, of a pass that made no call.
 pub fn release_first<R: Wait, G: Gate>(
-    rt: &R,
-    executive: &Executive,
-    gate: &G,
+    serving: &Serving<'_, R, G>,
     pass: TaskPass,
     task: TaskNo,
 ) -> TaskPass
-    requires { IsLivePass executive.now task.0 pass }
-    ensures { IsLivePass executive.now task.0 result }
+    requires { IsLivePass serving.now.executive.now task.0 pass }
+    ensures { IsLivePass serving.now.executive.now task.0 result }
 {
-    let (pass, answer) = released(rt, executive, pass, task);
+    let (pass, answer) = released(serving.rt, serving.executive, pass, task);
     if answer.is_ok() {
-        gate.released(task.0, &pass);
+        serving.gate.released(task.0, &pass);
     }
     pass
 }
@@ -174,52 +162,48 @@ fn idled<R: Wait>(
 
 // A tick of the task, whose step runs outside the turns. Its job is done where its need is met.
 fn ticked<R: Wait, G: Gate>(
-    rt: &R,
-    executive: &Executive,
-    gate: &G,
+    serving: &Serving<'_, R, G>,
     needs: Needs,
     pass: TaskPass,
     task: TaskNo,
 ) -> (TaskPass, Result<How, ActFault<GrantFault>>)
-    requires pass { IsLivePass executive.now task.0 pass }
-    requires needs { AreNeedsOf (task_at (floor_of executive.now).core.set task.0) needs }
-    ensures { IsLivePass executive.now task.0 result.0 }
+    requires pass { IsLivePass serving.now.executive.now task.0 pass }
+    requires needs { AreNeedsOf (task_at (floor_of serving.now.executive.now).core.set task.0) needs }
+    ensures { IsLivePass serving.now.executive.now task.0 result.0 }
 {
-    match executive.take(rt, pass) {
+    match serving.executive.take(serving.rt, pass) {
         Taken::Given(grant) => {
             let granted = grant.granted();
-            gate.step(task.0, &grant);
+            serving.gate.step(task.0, &grant);
             let need = needs.of_count(granted.job.count);
             let done = u64::from(granted.before) + 1 == u64::from(need);
-            let (pass, how) = executive.outcome(rt, grant, done);
+            let (pass, how) = serving.executive.outcome(serving.rt, grant, done);
             (pass, Ok(how))
         }
         Taken::NotNow(pass, fault) => (pass, Err(fault)),
     }
 }
 
-// Releases the task again, where so many ticks allow it. The pass comes back with the boundary of the next release.
+// Releases the task again, if it may after `now` ticks. The pass comes back with the boundary of the next release.
 fn release_due<R: Wait, G: Gate>(
-    rt: &R,
-    executive: &Executive,
-    gate: &G,
+    serving: &Serving<'_, R, G>,
     needs: Needs,
     pass: TaskPass,
     next: u64,
     now: u64,
     task: TaskNo,
 ) -> (TaskPass, u64, Came)
-    requires { IsLivePass executive.now task.0 pass }
-    ensures { IsLivePass executive.now task.0 result.0 }
+    requires { IsLivePass serving.now.executive.now task.0 pass }
+    ensures { IsLivePass serving.now.executive.now task.0 result.0 }
 {
     if now < next {
         return (pass, next, Came::Waits);
     }
-    let (pass, answer) = released(rt, executive, pass, task);
+    let (pass, answer) = released(serving.rt, serving.executive, pass, task);
     match answer {
         Ok(Released::Kept { at, .. } | Released::Dropped { at, .. } | Released::Held { at, .. }) =>
             {
-                gate.released(task.0, &pass);
+                serving.gate.released(task.0, &pass);
                 let next = at.saturating_add(u64::from(needs.period));
                 (pass, next, Came::Acted)
             }
@@ -233,31 +217,28 @@ fn release_due<R: Wait, G: Gate>(
 
 // Looks once, and does what is next, if it is the task's or an idle tick. If it is another task's, that one is woken.
 fn act<R: Wait, G: Gate>(
-    rt: &R,
-    executive: &Executive,
-    gate: &G,
-    places: &Places,
+    serving: &Serving<'_, R, G>,
     needs: Needs,
     pass: TaskPass,
     now: u64,
     task: TaskNo,
 ) -> (TaskPass, Came)
-    requires pass { IsLivePass executive.now task.0 pass }
-    requires needs { AreNeedsOf (task_at (floor_of executive.now).core.set task.0) needs }
-    ensures { IsLivePass executive.now task.0 result.0 }
+    requires pass { IsLivePass serving.now.executive.now task.0 pass }
+    requires needs { AreNeedsOf (task_at (floor_of serving.now.executive.now).core.set task.0) needs }
+    ensures { IsLivePass serving.now.executive.now task.0 result.0 }
 {
-    let (pass, next) = looked(rt, executive, pass, task);
+    let (pass, next) = looked(serving.rt, serving.executive, pass, task);
     match next {
         Act::Grant(chosen) if chosen == task => {
-            let (pass, answer) = ticked(rt, executive, gate, needs, pass, task);
-            (pass, came_of_tick(places, task, now, answer))
+            let (pass, answer) = ticked(serving, needs, pass, task);
+            (pass, came_of_tick(serving.places, task, now, answer))
         }
         Act::Idle => {
-            let (pass, answer) = idled(rt, executive, pass, task);
-            (pass, came_of_idle(places, task, answer))
+            let (pass, answer) = idled(serving.rt, serving.executive, pass, task);
+            (pass, came_of_idle(serving.places, task, answer))
         }
         Act::Grant(other) | Act::Release(other) => {
-            places.wake(other);
+            serving.places.wake(other);
             (pass, Came::Waits)
         }
         Act::Wait(_) | Act::Finished => (pass, Came::Waits),

@@ -10,13 +10,13 @@ use std::time::Duration;
 // The longest pause of a thread that nobody woke, in milliseconds.
 const LONGEST: u32 = 1000;
 
-// In place of the boundary of a release: there is none to wait for.
+// Stands for `next_release` where no release is due.
 const NEVER: u64 = u64::MAX;
 
-// Or the task was woken for it, and has not released yet.
+// Stands for `next_release` of a task that was woken for its release and has not made it yet.
 const AWAITED: u64 = u64::MAX - 1;
 
-// Where one thread rests: a parker, and whether the thread was called, which `park_timeout` does not tell.
+// Where one thread rests: a parker, and whether the thread was called, which `park_timeout` does not return.
 #[derive(Drop)]
 struct Spot {
     parker: Parker,
@@ -36,7 +36,7 @@ impl Spot {
         self.parker.unpark();
     }
 
-    // Rests until it is called, for so many milliseconds at most. Whether it was called.
+    // Rests until it is called, for `millis` milliseconds at most. Whether it was called.
     fn rest<R: Wait>(&self, rt: &R, millis: u32) -> bool {
         self.parker
             .park_timeout(rt, Duration::from_millis(u64::from(millis)));
@@ -67,7 +67,7 @@ pub struct Places {
 }
 
 impl Places {
-    // Places for so many tasks.
+    // A place for each of `tasks` tasks.
     pub fn new(alloc: Global, tasks: u32) -> Result<Places, AllocError> {
         let mut places = Vec::with_capacity(alloc, tasks as usize)?;
         for task in 1..=tasks {
@@ -126,8 +126,8 @@ impl Places {
         }
     }
 
-    // Wakes the first other task that may release after so many ticks. Whether there is one, or one that was woken for that and
-    // has not released yet. It looks at all places only where the soonest boundary has come.
+    // Wakes the first other task that may release after `ticks` ticks. Whether there is one, or one that was woken for that and
+    // has not released yet. It looks at all places only if the soonest boundary has come.
     pub fn wake_due(&self, task: TaskNo, ticks: u64) -> bool {
         self.soonest.load(SeqCst) <= ticks && self.wake_first_due(task, ticks)
     }
@@ -183,7 +183,8 @@ impl Places {
         self.rest_while_acting(rt, self.spot(task), pause)
     }
 
-    // The same of the caller, which is woken in the name of each task that it serves.
+    // Rests, as the caller, until a task that it serves is woken, or for a pause in which no act was done; the answer is the next
+    // pause.
     pub fn rest_of_caller<R: Wait>(&self, rt: &R, pause: u32) -> u32 {
         self.rest_while_acting(rt, &self.caller, pause)
     }

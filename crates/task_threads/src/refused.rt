@@ -2,29 +2,25 @@
 ghost use Rattle.std.specs.Prelude.{◌≡◌, ◌≤◌, vec_len};
 ghost use Rattle.task_threads.specs.Starts.{IsStartOf, GoDown};
 
-use crate::places::Places;
 use crate::starts::Start;
-use crate::worker::{Came, Worker};
-use executive::{Executive, Gate};
+use crate::worker::{Came, Serving, Worker};
+use executive::Gate;
 use mc_task::TaskNo;
 use std::sync::Wait;
 
 // Serves the workers that are here until each has left.
 pub fn serve_refused<T: Worker + Drop, R: Wait, G: Gate>(
-    rt: &R,
-    executive: &Executive,
-    gate: &G,
-    places: &Places,
+    serving: &Serving<'_, R, G>,
     starts: &mut Vec<Start<T>>,
 )
-    requires { GoDown T.is_of executive.now (vec_len starts.old) starts.old.items × (vec_len starts.old ≤ 128) }
-    ensures { (vec_len starts.new ≡ vec_len starts.old) × GoDown T.is_of executive.now (vec_len starts.old) starts.new.items }
+    requires { GoDown T.is_of serving.now.executive.now (vec_len starts.old) starts.old.items × (vec_len starts.old ≤ 128) }
+    ensures { (vec_len starts.new ≡ vec_len starts.old) × GoDown T.is_of serving.now.executive.now (vec_len starts.old) starts.new.items }
 {
     let mut pause = 1;
-    for _ in rt.forever() {
-        match serve_each(rt, executive, gate, places, starts) {
+    for _ in serving.rt.forever() {
+        match serve_each(serving, starts) {
             Came::Acted | Came::Idled => {}
-            Came::Waits => pause = places.rest_of_caller(rt, pause),
+            Came::Waits => pause = serving.places.rest_of_caller(serving.rt, pause),
             Came::Finished => return,
         }
     }
@@ -33,20 +29,17 @@ pub fn serve_refused<T: Worker + Drop, R: Wait, G: Gate>(
 
 // A round of each worker that is here. The liveliest that came of one is the answer.
 fn serve_each<T: Worker + Drop, R: Wait, G: Gate>(
-    rt: &R,
-    executive: &Executive,
-    gate: &G,
-    places: &Places,
+    serving: &Serving<'_, R, G>,
     starts: &mut Vec<Start<T>>,
 ) -> Came
-    requires { GoDown T.is_of executive.now (vec_len starts.old) starts.old.items × (vec_len starts.old ≤ 128) }
-    ensures { (vec_len starts.new ≡ vec_len starts.old) × GoDown T.is_of executive.now (vec_len starts.old) starts.new.items }
+    requires { GoDown T.is_of serving.now.executive.now (vec_len starts.old) starts.old.items × (vec_len starts.old ≤ 128) }
+    ensures { (vec_len starts.new ≡ vec_len starts.old) × GoDown T.is_of serving.now.executive.now (vec_len starts.old) starts.new.items }
 {
     let mut came = Came::Finished;
     let tasks = starts.len();
     for place in 0..tasks {
         let task = TaskNo((tasks - place) as u32);
-        let next = serve_one(rt, executive, gate, places, &mut starts[place], task);
+        let next = serve_one(serving, &mut starts[place], task);
         came = came.max(next);
     }
     came
@@ -54,15 +47,12 @@ fn serve_each<T: Worker + Drop, R: Wait, G: Gate>(
 
 // A round of a worker, if it is here and has not left.
 fn serve_one<T: Worker + Drop, R: Wait, G: Gate>(
-    rt: &R,
-    executive: &Executive,
-    gate: &G,
-    places: &Places,
+    serving: &Serving<'_, R, G>,
     start: &mut Start<T>,
     task: TaskNo,
 ) -> Came
-    requires { IsStartOf T.is_of executive.now task.0 start.old }
-    ensures { IsStartOf T.is_of executive.now task.0 start.new }
+    requires { IsStartOf T.is_of serving.now.executive.now task.0 start.old }
+    ensures { IsStartOf T.is_of serving.now.executive.now task.0 start.new }
 {
     if start.has_left {
         return Came::Finished;
@@ -70,7 +60,7 @@ fn serve_one<T: Worker + Drop, R: Wait, G: Gate>(
     let Some(worker) = start.worker.take() else {
         return Came::Finished;
     };
-    let (worker, came) = worker.round(rt, executive, gate, places, task);
+    let (worker, came) = worker.round(serving, task);
     start.worker = Some(worker);
     start.has_left = came == Came::Finished;
     came

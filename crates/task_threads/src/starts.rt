@@ -3,9 +3,8 @@ ghost use Rattle.std.specs.Prelude.{◌≡◌, ◌+◌, ◌<◌, ◌≤◌, ◌^
 ghost use Rattle.task_threads.specs.Starts.{IsStartOf, GoDown};
 ghost use Rattle.task_threads.specs.Workers.{AreInOrder};
 
-use crate::places::Places;
 use crate::refused::serve_refused;
-use crate::worker::{Worker, work};
+use crate::worker::{Serving, Worker, work};
 use executive::{Executive, Gate};
 use mc_task::TaskNo;
 use std::snapshot::Snapshot;
@@ -35,37 +34,26 @@ pub struct Start<T: Worker> {
 
 // A thread for each worker, until nothing is left to do. The workers come back in their order.
 pub fn in_threads<'s, T: Worker + Send + Drop + 's, R: Threads + Wait + Sync, G: Gate + Sync>(
-    rt: &'s R,
-    executive: &'s Executive,
-    gate: &'s G,
-    places: &'s Places,
+    serving: &'s Serving<'s, R, G>,
     workers: Vec<T>,
     starts: Vec<Start<T>>,
 ) -> Vec<T>
-    requires workers { AreInOrder T.is_of executive.now workers.items × (vec_len workers ≤ 128) }
+    requires workers { AreInOrder T.is_of serving.now.executive.now workers.items × (vec_len workers ≤ 128) }
     requires starts { (starts.items ≡ []) × (vec_len workers ≤ vec_capacity starts) }
-    ensures { (vec_len result ≡ vec_len workers) × AreInOrder T.is_of executive.now result.items }
+    ensures { (vec_len result ≡ vec_len workers) × AreInOrder T.is_of serving.now.executive.now result.items }
 {
     thread::scope(
         thread::scope_env(),
-        rt,
+        serving.rt,
         move |scope| -> Vec<T>
-            requires { AreInOrder T.is_of executive.now workers.items × (vec_len workers ≤ 128) × (starts.items ≡ []) × (vec_len workers ≤ vec_capacity starts) }
-            ensures { (vec_len result ≡ vec_len workers) × AreInOrder T.is_of executive.entry.now result.items }
+            requires { AreInOrder T.is_of serving.now.executive.now workers.items × (vec_len workers ≤ 128) × (starts.items ≡ []) × (vec_len workers ≤ vec_capacity starts) }
+            ensures { (vec_len result ≡ vec_len workers) × AreInOrder T.is_of serving.entry.now.executive.now result.items }
         {
             let mut starts = starts;
             let mut workers = workers;
-            start_all(
-                rt,
-                scope,
-                executive,
-                gate,
-                places,
-                &mut workers,
-                &mut starts,
-            );
-            serve_refused(rt, executive, gate, places, &mut starts);
-            join_all(rt, executive, &mut starts, &mut workers);
+            start_all(scope, serving, &mut workers, &mut starts);
+            serve_refused(serving, &mut starts);
+            join_all(serving.rt, serving.executive, &mut starts, &mut workers);
             workers
         },
     )
@@ -74,23 +62,20 @@ pub fn in_threads<'s, T: Worker + Send + Drop + 's, R: Threads + Wait + Sync, G:
 // Starts a thread for the worker. Where none can be made, that is marked, and what it would have done is done here: it gives
 // the worker back.
 fn start_one<'s, E, T: Worker + Send + Drop + 's, R: Threads + Wait + Sync, G: Gate + Sync>(
-    rt: &'s R,
     scope: &Scope<'s, E>,
-    executive: &'s Executive,
-    gate: &'s G,
-    places: &'s Places,
+    serving: &'s Serving<'s, R, G>,
     worker: T,
     task: TaskNo,
 ) -> Start<T>
-    requires { T.is_of executive.now task.0 worker }
-    ensures { IsStartOf T.is_of executive.entry.now task.0 result }
+    requires { T.is_of serving.now.executive.now task.0 worker }
+    ensures { IsStartOf T.is_of serving.entry.now.executive.now task.0 result }
 {
     let work = move || -> T
-        requires { T.is_of executive.now task.0 worker }
-        ensures { T.is_of executive.entry.now task.0 result }
-    { work(rt, executive, gate, places, worker, task) };
+        requires { T.is_of serving.now.executive.now task.0 worker }
+        ensures { T.is_of serving.entry.now.executive.now task.0 result }
+    { work(serving, worker, task) };
     let back = ComesBack {
-        executive: Snapshot::of(executive),
+        executive: Snapshot::of(serving.executive),
         task,
     };
     match scope.spawn_with(back, work) {
@@ -100,7 +85,7 @@ fn start_one<'s, E, T: Worker + Send + Drop + 's, R: Threads + Wait + Sync, G: G
             has_left: false,
         },
         Err(refused) => {
-            places.refuse(task);
+            serving.places.refuse(task);
             kept_here((refused.value)())
         }
     }
@@ -142,22 +127,19 @@ fn join_one<T: Worker + Drop, R: Threads>(
 
 // Starts a thread for each worker, the last one first.
 fn start_all<'s, E, T: Worker + Send + Drop + 's, R: Threads + Wait + Sync, G: Gate + Sync>(
-    rt: &'s R,
     scope: &Scope<'s, E>,
-    executive: &'s Executive,
-    gate: &'s G,
-    places: &'s Places,
+    serving: &'s Serving<'s, R, G>,
     workers: &mut Vec<T>,
     starts: &mut Vec<Start<T>>,
 )
-    requires workers { AreInOrder T.is_of executive.now workers.old.items × (vec_len workers.old ≤ 128) }
+    requires workers { AreInOrder T.is_of serving.now.executive.now workers.old.items × (vec_len workers.old ≤ 128) }
     requires starts { (starts.old.items ≡ []) × (vec_len workers.old ≤ vec_capacity starts.old) }
     ensures workers { (workers.new.items ≡ []) × (vec_capacity workers.new ≡ vec_capacity workers.old) }
-    ensures starts { (vec_len starts.new ≡ vec_len workers.old) × GoDown T.is_of executive.now (vec_len workers.old) starts.new.items }
+    ensures starts { (vec_len starts.new ≡ vec_len workers.old) × GoDown T.is_of serving.now.executive.now (vec_len workers.old) starts.new.items }
 {
     while let Some(worker) = workers.pop() {
         let task = TaskNo(workers.len() as u32 + 1);
-        starts.push_reserved(start_one(rt, scope, executive, gate, places, worker, task));
+        starts.push_reserved(start_one(scope, serving, worker, task));
     }
 }
 

@@ -10,6 +10,7 @@ ghost use Rattle.executive.specs.Stands.{opening_of};
 
 use crate::places::Places;
 use crate::starts::in_threads;
+use crate::worker::Serving;
 use executive::{Executive, Gate, NoMemory};
 use std::alloc::{AllocError, Global};
 use std::sync::Wait;
@@ -32,11 +33,11 @@ impl From<NoMemory> for Memory {
     }
 }
 
-/// Runs the plan of a floor with no rows and no tick out, in a thread for each task, and tells the gate of it.
+/// Runs the plan of a floor with no rows and no tick out, in a thread for each task, and calls the gate on the way.
 ///
 /// The rows are then those of the one trace that the set, the rule, the work and the ticks determine, however the threads
 /// interleave, and no job is late in them (Baruah et al., ECRTS 2012). It may wait, and nothing is said of how long.
-#[tactic(auto, using(crate::proofs::OneTrace::at_most_one, crate::proofs::InOrder::from_fresh))]
+#[tactic(auto, using(crate::proofs::OneTrace::at_most_one))]
 pub fn run_threads<R: Threads + Wait + Sync, G: Gate + Sync>(
     rt: &R,
     alloc: Global,
@@ -59,16 +60,37 @@ pub fn run_threads<R: Threads + Wait + Sync, G: Gate + Sync>(
     ensures same { IfOk result (λ f. opening_of f ≡ floor) }
     ensures none_out { IfOk result (λ f. f.core.out ≡ None) }
 {
+    let mut floor = serve_all(rt, alloc, floor, gate)?;
+    floor.finish();
+    Ok(floor)
+}
+
+// Serves the floor in a thread for each task, until none has anything left to do.
+#[tactic(auto, using(crate::proofs::InOrder::from_fresh))]
+fn serve_all<R: Threads + Wait + Sync, G: Gate + Sync>(
+    rt: &R,
+    alloc: Global,
+    floor: Floor,
+    gate: &G,
+) -> Result<Floor, Memory>
+    requires rows { floor.core.rows ≡ [] }
+    requires out { floor.core.out ≡ None }
+    ensures same { IfOk result (λ f. opening_of f ≡ floor) }
+    ensures none_out { IfOk result (λ f. f.core.out ≡ None) }
+{
     let tasks = floor.core().set().len();
     let places = Places::new(alloc, tasks)?;
     let starts = Vec::with_capacity(alloc, tasks as usize)?;
     let (executive, passes) = Executive::new(rt, alloc, floor)?;
-    let passes = in_threads(rt, &executive, gate, &places, passes, starts);
+    let serving = Serving {
+        rt,
+        executive: &executive,
+        gate,
+        places: &places,
+    };
+    let passes = in_threads(&serving, passes, starts);
     match executive.close(rt, passes) {
-        Ok(mut floor) => {
-            floor.finish();
-            Ok(floor)
-        }
+        Ok(floor) => Ok(floor),
         Err(_unclosed) => unreachable!(),
     }
 }

@@ -20,25 +20,27 @@ pub enum Came {
     Acted,
 }
 
+/// What each thread of a run works with: the executive, the gate that is called, and the places where the tasks wait.
+#[derive(Drop)]
+pub struct Serving<'a, R, G> {
+    pub rt: &'a R,
+    pub executive: &'a Executive,
+    pub gate: &'a G,
+    pub places: &'a Places,
+}
+
 /// The pass of a task, with what its thread needs to serve it.
 pub trait Worker: Sized {
-    /// It is one of this executive, and of the task with this number.
+    /// The worker is one of this executive, and of the task with this number.
     ghost is_of: { Executive → ℕ → Self → Type 0 };
 
     /// Its pass.
     fn pass(&self) -> &TaskPass;
 
     /// One round. If another task is next, whoever serves that one is woken.
-    fn round<R: Wait, G: Gate>(
-        self,
-        rt: &R,
-        executive: &Executive,
-        gate: &G,
-        places: &Places,
-        task: TaskNo,
-    ) -> (Self, Came)
-        requires { is_of executive.now task.0 self }
-        ensures { is_of executive.now task.0 result.0 };
+    fn round<R: Wait, G: Gate>(self, serving: &Serving<'_, R, G>, task: TaskNo) -> (Self, Came)
+        requires { is_of serving.now.executive.now task.0 self }
+        ensures { is_of serving.now.executive.now task.0 result.0 };
 }
 
 // Serves the task until nothing is left to do. A task for which no thread could be made comes back unserved.
@@ -46,36 +48,29 @@ pub trait Worker: Sized {
 // The thread that acted last leads: it goes on while the ticks are idle, and rests once another task is next. The others rest
 // after one act, or they would all take their turns for the idle ticks. All but the first rest before their first look, and
 // none looks unwoken while others act: a look takes a turn.
-pub fn work<T: Worker, R: Wait, G: Gate>(
-    rt: &R,
-    executive: &Executive,
-    gate: &G,
-    places: &Places,
-    worker: T,
-    task: TaskNo,
-) -> T
-    requires { T.is_of executive.now task.0 worker }
-    ensures { T.is_of executive.now task.0 result }
+pub fn work<T: Worker, R: Wait, G: Gate>(serving: &Serving<'_, R, G>, worker: T, task: TaskNo) -> T
+    requires { T.is_of serving.now.executive.now task.0 worker }
+    ensures { T.is_of serving.now.executive.now task.0 result }
 {
-    if places.is_refused(task) {
+    if serving.places.is_refused(task) {
         return worker;
     }
-    gate.enter(task.0, worker.pass());
+    serving.gate.enter(task.0, worker.pass());
     let mut worker = worker;
     let mut leads = task.0 == 1;
     let mut pause = task.0;
     if !leads {
-        pause = places.rest(rt, task, pause);
+        pause = serving.places.rest(serving.rt, task, pause);
     }
-    for _ in rt.forever() {
-        let (back, came) = worker.round(rt, executive, gate, places, task);
+    for _ in serving.rt.forever() {
+        let (back, came) = worker.round(serving, task);
         worker = back;
         match came {
             Came::Acted => leads = true,
             Came::Idled if leads => {}
             Came::Idled | Came::Waits => {
                 leads = false;
-                pause = places.rest(rt, task, pause);
+                pause = serving.places.rest(serving.rt, task, pause);
             }
             Came::Finished => return worker,
         }

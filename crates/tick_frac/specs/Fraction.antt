@@ -11,7 +11,7 @@ pub record Fraction : Type 0 where
 unfoldable pub lowest : ℕ → ℕ → Fraction
 lowest num den = record { num = num / gcd num den; den = den / gcd num den }
 
--- the denominator is above 0, and nothing but 1 divides both
+-- a fraction in lowest terms: its denominator is above 0, and only 1 divides both numbers
 pub record IsLowest (f : Fraction) : Type 0 where
   pub den : 0 < f.den
   pub coprime : gcd f.num f.den ≡ 1

@@ -3,7 +3,7 @@
 use Rattle.std.specs.Prelude.{ℕ, zero, suc, ◌*◌, ◌/◌, ◌%◌}
 use Prim.Native.Nat.{◌∣◌}
 
--- Euclid's steps, of which n are enough where n is above b
+-- the greatest common divisor by at most n of Euclid's steps, which are enough where n is above b
 unfoldable pub gcd_steps : ℕ → ℕ → ℕ → ℕ
 gcd_steps zero a b = a
 gcd_steps (suc n) a zero = a

@@ -19,7 +19,7 @@ use Rattle.mode_core.specs.Shape.{IsSound}
 use Rattle.mode_core.proofs.CallerLemmas.{none_pending, release_legal, idle_legal, tick_legal}
 use Rattle.timetable.specs.Ticks.{is_last, tick_row}
 use Rattle.timetable.specs.Plans.{IsTheTrace, Keeps, settled_by}
-use Rattle.timetable.specs.Shape.{first_job, row_now, next_row, Runs, IsRun}
+use Rattle.timetable.specs.Shape.{first_job, row_now, next_row, Runs, KeepsToWork}
 use Rattle.timetable.proofs.Determined.{next_at, one_follows}
 use Rattle.timetable.proofs.RunsFollow.{runs_follow}
 use Rattle.timetable.proofs.Due.{due_allowed, need_at, length-rows, taken-few}
@@ -82,7 +82,7 @@ to_end set rule work n (suc left) g s w l r e = elim (cases_Bool (nat_le n (tick
 ]
 
 -- a core that runs by its plan keeps to it
-pub keeps_plan : (s : State) (work : List WorkRow) (n taken : ℕ) → IsSound s → IsRun s work n taken → Keeps work n taken s
+pub keeps_plan : (s : State) (work : List WorkRow) (n taken : ℕ) → IsSound s → KeepsToWork s work n taken → Keeps work n taken s
 keeps_plan s work n taken sound r =
     let legal : Legal s.set s.rule (settled_by work s) = sound.good.settled (is_last work s.rows (job_in s.out)) in
     let x : ToEnd s.set s.rule work n (settled_by work s) = to_end s.set s.rule work n (n + length work) (settled_by work s) sound.tasks.each r.schedule.is_work legal r.runs (omega arith) in

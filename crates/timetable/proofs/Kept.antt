@@ -30,7 +30,7 @@ use Rattle.timetable.specs.Floor.{is_planned, due_at, ends_at, done_by, not_due}
 use Rattle.timetable.specs.Needs.{Tracks, latest_need}
 use Rattle.timetable.specs.Plans.{IsPlanFor, IsOnPlan}
 use Rattle.timetable.specs.Ticks.{is_last}
-use Rattle.timetable.specs.Shape.{IsRun, IsTold, IsKept, IsKeptBy}
+use Rattle.timetable.specs.Shape.{KeepsToWork, IsTold, IsKept, IsKeptBy}
 use Rattle.timetable.proofs.Calls.{not_full}
 use Rattle.timetable.proofs.Steps.{IsDueRow, due_is, MayTake, may_take, IsTickTime, within, room_for, run_grant, run_idle}
 use Rattle.timetable.proofs.Latest.{told_by_need}
@@ -77,7 +77,7 @@ due_of work n taken t k e = go (due_at (Rows work n) taken t) refl e
     go (Some w) m r = record { row = w; found = m; due = due_is work n taken t w m; task = eqb-true _ _ (not-false _ (not_if _ _ r)) }
 
 -- the due release may come
-may_of : (s : State) (work : List WorkRow) (n taken k : ℕ) → IsSound s → IsRun s work n taken → IsDueOf work n taken (begun s) k → MayTake s work n taken k
+may_of : (s : State) (work : List WorkRow) (n taken k : ℕ) → IsSound s → KeepsToWork s work n taken → IsDueOf work n taken (begun s) k → MayTake s work n taken k
 may_of s work n taken k sound r d = subst (MayTake s work n taken) d.task (may_take s work n taken d.row sound r d.due)
 
 -- a release leaves what is told of the tick that is out
@@ -130,7 +130,7 @@ abbrev pub refused : Plan → ℕ → ℕ → Option PlanFault
 refused plan taken t = option_or (option_map (λ (w : WorkRow). plan_fault.Due w.task) (due_at plan taken t)) (refused_if (ends_at plan t) plan_fault.Finished)
 
 -- it is time for one where the plan refuses nothing
-tick_time : (s : State) (work : List WorkRow) (n taken : ℕ) → IsSound s → IsRun s work n taken → refused (Rows work n) taken (begun s) ≡ None → IsTickTime s work n taken
+tick_time : (s : State) (work : List WorkRow) (n taken : ℕ) → IsSound s → KeepsToWork s work n taken → refused (Rows work n) taken (begun s) ≡ None → IsTickTime s work n taken
 tick_time s work n taken sound r e =
     let p = neither _ _ e in
     let none : due_at (Rows work n) taken (begun s) ≡ None = no_map _ _ p.0 in

@@ -31,7 +31,7 @@ use Rattle.mode_core.specs.Shape.{IsSound}
 use Rattle.mode_core.proofs.CallerLemmas.{chooses}
 use Rattle.timetable.specs.Needs.{rows_of, latest_need}
 use Rattle.timetable.specs.Ticks.{is_last}
-use Rattle.timetable.specs.Shape.{Runs, IsRun}
+use Rattle.timetable.specs.Shape.{Runs, KeepsToWork}
 use Rattle.timetable.proofs.RunsFollow.{added, arrival, release_rows}
 use Rattle.timetable.proofs.Due.{arrival_of, due_before, due_index}
 use Rattle.timetable.proofs.NeedsLemmas.{rows-none, rows-more}
@@ -120,7 +120,7 @@ taken_rows set rule work n (Release j kept ∷ g) k w r =
 taken_rows set rule work n (row ∷ g) k w r = taken_rows set rule work n g k w r.1
 
 -- whether the next tick of the chosen job is its last, by the need that is kept of its task
-pub told_by_need : (s : State) (work : List WorkRow) (n taken : ℕ) (j : JobId) → IsSound s → IsRun s work n taken → s.out ≡ None → chosen_now s ≡ Some j → (used s.rows j + 1 == latest_need work taken j.task.0) ≡ is_last work s.rows j
+pub told_by_need : (s : State) (work : List WorkRow) (n taken : ℕ) (j : JobId) → IsSound s → KeepsToWork s work n taken → s.out ≡ None → chosen_now s ≡ Some j → (used s.rows j + 1 == latest_need work taken j.task.0) ≡ is_last work s.rows j
 told_by_need s work n taken j sound r o e =
     let rows = settled_none work s o in
     let taken_are : taken ≡ length (arrivals s.rows) = r.taken_are ∙ ap (λ (g : List Row). length (arrivals g)) rows in

@@ -24,7 +24,7 @@ use Rattle.timetable.specs.declared.acts.Act.{Act}
 use Rattle.timetable.specs.declared.acts.Act.TheVariants as act
 use Rattle.timetable.specs.Floor.{FloorState, is_planned, due, due_at, ends_at, is_finished, done_by, not_due, of_core, releasing, tick_refusal, grant_answer, after_grant, after_outcome, after_release, release_act, tick_act, act_or, next_act}
 use Rattle.timetable.specs.Plans.{IsTheTrace, IsTraceOfPlan, HasTaken, settled_by}
-use Rattle.timetable.specs.Shape.{first_job, Runs, IsRun, IsRunBy, AddsRow}
+use Rattle.timetable.specs.Shape.{first_job, Runs, KeepsToWork, KeepsToPlan, AddsRow}
 use Rattle.timetable.proofs.Calls.{given_before, given, released}
 use Rattle.timetable.proofs.Due.{need_at}
 use Rattle.timetable.proofs.Steps.{IsDueRow, due_is, MayTake, may_take, settled_none, room_for, within}
@@ -94,7 +94,7 @@ begun_none : (s : State) → s.out ≡ None → begun s ≡ ticks s.rows
 begun_none s o = omega (arith, ap tick_out o)
 
 -- what is begun of a plan that is not finished
-soon : (s : State) (work : List WorkRow) (n taken : ℕ) → IsSound s → IsRun s work n taken → ends_at (Rows work n) (begun s) ≡ false → begun s < n
+soon : (s : State) (work : List WorkRow) (n taken : ℕ) → IsSound s → KeepsToWork s work n taken → ends_at (Rows work n) (begun s) ≡ false → begun s < n
 soon s work n taken sound r e = omega (arith, within s work n taken sound r, eqb-false (begun s) n e)
 
 -- the release
@@ -104,7 +104,7 @@ pub record ReleaseAdds (f : FloorState) (k : ℕ) : Type 0 where
   pub inside : IsIn f.core.set k
   pub adds : AddsRow f (after_release f k)
 
-pub release_adds : (s : State) (plan : Plan) (taken : ℕ) (k : TaskNo) → is_planned plan ≡ true → s.out ≡ None → is_finished (floor s plan taken) ≡ false → IsSound s → IsRunBy plan s taken → next_act (floor s plan taken) ≡ act.Release k → ReleaseAdds (floor s plan taken) k.0
+pub release_adds : (s : State) (plan : Plan) (taken : ℕ) (k : TaskNo) → is_planned plan ≡ true → s.out ≡ None → is_finished (floor s plan taken) ≡ false → IsSound s → KeepsToPlan plan s taken → next_act (floor s plan taken) ≡ act.Release k → ReleaseAdds (floor s plan taken) k.0
 release_adds s Free taken k p o f sound run e = cc
 release_adds s (Rows work n) taken k p o f sound run e = record {
   inside = subst (λ (i : TaskNo). IsIn s.set i.0) is.task need.task;
@@ -152,7 +152,7 @@ pub record GrantAdds (f : FloorState) (k : ℕ) : Type 0 where
   pub inside : IsIn f.core.set k
   pub given : (x : Granted) (told : Bool) → grant_answer f k ≡ Ok x → AddsRow f (after_outcome (after_grant f k) x.job told)
 
-pub grant_adds : (s : State) (plan : Plan) (taken : ℕ) (k : TaskNo) → is_planned plan ≡ true → s.out ≡ None → is_finished (floor s plan taken) ≡ false → IsSound s → IsRunBy plan s taken → next_act (floor s plan taken) ≡ act.Grant k → GrantAdds (floor s plan taken) k.0
+pub grant_adds : (s : State) (plan : Plan) (taken : ℕ) (k : TaskNo) → is_planned plan ≡ true → s.out ≡ None → is_finished (floor s plan taken) ≡ false → IsSound s → KeepsToPlan plan s taken → next_act (floor s plan taken) ≡ act.Grant k → GrantAdds (floor s plan taken) k.0
 grant_adds s Free taken k p o f sound run e = cc
 grant_adds s (Rows work n) taken k p o f sound run e = record {
   inside = subst (λ (i : TaskNo). IsIn s.set i.0) g.task (chooses s.set s.rule s.rows g.job sound.tasks.each sound.good.legal g.chosen).inside;
@@ -196,7 +196,7 @@ pub record IsEnded (f : FloorState) : Type 0 where
   pub taken : HasTaken f.plan f.taken
   pub next : next_act f ≡ act.Finished
 
-pub ended : (s : State) (plan : Plan) (taken : ℕ) → is_planned plan ≡ true → s.out ≡ None → is_finished (floor s plan taken) ≡ true → IsSound s → IsRunBy plan s taken → IsEnded (floor s plan taken)
+pub ended : (s : State) (plan : Plan) (taken : ℕ) → is_planned plan ≡ true → s.out ≡ None → is_finished (floor s plan taken) ≡ true → IsSound s → KeepsToPlan plan s taken → IsEnded (floor s plan taken)
 ended s Free taken p o f sound run = cc
 ended s (Rows work n) taken p o f sound run = record { trace = trace; taken = all; next = next }
   where

@@ -18,7 +18,7 @@ use Rattle.timetable.specs.declared.plan.Plan.TheVariants.{Rows}
 use Rattle.timetable.specs.Ticks.{is_last, tick_row}
 use Rattle.timetable.specs.Floor.{due_row, due_at}
 use Rattle.timetable.specs.Plans.{settled_by}
-use Rattle.timetable.specs.Shape.{first_job, next_row, Runs, IsRun}
+use Rattle.timetable.specs.Shape.{first_job, next_row, Runs, KeepsToWork}
 use Rattle.timetable.proofs.Due.{arrival_of, due_allowed, length-rows, taken-few}
 use Rattle.timetable.proofs.RunsFollow.{Rest, rest_of}
 use Rattle.timetable.proofs.Calls.{due_planned, release_row_next, tick_row_next}
@@ -37,13 +37,13 @@ read_off work s sound =
     record { ticks = w.ticks; releases = w.releases; next = w.next; places = w.places }
 
 -- before n ticks are begun there is a place left
-pub room_for : (s : State) (work : List WorkRow) (n taken : ℕ) → IsSound s → IsRun s work n taken → begun s < n → places_used s < s.places
+pub room_for : (s : State) (work : List WorkRow) (n taken : ℕ) → IsSound s → KeepsToWork s work n taken → begun s < n → places_used s < s.places
 room_for s work n taken sound r h =
     let x = read_off work s sound in
     omega (arith, x.ticks, x.places, r.schedule.places, h, length-rows (settled_by work s), taken-few s.set s.rule work n (settled_by work s) r.schedule.is_work r.runs)
 
 -- no more than n ticks are begun
-pub within : (s : State) (work : List WorkRow) (n taken : ℕ) → IsSound s → IsRun s work n taken → begun s ≤ n
+pub within : (s : State) (work : List WorkRow) (n taken : ℕ) → IsSound s → KeepsToWork s work n taken → begun s ≤ n
 within s work n taken sound r =
     let y : Rest work n (settled_by work s) = rest_of s.set s.rule work n (settled_by work s) r.schedule.is_work r.runs in
     omega (arith, (read_off work s sound).ticks, y.within)
@@ -80,8 +80,8 @@ same_parts s None i = (refl, refl, refl)
 same_parts s (Some j) i = (refl, refl, refl)
 
 -- a core with the next row of its plan
-extended : (s t : State) (work : List WorkRow) (n taken more : ℕ) (row : Row) → IsRun s work n taken → (t.set ≡ s.set) × (t.rule ≡ s.rule) × (t.places ≡ s.places) → settled_by work t ≡ row ∷ settled_by work s → next_row s.set s.rule work n (settled_by work s) ≡ Some row →
-    more ≡ length (arrivals (row ∷ settled_by work s)) → IsRun t work n more
+extended : (s t : State) (work : List WorkRow) (n taken more : ℕ) (row : Row) → KeepsToWork s work n taken → (t.set ≡ s.set) × (t.rule ≡ s.rule) × (t.places ≡ s.places) → settled_by work t ≡ row ∷ settled_by work s → next_row s.set s.rule work n (settled_by work s) ≡ Some row →
+    more ≡ length (arrivals (row ∷ settled_by work s)) → KeepsToWork t work n more
 extended s t work n taken more row r same e x m = record {
   schedule = record { is_work = rw same.0 r.schedule.is_work; some = r.schedule.some; most = r.schedule.most; places = rw same.2 r.schedule.places };
   runs =
@@ -94,9 +94,9 @@ extended s t work n taken more row r same e x m = record {
 pub record MayTake (s : State) (work : List WorkRow) (n taken k : ℕ) : Type 0 where
   pub soon : next s k ≤ begun s
   pub room : places_used s < s.places
-  pub run : IsRun (with_release s s.out (next_job s k)) work n (taken + 1)
+  pub run : KeepsToWork (with_release s s.out (next_job s k)) work n (taken + 1)
 
-pub may_take : (s : State) (work : List WorkRow) (n taken : ℕ) (w : WorkRow) → IsSound s → IsRun s work n taken → IsDueRow work n taken (begun s) w → MayTake s work n taken w.task.0
+pub may_take : (s : State) (work : List WorkRow) (n taken : ℕ) (w : WorkRow) → IsSound s → KeepsToWork s work n taken → IsDueRow work n taken (begun s) w → MayTake s work n taken w.task.0
 may_take s work n taken w sound r d = record {
   soon = omega (arith, x.next w.task.0, d.release, soon);
   room = room_for s work n taken sound r d.soon;
@@ -145,7 +145,7 @@ pub settled_none : (work : List WorkRow) (s : State) → s.out ≡ None → sett
 settled_none work s o = rw o refl
 
 -- a tick is the next row of the plan
-tick_next : (s : State) (work : List WorkRow) (n taken : ℕ) → IsRun s work n taken → s.out ≡ None → IsTickTime s work n taken → next_row s.set s.rule work n s.rows ≡ Some (tick_row s.set s.rule work s.rows (chosen_now s))
+tick_next : (s : State) (work : List WorkRow) (n taken : ℕ) → KeepsToWork s work n taken → s.out ≡ None → IsTickTime s work n taken → next_row s.set s.rule work n s.rows ≡ Some (tick_row s.set s.rule work s.rows (chosen_now s))
 tick_next s work n taken r o t =
     let rows : settled_by work s ≡ s.rows = settled_none work s o in
     let now : begun s ≡ ticks s.rows = omega (arith, ap tick_out o) in
@@ -154,8 +154,8 @@ tick_next s work n taken r o t =
     tick_row_next s.set s.rule work n s.rows r.schedule.is_work due (omega (arith, now, t.soon))
 
 -- the tick of the chosen job is the next row
-pub run_grant : (s : State) (work : List WorkRow) (n taken : ℕ) (j : JobId) → IsSound s → IsRun s work n taken → s.out ≡ None → chosen_now s ≡ Some j → IsTickTime s work n taken → IsRun (record s { out = chosen_now s }) work n taken
-run_grant s work n taken j sound r o c t = subst (λ (x : Option JobId). IsRun (record s { out = x }) work n taken) (sym c) (subst (λ (js : List JobId). IsRun (record s { out = Some j; held = js }) work n taken) (sym none) made)
+pub run_grant : (s : State) (work : List WorkRow) (n taken : ℕ) (j : JobId) → IsSound s → KeepsToWork s work n taken → s.out ≡ None → chosen_now s ≡ Some j → IsTickTime s work n taken → KeepsToWork (record s { out = chosen_now s }) work n taken
+run_grant s work n taken j sound r o c t = subst (λ (x : Option JobId). KeepsToWork (record s { out = x }) work n taken) (sym c) (subst (λ (js : List JobId). KeepsToWork (record s { out = Some j; held = js }) work n taken) (sym none) made)
   where
     none : s.held ≡ []
     none = no_held s sound.good o
@@ -166,11 +166,11 @@ run_grant s work n taken j sound r o c t = subst (λ (x : Option JobId). IsRun (
     next : next_row s.set s.rule work n (settled_by work s) ≡ Some row
     next = subst (λ (g : List Row). next_row s.set s.rule work n g ≡ Some row) (sym (settled_none work s o)) (tick_next s work n taken r o t ∙ ap (λ (x : Option JobId). Some (tick_row s.set s.rule work s.rows x)) c)
 
-    made : IsRun (record s { out = Some j; held = [] }) work n taken
+    made : KeepsToWork (record s { out = Some j; held = [] }) work n taken
     made = extended s (record s { out = Some j; held = [] }) work n taken taken row r (refl, refl, refl) (ap (λ (g : List Row). row ∷ g) (sym (settled_none work s o))) next r.taken_are
 
 -- an idle tick is the next row
-pub run_idle : (s : State) (work : List WorkRow) (n taken : ℕ) → IsRun s work n taken → s.out ≡ None → chosen_now s ≡ None → IsTickTime s work n taken → IsRun (record s { rows = Idle ∷ s.rows }) work n taken
+pub run_idle : (s : State) (work : List WorkRow) (n taken : ℕ) → KeepsToWork s work n taken → s.out ≡ None → chosen_now s ≡ None → IsTickTime s work n taken → KeepsToWork (record s { rows = Idle ∷ s.rows }) work n taken
 run_idle s work n taken r o c t = extended s (record s { rows = Idle ∷ s.rows }) work n taken taken Idle r (refl, refl, refl) rows next r.taken_are
   where
     rows : settled_by work (record s { rows = Idle ∷ s.rows }) ≡ Idle ∷ settled_by work s

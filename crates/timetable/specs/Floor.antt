@@ -45,7 +45,7 @@ abbrev pub due_row : Option WorkRow → ℕ → Option WorkRow
 due_row None t = None
 due_row (Some w) t = cond (w.release == t) (Some w) None
 
--- of a plan of which so many releases were taken: the next one, if it is at boundary t, and the plan has a tick t
+-- the next release of a plan of which n were taken, if it is at boundary t and the plan has a tick t
 abbrev pub due_at : Plan → ℕ → ℕ → Option WorkRow
 due_at Free taken t = None
 due_at (Rows work n) taken t = cond (nat_lt t n) (due_row (slice_get work taken) t) None
@@ -63,7 +63,7 @@ ends_at (Rows work n) t = t == n
 abbrev pub is_finished : FloorState → Bool
 is_finished f = ends_at f.plan (begun f.core)
 
--- whether the job is done with its next tick: as the caller tells, or by the plan, where that is the last that it needs
+-- whether the job is done with its next tick: as the caller says where the plan is free, otherwise by the job's need
 abbrev pub done_by : Plan → List Row → JobId → Bool → Bool
 done_by Free g j told = told
 done_by (Rows work n) g j told = is_last work g j

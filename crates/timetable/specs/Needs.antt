@@ -9,7 +9,7 @@ abbrev pub rows_of : ℕ → List WorkRow → ℕ
 rows_of k [] = 0
 rows_of k (w ∷ ws) = cond (w.task.0 == k) 1 0 + rows_of k ws
 
--- the need of the latest of so many rows that is of task number k; 0 where none is
+-- the need of the latest row of task number k among the first rows of the work; 0 where there is none
 abbrev pub latest_need : List WorkRow → ℕ → ℕ → ℕ
 latest_need work taken k = need_of work k (rows_of k (take taken work))
 

@@ -10,4 +10,5 @@ use Rattle.mc_model.specs.Follows.{Follows}
 
 -- law: of a set, a rule that fits, rows of work and a number of ticks at most one trace follows
 abbrev pub AtMostOneFollows : Type 0
-AtMostOneFollows = (set : List Task) (rule : Rule) (work : List WorkRow) (n : ℕ) (g h : List Row) → AreTasks set → Fits rule → Follows set rule work n g → Follows set rule work n h → g ≡ h
+AtMostOneFollows = (set : List Task) (rule : Rule) (work : List WorkRow) (n : ℕ) (g h : List Row)
+    → AreTasks set → Fits rule → Follows set rule work n g → Follows set rule work n h → g ≡ h

@@ -25,7 +25,8 @@ IsPlanFor s Free = Unit {0}
 IsPlanFor s (Rows work n) = IsSchedule s work n
 
 -- the rows follow, and no other rows do
-pub record IsTheTrace (set : List Task) (rule : Rule) (work : List WorkRow) (n : ℕ) (rows : List Row) : Type 0 where
+pub record IsTheTrace (set : List Task) (rule : Rule) (work : List WorkRow) (n : ℕ)
+    (rows : List Row) : Type 0 where
   pub follows : Follows set rule work n rows
   pub only : (h : List Row) → Follows set rule work n h → h ≡ rows
 
@@ -48,7 +49,7 @@ pub record Begins (set : List Task) (rule : Rule) (work : List WorkRow) (n : ℕ
   pub later : List Row
   pub trace : IsTheTrace set rule work n (later ++ g)
 
--- so far the core keeps to its plan, of which so many releases were taken: they are those of its rows and the held ones
+-- so far the core keeps to its plan; the releases that were taken of it are those of its rows and the held ones
 pub record Keeps (work : List WorkRow) (n taken : ℕ) (s : State) : Type 0 where
   pub begins : Begins s.set s.rule work n (settled_by work s)
   pub taken_are : taken ≡ length (arrivals (settled_by work s))

@@ -25,31 +25,33 @@ first_job g k = record { task = record { 0 = k }; count = releases g k + 1 }
 abbrev pub row_now : List Task → Rule → List WorkRow → List Row → Option Arrival → Row
 row_now set rule work g None = tick_row set rule work g (chosen set rule g)
 row_now set rule work g (Some a) =
-    cond (a.at == ticks g) (release_row set rule (first_job g a.task) g) (tick_row set rule work g (chosen set rule g))
+    cond (a.at == ticks g) (release_row set rule (first_job g a.task) g)
+    (tick_row set rule work g (chosen set rule g))
 
 -- the row after these: of the first release that was not taken, if it is due, otherwise of a tick; and none after n ticks
 abbrev pub next_row : List Task → Rule → List WorkRow → ℕ → List Row → Option Row
 next_row set rule work n g =
-    cond (nat_le n (ticks g)) None (Some (row_now set rule work g (slice_get (planned work n) (length (arrivals g)))))
+    cond (nat_le n (ticks g)) None
+    (Some (row_now set rule work g (slice_get (planned work n) (length (arrivals g)))))
 
 -- each row is the one that the plan adds
 abbrev pub Runs : List Task → Rule → List WorkRow → ℕ → List Row → Type 0
 Runs set rule work n [] = Unit {0}
 Runs set rule work n (row ∷ g) = (next_row set rule work n g ≡ Some row) × Runs set rule work n g
 
--- a core with its work: each row is the one that the plan adds, and so are those of the tick that is out and of the held
--- releases
-pub record IsRun (s : State) (work : List WorkRow) (n taken : ℕ) : Type 0 where
+-- a core keeps to its work: each row is the one that the plan adds, the rows of the tick that is out and of the held
+-- releases included
+pub record KeepsToWork (s : State) (work : List WorkRow) (n taken : ℕ) : Type 0 where
   pub schedule : IsSchedule s work n
   pub runs : Runs s.set s.rule work n (settled_by work s)
   pub taken_are : taken ≡ length (arrivals (settled_by work s))
 
--- a core with its plan; of a free one nothing is asked
-abbrev pub IsRunBy : Plan → State → ℕ → Type 0
-IsRunBy Free s taken = Unit {0}
-IsRunBy (Rows work n) s taken = IsRun s work n taken
+-- the rows of a core are those that its plan adds; a free plan asks nothing
+abbrev pub KeepsToPlan : Plan → State → ℕ → Type 0
+KeepsToPlan Free s taken = Unit {0}
+KeepsToPlan (Rows work n) s taken = KeepsToWork s work n taken
 
--- where a tick is out, it is told whether it is the last that its job needs
+-- where a tick is out, the flag says whether it is the last that its job needs
 abbrev pub IsTold : List WorkRow → List Row → Option JobId → Bool → Type 0
 IsTold work g None last = Unit {0}
 IsTold work g (Some j) last = last ≡ is_last work g j
@@ -60,11 +62,11 @@ floor_of a = record { core = a.core; plan = a.plan; taken = a.taken }
 
 -- what is kept of a plan
 pub record IsKept (s : State) (work : List WorkRow) (n taken : ℕ) (needs : Needs) (last : Bool) : Type 0 where
-  pub run : IsRun s work n taken
+  pub run : KeepsToWork s work n taken
   pub tracks : Tracks work taken needs
   pub told : IsTold work s.rows s.out last
 
--- of a free plan nothing is kept
+-- what is kept of a plan; of a free one nothing is
 abbrev pub IsKeptBy : Plan → State → ℕ → Needs → Bool → Type 0
 IsKeptBy Free s taken needs last = taken ≡ 0
 IsKeptBy (Rows work n) s taken needs last = IsKept s work n taken needs last
@@ -73,7 +75,7 @@ IsKeptBy (Rows work n) s taken needs last = IsKept s work n taken needs last
 abbrev pub IsFloor : Inside → Type 0
 IsFloor a = IsKeptBy a.plan a.core a.taken a.needs a.last
 
--- there was a place for one more row, the floor has it, and the rest is as it was but for the releases that were taken
+-- there was room for one more row, the floor has it, and nothing else changed except how many releases were taken
 pub record AddsRow (old new : FloorState) : Type 0 where
   pub room : length old.core.rows < old.core.places
   pub row : Row

@@ -2,7 +2,7 @@
 ghost use Rattle.std.specs.Prelude.{◌≡◌, [], None, slice_get};
 ghost use Rattle.mode_core.specs.Shape.{IsSound};
 ghost use Rattle.mode_core.specs.Timely.{IsTimely};
-ghost use Rattle.timetable.specs.Shape.{IsRunBy};
+ghost use Rattle.timetable.specs.Shape.{KeepsToPlan};
 ghost use Rattle.timetable.specs.Floor.{opening, is_planned, due_row, due, is_finished, next_act};
 ghost use Rattle.timetable.specs.Plans.{IsPlanFor, IsOnPlan};
 
@@ -130,7 +130,7 @@ impl Floor {
     fn is_finished(&self) -> bool
         ensures value { result ≡ is_finished self.now }
         ensures sound { IsSound self.now.core }
-        ensures run { IsRunBy self.now.plan self.now.core self.now.taken }
+        ensures run { KeepsToPlan self.now.plan self.now.core self.now.taken }
     {
         let _sound = self.core.ticks();
         match &self.plan {

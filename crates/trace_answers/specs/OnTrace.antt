@@ -1,5 +1,5 @@
 -- The commands on a trace: it is judged, and of a good one something is told.
-use Rattle.std.specs.Prelude.{◌≡◌, ℕ, ◌^◌, ◌==◌, nat_le, Bool, false, if◌then◌else◌, List, reverse, Result, Ok, Err}
+use Rattle.std.specs.Prelude.{◌≡◌, ℕ, ◌≤◌, ◌<◌, ◌^◌, ◌==◌, nat_le, Bool, false, if◌then◌else◌, List, reverse, Result, Ok, Err}
 use Rattle.mc_task.specs.declared.task.Task.{Task}
 use Rattle.mc_task.specs.declared.task.Rule.TheVariants.{Virtual}
 use Rattle.mc_model.specs.declared.row.Row.{Row}
@@ -13,8 +13,8 @@ use Rattle.mc_model.specs.VerdictText.{verdict_line}
 use Rattle.sched_chart.specs.ChartText.{chart_text}
 use Rattle.sched_report.specs.ReportText.{report_text}
 use Rattle.trace_format.specs.TraceFile.{trace_file}
-use Rattle.command_line.specs.declared.form.Telling.{Telling}
-use Rattle.command_line.specs.declared.form.Telling.TheVariants.{JudgeBy, Chart, Report, Migrate}
+use Rattle.trace_answers.specs.declared.telling.Telling.{Telling}
+use Rattle.trace_answers.specs.declared.telling.Telling.TheVariants.{JudgeBy, Chart, Report, Migrate}
 use Rattle.replies.specs.Refusal.{Refusal, Trace, BadTrace, LongChart}
 use Rattle.replies.specs.Reading.{◌>>=◌, or_refuse, reply_by}
 use Rattle.serving.specs.Command.{Command, answer, fetch, need}
@@ -30,6 +30,11 @@ abbrev pub rows_in : List Task → List ℕ → Result (List Row) Refusal
 rows_in set bytes = do
   runs ← or_refuse Trace (trace_file set bytes)
   Ok (reverse (expand runs))
+
+-- the scale of a command that has one is at most 1, and its numbers are below 2^32
+abbrev pub IsScale : Telling → Type 0
+IsScale (JudgeBy p q) = (1 ≤ p) × (p ≤ q) × (q < 2 ^ 32)
+IsScale telling = Unit {0}
 
 -- what is told of a good trace, whose newest row stands first: the chart, of at most 2,000,000 ticks; the report; the trace
 -- itself, equal ticks in one record; or the verdict
@@ -55,7 +60,11 @@ abbrev pub ruled_for : Telling → List ℕ → Result Ruled Refusal
 ruled_for (JudgeBy p q) bytes = ruled_by (Virtual p q) bytes
 ruled_for telling bytes = admitted bytes
 
--- the command; a trace has at most 134,217,728 bytes
+-- what a command says of the trace in the second file, of at most 134,217,728 bytes, where the task file has these bytes
+abbrev pub on_trace_on : Telling → List ℕ → List ℕ → Command
+on_trace_on telling trace bytes =
+    need (ruled_for telling bytes) (λ ruled. fetch trace (2 ^ 27) (λ more. answer (λ reply. reply ≡ reply_by (tells telling ruled more))))
+
+-- the command
 abbrev pub on_trace : Telling → List ℕ → List ℕ → Command
-on_trace telling tasks trace =
-    fetch_table tasks (λ bytes. need (ruled_for telling bytes) (λ ruled. fetch trace (2 ^ 27) (λ more. answer (λ reply. reply ≡ reply_by (tells telling ruled more)))))
+on_trace telling tasks trace = fetch_table tasks (on_trace_on telling trace)

@@ -1,19 +1,22 @@
 // A trace, judged, and what is told of it.
-ghost use Rattle.std.specs.Prelude.{◌≡◌, ◌≤◌, true, All, IfOk, reverse};
+ghost use Rattle.std.specs.Prelude.{◌≡◌, true, All, reverse};
 ghost use Rattle.mc_model.specs.Holds.{Fits};
 ghost use Rattle.mc_model.specs.Runs.{expand, AreRuns, IsRunOfSet};
 ghost use Rattle.mc_model.specs.Verdict.{verdict};
 ghost use Rattle.replies.specs.Reading.{reply_by};
-ghost use Rattle.serving.specs.Steps.{IsOwn};
+ghost use Rattle.replies.specs.Stop.{Replies};
+ghost use Rattle.serving.specs.Serves.{IsOwn};
 ghost use Rattle.task_answers.specs.Admitted.{under};
 ghost use Rattle.trace_answers.specs.OnTrace as spec;
 
-use crate::texts::{chart_of, merged_text, report_of, ticks_of};
-use command_line::Telling;
+use crate::telling::Telling;
+use crate::texts::{merged_text, ticks_of};
 use mc_model::{Run, Verdict};
 use mc_task::{Rule, TaskSet};
-use replies::{Reply, refused, verdict_line};
-use std::alloc::{AllocError, Global};
+use replies::{Reply, Stop, refused, verdict_line};
+use sched_chart::chart;
+use sched_report::report;
+use std::alloc::Global;
 use trace_format::read_trace;
 use trace_judge::judge;
 
@@ -27,14 +30,14 @@ pub fn tell(
     set: &TaskSet,
     rule: Rule,
     bytes: &[u8],
-) -> Result<Reply, AllocError>
+) -> Result<Reply, Stop>
     requires { Fits rule }
-    ensures reply { IfOk result (λ reply. reply ≡ reply_by (spec.tells telling (under rule set.now) bytes.now)) }
-    ensures own { IfOk result IsOwn }
+    ensures reply { Replies (λ reply. reply ≡ reply_by (spec.tells telling (under rule set.now) bytes.now)) result }
+    ensures own { Replies IsOwn result }
 {
     match read_trace(alloc, set, bytes) {
         Ok(runs) => judged(alloc, telling, set, rule, &runs),
-        Err(fault) => refused::trace(alloc, fault),
+        Err(fault) => Err(refused::trace(alloc, fault)),
     }
 }
 
@@ -44,20 +47,18 @@ fn judged(
     set: &TaskSet,
     rule: Rule,
     runs: &[Run],
-) -> Result<Reply, AllocError>
+) -> Result<Reply, Stop>
     requires fits { Fits rule }
     requires runs { AreRuns runs.now }
     requires tasks { All (IsRunOfSet set.now.tasks) runs.now }
-    ensures reply { IfOk result (λ reply. reply ≡ reply_by (spec.judged telling (under rule set.now) (reverse (expand runs.now)))) }
-    ensures own { IfOk result IsOwn }
+    ensures reply { Replies (λ reply. reply ≡ reply_by (spec.judged telling (under rule set.now) (reverse (expand runs.now)))) result }
+    ensures own { Replies IsOwn result }
 {
-    let Ok(verdict) = judge(alloc, set, rule, runs) else {
-        return Err(AllocError);
-    };
+    let verdict = judge(alloc, set, rule, runs)?;
     if is_good(verdict) {
         told(alloc, telling, set, rule, verdict, runs)
     } else {
-        refused::bad_trace(alloc, set, verdict)
+        Err(refused::bad_trace(alloc, set, verdict))
     }
 }
 
@@ -77,24 +78,24 @@ fn told(
     rule: Rule,
     given: Verdict,
     runs: &[Run],
-) -> Result<Reply, AllocError>
+) -> Result<Reply, Stop>
     requires fits { Fits rule }
     requires runs { AreRuns runs.now }
     requires tasks { All (IsRunOfSet set.now.tasks) runs.now }
     requires verdict { given ≡ verdict set.now.tasks rule (reverse (expand runs.now)) }
     requires good { spec.is_good given ≡ true }
-    ensures reply { IfOk result (λ reply. reply ≡ reply_by (spec.told telling (under rule set.now) (reverse (expand runs.now)))) }
-    ensures own { IfOk result IsOwn }
+    ensures reply { Replies (λ reply. reply ≡ reply_by (spec.told telling (under rule set.now) (reverse (expand runs.now)))) result }
+    ensures own { Replies IsOwn result }
 {
     let text = match telling {
         Telling::Chart => {
             let ticks = ticks_of(runs);
             if MOST_CHART_TICKS < ticks {
-                return refused::long_chart(alloc, ticks);
+                return Err(refused::long_chart(alloc, ticks));
             }
-            chart_of(alloc, set, runs)?
+            chart(alloc, set, runs)?
         }
-        Telling::Report => report_of(alloc, set, runs)?,
+        Telling::Report => report(alloc, set, runs)?,
         Telling::Migrate => merged_text(alloc, set, runs)?,
         Telling::Judge | Telling::JudgeBy { .. } => verdict_line(alloc, set, given)?,
     };

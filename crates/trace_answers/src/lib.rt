@@ -3,6 +3,8 @@
 
 mod judging;
 mod on_trace;
+mod telling;
 mod texts;
 
 pub use on_trace::OnTrace;
+pub use telling::Telling;

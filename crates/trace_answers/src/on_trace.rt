@@ -1,15 +1,16 @@
 // A command on a trace.
-ghost use Rattle.std.specs.Prelude.{◌≡◌, IfOk};
-ghost use Rattle.command_line.specs.Form.{IsScale};
-ghost use Rattle.task_answers.specs.Given.{Gives, IsRuled};
-ghost use Rattle.trace_answers.specs.OnTrace.{ruled_for};
+ghost use Rattle.trace_answers.specs.OnTrace.{IsScale, on_trace, on_trace_on, ruled_for};
+ghost use Rattle.replies.specs.Stop.{Gives};
+ghost use Rattle.serving.specs.Serves.{Serves};
+ghost use Rattle.task_answers.specs.Given.{IsRuled};
 
 use crate::judging::tell;
-use command_line::Telling;
+use crate::telling::Telling;
 use mc_task::Rule;
-use replies::Reply;
-use serving::{Command, Next, Served};
-use std::alloc::{AllocError, Global};
+use mc_world::Shelf;
+use replies::{Reply, Stop};
+use serving::{FileName, fetch};
+use std::alloc::Global;
 use task_answers::{Admitted, MOST_TABLE_BYTES, Ruled, read_admitted, read_ruled};
 
 /// The most bytes of a trace.
@@ -19,69 +20,41 @@ const MOST_TRACE_BYTES: usize = 1 << 27;
 #[derive(Drop)]
 pub struct OnTrace<'a> {
     pub telling: Telling,
-    pub tasks: &'a str,
-    pub trace: &'a str,
+    pub tasks: FileName<'a>,
+    pub trace: FileName<'a>,
 }
 
-impl<'a> Command for OnTrace<'a> {
-    ghost use Rattle.std.specs.Prelude.{Ok};
-    ghost use Rattle.command_line.specs.Form.{IsScale};
-    ghost use Rattle.task_answers.specs.Given.{Gives, IsRuled};
-    ghost use Rattle.trace_answers.specs.OnTrace.{on_trace, ruled_for};
-
-    type Opened = Ruled;
-
-    type Job = ();
-
-    ghost asks = { λ c. on_trace c.telling c.tasks.now c.trace.now };
-
-    ghost valid = { λ c. IsScale c.telling };
-
-    ghost opens = { λ c bytes opened. Gives IsRuled (ruled_for c.telling bytes) (Ok opened) };
-
-    ghost leaves = { λ c job. ⊥ };
-
-    ghost gives = { λ c job reply. ⊥ };
-
-    fn start<'b>(&'b self, _: Global) -> Result<Next<'b, (), ()>, AllocError> {
-        Ok(Next::Ask {
-            name: self.tasks,
-            limit: MOST_TABLE_BYTES,
-            kept: (),
-        })
+impl<'a> OnTrace<'a> {
+    /// The reply: what the command says of the trace.
+    pub fn reply<S: Shelf>(&self, alloc: Global, shelf: &mut S) -> Result<Reply, Stop>
+        requires { IsScale self.now.telling }
+        ensures { Serves 1 (on_trace self.now.telling self.now.tasks self.now.trace) (S.state shelf.old) (S.state shelf.new) result }
+    {
+        let bytes = fetch(alloc, shelf, 1, &self.tasks, MOST_TABLE_BYTES)?;
+        self.reply_on(alloc, shelf, &bytes)
     }
 
-    fn open<'b>(&'b self, alloc: Global, bytes: &[u8]) -> Result<Next<'b, Ruled, ()>, AllocError> {
-        match ruled(alloc, self.telling, bytes)? {
-            Ok(ruled) => Ok(Next::Ask {
-                name: self.trace,
-                limit: MOST_TRACE_BYTES,
-                kept: ruled,
-            }),
-            Err(reply) => Ok(Next::Ready {
-                served: Served::Done { reply },
-            }),
-        }
-    }
-
-    fn finish(&self, alloc: Global, opened: Ruled, bytes: &[u8]) -> Result<Served<()>, AllocError> {
-        let reply = tell(alloc, self.telling, &opened.set, opened.rule, bytes)?;
-        Ok(Served::Done { reply })
+    // The reply, where the task file has these bytes.
+    fn reply_on<S: Shelf>(&self, alloc: Global, shelf: &mut S, bytes: &[u8]) -> Result<Reply, Stop>
+        requires { IsScale self.now.telling }
+        ensures { Serves 2 (on_trace_on self.now.telling self.now.trace bytes.now) (S.state shelf.old) (S.state shelf.new) result }
+    {
+        let Ruled { set, rule } = ruled(alloc, self.telling, bytes)?;
+        let bytes = fetch(alloc, shelf, 2, &self.trace, MOST_TRACE_BYTES)?;
+        tell(alloc, self.telling, &set, rule, &bytes)
     }
 }
 
-// The set that the bytes of a task file say, under the rule that the words give, or else the test.
-fn ruled(alloc: Global, telling: Telling, bytes: &[u8]) -> Result<Result<Ruled, Reply>, AllocError>
+// The set in a task file with these bytes, under the rule that the words give, or else the test's.
+fn ruled(alloc: Global, telling: Telling, bytes: &[u8]) -> Result<Ruled, Stop>
     requires { IsScale telling }
-    ensures { IfOk result (Gives IsRuled (ruled_for telling bytes.now)) }
+    ensures { Gives IsRuled (ruled_for telling bytes.now) result }
 {
     match telling {
         Telling::JudgeBy { p, q } => read_ruled(alloc, Rule::Virtual { p, q }, bytes),
         Telling::Judge | Telling::Chart | Telling::Report | Telling::Migrate => {
-            match read_admitted(alloc, bytes)? {
-                Ok(Admitted { set, rule, .. }) => Ok(Ok(Ruled { set, rule })),
-                Err(reply) => Ok(Err(reply)),
-            }
+            let Admitted { set, rule, .. } = read_admitted(alloc, bytes)?;
+            Ok(Ruled { set, rule })
         }
     }
 }

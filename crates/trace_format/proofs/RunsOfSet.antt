@@ -5,10 +5,12 @@ use Rattle.std.proofs.lemmas.Bool.Decides.{nat_tests}
 use Rattle.std.proofs.lemmas.List.{length-append}
 use Rattle.std.proofs.lemmas.List.Elements.{All-nil, All-push}
 use Rattle.csv.specs.Reading.{default_config, records, strip_bom}
-use Rattle.csv_records.specs.Rows.{Means, Refusal, rows_in, or_fault}
+use Rattle.csv_records.specs.Fields.{field}
+use Rattle.csv_records.specs.Rows.{Means}
 use Rattle.csv_records.proofs.RowLemmas.{file_keeps}
 use Rattle.mc_task.specs.declared.task.Task.{Task}
 use Rattle.mc_task.specs.declared.task.JobId.{JobId}
+use Rattle.mc_task.specs.Refusals.{◌>>=◌, or_refuse}
 use Rattle.mc_model.specs.declared.row.How.{How}
 use Rattle.mc_model.specs.declared.row.How.TheVariants.{More, Done, Stop, Over}
 use Rattle.mc_model.specs.declared.run.Run.{Run}
@@ -23,10 +25,9 @@ use Rattle.trace_format.specs.declared.event.Event.TheVariants as event
 use Rattle.trace_format.specs.declared.record.Numbers.{Numbers}
 use Rattle.trace_format.specs.declared.fault.TraceCause.{TraceCause}
 use Rattle.trace_format.specs.declared.fault.TraceCause.TheVariants.{Header, UnknownEvent, UnknownTask, BadNumber, WrongTick, TooMany, BadLength, TooManyTicks}
-use Rattle.trace_format.specs.declared.fault.TraceFault.TheVariants.{At}
-use Rattle.trace_format.specs.Events.{field, task_place, event_of}
+use Rattle.trace_format.specs.Events.{task_place, event_of}
 use Rattle.trace_format.specs.Reading.{MayStandBehind}
-use Rattle.trace_format.specs.TraceFile.{header_words, wrong_width, task_told, numbers_told, is_length, job_with, run_told, given, record_run, behind_header, version_of, trace_file}
+use Rattle.trace_format.specs.TraceFile.{header_words, wrong_width, task_told, numbers_told, is_length, run_told, record_run, behind_header, version_of, trace_file}
 use Rattle.mc_task.proofs.NamedLemmas.{found}
 
 -- a length that is taken makes a run
@@ -42,11 +43,11 @@ told_is : (set : List Task) (v : Version) (fields : List (List ℕ)) (told : Eve
     → IsRun (run_told told task n) × IsRunOfSet set (run_told told task n) × (length_of (run_told told task n) ≤ n.length)
 told_is set v fields (event.Release kept) task n named length = (tt, found (field fields (task_place v)) set task named, omega arith)
 told_is set v fields (event.Tick how) task n named length =
-    (ticks_are (job_with task n.count) how n.length length, found (field fields (task_place v)) set task named, omega arith)
+    (ticks_are (record { task = record { 0 = task }; count = n.count }) how n.length length, found (field fields (task_place v)) set task named, omega arith)
 told_is set v fields event.Idle task n named length = (grind (arith, nat_tests, length), tt, omega arith)
 
 -- what is read on is read from a value that is there, and where no test refuses
-from_some : {A : Type 0} (x : Option A) (cause : TraceCause) (more : A → Result Run TraceCause) (q : Run) → given x cause more ≡ Ok q
+from_some : {A : Type 0} (x : Option A) (cause : TraceCause) (more : A → Result Run TraceCause) (q : Run) → (or_refuse cause x >>= more) ≡ Ok q
     → (y : A) × (x ≡ Some y) × (more y ≡ Ok q)
 from_some None cause more q h = absurd (cc)
 from_some (Some y) cause more q h = (y, refl, h)
@@ -100,15 +101,10 @@ of_row set first means is before fields r a read = go (version_of first) is
         let same : record_run set v ≡ means = cc in
         one_more set before r a (of_record set v before fields r (ap (λ (m : Means Run TraceCause). m before fields) same ∙ read))
 
-is_read : (read : Result (List Run) (Refusal TraceCause)) (runs : List Run) → or_fault At read ≡ Ok runs → read ≡ Ok runs
-is_read (Err refusal) runs h = cc
-is_read (Ok all) runs h = cc
-
 of_trace : (set : List Task) (text : List ℕ) (runs : List Run) → trace_file set text ≡ Ok runs → AreOf set runs
 of_trace set text runs h =
     let none : AreOf set [] = (record { each = All-nil IsRun; few = omega arith; short = omega arith }, tt) in
-    let read = is_read (rows_in (behind_header set) Header text) runs h in
-    file_keeps (AreOf set) (behind_header set) Header none (of_row set) (records default_config (strip_bom text)) runs read
+    file_keeps (AreOf set) (behind_header set) Header none (of_row set) (records default_config (strip_bom text)) runs h
 
 -- the runs of a trace that is read are valid
 pub valid_runs : (set : List Task) (text : List ℕ) (runs : List Run) → trace_file set text ≡ Ok runs → AreRuns runs

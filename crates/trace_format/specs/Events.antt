@@ -1,7 +1,7 @@
--- What the words of a record tell.
-use Rattle.std.specs.Prelude.{ℕ, ◌+◌, Bool, true, false, ◌&&◌, ◌==◌, if◌then◌else◌, List, [], ◌∷◌, codes, length, find, Option, Some, None, option_map, unwrap_or}
+-- What the words of a record say.
+use Rattle.std.specs.Prelude.{ℕ, ◌+◌, Bool, true, false, ◌&&◌, ◌==◌, if◌then◌else◌, List, [], ◌∷◌, codes, length, find, Option, Some, None, option_map}
 use Rattle.std.specs.Str.{bytes_eq}
-use Rattle.csv.specs.Records.{field_at}
+use Rattle.csv_records.specs.Fields.{field}
 use Rattle.mc_model.specs.TraceText.{kept_word, how_word}
 use Rattle.mc_model.specs.declared.row.How.TheVariants.{More, Done, Stop, Over}
 use Rattle.trace_format.specs.declared.event.Event.{Event}
@@ -9,36 +9,35 @@ use Rattle.trace_format.specs.declared.event.Event.TheVariants.{Release, Tick, I
 use Rattle.trace_format.specs.declared.version.Version.{Version}
 use Rattle.trace_format.specs.declared.version.Version.TheVariants.{One, Two}
 
--- the field at a place, from 0; empty where there is none
-abbrev pub field : List (List ℕ) → ℕ → List ℕ
-field fields i = unwrap_or (field_at fields i) []
-
--- the release that the last field names, by the words that are written
+-- the release that the last field of a record says, in the words in which it is written
 unfoldable pub release_event : List ℕ → Option Event
 release_event how = option_map Release (find (λ kept. bytes_eq how (kept_word kept)) (true ∷ false ∷ []))
 
--- the tick that the last field tells
+-- the tick that the last field of a record says, by the word for how it ended
 unfoldable pub tick_event : List ℕ → Option Event
 tick_event how = option_map Tick (find (λ h. bytes_eq how (how_word h)) (More ∷ Done ∷ Stop ∷ Over ∷ []))
 
--- nothing pending, where the task, the job and the last field are empty
+-- an idle tick, where the fields of the task, the job and the outcome are empty
 unfoldable pub idle_event : List ℕ → List ℕ → List ℕ → Option Event
 idle_event task job how = if (length task == 0 && length job == 0) && length how == 0 then Some Idle else None
 
--- the place of the task's field, which the job's and the how's stand behind
+-- the place of the task's field; the fields of the job and of the outcome come after it
 abbrev pub task_place : Version → ℕ
 task_place One = 2
 task_place Two = 3
 
--- the record has no length
+-- whether the record has no length: version 1 has no such field, and in version 2 it is empty
 abbrev pub has_no_length : Version → List (List ℕ) → Bool
 has_no_length One fields = true
 has_no_length Two fields = length (field fields 2) == 0
 
--- what the record tells, by its first field and its last
+-- what the record says, by its first field and, after it, the fields that such a record needs
 unfoldable pub event_of : Version → List (List ℕ) → Option Event
 event_of v fields =
-    if bytes_eq (field fields 0) (codes "release") then (if has_no_length v fields then release_event (field fields (task_place v + 2)) else None)
+    if bytes_eq (field fields 0) (codes "release")
+    then (if has_no_length v fields then release_event (field fields (task_place v + 2)) else None)
     else if bytes_eq (field fields 0) (codes "tick") then tick_event (field fields (task_place v + 2))
-    else if bytes_eq (field fields 0) (codes "idle") then idle_event (field fields (task_place v)) (field fields (task_place v + 1)) (field fields (task_place v + 2))
+    else if bytes_eq (field fields 0) (codes "idle")
+    then idle_event (field fields (task_place v)) (field fields (task_place v + 1))
+    (field fields (task_place v + 2))
     else None

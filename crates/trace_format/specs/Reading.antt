@@ -6,13 +6,13 @@ use Rattle.mc_model.specs.declared.run.Run.{Run}
 use Rattle.mc_model.specs.Runs.{length_of, IsRun, IsRunOfSet}
 use Rattle.trace_format.specs.declared.read.Reading.{Reading}
 
--- a run of the set that may stand behind so many ticks
+-- a run of the set that may stand after this many ticks
 pub record MayStandBehind (set : List Task) (due : ℕ) (r : Run) : Type 0 where
   pub is_run : IsRun r
   pub task : IsRunOfSet set r
   pub short : due + length_of r ≤ 100000000
 
--- they are few and short enough, and the next tick is the one behind them
+-- the runs are few and short enough, and the next tick is the one after them
 pub record AreRead (runs : List Run) (reading : Reading) : Type 0 where
   pub few : length runs ≤ 2000000
   pub ticks : reading.due ≡ total length_of runs

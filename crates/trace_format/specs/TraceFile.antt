@@ -2,11 +2,13 @@
 use Rattle.std.specs.Prelude.{ℕ, ◌+◌, Bool, true, not, ◌==◌, nat_le, nat_lt, if◌then◌else◌, List, [], ◌∷◌, codes, length, find, Option, Some, None, option_map, Result, Ok, Err}
 use lib.Pointwise.{pointwise}
 use Rattle.std.specs.Str.{bytes_eq}
-use Rattle.csv_records.specs.Rows.{Means, rows_in, or_fault}
+use Rattle.csv_records.specs.Fields.{field}
+use Rattle.csv_records.specs.Rows.{Means, rows_in}
+use Rattle.csv_records.specs.declared.fault.Fault.{Fault}
 use Rattle.numeral.specs.Numeral.{number}
 use Rattle.mc_task.specs.declared.task.Task.{Task}
-use Rattle.mc_task.specs.declared.task.JobId.{JobId}
 use Rattle.mc_task.specs.Faults.{named}
+use Rattle.mc_task.specs.Refusals.{◌>>=◌, or_refuse}
 use Rattle.mc_model.specs.Sums.{total}
 use Rattle.mc_model.specs.Runs.{length_of}
 use Rattle.mc_model.specs.declared.row.How.TheVariants.{More}
@@ -18,90 +20,82 @@ use Rattle.trace_format.specs.declared.event.Event.{Event}
 use Rattle.trace_format.specs.declared.event.Event.TheVariants as event
 use Rattle.trace_format.specs.declared.fault.TraceCause.{TraceCause}
 use Rattle.trace_format.specs.declared.fault.TraceCause.TheVariants.{BadRecord, Header, UnknownEvent, UnknownTask, BadNumber, WrongTick, TooMany, BadLength, TooManyTicks, NotSix}
-use Rattle.trace_format.specs.declared.fault.TraceFault.{TraceFault}
-use Rattle.trace_format.specs.declared.fault.TraceFault.TheVariants.{At}
 use Rattle.trace_format.specs.declared.record.Numbers.{Numbers}
-use Rattle.trace_format.specs.Events.{field, event_of, task_place}
+use Rattle.trace_format.specs.Events.{event_of, task_place}
 
--- the header of a version, and a record has as many fields
+-- the header of a version; each record of that version has as many fields
 abbrev pub header_words : Version → List (List ℕ)
 header_words One = codes "event" ∷ codes "tick" ∷ codes "task" ∷ codes "job" ∷ codes "how" ∷ []
-header_words Two = codes "event" ∷ codes "tick" ∷ codes "length" ∷ codes "task" ∷ codes "job" ∷ codes "how" ∷ []
+header_words Two =
+    codes "event" ∷ codes "tick" ∷ codes "length" ∷ codes "task" ∷ codes "job" ∷ codes "how" ∷ []
 
 -- the version that the record is the header of
 abbrev pub version_of : List (List ℕ) → Option Version
 version_of fields = find (λ v. pointwise bytes_eq fields (header_words v)) (One ∷ Two ∷ [])
 
--- the refusal of another number of fields
+-- the refusal of a record whose number of fields is not that of its version's header
 abbrev pub wrong_width : Version → TraceCause
 wrong_width One = BadRecord
 wrong_width Two = NotSix
 
--- the ticks of a tick or idle record: one in version 1
+-- the number of ticks of a tick or idle record: one in version 1; none where the field is no number
 abbrev pub length_in : Version → List (List ℕ) → Option ℕ
 length_in One fields = Some 1
 length_in Two fields = number (field fields 2)
 
--- the task of a release or a tick; 0, which is the number of no task, where the record is idle
+-- the number of the task of a release or a tick, if there is one of that name; 0 where the record is idle
 abbrev pub task_told : List Task → Version → List (List ℕ) → Event → Option ℕ
 task_told set v fields event.Idle = Some 0
 task_told set v fields _ = named (field fields (task_place v)) set
 
 -- a tick, a length and a count, where each of them is a number
 abbrev pub all_numbers : Option ℕ → Option ℕ → Option ℕ → Option Numbers
-all_numbers (Some tick) (Some length) (Some count) = Some (record { tick = tick; length = length; count = count })
+all_numbers (Some t) (Some n) (Some c) = Some (record { tick = t; length = n; count = c })
 all_numbers _ _ _ = None
 
--- those of a record: a release has no ticks, and an idle record no job
+-- the numbers of a record: a release has no ticks, and an idle record has no job
 abbrev pub numbers_told : Version → List (List ℕ) → Event → Option Numbers
-numbers_told v fields (event.Release kept) = all_numbers (number (field fields 1)) (Some 0) (number (field fields (task_place v + 1)))
-numbers_told v fields (event.Tick how) = all_numbers (number (field fields 1)) (length_in v fields) (number (field fields (task_place v + 1)))
+numbers_told v fields (event.Release kept) =
+    all_numbers (number (field fields 1)) (Some 0) (number (field fields (task_place v + 1)))
+numbers_told v fields (event.Tick how) =
+    all_numbers (number (field fields 1)) (length_in v fields) (number (field fields (task_place v + 1)))
 numbers_told v fields event.Idle = all_numbers (number (field fields 1)) (length_in v fields) (Some 0)
 
--- the record may have so many ticks: at least one of a tick or an idle record, and more only where its job goes on
--- behind each of them, or where it is idle
+-- whether the record may stand for n ticks: a tick or idle record for at least one, and for several only where its job
+-- goes on after each of them, or where it is idle
 abbrev pub is_length : Event → ℕ → Bool
 is_length (event.Release kept) n = true
 is_length (event.Tick More) n = nat_le 1 n
 is_length (event.Tick _) n = n == 1
 is_length event.Idle n = nat_le 1 n
 
--- the job with this count of a task
-abbrev pub job_with : ℕ → ℕ → JobId
-job_with task count = record { task = record { 0 = task }; count = count }
-
--- the run of a record with these numbers
+-- the run that a record says, by its event, its task number k and its other numbers
 abbrev pub run_told : Event → ℕ → Numbers → Run
-run_told (event.Release kept) task n = run.Release (job_with task n.count) kept
-run_told (event.Tick how) task n = run.Ticks (job_with task n.count) how n.length
-run_told event.Idle task n = run.Idles n.length
+run_told (event.Release kept) k n = run.Release (record { task = record { 0 = k }; count = n.count }) kept
+run_told (event.Tick how) k n = run.Ticks (record { task = record { 0 = k }; count = n.count }) how n.length
+run_told event.Idle k n = run.Idles n.length
 
--- what goes on from a value, or the refusal where there is none
-abbrev pub given : {A : Type 0} → Option A → TraceCause → (A → Result Run TraceCause) → Result Run TraceCause
-given None cause more = Err cause
-given (Some x) cause more = more x
-
--- the run of a record that tells this event, at the tick that is due, or the first of its refusals
+-- the run of a record that says this event, where this tick is due; or the first of its refusals
 abbrev pub run_at : List Task → Version → ℕ → List (List ℕ) → Event → Result Run TraceCause
 run_at set v due fields told =
-    given (task_told set v fields told) UnknownTask (λ task.
-    given (numbers_told v fields told) BadNumber (λ n.
+    or_refuse UnknownTask (task_told set v fields told) >>= λ task.
+    or_refuse BadNumber (numbers_told v fields told) >>= λ n.
     if not (n.tick == due) then Err WrongTick
     else if not (is_length told n.length) then Err BadLength
     else if nat_lt 100000000 (due + n.length) then Err TooManyTicks
-    else Ok (run_told told task n)))
+    else Ok (run_told told task n)
 
--- the run of a record behind these runs, or the first of its refusals
+-- the run of a record after these runs, or the first of its refusals
 unfoldable pub record_run : List Task → Version → List Run → List (List ℕ) → Result Run TraceCause
 record_run set v before fields =
     if nat_le 2000000 (length before) then Err TooMany
     else if not (length fields == length (header_words v)) then Err (wrong_width v)
-    else given (event_of v fields) UnknownEvent (run_at set v (total length_of before) fields)
+    else (or_refuse UnknownEvent (event_of v fields) >>= run_at set v (total length_of before) fields)
 
--- what the records behind this one mean, if it is a header
+-- what the records after this one mean, if it is a header
 abbrev pub behind_header : List Task → List (List ℕ) → Option (Means Run TraceCause)
 behind_header set fields = option_map (record_run set) (version_of fields)
 
 -- the runs of a text, or its first refusal; its records are as csv's reader gives them with its defaults
-abbrev pub trace_file : List Task → List ℕ → Result (List Run) TraceFault
-trace_file set text = or_fault At (rows_in (behind_header set) Header text)
+abbrev pub trace_file : List Task → List ℕ → Result (List Run) (Fault TraceCause)
+trace_file set text = rows_in (behind_header set) Header text

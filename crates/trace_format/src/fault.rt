@@ -1,9 +1,3 @@
-ghost use Rattle.std.specs.Prelude.{◌≡◌};
-ghost use Rattle.trace_format.specs.declared.fault.TraceFault.TheVariants.{Memory};
-
-use std::alloc::AllocError;
-use thiserror::Error;
-
 /// Why a record of a trace is refused.
 #[derive(Clone, Copy, Debug, PartialEq, Eq)]
 pub enum TraceCause {
@@ -22,7 +16,7 @@ pub enum TraceCause {
     WrongTick,
     /// There are 2,000,000 records before it.
     TooMany,
-    /// The length is 0, or it is above 1 and the record is a tick behind which its job does not go on.
+    /// The length is 0, or it is above 1 and the record is a tick after which its job does not go on.
     BadLength,
     /// With it there are more than 100,000,000 ticks.
     TooManyTicks,
@@ -30,22 +24,5 @@ pub enum TraceCause {
     NotSix,
 }
 
-/// Why a trace is refused. Lines are numbers of records: the header is line 1, and lines that the reader skips are not
-/// counted.
-#[derive(Clone, Copy, Debug, PartialEq, Eq, Error)]
-pub enum TraceFault {
-    /// Want of memory, which says nothing of the trace.
-    #[error("out of memory")]
-    Memory,
-    /// The first record that is refused, and why.
-    #[error("line {line}: {cause:?}")]
-    At { line: u32, cause: TraceCause },
-}
-
-impl From<AllocError> for TraceFault {
-    ghost from_gives = { λ _ e. e ≡ Memory };
-
-    fn from(_: AllocError) -> TraceFault {
-        TraceFault::Memory
-    }
-}
+/// Why a trace is refused.
+pub type TraceFault = csv_records::Fault<TraceCause>;

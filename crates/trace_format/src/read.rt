@@ -1,6 +1,6 @@
 ghost use Rattle.std.specs.Prelude.{All, IfOk};
+ghost use Rattle.csv_records.specs.Gives.{Gives};
 ghost use Rattle.mc_model.specs.Runs.{IsRunOfSet, AreRuns};
-ghost use Rattle.trace_format.specs.Gives.{Gives};
 ghost use Rattle.trace_format.specs.TraceFile.{trace_file};
 
 use crate::record::{record_run, version_of, wrong_width};
@@ -8,7 +8,7 @@ use crate::version::Version;
 use crate::write::tick_after;
 use crate::{TraceCause, TraceFault};
 use csv::ByteRecord;
-use csv_records::{Meaning, Said, read_rows};
+use csv_records::{Meaning, read_rows};
 use mc_model::{How, Run};
 use mc_task::{TaskNo, TaskSet};
 use std::alloc::Global;
@@ -18,18 +18,16 @@ use std::alloc::Global;
 /// csv's reader gives them, with commas and double quotes.
 ///
 /// An error but `Memory`, which may come at any point, is the trace's first refusal: `Header` at line 1, and then for
-/// each record in turn `TooMany`, the 2,000,001st behind the header; `BadRecord` or `NotSix`, by the version;
+/// each record in turn `TooMany`, the 2,000,001st after the header; `BadRecord` or `NotSix`, by the version;
 /// `UnknownEvent`; `UnknownTask`; `BadNumber`; `WrongTick`; `BadLength`; `TooManyTicks`.
 pub fn read_trace(alloc: Global, set: &TaskSet, bytes: &[u8]) -> Result<Vec<Run>, TraceFault>
-    ensures file { Gives result (trace_file set.now.tasks bytes.now) }
+    ensures file { Gives (λ runs. runs.items) result (trace_file set.now.tasks bytes.now) }
     ensures runs { IfOk result (λ runs. AreRuns runs.items) }
     ensures tasks { IfOk result (λ runs. All (IsRunOfSet set.now.tasks) runs.items) }
 {
     let records = TraceRecords { set };
-    match read_rows(alloc, bytes, TraceCause::Header, &records)? {
-        Said::Rows { rows, .. } => Ok(rows),
-        Said::Refused { line, cause } => Err(TraceFault::At { line, cause }),
-    }
+    let (runs, _) = read_rows(alloc, bytes, TraceCause::Header, &records)?;
+    Ok(runs)
 }
 
 // The records of a trace of a set.

@@ -3,6 +3,7 @@ ghost use Rattle.std.specs.Prelude.{◌≡◌, ◌+◌, ◌≤◌, length, optio
 ghost use lib.Pointwise.{pointwise};
 ghost use Rattle.std.specs.Str.{bytes_eq};
 ghost use Rattle.csv.specs.Records.{fields_of};
+ghost use Rattle.csv_records.specs.Fields.{field};
 ghost use Rattle.numeral.specs.Numeral as text;
 ghost use Rattle.mc_task.specs.Faults.{named};
 ghost use Rattle.mc_model.specs.Sums.{total};
@@ -14,6 +15,7 @@ use crate::TraceCause;
 use crate::event::Event;
 use crate::version::Version;
 use csv::ByteRecord;
+use csv_records::{field, is};
 use mc_model::{How, Run};
 use mc_task::{JobId, TaskNo, TaskSet};
 use numeral::number;
@@ -56,48 +58,7 @@ fn is_second_header(fields: &ByteRecord) -> bool
                         && (is(field(fields, 4), "job") && is(field(fields, 5), "how"))))))
 }
 
-// Whether the field is this word, which is asked at once where it has four bytes.
-#[inline(always)]
-fn is(field: &[u8], word: &str) -> bool
-    ensures { result ≡ bytes_eq field.now word.now }
-{
-    match (
-        <[u8; 4]>::try_from(field),
-        <[u8; 4]>::try_from(word.as_bytes()),
-    ) {
-        (Ok(field), Ok(word)) => are_same(field, word),
-        _ => is_long(field, word),
-    }
-}
-
-// Whether the four bytes are the same, as one number.
-#[inline(always)]
-fn are_same(bytes: [u8; 4], others: [u8; 4]) -> bool
-    ensures { result ≡ bytes_eq bytes others }
-{
-    u32::from_le_bytes(bytes) == u32::from_le_bytes(others)
-}
-
-// A word is short and its length is known here, so `starts_with` is a compare or two in place, where `==` is a call.
-#[inline(always)]
-fn is_long(field: &[u8], word: &str) -> bool
-    ensures { result ≡ bytes_eq field.now word.now }
-{
-    field.len() == word.len() && field.starts_with(word.as_bytes())
-}
-
-// The field at this place, from 0; empty where there is none.
-#[inline(always)]
-fn field(fields: &ByteRecord, place: usize) -> &[u8]
-    ensures { result.now ≡ event.field (fields_of fields.now) place }
-{
-    match fields.get(place) {
-        Some(field) => field,
-        None => b"",
-    }
-}
-
-// The place of the task's field, which the job's and the how's stand behind.
+// The place of the task's field; the job's and the how's come after it.
 #[inline(always)]
 fn task_place(version: Version) -> usize
     ensures place { result ≡ event.task_place version }
@@ -130,7 +91,7 @@ pub fn wrong_width(version: Version) -> TraceCause
     }
 }
 
-// The run of a record behind the runs before it, at the tick that is due there. The likely task is looked for first.
+// The run of a record after these runs, at the tick that is due there. The likely task is looked for first.
 // It has one caller, so that it is taken into the loop over the records.
 #[tactic(auto, unfolding(crate::specs::TraceFile::record_run))]
 pub fn record_run(
@@ -263,7 +224,7 @@ fn numbers_told(version: Version, fields: &ByteRecord, told: Event) -> Option<Nu
 // The tick of a record.
 #[inline(always)]
 fn tick_in(fields: &ByteRecord) -> Option<u32>
-    ensures { result ≡ text.number (event.field (fields_of fields.now) 1) }
+    ensures { result ≡ text.number (field (fields_of fields.now) 1) }
 {
     number(field(fields, 1))
 }
@@ -271,7 +232,7 @@ fn tick_in(fields: &ByteRecord) -> Option<u32>
 // The count of the job.
 #[inline(always)]
 fn count_in(version: Version, fields: &ByteRecord) -> Option<u32>
-    ensures { result ≡ text.number (event.field (fields_of fields.now) (event.task_place version + 1)) }
+    ensures { result ≡ text.number (field (fields_of fields.now) (event.task_place version + 1)) }
 {
     number(field(fields, task_place(version) + 1))
 }

@@ -17,16 +17,6 @@ pub fn write_trace(alloc: Global, set: &TaskSet, runs: &[Run]) -> Result<Vec<u8>
     ensures reads_back { IfOk result (λ text. trace_file set.now.tasks text.items ≡ Ok runs.now) }
 {
     let _is_set = set.len();
-    let text = runs_text(alloc, set, runs)?;
-    Ok(text)
-}
-
-fn runs_text(alloc: Global, set: &TaskSet, runs: &[Run]) -> Result<Vec<u8>, AllocError>
-    requires runs { AreRuns runs.now }
-    requires tasks { All (IsRunOfSet set.now.tasks) runs.now }
-    ensures text { IfOk result (λ text. text.items ≡ runs_text set.now.tasks runs.now) }
-    ensures writable { IfOk result (λ text. All (IsWritable set.now.tasks) runs.now) }
-{
     let mut out = Vec::new(alloc);
     out.extend_from_slice(b"event,tick,length,task,job,how\n")?;
     let mut tick = 0u32;

@@ -36,7 +36,8 @@ use Rattle.trace_judge.specs.Tracks.{StopsAt, Tracks}
 use Rattle.trace_judge.specs.declared.waiting.Pending.{Pending}
 use Rattle.trace_judge.specs.Entries.{Entry, is_of}
 use Rattle.trace_judge.specs.declared.state.State.{State}
-use Rattle.trace_judge.specs.Switch.{Ticks}
+use Rattle.trace_judge.specs.Steps.{GoesOn, Ends}
+use Rattle.trace_judge.specs.Switch.{Overruns}
 use Rattle.trace_judge.proofs.Firsts.{found_any}
 use Rattle.trace_judge.proofs.Placed.{pending_is}
 use Rattle.trace_judge.proofs.Faults.{found_least, pending_same, least_same, found_used, stands_least, over_virtual}
@@ -161,6 +162,12 @@ stops set rule g s j More n k p task i fit e h =
       there = more_stops set rule j fit g (is_there set rule g s j More n k p task i) (is_first set rule g s j More n k p task i) (omega (arith, e, h, b.0, b.1, b.2));
     }
 stops set rule g s j how n k p task i fit e h = one_stops set rule g s j how n k p task i fit e h
+
+-- n ticks of the job of task t after each of which it goes on; or one tick, with which it overran or ended
+abbrev pub Ticks : List Task → Rule → Option Task → JobId → Pending → How → ℕ → State → State → Type 0
+Ticks set rule t j p More n old new = GoesOn n j old new
+Ticks set rule t j p Over n old new = Overruns set rule j old new
+Ticks set rule t j p how n old new = Ends t j p old new
 
 -- where all fit, what is kept follows them
 pub goes :

@@ -30,7 +30,7 @@ use Rattle.trace_judge.specs.Entries.{Held}
 use Rattle.trace_judge.specs.Lates.{IsEarliest}
 use Rattle.trace_judge.specs.Steps.{IsNew}
 use Rattle.trace_judge.specs.Tracks.{Tracks, StopsAt}
-use Rattle.trace_judge.specs.Watched.{Watched, Watches, Follows, unfit_in, is_none}
+use Rattle.trace_judge.specs.Watched.{Watched, Watches, TracksOrUnfit, unfit_in, is_none}
 use Rattle.trace_judge.proofs.Reading.{copies_split}
 use Rattle.trace_judge.proofs.Verdicts.{fault_stays}
 
@@ -100,7 +100,7 @@ a_monitor set rule s u = record { set = set; rule = rule; state = s; unfit = u }
 
 -- of a monitor that has found no row that does not fit, what is kept follows the rows
 pub tracked : (h : List Row) (m : Watched) → m.unfit ≡ None → Watches h m → Legal m.set.tasks m.rule h × Tracks m.set.tasks m.rule h m.state
-tracked h m e w = subst (λ (o : Option Unfit). Follows h m.set.tasks m.rule m.state o) e w
+tracked h m e w = subst (λ (o : Option Unfit). TracksOrUnfit h m.set.tasks m.rule m.state o) e w
 
 -- it has found none where each row has fitted
 pub none_found : (o : Option Unfit) → is_none o ≡ true → o ≡ None
@@ -109,11 +109,11 @@ none_found (Some u) e = cc
 
 -- and of one that has found one, it stays the first
 pub stays_found : (xs h : List Row) (m : Watched) (u : Unfit) → m.unfit ≡ Some u → Watches h m → unfit_in m.set.tasks m.rule (xs ++ h) ≡ Some u
-stays_found xs h m u e w = unfit_stays m.set.tasks m.rule u xs h (subst (λ (o : Option Unfit). Follows h m.set.tasks m.rule m.state o) e w)
+stays_found xs h m u e w = unfit_stays m.set.tasks m.rule u xs h (subst (λ (o : Option Unfit). TracksOrUnfit h m.set.tasks m.rule m.state o) e w)
 
 -- so it has seen the later rows
 pub still_watches : (xs h : List Row) (m : Watched) (u : Unfit) → m.unfit ≡ Some u → Watches h m → Watches (xs ++ h) m
-still_watches xs h m u e w = subst (λ (o : Option Unfit). Follows (xs ++ h) m.set.tasks m.rule m.state o) (sym e) (stays_found xs h m u e w)
+still_watches xs h m u e w = subst (λ (o : Option Unfit). TracksOrUnfit (xs ++ h) m.set.tasks m.rule m.state o) (sym e) (stays_found xs h m u e w)
 
 -- a verdict on all rows that a monitor may have seen is that on these, by its set and its rule
 pub said_of : (h : List Row) (m : Watched) (v : Verdict) → Watches h m → ((k : List Row) → Watches k m → v ≡ verdict m.set.tasks m.rule k) →

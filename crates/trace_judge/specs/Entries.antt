@@ -46,11 +46,11 @@ late_job j p = record { place = p.place; job = j }
 abbrev pub late_job_of : Entry → LateJob
 late_job_of e = late_job (record { task = record { 0 = e.0.1 }; count = e.0.2 }) e.1
 
--- with n more ticks used, as far as a count can go
+-- a pending job with n more ticks used, as far as a count can go
 abbrev pub ticked : ℕ → Pending → Pending
 ticked n p = record { release = p.release; used = min (p.used + n) (2 ^ 64 - 1); place = p.place }
 
--- so has the entry's job
+-- the entry whose job has n more ticks used
 abbrev pub spent_entry : ℕ → Entry → Entry
 spent_entry n e = (e.0, ticked n e.1)
 
@@ -61,6 +61,8 @@ pending_in es j = list_any (is_of j) es
 -- where the job stands among the entries: it has none, or an entry has a lesser key than its own, or none has
 abbrev pub Stands : List Entry → JobId → Standing → Type 0
 Stands es j NotPending = pending_in es j ≡ false
-Stands es j NotLeast = (e : Entry) × (find (is_of j) es ≡ Some e) × (list_all (λ o. nat_le e.0.0 o.0.0) es ≡ false)
+Stands es j NotLeast =
+    (e : Entry) × (find (is_of j) es ≡ Some e) × (list_all (λ o. nat_le e.0.0 o.0.0) es ≡ false)
 Stands es j (Least pending) =
-    (key : ℕ) × (find (is_of j) es ≡ Some ((key, j.task.0, j.count), pending)) × (list_all (λ o. nat_le key o.0.0) es ≡ true)
+    (key : ℕ) × (find (is_of j) es ≡ Some ((key, j.task.0, j.count), pending))
+    × (list_all (λ o. nat_le key o.0.0) es ≡ true)

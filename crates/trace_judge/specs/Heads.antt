@@ -9,23 +9,24 @@ no_key = 2 ^ 128 - 1
 abbrev pub IsLesser : List ℕ → ℕ → Type 0
 IsLesser nodes k = slice_index nodes k ≡ min (slice_index nodes (2 * k)) (slice_index nodes (2 * k + 1))
 
--- so does each place that has two below it, except perhaps this one
+-- each place that has two below it, except perhaps this one, holds the lesser of these two
 abbrev pub IsTreeBut : ℕ → List ℕ → Type 0
 IsTreeBut except nodes = (k : ℕ) → 1 ≤ k → 2 * k + 1 < length nodes → k ≢ except → IsLesser nodes k
 
--- so does each place that has two below it
+-- each place that has two below it holds the lesser of these two
 abbrev pub IsTree : List ℕ → Type 0
 IsTree nodes = (k : ℕ) → 1 ≤ k → 2 * k + 1 < length nodes → IsLesser nodes k
 
 -- the two below this place have been lowered to this key, and it not yet
 abbrev pub IsLowered : ℕ → ℕ → List ℕ → Type 0
-IsLowered k key nodes = 1 ≤ k → min (slice_index nodes k) key ≡ min (slice_index nodes (2 * k)) (slice_index nodes (2 * k + 1))
+IsLowered k key nodes =
+    1 ≤ k → min (slice_index nodes k) key ≡ min (slice_index nodes (2 * k)) (slice_index nodes (2 * k + 1))
 
--- the last half
+-- the leaves of a tree: the last half of its places
 abbrev pub leaves : List ℕ → List ℕ
 leaves nodes = drop (length nodes / 2) nodes
 
--- a tree over so many leaves, at least one
+-- a tree with as many leaves as other places, and at least one leaf
 pub record AreNodes (nodes : List ℕ) : Type 0 where
   pub some : 2 ≤ length nodes
   pub even : length nodes ≡ 2 * (length nodes / 2)

@@ -9,11 +9,11 @@ abbrev pub earlier : Option LateJob → LateJob → Option LateJob
 earlier None late = Some late
 earlier (Some first) late = cond (nat_lt late.place first.place) (Some late) (Some first)
 
--- with one more late job, as far as a count can go
+-- the late jobs with one more, counted as far as a count can go
 abbrev pub noted : Lates → LateJob → Lates
 noted s late = record { count = min (s.count + 1) (2 ^ 64 - 1); first = earlier s.first late }
 
--- the two are one job, released at one place
+-- whether two late jobs are one job, released in one row
 abbrev pub same_late : LateJob → LateJob → Bool
 same_late m x = (x.place == m.place) && same_job x.job m.job
 
@@ -21,9 +21,10 @@ same_late m x = (x.place == m.place) && same_job x.job m.job
 -- none of them stands before it; or there is none
 abbrev pub IsEarliest : Option LateJob → ((LateJob → ℕ) → ℕ) → Type 0
 IsEarliest None weigh = weigh (λ x. 1) ≡ 0
-IsEarliest (Some m) weigh = (1 ≤ weigh (λ x. cond (same_late m x) 1 0)) × (weigh (λ x. cond (nat_lt x.place m.place) 1 0) ≡ 0)
+IsEarliest (Some m) weigh =
+    (1 ≤ weigh (λ x. cond (same_late m x) 1 0)) × (weigh (λ x. cond (nat_lt x.place m.place) 1 0) ≡ 0)
 
--- these are so many, and this is the first of them
+-- the count and the first of the late jobs that are known by their sums
 pub record CountsLates (s : Lates) (weigh : (LateJob → ℕ) → ℕ) : Type 0 where
   pub count : s.count ≡ min (weigh (λ x. 1)) (2 ^ 64 - 1)
   pub first : IsEarliest s.first weigh

@@ -17,7 +17,7 @@ pub record Placed : Type 0 where
   pub live : KeptRelease
   pub place : ℕ
 
--- a release of the job behind these rows
+-- a release of the job after these rows
 abbrev pub new_one : JobId → List Row → Placed
 new_one j g = record { live = record { job = j; release = ticks g }; place = length g }
 
@@ -29,7 +29,8 @@ placed (row ∷ g) = placed g
 
 -- what a tick with this outcome leaves pending: an end takes its job out, an overrun the low jobs
 abbrev pub stays : List Task → JobId → How → Placed → Bool
-stays set j how x = not (is_end how && same_job j x.live.job) && (not (is_over how) || is_high_in (task_at set x.live.job.task.0))
+stays set j how x = not (is_end how && same_job j x.live.job)
+    && (not (is_over how) || is_high_in (task_at set x.live.job.task.0))
 
 -- the pending ones of them
 abbrev pub waiting : List Task → List Row → List Placed
@@ -42,8 +43,9 @@ waiting set (Idle ∷ g) = waiting set g
 abbrev pub is_due : List Task → ℕ → Placed → Bool
 is_due set now x = nat_le (deadline set x.live) now
 
--- the jobs that ended or were discarded at a tick behind their deadlines
+-- the jobs that ended or were discarded at a tick after their deadlines
 abbrev pub gone_late : List Task → List Row → List Placed
 gone_late set [] = []
-gone_late set (Tick j how ∷ g) = filter (λ x. not (stays set j how x) && is_due set (ticks g) x) (waiting set g) ++ gone_late set g
+gone_late set (Tick j how ∷ g) =
+    filter (λ x. not (stays set j how x) && is_due set (ticks g) x) (waiting set g) ++ gone_late set g
 gone_late set (row ∷ g) = gone_late set g

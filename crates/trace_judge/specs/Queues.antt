@@ -1,4 +1,4 @@
--- The pending jobs as they are kept: those of each task in a queue.
+-- The pending jobs as the judge keeps them: in a queue for each task.
 use Rattle.std.specs.Prelude.{◌≡◌, ℕ, ◌+◌, ◌-◌, ◌^◌, ◌<◌, ◌≤◌, ◌==◌, Bool, List, [], ◌∷◌, ◌++◌, length, map, drop, slice_index_or}
 use Rattle.std.specs.List.{AllByRecursion}
 use Rattle.trace_judge.specs.declared.queue.Queued.{Queued}
@@ -23,7 +23,7 @@ abbrev pub IsQueue : List Queued → Type 0
 IsQueue [] = Unit {0}
 IsQueue (q ∷ qs) = (q.key < no_key) × AllByRecursion (λ r. q.key ≤ r.key) qs × IsQueue qs
 
--- the place behind the jobs whose keys are not greater
+-- the place after the jobs whose keys are not greater
 pub record IsPlaceFor (qs : List Queued) (key place : ℕ) : Type 0 where
   pub inside : place ≤ length qs
   pub behind : (d : Queued) → 1 ≤ place → (slice_index_or qs (place - 1) d).key ≤ key
@@ -33,7 +33,7 @@ pub record IsPlaceFor (qs : List Queued) (key place : ℕ) : Type 0 where
 abbrev pub entry_in : ℕ → Queued → Entry
 entry_in k q = ((q.key, k, q.count), q.pending)
 
--- the entries of these queues, the first of which is that of task number k
+-- the entries of these queues, the first of which belongs to task number k
 abbrev pub entries_from : ℕ → List (List Queued) → List Entry
 entries_from k [] = []
 entries_from k (q ∷ qs) = map (entry_in k) q ++ entries_from (k + 1) qs

@@ -18,9 +18,10 @@ budget rule high t = cond (is_high_in t && is_virtual rule && not high) (low_in 
 
 -- the u-th tick of a job of the task may end so
 abbrev pub allows : Rule → Bool → Option Task → ℕ → How → Bool
-allows rule high t u how = (is_done how && nat_le u (own_in t)) || same_how how (cond (u == own_in t) Stop (cond (overruns rule high t u) Over More))
+allows rule high t u how = (is_done how && nat_le u (own_in t))
+    || same_how how (cond (u == own_in t) Stop (cond (overruns rule high t u) Over More))
 
--- how many of the next n ticks of a job of the task may end so, where it has used so many
+-- how many of the next n ticks of a job of the task may end so, by the ticks that it has used
 abbrev pub fitting : Rule → Bool → Option Task → ℕ → How → ℕ → ℕ
 fitting rule high t used More n = min n (budget rule high t - used - 1)
 fitting rule high t used how n = cond (allows rule high t (used + 1) how) n 0

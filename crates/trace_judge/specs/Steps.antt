@@ -31,7 +31,7 @@ release_why now high note t j kept =
     ∷ []
     )
 
--- nothing was read yet, of a set of so many tasks
+-- the state before any row, for a set of n tasks
 pub record IsNew (count : ℕ) (s : State) : Type 0 where
   pub ticks : s.ticks ≡ 0
   pub place : s.place ≡ 0
@@ -51,9 +51,12 @@ pub record Releases (rule : Rule) (t : Option Task) (j : JobId) (kept : Bool) (o
   pub ticks : new.ticks ≡ old.ticks
   pub place : new.place ≡ old.place + 1
   pub mode : new.high_mode ≡ old.high_mode
-  pub tasks : new.tasks.items ≡ slice_set old.tasks.items (j.task.0 - 1) (record { releases = j.count; next = old.ticks + period_in t })
+  pub tasks : new.tasks.items ≡ slice_set old.tasks.items (j.task.0 - 1)
+      (record { releases = j.count; next = old.ticks + period_in t })
   pub queues : new.waiting.tasks ≡ old.waiting.tasks
-  pub waiting : Waits kept ((key_of rule old.high_mode t old.ticks, j.task.0, j.count), record { release = old.ticks; used = 0; place = old.place }) old.waiting.entries new.waiting.entries
+  pub waiting : Waits kept
+      ((key_of rule old.high_mode t old.ticks, j.task.0, j.count), record { release = old.ticks; used = 0; place = old.place })
+      old.waiting.entries new.waiting.entries
   pub lates : new.lates ≡ old.lates
 
 -- n more ticks, and as many more rows

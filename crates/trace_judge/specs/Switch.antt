@@ -4,8 +4,6 @@ use Rattle.mc_task.specs.declared.task.JobId.{JobId}
 use Rattle.mc_task.specs.declared.task.Rule.{Rule}
 use Rattle.mc_task.specs.declared.task.Task.{Task}
 use Rattle.mc_task.specs.TaskSet.{task_at}
-use Rattle.mc_model.specs.declared.row.How.{How}
-use Rattle.mc_model.specs.declared.row.How.TheVariants.{More, Over}
 use Rattle.mc_model.specs.TaskNumbers.{is_high_in}
 use Rattle.mc_model.specs.Key.{key_of}
 use Rattle.trace_judge.specs.declared.waiting.Pending.{Pending}
@@ -16,17 +14,17 @@ use Rattle.mc_model.specs.Sums.{total}
 use Rattle.trace_judge.specs.Firsts.{change_first}
 use Rattle.trace_judge.specs.Entries.{Rank, Entry, is_of, spent_entry, late_job_of}
 use Rattle.trace_judge.specs.Rules.{is_due_at}
-use Rattle.trace_judge.specs.Steps.{Moves, GoesOn, Ends}
+use Rattle.trace_judge.specs.Steps.{Moves}
 
 -- the entry's deadline has come
 abbrev pub is_due_entry : List Task → ℕ → Entry → Bool
 is_due_entry set now e = is_due_at (task_at set e.0.1) e.1.release now
 
--- so has that of a low one, which is discarded
+-- the entry is of a low task, whose jobs an overrun discards, and the job's deadline has come
 abbrev pub is_discarded_late : List Task → ℕ → Entry → Bool
 is_discarded_late set now e = not (is_high_in (task_at set e.0.1)) && is_due_entry set now e
 
--- those of the entries that are meant are noted as late, one after the other
+-- the late jobs, with each of the entries that pass the test noted, one after the other
 abbrev pub noted_each : (Entry → Bool) → Lates → List Entry → Lates
 noted_each p s [] = s
 noted_each p s (e ∷ es) = noted_each p (cond (p e) (noted s (late_job_of e)) s) es
@@ -38,7 +36,8 @@ rekeyed rule (Some t) at p = (key_of rule true (Some t) p.release, at.1, at.2)
 
 -- a weight of the high entries at their new ranks, where the low ones weigh nothing
 abbrev pub moved : List Task → Rule → (Entry → ℕ) → Entry → ℕ
-moved set rule f e = cond (is_high_in (task_at set e.0.1)) (f (rekeyed rule (task_at set e.0.1) e.0 e.1, e.1)) 0
+moved set rule f e =
+    cond (is_high_in (task_at set e.0.1)) (f (rekeyed rule (task_at set e.0.1) e.0 e.1, e.1)) 0
 
 -- of the entries the high ones are kept, at their new ranks
 abbrev pub Switches : List Task → Rule → List Entry → List Entry → Type 0
@@ -52,9 +51,3 @@ pub record Overruns (set : List Task) (rule : Rule) (j : JobId) (old new : State
   pub switches : Switches set rule old.waiting.entries switched
   pub waiting : new.waiting.entries ≡ change_first (is_of j) (spent_entry 1) switched
   pub lates : new.lates ≡ noted_each (is_discarded_late set old.ticks) old.lates old.waiting.entries
-
--- n ticks of the job of task t behind which it goes on, or one that ended so
-abbrev pub Ticks : List Task → Rule → Option Task → JobId → Pending → How → ℕ → State → State → Type 0
-Ticks set rule t j p More n old new = GoesOn n j old new
-Ticks set rule t j p Over n old new = Overruns set rule j old new
-Ticks set rule t j p how n old new = Ends t j p old new

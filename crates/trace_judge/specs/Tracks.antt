@@ -17,10 +17,12 @@ use Rattle.trace_judge.specs.Placed.{Placed, waiting, gone_late}
 use Rattle.trace_judge.specs.Lates.{CountsLates}
 use Rattle.trace_judge.specs.Entries.{Entry, HasQueues}
 
--- the entry of a pending job behind these rows
+-- the entry of a pending job after these rows
 abbrev pub entry_of : List Task → Rule → List Row → Placed → Entry
-entry_of set rule g x =
-    ((key set rule (high_mode rule g) x.live, x.live.job.task.0, x.live.job.count), record { release = x.live.release; used = used g x.live.job; place = x.place })
+entry_of set rule g x = (
+  (key set rule (high_mode rule g) x.live, x.live.job.task.0, x.live.job.count),
+  record { release = x.live.release; used = used g x.live.job; place = x.place },
+)
 
 -- the job, as a late one
 abbrev pub late_job_in : Placed → LateJob
@@ -32,9 +34,11 @@ pub record Tracks (set : List Task) (rule : Rule) (g : List Row) (s : State) : T
   pub place : s.place ≡ length g
   pub mode : s.high_mode ≡ high_mode rule g
   pub count : length s.tasks.items ≡ length set
-  pub tasks : (k : ℕ) → k < length set → slice_get s.tasks.items k ≡ Some (record { releases = releases g (k + 1); next = next_release set g (k + 1) })
+  pub tasks : (k : ℕ) → k < length set
+      → slice_get s.tasks.items k ≡ Some (record { releases = releases g (k + 1); next = next_release set g (k + 1) })
   pub queues : HasQueues s.waiting set
-  pub waiting : (f : Entry → ℕ) → total f s.waiting.entries ≡ total (λ x. f (entry_of set rule g x)) (waiting set g)
+  pub waiting : (f : Entry → ℕ)
+      → total f s.waiting.entries ≡ total (λ x. f (entry_of set rule g x)) (waiting set g)
   pub lates : CountsLates s.lates (λ f. total (λ x. f (late_job_in x)) (gone_late set g))
 
 -- the rows of the run before this one fit, and this one is the first that does not, for this part
@@ -43,7 +47,9 @@ pub record StopsAt (set : List Task) (rule : Rule) (run : Run) (g : List Row) (m
   pub before : Legal set rule (replicate misfit.after (row_of run) ++ g)
   pub there : fault set rule (row_of run) (replicate misfit.after (row_of run) ++ g) ≡ Some misfit.why
 
--- behind legal rows that are tracked: each row of the run fits and what is kept follows them, or this is the first that does not
+-- after legal rows that are tracked: each row of the run fits and is tracked, or this is the first row that does not fit
 abbrev pub IsStep : List Task → Rule → Run → State → Option Misfit → State → Type 0
-IsStep set rule run old None new = (g : List Row) → Legal set rule g → Tracks set rule g old → Legal set rule (rows_of run ++ g) × Tracks set rule (rows_of run ++ g) new
-IsStep set rule run old (Some misfit) new = (g : List Row) → Legal set rule g → Tracks set rule g old → StopsAt set rule run g misfit
+IsStep set rule run old None new = (g : List Row) → Legal set rule g → Tracks set rule g old
+    → Legal set rule (rows_of run ++ g) × Tracks set rule (rows_of run ++ g) new
+IsStep set rule run old (Some misfit) new =
+    (g : List Row) → Legal set rule g → Tracks set rule g old → StopsAt set rule run g misfit

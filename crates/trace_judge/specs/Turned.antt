@@ -16,18 +16,22 @@ use Rattle.trace_judge.specs.Switch.{is_due_entry}
 abbrev pub is_turned : List Task → ℕ → ℕ → KeptRelease → Bool
 is_turned set since now i = nat_le (deadline set i) now && not (nat_le (deadline set i) since)
 
--- so it is by what is kept of the job
+-- the deadline of the entry's job has come by boundary now, and had not come at boundary since
 abbrev pub is_turned_entry : List Task → ℕ → ℕ → Entry → Bool
 is_turned_entry set since now e = is_due_entry set now e && not (is_due_entry set since e)
 
 -- the jobs of those entries
 abbrev pub turned_of : List Task → ℕ → ℕ → List Entry → List JobId
-turned_of set since now es = map (λ e. record { task = record { 0 = e.0.1 }; count = e.0.2 }) (filter (is_turned_entry set since now) es)
+turned_of set since now es = map (λ e. record { task = record { 0 = e.0.1 }; count = e.0.2 })
+    (filter (is_turned_entry set since now) es)
 
--- each pending job whose deadline has come since then stands once among these jobs, and no other does: each weight of the ones is that of the others
+-- the pending jobs whose deadline has come since then are these jobs, each of them once: every sum of weights over the ones
+-- is the sum over the others
 abbrev pub AreTurned : List Task → List Row → ℕ → List JobId → Type 0
-AreTurned set h since jobs = (f : JobId → ℕ) → total f jobs ≡ total f (map (λ i. i.job) (filter (is_turned set since (ticks h)) (pending set h)))
+AreTurned set h since jobs = (f : JobId → ℕ)
+    → total f jobs ≡ total f (map (λ i. i.job) (filter (is_turned set since (ticks h)) (pending set h)))
 
 -- after the run the late jobs are these and those that were late before it
 abbrev pub AddLate : List Task → Run → List Row → List JobId → Type 0
-AddLate set run h jobs = (f : JobId → ℕ) → total f (late set (rows_of run ++ h)) ≡ total f (late set h) + total f jobs
+AddLate set run h jobs =
+    (f : JobId → ℕ) → total f (late set (rows_of run ++ h)) ≡ total f (late set h) + total f jobs

@@ -22,23 +22,23 @@ pub record Watched : Type 0 where
 abbrev pub unfit_in : List Task → Rule → List Row → Option Unfit
 unfit_in set rule h = option_map (λ f. record { place = f.place; why = f.why }) (first_unfit set rule h)
 
--- what is kept follows these rows, or one of them is the first that does not fit
-abbrev pub Follows : List Row → List Task → Rule → State → Option Unfit → Type 0
-Follows h set rule s None = Legal set rule h × Tracks set rule h s
-Follows h set rule s (Some u) = unfit_in set rule h ≡ Some u
+-- the rows are legal and the state tracks them; or this is the first of them that does not fit
+abbrev pub TracksOrUnfit : List Row → List Task → Rule → State → Option Unfit → Type 0
+TracksOrUnfit h set rule s None = Legal set rule h × Tracks set rule h s
+TracksOrUnfit h set rule s (Some u) = unfit_in set rule h ≡ Some u
 
--- the monitor has seen these rows
+-- the monitor has seen these rows: its state tracks them, or it has found the first that does not fit
 abbrev pub Watches : List Row → Watched → Type 0
-Watches h m = Follows h m.set.tasks m.rule m.state m.unfit
+Watches h m = TracksOrUnfit h m.set.tasks m.rule m.state m.unfit
 
--- the rule fits, and what is kept follows some rows
+-- the rule fits, and the state tracks some legal rows
 pub record IsWatched (set : List Task) (rule : Rule) (s : State) : Type 0 where
   pub fits : Fits rule
   pub rows : List Row
   pub legal : Legal set rule rows
   pub tracks : Tracks set rule rows s
 
--- there is none
+-- whether no row failed
 abbrev pub is_none : Option Unfit → Bool
 is_none None = true
 is_none (Some u) = false

@@ -30,7 +30,7 @@ impl Model for Heads {
 }
 
 impl Heads {
-    /// So many queues without a job.
+    /// The heads of `count` queues without a job.
     pub fn new(alloc: Global, count: u32) -> Result<Heads, Memory>
         requires { 1 ≤ count }
         ensures { IfOk result (λ heads. heads ≡ replicate count no_key) }
@@ -65,7 +65,7 @@ impl Heads {
     }
 }
 
-// A tree for so many queues without a job.
+// A tree for `count` queues without a job.
 fn no_keys(alloc: Global, count: usize) -> Result<Vec<u128>, AllocError>
     requires { count < 2 ^ 32 }
     ensures { IfOk result (λ nodes. nodes.items ≡ replicate (2 * count) no_key) }

@@ -51,7 +51,7 @@ impl Queue {
         }
     }
 
-    /// Puts a job in, behind those whose keys are not greater, and tells whether it is the first.
+    /// Puts a job in, after those whose keys are not greater, and returns whether it is the first.
     #[inline(always)]
     pub fn push(&mut self, job: Queued) -> Result<bool, Memory>
         requires { job.key < no_key }
@@ -84,7 +84,7 @@ impl Queue {
         Some(self.jobs[place])
     }
 
-    /// Counts so many more ticks of the first job of this count.
+    /// Counts `ticks` more ticks of the first job of this count.
     pub fn spend(&mut self, count: u32, ticks: u32)
         ensures jobs { self.new ≡ change_first (has_count count) (spent_job ticks) self.old }
         ensures ordered { IsQueue self.new }
@@ -122,7 +122,7 @@ impl Queue {
     }
 }
 
-// The place behind the jobs whose keys are not greater. Mostly a task has no other job, so that is asked first.
+// The place after the jobs whose keys are not greater. A task mostly has no other job, so that is asked first.
 #[inline(always)]
 fn place_for(jobs: &VecDeque<Queued>, key: u128) -> usize
     requires { IsQueue jobs.now.items }
@@ -138,7 +138,7 @@ fn place_for(jobs: &VecDeque<Queued>, key: u128) -> usize
     place
 }
 
-// Puts a job in at this place, which is the last one for a job that was released behind all others.
+// Puts a job in at this place, which is the last one for a job that was released after all others.
 #[inline(always)]
 fn put_at(jobs: &mut VecDeque<Queued>, place: usize, job: Queued) -> Result<(), AllocError>
     requires { place ≤ length jobs.old.items }

@@ -34,7 +34,7 @@ fn budget(rule: Rule, high_mode: bool, task: &Task) -> u32
     }
 }
 
-/// How many of so many next ticks of a job of the task may end so, where it has had so many ticks.
+/// How many of the next `length` ticks of a job of the task may end so, if it has had `used` ticks.
 pub fn fitting(rule: Rule, high_mode: bool, task: &Task, used: u64, how: How, length: u32) -> u32
     ensures { result ≡ fitting rule high_mode (Some task.now) used how length }
 {
@@ -53,7 +53,7 @@ pub fn fitting(rule: Rule, high_mode: bool, task: &Task, used: u64, how: How, le
     }
 }
 
-// Whether the next tick of a job of the task may end so, where it has had so many ticks.
+// Whether the next tick of a job of the task may end so, if it has had `used` ticks.
 fn is_allowed(rule: Rule, high_mode: bool, task: &Task, used: u64, how: How) -> bool
     ensures { result ≡ allows rule high_mode (Some task.now) (used + 1) how }
 {

@@ -36,7 +36,7 @@ pub struct State {
 }
 
 impl State {
-    /// What is kept before the first row, for so many tasks.
+    /// What is kept before the first row, for `count` tasks.
     pub fn new(alloc: Global, count: u32) -> Result<State, Memory>
         requires { 1 ≤ count }
         ensures { IfOk result (IsNew count) }
@@ -106,7 +106,7 @@ impl State {
         Ok(())
     }
 
-    /// Follows so many idle ticks.
+    /// Follows `length` idle ticks.
     pub fn rest(&mut self, length: u32)
         requires room { self.old.place + length ≤ 2 ^ 62 }
         requires time { self.old.ticks + length ≤ 2 ^ 62 }
@@ -117,7 +117,7 @@ impl State {
         self.high_mode = false;
     }
 
-    /// Follows that many ticks after which the job goes on. No job ends or is discarded at them, so that none is found late.
+    /// Follows `length` ticks after which the job goes on. No job ends or is discarded at them, so none is found late.
     pub fn go_on(&mut self, job: JobId, length: u32)
         requires queue { HasQueue self.old.waiting job.task.0 }
         requires room { self.old.place + length ≤ 2 ^ 62 }

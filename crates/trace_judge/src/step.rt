@@ -15,7 +15,7 @@ use mc_model::{How, Run, Why};
 use mc_task::{JobId, Memory, Rule, Task, TaskNo, TaskSet};
 use std::alloc::Global;
 
-/// The first row of a run that does not fit: so many rows of the run stand before it, and this part of it fails.
+/// The first row of a run that does not fit: how many rows of the run stand before it, and which of its parts fails.
 #[derive(Clone, Copy, Debug, PartialEq, Eq)]
 pub struct Misfit {
     pub after: u32,
@@ -31,7 +31,7 @@ impl Misfit {
     }
 }
 
-// Equal ticks of a job: how each of them ended, and how many they are.
+// Equal ticks of a job: how each of them ended, and how many there are.
 #[derive(Clone, Copy)]
 struct JobTicks {
     job: JobId,

@@ -17,7 +17,7 @@ use std::alloc::Global;
 ///
 /// `Illegal` has the number, from 1, of the first row that does not fit the rows before it, and the first of its parts
 /// that fails; each row of a run counts. `Legal` has the number of late jobs, those that were pending when their
-/// deadlines came, and the one of them that was released first. Want of memory is the only error.
+/// deadlines came, and the one of them that was released first. Running out of memory is the only error.
 pub fn judge(alloc: Global, set: &TaskSet, rule: Rule, runs: &[Run]) -> Result<Verdict, Memory>
     requires fits { Fits rule }
     requires runs { AreRuns runs.now }

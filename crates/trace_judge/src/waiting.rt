@@ -50,7 +50,7 @@ impl Model for Waiting {
 }
 
 impl Waiting {
-    /// No jobs, of so many tasks.
+    /// No jobs, of `count` tasks.
     pub fn new(alloc: Global, count: u32) -> Result<Waiting, Memory>
         requires { 1 ≤ count }
         ensures { IfOk result (λ waiting. waiting ≡ record { tasks = count; entries = [] }) }
@@ -99,7 +99,7 @@ impl Waiting {
     }
 
     /// Puts a pending job in.
-    // A call takes as long as a good part of it.
+    // Inlined: the call would cost about as much as the body.
     #[inline(always)]
     pub fn put(&mut self, at: Rank, pending: Pending) -> Result<(), Memory>
         requires task { HasQueue self.old at.1 }
@@ -122,7 +122,7 @@ impl Waiting {
         Ok(())
     }
 
-    /// Counts so many more ticks of the job.
+    /// Counts `ticks` more ticks of the job.
     pub fn spend(&mut self, job: JobId, ticks: u32)
         requires { HasQueue self.old job.task.0 }
         ensures tasks { self.new.tasks ≡ self.old.tasks }
@@ -156,7 +156,7 @@ impl Waiting {
     }
 }
 
-// A queue without jobs for each of so many tasks.
+// A queue without jobs for each of `count` tasks.
 fn empty_queues(alloc: Global, count: u32) -> Result<Vec<Queue>, AllocError>
     ensures { IfOk result (λ queues. queues.items ≡ replicate count []) }
 {

@@ -1,4 +1,5 @@
--- The state of the tests: counters, one for each seat. An entry is the number of a seat, and a turn adds one to that seat's counter.
+-- The state of the tests: counters, one for each seat. An entry is the number of a seat, and a turn adds one to that seat's
+-- counter.
 use Rattle.std.specs.Prelude.{◌≡◌, ℕ, ◌%◌, ◌^◌, ◌<◌, List, length, slice_index}
 use Rattle.turnstile.specs.History.{made_by}
 
@@ -8,4 +9,5 @@ turns_of k history = length (made_by (λ e. e) k history)
 
 -- each counter is the number of its seat's turns, modulo 2 ^ 64
 abbrev pub CountsTurns : List ℕ → List ℕ → Type 0
-CountsTurns history counters = (k : ℕ) → k < length counters → slice_index counters k ≡ turns_of k history % 2 ^ 64
+CountsTurns history counters =
+    (k : ℕ) → k < length counters → slice_index counters k ≡ turns_of k history % 2 ^ 64

@@ -13,17 +13,18 @@ use Rattle.turnstile.specs.Rule.{HasAllOf}
 use Rattle.turnstile.specs.Seats.{seats_of, fixed_part}
 
 module _ {E F : Type 0} where
-  -- each number below n is the seat's, or that of a seat that it took in
+  -- each number below n is the seat's, or the number of a seat that it took in
   abbrev pub Covers : ℕ → View E F → Type 0
-  Covers n v = (k : ℕ) → k < n → (k ≡ v.number) ⊎ ((i : ℕ) × (r : Report E) × (get_elem? v.joined i ≡ some r) × (r.number ≡ k))
+  Covers n v = (k : ℕ) → k < n → (k ≡ v.number)
+      ⊎ ((i : ℕ) × (r : Report E) × (get_elem? v.joined i ≡ some r) × (r.number ≡ k))
 
 module _ {S E F : Type 0} {kept : Ghosts S E F} where
-  -- what a seat would tell
+  -- what a seat would report
   abbrev pub report : Seat S E F kept → Report E
   report s = report_of s.place.me.0
 
 module _ {S E F : Type 0} (kept : Ghosts S E F) where
-  -- the state is what one history leaves, which has all that the last seat knew and was told
+  -- the state is what one history leaves, which has all that the last seat knew and took from reports
   pub record Unseats (t : Turnstile S E F) (v : View E F) (state : S) : Type 0 where
     pub log : List E
     pub stands : kept.stands 0 log state

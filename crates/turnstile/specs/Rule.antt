@@ -15,7 +15,7 @@ abbrev pub one_if : Bool → ℕ
 one_if true = 1
 one_if false = 0
 
--- the history begins with what a seat told, and has, of the entries with its number, just those that it told
+-- the history begins with what a seat reported, and its entries with the seat's number are just those that it reported
 abbrev pub HasAllOf : {E : Type 0} → (E → ℕ) → List E → Report E → Type 0
 HasAllOf by history r = StartsWith history r.seen × (r.mine ≡ made_by by r.number history)
 
@@ -35,24 +35,26 @@ module _ {E F : Type 0} where
   AllInHand serving next views = (t : ℕ) → serving ≤ t → t < next
       → (id : ℕ) × (v : View E F) × (get_elem? views id ≡ some v) × (v.has_ticket ≡ true) × (v.ticket ≡ t)
 
-  -- the seat of this report was joined into another, and told a beginning of the history, and its own entries in it
+  -- the seat of this report was joined into another, and reported a beginning of the history, and its own entries in it
   abbrev pub IsTold : (E → ℕ) → List E → List (View E F) → Report E → Type 0
   IsTold by history views r = (get_elem? views r.number ≡ some spent_view) × HasAllOf by history r
 
   -- each report that some seat keeps is one of these
   abbrev pub AllTold : (E → ℕ) → List E → List (View E F) → Type 0
-  AllTold by history views = (id k : ℕ) (v : View E F) (r : Report E) → get_elem? views id ≡ some v → get_elem? v.joined k ≡ some r → IsTold by history views r
+  AllTold by history views = (id k : ℕ) (v : View E F) (r : Report E) → get_elem? views id ≡ some v
+      → get_elem? v.joined k ≡ some r → IsTold by history views r
 
   -- the state is out with a seat that is served
   abbrev pub IsAway : List (View E F) → Type 0
   IsAway views = (id : ℕ) × (v : View E F) × (get_elem? views id ≡ some v) × (v.served ≡ true)
 
-module _ {E F : Type 0} (by : E → ℕ) (fixed : F) (seats drawn : ℕ) (history : List E) (made : ℕ) (id : ℕ) (v : View E F) where
-  -- what is so of the seat in place id among those that were made, where so many tickets were drawn
+module _ {E F : Type 0} (by : E → ℕ) (fixed : F) (seats drawn : ℕ) (history : List E) (made : ℕ) (id : ℕ)
+    (v : View E F) where
+  -- what holds of the seat in place id among those that were made, where `drawn` tickets were drawn
   pub record Fits : Type 0 where
-    -- its number is its place, and it knows the turnstile's fixed part and how many seats there are to be
+    -- a live seat has its place as its number, and knows the turnstile's fixed part and how many seats there are to be
     pub told : v.live ≡ true → (v.number ≡ id) × (v.fixed ≡ Some fixed) × (v.seats ≡ seats)
-    -- its ticket is the served one, or will be
+    -- a ticket in hand is the served one, or will be served
     pub range : v.has_ticket ≡ true → (length history ≤ v.ticket) × (v.ticket < drawn)
     -- a seat that is served has the ticket that is served, and has seen the whole history
     pub turn : v.served ≡ true → (v.has_ticket ≡ true) × (v.ticket ≡ length history) × (v.seen ≡ history)
@@ -65,7 +67,8 @@ module _ {E F : Type 0} (by : E → ℕ) (fixed : F) (seats drawn : ℕ) (histor
 module _ {S E F : Type 0} (kept : Ghosts S E F) (fixed : F) (seats : ℕ) where
   -- no seat is served, and the state is in its slot and stands for the history
   abbrev pub IsAtHome : List E → List (maybe.Option (Option S)) → List (View E F) → Type 0
-  IsAtHome history homes views = (x : S) × (homes ≡ some (Some x) ∷ []) × kept.stands 0 history x × (kept.fixed x ≡ fixed)
+  IsAtHome history homes views = (x : S) × (homes ≡ some (Some x) ∷ []) × kept.stands 0 history x
+      × (kept.fixed x ≡ fixed)
       × ((id : ℕ) (v : View E F) → get_elem? views id ≡ some v → v.served ≡ false)
 
   -- what is so between any two steps
@@ -79,7 +82,8 @@ module _ {S E F : Type 0} (kept : Ghosts S E F) (fixed : F) (seats : ℕ) where
     pub few : (length s.views ≤ seats) × (seats ≤ 128)
     -- each ticket that was drawn was served to the end, or is in hand
     pub count : drawn ≡ length history + tickets_out s.views
-    pub each : (id : ℕ) (v : View E F) → get_elem? s.views id ≡ some v → Fits kept.by fixed seats drawn history (length s.views) id v
+    pub each : (id : ℕ) (v : View E F) → get_elem? s.views id ≡ some v
+        → Fits kept.by fixed seats drawn history (length s.views) id v
     -- tickets in hand are distinct, and are the numbers from the served one up to the next to be drawn
     pub differ : TicketsDiffer s.views
     pub in_hand : AllInHand (length history) drawn s.views

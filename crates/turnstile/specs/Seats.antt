@@ -31,7 +31,8 @@ module _ {S E F : Type 0} {kept : Ghosts S E F} where
 
   -- the seat is one of this turnstile
   abbrev pub IsOf : Turnstile S E F → Seat S E F kept → Type 0
-  IsOf t s = (s.place.table_id ≡ t.board.shared.table_id) × (s.place.me.0.fixed ≡ Some (fixed_part kept.fixed t))
+  IsOf t s = (s.place.table_id ≡ t.board.shared.table_id)
+      × (s.place.me.0.fixed ≡ Some (fixed_part kept.fixed t))
 
   -- the history for which the state stood when the turn began
   abbrev pub history : Turn S E F kept → List E
@@ -51,7 +52,8 @@ module _ {S E F : Type 0} {kept : Ghosts S E F} where
 
   -- the turn is one at this turnstile
   abbrev pub IsTurnOf : Turnstile S E F → Turn S E F kept → Type 0
-  IsTurnOf t turn = (turn.claim.place.table_id ≡ t.board.shared.table_id) × (turn.claim.place.me.0.fixed ≡ Some (fixed_part kept.fixed t))
+  IsTurnOf t turn = (turn.claim.place.table_id ≡ t.board.shared.table_id)
+      × (turn.claim.place.me.0.fixed ≡ Some (fixed_part kept.fixed t))
 
   -- a seat with this number that has taken no turn
   abbrev pub IsFresh : ℕ → Seat S E F kept → Type 0
@@ -61,7 +63,7 @@ module _ {S E F : Type 0} {kept : Ghosts S E F} where
   abbrev pub AreFresh : List (Seat S E F kept) → Type 0
   AreFresh seats = (k : ℕ) (d : Seat S E F kept) → k < length seats → IsFresh k (slice_index_or seats k d)
 
-  -- each number below n is that of a seat of the list
+  -- each number below n is the number of a seat of the list
   abbrev pub HasEach : ℕ → List (Seat S E F kept) → Type 0
   HasEach n seats = (k : ℕ) → k < n → list_any (λ s. number s == k) seats ≡ true
 

@@ -1,4 +1,4 @@
--- What each step on a word tells the seat that makes it.
+-- What each step on a word lets the seat know that makes it.
 use Rattle.std.specs.Prelude.{◌≡◌, ◌≢◌, ℕ, ◌%◌, ◌^◌, List, [], ◌∷◌, Option, Some, None, true, false}
 use Rattle.atomic_table.specs.Table.{Me, Step}
 use Rattle.turnstile.specs.declared.board.View.{View}

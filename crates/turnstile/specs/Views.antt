@@ -29,7 +29,7 @@ module _ {E F : Type 0} where
   abbrev pub older_view : View E F → View E F
   older_view v = record v { is_newest = false }
 
-  -- and the new seat has the next number
+  -- the new seat has the next number
   abbrev pub next_view : View E F → View E F
   next_view v = last_view v.fixed v.seats v.next_number
 
@@ -37,15 +37,16 @@ module _ {E F : Type 0} where
   abbrev pub drawn_view : View E F → ℕ → View E F
   drawn_view v t = record v { has_ticket = true; ticket = t }
 
-  -- its ticket is served, and it has seen the whole history
+  -- the seat's ticket is served, and it has seen the whole history
   abbrev pub served_view : View E F → List E → View E F
   served_view v history = record v { served = true; seen = history }
 
   -- it passed the turn on, with one entry more
   abbrev pub left_view : View E F → E → View E F
-  left_view v e = record v { has_ticket = false; served = false; seen = v.seen ++ e ∷ []; mine = v.mine ++ e ∷ [] }
+  left_view v e =
+      record v { has_ticket = false; served = false; seen = v.seen ++ e ∷ []; mine = v.mine ++ e ∷ [] }
 
-  -- what the seat tells when it is joined into another
+  -- what the seat reports when it is joined into another
   abbrev pub report_of : View E F → Report E
   report_of v = record { number = v.number; seen = v.seen; mine = v.mine }
 

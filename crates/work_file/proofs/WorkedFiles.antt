@@ -4,7 +4,7 @@ use Rattle.mc_task.specs.declared.task.Task.{Task}
 use Rattle.mc_task.specs.declared.task.Level.TheVariants.{Low, High}
 use Rattle.mc_model.specs.declared.work.WorkRow.{WorkRow}
 use Rattle.work_file.specs.declared.fault.WorkCause.TheVariants.{BadRecord, Header, UnknownTask, BadNumber, ZeroNeed, Unsorted, TooSoon}
-use Rattle.work_file.specs.declared.fault.WorkFault.TheVariants.{At}
+use Rattle.csv_records.specs.declared.fault.Fault.TheVariants.{At}
 use Rattle.work_file.specs.Rows.{first_bad, row_fault, time_fault}
 use Rattle.work_file.specs.WorkFile.{work_in}
 use Rattle.work_file.proofs.OnLiterals.{work_file_on_literals}

@@ -6,7 +6,7 @@ use Rattle.mc_model.specs.declared.work.WorkRow.{WorkRow}
 use Rattle.work_file.specs.Tracks.{Tracks}
 use Rattle.work_file.specs.declared.next.NextReleases.{NextReleases}
 
--- they are a list of work, and the next releases are those after them
+-- the rows are a list of work, and these are the next releases after them
 pub record AreRead (set : List Task) (rows : List WorkRow) (next : NextReleases) : Type 0 where
   pub few : length rows ≤ 1000000
   pub tracks : Tracks set rows next

@@ -34,7 +34,8 @@ unfoldable pub time_fault : List Task → List WorkRow → WorkRow → Option Wo
 time_fault set before w =
     if w.need == 0 then Some ZeroNeed
     else if nat_lt w.release (last_release before) then Some Unsorted
-    else if nat_lt w.release (next_allowed set before w.task.0) then Some (TooSoon (next_allowed set before w.task.0))
+    else if nat_lt w.release (next_allowed set before w.task.0)
+    then Some (TooSoon (next_allowed set before w.task.0))
     else None
 
 -- why a row of this task, or of none, may not stand after these
@@ -44,7 +45,8 @@ task_fault set before w (Some t) = time_fault set before w
 
 -- why a row may not stand after these
 unfoldable pub row_fault : List Task → List WorkRow → WorkRow → Option WorkCause
-row_fault set before w = if nat_le 1000000 (length before) then Some TooMany else task_fault set before w (task_at set w.task.0)
+row_fault set before w =
+    if nat_le 1000000 (length before) then Some TooMany else task_fault set before w (task_at set w.task.0)
 
 -- the first of more rows that may not stand after those before it, and why
 abbrev pub first_bad_after : List Task → List WorkRow → List WorkRow → Option BadRow

@@ -1,22 +1,17 @@
 -- What the records of a work file say: its rows, or the first refusal.
-use Rattle.std.specs.Prelude.{ℕ, Bool, ◌==◌, nat_le, if◌then◌else◌, List, [], ◌∷◌, codes, length, Option, Some, None, unwrap_or, Result, Ok, Err}
+use Rattle.std.specs.Prelude.{ℕ, Bool, ◌==◌, nat_le, if◌then◌else◌, List, [], ◌∷◌, codes, length, Option, Some, None, Result, Ok, Err}
 use lib.Pointwise.{pointwise}
 use Rattle.std.specs.Str.{bytes_eq}
-use Rattle.csv.specs.Records.{field_at}
-use Rattle.csv_records.specs.Rows.{Means, rows_in, or_fault}
+use Rattle.csv_records.specs.Fields.{field}
+use Rattle.csv_records.specs.Rows.{Means, rows_in}
+use Rattle.csv_records.specs.declared.fault.Fault.{Fault}
 use Rattle.mc_task.specs.declared.task.Task.{Task}
 use Rattle.mc_task.specs.Faults.{named}
 use Rattle.mc_model.specs.declared.work.WorkRow.{WorkRow}
 use Rattle.work_file.specs.declared.fault.WorkCause.{WorkCause}
 use Rattle.work_file.specs.declared.fault.WorkCause.TheVariants.{BadRecord, Header, UnknownTask, BadNumber, TooMany}
-use Rattle.work_file.specs.declared.fault.WorkFault.{WorkFault}
-use Rattle.work_file.specs.declared.fault.WorkFault.TheVariants.{At}
 use Rattle.numeral.specs.Numeral.{number}
 use Rattle.work_file.specs.Rows.{time_fault}
-
--- the field at a place, from 0; empty where there is none
-abbrev pub field : List (List ℕ) → ℕ → List ℕ
-field fields i = unwrap_or (field_at fields i) []
 
 -- the record is `task,release,need`
 abbrev pub is_header : List (List ℕ) → Bool
@@ -26,7 +21,8 @@ is_header fields = pointwise bytes_eq fields (codes "task" ∷ codes "release" �
 abbrev pub numbered_row : ℕ → Option ℕ → Option ℕ → Result WorkRow WorkCause
 numbered_row task None need = Err BadNumber
 numbered_row task (Some release) None = Err BadNumber
-numbered_row task (Some release) (Some need) = Ok (record { task = record { 0 = task }; release = release; need = need })
+numbered_row task (Some release) (Some need) =
+    Ok (record { task = record { 0 = task }; release = release; need = need })
 
 -- the row of a task, or of none, with the release and the need in these fields
 abbrev pub named_row : Option ℕ → List (List ℕ) → Result WorkRow WorkCause
@@ -53,10 +49,10 @@ record_row set before fields =
     if nat_le 1000000 (length before) then Err TooMany
     else if length fields == 3 then in_time set before (row_of set fields) else Err BadRecord
 
--- what the records behind this one mean, if it is the header
+-- what the records after this one mean, if it is the header
 abbrev pub behind_header : List Task → List (List ℕ) → Option (Means WorkRow WorkCause)
 behind_header set fields = if is_header fields then Some (record_row set) else None
 
 -- the rows that a file of these bytes says, or the first refusal
-abbrev pub work_in : List Task → List ℕ → Result (List WorkRow) WorkFault
-work_in set bytes = or_fault At (rows_in (behind_header set) Header bytes)
+abbrev pub work_in : List Task → List ℕ → Result (List WorkRow) (Fault WorkCause)
+work_in set bytes = rows_in (behind_header set) Header bytes

@@ -1,9 +1,3 @@
-ghost use Rattle.std.specs.Prelude.{◌≡◌};
-ghost use Rattle.work_file.specs.declared.fault.WorkFault.TheVariants.{Memory};
-
-use std::alloc::AllocError;
-use thiserror::Error;
-
 /// Why a record of a work file, or a row of a list, is refused.
 #[derive(Clone, Copy, Debug, PartialEq, Eq)]
 pub enum WorkCause {
@@ -25,22 +19,5 @@ pub enum WorkCause {
     TooMany,
 }
 
-/// Why a work file is refused. Lines are numbers of records: the header is line 1, and lines that the reader skips are
-/// not counted.
-#[derive(Clone, Copy, Debug, PartialEq, Eq, Error)]
-pub enum WorkFault {
-    /// Want of memory, which says nothing of the file.
-    #[error("out of memory")]
-    Memory,
-    /// The first record that is refused, and why.
-    #[error("line {line}: {cause:?}")]
-    At { line: u32, cause: WorkCause },
-}
-
-impl From<AllocError> for WorkFault {
-    ghost from_gives = { λ _ e. e ≡ Memory };
-
-    fn from(_: AllocError) -> WorkFault {
-        WorkFault::Memory
-    }
-}
+/// Why a work file is refused.
+pub type WorkFault = csv_records::Fault<WorkCause>;

@@ -1,13 +1,13 @@
 ghost use Rattle.std.specs.Prelude.{◌≤◌, IfOk, length};
+ghost use Rattle.csv_records.specs.Gives.{Gives};
 ghost use Rattle.mc_model.specs.Work.{IsWork};
-ghost use Rattle.work_file.specs.Gives.{Gives};
 ghost use Rattle.work_file.specs.WorkFile.{work_in};
 
 use crate::next::NextReleases;
 use crate::record::{is_header, record_row};
 use crate::{Work, WorkCause, WorkFault};
 use csv::ByteRecord;
-use csv_records::{Meaning, Said, read_rows};
+use csv_records::{Meaning, read_rows};
 use mc_model::WorkRow;
 use mc_task::TaskSet;
 use std::alloc::Global;
@@ -20,15 +20,13 @@ use std::alloc::Global;
 /// each record in turn `TooMany`, the 1,000,001st row; `BadRecord`; `UnknownTask`; `BadNumber`; `ZeroNeed`;
 /// `Unsorted`; `TooSoon`.
 pub fn read_work(alloc: Global, set: &TaskSet, bytes: &[u8]) -> Result<Work, WorkFault>
-    ensures file { Gives result (work_in set.now.tasks bytes.now) }
+    ensures file { Gives (λ work. work) result (work_in set.now.tasks bytes.now) }
     ensures work { IfOk result (λ work. IsWork set.now.tasks work) }
     ensures few { IfOk result (λ work. length work ≤ 1000000) }
 {
     let records = WorkRecords { set };
-    match read_rows(alloc, bytes, WorkCause::Header, &records)? {
-        Said::Rows { rows, .. } => Ok(Work::from_rows(rows)),
-        Said::Refused { line, cause } => Err(WorkFault::At { line, cause }),
-    }
+    let (rows, _) = read_rows(alloc, bytes, WorkCause::Header, &records)?;
+    Ok(Work::from_rows(rows))
 }
 
 // The records of a work file for a set.

@@ -1,6 +1,5 @@
 // A record as a row.
 ghost use Rattle.std.specs.Prelude.{◌≡◌, ◌<◌, ◌++◌, ◌∷◌, [], IfOk, OnOk, length};
-ghost use Rattle.std.specs.Str.{bytes_eq};
 ghost use Rattle.csv.specs.Records.{fields_of};
 ghost use Rattle.mc_task.specs.TaskSet.{IsIn};
 ghost use Rattle.mc_model.specs.Work.{IsWork};
@@ -10,6 +9,7 @@ ghost use Rattle.work_file.specs.Tracks.{Tracks};
 use crate::WorkCause;
 use crate::next::NextReleases;
 use csv::ByteRecord;
+use csv_records::{field, is};
 use mc_model::WorkRow;
 use mc_task::{TaskNo, TaskSet};
 use numeral::number;
@@ -22,22 +22,6 @@ pub fn is_header(fields: &ByteRecord) -> bool
     fields.len() == 3
         && (is(field(fields, 0), "task")
             && (is(field(fields, 1), "release") && is(field(fields, 2), "need")))
-}
-
-fn is(field: &[u8], word: &str) -> bool
-    ensures { result ≡ bytes_eq field.now word.now }
-{
-    field == word.as_bytes()
-}
-
-// The field at this place, from 0; empty where there is none.
-fn field(fields: &ByteRecord, place: usize) -> &[u8]
-    ensures { result.now ≡ file.field (fields_of fields.now) place }
-{
-    match fields.get(place) {
-        Some(field) => field,
-        None => b"",
-    }
 }
 
 // The row of a record after the rows before it. From then on it is one of them.

@@ -1,5 +1,5 @@
 //! Threads that nobody wakes, threads that could not be started, and a watcher beside a live run.
-ghost use Rattle.std.specs.Prelude.{◌≡◌, ◌+◌, ◌≤◌, [], IfOk, length, vec_len, vec_capacity};
+ghost use Rattle.std.specs.Prelude.{◌≡◌, ◌+◌, ◌≤◌, [], None, IfOk, length, vec_len, vec_capacity};
 ghost use Rattle.executive.specs.Passes.{floor_of};
 ghost use Rattle.executive.specs.Watching.{IsWatcherOf};
 ghost use Rattle.task_threads.specs.Passes.{IsPassFor};
@@ -13,7 +13,7 @@ use crate::live_round::Runner;
 use crate::places::Places;
 use crate::refused::serve_refused;
 use crate::starts::{Start, in_threads, join_all, kept_here};
-use crate::worker::{Worker, work};
+use crate::worker::{Serving, Worker, work};
 use executive::{Executive, QuietGate, TaskPass};
 use mc_task::Level::{High, Low};
 use mc_task::TaskNo;
@@ -27,57 +27,107 @@ use std::thread::{Threads, join};
 use timetable::Floor;
 use worked_sets::{CONTROL, Line, OVERRUN_ROWS, OVERRUN_WORK};
 
-#[test]
-fn a_wake_up_that_never_comes_costs_time_alone(rt: HostRuntime) -> Result<(), Fail> {
-    // Each thread has places of its own, and so wakes nobody.
-    let here = Places::new(rt.alloc(), 2)?;
-    let there = Places::new(rt.alloc(), 2)?;
-    let floor = floor(rt.alloc(), &CONTROL, &OVERRUN_WORK, 12)?;
-    let Ok((executive, mut passes)) = Executive::new(&rt, rt.alloc(), floor) else {
+// What the threads work with where no gate is called.
+fn quietly<'a, R: Wait>(
+    rt: &'a R,
+    executive: &'a Executive,
+    places: &'a Places,
+) -> Serving<'a, R, QuietGate>
+    ensures { result.executive.now ≡ executive.now }
+{
+    Serving {
+        rt,
+        executive,
+        gate: &QuietGate,
+        places,
+    }
+}
+
+// The floor once its two tasks were served by threads with places of their own, each of which so wakes nobody.
+fn served_apart<R: Threads + Wait + Sync + Abort>(
+    rt: &R,
+    alloc: Global,
+    floor: Floor,
+    here: &Places,
+    there: &Places,
+) -> Result<Floor, Fail>
+    requires { (floor.core.rows ≡ []) × (floor.core.out ≡ None) }
+{
+    let Ok((executive, mut passes)) = Executive::new(rt, alloc, floor) else {
         return Err("memory".into());
     };
     assert!(rt; passes.len() == 2);
     let second = passes.pop().unwrap();
     let first = passes.pop().unwrap();
     let (first, second) = {
-        let (rt, executive, here, there) = (&rt, &executive, &here, &there);
+        let executive = &executive;
         join(
             rt,
             move || -> TaskPass
                 requires { IsPassFor executive.now 1 first }
                 ensures { IsPassFor executive.entry.now 1 result }
-            { work(rt, executive, &QuietGate, here, first, TaskNo(1)) },
+            { work(&quietly(rt, executive, here), first, TaskNo(1)) },
             move || -> TaskPass
                 requires { IsPassFor executive.now 2 second }
                 ensures { IsPassFor executive.entry.now 2 result }
-            { work(rt, executive, &QuietGate, there, second, TaskNo(2)) },
+            { work(&quietly(rt, executive, there), second, TaskNo(2)) },
         )
     };
     passes.push_reserved(first);
     passes.push_reserved(second);
-    match executive.close(&rt, passes) {
-        Ok(floor) => assert_eq!(rt; floor.core().rows(), &OVERRUN_ROWS[..]),
+    match executive.close(rt, passes) {
+        Ok(floor) => Ok(floor),
         Err(_unclosed) => panic!(rt; "a pass is missing"),
     }
+}
+
+#[test]
+fn a_wake_up_that_never_comes_costs_time_alone(rt: HostRuntime) -> Result<(), Fail> {
+    let here = Places::new(rt.alloc(), 2)?;
+    let there = Places::new(rt.alloc(), 2)?;
+    let floor = floor(rt.alloc(), &CONTROL, &OVERRUN_WORK, 12)?;
+    let floor = served_apart(&rt, rt.alloc(), floor, &here, &there)?;
+    assert!(rt; floor.core().rows() == OVERRUN_ROWS.as_slice());
     Ok(())
+}
+
+// Where two tasks wait, and room for their threads and their passes.
+#[derive(Drop)]
+struct Rooms {
+    places: Places,
+    starts: Vec<Start<Runner>>,
+    back: Vec<TaskPass>,
+}
+
+fn make_rooms(alloc: Global) -> Result<Rooms, Fail>
+    ensures starts { IfOk result (λ r. (r.starts.items ≡ []) × (2 ≤ vec_capacity r.starts)) }
+    ensures back { IfOk result (λ r. (r.back.items ≡ []) × (2 ≤ vec_capacity r.back)) }
+{
+    let places = Places::new(alloc, 2)?;
+    let starts = Vec::with_capacity(alloc, 2)?;
+    let back = Vec::with_capacity(alloc, 2)?;
+    Ok(Rooms {
+        places,
+        starts,
+        back,
+    })
 }
 
 #[test]
 fn a_live_run_whose_threads_could_not_be_started_gives_the_worked_rows(
     rt: HostRuntime,
 ) -> Result<(), Fail> {
-    let places = Places::new(rt.alloc(), 2)?;
-    let back = Vec::with_capacity(rt.alloc(), 2)?;
-    let mut starts = Vec::with_capacity(rt.alloc(), 2)?;
+    let Rooms {
+        places,
+        mut starts,
+        back,
+    } = make_rooms(rt.alloc())?;
     let (executive, mut runners, _watcher) = opened(&rt, rt.alloc(), &places, &CONTROL, 10)?;
     all_kept_here(&executive, &places, &mut runners, &mut starts);
-    serve_refused(&rt, &executive, &QuietGate, &places, &mut starts);
+    serve_refused(&quietly(&rt, &executive, &places), &mut starts);
     join_all(&rt, &executive, &mut starts, &mut runners);
     let floor = closed(&rt, executive, runners, back);
-    match floor.core().rows().get(..12) {
-        Some(rows) => assert_eq!(rt; rows, &LIVE_ROWS[..]),
-        None => panic!(rt; "twelve rows"),
-    }
+    assert!(rt; floor.core().rows().starts_with(&LIVE_ROWS));
     Ok(())
 }
 
@@ -87,14 +137,16 @@ const SLOW: [Line; 2] = [("ctl", High, 1000, 200, 600), ("log", Low, 1000, 400, 
 fn a_watcher_beside_a_live_run_sees_ticks_that_never_fall_and_the_last(
     rt: HostRuntime,
 ) -> Result<(), Fail> {
-    let places = Places::new(rt.alloc(), 2)?;
-    let back = Vec::with_capacity(rt.alloc(), 2)?;
-    let starts = Vec::with_capacity(rt.alloc(), 2)?;
+    let Rooms {
+        places,
+        starts,
+        back,
+    } = make_rooms(rt.alloc())?;
     let (executive, runners, watcher) = opened(&rt, rt.alloc(), &places, &SLOW, 100_000)?;
-    let (runners, steady) = beside(&rt, &executive, &places, runners, starts, watcher);
-    assert!(rt; steady);
+    let (runners, is_steady) = beside(&rt, &executive, &places, runners, starts, watcher);
     let floor = closed(&rt, executive, runners, back);
-    assert!(rt; floor.core().ticks() >= 100_000);
+    let ticks = floor.core().ticks();
+    assert!(rt; is_steady && ticks >= 100_000);
     Ok(())
 }
 
@@ -125,7 +177,8 @@ fn beside<'s, R: Threads + Wait + Sync>(
             { watched_to(rt, executive, watcher, 100_000) };
             match scope.spawn(watch) {
                 Ok(handle) => {
-                    let runners = in_threads(rt, executive, &QuietGate, places, runners, starts);
+                    let serving = quietly(rt, executive, places);
+                    let runners = in_threads(&serving, runners, starts);
                     (runners, handle.join(rt))
                 }
                 Err(_refused) => (runners, false),
@@ -158,11 +211,9 @@ fn opened<R: Wait>(
         return Err("memory".into());
     };
     let watcher = watchers.pop().unwrap();
+    let serving = quietly(rt, &executive, places);
     make_runners(
-        rt,
-        &executive,
-        &QuietGate,
-        places,
+        &serving,
         needs.as_slice(),
         ticks,
         passes,

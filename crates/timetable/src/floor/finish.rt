@@ -6,7 +6,7 @@ ghost use Rattle.mode_core.specs.Timely.{IsTimely};
 ghost use Rattle.timetable.specs.declared.acts.Act.TheVariants as act;
 ghost use Rattle.timetable.specs.Floor.{is_planned, is_finished, next_act};
 ghost use Rattle.timetable.specs.Plans.{IsTraceOfPlan, HasTaken};
-ghost use Rattle.timetable.specs.Shape.{AddsRow, IsRunBy};
+ghost use Rattle.timetable.specs.Shape.{AddsRow, KeepsToPlan};
 ghost use Rattle.timetable.specs.OneTrace.{AtMostOneFollows};
 
 use super::Floor;
@@ -42,7 +42,7 @@ impl Floor {
         requires out { self.old.core.out ≡ None }
         requires more { is_finished self.old ≡ false }
         requires sound { IsSound self.old.core }
-        requires run { IsRunBy self.old.plan self.old.core self.old.taken }
+        requires run { KeepsToPlan self.old.plan self.old.core self.old.taken }
         ensures { AddsRow self.old self.new }
     {
         match self.next_act() {

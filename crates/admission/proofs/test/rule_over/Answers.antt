@@ -1,5 +1,5 @@
 use Rattle.std.proofs.Common.{arith}
-use Rattle.mc_model.specs.Test.{virtual_rule}
+use Rattle.mc_model.proofs.RuleCases.{virtual_rule}
 use Rattle.mc_model.specs.Holds.{Fits}
 use Rattle.admission.proofs.Numbers.{rule_of-plain_true, rule_of-virtual_true, rule_of-both_false, scale-fits}
 use Rattle.admission.proofs.test.rule_over.Goals as goal

@@ -1,6 +1,4 @@
-use Rattle.std.proofs.Common.{map, string_bytes}
-use Rattle.command_line.specs.Form.{form_of}
-use Rattle.command_line.proofs.InRange.{in_range}
+use Rattle.command_line.specs.Form.{form_in}
 use Rattle.edfvd_program.proofs.Outcomes.{answers, kept, calm_outcome}
 use Rattle.edfvd_program.proofs.Headlines.{gave_up}
 use Rattle.edfvd_program.proofs.edfvd.edfvd.Goals as goal
@@ -10,35 +8,35 @@ returns-in-Ok-clause-answer g c = answers c.in-Ok.ensures.reply c.deliver.ensure
 
 pub returns-in-Ok-clause-headline : goal.returns-in-Ok-clause-headline
 returns-in-Ok-clause-headline g c files old tells told calm =
-    (kept (in_range (map (λ w. string_bytes w) c.args.words.now)) c.in-Ok.ensures.reply c.deliver.ensures files old tells told calm).0
+    (kept c.in-Ok.ensures.range c.in-Ok.ensures.reply c.deliver.ensures files old tells told calm).0
 
 pub returns-in-Ok-clause-told : goal.returns-in-Ok-clause-told
 returns-in-Ok-clause-told g c files old tells told calm =
-    (kept (in_range (map (λ w. string_bytes w) c.args.words.now)) c.in-Ok.ensures.reply c.deliver.ensures files old tells told calm).1
+    (kept c.in-Ok.ensures.range c.in-Ok.ensures.reply c.deliver.ensures files old tells told calm).1
 
 pub returns-in-Ok-clause-complete : goal.returns-in-Ok-clause-complete
 returns-in-Ok-clause-complete g c files old tells told calm =
-    (kept (in_range (map (λ w. string_bytes w) c.args.words.now)) c.in-Ok.ensures.reply c.deliver.ensures files old tells told calm).2
+    (kept c.in-Ok.ensures.range c.in-Ok.ensures.reply c.deliver.ensures files old tells told calm).2
 
 pub returns-in-Ok-clause-tested : goal.returns-in-Ok-clause-tested
 returns-in-Ok-clause-tested g c files old tells told calm =
-    (kept (in_range (map (λ w. string_bytes w) c.args.words.now)) c.in-Ok.ensures.reply c.deliver.ensures files old tells told calm).3
+    (kept c.in-Ok.ensures.range c.in-Ok.ensures.reply c.deliver.ensures files old tells told calm).3
 
 pub returns-in-Ok-clause-calm_shelf : goal.returns-in-Ok-clause-calm_shelf
 returns-in-Ok-clause-calm_shelf g c = calm_outcome c.in-Ok.ensures.reply c.deliver.ensures
 
 pub returns-in-Err-clause-headline : goal.returns-in-Err-clause-headline
 returns-in-Err-clause-headline g c files old tells told calm =
-    (gave_up (form_of (map (λ w. string_bytes w) c.args.words.now)) files old (g.K.Sink.state c.args.out.now).written).0
+    (gave_up (form_in c.args.words.now) files old (g.K.Sink.state c.args.out.now).written).0
 
 pub returns-in-Err-clause-told : goal.returns-in-Err-clause-told
 returns-in-Err-clause-told g c files old tells told calm =
-    (gave_up (form_of (map (λ w. string_bytes w) c.args.words.now)) files old (g.K.Sink.state c.args.out.now).written).1
+    (gave_up (form_in c.args.words.now) files old (g.K.Sink.state c.args.out.now).written).1
 
 pub returns-in-Err-clause-complete : goal.returns-in-Err-clause-complete
 returns-in-Err-clause-complete g c files old tells told calm =
-    (gave_up (form_of (map (λ w. string_bytes w) c.args.words.now)) files old (g.K.Sink.state c.args.out.now).written).2
+    (gave_up (form_in c.args.words.now) files old (g.K.Sink.state c.args.out.now).written).2
 
 pub returns-in-Err-clause-tested : goal.returns-in-Err-clause-tested
 returns-in-Err-clause-tested g c files old tells told calm =
-    (gave_up (form_of (map (λ w. string_bytes w) c.args.words.now)) files old (g.K.Sink.state c.args.out.now).written).3
+    (gave_up (form_in c.args.words.now) files old (g.K.Sink.state c.args.out.now).written).3

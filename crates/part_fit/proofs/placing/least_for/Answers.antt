@@ -1,6 +1,6 @@
 use Rattle.std.proofs.Common.{◌≡◌, suc, arith, false}
 use borrow.Author.Count.{below_more}
-use Rattle.part_fit.specs.FirstFit.{takes}
+use Rattle.part_fit.proofs.Placed.{takes}
 use Rattle.part_fit.specs.Parts.{part_of}
 use Rattle.part_fit.proofs.Least.{find-none, find-some}
 use Rattle.part_fit.proofs.Kept.{place-next}

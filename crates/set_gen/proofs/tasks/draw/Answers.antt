@@ -1,7 +1,7 @@
 use Rattle.std.proofs.Common.{◌≡◌, map, ap, ◌∙◌, arith}
 use Rattle.std.specs.List.{range_with_len}
-use Rattle.set_gen.specs.MadeSet.{made_set, made_gaps, made_task, made_gap, words_for}
-use Rattle.set_gen.proofs.Draws.{made_more, words_more}
+use Rattle.set_gen.specs.MadeSet.{made_set, made_gaps, made_task, made_gap}
+use Rattle.set_gen.proofs.Draws.{words_for, made_more, words_more}
 use Rattle.set_gen.proofs.tasks.draw.Goals as goal
 
 pub loop-i-preserved : goal.loop-i-preserved

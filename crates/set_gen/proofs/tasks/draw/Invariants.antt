@@ -1,7 +1,8 @@
 use Rattle.std.proofs.Common.{◌≡◌, map}
 use Rattle.std.specs.List.{range_with_len}
 use Rattle.set_gen.specs.Words.{after}
-use Rattle.set_gen.specs.MadeSet.{made_task, made_gap, words_for, words_before}
+use Rattle.set_gen.specs.MadeSet.{made_task, made_gap, words_before}
+use Rattle.set_gen.proofs.Draws.{words_for}
 use Rattle.set_gen.proofs.tasks.draw.Given as goal
 
 abbrev pub invariant-loop-i : goal.invariant-loop-i

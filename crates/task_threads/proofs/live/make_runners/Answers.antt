@@ -11,7 +11,7 @@ use Rattle.task_threads.proofs.live.make_runners.Goals as goal
 
 pub loop-pass-preserved : goal.loop-pass-preserved
 loop-pass-preserved g c =
-    let e = c.args.executive.now in
+    let e = c.args.serving.now.executive.now in
     let kept = c.loop-pass.invariant in
     let before = c.loop-pass.runners in
     let watchers = c.loop-pass.watchers in

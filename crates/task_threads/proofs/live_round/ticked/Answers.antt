@@ -8,7 +8,7 @@ use Rattle.task_threads.proofs.live_round.ticked.Goals as goal
 
 pub returns-in-Given : goal.returns-in-Given
 returns-in-Given g c =
-    let set = (floor_of c.args.executive.now).core.set in
+    let set = (floor_of c.args.serving.now.executive.now).core.set in
     let k = c.args.task.0 in
     let grant = c.in-Given.grant in
     let value = c.granted-granted.ensures.value in
@@ -23,4 +23,4 @@ returns-in-Given g c =
     )
 
 pub returns-in-NotNow : goal.returns-in-NotNow
-returns-in-NotNow g c = pass_live c.args.executive.now c.args.task.0 _ _ c.args.pass c.in-NotNow.pass c.in-NotNow.ensures.of c.in-NotNow.ensures.calls (λ last. tt) c.requires.pass
+returns-in-NotNow g c = pass_live c.args.serving.now.executive.now c.args.task.0 _ _ c.args.pass c.in-NotNow.pass c.in-NotNow.ensures.of c.in-NotNow.ensures.calls (λ last. tt) c.requires.pass

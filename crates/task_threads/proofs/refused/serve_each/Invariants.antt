@@ -3,4 +3,4 @@ use Rattle.task_threads.specs.Starts.{GoDown}
 use Rattle.task_threads.proofs.refused.serve_each.Given as goal
 
 abbrev pub invariant-loop-place : goal.invariant-loop-place
-invariant-loop-place g l = (l.tasks ≡ vec_len l.fn.starts) × (vec_len l.starts ≡ vec_len l.fn.starts) × GoDown g.T.Worker.is_of l.executive (vec_len l.fn.starts) l.starts.items
+invariant-loop-place g l = (l.tasks ≡ vec_len l.fn.starts) × (vec_len l.starts ≡ vec_len l.fn.starts) × GoDown g.T.Worker.is_of l.serving.executive.now (vec_len l.fn.starts) l.starts.items

@@ -3,4 +3,4 @@ use Rattle.task_threads.specs.Starts.{GoDown}
 use Rattle.task_threads.proofs.refused.serve_refused.Given as goal
 
 abbrev pub invariant-loop : goal.invariant-loop
-invariant-loop g l = (vec_len l.starts ≡ vec_len l.fn.starts) × GoDown g.T.Worker.is_of l.executive (vec_len l.fn.starts) l.starts.items
+invariant-loop g l = (vec_len l.starts ≡ vec_len l.fn.starts) × GoDown g.T.Worker.is_of l.serving.executive.now (vec_len l.fn.starts) l.starts.items

@@ -5,12 +5,12 @@ use Rattle.task_threads.proofs.starts.start_all.Given as goal
 
 abbrev pub invariant-loop-worker : goal.invariant-loop-worker
 invariant-loop-worker g l = record {
-  workers : AreInOrder g.T.Worker.is_of l.executive l.workers.items;
+  workers : AreInOrder g.T.Worker.is_of l.serving.executive.now l.workers.items;
   len : vec_len l.workers + vec_len l.starts ≡ vec_len l.fn.workers;
   room : vec_len l.fn.workers ≤ vec_capacity l.starts;
   few : vec_len l.fn.workers ≤ 128;
   kept : vec_capacity l.workers ≡ vec_capacity l.fn.workers;
-  starts : GoDown g.T.Worker.is_of l.executive (vec_len l.fn.workers) l.starts.items;
+  starts : GoDown g.T.Worker.is_of l.serving.executive.now (vec_len l.fn.workers) l.starts.items;
 }
 
 abbrev pub decreases-loop-worker : goal.decreases-loop-worker

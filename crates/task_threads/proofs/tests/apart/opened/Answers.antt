@@ -12,7 +12,8 @@ make_runners-requires-clause-watchers g c =
     let ours : All (λ (w : Watcher). IsWatcherOf e w) watchers.items = λ k d inside. (c.in-Ok.ensures.watchers.1 k d inside).0 in
     let one_less : vec_len c.pop.new.self + 1 ≡ vec_len watchers =
     subst (λ (o : Option Watcher). MatchOption o ((vec_len watchers ≡ 0) × (vec_len c.pop.new.self ≡ 0)) (λ _. vec_len c.pop.new.self + 1 ≡ vec_len watchers)) c.unwrap-watcher.ensures c.pop.ensures.cases in
-    let two : vec_len c.in-Ok.passes ≡ 2 = search rules in (
+    let two : vec_len c.in-Ok.passes ≡ 2 = search rules in
+    rw c.quietly-serving.ensures (
       omega (arith, one_less, c.in-Ok.ensures.watchers.0, two),
       subst (All (λ (w : Watcher). IsWatcherOf e w)) (sym c.pop.ensures.rest) (All-take (λ (w : Watcher). IsWatcherOf e w) (vec_len watchers - 1) watchers.items ours),
     )

@@ -1,0 +1,7 @@
+-- The fields of a record by their places.
+use Rattle.std.specs.Prelude.{ℕ, List, [], unwrap_or}
+use Rattle.csv.specs.Records.{field_at}
+
+-- the field at a place, from 0; empty where there is none
+abbrev pub field : List (List ℕ) → ℕ → List ℕ
+field fields i = unwrap_or (field_at fields i) []

@@ -1,0 +1,10 @@
+-- What a reader of a text answers.
+use Rattle.std.specs.Prelude.{◌≡◌, Result, Ok, Err}
+use Rattle.csv_records.specs.declared.fault.Fault.{Fault}
+use Rattle.csv_records.specs.declared.fault.Fault.TheVariants.{Memory}
+
+-- the answer, read by `view`, is what the text says: its rows or its first refusal. Where memory ran out, nothing is said
+abbrev pub Gives : {X Y Cause : Type 0} → (X → Y) → Result X (Fault Cause) → Result Y (Fault Cause) → Type 0
+Gives view (Ok x) says = says ≡ Ok (view x)
+Gives view (Err Memory) says = Unit {0}
+Gives view (Err refusal) says = says ≡ Err refusal

@@ -1,0 +1,10 @@
+use Rattle.std.proofs.lemmas.Result.{err_from_is_err_and}
+use Rattle.part_answers.proofs.run_parts.RunAll.reply.Goals as goal
+
+pub returns-in_err-job : goal.returns-in_err-job
+returns-in_err-job g c =
+    let (stop, is_err, same) = err_from_is_err_and c.from_residual.result c.from_residual.ensures.1 in
+    rw (is_err, same) c.in_err-job.ensures
+
+pub returns : goal.returns
+returns g c = c.in_ok-job.ensures.1 c.finish_run_all.result (rw (c.get-processors.ensures.value, c.get.ensures.value) at c.finish_run_all.ensures.traces) c.finish_run_all.ensures.own

@@ -1,8 +1,0 @@
-use Rattle.std.proofs.Common.{refl}
-use Rattle.serving.specs.Steps.{goes_on}
-use Rattle.serving.proofs.Replies.{asked-none}
-use Rattle.serving.proofs.served.ask_on.Goals as goal
-
-pub returns-in_err-name-clause-asked : goal.returns-in_err-name-clause-asked
-returns-in_err-name-clause-asked g c =
-    asked-none (goes_on (g.C.Command.asks c.args.command.now) c.args.bytes.now) (g.S.Shelf.state c.args.shelf.now) (g.S.Shelf.state c.args.shelf.now) refl

@@ -1,0 +1,43 @@
+// A number within bounds.
+ghost use Rattle.std.specs.Prelude.{◌≡◌, ◌≤◌};
+ghost use Rattle.serving.specs.Within.{within};
+
+use std::marker::Model;
+
+/// A number from `LEAST` to `MOST`. Clauses see the number.
+#[derive(Drop)]
+pub struct Within<const LEAST: u64, const MOST: u64> {
+    number: u64,
+}
+
+impl<const LEAST: u64, const MOST: u64> Model for Within<LEAST, MOST> {
+    ghost use Rattle.std.specs.Prelude.{◌≤◌, ℕ};
+
+    ghost Value = { ℕ };
+
+    ghost view = { λ t. t.number };
+
+    ghost invariant = { λ t. (LEAST ≤ t.number) × (t.number ≤ MOST) };
+}
+
+impl<const LEAST: u64, const MOST: u64> Within<LEAST, MOST> {
+    /// The number, if it is within the bounds.
+    pub fn new(number: u64) -> Option<Within<LEAST, MOST>>
+        ensures { result ≡ within LEAST MOST number }
+    {
+        if LEAST <= number && number <= MOST {
+            Some(Within { number })
+        } else {
+            None
+        }
+    }
+
+    /// The number.
+    pub fn get(&self) -> u64
+        ensures value { result ≡ self.now }
+        ensures least { LEAST ≤ result }
+        ensures most { result ≤ MOST }
+    {
+        self.number
+    }
+}

@@ -1,0 +1,14 @@
+/// What a command says of a good trace.
+#[derive(Clone, Copy, Debug, PartialEq, Eq)]
+pub enum Telling {
+    /// The verdict under the test's rule.
+    Judge,
+    /// The verdict under EDF-VD with the scale `p/q`, even for a set that the test refuses.
+    JudgeBy { p: u64, q: u64 },
+    /// The chart.
+    Chart,
+    /// The report.
+    Report,
+    /// The trace itself, equal ticks in one record.
+    Migrate,
+}
