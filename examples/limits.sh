@@ -1,7 +1,7 @@
 #!/bin/sh
-# Runs the built program under limits of the system, each in steps: of the address space, of the stack and of the size of a file. Each
-# run gives the whole answer, or has status 9 and writes nothing, or is ended by the system in a way that docs/COMMANDS.md names: it
-# is not loaded, has too small a stack, or has written as much as a file may have.
+# Runs the built program under limits of the system, each in steps: of the address space, of the stack, of the size of a file and of
+# the number of threads. Each run gives the whole answer, or has status 9 and writes nothing, or is ended by the system in a way that
+# docs/COMMANDS.md names: it is not loaded, has too small a stack, or has written as much as a file may have.
 # usage: limits.sh
 . "$(dirname -- "$0")/usage.sh"
 takes 0 0 "$@"
@@ -96,4 +96,49 @@ for blocks in 1 8 40; do
     notes "chart into a file of at most $blocks blocks, with the signal ignored" is_cut 8
     trap - XFSZ
 done
+
+# A limit on threads. The system counts all threads of a user, and those of root it does not limit. So root runs the program as a user
+# who has no process; for anyone else the threads that the user has already are added to the limit.
+threads=0
+stranger=
+if [ "$(id -u)" -eq 0 ]; then
+    stranger='setpriv --reuid=60606 --regid=60606 --clear-groups --inh-caps=-all'
+else
+    threads=$(ps -L -u "$(id -u)" -o lwp= 2>/dev/null | wc -l)
+fi
+
+# crowded THREADS COMMAND..: the command, in a process that with its own threads may have this many
+crowded() {
+    allowed=$((threads + $1))
+    shift
+    # shellcheck disable=SC2086
+    bounded $stranger prlimit "--nproc=$allowed" "$@"
+}
+
+# crowds WORDS..: a command with threads, which is to give the whole answer with as few of them as the system allows
+crowds() {
+    (cd "$work/all" && bounded ./program "$@") >"$work/ordinary"
+    ordinary=$?
+    for allowed in 1 2 3 4 5 6 8 12 16; do
+        (cd "$work/all" && crowded "$allowed" ./program "$@") >"$work/out" 2>"$work/err"
+        status=$?
+        notes "$* where at most $allowed threads can be" is_as_ever
+    done
+}
+
+# The files that another user is to read stand in a folder for all.
+chmod 755 "$work"
+mkdir -m 755 "$work/all"
+cp "$program" "$work/all/program"
+cp -R overrun live several "$work/all"
+chmod -R a+rX "$work/all"
+if crowded 1 sh -c '(:)' 2>"$work/err" || ! crowded 2 true 2>"$work/err"; then
+    echo "limits: no limit on threads, since this system sets none here"
+else
+    crowds run overrun/tasks.toml overrun/work.csv 12
+    crowds soak 7 8 20000
+    crowds live live/tasks.toml 10
+    crowds runall several/tasks.toml several/work.csv 5 2
+    crowds accept 1 200 8
+fi
 ends limits

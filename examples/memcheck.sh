@@ -57,18 +57,20 @@ checks() {
     grinds '' "$@"
     notes "$* under memcheck" is_as_ever
     [ -n "$library" ] || return 0
-    refuse MOST=1000 "$@"
-    growths=$(told growths)
-    turn=$(((turn + 1) % 4))
-    case $turn in
-    0) fault="GROWTH=$((growths / 2))" ;;
-    1) fault="GROWTHS_FROM=$((growths * 3 / 4 + 1))" ;;
-    2) fault='ONE_IN=9 SEED=1' ;;
-    3) fault="CALL=$(($(told calls) - 1))" ;;
+    # Short reads, so that a buffer that is read into grows several times. The growth is another eighth of them each time.
+    pieces='MOST=1000 MOST_READ=20'
+    refuse "$pieces" "$@"
+    growth=$(($(told growths) * (turn % 7 + 1) / 8 + 1))
+    case $((turn % 4)) in
+    0) fault="GROWTH=$growth" ;;
+    1) fault="GROWTHS_FROM=$growth" ;;
+    2) fault="ONE_IN=9 SEED=$turn" ;;
+    3) fault="CALL=$((($(told calls) + 1) / 2))" ;;
     esac
+    turn=$((turn + 1))
     # The library's own malloc stays before the one of the C library, which alone is valgrind's. What starts the program is not meant.
     tool="$memcheck --soname-synonyms=somalloc=nouserintercepts"
-    grinds "IN=${program##*/} MOST=1000 $fault LD_PRELOAD=$library" "$@"
+    grinds "IN=${program##*/} $pieces $fault LD_PRELOAD=$library" "$@"
     notes "$* under memcheck with $fault" is_clean
     [ "$status" -ne "$ordinary" ] && faults=$((faults + 1))
 }

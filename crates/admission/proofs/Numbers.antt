@@ -8,7 +8,7 @@ use Rattle.mc_model.proofs.RuleCases.{virtual_rule}
 use Rattle.mc_model.specs.Holds.{HoldsOver, Fits}
 use Rattle.mc_model.proofs.RuleHolds.{rule_of-fits}
 
--- the outcomes of the test by its two conditions
+-- the rule of the test, by the outcomes of its two conditions
 pub rule_of-plain_true : (n a b c : ℕ) → nat_le (a + c) n ≡ true → Some Plain ≡ rule_of n a b c
 unfolding rule_of
 rule_of-plain_true n a b c plain = cc
@@ -28,7 +28,7 @@ pub scale-fits : (n a b c : ℕ) (x : Fraction) → n ≤ 2 ^ 60 → (0 < c → 
 scale-fits n a b c x small high plain virtual is =
     rule_of-fits n a b c (virtual_rule x) small high (sym (rule_of-virtual_true n a b c plain virtual) ∙ ap (λ y. Some (virtual_rule y)) (sym is))
 
--- each utilisation is at most 1 where EDF-VD holds with a scale
+-- each utilisation is at most 1 if EDF-VD holds with a scale
 pub record AtMostOne (n a b c : ℕ) : Type 0 where
   pub low_low : a ≤ n
   pub high_low : b ≤ n

@@ -1,3 +1,4 @@
+//! The test, by the loads of a set.
 ghost use Rattle.std.specs.Prelude.{◌≡◌, ◌↔◌, ◌+◌, ◌-◌, ◌*◌, ◌^◌, ◌<◌, ◌≤◌, ◌&&◌, nat_le, nat_lt, List, IfSome, IsSome, IsTrue};
 ghost use Rattle.std.specs.Bool.{OnTrue};
 ghost use Rattle.mc_task.specs.declared.task.Task.{Task};
@@ -12,15 +13,16 @@ use load_sum::Loads;
 use mc_task::{Rule, Scale};
 use tick_frac::Ratio;
 
-/// The rule of the published test, or `None` exactly where the test admits nothing: EDF where
-/// `U_LL + U_HH <= 1`, else EDF-VD with `x = U_HL / (1 - U_LL)` where `U_LL < 1` and `x*U_LL + U_HH <= 1`.
+/// The rule of the published test (Baruah et al., ECRTS 2012), or `None` exactly if it admits no set with these loads:
+/// EDF if `U_LL + U_HH <= 1`, otherwise EDF-VD with `x = U_HL / (1 - U_LL)` if `U_LL < 1` and `x*U_LL + U_HH <= 1`.
 pub fn admit(loads: &Loads) -> Option<Rule>
     requires { AreOfSomeSet loads.now }
     ensures published { (tasks : List Task) → BelongTo tasks loads.now → result ≡ published tasks }
     ensures fits { IfSome result Fits }
     ensures holds { IfSome result (λ rule. (tasks : List Task) → BelongTo tasks loads.now → Holds tasks rule) }
     ensures law { PublishedRuleHolds }
-    // Plain EDF admits nothing more than the scale alone would, but sets of low tasks alone whose load is exactly 1.
+    // Trying plain EDF first admits nothing that the scaled test refuses, except low tasks alone whose load is exactly
+    // 1.
     ensures edf_or_scaled { EdfOrScaled }
 {
     rule_over(
@@ -31,8 +33,8 @@ pub fn admit(loads: &Loads) -> Option<Rule>
     )
 }
 
-/// The rule of the test for a set with this scale: EDF-VD with the scale where there is one and it holds, otherwise the rule
-/// of the published test. So it is `None` exactly where the published test admits nothing.
+/// The rule of the test for a set with this scale: EDF-VD with the scale if it holds, otherwise the rule of the
+/// published test. It is `None` exactly if the published test gives no rule.
 pub fn admit_scaled(loads: &Loads, scale: Option<Scale>) -> Option<Rule>
     requires loads { AreOfSomeSet loads.now }
     requires scale { IfSome scale IsScale }
@@ -49,8 +51,8 @@ pub fn admit_scaled(loads: &Loads, scale: Option<Scale>) -> Option<Rule>
     }
 }
 
-/// Whether EDF-VD with the scale `p/q` holds for the loads: `U_LL + U_HL/x <= 1` and `x*U_LL + U_HH <= 1`.
-/// A set for which it does is admitted by the test.
+/// Whether EDF-VD with the scale `p/q` holds for the loads: `U_LL + U_HL/x <= 1` and `x*U_LL + U_HH <= 1`. If so, the
+/// published test admits the set.
 pub fn holds_for(loads: &Loads, p: u64, q: u64) -> bool
     requires loads { AreOfSomeSet loads.now }
     requires above { 1 ≤ p }
@@ -72,7 +74,7 @@ pub fn holds_for(loads: &Loads, p: u64, q: u64) -> bool
     )
 }
 
-/// Whether `U_LL + U_HL <= 3/4` and `U_HH <= 3/4`. A set for which it does is admitted by the test.
+/// Whether `U_LL + U_HL <= 3/4` and `U_HH <= 3/4`. If so, the published test admits the set.
 pub fn three_quarters(loads: &Loads) -> bool
     requires { AreOfSomeSet loads.now }
     ensures exactly { (tasks : List Task) → BelongTo tasks loads.now → (IsTrue result ↔ IsThreeQuarters tasks) }
@@ -87,8 +89,8 @@ pub fn three_quarters(loads: &Loads) -> bool
     )
 }
 
-// Below, U_LL is `a/n`, U_HL is `b/n` and U_HH is `c/n`. A numerator may be far above `n`, so each is compared
-// with it before anything is multiplied: no product then passes 128 bits.
+// Below, U_LL is `a/n`, U_HL is `b/n` and U_HH is `c/n`. A numerator may be far above `n`, so each is compared with it
+// before any product is taken: no product then exceeds 128 bits.
 
 fn rule_over(n: u128, a: u128, b: u128, c: u128) -> Option<Rule>
     requires n { n ≤ 2 ^ 60 }

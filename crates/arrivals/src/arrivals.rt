@@ -1,4 +1,4 @@
-// What is kept of each task's releases.
+//! What is kept of each task's releases.
 ghost use Rattle.std.specs.Prelude.{◌≡◌, ◌+◌, ◌-◌, ◌<◌, ◌≤◌, ◌^◌, ◌∷◌, [], map, IfOk, IfErr, OnOk, OnErr};
 ghost use Rattle.arrivals.specs.Arrived.{fresh_slot};
 
@@ -57,6 +57,14 @@ impl Arrivals {
         ensures notes { ForNotes self.now (λ set notes. result ≡ next set notes task.0) }
     {
         self.slots[task.0 as usize - 1].next
+    }
+
+    /// How many releases of the task were noted.
+    pub fn count(&self, task: TaskNo) -> u32
+        requires { HasTask self.now task.0 }
+        ensures { result ≡ count_of self.now task.0 }
+    {
+        self.slots[task.0 as usize - 1].count
     }
 
     /// Notes a release of the task at this boundary, and answers which of its releases it is, from 1.

@@ -1,4 +1,4 @@
-// The ticks of each task's live job.
+//! The ticks that each task's current job has had.
 ghost use Rattle.std.specs.Prelude.{◌≡◌, ◌+◌, ◌-◌, ◌<◌, map, replicate, length, slice_set, IfOk};
 ghost use Rattle.budget_ledger.specs.Ledger.{budget};
 
@@ -6,25 +6,26 @@ use mc_task::{Memory, Task, TaskNo, TaskSet};
 use std::alloc::{AllocError, Global};
 use std::marker::Model;
 
-// The two budgets of a task, in ticks. Its own one is that of high mode, at which its jobs stop.
+// The two budgets of a task, in ticks. `own` is the high budget, at which the task's jobs stop.
 #[derive(Clone, Copy, Debug, PartialEq, Eq)]
 struct Budget {
     low: u32,
     own: u32,
 }
 
-/// How far a job's ticks have come.
+/// How far a job's ticks have come against its task's budgets.
 #[derive(Clone, Copy, Debug, PartialEq, Eq)]
 pub enum Spent {
-    /// They are at neither budget.
+    /// The ticks are at neither budget.
     Below,
-    /// They are at the low budget, and that is not the task's own.
+    /// The ticks are at the low budget, which is below the task's own.
     AtLow,
-    /// They are at the task's own budget.
+    /// The ticks are at the task's own budget.
     AtOwn,
 }
 
-/// The ticks that the live job of each task of a set has had. Contracts see them task by task, with the tasks' budgets.
+/// The ticks that the current job of each task of a set has had. In contracts it is the ticks and the budgets of each
+/// task.
 #[derive(Debug, Drop)]
 pub struct Used {
     budgets: Vec<Budget>,
@@ -45,7 +46,7 @@ impl Model for Used {
 impl Used {
     ghost use Rattle.budget_ledger.specs.Ledger.{budget, budget_of, ticks_of, with_ticks, spent, HasTask};
 
-    /// The tasks of the set, with no ticks. Only this call takes memory.
+    /// A ledger of the set's tasks, with no ticks. Fails with `Memory` if an allocation fails; no other call allocates.
     pub fn new(alloc: Global, set: &TaskSet) -> Result<Used, Memory>
         ensures { IfOk result (λ used. used ≡ record { budgets = map budget set.now.tasks; ticks = replicate (length set.now.tasks) 0 }) }
     {
@@ -55,7 +56,7 @@ impl Used {
         Ok(Used { budgets, ticks })
     }
 
-    /// Begins a job of the task, which has had no ticks.
+    /// Begins a new job of the task, with no ticks.
     pub fn start(&mut self, task: TaskNo)
         requires { HasTask self.old task.0 }
         ensures { self.new ≡ with_ticks self.old task.0 0 }
@@ -63,7 +64,7 @@ impl Used {
         self.ticks[task.0 as usize - 1] = 0;
     }
 
-    /// The ticks of the task's live job.
+    /// The number of ticks that the task's current job has had.
     pub fn used(&self, task: TaskNo) -> u32
         requires { HasTask self.now task.0 }
         ensures { result ≡ ticks_of self.now task.0 }
@@ -71,7 +72,7 @@ impl Used {
         self.ticks[task.0 as usize - 1]
     }
 
-    /// Counts one more tick of the task's live job, and tells whether it is now at a budget, the task's own one first.
+    /// Counts one more tick of the task's current job, and returns whether it is now at a budget; at both, `AtOwn`.
     pub fn spend(&mut self, task: TaskNo) -> Spent
         requires in_set { HasTask self.old task.0 }
         requires below { ticks_of self.old task.0 < (budget_of self.old task.0).own }

@@ -1,3 +1,4 @@
+pub mod Lives
 pub mod Logs
 pub mod Passes
 pub mod Steps

@@ -1,4 +1,4 @@
--- A log that goes on has no fewer ticks.
+-- A log that goes on has no fewer ticks than before.
 use Rattle.std.proofs.Common.{◌≡◌, ℕ, ◌+◌, ◌≤◌, List, [], ◌∷◌, ◌++◌, sym, subst, arith}
 use Rattle.status_board.specs.declared.shown.Shown.{Shown}
 use Rattle.status_board.specs.Logs.{start, Rises, IsLog, last_of}
@@ -9,7 +9,7 @@ rises : (n : ℕ) (d : Shown) (xs : List Shown) → d.ticks ≡ n → Rises n xs
 rises n d [] is h = omega (arith, is)
 rises n d (x ∷ xs) is h = let more = rises (n + 1) x xs h.0 h.1 in omega (arith, more)
 
--- and with no fewer than a beginning of them
+-- pairs that rise end with no fewer ticks than a beginning of them
 further : (n : ℕ) (d : Shown) (xs later : List Shown) → d.ticks ≡ n → Rises n (xs ++ later) → (last_of d xs).ticks ≤ (last_of d (xs ++ later)).ticks
 further n d [] later is h = let more = rises n d later is h in omega (arith, is, more)
 further n d (x ∷ xs) later is h = further (n + 1) x xs later h.0 h.1

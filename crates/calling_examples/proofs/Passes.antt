@@ -11,7 +11,7 @@ neither : (a b : Bool) → a ≡ false → b ≡ false → (a || b) ≡ false
 neither true b p q = p
 neither false b p q = q
 
--- a list without a pass of the task has none in its two parts
+-- a list without a pass of the task has none in either of its two parts
 before : (xs ys : List TaskPass) (k : ℕ) → has_pass (xs ++ ys) k ≡ false → has_pass xs k ≡ false
 before [] ys k h = refl
 before (x ∷ xs) ys k h =
@@ -26,7 +26,7 @@ behind (x ∷ xs) ys k h = behind xs ys k (or_right ((of_pass x).task == k) (has
 second : (k : ℕ) → 1 ≤ k → k ≤ 2 → k ≢ 1 → k ≡ 2
 second k low high other = omega (arith, low, high, other)
 
--- where a pass of the first task and one of the second were added to a list, none of the two is missing
+-- a list to which a pass of the first task and one of the second were added lacks neither
 pub none_missing : (list : List TaskPass) (p q : TaskPass) (k : ℕ) → (of_pass p).task ≡ 1 → (of_pass q).task ≡ 2 → 1 ≤ k → k ≤ 2 → has_pass ((list ++ p ∷ []) ++ q ∷ []) k ≡ false → ⊥
 none_missing list p q k one two low high none =
     let front = before (list ++ p ∷ []) (q ∷ []) k none in

@@ -1,4 +1,4 @@
-// A set that is made in memory, and the rule of the test for it.
+//! A set that is built in memory, and the rule of the test for it.
 ghost use Rattle.std.specs.Prelude.{◌≡◌, IfOk, IfErr, Some};
 ghost use Rattle.mc_model.specs.Holds.{Fits, Holds};
 ghost use Rattle.mc_model.specs.Test.{published};
@@ -13,15 +13,16 @@ use thiserror::Error;
 /// Why a set has no rule.
 #[derive(Clone, Copy, Debug, PartialEq, Eq, Error)]
 pub enum NoRule {
-    /// The task is the first whose period takes the least common multiple of the periods past 2^60.
+    /// The hyperperiod exceeds 2^60; the task is the first whose period takes it past that.
     #[error("the periods are out of range at task {}", task.0)]
     Range { task: TaskNo },
-    /// The test admits no rule.
+    /// The test gives the set no rule.
     #[error("no rule schedules the set")]
     NotAdmitted,
 }
 
-/// A controller that is certified for 6 ticks and mostly needs 2, and a logger. Without memory there is no set.
+/// The set of a controller, which is certified for 6 ticks and mostly needs 2, and a logger; `None` if an allocation
+/// fails.
 pub fn control_set(alloc: Global) -> Option<TaskSet> {
     let ctl = Task {
         name: Name::new(b"ctl")?,
@@ -41,7 +42,7 @@ pub fn control_set(alloc: Global) -> Option<TaskSet> {
     TaskSet::new(tasks).ok()
 }
 
-/// The rule of the published test for the set.
+/// The rule of the published test for the set, or why there is none.
 pub fn rule_for(set: &TaskSet) -> Result<Rule, NoRule>
     ensures test { IfOk result (λ rule. published set.now.tasks ≡ Some rule) }
     ensures fits { IfOk result Fits }

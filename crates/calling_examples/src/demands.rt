@@ -8,7 +8,8 @@ use demand_test::{DemandSet, Fit, check_demand, counter};
 use mc_task::Memory;
 use std::alloc::Global;
 
-/// The text of a run in which a job is late, if the set has one; without one no job of any run of it is late.
+/// The text of a schedule in which a job is late, if the set has one. If there is none, no job is late in any schedule
+/// of the set.
 pub fn counterexample(alloc: Global, set: &DemandSet) -> Result<Option<Vec<u8>>, Memory>
     ensures none { IfOk result (λ found. found ≡ None → (h : List EdfRow) → IsEdfSchedule set.now h → NoneLate set.now h) }
     ensures some { IfOk result (λ found. IfSome found (λ text. (n : ℕ) × ShowsCounter set.now n text.items)) }

@@ -1,5 +1,5 @@
-// A first program: a set, its rule, and a loop over the core. It looks each task up before it is released, so its proof
-// needs no file.
+//! A first program: a set, its rule, and a loop over the core. It looks each task up before it releases it, so its
+//! proof needs no file.
 ghost use Rattle.std.specs.Prelude.{IfOk, IfSome};
 ghost use Rattle.mc_model.specs.Holds.{Fits, Holds};
 ghost use Rattle.mode_core.specs.Timely.{IsTimely};
@@ -11,7 +11,7 @@ use mc_task::{Level, Memory, Name, Rule, Task, TaskNo, TaskSet};
 use mode_core::Core;
 use std::alloc::Global;
 
-/// Runs 20 ticks of two tasks, and prints how many rows tell them.
+/// Runs two tasks for 20 ticks, and prints the number of rows.
 pub fn print_a_run(rt: &impl Print, alloc: Global) -> anyhow::Result<()> {
     let set = sensor_set(alloc).context("no set")?;
     let rule = rule_of(&set).context("no rule schedules the set")?;
@@ -51,7 +51,7 @@ fn rule_of(set: &TaskSet) -> Option<Rule>
     admit(&loads)
 }
 
-/// So many ticks, each task released as soon as it may be. No job is late in the rows.
+/// Runs the set for `end` ticks, with each task released as soon as it may be. No job is late in the rows.
 pub fn run(alloc: Global, set: TaskSet, rule: Rule, end: u32) -> Result<Core, Memory>
     requires fits { Fits rule }
     requires holds { Holds set.tasks rule }
@@ -69,19 +69,19 @@ pub fn run(alloc: Global, set: TaskSet, rule: Rule, end: u32) -> Result<Core, Me
     Ok(core)
 }
 
-// Where the task may not be released yet, the core refuses, and nothing changes.
+// If the task may not be released yet, the core refuses, and nothing changes.
 fn release(core: &mut Core, task: TaskNo) {
     if core.set().get(task).is_some() {
         let _ = core.release(task);
     }
 }
 
-// Gives the next tick to the chosen job, where one is pending.
+// Gives the next tick to the chosen job, if a job is pending.
 fn give_tick(core: &mut Core, done: bool) {
     match core.chosen() {
         Some(job) => {
             if let Ok(granted) = core.grant(job.task) {
-                // Here the job would run for a tick, and say whether it is done with it.
+                // Here the job would run for one tick and say whether it is done.
                 let _ = core.outcome(granted.job, done);
             }
         }

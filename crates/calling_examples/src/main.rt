@@ -4,6 +4,8 @@
 mod admitted;
 mod demands;
 mod guarded;
+mod line;
+mod live;
 mod plant;
 mod recorded;
 mod schedule;
@@ -16,6 +18,7 @@ use anyhow::Context;
 use demand_test::read_demands;
 use demands::counterexample;
 use guarded::print_a_run;
+use live::run_live;
 use mc_model::{How, Row, WorkRow};
 use mc_task::{JobId, Rule, TaskNo, TaskSet};
 use mode_core::Core;
@@ -37,6 +40,7 @@ fn main(rt: HostRuntime) -> anyhow::Result<()> {
     judge_rows(&rt, rt.alloc(), &core)?;
     run_in_threads(&rt, rt.alloc(), &core)?;
     watch_a_run(&rt, rt.alloc(), &core)?;
+    drive_without_an_end(&rt, rt.alloc())?;
     refute_a_set(&rt, rt.alloc())
 }
 
@@ -68,7 +72,7 @@ fn judge_rows(rt: &impl Print, alloc: Global, core: &Core) -> anyhow::Result<()>
     println!(rt; "{:?}", verdict_on(alloc, &set, rule, core.rows())?)?;
     let ctl = first_job(1);
     let log = first_job(2);
-    // The overrun has discarded the logger's job, so it may not run.
+    // The overrun has discarded the logger's job, so that job may not run.
     let recorded = [
         Row::Release {
             job: ctl,
@@ -131,6 +135,17 @@ fn watch_a_run<R: Print + Threads + Wait + Sync>(
         .context("out of memory")?;
     println!(rt; "ticks that a panel counted: {ended}")?;
     println!(rt; "the same rows: {}", floor.core().rows() == core.rows())?;
+    Ok(())
+}
+
+fn drive_without_an_end(rt: &impl Print, alloc: Global) -> anyhow::Result<()> {
+    let set = control_set(alloc).context("no set")?;
+    let rule = rule_for(&set)?;
+    let mut plant = Plant::new();
+    let live = run_live(alloc, &set, rule, &mut plant, Vec::new(alloc))?;
+    let verdict = live.monitor().verdict();
+    print!(rt; "{}", str::from_utf8(&live.into_lines())?)?;
+    println!(rt; "{verdict:?}")?;
     Ok(())
 }
 

@@ -1,16 +1,19 @@
-// A device that is a few numbers.
+//! A simulated device: a few numbers.
+ghost use Rattle.std.specs.Prelude.{◌≡◌};
+
+use crate::live::Machine;
 use crate::schedule::Device;
 use mc_task::{JobId, TaskNo};
 
-/// A plant whose controller overruns: its job needs 6 ticks, and is released at 0. A job of the logger needs 5, and is
-/// released at 0 and at 10.
+/// A plant whose controller overruns: its job is released at 0 and needs 6 ticks. A job of the logger needs 5 ticks,
+/// and is released at 0 and at 10.
 #[derive(Clone, Copy, Debug)]
 pub struct Plant {
-    /// The ticks that the controller's job still needs.
+    /// How many ticks the controller's job still needs.
     ctl: u32,
-    /// The ticks that the logger's job still needs.
+    /// How many ticks the logger's job still needs.
     log: u32,
-    /// The ticks that were run.
+    /// How many ticks were run.
     pub ran: u32,
 }
 
@@ -49,5 +52,13 @@ impl Device for Plant {
         };
         *left = left.saturating_sub(1);
         *left == 0
+    }
+}
+
+impl Machine for Plant {
+    ghost is_off_before = { λ _ at. at ≡ 12 };
+
+    fn is_off(&mut self, at: u64) -> bool {
+        at == 12
     }
 }

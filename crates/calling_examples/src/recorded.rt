@@ -1,4 +1,4 @@
-// Rows from a recorder of one's own, judged.
+//! Rows from a recorder of the caller's own, judged.
 ghost use Rattle.std.specs.Prelude.{◌≡◌, ◌↔◌, ◌<◌, All, Err, IfOk, IsTrue, length, reverse};
 ghost use Rattle.mc_model.specs.Holds.{Fits, Holds};
 ghost use Rattle.mc_model.specs.Legal.{IsOfSet};
@@ -22,7 +22,7 @@ pub enum NotJudged {
     UnknownTask,
 }
 
-/// The verdict on these rows, the oldest first. The rule holds for the set, so where the rows are legal no job is late.
+/// The verdict on these rows, the oldest first. The rule holds for the set, so if the rows are legal, no job is late.
 pub fn verdict_on(
     alloc: Global,
     set: &TaskSet,

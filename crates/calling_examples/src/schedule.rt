@@ -1,4 +1,4 @@
-// A scheduling loop of one's own over the core, for any device.
+//! A scheduling loop of the caller's own over the core, for any device.
 ghost use Rattle.std.specs.Prelude.{◌≡◌, ◌<◌, ◌≤◌, None, length, IfOk};
 ghost use Rattle.mc_model.specs.Holds.{Fits, Holds};
 ghost use Rattle.mc_model.specs.Legal.{Legal};
@@ -8,18 +8,19 @@ ghost use Rattle.calling_examples.specs.Loop.{AddsReleases, AddsTick};
 
 use mc_task::{JobId, Memory, Rule, TaskNo, TaskSet};
 use mode_core::Core;
+use row_history::Recorder;
 use std::alloc::Global;
 
 /// What the loop drives.
 pub trait Device {
-    /// Whether the task is released at this boundary, which is that before tick `at`.
+    /// Whether the task is released at this boundary, just before tick `at`.
     fn releases(&mut self, task: TaskNo, at: u64) -> bool;
 
-    /// Runs one tick of the job, and says whether the job is done with it.
+    /// Runs one tick of the job, and returns whether the job is then done.
     fn run(&mut self, job: JobId) -> bool;
 }
 
-/// Schedules so many ticks of the set under the rule, whatever the device says.
+/// Schedules `end` ticks of the set under the rule, whatever the device returns.
 pub fn schedule<D: Device>(
     alloc: Global,
     set: TaskSet,
@@ -36,7 +37,7 @@ pub fn schedule<D: Device>(
     ensures same { IfOk result (λ core. (core.set ≡ set.tasks) × (core.rule ≡ rule) × (core.out ≡ None)) }
 {
     let tasks = set.len();
-    // A set has at most 128 tasks, so at a boundary come at most 128 releases and a tick.
+    // A set has at most 128 tasks, so each boundary has at most 128 releases and one tick.
     let mut core = Core::new(alloc, set, rule, 129 * end as usize)?;
     for _tick in 0..end {
         release_due(&mut core, device, tasks);
@@ -47,8 +48,8 @@ pub fn schedule<D: Device>(
     Ok(core)
 }
 
-// Releases each task that the device says. One that is too soon is refused, which changes nothing.
-fn release_due<D: Device>(core: &mut Core, device: &mut D, tasks: u32)
+/// Releases each task that the device wants released. A release that is too soon is refused, which changes nothing.
+pub fn release_due<D: Device, R: Recorder>(core: &mut Core<R>, device: &mut D, tasks: u32)
     requires tasks { tasks ≡ length core.old.set }
     requires none_out { core.old.out ≡ None }
     ensures { AddsReleases tasks core.old core.new }
@@ -61,8 +62,8 @@ fn release_due<D: Device>(core: &mut Core, device: &mut D, tasks: u32)
     }
 }
 
-// Gives the next tick to the chosen job, or to nobody, where nothing is pending.
-fn give_tick<D: Device>(core: &mut Core, device: &mut D)
+/// Gives the next tick to the chosen job, or makes an idle tick if nothing is pending.
+pub fn give_tick<D: Device, R: Recorder>(core: &mut Core<R>, device: &mut D)
     requires none_out { core.old.out ≡ None }
     requires room { length core.old.rows < core.old.places }
     ensures { AddsTick core.old core.new }

@@ -1,4 +1,4 @@
-// A list of jobs, run by a thread for each task.
+//! A list of jobs, run by a thread for each task.
 ghost use Rattle.std.specs.Prelude.{◌≡◌, ◌≤◌, [], Some, IfOk, IfErr};
 ghost use Rattle.mc_model.specs.Holds.{Fits, Holds};
 ghost use Rattle.mc_model.specs.Late.{late};
@@ -24,7 +24,7 @@ use work_file::{BadRow, Work};
 pub enum NotRun {
     #[error("out of memory")]
     Memory,
-    /// The first job that may not stand after those before it.
+    /// The first job that may not stand after the jobs before it.
     #[error("job {}: {:?}", bad.index, bad.cause)]
     BadJob { bad: BadRow },
 }
@@ -52,14 +52,14 @@ impl Gate for StepCounter {
 
     fn released(&self, _task: u32, _pass: &TaskPass) {}
 
-    // The tick of the grant's job is out for as long as this call takes: here its work would be done.
+    // The job of the grant has its tick during this call: this is where its work would be done.
     fn step(&self, _task: u32, _grant: &Grant) {
         self.steps.fetch_add(1, SeqCst);
     }
 }
 
-/// So many ticks of these jobs in a thread for each task. The rows are the one trace that set, rule, jobs and ticks
-/// determine, however the threads interleave.
+/// Runs `ticks` ticks of these jobs in a thread for each task. The rows are the one trace that the set, the rule, the
+/// jobs and the ticks determine, however the threads interleave.
 pub fn run_jobs<R: Threads + Wait + Sync, G: Gate + Sync>(
     rt: &R,
     alloc: Global,

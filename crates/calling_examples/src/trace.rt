@@ -1,4 +1,4 @@
-// The rows of a core as text.
+//! The rows of a core as text.
 ghost use Rattle.std.specs.Prelude.{◌≡◌, ◌<◌, Err, IfOk, length, reverse};
 ghost use Rattle.mc_model.specs.TraceText.{trace_text};
 
@@ -16,7 +16,7 @@ pub enum NoText {
     TooMany,
 }
 
-/// The trace of a core, as a file of it would be: equal ticks stand in one record.
+/// The text of a core's rows, as a trace file would have it: equal neighbouring ticks stand in one record.
 pub fn trace_of(alloc: Global, core: &Core) -> Result<Vec<u8>, NoText>
     ensures text { IfOk result (λ text. text.items ≡ trace_text core.now.set (reverse core.now.rows)) }
     ensures too_many { result ≡ Err NoText.TooMany → 2000000 < length core.now.rows }

@@ -1,4 +1,4 @@
-// A plan that a loop of one's own serves, and a panel beside it that reads ticks and mode without a turn.
+//! A plan that the caller's own loop serves, and a panel beside it that reads ticks and mode without taking a turn.
 ghost use Rattle.std.specs.Prelude.{◌≡◌, ◌+◌, ◌≤◌, ◌∷◌, [], IfSome, IfOk, vec_len, vec_capacity};
 ghost use Rattle.mc_model.specs.Holds.{Fits, Holds};
 ghost use Rattle.status_board.specs.Logs.{start};
@@ -24,7 +24,7 @@ use std::thread::{Threads, join};
 use timetable::{Act, Floor, Plan};
 use work_file::Work;
 
-/// Shows what it read last of an executive's board.
+/// Shows the pair that it last read from an executive's board.
 #[derive(Drop)]
 pub struct Panel {
     watcher: Watcher,
@@ -47,7 +47,7 @@ impl Panel {
         Panel { watcher, shown }
     }
 
-    /// Reads again, and tells how many ticks have ended since the last reading. It waits for nobody.
+    /// Reads again, and returns how many ticks have ended since the last reading. It never waits.
     pub fn refresh(&mut self, executive: &Executive) -> u64
         requires { IsPanelOf executive.now self.old }
         ensures of { IsPanelOf executive.now self.new }
@@ -60,7 +60,7 @@ impl Panel {
         ended
     }
 
-    /// Reads until so many ticks have ended, and tells how many ended meanwhile.
+    /// Reads until `ticks` ticks have ended, and returns how many of them ended meanwhile.
     pub fn follow<R: Wait>(&mut self, rt: &R, executive: &Executive, ticks: u64) -> u64
         requires { IsPanelOf executive.now self.old }
         ensures of { IsPanelOf executive.now self.new }
@@ -78,7 +78,7 @@ impl Panel {
     }
 }
 
-/// A floor of two tasks on which these jobs are planned, for so many ticks.
+/// A floor of two tasks whose plan is these jobs, for `ticks` ticks.
 pub fn planned(
     alloc: Global,
     set: TaskSet,
@@ -103,8 +103,8 @@ pub fn planned(
     Some(Floor::new(core, Plan::Rows { work, ticks }))
 }
 
-/// Runs the plan of a floor of two tasks, while a panel follows its ticks in a thread of its own: the floor, and the ticks that the
-/// panel saw to end.
+/// Runs the plan of a floor of two tasks, while a panel follows its ticks in a thread of its own. Returns the floor,
+/// and the number of ticks that the panel saw end.
 pub fn run_watched<R: Threads + Wait + Sync>(
     rt: &R,
     alloc: Global,
@@ -113,7 +113,7 @@ pub fn run_watched<R: Threads + Wait + Sync>(
 ) -> Result<(Floor, u64), NoMemory>
     requires { IsReady floor }
     ensures trace { IfOk result (λ r. IsTraceOfPlan r.0.plan r.0.core) }
-    // The set, the rule, the places and the plan are as before.
+    // The set, the rule, the capacity and the plan are as before.
     ensures same { IfOk result (λ r. opening_of r.0 ≡ floor) }
     ensures seen { IfOk result (λ r. ticks ≤ r.1) }
 {
@@ -140,7 +140,7 @@ pub fn run_watched<R: Threads + Wait + Sync>(
     Ok((floor, ended))
 }
 
-// Closes the executive with the passes of its two tasks, and does what is left of its plan.
+// Closes the executive with the passes of its two tasks, and does the rest of its plan.
 fn finished<R: Wait>(
     rt: &R,
     executive: Executive,
@@ -166,7 +166,7 @@ fn finished<R: Wait>(
     }
 }
 
-// Does what the plan asks for, by the passes of its two tasks, until it is finished.
+// Does the next acts of the plan, with the passes of its two tasks, until it is finished.
 fn serve<R: Wait>(
     rt: &R,
     executive: &Executive,
@@ -197,7 +197,7 @@ fn serve<R: Wait>(
     unreachable!()
 }
 
-// A tick of the pass's task, of which the plan says whether its job is done.
+// Makes a tick of the pass's task; the plan decides whether its job is done.
 fn tick<R: Wait>(rt: &R, executive: &Executive, pass: TaskPass, task: TaskNo) -> TaskPass
     requires { IsPassFor executive.now task.0 pass }
     ensures { IsPassFor executive.now task.0 result }

@@ -1,4 +1,4 @@
--- The command line: which command the words name, in the types of the code.
+-- The command line: which form the words have, and which command a form is.
 use Rattle.std.specs.Prelude.{◌≡◌, ℕ, ◌+◌, ◌≤◌, ◌<◌, ◌-◌, ◌^◌, nat_le, nat_lt, List, [], ◌∷◌, if◌then◌else◌, Option, Some, None, option_map, option_and_then, codes, map, String, string_bytes}
 use Rattle.std.specs.Str.{bytes_eq}
 use Rattle.std.specs.declared.alloc.Global.{Global}
@@ -21,7 +21,7 @@ use Rattle.study_answers.specs.Accept.{accept}
 use Rattle.command_line.specs.declared.form.Form.{Form}
 use Rattle.command_line.specs.declared.form.Form.TheVariants as form
 
--- the command of a form
+-- the command that a form asks for
 abbrev pub command_of : Form → Command
 command_of (form.Check c) = check c.tasks
 command_of (form.Run c) = run c.tasks c.work c.ticks
@@ -34,15 +34,29 @@ command_of (form.RunAll c) = run_all c.tasks c.work c.ticks c.processors
 command_of (form.Stretch c) = stretch c.tasks
 command_of (form.Accept c) = accept c.number c.sets c.tasks
 
--- what is asked of a form's numbers besides the bounds of their types: a scale is at most 1, the tasks of a workload are 2 to
--- 32, and the numbers of a study's sets are below 2^64
+-- a form's numbers are within bounds that its command needs: a scale is at most 1, a workload has 2 to 32
+-- tasks, and the numbers of a study's sets are below 2^64
 abbrev pub IsInRange : Form → Type 0
 IsInRange (form.OnTrace c) = IsScale c.telling
 IsInRange (form.Soak c) = (2 ≤ c.tasks) × (c.tasks ≤ 32)
 IsInRange (form.Accept c) = c.number + c.sets < 2 ^ 64
 IsInRange c = Unit {0}
 
--- the one line that names every form
+-- `run` and `runall` have at most 1,000,000 ticks, and `live` at most 100,000
+abbrev pub HasFewTicks : Form → Type 0
+HasFewTicks (form.Run c) = c.ticks ≤ 1000000
+HasFewTicks (form.Live c) = c.ticks ≤ 100000
+HasFewTicks (form.RunAll c) = c.ticks ≤ 1000000
+HasFewTicks c = Unit {0}
+
+-- the command runs each task of a set in a thread of its own, and has no reply on the caller's thread
+abbrev pub StartsThreads : Form → Type 0
+StartsThreads (form.Soak c) = Unit {0}
+StartsThreads (form.Live c) = Unit {0}
+StartsThreads (form.RunAll c) = Unit {0}
+StartsThreads c = ⊥
+
+-- the usage line, which names every form
 abbrev pub usage_line : List ℕ
 usage_line = codes "usage: check TASKS | run TASKS WORK TICKS | judge TASKS TRACE [P Q] | chart TASKS TRACE | report TASKS TRACE | soak NUMBER TASKCOUNT TICKS | migrate TASKS TRACE | live TASKS TICKS | demand DEMANDS | partition TASKS M | runall TASKS WORK TICKS M | stretch TASKS | accept NUMBER SETS TASKCOUNT\n"
 
@@ -55,7 +69,7 @@ abbrev pub judge_by : Option ℕ → Option ℕ → Option Telling
 judge_by (Some p) (Some q) = if nat_le p q then Some (JudgeBy p q) else None
 judge_by p q = None
 
--- a workload of n tasks, made from number k
+-- a workload of n tasks, generated from number k
 abbrev pub workload : Option ℕ → Option ℕ → Option ℕ → Option Form
 workload (Some k) (Some n) (Some ticks) = Some (form.Soak (record { number = k; tasks = n; ticks = ticks }))
 workload number tasks ticks = None
@@ -66,7 +80,7 @@ study (Some k) (Some n) (Some m) =
     if nat_lt (k + n) (2 ^ 64) then Some (form.Accept (record { number = k; sets = n; tasks = m })) else None
 study number sets tasks = None
 
--- runs of the parts of a set, with its work, on this many processors
+-- `runall` of a set and its work, for a number of ticks, on a number of processors
 abbrev pub parts_run : List ℕ → List ℕ → Option ℕ → Option ℕ → Option Form
 parts_run tasks work (Some ticks) (Some processors) =
     Some (form.RunAll (record { tasks = tasks; work = work; ticks = ticks; processors = processors }))
@@ -126,15 +140,15 @@ form_of (word ∷ a ∷ b ∷ c ∷ []) = with_three word a b c
 form_of (word ∷ a ∷ b ∷ c ∷ d ∷ []) = with_four word a b c d
 form_of words = None
 
--- the form that the program's words have, if any, by their bytes
+-- the form that the words after the program's name have, if any
 abbrev pub form_in : List (String Global) → Option Form
 form_in words = form_of (map (λ w. string_bytes w) words)
 
--- status 2: the words have none of the forms
+-- the reply to words that have none of the forms: the usage line, with status 2
 abbrev pub usage : Reply
 usage = reply_of 2 usage_line
 
--- the command of a form, or of words that have none
+-- the command of a form; of words that have no form, the one that replies with the usage line
 abbrev pub command : Option Form → Command
 command None = answer (λ reply. reply ≡ usage)
 command (Some form) = command_of form

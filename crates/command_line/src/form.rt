@@ -1,5 +1,5 @@
-// The forms of the command line: which words ask for which command.
-ghost use Rattle.std.specs.Prelude.{◌≡◌, IfOk, IfSome};
+//! The forms of the command line: which words ask for which command.
+ghost use Rattle.std.specs.Prelude.{◌≡◌, IfOk, IfSome, IfNone, OnSome};
 ghost use Rattle.serving.specs.Serves.{Serves};
 ghost use Rattle.trace_answers.specs.OnTrace.{IsScale};
 ghost use Rattle.command_line.specs.Form as spec;
@@ -10,8 +10,8 @@ use mc_world::Shelf;
 use numeral::numeral;
 use part_answers::{Partition, RunAll};
 use replies::{Reply, Stop};
-use run_answers::{Live, Run, Soak, TaskCount};
-use serving::{FileName, Within};
+use run_answers::{Live, LiveTicks, Run, Soak, Ticks};
+use serving::{FileName, TaskCount, Within};
 use std::alloc::{AllocError, Global};
 use std::sync::Wait;
 use std::thread::Threads;
@@ -22,7 +22,7 @@ use trace_answers::{OnTrace, Telling};
 // A number of a scale `p/q`.
 type ScalePart = Within<1, 4_294_967_295>;
 
-// The number of a set that is made from it.
+// The number that a random set is generated from.
 type SetNumber = Within<0, 18_446_744_073_709_551_615>;
 
 /// A command, as the words of the command line name it.
@@ -65,12 +65,33 @@ impl<'a> Form<'a> {
             Form::Accept(accept) => accept.reply(rt, alloc),
         }
     }
+
+    /// The reply to the command, on the caller's thread; None where the command starts threads of its own.
+    pub fn reply_alone<S: Shelf>(&self, alloc: Global, shelf: &mut S) -> Option<Result<Reply, Stop>>
+        requires { spec.IsInRange self.now }
+        ensures reply { IfSome result (Serves 1 (spec.command_of self.now) (S.state shelf.old) (S.state shelf.new)) }
+        ensures threads { IfNone result (spec.StartsThreads self.now) }
+        ensures alone { OnSome result (¬ spec.StartsThreads self.now) }
+        ensures unchanged { IfNone result (S.state shelf.new ≡ S.state shelf.old) }
+    {
+        match self {
+            Form::Check(check) => Some(check.reply(alloc, shelf)),
+            Form::Run(run) => Some(run.reply_alone(alloc, shelf)),
+            Form::OnTrace(on_trace) => Some(on_trace.reply(alloc, shelf)),
+            Form::Demand(demand) => Some(demand.reply(alloc, shelf)),
+            Form::Partition(partition) => Some(partition.reply(alloc, shelf)),
+            Form::Stretch(stretch) => Some(stretch.reply(alloc, shelf)),
+            Form::Accept(accept) => Some(accept.reply_alone(alloc)),
+            Form::Soak(_) | Form::Live(_) | Form::RunAll(_) => None,
+        }
+    }
 }
 
 /// The form that the words have, if any.
 pub fn form_of(words: &[String]) -> Option<Form<'_>>
     ensures form { result ≡ spec.form_in words.now }
     ensures range { IfSome result spec.IsInRange }
+    ensures ticks { IfSome result spec.HasFewTicks }
 {
     match words {
         [word, a] => with_one(word.as_str(), a.as_str()),
@@ -101,6 +122,7 @@ pub fn usage_line(alloc: Global) -> Result<Vec<u8>, AllocError>
 fn with_one<'a>(word: &str, file: &'a str) -> Option<Form<'a>>
     ensures form { result ≡ spec.with_one word.now file.now }
     ensures range { IfSome result spec.IsInRange }
+    ensures ticks { IfSome result spec.HasFewTicks }
 {
     let file = FileName::new(file);
     match word {
@@ -114,11 +136,14 @@ fn with_one<'a>(word: &str, file: &'a str) -> Option<Form<'a>>
 fn with_two<'a>(word: &str, tasks: &'a str, second: &'a str) -> Option<Form<'a>>
     ensures form { result ≡ spec.with_two word.now tasks.now second.now }
     ensures range { IfSome result spec.IsInRange }
+    ensures ticks { IfSome result spec.HasFewTicks }
 {
     match word {
         "live" => {
             let tasks = FileName::new(tasks);
-            let ticks = bounded(second)?;
+            let ticks: LiveTicks = bounded(second)?;
+            // The ticks are within their bounds.
+            let _count = ticks.get();
             Some(Form::Live(Live { tasks, ticks }))
         }
         "partition" => {
@@ -133,12 +158,15 @@ fn with_two<'a>(word: &str, tasks: &'a str, second: &'a str) -> Option<Form<'a>>
 fn with_three<'a>(word: &str, first: &'a str, second: &'a str, third: &str) -> Option<Form<'a>>
     ensures form { result ≡ spec.with_three word.now first.now second.now third.now }
     ensures range { IfSome result spec.IsInRange }
+    ensures ticks { IfSome result spec.HasFewTicks }
 {
     match word {
         "run" => {
             let tasks = FileName::new(first);
             let work = FileName::new(second);
-            let ticks = bounded(third)?;
+            let ticks: Ticks = bounded(third)?;
+            // The ticks are within their bounds.
+            let _count = ticks.get();
             Some(Form::Run(Run { tasks, work, ticks }))
         }
         "soak" => workload(first, second, third),
@@ -156,13 +184,16 @@ fn with_four<'a>(
 ) -> Option<Form<'a>>
     ensures form { result ≡ spec.with_four word.now tasks.now second.now third.now fourth.now }
     ensures range { IfSome result spec.IsInRange }
+    ensures ticks { IfSome result spec.HasFewTicks }
 {
     match word {
         "judge" => Some(on_trace(judge_by(third, fourth)?, tasks, second)),
         "runall" => {
             let tasks = FileName::new(tasks);
             let work = FileName::new(second);
-            let ticks = bounded(third)?;
+            let ticks: Ticks = bounded(third)?;
+            // The ticks are within their bounds.
+            let _count = ticks.get();
             let processors = bounded(fourth)?;
             Some(Form::RunAll(RunAll {
                 tasks,
@@ -218,6 +249,7 @@ fn workload<'a>(seed: &str, tasks: &str, ticks: &str) -> Option<Form<'a>>
     ensures form { result
         ≡ spec.workload (spec.number 0 18446744073709551615 seed.now) (spec.number 2 32 tasks.now) (spec.number 1 1000000 ticks.now) }
     ensures range { IfSome result spec.IsInRange }
+    ensures ticks { IfSome result spec.HasFewTicks }
 {
     let seed: SetNumber = bounded(seed)?;
     let tasks: TaskCount = bounded(tasks)?;
@@ -235,6 +267,7 @@ fn study<'a>(first: &str, sets: &str, tasks: &str) -> Option<Form<'a>>
     ensures form { result
         ≡ spec.study (spec.number 0 18446744073709551615 first.now) (spec.number 1 10000 sets.now) (spec.number 2 32 tasks.now) }
     ensures range { IfSome result spec.IsInRange }
+    ensures ticks { IfSome result spec.HasFewTicks }
 {
     let first: SetNumber = bounded(first)?;
     let number = first.get();
@@ -254,10 +287,5 @@ fn study<'a>(first: &str, sets: &str, tasks: &str) -> Option<Form<'a>>
 fn bounded<const LEAST: u64, const MOST: u64>(word: &str) -> Option<Within<LEAST, MOST>>
     ensures { result ≡ spec.number LEAST MOST word.now }
 {
-    match numeral(word.as_bytes(), 20) {
-        Some(number) if u128::from(LEAST) <= number && number <= u128::from(MOST) => {
-            Within::new(number as u64)
-        }
-        _ => None,
-    }
+    Within::new(numeral(word.as_bytes(), 20)?)
 }

@@ -13,7 +13,7 @@ use Rattle.csv_records.specs.Left.{GivesRecords, bytes_left, records_after, reco
 none_some : {A : Type 0} (x : A) (o : Option A) → o ≡ None → o ≡ Some x → ⊥
 none_some x o a b = cc
 
--- of records that are all that are left, the one that was read is the first
+-- the record that was read is the first of all that were left
 after_one : (s s2 : State) (y z : List ℕ) (f : List (List ℕ)) (rest : List (List (List ℕ))) → AreRecords default_config s y rest → Reached default_config s y (f ∷ []) s2 z
     → (more : List (List (List ℕ))) × (rest ≡ f ∷ more) × AreRecords default_config s2 z more
 unfolding Reached
@@ -33,7 +33,7 @@ chosen : {A : Type 0} (b : Bool) (x r : A) (o : Option A) → cond b (Some x) o 
 chosen true x r o h = inl (same_Some x r h)
 chosen false x r o h = inr h
 
--- what is left after a record is shorter, or nothing is left and no record begins there
+-- a record that is read leaves fewer bytes, or it leaves nothing and no record begins there
 shorter : (s : State) (fields : List (List ℕ)) (at xs : List ℕ) (r : Read) → next_record default_config s fields at xs ≡ Some r
     → (length r.2 < length xs) ⊎ ((r.1 ≡ st.StartRecord) × (r.2 ≡ []))
 unfolding next_record
@@ -53,7 +53,7 @@ shorter s fields at (c ∷ rest) r h =
           ]
     ]
 
--- so many reads from a state give all the records
+-- enough reads from a state give all the records
 none_at_end : (n : ℕ) → AreRecords default_config st.StartRecord [] (records_from default_config n st.StartRecord [])
 unfolding Reached records_from next_record
 none_at_end zero = (st.StartRecord, [], (refl, refl), refl)
@@ -87,7 +87,7 @@ same_records s y (r ∷ rs) qs (t, ys, (q, found, is, reach), none) h =
     let next = after_one s (q.1) y (q.2) r qs h (q, found, is, (refl, refl)) in
     ap (λ x. r ∷ x) (same_records (q.1) (q.2) rs (next.0) (t, ys, reach, none) (next.2)) ∙ sym (next.1)
 
--- a read, with so many more to follow
+-- one read is followed by n reads of what it leaves
 pub one_read : (s : State) (y : List ℕ) (n k : ℕ) → n ≡ suc k → records_from default_config n s y ≡ records_next (records_from default_config k) (next_record default_config s [] [] y)
 unfolding records_from
 one_read s y n k e = rw e refl
@@ -95,7 +95,7 @@ one_read s y n k e = rw e refl
 first_read : (s : State) (y : List ℕ) → records_after s (Some y) ≡ records_next (records_from default_config (length y)) (next_record default_config s [] [] y)
 first_read s y = one_read s y (length y + 1) (length y) (omega arith)
 
--- what is left after the first of the records that are left
+-- the records after the first of those that are left
 after_first : (s : State) (y : List ℕ) (p : Read) → next_record default_config s [] [] y ≡ Some p
     → records_after s (Some y) ≡ p.0 ∷ records_after p.1 (Some p.2)
 after_first s y p some =
@@ -111,7 +111,7 @@ after_read : (s t : State) (y z : List ℕ) (f : List (List ℕ)) (p : Read) →
     → records_after s (Some y) ≡ f ∷ records_after t (Some z)
 after_read s t y z f p some is state bytes = rw (is, ← state, ← bytes) (after_first s y p some)
 
--- a read that found a record took the first of those that are left
+-- a read that found a record took the first of those that were left
 pub taken : (a b : Reader (Bor (List ℕ))) (f : List (List ℕ)) → GivesRecords a → ReadRecord bytes_left a b true f → records_left false a ≡ f ∷ records_left false b
 unfolding Reached
 taken a b f gives read = by (source_of bytes_left a) refl gives.source
@@ -123,7 +123,7 @@ taken a b f gives read = by (source_of bytes_left a) refl gives.source
         let p = m.2.0 in
         ap (records_after a.state) source ∙ (after_read a.state b.state y m.0 f p m.2.1 m.2.2 m.2.3.0 m.2.3.1 ∙ ap (λ o. f ∷ records_after b.state o) (sym m.1))
 
--- where a read found none, none is left
+-- if a read found no record, none was left
 pub ended : (a b : Reader (Bor (List ℕ))) (f : List (List ℕ)) → GivesRecords a → ReadRecord bytes_left a b false f → records_left false a ≡ []
 ended a b f gives read = by (source_of bytes_left a) refl gives.source
   where

@@ -1,4 +1,4 @@
--- What is read of records, one by one.
+-- The rows that are read of records, one by one.
 use Rattle.std.proofs.Common.{◌≡◌, ℕ, zero, suc, ◌+◌, List, [], ◌∷◌, ◌++◌, length, take, Option, Some, None, Result, Ok, Err, slice_get, refl, sym, ap, subst, ◌∙◌, append_assoc}
 use Rattle.std.proofs.lemmas.List.{append-nil}
 use Rattle.std.specs.Option.{option_map_or}
@@ -28,7 +28,7 @@ each_is_read {Row = Row} {Cause = Cause} means (f ∷ fs) before = go (means bef
         let b = others (before ++ r ∷ []) in
         record { more = r ∷ b.more; each = each r is b.more b.each; ends = ends r b.more (rows_from means fs (before ++ r ∷ [])) b.ends }
 
--- what each row keeps of those before it, all rows have
+-- a property that each further row keeps holds of all rows
 rows_keep : {Row Cause : Type 0} (P : List Row → Type 0) (means : Means Row Cause) → ((before : List Row) (fields : List (List ℕ)) (row : Row) → P before → means before fields ≡ Ok row → P (before ++ row ∷ []))
     → (records : List (List (List ℕ))) (before rows : List Row) → P before → rows_from means records before ≡ Ok rows → P rows
 rows_keep P means keep [] before rows h read = let same : before ≡ rows = cc in subst P same h
@@ -38,7 +38,7 @@ rows_keep {Row = Row} {Cause = Cause} P means keep (f ∷ fs) before rows h read
     go (Err cause) is others read = cc
     go (Ok row) is others read = others (before ++ row ∷ []) (keep before f row h is) read
 
--- so have those behind a header
+-- a property that each further row keeps holds of all rows after a header
 pub file_keeps : {Row Cause : Type 0} (P : List Row → Type 0) (header : List (List ℕ) → Option (Means Row Cause)) (no_header : Cause) → P []
     → ((first : List (List ℕ)) (means : Means Row Cause) → header first ≡ Some means → (before : List Row) (fields : List (List ℕ)) (row : Row) → P before → means before fields ≡ Ok row → P (before ++ row ∷ []))
     → (records : List (List (List ℕ))) (rows : List Row) → rows_of header no_header records ≡ Ok rows → P rows

@@ -1,4 +1,4 @@
--- How wide the records of a text are, counted byte by byte.
+-- The number of fields of the records of a text, counted byte by byte.
 use Rattle.std.proofs.Common.{◌≡◌, ◌<◌, ◌≤◌, ℕ, zero, suc, ◌+◌, ◌-◌, Bool, true, false, ◌&&◌, ◌==◌, cond, List, [], ◌∷◌, ◌++◌, length, take, drop, Some, None, refl, sym, ap, subst, ◌∙◌, arith}
 use Rattle.std.proofs.Math.Seq.{take-length}
 use Rattle.std.proofs.lemmas.List.{length-append, length-drop}
@@ -13,7 +13,7 @@ use Rattle.csv_records.specs.declared.width.Ends.TheVariants as ends
 use Rattle.csv_records.specs.Width.{StartsWide, has_mark, state_of, ends_of, is_inside, CountsFields}
 use Rattle.csv_records.proofs.RecordLemmas.{one_read}
 
--- a text without its byte order mark
+-- a text without its byte order mark is the text from its fourth byte on
 pub stripped : (text : List ℕ) → strip_bom text ≡ cond (has_mark text) (drop 3 text) text
 unfolding strip_bom
 stripped [] = refl
@@ -21,11 +21,11 @@ stripped (a ∷ []) = refl
 stripped (a ∷ b ∷ []) = refl
 stripped (a ∷ b ∷ c ∷ rest) = refl
 
--- what a slice from there on is
+-- taking all that is left of a text after three bytes leaves it as it is
 pub from_third : (text : List ℕ) → take (length text - 3) (drop 3 text) ≡ drop 3 text
 from_third text = ap (λ (n : ℕ). take n (drop 3 text)) (sym (length-drop 3 text)) ∙ take-length (drop 3 text)
 
--- behind one more record, one fewer stands before the wide one
+-- after one more record, one record fewer stands before the wide one
 pub one_fewer : (n : ℕ) (fields : List (List ℕ)) (left : List (List (List ℕ))) → (n ≡ 0 → ⊥) → StartsWide (drop n (fields ∷ left)) → StartsWide (drop (n - 1) left)
 one_fewer zero fields left some wide = absurd (some refl)
 one_fewer (suc n) fields left some wide = let less : suc n - 1 ≡ n = omega arith in rw less wide
@@ -46,7 +46,7 @@ in_field_by false false s h = refl
 in_field_stays : (b : ℕ) → StaysInside (in_field default_config b)
 in_field_stays b = in_field_by (b == default_config.delimiter) (ends_with default_config.terminator b) (after_end default_config.terminator b)
 
--- where either is chosen, and one of them stays inside
+-- a choice between two steps that both stay inside the record does so too
 skips_or : (d : Bool) (s : State) (a : Action) (to : State × Action) → is_inside s ≡ true → StaysInside to → StaysInside (cond d (s, a) to)
 skips_or true s a to inside stays h = inside
 skips_or false s a to inside stays h = stays h
@@ -54,7 +54,7 @@ skips_or false s a to inside stays h = stays h
 start_field_stays : (b : ℕ) → StaysInside (start_field default_config b)
 start_field_stays b = skips_or (default_config.quoting && (b == default_config.quote)) state.InQuoted act.Skip (in_field default_config b) refl (in_field_stays b)
 
--- inside a record a byte ends it, or stays inside
+-- inside a record, a byte either ends the record or stays inside it
 stays : (s : State) (b : ℕ) → is_inside s ≡ true → StaysInside (step default_config s b)
 stays state.StartRecord b h = cc
 stays state.AfterCr b h = cc
@@ -69,7 +69,7 @@ stays state.InEscape b h = λ still. refl
 field_is_inside : (to : State × Action) → StaysInside to → FieldInside to
 field_is_inside to stays h = stays (ap is_end h)
 
--- a byte that is passed over ends no field
+-- a byte that is skipped ends no field
 skipped_or : (d : Bool) (s : State) (to : State × Action) → FieldInside to → FieldInside (cond d (s, act.Skip) to)
 skipped_or true s to inside h = cc
 skipped_or false s to inside h = inside h
@@ -77,7 +77,7 @@ skipped_or false s to inside h = inside h
 start_record_field : (b : ℕ) → FieldInside (start_record default_config b)
 start_record_field b = skipped_or (ends_with default_config.terminator b) state.StartRecord (start_field default_config b) (field_is_inside (start_field default_config b) (start_field_stays b))
 
--- wherever a field ends, it is inside a record
+-- after each byte that ends a field, the machine is inside a record
 field_inside : (s : State) (b : ℕ) → FieldInside (step default_config s b)
 field_inside state.StartRecord b = start_record_field b
 field_inside state.AfterCr b = skipped_or (b == 10) state.StartRecord (start_record default_config b) (start_record_field b)
@@ -99,7 +99,7 @@ inside_ends state.InQuoted h = refl
 inside_ends state.AfterQuote h = refl
 inside_ends state.InEscape h = refl
 
--- the next record, by the action of its next byte
+-- the next record, by the action on its next byte
 by_action : (s : State) (fields : List (List ℕ)) (part : List ℕ) (b : ℕ) (rest : List ℕ) (a : Action) → (step default_config s b).1 ≡ a
     → next_record default_config s fields part (b ∷ rest)
     ≡ cond (is_end a) (Some (fields_after a fields part, (step default_config s b).0, rest)) (next_record default_config (step default_config s b).0 (fields_after a fields part) (field_after a b part) rest)
@@ -108,7 +108,7 @@ by_action s fields part b rest a h =
     subst (λ (a : Action). next_record default_config s fields part (b ∷ rest)
     ≡ cond (is_end a) (Some (fields_after a fields part, (step default_config s b).0, rest)) (next_record default_config (step default_config s b).0 (fields_after a fields part) (field_after a b part) rest)) h refl
 
--- the record that the machine is inside of is read, with one field more at least
+-- the record that the machine is inside of has at least one field more
 ends_wider : (s : State) (fields : List (List ℕ)) (part xs : List ℕ) → is_inside s ≡ true
     → (r : Read) × (next_record default_config s fields part xs ≡ Some r) × (length fields < length r.0)
 unfolding next_record
@@ -134,7 +134,7 @@ ends_wider s fields part (b ∷ rest) h = go (step default_config s b).1 refl (�
         let more = ends (step default_config s b).0 fields (part ++ (b ∷ [])) (stays s b h (ap is_end e)) in
         (more.0, by_action s fields part b rest act.Copy e ∙ more.1, more.2)
 
--- with six fields behind it a record is too wide
+-- after six fields of a record, the record is too wide
 pub told : (text : List ℕ) (i : ℕ) (count : Count) → CountsFields text i count → 6 ≤ count.fields → StartsWide (drop count.records (records default_config text))
 told text i count counts wide =
     let width = counts.width in
@@ -142,7 +142,7 @@ told text i count counts wide =
     let left = counts.left ∙ ap (records_next (records_from default_config (length text - count.records))) more.1 in
     subst (λ (rs : List (List (List ℕ))). StartsWide rs) (sym left) (omega (arith, width, wide, more.2))
 
--- before the first byte
+-- before the first byte the counts are right
 pub none_counted : (text : List ℕ) (count : Count) → count.records ≡ 0 → count.fields ≡ 0 → state_of count.place ≡ state.StartRecord → CountsFields text 0 count
 none_counted text count none no_field start = record {
   fields = [];
@@ -153,14 +153,14 @@ none_counted text count none no_field start = record {
   left = rw (none, start) (one_read state.StartRecord text (length text + 1) (length text - 0) (omega arith));
 }
 
--- what is behind the first of the records that are left
+-- if y stands first of what is left after n, ys is what is left after n + 1
 drop_behind : {A : Type 0} (n : ℕ) (xs : List A) (y : A) (ys : List A) → drop n xs ≡ y ∷ ys → drop (suc n) xs ≡ ys
 drop_behind zero [] y ys h = cc
 drop_behind zero (x ∷ xs) y ys h = ap (drop 1) h
 drop_behind (suc n) [] y ys h = cc
 drop_behind (suc n) (x ∷ xs) y ys h = drop_behind n xs y ys h
 
--- one more byte that ends nothing
+-- the counts are right after one more byte that ends nothing
 pub goes_on : (text : List ℕ) (i b : ℕ) (old new : Count) → drop i text ≡ b ∷ drop (i + 1) text → CountsFields text i old → ends_of (step default_config (state_of old.place) b).1 ≡ ends.Nothing
     → state_of new.place ≡ (step default_config (state_of old.place) b).0 → new.records ≡ old.records → new.fields ≡ old.fields → CountsFields text (i + 1) new
 goes_on text i b old new byte counts nothing place same_records same_fields = go (step default_config (state_of old.place) b).1 refl
@@ -198,7 +198,7 @@ only_record act.EndField h = cc
 only_record act.Skip h = cc
 only_record act.Copy h = cc
 
--- one more byte that ends a field
+-- the counts are right after one more byte that ends a field
 pub ends_field : (text : List ℕ) (i b : ℕ) (old new : Count) → drop i text ≡ b ∷ drop (i + 1) text → CountsFields text i old → ends_of (step default_config (state_of old.place) b).1 ≡ ends.Field
     → state_of new.place ≡ (step default_config (state_of old.place) b).0 → new.records ≡ old.records → new.fields ≡ old.fields + 1 → CountsFields text (i + 1) new
 ends_field text i b old new byte counts field place same_records one_more =
@@ -216,7 +216,7 @@ ends_field text i b old new byte counts field place same_records one_more =
           ∙ ap (records_next (records_from default_config (length text - old.records))) (by_action (state_of old.place) counts.fields counts.part b (drop (i + 1) text) act.EndField e));
     }
 
--- one more byte that ends a record
+-- the counts are right after one more byte that ends a record
 pub ends_record : (text : List ℕ) (i b : ℕ) (old new : Count) → drop i text ≡ b ∷ drop (i + 1) text → CountsFields text i old → ends_of (step default_config (state_of old.place) b).1 ≡ ends.Record
     → state_of new.place ≡ (step default_config (state_of old.place) b).0 → new.records ≡ old.records + 1 → new.fields ≡ 0 → CountsFields text (i + 1) new
 ends_record text i b old new byte counts ended place one_more no_field =

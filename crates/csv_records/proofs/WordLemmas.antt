@@ -1,11 +1,11 @@
--- The fields of a record that are words, place by place.
+-- The fields of a record that are given words, column by column.
 use Rattle.std.proofs.Common.{◌≡◌, ℕ, suc, Bool, true, false, ◌&&◌, ◌==◌, List, [], ◌∷◌, length, unwrap_or, refl, sym, ap, ◌∙◌, arith}
 use lib.Pointwise.{pointwise}
 use Rattle.std.specs.Str.{bytes_eq}
 use Rattle.std.proofs.lemmas.Bool.Decides.{nat_tests}
 use Rattle.csv.specs.Records.{field_at}
 
--- from place i on the fields are these words
+-- from column i on, the fields are these words
 abbrev pub are_at : ℕ → List (List ℕ) → List (List ℕ) → Bool
 are_at i fields [] = true
 are_at i fields (w ∷ ws) = bytes_eq (unwrap_or (field_at fields i) []) w && are_at (suc i) fields ws
@@ -29,7 +29,7 @@ no_words n b = grind (arith, nat_tests)
 no_fields : (n : ℕ) (b : Bool) → false ≡ ((0 == suc n) && b)
 no_fields n b = grind (arith, nat_tests)
 
--- the fields are these words where there are as many and each is the word at its place
+-- the fields are these words if there are as many of them, and each is the word of its column
 pub words_by_place : (fields words : List (List ℕ)) → pointwise bytes_eq fields words ≡ (length fields == length words && are_at 0 fields words)
 unfolding field_at
 words_by_place [] [] = refl
@@ -45,7 +45,7 @@ more : (b c : Bool) (m n : ℕ) → (b && c) ≡ true → (c ≡ true → m ≡ 
 more true c m n h same = ap suc (same h)
 more false c m n h same = absurd (cc)
 
--- and then there are as many
+-- fields that are these words are as many as the words
 pub words_length : (fields words : List (List ℕ)) → pointwise bytes_eq fields words ≡ true → length fields ≡ length words
 words_length [] [] h = refl
 words_length [] (w ∷ ws) h = absurd (cc)

@@ -17,7 +17,7 @@ abbrev pub records_after : State → Option (List ℕ) → List (List (List ℕ)
 records_after s None = []
 records_after s (Some bytes) = records_from default_config (length bytes + 1) s bytes
 
--- the records that a reader has left, if it was not let go
+-- the records that a reader has left, unless it was dropped after memory ran out
 abbrev pub records_left : Bool → Reader (Bor (List ℕ)) → List (List (List ℕ))
 records_left true r = []
 records_left false r = records_after r.state (source_of bytes_left r)
@@ -31,7 +31,7 @@ IsOfReader kind.OutOfMemory = ⊤
 IsOfReader (kind.Serialize text) = ⊥
 IsOfReader (kind.Deserialize pos err) = ⊥
 
--- the reader gives the records of the bytes that are left, as they are and of any lengths
+-- the reader returns the records of the bytes that are left, unchanged and of any lengths
 pub record GivesRecords (r : Reader (Bor (List ℕ))) : Type 0 where
   pub trim : r.trim ≡ trim.None
   pub ready : Ready r
@@ -39,6 +39,6 @@ pub record GivesRecords (r : Reader (Bor (List ℕ))) : Type 0 where
   pub config : r.config ≡ default_config
   pub source : IsSome (source_of bytes_left r)
 
--- a reader that was not let go gives the records of the bytes that are left
+-- a reader that was not dropped returns the records of the bytes that are left
 abbrev pub ReadsText : Bool → Reader (Bor (List ℕ)) → Type 0
 ReadsText let_go r = let_go ≡ false → GivesRecords r

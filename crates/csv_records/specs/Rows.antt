@@ -1,15 +1,17 @@
--- What the records of a text say: a header, and rows after it, each by the rows before it; or the first refusal.
+-- The rows that the records of a text say: a header, then rows, each read after the rows before it; or the
+-- first refusal.
 use Rattle.std.specs.Prelude.{◌≡◌, ℕ, ◌+◌, List, [], ◌∷◌, ◌++◌, length, take, slice_get, Option, Some, Result, Ok, Err}
 use Rattle.std.specs.Option.{option_map_or}
 use Rattle.csv.specs.Reading.{default_config, records, strip_bom}
 use Rattle.csv_records.specs.declared.fault.Fault.{Fault}
 use Rattle.csv_records.specs.declared.fault.Fault.TheVariants.{Memory, At}
 
--- what a record means after some rows: one more row, or the cause for which it is refused
+-- what a record means after some rows: one more row, or the cause of its refusal
 abbrev pub Means : Type 0 → Type 0 → Type 0
 Means Row Cause = List Row → List (List ℕ) → Result Row Cause
 
--- what is read after these rows: with one more row where the next record means one; otherwise its refusal, with its line
+-- what is read after these rows: one more row if the next record means one, otherwise its refusal with its
+-- line
 abbrev pub rows_with : {Row Cause : Type 0} → List Row → (List Row → Result (List Row) (Fault Cause))
     → Result Row Cause → Result (List Row) (Fault Cause)
 rows_with before more (Err cause) = Err (At (length before + 2) cause)
@@ -26,12 +28,13 @@ abbrev pub rows_of : {Row Cause : Type 0} → (List (List ℕ) → Option (Means
 rows_of header none [] = Err (At 1 none)
 rows_of header none (first ∷ left) = option_map_or (λ m. rows_from m left []) (header first) (Err (At 1 none))
 
--- the rows of a text: of its records, as csv's reader gives them with its defaults, without a byte order mark
+-- the rows of a text: those of its records, as csv's reader with its defaults returns them, without a byte
+-- order mark
 abbrev pub rows_in : {Row Cause : Type 0} → (List (List ℕ) → Option (Means Row Cause)) → Cause
     → List ℕ → Result (List Row) (Fault Cause)
 rows_in header no_header text = rows_of header no_header (records default_config (strip_bom text))
 
--- what is read ends after these rows more: there are no further records; or the next record is refused
+-- reading ends after these rows more: there are no further records, or the next record is refused
 abbrev pub EndsWith : {Row Cause : Type 0} → Means Row Cause → List (List (List ℕ)) → List Row → List Row
     → Result (List Row) (Fault Cause) → Type 0
 EndsWith means records before more (Ok rows) = (rows ≡ before ++ more) × (length more ≡ length records)
@@ -40,7 +43,7 @@ EndsWith means records before more (Err (At line cause)) =
     (fields : List (List ℕ)) × (slice_get records (length more) ≡ Some fields)
     × (means (before ++ more) fields ≡ Err cause) × (line ≡ length (before ++ more) + 2)
 
--- what is read of records after some rows: each record means one row more, by the rows before it, up to the end or a refusal
+-- what is read of records after some rows: record by record one row more, up to the end or to a refusal
 pub record IsReadEach {Row Cause : Type 0} (means : Means Row Cause) (records : List (List (List ℕ)))
     (before : List Row)
     (read : Result (List Row) (Fault Cause)) : Type 0 where
@@ -50,7 +53,7 @@ pub record IsReadEach {Row Cause : Type 0} (means : Means Row Cause) (records : 
       → means (before ++ take i more) fields ≡ Ok row
   pub ends : EndsWith means records before more read
 
--- law: rows are read record by record, whatever records mean
+-- law: rows are read record by record, whatever the records mean
 abbrev pub EachIsRead : Type 0 → Type 0 → Type 0
 EachIsRead Row Cause = (means : Means Row Cause) (records : List (List (List ℕ))) (before : List Row)
     → IsReadEach means records before (rows_from means records before)

@@ -1,4 +1,5 @@
--- Records with more fields than any record that is read, and csv's machine as the width of a record needs it.
+-- Records with more fields than any record that is read, and csv's machine in as much detail as their width
+-- needs.
 use Rattle.std.specs.Prelude.{◌≡◌, ◌<◌, ◌≤◌, ◌-◌, ⊤, ℕ, Bool, true, false, List, [], ◌∷◌, length, drop, Option, Some, None}
 use Rattle.csv.specs.Machine.{next_record}
 use Rattle.csv.specs.Reading.{default_config, is_bom, records, records_from, records_next}
@@ -16,12 +17,12 @@ use Rattle.csv_records.specs.declared.width.Count.{Count}
 abbrev pub most_fields : ℕ
 most_fields = 6
 
--- the first of these records has more
+-- the first of these records has too many fields
 abbrev pub StartsWide : List (List (List ℕ)) → Type 0
 StartsWide [] = ⊥
 StartsWide (fields ∷ rest) = most_fields < length fields
 
--- where it is known how many records stand before one that has more, it stands there
+-- if a number n is given, the record after the first n has too many fields
 abbrev pub KnowsWide : Option ℕ → List (List (List ℕ)) → Type 0
 KnowsWide None left = ⊤
 KnowsWide (Some n) left = StartsWide (drop n left)
@@ -33,7 +34,7 @@ has_mark (a ∷ []) = false
 has_mark (a ∷ b ∷ []) = false
 has_mark (a ∷ b ∷ c ∷ rest) = is_bom a b c
 
--- the state of csv's machine
+-- the state of csv's machine for this place in a record
 abbrev pub state_of : Place → State
 state_of place.StartRecord = state.StartRecord
 state_of place.AfterCr = state.AfterCr
@@ -49,7 +50,7 @@ ends_of act.Copy = ends.Nothing
 ends_of act.EndField = ends.Field
 ends_of act.EndRecord = ends.Record
 
--- the state is one inside a record, which then ends wherever the text does
+-- whether the state is inside a record, which then ends if the text ends
 abbrev pub is_inside : State → Bool
 is_inside state.StartRecord = false
 is_inside state.AfterCr = false
@@ -60,8 +61,8 @@ is_inside state.InQuoted = true
 is_inside state.AfterQuote = true
 is_inside state.InEscape = true
 
--- after i bytes of the text the counts are right: how many records ended, how many fields the next one has so far, and in
--- which state of csv's machine it goes on
+-- after i bytes of the text the counts are right: how many records ended, how many fields of the next one
+-- ended, and the state of csv's machine
 pub record CountsFields (text : List ℕ) (i : ℕ) (count : Count) : Type 0 where
   pub fields : List (List ℕ)
   pub part : List ℕ

@@ -1,4 +1,4 @@
-// All records of a text, however wide, one after another.
+//! All records of a text, however wide, one after another.
 ghost use Rattle.std.specs.Prelude.{◌≡◌, ◌∷◌, [], true, false, Ok, OnErr};
 ghost use Rattle.csv.specs.Reading.{default_config, error_kind, records, strip_bom};
 ghost use Rattle.csv.specs.Records.{fields_of};
@@ -8,7 +8,7 @@ use csv::{ByteRecord, Error, ErrorKind, Reader, ReaderBuilder};
 use std::alloc::{AllocError, Global};
 use std::marker::Model;
 
-// The records of a text that are still to be read. Contracts see them as a list, each a list of fields.
+// The records of a text that are still to be read. In contracts they are a list of records, each a list of fields.
 #[derive(Drop)]
 pub struct AllRecords<'a> {
     reader: Reader<&'a [u8]>,
@@ -27,7 +27,7 @@ impl<'a> Model for AllRecords<'a> {
 }
 
 impl<'a> AllRecords<'a> {
-    // All records of a text. A byte order mark at its start is taken off.
+    // All records of a text, without a byte order mark at its start.
     pub fn new(alloc: Global, text: &'a [u8]) -> AllRecords<'a>
         ensures { result ≡ records default_config (strip_bom text.now) }
     {
@@ -41,7 +41,8 @@ impl<'a> AllRecords<'a> {
         }
     }
 
-    // Reads the next record into `fields`, or answers `false` where none is left. Out of memory, it lets the records go.
+    // Reads the next record into `fields`; returns `false` if none is left. If an allocation fails, no records are
+    // left.
     pub fn next(&mut self, fields: &mut ByteRecord) -> Result<bool, AllocError>
         ensures record { result ≡ Ok true → self.old ≡ fields_of fields.new ∷ self.new }
         ensures none { result ≡ Ok false → self.old ≡ [] }
@@ -65,8 +66,8 @@ impl<'a> AllRecords<'a> {
     }
 }
 
-// An error of reading bytes in memory, whose records may have any lengths. The reader of a slice has none of its own, which
-// none of its clauses says.
+// Each error of reading bytes in memory, with records of any lengths, is a failed allocation. A slice's reader cannot
+// fail otherwise, but none of its clauses says so.
 fn want_of_memory(error: &Error) -> AllocError
     requires { IsOfReader (error_kind error.now) }
 {

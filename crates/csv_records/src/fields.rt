@@ -1,4 +1,4 @@
-// The fields of a record, and the words that they may be.
+//! The fields of a record, and the words that they may be.
 ghost use Rattle.std.specs.Prelude.{◌≡◌};
 ghost use Rattle.std.specs.Str.{bytes_eq};
 ghost use Rattle.csv.specs.Records.{fields_of};
@@ -6,7 +6,7 @@ ghost use Rattle.csv_records.specs.Fields as spec;
 
 use csv::ByteRecord;
 
-/// The field at this place, from 0; empty where there is none.
+/// The field in this column, from 0; empty if there is none.
 #[inline(always)]
 pub fn field(fields: &ByteRecord, place: usize) -> &[u8]
     ensures { result.now ≡ spec.field (fields_of fields.now) place }
@@ -17,7 +17,7 @@ pub fn field(fields: &ByteRecord, place: usize) -> &[u8]
     }
 }
 
-/// Whether the field is this word; the two are compared as one number where both have four bytes.
+/// Whether the field is this word. If both have four bytes, they are compared as one number.
 #[inline(always)]
 pub fn is(field: &[u8], word: &str) -> bool
     ensures { result ≡ bytes_eq field.now word.now }
@@ -31,7 +31,7 @@ pub fn is(field: &[u8], word: &str) -> bool
     }
 }
 
-// Whether the four bytes are the same, as one number.
+// Whether the four bytes are equal, compared as one number.
 #[inline(always)]
 fn are_same(bytes: [u8; 4], others: [u8; 4]) -> bool
     ensures { result ≡ bytes_eq bytes others }
@@ -39,7 +39,8 @@ fn are_same(bytes: [u8; 4], others: [u8; 4]) -> bool
     u32::from_le_bytes(bytes) == u32::from_le_bytes(others)
 }
 
-// A word is short and its length is known here, so `starts_with` is a compare or two in place, where `==` is a call.
+// A word is short and its length is known here, so `starts_with` becomes a few inlined comparisons, while `==` is a
+// call.
 #[inline(always)]
 fn is_long(field: &[u8], word: &str) -> bool
     ensures { result ≡ bytes_eq field.now word.now }

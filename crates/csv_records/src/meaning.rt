@@ -1,8 +1,8 @@
-// What the records of a text mean.
+//! The trait that says what the records of a text mean.
 use csv::ByteRecord;
 
-/// What the records of a text mean: the first is a header, and each other one is a row, by the rows before it, or is
-/// refused.
+/// What the records of a text mean: the first is a header, and each other record is a row, read after the rows before
+/// it, or is refused.
 pub trait Meaning {
     ghost use Rattle.std.specs.Prelude.{◌≡◌, ◌<◌, ◌≤◌, ◌++◌, ◌∷◌, [], ℕ, List, length, Option, None, Some, IfNone, IfSome, Err, OnOk, IfOk};
     ghost use Rattle.csv.specs.Records.{fields_of};
@@ -15,25 +15,26 @@ pub trait Meaning {
     /// Why a record is refused.
     type Cause: Drop;
 
-    /// What is kept of the header and of the rows so far.
+    /// What the reader keeps of the header and of the rows so far.
     type Kept: Drop;
 
     /// What the records after this one mean, if it is a header.
     ghost header: { Self → List (List ℕ) → Option (Means Self.Row Self.Cause) };
 
-    /// What records mean, by what is kept.
+    /// What records mean, by what the reader keeps.
     ghost means: { Self → Self.Kept → Means Self.Row Self.Cause };
 
-    /// Whether this is what is kept of these rows.
+    /// Whether the reader keeps this of these rows.
     ghost keeps: { Self → Self.Kept → List Self.Row → Type 0 };
 
-    /// What is kept of a header, before the first row; `None` where the record is no header.
+    /// What the reader keeps of a header, before the first row; `None` if the record is not a header.
     fn header(&self, fields: &ByteRecord) -> Option<Self::Kept>
         ensures none { IfNone result (header self.now (fields_of fields.now) ≡ None) }
         ensures some { IfSome result (λ kept. header self.now (fields_of fields.now) ≡ Some (means self.now kept)) }
         ensures kept { IfSome result (λ kept. keeps self.now kept []) };
 
-    /// The row that a record is after these rows, or why it is refused. A row is kept from then on.
+    /// The row that a record means after these rows, or why it is refused. A row returned counts as one of the rows
+    /// from then on.
     fn row(
         &self,
         kept: &mut Self::Kept,

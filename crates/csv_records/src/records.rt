@@ -1,4 +1,4 @@
-// The records of a text, of which the first that has too many fields is reported and not read.
+//! The records of a text; the first one with too many fields is reported and not read.
 ghost use Rattle.std.specs.Prelude.{◌≡◌, ◌∷◌, [], Ok, OnErr};
 ghost use Rattle.csv.specs.Reading.{default_config, records, strip_bom};
 ghost use Rattle.csv.specs.Records.{fields_of};
@@ -16,18 +16,18 @@ use std::marker::Model;
 pub enum Next {
     /// A record, which was read.
     Record,
-    /// A record with more than 6 fields, which is not read: none of them is stored.
+    /// A record with more than 6 fields. None of them is stored.
     Wide,
-    /// Nothing more.
+    /// The end of the text.
     End,
 }
 
-/// The records of a text that are still to be read, as csv's reader gives them: fields between commas, with double quotes.
-/// Contracts see them as a list, each a list of fields.
+/// The records of a text that are still to be read, as csv's reader returns them: fields between commas, with double
+/// quotes. In contracts they are a list of records, each a list of fields.
 #[derive(Drop)]
 pub struct Records<'a> {
     all: AllRecords<'a>,
-    // How many records stand before one with too many fields, where one is known.
+    // How many records stand before the first one with too many fields, if that is known.
     narrow: Option<usize>,
 }
 
@@ -43,7 +43,7 @@ impl<'a> Model for Records<'a> {
 }
 
 impl<'a> Records<'a> {
-    /// All records of a text. A byte order mark at its start is taken off.
+    /// All records of a text, without a byte order mark at its start.
     pub fn new(alloc: Global, text: &'a [u8]) -> Records<'a>
         ensures { result ≡ records default_config (strip_bom text.now) }
     {
@@ -53,9 +53,10 @@ impl<'a> Records<'a> {
         }
     }
 
-    /// Reads the next record into `fields`, if it has at most 6 fields. In a long text a wider one is reported before it is
-    /// read, and is next from then on; otherwise it is read too. Out of memory, it lets the records go.
-    // A call takes as long as much of a short record.
+    /// Reads the next record into `fields`, if it has at most 6 fields. In a long text a wider record is reported
+    /// before it is read, and again by each later call; otherwise it is read too. If an allocation fails, no records
+    /// are left.
+    // Inlined: the call would cost about as much as reading a short record.
     #[inline(always)]
     pub fn next(&mut self, fields: &mut ByteRecord) -> Result<Next, AllocError>
         ensures record { result ≡ Ok next.Record → self.old ≡ fields_of fields.new ∷ self.new }
@@ -65,7 +66,7 @@ impl<'a> Records<'a> {
         ensures ended { result ≡ Ok next.End → self.new ≡ [] }
         ensures memory { OnErr result (self.new ≡ []) }
     {
-        // It is asked once, and mostly none is known.
+        // A single test, which mostly fails: mostly no wide record is known.
         if let Some(count) = self.narrow {
             if count == 0 {
                 return Ok(Next::Wide);

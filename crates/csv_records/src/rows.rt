@@ -1,4 +1,4 @@
-// The rows of a text, by what its records mean.
+//! The rows of a text, by what its records mean.
 ghost use Rattle.std.specs.Prelude.{[], IfOk};
 ghost use Rattle.csv_records.specs.Gives.{Gives};
 ghost use Rattle.csv_records.specs.Rows.{EachIsRead, rows_from, rows_in};
@@ -9,8 +9,8 @@ use crate::records::{Next, Records};
 use csv::ByteRecord;
 use std::alloc::Global;
 
-/// Reads the rows of a text, with what is kept of them, or its first refusal. The first record is the header; where it is
-/// absent or is none, that is refused at line 1, for the cause that is handed in.
+/// Reads the rows of a text, with what the reader keeps of them, or reports its first refusal. The first record is the
+/// header; if it is absent or is not a header, line 1 is refused for the cause `no_header`.
 #[tactic(auto, using(crate::proofs::RowLemmas::each_is_read))]
 pub fn read_rows<M: Meaning>(
     alloc: Global,
@@ -21,11 +21,11 @@ pub fn read_rows<M: Meaning>(
     ensures rows { Gives (λ read. read.0.items) result (rows_in (M.header meaning.now) no_header text.now) }
     ensures kept { IfOk result (λ read. M.keeps meaning.now read.1 read.0.items) }
 
-    // What `rows_in` says of the records after the header, one by one.
+    // `rows_in` computes; this clause says that the records after the header are read one by one.
     ensures law { EachIsRead M.Row M.Cause }
 {
     let mut records = Records::new(alloc, text);
-    // One record for all of them, so that a row takes no memory other than its place in the list.
+    // One record buffer for all records, so that a row allocates nothing except its slot in the list.
     let mut fields = ByteRecord::new(alloc);
     let header = match records.next(&mut fields)? {
         Next::Record => meaning.header(&fields),

@@ -1,4 +1,4 @@
-// The first record of a text that has more fields than any record that is read.
+//! The first record of a text that has more fields than any record that is read.
 ghost use Rattle.std.specs.Prelude.{◌≡◌, ◌<◌, ◌≤◌, ◌+◌, ◌-◌, ◌^◌, ◌∷◌, ℕ, List, true, IfSome, drop, length};
 ghost use Rattle.csv.specs.Machine as machine;
 ghost use Rattle.csv.specs.Reading.{default_config, records, strip_bom};
@@ -6,13 +6,13 @@ ghost use Rattle.csv_records.specs.Width.{StartsWide, CountsFields, state_of, en
 
 use memchr::memchr;
 
-// The most fields of a record that is read, which is the width of the widest header.
+// The most fields of a record that is read: those of the widest header.
 pub const MOST_FIELDS: usize = 6;
 
-// A record of so many bytes takes a few MiB at most, however many fields it has.
+// A record of this many bytes needs a few MiB at most, however many fields it has.
 const FEW_BYTES: usize = 131_072;
 
-// Where a reader stands in a record, as csv's machine with its defaults does.
+// A reader's place in a record: the state of csv's machine with its defaults.
 #[derive(Clone, Copy, PartialEq, Eq, Debug)]
 pub enum Place {
     StartRecord,
@@ -31,8 +31,8 @@ pub enum Ends {
     Record,
 }
 
-// What is known behind so many bytes of a text: the records that ended, the fields of the one at hand that ended, and the
-// place in it.
+// What is known after some bytes of a text: how many records ended, how many fields of the current record ended, and
+// the place in it.
 #[derive(Clone, Copy, PartialEq, Eq, Debug)]
 pub struct Count {
     pub records: usize,
@@ -40,8 +40,8 @@ pub struct Count {
     pub place: Place,
 }
 
-// The number of records before the first one with more than `MOST_FIELDS` fields, or `None`, where each record has few
-// fields or few bytes.
+// The number of records before the first one with more than `MOST_FIELDS` fields; `None` if each record has few fields
+// or few bytes.
 pub fn narrow_records(text: &[u8]) -> Option<usize>
     ensures { IfSome result (λ n. StartsWide (drop n (records default_config (strip_bom text.now)))) }
 {
@@ -52,7 +52,8 @@ pub fn narrow_records(text: &[u8]) -> Option<usize>
     }
 }
 
-// Whether a record may have many bytes: a text without a quote and with a line feed in each part of so many bytes has none.
+// Whether a record may have many bytes. A text without a quote, and with a line feed in each part of `FEW_BYTES` bytes,
+// has none.
 fn may_be_wide(text: &[u8]) -> bool {
     if text.len() <= FEW_BYTES {
         return false;
@@ -77,8 +78,8 @@ fn has_mark(text: &[u8]) -> bool
     text.len() >= 3 && text[0] == 0xEF && text[1] == 0xBB && text[2] == 0xBF
 }
 
-// The number of records before the first one with more than `MOST_FIELDS` fields, where there is one. Each byte is looked
-// at once, and none is kept.
+// The number of records before the first one with more than `MOST_FIELDS` fields, if there is one. Each byte is looked
+// at once, and none is stored.
 fn first_wide(text: &[u8]) -> Option<usize>
     ensures { IfSome result (λ n. StartsWide (drop n (records default_config text.now))) }
 {
@@ -96,7 +97,7 @@ fn first_wide(text: &[u8]) -> Option<usize>
     None
 }
 
-// The count behind one more byte.
+// The count after one more byte.
 fn counted(count: Count, b: u8) -> Count
     requires fields { count.fields < 6 }
     requires records { count.records < 2 ^ 64 - 1 }
@@ -122,7 +123,7 @@ fn counted(count: Count, b: u8) -> Count
     }
 }
 
-// Where a reader stands after a byte, and what the byte ends.
+// The place in a record after a byte, and what the byte ends.
 fn step(place: Place, b: u8) -> (Place, Ends)
     ensures place { state_of result.0 ≡ (machine.step default_config (state_of place) b).0 }
     ensures ends { result.1 ≡ ends_of (machine.step default_config (state_of place) b).1 }

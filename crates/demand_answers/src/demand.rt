@@ -1,4 +1,4 @@
-// The command `demand`.
+//! The command `demand`.
 ghost use Rattle.std.specs.Prelude.{IfOk};
 ghost use Rattle.demand_test.specs.DemandSet.{IsDemandSet};
 ghost use Rattle.serving.specs.Serves.{Serves, IsOwn};

@@ -34,19 +34,20 @@ limit p q e a = q * a + p * (e - a)
 abbrev pub counts : List Task → ℕ → ℕ → ℕ → ℕ → KeptRelease → Bool
 counts set p q e a x = cond (is_old set a x) (nat_le (key set (Virtual p q) false x) (limit p q e a)) (nat_le (deadline set x) e)
 
--- the budget by which it counts
+-- the budget by which a job counts
 abbrev pub budget : List Task → ℕ → KeptRelease → ℕ
 budget set a x = cond (is_old set a x) (low_in (task_at set x.job.task.0)) (own_in (task_at set x.job.task.0))
 
--- what it may still use of that budget, where it counts
+-- what a job that counts may still use of the budget by which it counts
 abbrev pub owes : List Task → ℕ → ℕ → ℕ → ℕ → List Row → KeptRelease → ℕ
 owes set p q e a h x = cond (counts set p q e a x) (budget set a x - used h x.job) 0
 
--- what the pending jobs may still use of theirs
+-- what the pending jobs that count may still use of their budgets
 abbrev pub owed : List Task → ℕ → ℕ → ℕ → ℕ → List Row → ℕ
 owed set p q e a h = total (owes set p q e a h) (pending set h)
 
--- a job that is released at a or later, and has a virtual key of at most the limit, has a deadline of at most e
+-- a job that is released at a or later, and has a virtual key of at most the limit, has a deadline of at most
+-- e
 early_deadline : (p q r n a e : ℕ) → 1 ≤ p → p ≤ q → a ≤ r → a ≤ e → q * r + p * n ≤ q * a + p * (e - a) → r + n ≤ e
 early_deadline p q r n a e pos pq ar ae h =
     let i = r - a in
@@ -85,7 +86,7 @@ room set p q a g x low ok = go (is_old set a x)
     go true = ok.low low
     go false = ok.own
 
--- a tick of a job that counts takes from what it owes
+-- a tick of a job that counts lessens what it owes
 spends : (set : List Task) (p q e a : ℕ) (j : JobId) (how : How) (g : List Row) (x : KeptRelease) → 1 ≤ p → p ≤ q → a ≤ e → high_mode (Virtual p q) g ≡ false → IsLiveOk set (Virtual p q) g x → nat_le (key set (Virtual p q) false x) (limit p q e a) ≡ true →
     same_job j x.job ≡ true → owes set p q e a (Tick j how ∷ g) x + 1 ≤ owes set p q e a g x
 spends set p q e a j how g x pos pq ae low ok near m =
@@ -93,7 +94,7 @@ spends set p q e a j how g x pos pq ae low ok near m =
     let r = room set p q a g x low ok in
     rw (c, m) (omega (arith, r))
 
--- a tick in low mode, while a job is pending that has a virtual key of at most the limit, takes from what is owed
+-- in low mode, while a job with a virtual key of at most the limit is pending, a tick lessens what is owed
 pub busy_tick : (set : List Task) (p q e a : ℕ) (j : JobId) (how : How) (g : List Row) → 1 ≤ p → p ≤ q → a ≤ e → Each (IsLiveOk set (Virtual p q) g) (pending set g) → TickFits set (Virtual p q) j how g → high_mode (Virtual p q) g ≡ false →
     none_below set (Virtual p q) false (limit p q e a + 1) (pending set g) ≡ false → owed set p q e a (Tick j how ∷ g) + 1 ≤ owed set p q e a g
 busy_tick set p q e a j how g pos pq ae ok fits low busy =

@@ -29,11 +29,11 @@ use Rattle.std.proofs.Math.Bool.{beq}
 abbrev pub dues : List Task → ℕ → ℕ → ℕ → List Row → KeptRelease → ℕ
 dues set p q e h x = cond (nat_le (key set (Virtual p q) true x) (q * e)) (own_in (task_at set x.job.task.0) - used h x.job) 0
 
--- what the pending jobs may still use of theirs
+-- what the pending jobs with a deadline of at most e may still use of their own budgets
 abbrev pub due : List Task → ℕ → ℕ → ℕ → List Row → ℕ
 due set p q e h = total (dues set p q e h) (pending set h)
 
--- a ledger with a mark that is past, for what the pending jobs may still use
+-- a ledger with a mark in the past, for what the pending jobs may still use
 pub record HighLedger (set : List Task) (p q e : ℕ) (h : List Row) : Type 0 where
   pub mid : ℕ
   pub past : mid ≤ ticks h
@@ -62,7 +62,7 @@ high_live set p q (Tick j how ∷ g) l m = go (high_live set p q g l.2) (high_mo
         Each-filter_if (λ x. is_high_in (task_at set x.job.task.0) ≡ true) (stays set j how) (pending set g)
         (Each-all (λ x st. over_high (is_over how) _ _ (rw n at m) st) (pending set g))
 
--- where all deadlines are after e, that is nothing
+-- if all deadlines are after e, the pending jobs have nothing to use
 no_dues : (set : List Task) (p q e : ℕ) (h : List Row) (xs : List KeptRelease) → none_below set (Virtual p q) true (q * e + 1) xs ≡ true → total (dues set p q e h) xs ≡ 0
 no_dues set p q e h [] f = refl
 no_dues set p q e h (x ∷ xs) f =
@@ -71,20 +71,20 @@ no_dues set p q e h (x ∷ xs) f =
     let ih : total (dues set p q e h) xs ≡ 0 = no_dues set p q e h xs w.1 in
     rw far (omega (arith, ih))
 
--- and the ledger starts anew
+-- if all deadlines are after e, a new ledger starts
 pub anew : (set : List Task) (p q e : ℕ) (h : List Row) → none_below set (Virtual p q) true (q * e + 1) (pending set h) ≡ true → HighLedger set p q e h
 anew set p q e h f =
     let z = no_dues set p q e h (pending set h) f in
     record { mid = ticks h; past = le_refl _; ledger = ledger_less set p q e (ticks h) h (due set p q e h) 0 (omega (arith, z)) (ledger_fresh set p q e (ticks h) h (le_refl _)) }
 
--- a tick of a job with such a deadline takes from it
+-- a tick of a job with a deadline of at most e lessens what it may use
 due_spends : (set : List Task) (p q e : ℕ) (j : JobId) (how : How) (g : List Row) (x : KeptRelease) → IsLiveOk set (Virtual p q) g x → nat_le (key set (Virtual p q) true x) (q * e) ≡ true →
     same_job j x.job ≡ true → dues set p q e (Tick j how ∷ g) x + 1 ≤ dues set p q e g x
 due_spends set p q e j how g x ok near m =
     let r : used g x.job + 1 ≤ own_in (task_at set x.job.task.0) = ok.own in
     rw (near, m) (omega (arith, r))
 
--- while there is such a job, each tick is of one, and takes from it
+-- while a job with a deadline of at most e is pending, each tick is of such a job, and lessens what is due
 due_tick : (set : List Task) (p q e : ℕ) (j : JobId) (how : How) (g : List Row) → Each (IsLiveOk set (Virtual p q) g) (pending set g) → TickFits set (Virtual p q) j how g → high_mode (Virtual p q) g ≡ true →
     none_below set (Virtual p q) true (q * e + 1) (pending set g) ≡ false → due set p q e (Tick j how ∷ g) + 1 ≤ due set p q e g
 due_tick set p q e j how g ok fits high busy =
@@ -93,7 +93,7 @@ due_tick set p q e j how g ok fits high busy =
     (Each-map {P = IsLiveOk set (Virtual p q) g} (λ x o t. let m = least_low set (Virtual p q) true (q * e) j (pending set g) x busy t in due_spends set p q e j how g x o m.1 m.0) (pending set g) ok)
     (rw high at fits.least)
 
--- the ledger after a tick
+-- a ledger of high mode stays one after a tick
 pub high_tick : (set : List Task) (p q e : ℕ) (j : JobId) (how : How) (g : List Row) → Each (IsLiveOk set (Virtual p q) g) (pending set g) → TickFits set (Virtual p q) j how g → high_mode (Virtual p q) g ≡ true → HighLedger set p q e g → HighLedger set p q e (Tick j how ∷ g)
 high_tick set p q e j how g ok fits high c = go (none_below set (Virtual p q) true (q * e + 1) (pending set g)) refl
   where
@@ -105,7 +105,7 @@ high_tick set p q e j how g ok fits high c = go (none_below set (Virtual p q) tr
       ledger = ledger_tick set p q e c.mid j how g (due set p q e (Tick j how ∷ g)) (due set p q e g) (due_tick set p q e j how g ok fits high m) c.ledger;
     }
 
--- and after a release
+-- a ledger of high mode stays one after a release
 pub high_release : (set : List Task) (p q e : ℕ) (j : JobId) (g : List Row) → 1 ≤ q → p ≤ q → IsIn set j.task.0 → IsKnown (task_at set j.task.0) → is_high_in (task_at set j.task.0) ≡ true → ReleaseFits set (Virtual p q) j true g → HighLedger set p q e g → HighLedger set p q e (Release j true ∷ g)
 high_release set p q e j g pos pq inside k hi fits c = go (nat_le (key set (Virtual p q) true (record { job = j; release = ticks g })) (q * e)) refl
   where

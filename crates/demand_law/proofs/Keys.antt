@@ -12,7 +12,7 @@ use Rattle.mc_model.proofs.Lists.{Each}
 use Rattle.mc_model.proofs.Jobs.{is_in, same_live, live_eq}
 use Rattle.std.proofs.lemmas.Bool.{and_parts}
 
--- a number that is not above a bound
+-- a number that is at least b + 1 is not at most b
 pub above : (a b : ℕ) → nat_le (b + 1) a ≡ true → nat_le a b ≡ false
 above a b h = grind (arith, nat_tests)
 
@@ -30,7 +30,7 @@ pub weight-le : (le : Bool) (b u : ℕ) → cond le (b - u) 0 ≤ b
 weight-le true b u = omega arith
 weight-le false b u = omega arith
 
--- no key below a bound is none below a lesser one
+-- if no key is below a bound, none is below a lesser bound
 pub none_below_less : (set : List Task) (rule : Rule) (high : Bool) (m n : ℕ) (xs : List KeptRelease) → m ≤ n → none_below set rule high n xs ≡ true → none_below set rule high m xs ≡ true
 none_below_less set rule high m n [] h e = refl
 none_below_less set rule high m n (x ∷ xs) h e =
@@ -39,7 +39,7 @@ none_below_less set rule high m n (x ∷ xs) h e =
     let l : m ≤ key set rule high x = omega (arith, q, h) in
     rw (le-leb _ _ l) (none_below_less set rule high m n xs h p.1)
 
--- a filter leaves no lesser key
+-- if no key is below a bound, none of what a filter keeps is
 pub none_below-filter : (set : List Task) (rule : Rule) (high : Bool) (n : ℕ) (p : KeptRelease → Bool) (xs : List KeptRelease) → none_below set rule high n xs ≡ true → none_below set rule high n (filter p xs) ≡ true
 none_below-filter set rule high n p [] e = e
 none_below-filter set rule high n p (x ∷ xs) e =
@@ -59,7 +59,7 @@ key_in set rule high n i (x ∷ xs) e f = go (λ r. key_in set rule high n i xs 
         subst (λ y. n ≤ key set rule high y) (sym (live_eq i x m)) p
     go ih false m = ih (rw m at e)
 
--- each key is above a number, where none is below the next
+-- if no key is below n + 1, each key is above n
 pub keys_above : (set : List Task) (rule : Rule) (high : Bool) (n : ℕ) (xs : List KeptRelease) → none_below set rule high (n + 1) xs ≡ true → Each (λ x. n < key set rule high x) xs
 keys_above set rule high n [] e = tt
 keys_above set rule high n (x ∷ xs) e =
@@ -67,7 +67,7 @@ keys_above set rule high n (x ∷ xs) e =
     let l : n + 1 ≤ key set rule high x = leb-true _ _ p.0 in
     (omega (arith, l), keys_above set rule high n xs p.1)
 
--- a least key is at most kappa, where not all are above it
+-- if not all keys are above kappa, a least key is at most kappa
 not_above : (set : List Task) (rule : Rule) (high : Bool) (kappa : ℕ) (all : List KeptRelease) (x : KeptRelease) → none_below set rule high (kappa + 1) all ≡ false → none_below set rule high (key set rule high x) all ≡ true → nat_le (key set rule high x) kappa ≡ true
 not_above set rule high kappa all x busy e = go (nat_le (key set rule high x) kappa) refl
   where
@@ -78,11 +78,11 @@ not_above set rule high kappa all x busy e = go (nat_le (key set rule high x) ka
         let f = none_below_less set rule high (kappa + 1) (key set rule high x) all l e in
         cc (f, busy)
 
--- i is the job, and its key is a least one of these pending jobs: there is one such where `is_least`
+-- whether this is job i and has a least key of these pending jobs
 abbrev pub is_taken : List Task → Rule → Bool → JobId → List KeptRelease → KeptRelease → Bool
 is_taken set rule high j now i = same_job j i.job && none_below set rule high (key set rule high i) now
 
--- the pending job that a tick is given to is the tick's, and has a key of at most kappa
+-- the pending job that a tick is given to is the tick's job, and has a key of at most kappa
 pub least_low : (set : List Task) (rule : Rule) (high : Bool) (kappa : ℕ) (j : JobId) (all : List KeptRelease) (x : KeptRelease) → none_below set rule high (kappa + 1) all ≡ false → is_taken set rule high j all x ≡ true
     → (same_job j x.job ≡ true) × (nat_le (key set rule high x) kappa ≡ true)
 least_low set rule high kappa j all x busy e =

@@ -1,4 +1,4 @@
--- The laws, over the definitions of the model.
+-- The laws of a legal trace under a rule that holds, over the definitions of the model.
 use Rattle.std.proofs.Common.{◌≡◌, ◌+◌, ◌*◌, ◌≤◌, true, false, List, [], filter, map, reverse, nat_le, refl, ap, subst, arith, leb-true}
 use Rattle.std.specs.List.{AllByRecursion}
 use Rattle.mc_task.specs.declared.task.Rule.{Rule}
@@ -64,7 +64,7 @@ at_most_one set rule h s holds l k =
     let b : IsBridged set rule h = bridge set rule h l in
     rw b.same (one_live set rule h k s holds b.legal)
 
--- and none where its next release may come
+-- no task has a pending job at a boundary where its next release may come
 pub none_at_release : (set : List Task) (rule : Rule) (h : List Row) → AllByRecursion IsTask set → Holds set rule → Legal set rule h → NoneAtRelease set h
 none_at_release set rule h s holds l k n =
     let b : IsBridged set rule h = bridge set rule h l in

@@ -1,4 +1,5 @@
--- In low mode: a bound on the ticks that were spent since the last moment at which no job with a key of at most kappa was pending.
+-- In low mode: a bound on the ticks that were spent since the last moment at which no job with a key of at
+-- most kappa was pending.
 use Rattle.std.proofs.Common.{◌≡◌, ℕ, ◌+◌, ◌-◌, ◌*◌, ◌≤◌, Bool, true, false, List, [], ◌∷◌, Option, cond, nat_le, ◌==◌, refl, sym, subst, arith, le_refl, leb-true, leb-false, le-leb, eqb-true, mul-le-mul_left, le_trans}
 use Rattle.std.specs.List.{AllByRecursion}
 use Rattle.mc_task.specs.declared.task.Rule.{Rule}
@@ -26,11 +27,11 @@ use Rattle.demand_law.proofs.Releases.{next_release-grows, more_next, more_reach
 use Rattle.mc_model.proofs.Booleans.{or_right, eqb-refl}
 use Rattle.std.proofs.lemmas.Bool.{and_parts}
 
--- what the job may still use before its budget, where its key is at most kappa
+-- what a job with a key of at most kappa may still use of its budget
 abbrev pub weight : List Task → Rule → ℕ → List Row → KeptRelease → ℕ
 weight set rule kappa h x = cond (nat_le (key set rule false x) kappa) (low_budget rule (task_at set x.job.task.0) - used h x.job) 0
 
--- what the pending jobs may still use of theirs
+-- what the pending jobs with keys of at most kappa may still use of their budgets
 abbrev pub debt : List Task → Rule → ℕ → List Row → ℕ
 debt set rule kappa h = total (weight set rule kappa h) (pending set h)
 
@@ -39,7 +40,7 @@ pub record IsDemand (set : List Task) (rule : Rule) (kappa : ℕ) (h : List Row)
   pub next : d * period_in (task_at set k) ≤ low_budget rule (task_at set k) * (next_release set h k - t)
   pub reach : d * low_offset rule (task_at set k) ≤ low_budget rule (task_at set k) * (kappa - scale rule * t)
 
--- the ticks since start, and those that are still owed, are at most what the tasks asked for since then
+-- the ticks since start, and those still owed, are at most what the tasks asked for since then
 pub record LowDemand (set : List Task) (rule : Rule) (kappa : ℕ) (h : List Row) : Type 0 where
   pub start : ℕ
   pub demand : ℕ → ℕ
@@ -47,7 +48,7 @@ pub record LowDemand (set : List Task) (rule : Rule) (kappa : ℕ) (h : List Row
   pub balance : ticks h + debt set rule kappa h ≤ start + sum_numbered set demand 1
   pub each : (k : ℕ) → IsDemand set rule kappa h start k (demand k)
 
--- where all keys are above kappa, nothing is owed
+-- if all keys are above kappa, nothing is owed
 no_weight : (set : List Task) (rule : Rule) (kappa : ℕ) (h : List Row) (xs : List KeptRelease) → none_below set rule false (kappa + 1) xs ≡ true → total (weight set rule kappa h) xs ≡ 0
 no_weight set rule kappa h [] e = refl
 no_weight set rule kappa h (x ∷ xs) e =
@@ -56,14 +57,14 @@ no_weight set rule kappa h (x ∷ xs) e =
     let ih : total (weight set rule kappa h) xs ≡ 0 = no_weight set rule kappa h xs p.1 in
     rw f (omega (arith, ih))
 
--- a tick of a job with such a key takes from what it owes
+-- a tick of a job with a key of at most kappa lessens what it owes
 spends : (set : List Task) (rule : Rule) (kappa : ℕ) (j : JobId) (how : How) (g : List Row) (x : KeptRelease) → high_mode rule g ≡ false → IsLiveOk set rule g x → nat_le (key set rule false x) kappa ≡ true →
     same_job j x.job ≡ true → weight set rule kappa (Tick j how ∷ g) x + 1 ≤ weight set rule kappa g x
 spends set rule kappa j how g x low ok near m =
     let room : used g x.job + 1 ≤ low_budget rule (task_at set x.job.task.0) = ok.low low in
     rw (near, m) (omega arith)
 
--- while there is such a job, each tick is of one, and takes from what is owed
+-- while a job with a key of at most kappa is pending, each tick is of such a job, and lessens what is owed
 tick_less : (set : List Task) (rule : Rule) (kappa : ℕ) (j : JobId) (how : How) (g : List Row) →
     Each (IsLiveOk set rule g) (pending set g) → TickFits set rule j how g → high_mode rule g ≡ false →
     none_below set rule false (kappa + 1) (pending set g) ≡ false → debt set rule kappa (Tick j how ∷ g) + 1 ≤ debt set rule kappa g
@@ -73,7 +74,7 @@ tick_less set rule kappa j how g ok fits low busy =
     (Each-map {P = IsLiveOk set rule g} (λ x o t. let m = least_low set rule false kappa j (pending set g) x busy t in spends set rule kappa j how g x low o m.1 m.0) (pending set g) ok)
     (rw low at fits.least)
 
--- where no such job is pending, the bound starts anew
+-- if no job with a key of at most kappa is pending, the bound starts again
 fresh : (set : List Task) (rule : Rule) (kappa : ℕ) (h : List Row) → none_below set rule false (kappa + 1) (pending set h) ≡ true → LowDemand set rule kappa h
 fresh set rule kappa h e =
     let z = no_weight set rule kappa h (pending set h) e in
@@ -85,7 +86,7 @@ fresh set rule kappa h e =
       each = λ k. record { next = omega arith; reach = omega arith };
     }
 
--- the bound after a tick while such a job is pending
+-- the bound after a tick while a job with a key of at most kappa is pending
 ticked : (set : List Task) (rule : Rule) (kappa : ℕ) (j : JobId) (how : How) (g : List Row) →
     Each (IsLiveOk set rule g) (pending set g) → TickFits set rule j how g → high_mode rule g ≡ false →
     none_below set rule false (kappa + 1) (pending set g) ≡ false → LowDemand set rule kappa g → LowDemand set rule kappa (Tick j how ∷ g)
@@ -99,7 +100,7 @@ ticked set rule kappa j how g ok fits low busy c =
       each = λ k. let d = c.each k in record { next = d.next; reach = d.reach };
     }
 
--- a release that does not count leaves it so
+-- a release that does not count leaves what the task asked for as it is
 demand_same : (set : List Task) (rule : Rule) (kappa : ℕ) (j : JobId) (kept : Bool) (g : List Row) (t k d : ℕ) → next_release set g j.task.0 ≤ ticks g → IsDemand set rule kappa g t k d → IsDemand set rule kappa (Release j kept ∷ g) t k d
 demand_same set rule kappa j kept g t k d soon h =
     let n : next_release set g k ≤ next_release set (Release j kept ∷ g) k = next_release-grows set j kept g k soon in
@@ -161,7 +162,7 @@ released_out set rule kappa j g fits c = record {
   each = λ k. demand_same set rule kappa j false g c.start k (c.demand k) fits.soon (c.each k);
 }
 
--- so there is a bound in each legal trace in low mode
+-- each legal trace in low mode has such a bound
 pub low_demand : (set : List Task) (rule : Rule) (kappa : ℕ) → ((t : Option Task) → low_offset rule t ≤ scale rule * period_in t) → AllByRecursion IsTask set → (h : List Row) → Legal set rule h → high_mode rule h ≡ false → LowDemand set rule kappa h
 low_demand set rule kappa slack s [] l m = fresh set rule kappa [] refl
 low_demand set rule kappa slack s (Release j true ∷ g) l m = released_in set rule kappa j g slack l.0 (release_fits set rule j true g l.1) (low_demand set rule kappa slack s g l.2 m)
@@ -173,7 +174,7 @@ low_demand set rule kappa slack s (Tick j how ∷ g) l m = go (low_demand set ru
     go ih true e = fresh set rule kappa (Tick j how ∷ g) (none_below-filter set rule false (kappa + 1) (stays set j how) (pending set g) e)
     go ih false e = ticked set rule kappa j how g (live_ok set rule g s l.2) (tick_fits set rule j how g l.1) (or_right _ _ m) e ih
 
--- a pending job with such a key still has a tick to use
+-- a pending job with a key of at most kappa still has a tick to use
 pub owing : (set : List Task) (rule : Rule) (kappa : ℕ) (h : List Row) → high_mode rule h ≡ false → (xs : List KeptRelease) → Each (IsLiveOk set rule h) xs → none_below set rule false (kappa + 1) xs ≡ false → 1 ≤ total (weight set rule kappa h) xs
 owing set rule kappa h low [] ok e = cc
 owing set rule kappa h low (x ∷ xs) ok e = go (owing set rule kappa h low xs ok.1) (nat_le (key set rule false x) kappa) refl

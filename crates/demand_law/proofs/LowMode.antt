@@ -1,4 +1,4 @@
--- The law of low mode: no pending job has a key of at most the ticks. Under plain EDF it is the whole law.
+-- The law of low mode: no pending job has a key of at most the ticks. Under plain EDF this is the whole law.
 use Rattle.std.proofs.Common.{◌≡◌, ℕ, ◌+◌, ◌-◌, ◌*◌, ◌/◌, ◌≤◌, Bool, true, false, List, [], ◌∷◌, Option, Some, cond, refl, ap, arith, le_refl, le_trans, mul-le-mul_left, mul-le-mul_right, le_of_mul-le-mul_right}
 use Rattle.std.specs.List.{AllByRecursion}
 use Rattle.mc_task.specs.declared.task.Rule.{Rule}
@@ -25,7 +25,7 @@ use Rattle.std.proofs.Math.Nat.{mul-pos}
 use Rattle.mc_task.specs.declared.task.Level.{Level}
 use Rattle.mc_task.specs.declared.task.Level.TheVariants.{Low, High}
 
--- the own budget of a task is its part in the one load or in the other
+-- a task's own budget is its part in the load of low tasks or in that of high tasks
 own_split : (l : Level) (low high : ℕ) → InOrder l low high → high ≡ by_level l low 0 + by_level l 0 high
 own_split Low low high h = omega (arith, h)
 own_split High low high h = omega arith
@@ -39,11 +39,11 @@ own_load p (t ∷ ts) s =
     let two : t.high * (p / t.period) ≡ (low_low t + high_high t) * (p / t.period) = ap (λ (n : ℕ). n * (p / t.period)) one in
     omega (arith, ih, two)
 
--- the key of a job under plain EDF is its deadline
+-- under plain EDF the key of a job is at most its deadline
 pub plain_slack : (t : Option Task) → low_offset Plain t ≤ scale Plain * period_in t
 plain_slack t = omega arith
 
--- under Plain what was asked for is at most the time that there was
+-- under plain EDF the tasks asked for at most the time that there was
 plain_sum : (set : List Task) (d : ℕ → ℕ) (l : ℕ) → AllByRecursion IsTask set → Holds set Plain → ((k : ℕ) → d k * period_in (task_at set k) ≤ own_in (task_at set k) * l) → sum_numbered set d 1 ≤ l
 plain_sum set d l s holds each =
     let p = product set in
@@ -54,7 +54,7 @@ plain_sum set d l s holds each =
     let pos : 1 ≤ p = product-pos set s in
     le_of_mul-le-mul_right {k = p} (omega (arith, b, c)) pos
 
--- the law under plain EDF
+-- the law of low mode under plain EDF
 pub plain_low : (set : List Task) (h : List Row) → AllByRecursion IsTask set → Holds set Plain → Legal set Plain h → high_mode Plain h ≡ false → none_below set Plain false (1 * ticks h + 1) (pending set h) ≡ true
 plain_low set h s holds l m = go (none_below set Plain false (1 * ticks h + 1) (pending set h)) refl
   where
@@ -74,16 +74,16 @@ virtual_slack p q h t =
     let m : p * period_in t ≤ q * period_in t = mul-le-mul_right (period_in t) h in
     elim (is_high_in t) as (λ b. cond b (p * period_in t) (q * period_in t) ≤ q * period_in t) [ true ↦ m | false ↦ le_refl _ ]
 
--- one task's share, with both scales, by its level
+-- what one task of this level asked for, with both parts of the scale
 share : (l : Level) (p q d w low period : ℕ) → d * cond (is_high l) (p * period) (q * period) ≤ low * w → d * (p * q) * period ≤ (p * by_level l low 0 + q * by_level l 0 low) * w
 share Low p q d w low period h = let x : p * (d * (q * period)) ≤ p * (low * w) = mul-le-mul_left p h in omega (arith, x)
 share High p q d w low period h = let x : q * (d * (p * period)) ≤ q * (low * w) = mul-le-mul_left q h in omega (arith, x)
 
--- one task's share
+-- what one task asked for, with both parts of the scale
 virtual_one : (p q d l : ℕ) (t : Task) → d * low_offset (Virtual p q) (Some t) ≤ t.low * l → d * (p * q) * t.period ≤ (p * low_low t + q * high_low t) * l
 virtual_one p q d l t h = share t.level p q d l t.low t.period h
 
--- in low mode what was asked for is at most the time that there was
+-- under EDF-VD in low mode the tasks asked for at most the time that there was
 virtual_sum : (set : List Task) (p q : ℕ) (d : ℕ → ℕ) (l : ℕ) → AllByRecursion IsTask set → Holds set (Virtual p q) → ((k : ℕ) → d k * low_offset (Virtual p q) (task_at set k) ≤ low_in (task_at set k) * l) → sum_numbered set d 1 * q ≤ l
 virtual_sum set p q d l s holds each =
     let n = product set in
@@ -95,7 +95,7 @@ virtual_sum set p q d l s holds each =
     let pos : 1 ≤ p * n = mul-pos holds.0 (product-pos set s) in
     le_of_mul-le-mul_right {k = p * n} (omega (arith, b, c)) pos
 
--- where as much was asked for as there was time, nothing is owed
+-- if the tasks asked for at most the time that there was, nothing is owed
 last_step : (q t n s w : ℕ) → 1 ≤ q → t ≤ n → n + w ≤ t + s → s * q ≤ q * n - q * t → w ≡ 0
 last_step q t n s w h e b c =
     let x : q * (n + w) ≤ q * (t + s) = mul-le-mul_left q b in
@@ -120,7 +120,7 @@ virtual_low set p q h s holds l m = go (none_below set (Virtual p q) false (q * 
         let z = last_step q c.start (ticks h) (sum_numbered set c.demand 1) (debt set (Virtual p q) (q * ticks h) h) q_pos c.early c.balance sum in
         absurd (omega (arith, o, z))
 
--- the law, for both rules
+-- the law of low mode for both rules
 pub low_law : (set : List Task) (rule : Rule) (h : List Row) → AllByRecursion IsTask set → Holds set rule → Legal set rule h → high_mode rule h ≡ false → none_below set rule false (scale rule * ticks h + 1) (pending set h) ≡ true
 low_law set Plain h s holds l m = plain_low set h s holds l m
 low_law set (Virtual p q) h s holds l m = virtual_low set p q h s holds l m

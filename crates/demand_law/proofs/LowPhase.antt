@@ -1,4 +1,5 @@
--- The ledger of low mode, row by row, for a high job x, the mark, that is released at a and has a deadline of at most e.
+-- The ledger of low mode, row by row, for a high job x, the mark, that is released at a and has a deadline of
+-- at most e.
 use Rattle.std.proofs.Common.{◌≡◌, ℕ, ◌+◌, ◌<◌, ◌≤◌, ◌⊎◌, inl, inr, Bool, true, false, ◌||◌, List, [], ◌∷◌, filter, nat_le, nat_lt, refl, ap, arith, leb-true, ltb-true, ltb-false, lt-ltb}
 use Rattle.std.specs.List.{AllByRecursion}
 use Rattle.mc_task.specs.declared.task.Rule.TheVariants.{Virtual}
@@ -28,7 +29,7 @@ use Rattle.demand_law.proofs.Share.{Counts, low_task, old_high, new_high, Ledger
 use Rattle.demand_law.proofs.Before.{is_old, limit, counts, budget, owes, owed, busy_tick}
 use Rattle.std.proofs.lemmas.Bool.{and_parts}
 
--- before a, where no virtual key is at most the limit, nothing counts
+-- before a, while no virtual key is at most the limit, nothing counts
 none_owed : (set : List Task) (p q e a : ℕ) (g h : List Row) → ticks g + 1 ≤ a → (xs : List KeptRelease) → Each (IsLiveOk set (Virtual p q) g) xs → none_below set (Virtual p q) false (limit p q e a + 1) xs ≡ true → total (owes set p q e a h) xs ≡ 0
 none_owed set p q e a g h soon [] ok f = refl
 none_owed set p q e a g h soon (x ∷ xs) ok f =
@@ -45,7 +46,7 @@ none_owed set p q e a g h soon (x ∷ xs) ok f =
 abbrev pub Waits : List Task → KeptRelease → List Row → Type 0
 Waits set x h = (is_in (pending set h) x ≡ true) ⊎ (ticks h ≤ x.release)
 
--- what a filter keeps was in the list
+-- an element that a filter keeps is in the list
 is_in-filter : (f : KeptRelease → Bool) (x : KeptRelease) (xs : List KeptRelease) → is_in (filter f xs) x ≡ true → is_in xs x ≡ true
 is_in-filter f x [] e = e
 is_in-filter f x (y ∷ ys) e = go (is_in-filter f x ys) (f y) refl
@@ -58,7 +59,7 @@ is_in-filter f x (y ∷ ys) e = go (is_in-filter f x ys) (f y) refl
         or_map false b c f h = f h
     go ih false m = or_true _ _ (ih (rw m at e))
 
--- x, with its key, is among the pending jobs, so not all keys are above the limit
+-- if x is pending, not all keys are above the limit
 busy : (set : List Task) (p q n : ℕ) (x : KeptRelease) (xs : List KeptRelease) → is_in xs x ≡ true → key set (Virtual p q) false x ≤ n → none_below set (Virtual p q) false (n + 1) xs ≡ false
 busy set p q n x xs e k = go (none_below set (Virtual p q) false (n + 1) xs) refl
   where
@@ -73,7 +74,7 @@ pub record IsMark (set : List Task) (p q e : ℕ) (x : KeptRelease) : Type 0 whe
   pub order : x.release ≤ e
   pub near : key set (Virtual p q) false x ≤ limit p q e x.release
 
--- the ledger after a tick
+-- a ledger stays one after a tick
 pub low_tick : (set : List Task) (p q e : ℕ) (x : KeptRelease) (j : JobId) (how : How) (g : List Row) → IsMark set p q e x → Each (IsLiveOk set (Virtual p q) g) (pending set g) → TickFits set (Virtual p q) j how g → high_mode (Virtual p q) g ≡ false →
     Waits set x (Tick j how ∷ g) → Ledger set p q e x.release g (owed set p q e x.release g) → Ledger set p q e x.release (Tick j how ∷ g) (owed set p q e x.release (Tick j how ∷ g))
 low_tick set p q e x j how g mark ok fits low (inl w) c =
@@ -88,7 +89,7 @@ low_tick set p q e x j how g mark ok fits low (inr w) c = go (none_below set (Vi
         let f = total-filter_less (owes set p q e x.release g) (owes set p q e x.release (Tick j how ∷ g)) (stays set j how) (pending set g) (Each-all (λ y. weight_falls _ _ _ _) (pending set g)) in
         ledger_less set p q e x.release (Tick j how ∷ g) (owed set p q e x.release (Tick j how ∷ g)) 0 (omega (arith, z, f)) (ledger_fresh set p q e x.release (Tick j how ∷ g) w)
 
--- a release that counts, counts in one of the three ways
+-- a release that counts does so in one of the three ways
 counted : (set : List Task) (p q e a : ℕ) (j : JobId) (r : ℕ) → counts set p q e a (record { job = j; release = r }) ≡ true → Counts set p q e a r j.task.0 (budget set a (record { job = j; release = r }))
 counted set p q e a j r h = go (is_high_in (task_at set j.task.0)) refl (nat_lt r a) refl
   where
@@ -97,7 +98,7 @@ counted set p q e a j r h = go (is_high_in (task_at set j.task.0)) refl (nat_lt 
     go true m true n = let less : r < a = ltb-true r a n in let o : r + 1 ≤ a = omega (arith, less) in rw (m, n) (old_high m o (leb-true _ _ (rw n at (rw m at h))))
     go true m false n = rw (m, n) (new_high m (ltb-false _ _ n) (leb-true _ _ (rw n at (rw m at h))))
 
--- the ledger after a release
+-- a ledger stays one after a release
 low_release : (set : List Task) (p q e : ℕ) (x : KeptRelease) (j : JobId) (g : List Row) → IsMark set p q e x → IsIn set j.task.0 → IsKnown (task_at set j.task.0) → ReleaseFits set (Virtual p q) j true g →
     Ledger set p q e x.release g (owed set p q e x.release g) → Ledger set p q e x.release (Release j true ∷ g) (owed set p q e x.release (Release j true ∷ g))
 low_release set p q e x j g mark inside k fits c = go (counts set p q e x.release (record { job = j; release = ticks g })) refl
@@ -126,7 +127,7 @@ pub waits_tick : (set : List Task) (x : KeptRelease) (j : JobId) (how : How) (g 
 waits_tick set x j how g (inl w) = inl (is_in-filter (stays set j how) x (pending set g) w)
 waits_tick set x j how g (inr w) = inr (omega (arith, w))
 
--- the ledger after an idle tick
+-- a ledger stays one after an idle tick
 low_idle : (set : List Task) (p q e : ℕ) (x : KeptRelease) (g : List Row) → pending set g ≡ [] → Waits set x (Idle ∷ g) → Ledger set p q e x.release (Idle ∷ g) (owed set p q e x.release (Idle ∷ g))
 low_idle set p q e x g none (inl w) = absurd (never (rw none at w))
   where
@@ -134,7 +135,7 @@ low_idle set p q e x g none (inl w) = absurd (never (rw none at w))
     never h = cc
 low_idle set p q e x g none (inr w) = rw none (ledger_fresh set p q e x.release (Idle ∷ g) w)
 
--- so there is a ledger in low mode, as long as the job waits
+-- low mode has a ledger for as long as the job waits
 pub low_phase : (set : List Task) (p q e : ℕ) (x : KeptRelease) → IsMark set p q e x → AllByRecursion IsTask set → (h : List Row) → Legal set (Virtual p q) h → high_mode (Virtual p q) h ≡ false → Waits set x h → Ledger set p q e x.release h (owed set p q e x.release h)
 low_phase set p q e x mark s [] l m w = ledger_fresh set p q e x.release [] (omega arith)
 low_phase set p q e x mark s (Release j true ∷ g) l m w =

@@ -1,4 +1,4 @@
--- With no overrun no release is dropped, and each job ends by its deadline.
+-- Without an overrun no release is dropped, and each job ends by its deadline.
 use Rattle.std.proofs.Common.{◌≡◌, ℕ, ◌≤◌, Bool, true, false, not, ◌&&◌, ◌||◌, List, [], ◌∷◌, cond, nat_le, refl, arith, le-leb}
 use Rattle.std.specs.List.{AllByRecursion}
 use Rattle.mc_task.specs.declared.task.Rule.{Rule}
@@ -25,7 +25,7 @@ use Rattle.std.specs.List.{list_any}
 use Rattle.std.proofs.lemmas.Bool.{or_parts, and_right}
 use Rattle.std.proofs.Math.Bool.{beq}
 
--- the mode is never high
+-- without an overrun the mode is never high
 low_always : (rule : Rule) (h : List Row) → NoOver h → high_mode rule h ≡ false
 low_always rule [] n = refl
 low_always rule (Release j kept ∷ g) n = low_always rule g n
@@ -37,7 +37,7 @@ low_always rule (Tick j how ∷ g) n = both (is_virtual rule) (is_over how) (hig
     both true false m e f = f
     both false o m e f = f
 
--- so no release is dropped
+-- without an overrun no release is dropped
 pub no_drop : (set : List Task) (rule : Rule) (h : List Row) → Legal set rule h → NoOver h → NoDrop h
 no_drop set rule [] l n = refl
 no_drop set rule (Tick j how ∷ g) l n = no_drop set rule g l.2 (or_parts _ _ n).1
@@ -53,7 +53,7 @@ no_drop set rule (Release j false ∷ g) l n =
     never true k = cc
     never false k = cc
 
--- there is no overrun up to a tick
+-- without an overrun in a trace, there is none up to a tick
 over_up_to : (d : ℕ) (h : List Row) → NoOver h → NoOver (up_to d h)
 over_up_to d [] n = refl
 over_up_to d (row ∷ g) n =
@@ -65,14 +65,14 @@ over_up_to d (row ∷ g) n =
     tail (Tick j how) g n = (or_parts _ _ n).1
     tail Idle g n = n
 
--- nor since the release of a job
+-- without an overrun in a trace, there is none since the release of a job
 never_over : (h : List Row) (j : JobId) → NoOver h → over_since h j ≡ false
 never_over [] j n = refl
 never_over (Release i kept ∷ g) j n = let r = never_over g j n in rw r (and_right (not (same_job i j)) false refl)
 never_over (Tick i how ∷ g) j n = let r = never_over g j (or_parts _ _ n).1 in let o = (or_parts (is_over how) (list_any is_over_row g) n).0 in rw (o, r) refl
 never_over (Idle ∷ g) j n = never_over g j n
 
--- so a job that is not late has ended
+-- without an overrun, a job that is not late at its deadline has ended
 ended_one : (set : List Task) (h : List Row) (x : KeptRelease) → NoOver h → is_late set h x ≡ false → deadline set x ≤ ticks h → ended (up_to (deadline set x) h) x.job ≡ true
 ended_one set h x n e due =
     bools (ended (up_to (deadline set x) h) x.job) (is_high_in (task_at set x.job.task.0)) (over_since (up_to (deadline set x) h) x.job)
@@ -81,6 +81,6 @@ ended_one set h x n e due =
     bools : (n h o : Bool) → o ≡ false → (true && (not n && (h || not o))) ≡ false → n ≡ true
     bools n h o e f = grind arith
 
--- each has, where its deadline has come
+-- without an overrun, each job has ended if its deadline has come
 pub ended_in_time : (set : List Task) (rule : Rule) (h : List Row) → AllByRecursion IsTask set → Holds set rule → Legal set rule h → NoOver h → EndedInTime set h
 ended_in_time set rule h s holds l n = Each-map {P = λ x. is_late set h x ≡ false} (λ x e. ended_one set h x n e) (released h) (each_in_time set rule h s holds l)

@@ -1,4 +1,4 @@
--- Each task has at most one pending job, and none where its next release may come.
+-- Each task has at most one pending job, and none at a boundary where its next release may come.
 use Rattle.std.proofs.Common.{◌≡◌, ℕ, ◌+◌, ◌*◌, ◌≤◌, Bool, true, false, List, [], ◌∷◌, cond, filter, nat_le, ◌==◌, refl, sym, subst, arith, le_refl, le_trans, leb-true, eqb-true, mul-le-mul_right}
 use Rattle.std.specs.List.{AllByRecursion}
 use Rattle.mc_task.specs.declared.task.Rule.{Rule}
@@ -24,7 +24,7 @@ use Rattle.demand_law.proofs.Switch.{high_law}
 use Rattle.demand_law.proofs.Releases.{next_release-grows}
 use Rattle.std.proofs.lemmas.Bool.{and_parts}
 
--- no deadline of a pending job has come
+-- the deadline of a pending job has not come
 abbrev pub InTime : List Task → List Row → KeptRelease → Type 0
 InTime set h x = ticks h + 1 ≤ x.release + period_in (task_at set x.job.task.0)
 
@@ -35,7 +35,7 @@ plain_mode (Release j kept ∷ g) = plain_mode g
 plain_mode (Tick j how ∷ g) = plain_mode g
 plain_mode (Idle ∷ g) = refl
 
--- under plain EDF by the keys
+-- under plain EDF, by the keys, no deadline of a pending job has come
 plain_time : (set : List Task) (h : List Row) (xs : List KeptRelease) → none_below set Plain false (1 * ticks h + 1) xs ≡ true → Each (InTime set h) xs
 plain_time set h [] f = tt
 plain_time set h (x ∷ xs) f =
@@ -43,11 +43,11 @@ plain_time set h (x ∷ xs) f =
     let k : 1 * ticks h + 1 ≤ key set Plain false x = leb-true _ _ w.0 in
     (omega (arith, k), plain_time set h xs w.1)
 
--- what is more by units is more by ticks
+-- a greater number of units is a greater number of ticks
 above_scaled : (q t n : ℕ) → q * t + 1 ≤ q * n → t + 1 ≤ n
 above_scaled q t n h = grind arith
 
--- under EDF-VD by the keys of either mode
+-- under EDF-VD, by the keys of either mode, no deadline of a pending job has come
 virtual_time : (set : List Task) (p q : ℕ) (high : Bool) (h : List Row) (xs : List KeptRelease) → p ≤ q → none_below set (Virtual p q) high (q * ticks h + 1) xs ≡ true → Each (InTime set h) xs
 virtual_time set p q high h [] pq f = tt
 virtual_time set p q high h (x ∷ xs) pq f = (above_scaled q (ticks h) _ (omega (arith, k, below high (is_high_in (task_at set x.job.task.0)))), virtual_time set p q high h xs pq w.1)
@@ -63,7 +63,7 @@ virtual_time set p q high h (x ∷ xs) pq f = (above_scaled q (ticks h) _ (omega
     below false true = mul-le-mul_right _ pq
     below false false = le_refl _
 
--- so it is of each pending job, by the law of its mode
+-- by the law of its mode, no deadline of a pending job has come
 pub in_time : (set : List Task) (rule : Rule) (h : List Row) → AllByRecursion IsTask set → Holds set rule → Legal set rule h → Each (InTime set h) (pending set h)
 in_time set Plain h s holds l = plain_time set h (pending set h) (low_law set Plain h s holds l (plain_mode h))
 in_time set (Virtual p q) h s holds l = go (high_mode (Virtual p q) h) refl
@@ -76,7 +76,7 @@ in_time set (Virtual p q) h s holds l = go (high_mode (Virtual p q) h) refl
 abbrev Followed : List Task → List Row → KeptRelease → Type 0
 Followed set h x = x.release + period_in (task_at set x.job.task.0) ≤ next_release set h x.job.task.0
 
--- so it is of each pending job of a legal trace
+-- in a legal trace the next release of each pending job's task is no earlier than its deadline
 followed : (set : List Task) (rule : Rule) (h : List Row) → Legal set rule h → Each (Followed set h) (pending set h)
 followed set rule [] l = tt
 followed set rule (Release j true ∷ g) l =
@@ -88,7 +88,7 @@ followed set rule (Release j false ∷ g) l =
 followed set rule (Tick j how ∷ g) l = Each-filter (Followed set g) (stays set j how) (pending set g) (followed set rule g l.2)
 followed set rule (Idle ∷ g) l = followed set rule g l.2
 
--- where the next release may come, a job in time is of another task
+-- at a boundary where a task's next release may come, a pending job in time is of another task
 none_of : (set : List Task) (h : List Row) (k : ℕ) (xs : List KeptRelease) → next_release set h k ≤ ticks h → Each (InTime set h) xs → Each (Followed set h) xs → pending_of k xs ≡ 0
 none_of set h k [] n i f = refl
 none_of set h k (x ∷ xs) n i f = go (none_of set h k xs n i.1 f.1) (x.job.task.0 == k) refl
@@ -101,11 +101,11 @@ none_of set h k (x ∷ xs) n i f = go (none_of set h k xs n i.1 f.1) (x.job.task
         absurd (omega (arith, a, b, c))
     go ih false m = rw m (omega (arith, ih))
 
--- so none of a task is pending where its next release may come
+-- no job of a task is pending at a boundary where its next release may come
 pub none_live : (set : List Task) (rule : Rule) (h : List Row) (k : ℕ) → AllByRecursion IsTask set → Holds set rule → Legal set rule h → next_release set h k ≤ ticks h → pending_of k (pending set h) ≡ 0
 none_live set rule h k s holds l n = none_of set h k (pending set h) n (in_time set rule h s holds l) (followed set rule h l)
 
--- a filter leaves no more of a task
+-- a filter keeps no more jobs of a task than there were
 pending_of-filter : (k : ℕ) (p : KeptRelease → Bool) (xs : List KeptRelease) → pending_of k (filter p xs) ≤ pending_of k xs
 pending_of-filter k p [] = le_refl _
 pending_of-filter k p (x ∷ xs) =

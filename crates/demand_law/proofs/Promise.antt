@@ -23,18 +23,18 @@ use Rattle.mc_model.proofs.Steps.{release_fits}
 use Rattle.demand_law.proofs.Laws.{each_in_time, none_late}
 use Rattle.mc_model.proofs.Fold
 
--- a row behind all those before number n
+-- a row after all rows before tick n does not add to the rows at n
 not_yet : (n t r : ℕ) → t + 1 ≤ n → r ≡ 0 → cond (t == n) 1 0 + r ≡ 0
 not_yet n t r k e = let other : (t == n) ≡ false = grind (arith, nat_tests) in rw other (omega arith)
 
--- behind the last tick no row has its number
+-- after the last tick no row stands at a number
 none_at : (n : ℕ) (h : List Row) → ticks h ≤ n → rows_at n h ≡ 0
 none_at n [] k = refl
 none_at n (Release j kept ∷ g) k = none_at n g k
 none_at n (Tick j how ∷ g) k = not_yet n (ticks g) (rows_at n g) k (none_at n g (omega arith))
 none_at n (Idle ∷ g) k = not_yet n (ticks g) (rows_at n g) k (none_at n g (omega arith))
 
--- the row with this number, or one of those before it
+-- a row adds one to the rows at number n exactly if it is the tick with that number
 this_or : (n t r : ℕ) → n < t + 1 → (t ≤ n → r ≡ 0) → (n < t → r ≡ 1) → cond (t == n) 1 0 + r ≡ 1
 this_or n t r k none one = go (t == n) refl
   where
@@ -48,7 +48,7 @@ one_at (Release j kept ∷ g) n k = one_at g n k
 one_at (Tick j how ∷ g) n k = this_or n (ticks g) (rows_at n g) k (none_at n g) (one_at g n)
 one_at (Idle ∷ g) n k = this_or n (ticks g) (rows_at n g) k (none_at n g) (one_at g n)
 
--- not late where the deadline has come: ended, or low and discarded
+-- a job that is not late after its deadline has ended, or is low and was discarded
 not_late_is : (ended high over : Bool) → (true && (not ended && (high || not over))) ≡ false → (ended ≡ true) ⊎ ((high ≡ false) × (over ≡ true))
 not_late_is true high over h = inl refl
 not_late_is false true over h = cc
@@ -60,7 +60,7 @@ meets set h x late due =
     let come : nat_le (deadline set x) (ticks h) ≡ true = le-leb _ _ due in
     not_late_is (ended (up_to (deadline set x) h) x.job) (is_high_in (task_at set x.job.task.0)) (over_since (up_to (deadline set x) h) x.job) (rw come at late)
 
--- a dropped release fits only of a low task in high mode
+-- only a release of a low task in high mode may be dropped
 dropped : (high mode : Bool) → beq false (high || not mode) ≡ true → (high ≡ false) × (mode ≡ true)
 dropped true mode h = cc
 dropped false true h = (refl, refl)
@@ -75,7 +75,7 @@ drops set rule (Release j false ∷ g) l =
 drops set rule (Tick j how ∷ g) l = drops set rule g l.2
 drops set rule (Idle ∷ g) l = drops set rule g l.2
 
--- the headline, of each legal trace under a rule that holds
+-- the headline: each legal trace under a rule that holds keeps its deadlines
 pub keeps_deadlines : (set : List Task) (rule : Rule) (h : List Row) → AllByRecursion IsTask set → Holds set rule → Legal set rule h → KeepsDeadlines set rule h
 keeps_deadlines set rule h s holds l =
     let b : IsBridged set rule h = bridge set rule h l in

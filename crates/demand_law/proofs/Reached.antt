@@ -1,4 +1,4 @@
--- The rows up to a job's deadline: they are a legal trace, that tells as many ticks, and the job was released in them.
+-- The rows up to a job's deadline: a legal trace with that many ticks, in which the job was released.
 use Rattle.std.proofs.Common.{◌≡◌, ℕ, ◌+◌, ◌≤◌, Bool, true, false, List, [], ◌∷◌, cond, nat_le, refl, arith, leb-true, le-leb, ◌<◌, leb-false}
 use Rattle.std.specs.List.{AllByRecursion}
 use Rattle.mc_task.specs.declared.task.Rule.{Rule}
@@ -22,7 +22,7 @@ ticks-row (Release j kept) g = omega arith
 ticks-row (Tick j how) g = omega arith
 ticks-row Idle g = omega arith
 
--- a trace with enough ticks has d of them up to the d-th
+-- the rows up to tick d have d ticks, if the trace has enough
 pub ticks-up_to : (d : ℕ) (h : List Row) → d ≤ ticks h → ticks (up_to d h) ≡ d
 ticks-up_to d [] e = omega arith
 ticks-up_to d (row ∷ g) e = go (ticks-up_to d g) (nat_le (ticks (row ∷ g)) d) refl
@@ -33,14 +33,14 @@ ticks-up_to d (row ∷ g) e = go (ticks-up_to d g) (nat_le (ticks (row ∷ g)) d
         let q : d < ticks (row ∷ g) = leb-false _ _ m in
         ih (omega (arith, q, ticks-row row g))
 
--- they are legal
+-- the rows up to a tick of a legal trace are legal
 pub legal-up_to : (set : List Task) (rule : Rule) (d : ℕ) (h : List Row) → Legal set rule h → Legal set rule (up_to d h)
 legal-up_to set rule d [] l = l
 legal-up_to set rule d (row ∷ g) l =
     let ih : Legal set rule (up_to d g) = legal-up_to set rule d g l.2 in
     elim (nat_le (ticks (row ∷ g)) d) as (λ b. Legal set rule (cond b (row ∷ g) (up_to d g))) [ true ↦ l | false ↦ ih ]
 
--- each of a list is in a list that has all of it
+-- each element of a list is in a list that has all of it
 each_inside : (xs ys : List KeptRelease) → ((x : KeptRelease) → is_in xs x ≡ true → is_in ys x ≡ true) → Each (λ x. is_in ys x ≡ true) xs
 each_inside [] ys f = tt
 each_inside (x ∷ xs) ys f = (f x (head_in x xs), each_inside xs ys (λ y h. f y (or_true (same_live y x) (is_in xs y) h)))
@@ -49,17 +49,17 @@ each_inside (x ∷ xs) ys f = (f x (head_in x xs), each_inside xs ys (λ y h. f 
 abbrev pub Reaches : List Row → KeptRelease → Type 0
 Reaches h x = (d : ℕ) → x.release + 1 ≤ d → is_in (released (up_to d h)) x ≡ true
 
--- one more row keeps that of a job
+-- if a released job is among those released up to a later tick, one more row leaves it there
 reach : (row : Row) (g : List Row) (x : KeptRelease) → is_in (released (row ∷ g)) x ≡ true → Reaches g x → Reaches (row ∷ g) x
 reach row g x i r d k =
     let later : is_in (released (up_to d g)) x ≡ true = r d k in
     elim (nat_le (ticks (row ∷ g)) d) as (λ b. is_in (released (cond b (row ∷ g) (up_to d g))) x ≡ true) [ true ↦ i | false ↦ later ]
 
--- one more row keeps that of each released job
+-- one more row leaves each released job among those released up to a later tick
 reach_all : (row : Row) (g : List Row) → ((x : KeptRelease) → is_in (released g) x ≡ true → is_in (released (row ∷ g)) x ≡ true) → Each (Reaches g) (released g) → Each (Reaches (row ∷ g)) (released g)
 reach_all row g f r = Each-both {P = λ x. is_in (released (row ∷ g)) x ≡ true} {Q = Reaches g} (λ x i k. reach row g x i k) (released g) (each_inside (released g) (released (row ∷ g)) f) r
 
--- it is so of each released job
+-- each released job is among those released up to any later tick
 pub reaches : (h : List Row) → Each (Reaches h) (released h)
 reaches [] = tt
 reaches (Release j true ∷ g) =

@@ -1,4 +1,4 @@
--- One more release of a task: its next release is later then, and what it asked for stays within its rate.
+-- One more release of a task: the next one is later, and what the task asked for stays within its rate.
 use Rattle.std.proofs.Common.{◌≡◌, ℕ, ◌+◌, ◌-◌, ◌*◌, ◌≤◌, Bool, true, false, List, ◌∷◌, cond, ◌==◌, refl, ap, subst, arith, le_refl, eqb-true, mul-le-mul_left}
 use Rattle.mc_task.specs.declared.task.Task.{Task}
 use Rattle.mc_task.specs.declared.task.JobId.{JobId}
@@ -25,14 +25,15 @@ more_next d b n t r p h u v =
     let e : (r + p) - t ≡ (r - t) + p = omega arith in
     rw e (omega (arith, w, h))
 
--- a product with a difference
+-- a product with a difference is a difference of products
 pub times_sub : (q r t : ℕ) → t ≤ r → q * (r - t) + q * t ≡ q * r
 times_sub q r t v =
     let e : (r - t) + t ≡ r = omega arith in
     let f : q * ((r - t) + t) ≡ q * r = ap (λ (z : ℕ). q * z) e in
     omega (arith, f)
 
--- the same up to a key of the release that is o past q * r, in units of 1 / q; w is what stands past q * t
+-- d ticks asked for from t to n, and b more at r: within the rate up to a key o past q * r, in units of 1 /
+-- q, where w stands past q * t
 pub more_reach : (d b n t r p o w q : ℕ) → d * p ≤ b * (n - t) → n ≤ r → t ≤ r → o ≤ q * p → q * r + o ≤ q * t + w → (d + b) * o ≤ b * w
 more_reach d b n t r p o w q h u v ol kl =
     let a : b * (n - t) ≤ b * (r - t) = mul-le-mul_left b (omega arith) in

@@ -1,4 +1,5 @@
--- What each task asked for since boundary t, up to the deadline e, where overruns count only for the releases from a on.
+-- What each task asked for since boundary t, up to the deadline e, where overruns count only for the releases
+-- from a on.
 use Rattle.std.proofs.Common.{◌≡◌, ℕ, ◌+◌, ◌-◌, ◌*◌, ◌≤◌, min, Bool, true, false, List, ◌∷◌, cond, ◌==◌, refl, sym, ap, ap₂, subst, arith, le_refl, le_trans, eqb-true, mul-le-mul_left, mul-le-mul_right}
 use Rattle.mc_task.specs.declared.task.Task.{Task}
 use Rattle.mc_task.specs.declared.task.JobId.{JobId}
@@ -16,14 +17,14 @@ use Rattle.mc_model.proofs.Booleans.{eqb-refl}
 abbrev pub grant : ℕ → ℕ → ℕ → ℕ → ℕ → ℕ
 grant low own t a n = low * (min n a - t) + own * (n - a)
 
--- by a later release it is no less
+-- the grant by a later release is no less
 grant-mono : (low own t a m n : ℕ) → m ≤ n → grant low own t a m ≤ grant low own t a n
 grant-mono low own t a m n h =
     let x : low * (min m a - t) ≤ low * (min n a - t) = mul-le-mul_left low (omega arith) in
     let y : own * (m - a) ≤ own * (n - a) = mul-le-mul_left own (omega arith) in
     omega (arith, x, y)
 
--- it is no less than by the low budget alone
+-- the grant is no less than by the low budget alone
 grant_all : (low own t a y : ℕ) → t ≤ a → low ≤ own → low * (y - t) ≤ grant low own t a y
 grant_all low own t a y h o =
     let x : low * (y - t) ≤ low * ((min y a - t) + (y - a)) = mul-le-mul_left low (omega arith) in
@@ -38,7 +39,7 @@ old_plain d low own n t a r p h u v =
     let z : low * (min n a - t) + own * (n - a) ≡ low * (n - t) + own * 0 = ap₂ (λ (i j : ℕ). low * (i - t) + own * j) x y in
     omega (arith, h, z)
 
--- one more release before a stays within it, by the next release
+-- one more release before a stays within the grant, by the next release
 pub old_next : (d low own n t a r p : ℕ) → d * p ≤ grant low own t a n → n ≤ r → r + 1 ≤ a → t ≤ r → low ≤ own → (d + low) * p ≤ grant low own t a (r + p)
 old_next d low own n t a r p h u v w o =
     let x : (d + low) * p ≤ low * ((r + p) - t) = more_next d low n t r p (old_plain d low own n t a r p h u v) u w in
@@ -62,7 +63,7 @@ new_plain d low own n t a r p h u v =
     let s : (r + p) - a ≡ (r - a) + p = omega arith in
     rw s (omega (arith, h, x, z))
 
--- it stays within it, by the next release
+-- one more release from a on stays within the grant, by the next release
 pub new_next : (d low own n t a r p : ℕ) → d * p ≤ grant low own t a n → n ≤ r → a ≤ r → (d + own) * p ≤ grant low own t a (r + p)
 new_next d low own n t a r p h u v =
     let y : min (r + p) a ≡ a = omega arith in
@@ -82,18 +83,19 @@ low_reach d b n t a e r p ps q h u v w near =
     let z : q * (a - t) + q * t ≡ q * a = times_sub q a t w in
     more_reach d b n t r p (q * p) (q * (a - t) + ps * (e - a)) q h u v (le_refl _) (omega (arith, z, near))
 
--- task number k asked for d ticks since t, where p / q is the scale: within its budgets by its next release, and by e
+-- task number k asked for d ticks since t, where p / q is the scale: within its budgets by its next release,
+-- and by e
 pub record IsShare (set : List Task) (p q e : ℕ) (h : List Row) (t a k d : ℕ) : Type 0 where
   pub low_next : is_high_in (task_at set k) ≡ false → d * period_in (task_at set k) ≤ low_in (task_at set k) * (next_release set h k - t)
   pub low_reach : is_high_in (task_at set k) ≡ false → d * (q * period_in (task_at set k)) ≤ low_in (task_at set k) * (q * (a - t) + p * (e - a))
   pub high_next : is_high_in (task_at set k) ≡ true → d * period_in (task_at set k) ≤ grant (low_in (task_at set k)) (own_in (task_at set k)) t a (next_release set h k)
   pub high_reach : is_high_in (task_at set k) ≡ true → d * (p * period_in (task_at set k)) ≤ low_in (task_at set k) * (q * (a - t)) + own_in (task_at set k) * (p * (e - a))
 
--- it may have asked for nothing
+-- a task that asked for nothing is within its share
 pub no_share : (set : List Task) (p q e : ℕ) (h : List Row) (t a k : ℕ) → IsShare set p q e h t a k 0
 no_share set p q e h t a k = record { low_next = λ m. omega arith; low_reach = λ m. omega arith; high_next = λ m. omega arith; high_reach = λ m. omega arith }
 
--- a release that does not count leaves it so
+-- a release that does not count leaves a task within its share
 pub share_same : (set : List Task) (p q e : ℕ) (j : JobId) (kept : Bool) (g : List Row) (t a k d : ℕ) → next_release set g j.task.0 ≤ ticks g → IsShare set p q e g t a k d → IsShare set p q e (Release j kept ∷ g) t a k d
 share_same set p q e j kept g t a k d soon h =
     let n : next_release set g k ≤ next_release set (Release j kept ∷ g) k = next_release-grows set j kept g k soon in
@@ -136,7 +138,7 @@ share_own set p q e j kept g t a d b pq tg ta order soon (new_high m new near) h
   high_reach = λ n. new_reach d _ _ (next_release set g j.task.0) t a e (ticks g) _ p q (h.high_next m) soon new pq near;
 }
 
--- and leaves the other tasks as they are
+-- a release that counts leaves the other tasks within their shares
 pub share_more : (set : List Task) (p q e : ℕ) (j : JobId) (kept : Bool) (g : List Row) (t a k d b : ℕ) → p ≤ q → t ≤ ticks g → t ≤ a → low_in (task_at set j.task.0) ≤ own_in (task_at set j.task.0) → next_release set g j.task.0 ≤ ticks g →
     Counts set p q e a (ticks g) j.task.0 b → IsShare set p q e g t a k d → (c : Bool) → (j.task.0 == k) ≡ c → IsShare set p q e (Release j kept ∷ g) t a k (cond c (d + b) d)
 share_more set p q e j kept g t a k d b pq tg ta order soon counts h true m =
@@ -145,7 +147,8 @@ share_more set p q e j kept g t a k d b pq tg ta order soon counts h true m =
     (share_own set p q e j kept g t a d b pq tg ta order soon counts (subst (λ n. IsShare set p q e g t a n d) (sym i) h))
 share_more set p q e j kept g t a k d b pq tg ta order soon counts h false m = share_same set p q e j kept g t a k d soon h
 
--- a ledger: the ticks since start, and those that are still owed, are at most what the tasks asked for since then
+-- a ledger: the ticks since start, and those that are still owed, are at most what the tasks asked for since
+-- then
 pub record Ledger (set : List Task) (p q e a : ℕ) (h : List Row) (owed : ℕ) : Type 0 where
   pub start : ℕ
   pub demand : ℕ → ℕ
@@ -154,7 +157,7 @@ pub record Ledger (set : List Task) (p q e a : ℕ) (h : List Row) (owed : ℕ) 
   pub balance : ticks h + owed ≤ start + sum_numbered set demand 1
   pub each : (k : ℕ) → IsShare set p q e h start a k (demand k)
 
--- a ledger that starts now, with nothing owed
+-- with nothing owed, a ledger may start now
 pub ledger_fresh : (set : List Task) (p q e a : ℕ) (h : List Row) → ticks h ≤ a → Ledger set p q e a h 0
 ledger_fresh set p q e a h o = record {
   start = ticks h;
@@ -165,7 +168,7 @@ ledger_fresh set p q e a h o = record {
   each = λ k. no_share set p q e h (ticks h) a k;
 }
 
--- a ledger is one for less that is owed
+-- a ledger is a ledger for less that is owed
 pub ledger_less : (set : List Task) (p q e a : ℕ) (h : List Row) (m n : ℕ) → m ≤ n → Ledger set p q e a h n → Ledger set p q e a h m
 ledger_less set p q e a h m n o c = record {
   start = c.start;
@@ -176,7 +179,7 @@ ledger_less set p q e a h m n o c = record {
   each = c.each;
 }
 
--- a ledger after a tick that takes from what is owed
+-- a ledger stays one after a tick that lessens what is owed
 pub ledger_tick : (set : List Task) (p q e a : ℕ) (j : JobId) (how : How) (g : List Row) (m n : ℕ) → m + 1 ≤ n → Ledger set p q e a g n → Ledger set p q e a (Tick j how ∷ g) m
 ledger_tick set p q e a j how g m n o c = record {
   start = c.start;
@@ -187,7 +190,7 @@ ledger_tick set p q e a j how g m n o c = record {
   each = λ k. let s = c.each k in record { low_next = s.low_next; low_reach = s.low_reach; high_next = s.high_next; high_reach = s.high_reach };
 }
 
--- a ledger after a release that does not count
+-- a ledger stays one after a release that does not count
 pub ledger_same : (set : List Task) (p q e a : ℕ) (j : JobId) (kept : Bool) (g : List Row) (n : ℕ) → next_release set g j.task.0 ≤ ticks g → Ledger set p q e a g n → Ledger set p q e a (Release j kept ∷ g) n
 ledger_same set p q e a j kept g n soon c = record {
   start = c.start;
@@ -198,7 +201,7 @@ ledger_same set p q e a j kept g n soon c = record {
   each = λ k. share_same set p q e j kept g c.start a k (c.demand k) soon (c.each k);
 }
 
--- a ledger after a release that counts
+-- a ledger stays one after a release that counts
 pub ledger_more : (set : List Task) (p q e a : ℕ) (j : JobId) (kept : Bool) (g : List Row) (n b : ℕ) → p ≤ q → IsIn set j.task.0 → low_in (task_at set j.task.0) ≤ own_in (task_at set j.task.0) → next_release set g j.task.0 ≤ ticks g →
     Counts set p q e a (ticks g) j.task.0 b → Ledger set p q e a g n → Ledger set p q e a (Release j kept ∷ g) (b + n)
 ledger_more set p q e a j kept g n b pq inside order soon counts c =

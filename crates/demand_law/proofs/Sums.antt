@@ -1,4 +1,4 @@
--- What the tasks of a set ask, and loads.
+-- What the tasks of a set asked for, against their loads.
 use Rattle.std.proofs.Common.{◌≡◌, ℕ, suc, ◌+◌, ◌*◌, ◌/◌, ◌≤◌, List, [], ◌∷◌, Some, slice_get, refl, sym, ap, arith, mul-le-mul_left, add-zero}
 use Rattle.std.specs.List.{AllByRecursion}
 use Rattle.mc_task.specs.declared.task.Task.{Task}
@@ -27,12 +27,12 @@ divides_more c p (t ∷ ts) s d = (times c p t.period s.0.period.0 d.0, divides_
         let r : c * p ≡ n * (c * m) = omega (arith, q) in
         rw r (exact n (c * m) h)
 
--- so it is of the product of the periods
+-- each period divides the product of the periods
 pub divides : (ts : List Task) → AllByRecursion IsTask ts → Divides (product ts) ts
 divides [] s = tt
 divides (t ∷ ts) s = (exact t.period (product ts) s.0.period.0, divides_more t.period (product ts) ts s.1 (divides ts s.1))
 
--- from a bound for each task to one for the sum
+-- a bound for one task, as one for its part of the sum
 one_task : (d c n f l p w : ℕ) → d * c * n ≤ f * l → w * n ≡ p → d * c * p ≤ l * (f * w)
 one_task d c n f l p w h e =
     let a : w * (d * c * n) ≤ w * (f * l) = mul-le-mul_left w h in

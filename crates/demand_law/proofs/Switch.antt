@@ -48,14 +48,14 @@ pub record LeastDue (set : List Task) (p q n : ℕ) (xs : List KeptRelease) : Ty
   pub near : key set (Virtual p q) true first ≤ n
   pub least : Each (λ y. key set (Virtual p q) true y ≤ n → first.release ≤ y.release) xs
 
--- where all keys are above n, any release is the first
+-- if all keys are above n, any release may count as the first
 all_above : (set : List Task) (p q n m : ℕ) (xs : List KeptRelease) → none_below set (Virtual p q) true (n + 1) xs ≡ true → Each (λ y. key set (Virtual p q) true y ≤ n → m ≤ y.release) xs
 all_above set p q n m [] f = tt
 all_above set p q n m (x ∷ xs) f =
     let w = and_parts (nat_le (n + 1) (key set (Virtual p q) true x)) (none_below set (Virtual p q) true (n + 1) xs) f in
     (λ k. absurd (let l : n + 1 ≤ key set (Virtual p q) true x = leb-true _ _ w.0 in omega (arith, l, k)), all_above set p q n m xs w.1)
 
--- there is one, or all keys are above n
+-- either all keys are above n, or one of the jobs with keys of at most n was released first
 least_due : (set : List Task) (p q n : ℕ) (xs : List KeptRelease) → (none_below set (Virtual p q) true (n + 1) xs ≡ true) ⊎ LeastDue set p q n xs
 least_due set p q n [] = inl refl
 least_due set p q n (x ∷ xs) = go (least_due set p q n xs) (nat_le (key set (Virtual p q) true x) n) refl
@@ -94,7 +94,7 @@ mark_of set p q e x pos pq hi k =
     let s : p * period_in (task_at set x.job.task.0) ≤ p * (e - x.release) = mul-le-mul_left p (omega (arith, t)) in
     record { pos = pos; scale = pq; order = omega (arith, t); near = rw hi (omega (arith, s)) }
 
--- the row of the switch
+-- the ledger of high mode at the overrun that makes the mode high
 at_switch : (set : List Task) (p q e : ℕ) (j : JobId) (how : How) (g : List Row) → AllByRecursion IsTask set → 1 ≤ p → p ≤ q → Legal set (Virtual p q) (Tick j how ∷ g) → high_mode (Virtual p q) g ≡ false → high_mode (Virtual p q) (Tick j how ∷ g) ≡ true → HighLedger set p q e (Tick j how ∷ g)
 at_switch set p q e j how g s pos pq l low high = go (least_due set p q (q * e) (pending set (Tick j how ∷ g)))
   where
@@ -128,7 +128,7 @@ high_kept : (a : Bool) → beq true (a || not true) ≡ true → a ≡ true
 high_kept true h = refl
 high_kept false h = h
 
--- so there is a ledger in high mode
+-- high mode has a ledger
 pub high_phase : (set : List Task) (p q e : ℕ) → AllByRecursion IsTask set → 1 ≤ p → p ≤ q → (h : List Row) → Legal set (Virtual p q) h → high_mode (Virtual p q) h ≡ true → HighLedger set p q e h
 high_phase set p q e s pos pq [] l m = cc
 high_phase set p q e s pos pq (Idle ∷ g) l m = cc
@@ -144,7 +144,8 @@ high_phase set p q e s pos pq (Tick j how ∷ g) l m = go (high_phase set p q e 
     go ih true n = high_tick set p q e j how g (live_ok set (Virtual p q) g s l.2) (tick_fits set (Virtual p q) j how g l.1) n (ih n)
     go ih false n = at_switch set p q e j how g s pos pq l n m
 
--- one task's share, with both scales, by its level; u is the time before the mark, v the time after it
+-- what one task of this level asked for, with both parts of the scale; u is the time before the mark, v the
+-- time after it
 share : (l : Level) (p q d u v low high period : ℕ) →
     (is_high l ≡ false → d * (q * period) ≤ low * (q * u + p * v)) →
     (is_high l ≡ true → d * (p * period) ≤ low * (q * u) + high * (p * v)) →
@@ -152,14 +153,14 @@ share : (l : Level) (p q d u v low high period : ℕ) →
 share Low p q d u v low high period lo hi = let w : p * (d * (q * period)) ≤ p * (low * (q * u + p * v)) = mul-le-mul_left p (lo refl) in omega (arith, w)
 share High p q d u v low high period lo hi = let w : q * (d * (p * period)) ≤ q * (low * (q * u) + high * (p * v)) = mul-le-mul_left q (hi refl) in omega (arith, w)
 
--- one task's share
+-- what one task asked for, before and after the mark
 share_one : (p q d u v : ℕ) (t : Task) →
     (is_high t.level ≡ false → d * (q * t.period) ≤ t.low * (q * u + p * v)) →
     (is_high t.level ≡ true → d * (p * t.period) ≤ t.low * (q * u) + t.high * (p * v)) →
     d * (p * q) * t.period ≤ ((q * u) * (p * low_low t + q * high_low t) + (p * v) * (p * low_low t + q * high_high t)) * 1
 share_one p q d u v t lo hi = share t.level p q d u v t.low t.high t.period lo hi
 
--- what was asked for is at most the time before the mark and the time after it
+-- the tasks asked for at most the time before the mark and the time after it
 share_sum : (set : List Task) (p q e : ℕ) (h : List Row) (t a : ℕ) (d : ℕ → ℕ) → AllByRecursion IsTask set → Holds set (Virtual p q) → ((k : ℕ) → IsShare set p q e h t a k (d k)) → sum_numbered set d 1 ≤ (a - t) + (e - a)
 share_sum set p q e h t a d s holds each =
     let n = product set in
@@ -194,7 +195,7 @@ due_owing set p q e h (x ∷ xs) ok f = go (due_owing set p q e h xs ok.1) (nat_
         let f' = rw (le-leb _ _ l) at f in
         rw m (let i : 1 ≤ total (dues set p q e h) xs = ih f' in omega (arith, i))
 
--- the law in high mode
+-- the law of high mode: no pending job has a deadline of at most the ticks
 pub high_law : (set : List Task) (p q : ℕ) (h : List Row) → AllByRecursion IsTask set → Holds set (Virtual p q) → Legal set (Virtual p q) h → high_mode (Virtual p q) h ≡ true → none_below set (Virtual p q) true (q * ticks h + 1) (pending set h) ≡ true
 high_law set p q h s holds l m = go (none_below set (Virtual p q) true (q * ticks h + 1) (pending set h)) refl
   where

@@ -1,5 +1,5 @@
--- The laws on deadlines, for a set for which the rule holds and a trace that is legal under the rule. The newest row
--- stands first.
+-- The laws on deadlines, for a set for which the rule holds and a trace that is legal under the rule. The
+-- newest row stands first.
 use Rattle.std.specs.Prelude.{◌≡◌, ◌*◌, ◌<◌, false, List, []}
 use Rattle.std.specs.List.{AllByRecursion}
 use Rattle.mc_task.specs.declared.task.Task.{Task}
@@ -13,7 +13,8 @@ use Rattle.mc_model.specs.Late.{late}
 use Rattle.mc_model.specs.Holds.{Holds}
 use Rattle.mc_model.specs.declared.row.Row.{Row}
 
--- the law holds of every set for which the rule holds, with every trace of the set that is legal under the rule
+-- a law holds everywhere: of every set for which the rule holds, with every trace of the set that is legal
+-- under the rule
 abbrev pub Everywhere : Rule → (List Task → List Row → Type 0) → Type 0
 Everywhere rule Law =
     (set : List Task) (h : List Row) → AreTasks set → Holds set rule → Legal set rule h → Law set h

@@ -1,4 +1,4 @@
--- Traces with no overrun. The newest row stands first.
+-- Traces without an overrun. The newest row stands first.
 use Rattle.std.specs.Prelude.{◌≡◌, ◌≤◌, Bool, true, false, not, List}
 use Rattle.std.specs.List.{AllByRecursion, list_any}
 use Rattle.mc_task.specs.declared.task.Task.{Task}

@@ -14,7 +14,7 @@ pending_of k (i ∷ is) = cond (i.job.task.0 == k) 1 0 + pending_of k is
 abbrev pub AtMostOne : List Task → List Row → Type 0
 AtMostOne set h = (k : ℕ) → pending_of k (pending set h) ≤ 1
 
--- a task has no pending job where its next one may be released: before its first release, or once its period has passed
--- since the last
+-- a task has no pending job at a boundary where its next job may be released: before its first release, or
+-- once its period has passed since the last
 abbrev pub NoneAtRelease : List Task → List Row → Type 0
 NoneAtRelease set h = (k : ℕ) → next_release set h k ≤ ticks h → pending_of k (pending set h) ≡ 0

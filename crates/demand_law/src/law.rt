@@ -1,3 +1,4 @@
+//! The deadline laws, each a function whose contract is the law.
 ghost use Rattle.std.specs.Prelude.{◌≡◌, true, false, reverse};
 ghost use Rattle.mc_task.specs.declared.task.Rule.TheVariants.{Plain};
 ghost use Rattle.mc_model.specs.Holds.{Fits, Holds};
@@ -11,7 +12,7 @@ ghost use Rattle.demand_law.specs.NoOver.{NoOver, NoDrop, EndedInTime};
 use mc_model::Row;
 use mc_task::{Rule, TaskSet};
 
-/// Under plain EDF no job is late. It is the case of EDF-VD in which no deadline is scaled (Baruah et al., ECRTS 2012).
+/// Under plain EDF no job is late. Plain EDF is EDF-VD with no deadline scaled (Baruah et al., ECRTS 2012).
 pub fn plain_law(set: &TaskSet, rule: Rule, rows: &[Row])
     requires plain { rule ≡ Plain }
     requires fits { Fits rule }
@@ -23,8 +24,8 @@ pub fn plain_law(set: &TaskSet, rule: Rule, rows: &[Row])
     let _is_set = set.len();
 }
 
-/// Under EDF-VD no virtual deadline of a pending job has come in low mode, by the condition on the low budgets
-/// (Baruah et al., ECRTS 2012).
+/// Under EDF-VD in low mode, no virtual deadline of a pending job has come, by the condition on the low budgets (Baruah
+/// et al., ECRTS 2012).
 pub fn low_mode_law(set: &TaskSet, rule: Rule, rows: &[Row])
     requires scaled { is_virtual rule ≡ true }
     requires fits { Fits rule }
@@ -37,8 +38,8 @@ pub fn low_mode_law(set: &TaskSet, rule: Rule, rows: &[Row])
     let _is_set = set.len();
 }
 
-/// Under EDF-VD no job is late: in low mode, across an overrun, by the condition on the high budgets (Baruah et al.,
-/// ECRTS 2012), and after an idle tick has brought low mode back.
+/// Under EDF-VD no job is late: neither in low mode, nor after an overrun, by the condition on the high budgets (Baruah
+/// et al., ECRTS 2012), nor after an idle tick has brought low mode back.
 pub fn switch_law(set: &TaskSet, rule: Rule, rows: &[Row])
     requires scaled { is_virtual rule ≡ true }
     requires fits { Fits rule }
@@ -50,8 +51,8 @@ pub fn switch_law(set: &TaskSet, rule: Rule, rows: &[Row])
     let _is_set = set.len();
 }
 
-/// Each task has at most one pending job, and none where its next release may come, since each deadline is the
-/// earliest time of the next release.
+/// Each task has at most one pending job, and none at a boundary where its next release may come, since each deadline
+/// is the earliest time of the next release.
 pub fn one_live_law(set: &TaskSet, rule: Rule, rows: &[Row])
     requires fits { Fits rule }
     requires holds { Holds set.now.tasks rule }
@@ -64,7 +65,8 @@ pub fn one_live_law(set: &TaskSet, rule: Rule, rows: &[Row])
     let _is_set = set.len();
 }
 
-/// With no overrun no release is dropped, and each kept job whose deadline has come was ended by it, low jobs too.
+/// Without an overrun no release is dropped, and each kept job whose deadline has come had ended by then, jobs of low
+/// tasks too.
 pub fn no_over_law(set: &TaskSet, rule: Rule, rows: &[Row])
     requires fits { Fits rule }
     requires holds { Holds set.now.tasks rule }

@@ -24,11 +24,11 @@ unfolding lcm_from
 lcm_from-push m [] t = refl
 lcm_from-push m (u ∷ us) t = lcm_from-push (lcm m u.period) us t
 
--- the tests of the numbers one after the other
+-- the tests of a task's numbers, one after the other
 abbrev tested : Bool → Bool → Bool → ℕ → Result ℕ DemandCause
 tested a b c m = refuse_if a ZeroNumber >>= λ _. refuse_if b DeadlineOrder >>= λ _. refuse_if c Range >>= λ _. Ok m
 
--- a number that is tested is given only where each is false
+-- the tests give a number only if each of them is false
 given : (a b c : Bool) (m n : ℕ) → Ok n ≡ tested a b c m → (a ≡ false) × (b ≡ false) × (c ≡ false) × (n ≡ m)
 given false false false m n h = (refl, refl, refl, cc)
 given a b c m n h = absurd (cc)
@@ -36,15 +36,15 @@ given a b c m n h = absurd (cc)
 no_zero : (p d b : ℕ) → p ≢ 0 → d ≢ 0 → b ≢ 0 → ((p == 0 || d == 0) || b == 0) ≡ false
 no_zero p d b x y z = grind (arith, nat_tests)
 
--- numbers in order give the least common multiple with this period
+-- numbers in order give the hyperperiod with this period
 pub in_order : (before : List Demand) (t : Demand) → t.period ≢ 0 → t.deadline ≢ 0 → t.budget ≢ 0 → t.deadline ≤ t.period → hyperperiod (before ++ t ∷ []) ≤ most_lcm → multiple_with before t ≡ Ok (hyperperiod (before ++ t ∷ []))
 in_order before t p d b o r = rw (no_zero t.period t.deadline t.budget p d b, le-ltb t.period t.deadline o, le-ltb most_lcm (hyperperiod (before ++ t ∷ [])) r) refl
 
--- a least common multiple past the limit is refused
+-- a hyperperiod past the limit is refused
 pub out_of_range : (before : List Demand) (t : Demand) → t.period ≢ 0 → t.deadline ≢ 0 → t.budget ≢ 0 → t.deadline ≤ t.period → most_lcm < hyperperiod (before ++ t ∷ []) → multiple_with before t ≡ Err Range
 out_of_range before t p d b o r = rw (no_zero t.period t.deadline t.budget p d b, le-ltb t.period t.deadline o, lt-ltb most_lcm (hyperperiod (before ++ t ∷ [])) r) refl
 
--- what it says of a task that it is given for
+-- what the tests say of a task whose numbers they let pass
 order_of :
     (before : List Demand) (t : Demand) (multiple : ℕ) → Ok multiple ≡ multiple_with before t →
     (1 ≤ t.period) × (1 ≤ t.deadline) × (1 ≤ t.budget) × (t.deadline ≤ t.period) ×
@@ -53,7 +53,7 @@ order_of before t multiple e =
     let p = given ((t.period == 0 || t.deadline == 0) || t.budget == 0) (nat_lt t.period t.deadline) (nat_lt most_lcm (hyperperiod (before ++ t ∷ []))) (hyperperiod (before ++ t ∷ [])) multiple e in
     grind (arith, nat_tests)
 
--- what a name that is taken says
+-- what is known of a name that is taken
 pub record IsNew (before : List Demand) (name : List ℕ) : Type 0 where
   pub form : IsTrue (is_name name)
   pub new : has_name name before ≡ false
@@ -65,7 +65,7 @@ named before field name e = by (is_name field) (has_name field before) refl refl
     by true false f n h = let same : field ≡ name = cc in subst (IsNew before) same (record { form = f; new = n })
     by a b f n h = absurd (cc)
 
--- names of a list that differ, and one that none of them is
+-- different names, with one more that is none of them, are different
 distinct-push : (ns : List (List ℕ)) (n : List ℕ) → Distinct ns → Each (λ m. m ≢ n) ns → Distinct (ns ++ n ∷ [])
 distinct-push [] n d e = (tt, tt)
 distinct-push (m ∷ ms) n d e = (Each-append (λ x. m ≢ x) ms (n ∷ []) d.0 (e.0, tt), distinct-push ms n d.1 e.1)
@@ -76,7 +76,7 @@ other_names name (t ∷ ts) e =
     let p = or_parts (bytes_eq t.name name) (has_name name ts) e in
     ((λ same. false≢true (sym p.0 ∙ (bytes_eq-Decides t.name name).1 same)), other_names name ts p.1)
 
--- one more task
+-- the tasks so far with one more
 pub so_far-push : (before : List Demand) (t : Demand) (multiple next : ℕ) → IsSoFar before multiple → length before < 128 → IsNew before t.name → (t.period < 2 ^ 32) × (t.deadline < 2 ^ 32) × (t.budget < 2 ^ 32) →
     Ok next ≡ multiple_with before t → IsSoFar (before ++ t ∷ []) next
 so_far-push before t multiple next s few new small order =
@@ -95,6 +95,6 @@ pub so_far-none : IsSoFar [] 1
 unfolding lcm_from
 so_far-none = record { few = omega arith; each = tt; names = tt; value = refl; range = omega arith }
 
--- its least common multiple is above 0
+-- the hyperperiod of the tasks so far is above 0
 pub so_far-pos : (before : List Demand) (multiple : ℕ) → IsSoFar before multiple → 1 ≤ multiple
 so_far-pos before multiple s = let p : 1 ≤ hyperperiod before = lcm_from-pos 1 before (omega arith) s.each in let v = s.value in omega (arith, p, v)

@@ -21,7 +21,7 @@ use Rattle.demand_test.proofs.Tasks.{period_of, some_at, demand_at-in}
 use Rattle.demand_test.proofs.Membership.{in_list, contains_in, in_map, in_filter, each_map, each_of}
 use Rattle.demand_test.proofs.Played.{placed_more, tick_step, idle_step}
 
--- after a boundary at which no task releases
+-- the ticks after a boundary at which no task releases
 quiet : (set : List Demand) (b c : ℕ) (h : List EdfRow) (js : List Job) → b < c → ((k : ℕ) → IsIn set k → c ≤ releases h k * period_of set k) → Between set b 0 h js → Between set b (length set) h js
 quiet set b c h js l away w = record {
   run = w.run;
@@ -36,7 +36,7 @@ quiet set b c h js l away w = record {
   left = w.left;
 }
 
--- at a later boundary
+-- the rows at a later boundary
 pub later : (set : List Demand) (b c : ℕ) (h : List EdfRow) (js : List Job) → b ≤ c → ((k : ℕ) → IsIn set k → c ≤ releases h k * period_of set k) → Between set b 0 h js → OnTheWay set b c h js
 later set b c h js l away w = record {
   within = l;
@@ -60,7 +60,7 @@ idle_span set (suc n) b c h js none l w =
     let e : b + 1 + suc n ≡ b + suc (suc n) = omega arith in
     rw (replicate-between (suc n) Idle h, e) at rest
 
--- what is left of a job after one tick and n more
+-- the ticks left to a job after one tick and n more
 left_more : (m : Bool) (l n : ℕ) → cond m (cond m (l - 1) l - n) (cond m (l - 1) l) ≡ cond m (l - suc n) l
 left_more true l n = omega arith
 left_more false l n = refl
@@ -81,7 +81,7 @@ spent_more n id (p ∷ ps) =
       | inr none ↦ rw (none, gone (same_job id p.id) p.left n none) rest
     ]
 
--- the first job goes before the same ones after a tick
+-- the first job goes before the others after a tick of its own too
 first_spent : (set : List Demand) (js : List Job) (p : Job) → 2 ≤ p.left → IsFirst set js p → IsFirst set (spent 1 p.id js) (spent_one 1 p.id p)
 first_spent set js p two f =
     let some : has_ticks (spent_one 1 p.id p) ≡ true = still (same_job p.id p.id) p.left two in
@@ -103,7 +103,7 @@ left_enough false l n e = omega arith
 tick_on : (set : List Demand) (b c : ℕ) (h : List EdfRow) (js : List Job) (p : Job) → IsFirst set js p → b + 1 ≤ c → Awaits set b c h js → OnTheWay set (b + 1) c (Tick p.id false ∷ h) (spent 1 p.id js)
 tick_on set b c h js p f l w = later set (b + 1) c (Tick p.id false ∷ h) (spent 1 p.id js) l w.away (tick_step set b h js p f w.so)
 
--- one tick and n more
+-- one tick of the first job, and n more
 tick_then :
     (set : List Demand) (n b c : ℕ) (h : List EdfRow) (js : List Job) (id : JobId) →
     OnTheWay set (b + 1 + n) c (replicate n (Tick id false) ++ (Tick id false ∷ h)) (spent n id (spent 1 id js)) →
@@ -125,7 +125,7 @@ tick_span set (suc n) b c h js p f some l w =
     (left_enough (same_job p.id p.id) p.left n some) (omega (arith, l)) next in
     tick_then set (suc n) b c h js p.id rest
 
--- the same for a number that is above 0
+-- a positive number of idle ticks
 pub idle_ticks :
     (set : List Demand) (n b c : ℕ) (h : List EdfRow) (js : List Job) → js ≡ [] → 1 ≤ n → b + n ≤ c → Awaits set b c h js → OnTheWay set (b + n) c (replicate n Idle ++ h) js
 idle_ticks set zero b c h js none some l w = absurd (omega arith)
@@ -150,7 +150,7 @@ multiple_above b m p above =
     let g : (b / p + 1) * p ≤ m * p = mul-le-mul_right p (omega arith) in
     omega arith
 
--- what is so of each task is so of task number k
+-- what holds of each task holds of task number k
 each_number : (P : Demand → Type 0) (set : List Demand) (k : ℕ) → AllByRecursion P set → IsIn set k → (t : Demand) × ((demand_at set k ≡ Some t) × P t)
 each_number P set k h i =
     let t = some_at set (k - 1) (omega (arith, i)) in
@@ -178,6 +178,6 @@ away_from set b c h js each l w = record {
         let n = rw (le-leb k (length set) number.1) at (w.next k number) in
         rw p (let m : b + 1 ≤ releases h k * t.0.period = rw p at n.0 in omega (arith, multiple_above b (releases h k) t.0.period m, t.1.1))
 
--- n more rows of a kind
+-- n more equal rows at the end are the newest rows
 pub reversed-times : (rows : List EdfRow) (n : ℕ) (row : EdfRow) → reverse (rows ++ replicate n row) ≡ replicate n row ++ reverse rows
 reversed-times rows n row = reverse-append rows (replicate n row) ∙ ap (λ (r : List EdfRow). r ++ reverse rows) (reverse-copies n row)

@@ -1,4 +1,4 @@
--- There is one counterexample of each length.
+-- Each length has at most one counterexample.
 use Rattle.std.proofs.Common.{◌≡◌, ℕ, ◌+◌, ◌-◌, ◌*◌, ◌<◌, ◌≤◌, Bool, true, false, ◌&&◌, ◌||◌, List, [], ◌∷◌, cond, nat_le, length, inl, inr, refl, sym, ap, ap₂, ◌∙◌, subst, arith, le-leb, ne_eqb, eq-eqb, zero-add}
 use Rattle.std.proofs.Math.Nat.{lt_of_mul-lt-mul_right, eq_of_mul-eq-mul_right}
 use Rattle.std.proofs.lemmas.Bool.{cases_eq, cases_lt, lt-leb, or_parts}
@@ -32,14 +32,14 @@ record IsPart (set : List Demand) (b i : ℕ) (h : List EdfRow) : Type 0 where
   placed : Each (IsPlaced b i) (released h)
   next : (k : ℕ) → IsIn set k → IsNext set h (cond (nat_le k i) (b + 1) b) k
 
--- behind a tick no job is released at the boundary
+-- rows that have not come to boundary b have no release at b
 placed_before : (h : List EdfRow) (b : ℕ) → ticks h < b → Each (IsPlaced b 0) (released h)
 placed_before [] b l = tt
 placed_before (Release j ∷ g) b l = (omega arith, placed_before g b l)
 placed_before (Tick j last ∷ g) b l = placed_before g b (omega arith)
 placed_before (Idle ∷ g) b l = placed_before g b (omega arith)
 
--- where only tasks up to m are released at b, the next release of a later one comes less than a period after b
+-- if only tasks up to m are released at b, the next release of a later task comes less than a period after b
 next_soon :
     (set : List Demand) (h : List EdfRow) (k b m : ℕ) → 1 ≤ period_of set k → IsEdfSchedule set h → AtMultiples set h → m < k → Each (IsPlaced b m) (released h) →
     releases h k * period_of set k < b + period_of set k
@@ -55,7 +55,7 @@ next_soon set (Release j ∷ g) k b m pos r a l p =
       | inr ne ↦ rw (ne_eqb j.task.0 k ne) (omega arith)
     ]
 
--- a task that releases at b in one list is not missing there in another one
+-- a task that releases at b in one list of rows does so in the other
 not_missing :
     (set : List Demand) (b i : ℕ) (j : JobId) (g h : List EdfRow) (m : ℕ) → AllByRecursion IsDemand set → IsPart set b i (Release j ∷ g) → IsPart set b i h →
     m < j.task.0 → Each (IsPlaced b m) (released h) → ⊥
@@ -75,7 +75,7 @@ next_from : (turn : Bool) (b n : ℕ) → cond turn (b + 1) b ≤ n → b ≤ n
 next_from true b n l = omega arith
 next_from false b n l = l
 
--- the last release of a boundary stands behind those of the tasks before it
+-- a release at a boundary comes after those of the tasks before it
 before_release :
     (set : List Demand) (b i : ℕ) (j : JobId) (g : List EdfRow) → AllByRecursion IsDemand set → IsPart set b i (Release j ∷ g) → IsPart set b (j.task.0 - 1) g
 before_release set b i j g is w = record {
@@ -106,7 +106,7 @@ before_release set b i j g is w = record {
       | inr ne ↦ rw (ne_eqb j.task.0 k ne, zero-add) at (next_from (nat_le k i) b _ (w.next k number).0)
     ]
 
--- behind a tick all tasks had their turn
+-- before a tick all tasks had their turn
 before_tick :
     (set : List Demand) (b i : ℕ) (g : List EdfRow) → AllByRecursion IsDemand set → IsEdfSchedule set g → AtMultiples set g → InTaskOrder (released g) →
     ((j : JobId) → is_marked g j ≡ false) → LowestFirst set g → ticks g + 1 ≡ b → ((k : ℕ) → IsIn set k → IsNext set g (cond (nat_le k i) (b + 1) b) k) →
@@ -129,7 +129,7 @@ before_tick set b i g is run multiples order whole lowest t next = record {
     so_placed : Each (IsPlaced b 0) (released g)
     so_placed = placed_before g b (omega arith)
 
--- so it is behind each row with a tick
+-- before each row with a tick all tasks had their turn
 before_row :
     (set : List Demand) (b i : ℕ) (row : EdfRow) (g : List EdfRow) → AllByRecursion IsDemand set → ticks (row ∷ g) ≡ ticks g + 1 → IsPart set b i (row ∷ g) →
     IsPart set (ticks g) (length set) g
@@ -138,7 +138,7 @@ before_row set b i (Tick j last) g is e w =
     before_tick set b i g is w.run.1 w.multiples w.order (λ i. (or_parts (last && same_job j i) (is_marked g i) (w.whole i)).1) w.lowest.1 w.boundary w.next
 before_row set b i Idle g is e w = before_tick set b i g is w.run.1 w.multiples w.order w.whole w.lowest w.boundary w.next
 
--- jobs of one task with one release time are one
+-- jobs of one task with the same release time are the same
 job_same :
     (set : List Demand) (x y : Released) → 1 ≤ period_of set x.job.task.0 → IsAtMultiple set x → IsAtMultiple set y →
     x.job.task.0 ≡ y.job.task.0 → x.release ≡ y.release → x.job ≡ y.job
@@ -161,7 +161,7 @@ goes_first set g j run low a =
     Each-both {P = λ y. deadline set run.x ≤ deadline set y} {Q = λ y. deadline set y ≡ deadline set low.x → j.task.0 ≤ y.job.task.0}
     (λ y d t. record { earliest = omega arith; tie = λ e. let l = t e in omega arith }) (pending set g) run.first low.lowest
 
--- it is determined
+-- the job of a tick is determined
 same_tick :
     (set : List Demand) (g : List EdfRow) (j j' : JobId) → AllByRecursion IsDemand set → IsEdfSchedule set g → AtMultiples set g →
     MayRun set g j → IsLowest set g j → MayRun set g j' → IsLowest set g j' → j ≡ j'
@@ -177,11 +177,11 @@ same_tick set g j j' is r a run low run' low' =
     let number : IsIn set x.job.task.0 = of_pending (λ y. IsIn set y.job.task.0) set g x (released_tasks set g r) low.live in
     sym low.job ∙ job_same set x x' (known set x.job.task.0 is number).period at at' task (omega arith) ∙ low'.job
 
--- a tick that is not marked
+-- a tick that is not marked is not its job's last
 unmarked : (last same m : Bool) → same ≡ true → ((last && same) || m) ≡ false → last ≡ false
 unmarked last same m e h = grind arith
 
--- behind the same rows the next row is determined
+-- after the same rows the next row is determined
 same_row :
     (set : List Demand) (b i : ℕ) (row row' : EdfRow) (g : List EdfRow) → AllByRecursion IsDemand set → ticks (row ∷ g) ≡ ticks g + 1 → ticks (row' ∷ g) ≡ ticks g + 1 →
     IsPart set b i (row ∷ g) → IsPart set b i (row' ∷ g) → row ≡ row'
@@ -195,7 +195,7 @@ same_row set b i Idle (Tick j l) g is e e' w w' = absurd (subst (In w'.run.0.x) 
 same_row set b i Idle Idle g is e e' w w' = refl
 same_row set b i row row' g is e e' w w' = absurd (omega arith)
 
--- no release of the other list is of a later task than the last one of this list
+-- the other list has no release of a later task than the last one of this list
 top_most :
     (set : List Demand) (b i : ℕ) (j j' : JobId) (g g' : List EdfRow) → AllByRecursion IsDemand set → IsPart set b i (Release j ∷ g) → IsPart set b i (Release j' ∷ g') →
     j'.task.0 ≤ j.task.0
@@ -206,7 +206,7 @@ top_most set b i j j' g g' is w w' = elim (cases_lt j.task.0 j'.task.0) [
   | inr l ↦ l
 ]
 
--- two lists that have come as far are one
+-- two lists of rows that have come to the same boundary are the same
 unique : (set : List Demand) (h h' : List EdfRow) (b i : ℕ) → AllByRecursion IsDemand set → IsPart set b i h → IsPart set b i h' → h ≡ h'
 unique set (Release j ∷ g) (Release j' ∷ g') b i is w w' =
     let task : j.task.0 ≡ j'.task.0 = omega (arith, top_most set b i j j' g g' is w w', top_most set b i j' j g' g is w' w) in
@@ -245,6 +245,6 @@ part_of set n h is c = record {
     so_placed : Each (IsPlaced n 0) (released h)
     so_placed = Each-map {P = λ x. x.release < n} (λ x l. omega arith) (released h) c.below
 
--- there is one counterexample of each length
+-- each length has at most one counterexample
 pub one_counter : (set : List Demand) (n : ℕ) (h h' : List EdfRow) → AllByRecursion IsDemand set → IsCounter set n h → IsCounter set n h' → h ≡ h'
 one_counter set n h h' is c c' = unique set h h' n 0 is (part_of set n h is c) (part_of set n h' is c')

@@ -1,5 +1,5 @@
--- The counterexample for a set that is past: a run in which all tasks release at once, and then as often as they may.
--- The newest row stands first.
+-- The counterexample for a set that is past: a schedule in which all tasks release at once, and then as often
+-- as they may. The newest row stands first.
 use Rattle.std.specs.Prelude.{◌≡◌, ◌≢◌, ℕ, ◌+◌, ◌*◌, ◌<◌, ◌≤◌, false, List, [], ◌∷◌, Contains}
 use Rattle.std.specs.List.{AllByRecursion}
 use Rattle.mc_task.specs.declared.task.JobId.{JobId}
@@ -10,7 +10,7 @@ use Rattle.demand_test.specs.DemandSet.{IsIn, demand_at, period_in}
 use Rattle.demand_test.specs.Runs.{ticks, Released, released, releases, is_marked, pending, deadline, late}
 use Rattle.demand_test.specs.EdfRuns.{IsEdfSchedule}
 
--- each job is released at a multiple of its task's period: the first at 0, and the c-th c - 1 periods later
+-- each job is released at a multiple of its task's period: the first at 0, the c-th c - 1 periods later
 abbrev pub AtMultiples : List Demand → List EdfRow → Type 0
 AtMultiples set h = AllByRecursion
     (λ x. x.release + period_in (demand_at set x.job.task.0) ≡ x.job.count * period_in (demand_at set x.job.task.0))
@@ -29,15 +29,15 @@ pub record IsLowest (set : List Demand) (g : List EdfRow) (j : JobId) : Type 0 w
   pub live : Contains (pending set g) x
   pub lowest : AllByRecursion (λ y. deadline set y ≡ deadline set x → j.task.0 ≤ y.job.task.0) (pending set g)
 
--- of equal deadlines each tick takes the lowest task number
+-- each tick goes to the lowest task number among the jobs with the earliest deadline
 abbrev pub LowestFirst : List Demand → List EdfRow → Type 0
 LowestFirst set [] = Unit {0}
 LowestFirst set (Release j ∷ g) = LowestFirst set g
 LowestFirst set (Tick j last ∷ g) = IsLowest set g j × LowestFirst set g
 LowestFirst set (Idle ∷ g) = LowestFirst set g
 
--- the schedule of n ticks in which each task releases at every multiple of its period below n, every job uses its whole
--- budget, and ties go to the lowest task number
+-- the schedule of n ticks in which each task releases at every multiple of its period below n, every job uses
+-- its whole budget, and ties go to the lowest task number
 pub record IsCounter (set : List Demand) (n : ℕ) (h : List EdfRow) : Type 0 where
   pub run : IsEdfSchedule set h
   pub ticks : ticks h ≡ n
@@ -51,7 +51,7 @@ pub record IsCounter (set : List Demand) (n : ℕ) (h : List EdfRow) : Type 0 wh
   pub whole : (i : JobId) → is_marked h i ≡ false
   pub lowest : LowestFirst set h
 
--- law: there is one such list
+-- law: there is exactly one such schedule
 abbrev pub OneCounter : List Demand → ℕ → Type 0
 OneCounter set n = (h g : List EdfRow) → IsCounter set n h → IsCounter set n g → h ≡ g
 

@@ -1,4 +1,4 @@
--- What a demand file says: its tasks, or its first refusal.
+-- The tasks that a demand file says, or its first refusal.
 use Rattle.std.specs.Prelude.{ℕ, Bool, false, not, ◌||◌, ◌==◌, nat_le, nat_lt, if◌then◌else◌, List, [], ◌∷◌, ◌++◌, codes, length, Option, Some, None, Result, Ok, Err}
 use lib.Pointwise.{pointwise}
 use Rattle.std.specs.Str.{bytes_eq}
@@ -19,7 +19,7 @@ abbrev pub is_header : List (List ℕ) → Bool
 is_header fields =
     pointwise bytes_eq fields (codes "task" ∷ codes "period" ∷ codes "deadline" ∷ codes "budget" ∷ [])
 
--- one of the tasks has the name
+-- whether one of the tasks has the name
 abbrev pub has_name : List ℕ → List Demand → Bool
 has_name name [] = false
 has_name name (t ∷ ts) = bytes_eq t.name name || has_name name ts
@@ -39,7 +39,7 @@ numbered_task name fields = do
   budget ← or_refuse BadNumber (number (field fields 3))
   Ok (record { name = name; period = period; deadline = deadline; budget = budget })
 
--- the hyperperiod with this task's period, where its numbers may stand after the tasks before it
+-- the hyperperiod with this task's period, if its numbers may stand after the tasks before it
 abbrev pub multiple_with : List Demand → Demand → Result ℕ DemandCause
 multiple_with before t = do
   _ ← refuse_if ((t.period == 0 || t.deadline == 0) || t.budget == 0) ZeroNumber
@@ -61,7 +61,7 @@ record_task before fields = do
 abbrev pub behind_header : List (List ℕ) → Option (Means Demand DemandCause)
 behind_header fields = if is_header fields then Some record_task else None
 
--- these tasks, of which there is one at least
+-- these tasks, of which there must be at least one
 abbrev pub some_tasks : List Demand → Result (List Demand) (Fault DemandCause)
 some_tasks [] = Err (At 1 Empty)
 some_tasks (t ∷ ts) = Ok (t ∷ ts)

@@ -1,5 +1,5 @@
--- What is kept while the counterexample is played: the rows so far, the newest first, and the pending jobs, the oldest
--- first.
+-- The rows of the counterexample so far, newest first, and the pending jobs, oldest first, while it is
+-- played.
 use Rattle.std.specs.Prelude.{◌≡◌, ℕ, ◌+◌, ◌-◌, ◌*◌, ◌<◌, ◌≤◌, Bool, false, List, [], ◌∷◌, length, Option, Some, None, if◌then◌else◌, cond, nat_le, nat_lt, map, filter, reverse, Contains, ◌⊎◌}
 use Rattle.std.specs.List.{AllByRecursion}
 use Rattle.mc_task.specs.declared.task.JobId.{JobId}
@@ -12,27 +12,27 @@ use Rattle.demand_test.specs.Runs.{ticks, Released, released, releases, used, is
 use Rattle.demand_test.specs.EdfRuns.{IsEdfSchedule}
 use Rattle.demand_test.specs.Counter.{AtMultiples, InTaskOrder, LowestFirst}
 
--- a pending job as the released one
+-- a pending job, as a released one
 abbrev pub as_released : Job → Released
 as_released p = record { job = p.id; release = p.release }
 
--- x has an earlier deadline than y, or an equal one and no higher task number
+-- x has an earlier deadline than y, or the same deadline and no higher task number
 pub record GoesFirst (set : List Demand) (x y : Released) : Type 0 where
   pub earliest : deadline set x ≤ deadline set y
   pub tie : deadline set y ≡ deadline set x → x.job.task.0 ≤ y.job.task.0
 
--- the first of two jobs
+-- the first of two jobs: it is one of them, and goes before both
 pub record IsFirstOf (set : List Demand) (p q : Job) (first : Job) : Type 0 where
   pub one : (first ≡ p) ⊎ (first ≡ q)
   pub before_p : GoesFirst set (as_released first) (as_released p)
   pub before_q : GoesFirst set (as_released first) (as_released q)
 
--- the first of all jobs
+-- the first of all jobs: it is one of them, and goes before each
 pub record IsFirst (set : List Demand) (js : List Job) (job : Job) : Type 0 where
   pub one : Contains js job
   pub first : AllByRecursion (λ p. GoesFirst set (as_released job) (as_released p)) js
 
--- a job after n ticks that were given to the one with this name
+-- a job after n ticks that went to the job with this name
 abbrev pub spent_one : ℕ → JobId → Job → Job
 spent_one n id p =
     record { id = p.id; release = p.release; left = cond (same_job id p.id) (p.left - n) p.left }
@@ -41,7 +41,7 @@ spent_one n id p =
 abbrev pub has_ticks : Job → Bool
 has_ticks p = nat_lt 0 p.left
 
--- the jobs after n ticks of the one with this name, without those that are done
+-- the jobs after n ticks of the job with this name, without those that are done
 abbrev pub spent : ℕ → JobId → List Job → List Job
 spent n id js = filter has_ticks (map (spent_one n id) js)
 
@@ -54,7 +54,7 @@ first_due set n (p ∷ ps) = if nat_le (deadline set (as_released p)) n then Som
 abbrev pub IsFirstFrom : ℕ → ℕ → ℕ → Type 0
 IsFirstFrom c n p = (c ≤ n) × (n < c + p)
 
--- the rows have come to boundary b, where the first i tasks had their turn to release
+-- the rows have come to boundary b, at which the first i tasks had their turn to release
 pub record Between (set : List Demand) (b i : ℕ) (h : List EdfRow) (js : List Job) : Type 0 where
   pub run : IsEdfSchedule set h
   pub boundary : ticks h ≡ b
@@ -75,8 +75,8 @@ pub record Awaits (set : List Demand) (b c : ℕ) (h : List EdfRow) (js : List J
   pub so : Between set b (length set) h js
   pub away : (k : ℕ) → IsIn set k → c ≤ releases h k * period_in (demand_at set k)
 
--- no task releases from boundary b to boundary c: before c the rows end after the releases of b, and at c before the
--- releases of c
+-- no task releases from boundary b to boundary c: before c the rows end after the releases of b, and at c
+-- before the releases of c
 pub record OnTheWay (set : List Demand) (b c : ℕ) (h : List EdfRow) (js : List Job) : Type 0 where
   pub within : b ≤ c
   pub before : b < c → Awaits set b c h js

@@ -1,4 +1,4 @@
--- A list of rows under plain EDF, THE NEWEST ROW FIRST: in `row ∷ g`, g is the part before the row.
+-- Rows under plain EDF, THE NEWEST ROW FIRST: in `row ∷ g`, g is the part before the row.
 use Rattle.std.specs.Prelude.{ℕ, ◌+◌, Bool, false, not, ◌&&◌, ◌||◌, List, [], ◌∷◌, cond, filter, nat_le, nat_lt, ◌==◌, map, reverse}
 use Rattle.mc_task.specs.declared.task.JobId.{JobId}
 use Rattle.mc_model.specs.Rows.{same_job}
@@ -8,7 +8,7 @@ use Rattle.demand_test.specs.declared.row.EdfRow.{EdfRow}
 use Rattle.demand_test.specs.declared.row.EdfRow.TheVariants.{Release, Tick, Idle}
 use Rattle.demand_test.specs.DemandSet.{demand_at, deadline_in, budget_in}
 
--- the number of Tick and Idle rows; before a row, the boundary at which it stands
+-- how many Tick and Idle rows there are: the boundary at which the next row stands
 abbrev pub ticks : List EdfRow → ℕ
 ticks [] = 0
 ticks (Release j ∷ g) = ticks g
@@ -20,14 +20,14 @@ pub record Released : Type 0 where
   pub job : JobId
   pub release : ℕ
 
--- the released jobs, the newest first
+-- the released jobs, newest first
 abbrev pub released : List EdfRow → List Released
 released [] = []
 released (Release j ∷ g) = record { job = j; release = ticks g } ∷ released g
 released (Tick j last ∷ g) = released g
 released (Idle ∷ g) = released g
 
--- how many of them are of task number k
+-- how many released jobs are of task number k
 abbrev pub releases : List EdfRow → ℕ → ℕ
 releases h k = total (λ x. cond (x.job.task.0 == k) 1 0) (released h)
 
@@ -38,14 +38,14 @@ used (Release j ∷ g) i = used g i
 used (Tick j last ∷ g) i = cond (same_job j i) 1 0 + used g i
 used (Idle ∷ g) i = used g i
 
--- a tick of the job is marked as its last
+-- whether a tick of the job is marked as its last
 abbrev pub is_marked : List EdfRow → JobId → Bool
 is_marked [] i = false
 is_marked (Release j ∷ g) i = is_marked g i
 is_marked (Tick j last ∷ g) i = (last && same_job j i) || is_marked g i
 is_marked (Idle ∷ g) i = is_marked g i
 
--- the job has not ended: no tick of it is marked as its last, and it had fewer ticks than its budget
+-- whether the job has not ended: no tick of it is marked as its last, and it had fewer ticks than its budget
 abbrev pub is_live : List Demand → List EdfRow → Released → Bool
 is_live set h x = not (is_marked h x.job) && nat_lt (used h x.job) (budget_in (demand_at set x.job.task.0))
 
@@ -62,7 +62,7 @@ abbrev pub up_to : ℕ → List EdfRow → List EdfRow
 up_to d [] = []
 up_to d (row ∷ g) = cond (nat_le (ticks (row ∷ g)) d) (row ∷ g) (up_to d g)
 
--- a released job is late: its deadline has come, and in the rows up to it the job has not ended
+-- whether a released job is late: its deadline has come, and in the rows up to it the job has not ended
 abbrev pub is_late : List Demand → List EdfRow → Released → Bool
 is_late set h x = nat_le (deadline set x) (ticks h) && is_live set (up_to (deadline set x) h) x
 

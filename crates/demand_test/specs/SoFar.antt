@@ -1,11 +1,11 @@
--- What is known of the tasks of a demand file that are read so far.
+-- What holds of the tasks of a demand file that are read so far.
 use Rattle.std.specs.Prelude.{◌≡◌, ◌≤◌, ℕ, List, length}
 use Rattle.std.specs.List.{AllByRecursion}
 use Rattle.mc_task.specs.TaskSet.{Distinct}
 use Rattle.demand_test.specs.declared.demand.Demand.{Demand}
 use Rattle.demand_test.specs.DemandSet.{IsDemand, names_of, hyperperiod, most_lcm}
 
--- a set, or none, of which this is the least common multiple of the periods
+-- the tasks are a set, or there are none, and this is their hyperperiod
 pub record IsSoFar (tasks : List Demand) (multiple : ℕ) : Type 0 where
   pub few : length tasks ≤ 128
   pub each : AllByRecursion IsDemand tasks

@@ -1,3 +1,4 @@
+//! Counterexamples for sets that are past.
 ghost use Rattle.std.specs.Prelude.{◌≡◌, IfOk};
 ghost use Rattle.demand_test.specs.DemandSet.{hyperperiod};
 ghost use Rattle.demand_test.specs.DemandBound.{IsPast};
@@ -11,9 +12,9 @@ use crate::play::{Job, deadline, played};
 use mc_task::{JobId, Memory};
 use std::alloc::Global;
 
-/// A counterexample for a set that is past at `length`: the text of a run of that many ticks under plain EDF in which a
-/// job is late. In it each task releases at every multiple of its period, each job uses its whole budget, and ties go to
-/// the lowest task number.
+/// A counterexample for a set that is past at `length`: the text of a schedule of that many ticks under plain EDF in
+/// which a job is late. Each task releases at every multiple of its period, each job uses its whole budget, and ties go
+/// to the lowest task number. Fails with `Memory` if an allocation fails.
 #[tactic(auto, using(crate::proofs::Unique::one_counter))]
 pub fn counter(alloc: Global, set: &DemandSet, length: u64) -> Result<Vec<u8>, Memory>
     requires past { IsPast set.now (hyperperiod set.now) length }
@@ -29,7 +30,7 @@ pub fn counter(alloc: Global, set: &DemandSet, length: u64) -> Result<Vec<u8>, M
     Ok(out)
 }
 
-// The first of the jobs whose deadline has come.
+// The first of the jobs whose deadline has come, if any.
 fn first_due(set: &DemandSet, ticks: u32, jobs: &[Job]) -> Option<JobId>
     ensures { result ≡ first_due set.now ticks jobs.now }
 {

@@ -1,4 +1,4 @@
-// The lines of a run.
+//! The lines of a counterexample.
 ghost use Rattle.std.specs.Prelude.{◌≡◌, ◌+◌, ◌<◌, ◌++◌, ◌∷◌, [], ◌^◌, OnOk, reverse};
 ghost use Rattle.demand_test.specs.DemandSet.{demand_at};
 ghost use Rattle.demand_test.specs.Runs.{ticks};
@@ -21,7 +21,7 @@ pub fn push_rows(out: &mut Vec<u8>, set: &DemandSet, rows: &[EdfRow]) -> Result<
     Ok(())
 }
 
-// The tick of the row after this one.
+// The number of the tick after this row.
 fn tick_after(tick: u64, row: EdfRow) -> u64
     requires { tick + 1 < 2 ^ 64 }
     ensures { result ≡ tick + ticks (row ∷ []) }
@@ -73,7 +73,7 @@ pub fn push_late(out: &mut Vec<u8>, set: &DemandSet, late: Option<JobId>) -> Res
     Ok(())
 }
 
-// A space, the name of the job's task, a space, and its count.
+// Adds a space, the name of the job's task, a space, and the job's number.
 fn push_job(out: &mut Vec<u8>, set: &DemandSet, job: JobId) -> Result<(), AllocError>
     ensures { OnOk result (out.new.items ≡ out.old.items ++ job_text set.now job) }
 {

@@ -1,3 +1,4 @@
+//! Demand files, read.
 ghost use Rattle.std.specs.Prelude.{IfOk};
 ghost use Rattle.csv_records.specs.Gives.{Gives};
 ghost use Rattle.demand_test.specs.DemandFile.{demands_in, some_tasks};
@@ -10,12 +11,12 @@ use csv::ByteRecord;
 use csv_records::{Meaning, read_rows};
 use std::alloc::Global;
 
-/// Reads a demand file: records of four fields, the first of them the header `task,period,deadline,budget`, each other
-/// one a task's name, its period, its deadline and its budget in ticks. Records are as csv's reader gives them, with
-/// commas and double quotes.
+/// Reads a demand file: records of four fields. The first is the header `task,period,deadline,budget`; each other
+/// record has a task's name, its period, its deadline and its budget, in ticks. Records are as csv's reader returns
+/// them, with commas and double quotes.
 ///
-/// An error but `Memory`, which may come at any point, is the file's first refusal: `Header` or `Empty` at line 1, and
-/// then for each record in turn `TooMany`, the 129th task; `BadRecord`; `BadName`; `SameName`; `BadNumber`;
+/// `Memory` may be returned at any point. Any other error is the file's first refusal: `Header` or `Empty` at line 1,
+/// and then for each record in turn `TooMany`, the 129th task; `BadRecord`; `BadName`; `SameName`; `BadNumber`;
 /// `ZeroNumber`; `DeadlineOrder`; `Range`.
 pub fn read_demands(alloc: Global, bytes: &[u8]) -> Result<DemandSet, DemandFault>
     ensures file { Gives (λ set. set) result (demands_in bytes.now) }
@@ -25,7 +26,7 @@ pub fn read_demands(alloc: Global, bytes: &[u8]) -> Result<DemandSet, DemandFaul
     set_of(tasks, multiple)
 }
 
-// The set of these tasks, of whose periods this is the least common multiple.
+// The set of these tasks, which have this hyperperiod; at least one task is needed.
 fn set_of(tasks: Vec<Demand>, multiple: u32) -> Result<DemandSet, DemandFault>
     requires { IsSoFar tasks.items multiple }
     ensures file { Gives (λ set. set) result (some_tasks tasks.items) }
@@ -40,7 +41,7 @@ fn set_of(tasks: Vec<Demand>, multiple: u32) -> Result<DemandSet, DemandFault>
     Ok(DemandSet::from_tasks(tasks, multiple))
 }
 
-// The records of a demand file. Of the tasks the least common multiple of their periods is kept.
+// What the records of a demand file mean. The reader keeps the hyperperiod of the tasks so far.
 #[derive(Drop)]
 struct DemandRecords;
 

@@ -1,4 +1,4 @@
-// A record as a task.
+//! A record of a demand file as a task.
 ghost use Rattle.std.specs.Prelude.{◌≡◌, ◌<◌, ◌≤◌, ◌^◌, ◌++◌, ◌∷◌, [], IfOk, OnOk, length};
 ghost use Rattle.csv.specs.Records.{fields_of};
 ghost use Rattle.demand_test.specs.DemandSet.{hyperperiod};
@@ -23,8 +23,8 @@ pub fn is_header(fields: &ByteRecord) -> bool
                 && (is(field(fields, 2), "deadline") && is(field(fields, 3), "budget"))))
 }
 
-// The task of a record after these tasks, of whose periods this is the least common multiple. From then on it is one of
-// them.
+// The task of a record after these tasks, which have this hyperperiod; or why it is refused. A task returned counts as
+// one of the tasks from then on.
 #[tactic(auto, unfolding(crate::specs::DemandFile::record_task))]
 pub fn record_task(
     before: &[Demand],
@@ -49,7 +49,7 @@ pub fn record_task(
     Ok(task)
 }
 
-// The name in a field, which no task before has.
+// The name in a field, if no earlier task has it; or why it is refused.
 fn name_of(before: &[Demand], field: &[u8]) -> Result<Name, DemandCause>
     ensures { result ≡ file.name_of before.now field.now }
 {
@@ -96,7 +96,7 @@ fn numbered_task(name: Name, fields: &ByteRecord) -> Result<Demand, DemandCause>
     })
 }
 
-// The least common multiple of the periods with this task's, where its numbers may stand after theirs.
+// The hyperperiod with this task's period, if the task's numbers are in order; or why it is refused.
 fn multiple_with(before: &[Demand], multiple: u32, task: &Demand) -> Result<u32, DemandCause>
     requires multiple { multiple ≡ hyperperiod before.now }
     requires some { 1 ≤ multiple }
@@ -114,5 +114,5 @@ fn multiple_with(before: &[Demand], multiple: u32, task: &Demand) -> Result<u32,
     }
 }
 
-// The greatest least common multiple of periods that is within range.
+// The greatest hyperperiod that is within range, in ticks.
 const MOST_LCM: u64 = 500_000;

@@ -1,8 +1,1 @@
 pub mod Outcomes
-pub mod Cases
-pub mod Promised
-pub mod Scheduled
-pub mod Found
-pub mod Spread
-pub mod Tested
-pub mod Headlines

@@ -1,24 +1,25 @@
 -- What a call answers, from its reply and what became of it.
-use Rattle.std.proofs.Common.{◌≡◌, ◌⊎◌, inl, inr, ℕ, List, Option, Some, IfSome}
+use Rattle.std.proofs.Common.{◌≡◌, ◌⊎◌, inl, inr, ℕ, List, Option, Some, IfSome, sym, subst}
 use Rattle.mc_world.specs.Count.{Rose}
 use Rattle.mc_world.specs.Shelf.{Files, ShelfState}
 use Rattle.mc_world.specs.Sink.{SinkState}
 use Rattle.replies.specs.Reply.{Reply}
 use Rattle.command_line.specs.declared.form.Form.{Form}
-use Rattle.command_line.specs.Form.{IsInRange, command}
+use Rattle.command_line.specs.Form.{IsInRange, HasFewTicks, command}
 use Rattle.serving.specs.Written.{IsWritten, IsCutShort}
 use Rattle.serving.specs.Outcome.{Tells}
 use Rattle.serving.proofs.Outcomes.{is_answer, tells_no_fault}
 use Rattle.serving.proofs.Written.{wrote_whole, one_more-rose}
-use Rattle.edfvd_program.specs.Outcome.{IsReply, Answers, CalmOutcome}
-use Rattle.edfvd_program.proofs.Promised.{Promises}
-use Rattle.edfvd_program.proofs.Headlines.{promises}
+use Rattle.promises.specs.Reply.{IsReply}
+use Rattle.edfvd_program.specs.Outcome.{WritesAnswer, CalmOutcome}
+use Rattle.promises.specs.Promises.{Promises}
+use Rattle.promises.proofs.Headlines.{of_reply, gave_up}
 
 -- with the files told and no fault the reply is the answer, and where it was written whole, that is what was written
 pub answers : {form : Option Form} {before after : ShelfState} {sink_before sink_after : SinkState} {reply : Reply} {ended : ℕ} → IsReply form before after reply
     → IsWritten reply ended sink_before sink_after ⊎ IsCutShort reply ended sink_before sink_after
     → (files : Files) (old : List ℕ) → Tells files before after → sink_before.written ≡ Some old → (Rose sink_before.faults sink_after.faults → ⊥)
-    → Answers form files old ended sink_after.written
+    → WritesAnswer form files old ended sink_after.written
 answers {form} {before} {after} {sink_before} {sink_after} {reply} r written files old tells told calm =
     elim written [
       | inl w ↦
@@ -26,14 +27,25 @@ answers {form} {before} {after} {sink_before} {sink_after} {reply} r written fil
       | inr cut ↦ absurd (calm (one_more-rose sink_before.faults sink_after.faults cut.once))
     ]
 
+-- the promises hold of what a call leaves behind, whether it wrote an answer or ran out of memory
+promises : (form : Option Form) → IfSome form IsInRange → IfSome form HasFewTicks → (files : Files) (old : List ℕ) (ended : ℕ) (new : Option (List ℕ)) → WritesAnswer form files old ended new
+    → Promises form files old ended new
+promises form range short files old ended new h =
+    elim h [
+      | inl none ↦ subst (λ n. Promises form files old n new) (sym none.0) (gave_up form files old new)
+      | inr r ↦
+          subst (λ n. Promises form files old n new) (sym r.2)
+          (subst (λ o. Promises form files old r.0.status o) (sym r.3) (of_reply form range short files old r.0 r.1))
+    ]
+
 -- so all that the program promises is so
-pub kept : {form : Option Form} {before after : ShelfState} {sink_before sink_after : SinkState} {reply : Reply} {ended : ℕ} → IfSome form IsInRange
+pub kept : {form : Option Form} {before after : ShelfState} {sink_before sink_after : SinkState} {reply : Reply} {ended : ℕ} → IfSome form IsInRange → IfSome form HasFewTicks
     → IsReply form before after reply
     → IsWritten reply ended sink_before sink_after ⊎ IsCutShort reply ended sink_before sink_after
     → (files : Files) (old : List ℕ) → Tells files before after → sink_before.written ≡ Some old → (Rose sink_before.faults sink_after.faults → ⊥)
     → Promises form files old ended sink_after.written
-kept {form} {sink_after} {ended} range r written files old tells told calm =
-    promises form range files old ended sink_after.written (answers r written files old tells told calm)
+kept {form} {sink_after} {ended} range short r written files old tells told calm =
+    promises form range short files old ended sink_after.written (answers r written files old tells told calm)
 
 pub calm_outcome : {form : Option Form} {before after : ShelfState} {sink_before sink_after : SinkState} {reply : Reply} {ended : ℕ} → IsReply form before after reply
     → IsWritten reply ended sink_before sink_after ⊎ IsCutShort reply ended sink_before sink_after

@@ -1,5 +1,1 @@
 pub mod Outcome
-pub mod Headline
-pub mod Complete
-pub mod Told
-pub mod Tested

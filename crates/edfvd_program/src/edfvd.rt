@@ -1,13 +1,14 @@
-// The top call.
+//! The top call.
 ghost use Rattle.std.specs.Prelude.{◌≡◌, ◌≢◌, ◌<◌, IfOk, OnOk, IfSome};
 ghost use Rattle.mc_world.specs.Count.{Rose};
 ghost use Rattle.serving.specs.Outcome.{AskedInOrder};
-ghost use Rattle.command_line.specs.Form.{form_in, command, IsInRange};
-ghost use Rattle.edfvd_program.specs.Headline.{Headline};
-ghost use Rattle.edfvd_program.specs.Told.{Told};
-ghost use Rattle.edfvd_program.specs.Complete.{Complete};
-ghost use Rattle.edfvd_program.specs.Tested.{Tested};
-ghost use Rattle.edfvd_program.specs.Outcome.{IsReply, Outcome, CalmOutcome, Answers, WhereReported};
+ghost use Rattle.command_line.specs.Form.{form_in, command, IsInRange, HasFewTicks};
+ghost use Rattle.promises.specs.Headline.{Headline};
+ghost use Rattle.promises.specs.Told.{Told};
+ghost use Rattle.promises.specs.Complete.{Complete};
+ghost use Rattle.promises.specs.Tested.{Tested};
+ghost use Rattle.promises.specs.Reply.{IsReply};
+ghost use Rattle.edfvd_program.specs.Outcome.{Outcome, CalmOutcome, WritesAnswer, WhereReported};
 
 use command_line::{form_of, usage_line};
 use executive::Gate;
@@ -34,7 +35,7 @@ pub fn edfvd<R: Threads + Wait + Sync, S: Shelf, K: Sink, G: Gate + Sync>(
 
     // The next five hold where the shelf reports its files, the sink its bytes, and neither fails. The status and the text are
     // the answer, or memory ran out and nothing was written.
-    ensures answer { WhereReported (Answers (form_in words.now)) (S.state shelf.old) (S.state shelf.new) (K.state out.old) (K.state out.new) result }
+    ensures answer { WhereReported (WritesAnswer (form_in words.now)) (S.state shelf.old) (S.state shelf.new) (K.state out.old) (K.state out.new) result }
 
     // A set is scheduled exactly where the published test holds, and each trace written or found legal keeps the deadlines.
     ensures headline { WhereReported (Headline (form_in words.now)) (S.state shelf.old) (S.state shelf.new) (K.state out.old) (K.state out.new) result }
@@ -81,6 +82,7 @@ fn reply_to<R: Threads + Wait + Sync, S: Shelf, G: Gate + Sync>(
     ensures wanted { OnOk result ((S.state shelf.new).wanted ≡ (S.state shelf.old).wanted) }
     ensures asked { AskedInOrder (command (form_in words.now)) (S.state shelf.old) (S.state shelf.new) }
     ensures range { IfSome (form_in words.now) IsInRange }
+    ensures ticks { IfSome (form_in words.now) HasFewTicks }
 {
     let Some(form) = form_of(words) else {
         return Ok(Reply::new(2, usage_line(alloc)?));

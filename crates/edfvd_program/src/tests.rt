@@ -10,6 +10,7 @@ macro_rules! traced {
     };
 }
 
+mod alone;
 mod at_size;
 mod chart;
 mod check;

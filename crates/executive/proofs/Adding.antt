@@ -22,7 +22,7 @@ use Rattle.executive.proofs.Histories.{opening_after, after_more, legal_more, ou
 use Rattle.mc_model.proofs.Sums.{total-append}
 use Rattle.executive.proofs.Counting.{IsEmpty, few}
 
--- the state after one entry more stands for one more
+-- after one more entry the state stands for the history with it
 pub stands_more : (x : State) (o : FloorState) (log : List Entry) (e : Entry) → opening_of o ≡ o → IsLegal o log → x.called.floor ≡ after_call (after o log) e.task.0 e.call
     → IsLegalEntry (after o log) e → x.called.last ≡ e → IsKept x.called.floor → HasShown (shows o (log ++ e ∷ [])) x.writer → Stands (log ++ x.called.last ∷ []) x
 stands_more x o log e opens legal next one last kept shown =
@@ -35,7 +35,8 @@ stands_more x o log e opens legal next one last kept shown =
       shown = subst (λ (g : FloorState). HasShown (shows g (log ++ e ∷ [])) x.writer) (sym same) shown;
     })
 
--- what a turn of task number k finds: the history before it, in which the calls of the task are those that its seat made
+-- what a turn of task number k finds: the history before it, in which the task's calls are those that its
+-- seat made
 pub record Found (o : FloorState) (k : ℕ) (before : List Entry) (old : Lists) : Type 0 where
   pub opens : old.opening ≡ o
   pub begins : StartsWith before old.seen
@@ -43,17 +44,17 @@ pub record Found (o : FloorState) (k : ℕ) (before : List Entry) (old : Lists) 
   pub whole : old.mine ≡ calls_of k old.seen
   pub still : old.mine ≡ calls_of k before
 
--- whether its tick is out is still as it saw it
+-- the job of the granted tick of the task is still the one that its seat saw
 stays : (o : FloorState) (k : ℕ) (before : List Entry) (old : Lists) → Found o k before old → running (after o before).core.out k ≡ job_out k old
 stays o k before old t =
     still_out k o old.seen before t.begins t.legal (sym t.whole ∙ t.still) ∙ ap (λ (f : FloorState). running (after f old.seen).core.out k) (sym t.opens)
 
--- what it might call before it may call now
+-- a call that the task was allowed to make before is allowed now
 pub may_there : (o : FloorState) (k : ℕ) (c : Call) (before : List Entry) (old : Lists)
     → Found o k before old → MayCall (floor_seen old) k c → MayCall (after o before) k c
 may_there o k c before old t may = may_still (floor_seen old) (after o before) k c (stays o k before old t) may
 
--- and what it leaves
+-- what a turn leaves: the history with one more entry, and the floor after it
 pub record Turned (o : FloorState) (e : Entry) (before : List Entry) (old new : Lists) : Type 0 where
   pub found : Found o e.task.0 before old
   pub opened : new.opening ≡ o
@@ -62,7 +63,7 @@ pub record Turned (o : FloorState) (e : Entry) (before : List Entry) (old new : 
   pub one : IsLegalEntry (after o before) e
   pub kept : IsKept (after_call (after o before) e.task.0 e.call)
 
--- that is all that its contract says
+-- a turn leaves what the contract of a call says
 pub adds : (o : FloorState) (e : Entry) (before : List Entry) (old new : Lists) → Turned o e before old new → Adds e old new
 adds o e before old new t =
     let k : ℕ = e.task.0 in
@@ -85,7 +86,7 @@ adds o e before old new t =
       kept = subst IsKept (sym next ∙ ap (λ (f : FloorState). after f new.seen) (t.opened ∙ sym opens)) t.kept;
     }
 
--- counts
+-- Counts.
 
 -- a call is counted once
 one_more : (w : Answer → ℕ) (e : Entry) (old new : Lists) → Adds e old new
@@ -94,7 +95,7 @@ one_more w e old new a =
     let h = ap (total (λ (x : Entry). w x.answer)) a.makes ∙ total-append (λ (x : Entry). w x.answer) old.mine (e ∷ []) in
     omega (arith, h)
 
--- the count with one answer more is that of one call more
+-- the count with one more answer is that of one more call
 pub tally_more : (c d : Count) (e : Entry) (old new : Lists) → Adds e old new → c ≡ tally old.mine → d ≡ with_answer c e.answer → d ≡ tally new.mine
 tally_more c d e old new a is next = next ∙ (ap (λ (x : Count). with_answer x e.answer) is ∙ more)
   where
@@ -106,19 +107,19 @@ tally_more c d e old new a is next = next ∙ (ap (λ (x : Count). with_answer x
       idles = one_more idled e old new a i;
     }
 
--- the floor that an executive was made with has no rows
+-- the floor that an executive was made with is empty
 pub opens_empty : (e : Executive) → IsEmpty (floor_of e)
 opens_empty e = record { rows = refl; held = refl }
 
--- nor has the one that its passes know
+-- the floor that a task's seat knows as the first one is empty
 pub empty : (e : Executive) (h : Held) → IsHeldOf e h → IsEmpty (lists h.seat).opening
 empty e h of = subst IsEmpty (sym (ap floor_or_none of.0.1)) (opens_empty e)
 
--- no call changes the places
+-- no call changes the capacity
 same_places : (f : FloorState) (log : List Entry) → (after f log).core.places ≡ f.core.places
 same_places f log = ap (λ (g : FloorState). g.core.places) (opening_after f log)
 
--- the count is at most the places
+-- each field of the count is at most the capacity
 pub tally_few : (d : Count) (e : Entry) (old new : Lists) → Adds e old new → IsEmpty old.opening → d ≡ tally new.mine → IsAtMost d new.opening.core.places
 tally_few d e old new a empty is =
     let room = a.kept.sound.room in
@@ -127,7 +128,7 @@ tally_few d e old new a empty is =
     subst (λ (c : Count). IsAtMost c new.opening.core.places) (sym (is ∙ ap tally a.own))
     (subst (λ (f : FloorState). IsAtMost (tally (calls_of e.task.0 new.seen)) f.core.places) (sym a.opened) most)
 
--- and less than 2 ^ 32
+-- the capacity is below 2 ^ 32
 pub few_places : (e : Entry) (old new : Lists) → Adds e old new → new.opening.core.places < 2 ^ 32
 few_places e old new a =
     let opened = ap (λ (f : FloorState). f.core.places) a.opened in

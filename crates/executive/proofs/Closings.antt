@@ -34,19 +34,19 @@ use Rattle.executive.proofs.Once.{total_same, all_answers}
 abbrev pub OurSeat : Type 0
 OurSeat = Seat State Entry Opened ghosts
 
--- the seats are those of the passes, in order
+-- the seats are those of the passes, in their order
 abbrev pub AreSeats : List TaskPass → List OurSeat → Type 0
 AreSeats ps ss = map (λ s. Some s) ss ≡ map seat_of ps
 
--- what is so of each element of a list mapped
+-- a property of each element of a mapped list is one of each element, mapped
 unmap : {A B : Type 0} (P : B → Type 0) (f : A → B) (xs : List A) → All P (map f xs) → All (λ x. P (f x)) xs
 unmap P f xs h = held_first P f xs [] (subst (All P) (sym (append-nil (map f xs))) h)
 
--- what is so of the seat of each pass is so of each seat
+-- a property of the seat of each pass is one of each seat
 to_seats : (Q : OurSeat → Type 0) (ps : List TaskPass) (ss : List OurSeat) → AreSeats ps ss → All (λ p. IfSome (seat_of p) Q) ps → All Q ss
 to_seats Q ps ss same h = unmap (λ o. IfSome o Q) (λ s. Some s) ss (subst (All (λ o. IfSome o Q)) (sym same) (All-map (λ o. IfSome o Q) seat_of ps h))
 
--- what is so of each seat is so of the seat of each pass
+-- a property of each seat is one of the seat of each pass
 to_passes : (Q : OurSeat → Type 0) (ps : List TaskPass) (ss : List OurSeat) → AreSeats ps ss → All Q ss → All (λ p. IfSome (seat_of p) Q) ps
 to_passes Q ps ss same h = unmap (λ o. IfSome o Q) seat_of ps (subst (All (λ o. IfSome o Q)) same (All-map (λ o. IfSome o Q) (λ s. Some s) ss h))
 
@@ -58,7 +58,7 @@ of_seats e ps ss same h = to_seats (λ s. IsOf e.turns s) ps ss same (λ k d lt.
     first (Some r) h = h.0
     first None h = tt
 
--- a seat has number n where its pass is of task n + 1
+-- a seat has number n exactly if its pass is of task n + 1
 same_test : (n : ℕ) (r : Option Resting) (s : OurSeat) → Some s ≡ seat_of_resting r → (number s == n) ≡ ((of_resting r).task == n + 1)
 same_test n None s e = absurd (cc)
 same_test n (Some r) s e =
@@ -74,11 +74,12 @@ same_tests n (p ∷ ps) [] e = absurd (cc)
 same_tests n (p ∷ ps) (s ∷ ss) e =
     ap (λ (b : Bool). b || list_any (λ s. number s == n) ss) (same_test n p.resting s (cc)) ∙ ap (λ (b : Bool). ((of_pass p).task == n + 1) || b) (same_tests n ps ss (cc))
 
--- each seat's number is there
+-- the seats have each number
 pub each_seat : (e : Executive) (ps : List TaskPass) (ss : List OurSeat) → AreSeats ps ss → HasPassOfEach ps (floor_of e).core.set → (k : ℕ) → k < length (floor_of e).core.set → list_any (λ s. number s == k) ss ≡ true
 each_seat e ps ss same all k lt = same_tests k ps ss same ∙ all (k + 1) (omega arith, omega (arith, lt))
 
--- what is so of a pass at the end: it is in the history, its task has no tick out, and it counts the answers to its task's calls
+-- what holds of a pass at the end: it is in the history, its task has no granted tick, and it counts the
+-- answers to its task's calls
 record IsBack (o : FloorState) (log : List Entry) (p : PassState) : Type 0 where
   part : IsPartOf log p
   none_out : running (after o log).core.out p.task ≡ None
@@ -97,7 +98,7 @@ is_back e log legal (Some r) there of h =
       counts = r.held.counts ∙ ap tally own;
     }
 
--- so no tick is out
+-- if each pass is back, no tick is granted
 no_tick : (o : FloorState) (log : List Entry) (ps : List TaskPass) → IsKept (after o log) → HasPassOfEach ps o.core.set
     → All (λ p. IsBack o log (of_pass p)) ps → (after o log).core.out ≡ None
 no_tick o log ps kept all back = none_out (after o log).core (after o log).core.out kept.sound kept.sound.good.out none
@@ -108,7 +109,7 @@ no_tick o log ps kept all back = none_out (after o log).core (after o log).core.
         let b = all_get (λ p. IsBack o log (of_pass p)) ps pass.0 pass.1 back pass.2 in
         subst (λ (i : ℕ). running (after o log).core.out i ≡ None) (eqb-true (of_pass pass.1).task k pass.3) b.none_out
 
--- and the rows of its task are as many as it counts
+-- if a pass is back, its task has as many rows as the pass counts
 agrees : (o : FloorState) (log : List Entry) (p : PassState) → IsEmpty o → IsLegal o log → (after o log).core.held ≡ [] → IsBack o log p → AgreesWith (after o log) p
 agrees o log p empty legal held back =
     let c = all_counted p.task o log empty legal in
@@ -119,7 +120,7 @@ agrees o log p empty legal held back =
       ends = ap (λ (n : Count). n.ends) back.counts ∙ c.ends;
     }
 
--- the whole
+-- a closed executive meets `Closes`
 pub closed : (e : Executive) (ps : List TaskPass) (ss : List OurSeat) (x : State) (log : List Entry) → length ps ≤ length (floor_of e).core.set → AreSeats ps ss → All (λ p. IsPassOf e p) ps → HasPassOfEach ps (floor_of e).core.set
     → Stands log x → opening_of x.called.floor ≡ floor_of e → All (IsInLog log) ss → OneHistoryLeaves (floor_of e) ps x.called.floor
 closed e ps ss x log few same of all stands is each =

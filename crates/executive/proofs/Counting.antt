@@ -1,4 +1,4 @@
--- The rows of a task, with the releases that are held, are as many as the answers to its calls say.
+-- A task has as many rows, held releases included, as the answers to its calls say.
 use Rattle.std.proofs.Common.{◌≡◌, ℕ, ◌≤◌, ◌+◌, ◌==◌, List, [], ◌∷◌, length, Bool, true, false, refl, ap, sym, ◌∙◌, arith, cond}
 use Rattle.std.proofs.lemmas.Bool.{eqb-true}
 use Rattle.mc_task.specs.declared.task.Task.{Task}
@@ -22,11 +22,11 @@ use Rattle.executive.specs.Histories.{MayCall, answer_to, after_call, after, IsL
 use Rattle.executive.specs.Counts.{released, ticked, ended, idled, tally, ticks_of, ends_of, idle_ticks, IsAtMost}
 use Rattle.executive.proofs.Histories.{Way, release_written, release_held, outcome_written, idle_written, way}
 
--- the answers in a history that count for one number are those to its own calls
+-- what all answers of a history count for one number is what the answers to that task's own calls count
 pub total_own : (by : Entry → ℕ) (f : Answer → ℕ) (k : ℕ) (log : List Entry) → total (λ (e : Entry). cond (by e == k) (f e.answer) 0) log ≡ total (λ (e : Entry). f e.answer) (made_by by k log)
 total_own by f k log = sym (total-filter (λ (e : Entry). f e.answer) (λ (e : Entry). by e == k) log)
 
--- what each call adds to a number that is read off the floor, a history adds
+-- a number of the floor grows over a history by what each of its calls adds
 pub measured : (m : FloorState → ℕ) (w : ℕ → Answer → ℕ) → ((f : FloorState) (k : ℕ) (c : Call) → MayCall f k c → m (after_call f k c) ≡ m f + w k (answer_to f k c))
     → (f : FloorState) (log : List Entry) → IsLegal f log → m (after f log) ≡ m f + total (λ (e : Entry). w e.task.0 e.answer) log
 measured m w law f [] legal = omega arith
@@ -35,14 +35,14 @@ measured m w law f (e ∷ es) legal =
     let here : m (after_call f e.task.0 e.call) ≡ m f + w e.task.0 e.answer = law f e.task.0 e.call legal.0.may ∙ ap (λ (a : Answer). m f + w e.task.0 a) (sym legal.0.answered) in
     omega (arith, more, here)
 
--- what a call of task number j, answered so, adds to the numbers of task number k, and to the idle ticks
+-- what a call of task number j with this answer adds to the numbers of task number k, and to the idle ticks
 record Gains (k j : ℕ) (f : FloorState) (a : Answer) (g : FloorState) : Type 0 where
   releases : released_so_far g.core k ≡ released_so_far f.core k + cond (j == k) (released a) 0
   ticks : ticks_of k g.core.rows ≡ ticks_of k f.core.rows + cond (j == k) (ticked a) 0
   ends : ends_of k g.core.rows ≡ ends_of k f.core.rows + cond (j == k) (ended a) 0
   idles : idle_ticks g.core.rows ≡ idle_ticks f.core.rows + idled a
 
--- held releases add nothing to a number that no release adds to
+-- held releases add nothing to a number that counts no releases
 held : (m : List Row → ℕ) → ((j : JobId) (kept : Bool) (g : List Row) → m (row.Release j kept ∷ g) ≡ m g)
     → (set : List Task) (rule : Rule) (js : List JobId) (g : List Row) → m (add_held set rule js g) ≡ m g
 held m same set rule [] g = refl
@@ -75,9 +75,9 @@ gains k f j c may = go (way f j c) may
     go (idle_written out) may = record { releases = none _ _; ticks = none _ _; ends = none _ _; idles = omega arith }
     go w may = record { releases = none _ _; ticks = none _ _; ends = none _ _; idles = omega arith }
 
--- over a whole history
+-- Over a whole history.
 
--- of a floor on which the number is 0, a history leaves as many as the answers to the task's calls say
+-- if the number is 0 on the first floor, a history leaves as many as the answers to the task's calls say
 counted : (m : FloorState → ℕ) (w : Answer → ℕ) (k : ℕ) → ((f : FloorState) (j : ℕ) (c : Call) → MayCall f j c → m (after_call f j c) ≡ m f + cond (j == k) (w (answer_to f j c)) 0)
     → (f : FloorState) (log : List Entry) → m f ≡ 0 → IsLegal f log → total (λ (e : Entry). w e.answer) (calls_of k log) ≡ m (after f log)
 counted m w k law f log empty legal =
@@ -85,12 +85,12 @@ counted m w k law f log empty legal =
     let own = total_own (λ (e : Entry). e.task.0) w k log in
     omega (arith, all, empty, own)
 
--- a floor with no rows and nothing held
+-- a floor with no rows, no granted tick and nothing held
 pub record IsEmpty (f : FloorState) : Type 0 where
   pub rows : f.core.rows ≡ []
   pub held : f.core.held ≡ []
 
--- what the answers to a task's calls count, the rows that a history of an empty floor leaves have
+-- after a history of an empty floor, a task has the rows that the answers to its calls count
 pub record Counted (k : ℕ) (f : FloorState) (log : List Entry) : Type 0 where
   pub releases : (tally (calls_of k log)).releases ≡ released_so_far (after f log).core k
   pub ticks : (tally (calls_of k log)).ticks ≡ ticks_of k (after f log).core.rows
@@ -105,27 +105,27 @@ all_counted k f log empty legal =
       ends = counted (λ (g : FloorState). ends_of k g.core.rows) ended k (λ g j c may. (gains k g j c may).ends) f log (ap (ends_of k) empty.rows) legal;
     }
 
--- and all answers, the idle ticks
+-- after a history of an empty floor, there are as many idle ticks as all answers count
 pub idles_counted : (f : FloorState) (log : List Entry) → IsEmpty f → IsLegal f log → total (λ (e : Entry). idled e.answer) log ≡ idle_ticks (after f log).core.rows
 idles_counted f log empty legal =
     let all = measured (λ (g : FloorState). idle_ticks g.core.rows) (λ (j : ℕ) (a : Answer). idled a) (λ g j c may. (gains 0 g j c may).idles) f log legal in
     let zero = ap idle_ticks empty.rows in
     omega (arith, all, zero)
 
--- no more of them than places
+-- 1 for true and 0 for false is at most 1
 
 one_at_most : (b : Bool) → cond b 1 0 ≤ 1
 one_at_most true = omega arith
 one_at_most false = omega arith
 
--- the rows of a task, and the idle ticks, are rows
+-- the rows of a task and the idle ticks together are at most all rows
 few_rows : (k : ℕ) (g : List Row) → releases g k + ticks_of k g + idle_ticks g ≤ length g
 few_rows k [] = omega arith
 few_rows k (row.Release j kept ∷ g) = omega (arith, few_rows k g, one_at_most (j.task.0 == k))
 few_rows k (row.Tick j how ∷ g) = omega (arith, few_rows k g, one_at_most (j.task.0 == k))
 few_rows k (row.Idle ∷ g) = omega (arith, few_rows k g)
 
--- the ticks that end a job are ticks
+-- the ticks that end a job are at most the ticks
 few_ends : (k : ℕ) (g : List Row) → ends_of k g ≤ ticks_of k g
 few_ends k [] = omega arith
 few_ends k (row.Release j kept ∷ g) = few_ends k g
@@ -137,7 +137,7 @@ few_ends k (row.Tick j how ∷ g) = omega (arith, few_ends k g, less (j.task.0 =
     less false c = omega arith
 few_ends k (row.Idle ∷ g) = few_ends k g
 
--- of a task's calls, no more are answered so than the places of the core that the history leaves
+-- the answers to a task's calls count no more than the capacity of the core that the history leaves
 pub few : (k : ℕ) (f : FloorState) (log : List Entry) (n : ℕ) → IsEmpty f → IsLegal f log → places_used (after f log).core ≤ n → IsAtMost (tally (calls_of k log)) n
 few k f log n empty legal room =
     let s = (after f log).core in

@@ -1,4 +1,5 @@
--- Histories, call by call: what a call does, what no call changes, whose tick is out, and how a history goes on.
+-- Histories, call by call: what a call does, what no call changes, which tick is granted, and how a history
+-- goes on.
 use Rattle.std.proofs.Common.{◌≡◌, ℕ, ◌≤◌, ◌≢◌, ◌==◌, ◌-◌, List, [], ◌∷◌, ◌++◌, Bool, true, false, not, Option, Some, None, Ok, Err, cond, refl, ap, sym, ◌∙◌, subst, arith}
 use Rattle.std.proofs.Common.{ne_eqb}
 use Rattle.std.proofs.lemmas.Bool.{eq-eqb, eqb-true}
@@ -33,17 +34,17 @@ use Rattle.executive.specs.Histories.{MayCall, answer_to, after_call, after, IsL
 use Rattle.executive.specs.Stands.{opening_of}
 use Rattle.executive.specs.Passes.{job_then}
 
--- what a call does
+-- What a call does.
 
 -- the floor with another core and another count of releases taken
 abbrev pub with_core : FloorState → State → ℕ → FloorState
 with_core f s n = record f { core = s; taken = n }
 
--- the core once this job's tick has its outcome
+-- the core once the granted tick of this job has its outcome
 abbrev pub core_ended : State → JobId → Bool → State
 core_ended s j done = record s { rows = settled s.set s.rule done s.rows (Some j) s.held; out = None; held = [] }
 
--- the ways that a call of task number k may go, each with its answer and the floor that it leaves
+-- the ways in which a call of task number k may go, each with its answer and the floor that it leaves
 pub data Way (f : FloorState) (k : ℕ) : Call → Answer → FloorState → Type 0 where
   release_refused : (e : ActFault ReleaseFault) (n : ℕ) → Way f k Release (Released (Err e)) (with_core f f.core n)
   release_written : (x : ReleasedNow) (n : ℕ) → f.core.out ≡ None → Way f k Release (Released (Ok x)) (with_core f (with_release f.core None (next_job f.core k)) n)
@@ -59,12 +60,12 @@ pub data Way (f : FloorState) (k : ℕ) : Call → Answer → FloorState → Typ
   idle_written : f.core.out ≡ None → Way f k Idle (Idled (Ok (ticks f.core.rows))) (with_core f (record f.core { rows = row.Idle ∷ f.core.rows }) f.taken)
   looked : (a : Act) → Way f k Look (Next a) f
 
--- a test that is not refused holds
+-- a test whose failure would be refused holds if nothing is refused
 holds : {E : Type 0} (b : Bool) (e : E) → refused_if (not b) e ≡ None → b ≡ true
 holds true e h = refl
 holds false e h = absurd (cc)
 
--- each call goes one of them
+-- each call goes in one of the ways
 pub way : (f : FloorState) (k : ℕ) (c : Call) → Way f k c (answer_to f k c) (after_call f k c)
 way f k Release = plan (release_refusal f k)
   where
@@ -118,7 +119,7 @@ way f k Idle = plan (tick_refusal f)
     plan None = core (Events.idle_refusal f.core) refl
 way f k Look = looked _
 
--- a call changes neither the set, the rule and the places nor the plan
+-- a call changes neither the set nor the rule, the capacity or the plan
 pub opening_call : (f : FloorState) (k : ℕ) (c : Call) → opening_of (after_call f k c) ≡ opening_of f
 opening_call f k c = go (way f k c)
   where
@@ -126,12 +127,12 @@ opening_call f k c = go (way f k c)
     go (looked x) = refl
     go w = refl
 
--- nor does a history
+-- a history changes neither the set nor the rule, the capacity or the plan
 pub opening_after : (f : FloorState) (log : List Entry) → opening_of (after f log) ≡ opening_of f
 opening_after f [] = refl
 opening_after f (e ∷ es) = opening_after (after_call f e.task.0 e.call) es ∙ opening_call f e.task.0 e.call
 
--- histories that go on
+-- The floor after a history that goes on.
 
 pub after_more : (f : FloorState) (log more : List Entry) → after f (log ++ more) ≡ after (after f log) more
 after_more f [] more = refl
@@ -142,7 +143,7 @@ pub legal_more : (f : FloorState) (log : List Entry) (e : Entry) → IsLegal f l
 legal_more f [] e h l = (l, tt)
 legal_more f (x ∷ xs) e h l = (h.0, legal_more (after_call f x.task.0 x.call) xs e h.1 l)
 
--- what comes later is legal on the floor that was left before
+-- the later part of a legal history is legal on the floor that the earlier part leaves
 pub legal_rest : (f : FloorState) (log more : List Entry) → IsLegal f (log ++ more) → IsLegal (after f log) more
 legal_rest f [] more h = h
 legal_rest f (x ∷ xs) more h = legal_rest (after_call f x.task.0 x.call) xs more h.1
@@ -151,19 +152,19 @@ no_rest : (xs ys : List Entry) → xs ≡ xs ++ ys → ys ≡ []
 no_rest [] ys e = sym e
 no_rest (x ∷ xs) ys e = no_rest xs ys (cc)
 
--- whose tick is out
+-- Which tick is granted.
 
--- a tick of one task is no tick of another
+-- a granted tick of one task is not one of another task
 pub runs_no_other : (o : Option JobId) (j k : ℕ) → is_of_task o j ≡ true → j ≢ k → running o k ≡ None
 runs_no_other None j k h ne = refl
 runs_no_other (Some i) j k h ne = let no : (i.task.0 == k) ≡ false = ne_eqb i.task.0 k (λ q. ne (sym (eqb-true i.task.0 j h) ∙ q)) in rw no refl
 
--- and is that of its job
+-- a granted tick of a task is that of its job
 pub runs_own : (o : Option JobId) (k : ℕ) → is_of_task o k ≡ true → running o k ≡ Some (job_in o)
 runs_own None k h = absurd (cc)
 runs_own (Some i) k h = rw h refl
 
--- a task that has a tick out has the one that is out
+-- if a task has a granted tick, that is the floor's granted tick
 pub runs_is : (o : Option JobId) (k : ℕ) (j : JobId) → running o k ≡ Some j → (o ≡ Some j) × (is_of_task o k ≡ true)
 runs_is None k j h = absurd (cc)
 runs_is (Some i) k j h = go (i.task.0 == k) h
@@ -172,7 +173,7 @@ runs_is (Some i) k j h = go (i.task.0 == k) h
     go true h = (h, refl)
     go false h = absurd (cc)
 
--- a call of another task leaves it as it was whether this task's tick is out
+-- a call of another task leaves this task's granted tick as it was
 pub out_other : (f : FloorState) (k task : ℕ) (c : Call) → MayCall f task c → task ≢ k → running (after_call f task c).core.out k ≡ running f.core.out k
 out_other f k task c may ne = go (way f task c) may
   where
@@ -181,7 +182,7 @@ out_other f k task c may ne = go (way f task c) may
     go (outcome_written told done j out is) may = sym (runs_no_other f.core.out task k may ne)
     go w may = refl
 
--- what a call of the task makes of it
+-- what a call of the task does to its granted tick
 pub out_own : (f : FloorState) (k : ℕ) (c : Call) → running (after_call f k c).core.out k ≡ job_then (answer_to f k c) (running f.core.out k)
 out_own f k c = go (way f k c)
   where
@@ -193,14 +194,14 @@ none_of_it : (b : Bool) (e : Entry) (es : List Entry) → cond b (e ∷ es) es �
 none_of_it true e es h = absurd (cc)
 none_of_it false e es h = (refl, h)
 
--- calls of other tasks leave it as it was whether this task's tick is out
+-- calls of other tasks leave this task's granted tick as it was
 pub out_stays : (k : ℕ) (f : FloorState) (more : List Entry) → IsLegal f more → calls_of k more ≡ [] → running (after f more).core.out k ≡ running f.core.out k
 out_stays k f [] l none = refl
 out_stays k f (e ∷ es) l none =
     let n = none_of_it (e.task.0 == k) e (calls_of k es) none in
     out_stays k (after_call f e.task.0 e.call) es l.1 n.1 ∙ out_other f k e.task.0 e.call l.0.may (eqb-false e.task.0 k n.0)
 
--- so does a history that goes on with no call of the task
+-- a history that goes on without a call of the task leaves its granted tick as it was
 pub still_out : (k : ℕ) (f : FloorState) (seen log : List Entry) → StartsWith log seen → IsLegal f log → calls_of k seen ≡ calls_of k log → running (after f log).core.out k ≡ running (after f seen).core.out k
 still_out k f seen log begins legal same =
     let legal' : IsLegal f (seen ++ begins.0) = subst (IsLegal f) begins.1 legal in
@@ -208,12 +209,13 @@ still_out k f seen log begins legal same =
     ap (λ (l : List Entry). running (after f l).core.out k) begins.1
     ∙ (ap (λ (g : FloorState). running g.core.out k) (after_more f seen begins.0) ∙ out_stays k (after f seen) begins.0 (legal_rest f seen begins.0 legal') none)
 
--- a call of a task that no tick is out of may be asked on where it could before
+-- a call that a task may make on one floor is allowed on another where the task has the same granted tick or
+-- none
 pub may_still : (f g : FloorState) (k : ℕ) (c : Call) → running g.core.out k ≡ running f.core.out k → MayCall f k c → MayCall g k c
 may_still f g k (Outcome done) e may = (runs_is g.core.out k (job_in f.core.out) (e ∙ runs_own f.core.out k may)).1
 may_still f g k c e may = tt
 
--- where no tick of a task in the set is out, none is
+-- if no task of the set has a granted tick, none is granted
 pub none_out : (s : State) (o : Option JobId) → IsSound s → IsOut s.set s.rule s.rows o s.held → ((k : ℕ) → IsIn s.set k → running o k ≡ None) → o ≡ None
 none_out s None sound is none = refl
 none_out s (Some j) sound is none =

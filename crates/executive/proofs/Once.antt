@@ -1,4 +1,4 @@
--- The answers to the calls of each task, added up, are the answers to all calls.
+-- The answers to the calls of each task, added up over the tasks, are the answers to all calls.
 use Rattle.std.proofs.Common.{◌≡◌, ℕ, ◌≤◌, ◌≢◌, ◌+◌, ◌==◌, ◌||◌, zero, suc, List, [], ◌∷◌, length, Bool, true, false, refl, ap, sym, ◌∙◌, arith, All, cond, ne_eqb, nat_lt}
 use Rattle.std.specs.List.{list_any}
 use Rattle.std.proofs.lemmas.Bool.{eqb-true}
@@ -42,7 +42,7 @@ module _ {A : Type 0} (t : A → ℕ) where
   without [] m h = absurd (cc)
   without (x ∷ xs) m h = without_at (t x == m) x xs m refl h (without xs m)
 
-  -- of at most n elements, which have each number from 1 to n, one has such a number, and none has another
+  -- if at most n elements have each number from 1 to n, each of these numbers has exactly one element
   once : (i v n : ℕ) (xs : List A) → 1 ≤ i → length xs ≤ n → ((k : ℕ) → 1 ≤ k → k ≤ n → has xs k ≡ true) → total (λ x. cond (i == t x) v 0) xs ≡ cond (nat_lt n i) 0 v
   once i v zero [] some few each = none i v some
     where
@@ -64,7 +64,7 @@ module _ {A : Type 0} (t : A → ℕ) where
   no_answers [] = refl
   no_answers (x ∷ xs) = omega (arith, no_answers xs)
 
-  -- where a list has each task once, the answers to the calls of its tasks are all answers
+  -- if a list has each task once, the answers to the calls of its tasks are all answers
   pub all_answers : (g : Answer → ℕ) (n : ℕ) (xs : List A) → length xs ≤ n → ((k : ℕ) → 1 ≤ k → k ≤ n → has xs k ≡ true)
       → (f : FloorState) (log : List Entry) → length f.core.set ≤ n → IsLegal f log
       → total (λ x. total (λ (e : Entry). g e.answer) (calls_of (t x) log)) xs ≡ total (λ (e : Entry). g e.answer) log

@@ -1,4 +1,4 @@
--- What it takes to close an executive, and what is left of it.
+-- What is needed to close an executive, and the floor that is left.
 use Rattle.std.specs.Prelude.{◌≡◌, ℕ, ◌<◌, ◌≤◌, ◌==◌, List, Option, Some, None, All, Bool, true, false, []}
 use Rattle.std.specs.List.{list_any}
 use Rattle.mc_task.specs.TaskSet.{IsIn}
@@ -27,30 +27,32 @@ has_pass passes k = list_any (λ p. (of_pass p).task == k) passes
 abbrev pub HasPassOfEach : List TaskPass → List Task → Type 0
 HasPassOfEach passes set = (k : ℕ) → IsIn set k → has_pass passes k ≡ true
 
--- task number k is the first of the set of which the list has no pass
+-- task number k is the lowest task of the set of which the list has no pass
 pub record IsMissing (passes : List TaskPass) (set : List Task) (k : ℕ) : Type 0 where
   pub in_set : IsIn set k
   pub none : has_pass passes k ≡ false
   pub lowest : (j : ℕ) → 1 ≤ j → j < k → has_pass passes j ≡ true
 
--- the history begins with what the pass saw, and has, of the calls of its task, just those that the pass made
+-- the history begins with what the pass saw, and its calls of the pass's task are exactly those that the pass
+-- made
 pub record IsPartOf (log : List Entry) (p : PassState) : Type 0 where
   pub begins : StartsWith log p.lists.seen
   pub own : p.lists.mine ≡ calls_of p.task log
 
--- the floor has as many rows of each kind of the task as its pass counts
+-- the floor has as many rows of each kind of the pass's task as the pass counts
 pub record AgreesWith (f : FloorState) (p : PassState) : Type 0 where
   pub releases : p.count.releases ≡ releases f.core.rows p.task
   pub ticks : p.count.ticks ≡ ticks_of p.task f.core.rows
   pub ends : p.count.ends ≡ ends_of p.task f.core.rows
 
--- one legal history leaves the floor, and each of the passes is in it
+-- one legal history leaves the floor, and each of the passes saw a beginning of it
 pub record OneHistoryLeaves (opening : FloorState) (passes : List TaskPass) (f : FloorState) : Type 0 where
   pub log : List Entry
   pub legal : IsLegal opening log
   pub leaves : f ≡ after opening log
   pub each : All (λ p. IsPartOf log (of_pass p)) passes
-  -- the floor has the set, rule, capacity and plan that the executive was made with, no tick out, and keeps its laws
+  -- the floor has the set, rule, capacity and plan that the executive was made with, no granted tick, and
+  -- keeps its laws
   pub same : opening_of f ≡ opening
   pub none_out : f.core.out ≡ None
   pub none_held : f.core.held ≡ []
@@ -59,7 +61,7 @@ pub record OneHistoryLeaves (opening : FloorState) (passes : List TaskPass) (f :
   pub counts : All (λ p. AgreesWith f (of_pass p)) passes
   pub idles : total (λ p. (of_pass p).count.idles) passes ≡ idle_ticks f.core.rows
 
--- the seat of a task with no tick out, where one is held
+-- the seat of a task with no granted tick, if there is one
 abbrev pub seat_of_resting : Option Resting → Option (Seat State Entry Opened ghosts)
 seat_of_resting (Some r) = Some r.held.seat
 seat_of_resting None = None

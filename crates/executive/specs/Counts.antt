@@ -1,4 +1,4 @@
--- What a pass counts of its answers, and the rows that it has to agree with.
+-- What a pass counts of the answers to its calls, and the rows that must agree with it.
 use Rattle.std.specs.Prelude.{ℕ, ◌+◌, ◌≤◌, ◌==◌, List, [], ◌∷◌, Ok, cond}
 use Rattle.mc_model.specs.declared.row.Row.{Row}
 use Rattle.mc_model.specs.declared.row.Row.TheVariants as row
@@ -9,27 +9,27 @@ use Rattle.executive.specs.declared.entry.Entry.{Entry}
 use Rattle.executive.specs.declared.entry.Answer.{Answer}
 use Rattle.executive.specs.declared.entry.Answer.TheVariants.{Released, Told, Idled}
 
--- 1 for a release that was taken
+-- 1 for a release that the floor took, otherwise 0
 abbrev pub released : Answer → ℕ
 released (Released (Ok x)) = 1
 released _ = 0
 
--- 1 for the outcome of a tick
+-- 1 for the outcome of a tick, otherwise 0
 abbrev pub ticked : Answer → ℕ
 ticked (Told (Ok how)) = 1
 ticked _ = 0
 
--- 1 for an outcome that ended its job
+-- 1 for an outcome that ended its job, otherwise 0
 abbrev pub ended : Answer → ℕ
 ended (Told (Ok how)) = cond (is_end how) 1 0
 ended _ = 0
 
--- 1 for an idle tick
+-- 1 for an idle tick, otherwise 0
 abbrev pub idled : Answer → ℕ
 idled (Idled (Ok n)) = 1
 idled _ = 0
 
--- what the answers of these calls count
+-- what the answers to these calls count
 abbrev pub tally : List Entry → Count
 tally log = record {
   releases = total (λ e. released e.answer) log;
@@ -38,7 +38,7 @@ tally log = record {
   idles = total (λ e. idled e.answer) log;
 }
 
--- the count with one answer more
+-- the count with one more answer
 abbrev pub with_answer : Count → Answer → Count
 with_answer c a = record {
   releases = c.releases + released a;
@@ -47,26 +47,26 @@ with_answer c a = record {
   idles = c.idles + idled a;
 }
 
--- no field is above n
+-- no field of the count is above n
 pub record IsAtMost (c : Count) (n : ℕ) : Type 0 where
   pub releases : c.releases ≤ n
   pub ticks : c.ticks ≤ n
   pub ends : c.ends ≤ n
   pub idles : c.idles ≤ n
 
--- the ticks of task number k
+-- how many ticks of task number k there are
 abbrev pub ticks_of : ℕ → List Row → ℕ
 ticks_of k [] = 0
 ticks_of k (row.Tick j how ∷ g) = cond (j.task.0 == k) 1 0 + ticks_of k g
 ticks_of k (_ ∷ g) = ticks_of k g
 
--- the ticks of task number k that ended a job
+-- how many ticks of task number k ended a job
 abbrev pub ends_of : ℕ → List Row → ℕ
 ends_of k [] = 0
 ends_of k (row.Tick j how ∷ g) = cond (j.task.0 == k) (cond (is_end how) 1 0) 0 + ends_of k g
 ends_of k (_ ∷ g) = ends_of k g
 
--- the idle ticks
+-- how many idle ticks there are
 abbrev pub idle_ticks : List Row → ℕ
 idle_ticks [] = 0
 idle_ticks (row.Idle ∷ g) = 1 + idle_ticks g

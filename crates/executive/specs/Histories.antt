@@ -1,5 +1,5 @@
--- Histories of calls: what the floor answers to each, the floor that a history leaves, and which histories are legal. A
--- history is the list of the calls, THE FIRST CALL FIRST.
+-- Histories of calls: the floor's answer to each call, the floor that a history leaves, and which histories
+-- are legal. A history is the list of the calls, THE FIRST CALL FIRST.
 use Rattle.std.specs.Prelude.{◌≡◌, ℕ, ◌-◌, true, List, [], ◌∷◌}
 use Rattle.mc_task.specs.TaskSet.{IsIn}
 use Rattle.mode_core.specs.Events.{job_in, is_of_task}
@@ -16,16 +16,16 @@ use Rattle.executive.specs.declared.entry.Entry.{Entry}
 abbrev pub entry : ℕ → Call → Answer → Entry
 entry k call answer = record { task = record { 0 = k }; call = call; answer = answer }
 
--- what stands where no call was made yet
+-- a placeholder entry before the first call
 abbrev pub no_entry : Entry
 no_entry = entry 1 Look (Next act.Finished)
 
--- an outcome is of the task whose tick is out
+-- the task may make this call: an outcome needs its own granted tick
 abbrev pub MayCall : FloorState → ℕ → Call → Type 0
 MayCall f k (Outcome done) = is_of_task f.core.out k ≡ true
 MayCall f k _ = Unit {0}
 
--- the floor's answer to a call of task number k; an outcome is for the job whose tick is out
+-- the floor's answer to a call of task number k; an outcome is for the job with the granted tick
 abbrev pub answer_to : FloorState → ℕ → Call → Answer
 answer_to f k Release = Released (release_answer f k)
 answer_to f k Take = Taken (grant_answer f k)
@@ -33,7 +33,7 @@ answer_to f k (Outcome done) = Told (outcome_answer f (job_in f.core.out) done)
 answer_to f k Idle = Idled (idle_answer f)
 answer_to f k Look = Next (next_act f)
 
--- the floor after it
+-- the floor after a call of task number k
 abbrev pub after_call : FloorState → ℕ → Call → FloorState
 after_call f k Release = after_release f k
 after_call f k Take = after_grant f k
@@ -46,7 +46,7 @@ abbrev pub after : FloorState → List Entry → FloorState
 after f [] = f
 after f (e ∷ es) = after (after_call f e.task.0 e.call) es
 
--- the entry's task is in the set, it may call so, and the answer is the floor's
+-- the entry's task is in the set, it may make the call, and the answer is the floor's
 pub record IsLegalEntry (f : FloorState) (e : Entry) : Type 0 where
   pub in_set : IsIn f.core.set e.task.0
   pub may : MayCall f e.task.0 e.call

@@ -1,4 +1,4 @@
--- An executive that was just made.
+-- An executive that was just made, and its passes.
 use Rattle.std.specs.Prelude.{◌≡◌, ℕ, ◌+◌, ◌<◌, List, [], length, slice_index_or}
 use Rattle.executive.specs.declared.pass.TaskPass.{TaskPass}
 use Rattle.executive.specs.declared.executive.Executive.{Executive}
@@ -14,6 +14,6 @@ pub record IsFresh (e : Executive) (k : ℕ) (p : TaskPass) : Type 0 where
   pub seen : (of_pass p).lists.seen ≡ []
   pub mine : (of_pass p).lists.mine ≡ []
 
--- such passes, of the tasks from 1 on
+-- fresh passes of the tasks from 1 on
 abbrev pub AreFresh : Executive → List TaskPass → Type 0
 AreFresh e passes = (i : ℕ) (d : TaskPass) → i < length passes → IsFresh e (i + 1) (slice_index_or passes i d)

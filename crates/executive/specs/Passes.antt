@@ -1,4 +1,4 @@
--- What contracts see of passes and grants, and what a call of one promises.
+-- Passes and grants as contracts see them, and what a call of one does.
 use Rattle.std.specs.Prelude.{◌≡◌, ℕ, List, [], ◌∷◌, ◌++◌, Option, Some, None, IfSome, Ok, Err}
 use Rattle.mc_task.specs.declared.task.JobId.{JobId}
 use Rattle.mc_task.specs.TaskSet.{IsIn}
@@ -24,17 +24,18 @@ use Rattle.executive.specs.Counts.{with_answer}
 use Rattle.executive.specs.Stands.{IsKept, opened}
 use Rattle.executive.specs.Seats.{Lists, no_floor, lists, job_out}
 
--- a pass or a grant, as contracts see it: its task's number, what it was answered, and what it knows of the history
+-- a pass or a grant, as contracts see it: its task's number, the count of its answers, and what it knows of
+-- the history
 pub record PassState : Type 0 where
   pub task : ℕ
   pub count : Count
   pub lists : Lists
 
--- what is held of a task
+-- the state of a task's seat and count
 abbrev pub of_held : Held → PassState
 of_held h = record { task = h.task.0; count = h.count; lists = lists h.seat }
 
--- a pass of no task
+-- the state of no task
 abbrev pub no_pass : PassState
 no_pass = record {
   task = 0;
@@ -42,43 +43,43 @@ no_pass = record {
   lists = record { opening = no_floor; seen = []; mine = [] };
 }
 
--- what is held, where something is
+-- the state of a task with no granted tick, if there is one
 abbrev pub of_resting : Option Resting → PassState
 of_resting (Some r) = of_held r.held
 of_resting None = no_pass
 
--- a pass
+-- the state of a pass
 abbrev pub of_pass : TaskPass → PassState
 of_pass p = of_resting p.resting
 
--- a grant
+-- the state of a grant
 abbrev pub of_grant : Grant → PassState
 of_grant t = of_held t.held
 
--- the floor that the executive was made with, as it was before any call
+-- the floor that the executive was made with, before any call
 abbrev pub floor_of : Executive → FloorState
 floor_of e = (fixed_part opened e.turns).floor
 
--- what is held is of this executive, and of a task of its set
+-- a seat and count of this executive, of a task of its set
 abbrev pub IsHeldOf : Executive → Held → Type 0
 IsHeldOf e h = IsOf e.turns h.seat × IsIn (floor_of e).core.set h.task.0
 
--- the pass is one of this executive
+-- the pass belongs to this executive
 abbrev pub IsPassOf : Executive → TaskPass → Type 0
 IsPassOf e p = IfSome p.resting (λ r. IsHeldOf e r.held)
 
--- the grant is one of this executive
+-- the grant belongs to this executive
 abbrev pub IsGrantOf : Executive → Grant → Type 0
 IsGrantOf e t = IsHeldOf e t.held
 
--- the job of task number k whose tick is out after a call of the task, by its answer
+-- the job of the granted tick of task number k after a call of the task, by its answer
 abbrev pub job_then : Answer → Option JobId → Option JobId
 job_then (answer.Taken (Ok x)) was = Some x.job
 job_then (answer.Told (Ok how)) was = None
 job_then _ was = was
 
--- there is one legal history that begins with what was seen and ends with this entry, and it is seen now. The task's calls
--- in it are those that were made before, and this one
+-- one legal history begins with what was seen and ends with this entry, and all of it is seen now; the task's
+-- calls in it are those that were made before, and this one
 pub record Adds (e : Entry) (old new : Lists) : Type 0 where
   pub opened : new.opening ≡ old.opening
   -- the history before this entry
@@ -88,21 +89,21 @@ pub record Adds (e : Entry) (old new : Lists) : Type 0 where
   pub makes : new.mine ≡ old.mine ++ e ∷ []
   pub legal : IsLegal old.opening new.seen
   pub own : new.mine ≡ calls_of e.task.0 new.seen
-  -- the answer is the floor's, after the entries before
+  -- the answer is the floor's, after the entries before it
   pub answered : e.answer ≡ answer_to (after old.opening before) e.task.0 e.call
-  -- calls of other tasks left it as it was whether the task's tick is out, and so did this one but by its answer
+  -- calls of other tasks left the task's granted tick as it was
   pub stays : running (after old.opening before).core.out e.task.0 ≡ job_out e.task.0 old
   pub out : job_out e.task.0 new ≡ job_then e.answer (job_out e.task.0 old)
-  -- the floor that it leaves keeps its laws
+  -- the floor after this entry keeps its laws
   pub kept : IsKept (after old.opening new.seen)
 
--- the task made this call, was answered so, and counts the answer
+-- the task made this call with this answer, and counts the answer
 pub record Calls (call : Call) (answer : Answer) (old new : PassState) : Type 0 where
   pub task : new.task ≡ old.task
   pub count : new.count ≡ with_answer old.count answer
   pub adds : Adds (entry old.task call answer) old.lists new.lists
 
--- what `take` hands out is of this executive
+-- what `take` returns belongs to this executive
 abbrev pub IsTakenOf : Executive → Taken → Type 0
 IsTakenOf e (Given t) = IsGrantOf e t
 IsTakenOf e (NotNow p f) = IsPassOf e p
@@ -112,13 +113,14 @@ abbrev pub Takes : PassState → Taken → Type 0
 Takes old (Given t) = Calls call.Take (answer.Taken (Ok t.granted)) old (of_grant t)
 Takes old (NotNow p f) = Calls call.Take (answer.Taken (Err f)) old (of_pass p)
 
--- in each legal history that goes on from what the grant saw, with no other call of its task, the tick of its job is out
+-- in each legal history that goes on from what the grant saw, with no further call of its task, its job has
+-- the granted tick
 abbrev pub IsOut : Grant → Type 0
 IsOut t = (log : List Entry) → IsLegal (of_grant t).lists.opening log → StartsWith log (of_grant t).lists.seen
     → (of_grant t).lists.mine ≡ calls_of (of_grant t).task log
     → (after (of_grant t).lists.opening log).core.out ≡ Some t.granted.job
 
--- puts no tick out, and ends none
+-- the call neither grants a tick nor ends one
 abbrev pub IsQuiet : Call → Type 0
 IsQuiet call.Take = ⊥
 IsQuiet (call.Outcome done) = ⊥

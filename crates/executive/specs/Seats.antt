@@ -14,17 +14,18 @@ use Rattle.executive.specs.declared.state.Opened.{Opened}
 use Rattle.executive.specs.declared.entry.Entry.{Entry}
 use Rattle.executive.specs.Histories.{after}
 
--- the floor that the executive was made with, a beginning of the history, and what the seat's own task called there
+-- what a seat knows: the floor that the executive was made with, a beginning of the history, and the calls of
+-- its own task there
 pub record Lists : Type 0 where
   pub opening : FloorState
   pub seen : List Entry
   pub mine : List Entry
 
--- a floor of no tasks, which stands where no floor is given
+-- a floor of no tasks, used if no floor is given
 abbrev pub no_floor : FloorState
 no_floor = opening (empty_state [] Plain 0) Free
 
--- the floor that is given, or the one of no tasks
+-- the floor that is given, or else the floor of no tasks
 abbrev pub floor_or_none : Option Opened → FloorState
 floor_or_none (Some o) = o.floor
 floor_or_none None = no_floor
@@ -33,7 +34,7 @@ floor_or_none None = no_floor
 abbrev pub lists : {g : Ghosts State Entry Opened} → Seat State Entry Opened g → Lists
 lists s = record { opening = floor_or_none s.place.me.0.fixed; seen = seen s; mine = mine s }
 
--- what the seat of a turn knows once it is left
+-- what the seat of a turn knows once the turn has ended
 abbrev pub lists_left : {g : Ghosts State Entry Opened} → Turn State Entry Opened g → Lists
 lists_left t = record {
   opening = floor_or_none t.claim.place.me.0.fixed;
@@ -45,6 +46,6 @@ lists_left t = record {
 abbrev pub floor_seen : Lists → FloorState
 floor_seen l = after l.opening l.seen
 
--- the job of task number k whose tick is out there
+-- the job of the granted tick of task number k, after all that was seen
 abbrev pub job_out : ℕ → Lists → Option JobId
 job_out k l = running (floor_seen l).core.out k

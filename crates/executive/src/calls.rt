@@ -19,16 +19,16 @@ use mode_core::{GrantFault, IdleFault, ReleaseFault, Released};
 use std::sync::Wait;
 use timetable::{Act, ActFault};
 
-/// The answer to `take`.
+/// What `take` returns.
 pub enum Taken {
-    /// The task's tick is out.
+    /// The task's tick is granted.
     Given(Grant),
-    /// The floor refuses the tick, and the pass comes back.
+    /// The floor refuses the tick, for this reason; the pass comes back.
     NotNow(TaskPass, ActFault<GrantFault>),
 }
 
 impl Executive {
-    /// Releases the pass's task, as `Floor::release`. It may wait for other calls.
+    /// Releases the next job of the pass's task, as `Floor::release`. It may wait for other calls.
     #[tactic(auto, using(crate::proofs::Newest::has_released))]
     pub fn release<R: Wait>(
         &self,
@@ -39,13 +39,13 @@ impl Executive {
         ensures of { IsPassOf self.now pass.new }
         ensures calls { Calls call.Release (answer.Released result) (of_pass pass.old) (of_pass pass.new) }
         ensures newest { IfOk result (λ _. HasReleased (of_pass pass.new)) }
-        // A task whose tick is out has no pass.
+        // A task with a granted tick has no pass.
         ensures not_running { (j : JobId) → result ≢ Err (act_fault.Core (release_fault.Running j)) }
     {
         self.call_at_rest(rt, pass, Call::Release).into_released()
     }
 
-    /// Puts the task's tick out, as `Floor::grant`. It may wait for other calls.
+    /// Takes a tick for the task, as `Floor::grant`. It may wait for other calls.
     #[inline(always)]
     pub fn take<R: Wait>(&self, rt: &R, pass: TaskPass) -> Taken
         requires { IsPassOf self.now pass }
@@ -59,8 +59,8 @@ impl Executive {
         }
     }
 
-    /// Ends the granted tick, as `Floor::outcome`; under `Rows` the plan tells whether the job is done. It may wait for other
-    /// calls.
+    /// Ends the granted tick, as `Floor::outcome`; under `Plan::Rows` the plan decides whether the job is done, and
+    /// `done` is ignored. It may wait for other calls.
     #[inline(always)]
     pub fn outcome<R: Wait>(&self, rt: &R, grant: Grant, done: bool) -> (TaskPass, How)
         requires { IsGrantOf self.now grant }
@@ -75,7 +75,7 @@ impl Executive {
         }
     }
 
-    /// Writes an idle tick, as `Floor::idle`, and answers its number. It may wait for other calls.
+    /// Writes an idle tick, as `Floor::idle`, and returns its number. It may wait for other calls.
     #[inline(always)]
     pub fn idle<R: Wait>(&self, rt: &R, pass: &mut TaskPass) -> Result<u64, ActFault<IdleFault>>
         requires { IsPassOf self.now pass.old }
@@ -85,7 +85,7 @@ impl Executive {
         self.call_at_rest(rt, pass, Call::Idle).into_idled()
     }
 
-    /// The floor's next act. It changes nothing there, and may wait for other calls.
+    /// The floor's next act, which changes nothing of the floor. It may wait for other calls.
     #[inline(always)]
     pub fn look<R: Wait>(&self, rt: &R, pass: &mut TaskPass) -> Act
         requires { IsPassOf self.now pass.old }
@@ -95,7 +95,7 @@ impl Executive {
         self.call_at_rest(rt, pass, Call::Look).into_next()
     }
 
-    // A call that puts no tick out, and ends none.
+    // Makes a call that neither grants a tick nor ends one.
     #[inline(always)]
     fn call_at_rest<R: Wait>(&self, rt: &R, pass: &mut TaskPass, call: Call) -> Answer
         requires of { IsPassOf self.now pass.old }

@@ -12,7 +12,7 @@ use std::sync::Wait;
 use timetable::Floor;
 use turnstile::Seat;
 
-/// The list has no pass of this task, and it is the lowest such task. The executive and the list come back.
+/// The list has no pass of this task, which is the lowest such task. The executive and the list come back.
 pub struct Unclosed {
     pub executive: Executive,
     pub passes: Vec<TaskPass>,
@@ -20,9 +20,9 @@ pub struct Unclosed {
 }
 
 impl Executive {
-    /// Ends the executive, takes each pass back, and gives the floor that all calls leave. It takes no memory.
+    /// Ends the executive, takes every pass back, and returns the floor after all calls. It allocates nothing.
     ///
-    /// It is refused exactly where the list has no pass of some task.
+    /// It is refused exactly if the list has no pass of some task.
     pub fn close<R: Wait>(self, rt: &R, passes: Vec<TaskPass>) -> Result<Floor, Unclosed>
         requires of { All (λ p. IsPassOf self p) passes.items }
         requires few { vec_len passes ≤ length (floor_of self).core.set }
@@ -42,7 +42,7 @@ impl Executive {
         Ok(self.shut(passes))
     }
 
-    // Ends the executive, where there is a pass of each task.
+    // Ends the executive, if there is a pass of each task.
     fn shut(self, passes: Vec<TaskPass>) -> Floor
         requires of { All (λ p. IsPassOf self p) passes.items }
         requires few { vec_len passes ≤ length (floor_of self).core.set }
@@ -62,7 +62,7 @@ impl Executive {
     }
 }
 
-// The lowest of so many tasks of which the list has no pass.
+// The lowest of this number of tasks of which the list has no pass.
 fn missing(passes: &[TaskPass], tasks: u32) -> Option<TaskNo>
     requires { tasks ≤ 128 }
     ensures some { IfSome result (λ k. (set : List Task) → length set ≡ tasks → IsMissing passes.now set k.0) }
@@ -83,7 +83,7 @@ fn has_pass(passes: &[TaskPass], task: TaskNo) -> bool
     passes.iter().any(|pass| pass.task() == task)
 }
 
-// The seats of the passes, in order.
+// Moves the seats out of the passes into the list, in order.
 fn give_seats(passes: Vec<TaskPass>, list: &mut Vec<Seat<State>>)
     requires { (vec_len list.old ≡ 0) × (vec_len passes ≤ vec_capacity list.old) }
     ensures { map (λ s. Some s) list.new.items ≡ map seat_of passes.items }

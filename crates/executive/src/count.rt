@@ -1,18 +1,18 @@
-//! What a pass was answered, in numbers.
+//! The answers to a pass's calls, in numbers.
 ghost use Rattle.std.specs.Prelude.{◌≡◌, ◌+◌, ◌<◌, ◌^◌};
 ghost use Rattle.executive.specs.Counts.{released, ticked, ended, idled, with_answer};
 
 use crate::entry::Answer;
 use mc_model::How;
 
-/// What a pass counts of its answers. Each field is at most the core's places.
+/// What a pass counts of the answers to its calls. Each field is at most the core's capacity.
 #[derive(Clone, Copy, Debug, PartialEq, Eq)]
 pub struct Count {
-    /// Releases that were taken.
+    /// Releases that the floor took.
     pub releases: u64,
-    /// Ticks that had their outcome.
+    /// Ticks with an outcome.
     pub ticks: u64,
-    /// Those of them that ended their job, by `Done` or `Stop`.
+    /// Ticks that ended their job, by `Done` or `Stop`.
     pub ends: u64,
     /// Idle ticks.
     pub idles: u64,
@@ -26,7 +26,7 @@ impl Count {
         idles: 0,
     };
 
-    // With one answer more.
+    // The count with one more answer.
     pub(crate) fn with(self, answer: &Answer) -> Count
         requires releases { self.releases + released answer.now < 2 ^ 64 }
         requires ticks { self.ticks + ticked answer.now < 2 ^ 64 }

@@ -1,4 +1,4 @@
-//! The entries of the history: who called, what for, and what the floor answered.
+//! The entries of the history: who called, what for, and the floor's answer.
 ghost use Rattle.std.specs.Prelude.{◌≡◌};
 ghost use Rattle.executive.specs.declared.entry.Answer.TheVariants as answer;
 ghost use Rattle.executive.specs.Shows.{ends_tick};
@@ -13,13 +13,13 @@ use timetable::{Act, ActFault};
 pub enum Call {
     /// Release the task's next job.
     Release,
-    /// Put the task's tick out.
+    /// Grant a tick to the task.
     Take,
-    /// End the tick that is out; whether its job is done, as the caller tells.
+    /// End the granted tick; the caller says whether its job is done.
     Outcome(bool),
     /// Write an idle tick.
     Idle,
-    /// Tell the next act.
+    /// Ask for the next act.
     Look,
 }
 
@@ -42,7 +42,7 @@ pub struct Entry {
 }
 
 impl Entry {
-    // Stands where no call was made yet.
+    // A placeholder before the first call.
     pub(crate) const NONE: Entry = Entry {
         task: TaskNo(1),
         call: Call::Look,
@@ -51,7 +51,7 @@ impl Entry {
 }
 
 impl Answer {
-    // Whether a tick ended.
+    // Whether the answer ends a tick.
     pub(crate) fn ends_tick(&self) -> bool
         ensures { result ≡ ends_tick self.now }
     {
@@ -66,7 +66,7 @@ impl Answer {
     }
 }
 
-// Each takes out what a call of its kind is answered.
+// Each of these takes out the answer to a call of its kind.
 impl Answer {
     pub(crate) fn into_released(self) -> Result<Released, ActFault<ReleaseFault>>
         requires { (r : _) × (self ≡ answer.Released r) }

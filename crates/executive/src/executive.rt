@@ -18,7 +18,7 @@ use std::marker::Brand;
 use std::sync::{Mutex, Wait};
 use turnstile::{Seat, Turn, Turnstile};
 
-// An empty list with room for each seat.
+// An empty list with capacity for each seat.
 #[derive(Drop)]
 pub(crate) struct Reserved {
     pub(crate) list: Vec<Seat<State>>,
@@ -26,13 +26,13 @@ pub(crate) struct Reserved {
     ghost room: { 128 ≤ vec_capacity list },
 }
 
-/// A floor that threads share. It is ended by `close` alone.
+/// A floor that threads share. Only `close` ends it.
 pub struct Executive {
     pub(crate) turns: Turnstile<State>,
-    // A list of seats cannot be lent to other threads, and a lock round it can. Only `close` takes it out.
+    // A list of seats cannot be shared with other threads, but a lock around it can. Only `close` takes it out.
     pub(crate) reserved: Mutex<Reserved>,
     pub(crate) tasks: u32,
-    // The writer in the state is its writer.
+    // The writer in the shared state is the writer of this board.
     pub(crate) board: Option<Board>,
     ghost seats: { tasks ≡ seats_of turns },
     ghost few: { tasks ≤ 128 },
@@ -43,11 +43,11 @@ pub struct Executive {
 impl Executive {
     ghost use Rattle.executive.specs.Passes.{floor_of, IsHeldOf, of_held, Adds, Calls};
 
-    // A call that is counted.
+    // Makes a call, whose answer is counted.
     //
-    // Each function that a call passes on its way to the core is inlined, here and in turnstile, timetable and mode_core, so
-    // that each kind of call has code of its own. One function for all of them would branch on the kind three times and clear
-    // a large frame first: a tick of the avionics set would take 660 instructions, where it takes 369.
+    // Each function on the way to the core is inlined, here and in turnstile, timetable and mode_core, so that each
+    // kind of call has code of its own. One function for all kinds would branch on the kind three times and clear a
+    // large frame first: a tick of the avionics set would take 660 instructions, not 369.
     #[inline(always)]
     pub(crate) fn call<R: Wait>(&self, rt: &R, held: Held, call: Call) -> (Held, Answer)
         requires of { IsHeldOf self.now held }
@@ -82,7 +82,7 @@ impl Executive {
         (self.turns.leave::<Brand>(turn), answer)
     }
 
-    // A turn in which the task's call was made, and which has to be left.
+    // A turn in which the task's call was made, and which must still be left.
     #[inline(always)]
     pub(crate) fn begin<R: Wait>(
         &self,

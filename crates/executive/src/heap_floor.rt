@@ -1,4 +1,4 @@
-//! A floor in a block of its own, with the call that was made last: a turn then moves a pointer, and neither of them.
+//! A floor in a heap block of its own with the last call, so that a turn moves only a pointer.
 ghost use Rattle.std.specs.Prelude.{◌≡◌, ◌≤◌, ◌^◌, IfOk, IfErr};
 ghost use Rattle.mc_task.specs.TaskSet.{IsIn};
 ghost use Rattle.executive.specs.Histories.{MayCall, answer_to, after_call, entry};
@@ -12,14 +12,14 @@ use std::alloc::Global;
 use std::marker::Model;
 use timetable::Floor;
 
-/// A floor, and the call that was made last.
+/// A floor, and the last call.
 #[derive(Drop)]
 pub struct CalledFloor {
     pub floor: Floor,
     pub last: Entry,
 }
 
-/// A floor on the heap, and the call that was made last. Contracts see both.
+/// A floor on the heap, and the last call. In contracts it is both of these.
 #[derive(Drop)]
 pub struct HeapFloor {
     block: Box<CalledFloor>,
@@ -43,7 +43,7 @@ impl CalledFloor {
 }
 
 impl HeapFloor {
-    // Puts the floor on the heap, where no call was made yet. Where there is no memory it comes back.
+    // Puts the floor on the heap, where no call was made yet. If an allocation fails, the floor comes back.
     pub(crate) fn new(alloc: Global, floor: Floor) -> Result<HeapFloor, Floor>
         ensures ok { IfOk result (λ called. called.floor ≡ floor) }
         ensures memory { IfErr result (λ f. f ≡ floor) }
@@ -55,14 +55,14 @@ impl HeapFloor {
         }
     }
 
-    // The floor, off the heap.
+    // The floor, taken off the heap.
     pub(crate) fn into_floor(self) -> Floor
         ensures { result ≡ self.floor }
     {
         Box::into_inner(self.block).into_floor()
     }
 
-    // The ticks that ended, and the mode.
+    // The number of ticks that ended, and the mode.
     #[tactic(auto, using(crate::proofs::Shows::few_ticks))]
     pub(crate) fn shown(&self) -> Shown
         ensures shown { result ≡ shown_of self.now.floor }
@@ -75,7 +75,7 @@ impl HeapFloor {
         }
     }
 
-    // The answer to a call of a task, which is then the last one.
+    // Makes a call of a task, which is then the last one, and returns its answer.
     #[inline(always)]
     pub(crate) fn answer(&mut self, task: TaskNo, call: Call) -> Answer
         requires in_set { IsIn self.old.floor.core.set task.0 }
@@ -91,7 +91,7 @@ impl HeapFloor {
     }
 }
 
-// The floor's answer.
+// Makes the call on the floor.
 #[inline(always)]
 fn answered(floor: &mut Floor, task: TaskNo, call: Call) -> Answer
     requires in_set { IsIn floor.old.core.set task.0 }

@@ -22,15 +22,15 @@ use std::sync::{Mutex, Wait};
 use timetable::Floor;
 use turnstile::{NewFault, Seat, Turnstile};
 
-/// There was no memory. The floor comes back.
+/// Out of memory. The floor comes back.
 #[derive(Drop)]
 pub struct NoMemory {
     pub floor: Floor,
 }
 
 impl Executive {
-    /// An executive over a floor with no rows and no tick out, and a pass for each task, in the order of their numbers. It
-    /// has no board. It takes memory, and no later call does.
+    /// An executive over a floor with no rows and no granted tick, without a board, and a pass for each task in the
+    /// order of their numbers. Fails with `NoMemory` if an allocation fails; no later call allocates.
     pub fn new<R: Wait>(
         rt: &R,
         alloc: Global,
@@ -46,7 +46,9 @@ impl Executive {
         Executive::open(alloc, floor, None, None)
     }
 
-    /// The same with a board, which shows the ticks that ended and the mode, and with 1 to 128 watchers of it.
+    /// An executive with a board, which shows the number of ticks that ended and the mode, a pass for each task in the
+    /// order of their numbers, and 1 to 128 watchers of the board. Fails with `NoMemory` if an allocation fails; no
+    /// later call allocates.
     pub fn with_watchers<R: Wait>(
         rt: &R,
         alloc: Global,
@@ -69,7 +71,7 @@ impl Executive {
         Ok((executive, passes, list))
     }
 
-    // An executive with the board and its writer, where there is one.
+    // An executive, with the board and its writer if there is one.
     fn open(
         alloc: Global,
         floor: Floor,
@@ -118,7 +120,7 @@ impl Executive {
         }
     }
 
-    // A pass over each seat.
+    // Makes a pass of each seat.
     fn make_passes(&self, seats: Vec<Seat<State>>, passes: &mut Vec<TaskPass>)
         requires seats { (vec_len seats ≡ self.now.tasks) × turn_seats.AreFresh seats.items × All (λ s. IsOf self.now.turns s) seats.items }
         requires room { (vec_len passes.old ≡ 0) × (self.now.tasks ≤ vec_capacity passes.old) }

@@ -1,4 +1,4 @@
-//! Passes and grants: the right of a task to call, and a tick that is out.
+//! Passes and grants: the right of a task to call, and a granted tick.
 ghost use Rattle.std.specs.Prelude.{◌≡◌, ◌-◌, ◌≤◌, IsSome, Some, None};
 ghost use Rattle.turnstile.specs.Seats.{number, mine, seen};
 ghost use Rattle.executive.specs.Histories.{calls_of};
@@ -12,7 +12,7 @@ use mc_task::TaskNo;
 use mode_core::Granted;
 use turnstile::Seat;
 
-// The seat of a task, with the count of its answers.
+// The seat of a task, with the count of the answers to its calls.
 #[derive(Drop)]
 pub(crate) struct Held {
     pub(crate) task: TaskNo,
@@ -25,25 +25,25 @@ pub(crate) struct Held {
     ghost few: { IsAtMost count (lists seat).opening.core.places },
 }
 
-// A task with no tick out.
+// A task with no granted tick.
 #[derive(Drop)]
 pub(crate) struct Resting {
     pub(crate) held: Held,
     ghost none_out: { job_out held.task.0 (lists held.seat) ≡ None },
 }
 
-/// The right of one task to call, of which there is one. Only an executive makes it.
+/// The right of one task to call; each task has one. Only an executive makes it.
 ///
-/// Contracts see the task, the count of what it was answered, the beginning of the history that it saw, and the calls that
-/// it made. An executive of which a pass was let go cannot be closed.
+/// In contracts it has the task, the count of the answers to its calls, the beginning of the history that it saw, and
+/// the calls that it made. If a pass is dropped, its executive cannot be closed.
 #[derive(Drop)]
 pub struct TaskPass {
-    // It is taken out for the time of a call.
+    // Taken out during a call.
     pub(crate) resting: Option<Resting>,
     ghost there: { IsSome resting },
 }
 
-/// A tick that is out. It holds its task's pass, and is spent by `Executive::outcome` alone.
+/// A granted tick, with its task's pass inside. Only `Executive::outcome` ends it.
 pub struct Grant {
     pub(crate) held: Held,
     pub(crate) granted: Granted,
@@ -58,7 +58,7 @@ impl Held {
     ghost use Rattle.executive.specs.declared.entry.Call.{Call};
     ghost use Rattle.std.specs.Prelude.{IfSome, []};
 
-    // The seat of a task that made one call more, whose answer is counted.
+    // The seat of a task that made one more call, with its answer counted.
     #[inline(always)]
     pub(crate) fn counted(task: TaskNo, count: Count, seat: Seat<State>, answer: &Answer) -> Held
         requires some { 1 ≤ task.0 }
@@ -73,7 +73,7 @@ impl Held {
         }
     }
 
-    // A task with no tick out, as a pass.
+    // A task with no granted tick, as a pass.
     #[inline(always)]
     pub(crate) fn at_rest(self) -> TaskPass
         requires { job_out self.task.0 (lists self.seat) ≡ None }
@@ -90,7 +90,7 @@ impl TaskPass {
     ghost use Rattle.executive.specs.Passes.{of_held, of_pass};
     ghost use Rattle.std.specs.Prelude.{IfSome};
 
-    // What the pass holds.
+    // The task's seat and count.
     pub(crate) fn into_held(self) -> Held
         ensures same { IfSome self.resting (λ r. r.held ≡ result) }
         ensures state { of_held result ≡ of_pass self }
@@ -101,7 +101,7 @@ impl TaskPass {
         held
     }
 
-    /// The task.
+    /// The number of the pass's task.
     pub fn task(&self) -> TaskNo
         ensures { result.0 ≡ (of_pass self.now).task }
     {
@@ -111,10 +111,10 @@ impl TaskPass {
         }
     }
 
-    /// What its calls were answered, in numbers.
+    /// The answers to the calls of this pass, in numbers.
     pub fn count(&self) -> Count
         ensures value { result ≡ (of_pass self.now).count }
-        // It is that of the answers to the calls that it made.
+        // The count is that of the answers to the calls that this pass made.
         ensures answers { result ≡ tally (of_pass self.now).lists.mine }
         ensures few { IsAtMost result (of_pass self.now).lists.opening.core.places }
     {

@@ -1,4 +1,4 @@
-//! The state that the passes share: the floor, the call that was made last, and the writer of the board.
+//! The state that the passes share: the floor, the last call, and the writer of the board.
 ghost use Rattle.std.specs.Prelude.{◌≡◌, ◌+◌, ◌≤◌, ◌^◌, ◌++◌, ◌∷◌, [], List, option_map};
 ghost use Rattle.mc_task.specs.TaskSet.{IsIn};
 ghost use Rattle.executive.specs.Histories.{MayCall, answer_to, after_call, entry};
@@ -16,18 +16,18 @@ use std::marker::Brand;
 use timetable::Floor;
 use turnstile::{Added, Kept};
 
-/// The floor with the last entry of the history, and the writer, where there is a board.
+/// The floor with the last entry of the history, and the writer, if there is a board.
 #[derive(Drop)]
 pub struct State {
     pub(crate) called: HeapFloor,
     pub(crate) writer: Option<Writer>,
 }
 
-/// What no call changes. No value of it is made.
+/// The part of the state that no call changes. No value of this type is ever made.
 pub struct Opened {
     /// The floor before any call.
     pub floor: Floor,
-    /// The board, where there is one.
+    /// The name of the board, if there is one.
     pub board: Option<BoardId>,
 }
 
@@ -53,7 +53,7 @@ impl Added<Entry> for Brand {
 }
 
 impl State {
-    // One call of a task. A tick that it ends is shown on the board, where there is one.
+    // Makes one call of a task. If there is a board, a tick that the call ends is shown there.
     #[inline(always)]
     pub(crate) fn act(&mut self, board: &Option<Board>, task: TaskNo, call: Call) -> Answer
         requires in_set { IsIn self.old.called.floor.core.set task.0 }
@@ -79,7 +79,7 @@ impl State {
     ghost use Rattle.turnstile.specs.History.{StartsWith};
     ghost use Rattle.std.specs.Prelude.{Some};
 
-    // Tells the watcher what was shown.
+    // Brings the watcher up to what was shown.
     pub(crate) fn tell(&mut self, board: &Option<Board>, watcher: &mut Watcher)
         requires board { option_map writer_board self.old.writer ≡ option_map board_id board.now }
         requires watcher { option_map board_id board.now ≡ Some (watcher_board watcher.old) }
@@ -103,7 +103,7 @@ impl State {
     }
 }
 
-// Shows one more pair, where there is a board.
+// Shows one more pair, if there is a board.
 fn show(board: &Option<Board>, writer: &mut Option<Writer>, now: Shown)
     requires board { option_map writer_board writer.old ≡ option_map board_id board.now }
     requires next { (ticks : _) × IsUpTo ticks writer.old × (now.ticks ≡ ticks + 1) }

@@ -1,4 +1,4 @@
-//! What watchers of the board see.
+//! The calls of watchers of the board.
 ghost use Rattle.std.specs.Prelude.{◌≡◌};
 ghost use Rattle.status_board.specs.Logs.{IsLog, start, last_of};
 ghost use Rattle.status_board.specs.Tokens.{seen};
@@ -18,12 +18,13 @@ use std::marker::Brand;
 use std::sync::Wait;
 
 impl Executive {
-    /// The ticks that ended, and the mode. It waits for nobody: calls that end at the same time may be seen or not.
+    /// The number of ticks that ended, and the mode. It never waits; ticks that end at the same time may be seen or
+    /// not.
     pub fn watch(&self, watcher: &mut Watcher) -> Shown
         requires { IsWatcherOf self.now watcher.old }
         ensures of { IsWatcherOf self.now watcher.new }
         ensures begins { StartsWith (seen watcher.new) (seen watcher.old) }
-        // From (0, low) on, one tick more with each pair.
+        // What the watcher has seen are pairs from (0, low) on, each with one tick more.
         ensures log { IsLog (seen watcher.new) }
         ensures last { result ≡ last_of start (seen watcher.new) }
     {
@@ -33,8 +34,8 @@ impl Executive {
         }
     }
 
-    /// From now on the watcher sees no less than what stood on the board after all that the pass has seen then. It is one call
-    /// of the pass, a look, and may wait for other calls.
+    /// From now on the watcher sees no less than what the board showed after all that the pass has then seen. It is one
+    /// call of the pass, a look, and may wait for other calls.
     pub fn tell<R: Wait>(&self, rt: &R, pass: &mut TaskPass, watcher: &mut Watcher)
         requires pass { IsPassOf self.now pass.old }
         requires watcher { IsWatcherOf self.now watcher.old }
@@ -48,7 +49,7 @@ impl Executive {
         pass.resting = Some(Resting { held });
     }
 
-    // A look, in whose turn the watcher is told.
+    // Makes a look, in whose turn the watcher is brought up to date.
     fn told<R: Wait>(&self, rt: &R, held: Held, watcher: &mut Watcher) -> Held
         requires of { IsHeldOf self.now held }
         requires watcher { IsWatcherOf self.now watcher.old }

@@ -1,4 +1,4 @@
-//! An executive over two tasks, on one thread.
+//! Tests of an executive over two tasks, on one thread.
 ghost use Rattle.std.specs.Prelude.{◌≡◌, ◌≤◌, ◌+◌, [], true, None, All, IfOk, length, vec_len, vec_capacity};
 ghost use Rattle.timetable.specs.Floor.{is_planned};
 ghost use Rattle.executive.specs.Passes.{IsPassOf, floor_of};
@@ -22,7 +22,7 @@ use worked_sets::{
     CONTROL, HELD_RELEASE_WORK, Job, OVERRUN_ROWS, OVERRUN_WORK, job, kept, set_of, tick, work_rows,
 };
 
-// A floor whose plan is the jobs.
+// A floor whose plan is these jobs.
 fn planned(alloc: Global, jobs: &[Job], ticks: u32) -> Result<Floor, Fail>
     ensures rows { IfOk result (λ f. (f.core.rows ≡ []) × (f.core.out ≡ None)) }
     ensures plan { IfOk result (λ f. is_planned f.plan ≡ true) }
@@ -39,7 +39,7 @@ fn planned(alloc: Global, jobs: &[Job], ticks: u32) -> Result<Floor, Fail>
     Ok(Floor::new(core, Plan::Rows { work, ticks }))
 }
 
-// A floor without a plan, with four places.
+// A floor without a plan, with a capacity of four rows.
 fn free(alloc: Global) -> Result<Floor, Fail>
     ensures { IfOk result (λ f. (f.core.rows ≡ []) × (f.core.out ≡ None)) }
 {
@@ -58,7 +58,7 @@ fn count(releases: u64, ticks: u64, ends: u64, idles: u64) -> Count {
     }
 }
 
-// The passes of the two tasks, out of their list.
+// The passes of the two tasks, taken out of their list.
 fn two_of(executive: &Executive, passes: &mut Vec<TaskPass>) -> (TaskPass, TaskPass)
     requires { (vec_len passes.old ≡ 2) × AreFresh executive.now passes.old.items }
     ensures passes { IsPassOf executive.now result.0 × IsPassOf executive.now result.1 }
@@ -70,7 +70,7 @@ fn two_of(executive: &Executive, passes: &mut Vec<TaskPass>) -> (TaskPass, TaskP
     (first, second)
 }
 
-// A pass goes back into the list.
+// Puts a pass back into the list.
 fn put(executive: &Executive, passes: &mut Vec<TaskPass>, pass: TaskPass)
     requires list { All (λ p. IsPassOf executive.now p) passes.old.items × IsPassOf executive.now pass }
     requires room { 1 + vec_len passes.old ≤ vec_capacity passes.old }
@@ -81,7 +81,7 @@ fn put(executive: &Executive, passes: &mut Vec<TaskPass>, pass: TaskPass)
     passes.push_reserved(pass);
 }
 
-// An executive over a floor of two tasks, and their passes, out of their list.
+// An executive over a floor of two tasks, and their passes, taken out of their list.
 fn opened<R: Wait + Abort>(
     rt: &R,
     alloc: Global,
@@ -106,7 +106,7 @@ fn opened<R: Wait + Abort>(
     }
 }
 
-// An executive over the floor without a plan, with one watcher: the passes of its two tasks, out of their list, and it.
+// An executive over the floor without a plan, the passes of its two tasks, taken out of their list, and one watcher.
 fn watched<R: Wait>(
     rt: &R,
     alloc: Global,
@@ -130,7 +130,7 @@ fn watched<R: Wait>(
     }
 }
 
-// The floor that is left once the executive was closed with both passes.
+// The floor that is left after the executive was closed with both passes.
 fn closed<R: Wait + Abort>(
     rt: &R,
     executive: Executive,
@@ -151,7 +151,8 @@ fn closed<R: Wait + Abort>(
     }
 }
 
-// Closes the executive without the second pass, and then with both: the task that was missing, and the floor that is left.
+// Closes the executive without the second pass, and then with both. Returns the missing task, and the floor that is
+// left.
 fn closed_twice<R: Wait + Abort>(
     rt: &R,
     executive: Executive,
@@ -183,7 +184,7 @@ fn closed_twice<R: Wait + Abort>(
     }
 }
 
-// A tick of the task that is not its job's last, or why there is none, with the pass.
+// Makes a tick of the task that is not its job's last. Returns it, or why there is none, with the pass.
 fn ticked<R: Wait>(
     rt: &R,
     executive: &Executive,
@@ -201,7 +202,7 @@ fn ticked<R: Wait>(
     }
 }
 
-// What a call of a pass or a watcher gives.
+// What a call of a pass or a watcher returns.
 #[derive(Clone, Copy, Debug, PartialEq, Eq)]
 enum Seen {
     Released(Result<Released, ActFault<ReleaseFault>>),
@@ -213,7 +214,7 @@ enum Seen {
     Shown(Shown),
 }
 
-// Whether it is the pass of the task, and counts nothing.
+// Whether it is the pass of the task and counts nothing yet.
 fn is_new(pass: &TaskPass, task: TaskNo) -> bool {
     pass.task() == task && pass.count() == count(0, 0, 0, 0)
 }
@@ -232,7 +233,7 @@ fn close_wants_a_pass_of_each_task(rt: HostRuntime) -> Result<(), Fail> {
     Ok(())
 }
 
-// What the calls of `a_planned_tick` give.
+// What the calls of `a_planned_tick` return.
 const PLANNED_TICK: [Seen; 6] = [
     Seen::Released(Ok(Released::Kept {
         job: job!(1, 1),
@@ -297,7 +298,7 @@ fn a_planned_tick_is_taken_and_ended(rt: HostRuntime) -> Result<(), Fail> {
     Ok(())
 }
 
-// What the calls of `beside_a_tick` give.
+// What the calls of `beside_a_tick` return.
 const BESIDE_A_TICK: [Seen; 9] = [
     Seen::Idle(Ok(0)),
     Seen::IsReleased(true),
@@ -313,7 +314,8 @@ const BESIDE_A_TICK: [Seen; 9] = [
     Seen::Ticked(Err(ActFault::Core(GrantFault::Full))),
 ];
 
-// Calls of the first task until its tick is out, four of the second task, the tick's outcome, and one tick too many.
+// Calls of the first task until it has a granted tick, four calls of the second task, the tick's outcome, and one tick
+// too many.
 fn beside_a_tick<R: Wait>(
     rt: &R,
     executive: &Executive,
@@ -365,7 +367,7 @@ fn other_tasks_are_answered_while_a_tick_is_out(rt: HostRuntime) -> Result<(), F
     Ok(())
 }
 
-// Finishes the plan, where it is one and no tick is out.
+// Finishes the plan, if there is one and no tick is granted.
 fn finished(floor: &mut Floor) -> bool {
     if floor.core().out().is_some() || !floor.is_planned() {
         return false;
@@ -426,7 +428,7 @@ fn a_watcher_that_is_not_told_sees_the_idle_tick_too(rt: HostRuntime) -> Result<
     Ok(())
 }
 
-// What is seen of an overrun, from its release on.
+// What a run with an overrun shows, from its release on.
 const OVERRUN: [Seen; 6] = [
     Seen::IsReleased(true),
     Seen::Shown(Shown {

@@ -1,3 +1,4 @@
+//! Tests of demand files, the processor-demand test and counterexamples.
 use demand_test::{
     Demand, DemandCause, DemandFault, DemandSet, Fit, check_demand, counter, read_demands,
 };
@@ -21,8 +22,8 @@ fn past(length: u64, demand: u64) -> Fit {
     Fit::Past { length, demand }
 }
 
-// Sets of tasks of a name, a period, a deadline and a budget. In the answers the lengths and what is asked for in them are
-// added up by hand, and by examples/model.py.
+// Sets of tasks with a name, a period, a deadline and a budget. The expected lengths, and what is asked for in them,
+// were added up by hand and by examples/model.py.
 fn sets() -> [(&'static str, Fit); 18] {
     [
         ("a,4,2,1\nb,6,3,2\n", within(12)),
@@ -30,21 +31,21 @@ fn sets() -> [(&'static str, Fit); 18] {
         // Buttazzo, Hard Real-Time Computing Systems, on EDF with deadlines below periods: 16 ticks ask for 16.
         ("a,6,4,2\nb,8,5,2\nc,9,7,3\n", within(72)),
         ("a,6,4,2\nb,8,5,2\nc,9,7,4\n", past(7, 8)),
-        // Burns and Wellings, Real-Time Systems and Programming Languages, on deadline-monotonic priorities, and then with
-        // ever more for its last task.
+        // Burns and Wellings, Real-Time Systems and Programming Languages, on deadline-monotonic priorities; then with
+        // more and more for the last task.
         ("a,20,5,3\nb,15,7,3\nc,10,10,4\nd,20,20,3\n", within(60)),
         ("a,20,5,3\nb,15,7,3\nc,10,10,4\nd,20,20,5\n", past(40, 41)),
         ("a,20,5,3\nb,15,7,3\nc,10,10,4\nd,20,20,6\n", past(22, 23)),
         ("a,20,5,3\nb,15,7,3\nc,10,10,4\nd,20,20,7\n", past(20, 21)),
-        // Each budget over its deadline adds up to more than 1, and the tasks fit.
+        // The budgets over their deadlines add up to more than 1, and the tasks fit.
         ("a,4,1,1\nb,4,2,1\nc,4,3,1\nd,4,4,1\n", within(4)),
         ("a,3,2,1\nb,4,4,2\n", within(12)),
-        // 6 and 8 ticks are used up by the second set, and at 13 both of its tasks have one more deadline.
+        // In the second set 6 and 8 ticks are used up, and at 13 both of its tasks have one more deadline.
         ("a,5,3,2\nb,7,6,3\n", within(35)),
         ("a,5,3,2\nb,7,6,4\n", past(13, 14)),
-        // Full use, with each deadline at its period.
+        // Full use, with each deadline equal to the period.
         ("a,2,2,1\nb,3,3,1\nc,6,6,1\n", within(6)),
-        // Past only at the least common multiple itself.
+        // Past only at the hyperperiod itself.
         ("a,2,2,1\nb,3,3,1\nc,6,6,2\n", past(6, 7)),
         ("a,1,1,1\n", within(1)),
         ("a,1,1,4294967295\n", past(1, 4_294_967_295)),
@@ -56,7 +57,7 @@ fn sets() -> [(&'static str, Fit); 18] {
     ]
 }
 
-// What the test answers on the set of these records.
+// The result of the test on the set of these records.
 fn fit(alloc: Global, records: &str) -> Result<Fit, Fail> {
     let set = set_of(alloc, records)?;
     Ok(check_demand(alloc, &set)?)
@@ -82,7 +83,7 @@ fn push_record(
     text.push_str(record.as_str())
 }
 
-// The records of 128 tasks, of which the last has another budget.
+// The records of 128 tasks, the last of which has another budget.
 fn many(alloc: Global, usual: &str, last: &str) -> Result<String, AllocError> {
     let mut records = String::new(alloc);
     for number in 1..128u32 {
@@ -92,7 +93,7 @@ fn many(alloc: Global, usual: &str, last: &str) -> Result<String, AllocError> {
     Ok(records)
 }
 
-// How many tasks the set of these records has, and what the test answers.
+// The number of tasks in the set of these records, and the result of the test.
 fn counted_fit(alloc: Global, records: &str) -> Result<(u32, Fit), Fail> {
     let set = set_of(alloc, records)?;
     Ok((set.len(), check_demand(alloc, &set)?))
@@ -151,7 +152,7 @@ const COUNTEREXAMPLES: [(&str, &str); 5] = [
         "a,4,2,1\nb,6,3,3\n",
         "release a 1 at 0\nrelease b 1 at 0\ntick 0 a 1\ntick 1 b 1\ntick 2 b 1\nlate b 1\n",
     ),
-    // Of equal deadlines the lowest task number runs first. Both b and a are late, and b was released first.
+    // Of equal deadlines the lowest task number runs first. Both b and a are late; b was released first.
     (
         "z,4,4,1\na,2,2,1\nb,4,4,1\nc,4,3,2\n",
         "release z 1 at 0\nrelease a 1 at 0\nrelease b 1 at 0\nrelease c 1 at 0\ntick 0 a 1\ntick 1 c 1\nrelease a 2 at 2\ntick 2 c 1\ntick 3 z 1\nlate b 1\n",
@@ -160,7 +161,7 @@ const COUNTEREXAMPLES: [(&str, &str); 5] = [
         "a,2,2,1\nb,3,3,1\nc,6,6,2\n",
         "release a 1 at 0\nrelease b 1 at 0\nrelease c 1 at 0\ntick 0 a 1\ntick 1 b 1\nrelease a 2 at 2\ntick 2 a 2\nrelease b 2 at 3\ntick 3 b 2\nrelease a 3 at 4\ntick 4 a 3\ntick 5 c 1\nlate c 1\n",
     ),
-    // b goes on when a is released with a later deadline, and lacks a tick where both have the deadline 13.
+    // b goes on when a is released with a later deadline, and lacks a tick when both have the deadline 13.
     (
         "a,5,3,2\nb,7,6,4\n",
         "release a 1 at 0\nrelease b 1 at 0\ntick 0 a 1\ntick 1 a 1\ntick 2 b 1\ntick 3 b 1\ntick 4 b 1\nrelease a 2 at 5\ntick 5 b 1\ntick 6 a 2\nrelease b 2 at 7\ntick 7 a 2\ntick 8 b 2\ntick 9 b 2\nrelease a 3 at 10\ntick 10 a 3\ntick 11 a 3\ntick 12 b 2\nlate b 2\n",
@@ -171,7 +172,7 @@ const COUNTEREXAMPLES: [(&str, &str); 5] = [
     ),
 ];
 
-// The counterexample of a set that is past, or `None` where it is not.
+// The counterexample of a set that is past, or `None` if it is not past.
 fn counterexample(alloc: Global, set: &DemandSet) -> Result<Option<Vec<u8>>, Fail> {
     match check_demand(alloc, set)? {
         Fit::Past { length, .. } => Ok(Some(counter(alloc, set, length)?)),
@@ -209,7 +210,7 @@ fn a_counterexample_of_the_greatest_length_is_shown(rt: HostRuntime) -> Result<(
     Ok(())
 }
 
-// Files, each with its tasks as `name period deadline budget;`, or its first refusal.
+// Files, each with its tasks as `name period deadline budget;`, or with its first refusal.
 const FILES: [(&str, &str); 14] = [
     ("", "line 1: Header"),
     ("\n\n", "line 1: Header"),
@@ -239,7 +240,7 @@ const FILES: [(&str, &str); 14] = [
     ),
 ];
 
-// Records behind the header, with spaces between them, each list with its tasks or its first refusal.
+// Records after the header, separated by spaces, each list with its tasks or its first refusal.
 const RECORDS: [(&str, &str); 34] = [
     ("a,4,2", "line 2: BadRecord"),
     ("a,4,2,1,", "line 2: BadRecord"),
@@ -268,7 +269,7 @@ const RECORDS: [(&str, &str); 34] = [
     ("a,4294967295,1,1", "line 2: Range"),
     ("a,1000,1,1 b,501,1,1", "line 3: Range"),
     ("a,500000,1,1 b,250000,1,1 c,3,1,1", "line 4: Range"),
-    // Where several causes stand together, the first in their order is told.
+    // If several causes apply, the first in their order is reported.
     ("a.b,4", "line 2: BadRecord"),
     ("a.b,x,2,1", "line 2: BadName"),
     ("a,4,2,1 a,x,3,2", "line 3: SameName"),
@@ -297,7 +298,7 @@ fn push_demand(alloc: Global, text: &mut String, task: &Demand) -> Result<(), Al
     text.push_str(numbers.as_str())
 }
 
-// Whether the bytes are answered so: by the tasks, or by the refusal.
+// Whether reading the bytes gives these tasks, or this refusal.
 fn is_answered(alloc: Global, bytes: &[u8], wanted: &str) -> Result<bool, AllocError> {
     let text = match read_demands(alloc, bytes) {
         Ok(set) => tasks_text(alloc, &set)?,
@@ -306,7 +307,7 @@ fn is_answered(alloc: Global, bytes: &[u8], wanted: &str) -> Result<bool, AllocE
     Ok(text.as_str() == wanted)
 }
 
-// Whether these records, with spaces between them, are answered so after the header.
+// Whether reading these records after the header, separated by spaces, gives this result.
 fn are_answered(alloc: Global, records: &str, wanted: &str) -> Result<bool, AllocError> {
     let lines = records.replace(alloc, " ", "\n")?;
     let text = format!(in alloc; "{HEADER}{lines}\n")?;
@@ -371,7 +372,7 @@ fn bytes_that_are_no_text_are_refused(rt: HostRuntime) {
     }
 }
 
-// Whether a record of 200,000 commas after this text is answered so.
+// Whether reading a record of 200,000 commas after this text gives this result.
 fn is_wide_answered(alloc: Global, before: &str, wanted: &str) -> Result<bool, AllocError> {
     let mut file = Vec::new(alloc);
     file.extend_from_slice(before.as_bytes())?;

@@ -1,3 +1,4 @@
+//! Tests of the records of a text.
 ghost use Rattle.std.specs.Prelude.{◌==◌, ◌≤◌, nat_lt, nat_le, ◌&&◌, if◌then◌else◌, length, Some, None, Ok, Err};
 ghost use Rattle.std.proofs.Common.{arith};
 ghost use Rattle.std.proofs.lemmas.Bool.Decides.{nat_tests};
@@ -7,7 +8,7 @@ use csv_records::{Meaning, Next, Records, read_rows};
 use std::alloc::{AllocError, Global};
 use std::test::Fail;
 
-// Whether the record has this many fields, and the first of them are these.
+// Whether the record has this number of fields, and these are the first of them.
 fn has(record: &ByteRecord, len: usize, first: &[&[u8]]) -> bool {
     for (place, field) in first.iter().enumerate() {
         if record.get(place) != Some(*field) {
@@ -17,7 +18,7 @@ fn has(record: &ByteRecord, len: usize, first: &[&[u8]]) -> bool {
     record.len() == len
 }
 
-// Whether a record comes next, and has this many fields, of which these are the first.
+// Whether a record comes next with this number of fields, of which these are the first.
 fn is_next(records: &mut Records, fields: &mut ByteRecord, len: usize, first: &[&[u8]]) -> bool {
     records.next(fields) == Ok(Next::Record) && has(fields, len, first)
 }
@@ -36,7 +37,7 @@ fn records_are_given_in_order(rt: HostRuntime) {
     assert!(rt; records.next(&mut fields) == Ok(Next::End));
 }
 
-// Records of two fields, the first of them with seven commas, two quotes and a line feed; then six fields, and then seven.
+// A record of two fields, the first of them with seven commas, two quotes and a line feed; then six fields; then seven.
 fn long_text(alloc: Global) -> Result<Vec<u8>, AllocError> {
     let mut text = Vec::new(alloc);
     text.extend_from_slice(b"\xEF\xBB\xBF")?;
@@ -63,8 +64,8 @@ fn a_wide_record_of_a_long_text_is_told_and_not_read(rt: HostRuntime) -> Result<
     Ok(())
 }
 
-// A header of one field, and at most three records behind it, of one or two fields each. A row is its number of fields, and
-// the cause of a refusal how many rows stand before it.
+// A header of one field, and at most three records after it, of one or two fields each. A row is its number of fields,
+// and the cause of a refusal is the number of rows before it.
 #[derive(Drop)]
 struct Widths;
 
@@ -104,7 +105,7 @@ impl Meaning for Widths {
     ghost few = { λ widths kept rows three. Prim.omega (arith, three) };
 }
 
-// Whether the text is read so: as these rows, or with this refusal.
+// Whether reading the text gives these rows, or this refusal.
 fn is_read_as(alloc: Global, text: &str, expected: &str) -> Result<bool, AllocError> {
     let got = match read_rows(alloc, text.as_bytes(), 9, &Widths) {
         Ok((rows, _)) => format!(in alloc; "{rows:?}")?,

@@ -1,3 +1,4 @@
+//! Tests of task files.
 use mc_task::{Level, Name, Scale, Task, TaskNo, TaskSet};
 use std::alloc::{AllocError, Global};
 use std::test::Fail;
@@ -18,7 +19,7 @@ period = 10
 low = 5
 ";
 
-// The refusal's text, with the key that it shows.
+// The text of the refusal, with the key that it shows.
 fn refusal(alloc: Global, fault: &TaskFault) -> Result<String, AllocError> {
     match fault {
         TaskFault::TopKey { key } | TaskFault::KeyUnknown { key, .. } => {
@@ -34,7 +35,7 @@ fn fault_of(alloc: Global, bytes: &[u8]) -> Option<TaskFault> {
     read_tasks(alloc, bytes).err()
 }
 
-// Whether the file is answered so: by its refusal's text, or by `ok`.
+// Whether reading the file gives the refusal with this text, or succeeds if the text is `ok`.
 fn is_answered(alloc: Global, bytes: &[u8], expected: &str) -> Result<bool, AllocError> {
     let Some(fault) = fault_of(alloc, bytes) else {
         return Ok(expected == "ok");
@@ -110,7 +111,7 @@ const DOCUMENTS: [(&str, &str); 36] = [
     ),
 ];
 
-// Whether the tasks are answered so in a file of this version.
+// Whether reading the tasks, in a file of this version, gives this result.
 fn is_answered_in(alloc: Global, version: u32, expected: &str) -> Result<bool, AllocError> {
     let text = format!(in alloc; "version = {version}\n{CONTROL}")?;
     is_answered(alloc, text.as_bytes(), expected)
@@ -132,7 +133,7 @@ fn the_first_fault_of_a_document_is_the_answer(rt: HostRuntime) -> Result<(), Fa
     Ok(())
 }
 
-// What one task has, and the file's first fault.
+// The lines of one task, each with the file's first fault.
 const TASKS: &str = "\
 level = 1, period = 1, low = 1, extra = 1 => task 1: unknown key extra
 high = 1, level = 1, period = 1, low = 1 => task 1: missing key Name
@@ -163,7 +164,7 @@ name = 'a', level = 'high', period = 1, low = 3, high = 3 => ok
  => task 1: missing key Name
 ";
 
-// Whether the file of one task is answered as the line says.
+// Whether reading the file of one task gives the result at the end of the line.
 fn is_line_answered(alloc: Global, line: &str) -> Result<bool, AllocError> {
     let Some((fields, expected)) = line.split_once(" => ") else {
         return Ok(false);
@@ -181,7 +182,7 @@ fn the_first_fault_of_a_task_is_the_answer(rt: HostRuntime) -> Result<(), Fail> 
     Ok(())
 }
 
-// That many low tasks with different names, after the head of their file.
+// This number of low tasks with different names, after the head of their file.
 fn many_tasks(alloc: Global, head: &str, count: u32) -> Result<String, AllocError> {
     let mut text = String::from_str(alloc, head)?;
     for k in 0..count {

@@ -1,3 +1,4 @@
+//! Tests of traces as text.
 use mc_model::How::{Done, More, Over};
 use mc_model::{Row, Run};
 use mc_task::TaskSet;
@@ -10,7 +11,7 @@ const HEADER: &str = "event,tick,task,job,how\n";
 
 const SECOND_HEADER: &str = "event,tick,length,task,job,how\n";
 
-// A job of ctl runs over its low budget and on to its end; log's job is discarded, and its next one runs.
+// A job of ctl overruns its low budget and runs to its end; log's job is discarded, and log's next job runs.
 const OVERRUN: &str = "\
 event,tick,task,job,how
 release,0,ctl,1,kept
@@ -30,7 +31,7 @@ tick,10,log,2,more
 tick,11,log,2,more
 ";
 
-// The same in version 2.
+// The trace `OVERRUN` in version 2.
 const PACKED: &str = "\
 event,tick,length,task,job,how
 release,0,,ctl,1,kept
@@ -44,7 +45,7 @@ release,10,,log,2,kept
 tick,10,2,log,2,more
 ";
 
-// The runs of a trace, one for each record, and the same merged.
+// The runs of a trace, one for each record, and the runs merged.
 fn read_and_merged(alloc: Global, set: &TaskSet, text: &str) -> Result<(Vec<Run>, Vec<Run>), Fail> {
     let runs = read_trace(alloc, set, text.as_bytes())?;
     let merged = merge(alloc, &runs)?;
@@ -58,7 +59,7 @@ fn read_and_written(alloc: Global, set: &TaskSet, text: &str) -> Result<(Vec<Run
     Ok((runs, written))
 }
 
-// Whether there are so many runs, with this one at this place.
+// Whether there are `len` runs, with this run at index `place`.
 fn has(runs: &[Run], len: usize, place: usize, run: Run) -> bool {
     runs.len() == len && runs.get(place) == Some(&run)
 }
@@ -118,7 +119,7 @@ fn equal_rows_that_stand_together_are_packed(rt: HostRuntime) -> Result<(), Fail
     Ok(())
 }
 
-// The refusal's text, or how many runs there are.
+// The text of the refusal, or the number of runs.
 fn outcome(alloc: Global, set: &TaskSet, text: &str) -> Result<String, AllocError> {
     match read_trace(alloc, set, text.as_bytes()) {
         Ok(runs) => format!(in alloc; "{} runs", runs.len()),
@@ -136,8 +137,8 @@ fn is_answered(
     Ok(outcome(alloc, set, text)?.as_str() == expected)
 }
 
-// Whether records behind this header are answered as their line says: it has spaces between them, and the answer at its
-// end.
+// Whether reading records after this header gives the result at the end of their line, in which the records are
+// separated by spaces.
 fn is_line_answered(
     alloc: Global,
     set: &TaskSet,
@@ -152,7 +153,7 @@ fn is_line_answered(
     is_answered(alloc, set, text.as_str(), expected)
 }
 
-// Texts without a header, or with another, each with what is answered.
+// Texts without a header, or with a wrong one, each with the expected result.
 const HEADERS: [(&str, &str); 10] = [
     ("", "line 1: Header"),
     ("\n\n", "line 1: Header"),
@@ -166,7 +167,7 @@ const HEADERS: [(&str, &str); 10] = [
     ("event,tick,length,task,job\n", "line 1: Header"),
 ];
 
-// Records behind the header, and what is answered.
+// Records after the header, and the expected result.
 const RECORDS: &str = "\
 release,0,ctl,1,kept tick,0,ct => line 3: BadRecord
 release,0,ctl,1,kept tick,0,ctl,1,mor => line 3: UnknownEvent
@@ -220,7 +221,7 @@ fn the_first_refusal_of_the_records_is_the_answer(rt: HostRuntime) -> Result<(),
     Ok(())
 }
 
-// Records behind the header of version 2, and what is answered.
+// Records after the header of version 2, and the expected result.
 const SECOND: &str = "\
 idle,0,1,, => line 2: NotSix
 release,0,ctl,1,kept => line 2: NotSix
@@ -281,7 +282,7 @@ fn the_first_refusal_of_version_2_is_the_answer(rt: HostRuntime) -> Result<(), F
 // A record of version 2 with quotes.
 const QUOTED: &str = "\"release\",0,,\"ctl\",\"1\",kept\n";
 
-// Long texts: a header, a text that stands behind it so many times, the last text, and what is answered.
+// Long texts: a header, a text that is repeated this many times after it, the last text, and the expected result.
 const LONG_TEXTS: [(&str, u32, &str, &str, &str); 9] = [
     ("", 200_000, ",", "\n", "line 1: Header"),
     (HEADER, 200_000, ",", "", "line 2: BadRecord"),
@@ -313,7 +314,8 @@ const LONG_TEXTS: [(&str, u32, &str, &str, &str); 9] = [
     (SECOND_HEADER, 10_000, QUOTED, "", "10000 runs"),
 ];
 
-// A text longer than the part of a record that is read unseen: a header, that many times the first text, and the last.
+// A long text, whose records have their fields counted before they are read: a header, the first text `count` times,
+// and the last text.
 fn long_text(
     alloc: Global,
     header: &str,
@@ -344,7 +346,7 @@ fn a_wide_record_of_a_long_text_is_refused_by_its_width(rt: HostRuntime) -> Resu
     Ok(())
 }
 
-// A trace of that many jobs.
+// A trace of this number of jobs.
 fn many_jobs(alloc: Global, count: u32) -> Result<String, AllocError> {
     let mut text = String::from_str(alloc, SECOND_HEADER)?;
     for k in 0..count {

@@ -1,3 +1,4 @@
+//! Tests of work files and lists of work.
 use mc_model::WorkRow;
 use mc_task::{Level, TaskSet};
 use std::alloc::{AllocError, Global};
@@ -19,7 +20,7 @@ fn push_row(alloc: Global, text: &mut String, row: WorkRow) -> Result<(), AllocE
     text.push_str(row.as_str())
 }
 
-// Whether the file is answered so: by its rows, or by its refusal.
+// Whether reading the file gives these rows, or this refusal.
 fn is_answered(
     alloc: Global,
     set: &TaskSet,
@@ -35,7 +36,7 @@ fn is_answered(
 
 const HEADER: &str = "task,release,need\n";
 
-// Whether these records, with spaces between them, are answered so after the header.
+// Whether reading these records after the header, separated by spaces, gives this result.
 fn are_answered(
     alloc: Global,
     set: &TaskSet,
@@ -82,7 +83,7 @@ const FILES: [(&str, &str); 16] = [
     ("task, release,need", "line 1: Header"),
 ];
 
-// Records after the header, with spaces between them, each list with its rows or its first refusal.
+// Records after the header, separated by spaces, each list with its rows or its first refusal.
 const RECORDS: [(&str, &str); 27] = [
     ("ctl,0,6 ctl,9,1", "line 3: TooSoon { next: 10 }"),
     ("ctl,0,6 log,2,1 ctl,9,1", "line 4: TooSoon { next: 10 }"),
@@ -135,7 +136,7 @@ fn a_file_gives_its_rows_or_its_first_refusal(rt: HostRuntime) -> Result<(), Fai
     Ok(())
 }
 
-// Lists of rows of a task, a release and a need, each with its first refusal.
+// Lists of rows, each row a task, a release and a need, with the first refusal of each list.
 const LISTS: [(&[Job], Option<(usize, WorkCause)>); 11] = [
     (&[], None),
     (&[(1, 0, 6), (2, 0, 5), (1, 10, 1)], None),
@@ -159,7 +160,7 @@ const LISTS: [(&[Job], Option<(usize, WorkCause)>); 11] = [
     (&[(1, u32::MAX, u32::MAX)], None),
 ];
 
-// Whether the list is work with these rows, or has this first bad row.
+// Whether the list is a list of work with these rows, or has this first bad row.
 fn is_judged(
     alloc: Global,
     set: &TaskSet,
@@ -234,7 +235,7 @@ fn there_are_at_most_a_million_rows(rt: HostRuntime) -> Result<(), Fail> {
     Ok(())
 }
 
-// Whether a record of 200,000 commas after this text is answered so.
+// Whether reading a record of 200,000 commas after this text gives this result.
 fn is_wide_answered(
     alloc: Global,
     set: &TaskSet,

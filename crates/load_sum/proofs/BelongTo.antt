@@ -1,4 +1,4 @@
--- Loads that belong to a set, and what they say of it.
+-- Loads that belong to a set, and what follows from them for the set.
 use Rattle.std.proofs.Common.{◌≡◌, ℕ, ◌*◌, ◌<◌, ◌≤◌, List, sym, ◌∙◌, ap, arith}
 use Rattle.std.proofs.Math.Nat.{eq_of_mul-eq-mul_right}
 use Rattle.mc_task.specs.declared.task.Task.{Task}
@@ -8,7 +8,7 @@ use Rattle.mc_model.proofs.Loads.{scale_of}
 use Rattle.load_sum.specs.declared.loads.Loads.{Loads}
 use Rattle.load_sum.specs.Belong.{BelongTo}
 
--- x over l is k * x over k * l
+-- x over l equals k * x over k * l
 pub across : (x k l p a : ℕ) → p ≡ k * l → a ≡ k * x → x * p ≡ a * l
 across x k l p a whole part = ap (λ z. x * z) whole ∙ omega arith ∙ ap (λ z. z * l) (sym part)
 
@@ -28,7 +28,7 @@ BelongTo-from_sums tasks loads set lcm above within low_low_is high_low_is high_
       high_high = across loads.high_high k loads.lcm (product tasks) (load_hh tasks) whole (s.high_high ∙ ap (λ l. k * load high_high l tasks) (sym lcm) ∙ ap (λ x. k * x) (sym high_high_is));
     }
 
--- the loads of the set are k times these
+-- the loads of the set over the product of its periods are k times the loads over the hyperperiod
 pub record IsScaled (k : ℕ) (tasks : List Task) (loads : Loads) : Type 0 where
   pub above : 0 < k
   pub periods : product tasks ≡ k * loads.lcm

@@ -1,4 +1,4 @@
--- Loads that belong to a set: its utilisations over the least common multiple of its periods.
+-- Loads that belong to a set: its utilisations over the hyperperiod.
 use Rattle.std.specs.Prelude.{◌≡◌, ℕ, ◌*◌, ◌<◌, ◌≤◌, List}
 use Rattle.mc_task.specs.declared.task.Task.{Task}
 use Rattle.mc_task.specs.TaskSet.{AreTasks}
@@ -7,7 +7,7 @@ use Rattle.load_sum.specs.declared.loads.Loads.{Loads}
 use Rattle.load_sum.specs.declared.loads.LoadFault.{LoadFault}
 use Rattle.load_sum.specs.declared.loads.LoadFault.TheVariants.{Range}
 
--- each numerator stands over lcm as the set's load stands over the product of the periods
+-- each numerator over lcm, the hyperperiod, is the set's load over the product of the periods
 pub record BelongTo (tasks : List Task) (loads : Loads) : Type 0 where
   pub set : AreTasks tasks
   pub lcm : loads.lcm ≡ hyperperiod tasks
@@ -22,6 +22,6 @@ pub record AreOfSomeSet (loads : Loads) : Type 0 where
   pub tasks : List Task
   pub belong : BelongTo tasks loads
 
--- the task that takes the periods out of range
+-- the number of the task whose period takes the hyperperiod out of range
 abbrev pub fault_task : LoadFault → ℕ
 fault_task (Range task) = task.0

@@ -1,3 +1,4 @@
+//! The loads of a task set: its utilisations, exactly.
 ghost use Rattle.std.specs.Prelude.{◌≡◌, ◌<◌, ◌≤◌, ◌^◌, ◌*◌, ◌/◌, ◌↔◌, Some, None, IfOk, IfErr, IsOk, length, slice_get, List};
 ghost use Rattle.mc_task.specs.TaskSet.{AreTasks};
 ghost use Rattle.mc_task.specs.declared.task.Task.{Task};
@@ -7,11 +8,11 @@ ghost use Rattle.load_sum.specs.Belong.{BelongTo, fault_task};
 use mc_task::{Level, Task, TaskNo, TaskSet};
 use tick_frac::lcm_within;
 
-/// The greatest least common multiple of periods that is within range.
+/// The greatest hyperperiod that is within range.
 const MOST_LCM: u64 = 1 << 60;
 
-/// The utilisations of a set as numerators over `lcm`, the least common multiple of its periods:
-/// U_LL is `low_low / lcm`, U_HL is `high_low / lcm` and U_HH is `high_high / lcm`.
+/// The utilisations of a set as numerators over `lcm`, the hyperperiod in ticks: U_LL is `low_low / lcm`, U_HL is
+/// `high_low / lcm` and U_HH is `high_high / lcm`.
 #[derive(Clone, Copy, Debug, PartialEq, Eq)]
 pub struct Loads {
     pub lcm: u64,
@@ -23,16 +24,16 @@ pub struct Loads {
 /// Why a set has no loads.
 #[derive(Clone, Copy, Debug, PartialEq, Eq)]
 pub enum LoadFault {
-    /// The task is the first whose period takes the least common multiple of the periods past 2^60.
+    /// The hyperperiod exceeds 2^60. The task is the first whose period takes the least common multiple past that.
     Range { task: TaskNo },
 }
 
-/// The utilisations of a set (Baruah et al., ECRTS 2012), refused exactly where its periods are out of range.
+/// The utilisations of a set (Baruah et al., ECRTS 2012); `Err` exactly if its hyperperiod exceeds 2^60.
 pub fn sum_loads(set: &TaskSet) -> Result<Loads, LoadFault>
     ensures ok { IfOk result (λ loads. BelongTo set.now.tasks loads × (model.range_fault set.now.tasks ≡ None)) }
     ensures range { IfErr result (λ fault. model.range_fault set.now.tasks ≡ Some (fault_task fault)) }
     ensures within { IsOk result ↔ model.IsWithinRange set.now.tasks }
-    // The definition is a common multiple of the periods that divides each common multiple.
+    // `hyperperiod` computes; this clause says that it is the least common multiple of the periods.
     ensures law { (tasks : List Task) → model.IsLeastCommon tasks (model.hyperperiod tasks) }
 {
     let lcm = common_multiple(set)?;

@@ -1,4 +1,4 @@
--- The pending jobs of a legal trace, row by row, are those of the model.
+-- The model's pending jobs of a legal trace are those that are computed row by row (Fold).
 use Rattle.std.proofs.Common.{◌≡◌, ◌+◌, ◌≤◌, Bool, true, false, not, ◌&&◌, ◌||◌, List, [], ◌∷◌, None, cond, filter, refl, sym, ap, ◌∙◌, subst, arith}
 use Rattle.mc_task.specs.declared.task.Rule.{Rule}
 use Rattle.mc_task.specs.declared.task.Task.{Task}
@@ -21,7 +21,7 @@ use Rattle.mc_model.specs.Pending
 use Rattle.mc_model.proofs.Fold
 use Rattle.mc_model.specs.declared.row.How.{How}
 
--- a tick leaves a job live where it was live and stays
+-- a tick leaves a job pending if it was pending and stays
 pub tick_live : (e s n h o v : Bool) → (not ((e && s) || n) && (h || not (o || v))) ≡ ((not n && (h || not v)) && (not (e && s) && (not o || h)))
 tick_live e s n h o v = grind arith
 
@@ -64,17 +64,17 @@ others set rule j kept g l c =
     filter_ext (is_live set (Release j kept ∷ g)) (is_live set g) (released g)
     (Each-map {P = λ x. x.job.count ≤ releases g x.job.task.0} (λ x k. let n = other_job g j x.job c k in rw n refl) (released g) (released_count set rule g l))
 
--- a job that was just released is live
+-- a job that was just released is pending
 pub or_not : (h : Bool) → (true && (h || not (not true && false))) ≡ true
 or_not true = refl
 or_not false = refl
 
--- a trace that is legal row by row, and has the same pending jobs so
+-- a trace that is legal row by row, and whose pending jobs row by row are those of the model
 pub record IsBridged (set : List Task) (rule : Rule) (h : List Row) : Type 0 where
   pub legal : Fold.Legal set rule h
   pub same : Pending.pending set h ≡ Fold.pending set h
 
--- each legal trace is such
+-- each legal trace is legal row by row, with the same pending jobs
 pub bridge : (set : List Task) (rule : Rule) (h : List Row) → Legal.Legal set rule h → IsBridged set rule h
 bridge set rule [] l = record { legal = tt; same = refl }
 bridge set rule (Idle ∷ g) l =
@@ -107,6 +107,6 @@ bridge set rule (Release j true ∷ g) l =
       same = rw lv (ap (λ xs. record { job = j; release = ticks g } ∷ xs) (others set rule j true g b.legal c ∙ b.same));
     }
 
--- a tick leaves the pending jobs that stay
+-- a tick leaves exactly those pending jobs that stay
 pub pending-tick : (set : List Task) (rule : Rule) (j : JobId) (how : How) (g : List Row) → Legal.Legal set rule (Tick j how ∷ g) → Pending.pending set (Tick j how ∷ g) ≡ filter (stays set j how) (Pending.pending set g)
 pending-tick set rule j how g l = (bridge set rule (Tick j how ∷ g) l).same ∙ ap (filter (stays set j how)) (sym (bridge set rule g l.2).same)

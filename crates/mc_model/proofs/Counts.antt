@@ -1,4 +1,4 @@
--- Releases are counted: each pending job is of a release, and a job that was not released has no tick.
+-- Releases are counted: each pending job was released, and a job that was not released has no tick.
 use Rattle.std.proofs.Common.{◌≡◌, ℕ, ◌+◌, ◌<◌, ◌≤◌, Bool, true, false, List, [], ◌∷◌, cond, ◌==◌, refl, sym, subst, arith}
 use Rattle.std.proofs.lemmas.Bool.Decides.{nat_tests}
 use Rattle.mc_task.specs.declared.task.Rule.{Rule}
@@ -15,12 +15,12 @@ use Rattle.mc_model.proofs.Lists.{Each, Each-map, Each-filter}
 use Rattle.mc_model.proofs.Steps.{release_fits, tick_fits}
 use Rattle.mc_model.proofs.Jobs.{job_eq}
 
--- each pending job is of a release, and a job that was not released has no tick
+-- each pending job was released, and a job that was not released has no tick
 pub record Counted (set : List Task) (g : List Row) : Type 0 where
   pub live : Each (λ x. x.job.count ≤ releases g x.job.task.0) (pending set g)
   pub fresh : (j : JobId) → releases g j.task.0 < j.count → used g j ≡ 0
 
--- a job that is pending is of a release
+-- a pending job was released
 pending_count : (g : List Row) (j : JobId) (xs : List KeptRelease) → Each (λ x. x.job.count ≤ releases g x.job.task.0) xs → is_pending xs j ≡ true → j.count ≤ releases g j.task.0
 pending_count g j [] h e = cc
 pending_count g j (x ∷ xs) h e = go (pending_count g j xs h.1) (same_job j x.job) refl
@@ -34,7 +34,7 @@ pub grows : (b : Bool) (m n : ℕ) → m ≤ n → m ≤ cond b 1 0 + n
 grows true m n h = omega arith
 grows false m n h = omega arith
 
--- and what is above it then was above it before
+-- a number above a count after a release was above it before
 pub shrinks : (b : Bool) (m n : ℕ) → cond b 1 0 + n < m → n < m
 shrinks true m n h = omega arith
 shrinks false m n h = omega arith
@@ -43,7 +43,7 @@ shrinks false m n h = omega arith
 pub one_more : (k c n : ℕ) → c ≡ n + 1 → c ≤ cond (k == k) 1 0 + n
 one_more k c n h = grind (arith, nat_tests)
 
--- a tick of a pending job is none of an unreleased job
+-- a tick of a pending job is not a tick of a job that was not released
 still_fresh : (set : List Task) (g : List Row) (j : JobId) (how : How) → Counted set g → is_pending (pending set g) j ≡ true → (i : JobId) → releases g i.task.0 < i.count → used (Tick j how ∷ g) i ≡ 0
 still_fresh set g j how c e i k = go (same_job j i) refl
   where
@@ -54,7 +54,7 @@ still_fresh set g j how c e i k = go (same_job j i) refl
         absurd (omega arith)
     go false m = let f : used g i ≡ 0 = c.fresh i k in omega arith
 
--- so it is after each row
+-- after each row of a legal trace the releases are counted
 pub counted : (set : List Task) (rule : Rule) (h : List Row) → Legal set rule h → Counted set h
 counted set rule [] l = record { live = tt; fresh = λ j k. refl }
 counted set rule (Release j true ∷ g) l =

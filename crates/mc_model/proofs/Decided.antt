@@ -1,4 +1,4 @@
--- Whether rows are legal, and runs valid, as tests that compute, for rows and runs that are written out.
+-- Tests that compute whether rows are legal and runs valid, for rows and runs that are written out.
 use Rattle.std.proofs.Common.{◌≡◌, ◌≤◌, ℕ, Bool, true, false, ◌&&◌, ◌||◌, arith, List, [], ◌∷◌, Option, None, Some, nat_le, length, refl, leb-true}
 use Rattle.std.proofs.lemmas.Bool.Decides.{nat_tests}
 use Rattle.std.proofs.lemmas.List.Elements.{All-from_recursion}
@@ -58,11 +58,11 @@ decided set rule (row ∷ g) t =
     let q = and_parts (is_of_set set row) (is_none (fault set rule row g)) p.0 in
     (of_set set row q.0, no_fault (fault set rule row g) q.1, decided set rule g p.1)
 
--- and are a trace where the rule fits
+-- rows that pass the test are a trace of the set, if the rule fits
 pub decided_trace : (set : List Task) (rule : Rule) (h : List Row) → Fits rule → is_legal set rule h ≡ true → IsTraceOf set h
 decided_trace set rule h fits t = record { rule = rule; fits = fits; legal = decided set rule h t }
 
--- whether the run is one
+-- whether the run is valid
 abbrev is_run : Run → Bool
 is_run (run.Release j kept) = true
 is_run (run.Ticks j how n) = nat_le 1 n && (nat_le n 1 || same_how how More)
@@ -80,7 +80,7 @@ is_run_so (run.Ticks j how n) h = let p = and_parts (nat_le 1 n) (nat_le n 1 || 
     more false e Over h m = cc
 is_run_so (run.Idles n) h = grind (arith, nat_tests, h)
 
--- runs that are written out are valid where this test passes
+-- whether a list of runs that is written out is valid
 abbrev pub are_runs : List Run → Bool
 are_runs rs = list_all is_run rs && (nat_le (length rs) 2000000 && nat_le (total length_of rs) 100000000)
 

@@ -1,4 +1,4 @@
--- What plain EDF admits the scaled test admits, but for low tasks alone whose load is exactly 1.
+-- The scaled test admits what plain EDF admits, except low tasks alone whose load is exactly 1.
 use Rattle.std.proofs.Common.{◌≡◌, ℕ, ◌+◌, ◌-◌, ◌*◌, ◌/◌, ◌<◌, ◌≤◌, inl, inr, refl, arith, List, [], ◌∷◌}
 use Rattle.std.specs.List.{AllByRecursion}
 use Rattle.std.proofs.lemmas.Bool.Decides.{leb_tells}
@@ -20,14 +20,14 @@ scaled-load a b c d order rest =
     let highs : c * d ≤ d * d = mul-le-mul_right d rest in
     omega arith
 
--- where low tasks leave time, what plain EDF admits passes the scaled test
+-- if low tasks leave time, what plain EDF admits passes the scaled test
 plain-scaled : (n a b c : ℕ) → b ≤ c → a + c ≤ n → a < n → PassesScaledOver n a b c
 plain-scaled n a b c order fits low =
     let whole : a + (n - a) ≡ n = omega arith in
     let scaled : a * b + c * (n - a) ≤ (a + (n - a)) * (n - a) = scaled-load a b c (n - a) order (omega arith) in
     (low, rw whole at scaled)
 
--- no period is above a number that is at least the product of all
+-- no period is above a number that is at least the product of all periods
 periods-within : (m : ℕ) (ts : List Task) → AllByRecursion IsTask ts → product ts ≤ m → AllByRecursion (λ t. t.period ≤ m) ts
 periods-within m [] each most = tt
 periods-within m (t ∷ ts) each most =
@@ -35,21 +35,21 @@ periods-within m (t ∷ ts) each most =
     let others : 1 * product ts ≤ t.period * product ts = mul-le-mul_right (product ts) each.0.period.0 in
     (omega arith, periods-within m ts each.1 (omega arith))
 
--- a task that asks no time by its high budget is low
+-- a task whose high budget asks for no time is low
 low-one : (l : Level) (low high share : ℕ) → 1 ≤ low → InOrder l low high → 1 ≤ share → by_level l 0 high * share ≡ 0 → l ≡ Low
 low-one Low low high share some order whole none = refl
 low-one High low high share some order whole none =
     let asks : 0 < high * share = mul-pos (omega arith) whole in
     absurd (omega arith)
 
--- tasks of which none asks time by a high budget are low
+-- tasks of which none asks for time by a high budget are low
 low-each : (n : ℕ) (ts : List Task) → AllByRecursion IsTask ts → AllByRecursion (λ t. t.period ≤ n) ts → load high_high n ts ≡ 0 → AllByRecursion (λ t. t.level ≡ Low) ts
 low-each n [] each within none = tt
 low-each n (t ∷ ts) each within none =
     let share : 1 ≤ n / t.period = le-div 1 n t.period (each.0.period.0) (omega arith) in
     (low-one t.level t.low t.high (n / t.period) each.0.low.0 each.0.budgets share (omega arith), low-each n ts each.1 within.1 (omega arith))
 
--- law: plain EDF admits no tasks that the scaled test refuses, but low ones alone whose load is exactly 1
+-- law: plain EDF admits no tasks that the scaled test refuses, except low ones alone whose load is exactly 1
 pub edf_or_scaled : EdfOrScaled
 edf_or_scaled tasks are fits =
     let order : load_hl tasks ≤ load_hh tasks = high-order (product tasks) tasks are.each in

@@ -1,4 +1,4 @@
--- The pending jobs row by row, and the legal traces by them; Bridge shows that they are those of the model.
+-- The pending jobs, and legal traces, computed row by row; Bridge shows that they are those of the model.
 use Rattle.std.proofs.Common.{◌≡◌, Bool, not, ◌&&◌, ◌||◌, List, [], ◌∷◌, Option, None, cond, filter}
 use Rattle.mc_task.specs.declared.task.Rule.{Rule}
 use Rattle.mc_task.specs.declared.task.Task.{Task}
@@ -25,11 +25,11 @@ pending set (Release j kept ∷ g) = cond kept (record { job = j; release = tick
 pending set (Tick j how ∷ g) = filter (stays set j how) (pending set g)
 pending set (Idle ∷ g) = pending set g
 
--- why a row does not fit, by these
+-- why a row does not fit, by the pending jobs computed row by row
 abbrev pub fault : List Task → Rule → Row → List Row → Option Why
 fault set rule row g = fault_among set rule (pending set g) row g
 
--- each row is of the set and fits, by these
+-- each row is of the set and fits, by the pending jobs computed row by row
 abbrev pub Legal : List Task → Rule → List Row → Type 0
 Legal set rule [] = Unit {0}
 Legal set rule (row ∷ g) = IsOfSet set row × (fault set rule row g ≡ None) × Legal set rule g

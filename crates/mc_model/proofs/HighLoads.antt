@@ -1,4 +1,4 @@
--- A set with high tasks asks time of them by their low budgets too.
+-- High tasks that ask for time by their high budgets ask for time by their low ones too.
 use Rattle.std.proofs.Common.{ℕ, zero, suc, ◌*◌, ◌/◌, ◌<◌, inl, inr, arith, List, [], ◌∷◌}
 use Rattle.std.specs.List.{AllByRecursion}
 use Rattle.std.proofs.lemmas.Bool.Decides.{leb_tells}
@@ -9,13 +9,13 @@ use Rattle.mc_task.specs.declared.task.Level.TheVariants.{Low, High}
 use Rattle.mc_task.specs.TaskSet.{AreTasks, IsTask}
 use Rattle.mc_model.specs.Loads.{load, load_hl, load_hh, product, high_low, high_high, by_level}
 
--- a task that asks time by its high budget asks time by its low one
+-- a task that asks for time by its high budget asks for time by its low one
 share-pos : (l : Level) (low high share : ℕ) → 0 < low → 0 < by_level l 0 high * share → 0 < by_level l 0 low * share
 share-pos Low low high share some h = h
 share-pos High low high zero some h = absurd (omega arith)
 share-pos High low high (suc share) some h = mul-pos some (omega arith)
 
--- high tasks that ask time by their high budgets ask time by their low ones
+-- high tasks that ask for time by their high budgets ask for time by their low ones
 pub high_low-pos : (n : ℕ) (ts : List Task) → AllByRecursion IsTask ts → 0 < load high_high n ts → 0 < load high_low n ts
 high_low-pos n [] each h = absurd (omega arith)
 high_low-pos n (t ∷ ts) each h =
@@ -24,6 +24,6 @@ high_low-pos n (t ∷ ts) each h =
       | inr none ↦ (let more : 0 < load high_low n ts = high_low-pos n ts (each.1) (omega arith) in omega arith)
     ]
 
--- U_HL is above 0 where U_HH is
+-- U_HL is above 0 if U_HH is
 pub load_hl-pos : (set : List Task) → AreTasks set → 0 < load_hh set → 0 < load_hl set
 load_hl-pos set is h = high_low-pos (product set) set is.each h

@@ -10,15 +10,15 @@ use Rattle.mc_model.specs.Holds.{HoldsOver, AdmittedIfHolds}
 use Rattle.mc_model.proofs.HighLoads.{load_hl-pos}
 use Rattle.mc_model.proofs.RuleCases.{OnlyVirtualFits, rule_of-plain, rule_of-virtual}
 
--- where EDF fits, the test admits
+-- if EDF fits, the test admits
 pub plain-admitted : (n a b c : ℕ) → a + c ≤ n → IsSome (rule_of n a b c)
 plain-admitted n a b c fits = rw (rule_of-plain n a b c fits)
 
--- where EDF-VD alone fits, the test admits
+-- if EDF-VD alone fits, the test admits
 pub virtual-admitted : (n a b c : ℕ) → OnlyVirtualFits n a b c → IsSome (rule_of n a b c)
 virtual-admitted n a b c fits = rw (rule_of-virtual n a b c fits)
 
--- where some scale p/q holds, either high tasks ask nothing and EDF fits, or low tasks leave time
+-- if some scale p/q holds, either high tasks ask for nothing and EDF fits, or low tasks leave time
 low-below : (n a b c p q : ℕ) → (0 < c → 0 < b) → n < a + c → HoldsOver n a b c (Virtual p q) → a < n
 low-below n a b c p q high over holds =
     elim (leb_tells n a) [
@@ -33,7 +33,7 @@ low-below n a b c p q high over holds =
       | inr t ↦ t.1
     ]
 
--- a scale that holds is at least b/d, where d = n - a, and so b/d holds too
+-- a scale that holds is at least b/d, where d = n - a; so b/d holds too
 scaled-fits : (a b c d p q : ℕ) → 0 < q → q * b ≤ p * d → p * a + q * c ≤ q * (a + d) → a * b + c * d ≤ (a + d) * d
 scaled-fits a b c d p q some low high =
     let lows : a * (q * b) ≤ a * (p * d) = mul-le-mul_left a low in
@@ -41,7 +41,7 @@ scaled-fits a b c d p q some low high =
     let all : q * (a * b + c * d) ≤ q * ((a + d) * d) = omega arith in
     le_of_mul-le-mul_left all some
 
--- where some scale holds, the test admits
+-- if some scale holds, the test admits
 virtual_holds-admitted : (n a b c p q : ℕ) → (0 < c → 0 < b) → HoldsOver n a b c (Virtual p q) → IsSome (rule_of n a b c)
 virtual_holds-admitted n a b c p q high holds =
     elim (leb_tells (a + c) n) [
@@ -55,7 +55,7 @@ virtual_holds-admitted n a b c p q high holds =
           virtual-admitted n a b c (record { over = over.1; low = below; scaled = rw whole at scaled })
     ]
 
--- where some rule holds, the test admits, over numbers
+-- if some rule holds, the test admits, over numbers
 pub holds-IsSome : (n a b c : ℕ) (rule : Rule) → (0 < c → 0 < b) → HoldsOver n a b c rule → IsSome (rule_of n a b c)
 holds-IsSome n a b c Plain high holds = plain-admitted n a b c holds
 holds-IsSome n a b c (Virtual p q) high holds = virtual_holds-admitted n a b c p q high holds

@@ -1,4 +1,4 @@
--- The least common multiple of the periods.
+-- The hyperperiod, and the task that takes it out of range.
 use Rattle.std.proofs.Common.{◌≡◌, ℕ, suc, ◌+◌, ◌*◌, ◌<◌, ◌≤◌, inl, inr, subst, arith, List, [], ◌∷◌, Some}
 use Rattle.std.proofs.lemmas.Bool.Decides.{leb_tells}
 use Prim.Native.Nat.{◌∣◌}
@@ -47,7 +47,7 @@ unfolding lcm_from
 lcm_from-pos m [] above h = above
 lcm_from-pos m (t ∷ ts) above h = lcm_from-pos (lcm m t.period) ts (lcm-pos m t.period above (h.0.period.0)) (h.1)
 
--- where a task takes the least common multiple out of range, that of all is out of range
+-- if one task takes the least common multiple out of range, the hyperperiod is out of range
 pub range_fault-past : (k m n : ℕ) (ts : List Task) → 0 < m → AllByRecursion IsTask ts → range_fault_from k m ts ≡ Some n → most_lcm < lcm_from m ts
 unfolding lcm_from range_fault_from
 range_fault-past k m n [] above h e = absurd (cc)

@@ -1,4 +1,4 @@
--- When two jobs, or two pending jobs, are one, and membership in a list of pending jobs.
+-- When two jobs, or two pending jobs, are the same, and membership in a list of pending jobs.
 use Rattle.std.proofs.Common.{◌≡◌, ℕ, Bool, true, false, ◌&&◌, ◌||◌, List, [], ◌∷◌, cond, filter, ◌==◌, refl, sym, ap₂, subst, arith, eqb-true}
 use Rattle.std.specs.List.{list_any}
 use Rattle.std.proofs.lemmas.Bool.Decides.{nat_tests}
@@ -9,15 +9,15 @@ use Rattle.mc_model.proofs.Booleans.{or_true, eqb-refl}
 use Rattle.mc_model.proofs.Lists.{Each}
 use Rattle.std.proofs.lemmas.Bool.{and_parts}
 
--- one job has one task number and one count
+-- the same jobs have one task number and one job number
 pub same_job_is : (i j : JobId) → same_job i j ≡ true → (i.task.0 ≡ j.task.0) × (i.count ≡ j.count)
 same_job_is i j h = grind (arith, nat_tests)
 
--- a job is itself
+-- a job is the same as itself
 pub same_job-refl : (i : JobId) → same_job i i ≡ true
 same_job-refl i = grind (arith, nat_tests)
 
--- and so the two are equal
+-- jobs that are the same are equal
 pub job_eq : (i j : JobId) → same_job i j ≡ true → i ≡ j
 job_eq i j h =
     let p = same_job_is i j h in
@@ -27,12 +27,12 @@ job_eq i j h =
 abbrev pub same_live : KeptRelease → KeptRelease → Bool
 same_live i j = same_job i.job j.job && (i.release == j.release)
 
--- one of the list is the same
+-- whether the list has this pending job
 abbrev pub is_in : List KeptRelease → KeptRelease → Bool
 is_in [] i = false
 is_in (j ∷ js) i = same_live i j || is_in js i
 
--- a pending job is itself
+-- a pending job is the same as itself
 pub same_live-refl : (x : KeptRelease) → same_live x x ≡ true
 same_live-refl x = rw (same_job-refl x.job, eqb-refl x.release) refl
 
@@ -42,7 +42,7 @@ live_eq i j h =
     let p = and_parts (same_job i.job j.job) (i.release == j.release) h in
     ap₂ {C = KeptRelease} (λ (a : JobId) (r : ℕ). record { job = a; release = r }) (job_eq i.job j.job p.0) (eqb-true _ _ p.1)
 
--- what is so of each of the list is so of one that is in it
+-- a property of each pending job of a list is one of each that is in it
 pub each_in : (P : KeptRelease → Type 0) (x : KeptRelease) (xs : List KeptRelease) → is_in xs x ≡ true → Each P xs → P x
 each_in P x [] e h = cc
 each_in P x (y ∷ ys) e h = go (λ r. each_in P x ys r h.1) (same_live x y) refl

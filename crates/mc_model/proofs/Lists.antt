@@ -1,4 +1,4 @@
--- Facts on each element of a list, and filters.
+-- Properties of each element of a list, and filters.
 use Rattle.std.proofs.Common.{◌≡◌, Bool, true, false, ◌&&◌, List, [], ◌∷◌, ◌++◌, cond, filter, reverse, refl, sym, ap, subst}
 use Rattle.std.specs.List.{AllByRecursion}
 use Rattle.std.proofs.lemmas.List.{reverse-append}
@@ -7,22 +7,22 @@ use Rattle.std.proofs.lemmas.List.{reverse-append}
 abbrev pub Each : {X : Type 0} → (X → Type 0) → List X → Type 0
 Each P xs = AllByRecursion P xs
 
--- a property that follows from another, element by element
+-- a property of each element that follows from another one
 pub Each-map : {X : Type 0} {P Q : X → Type 0} → ((x : X) → P x → Q x) → (xs : List X) → Each P xs → Each Q xs
 Each-map f [] h = tt
 Each-map f (x ∷ xs) h = (f x h.0, Each-map f xs h.1)
 
--- a property that follows from two others
+-- a property of each element that follows from two others
 pub Each-both : {X : Type 0} {P Q R : X → Type 0} → ((x : X) → P x → Q x → R x) → (xs : List X) → Each P xs → Each Q xs → Each R xs
 Each-both f [] h k = tt
 Each-both f (x ∷ xs) h k = (f x h.0 k.0, Each-both f xs h.1 k.1)
 
--- a property of all values
+-- a property of all values is one of each element
 pub Each-all : {X : Type 0} {P : X → Type 0} → ((x : X) → P x) → (xs : List X) → Each P xs
 Each-all f [] = tt
 Each-all f (x ∷ xs) = (f x, Each-all f xs)
 
--- a filter keeps a property
+-- a property of each element is one of each that a filter keeps
 pub Each-filter : {X : Type 0} (P : X → Type 0) (p : X → Bool) → (xs : List X) → Each P xs → Each P (filter p xs)
 Each-filter P p [] h = tt
 Each-filter P p (x ∷ xs) h =
@@ -43,7 +43,7 @@ pub filter_ext : {X : Type 0} (p q : X → Bool) → (xs : List X) → Each (λ 
 filter_ext p q [] h = refl
 filter_ext p q (x ∷ xs) h = rw h.0 (ap (λ ys. cond (q x) (x ∷ ys) ys) (filter_ext p q xs h.1))
 
--- two filters are one, by both tests
+-- a filter after a filter is one filter by both tests
 pub filter-filter : {X : Type 0} (p q : X → Bool) → (xs : List X) → filter p (filter q xs) ≡ filter (λ x. q x && p x) xs
 filter-filter p q [] = refl
 filter-filter p q (x ∷ xs) = go (filter-filter p q xs) (q x) refl
@@ -52,17 +52,17 @@ filter-filter p q (x ∷ xs) = go (filter-filter p q xs) (q x) refl
     go ih true m = ap (λ ys. cond (p x) (x ∷ ys) ys) ih
     go ih false m = ih
 
--- where no element passes, a filter leaves nothing
+-- if no element passes the test, a filter leaves nothing
 pub filter_none : {X : Type 0} (p : X → Bool) → (xs : List X) → Each (λ x. p x ≡ false) xs → filter p xs ≡ []
 filter_none p [] h = refl
 filter_none p (x ∷ xs) h = rw h.0 (filter_none p xs h.1)
 
--- what is so of the elements of two lists is so of those of one behind the other
+-- a property of each element of two lists is one of each element of the joined list
 pub Each-append : {X : Type 0} (P : X → Type 0) (xs ys : List X) → Each P xs → Each P ys → Each P (xs ++ ys)
 Each-append P [] ys h k = k
 Each-append P (x ∷ xs) ys h k = (h.0, Each-append P xs ys h.1 k)
 
--- and so of the elements turned round
+-- a property of each element is one of each element of the reversed list
 pub Each-reverse : {X : Type 0} (P : X → Type 0) (xs : List X) → Each P xs → Each P (reverse xs)
 Each-reverse P [] h = tt
 Each-reverse P (x ∷ xs) h = subst (Each P) (sym (reverse-append (x ∷ []) xs)) (Each-append P (reverse xs) (x ∷ []) (Each-reverse P xs h.1) (h.0, tt))

@@ -1,4 +1,4 @@
--- What holds of each pending job of a legal trace: it is of the set, was released by now, and has a tick of its budget left.
+-- Each pending job of a legal trace is of the set, was released by now, and has a tick of its budget left.
 use Rattle.std.proofs.Common.{◌≡◌, ℕ, ◌+◌, ◌≤◌, Bool, true, false, not, ◌&&◌, List, [], ◌∷◌, Option, ◌≢◌, refl, sym, subst, arith}
 use Rattle.std.specs.List.{AllByRecursion}
 use Rattle.mc_task.specs.declared.task.Rule.{Rule}
@@ -23,24 +23,24 @@ use Rattle.mc_model.proofs.Booleans.{or_left, or_right}
 use Rattle.mc_model.proofs.Tasks.{IsKnown, known}
 use Rattle.mc_model.proofs.Counts.{Counted, counted}
 
--- the same budget as the ticks of a pending job in low mode
+-- how many ticks a job may have in low mode: the low budget, and the own budget under plain EDF
 abbrev pub low_budget : Rule → Option Task → ℕ
 low_budget Plain t = own_in t
 low_budget (Virtual p q) t = low_in t
 
--- what holds of a pending job
+-- what holds of each pending job
 pub record IsLiveOk (set : List Task) (rule : Rule) (h : List Row) (x : KeptRelease) : Type 0 where
   pub inside : IsIn set x.job.task.0
   pub past : x.release ≤ ticks h
   pub own : used h x.job + 1 ≤ own_in (task_at set x.job.task.0)
   pub low : high_mode rule h ≡ false → used h x.job + 1 ≤ low_budget rule (task_at set x.job.task.0)
 
--- its budget in low mode is not 0, and at most its own
+-- a job's budget in low mode is not 0, and at most its own
 low_budget-own : (rule : Rule) (t : Option Task) → IsKnown t → (1 ≤ low_budget rule t) × (low_budget rule t ≤ own_in t)
 low_budget-own Plain t k = let a = k.order in let b = k.low in (omega arith, omega arith)
 low_budget-own (Virtual p q) t k = let a = k.order in let b = k.low in (omega arith, omega arith)
 
--- the job after a tick of its own that did not end it
+-- a job after a tick of its own that did not end it
 record IsAfter (rule : Rule) (g : List Row) (how : How) (t : Option Task) (n : ℕ) : Type 0 where
   own : n + 1 + 1 ≤ own_in t
   low : high_mode rule g ≡ false → (is_virtual rule && is_over how) ≡ false → n + 1 + 1 ≤ low_budget rule t
@@ -54,7 +54,7 @@ more_low (Virtual p q) t n m k h a f e = go (is_high_in t) refl
     go true v = let u : n + 1 ≢ low_in t = f refl e v in omega arith
     go false v = let u : own_in t ≡ low_in t = k.one_budget v in omega arith
 
--- so does each tick of its own that does not end it
+-- a tick of the job that does not end it leaves a tick of its budget
 after_own : (set : List Task) (rule : Rule) (i : JobId) (how : How) (g : List Row) (b : Bool) → IsKnown (task_at set i.task.0) →
     used g i + 1 ≤ own_in (task_at set i.task.0) → (high_mode rule g ≡ false → used g i + 1 ≤ low_budget rule (task_at set i.task.0)) →
     (not (is_end how && true) && b) ≡ true → Hows set rule g i how → IsAfter rule g how (task_at set i.task.0) (used g i)
@@ -70,7 +70,7 @@ after_own set rule i Over g b k o l st (over v m y e a) = record { own = omega a
     never Plain a b = cc
     never (Virtual p q) a b = cc
 
--- a tick that leaves a job pending
+-- each job that a tick leaves pending has a tick of its budget left
 stays_ok : (set : List Task) (rule : Rule) (j : JobId) (how : How) (g : List Row) → Hows set rule g j how → (x : KeptRelease) → IsKnown (task_at set x.job.task.0) → IsLiveOk set rule g x → stays set j how x ≡ true → IsLiveOk set rule (Tick j how ∷ g) x
 stays_ok set rule j how g hs x k ok st = go (same_job j x.job) refl
   where
@@ -93,7 +93,7 @@ stays_ok set rule j how g hs x k ok st = go (same_job j x.job) refl
           low = λ n. let o : used g x.job + 1 ≤ low_budget rule (task_at set x.job.task.0) = ok.low (or_right (is_virtual rule && is_over how) (high_mode rule g) n) in omega arith;
         }
 
--- so it is of each pending job of a legal trace
+-- each pending job of a legal trace is of the set, was released by now, and has a tick of its budget left
 pub live_ok : (set : List Task) (rule : Rule) (h : List Row) → AllByRecursion IsTask set → Legal set rule h → Each (IsLiveOk set rule h) (pending set h)
 live_ok set rule [] s l = tt
 live_ok set rule (Release j true ∷ g) s l =

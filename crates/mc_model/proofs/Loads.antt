@@ -1,4 +1,4 @@
--- What the product of the periods says of a set, their least common multiple says.
+-- The loads over the product of the periods, and over the hyperperiod, say the same.
 use Rattle.std.proofs.Common.{◌≡◌, ℕ, ◌+◌, ◌*◌, ◌/◌, ◌<◌, ◌≤◌, sym, ◌∙◌, ap, subst, arith, List, [], ◌∷◌}
 use Prim.Native.Nat.{◌∣◌}
 use Rattle.std.specs.List.{AllByRecursion}
@@ -12,7 +12,7 @@ use Rattle.mc_task.specs.TaskSet.{IsTask, InOrder}
 use Rattle.mc_model.specs.Loads.{product, load, hyperperiod, low_low, high_low, high_high, load_ll, load_hl, load_hh, by_level}
 use Rattle.mc_model.proofs.Hyperperiod.{product-pos, lcm_from-dvd, periods-dvd}
 
--- a load over a multiple of the number
+-- a load over k times n is k times the load over n, where each period divides n
 pub load_scaled : (budget : Task → ℕ) (k n : ℕ) (ts : List Task) → AllByRecursion (λ t. t.period ∣ n) ts → load budget (k * n) ts ≡ k * load budget n ts
 load_scaled budget k n [] h = omega arith
 load_scaled budget k n (t ∷ ts) h =
@@ -20,7 +20,7 @@ load_scaled budget k n (t ∷ ts) h =
     let others : load budget (k * n) ts ≡ k * load budget n ts = load_scaled budget k n ts (h.1) in
     ap (λ z. budget t * z + load budget (k * n) ts) one ∙ ap (λ z. budget t * (k * (n / t.period)) + z) others ∙ omega arith
 
--- the loads over the product are k times those over the least common multiple
+-- the loads over the product are k times those over the hyperperiod
 pub record Scales (k : ℕ) (ts : List Task) : Type 0 where
   pub above : 0 < k
   pub lcm_above : 0 < hyperperiod ts
@@ -55,7 +55,7 @@ level_order : (l : Level) (low high : ℕ) → InOrder l low high → by_level l
 level_order Low low high h = omega arith
 level_order High low high h = h
 
--- low budgets of high tasks ask no more than their high ones
+-- the low budgets of high tasks ask for no more than their high ones
 pub high-order : (n : ℕ) (ts : List Task) → AllByRecursion IsTask ts → load high_low n ts ≤ load high_high n ts
 high-order n [] h = omega arith
 high-order n (t ∷ ts) h =

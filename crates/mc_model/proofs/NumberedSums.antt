@@ -3,7 +3,7 @@ use Rattle.std.proofs.Common.{◌≡◌, ℕ, suc, ◌+◌, ◌<◌, ◌≤◌, 
 use Rattle.std.proofs.lemmas.Bool.Decides.{nat_tests}
 use Rattle.mc_model.specs.Sums.{total}
 
--- the sum of d at each element's number, the first of which is i
+-- the sum of d over the elements' numbers, the first of which is i
 abbrev pub sum_numbered : {X : Type 0} → List X → (ℕ → ℕ) → ℕ → ℕ
 sum_numbered [] d i = 0
 sum_numbered (t ∷ ts) d i = d i + sum_numbered ts d (i + 1)
@@ -12,11 +12,11 @@ sum_numbered (t ∷ ts) d i = d i + sum_numbered ts d (i + 1)
 abbrev pub added : (ℕ → ℕ) → ℕ → ℕ → ℕ → ℕ
 added d k c i = cond (k == i) (d i + c) (d i)
 
--- it is nowhere less
+-- `added` is nowhere less than d
 pub added-le : (d : ℕ → ℕ) (k c i : ℕ) → d i ≤ added d k c i
 added-le d k c i = elim (k == i) as (λ b. d i ≤ cond b (d i + c) (d i)) [ true ↦ omega arith | false ↦ omega arith ]
 
--- nor is its sum
+-- the sum of `added` is at least that of d
 sum-added_le : {X : Type 0} (ts : List X) (d : ℕ → ℕ) (k c i : ℕ) → sum_numbered ts d i ≤ sum_numbered ts (added d k c) i
 sum-added_le [] d k c i = omega arith
 sum-added_le (t ∷ ts) d k c i =
@@ -24,7 +24,7 @@ sum-added_le (t ∷ ts) d k c i =
     let here : d i ≤ added d k c i = added-le d k c i in
     omega (arith, here, ih)
 
--- which is c more, where task number k is among them
+-- the sum of `added` is c more, if number k is among the numbers
 pub sum-added : {X : Type 0} (ts : List X) (d : ℕ → ℕ) (k c i : ℕ) → i ≤ k → k < i + length ts → sum_numbered ts d i + c ≤ sum_numbered ts (added d k c) i
 sum-added [] d k c i a b = absurd (omega arith)
 sum-added (t ∷ ts) d k c i a b = go (λ e. sum-added ts d k c (i + 1) e (omega arith)) (k == i) refl
@@ -38,7 +38,7 @@ sum-added (t ∷ ts) d k c i a b = go (λ e. sum-added ts d k c (i + 1) e (omega
         let less : sum_numbered ts d (i + 1) + c ≤ sum_numbered ts (added d k c) (i + 1) = ih (omega arith) in
         rw m (omega arith)
 
--- from a bound for each task to one for the sum
+-- a bound from above for each element is one for the sum
 pub sum-below : {X : Type 0} (ts : List X) (d : ℕ → ℕ) (f : X → ℕ) (i : ℕ) → ((k : ℕ) (t : X) → slice_get ts k ≡ Some t → d (i + k) ≤ f t) → sum_numbered ts d i ≤ total f ts
 sum-below [] d f i h = omega arith
 sum-below (t ∷ ts) d f i h =
@@ -49,7 +49,7 @@ sum-below (t ∷ ts) d f i h =
     shift : (i k : ℕ) → i + suc k ≡ (i + 1) + k
     shift i k = omega arith
 
--- the same from below
+-- a bound from below for each element is one for the sum
 pub sum-above : {X : Type 0} (ts : List X) (d : ℕ → ℕ) (f : X → ℕ) (i : ℕ) → ((k : ℕ) (t : X) → slice_get ts k ≡ Some t → f t ≤ d (i + k)) → total f ts ≤ sum_numbered ts d i
 sum-above [] d f i h = omega arith
 sum-above (t ∷ ts) d f i h =
@@ -60,7 +60,7 @@ sum-above (t ∷ ts) d f i h =
     shift : (i k : ℕ) → i + suc k ≡ (i + 1) + k
     shift i k = omega arith
 
--- c more at a number below the first is not in the sum
+-- adding c at a number below the first leaves the sum as it is
 sum-added_before : {X : Type 0} (ts : List X) (d : ℕ → ℕ) (k c i : ℕ) → k < i → sum_numbered ts (added d k c) i ≡ sum_numbered ts d i
 sum-added_before [] d k c i h = refl
 sum-added_before (t ∷ ts) d k c i h =
@@ -72,7 +72,7 @@ sum-added_before (t ∷ ts) d k c i h =
     differs : (k i : ℕ) → k < i → (k == i) ≡ false
     differs k i h = grind (arith, nat_tests)
 
--- and is in it once at most
+-- adding c at one number adds at most c to the sum
 pub sum-added_most : {X : Type 0} (ts : List X) (d : ℕ → ℕ) (k c i : ℕ) → sum_numbered ts (added d k c) i ≤ sum_numbered ts d i + c
 sum-added_most [] d k c i = omega arith
 sum-added_most (t ∷ ts) d k c i = go (sum-added_most ts d k c (i + 1)) (k == i) refl

@@ -1,4 +1,4 @@
--- The runs of a trace: they expand to it, they are packed, no other runs are so, and none are fewer.
+-- The packed runs of a trace expand to it, no other packed runs do, and no runs of it are fewer.
 use Rattle.std.proofs.Common.{◌≡◌, ℕ, zero, suc, ◌+◌, ◌-◌, ◌≤◌, Bool, true, false, List, [], ◌∷◌, ◌++◌, All, cond, length, replicate, refl, sym, ap, ◌∙◌, subst, arith}
 use Rattle.std.specs.List.{AllByRecursion}
 use Rattle.std.proofs.lemmas.List.Elements.{All-nil, All-cons}
@@ -15,17 +15,17 @@ use Rattle.mc_model.proofs.Ticks.{ticks-le}
 use Rattle.mc_model.proofs.Runs.{some_rows, ticks-expand}
 use Rattle.mc_model.proofs.Jobs.{job_eq, same_job-refl}
 
--- a row alone as a run
+-- a row as a run stands for that row alone
 rows_run_of : (row : Row) → rows_of (run_of row) ≡ row ∷ []
 rows_run_of (Release j kept) = refl
 rows_run_of (Tick j how) = refl
 rows_run_of Idle = refl
 
--- once more
+-- n + 1 copies are one and n more
 copies_next : {X : Type 0} (n : ℕ) (x : X) → replicate (n + 1) x ≡ x ∷ replicate n x
 copies_next n x = let e : n + 1 ≡ suc n = omega arith in ap (λ (k : ℕ). replicate k x) e
 
--- a run that can take a row has that row once more
+-- the longer run stands for the row, then the rows of the run
 rows_longer : (row : Row) (r : Run) → joins (run_of row) r ≡ true → rows_of (longer r) ≡ row ∷ rows_of r
 rows_longer (Release j kept) r h = cc
 rows_longer (Tick i More) (run.Ticks j More n) h = copies_next n (Tick j More) ∙ ap (λ k. Tick k More ∷ replicate n (Tick j More)) (sym (job_eq i j h))
@@ -33,7 +33,7 @@ rows_longer (Tick i how) r h = cc
 rows_longer Idle (run.Idles n) h = copies_next n Idle
 rows_longer Idle r h = cc
 
--- a row before runs stands before their rows
+-- putting a row before runs puts it before their rows
 pub expand-put : (row : Row) (rs : List Run) → expand (put_before row rs) ≡ row ∷ expand rs
 expand-put row [] = ap (λ xs. xs ++ []) (rows_run_of row)
 expand-put row (r ∷ rs) = go (joins (run_of row) r) refl
@@ -42,12 +42,12 @@ expand-put row (r ∷ rs) = go (joins (run_of row) r) refl
     go true m = ap (λ xs. xs ++ expand rs) (rows_longer row r m)
     go false m = ap (λ xs. xs ++ (rows_of r ++ expand rs)) (rows_run_of row)
 
--- the runs of a trace expand to it
+-- the packed runs of a trace expand to it
 pub expand-pack : (h : List Row) → expand (pack h) ≡ h
 expand-pack [] = refl
 expand-pack (row ∷ h) = expand-put row (pack h) ∙ ap (λ xs. row ∷ xs) (expand-pack h)
 
--- the runs of a trace are runs
+-- a valid run that can take the row is valid with it
 longer_is : (row : Row) (r : Run) → IsRun r → joins (run_of row) r ≡ true → IsRun (longer r)
 longer_is row (run.Release j kept) v h = v
 longer_is (Tick i More) (run.Ticks j More n) v h = (omega arith, λ m. refl)
@@ -71,24 +71,24 @@ pub pack-runs : (h : List Row) → AllByRecursion IsRun (pack h)
 pack-runs [] = tt
 pack-runs (row ∷ h) = put_is row (pack h) (pack-runs h)
 
--- a run of one row is that row's
+-- a run of one row is the run of that row
 run_of_row : (r : Run) → size r ≡ 1 → run_of (row_of r) ≡ r
 run_of_row (run.Release j kept) e = refl
 run_of_row (run.Ticks j how n) e = ap (λ (k : ℕ). run.Ticks j how k) (sym e)
 run_of_row (run.Idles n) e = ap (λ (k : ℕ). run.Idles k) (sym e)
 
--- it stays alone before runs that it can't join
+-- a run of one row stays alone before runs that it cannot join
 put_apart : (r : Run) (rs : List Run) → size r ≡ 1 → IsPacked (r ∷ rs) → put_before (row_of r) rs ≡ r ∷ rs
 put_apart r [] e p = ap (λ s. s ∷ []) (run_of_row r e)
 put_apart r (s ∷ rs) e p = rw (run_of_row r e, p.0) refl
 
--- the run that has so many rows of this one
+-- the run with n rows like this run's
 abbrev times : ℕ → Run → Run
 times n (run.Release j kept) = run.Release j kept
 times n (run.Ticks j how k) = run.Ticks j how n
 times n (run.Idles k) = run.Idles n
 
--- it has the same row, joins the same runs, and may have any number of rows up to those of the run
+-- the run with n rows has the row of the run, joins the same runs, and is valid up to the length of the run
 times_row : (n : ℕ) (r : Run) → row_of (times n r) ≡ row_of r
 times_row n (run.Release j kept) = refl
 times_row n (run.Ticks j how k) = refl
@@ -119,13 +119,13 @@ times_all n (run.Release j kept) e = refl
 times_all n (run.Ticks j how k) e = ap (λ (m : ℕ). run.Ticks j how m) (sym e)
 times_all n (run.Idles k) e = ap (λ (m : ℕ). run.Idles m) (sym e)
 
--- a run takes one more of its own rows, where it may have more than one
+-- a run that may have more than one row takes one more of its own
 takes_own : (n : ℕ) (r : Run) (rs : List Run) → IsRun r → 2 ≤ size r → put_before (row_of r) (times n r ∷ rs) ≡ times (n + 1) r ∷ rs
 takes_own n (run.Release j kept) rs v m = absurd (omega (arith, m))
 takes_own n (run.Ticks j how k) rs v m = rw (v.1 m, same_job-refl j) refl
 takes_own n (run.Idles k) rs v m = refl
 
--- the rows of a run before others, whose runs it can't join, have that run before the runs of the others
+-- the rows of a run, before rows whose runs it cannot join, pack into that run before those runs
 pack_rows : (n : ℕ) (r : Run) (rs : List Run) (h : List Row) → IsRun r → size r ≡ n + 1 → pack h ≡ rs → IsPacked (r ∷ rs) → pack (replicate (suc n) (row_of r) ++ h) ≡ r ∷ rs
 pack_rows zero r rs h v s e p = ap (put_before (row_of r)) e ∙ put_apart r rs (omega (arith, s)) p
 pack_rows (suc m) r rs h v s e p =
@@ -140,7 +140,7 @@ packed_rest : (r : Run) (rs : List Run) → IsPacked (r ∷ rs) → IsPacked rs
 packed_rest r [] p = tt
 packed_rest r (s ∷ rs) p = p.1
 
--- packed runs are those of their rows: so no other runs of a trace are packed
+-- packed runs are the runs of their rows, so a trace has no other packed runs
 pub pack-expand : (rs : List Run) → AllByRecursion IsRun rs → IsPacked rs → pack (expand rs) ≡ rs
 pack-expand [] v p = refl
 pack-expand (r ∷ rs) v p =
@@ -150,9 +150,9 @@ pack-expand (r ∷ rs) v p =
     subst (λ (k : ℕ). pack (replicate k (row_of r) ++ expand rs) ≡ r ∷ rs) m
     (pack_rows (size r - 1) r rs (expand rs) v.0 n (pack-expand rs v.1 (packed_rest r rs p)) p)
 
--- the runs of a trace are the fewest
+-- the packed runs of a trace are the fewest
 
--- a row makes at most one run more
+-- a row adds at most one run
 put_le : (row : Row) (rs : List Run) → length (put_before row rs) ≤ length rs + 1
 put_le row [] = omega arith
 put_le row (r ∷ rs) = elim (joins (run_of row) r) as (λ b. length (cond b (longer r ∷ rs) (run_of row ∷ r ∷ rs)) ≤ length (r ∷ rs) + 1) [ true ↦ omega arith | false ↦ omega arith ]
@@ -162,7 +162,7 @@ pub length-pack-le : (h : List Row) → length (pack h) ≤ length h
 length-pack-le [] = omega arith
 length-pack-le (row ∷ h) = let one = put_le row (pack h) in let rest : length (pack h) ≤ length h = length-pack-le h in omega (arith, one, rest)
 
--- a row that can be taken is taken by the run that it is in
+-- a row that its own run can take adds no run there
 own_again : (row : Row) → joins (run_of row) (run_of row) ≡ true → (rs : List Run) → length (put_before row (put_before row rs)) ≡ length (put_before row rs)
 own_again row h [] = rw h refl
 own_again row h (r ∷ rs) = go (joins (run_of row) r) refl
@@ -176,7 +176,7 @@ own_again row h (r ∷ rs) = go (joins (run_of row) r) refl
     go true m = rw (still row r m) refl
     go false m = rw h refl
 
--- so are all rows of a run
+-- the rows of one run add at most one run
 run_le : (n : ℕ) (row : Row) (h : List Row) → (2 ≤ n → joins (run_of row) (run_of row) ≡ true) → length (pack (replicate n row ++ h)) ≤ length (pack h) + 1
 run_le zero row h j = omega arith
 run_le (suc zero) row h j = put_le row (pack h)
@@ -198,7 +198,7 @@ length-pack-expand (r ∷ rs) v =
     let rest : length (pack (expand rs)) ≤ length rs = length-pack-expand rs v.1 in
     omega (arith, one, rest)
 
--- a fact on each element, at each place
+-- a property of each element, from element by element to all
 all_of_each : {X : Type 0} (P : X → Type 0) (xs : List X) → AllByRecursion P xs → All P xs
 all_of_each P [] h = All-nil P
 all_of_each P (x ∷ xs) h = All-cons P x xs h.0 (all_of_each P xs h.1)
@@ -211,7 +211,7 @@ pack-valid h few = record {
   short = let t : ticks h ≡ total length_of (pack h) = ap ticks (sym (expand-pack h)) ∙ ticks-expand (pack h) in omega (arith, few, t, ticks-le h);
 }
 
--- and so are those of a valid list's rows
+-- the packed runs of a valid list of runs are valid
 pub repack-valid : (rs : List Run) → AreRuns rs → AreRuns (pack (expand rs))
 repack-valid rs v = record {
   each = all_of_each IsRun (pack (expand rs)) (pack-runs (expand rs));

@@ -1,4 +1,4 @@
--- Equal rows behind a trace: more ticks of a job that goes on, and idle ticks. The newest row stands first.
+-- Equal rows after a trace: more ticks of a job that goes on, and idle ticks. The newest row stands first.
 use Rattle.std.proofs.Common.{◌≡◌, ℕ, zero, suc, ◌+◌, ◌≤◌, Bool, true, false, ◌&&◌, ◌||◌, List, ◌++◌, cond, length, replicate, refl, ◌∙◌, arith}
 use Rattle.std.proofs.lemmas.List.{length-append, length-replicate}
 use Rattle.mc_task.specs.declared.task.Rule.{Rule}
@@ -13,7 +13,7 @@ use Rattle.mc_model.specs.Mode.{high_mode}
 use Rattle.mc_model.specs.Pending.{pending}
 use Rattle.mc_model.specs.Legal.{Legal, is_empty}
 
--- more ticks of a job leave all but the number of ticks
+-- n more ticks of a job that goes on add n to the ticks, and change nothing else
 
 pub ticks_more : (j : JobId) (n : ℕ) (g : List Row) → ticks (replicate n (Tick j More) ++ g) ≡ ticks g + n
 ticks_more j zero g = omega arith
@@ -47,7 +47,7 @@ used_more j (suc n) g i = let more : used (replicate n (Tick j More) ++ g) i ≡
     go true more = omega (arith, more)
     go false more = omega (arith, more)
 
--- idle ticks
+-- n idle ticks add n to the ticks
 
 pub ticks_idle : (n : ℕ) (g : List Row) → ticks (replicate n Idle ++ g) ≡ ticks g + n
 ticks_idle zero g = omega arith
@@ -61,7 +61,7 @@ pub next_idle : (set : List Task) (n : ℕ) (g : List Row) (k : ℕ) → next_re
 next_idle set zero g k = refl
 next_idle set (suc n) g k = next_idle set n g k
 
--- the mode is low from the first of them on
+-- the mode is low from the first idle tick on
 pub mode_idle : (rule : Rule) (n : ℕ) (g : List Row) → 1 ≤ n → high_mode rule (replicate n Idle ++ g) ≡ false
 mode_idle rule zero g h = absurd (omega (arith, h))
 mode_idle rule (suc n) g h = refl
@@ -70,11 +70,11 @@ pub pending_idle : (set : List Task) (n : ℕ) (g : List Row) → pending set (r
 pending_idle set zero g = refl
 pending_idle set (suc n) g = pending_idle set n g
 
--- they all fit where nothing is pending
+-- idle ticks all fit if nothing is pending
 pub idle_legal : (set : List Task) (rule : Rule) (n : ℕ) (g : List Row) → Legal set rule g → is_empty (pending set g) ≡ true → Legal set rule (replicate n Idle ++ g)
 idle_legal set rule zero g v e = v
 idle_legal set rule (suc n) g v e = (tt, rw (pending_idle set n g, e) refl, idle_legal set rule n g v e)
 
--- as many rows as there are copies
+-- n copies of a row are n rows more
 pub length_copies : (row : Row) (n : ℕ) (g : List Row) → length (replicate n row ++ g) ≡ length g + n
 length_copies row n g = omega (arith, length-append (replicate n row) g, length-replicate n row)

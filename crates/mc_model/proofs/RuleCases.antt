@@ -10,13 +10,13 @@ use Rattle.mc_model.specs.Test.{rule_of}
 abbrev pub virtual_rule : Fraction → Rule
 virtual_rule x = Virtual x.num x.den
 
--- plain EDF does not fit, and with the scale b / (n - a) EDF-VD does
+-- plain EDF does not fit, and EDF-VD fits with the scale b / (n - a)
 pub record OnlyVirtualFits (n a b c : ℕ) : Type 0 where
   pub over : n < a + c
   pub low : a < n
   pub scaled : a * b + c * (n - a) ≤ n * (n - a)
 
--- the test takes EDF where its load fits
+-- the test gives EDF if its load fits
 pub rule_of-plain : (n a b c : ℕ) → a + c ≤ n → rule_of n a b c ≡ Some Plain
 unfolding rule_of
 rule_of-plain n a b c h =
@@ -25,12 +25,12 @@ rule_of-plain n a b c h =
       | inr t ↦ absurd (omega arith)
     ]
 
--- the test takes EDF-VD where it alone fits
+-- the test gives EDF-VD if it alone fits
 pub rule_of-virtual : (n a b c : ℕ) → OnlyVirtualFits n a b c → rule_of n a b c ≡ Some (virtual_rule (lowest b (n - a)))
 unfolding rule_of
 rule_of-virtual n a b c h = grind (arith, leb_tells (a + c) n, leb_tells (suc a) n, leb_tells (a * b + c * (n - a)) (n * (n - a)), h.over, h.low, h.scaled)
 
--- the test gives no other rules
+-- the test gives no other rules than EDF and EDF-VD with that scale
 pub rule_of-cases : (n a b c : ℕ) (rule : Rule) → rule_of n a b c ≡ Some rule
     → ((rule ≡ Plain) × (a + c ≤ n)) ⊎ ((rule ≡ virtual_rule (lowest b (n - a))) × OnlyVirtualFits n a b c)
 unfolding rule_of

@@ -14,7 +14,7 @@ use Rattle.mc_model.specs.Holds.{HoldsOver, Fits, PublishedRuleHolds}
 use Rattle.mc_model.proofs.HighLoads.{load_hl-pos}
 use Rattle.mc_model.proofs.RuleCases.{virtual_rule, OnlyVirtualFits, rule_of-cases}
 
--- the scale b/d is at most 1: above 1, the scaled load would fit only where a + c ≤ n
+-- the scale b/d is at most 1: above 1, the scaled load would fit only if a + c ≤ n
 scale-most : (n a b c d : ℕ) → 0 < d → n < a + c → a * b + c * d ≤ n * d → b ≤ d
 scale-most n a b c d some over scaled =
     elim (leb_tells b d) [
@@ -26,7 +26,7 @@ scale-most n a b c d some over scaled =
           absurd (omega arith)
     ]
 
--- a fraction p/q that is b/d in other terms holds where the scaled load fits in n = a + d
+-- a fraction p/q that equals b/d holds if the scaled load fits in n = a + d
 scale-holds : (a b c d g p q : ℕ) → 0 < g → g * p ≡ b → g * q ≡ d → 0 < b → b ≤ d → a * b + c * d ≤ (a + d) * d → HoldsOver (a + d) a b c (Virtual p q)
 scale-holds a b c d g p q some num den above most scaled =
     let start : g * 0 < g * p = omega arith in
@@ -36,7 +36,7 @@ scale-holds a b c d g p q some num den above most scaled =
     let high : g * (p * a + q * c) ≤ g * (q * (a + g * q)) = omega arith in
     (lt_of_mul-lt-mul_left g start, le_of_mul-le-mul_left parts some, rw (← num, ← den) low, rw (← den) (le_of_mul-le-mul_left high some))
 
--- the scale of the test holds where EDF-VD alone fits
+-- the scale of the test holds if EDF-VD alone fits
 virtual-holds : (n a b c : ℕ) → (0 < c → 0 < b) → OnlyVirtualFits n a b c → HoldsOver n a b c (virtual_rule (lowest b (n - a)))
 virtual-holds n a b c high fits =
     let some : 0 < n - a = omega arith in
@@ -47,7 +47,7 @@ virtual-holds n a b c high fits =
     subst (λ z. HoldsOver z a b c (virtual_rule (lowest b (n - a)))) whole
     (scale-holds a b c (n - a) (gcd b (n - a)) _ _ (gcd_pos_second b (n - a) some) (whole_num b (n - a)) (whole_den b (n - a)) above most scaled)
 
--- the test's rule holds, over numbers: where high tasks ask time, they do so by their low budgets too
+-- the test's rule holds, over numbers, if high tasks that ask for time do so by their low budgets too
 pub rule_of-holds : (n a b c : ℕ) (rule : Rule) → (0 < c → 0 < b) → rule_of n a b c ≡ Some rule → HoldsOver n a b c rule
 rule_of-holds n a b c rule high h =
     elim (rule_of-cases n a b c rule h) [
@@ -55,13 +55,13 @@ rule_of-holds n a b c rule high h =
       | inr virtual ↦ subst (λ r. HoldsOver n a b c r) (sym virtual.0) (virtual-holds n a b c high (virtual.1))
     ]
 
--- the denominator of a scale that is d in other terms is at most d
+-- a fraction with the denominator d has a denominator of at most d in lower terms
 den-most : (g q d : ℕ) → 0 < g → g * q ≡ d → q ≤ d
 den-most g q d some den =
     let more : 1 * q ≤ g * q = mul-le-mul_right q (omega arith) in
     omega arith
 
--- the parts of the test's scale are at most 2^60 where the loads' denominator is
+-- the parts of the test's scale are at most 2^60 if the loads' denominator is
 pub rule_of-fits : (n a b c : ℕ) (rule : Rule) → n ≤ 2 ^ 60 → (0 < c → 0 < b) → rule_of n a b c ≡ Some rule → Fits rule
 rule_of-fits n a b c rule small high h =
     elim (rule_of-cases n a b c rule h) [

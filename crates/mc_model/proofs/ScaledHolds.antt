@@ -1,4 +1,4 @@
--- That a rule holds, and the premise of the 3/4 law, say the same of loads and of their multiples.
+-- Whether a rule holds, and the premise of the 3/4 law, are the same for loads and for their multiples.
 use Rattle.std.proofs.Common.{ℕ, ◌+◌, ◌*◌, ◌<◌, ◌≤◌, arith}
 use Rattle.std.proofs.Math.Nat.{mul-le-mul_left, le_of_mul-le-mul_left}
 use Rattle.mc_task.specs.declared.task.Rule.{Rule}
@@ -23,13 +23,13 @@ HoldsOver-from_multiple k n a b c Plain above h = le_of_multiple k (a + c) n abo
 HoldsOver-from_multiple k n a b c (Virtual p q) above h =
     (h.0, h.1, le_of_multiple k (p * a + q * b) (p * n) above (omega arith), le_of_multiple k (p * a + q * c) (q * n) above (omega arith))
 
--- utilisations of at most 3/4 stay so in multiples
+-- utilisations of at most 3/4 are at most 3/4 in multiples
 pub three_quarters-multiple : (k n a b c : ℕ) → IsThreeQuartersOver n a b c → IsThreeQuartersOver (k * n) (k * a) (k * b) (k * c)
 three_quarters-multiple k n a b c h =
     let low : k * (4 * (a + b)) ≤ k * (3 * n) = mul-le-mul_left k (h.0) in
     let high : k * (4 * c) ≤ k * (3 * n) = mul-le-mul_left k (h.1) in
     (omega arith, omega arith)
 
--- and they are at most 3/4 where those of multiples are
+-- utilisations are at most 3/4 if those of multiples are
 pub three_quarters-from_multiple : (k n a b c : ℕ) → 0 < k → IsThreeQuartersOver (k * n) (k * a) (k * b) (k * c) → IsThreeQuartersOver n a b c
 three_quarters-from_multiple k n a b c above h = (le_of_multiple k (4 * (a + b)) (3 * n) above (omega arith), le_of_multiple k (4 * c) (3 * n) above (omega arith))

@@ -1,4 +1,5 @@
--- The test of a set with a scale: its rule holds, and there is none exactly where the published test gives none.
+-- The test of a set with a scale: its rule holds, and it gives none exactly where the published test gives
+-- none.
 use Rattle.std.proofs.Common.{◌≡◌, ℕ, ◌+◌, ◌*◌, ◌≤◌, ◌↔◌, Bool, true, false, cond, nat_le, List, Option, Some, None, IsSome, refl, subst, arith}
 use Rattle.std.specs.Bool.{Decides}
 use Rattle.std.proofs.lemmas.Bool.Decides.{nat_tests, Decides-and, Decides-like}
@@ -16,7 +17,7 @@ use Rattle.mc_model.proofs.HoldsAdmitted.{holds-admitted}
 Decides-le : (x y : ℕ) → Decides (nat_le x y) (x ≤ y)
 Decides-le x y = (λ h. grind (arith, nat_tests, h), λ h. grind (arith, nat_tests, h))
 
--- whether a scale holds, over numbers
+-- the test of numbers decides whether a scale holds
 pub scale_holds_over-Decides : (n a b c p q : ℕ) → Decides (scale_holds_over n a b c p q) (HoldsOver n a b c (Virtual p q))
 unfolding scale_holds_over
 scale_holds_over-Decides n a b c p q =
@@ -24,11 +25,11 @@ scale_holds_over-Decides n a b c p q =
     (Decides-and _ _ (Decides-le 1 p) (Decides-and _ _ (Decides-le p q)
     (Decides-and _ _ (Decides-le (p * a + q * b) (p * n)) (Decides-le (p * a + q * c) (q * n)))))
 
--- whether a scale holds for tasks
+-- the test of tasks decides whether a scale holds
 pub scale_holds-Decides : (tasks : List Task) (x : Scale) → Decides (scale_holds tasks x) (Holds tasks (Virtual x.p x.q))
 scale_holds-Decides tasks x = scale_holds_over-Decides (product tasks) (load_ll tasks) (load_hl tasks) (load_hh tasks) x.p x.q
 
--- the rule of a scale that holds, or else the published one, holds
+-- the chosen rule holds: that of a scale that holds, otherwise the published one
 chosen-holds : (tasks : List Task) (x : Scale) (rule : Rule) → AreTasks tasks → (b : Bool) → scale_holds tasks x ≡ b
     → cond b (Some (Virtual x.p x.q)) (published tasks) ≡ Some rule → Holds tasks rule
 chosen-holds tasks x rule are true found h =
@@ -56,12 +57,12 @@ none_exactly : (tasks : List Task) (scale : Option Scale) → AreTasks tasks →
 none_exactly tasks None are = (λ h. h, λ h. h)
 none_exactly tasks (Some x) are = none_chosen tasks x are (scale_holds tasks x) refl
 
--- law: the test gives none exactly where the published test does
+-- law: the test gives no rule exactly where the published test gives none
 pub test-none : NoneWherePublishedNone
 unfolding test
 test-none set are = none_exactly set.tasks set.scale are
 
--- law: the test's rule is that of the scale where there is one that holds, and the published one otherwise
+-- law: the test's rule is that of the scale if it holds, otherwise the published one
 pub test-by_holds : TestByHolds
 unfolding test
 test-by_holds set = record { scaled = λ x is holds. taken set.tasks set.scale x is holds; otherwise = λ none. passed set.tasks set.scale none }

@@ -1,4 +1,4 @@
--- What a row that fits the rows before it says.
+-- What follows from a row that fits the rows before it.
 use Rattle.std.proofs.Common.{◌≡◌, ℕ, ◌+◌, ◌≤◌, Bool, true, false, not, ◌&&◌, ◌||◌, List, [], ◌∷◌, None, cond, nat_lt, ◌==◌, ◌≢◌, refl, arith, leb-true, ltb-false, eqb-true}
 use Rattle.mc_task.specs.declared.task.Rule.{Rule}
 use Rattle.mc_task.specs.declared.task.Task.{Task}
@@ -20,25 +20,25 @@ use Rattle.mc_model.proofs.Fold.{pending, fault}
 use Rattle.std.proofs.lemmas.Bool.{or_parts}
 use Rattle.std.proofs.Math.Bool.{beq}
 
--- where no part fails, the one part is true
+-- if no part of one fails, that part is true
 pub parts_one : (a : Bool) (u : Why) → first_of_parts ((a, u) ∷ []) ≡ None → a ≡ true
 parts_one true u h = refl
 parts_one false u h = cc
 
--- where no part fails, the three are true
+-- if no part of three fails, all are true
 pub parts_three : (a b c : Bool) (u v w : Why) → first_of_parts ((a, u) ∷ (b, v) ∷ (c, w) ∷ []) ≡ None → (a ≡ true) × (b ≡ true) × (c ≡ true)
 parts_three true true true u v w h = (refl, refl, refl)
 parts_three false b c u v w h = cc
 parts_three true false c u v w h = cc
 parts_three true true false u v w h = cc
 
--- what a fitting release says
+-- what follows from a release that fits
 pub record ReleaseFits (set : List Task) (rule : Rule) (j : JobId) (kept : Bool) (g : List Row) : Type 0 where
   pub soon : next_release set g j.task.0 ≤ ticks g
   pub count : j.count ≡ releases g j.task.0 + 1
   pub kept_so : beq kept (is_high_in (task_at set j.task.0) || not (high_mode rule g)) ≡ true
 
--- with no release too close, the next one is allowed
+-- if no release is too recent, the next one is allowed
 pub soon_enough : (set : List Task) (now : ℕ) (g : List Row) (k : ℕ) → is_too_soon set now g k ≡ false → next_release set g k ≤ now
 soon_enough set now [] k h = omega arith
 soon_enough set now (Tick j how ∷ g) k h = soon_enough set now g k h
@@ -49,19 +49,19 @@ soon_enough set now (Release j kept ∷ g) k h = here (j.task.0 == k) (or_parts 
     here true f r = ltb-false _ _ f
     here false f r = r
 
--- a release that fits
+-- a release that fits has all parts of `ReleaseFits`
 pub release_fits : (set : List Task) (rule : Rule) (j : JobId) (kept : Bool) (g : List Row) → fault set rule (Release j kept) g ≡ None → ReleaseFits set rule j kept g
 release_fits set rule j kept g h =
     let p = parts_three _ _ _ _ _ _ h in
     record { soon = soon_enough set (ticks g) g j.task.0 (not_true _ p.0); count = eqb-true _ _ p.1; kept_so = p.2 }
 
--- what a fitting tick says
+-- what follows from a tick that fits
 pub record TickFits (set : List Task) (rule : Rule) (j : JobId) (how : How) (g : List Row) : Type 0 where
   pub live : is_pending (pending set g) j ≡ true
   pub least : is_least set rule (high_mode rule g) (pending set g) j ≡ true
   pub how_so : is_allowed_how set rule g j how ≡ true
 
--- a tick that fits
+-- a tick that fits has all parts of `TickFits`
 pub tick_fits : (set : List Task) (rule : Rule) (j : JobId) (how : How) (g : List Row) → fault set rule (Tick j how) g ≡ None → TickFits set rule j how g
 tick_fits set rule j how g h =
     let p = parts_three _ _ _ _ _ _ h in
@@ -75,20 +75,20 @@ idle_fits set rule g h = go (pending set g) (parts_one _ _ h)
     go [] e = refl
     go (i ∷ is) e = cc
 
--- what the how of a fitting tick says
+-- what the outcome of a tick that fits says of the job
 pub data Hows (set : List Task) (rule : Rule) (g : List Row) (j : JobId) : How → Type 0 where
   more : used g j + 1 ≢ own_in (task_at set j.task.0) → ((is_virtual rule ≡ true) → high_mode rule g ≡ false → is_high_in (task_at set j.task.0) ≡ true → used g j + 1 ≢ low_in (task_at set j.task.0)) → Hows set rule g j More
   done : used g j + 1 ≤ own_in (task_at set j.task.0) → Hows set rule g j Done
   stop : used g j + 1 ≡ own_in (task_at set j.task.0) → Hows set rule g j Stop
   over : is_virtual rule ≡ true → high_mode rule g ≡ false → is_high_in (task_at set j.task.0) ≡ true → used g j + 1 ≡ low_in (task_at set j.task.0) → used g j + 1 ≢ own_in (task_at set j.task.0) → Hows set rule g j Over
 
--- More is right where the job is at neither budget
+-- More is right if the job is at neither budget
 more_so : (eo c : Bool) → same_how More (cond eo Stop (cond c Over More)) ≡ true → (eo ≡ false) × (c ≡ false)
 more_so true c h = cc
 more_so false true h = cc
 more_so false false h = (refl, refl)
 
--- Stop is right at its own budget
+-- Stop is right at the job's own budget
 stop_so : (eo c : Bool) → same_how Stop (cond eo Stop (cond c Over More)) ≡ true → eo ≡ true
 stop_so true c h = refl
 stop_so false true h = cc
@@ -100,7 +100,7 @@ over_so true c h = cc
 over_so false true h = (refl, refl)
 over_so false false h = cc
 
--- Done is right up to its own budget
+-- Done is right up to the job's own budget
 done_so : (le eo c : Bool) → ((true && le) || same_how Done (cond eo Stop (cond c Over More))) ≡ true → le ≡ true
 done_so true eo c h = refl
 done_so false true c h = cc
@@ -115,7 +115,7 @@ all_four true false d e h = cc
 all_four true true true e h = cc
 all_four true true false false h = cc
 
--- the last part of an `and` that is false, where the others are true
+-- if an `and` of four is false, and its other parts are true, the last part is false
 not_four : (a b d e : Bool) → (((a && b) && not d) && e) ≡ false → b ≡ true → d ≡ false → a ≡ true → e ≡ false
 not_four true true false true h p q r = h
 not_four true true false false h p q r = refl
@@ -123,7 +123,7 @@ not_four false b d e h p q r = cc
 not_four true false d e h p q r = cc
 not_four true true true e h p q r = cc
 
--- the how of a tick that fits
+-- the outcome of a tick that fits has its case of `Hows`
 pub hows : (set : List Task) (rule : Rule) (g : List Row) (j : JobId) (how : How) → is_allowed_how set rule g j how ≡ true → Hows set rule g j how
 hows set rule g j More h =
     let p = more_so _ _ h in

@@ -1,4 +1,4 @@
--- The test says the same of loads and of their multiples.
+-- The test gives the same rule for loads and for their multiples.
 use Rattle.std.proofs.Common.{◌≡◌, ℕ, ◌+◌, ◌-◌, ◌*◌, ◌<◌, sym, ◌∙◌, ap, arith, nat_le, nat_lt, List}
 use Rattle.std.proofs.Math.Nat.{mul-add, mul-sub}
 use Rattle.tick_frac.specs.Fraction.{lowest, fraction_text}

@@ -1,4 +1,4 @@
--- The ticks of rows, and of their first part.
+-- The number of ticks of rows, and of the first of them.
 use Rattle.std.proofs.Common.{◌≡◌, ℕ, ◌+◌, ◌≤◌, ◌<◌, List, [], ◌∷◌, ◌++◌, length, get_or, take, drop, reverse, ap, sym, ◌∙◌, arith}
 use Rattle.std.proofs.lemmas.List.{reverse-append, take-append-drop, take_more}
 use Rattle.mc_model.specs.declared.row.Row.{Row}
@@ -11,14 +11,14 @@ ticks-append (Release j kept ∷ g) h = ticks-append g h
 ticks-append (Tick j how ∷ g) h = let more : ticks (g ++ h) ≡ ticks g + ticks h = ticks-append g h in omega arith
 ticks-append (Idle ∷ g) h = let more : ticks (g ++ h) ≡ ticks g + ticks h = ticks-append g h in omega arith
 
--- at most one for each row
+-- rows have at most one tick each
 pub ticks-le : (g : List Row) → ticks g ≤ length g
 ticks-le [] = omega arith
 ticks-le (Release j kept ∷ g) = let less : ticks g ≤ length g = ticks-le g in omega arith
 ticks-le (Tick j how ∷ g) = let less : ticks g ≤ length g = ticks-le g in omega arith
 ticks-le (Idle ∷ g) = let less : ticks g ≤ length g = ticks-le g in omega arith
 
--- as many in the other order
+-- rows in reverse order have as many ticks
 pub ticks-reverse : (g : List Row) → ticks (reverse g) ≡ ticks g
 ticks-reverse [] = omega arith
 ticks-reverse (row ∷ g) =
@@ -35,7 +35,7 @@ ticks-take-le rows i n whole =
     let parts : ticks rows ≡ ticks (take i rows) + ticks (drop i rows) = ap ticks (sym (take-append-drop i rows)) ∙ ticks-append (take i rows) (drop i rows) in
     omega arith
 
--- and with the next one too
+-- the first rows and the next one have at most the ticks of all
 pub ticks-next-le : (rows : List Row) (i t n : ℕ) (d : Row) → i < length rows → ticks (reverse (take i rows)) ≡ t → n ≡ ticks (reverse rows) → t + ticks (get_or rows i d ∷ []) ≤ n
 ticks-next-le rows i t n d inside was whole =
     let more : ticks (reverse (take (i + 1) rows)) ≤ n = ticks-take-le rows (i + 1) n whole in

@@ -17,13 +17,13 @@ pub no_fault : (set : List Task) (rule : Rule) (h : List Row) → Legal set rule
 no_fault set rule [] l = refl
 no_fault set rule (row ∷ g) l = rw (no_fault set rule g l.2, l.1) refl
 
--- neither of the two is there
+-- if one of two options is chosen and the result is none, both are none
 neither : (a : Option RowFault) (place : ℕ) (b : Option Why) → option_or a (option_map (λ why. record { place = place; why = why }) b) ≡ None → (a ≡ None) × (b ≡ None)
 neither None place None h = (refl, refl)
 neither None place (Some why) h = cc
 neither (Some fault) place b h = cc
 
--- and a trace of the set's tasks without such a row is legal
+-- a trace of the set's tasks without a row that does not fit is legal
 pub legal_by_verdict : (set : List Task) (rule : Rule) (h : List Row) → AllByRecursion (IsOfSet set) h → first_unfit set rule h ≡ None → Legal set rule h
 legal_by_verdict set rule [] of f = tt
 legal_by_verdict set rule (row ∷ g) of f =
@@ -34,6 +34,6 @@ legal_by_verdict set rule (row ∷ g) of f =
 pub verdict-legal : (set : List Task) (rule : Rule) (h : List Row) → Legal set rule h → verdict set rule h ≡ verdict_of None (late set h)
 verdict-legal set rule h l = ap (λ f. verdict_of f (late set h)) (no_fault set rule h l)
 
--- without late jobs it is the one that names none
+-- the verdict on a legal trace without late jobs counts 0 and names none
 pub verdict-good : (set : List Task) (rule : Rule) (h : List Row) → Legal set rule h → late set h ≡ [] → verdict set rule h ≡ verdicts.Legal 0 None
 verdict-good set rule h l none = verdict-legal set rule h l ∙ ap (λ (jobs : List JobId). verdict_of None jobs) none

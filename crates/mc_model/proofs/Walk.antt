@@ -1,4 +1,4 @@
--- The tasks of a list, one by one.
+-- Going through the tasks of a list, one by one.
 use Rattle.std.proofs.Common.{◌≡◌, ℕ, zero, suc, ◌+◌, ◌*◌, ◌/◌, ◌^◌, ◌<◌, ◌≤◌, ◌∙◌, ap, subst, arith, cond, List, [], ◌∷◌, Some, None, drop, length, get_or, slice_get, le-leb}
 use Rattle.std.proofs.lemmas.Bool.{lt-leb}
 use Rattle.std.proofs.lemmas.List.{drop_more, drop_all}

@@ -1,4 +1,4 @@
--- The definitions, computed at worked examples: sets with their loads, range, rule and text.
+-- The definitions of sets, computed at worked examples: loads, range, rule and text.
 use Rattle.std.proofs.Common.{◌≡◌, ℕ, [], ◌∷◌, Some, None, codes, refl}
 use Rattle.std.specs.Fmt.{digits}
 use Rattle.tick_frac.specs.Numbers.{gcd, gcd_steps, lcm}
@@ -27,7 +27,7 @@ check_of_a_scale_that_does_not_hold : check_text (control_at 1 1) (Virtual 2 5)
 unfolding digits gcd gcd_steps lowest scale_holds_over check_text rule_text scale_text load_texts
 check_of_a_scale_that_does_not_hold = refl
 
--- a scale is taken where it holds, and only there
+-- the test gives the rule of a scale exactly where the scale holds
 rules_of_scales : (test (unscaled control) ≡ Some (Virtual 2 5)) × (test (control_at 1 2) ≡ Some (Virtual 1 2)) × (test (control_at 4 5) ≡ Some (Virtual 4 5))
     × (test (control_at 5 6) ≡ Some (Virtual 2 5)) × (test (control_at 1 3) ≡ Some (Virtual 2 5))
 unfolding gcd gcd_steps lowest rule_of published scale_holds_over test

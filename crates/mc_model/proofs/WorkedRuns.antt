@@ -33,11 +33,11 @@ equal_rows_that_stand_together_are_one_run = refl
 ticks_of_two_jobs_are_two_runs : pack (Tick (job 1 1) More ∷ Tick (job 1 2) More ∷ []) ≡ run.Ticks (job 1 1) More 1 ∷ run.Ticks (job 1 2) More 1 ∷ []
 ticks_of_two_jobs_are_two_runs = refl
 
--- the place of an illegal verdict counts rows: the fifth tick is the sixth row
+-- the number in an illegal verdict counts rows: the fifth tick is the sixth row
 a_run_past_the_budget : verdict control (Virtual 2 5) (reverse (expand (run.Release (job 2 1) true ∷ run.Ticks (job 2 1) More 5 ∷ []))) ≡ Illegal 6 WrongHow
 a_run_past_the_budget = refl
 
--- each line has the tick at which its run begins
+-- each line of a trace has the tick at which its run begins
 the_lines_of_a_trace :
     trace_text control (Release (job 1 1) true ∷ Tick (job 1 1) More ∷ Tick (job 1 1) Over ∷ Idle ∷ Idle ∷ Release (job 2 1) false ∷ [])
     ≡ codes "event,tick,length,task,job,how\nrelease,0,,ctl,1,kept\ntick,0,1,ctl,1,more\ntick,1,1,ctl,1,over\nidle,2,2,,,\nrelease,4,,log,1,dropped\n"

@@ -1,4 +1,5 @@
--- The definitions, computed at worked traces: the verdict on each, who is late, and the line of a verdict.
+-- The definitions of traces, computed at worked examples: the verdict on each, who is late, and the line of a
+-- verdict.
 use Rattle.std.proofs.Common.{◌≡◌, ℕ, true, false, List, [], ◌∷◌, ◌≤◌, Some, None, reverse, codes, refl, lit≤, arith}
 use Rattle.std.specs.Fmt.{digits}
 use Rattle.mc_task.specs.declared.task.Rule.TheVariants.{Virtual}

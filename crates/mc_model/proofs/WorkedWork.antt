@@ -14,7 +14,7 @@ use Rattle.mc_model.proofs.WorkedSets.{low_pair}
 abbrev job : ℕ → ℕ → JobId
 job k c = record { task = record { 0 = k }; count = c }
 
--- two jobs of one key are pending, and the first has no second job yet
+-- two jobs with equal keys are pending, and the first task has no second job yet
 abbrev of_one_key : List Row
 of_one_key = reverse (Release (job 1 1) true ∷ Release (job 2 1) true ∷ [])
 
@@ -24,7 +24,7 @@ both_have_a_least_key = refl
 the_lower_number_goes_first : map (is_lowest low_pair Plain false (pending low_pair of_one_key)) (job 1 1 ∷ job 2 1 ∷ job 1 2 ∷ []) ≡ true ∷ false ∷ false ∷ []
 the_lower_number_goes_first = refl
 
--- a row of work: the task's number, the release and the need
+-- a row of work: the task's number, the release time and the need
 abbrev row : ℕ → ℕ → ℕ → WorkRow
 row task release need = record { task = record { 0 = task }; release = release; need = need }
 

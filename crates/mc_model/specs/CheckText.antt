@@ -1,4 +1,4 @@
--- What `check` writes: the loads, the rule of the test, and whether the scale of the set does not hold.
+-- What `check` writes: the loads, the rule of the test, and the scale of the set if it does not hold.
 use Rattle.std.specs.Prelude.{ℕ, if◌then◌else◌, List, [], ◌++◌, length, Option, None, Some, codes, decimal}
 use Rattle.mc_task.specs.declared.task.Task.{Task}
 use Rattle.mc_task.specs.declared.task.Scale.{Scale}
@@ -14,7 +14,7 @@ unfoldable pub rule_text : Rule → List ℕ
 rule_text Plain = codes "rule plain\n"
 rule_text (Virtual p q) = codes "rule virtual\nx " ++ (decimal p ++ (codes "/" ++ (decimal q ++ codes "\n")))
 
--- the three loads over n, with a gap between them
+-- the three loads over n, with this gap between them
 unfoldable pub load_texts : List ℕ → ℕ → ℕ → ℕ → ℕ → List ℕ
 load_texts gap n a b c =
     codes "U_LL "
@@ -22,7 +22,7 @@ load_texts gap n a b c =
     ++ (gap ++ (codes "U_HL "
     ++ (fraction_text (lowest b n) ++ (gap ++ (codes "U_HH " ++ fraction_text (lowest c n)))))))
 
--- the three loads of the tasks
+-- the three loads of the tasks as text, with this gap between them
 abbrev pub set_load_texts : List ℕ → List Task → List ℕ
 set_load_texts gap tasks = load_texts gap (product tasks) (load_ll tasks) (load_hl tasks) (load_hh tasks)
 
@@ -30,7 +30,7 @@ set_load_texts gap tasks = load_texts gap (product tasks) (load_ll tasks) (load_
 unfoldable pub scale_text : Scale → List ℕ
 scale_text x = codes "scale " ++ (decimal x.p ++ (codes "/" ++ (decimal x.q ++ codes " does not hold\n")))
 
--- the line of a scale that does not hold for the tasks; empty where there is no scale, or it holds
+-- the line of a scale that does not hold for the tasks; empty if there is no scale, or it holds
 abbrev pub unheld_text : List Task → Option Scale → List ℕ
 unheld_text tasks None = []
 unheld_text tasks (Some x) = if scale_holds tasks x then [] else scale_text x

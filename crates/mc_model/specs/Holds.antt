@@ -25,15 +25,15 @@ abbrev pub Fits : Rule → Type 0
 Fits Plain = Unit {0}
 Fits (Virtual p q) = (1 ≤ p) × (p ≤ q) × (q ≤ 2 ^ 60)
 
--- the rule of the test for a set, said by Holds: the rule of its scale, if it has one that holds; otherwise the
--- rule of the published test
+-- the rule of the test for a set, said by Holds: the rule of its scale if it has one that holds; otherwise
+-- the rule of the published test
 pub record IsRuleOf (set : Set) (rule : Option Rule) : Type 0 where
   pub scaled : (x : Scale) → set.scale ≡ Some x → Holds set.tasks (Virtual x.p x.q)
       → rule ≡ Some (Virtual x.p x.q)
   pub otherwise : ((x : Scale) → set.scale ≡ Some x → ¬ Holds set.tasks (Virtual x.p x.q))
       → rule ≡ published set.tasks
 
--- law: the test gives the rule of a set's scale where that holds, and otherwise the rule of the published test
+-- law: the test gives the rule of a set's scale if that holds, and otherwise the rule of the published test
 abbrev pub TestByHolds : Type 0
 TestByHolds = (set : Set) → IsRuleOf set (test set)
 
@@ -64,7 +64,7 @@ pub record AreLowWithLoad1 (tasks : List Task) : Type 0 where
   pub low : AllByRecursion (λ t. t.level ≡ Low) tasks
   pub load : load_ll tasks ≡ product tasks
 
--- law: plain EDF admits no tasks that the scaled test refuses, except low tasks alone with a load of exactly 1
+-- law: plain EDF admits no tasks that the scaled test refuses, except low tasks whose load is exactly 1
 abbrev pub EdfOrScaled : Type 0
 EdfOrScaled =
     (tasks : List Task) → AreTasks tasks → Holds tasks Plain → PassesScaled tasks ⊎ AreLowWithLoad1 tasks

@@ -7,18 +7,18 @@ use Rattle.mc_task.specs.TaskSet.{task_at}
 use Rattle.mc_model.specs.TaskNumbers.{period_in, is_high_in}
 use Rattle.mc_model.specs.Pending.{KeptRelease}
 
--- how many units of the keys a tick has
+-- how many units of a key make a tick
 abbrev pub scale : Rule → ℕ
 scale Plain = 1
 scale (Virtual p q) = q
 
--- from release to key in low mode: the period, scaled by p/q for a high task
+-- the distance from release to key in low mode: the period, scaled by p/q for a high task
 abbrev pub low_offset : Rule → Option Task → ℕ
 low_offset Plain t = period_in t
 low_offset (Virtual p q) t = cond (is_high_in t) (p * period_in t) (q * period_in t)
 
--- the key of a job of this task that was released at r: its deadline in high mode, and its virtual deadline in
--- low mode
+-- the key of a job of this task that was released at r: its deadline in high mode, and its virtual deadline
+-- in low mode
 abbrev pub key_of : Rule → Bool → Option Task → ℕ → ℕ
 key_of rule high t r = scale rule * r + cond high (scale rule * period_in t) (low_offset rule t)
 

@@ -8,7 +8,7 @@ use Rattle.mc_model.specs.Rows.{ticks}
 use Rattle.mc_model.specs.Pending.{KeptRelease, released, is_live}
 use Rattle.mc_model.specs.declared.row.Row.{Row}
 
--- the part of the trace before its tick number d, counted from 0: all that happens by boundary d
+-- the part of the trace before tick number d, counted from 0: all that happens by boundary d
 abbrev pub up_to : ℕ → List Row → List Row
 up_to d [] = []
 up_to d (row ∷ g) = cond (nat_le (ticks (row ∷ g)) d) (row ∷ g) (up_to d g)
@@ -17,8 +17,8 @@ up_to d (row ∷ g) = cond (nat_le (ticks (row ∷ g)) d) (row ∷ g) (up_to d g
 abbrev pub deadline : List Task → KeptRelease → ℕ
 deadline set i = i.release + period_in (task_at set i.job.task.0)
 
--- the job is late: its deadline has come, and in the rows up to it the job has not ended, and is of a high task
--- or has seen no overrun
+-- whether the job is late: its deadline has come, and in the rows up to it the job has not ended, and is of a
+-- high task or has seen no overrun
 abbrev pub is_late : List Task → List Row → KeptRelease → Bool
 is_late set h i = nat_le (deadline set i) (ticks h) && is_live set (up_to (deadline set i) h) i
 

@@ -23,7 +23,7 @@ use Rattle.mc_model.specs.declared.verdict.Why.TheVariants.{TooSoon, WrongCount,
 abbrev pub is_pending : List KeptRelease → JobId → Bool
 is_pending now j = list_any (λ i. same_job j i.job) now
 
--- whether none of these pending jobs has a key below the number
+-- whether none of these pending jobs has a key below this number
 abbrev pub none_below : List Task → Rule → Bool → ℕ → List KeptRelease → Bool
 none_below set rule high least now = list_all (λ i. nat_le least (key set rule high i)) now
 
@@ -37,8 +37,8 @@ abbrev pub is_empty : List KeptRelease → Bool
 is_empty [] = true
 is_empty (i ∷ is) = false
 
--- how the job's next tick, its u-th, ends where the job is not done: Stop at its own budget; Over where a high
--- task passes its low budget in low mode; otherwise More
+-- how the job's next tick, its u-th, ends if the job is not done: Stop at its own budget; Over if a high task
+-- passes its low budget in low mode; otherwise More
 abbrev pub how_of : List Task → Rule → List Row → JobId → ℕ → How
 how_of set rule g j u =
     let t = task_at set j.task.0 in
@@ -58,18 +58,18 @@ abbrev pub is_done : How → Bool
 is_done Done = true
 is_done _ = false
 
--- whether the job's next tick may end so: it may be done up to its own budget; otherwise the end is determined
+-- whether the job's next tick may end in this way: Done up to its own budget; any other end is determined
 abbrev pub is_allowed_how : List Task → Rule → List Row → JobId → How → Bool
 is_allowed_how set rule g j how =
     let u = used g j + 1 in
     (is_done how && nat_le u (own_in (task_at set j.task.0))) || same_how how (how_of set rule g j u)
 
--- the name of the first part that fails, of parts that each have a name; none where all parts hold
+-- the name of the first part that fails, of parts that each have a name; none if all parts hold
 abbrev pub first_of_parts : List (Bool × Why) → Option Why
 first_of_parts [] = None
 first_of_parts (c ∷ cs) = cond c.0 (first_of_parts cs) (Some c.1)
 
--- the first part that fails for a row after the prefix g, in which these jobs are pending; none where the row fits
+-- the first part that fails for a row after the prefix g, in which these jobs are pending; none if it fits
 abbrev pub fault_among : List Task → Rule → List KeptRelease → Row → List Row → Option Why
 fault_among set rule now (Release j kept) g =
     first_of_parts
@@ -81,7 +81,7 @@ fault_among set rule now (Tick j how) g =
     ∷ (is_allowed_how set rule g j how, WrongHow) ∷ [])
 fault_among set rule now Idle g = first_of_parts ((is_empty now, IdlePending) ∷ [])
 
--- why a row does not fit the prefix g before it: the first part that fails; none where the row fits
+-- why a row does not fit the prefix g before it: the first part that fails; none if the row fits
 abbrev pub fault : List Task → Rule → Row → List Row → Option Why
 fault set rule row g = fault_among set rule (pending set g) row g
 

@@ -8,7 +8,7 @@ use Rattle.mc_task.specs.declared.task.Level.{Level}
 use Rattle.mc_task.specs.declared.task.Level.TheVariants.{Low, High}
 use Rattle.tick_frac.specs.Numbers.{lcm}
 
--- the first number for the low level, the second for the high one
+-- the first number at the low level, the second at the high one
 abbrev pub by_level : Level → ℕ → ℕ → ℕ
 by_level Low low high = low
 by_level High low high = high
@@ -30,7 +30,7 @@ abbrev pub product : List Task → ℕ
 product [] = 1
 product (t ∷ ts) = t.period * product ts
 
--- what the tasks ask of n ticks, n a multiple of each period: the sum of `budget * (n / period)`
+-- how many of n ticks the tasks ask for, n a multiple of each period: the sum of `budget * (n / period)`
 abbrev pub load : (Task → ℕ) → ℕ → List Task → ℕ
 load budget n [] = 0
 load budget n (t ∷ ts) = budget t * (n / t.period) + load budget n ts
@@ -69,8 +69,8 @@ most_lcm = 2 ^ 60
 abbrev pub IsWithinRange : List Task → Type 0
 IsWithinRange set = hyperperiod set ≤ most_lcm
 
--- the number of the first task whose period takes m, the least common multiple so far, past the limit;
--- the list's first task has number k
+-- the number of the first task whose period takes m, the least common multiple so far, past the limit, if the
+-- list's first task has number k
 unfoldable pub range_fault_from : ℕ → ℕ → List Task → Option ℕ
 range_fault_from k m [] = None
 range_fault_from k m (t ∷ ts) =

@@ -17,7 +17,7 @@ pub record KeptRelease : Type 0 where
   pub job : JobId
   pub release : ℕ
 
--- the kept releases, the newest first
+-- the kept releases, newest first
 abbrev pub released : List Row → List KeptRelease
 released [] = []
 released (Release j kept ∷ g) = cond kept (record { job = j; release = ticks g } ∷ released g) (released g)
@@ -45,10 +45,10 @@ over_since (Release i kept ∷ g) j = not (same_job i j) && over_since g j
 over_since (Tick i how ∷ g) j = is_over how || over_since g j
 over_since (Idle ∷ g) j = over_since g j
 
--- the job has not ended, and is high or has seen no overrun since its release
+-- whether the job has not ended, and is of a high task or has seen no overrun since its release
 abbrev pub is_live : List Task → List Row → KeptRelease → Bool
 is_live set h i = not (ended h i.job) && (is_high_in (task_at set i.job.task.0) || not (over_since h i.job))
 
--- the pending jobs, the newest release first
+-- the pending jobs, newest release first
 abbrev pub pending : List Task → List Row → List KeptRelease
 pending set h = filter (is_live set h) (released h)

@@ -1,4 +1,5 @@
--- The headline: what every legal trace promises under a rule that holds for its set. The newest row stands first.
+-- The headline for a trace: what it promises under a rule that holds for its set. The newest row stands
+-- first.
 use Rattle.std.specs.Prelude.{◌≡◌, ◌⊎◌, ℕ, ◌+◌, ◌<◌, ◌≤◌, ◌==◌, true, false, cond, List, [], ◌∷◌}
 use Rattle.std.specs.List.{AllByRecursion}
 use Rattle.mc_task.specs.declared.task.Task.{Task}
@@ -22,8 +23,8 @@ rows_at n (_ ∷ g) = cond (ticks g == n) 1 0 + rows_at n g
 abbrev pub OneAtATime : List Row → Type 0
 OneAtATime h = (n : ℕ) → n < ticks h → rows_at n h ≡ 1
 
--- if the job's deadline has come: among the rows up to the deadline it has a Done or Stop row; or it is a low task's
--- job, which an overrun discarded: an Over row came after its release
+-- if the job's deadline has come, there is a Done or Stop row of it by then; or it is a low task's job that
+-- an overrun discarded: an Over row came after its release
 abbrev pub MeetsDeadline : List Task → List Row → KeptRelease → Type 0
 MeetsDeadline set h i =
     let past = up_to (deadline set i) h in
@@ -37,10 +38,10 @@ DropsByOverrun set rule (Release j false ∷ g) =
     (is_high_in (task_at set j.task.0) ≡ false) × (high_mode rule g ≡ true) × DropsByOverrun set rule g
 DropsByOverrun set rule (_ ∷ g) = DropsByOverrun set rule g
 
--- the trace gives each tick to at most one job, ends each high job by its deadline, and ends each low job by its
--- deadline unless an overrun dropped or discarded it. The record says all of it in one place, though parts follow
--- from others: `one` holds of every list of rows, `drops` of every legal trace, and `none_late` says `deadlines` in
--- the words of a verdict, which counts late jobs
+-- the trace gives each tick to at most one job, ends each high job by its deadline, and ends each low job by
+-- its deadline unless an overrun dropped or discarded it. Some parts follow from others, and stand here so
+-- that the record says everything: `one` holds of every list of rows, `drops` of every legal trace, and
+-- `none_late` says `deadlines` in the words of a verdict, which counts late jobs
 pub record KeepsDeadlines (set : List Task) (rule : Rule) (h : List Row) : Type 0 where
   pub one : OneAtATime h
   pub none_late : late set h ≡ []

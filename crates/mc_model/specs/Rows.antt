@@ -7,12 +7,12 @@ use Rattle.mc_model.specs.TaskNumbers.{period_in}
 use Rattle.mc_model.specs.declared.row.Row.{Row}
 use Rattle.mc_model.specs.declared.row.Row.TheVariants.{Release, Tick, Idle}
 
--- whether two jobs are the same one: of one task, with one number
+-- whether two jobs are the same job: of one task, with one number
 abbrev pub same_job : JobId → JobId → Bool
 same_job i j = (i.task.0 == j.task.0) && (i.count == j.count)
 
--- how many Tick and Idle rows there are: the number of the tick that comes next, and the release time of a Release
--- row that comes next
+-- how many Tick and Idle rows there are: the number of the next tick, and the release time of a Release row
+-- that comes next
 abbrev pub ticks : List Row → ℕ
 ticks [] = 0
 ticks (Release j kept ∷ g) = ticks g
@@ -38,7 +38,7 @@ next_release set (Release j kept ∷ g) k =
 next_release set (Tick j how ∷ g) k = next_release set g k
 next_release set (Idle ∷ g) k = next_release set g k
 
--- whether at boundary now a release of task number k is less than its period ago
+-- whether boundary now is less than a period after a release of task number k
 abbrev pub is_too_soon : List Task → ℕ → List Row → ℕ → Bool
 is_too_soon set now [] k = false
 is_too_soon set now (Release j kept ∷ g) k =

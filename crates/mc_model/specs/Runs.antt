@@ -22,7 +22,7 @@ length_of (run.Release j kept) = 0
 length_of (run.Ticks j how n) = n
 length_of (run.Idles n) = n
 
--- how many rows the run stands for: one where it is a release, otherwise one for each tick
+-- how many rows the run stands for: one for a release, otherwise one for each tick
 abbrev pub size : Run → ℕ
 size (run.Release j kept) = 1
 size r = length_of r
@@ -36,13 +36,14 @@ abbrev pub expand : List Run → List Row
 expand [] = []
 expand (r ∷ rs) = rows_of r ++ expand rs
 
--- a run has a row, and several ticks of a job stand in one run only where the job goes on after each of them
+-- a valid run: it stands for a row, and several ticks of a job stand in one run only if the job goes on after
+-- each of them
 abbrev pub IsRun : Run → Type 0
 IsRun (run.Release j kept) = Unit {0}
 IsRun (run.Ticks j how n) = (1 ≤ n) × (2 ≤ n → how ≡ More)
 IsRun (run.Idles n) = 1 ≤ n
 
--- a valid list of runs
+-- a valid list of runs: each run is valid, and it has at most 2,000,000 runs and 100,000,000 ticks
 pub record AreRuns (runs : List Run) : Type 0 where
   pub each : All IsRun runs
   pub few : length runs ≤ 2000000
@@ -52,7 +53,7 @@ pub record AreRuns (runs : List Run) : Type 0 where
 abbrev pub IsRunOfSet : List Task → Run → Type 0
 IsRunOfSet set r = IsOfSet set (row_of r)
 
--- whether the two could be one run: idle ticks, or ticks of one job that goes on after each
+-- whether two neighbours could be one run: idle ticks, or ticks of one job that goes on after each
 abbrev pub joins : Run → Run → Bool
 joins (run.Idles m) (run.Idles n) = true
 joins (run.Ticks i More m) (run.Ticks j More n) = same_job i j
@@ -70,18 +71,18 @@ run_of (Release j kept) = run.Release j kept
 run_of (Tick j how) = run.Ticks j how 1
 run_of Idle = run.Idles 1
 
--- the run with one row more
+-- the run with one more row
 abbrev pub longer : Run → Run
 longer (run.Release j kept) = run.Release j kept
 longer (run.Ticks j how n) = run.Ticks j how (n + 1)
 longer (run.Idles n) = run.Idles (n + 1)
 
--- a row before runs: the first run takes it where it can
+-- a row put before runs: joined to the first run if it can be
 abbrev pub put_before : Row → List Run → List Run
 put_before row [] = run_of row ∷ []
 put_before row (r ∷ rs) = cond (joins (run_of row) r) (longer r ∷ rs) (run_of row ∷ r ∷ rs)
 
--- the runs of a trace, as few as can be: no two neighbours could be one
+-- the rows as the fewest runs: no two neighbours could be one run
 abbrev pub pack : List Row → List Run
 pack [] = []
 pack (row ∷ rows) = put_before row (pack rows)

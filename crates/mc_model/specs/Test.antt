@@ -1,5 +1,5 @@
--- The test of EDF-VD (Baruah et al., ECRTS 2012): EDF where its load fits, else x = U_HL / (1 - U_LL).
--- That plain EDF is tried first, and that a set may have a scale of its own, is this profile's.
+-- The test of EDF-VD (Baruah et al., ECRTS 2012): EDF if its load fits, otherwise x = U_HL / (1 - U_LL).
+-- This profile adds that plain EDF is tried first, and that a set may have a scale of its own.
 use Rattle.std.specs.Prelude.{ℕ, ◌+◌, ◌-◌, ◌*◌, Bool, ◌&&◌, nat_lt, nat_le, if◌then◌else◌, List, Option, Some, None}
 use Rattle.mc_task.specs.declared.task.Task.{Task}
 use Rattle.mc_task.specs.declared.task.Scale.{Scale}
@@ -17,7 +17,7 @@ rule_of n a b c =
     then (let x = lowest b (n - a) in Some (Virtual x.num x.den))
     else None
 
--- the rule of the published test for the tasks; none where they are not admitted
+-- the rule of the published test for the tasks; none if they are not admitted
 unfoldable pub published : List Task → Option Rule
 published tasks = rule_of (product tasks) (load_ll tasks) (load_hl tasks) (load_hh tasks)
 
@@ -35,6 +35,6 @@ abbrev pub scaled_or_published : List Task → Option Scale → Option Rule
 scaled_or_published tasks None = published tasks
 scaled_or_published tasks (Some x) = if scale_holds tasks x then Some (Virtual x.p x.q) else published tasks
 
--- the rule of the test for a set: by its scale or by the published test; none where the set is not admitted
+-- the rule of the test for a set: by its scale or by the published test; none if the set is not admitted
 unfoldable pub test : Set → Option Rule
 test set = scaled_or_published set.tasks set.scale

@@ -1,5 +1,5 @@
--- The text of a trace: a header line, and a line for each run of equal rows. Runs and rows stand in the order of
--- the text, THE OLDEST FIRST.
+-- The text of a trace: a header line, and a line for each run of equal rows. Runs and rows stand in the order
+-- of the text, THE OLDEST FIRST.
 use Rattle.std.specs.Prelude.{ℕ, ◌+◌, Bool, true, false, List, [], ◌∷◌, ◌++◌, codes, decimal}
 use Rattle.mc_task.specs.declared.task.Task.{Task}
 use Rattle.mc_task.specs.TaskSet.{task_at, name_in}

@@ -1,5 +1,5 @@
--- The verdict on a trace: the first row that does not fit the rows before it, or else how many jobs are late. The
--- newest row stands first.
+-- The verdict on a trace: the first row that does not fit the rows before it, or else how many jobs are late.
+-- The newest row stands first.
 use Rattle.std.specs.Prelude.{◌≡◌, ℕ, ◌+◌, List, [], ◌∷◌, Option, Some, None, length, option_map, slice_get}
 use Rattle.std.specs.Option.{option_or}
 use Rattle.mc_task.specs.declared.task.Task.{Task}
@@ -24,7 +24,8 @@ first_unfit set rule (row ∷ g) =
     option_or (first_unfit set rule g)
     (option_map (λ why. record { place = length g + 1; why = why }) (fault set rule row g))
 
--- the first row that does not fit, or, where each row fits, how many jobs are late and which was released first
+-- the first row that does not fit, or, if each row fits, how many jobs are late and which of them was
+-- released first
 abbrev pub verdict_of : Option RowFault → List JobId → Verdict
 verdict_of (Some f) lates = Illegal f.place f.why
 verdict_of None lates = Legal (length lates) (slice_get lates 0)
@@ -33,7 +34,7 @@ verdict_of None lates = Legal (length lates) (slice_get lates 0)
 abbrev pub verdict : List Task → Rule → List Row → Verdict
 verdict set rule h = verdict_of (first_unfit set rule h) (late set h)
 
--- the verdict does not find a late job in a legal trace
+-- the verdict is not one of a legal trace with a late job
 abbrev pub HasNoLate : Verdict → Type 0
 HasNoLate (Legal late first) = (late ≡ 0) × (first ≡ None)
 HasNoLate (Illegal place why) = Unit {0}

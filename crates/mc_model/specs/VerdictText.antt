@@ -8,7 +8,7 @@ use Rattle.mc_model.specs.declared.verdict.Why.TheVariants.{TooSoon, WrongCount,
 use Rattle.mc_model.specs.declared.verdict.Verdict.{Verdict}
 use Rattle.mc_model.specs.declared.verdict.Verdict.TheVariants.{Legal, Illegal}
 
--- the word for the part that fails
+-- the word for the part of a row that fails
 abbrev pub why_word : Why → List ℕ
 why_word TooSoon = codes "too_soon"
 why_word WrongCount = codes "wrong_count"
@@ -18,7 +18,7 @@ why_word NotLeast = codes "not_least"
 why_word WrongHow = codes "wrong_how"
 why_word IdlePending = codes "idle_pending"
 
--- the first late job, where there is one: its task's name and its count
+-- the first late job, if there is one: its task's name and its number
 abbrev pub first_words : List Task → Option JobId → List ℕ
 first_words set None = []
 first_words set (Some j) =

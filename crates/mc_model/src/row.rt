@@ -1,15 +1,16 @@
+//! The rows of a trace.
 use mc_task::JobId;
 
 /// How a tick ended for its job.
 #[derive(Clone, Copy, Debug, PartialEq, Eq)]
 pub enum How {
-    /// The job has more to do.
+    /// The job goes on: it is not done, was not stopped, and did not overrun.
     More,
     /// The job completed.
     Done,
-    /// The job was stopped at its own budget.
+    /// The job reached its own budget without being done, and was stopped.
     Stop,
-    /// The job passed its low budget: an overrun, which makes the mode high.
+    /// A high task's job reached its low budget in low mode without being done: an overrun, which makes the mode high.
     Over,
 }
 

@@ -1,13 +1,14 @@
+//! Runs: equal rows of a trace in one record.
 use crate::row::How;
 use mc_task::JobId;
 
-/// Equal rows of a trace that stand together, in one record.
+/// Neighbouring equal rows of a trace in one record.
 #[derive(Clone, Copy, Debug, PartialEq, Eq)]
 pub enum Run {
     /// One release.
     Release { job: JobId, kept: bool },
-    /// So many ticks of one job, each of which ended so for it.
+    /// `length` ticks of one job, each with this outcome.
     Ticks { job: JobId, how: How, length: u32 },
-    /// So many idle ticks.
+    /// `length` idle ticks.
     Idles { length: u32 },
 }

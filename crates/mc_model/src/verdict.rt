@@ -1,6 +1,8 @@
+//! The verdict on a trace.
 use mc_task::JobId;
 
-/// The part of a row that does not fit the rows before it, in the order in which the parts are tried.
+/// The part of a row that does not fit the rows before it. The parts are tried in this order, and the first that fails
+/// is reported.
 #[derive(Clone, Copy, Debug, PartialEq, Eq)]
 pub enum Why {
     TooSoon,
@@ -12,11 +14,11 @@ pub enum Why {
     IdlePending,
 }
 
-/// What a judge says of a trace.
+/// The verdict of a judge on a trace.
 #[derive(Clone, Copy, Debug, PartialEq, Eq)]
 pub enum Verdict {
-    /// Each row fits; so many jobs are late, and this is the one released first.
+    /// Each row fits; `late` jobs missed their deadline, and `first` is the one of them released first.
     Legal { late: u64, first: Option<JobId> },
-    /// The row with this number, from 1, is the first that does not fit.
+    /// The row with this number, from 1, is the first that does not fit the rows before it.
     Illegal { place: u64, why: Why },
 }

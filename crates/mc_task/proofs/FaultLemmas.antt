@@ -11,7 +11,7 @@ use Rattle.mc_task.specs.declared.task.Level.TheVariants.{Low, High}
 use Rattle.mc_task.specs.TaskSet.{AreTasks, IsTask, InOrder, Distinct, names_of}
 use Rattle.mc_task.specs.Faults.{out_of_order, number_fault_from, named_from, same_name_from, first_fault}
 
--- the name is that of no task of the list
+-- no task of the list has this name
 abbrev IsNewTo : List ℕ → List Task → Type 0
 IsNewTo name ts = AllByRecursion (λ u. u.name ≢ name) ts
 
@@ -19,12 +19,12 @@ not_same : (b : Bool) (a c : List ℕ) → Decides b (a ≡ c) → a ≢ c → b
 not_same true a c decides differ = absurd (differ (decides.0 refl))
 not_same false a c decides differ = refl
 
--- such a name is not found
+-- a name that no task of the list has is not found
 named_from-new : (k : ℕ) (name : List ℕ) (ts : List Task) → IsNewTo name ts → named_from k name ts ≡ None
 named_from-new k name [] new = refl
 named_from-new k name (t ∷ ts) new = rw (not_same (bytes_eq t.name name) t.name name (bytes_eq-Decides t.name name) new.0, named_from-new (k + 1) name ts new.1)
 
--- each name of the list is that of no task before it
+-- no name of the list is that of a task before the list
 abbrev AreNewTo : List (List ℕ) → List Task → Type 0
 AreNewTo names before = AllByRecursion (λ name. IsNewTo name before) names
 
@@ -36,7 +36,7 @@ are_new_to_more : (before : List Task) (t : Task) (names : List (List ℕ)) → 
 are_new_to_more before t [] new differ = tt
 are_new_to_more before t (name ∷ names) new differ = (new_to_more before t name new.0 differ.0, are_new_to_more before t names new.1 differ.1)
 
--- no task has the name of one before it
+-- if all names differ, no task has the name of a task before it
 no_same_name : (before ts : List Task) → AreNewTo (names_of ts) before → Distinct (names_of ts) → same_name_from before ts ≡ None
 no_same_name before [] new distinct = refl
 no_same_name before (t ∷ ts) new distinct =
@@ -58,7 +58,7 @@ nothing_before : (names : List (List ℕ)) → AreNewTo names []
 nothing_before [] = tt
 nothing_before (name ∷ names) = (tt, nothing_before names)
 
--- so `TaskSet::new` would take the list of a set
+-- the tasks of a set have no fault, so `TaskSet::new` takes them
 pub first_fault-set : (ts : List Task) → AreTasks ts → first_fault ts ≡ None
 first_fault-set ts set =
     let some : (length ts == 0) ≡ false = grind (arith, nat_tests, set.some) in

@@ -1,4 +1,4 @@
--- Names in their arrays.
+-- Names, and the arrays that store them.
 use Rattle.std.proofs.Common.{◌≡◌, ℕ, List, length, take, IsTrue, sym, ap}
 use Rattle.std.proofs.Math.Seq.{take-append_seam}
 use Rattle.mc_task.specs.NameForm.{is_name}

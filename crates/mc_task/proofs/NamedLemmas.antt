@@ -13,7 +13,7 @@ found_cases : (b : Bool) (n : ℕ) (rest : Option ℕ) (size k : ℕ) → cond b
 found_cases true n rest size k h later = let same : n ≡ k = cc in (omega arith, omega arith)
 found_cases false n rest size k h later = let at : (n + 1 ≤ k) × (k < n + 1 + size) = later h in (omega arith, omega arith)
 
--- where the first task has number n
+-- a name that is found in a list whose first task has number n is found at a number of the list
 found_from : (n : ℕ) (name : List ℕ) (ts : List Task) (k : ℕ) → named_from n name ts ≡ Some k → (n ≤ k) × (k < n + length ts)
 found_from n name [] k h = absurd (cc)
 found_from n name (t ∷ ts) k h =
@@ -31,13 +31,13 @@ unequal a b h = by (bytes_eq a b) refl
     by true e = absurd (h ((bytes_eq-Decides a b).0 e))
     by false e = refl
 
--- a name that differs from those of a list differs from each
+-- a name that differs from all names of a list differs from the name at each index
 apart : (name : List ℕ) (ts : List Task) (i : ℕ) → AllByRecursion (λ m. name ≢ m) (names_of ts) → i < length ts → name ≢ name_in (slice_get ts i)
 apart name [] i h inside = absurd (omega arith)
 apart name (t ∷ ts) zero h inside = h.0
 apart name (t ∷ ts) (suc i) h inside = apart name ts i h.1 (omega arith)
 
--- a task of a list, the first of which has number n, has a name, and is the first of this name
+-- task k of a list whose first task has number n has this name, and is the first task with it
 pub record IsFound (ts : List Task) (n : ℕ) (name : List ℕ) (k : ℕ) : Type 0 where
   pub number : named_from n name ts ≡ Some k
   pub form : IsTrue (is_name name)
@@ -67,6 +67,6 @@ found_by_name set k s task =
     let found = found_at 1 set (k - 1) s.names s.each (omega (arith, task.0, task.1)) in
     rw some (subst (λ (m : ℕ). IsFound set 1 (name_in (slice_get set (k - 1))) m) at found)
 
--- what has a task's name is found as that task
+-- a name that is that of task k is found as task k
 pub found_task : (set : List Task) (k : ℕ) (name : List ℕ) → AreTasks set → IsIn set k → name_in (task_at set k) ≡ name → named name set ≡ Some k
 found_task set k name s task same = subst (λ (n : List ℕ). named n set ≡ Some k) same (found_by_name set k s task).number

@@ -1,4 +1,4 @@
--- Tasks in which there is no fault are in order.
+-- Tasks of a list without a fault are valid tasks.
 use Rattle.std.proofs.Common.{All, ◌≡◌, ℕ, suc, ◌+◌, ◌≤◌, Bool, true, false, ◌==◌, ◌||◌, nat_lt, cond, List, [], ◌∷◌, ◌++◌, ◌≢◌, Option, Some, None, option_map, refl, sym, ◌∙◌, append_assoc, arith, length}
 use Rattle.std.specs.Str.{bytes_eq}
 use Rattle.std.proofs.lemmas.Bool.Decides.{nat_tests}
@@ -23,7 +23,7 @@ chosen true y e f rest h = absurd (cc)
 chosen false true e f rest h = absurd (cc)
 chosen false false e f rest h = (refl, refl, h)
 
--- a fact on each element, element by element
+-- a property of all elements, said element by element
 pub each_of_all : {X : Type 0} (P : X → Type 0) (xs : List X) → All P xs → AllByRecursion P xs
 each_of_all P [] h = tt
 each_of_all P (x ∷ xs) h = (h 0 x (omega arith), each_of_all P xs (λ k d lt. h (suc k) d (omega arith)))
@@ -43,12 +43,12 @@ none_mapped f (Some x) h = absurd (cc)
 differs : (a b : List ℕ) → bytes_eq a b ≡ false → a ≢ b
 differs a b h e = false≢true (sym h ∙ (bytes_eq-Decides a b).1 e)
 
--- a name that no task has is not that of a task there
+-- a name that no task of a list has differs from the name of each task in it
 not_there : (n : ℕ) (name : List ℕ) (u : Task) (xs ys : List Task) → named_from n name (xs ++ u ∷ ys) ≡ None → bytes_eq u.name name ≡ false
 not_there n name u [] ys h = none_chosen (bytes_eq u.name name) n _ h
 not_there n name u (x ∷ xs) ys h = not_there (n + 1) name u xs ys (none_rest (bytes_eq x.name name) n _ h)
 
--- no task of the rest has the name of one before it
+-- in a list without two equal names, no later task has the name of this one
 fresh : (u : Task) (xs ys ts : List Task) → same_name_from (xs ++ u ∷ ys) ts ≡ None → AllByRecursion (λ n. u.name ≢ n) (names_of ts)
 fresh u xs ys [] h = tt
 fresh u xs ys (t ∷ ts) h =
@@ -74,7 +74,8 @@ in_order_from before (t ∷ ts) h =
     let q = chosen ((t.period == 0 || t.low == 0) || t.high == 0) (out_of_order t.level t.low t.high) _ _ None (p.0) in
     (in_order t.level t.low t.high (q.1), in_order_from (before + 1) ts (p.1))
 
--- what a list without a fault passes: it has 1 to 128 tasks, none with a fault of its numbers or the name of another
+-- what a list without a fault has: 1 to 128 tasks, none of them with a fault of its numbers or with the name
+-- of another
 record Faultless (ts : List Task) : Type 0 where
   some : 1 ≤ length ts
   few : length ts ≤ 128
@@ -89,7 +90,7 @@ faultless ts h =
     let few : length ts ≤ 128 = grind (arith, nat_tests, p.1) in
     record { some = some; few = few; numbers = q.0; names = q.1 }
 
--- each task of such a list has its budgets in order
+-- each task of a list without a fault has its budgets in order
 pub each_in_order : (ts : List Task) → first_fault ts ≡ None → AllByRecursion (λ t. InOrder t.level t.low t.high) ts
 each_in_order ts h = in_order_from 0 ts ((faultless ts h).numbers)
 

@@ -1,4 +1,4 @@
--- The form of a name.
+-- The form of a task's name.
 use Rattle.std.specs.Prelude.{ℕ, Bool, ◌&&◌, ◌||◌, ◌==◌, nat_le, List, length}
 use Rattle.std.specs.List.{list_all}
 

@@ -1,4 +1,4 @@
--- How the steps of reading a text follow each other: the first refusal ends them.
+-- Steps of reading a text, of which the first refusal ends all.
 use Rattle.std.specs.Prelude.{Option, Some, None, Result, Ok, Err}
 
 infixl 10 ◌>>=◌

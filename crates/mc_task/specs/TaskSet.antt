@@ -1,5 +1,6 @@
--- What a task set is: dual-criticality sporadic tasks with implicit deadlines (Baruah et al., ECRTS 2012).
--- That a low task has one budget, and how many tasks and how large numbers there may be, is this profile's.
+-- Task sets: dual-criticality sporadic tasks with implicit deadlines (Baruah et al., ECRTS 2012).
+-- This profile adds that a low task has one budget, and the limits on the number of tasks and on their
+-- numbers.
 use Rattle.std.specs.Prelude.{◌≡◌, ◌≢◌, ℕ, ◌-◌, ◌<◌, ◌≤◌, ◌^◌, ◌==◌, if◌then◌else◌, List, [], ◌∷◌, length, map, slice_get, Option, None, IfSome, IsTrue}
 use Rattle.std.specs.List.{AllByRecursion}
 use Rattle.std.specs.Option.{option_map_or}
@@ -14,7 +15,7 @@ use Rattle.mc_task.specs.declared.task.Level.TheVariants.{Low, High}
 abbrev pub IsTickCount : ℕ → Type 0
 IsTickCount n = (1 ≤ n) × (n < 2 ^ 32)
 
--- a high task's low budget is at most its high one; a low task has one budget
+-- a high task's low budget is at most its high budget; a low task's two budgets are equal
 abbrev pub InOrder : Level → ℕ → ℕ → Type 0
 InOrder Low low high = low ≡ high
 InOrder High low high = low ≤ high
@@ -36,14 +37,14 @@ Distinct (n ∷ ns) = AllByRecursion (λ m. n ≢ m) ns × Distinct ns
 abbrev pub names_of : List Task → List (List ℕ)
 names_of tasks = map (λ t. t.name) tasks
 
--- the tasks of a set: 1 to 128 with different names
+-- the tasks of a set: 1 to 128 valid tasks with different names
 pub record AreTasks (tasks : List Task) : Type 0 where
   pub some : 1 ≤ length tasks
   pub few : length tasks ≤ 128
   pub each : AllByRecursion IsTask tasks
   pub names : Distinct (names_of tasks)
 
--- a scale p/q of at most 1, in lowest terms, whose parts are at most 4,294,967,295
+-- a valid scale: p/q is at most 1 and in lowest terms, and p and q are from 1 to 4,294,967,295
 pub record IsScale (x : Scale) : Type 0 where
   pub some : 1 ≤ x.p
   pub order : x.p ≤ x.q
@@ -55,7 +56,7 @@ pub record Set : Type 0 where
   pub tasks : List Task
   pub scale : Option Scale
 
--- a valid set: the tasks are 1 to 128 valid tasks with different names, and the scale, if any, is a valid scale
+-- a valid set: 1 to 128 valid tasks with different names, and a valid scale or none
 pub record IsSet (set : Set) : Type 0 where
   pub tasks : AreTasks set.tasks
   pub scale : IfSome set.scale IsScale
@@ -64,7 +65,7 @@ pub record IsSet (set : Set) : Type 0 where
 abbrev pub unscaled : List Task → Set
 unscaled tasks = record { tasks = tasks; scale = None }
 
--- task number k is in the set: the numbers run from 1 in the order of the list
+-- task number k is in the set: tasks are numbered from 1 in the order of the list
 abbrev pub IsIn : List Task → ℕ → Type 0
 IsIn tasks k = (1 ≤ k) × (k ≤ length tasks)
 

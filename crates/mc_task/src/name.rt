@@ -1,3 +1,4 @@
+//! The name of a task.
 ghost use Rattle.std.specs.Prelude.{◌≡◌, ◌≤◌, length, IsSome, IfSome, IsTrue, ◌↔◌};
 ghost use Rattle.std.specs.List.{list_all};
 ghost use Rattle.mc_task.specs.NameForm.{is_name, is_name_byte};
@@ -26,7 +27,7 @@ impl Model for Name {
 }
 
 impl Name {
-    /// The name with these bytes, or `None` exactly where they are of another form.
+    /// The name with these bytes, or `None` exactly if they do not have the form of a name.
     pub fn new(bytes: &[u8]) -> Option<Name>
         ensures form { IsSome result ↔ IsTrue (is_name bytes.now) }
         ensures value { IfSome result (λ name. name ≡ bytes.now) }
@@ -51,7 +52,7 @@ impl Name {
 
 ghost use Rattle.mc_task.specs.Name.{padded};
 
-// The bytes, and 0 in each place after them.
+// The bytes, filled up with 0 to 32 bytes.
 fn padded_array(bytes: &[u8]) -> [u8; 32]
     requires { length bytes.now ≤ 32 }
     ensures { result ≡ padded bytes.now }

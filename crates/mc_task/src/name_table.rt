@@ -1,19 +1,19 @@
-// Where tasks are looked for by their names.
+//! A table by which a task is found by its name.
 ghost use Rattle.std.specs.Prelude.{◌≡◌, ◌≤◌, ◌↔◌, length, IfSome, IsSome, option_copied, true};
 ghost use Rattle.mc_task.specs.TaskSet.{IsIn, task_at, name_in};
 ghost use Rattle.std.specs.Str.{bytes_eq};
 
 use crate::{Task, TaskNo};
 
-/// The numbers of at most 128 tasks, each at the first free place from that of its name on, and 0 at the other places. A
-/// number tells where to look: the name there is compared before it is believed.
+/// A hash table of at most 128 task numbers: each stands at the first free slot from the slot of its name on; free
+/// slots are 0. A number is only a hint: the name of the task is compared before the number is returned.
 #[derive(Clone, Copy, Debug)]
 pub struct NameTable {
     numbers: [u8; 256],
 }
 
 impl NameTable {
-    /// The table of these tasks.
+    /// The table of these tasks, which number at most 128.
     pub fn new(tasks: &[Task]) -> NameTable
         requires { length tasks.now ≤ 128 }
     {
@@ -35,7 +35,7 @@ impl NameTable {
         }
     }
 
-    /// A task with this name, where the table has it.
+    /// A task with this name, if the table has its number.
     pub fn find(&self, tasks: &[Task], name: &[u8]) -> Option<TaskNo>
         requires { length tasks.now ≤ 128 }
         ensures inside { IfSome result (λ task. IsIn tasks.now task.0) }
@@ -55,7 +55,7 @@ impl NameTable {
     }
 }
 
-/// Whether there is a task with this number, and it has this name.
+/// Whether there is a task with this number and this name.
 pub fn has_name(tasks: &[Task], task: TaskNo, name: &[u8]) -> bool
     ensures inside { result ≡ true → IsIn tasks.now task.0 }
     ensures name { result ≡ true → name_in (task_at tasks.now task.0) ≡ name.now }
@@ -66,14 +66,14 @@ pub fn has_name(tasks: &[Task], task: TaskNo, name: &[u8]) -> bool
     }
 }
 
-// Names of a set differ mostly in their last byte, so it is looked at before a call compares them all.
+// Names of a set differ mostly in their last byte, so that byte is compared first.
 pub fn is_same(own: &[u8], name: &[u8]) -> bool
     ensures { result ≡ bytes_eq own.now name.now }
 {
     own.last() == name.last() && own == name
 }
 
-/// The task with this number, or `None` exactly where there is none.
+/// The task with this number, or `None` exactly if there is none.
 pub fn task_with(tasks: &[Task], task: TaskNo) -> Option<&Task>
     ensures value { option_copied result ≡ task_at tasks.now task.0 }
     ensures found { IsSome result ↔ IsIn tasks.now task.0 }
@@ -84,7 +84,7 @@ pub fn task_with(tasks: &[Task], task: TaskNo) -> Option<&Task>
     tasks.get(task.0 as usize - 1)
 }
 
-// The place at which a name is looked for first.
+// The slot at which the search for a name begins.
 fn place_of(name: &[u8]) -> u8 {
     let mut place = 0u8;
     for b in name {

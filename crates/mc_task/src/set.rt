@@ -1,3 +1,4 @@
+//! A task set, and why a list of tasks is not one.
 ghost use Rattle.std.specs.Prelude.{◌≡◌, ◌≢◌, ◌≤◌, ◌↔◌, ◌+◌, nat_lt, if◌then◌else◌, length, true, false, IfOk, IfErr, IfSome, IfNone, All, IsSome, option_map, Some, None, []};
 ghost use Rattle.mc_task.specs.TaskSet.{AreTasks, IsTask, IsScale, IsIn, task_at, name_in, unscaled};
 ghost use Rattle.mc_task.specs.Faults.{first_fault, same_name_from, number_fault, number_fault_from, named};
@@ -7,7 +8,7 @@ use crate::{Level, Scale, Task, TaskNo};
 use std::alloc::{AllocError, Global};
 use std::marker::Model;
 
-/// Want of memory.
+/// Out of memory.
 #[derive(Clone, Copy, Debug, PartialEq, Eq)]
 pub struct Memory;
 
@@ -17,23 +18,25 @@ impl From<AllocError> for Memory {
     }
 }
 
-/// Why a list of tasks is no set, in the order in which the faults are looked for.
+/// Why a list of tasks is not a set. The faults are looked for in the order of the variants, `ZeroNumber` and
+/// `BudgetOrder` task by task, and the first one found is reported.
 #[derive(Clone, Copy, Debug, PartialEq, Eq)]
 pub enum SetFault {
     /// There is no task.
     Empty,
     /// There are more than 128 tasks.
     TooMany { count: u64 },
-    /// The task's period or a budget of it is 0.
+    /// The task's period or one of its budgets is 0.
     ZeroNumber { task: TaskNo },
-    /// The task's low budget is above its high one, or it is a low task with two budgets.
+    /// The task is high and its low budget is above its high budget, or it is low and its two budgets differ.
     BudgetOrder { task: TaskNo },
-    /// Two tasks have one name: the least second that has the name of a task before it.
+    /// Two tasks have one name. `second` is the first task of the list with the name of a task before it, and `first`
+    /// the first task with that name.
     SameName { first: TaskNo, second: TaskNo },
 }
 
-/// A set of 1 to 128 tasks with different names and budgets in order, and a scale that was chosen for it, if any.
-/// Contracts see the tasks and the scale.
+/// A set of 1 to 128 tasks with different names and budgets in order, and a scale that was chosen for it, if any. In
+/// contracts it is its tasks and its scale.
 #[derive(Debug, Drop)]
 pub struct TaskSet {
     tasks: Vec<Task>,
@@ -67,7 +70,7 @@ impl TaskSet {
         }
     }
 
-    /// The same tasks with this scale in place of any other.
+    /// The set with this scale in place of any that it had.
     pub fn with_scale(self, scale: Scale) -> TaskSet
         requires { IsScale scale }
         ensures { result ≡ record self { scale = Some scale } }
@@ -88,7 +91,7 @@ impl TaskSet {
         self.scale
     }
 
-    /// The tasks in order.
+    /// The tasks in order of their numbers.
     pub fn as_slice(&self) -> &[Task]
         ensures value { result.now ≡ self.now.tasks }
         ensures tasks { AreTasks self.now.tasks }
@@ -96,7 +99,7 @@ impl TaskSet {
         &self.tasks
     }
 
-    /// How many tasks there are.
+    /// The number of tasks: 1 to 128.
     pub fn len(&self) -> u32
         ensures count { result ≡ length self.now.tasks }
         ensures set { AreTasks self.now.tasks }
@@ -104,7 +107,7 @@ impl TaskSet {
         self.tasks.len() as u32
     }
 
-    /// The task with this number, or `None` exactly where the set has none.
+    /// The task with this number, or `None` exactly if the set has none.
     pub fn get(&self, task: TaskNo) -> Option<Task>
         ensures value { result ≡ task_at self.now.tasks task.0 }
         ensures found { IsSome result ↔ IsIn self.now.tasks task.0 }
@@ -112,7 +115,7 @@ impl TaskSet {
         task_with(&self.tasks, task).copied()
     }
 
-    /// Whether the set has a task with this number, and it has this name.
+    /// Whether the set has a task with this number and this name.
     // Inlined: the call would cost about as much as the body.
     #[inline(always)]
     pub fn is_named(&self, task: TaskNo, name: &[u8]) -> bool
@@ -126,8 +129,8 @@ impl TaskSet {
         }
     }
 
-    /// The number of the task with this name, or `None` exactly where no task has it.
-    // Not inlined, so that a caller of `find_near`, who seldom comes here, stays small.
+    /// The number of the task with this name, or `None` exactly if no task has it.
+    // Not inlined, so that a caller of `find_near`, which rarely needs `find`, stays small.
     #[inline(never)]
     pub fn find(&self, name: &[u8]) -> Option<TaskNo>
         ensures number { option_map (λ task. task.0) result ≡ named name.now self.now.tasks }
@@ -139,7 +142,8 @@ impl TaskSet {
         }
     }
 
-    /// The same as `find`, and sooner where it is the task with this number or the one after it.
+    /// The number of the task with this name, or `None`, as `find` returns it; faster if it is task `near` or the one
+    /// after it.
     pub fn find_near(&self, name: &[u8], near: TaskNo) -> Option<TaskNo>
         ensures number { option_map (λ task. task.0) result ≡ named name.now self.now.tasks }
         ensures inside { IfSome result (λ task. IsIn self.now.tasks task.0) }
@@ -154,7 +158,7 @@ impl TaskSet {
         self.find(name)
     }
 
-    /// The number of the task after this one; after the last comes the first.
+    /// The number of the next task in cyclic order: after the last task comes task 1.
     pub fn task_after(&self, task: TaskNo) -> TaskNo
         ensures { result.0 ≡ if nat_lt task.0 (length self.now.tasks) then task.0 + 1 else 1 }
     {
@@ -165,7 +169,7 @@ impl TaskSet {
         }
     }
 
-    /// An equal set.
+    /// A copy of the set. Fails with `Memory` if an allocation fails.
     pub fn copy(&self, alloc: Global) -> Result<TaskSet, Memory>
         ensures { IfOk result (λ set. set ≡ self.now) }
     {
@@ -208,7 +212,7 @@ fn number_fault_of(tasks: &[Task]) -> Option<SetFault>
     None
 }
 
-// The fault of the numbers of the task with this number.
+// The fault in the numbers of this task, which has this number in its list.
 fn number_fault(t: &Task, task: TaskNo) -> Option<SetFault>
     ensures fault { result ≡ number_fault task.0 t.now }
     ensures task { IfNone result (IsTask t.now) }

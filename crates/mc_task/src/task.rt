@@ -1,3 +1,4 @@
+//! Tasks, jobs, and the rules by which jobs are ordered.
 ghost use Rattle.std.specs.Prelude.{◌≡◌};
 ghost use Rattle.mc_task.specs.Kinds as kind;
 
@@ -10,21 +11,21 @@ pub enum Level {
     High,
 }
 
-/// A task's number in its set, from 1 in the order of the file.
+/// A task's number in its set, from 1 in the order of the list.
 #[derive(Clone, Copy, Debug, PartialEq, Eq)]
 pub struct TaskNo(pub u32);
 
-/// A job: its task, and which of the task's releases it is, from 1.
+/// A job: its task, and its number among the releases of that task, from 1.
 #[derive(Clone, Copy, Debug, PartialEq, Eq)]
 pub struct JobId {
     pub task: TaskNo,
     pub count: u32,
 }
 
-/// A sporadic task with an implicit deadline (Baruah et al., ECRTS 2012).
+/// A sporadic task with an implicit deadline: its deadline is its period (Baruah et al., ECRTS 2012).
 ///
-/// The period and the budgets are in ticks. `low` is the budget in low mode and `high` the one in high mode,
-/// which is the task's own budget; a low task has `high` equal to `low`.
+/// Period and budgets are in ticks, from 1 to 4,294,967,295. `low` is the budget in low mode and `high` the one in high
+/// mode, which is the task's own budget; a low task has `high` equal to `low`.
 #[derive(Clone, Copy, Debug, PartialEq, Eq)]
 pub struct Task {
     pub name: Name,
@@ -35,7 +36,7 @@ pub struct Task {
 }
 
 impl Task {
-    /// Whether it is a high one.
+    /// Whether the task is high.
     pub fn is_high(&self) -> bool
         ensures { result ≡ kind.is_high self.now.level }
     {
@@ -46,8 +47,8 @@ impl Task {
     }
 }
 
-/// How jobs are ordered: EDF by their deadlines, or EDF-VD, where in low mode the deadlines of
-/// high tasks are scaled by `p/q`.
+/// The order of jobs: EDF by their deadlines, or EDF-VD (Baruah et al., ECRTS 2012), where in low mode the relative
+/// deadlines of high tasks are scaled by `p/q`.
 #[derive(Clone, Copy, Debug, PartialEq, Eq)]
 pub enum Rule {
     Plain,
@@ -55,7 +56,7 @@ pub enum Rule {
 }
 
 impl Rule {
-    /// Whether it is EDF-VD, and not plain EDF.
+    /// Whether the rule is EDF-VD, and not plain EDF.
     pub fn is_virtual(self) -> bool
         ensures { result ≡ kind.is_virtual self }
     {
@@ -66,7 +67,8 @@ impl Rule {
     }
 }
 
-/// A scale `p/q` of the deadlines of high tasks, chosen for a set.
+/// A scaling factor `p/q` of the deadlines of high tasks, chosen for a set. It is valid (`IsScale`) if it is at most 1,
+/// in lowest terms, and both numbers are from 1 to 4,294,967,295.
 #[derive(Clone, Copy, Debug, PartialEq, Eq)]
 pub struct Scale {
     pub p: u64,

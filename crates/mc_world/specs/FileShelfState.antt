@@ -1,11 +1,11 @@
--- What contracts see of a shelf over the system's files.
+-- A shelf over the system's files, as contracts see it.
 use Rattle.std.specs.Prelude.{ℕ}
 
 -- a shelf over files: its counts, each kept in a u64
 pub record FileShelfState : Type 0 where
-  -- the fetches that failed
+  -- how many fetches failed
   pub faults : ℕ
-  -- the fetches that wanted memory
+  -- how many fetches ran out of memory
   pub wanted : ℕ
-  -- the bytes read, over all fetches
+  -- how many bytes were read, over all fetches
   pub bytes_read : ℕ

@@ -1,4 +1,4 @@
--- What contracts see of a sink in memory, and what its writes do.
+-- A sink in memory as contracts see it, and the effect of a write.
 use Rattle.std.specs.Prelude.{ℕ, ◌+◌, ◌-◌, ◌^◌, ◌++◌, List, [], length, min, take}
 use Rattle.mc_world.specs.Count.{one_more}
 
@@ -6,22 +6,22 @@ use Rattle.mc_world.specs.Count.{one_more}
 pub record MemorySinkState : Type 0 where
   -- the bytes written
   pub written : List ℕ
-  -- the most bytes that it takes in all
+  -- the most bytes that it takes altogether
   pub room : ℕ
   -- the most bytes that one write takes
   pub most : ℕ
-  -- the writes that are to fail, counted from 1
+  -- the writes that the sink is configured to fail, counted from 1
   pub fails : List ℕ
-  -- the writes that are to take nothing and answer 0, counted from 1
+  -- the writes that the sink is configured to take nothing of and return 0, counted from 1
   pub stops : List ℕ
-  -- how many writes there were, failed ones too: so the last one's number, up to its type's end
+  -- how many writes there were, failed ones included; this is the last one's number, up to its type's end
   pub writes : ℕ
-  -- the writes that failed, and those that were to take nothing
+  -- how many writes failed or took nothing as configured
   pub faults : ℕ
-  -- the bytes taken since the last of these, up to its type's end
+  -- how many bytes were taken since the last fault, up to its type's end
   pub since_fault : ℕ
 
--- a sink to which nothing has been written
+-- a sink without any write
 abbrev pub new_sink : ℕ → ℕ → List ℕ → List ℕ → MemorySinkState
 new_sink room most fails stops = record {
   written = [];
@@ -34,7 +34,7 @@ new_sink room most fails stops = record {
   since_fault = 0;
 }
 
--- how many bytes of a piece the next write takes, unless it is to fail or to take nothing
+-- how many bytes of a piece the next write takes, unless it is configured to fail or to take nothing
 abbrev pub next_count : MemorySinkState → List ℕ → ℕ
 next_count s piece = min (min (length piece) s.most) (s.room - length s.written)
 
@@ -46,6 +46,6 @@ after_write s piece count = record s {
   since_fault = min (s.since_fault + count) (2 ^ 64 - 1);
 }
 
--- the sink after a write that failed, or was to take nothing
+-- the sink after a write that failed, or that took nothing as configured
 abbrev pub after_fault : MemorySinkState → MemorySinkState
 after_fault s = record s { writes = one_more s.writes; faults = one_more s.faults; since_fault = 0 }

@@ -1,4 +1,4 @@
--- What a shelf is seen as, and what it holds.
+-- Shelves as contracts see them, and their files.
 use Rattle.std.specs.Prelude.{◌≢◌, ℕ, Bool, true, false, List, [], ◌∷◌, if◌then◌else◌, Option, Some, None, Result, Err, AllPairs}
 use Rattle.std.specs.Str.{bytes_eq}
 use Rattle.mc_world.specs.declared.shelf.FetchFault.{FetchFault}
@@ -8,7 +8,7 @@ use Rattle.mc_world.specs.declared.shelf.FetchFault.TheVariants.{Failed}
 abbrev pub Files : Type 0
 Files = List ℕ → Option (List ℕ)
 
--- a fetch that was answered: the name asked, and whether it failed
+-- a fetch with a result: its name, and whether it failed
 pub record Fetch : Type 0 where
   pub name : List ℕ
   pub failed : Bool
@@ -17,20 +17,20 @@ pub record Fetch : Type 0 where
 abbrev pub fetch_of : List ℕ → Bool → Fetch
 fetch_of name failed = record { name = name; failed = failed }
 
--- the answer is that it failed
+-- whether the result is `Failed`
 abbrev pub is_failed : {T : Type 0} → Result T FetchFault → Bool
 is_failed (Err Failed) = true
 is_failed answer = false
 
 -- a shelf as contracts see it
 pub record ShelfState : Type 0 where
-  -- the bytes under each name that has some, where the shelf exposes them
+  -- the bytes under each name that has some, if the shelf exposes them
   pub holds : Option Files
-  -- the fetches that were answered, the first one first, where the shelf exposes them
+  -- the fetches with a result, the first one first, if the shelf exposes them
   pub fetches : Option (List Fetch)
   -- how many fetches have failed
   pub faults : ℕ
-  -- how many fetches have wanted memory
+  -- how many fetches have run out of memory
   pub wanted : ℕ
   -- how many bytes have been read, over all fetches
   pub bytes_read : ℕ

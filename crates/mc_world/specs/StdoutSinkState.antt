@@ -1,9 +1,9 @@
--- What contracts see of standard output.
+-- Standard output as contracts see it.
 use Rattle.std.specs.Prelude.{ℕ}
 
 -- standard output: its counts, each kept in a u64
 pub record StdoutSinkState : Type 0 where
-  -- the writes that failed
+  -- how many writes failed
   pub faults : ℕ
-  -- the bytes taken since the last of these, up to its type's end
+  -- how many bytes were taken since the last failed write, up to its type's end
   pub since_fault : ℕ

@@ -1,3 +1,4 @@
+//! A shelf in memory that never fails.
 ghost use Rattle.std.specs.Prelude.{◌≡◌, Some};
 ghost use Rattle.mc_world.specs.CalmShelfState.{new_calm_shelf, bytes_at, calm_files, after_calm_fetch};
 ghost use Rattle.mc_world.specs.MemoryShelfState.{Answers, files_of, answer_of};
@@ -8,8 +9,8 @@ use crate::{FetchFault, Shelf};
 use std::alloc::Global;
 use std::marker::Model;
 
-/// Files in memory, which never fails: a name that it lacks holds no bytes, and its count of faults
-/// is always 0. A fetch that finds no memory is counted, and leaves the rest as it was.
+/// Files in memory, of which no fetch fails: a name that it lacks has no bytes, and its count of faults is always 0. A
+/// fetch that runs out of memory is counted, and changes nothing else.
 #[derive(Debug, Drop)]
 pub struct CalmShelf {
     alloc: Global,
@@ -46,7 +47,7 @@ impl CalmShelf {
 }
 
 impl Shelf for CalmShelf {
-    // It tells its files, so that nothing rests on the count of bytes read.
+    // It exposes its files, so no clause needs the count of bytes read.
     ghost state = { λ s. record {
       holds = Some (calm_files s.files);
       fetches = Some s.fetches;
@@ -56,7 +57,7 @@ impl Shelf for CalmShelf {
     } };
 
     fn fetch(&mut self, alloc: Global, name: &str, limit: usize) -> Result<Vec<u8>, FetchFault>
-        // Memory aside, one answer is right, and from these two clauses the trait's follow.
+        // If memory suffices, exactly one result is right; the clauses of the trait follow from these two.
         ensures answer { Answers result (answer_of (Some (bytes_at name.now self.old.files)) limit) }
         ensures leaves { self.new ≡ after_calm_fetch self.old name.now result }
     {
@@ -77,7 +78,7 @@ impl Shelf for CalmShelf {
     }
 }
 
-// The bytes under the name.
+// The bytes under the name; none if it is absent.
 fn held<'a>(files: &'a [(String, Vec<u8>)], name: &str) -> &'a [u8]
     ensures { result.now ≡ bytes_at name.now (files_of files.now) }
 {
@@ -101,7 +102,7 @@ mod tests {
         Ok(CalmShelf::new(alloc, files))
     }
 
-    // How many names were asked, where each fetch gives what is said here.
+    // How many fetches the shelf has, if each has the result checked here.
     fn asked(alloc: Global) -> Option<usize> {
         let mut shelf = shelf_with(alloc, b"abcd").ok()?;
         let fetches = [

@@ -1,14 +1,14 @@
+//! A sink that never fails.
 ghost use Rattle.std.specs.Prelude.{◌≡◌, ◌-◌, ◌^◌, None, Ok, length};
 
 use crate::{Sink, SinkFault};
 
-/// A sink that takes every piece whole and keeps none of it. It tells no content, and its count of
-/// faults is always 0.
+/// A sink that takes every piece whole and stores nothing. It exposes no content, and its count of faults is always 0.
 #[derive(Clone, Copy, Debug)]
 pub struct CalmSink;
 
 impl CalmSink {
-    /// The calm sink, which has nothing to remember.
+    /// The calm sink, which has no state.
     pub fn new() -> CalmSink {
         CalmSink
     }

@@ -1,4 +1,4 @@
-// A reader or a writer with a tally of its calls, by which an interruption is no failure.
+//! A reader or a writer with a tally of its calls, in which an interruption is not a failure.
 ghost use Rattle.std.specs.Prelude.{◌≡◌, ◌<◌, ◌-◌, ◌^◌, true, false, length, IfOk, OnOk};
 ghost use Rattle.std.specs.Io.{ReadsAtMost, WritesAtMost};
 ghost use Rattle.std.specs.Io.KnownBytes.{Keeps, ReadConsumes, WriteAppends};
@@ -8,7 +8,7 @@ ghost use Rattle.mc_world.specs.Tally.{Counts, Tallies};
 use std::io;
 use std::io::{ErrorKind, Read, Write};
 
-// Why a call gave nothing.
+// Why a call of a reader or a writer gave nothing.
 #[derive(Clone, Copy)]
 pub enum CallError {
     // A signal came first. The call did nothing, and can be tried again.
@@ -19,7 +19,7 @@ pub enum CallError {
 // The calls that gave nothing.
 #[derive(Clone, Copy)]
 pub struct Tally {
-    // How many interruptions may still come. The next one after these is a failure, so that trying again ends.
+    // How many interruptions may still come. The one after these counts as a failure, so that trying again terminates.
     tries: u64,
     failures: u64,
 }
@@ -51,7 +51,7 @@ impl Tally {
 pub struct Device<D> {
     inner: D,
     tally: Tally,
-    // Bytes may wait in a buffer: no flush has succeeded since the last write.
+    // Whether bytes may wait in a buffer: no flush has succeeded since the last write.
     waits: bool,
 }
 
@@ -86,7 +86,7 @@ impl<R: Read> Device<R> {
 }
 
 impl<W: Write> Device<W> {
-    // To take nothing of a piece with bytes is a failure.
+    // Taking nothing of a non-empty piece is a failure.
     pub fn write(&mut self, piece: &[u8]) -> Result<usize, CallError>
         ensures bound { WritesAtMost result piece.now }
         ensures some { IfOk result (λ n. n ≡ 0 → length piece.now ≡ 0) }

@@ -1,4 +1,4 @@
-// What is read from any reader, and written to any writer. A call that a signal interrupts is tried again.
+//! Reading all of any reader, and writing to any writer. A call that a signal interrupts is tried again.
 ghost use Rattle.std.specs.Prelude.{◌≡◌, ◌+◌, ◌-◌, ◌<◌, ◌≤◌, ◌^◌, ◌⊎◌, min, take, length, false, IfOk, IfSome, IsErrOf, OnErr, OnOk};
 ghost use Rattle.std.specs.Io.{WritesAtMost};
 ghost use Rattle.std.specs.Io.KnownBytes.{Appends, Keeps};
@@ -11,7 +11,7 @@ use std::io::{Read, Write};
 
 const PIECE_BYTES: usize = 8192;
 
-// All bytes that a reader has left, if there are at most `limit`. Those that are read are counted.
+// All bytes that a reader has left, if there are at most `limit`. The bytes read are counted.
 pub fn read_whole<T: Read>(
     alloc: Global,
     reader: &mut Device<T>,
@@ -20,21 +20,22 @@ pub fn read_whole<T: Read>(
 ) -> Result<Vec<u8>, FetchFault>
     requires { limit < 2 ^ 40 }
 
-    // Where the reader tells what it has left, that is given, and too long is what is longer than the limit.
+    // If the reader's remaining bytes are known, exactly these are returned, and `TooLong` means that they exceed the
+    // limit.
     ensures whole { IfOk result (λ bytes. IfSome (T.remaining reader.old.inner) (λ left. bytes.items ≡ left)) }
     ensures short { IfOk result (λ bytes. length bytes.items ≤ limit) }
     ensures long { IsErrOf result FetchFault.TooLong → IfSome (T.remaining reader.old.inner) (λ left. limit < length left) }
     ensures long_untold { IsErrOf result FetchFault.TooLong → RoseByMoreThan limit bytes_read.old bytes_read.new }
     ensures more_read { bytes_read.old ≤ bytes_read.new }
 
-    // Each byte that is given was counted once.
+    // Each byte returned was counted once.
     ensures counted { IfOk result (λ bytes. bytes_read.new ≡ min (bytes_read.old + length bytes.items) (2 ^ 64 - 1)) }
 
-    // It fails only where a read failed, and an interruption is none.
+    // It fails only if a read failed; an interruption is not a failure.
     ensures failed { IsErrOf result FetchFault.Failed → reader.new.tally.failures ≡ one_more reader.old.tally.failures }
     ensures no_failure { (reader.new.tally.failures ≡ reader.old.tally.failures) ⊎ IsErrOf result FetchFault.Failed }
 {
-    // It is a number of 64 bits.
+    // Its value is a number of 64 bits.
     let _before = *bytes_read;
     let mut bytes = Vec::new(alloc);
     let mut buffer = [0; PIECE_BYTES];
@@ -56,19 +57,19 @@ pub fn read_whole<T: Read>(
     Err(FetchFault::TooLong)
 }
 
-// Writes bytes from the front of the piece, and sees that they do not wait in a buffer. It answers how many: none only of an
-// empty piece.
+// Writes bytes from the front of the piece, and makes sure that they do not wait in a buffer. Returns how many; 0 only
+// for an empty piece.
 pub fn write_piece<W: Write>(out: &mut Device<W>, piece: &[u8]) -> Result<usize, SinkFault>
     ensures count { IfOk result (λ n. n ≤ length piece.now) }
     ensures some { IfOk result (λ n. n ≡ 0 → length piece.now ≡ 0) }
 
-    // Where the writer tells what it holds, that grows by them.
+    // If the writer's content is known, it grows by these bytes.
     ensures appends { IfOk result (λ n. Appends (W.contents out.old.inner) (W.contents out.new.inner) (take n piece.now)) }
 
-    // They were flushed: a flush that failed is a fault.
+    // The bytes were flushed: a flush that fails is a fault.
     ensures flushed { OnOk result (out.new.waits ≡ false) }
 
-    // A fault comes only where the write or the flush failed, and an interruption is none.
+    // A fault comes only if the write or the flush failed; an interruption is not a failure.
     ensures failed { OnErr result (out.new.tally.failures ≡ one_more out.old.tally.failures) }
     ensures no_failure { OnOk result (out.new.tally.failures ≡ out.old.tally.failures) }
 {

@@ -1,3 +1,4 @@
+//! A shelf over the system's files.
 ghost use Rattle.std.specs.Prelude.{◌≡◌, None};
 
 use crate::device::Device;
@@ -8,8 +9,8 @@ use std::fs::File;
 use std::marker::Model;
 use std::rt::Files;
 
-/// The system's files, by their paths. It tells no content. A file that cannot be opened or read, as
-/// a directory or a path that leads nowhere, is a fault.
+/// The system's files, by their paths. It exposes no content. A file that cannot be opened or read, such as a directory
+/// or a path that does not exist, is a fault.
 #[derive(Drop)]
 pub struct FileShelf<'a, R: Files> {
     rt: &'a R,
@@ -27,7 +28,7 @@ impl<'a, R: Files> Model for FileShelf<'a, R> {
 }
 
 impl<'a, R: Files> FileShelf<'a, R> {
-    /// A shelf that has read nothing so far. Contracts see it as its counts.
+    /// A shelf that has read nothing so far. In contracts it is its counts.
     pub fn new(rt: &'a R) -> FileShelf<'a, R>
         ensures no_fault { result.faults ≡ 0 }
         ensures no_want { result.wanted ≡ 0 }
@@ -75,7 +76,8 @@ mod tests {
 
     const NAME: &str = "file_shelf_test";
 
-    // Whether a file with this content is read whole at its length, and is too long at one byte less. Both read all of it.
+    // Whether a file with this content is read whole with a limit of its length, and is too long for one byte less; in
+    // both cases all of it is read.
     fn is_read_back(rt: &HostRuntime, content: &[u8]) -> bool {
         if fs::write(rt, NAME, content).is_err() {
             return false;
@@ -100,7 +102,7 @@ mod tests {
             && shelf.faults == 0
     }
 
-    // More than a piece, with a last byte of its own.
+    // More bytes than are read at once, with a last byte of its own.
     fn in_order(alloc: Global) -> Result<Vec<u8>, AllocError> {
         let mut content = Vec::new(alloc);
         for place in 0..8193u32 {

@@ -21,7 +21,7 @@ pub use shelf::{FetchFault, Shelf};
 pub use sink::{Sink, SinkFault};
 pub use stdout_sink::StdoutSink;
 
-/// Want of memory.
+/// Out of memory.
 #[derive(Clone, Copy, Debug, PartialEq, Eq)]
 pub struct Memory;
 

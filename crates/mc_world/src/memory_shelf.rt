@@ -1,3 +1,4 @@
+//! A shelf in memory that fails where it is configured to.
 ghost use Rattle.std.specs.Prelude.{◌≡◌, Some};
 ghost use Rattle.mc_world.specs.MemoryShelfState.{Answers, files_of, new_shelf, answer_of, next_answer, after_fetch};
 ghost use Rattle.mc_world.specs.Shelf.{NamesDiffer, file_at};
@@ -6,14 +7,14 @@ use crate::{FetchFault, Shelf};
 use std::alloc::Global;
 use std::marker::Model;
 
-/// Files in memory. It fails at the fetches that it is told to, and at a name that it lacks. A fetch
-/// that finds no memory is counted apart and has no number, so the next one takes that number.
+/// Files in memory. A fetch fails if the shelf is so configured, or lacks the name. A fetch that runs out of memory is
+/// counted apart and takes no number; the next one has that number.
 #[derive(Debug, Drop)]
 pub struct MemoryShelf {
     alloc: Global,
     files: Vec<(String, Vec<u8>)>,
     fails: Vec<u64>,
-    // The name of each fetch, and whether it failed.
+    // The name of each fetch, and whether the fetch failed.
     fetches: Vec<(String, bool)>,
     faults: u64,
     wanted: u64,
@@ -38,8 +39,7 @@ impl Model for MemoryShelf {
 }
 
 impl MemoryShelf {
-    /// A shelf with these files, each a name and its bytes, which fails at these fetches, counted
-    /// from 1.
+    /// A shelf with these files, each a name and its bytes, which fails at these fetches, counted from 1.
     pub fn new(alloc: Global, files: Vec<(String, Vec<u8>)>, fails: Vec<u64>) -> MemoryShelf
         requires { NamesDiffer (files_of files.items) }
         ensures { result ≡ new_shelf (files_of files.items) fails.items }
@@ -56,7 +56,7 @@ impl MemoryShelf {
 }
 
 impl Shelf for MemoryShelf {
-    // It tells its files, so that nothing rests on this count.
+    // It exposes its files, so no clause needs this count.
     ghost state = { λ s. record {
       holds = Some (λ name. file_at name s.files);
       fetches = Some s.fetches;
@@ -66,7 +66,7 @@ impl Shelf for MemoryShelf {
     } };
 
     fn fetch(&mut self, alloc: Global, name: &str, limit: usize) -> Result<Vec<u8>, FetchFault>
-        // Memory aside, one answer is right, and from these two clauses the trait's follow.
+        // If memory suffices, exactly one result is right; the clauses of the trait follow from these two.
         ensures answer { Answers result (next_answer self.old name.now limit) }
         ensures leaves { self.new ≡ after_fetch self.old name.now result }
     {
@@ -95,7 +95,7 @@ impl Shelf for MemoryShelf {
     }
 }
 
-// What is answered where the fetch is not a listed one.
+// The result of a fetch that the shelf is not configured to fail.
 fn found(
     alloc: Global,
     files: &[(String, Vec<u8>)],
@@ -112,7 +112,7 @@ fn found(
     Err(FetchFault::Failed)
 }
 
-// What is answered of a file with these bytes.
+// The result of a fetch of a file with these bytes.
 pub(crate) fn copied(alloc: Global, bytes: &[u8], limit: usize) -> Result<Vec<u8>, FetchFault>
     ensures { Answers result (answer_of (Some bytes.now) limit) }
 {

@@ -1,3 +1,4 @@
+//! A sink in memory that fails where it is configured to.
 ghost use Rattle.std.specs.Prelude.{◌≡◌, ◌≤◌, ◌<◌, ◌+◌, ◌⊎◌, ◌↔◌, IfOk, IsErr, IsTrue, OnErr, Some, Contains, [], length};
 ghost use Rattle.mc_world.specs.Count.{Rose, one_more};
 ghost use Rattle.mc_world.specs.MemorySinkState.{new_sink, next_count, after_write, after_fault};
@@ -7,9 +8,8 @@ use crate::{Memory, Sink, SinkFault};
 use std::alloc::Global;
 use std::marker::Model;
 
-/// A sink in memory, with a fixed room. It fails at the writes that it is told to, and where it is
-/// full. Other writes it may be told to answer with 0, which is a fault too. The number of a write,
-/// from 1, stands still at the last `u64`.
+/// A sink in memory with a fixed capacity. A write fails if the sink is so configured, or is full. Other writes may be
+/// configured to take nothing and return 0, which is a fault too. Writes are numbered from 1, up to the last `u64`.
 #[derive(Debug, Drop)]
 pub struct MemorySink {
     bytes: Vec<u8>,
@@ -44,8 +44,8 @@ impl Model for MemorySink {
 }
 
 impl MemorySink {
-    /// A sink with room for that many bytes, which takes at most `most` of them in one write and
-    /// fails at these writes, counted from 1. It takes the memory for all its room here.
+    /// A sink with capacity for `room` bytes, which takes at most `most` of them in one write and fails at these
+    /// writes, counted from 1. It allocates its whole capacity here.
     pub fn new(
         alloc: Global,
         room: usize,
@@ -58,8 +58,8 @@ impl MemorySink {
         MemorySink::with_stops(alloc, room, most, fails, Vec::new(alloc))
     }
 
-    /// As `new`, and the writes of the second list, counted from 1, take nothing and answer 0. One
-    /// that would fail without that list fails.
+    /// A sink as from `new`, except that the writes in `stops`, counted from 1, take nothing and return 0. A write that
+    /// would fail without that list still fails.
     pub fn with_stops(
         alloc: Global,
         room: usize,
@@ -97,21 +97,21 @@ impl Sink for MemorySink {
     ghost state = { λ s. record { written = Some s.written; faults = s.faults; since_fault = s.since_fault } };
 
     fn write(&mut self, piece: &[u8]) -> Result<usize, SinkFault>
-        // It fails exactly at the listed writes, and where no room is left for a piece with bytes.
+        // It fails exactly at the listed writes, and if no capacity is left for a non-empty piece.
         ensures fails { IsErr result ↔ (Contains self.old.fails self.new.writes
             ⊎ ((0 < length piece.now) × (self.old.room ≤ length self.old.written))) }
 
-        // The other writes that it is told to stop at take nothing, and the rest take what they can.
+        // Other writes that are listed to stop take nothing, and the rest take what they can.
         ensures stops { Contains self.old.stops self.new.writes → IfOk result (λ n. n ≡ 0) }
         ensures takes { (Contains self.old.stops self.new.writes → ⊥) → IfOk result (λ n. n ≡ next_count self.old piece.now) }
 
-        // Each write is counted, and each that fails or is told to take nothing is a fault.
+        // Each write is counted, and each that fails or takes nothing as configured is a fault.
         ensures fault { OnErr result (self.new ≡ after_fault self.old) }
         ensures stopped { Contains self.old.stops self.new.writes → self.new ≡ after_fault self.old }
         ensures taken { (Contains self.old.stops self.new.writes → ⊥)
             → IfOk result (λ n. self.new ≡ after_write self.old piece.now n) }
 
-        // These of the trait's clauses do not follow from those above.
+        // These clauses of the trait do not follow from those above.
         ensures count { IfOk result (λ n. n ≤ length piece.now) }
         ensures appends { IfOk result (λ n. Appends (Some self.old.written) (Some self.new.written) piece.now n) }
         ensures no_fault { IfOk result (λ n. 0 < n → self.new.faults ≡ self.old.faults) }
@@ -140,7 +140,7 @@ impl Sink for MemorySink {
                 self.since_fault = self.since_fault.saturating_add(count as u64);
                 Ok(count)
             }
-            // The room was reserved by `new`.
+            // The capacity was reserved by `new`.
             Err(_) => unreachable!(),
         }
     }
@@ -157,7 +157,7 @@ mod tests {
     use super::*;
     use crate::tests::write_to;
 
-    // A sink and the writes to it: each with its piece, its answer and the count of faults after it.
+    // A sink and the writes to it: each with its piece, its result and the count of faults after it.
     struct Case {
         shows: &'static str,
         room: usize,

@@ -1,3 +1,4 @@
+//! A sink over standard output.
 ghost use Rattle.std.specs.Prelude.{◌≡◌, None};
 
 use crate::device::Device;
@@ -6,7 +7,7 @@ use crate::{Sink, SinkFault};
 use std::io;
 use std::marker::Model;
 
-/// Standard output. It tells no content.
+/// Standard output. It exposes no content.
 #[derive(Drop)]
 pub struct StdoutSink<'a, R: Print> {
     rt: &'a R,
@@ -23,7 +24,7 @@ impl<'a, R: Print> Model for StdoutSink<'a, R> {
 }
 
 impl<'a, R: Print> StdoutSink<'a, R> {
-    /// Standard output with no fault so far. Contracts see it as its counts.
+    /// Standard output with no fault so far. In contracts it is its counts.
     pub fn new(rt: &'a R) -> StdoutSink<'a, R>
         ensures no_fault { result.faults ≡ 0 }
         ensures nothing_taken { result.since_fault ≡ 0 }
@@ -77,7 +78,7 @@ mod tests {
         }
     }
 
-    // An output at which a signal interrupts each write but every third.
+    // An output at which a signal interrupts all writes but every third.
     #[derive(Drop)]
     struct SignalledOutput {
         writes: Cell<u64>,
@@ -102,7 +103,7 @@ mod tests {
         }
     }
 
-    // Whether the write of this piece is answered so, and leaves that many faults.
+    // Whether the write of this piece has this result, and leaves this number of faults.
     fn answers<R: Print>(
         sink: &mut StdoutSink<'_, R>,
         piece: &str,

@@ -1,4 +1,4 @@
-// What the tests of more than one kind of shelf or sink share, and a reader and a writer that signals interrupt.
+//! What the tests of several kinds of shelves and sinks share, and a reader and a writer that signals interrupt.
 ghost use Rattle.std.specs.Prelude.{◌≡◌, ◌<◌, ◌⊎◌, Some, IsSomeAnd, IsErrOf, length};
 ghost use Rattle.mc_world.specs.Count.{Rose};
 ghost use Rattle.mc_world.specs.Shelf.{Files};
@@ -8,8 +8,8 @@ mod signals;
 use crate::{FetchFault, Shelf, Sink, SinkFault};
 use std::alloc::Global;
 
-// A fetch as a program calls it, which knows no more than that there is a shelf. A file that is
-// held and too long is told as such, where memory and the shelf do not fail.
+// A fetch as a program calls it, which only knows that this is a shelf. A file that is exposed and too long is reported
+// as too long, if memory and the shelf do not fail.
 fn fetch_from<S: Shelf>(
     shelf: &mut S,
     alloc: Global,
@@ -24,7 +24,7 @@ fn fetch_from<S: Shelf>(
     shelf.fetch(alloc, name, limit as usize)
 }
 
-// Whether the fetch gives this text, or is refused so.
+// Whether the fetch returns this text, or is refused for this reason.
 pub fn gives<S: Shelf>(
     shelf: &mut S,
     alloc: Global,
@@ -39,7 +39,7 @@ pub fn gives<S: Shelf>(
     }
 }
 
-// A write as a program makes it, which knows no more than that there is a sink.
+// A write as a program makes it, which only knows that this is a sink.
 pub fn write_to<K: Sink>(sink: &mut K, piece: &[u8]) -> Result<usize, SinkFault> {
     sink.write(piece)
 }

@@ -10,7 +10,7 @@ pub use Rattle.mode_core.proofs.Apart.{Apart, Older, only, pending_apart}
 pub use Rattle.mode_core.proofs.Fits.{release_legal, idle_legal, tick_legal, chooses, same_bool-refl}
 -- what the held releases add to the rows
 pub use Rattle.mode_core.proofs.Held.{ticks-held, releases-held, IsSettled, settled_words}
-pub use Rattle.mode_core.proofs.Releasing.{jobs-few}
+pub use Rattle.mode_core.proofs.Releasing.{jobs-few, not_spent}
 -- a good state by its parts, and when nothing is held
 pub use Rattle.mode_core.proofs.Keep.{state, no_held}
 -- when an event is not refused

@@ -1,48 +1,56 @@
--- What a book that is opened gives, and when it is a book again with one row more.
-use Rattle.std.proofs.Common.{◌≡◌, ◌<◌, ◌^◌, [], ◌∷◌, ◌++◌, length, length-append, reverse, vec_capacity, refl, sym, subst, ap, arith}
-use Rattle.std.proofs.lemmas.List.{length-reverse}
+-- What a book that is opened gives, and when it is a book again with one row more. Beside its fields stand the rows that its
+-- recorder took.
+use Rattle.std.proofs.Common.{◌≡◌, ℕ, ◌<◌, ◌≤◌, ◌^◌, List, ◌∷◌, length, refl, sym, subst, ap, arith}
+use Rattle.mc_task.specs.declared.task.Task.{Task}
+use Rattle.mc_task.specs.declared.task.Rule.{Rule}
 use Rattle.mc_model.specs.declared.row.Row.{Row}
 use Rattle.mc_model.specs.Legal.{Legal}
 use Rattle.mode_core.specs.Slots.{waiting}
 use Rattle.mode_core.specs.Written.{Written}
 use Rattle.mode_core.specs.Kept.{written, IsBook, IsTally}
 use Rattle.mode_core.specs.declared.book.Book.TheInside.{Inside}
-use Rattle.mode_core.proofs.Pendings.{pushed, ticks-few}
+use Rattle.mode_core.proofs.Pendings.{ticks-few}
 
--- what the value says of its rows and a row behind them, at the fields
-pub opened_legal : (a : Inside) (w : Written) (row : Written → Row) → written a ≡ w → Legal w.set w.rule (row w ∷ w.rows) → Legal a.live.set a.live.rule (row (written a) ∷ reverse a.rows.items)
-opened_legal a w row e l = subst (λ (v : Written). Legal v.set v.rule (row v ∷ v.rows)) (sym e) l
+module _ {K : Type 0} (h : List Row) (a : Inside K) where
+  -- what the value says of its rows and a row behind them, at the fields
+  pub opened_legal : (w : Written) (row : Written → Row) → written h a ≡ w → Legal w.set w.rule (row w ∷ w.rows) → Legal a.live.set a.live.rule (row (written h a) ∷ h)
+  opened_legal w row e l = subst (λ (v : Written). Legal v.set v.rule (row v ∷ v.rows)) (sym e) l
 
--- and there is room
-pub opened_room : (a : Inside) (w : Written) → written a ≡ w → length w.rows < w.places → length a.rows.items < a.places
-opened_room a w e r =
-    omega (arith, subst (λ (v : Written). length v.rows < v.places) (sym e) r, length-reverse a.rows.items)
+  -- and there is room
+  pub opened_room : (w : Written) → written h a ≡ w → length w.rows < w.places → length h < a.places
+  opened_room w e r = subst (λ (v : Written). length v.rows < v.places) (sym e) r
 
--- the clock is in range
-pub clock_small : (a : Inside) → IsBook a → a.ticks < 2 ^ 32
-clock_small a k = omega (arith, k.tally.clock_is, ticks-few (reverse a.rows.items), length-reverse a.rows.items, k.few, k.range)
+  module _ (n : ℕ) (is_for : List Task → Rule → Type 0) (k : IsBook h n is_for a) where
+    -- the clock is in range
+    pub clock_small : a.ticks ≤ 2 ^ 62
+    clock_small = omega (arith, k.tally.clock_is, ticks-few h, k.few, k.range)
+
+    -- the recorder has room for one row more
+    pub room_for_one : (w : Written) → written h a ≡ w → length w.rows < w.places → length h < n
+    room_for_one w e r = omega (arith, opened_room w e r, k.room)
 
 -- the same set, rule and room, and one row more
-pub record OneMore (a b : Inside) (row : Row) : Type 0 where
+pub record OneMore {K : Type 0} (h g : List Row) (a b : Inside K) (row : Row) : Type 0 where
   pub set : b.live.set ≡ a.live.set
   pub rule : b.live.rule ≡ a.live.rule
   pub places : b.places ≡ a.places
-  pub rows : b.rows.items ≡ a.rows.items ++ row ∷ []
+  pub rows : g ≡ row ∷ h
 
 -- so it is seen
-pub one_more_seen : (a b : Inside) (row : Row) → OneMore a b row → written b ≡ record (written a) { rows = row ∷ reverse a.rows.items }
-one_more_seen a b row m = rw (m.set, m.rule, m.places, pushed row a.rows.items b.rows.items m.rows) refl
+pub one_more_seen : {K : Type 0} (h g : List Row) (a b : Inside K) (row : Row) → OneMore h g a b row → written g b ≡ record (written h a) { rows = row ∷ h }
+one_more_seen h g a b row m = rw (m.set, m.rule, m.places, m.rows) refl
 
 -- it is a book, where the tally is of the rows
 pub one_more_kept :
-    (a b : Inside) (row : Row) → IsBook a → length a.rows.items < a.places → OneMore a b row → vec_capacity b.rows ≡ vec_capacity a.rows →
-    IsTally a.live.set a.live.rule (row ∷ reverse a.rows.items) b.ticks b.live.high (waiting b.live) → IsBook b
-one_more_kept a b row k r m cap tally = record {
-  tasks = rw m.set k.tasks;
-  fits = rw m.rule k.fits;
-  holds = rw (m.set, m.rule) k.holds;
-  tally = rw (m.set, m.rule, pushed row a.rows.items b.rows.items m.rows) tally;
-  range = omega (arith, k.range, m.places);
-  few = omega (arith, r, m.places, ap length m.rows, length-append a.rows.items (row ∷ []));
-  room = omega (arith, k.room, m.places, cap);
+    {K : Type 0} (h g : List Row) (a b : Inside K) (row : Row) (n m : ℕ) (old_for new_for : List Task → Rule → Type 0) → IsBook h n old_for a → length h < a.places → OneMore h g a b row → m ≡ n →
+    ((set : List Task) (rule : Rule) → old_for set rule → new_for set rule) → IsTally a.live.set a.live.rule (row ∷ h) b.ticks b.live.high (waiting b.live) → IsBook g m new_for b
+one_more_kept h g a b row n m old_for new_for k r o cap keeps tally = record {
+  tasks = rw o.set k.tasks;
+  fits = rw o.rule k.fits;
+  holds = rw (o.set, o.rule) k.holds;
+  tally = rw (o.set, o.rule, o.rows) tally;
+  range = omega (arith, k.range, o.places);
+  few = omega (arith, r, o.places, ap length o.rows);
+  room = omega (arith, k.room, o.places, cap);
+  recorder = rw (o.set, o.rule) (keeps a.live.set a.live.rule k.recorder);
 }

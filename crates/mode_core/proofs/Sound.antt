@@ -1,11 +1,11 @@
 -- Each event leaves a sound state, and what is noted of releases after it.
-use Rattle.std.proofs.Common.{◌≡◌, ℕ, ◌+◌, ◌<◌, ◌≤◌, Bool, true, false, not, List, [], ◌∷◌, Option, Some, None, length, refl, ap, ◌∙◌, subst, arith, ltb-false}
-use Rattle.std.proofs.lemmas.Bool.{not-false}
+use Rattle.std.proofs.Common.{◌≡◌, ℕ, ◌+◌, ◌-◌, ◌<◌, ◌≤◌, ◌^◌, Bool, true, false, not, List, [], ◌∷◌, Option, Some, None, length, refl, ap, ◌∙◌, subst, arith, ltb-false, leb-false}
+use Rattle.std.proofs.lemmas.Bool.{not-false, or_parts}
 use Rattle.mc_task.specs.declared.task.JobId.{JobId}
 use Rattle.mc_model.specs.declared.row.Row.{Row}
 use Rattle.mc_model.specs.declared.row.Row.TheVariants.{Tick}
 use Rattle.mode_core.specs.Events.{is_full, release_refusal, grant_refusal, outcome_refusal, is_of_task, is_out, chosen_now}
-use Rattle.mode_core.specs.Shape.{IsSound}
+use Rattle.mode_core.specs.Shape.{IsSoundUpTo}
 use Rattle.mode_core.specs.Noted.{notes_of}
 use Rattle.mode_core.proofs.Fits.{Chooses, chooses, tick_legal}
 use Rattle.mode_core.proofs.Held.{IsSettled, settled_words}
@@ -14,36 +14,38 @@ use Rattle.mode_core.proofs.Options.{neither, not_if, no_map}
 use Rattle.mc_task.specs.TaskSet.{IsIn}
 use Rattle.mode_core.proofs.Noted.{notes_settled}
 use Rattle.mc_model.specs.Legal.{Legal}
-use Rattle.mc_model.specs.Core.{State, Good, begun, next, next_job, places_used, tick_out, release_row, add_held, outcome_of, settle, settled, IsOut}
+use Rattle.mc_model.specs.Core.{State, Good, begun, next, next_job, places_used, tick_out, released_so_far, release_row, add_held, outcome_of, settle, settled, IsOut}
 use Rattle.mc_model.proofs.Booleans.{eqb-false}
 use Rattle.mc_model.proofs.Jobs.{job_eq}
 
 -- a place is left where not each is used
-pub room_left : (s : State) → IsSound s → is_full s ≡ false → places_used s < s.places
+pub room_left : {n : ℕ} (s : State) → IsSoundUpTo n s → is_full s ≡ false → places_used s < s.places
 room_left s k f = omega (arith, eqb-false _ _ f, k.room)
 
 -- what no refusal of a release says
 pub record MayRelease (s : State) (k : ℕ) : Type 0 where
   pub soon : next s k ≤ begun s
   pub room : places_used s < s.places
+  pub few : released_so_far s k < 2 ^ 32 - 1
 
 -- so it is where no refusal applies
-pub may_release : (s : State) (k : ℕ) → IsSound s → release_refusal s k ≡ None → MayRelease s k
+pub may_release : {n : ℕ} (s : State) (k : ℕ) → IsSoundUpTo n s → release_refusal s k ≡ None → MayRelease s k
 may_release s k sound e =
     let p = neither _ _ (neither _ _ e).1 in
-    record { soon = ltb-false _ _ (not_if _ _ p.0); room = room_left s sound (not_if _ _ p.1) }
+    let left = or_parts _ _ (not_if _ _ p.1) in
+    record { soon = ltb-false _ _ (not_if _ _ p.0); room = room_left s sound left.0; few = leb-false _ _ left.1 }
 
 -- a sound state with other rows, another tick out or other releases held
-sound_with : (s : State) (rows : List Row) (out : Option JobId) (held : List JobId) → IsSound s → Good (record s { rows = rows; out = out; held = held }) →
-    length rows + length held + tick_out out ≤ s.places → IsSound (record s { rows = rows; out = out; held = held })
-sound_with s rows out held sound good room = record { tasks = sound.tasks; fits = sound.fits; holds = sound.holds; good = good; range = sound.range; room = room }
+sound_with : {n : ℕ} (s : State) (rows : List Row) (out : Option JobId) (held : List JobId) → IsSoundUpTo n s → Good (record s { rows = rows; out = out; held = held }) →
+    length rows + length held + tick_out out ≤ s.places → IsSoundUpTo n (record s { rows = rows; out = out; held = held })
+sound_with s rows out held sound good room = record { tasks = sound.tasks; fits = sound.fits; holds = sound.holds; good = good; range = sound.range; small = sound.small; room = room }
 
 -- a release that is held
 abbrev pub holding : State → JobId → State
 holding s j = record s { held = j ∷ s.held }
 
 -- it leaves a sound state
-pub sound_hold : (s : State) (k : ℕ) (i : JobId) → IsSound s → s.out ≡ Some i → IsIn s.set k → release_refusal s k ≡ None → IsSound (holding s (next_job s k))
+pub sound_hold : {n : ℕ} (s : State) (k : ℕ) (i : JobId) → IsSoundUpTo n s → s.out ≡ Some i → IsIn s.set k → release_refusal s k ≡ None → IsSoundUpTo n (holding s (next_job s k))
 sound_hold s k i sound o inside e =
     let may = may_release s k sound e in
     sound_with s s.rows s.out (next_job s k ∷ s.held) sound (good_release s (Some i) k o sound.good inside may.soon) (omega (arith, may.room))
@@ -53,7 +55,7 @@ abbrev pub writing : State → JobId → State
 writing s j = record s { rows = release_row s.set s.rule j s.rows ∷ s.rows }
 
 -- it leaves a sound state
-pub sound_write : (s : State) (k : ℕ) → IsSound s → s.out ≡ None → IsIn s.set k → release_refusal s k ≡ None → IsSound (writing s (next_job s k))
+pub sound_write : {n : ℕ} (s : State) (k : ℕ) → IsSoundUpTo n s → s.out ≡ None → IsIn s.set k → release_refusal s k ≡ None → IsSoundUpTo n (writing s (next_job s k))
 sound_write s k sound o inside e =
     let may = may_release s k sound e in
     let row = release_row s.set s.rule (next_job s k) s.rows in
@@ -71,7 +73,7 @@ pub record MayGrant (s : State) : Type 0 where
   pub room : places_used s < s.places
 
 -- so it is where no refusal applies
-pub may_grant : (s : State) (k : ℕ) → IsSound s → grant_refusal s k ≡ None → MayGrant s
+pub may_grant : {n : ℕ} (s : State) (k : ℕ) → IsSoundUpTo n s → grant_refusal s k ≡ None → MayGrant s
 may_grant s k sound e =
     let p = neither _ _ e in
     let q = neither _ _ p.1 in
@@ -82,7 +84,7 @@ may_grant s k sound e =
     go (Some j) m f n r = record { job = j; chosen = m; out = n; room = room_left s sound r }
 
 -- it leaves a sound state
-pub sound_grant : (s : State) → IsSound s → MayGrant s → IsSound (giving s)
+pub sound_grant : {n : ℕ} (s : State) → IsSoundUpTo n s → MayGrant s → IsSoundUpTo n (giving s)
 sound_grant s sound may =
     let good = good_grant s may.job sound.tasks.each sound.good may.out may.chosen in
     rw may.chosen (sound_with s s.rows (Some may.job) s.held sound good (omega (arith, may.room, ap tick_out may.out)))
@@ -96,7 +98,7 @@ pub record IsTicking (s : State) (j : JobId) : Type 0 where
   pub settle_is : (done : Bool) → settle s done ≡ add_held s.set s.rule s.held (Tick j (outcome_of s.set s.rule s.rows j done) ∷ s.rows)
 
 -- so it is where no refusal of an outcome applies
-pub ticking : (s : State) (j : JobId) → IsSound s → outcome_refusal s j ≡ None → IsTicking s j
+pub ticking : {n : ℕ} (s : State) (j : JobId) → IsSoundUpTo n s → outcome_refusal s j ≡ None → IsTicking s j
 ticking s j sound e = go (s.out) refl (not-false _ (not_if _ _ e))
   where
     go : (o : Option JobId) → s.out ≡ o → is_out o j ≡ true → IsTicking s j
@@ -117,11 +119,11 @@ abbrev pub ended : State → Bool → State
 ended s done = record s { rows = settle s done; out = None; held = [] }
 
 -- it is sound
-pub sound_end : (s : State) (done : Bool) → IsSound s → IsSound (ended s done)
+pub sound_end : {n : ℕ} (s : State) (done : Bool) → IsSoundUpTo n s → IsSoundUpTo n (ended s done)
 sound_end s done sound =
     let w : IsSettled s.set s.rule s.rows s.out s.held done = settled_words s.set s.rule s.rows s.out s.held done sound.good.out in
     sound_with s (settle s done) None [] sound (good_outcome s done sound.good) (omega (arith, sound.room, w.places))
 
 -- and the notes are as they were
-pub notes_ended : (s : State) (done : Bool) → IsSound s → notes_of (ended s done) ≡ notes_of s
+pub notes_ended : {n : ℕ} (s : State) (done : Bool) → IsSoundUpTo n s → notes_of (ended s done) ≡ notes_of s
 notes_ended s done sound = notes_settled s.set s.rule s.rows s.out s.held done sound.good.out

@@ -1,5 +1,5 @@
 -- The four events: when each is refused, what it answers, and the state after it.
-use Rattle.std.specs.Prelude.{ℕ, Bool, false, not, List, [], ◌∷◌, Option, Some, None, Result, Ok, Err, cond, nat_lt, ◌==◌, option_map}
+use Rattle.std.specs.Prelude.{ℕ, ◌-◌, ◌^◌, Bool, false, not, ◌||◌, List, [], ◌∷◌, Option, Some, None, Result, Ok, Err, cond, nat_lt, nat_le, ◌==◌, option_map}
 use Rattle.std.specs.Option.{option_or}
 use Rattle.mc_task.specs.declared.task.Task.{Task}
 use Rattle.mc_task.specs.declared.task.Rule.{Rule}
@@ -17,7 +17,7 @@ use Rattle.mode_core.specs.declared.answers.GrantFault.TheVariants as grant_faul
 use Rattle.mode_core.specs.declared.answers.IdleFault.{IdleFault}
 use Rattle.mode_core.specs.declared.answers.IdleFault.TheVariants as idle_fault
 use Rattle.mc_model.specs.Rows.{same_job, ticks, used}
-use Rattle.mc_model.specs.Core.{State, chosen, begun, places_used, next, next_job, keeps, release_row, outcome_of, settle}
+use Rattle.mc_model.specs.Core.{State, chosen, begun, places_used, next, next_job, keeps, release_row, outcome_of, settle, released_so_far}
 
 -- a state with no rows, no tick out and nothing held
 abbrev pub empty_state : List Task → Rule → ℕ → State
@@ -47,12 +47,16 @@ running (Some j) k = refused_if (j.task.0 == k) j
 abbrev pub is_full : State → Bool
 is_full s = places_used s == s.places
 
--- why a release of task k is refused: its tick is out, it is too soon, or each place is used
+-- no place is left for a release of task k, or no number for its job
+abbrev pub is_spent : State → ℕ → Bool
+is_spent s k = is_full s || nat_le (2 ^ 32 - 1) (released_so_far s k)
+
+-- why a release of task k is refused: its tick is out, it is too soon, or nothing is left for it
 abbrev pub release_refusal : State → ℕ → Option ReleaseFault
 release_refusal s k =
     option_or (option_map release_fault.Running (running s.out k))
     (option_or (refused_if (nat_lt (begun s) (next s k)) (release_fault.TooSoon (next s k)))
-    (refused_if (is_full s) release_fault.Full))
+    (refused_if (is_spent s k) release_fault.Full))
 
 -- the answer to a release that is taken: held with a tick out, otherwise kept or dropped
 abbrev pub taken : State → Option JobId → ℕ → Released

@@ -1,5 +1,5 @@
 -- How live jobs and a book are kept.
-use Rattle.std.specs.Prelude.{◌≡◌, ℕ, ◌<◌, ◌≤◌, ◌^◌, ◌==◌, Bool, List, map, find, reverse, length, vec_capacity, Option, option_map}
+use Rattle.std.specs.Prelude.{◌≡◌, ℕ, ◌≤◌, ◌^◌, ◌==◌, Bool, List, map, find, length, Option, option_map}
 use Rattle.mc_task.specs.declared.task.Task.{Task}
 use Rattle.mc_task.specs.declared.task.Rule.{Rule}
 use Rattle.mc_task.specs.TaskSet.{AreTasks, IsIn}
@@ -40,9 +40,9 @@ pub record IsLiveJobs (a : live_jobs.Inside) : Type 0 where
   pub places : a.queue.places ≡ length a.set.tasks
   pub queued : AreQueued a.set.tasks a.rule a.high a.jobs.items a.queue.items
 
--- what stands in the book, by its fields
-abbrev pub written : Inside → Written
-written a = record { set = a.live.set; rule = a.live.rule; places = a.places; rows = reverse a.rows.items }
+-- what stands in a book whose recorder took these rows
+abbrev pub written : {K : Type 0} → List Row → Inside K → Written
+written h a = record { set = a.live.set; rule = a.live.rule; places = a.places; rows = h }
 
 -- the pending job of task number k
 abbrev pub job_of : ℕ → List KeptRelease → Option KeptRelease
@@ -56,12 +56,14 @@ pub record IsTally (set : List Task) (rule : Rule) (h : List Row) (clock : ℕ) 
   pub mode_is : high ≡ high_mode rule h
   pub slots_are : (k : ℕ) → IsIn set k → slots k ≡ option_map (entry h) (job_of k (pending set h))
 
--- the rule holds for the set, the tally is of the rows, and there is room for all that will be written
-pub record IsBook (a : Inside) : Type 0 where
+-- the rule holds for the set, the tally is of these rows, and the recorder is for both and has this much room for all that will
+-- be written
+pub record IsBook {K : Type 0} (h : List Row) (capacity : ℕ) (is_for : List Task → Rule → Type 0) (a : Inside K) : Type 0 where
   pub tasks : AreTasks a.live.set
   pub fits : Fits a.live.rule
   pub holds : Holds a.live.set a.live.rule
-  pub tally : IsTally a.live.set a.live.rule (reverse a.rows.items) a.ticks a.live.high (waiting a.live)
-  pub range : a.places < 2 ^ 32
-  pub few : length a.rows.items ≤ a.places
-  pub room : a.places ≤ vec_capacity a.rows
+  pub tally : IsTally a.live.set a.live.rule h a.ticks a.live.high (waiting a.live)
+  pub range : a.places ≤ 2 ^ 62
+  pub few : length h ≤ a.places
+  pub room : a.places ≤ capacity
+  pub recorder : is_for a.live.set a.live.rule

@@ -1,5 +1,5 @@
 -- How a core is kept.
-use Rattle.std.specs.Prelude.{◌≡◌, ◌<◌, ◌≤◌, ◌^◌, length, reverse, vec_capacity}
+use Rattle.std.specs.Prelude.{◌≡◌, ℕ, ◌-◌, ◌≤◌, ◌^◌, length, reverse, vec_capacity}
 use Rattle.mode_core.specs.declared.scheduler.Core.TheInside.{Inside}
 use Rattle.mc_task.specs.TaskSet.{AreTasks}
 use Rattle.mc_model.specs.Holds.{Fits, Holds}
@@ -8,7 +8,7 @@ use Rattle.arrivals.specs.Arrived.{arrived}
 use Rattle.mode_core.specs.Noted.{notes_of}
 
 -- the state, by the fields
-abbrev pub state_of : Inside → State
+abbrev pub state_of : {K : Type 0} → Inside K → State
 state_of a = record {
   set = a.book.set;
   rule = a.book.rule;
@@ -18,17 +18,22 @@ state_of a = record {
   held = reverse a.held.items;
 }
 
--- what holds of the state of every core
-pub record IsSound (s : State) : Type 0 where
+-- what holds of the state of every core of at most this many places
+pub record IsSoundUpTo (most : ℕ) (s : State) : Type 0 where
   pub tasks : AreTasks s.set
   pub fits : Fits s.rule
   pub holds : Holds s.set s.rule
   pub good : Good s
-  pub range : s.places < 2 ^ 32
+  pub range : s.places ≤ most
+  pub small : s.places ≤ 2 ^ 62
   pub room : places_used s ≤ s.places
 
+-- what holds of the state of every core that keeps its rows in a list
+abbrev pub IsSound : State → Type 0
+IsSound = IsSoundUpTo (2 ^ 32 - 1)
+
 -- the state is sound, its releases are noted, and there is room for a held release of each task
-pub record IsCore (a : Inside) : Type 0 where
-  pub sound : IsSound (state_of a)
+pub record IsCore {K : Type 0} (most : ℕ) (a : Inside K) : Type 0 where
+  pub sound : IsSoundUpTo most (state_of a)
   pub notes_are : a.arrivals ≡ arrived a.book.set (notes_of (state_of a))
   pub held_room : length a.book.set ≤ vec_capacity a.held

@@ -1,3 +1,4 @@
+//! What the calls of a scheduler return.
 use mc_task::JobId;
 
 /// A release that was taken: its job, and its release time in ticks.

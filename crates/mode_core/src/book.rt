@@ -1,5 +1,5 @@
-// The rows of a schedule, and what the scheduler keeps of them: its clock, its mode and the live job of each task.
-ghost use Rattle.std.specs.Prelude.{◌≡◌, ◌<◌, ◌≤◌, ◌^◌, ◌∷◌, [], length, reverse, option_map, IfOk};
+//! The rows of a schedule, and what the scheduler keeps of them: its clock, its mode and the live job of each task.
+ghost use Rattle.std.specs.Prelude.{◌≡◌, ◌<◌, ◌≤◌, ◌^◌, ◌∷◌, [], length, option_map, IfOk};
 ghost use Rattle.mc_model.specs.declared.row.Row.TheVariants as row;
 ghost use Rattle.mode_core.specs.Entries.{entry};
 ghost use Rattle.mc_model.specs.Holds.{Fits, Holds};
@@ -14,53 +14,78 @@ use crate::live::LiveJobs;
 use crate::pending::Pending;
 use mc_model::{How, Row};
 use mc_task::{JobId, Memory, Rule, TaskSet};
+use row_history::Recorder;
 use std::alloc::Global;
 use std::marker::Model;
 
-/// The rows of a schedule with room for a number of them. Contracts see the set, the rule, the room and the rows.
+/// The rows of a schedule, in a recorder with room for a number of them. Contracts see the set, the rule, the room and the
+/// rows.
 #[derive(Debug, Drop)]
-pub struct Book {
+pub struct Book<R: Recorder> {
     places: usize,
-    rows: Vec<Row>,
+    recorder: R,
     ticks: u64,
     live: LiveJobs,
 }
 
-impl Model for Book {
+impl<R: Recorder> Model for Book<R> {
     ghost use Rattle.mode_core.specs.Written.{Written};
 
     ghost Value = { Written };
 
     ghost use Rattle.mode_core.specs.Kept.{written, IsBook};
 
-    ghost view = { written };
+    ghost view = { λ a. written (R.rows a.recorder) a };
 
-    ghost invariant = { IsBook };
+    ghost invariant = { λ a. IsBook (R.rows a.recorder) (R.capacity a.recorder) (R.is_for a.recorder) a };
 }
 
-impl Book {
-    /// A book with no rows, and with memory for all that will be written.
-    pub fn new(alloc: Global, set: TaskSet, rule: Rule, places: usize) -> Result<Book, Memory>
+impl<R: Recorder> Book<R> {
+    /// A book with no rows, whose recorder has room for all that will be written.
+    pub fn new(
+        alloc: Global,
+        set: TaskSet,
+        rule: Rule,
+        places: usize,
+        recorder: R,
+    ) -> Result<Book<R>, Memory>
         requires fits { Fits rule }
         requires holds { Holds set.tasks rule }
-        requires places { places < 2 ^ 32 }
+        requires fresh { R.rows recorder ≡ [] }
+        requires room { places ≤ R.capacity recorder }
+        requires recorder { R.is_for recorder set.tasks rule }
+        requires places { places ≤ 2 ^ 62 }
         ensures { IfOk result (λ book. book ≡ record { set = set.tasks; rule = rule; places = places; rows = [] }) }
     {
         let live = LiveJobs::new(alloc, set, rule)?;
-        let rows = Vec::with_capacity(alloc, places)?;
         Ok(Book {
             places,
-            rows,
+            recorder,
             ticks: 0,
             live,
         })
     }
 
-    /// The rows, the oldest first.
-    pub fn rows(&self) -> &[Row]
-        ensures { result.now ≡ reverse self.now.rows }
+    /// What took the rows.
+    pub fn recorder(&self) -> &R
+        ensures rows { R.rows result.now ≡ self.now.rows }
+        ensures set { R.is_for result.now self.now.set self.now.rule }
     {
-        &self.rows
+        &self.recorder
+    }
+
+    /// The recorder, without the book.
+    pub fn into_recorder(self) -> R
+        ensures rows { R.rows result ≡ self.rows }
+        ensures set { R.is_for result self.set self.rule }
+    {
+        let Book {
+            places: _,
+            recorder,
+            ticks: _,
+            live: _,
+        } = self;
+        recorder
     }
 
     /// The ticks that the rows tell, which is the number of the next one.
@@ -75,9 +100,9 @@ impl Book {
     pub fn len(&self) -> usize
         ensures value { result ≡ length self.now.rows }
         ensures room { result ≤ self.now.places }
-        ensures range { self.now.places < 2 ^ 32 }
+        ensures range { self.now.places ≤ 2 ^ 62 }
     {
-        self.rows.len()
+        self.recorder.count()
     }
 
     /// Whether the mode is high.
@@ -93,7 +118,7 @@ impl Book {
         requires room { length self.old.rows < self.old.places }
         ensures { self.new ≡ record self.old { rows = row.Idle ∷ self.old.rows } }
     {
-        self.rows.push_reserved(Row::Idle);
+        self.recorder.add(Row::Idle);
         self.ticks += 1;
         self.live.calm();
     }
@@ -104,7 +129,7 @@ impl Book {
         requires room { length self.old.rows < self.old.places }
         ensures { self.new ≡ record self.old { rows = row.Release job kept ∷ self.old.rows } }
     {
-        self.rows.push_reserved(Row::Release { job, kept });
+        self.recorder.add(Row::Release { job, kept });
         if kept {
             self.live.begin(job, self.ticks);
         }
@@ -122,7 +147,7 @@ impl Book {
     {
         let how = self.live.tick(job, done);
         self.live.clear_after(job.task, how);
-        self.rows.push_reserved(Row::Tick { job, how });
+        self.recorder.add(Row::Tick { job, how });
         self.ticks += 1;
         how
     }

@@ -1,4 +1,4 @@
-// The live job of each task, and which of them runs first.
+//! The live job of each task, and which of them runs first.
 ghost use Rattle.std.specs.Prelude.{◌≡◌, ◌<◌, ◌≤◌, ◌^◌, ◌&&◌, ◌==◌, ℕ, not, length, replicate, cond, false, option_map, Some, None, IfOk, IfSome, IfNone};
 ghost use Rattle.mc_task.specs.TaskSet.{AreTasks, IsIn, task_at};
 ghost use Rattle.mc_model.specs.Holds.{Fits};

@@ -1,4 +1,4 @@
-// A pending job, as it is told, and as it is queued.
+//! A pending job, as it is told, and as it is queued.
 ghost use Rattle.std.specs.Prelude.{◌≡◌, ◌≤◌, ◌^◌};
 ghost use Rattle.mc_task.specs.TaskSet.{task_at, IsIn};
 ghost use Rattle.mc_model.specs.TaskNumbers.{is_high_in};

@@ -1,8 +1,8 @@
-// The scheduler's state, and what can be read of it.
-ghost use Rattle.std.specs.Prelude.{◌≡◌, ◌<◌, ◌^◌, reverse, All, IfOk, IfSome};
+//! The scheduler's state, and what can be read of it.
+ghost use Rattle.std.specs.Prelude.{◌≡◌, ◌<◌, ◌≤◌, ◌^◌, [], reverse, All, IfOk, IfSome};
 ghost use Rattle.mc_task.specs.TaskSet.{IsIn};
 ghost use Rattle.mc_model.specs.Holds.{Fits, Holds};
-ghost use Rattle.mc_model.specs.Legal.{IsOfSet};
+ghost use Rattle.mc_model.specs.Legal.{Legal, IsOfSet};
 ghost use Rattle.mc_model.specs.Rows.{ticks};
 ghost use Rattle.mc_model.specs.Mode.{high_mode};
 ghost use Rattle.mc_model.specs.Core.{begun, chosen};
@@ -16,20 +16,24 @@ use crate::book::Book;
 use arrivals::Arrivals;
 use mc_model::Row;
 use mc_task::{JobId, Memory, Rule, TaskSet};
+use row_history::Recorder;
 use std::alloc::Global;
 use std::marker::Model;
 
 /// A schedule as it grows, one event a call. Contracts see the set, the rule, the number of places, the rows, the job
 /// whose tick is out, and the releases that are held until its outcome.
+///
+/// Each row goes to a recorder. That of a plain `Core` is a list, which keeps them all; with one that keeps none, a core
+/// takes memory for each task alone and can run for ever.
 #[derive(Debug, Drop)]
-pub struct Core {
-    book: Book,
+pub struct Core<R: Recorder = Vec<Row>> {
+    book: Book<R>,
     arrivals: Arrivals,
     held: Vec<JobId>,
     out: Option<JobId>,
 }
 
-impl Model for Core {
+impl<R: Recorder> Model for Core<R> {
     ghost use Rattle.mc_model.specs.Core.{State};
 
     ghost Value = { State };
@@ -38,11 +42,10 @@ impl Model for Core {
 
     ghost view = { state_of };
 
-    ghost invariant = { IsCore };
+    ghost invariant = { IsCore R.most };
 }
 
-impl Core {
-    ghost use Rattle.mode_core.specs.Shape.{IsSound};
+impl Core<Vec<Row>> {
     ghost use Rattle.mode_core.specs.Timely.{IsTimely};
     ghost use Rattle.mode_core.specs.OneLive.{IsOneLive};
 
@@ -57,15 +60,8 @@ impl Core {
         ensures state { IfOk result (λ core. core ≡ empty_state set.tasks rule places) }
         ensures timely { IfOk result IsTimely }
     {
-        let arrivals = Arrivals::new(alloc, &set)?;
-        let held = Vec::with_capacity(alloc, set.len() as usize)?;
-        let book = Book::new(alloc, set, rule, places)?;
-        Ok(Core {
-            book,
-            arrivals,
-            held,
-            out: None,
-        })
+        let rows = Vec::with_capacity(alloc, places)?;
+        Core::with_recorder(alloc, set, rule, places, rows)
     }
 
     /// The rows, the oldest first. Each is of the set, no job is late in them, and no task has two pending jobs.
@@ -75,7 +71,70 @@ impl Core {
         ensures timely { IsTimely self.now }
         ensures one_live { IsOneLive self.now }
     {
-        self.book.rows()
+        self.recorder()
+    }
+}
+
+impl<R: Recorder> Core<R> {
+    ghost use Rattle.mode_core.specs.Shape.{IsSoundUpTo};
+    ghost use Rattle.mode_core.specs.Timely.{IsTimely};
+    ghost use Rattle.mode_core.specs.OneLive.{IsOneLive};
+
+    /// A core whose rows go to this recorder, which took none so far.
+    ///
+    /// `places` is how many rows there may be in all, held releases and a tick that is out among them. No later call
+    /// takes memory, but for what the recorder takes.
+    pub fn with_recorder(
+        alloc: Global,
+        set: TaskSet,
+        rule: Rule,
+        places: usize,
+        recorder: R,
+    ) -> Result<Core<R>, Memory>
+        requires fits { Fits rule }
+        requires holds { Holds set.tasks rule }
+        requires fresh { R.rows recorder ≡ [] }
+        requires room { places ≤ R.capacity recorder }
+        requires recorder { R.is_for recorder set.tasks rule }
+        requires most { places ≤ R.most }
+        requires places { places ≤ 2 ^ 62 }
+        ensures state { IfOk result (λ core. core ≡ empty_state set.tasks rule places) }
+        ensures timely { IfOk result IsTimely }
+    {
+        let arrivals = Arrivals::new(alloc, &set)?;
+        let held = Vec::with_capacity(alloc, set.len() as usize)?;
+        let book = Book::new(alloc, set, rule, places, recorder)?;
+        Ok(Core {
+            book,
+            arrivals,
+            held,
+            out: None,
+        })
+    }
+
+    /// What took the rows. No job is late in them, and no task has two pending jobs.
+    pub fn recorder(&self) -> &R
+        ensures rows { R.rows result.now ≡ self.now.rows }
+        ensures set { R.is_for result.now self.now.set self.now.rule }
+        ensures legal { Legal self.now.set self.now.rule self.now.rows }
+        ensures timely { IsTimely self.now }
+        ensures one_live { IsOneLive self.now }
+    {
+        self.book.recorder()
+    }
+
+    /// The recorder, at the end of the schedule.
+    pub fn into_recorder(self) -> R
+        ensures rows { R.rows result ≡ self.rows }
+        ensures set { R.is_for result self.set self.rule }
+    {
+        let Core {
+            book,
+            arrivals: _,
+            held: _,
+            out: _,
+        } = self;
+        book.into_recorder()
     }
 
     /// The job whose tick is out.
@@ -88,7 +147,7 @@ impl Core {
     /// How many ticks the rows tell.
     pub fn ticks(&self) -> u64
         ensures value { result ≡ ticks self.now.rows }
-        ensures sound { IsSound self.now }
+        ensures sound { IsSoundUpTo R.most self.now }
     {
         self.book.ticks()
     }
@@ -126,7 +185,7 @@ impl Core {
     /// How many rows there is room for.
     pub fn places(&self) -> usize
         ensures value { result ≡ self.now.places }
-        ensures sound { IsSound self.now }
+        ensures sound { IsSoundUpTo R.most self.now }
     {
         self.book.places()
     }

@@ -1,4 +1,4 @@
-// The parts of the core's steps that need no whole core.
+//! The parts of the core's steps that need no whole core.
 ghost use Rattle.std.specs.Prelude.{◌≡◌, ◌≤◌, ◌+◌, ◌∷◌, length, reverse};
 ghost use Rattle.arrivals.specs.Arrived.{arrived, count_of, ForNotes};
 ghost use Rattle.mode_core.specs.Noted.{MayNote};
@@ -10,6 +10,7 @@ use crate::book::Book;
 use crate::pending::is_high;
 use arrivals::Arrivals;
 use mc_task::{JobId, TaskNo};
+use row_history::Recorder;
 
 /// Notes a release of the task, which is allowed, and answers its job.
 pub fn note_release(arrivals: &mut Arrivals, task: TaskNo, at: u64) -> JobId
@@ -35,14 +36,14 @@ pub fn is_of_task(job: Option<JobId>, task: TaskNo) -> bool
 }
 
 /// Whether a release of the task is kept.
-pub fn keeps(book: &Book, task: TaskNo) -> bool
+pub fn keeps<R: Recorder>(book: &Book<R>, task: TaskNo) -> bool
     ensures { result ≡ keeps book.now.set book.now.rule book.now.rows task.0 }
 {
     is_high(book.set(), task) || !book.high_mode()
 }
 
 /// Writes the held releases, in the order in which they were taken.
-pub fn write_held(book: &mut Book, held: &[JobId])
+pub fn write_held<R: Recorder>(book: &mut Book<R>, held: &[JobId])
     requires legal { Legal book.old.set book.old.rule
         (add_held book.old.set book.old.rule (reverse held.now) book.old.rows) }
     requires room { length book.old.rows + length held.now ≤ book.old.places }

@@ -1,4 +1,4 @@
--- Values of digits, and decimal texts.
+-- The values of digits, and decimal texts.
 use Rattle.std.proofs.Common.{◌≡◌, ℕ, ◌+◌, ◌-◌, ◌*◌, ◌^◌, ◌<◌, ◌≤◌, Bool, true, ◌&&◌, nat_le, nat_lt, cond, List, ◌∷◌, length, Some, None, sym, ap, ◌∙◌, arith, rules, decimal}
 use Rattle.std.specs.List.{list_all}
 use Rattle.std.proofs.lemmas.Bool.Decides.{nat_tests}
@@ -10,7 +10,8 @@ use Rattle.numeral.specs.Numeral.{is_digit, is_numeral, value, numeral, number}
 spread : (v e p r n : ℕ) → v * (p * 10) + (e * p + r) ≡ n → (v * 10 + e) * p + r ≡ n
 spread v e p r n h = omega arith
 
--- a digit more, after so many of the value v: what it makes of them, and what is left of digits that are `all` digits or not
+-- after k digits with the value v and one more digit d: with the rest ds the value is n, and `all` says
+-- whether ds are all digits
 pub record Taken (v d : ℕ) (ds : List ℕ) (k n : ℕ) (all : Bool) : Type 0 where
   pub below : v * 10 + (d - 48) < 10 ^ (k + 1)
   pub digits : list_all is_digit ds ≡ all
@@ -30,7 +31,7 @@ taken v d ds k n all below digit digits same =
 own : IsNumeralModel (λ ds. list_all is_digit ds ≡ true) value
 own = numerals_by_weight _ (search rules) value (search rules)
 
--- the decimal text of a number has digits only
+-- the decimal text of a number consists of digits
 pub digits-decimal : (n : ℕ) → n < 2 ^ 64 → list_all is_digit (decimal n) ≡ true
 digits-decimal n h = digits_decimal own n h
 

@@ -1,4 +1,4 @@
--- Numbers as decimal digits.
+-- Numbers written as decimal digits.
 use Rattle.std.specs.Prelude.{ℕ, ◌+◌, ◌-◌, ◌*◌, ◌^◌, Bool, ◌&&◌, nat_le, nat_lt, List, [], ◌∷◌, length, Option, Some, None, option_and_then, if◌then◌else◌}
 use Rattle.std.specs.List.{list_all}
 
@@ -10,12 +10,12 @@ is_digit b = nat_le 48 b && nat_le b 57
 abbrev pub is_numeral : ℕ → List ℕ → Bool
 is_numeral most bytes = (nat_le 1 (length bytes) && nat_le (length bytes) most) && list_all is_digit bytes
 
--- the value of digits, each by the weight of its place
+-- the value of digits, each by the weight of its position
 abbrev pub value : List ℕ → ℕ
 value [] = 0
 value (d ∷ ds) = (d - 48) * 10 ^ length ds + value ds
 
--- the value of 1 to n digits; none where the bytes are not such
+-- the value of 1 to n digits; none for any other bytes
 unfoldable pub numeral : ℕ → List ℕ → Option ℕ
 numeral most bytes = if is_numeral most bytes then Some (value bytes) else None
 

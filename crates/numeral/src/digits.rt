@@ -1,9 +1,10 @@
+//! The values of decimal digits.
 ghost use Rattle.std.specs.Prelude.{◌≡◌, ◌≤◌, ◌-◌, length, if◌then◌else◌, nat_le, nat_lt, ◌^◌, true, Some, None};
 ghost use Rattle.std.specs.List.{list_all};
 ghost use Rattle.numeral.specs.Numeral as text;
 
-/// The value of 1 to `most_digits` ASCII digits, or `None` exactly where the bytes have another form. Zeros may stand
-/// at the front.
+/// The value of 1 to `most_digits` ASCII digits, or `None` exactly if the bytes have another form. Leading zeros are
+/// allowed.
 #[tactic(auto, unfolding(crate::specs::Numeral::numeral))]
 pub fn numeral(bytes: &[u8], most_digits: usize) -> Option<u128>
     requires { most_digits ≤ 20 }
@@ -15,7 +16,7 @@ pub fn numeral(bytes: &[u8], most_digits: usize) -> Option<u128>
     value_of(bytes)
 }
 
-/// The value of 1 to 10 ASCII digits, or `None` exactly where the bytes have another form or the value is past 32 bits.
+/// The value of 1 to 10 ASCII digits, or `None` exactly if the bytes have another form or the value is 2^32 or more.
 #[inline]
 #[tactic(auto, unfolding(crate::specs::Numeral::number))]
 pub fn number(bytes: &[u8]) -> Option<u32>
@@ -50,7 +51,7 @@ fn is_digit(b: u8) -> bool
     b'0' <= b && b <= b'9'
 }
 
-// The value of digits, or `None` exactly where one of the bytes is none.
+// The value of digits, or `None` exactly if a byte is not a digit.
 fn value_of(bytes: &[u8]) -> Option<u128>
     requires { length bytes.now ≤ 20 }
     ensures { result ≡ if list_all text.is_digit bytes.now then Some (text.value bytes.now) else None }
@@ -65,7 +66,7 @@ fn value_of(bytes: &[u8]) -> Option<u128>
     Some(value)
 }
 
-// A byte's distance from `0`, which is above 9 where it is no digit.
+// A byte's distance from `0`, which is above 9 if it is not a digit.
 fn digit_of(b: u8) -> u64
     ensures digit { text.is_digit b ≡ nat_le result 9 }
     ensures value { text.is_digit b ≡ true → result ≡ b - 48 }
@@ -73,7 +74,7 @@ fn digit_of(b: u8) -> u64
     u64::from(b).wrapping_sub(48)
 }
 
-// The same of few digits, in 64 bits.
+// The value of at most 10 digits, in 64 bits, or `None` exactly if a byte is not a digit.
 fn short_value_of(bytes: &[u8]) -> Option<u64>
     requires { length bytes.now ≤ 10 }
     ensures { result ≡ if list_all text.is_digit bytes.now then Some (text.value bytes.now) else None }

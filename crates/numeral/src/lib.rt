@@ -1,4 +1,4 @@
-//! Numbers as decimal digits.
+//! Numbers written as decimal digits.
 #![tactic(auto)]
 
 mod digits;

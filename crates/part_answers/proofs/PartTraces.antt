@@ -16,7 +16,7 @@ use Rattle.part_answers.specs.Parted.{Parted, tasks_on}
 use Rattle.part_answers.specs.RunAll.{IsTraceOn, trace_lines}
 use Rattle.part_answers.specs.Runs.{IsFresh, IsRunOf}
 use Rattle.part_answers.specs.Planned.{IsPlannedOn}
-use Rattle.part_answers.specs.Traced.{IsTraced, floor_lines}
+use Rattle.part_answers.specs.Traced.{HasFewPlaces, floor_lines}
 
 -- the rows of floors
 abbrev pub rows_of : List FloorState → List (List Row)
@@ -38,7 +38,7 @@ all-fresh ticks parted work ns floors h = every (IsPlannedOn ticks parted work) 
 pub record IsEnded (ticks : ℕ) (parted : Parted) (work : List WorkRow) (n : ℕ) (done : FloorState) : Type 0 where
   pub set_is : done.core.set ≡ tasks_on parted n
   pub trace : IsTraceOn ticks parted work n done.core.rows
-  pub is_traced : IsTraced done
+  pub few : HasFewPlaces done
 
 ended : (ticks : ℕ) (parted : Parted) (work : List WorkRow) (n : ℕ) (floor done : FloorState) → IsPlannedOn ticks parted work n floor → IsRunOf floor done
     → IsEnded ticks parted work n done
@@ -55,7 +55,7 @@ ended ticks parted work n floor done is run =
     record {
       set_is = same_set;
       trace = record { rule = floor.core.rule; test = is.test; follows = subst (λ r. Follows tasks r rows ticks done.core.rows) same_rule same };
-      is_traced = record { legal = follows.legal; few = omega (arith, places, is.few) };
+      few = omega (arith, places, is.few);
     }
 
 pub all-ended : (ticks : ℕ) (parted : Parted) (work : List WorkRow) (ns : List ℕ) (floors done : List FloorState) → AllZip (IsPlannedOn ticks parted work) ns floors
@@ -68,10 +68,10 @@ all-ended ticks parted work (n ∷ ns) [] ds h runs = absurd h
 all-ended ticks parted work (n ∷ ns) (f ∷ fs) [] h runs = absurd runs
 all-ended ticks parted work (n ∷ ns) (f ∷ fs) (d ∷ ds) h runs = (ended ticks parted work n f d h.0 runs.0, all-ended ticks parted work ns fs ds h.1 runs.1)
 
--- each has a legal trace
-pub all-traced : (ticks : ℕ) (parted : Parted) (work : List WorkRow) (ns : List ℕ) (done : List FloorState) → AllZip (IsEnded ticks parted work) ns done
-    → All IsTraced done
-all-traced ticks parted work ns done h = every (IsEnded ticks parted work) IsTraced ns done (λ n floor is. is.is_traced) h
+-- each has few places
+pub all-few : (ticks : ℕ) (parted : Parted) (work : List WorkRow) (ns : List ℕ) (done : List FloorState) → AllZip (IsEnded ticks parted work) ns done
+    → All HasFewPlaces done
+all-few ticks parted work ns done h = every (IsEnded ticks parted work) HasFewPlaces ns done (λ n floor is. is.few) h
 
 -- which is the one that follows on its processor, and their text is that of the traces
 pub all-follow : (ticks : ℕ) (parted : Parted) (work : List WorkRow) (ns : List ℕ) (done : List FloorState) → AllZip (IsEnded ticks parted work) ns done

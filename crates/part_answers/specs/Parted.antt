@@ -1,14 +1,14 @@
--- What a task file gives a command that spreads a set over several processors.
+-- A set on several processors: each task on the processor on which first fit puts it.
 use Rattle.std.specs.Prelude.{ℕ, List, Result, Ok}
 use Rattle.mc_task.specs.declared.task.Task.{Task}
 use Rattle.mc_task.specs.TaskSet.{task_at, name_in}
 use Rattle.part_fit.specs.Parts.{part_of}
 use Rattle.part_fit.specs.FirstFit.{first_fit}
 use Rattle.replies.specs.Refusal.{Refusal, NoRoom}
-use Rattle.replies.specs.Reading.{◌>>=◌, or_refuse}
+use Rattle.replies.specs.Reading.{◌>>=◌, refused_as}
 use Rattle.task_answers.specs.Admitted.{set_in}
 
--- the tasks of a set, and the processor of each of them
+-- the tasks of a set, and the processor of each task
 pub record Parted : Type 0 where
   pub set : List Task
   pub of : List ℕ
@@ -24,10 +24,11 @@ spread set of = record { set = set; of = of }
 -- a set on processors 1 to m by first fit, or the refusal of the first task that fits on no processor
 abbrev pub fitted : ℕ → List Task → Result Parted Refusal
 fitted m set = do
-  of ← or_refuse (λ k. NoRoom (name_in (task_at set k)) m) (first_fit set m)
+  of ← refused_as (λ k. NoRoom (name_in (task_at set k)) m) (first_fit set m)
   Ok (spread set of)
 
--- the tasks of the set that a task file says, on processors 1 to m by first fit
+-- the set that a task file of these bytes says, on processors 1 to m by first fit, or the refusal of the file
+-- or of a task
 abbrev pub parted : ℕ → List ℕ → Result Parted Refusal
 parted m bytes = do
   set ← set_in bytes

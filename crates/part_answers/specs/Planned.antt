@@ -1,7 +1,6 @@
--- The floors of the processors that have tasks.
+-- The job of `runall`, and the floors of the processors that have tasks before they run.
 use Rattle.std.specs.Prelude.{◌≡◌, ℕ, ◌≤◌, List, length, Some, filter}
 use Rattle.std.specs.List.{range_with_len, AllZip}
-use Rattle.mc_task.specs.declared.task.Task.{Task}
 use Rattle.mc_model.specs.declared.work.WorkRow.{WorkRow}
 use Rattle.mc_model.specs.Test.{published}
 use Rattle.mc_model.specs.Work.{IsWork}
@@ -17,7 +16,7 @@ use Rattle.part_answers.specs.declared.parted.Parted.{Parted as Given}
 use Rattle.part_answers.specs.declared.floors.PartFloors.{PartFloors}
 use Rattle.part_answers.specs.declared.run_parts.RunAllJob.{RunAllJob}
 
--- the set and the processors of its tasks
+-- the set and the processors of its tasks, of the code's value
 abbrev pub parted_of : Given → Parted
 parted_of given = spread given.set.tasks given.parts
 
@@ -34,20 +33,18 @@ RepliesToRunAll ticks m job reply = TellsTraces ticks m (parted_of job.parted) j
 abbrev pub numbers_on : ℕ → List ℕ → ℕ → List ℕ
 numbers_on n of k = filter (is_on n of) (range_with_len 1 k)
 
--- a floor of these tasks under the rule that the published test gives them, with no rows and few places, that waits for this work
--- of so many ticks
-pub record IsPlanned (set : List Task) (work : List WorkRow) (ticks : ℕ) (floor : FloorState) : Type 0 where
-  pub tasks : floor.core.set ≡ set
-  pub test : published set ≡ Some floor.core.rule
-  pub plan : floor.plan ≡ Rows work ticks
+-- a floor of the tasks on processor n under the rule that the published test gives them, with no rows yet, a
+-- capacity of at most 2,000,000 rows, and their part of the work for this many ticks as its plan
+pub record IsPlannedOn (ticks : ℕ) (parted : Parted) (work : List WorkRow) (n : ℕ) (floor : FloorState)
+    : Type 0 where
+  pub tasks : floor.core.set ≡ tasks_on parted n
+  pub test : published (tasks_on parted n) ≡ Some floor.core.rule
+  pub plan : floor.plan ≡ Rows (part_rows n parted.of work) ticks
   pub fresh : IsFresh floor
   pub few : floor.core.places ≤ 2000000
 
--- such a floor of the tasks on processor n and their work
-abbrev pub IsPlannedOn : ℕ → Parted → List WorkRow → ℕ → FloorState → Type 0
-IsPlannedOn ticks parted work n floor = IsPlanned (tasks_on parted n) (part_rows n parted.of work) ticks floor
-
--- the floors are those of the processors, and there are numbers for each
+-- there is a floor for each processor that has tasks, with its plan, and for each floor the numbers of its
+-- tasks in the whole set
 pub record ArePlanned (ticks : ℕ) (parted : Parted) (work : List WorkRow) (parts : PartFloors) : Type 0 where
   pub each : AllZip (IsPlannedOn ticks parted work) parts.used.items parts.floors.items
   pub named : length parts.numbers.items ≡ length parts.floors.items

@@ -14,7 +14,7 @@ use Rattle.task_answers.specs.Admitted.{fetch_table}
 use Rattle.run_answers.specs.Run.{work_of}
 use Rattle.part_answers.specs.Parted.{Parted, tasks_on, parted}
 
--- processor n has tasks
+-- whether processor n has tasks
 abbrev pub is_used : Parted → ℕ → Bool
 is_used parted n = nat_lt 0 (length (tasks_on parted n))
 
@@ -22,29 +22,33 @@ is_used parted n = nat_lt 0 (length (tasks_on parted n))
 abbrev pub used : ℕ → Parted → List ℕ
 used m parted = filter (is_used parted) (range_with_len 1 m)
 
--- the one trace of so many ticks on processor n: it follows from the processor's tasks, the rule that the published test gives
--- them, and their work. Its newest row stands first here.
+-- the trace, whose newest row stands first here, is the one of this many ticks that follows from the tasks on
+-- processor n, the rule that the published test gives them, and their work
 pub record IsTraceOn (ticks : ℕ) (parted : Parted) (work : List WorkRow) (n : ℕ) (h : List Row) : Type 0 where
   pub rule : Rule
   pub test : published (tasks_on parted n) ≡ Some rule
   pub follows : Follows (tasks_on parted n) rule (part_rows n parted.of work) ticks h
 
--- what is written of a processor and its trace
+-- what is written of a processor and its trace: a line with the processor's number, and then the text of the
+-- trace
 abbrev pub trace_lines : Parted → ℕ × List Row → List ℕ
-trace_lines parted on = codes "processor " ++ (decimal on.0 ++ (codes "\n" ++ trace_text (tasks_on parted on.0) (reverse on.1)))
+trace_lines parted on =
+    codes "processor " ++ (decimal on.0 ++ (codes "\n" ++ trace_text (tasks_on parted on.0) (reverse on.1)))
 
--- the text of the traces of all processors that have tasks, with status 0
+-- the reply is the text of the traces that follow on all processors that have tasks, with status 0
 abbrev pub TellsTraces : ℕ → ℕ → Parted → List WorkRow → Reply → Type 0
 TellsTraces ticks m parted work reply =
     (traces : List (List Row)) × AllZip (IsTraceOn ticks parted work) (used m parted) traces
     × (reply ≡ reply_of 0 (flat_map (trace_lines parted) (zip (used m parted) traces)))
 
--- the runs of the parts of the set in the task file, which has these bytes, with the work in the second file
+-- the command `runall` with the work in the second file, once the task file was read and has these bytes
 abbrev pub run_all_on : List ℕ → ℕ → ℕ → List ℕ → Command
 run_all_on work ticks m bytes =
     need (parted m bytes) (λ spread.
-    fetch_table work (λ more. need (work_of spread.set more) (λ rows. answer (TellsTraces ticks m spread rows))))
+    fetch_table work (λ more.
+    need (work_of spread.set more) (λ rows. answer (TellsTraces ticks m spread rows))))
 
--- the command
+-- the command `runall` of this many ticks, on the task file and the work file of these names, for processors
+-- 1 to m
 abbrev pub run_all : List ℕ → List ℕ → ℕ → ℕ → Command
 run_all tasks work ticks m = fetch_table tasks (run_all_on work ticks m)

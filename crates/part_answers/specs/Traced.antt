@@ -1,14 +1,14 @@
--- The traces of floors at the end of their plans, and their text.
+-- The text of floors at the end of their plans.
 use Rattle.std.specs.Prelude.{ℕ, ◌≤◌, List, ◌++◌, reverse, codes, decimal}
-use Rattle.mc_model.specs.Legal.{Legal}
 use Rattle.mc_model.specs.TraceText.{trace_text}
 use Rattle.timetable.specs.Floor.{FloorState}
 
--- the rows are a legal trace of the floor's set, and the floor's capacity is small
-pub record IsTraced (floor : FloorState) : Type 0 where
-  pub legal : Legal floor.core.set floor.core.rule floor.core.rows
-  pub few : floor.core.places ≤ 2000000
+-- the floor's capacity is at most 2,000,000 rows
+abbrev pub HasFewPlaces : FloorState → Type 0
+HasFewPlaces floor = floor.core.places ≤ 2000000
 
--- the lines that are written of a processor with this floor
+-- what is written of a processor and its floor: a line with the processor's number, and then the text of the
+-- floor's trace
 abbrev pub floor_lines : ℕ × FloorState → List ℕ
-floor_lines on = codes "processor " ++ (decimal on.0 ++ (codes "\n" ++ trace_text on.1.core.set (reverse on.1.core.rows)))
+floor_lines on =
+    codes "processor " ++ (decimal on.0 ++ (codes "\n" ++ trace_text on.1.core.set (reverse on.1.core.rows)))

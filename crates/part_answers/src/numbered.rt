@@ -1,8 +1,8 @@
-// A gate that is told the numbers of a whole set.
+//! A gate that sees each task by its number in a whole set.
 use executive::{Gate, Grant, TaskPass};
 use mc_task::TaskNo;
 
-/// Tells the gate of task `k` by the `k`-th of these numbers; of a task that has none it does not tell.
+/// Calls the gate for task `k` with the `k`-th of these numbers, and not for a task that has none.
 #[derive(Drop)]
 pub struct Numbered<'a, G> {
     pub gate: &'a G,
@@ -30,11 +30,6 @@ impl<'a, G: Gate> Gate for Numbered<'a, G> {
 }
 
 fn number_of(numbers: &[TaskNo], task: u32) -> Option<u32> {
-    if task == 0 {
-        return None;
-    }
-    match numbers.get((task - 1) as usize) {
-        Some(number) => Some(number.0),
-        None => None,
-    }
+    let place = task.checked_sub(1)?;
+    Some(numbers.get(place as usize)?.0)
 }

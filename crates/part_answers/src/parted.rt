@@ -1,5 +1,4 @@
-// The set that a task file says, on several processors.
-ghost use Rattle.std.specs.Prelude.{◌≤◌};
+//! The set that a task file says, on several processors.
 ghost use Rattle.replies.specs.Stop.{Gives};
 ghost use Rattle.part_answers.specs.Parted.{fitted, parted};
 ghost use Rattle.part_answers.specs.Given.{IsParted};
@@ -25,13 +24,13 @@ pub type Processors = Within<1, 16>;
 pub fn read_parted(alloc: Global, bytes: &[u8], processors: &Processors) -> Result<Parted, Stop>
     ensures { Gives (IsParted processors.now) (parted processors.now bytes.now) result }
 {
-    fitted(alloc, read_set(alloc, bytes)?, processors.get() as u32)
+    fitted(alloc, read_set(alloc, bytes)?, processors)
 }
 
-fn fitted(alloc: Global, set: TaskSet, processors: u32) -> Result<Parted, Stop>
-    requires { (1 ≤ processors) × (processors ≤ 16) }
-    ensures { Gives (IsParted processors) (fitted processors set.tasks) result }
+fn fitted(alloc: Global, set: TaskSet, processors: &Processors) -> Result<Parted, Stop>
+    ensures { Gives (IsParted processors.now) (fitted processors.now set.tasks) result }
 {
+    let processors = processors.get() as u32;
     match fit(alloc, &set, processors) {
         Ok(parts) => Ok(Parted { set, parts }),
         Err(FitFault::NoRoom { task }) => {

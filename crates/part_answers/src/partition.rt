@@ -1,4 +1,4 @@
-// The command `partition`.
+//! The command `partition`.
 ghost use Rattle.std.specs.Prelude.{◌≡◌, ◌≤◌, ◌++◌, IfOk, OnOk, length};
 ghost use Rattle.serving.specs.Serves.{Serves};
 ghost use Rattle.part_answers.specs.Partition as spec;

@@ -1,5 +1,4 @@
-// The command `runall`.
-ghost use Rattle.std.specs.Prelude.{◌≤◌};
+//! The command `runall`.
 ghost use Rattle.replies.specs.Stop.{Replies};
 ghost use Rattle.serving.specs.Serves.{Serves, IsOwn, Prepares};
 ghost use Rattle.part_answers.specs.RunAll.{run_all, run_all_on};
@@ -49,8 +48,7 @@ impl<'a> RunAll<'a> {
         ensures { Serves 1 (run_all self.now.tasks self.now.work self.now.ticks self.now.processors) (S.state shelf.old) (S.state shelf.new) result }
     {
         let job = self.job(alloc, shelf)?;
-        let processors = self.processors.get() as u32;
-        finish_run_all(rt, alloc, job, self.ticks.get(), processors, gate)
+        finish_run_all(rt, alloc, job, &self.ticks, &self.processors, gate)
     }
 
     /// What is to be run, by both files. Without a runtime this cannot wait.
@@ -84,21 +82,19 @@ pub fn finish_run_all<R: Threads + Wait + Sync, G: Gate + Sync>(
     rt: &R,
     alloc: Global,
     job: RunAllJob,
-    ticks: u64,
-    processors: u32,
+    ticks: &Ticks,
+    processors: &Processors,
     gate: &G,
 ) -> Result<Reply, Stop>
-    requires job { IsRunAllJob processors job }
-    requires ticks { (1 ≤ ticks) × (ticks ≤ 1000000) }
-    requires processors { (1 ≤ processors) × (processors ≤ 16) }
-    ensures traces { Replies (RepliesToRunAll ticks processors job) result }
+    requires { IsRunAllJob processors.now job }
+    ensures traces { Replies (RepliesToRunAll ticks.now processors.now job) result }
     ensures own { Replies IsOwn result }
 {
     let PartFloors {
         used,
         floors,
         numbers,
-    } = floors_of(alloc, &job.parted, &job.work, ticks, processors)?;
+    } = floors_of(alloc, &job, ticks, processors)?;
     let Ok(done) = run_all(rt, alloc, floors, numbers, gate) else {
         return Err(Stop::Memory);
     };

@@ -1,4 +1,4 @@
-// Several floors, each to its end.
+//! Several floors, each to its end.
 ghost use Rattle.std.specs.Prelude.{◌≡◌, ◌≤◌, All, IfOk, length};
 ghost use Rattle.std.specs.List.{AllZip};
 ghost use Rattle.part_answers.specs.Runs.{IsFresh, IsRunOf, IsFreshSide, RunsEach, floors_of, results_of};
@@ -20,10 +20,10 @@ pub struct Side {
     pub numbers: Vec<TaskNo>,
 }
 
-/// Runs the plans of at most 16 floors at once, each with a thread for each of its tasks. The gate is told the numbers of
-/// the whole set: `numbers` has those of each floor's tasks. On success each floor is finished, in order.
+/// Runs the plans of at most 16 floors at once, each with a thread for each of its tasks. The gate sees each task by its number in
+/// the whole set, and `numbers` has those of each floor's tasks. On success all floors are finished, and in their order.
 ///
-/// It may wait, and nothing is said of how long.
+/// It may wait for other threads; nothing is proved about how long.
 pub fn run_all<R: Threads + Wait + Sync, G: Gate + Sync>(
     rt: &R,
     alloc: Global,
@@ -36,13 +36,9 @@ pub fn run_all<R: Threads + Wait + Sync, G: Gate + Sync>(
     requires numbers { length numbers.items ≡ length floors.items }
     ensures { IfOk result (λ done. AllZip IsRunOf floors.items done.items) }
 {
-    let Ok(sides) = sides_of(alloc, floors, numbers) else {
-        return Err(Memory);
-    };
-    match run_sides(rt, alloc, sides, gate) {
-        Ok(results) => floors_in(alloc, results),
-        Err(_) => Err(Memory),
-    }
+    let sides = sides_of(alloc, floors, numbers)?;
+    let results = run_sides(rt, alloc, sides, gate)?;
+    floors_in(alloc, results)
 }
 
 // Each floor with its numbers.
@@ -84,28 +80,16 @@ fn run_sides<R: Threads + Wait + Sync, G: Gate + Sync>(
         &|side: Side| -> Result<Floor, Memory>
             requires { IsFresh side.floor }
             ensures { IfOk result (IsRunOf side.floor) }
-        { run_side(rt, alloc, side, gate) },
+        {
+            let Side { floor, numbers } = side;
+            let numbers = numbers.as_slice();
+            let numbered = Numbered { gate, numbers };
+            run_threads(rt, alloc, floor, &numbered)
+        },
     )
 }
 
-fn run_side<R: Threads + Wait + Sync, G: Gate + Sync>(
-    rt: &R,
-    alloc: Global,
-    side: Side,
-    gate: &G,
-) -> Result<Floor, Memory>
-    requires { IsFresh side.floor }
-    ensures { IfOk result (IsRunOf side.floor) }
-{
-    let Side { floor, numbers } = side;
-    let numbered = Numbered {
-        gate,
-        numbers: numbers.as_slice(),
-    };
-    run_threads(rt, alloc, floor, &numbered)
-}
-
-// The floors, where each is there.
+// The floors, if every result is one.
 fn floors_in(alloc: Global, mut results: Vec<Result<Floor, Memory>>) -> Result<Vec<Floor>, Memory>
     ensures { IfOk result (λ floors. results_of floors.items ≡ results.items) }
 {

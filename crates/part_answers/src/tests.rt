@@ -1,12 +1,9 @@
-//! What no clause can say of `run_all`: that the floors run at once, and what the gate is told.
+//! What no clause can say of `run_all`: that the floors run at once, and which numbers the gate sees.
 ghost use Rattle.std.specs.Prelude.{◌≡◌, All, IfOk, length, vec_len};
 ghost use Rattle.part_answers.specs.Runs.{IsFresh};
 
-mod gates;
-
 use crate::side_by_side::run_all;
 use admission::admit;
-use gates::MeetingGate;
 use load_sum::sum_loads;
 use mc_task::{Level, TaskNo};
 use mode_core::Core;
@@ -14,6 +11,7 @@ use std::alloc::Global;
 use std::test::Fail;
 use timetable::{Floor, Plan};
 use work_file::Work;
+use worked_gates::MeetingGate;
 use worked_sets::{Job, Line, TAP_AND_ARM, TAP_AND_ARM_WORK, set_of, work_rows};
 
 const TICKS: u32 = 5;
@@ -59,7 +57,7 @@ fn floors_run_at_once(rt: HostRuntime) -> Result<(), Fail> {
     let alloc = rt.alloc();
     let plant = floor(alloc, &TAP_AND_ARM, &TAP_AND_ARM_WORK)?;
     let log = floor(alloc, &[("log", Level::Low, 10, 5, 5)], &[(1, 0, 5)])?;
-    let gate = MeetingGate::new();
+    let gate = MeetingGate::of(1, 3);
     let floors = both(alloc, plant, log)?;
     let Ok(done) = run_all(&rt, alloc, floors, numbers(alloc)?, &gate) else {
         return Err("no floors".into());

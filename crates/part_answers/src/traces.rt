@@ -1,16 +1,16 @@
-// The text of several traces.
+//! The text of several traces.
 ghost use Rattle.std.specs.Prelude.{◌≡◌, IfOk, length, flat_map, zip, All};
-ghost use Rattle.part_answers.specs.Traced.{IsTraced, floor_lines};
+ghost use Rattle.part_answers.specs.Traced.{HasFewPlaces, floor_lines};
 
 use mc_task::Memory;
 use run_answers::trace_text;
 use std::alloc::Global;
 use timetable::Floor;
 
-/// The traces of these processors' floors, each behind a line with its processor.
+/// The traces of these processors' floors, each after a line with its processor.
 pub fn traces_text(alloc: Global, processors: &[u32], floors: &[Floor]) -> Result<Vec<u8>, Memory>
     requires long { length processors.now ≡ length floors.now }
-    requires traced { All IsTraced floors.now }
+    requires few { All HasFewPlaces floors.now }
     ensures { IfOk result (λ text. text.items ≡ flat_map floor_lines (zip processors.now floors.now)) }
 {
     let mut text = Vec::new(alloc);
@@ -22,11 +22,11 @@ pub fn traces_text(alloc: Global, processors: &[u32], floors: &[Floor]) -> Resul
 
 // The processor, and the trace of its floor.
 fn floor_lines(alloc: Global, processor: u32, floor: &Floor) -> Result<Vec<u8>, Memory>
-    requires { IsTraced floor.now }
+    requires { HasFewPlaces floor.now }
     ensures { IfOk result (λ lines. lines.items ≡ floor_lines (processor, floor.now)) }
 {
     let core = floor.core();
-    // Each row has its place.
+    // The floor has no more rows than its capacity.
     let _places = core.places();
     let trace = trace_text(alloc, core.set(), core.rows())?;
     let mut lines = format!(in alloc; "processor {processor}\n")?.into_bytes();

@@ -11,7 +11,7 @@ use Rattle.part_fit.specs.Parts.{part_of}
 use Rattle.part_fit.specs.KeptLoads.{no_loads, AreLoadsOf, AreSmall, IsNext, AreKept, IsToPlace}
 use Rattle.part_fit.proofs.Sublists.{part_of-none, part_of-more, with_next-AreTasks}
 
--- where the next task of the set is read, and the loads are lent, it is to be placed
+-- a task is ready to be placed: it is the next one of the set, and these are the loads of the processors
 abbrev pub IsReady : List Task → List Task → List ℕ → List Loads → ℕ → Type 0
 IsReady set tasks of all i = (now : List Loads) (t : Task) → now ≡ all → i < length tasks → t ≡ get_or tasks i t → IsToPlace set of now t
 
@@ -20,14 +20,14 @@ pub kept-IsReady : (set tasks : List Task) (of : List ℕ) (all : List Loads) (i
 kept-IsReady set tasks of all i are same long kept now t lent inside is =
     rw lent (record { are = are; next = rw (← same, long) (slice_get_read tasks (length tasks) i t refl inside is); kept = kept })
 
--- the task is the next one of each processor
+-- the task is the next one for each processor
 pub place-next : {set : List Task} {of : List ℕ} {all : List Loads} {t : Task} {i : ℕ} (d : Loads) → IsToPlace set of all t → i < length all
     → IsNext (part_of set of (suc i)) (slice_index_or all i d) t × AreSmall (slice_index_or all i d)
 place-next {set} {of} {all} {t} {i} d here inside =
     let own = here.kept i (slice_index_or all i d) (slice_get-get_or all i d inside) in
     (record { have = own.0; together = with_next-AreTasks set of (suc i) t here.are here.next }, own.1)
 
--- without a task on any
+-- the loads of processors without a task
 pub none-AreKept : (set : List Task) (m : ℕ) → AreKept set [] (replicate m no_loads)
 unfolding lcm_from
 none-AreKept set m i loads at =
@@ -38,7 +38,7 @@ none-AreKept set m i loads at =
       record { above = omega arith; lcm = omega arith; low_low = omega arith; high_low = omega arith; high_high = omega arith },
     )
 
--- with one task more on one of them
+-- the loads of the processors after one more task is placed
 pub more-AreKept : (set : List Task) (of : List ℕ) (all : List Loads) (t : Task) (k : ℕ) (more : Loads) → IsToPlace set of all t → k < length all
     → AreLoadsOf (part_of set of (suc k) ++ t ∷ []) more → AreSmall more → AreKept set (of ++ suc k ∷ []) (slice_set all k more)
 more-AreKept set of all t k more here inside have small i loads at =

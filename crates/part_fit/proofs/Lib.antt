@@ -5,4 +5,4 @@ mod Numbers
 mod OnOne
 pub mod Placed
 pub mod Sublists
-mod WorkRows
+pub mod WorkRows

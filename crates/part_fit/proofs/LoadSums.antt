@@ -1,4 +1,4 @@
--- The loads of tasks with one task more.
+-- The loads of tasks with one more task.
 use Rattle.std.proofs.Common.{◌≡◌, ℕ, ◌+◌, ◌-◌, ◌*◌, ◌/◌, ◌<◌, ◌≤◌, true, false, inl, inr, refl, sym, ◌∙◌, arith, le-leb, List, [], ◌∷◌, ◌++◌, Option, Some, None, Bool}
 use Rattle.std.specs.Prelude.{is_some}
 use Prim.Native.Nat.{◌∣◌}
@@ -30,7 +30,7 @@ load-append : (budget : Task → ℕ) (n : ℕ) (ts : List Task) (t : Task) → 
 load-append budget n [] t = omega arith
 load-append budget n (u ∷ ts) t = omega (arith, load-append budget n ts t)
 
--- a load over n, taken over a multiple m of it, with the task behind them
+-- a load over n, taken over a multiple m of n, with one more task
 sum-more : (budget : Task → ℕ) (n m : ℕ) (ts : List Task) (t : Task) (sum : ℕ) → AllByRecursion (λ u. u.period ∣ n) ts → n ∣ m → sum ≡ load budget n ts
     → load_over n m sum (budget t) t.period ≡ load budget m (ts ++ t ∷ [])
 sum-more budget n m ts t sum h divides is =
@@ -50,7 +50,7 @@ with_task-AreLoadsOf tasks loads t have =
       high_high = sum-more high_high loads.lcm more tasks t loads.high_high each divides have.high_high;
     }
 
--- a task more on a processor, within range
+-- the loads of a processor with one more task, within range
 pub next-BelongTo : {tasks : List Task} {loads more : Loads} {t : Task} → IsNext tasks loads t → more ≡ with_task loads t → more.lcm ≤ most_lcm
     → BelongTo (tasks ++ t ∷ []) more × AreLoadsOf (tasks ++ t ∷ []) more
 next-BelongTo {tasks} {loads} {more} {t} next is within =
@@ -59,20 +59,20 @@ next-BelongTo {tasks} {loads} {more} {t} next is within =
     let above : 0 < more.lcm = omega (arith, have.lcm, lcm_from-pos 1 (tasks ++ t ∷ []) (omega arith) set.each) in
     (BelongTo-from_sums (tasks ++ t ∷ []) more set have.lcm above within have.low_low have.high_low have.high_high, have)
 
--- out of range
+-- the tasks of a processor with one more task, out of range
 pub next-past : {tasks : List Task} {loads : Loads} {t : Task} → IsNext tasks loads t → most_lcm < lcm loads.lcm t.period → fits (tasks ++ t ∷ []) ≡ false
 unfolding fits
 next-past {tasks} {loads} {t} next past =
     let over : most_lcm < hyperperiod (tasks ++ t ∷ []) = rw (lcm_from-append 1 tasks t, ← next.have.lcm) past in
     and_left _ _ (lt-leb _ _ over)
 
--- what is within range fits if it is admitted
+-- tasks within range fit if the test admits them
 pub fits-answer : {tasks : List Task} {loads : Loads} {answer : Option Rule} {b : Bool} → BelongTo tasks loads → answer ≡ published tasks → b ≡ is_some answer
     → fits tasks ≡ b
 unfolding fits
 fits-answer {tasks} belong is b_is = rw (le-leb (hyperperiod tasks) most_lcm (omega (arith, belong.lcm, belong.within)), b_is, is) refl
 
--- where the test admits a/n and c/n, neither is above 1
+-- if the test admits a/n and c/n, neither is above 1
 most : (n a b c : ℕ) (o : Option Rule) → rule_of n a b c ≡ o → true ≡ is_some o → (a ≤ n) × (c ≤ n)
 most n a b c None h some = absurd (cc some)
 most n a b c (Some rule) h some =

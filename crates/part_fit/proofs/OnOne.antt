@@ -11,23 +11,23 @@ use Rattle.part_fit.specs.Parts.{part_of}
 use Rattle.part_fit.specs.Partition.{IsOnOne}
 use Rattle.part_fit.proofs.Sublists.{part_of-names}
 
--- the processor is one from 1 to m
+-- the processor is one of those from 1 to m
 abbrev pub IsProcessor : ℕ → ℕ → Type 0
 IsProcessor m p = (1 ≤ p) × (p ≤ m)
 
--- a task of another name is none of these
+-- a task with another name than all of these is none of them
 not_one : (ts : List Task) (t : Task) → AllByRecursion (λ name. t.name ≢ name) (names_of ts) → Contains ts t → ⊥
 not_one [] t new (k, less, is) = omega arith
 not_one (u ∷ us) t new (zero, less, is) = new.0 (ap (λ x. x.name) (sym is))
 not_one (u ∷ us) t new (suc k, less, is) = not_one us t new.1 (k, omega arith, is)
 
--- another task than the first is behind it
+-- a task in the list that is not the first is among the rest
 behind : (b : Bool) (t : Task) (rest : List Task) (x : Task) → t.name ≢ x.name → Contains (cond b (t ∷ rest) rest) x → Contains rest x
 behind true t rest x new (zero, less, is) = absurd (new (ap (λ u. u.name) is))
 behind true t rest x new (suc k, less, is) = (k, omega arith, is)
 behind false t rest x new there = there
 
--- the tasks behind the first are where they were
+-- the tasks after the first are on the processors where they were
 others-on : (t : Task) (ts : List Task) (p : ℕ) (ps : List ℕ) (m : ℕ) (xs : List Task) → AllByRecursion (λ name. t.name ≢ name) (names_of xs)
     → AllByRecursion (IsOnOne ts ps m) xs → AllByRecursion (IsOnOne (t ∷ ts) (p ∷ ps) m) xs
 others-on t ts p ps m [] new h = tt
@@ -44,7 +44,7 @@ others-on t ts p ps m (x ∷ xs) new h =
       others-on t ts p ps m xs new.1 h.1,
     )
 
--- and the first is on its processor alone
+-- each task is on exactly one processor
 pub each-on_one : (ts : List Task) (of : List ℕ) (m : ℕ) → length of ≡ length ts → AllByRecursion (IsProcessor m) of → Distinct (names_of ts)
     → AllByRecursion (IsOnOne ts of m) ts
 each-on_one [] of m long each names = tt

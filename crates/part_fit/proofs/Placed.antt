@@ -21,18 +21,18 @@ use Rattle.part_fit.proofs.OnOne.{IsProcessor, each-on_one}
 abbrev pub takes : List Task → List ℕ → Task → ℕ → Bool
 takes set of t n = fits (part_of set of n ++ t ∷ [])
 
--- the task at a place has a processor, or it has none
+-- one step of first fit: the next task has a processor, or has none
 pub placed-next : (set : List Task) (m i : ℕ) (of : List ℕ) (t : Task) → slice_get set i ≡ Some t
     → placed set m (drop i set) of ≡ option_map_or (λ n. placed set m (drop (i + 1) set) (of ++ n ∷ [])) (processor_for set of t m) (Err (length of + 1))
 unfolding placed
 placed-next set m i of t task = ap (λ ts. placed set m ts of) (drop_at set i t task)
 
--- no task is left
+-- first fit ends when no task is left
 pub placed-end : (set : List Task) (m i : ℕ) (of : List ℕ) → length set ≤ i → placed set m (drop i set) of ≡ Ok of
 unfolding placed
 placed-end set m i of past = ap (λ ts. placed set m ts of) (drop_all i set past)
 
--- what is so of the processors so far
+-- what holds of the processors of the tasks so far
 record IsPlaced (set : List Task) (m : ℕ) (of : List ℕ) : Type 0 where
   pub each : AllByRecursion (IsProcessor m) of
   pub admitted : (n : ℕ) → IsAdmittedPart (part_of set of n)
@@ -57,7 +57,7 @@ decided : (set : List Task) (m : ℕ) (ts : List Task) (of all : List ℕ) (o : 
 decided set m ts of all None h = absurd (cc h)
 decided set m ts of all (Some n) h = (n, refl, h)
 
--- where so many tasks are left
+-- what holds of the processors of all tasks, by induction on how many are left
 whole : (set : List Task) (m left : ℕ) (of all : List ℕ) → AreTasks set → length of + left ≡ length set → IsPlaced set m of
     → placed set m (drop (length of) set) of ≡ Ok all → (length all ≡ length set) × IsPlaced set m all
 whole set m zero of all is long so_far h =

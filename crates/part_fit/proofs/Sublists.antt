@@ -17,20 +17,21 @@ both : (b d : Bool) (u t : Task) (ys : List Task)
 both true true u t ys = refl
 both b d u t ys = refl
 
--- one task more, on processor p
+-- the tasks of a processor with one more task placed, on processor p
 pub part_of-more : (ts : List Task) (of : List ℕ) (n p : ℕ) (t : Task) → slice_get ts (length of) ≡ Some t
     → part_of ts (of ++ p ∷ []) n ≡ cond (p == n) (part_of ts of n ++ t ∷ []) (part_of ts of n)
 part_of-more [] of n p t h = absurd (cc h)
 part_of-more (u ∷ ts) [] n p t h = rw (part_of-none ts n, same_Some u t h) refl
 part_of-more (u ∷ ts) (q ∷ of) n p t h = rw (part_of-more ts of n p t h) (both (q == n) (p == n) u t (part_of ts of n))
 
--- and so with the next of the processors that are known
+-- the tasks of a processor, with the next task whose processor is known
 pub part_of-next : (ts : List Task) (of : List ℕ) (n i : ℕ) (t : Task) → slice_get ts i ≡ Some t → i < length of
     → part_of ts (take (i + 1) of) n ≡ cond (get_or of i 0 == n) (part_of ts (take i of) n ++ t ∷ []) (part_of ts (take i of) n)
 part_of-next ts of n i t task inside =
     rw (take_more of i 0 inside) (part_of-more ts (take i of) n (get_or of i 0) t (rw (length-take-le i of (omega arith)) task))
 
--- what is so of no tasks, and stays so where the next task of the set is taken or left out, is so of those on the processor
+-- a property of no tasks, which stays as the next task of the set is taken or left out, holds of a
+-- processor's tasks
 part_of-keeps : (R : List Task → List Task → Type 0) → ((ts : List Task) → R ts []) → ((t : Task) (ts us : List Task) → R ts us → R (t ∷ ts) (t ∷ us))
     → ((t : Task) (ts us : List Task) → R ts us → R (t ∷ ts) us) → (ts : List Task) (of : List ℕ) (n : ℕ) → R ts (part_of ts of n)
 part_of-keeps R none taken left [] of n = none []
@@ -56,7 +57,7 @@ part_of-distinct (t ∷ ts) (p ∷ ps) n h =
 part_of-length : (ts : List Task) (of : List ℕ) (n : ℕ) → length (part_of ts of n) ≤ length ts
 part_of-length = part_of-keeps (λ ts us. length us ≤ length ts) (λ ts. omega arith) (λ t ts us rest. omega arith) (λ t ts us rest. omega arith)
 
--- where there are some they are a set
+-- a processor's tasks are a set, if there are any
 pub part_of-AreTasks : (set : List Task) (of : List ℕ) (n : ℕ) → AreTasks set → 1 ≤ length (part_of set of n) → AreTasks (part_of set of n)
 part_of-AreTasks set of n is some = record {
   some = some;
@@ -65,7 +66,7 @@ part_of-AreTasks set of n is some = record {
   names = part_of-distinct set of n is.names;
 }
 
--- so with the next task behind them
+-- a processor's tasks with the next task of the set are a set
 pub with_next-AreTasks : (set : List Task) (of : List ℕ) (n : ℕ) (t : Task) → AreTasks set → slice_get set (length of) ≡ Some t → AreTasks (part_of set of n ++ t ∷ [])
 with_next-AreTasks set of n t is task =
     let here : part_of set (of ++ n ∷ []) n ≡ part_of set of n ++ t ∷ [] = part_of-more set of n n t task ∙ rw (eq-eqb n n refl) refl in

@@ -36,17 +36,17 @@ part_rows-IsWork n set of (w ∷ ws) h =
     cond_both (is_on n of w.task.0) _ _ (λ us. IsWork (part_of set of n) (map (renumbered n of) us))
     (λ a. (record { task = number-IsIn n set of w.task.0 a h.0.task; need = h.0.need }, all_follow n set of w ws a h.1, rest)) (λ a. rest)
 
--- and no more than there were
+-- a processor has at most as many rows of work as there are
 pub part_rows-length : (n : ℕ) (of : List ℕ) (work : List WorkRow) → length (part_rows n of work) ≤ length work
 unfolding part_rows
 part_rows-length n of work = simp (length-map, length-filter) (count_by-le-length (λ w. is_on n of w.task.0) work)
 
--- the row with this number, where there is one
+-- the row with this task number, if there is one
 abbrev pub with_number : WorkRow → Option ℕ → List WorkRow
 with_number w None = []
 with_number w (Some number) = (record w { task = record { 0 = number } }) ∷ []
 
--- the rows with one more, by its task's number there
+-- a processor's rows with one more, by its task's number there
 pub part_rows-more : (n : ℕ) (of : List ℕ) (rows : List WorkRow) (i : ℕ) (d : WorkRow) {number : Option ℕ} → i < length rows
     → number ≡ number_there n of (get_or rows i d).task.0 → part_rows n of (take (i + 1) rows) ≡ part_rows n of (take i rows) ++ with_number (get_or rows i d) number
 unfolding part_rows

@@ -14,13 +14,13 @@ use Rattle.part_fit.specs.declared.placing.FitFault.TheVariants.{Memory, NoRoom}
 unfoldable pub fits : List Task → Bool
 fits tasks = nat_le (hyperperiod tasks) most_lcm && is_some (published tasks)
 
--- the least processor from 1 to m, if any, on which the task fits with the tasks that are there, where the first tasks of
--- the set have these processors
+-- the least processor from 1 to m, if any, on which the task fits with the tasks already there; the list has
+-- the processors of the set's first tasks
 abbrev pub processor_for : List Task → List ℕ → Task → ℕ → Option ℕ
 processor_for set of t m = find (λ n. fits (part_of set of n ++ t ∷ [])) (range_with_len 1 m)
 
--- the processors of all tasks, where these tasks are left and the tasks before them have these processors; or the
--- number of the first task that fits on no processor
+-- the processors of all tasks, if these tasks are left and the tasks before them have these processors; or
+-- the number of the first task that fits on no processor
 unfoldable pub placed : List Task → ℕ → List Task → List ℕ → Result (List ℕ) ℕ
 placed set m [] of = Ok of
 placed set m (t ∷ ts) of =
@@ -30,7 +30,7 @@ placed set m (t ∷ ts) of =
 abbrev pub first_fit : List Task → ℕ → Result (List ℕ) ℕ
 first_fit set m = placed set m set []
 
--- the fault is a failed allocation, or this task of the set is the first that fits on no processor
+-- the fault is that memory ran out, or that this task of the set is the first that fits on no processor
 abbrev pub IsNoRoom : List Task → ℕ → FitFault → Type 0
 IsNoRoom set m Memory = Unit {0}
 IsNoRoom set m (NoRoom task) = (first_fit set m ≡ Err task.0) × IsIn set task.0

@@ -1,4 +1,4 @@
--- What is kept of each processor while tasks are placed: the loads of its tasks (Baruah et al., ECRTS 2012).
+-- The loads of each processor's tasks (Baruah et al., ECRTS 2012) while tasks are placed.
 use Rattle.std.specs.Prelude.{◌≡◌, ℕ, suc, ◌+◌, ◌*◌, ◌/◌, ◌<◌, ◌≤◌, true, false, List, [], ◌∷◌, ◌++◌, length, slice_get, Option, None, Some}
 use Rattle.mc_task.specs.declared.task.Task.{Task}
 use Rattle.mc_task.specs.TaskSet.{AreTasks}
@@ -12,14 +12,14 @@ use Rattle.part_fit.specs.FirstFit.{fits, processor_for}
 abbrev pub no_loads : Loads
 no_loads = record { lcm = 1; low_low = 0; high_low = 0; high_high = 0 }
 
--- the loads of these tasks, over the least common multiple of their periods
+-- these are the loads of the tasks, over their hyperperiod
 pub record AreLoadsOf (tasks : List Task) (loads : Loads) : Type 0 where
   pub lcm : loads.lcm ≡ hyperperiod tasks
   pub low_low : loads.low_low ≡ load low_low loads.lcm tasks
   pub high_low : loads.high_low ≡ load high_low loads.lcm tasks
   pub high_high : loads.high_high ≡ load high_high loads.lcm tasks
 
--- the numbers are at most 2^60, as where the tasks are admitted
+-- the numbers are at most 2^60, as they are for admitted tasks
 pub record AreSmall (loads : Loads) : Type 0 where
   pub above : 0 < loads.lcm
   pub lcm : loads.lcm ≤ most_lcm
@@ -40,39 +40,39 @@ with_task loads t = record {
   high_high = load_over loads.lcm (lcm loads.lcm t.period) loads.high_high (high_high t) t.period;
 }
 
--- the tasks have these loads, and are the tasks of a set together with one more
+-- the tasks have these loads, and with one more task they are the tasks of a set
 pub record IsNext (tasks : List Task) (loads : Loads) (t : Task) : Type 0 where
   pub have : AreLoadsOf tasks loads
   pub together : AreTasks (tasks ++ t ∷ [])
 
--- the loads are those of some tasks, which are the tasks of a set together with one more
+-- the loads belong to some tasks that with one more task are the tasks of a set
 pub record IsNextOfSome (loads : Loads) (t : Task) : Type 0 where
   pub tasks : List Task
   pub next : IsNext tasks loads t
 
--- the tasks fit together, and these are their loads; or they do not
+-- the tasks fit together and these are their loads; or they do not fit
 abbrev pub IsTried : List Task → Option Loads → Type 0
 IsTried tasks None = fits tasks ≡ false
 IsTried tasks (Some loads) = (fits tasks ≡ true) × AreLoadsOf tasks loads
 
--- the loads of each processor, from the first on, where the processors of the first tasks of the set are known
+-- the loads of each processor, in order, if these are the processors of the set's first tasks
 abbrev pub AreKept : List Task → List ℕ → List Loads → Type 0
 AreKept set of all = (i : ℕ) (loads : Loads) → slice_get all i ≡ Some loads
     → AreLoadsOf (part_of set of (suc i)) loads × AreSmall loads
 
--- the loads are kept, and the task is the next to be placed
+-- the loads of all processors are right, and the task is the next to be placed
 pub record IsToPlace (set : List Task) (of : List ℕ) (all : List Loads) (t : Task) : Type 0 where
   pub are : AreTasks set
   pub next : slice_get set (length of) ≡ Some t
   pub kept : AreKept set of all
 
--- the loads are kept for some set, of which the task is the next to be placed
+-- the loads of all processors are right for some set, of which the task is the next to be placed
 pub record IsToPlaceInSome (all : List Loads) (t : Task) : Type 0 where
   pub set : List Task
   pub of : List ℕ
   pub place : IsToPlace set of all t
 
--- the index of the least processor that takes the task, and its loads then; or there is none
+-- the index of the least processor that takes the task, and its loads then; none if no processor takes it
 abbrev pub IsPlace : List Task → List ℕ → List Loads → Task → Option (ℕ × Loads) → Type 0
 IsPlace set of all t None = processor_for set of t (length all) ≡ None
 IsPlace set of all t (Some found) =

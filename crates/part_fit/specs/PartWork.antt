@@ -8,11 +8,11 @@ abbrev pub processor_of : List ℕ → ℕ → Option ℕ
 processor_of of zero = None
 processor_of of (suc i) = slice_get of i
 
--- task number k is on processor n
+-- whether task number k is on processor n
 abbrev pub is_on : ℕ → List ℕ → ℕ → Bool
 is_on n of k = option_map_or (λ p. p == n) (processor_of of k) false
 
--- how many of the first k tasks are on processor n: of a task on it, its number there
+-- how many of the first k tasks are on processor n; for a task on it, its number there
 abbrev pub number_on : ℕ → List ℕ → ℕ → ℕ
 number_on n of k = count_by (λ p. p == n) (take k of)
 

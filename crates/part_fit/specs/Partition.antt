@@ -1,4 +1,4 @@
--- What first fit gives: each task is on one processor, and each processor's tasks are admitted.
+-- What first fit guarantees: each task is on one processor, and each processor's tasks are admitted.
 use Rattle.std.specs.Prelude.{◌≡◌, ◌⊎◌, ℕ, ◌≤◌, List, [], length, Contains, IsSome}
 use Rattle.std.specs.List.{AllByRecursion}
 use Rattle.mc_task.specs.declared.task.Task.{Task}
@@ -7,7 +7,7 @@ use Rattle.mc_model.specs.Loads.{IsWithinRange}
 use Rattle.mc_model.specs.Test.{published}
 use Rattle.part_fit.specs.Parts.{part_of}
 
--- the task is on one processor from 1 to m, and on no other
+-- the task is on exactly one processor from 1 to m
 pub record IsOnOne (set : List Task) (of : List ℕ) (m : ℕ) (t : Task) : Type 0 where
   pub processor : ℕ
   pub first : 1 ≤ processor

@@ -1,4 +1,4 @@
-// The tasks of each processor.
+//! The tasks of each processor.
 ghost use Rattle.std.specs.Prelude.{◌≡◌, IfOk, length};
 ghost use Rattle.mc_task.specs.TaskSet.{AreTasks, unscaled};
 ghost use Rattle.part_fit.specs.Parts as spec;
@@ -7,7 +7,7 @@ use mc_task::{Memory, Task, TaskSet};
 use std::alloc::{AllocError, Global};
 use std::marker::Model;
 
-/// The processor of each task of a set, in order, from 1. Contracts see it as that list.
+/// The processor of each task of a set, numbered from 1, in the order of the tasks. In contracts it is that list.
 #[derive(Debug, Drop)]
 pub struct Parts {
     pub of: Vec<u32>,
@@ -21,7 +21,8 @@ impl Model for Parts {
     ghost view = { λ a. a.of.items };
 }
 
-/// The tasks on a processor, in the order of the set, numbered anew and without a scale, or `None` exactly where no task is on it.
+/// The tasks on a processor as a set without a scale, in the order of the set and numbered from 1; `None` exactly if no
+/// task is on it. Fails if an allocation fails.
 pub fn part(
     alloc: Global,
     set: &TaskSet,
@@ -39,7 +40,7 @@ pub fn part(
     Ok(Some(set_of(tasks)))
 }
 
-// The tasks on the processor, where the processor of each task is known.
+// The tasks on the processor, in the order of the set.
 fn tasks_on(
     alloc: Global,
     set: &TaskSet,

@@ -1,4 +1,4 @@
-// What a processor takes, by the loads of its tasks.
+//! Whether a processor takes a task, by the loads of its tasks.
 ghost use Rattle.std.specs.Prelude.{◌≡◌, ◌+◌, ◌*◌, ◌^◌, ◌<◌, ◌≤◌, ◌++◌, ◌∷◌, ◌↔◌, [], List, IfSome, IsNone};
 ghost use Rattle.mc_task.specs.declared.task.Task.{Task};
 ghost use Rattle.tick_frac.specs.Numbers.{lcm};
@@ -21,8 +21,8 @@ pub const NO_LOADS: Loads = Loads {
 
 const MOST_LCM: u64 = 1 << 60;
 
-/// The loads of a processor's tasks with the next task behind them, where they are within range and get a rule from the
-/// published test; `None` exactly where the processor does not take it.
+/// The loads of a processor's tasks with the next task, if these are within range and the published test gives them a
+/// rule; `None` exactly if the processor does not take the task.
 pub fn taken(loads: &Loads, task: &Task) -> Option<Loads>
     requires next { IsNextOfSome loads.now task.now }
     requires small { AreSmall loads.now }
@@ -37,7 +37,7 @@ pub fn taken(loads: &Loads, task: &Task) -> Option<Loads>
     }
 }
 
-// The loads with a task more, or `None` exactly where its period takes their least common multiple out of range.
+// The loads with one more task; `None` exactly if its period takes their hyperperiod out of range.
 fn with_task(loads: &Loads, task: &Task) -> Option<Loads>
     requires small { AreSmall loads.now }
     requires period { 0 < task.now.period }
@@ -57,7 +57,7 @@ fn with_task(loads: &Loads, task: &Task) -> Option<Loads>
     })
 }
 
-// What the task counts in each of the three loads.
+// What the task adds to each of the three loads, in ticks of its budgets.
 fn budgets(task: &Task) -> (u32, u32, u32)
     ensures { result ≡ (low_low task.now, high_low task.now, high_high task.now) }
 {

@@ -1,4 +1,4 @@
-// The work of each processor.
+//! The work of each processor.
 ghost use Rattle.std.specs.Prelude.{◌≡◌, ◌≤◌, IfOk, length};
 ghost use Rattle.mc_model.specs.Work.{IsWork};
 ghost use Rattle.part_fit.specs.Parts.{part_of};
@@ -11,7 +11,8 @@ use mc_task::{Memory, TaskNo, TaskSet};
 use std::alloc::{AllocError, Global};
 use work_file::Work;
 
-/// The rows of work of the tasks on a processor, in order and with their numbers there. It is work for those tasks.
+/// The rows of work of the tasks on a processor, in order and with the tasks' numbers there: a list of work for these
+/// tasks. Fails if an allocation fails.
 pub fn part_work(
     alloc: Global,
     set: &TaskSet,
@@ -31,7 +32,7 @@ pub fn part_work(
     Ok(work_of(&tasks, rows))
 }
 
-// These rows as work.
+// These rows as a list of work.
 fn work_of(set: &TaskSet, rows: Vec<WorkRow>) -> Work
     requires work { IsWork set.now.tasks rows.items }
     requires few { length rows.items ≤ 1000000 }
@@ -66,7 +67,7 @@ fn rows_on(
     Ok(own)
 }
 
-// The number on the processor of each task that is on it.
+// For each task, its number on the processor, if it is on it.
 fn numbers_on(alloc: Global, of: &[u32], processor: u32) -> Result<Vec<Option<u32>>, AllocError>
     requires { length of.now ≤ 128 }
     ensures { IfOk result (λ numbers. numbers.items ≡ spec.numbers_there processor of.now (length of.now)) }

@@ -1,4 +1,5 @@
--- For callers: the item of each task after each call, and the least of two lists that have the same.
+-- For callers: the item of each task after each call, and the least of two lists with the same item of each
+-- task.
 use Rattle.std.proofs.Common.{◌≡◌, ℕ, ◌<◌, ◌≤◌, Bool, true, false, not, ◌==◌, nat_lt, cond, List, [], ◌∷◌, Option, Some, None, map, filter, refl, sym, ap, subst, ◌∙◌, arith, eq-eqb, eqb-true}
 use Rattle.std.specs.List.{AllByRecursion}
 use Rattle.std.proofs.lemmas.Bool.Decides.{nat_tests}
@@ -13,7 +14,7 @@ abbrev pub OnePerTask : List Item → Type 0
 OnePerTask [] = Unit {0}
 OnePerTask (i ∷ is) = (item_of is i.task.0 ≡ None) × OnePerTask is
 
--- the items that a queue has are such
+-- if all task numbers of a list are above a number, no lower task number has an item in it
 none_above : (above places t : ℕ) (items : List Item) → AreItemsFrom above places items → t ≤ above → item_of items t ≡ None
 none_above above places t [] rise low = refl
 none_above above places t (i ∷ items) rise low =
@@ -28,7 +29,7 @@ one_from above places (i ∷ items) rise = (none_above i.task.0 places i.task.0 
 pub one_per_task : (places : ℕ) (items : List Item) → AreItems places items → OnePerTask items
 one_per_task places items rise = one_from 0 places items rise
 
--- after `insert`
+-- the item of each task after `insert`
 pub item_of-with_item : (i : Item) (items : List Item) (k : ℕ) → item_of items i.task.0 ≡ None → item_of (with_item i items) k ≡ cond (i.task.0 == k) (Some i) (item_of items k)
 item_of-with_item i [] k free = refl
 item_of-with_item i (j ∷ items) k free = go (item_of-with_item i items k) (nat_lt i.task.0 j.task.0) (j.task.0 == i.task.0) refl free
@@ -48,7 +49,7 @@ item_of-with_item i (j ∷ items) k free = go (item_of-with_item i items k) (nat
     go ih false true e none = absurd (cc)
     go ih false false e none = behind ih (i.task.0 == k) (j.task.0 == k) refl refl e none
 
--- after `remove`
+-- the item of each task after `remove`
 pub item_of-without : (t : ℕ) (items : List Item) (k : ℕ) → item_of (without t items) k ≡ cond (t == k) None (item_of items k)
 item_of-without t [] k = go (t == k)
   where
@@ -71,11 +72,11 @@ item_of-without t (j ∷ items) k = go (item_of-without t items k) (j.task.0 == 
     go ih false false true e f g = rw g refl
     go ih false false false e f g = rw g (ih ∙ rw f refl)
 
--- that task's item is gone
+-- after `remove` the task has no item
 pub item_of-removed : (t : ℕ) (items : List Item) → item_of (without t items) t ≡ None
 item_of-removed t items = item_of-without t items t ∙ (let test : (t == t) ≡ true = eq-eqb t t refl in rw test refl)
 
--- after `rekey_high`
+-- the item of each task after `rekey_high`
 pub item_of-rekeyed : (items : List Item) (k : ℕ) → OnePerTask items → item_of (map by_real (filter (λ i. i.high) items)) k ≡ rekeyed (item_of items k)
 item_of-rekeyed [] k one = refl
 item_of-rekeyed (j ∷ items) k one = go (item_of-rekeyed items k one.1) j.high (j.task.0 == k) refl refl
@@ -91,12 +92,12 @@ item_of-rekeyed (j ∷ items) k one = go (item_of-rekeyed items k one.1) j.high 
     go ih false true e f = rw e (ih ∙ ap rekeyed (gone f))
     go ih false false e f = ih
 
--- an item of the list that is its task's does not come before the first
+-- the item of a task in the list does not come before the first
 not_earlier : (items : List Item) (x : Item) (k : ℕ) → AllByRecursion (λ j. before j x ≡ false) items → beats (item_of items k) (Some x) ≡ false
 not_earlier [] x k others = refl
 not_earlier (j ∷ items) x k others = elim (j.task.0 == k) as (λ (b : Bool). beats (cond b (Some j) (item_of items k)) (Some x) ≡ false) [ true ↦ others.0 | false ↦ not_earlier items x k others.1 ]
 
--- the least is the item of its task
+-- the least item is the item of its task
 pub least_item : (items : List Item) (x : Item) → OnePerTask items → least items ≡ Some x → item_of items x.task.0 ≡ Some x
 least_item [] x one e = cc
 least_item (i ∷ items) x one e = go (least items) (λ (y : Item) (m : least items ≡ Some y). least_item items y one.1 m) refl e
@@ -121,7 +122,7 @@ least_item (i ∷ items) x one e = go (least items) (λ (y : Item) (m : least it
     go None ih m h = here h
     go (Some y) ih m h = chosen y (ih y m) (before y i) h
 
--- nothing of the list comes before the least
+-- no item of the list comes before the least
 pub least_others : (items : List Item) (x : Item) → least items ≡ Some x → AllByRecursion (λ j. before j x ≡ false) items
 least_others [] x e = tt
 least_others (i ∷ items) x e =
@@ -132,12 +133,12 @@ least_others (i ∷ items) x e =
     the_one : (y : Item) → Some y ≡ Some x → y ≡ x
     the_one y h = cc
 
--- a list without a least has no item
+-- a list without a least item is empty
 least_none : (items : List Item) (k : ℕ) → least items ≡ None → item_of items k ≡ None
 least_none [] k e = refl
 least_none (i ∷ items) k e = absurd (cc)
 
--- the least of one list does not come after that of another that has each task's item
+-- the least of a list does not come after the least of another that has each task's item
 no_later : (xs ys : List Item) → OnePerTask xs → ((k : ℕ) → item_of xs k ≡ item_of ys k) → (o p : Option Item) → least xs ≡ o → least ys ≡ p → beats o p ≡ false
 no_later xs ys one same None p m n = refl
 no_later xs ys one same (Some x) None m n =
@@ -151,7 +152,7 @@ no_later xs ys one same (Some x) None m n =
 no_later xs ys one same (Some x) (Some y) m n =
     subst (λ (o : Option Item). beats o (Some y) ≡ false) (sym (same x.task.0) ∙ least_item xs x one m) (not_earlier ys y x.task.0 (least_others ys y n))
 
--- two lists with the same item of each task have one least task, in whatever order they stand
+-- two lists with the same item of each task have the same least task, in whatever order they stand
 pub least_by_item : (xs ys : List Item) → OnePerTask xs → OnePerTask ys → ((k : ℕ) → item_of xs k ≡ item_of ys k) → task_in (least xs) ≡ task_in (least ys)
 least_by_item xs ys one other same =
     beats-tie (least xs) (least ys) (no_later xs ys one same (least xs) (least ys) refl refl) (no_later ys xs other (λ k. sym (same k)) (least ys) (least xs) refl refl)

@@ -1,4 +1,4 @@
--- The item that comes first, of a list and of the leaves of a winner tree.
+-- The item that comes first, in a list and in the leaves of a winner tree.
 use Rattle.std.proofs.Common.{◌≡◌, ℕ, suc, zero, ◌+◌, ◌-◌, ◌*◌, ◌≤◌, Bool, true, false, cond, List, [], ◌∷◌, Option, Some, None, ◌⊎◌, length, get_or, drop, option_map, refl, sym, ap, subst, inl, inr, ◌∙◌, arith}
 use Rattle.std.specs.Prelude.{Contains, IfSome, IsNone, ◌↔◌}
 use Rattle.std.specs.List.{AllByRecursion}
@@ -16,19 +16,19 @@ abbrev pub best : List (Option Item) → Option Item
 best [] = None
 best (x ∷ xs) = winner x (best xs)
 
--- the item that comes first is the winner
+-- the item of the leaves that comes first is the winner
 pub least-items_in : (leaves : List (Option Item)) → least (items_in leaves) ≡ best leaves
 least-items_in [] = refl
 least-items_in (None ∷ leaves) = least-items_in leaves
 least-items_in (Some i ∷ leaves) = ap (λ (o : Option Item). Some (first_of_two i o)) (least-items_in leaves)
 
--- none beats the winner
+-- no leaf beats the winner
 best_first : (leaves : List (Option Item)) (k : ℕ) → beats (get_or leaves k None) (best leaves) ≡ false
 best_first [] k = refl
 best_first (x ∷ xs) zero = winner_left x (best xs)
 best_first (x ∷ xs) (suc k) = beats-trans (winner x (best xs)) (best xs) (get_or xs k None) (winner_right x (best xs)) (best_first xs k)
 
--- the winner is at a leaf
+-- the winner stands at a leaf
 best_there : (leaves : List (Option Item)) → (k : ℕ) × (get_or leaves k None ≡ best leaves)
 best_there [] = (0, refl)
 best_there (x ∷ xs) = go (best_there xs) (winner_is x (best xs))
@@ -41,7 +41,7 @@ best_there (x ∷ xs) = go (best_there xs) (winner_is x (best xs))
 abbrev pub task_in : Option Item → Option TaskNo
 task_in o = option_map (λ (i : Item). i.task) o
 
--- the root is of the task of the item that comes first
+-- the root has the task of the item that comes first
 pub root_is_least : (nodes : List (Option Item)) (p : ℕ) → length nodes ≡ 2 * p → 1 ≤ p → IsTree nodes → task_in (node nodes 1) ≡ task_in (least (items_in (drop p nodes)))
 root_is_least nodes p len some tree =
     let leaf : Leaf nodes p 1 = a_leaf nodes p len tree (2 * p) 1 (omega arith) (omega arith) in
@@ -56,7 +56,7 @@ root_is_least nodes p len some tree =
     subst (λ (o : Option Item). beats o (node nodes 1) ≡ false) won_there (root_first nodes p len tree (p + won.0) (omega arith)) in
     beats-tie (node nodes 1) (best (drop p nodes)) no_leaf no_place ∙ ap task_in (sym (least-items_in (drop p nodes)))
 
--- x is of the list, and none of the list comes before it
+-- x is in the list, and no item of the list comes before it
 pub record IsFirst (items : List Item) (x : Item) : Type 0 where
   pub there : Contains items x
   pub others : AllByRecursion (λ j. before j x ≡ false) items
@@ -68,7 +68,7 @@ all_later : (x y : Item) (items : List Item) → before x y ≡ false → AllByR
 all_later x y [] h all = tt
 all_later x y (j ∷ items) h all = (earlier-trans y.key y.task.0 x.key x.task.0 j.key j.task.0 h all.0, all_later x y items h all.1)
 
--- so is the least
+-- the least of a list comes first in it
 pub least_first : (i : Item) (items : List Item) → IsFirst (i ∷ items) (first_of_two i (least items))
 least_first i [] = record { there = (0, omega arith, refl); others = (earlier-self i.key i.task.0, tt) }
 least_first i (n ∷ items) = go (least_first n items) (before (first_of_two n (least items)) i) refl
@@ -86,7 +86,7 @@ least_first i (n ∷ items) = go (least_first n items) (before (first_of_two n (
       others = (earlier-self i.key i.task.0, all_later y i (n ∷ items) m f.others);
     }
 
--- and its task is the least one's
+-- the task of the least item has the first item
 pub is_least : (items : List Item) (task : TaskNo) → Some task ≡ task_in (least items) → IsFirstItem items task
 is_least [] task e = cc
 is_least (i ∷ items) task e =
@@ -96,12 +96,12 @@ is_least (i ∷ items) task e =
     the_one : (a b : TaskNo) → Some a ≡ Some b → b ≡ a
     the_one a b h = cc
 
--- there is none exactly where the list is empty
+-- a list has no least item exactly if it is empty
 pub none_least : (items : List Item) → None ≡ task_in (least items) → items ≡ []
 none_least [] e = refl
 none_least (i ∷ items) e = cc
 
--- both, of an answer
+-- a task returned as that of the least item has the first item
 pub first_if_some : (items : List Item) (o : Option TaskNo) → o ≡ task_in (least items) → IfSome o (IsFirstItem items)
 first_if_some items None e = tt
 first_if_some items (Some task) e = is_least items task e

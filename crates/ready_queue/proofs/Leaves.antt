@@ -1,4 +1,4 @@
--- The items by their leaves: task number k has leaf k, the first leaf being that of a number that is given.
+-- The items by their leaves, of which the first is that of task number k.
 use Rattle.std.proofs.Common.{◌≡◌, ℕ, suc, zero, ◌+◌, ◌<◌, ◌≤◌, Bool, true, false, not, ◌==◌, nat_lt, cond, List, [], ◌∷◌, Option, Some, None, length, get_or, set, map, filter, replicate, refl, sym, ap, arith, eq-eqb}
 use Rattle.std.proofs.lemmas.Bool.Decides.{nat_tests}
 use Rattle.ready_queue.specs.declared.item.Item.{Item}
@@ -12,7 +12,7 @@ less_number a b e = grind (arith, nat_tests)
 no_less_number : (a b : ℕ) → b ≤ a → nat_lt a b ≡ false
 no_less_number a b e = grind (arith, nat_tests)
 
--- an item of a lower number stands before all items of the leaves
+-- an item of a lower task number goes before all items of the leaves
 with_item-first : (i : Item) (k : ℕ) (leaves : List (Option Item)) → i.task.0 < k → AreLeavesFrom k leaves → with_item i (items_in leaves) ≡ i ∷ items_in leaves
 with_item-first i k [] low own = refl
 with_item-first i k (None ∷ leaves) low own = with_item-first i (k + 1) leaves (omega arith) own
@@ -30,7 +30,7 @@ items_in-set i k (suc n) (Some j ∷ leaves) own room number free =
     let test : nat_lt i.task.0 j.task.0 ≡ false = no_less_number i.task.0 j.task.0 (let e : j.task.0 ≡ k = own.0 in omega arith) in
     rw test (ap (λ (is : List Item). j ∷ is) (items_in-set i (k + 1) n leaves own.1 (omega arith) (omega arith) free))
 
--- where all leaves are of higher numbers, none goes with a number
+-- if all leaves are of higher task numbers, removing a task takes nothing out
 without-none : (t k : ℕ) (leaves : List (Option Item)) → t < k → AreLeavesFrom k leaves → without t (items_in leaves) ≡ items_in leaves
 without-none t k [] low own = refl
 without-none t k (None ∷ leaves) low own = without-none t (k + 1) leaves (omega arith) own
@@ -39,7 +39,7 @@ without-none t k (Some j ∷ leaves) low own =
     let test : (j.task.0 == t) ≡ false = grind (arith, nat_tests) in
     rw test (ap (λ (is : List Item). j ∷ is) (without-none t (k + 1) leaves (omega arith) own.1))
 
--- a leaf that is cleared takes its task's item out
+-- clearing a leaf takes its task's item out
 pub items_in-clear : (k n : ℕ) (leaves : List (Option Item)) → AreLeavesFrom k leaves → items_in (set leaves n None) ≡ without (k + n) (items_in leaves)
 items_in-clear k n [] own = refl
 items_in-clear k zero (None ∷ leaves) own = sym (without-none (k + 0) (k + 1) leaves (omega arith) own)
@@ -56,7 +56,7 @@ items_in-clear k (suc n) (Some j ∷ leaves) own =
     let rest : items_in (set leaves n None) ≡ without (k + suc n) (items_in leaves) = rw e (items_in-clear (k + 1) n leaves own.1) in
     rw test (ap (λ (is : List Item). j ∷ is) rest)
 
--- where all leaves are of higher numbers, none is of a number
+-- if all leaves are of higher task numbers, a task has no item
 item_of-none : (t k : ℕ) (leaves : List (Option Item)) → t < k → AreLeavesFrom k leaves → item_of (items_in leaves) t ≡ None
 item_of-none t k [] low own = refl
 item_of-none t k (None ∷ leaves) low own = item_of-none t (k + 1) leaves (omega arith) own
@@ -65,7 +65,7 @@ item_of-none t k (Some j ∷ leaves) low own =
     let test : (j.task.0 == t) ≡ false = grind (arith, nat_tests) in
     rw test (item_of-none t (k + 1) leaves (omega arith) own.1)
 
--- a task's item is that of its leaf
+-- a task's item is the one at its leaf
 pub item_of-items_in : (k n : ℕ) (leaves : List (Option Item)) → AreLeavesFrom k leaves → item_of (items_in leaves) (k + n) ≡ get_or leaves n None
 item_of-items_in k n [] own = refl
 item_of-items_in k zero (None ∷ leaves) own = item_of-none (k + 0) (k + 1) leaves (omega arith) own
@@ -86,7 +86,7 @@ item_of-items_in k (suc n) (Some j ∷ leaves) own =
 pub item_of-zero : (leaves : List (Option Item)) → AreLeavesFrom 1 leaves → item_of (items_in leaves) 0 ≡ None
 item_of-zero leaves own = item_of-none 0 1 leaves (omega arith) own
 
--- a number that no leaf has takes nothing out
+-- removing a task that has no item takes nothing out
 pub without-nobody : (t : ℕ) (items : List Item) → item_of items t ≡ None → without t items ≡ items
 without-nobody t [] none = refl
 without-nobody t (j ∷ items) none = go (without-nobody t items) (j.task.0 == t) none
@@ -95,7 +95,7 @@ without-nobody t (j ∷ items) none = go (without-nobody t items) (j.task.0 == t
     go ih true h = cc
     go ih false h = ap (λ (is : List Item). j ∷ is) (ih h)
 
--- in high mode the items of high tasks are left, by their real deadlines
+-- in high mode the items of high tasks remain, by their real deadlines
 pub items_in-rekeyed : (leaves : List (Option Item)) → items_in (map rekeyed leaves) ≡ map by_real (filter (λ i. i.high) (items_in leaves))
 items_in-rekeyed [] = refl
 items_in-rekeyed (None ∷ leaves) = items_in-rekeyed leaves
@@ -131,17 +131,17 @@ AreLeavesFrom-rekeyed k (Some i ∷ leaves) own = go (AreLeavesFrom-rekeyed (k +
     go rest true = (own.0, rest)
     go rest false = rest
 
--- free leaves are nobody's
+-- free leaves are valid leaves
 pub AreLeavesFrom-free : (k n : ℕ) → AreLeavesFrom k (replicate n None)
 AreLeavesFrom-free k zero = tt
 AreLeavesFrom-free k (suc n) = AreLeavesFrom-free (k + 1) n
 
--- free leaves hold no items
+-- free leaves have no items
 pub items_in-free : (n : ℕ) → items_in (replicate n None) ≡ []
 items_in-free zero = refl
 items_in-free (suc n) = items_in-free n
 
--- the items are of different tasks, in their order
+-- the items are of different tasks, in the order of the tasks' numbers
 pub are_items : (above k places : ℕ) (leaves : List (Option Item)) → above < k → k + length leaves ≤ places + 1 → AreLeavesFrom k leaves → AreItemsFrom above places (items_in leaves)
 are_items above k places [] low room own = tt
 are_items above k places (None ∷ leaves) low room own = are_items above (k + 1) places leaves (omega arith) (omega arith) own

@@ -1,4 +1,4 @@
--- Who wins a match.
+-- Which of two items wins a match.
 use Rattle.std.proofs.Common.{◌≡◌, ℕ, Bool, true, false, ◌&&◌, ◌||◌, ◌==◌, ◌⊎◌, nat_lt, cond, Option, Some, None, option_map, refl, ap, inl, inr, arith}
 use Rattle.std.proofs.lemmas.Bool.Decides.{nat_tests}
 use Rattle.mc_task.specs.declared.task.TaskNo.{TaskNo}
@@ -6,27 +6,27 @@ use Rattle.ready_queue.specs.declared.item.Item.{Item}
 use Rattle.ready_queue.specs.Items.{before}
 use Rattle.ready_queue.specs.Tree.{winner}
 
--- the order of keys and numbers
+-- whether one key and task number come before another
 abbrev pub earlier : ℕ → ℕ → ℕ → ℕ → Bool
 earlier a s b t = nat_lt a b || ((a == b) && nat_lt s t)
 
--- nothing comes before itself
+-- a key and number do not come before themselves
 pub earlier-self : (a s : ℕ) → earlier a s a s ≡ false
 earlier-self a s = grind (arith, nat_tests)
 
--- of two only one comes before the other
+-- if one of two comes before the other, the other does not come before it
 pub earlier-back : (a s b t : ℕ) → earlier a s b t ≡ true → earlier b t a s ≡ false
 earlier-back a s b t h = grind (arith, nat_tests)
 
--- what does not come before the later does not come before the earlier
+-- an item that does not come before a later one does not come before an earlier one
 pub earlier-trans : (a s b t c u : ℕ) → earlier b t a s ≡ false → earlier c u b t ≡ false → earlier c u a s ≡ false
 earlier-trans a s b t c u h k = grind (arith, nat_tests)
 
--- where neither of two comes before the other they have one number
+-- if neither of two comes before the other, they have the same number
 earlier-tie : (a s b t : ℕ) → earlier a s b t ≡ false → earlier b t a s ≡ false → s ≡ t
 earlier-tie a s b t h k = grind (arith, nat_tests)
 
--- a would win a match with b that goes to b in a tie
+-- whether a would win a match with b in which a tie goes to b
 abbrev pub beats : Option Item → Option Item → Bool
 beats None b = false
 beats (Some i) None = true
@@ -36,7 +36,7 @@ pub beats-self : (a : Option Item) → beats a a ≡ false
 beats-self None = refl
 beats-self (Some i) = earlier-self i.key i.task.0
 
--- the first of two does not beat the winner
+-- the first of two items does not beat the winner
 pub winner_left : (a b : Option Item) → beats a (winner a b) ≡ false
 winner_left None b = refl
 winner_left (Some i) None = earlier-self i.key i.task.0
@@ -46,7 +46,7 @@ winner_left (Some i) (Some j) = go (before j i) refl
     go true m = earlier-back j.key j.task.0 i.key i.task.0 m
     go false m = earlier-self i.key i.task.0
 
--- neither does the second
+-- the second of two items does not beat the winner
 pub winner_right : (a b : Option Item) → beats b (winner a b) ≡ false
 winner_right None b = beats-self b
 winner_right (Some i) None = refl
@@ -56,7 +56,7 @@ winner_right (Some i) (Some j) = go (before j i) refl
     go true m = earlier-self j.key j.task.0
     go false m = m
 
--- the winner is one of the two
+-- the winner is one of the two items
 pub winner_is : (a b : Option Item) → (winner a b ≡ a) ⊎ (winner a b ≡ b)
 winner_is None b = inr refl
 winner_is (Some i) None = inl refl
@@ -66,14 +66,14 @@ winner_is (Some i) (Some j) = go (before j i)
     go true = inr refl
     go false = inl refl
 
--- what does not beat the second, which does not beat the first, does not beat the first
+-- if b does not beat a, and c does not beat b, then c does not beat a
 pub beats-trans : (a b c : Option Item) → beats b a ≡ false → beats c b ≡ false → beats c a ≡ false
 beats-trans a b None h k = refl
 beats-trans a None (Some n) h k = cc
 beats-trans None (Some j) (Some n) h k = cc
 beats-trans (Some i) (Some j) (Some n) h k = earlier-trans i.key i.task.0 j.key j.task.0 n.key n.task.0 h k
 
--- where neither of two beats the other they are of one task
+-- if neither of two items beats the other, they are of the same task
 pub beats-tie : (a b : Option Item) → beats a b ≡ false → beats b a ≡ false → option_map (λ (i : Item). i.task) a ≡ option_map (λ (i : Item). i.task) b
 beats-tie None None h k = refl
 beats-tie None (Some j) h k = cc

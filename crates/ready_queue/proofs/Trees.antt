@@ -1,4 +1,4 @@
--- In a winner tree the root is of a leaf, and no place beats it.
+-- In a winner tree the root is the item of a leaf, and no node beats it.
 use Rattle.std.proofs.Common.{◌≡◌, ℕ, suc, zero, ◌+◌, ◌*◌, ◌/◌, ◌<◌, ◌≤◌, false, ◌⊎◌, List, Option, None, length, refl, sym, subst, inl, inr, ⊎_elim, ◌∙◌, arith}
 use Rattle.std.proofs.lemmas.Bool.{cases_lt}
 use Rattle.std.proofs.lemmas.List.{get_or_past}
@@ -6,7 +6,7 @@ use Rattle.ready_queue.specs.declared.item.Item.{Item}
 use Rattle.ready_queue.specs.Tree.{winner, node, IsPlayed, IsTree}
 use Rattle.ready_queue.proofs.Matches.{beats, beats-self, beats-trans, winner_left, winner_right, winner_is}
 
--- no place beats the one above it
+-- no node beats its parent
 pub above : (nodes : List (Option Item)) → IsTree nodes → (j : ℕ) → 2 ≤ j → 2 * (j / 2) + 1 < length nodes → beats (node nodes j) (node nodes (j / 2)) ≡ false
 above nodes tree j two within =
     let positive : 1 ≤ j / 2 = omega arith in
@@ -18,7 +18,7 @@ above nodes tree j two within =
     (λ (e : j ≡ 2 * (j / 2) + 1). subst (λ (k : ℕ). beats (node nodes k) (winner (node nodes (2 * (j / 2))) (node nodes (2 * (j / 2) + 1))) ≡ false) (sym e) (winner_right (node nodes (2 * (j / 2))) (node nodes (2 * (j / 2) + 1))))
     parity)
 
--- nor the root, by induction on a bound of its number
+-- no node beats the root, by induction on a bound of its index
 under_root : (nodes : List (Option Item)) (p : ℕ) → length nodes ≡ 2 * p → IsTree nodes → (n j : ℕ) → j ≤ n → 1 ≤ j → j < 2 * p → beats (node nodes j) (node nodes 1) ≡ false
 under_root nodes p len tree zero j b positive within = absurd (omega arith)
 under_root nodes p len tree (suc n) j b positive within =
@@ -30,7 +30,7 @@ under_root nodes p len tree (suc n) j b positive within =
     (above nodes tree j two (omega arith)))
     (cases_lt j 2)
 
--- no place beats the root
+-- no node beats the root
 pub root_first : (nodes : List (Option Item)) (p : ℕ) → length nodes ≡ 2 * p → IsTree nodes → (j : ℕ) → 1 ≤ j → beats (node nodes j) (node nodes 1) ≡ false
 root_first nodes p len tree j positive =
     ⊎_elim
@@ -38,13 +38,13 @@ root_first nodes p len tree j positive =
     (λ (past : 2 * p ≤ j). subst (λ (o : Option Item). beats o (node nodes 1) ≡ false) (sym (get_or_past nodes j None (omega arith))) refl)
     (cases_lt j (2 * p))
 
--- a leaf holds what place i does
+-- a leaf with the item of node i
 pub record Leaf (nodes : List (Option Item)) (p i : ℕ) : Type 0 where
   pub at : ℕ
   pub low : p ≤ at
   pub same : node nodes at ≡ node nodes i
 
--- there is one, by induction on how many places stand behind i
+-- each node has the item of a leaf, by induction on the number of nodes after it
 pub a_leaf : (nodes : List (Option Item)) (p : ℕ) → length nodes ≡ 2 * p → IsTree nodes → (n i : ℕ) → 2 * p ≤ i + n → 1 ≤ i → Leaf nodes p i
 a_leaf nodes p len tree zero i b positive = record { at = i; low = omega arith; same = refl }
 a_leaf nodes p len tree (suc n) i b positive =

@@ -1,13 +1,13 @@
-// Who of two waiting jobs comes first.
+//! The items of the queue, and which of two comes first.
 ghost use Rattle.std.specs.Prelude.{◌≡◌, option_map};
 ghost use Rattle.ready_queue.specs.Items.{before};
 ghost use Rattle.ready_queue.specs.Tree.{winner, rekeyed};
 
 use mc_task::TaskNo;
 
-/// A pending job, as the queue needs it: its task, whether that is a high one, the key by which it is ordered now, and
-/// the key of its real deadline, by which it is ordered in high mode. Keys are in parts of a tick, as `virtual_key` has
-/// them (Baruah et al., ECRTS 2012).
+/// A pending job in the queue: its task, whether the task is high, the key by which the job is ordered now, and the key
+/// of its real deadline, by which it is ordered in high mode. Keys are in parts of a tick, as `virtual_key::key`
+/// returns them (Baruah et al., ECRTS 2012).
 #[derive(Clone, Copy, Debug, PartialEq, Eq)]
 pub struct Item {
     pub task: TaskNo,
@@ -16,14 +16,14 @@ pub struct Item {
     pub real: u128,
 }
 
-// Whether i comes before j: its key is less, or they are equal and its task's number is lower.
+// Whether i comes before j: its key is less, or the keys are equal and its task's number is lower.
 fn before(i: &Item, j: &Item) -> bool
     ensures { result ≡ before i.now j.now }
 {
     i.key < j.key || (i.key == j.key && i.task.0 < j.task.0)
 }
 
-/// The one of the two that comes first; the other where one of them is none.
+/// The item of the two that comes first; the other one if either is `None`.
 pub fn winner(a: Option<Item>, b: Option<Item>) -> Option<Item>
     ensures { result ≡ winner a b }
 {
@@ -34,7 +34,7 @@ pub fn winner(a: Option<Item>, b: Option<Item>) -> Option<Item>
     }
 }
 
-/// What is left of it in high mode: none of a low task, and a high one by its real deadline.
+/// The item after the change to high mode: `None` for a low task, and a high task's item by its real deadline.
 pub fn rekeyed(item: Option<Item>) -> Option<Item>
     ensures { result ≡ rekeyed item }
 {
@@ -44,7 +44,7 @@ pub fn rekeyed(item: Option<Item>) -> Option<Item>
     }
 }
 
-/// The task of an item, if there is one.
+/// The task of the item, if there is one.
 pub fn task_of(item: Option<Item>) -> Option<TaskNo>
     ensures { result ≡ option_map (λ i. i.task) item }
 {

@@ -1,4 +1,4 @@
-//! The pending jobs of a task set, at most one a task, of which the one that runs next is known at once.
+//! The pending jobs of a task set, at most one of each task, with the one that runs next known at once.
 #![tactic(auto)]
 
 mod item;

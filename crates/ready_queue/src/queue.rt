@@ -1,4 +1,4 @@
-// The queue, by task numbers.
+//! The queue of pending jobs.
 ghost use Rattle.std.specs.Prelude.{◌≡◌, ◌≤◌, ◌↔◌, [], true, None, IfOk, IfSome, IsNone, map, filter, is_some, option_map};
 ghost use Rattle.ready_queue.specs.Items.{item_of, with_item, without, least, by_real, IsFirstItem, AreItems};
 
@@ -8,7 +8,7 @@ use mc_task::{Memory, TaskNo};
 use std::alloc::Global;
 use std::marker::Model;
 
-/// The pending jobs, at most one of each task. Contracts see the number of places and the items, by task number.
+/// The pending jobs, at most one of each task. In contracts it is its capacity `places` and its items by task number.
 #[derive(Debug, Drop)]
 pub struct ReadyQueue {
     places: usize,
@@ -28,7 +28,8 @@ impl Model for ReadyQueue {
 }
 
 impl ReadyQueue {
-    /// A queue with no items, for tasks of the numbers 1 to `places`. Only this call takes memory.
+    /// An empty queue for tasks with the numbers 1 to `places`. Fails with `Memory` if an allocation fails; no other
+    /// call allocates.
     pub fn new(alloc: Global, places: u32) -> Result<ReadyQueue, Memory>
         requires some { 1 ≤ places }
         requires few { places ≤ 128 }
@@ -39,7 +40,7 @@ impl ReadyQueue {
         Ok(ReadyQueue { places, nodes })
     }
 
-    /// Adds an item, of whose task none is there.
+    /// Adds an item of a task that has none.
     pub fn insert(&mut self, item: Item)
         requires some { 1 ≤ item.task.0 }
         requires place { item.task.0 ≤ self.old.places }
@@ -50,7 +51,8 @@ impl ReadyQueue {
         put(&mut self.nodes, self.places, leaf, Some(item));
     }
 
-    /// The task whose item has the least key, and of equal keys the lowest number; `None` exactly where there is no item.
+    /// The task whose item has the least key; of equal keys, the one with the lowest number. `None` exactly if the
+    /// queue is empty.
     pub fn least(&self) -> Option<TaskNo>
         ensures value { result ≡ option_map (λ i. i.task) (least self.now.items) }
         ensures first { IfSome result (IsFirstItem self.now.items) }
@@ -60,7 +62,7 @@ impl ReadyQueue {
         task_of(self.nodes[1])
     }
 
-    /// Takes the task's item out. The answer is `false`, and nothing changes, exactly where none is there.
+    /// Removes the task's item. Returns `false`, and changes nothing, exactly if the task has none.
     pub fn remove(&mut self, task: TaskNo) -> bool
         ensures there { result ≡ is_some (item_of self.old.items task.0) }
         ensures state { self.new ≡ record self.old { items = without task.0 self.old.items } }
@@ -72,7 +74,7 @@ impl ReadyQueue {
         there
     }
 
-    // Whether an item of the task is there.
+    // Whether the task has an item.
     fn has(&self, task: TaskNo) -> bool
         ensures there { result ≡ is_some (item_of self.now.items task.0) }
         ensures some { result ≡ true → 1 ≤ task.0 }
@@ -85,7 +87,8 @@ impl ReadyQueue {
         self.nodes[self.places + number - 1].is_some()
     }
 
-    /// Goes over to high mode: the items of low tasks go, and those of high ones get the keys of their real deadlines.
+    /// Changes to high mode: the items of low tasks are removed, and those of high tasks get the keys of their real
+    /// deadlines.
     pub fn rekey_high(&mut self)
         ensures { self.new ≡ record self.old { items = map by_real (filter (λ i. i.high) self.old.items) } }
     {

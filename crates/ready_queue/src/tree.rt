@@ -1,12 +1,13 @@
-// A winner tree in one array (Knuth, The Art of Computer Programming, volume 3, section 5.4.1): the last half are the
-// leaves, and place k holds the winner of the places 2k and 2k + 1. Place 0 is not used.
+//! A winner tree in one array (Knuth, The Art of Computer Programming, volume 3, section 5.4.1).
+//!
+//! The last half of the array are the leaves, and node k has the winner of the nodes 2k and 2k + 1. Node 0 is not used.
 ghost use Rattle.std.specs.Prelude.{◌≡◌, ◌+◌, ◌*◌, ◌/◌, ◌<◌, ◌≤◌, ℕ, length, drop, map, slice_set, replicate, None, IfOk};
 ghost use Rattle.ready_queue.specs.Tree.{rekeyed, IsTree, IsTreeBut};
 
 use crate::item::{Item, rekeyed, winner};
 use std::alloc::{AllocError, Global};
 
-/// A tree with no item.
+/// A tree with `places` leaves and no item. Fails if an allocation fails.
 pub fn no_items(alloc: Global, places: usize) -> Result<Vec<Option<Item>>, AllocError>
     requires { places ≤ 128 }
     ensures { IfOk result (λ nodes. nodes.items ≡ replicate (2 * places) None) }
@@ -14,7 +15,7 @@ pub fn no_items(alloc: Global, places: usize) -> Result<Vec<Option<Item>>, Alloc
     vec![in alloc; None; 2 * places]
 }
 
-/// Puts an item at a leaf, or none, and plays the matches on the way from there to the root.
+/// Puts an item, or none, at a leaf, and plays the matches from there to the root.
 pub fn put(nodes: &mut [Option<Item>], places: usize, leaf: usize, item: Option<Item>)
     requires places { length nodes.old ≡ 2 * places }
     requires leaf { leaf < places }
@@ -26,7 +27,7 @@ pub fn put(nodes: &mut [Option<Item>], places: usize, leaf: usize, item: Option<
     climb(nodes, places + leaf);
 }
 
-// Plays the matches on the way from a place, which was changed, to the root.
+// Plays the matches from a changed node to the root.
 fn climb(nodes: &mut [Option<Item>], from: usize)
     requires pair { 2 * (from / 2) + 1 < length nodes.old }
     requires tree { IsTreeBut (from / 2) nodes.old }
@@ -40,7 +41,7 @@ fn climb(nodes: &mut [Option<Item>], from: usize)
     }
 }
 
-/// Goes over to high mode at each leaf, and plays all matches.
+/// Changes each leaf to high mode, and plays all matches.
 pub fn rekey(nodes: &mut [Option<Item>], places: usize)
     requires { length nodes.old ≡ 2 * places }
     ensures tree { IsTree nodes.new }
@@ -50,7 +51,7 @@ pub fn rekey(nodes: &mut [Option<Item>], places: usize)
     play_all(nodes, places);
 }
 
-// Lets the low ones go, and orders the high ones by their real deadlines.
+// Discards the items of low tasks, and orders those of high tasks by their real deadlines.
 fn rekey_leaves(leaves: &mut [Option<Item>])
     ensures { leaves.new ≡ map rekeyed leaves.old }
 {
@@ -59,7 +60,7 @@ fn rekey_leaves(leaves: &mut [Option<Item>])
     }
 }
 
-// Plays all matches, the ones next to the leaves first.
+// Plays all matches, those next to the leaves first.
 fn play_all(nodes: &mut [Option<Item>], places: usize)
     requires { length nodes.old ≡ 2 * places }
     ensures tree { IsTree nodes.new }

@@ -9,12 +9,14 @@ use Rattle.trace_format.specs.declared.fault.TraceCause.TheVariants as row
 use Rattle.demand_test.specs.declared.fault.DemandCause.{DemandCause}
 use Rattle.demand_test.specs.declared.fault.DemandCause.TheVariants as task
 
--- which file is refused, at which line, and the words for why; Memory is no refusal and has no line
+-- the line that refuses a file at one of its records: the file, the number of the record, and the words for
+-- the cause; Memory is no refusal and has no line
 abbrev pub fault_line : {Cause : Type 0} → List ℕ → (Cause → List ℕ) → Fault Cause → List ℕ
 fault_line file words Memory = []
-fault_line file words (At line cause) = file ++ (codes " line " ++ (decimal line ++ (codes ": " ++ words cause)))
+fault_line file words (At line cause) =
+    file ++ (codes " line " ++ (decimal line ++ (codes ": " ++ words cause)))
 
--- why a record of a work file is refused
+-- the words for why a record of a work file is refused
 abbrev pub work_cause_words : WorkCause → List ℕ
 work_cause_words cause.BadRecord = codes "not three fields\n"
 work_cause_words cause.Header = codes "header is not task,release,need\n"
@@ -25,7 +27,7 @@ work_cause_words cause.Unsorted = codes "release before the last one\n"
 work_cause_words (cause.TooSoon next) = codes "too soon, next " ++ (decimal next ++ codes "\n")
 work_cause_words cause.TooMany = codes "more than 1000000 rows\n"
 
--- why a record of a trace is refused
+-- the words for why a record of a trace is refused
 abbrev pub trace_cause_words : TraceCause → List ℕ
 trace_cause_words row.BadRecord = codes "not five fields\n"
 trace_cause_words row.Header = codes "header is of no trace version\n"
@@ -38,7 +40,7 @@ trace_cause_words row.BadLength = codes "bad length\n"
 trace_cause_words row.TooManyTicks = codes "more than 100000000 ticks\n"
 trace_cause_words row.NotSix = codes "not six fields\n"
 
--- why a record of a demand file is refused
+-- the words for why a record of a demand file is refused
 abbrev pub demand_cause_words : DemandCause → List ℕ
 demand_cause_words task.Header = codes "header is not task,period,deadline,budget\n"
 demand_cause_words task.Empty = codes "no tasks\n"

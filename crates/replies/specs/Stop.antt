@@ -14,8 +14,8 @@ StopsBy Is Memory = Unit {0}
 abbrev pub Refuses : Refusal → Stop → Type 0
 Refuses refusal stop = StopsBy (λ reply. reply ≡ refuse refusal) stop
 
--- where the definition reads a value, this holds of it and of the code's value; where it refuses, the code's reply reports that
--- refusal; or memory ran out
+-- where the definition reads a value, this holds of it and of the code's value; where it refuses, the code's
+-- reply reports that refusal; or memory ran out
 abbrev pub Gives : {A B : Type 0} → (A → B → Type 0) → Result A Refusal → Result B Stop → Type 0
 Gives Is (Ok read) (Ok given) = Is read given
 Gives Is (Err refusal) (Ok given) = ⊥

@@ -1,4 +1,4 @@
-// The loads of a set, in words.
+//! The loads of a set, in words.
 ghost use Rattle.std.specs.Prelude.{◌≡◌, ◌<◌, List, IfOk, string_bytes};
 ghost use Rattle.mc_task.specs.declared.task.Task.{Task};
 ghost use Rattle.mc_model.specs.CheckText.{load_texts, not_admitted_text};

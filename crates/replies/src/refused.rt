@@ -11,7 +11,7 @@ use crate::load_text::not_admitted_text;
 use crate::reply::Reply;
 use crate::row_lines::fault_line;
 use crate::stop::Stop;
-use crate::task_lines::{range_line, task_fault_line};
+use crate::task_lines::{finished, range_line, task_fault_line};
 use crate::verdicts::verdict_line;
 use demand_test::DemandFault;
 use load_sum::Loads;
@@ -112,9 +112,8 @@ fn no_room_line(alloc: Global, name: &Name, processors: u32) -> Result<Vec<u8>, 
 {
     let mut line = "not partitioned: task ".as_bytes().to_vec(alloc)?;
     line.extend_from_slice(name.bytes())?;
-    let rest = format!(in alloc; " fits on none of {processors}\n")?;
-    line.extend_from_slice(rest.as_bytes())?;
-    Ok(line)
+    let rest = format!(in alloc; " fits on none of {processors}")?;
+    finished(line, rest.as_bytes())
 }
 
 // The reply with this line, or out of memory if there is no line.

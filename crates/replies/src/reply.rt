@@ -1,11 +1,11 @@
-// A reply: a status and a text.
+//! A reply: a status and a text.
 ghost use Rattle.std.specs.Prelude.{◌≡◌, ◌≢◌};
 ghost use Rattle.replies.specs.Reply.{reply_of};
 
 use std::marker::Model;
 
-/// A status, and the text that is written with it. Statuses 8 and 9 are no reply's: they tell that writing failed, and that
-/// memory was wanting.
+/// A status, and the text that is written with it. No reply has status 8 or 9: the program ends with these where writing failed, and
+/// where memory ran out.
 #[derive(Drop)]
 pub struct Reply {
     status: u8,

@@ -1,4 +1,4 @@
-// The lines that refuse a work file, a trace or a demand file, by the number of a record.
+//! The error messages for a work file, a trace or a demand file: each names a line of the file.
 ghost use Rattle.std.specs.Prelude.{◌≡◌, IfOk, IsErr, string_bytes};
 ghost use Rattle.csv_records.specs.declared.fault.Fault.TheVariants.{Memory};
 ghost use Rattle.replies.specs.RowLines as spec;
@@ -22,8 +22,7 @@ pub fn fault_line<C: Words>(
         Fault::Memory => Err(AllocError),
         Fault::At { line, cause } => {
             let words = cause.text(alloc)?;
-            let text = format!(in alloc; "{file} line {line}: {words}")?;
-            Ok(text.into_bytes())
+            Ok(format!(in alloc; "{file} line {line}: {words}")?.into_bytes())
         }
     }
 }

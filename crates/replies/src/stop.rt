@@ -1,4 +1,4 @@
-// Why a command stops before its answer.
+//! Why a command stops before its answer.
 use crate::reply::Reply;
 use mc_task::Memory;
 use std::alloc::AllocError;

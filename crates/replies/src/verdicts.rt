@@ -1,5 +1,5 @@
-// The line of a verdict.
-ghost use Rattle.std.specs.Prelude.{◌≡◌, ◌++◌, IfOk, codes, decimal, string_bytes};
+//! The line of a verdict.
+ghost use Rattle.std.specs.Prelude.{◌≡◌, ◌++◌, IfOk, codes};
 ghost use Rattle.mc_task.specs.TaskSet.{task_at, name_in};
 ghost use Rattle.mc_model.specs.VerdictText as spec;
 
@@ -14,26 +14,15 @@ pub fn verdict_line(alloc: Global, set: &TaskSet, verdict: Verdict) -> Result<Ve
     ensures { IfOk result (λ line. line.items ≡ spec.verdict_line set.now.tasks verdict) }
 {
     match verdict {
-        Verdict::Legal { late, first } => legal_line(alloc, set, late, first),
+        Verdict::Legal { late, first } => {
+            let front = format!(in alloc; "legal late {late}")?;
+            finished(front.into_bytes(), &first_words(alloc, set, first)?)
+        }
         Verdict::Illegal { place, why } => {
             let word = why_word(why);
-            let line = format!(in alloc; "illegal row {place} {word}\n")?;
-            Ok(line.into_bytes())
+            Ok(format!(in alloc; "illegal row {place} {word}\n")?.into_bytes())
         }
     }
-}
-
-fn legal_line(
-    alloc: Global,
-    set: &TaskSet,
-    late: u64,
-    first: Option<JobId>,
-) -> Result<Vec<u8>, AllocError>
-    ensures { IfOk result (λ line. line.items ≡ codes "legal late " ++ (decimal late ++ (spec.first_words set.now.tasks first ++ codes "\n"))) }
-{
-    let front = format!(in alloc; "legal late {late}")?;
-    let words = first_words(alloc, set, first)?;
-    finished(front.into_bytes(), &words)
 }
 
 fn first_words(alloc: Global, set: &TaskSet, first: Option<JobId>) -> Result<Vec<u8>, AllocError>

@@ -1,5 +1,5 @@
 mod Soaked
-mod LivePlaces
+pub mod LivePlaces
 mod LiveRows
-mod TextBytes
-mod TraceBytes
+pub mod TextBytes
+pub mod TraceBytes

@@ -11,6 +11,8 @@ use Rattle.mc_task.specs.declared.task.Rule.{Rule}
 use Rattle.mc_task.specs.declared.task.Rule.TheVariants.{Plain, Virtual}
 use Rattle.mc_task.specs.TaskSet.{IsTask, AreTasks}
 use Rattle.mc_model.specs.declared.row.Row.{Row}
+use Rattle.mc_model.specs.Rows.{ticks}
+use Rattle.mc_model.specs.Legal.{Legal}
 use Rattle.mc_model.specs.Core.{State}
 use Rattle.mc_model.specs.Sums.{total}
 use Rattle.mc_model.specs.Loads.{by_level, low_low, high_high, product, load, load_ll, load_hh}
@@ -18,6 +20,7 @@ use Rattle.mc_model.specs.Holds.{HoldsOver, Holds}
 use Rattle.mc_model.proofs.Hyperperiod.{product-pos}
 use Rattle.demand_law.proofs.Sums.{Divides, divides}
 use Rattle.task_threads.specs.LivePasses.{live_places}
+use Rattle.task_threads.proofs.LiveRoom.{rows-le}
 
 -- the periods of the tasks that are over by n, together
 abbrev periods_in : ℕ → List Task → ℕ
@@ -82,12 +85,19 @@ one_more : (n : ℕ) (ts : List Task) → total (λ t. n / t.period + 1) ts ≡ 
 one_more n [] = omega arith
 one_more n (t ∷ ts) = let rest = one_more n ts in omega (arith, rest)
 
+-- a live run of n ticks takes at most three places a tick, and one for each task
 few_places : (set : List Task) (rule : Rule) (n : ℕ) → AreTasks set → Holds set rule → live_places set n ≤ 3 * n + 128
 few_places set rule n is holds =
     let periods = few_periods set rule n is.each holds in
     omega (arith, is.few, periods, one_more n set)
 
--- so rows that have their places in the core of a live run are few
+-- a legal trace under a rule that holds has at most three rows a tick, and 128 beside
+pub few_rows : (set : List Task) (rule : Rule) (h : List Row) → AreTasks set → Holds set rule → Legal set rule h → length h ≤ 3 * ticks h + 128
+few_rows set rule h is holds legal =
+    let rows = rows-le set rule h (ticks h) is.each legal (omega arith) in
+    omega (arith, rows, few_places set rule (ticks h) is holds)
+
+-- rows that have their places in the core of a live run are few
 pub few_live_rows : (set : List Task) (rule : Rule) (n : ℕ) (s t : State) (places : ℕ) (rows : List Row) → AreTasks set → Holds set rule → n ≤ 100000 → s ≡ t → t.places ≡ places → places ≡ live_places set n → length rows ≤ s.places → length rows ≤ 2000000
 few_live_rows set rule n s t places rows is holds ticks same room all inside =
     let one : s.places ≡ t.places = ap (λ (u : State). u.places) same in

@@ -24,11 +24,11 @@ use Rattle.mc_model.proofs.Runs.{ticks-expand}
 use Rattle.mc_model.proofs.Ticks.{ticks-le}
 use Rattle.trace_format.proofs.PackLemmas.{of_rows}
 
--- the job's count is below 10,000,000
-abbrev pub HasShortCount : Row → Type 0
-HasShortCount (Release j kept) = j.count < 10000000
-HasShortCount (Tick j how) = j.count < 10000000
-HasShortCount Idle = Unit {0}
+-- the count of the row's job is below m
+abbrev pub HasCountBelow : ℕ → Row → Type 0
+HasCountBelow m (Release j kept) = j.count < m
+HasCountBelow m (Tick j how) = j.count < m
+HasCountBelow m Idle = Unit {0}
 
 -- a number below 10,000,000 has at most 7 digits
 seven_digits : (n : ℕ) → n < 10000000 → length (decimal n) ≤ 7
@@ -72,7 +72,7 @@ how_length More = omega arith
 how_length how = omega arith
 
 -- the line of a run has at most 66 bytes for each row, less 5 for each tick
-line_le : (set : List Task) (tick : ℕ) (r : Run) → AllByRecursion IsTask set → IsRun r → HasShortCount (row_of r) → tick + length_of r < 10000000 → length (run_line set tick r) + 5 * length_of r ≤ 66 * size r
+line_le : (set : List Task) (tick : ℕ) (r : Run) → AllByRecursion IsTask set → IsRun r → HasCountBelow 10000000 (row_of r) → tick + length_of r < 10000000 → length (run_line set tick r) + 5 * length_of r ≤ 66 * size r
 unfolding run_line
 line_le set tick (run.Release j kept) is v count short =
     let line = line_length (codes "release") (decimal tick) [] (name_in (task_at set j.task.0)) (decimal j.count) (kept_word kept) in
@@ -93,7 +93,7 @@ line_le set tick (run.Idles n) is v count short =
     omega (arith, line, at, v, digits)
 
 -- and so those of all runs
-lines_le : (set : List Task) (tick : ℕ) (runs : List Run) → AllByRecursion IsTask set → AllByRecursion IsRun runs → AllByRecursion (λ r. HasShortCount (row_of r)) runs → tick + total length_of runs < 10000000
+lines_le : (set : List Task) (tick : ℕ) (runs : List Run) → AllByRecursion IsTask set → AllByRecursion IsRun runs → AllByRecursion (λ r. HasCountBelow 10000000 (row_of r)) runs → tick + total length_of runs < 10000000
     → length (lines_from set tick runs) + 5 * total length_of runs ≤ 66 * length (expand runs)
 lines_le set tick [] is v counts short = omega arith
 lines_le set tick (r ∷ runs) is v counts short =
@@ -102,12 +102,12 @@ lines_le set tick (r ∷ runs) is v counts short =
     simp (length-append, length-replicate) (omega (arith, here, rest))
 
 -- so the text of rows has its header of 31 bytes, and at most 66 for each row, less 5 for each tick
-pub text_le : (set : List Task) (rows : List Row) → AllByRecursion IsTask set → AllByRecursion HasShortCount rows → length rows < 10000000 → length (trace_text set rows) + 5 * ticks rows ≤ 31 + 66 * length rows
+pub text_le : (set : List Task) (rows : List Row) → AllByRecursion IsTask set → AllByRecursion (HasCountBelow 10000000) rows → length rows < 10000000 → length (trace_text set rows) + 5 * ticks rows ≤ 31 + 66 * length rows
 text_le set rows is counts few =
     let all = ap length (expand-pack rows) in
     let sum : ticks rows ≡ total length_of (pack rows) = ap ticks (sym (expand-pack rows)) ∙ ticks-expand (pack rows) in
     let short = ticks-le rows in
-    let each = each_of_all (λ r. HasShortCount (row_of r)) (pack rows) (of_rows HasShortCount (pack rows) rows (pack-runs rows) (expand-pack rows) (All-from_recursion HasShortCount rows counts)) in
+    let each = each_of_all (λ r. HasCountBelow 10000000 (row_of r)) (pack rows) (of_rows (HasCountBelow 10000000) (pack rows) rows (pack-runs rows) (expand-pack rows) (All-from_recursion (HasCountBelow 10000000) rows counts)) in
     let lines = lines_le set 0 (pack rows) is (pack-runs rows) each (omega (arith, few, sum, short)) in
     let text = length-append (codes "event,tick,length,task,job,how\n") (lines_from set 0 (pack rows)) in
     omega (arith, all, sum, lines, text)

@@ -1,4 +1,4 @@
--- How many bytes the text of a legal trace has. The newest row of the trace stands first.
+-- The counts of the jobs of a legal trace, and how many bytes its text has. The newest row of the trace stands first.
 use Rattle.std.proofs.Common.{◌≡◌, inl, inr, ℕ, ◌+◌, ◌*◌, ◌<◌, ◌≤◌, ◌==◌, true, false, List, [], ◌∷◌, cond, length, reverse, sym, subst, arith}
 use Rattle.std.specs.List.{AllByRecursion}
 use Rattle.std.proofs.lemmas.Bool.{cases_lt}
@@ -21,7 +21,7 @@ use Rattle.mc_model.proofs.Steps.{release_fits}
 use Rattle.mc_model.proofs.Ticks.{ticks-reverse}
 use Rattle.replies.specs.Reply.{Reply}
 use Rattle.run_answers.specs.Run.{traced}
-use Rattle.run_answers.proofs.TextBytes.{HasShortCount, text_le}
+use Rattle.run_answers.proofs.TextBytes.{HasCountBelow, text_le}
 
 -- a task has no more releases than there are rows
 releases_le : (g : List Row) (k : ℕ) → releases g k ≤ length g
@@ -41,25 +41,25 @@ was_released set rule j how g legal =
       | inr few ↦ few
     ]
 
--- so the counts of its jobs are no more than its rows
-short_counts : (set : List Task) (rule : Rule) (h : List Row) → Legal set rule h → length h < 10000000 → AllByRecursion HasShortCount h
-short_counts set rule [] legal few = tt
-short_counts set rule (Release j kept ∷ g) legal few =
+-- the counts of the jobs of a legal trace are no more than its rows
+pub counts-below : (set : List Task) (rule : Rule) (m : ℕ) (h : List Row) → Legal set rule h → length h < m → AllByRecursion (HasCountBelow m) h
+counts-below set rule m [] legal few = tt
+counts-below set rule m (Release j kept ∷ g) legal few =
     let count = (release_fits set rule j kept g (bridge set rule (Release j kept ∷ g) legal).legal.1).count in
-    (omega (arith, few, count, releases_le g j.task.0), short_counts set rule g legal.2 (omega (arith, few)))
-short_counts set rule (Tick j how ∷ g) legal few =
-    (omega (arith, few, was_released set rule j how g legal, releases_le g j.task.0), short_counts set rule g legal.2 (omega (arith, few)))
-short_counts set rule (Idle ∷ g) legal few = (tt, short_counts set rule g legal.2 (omega (arith, few)))
+    (omega (arith, few, count, releases_le g j.task.0), counts-below set rule m g legal.2 (omega (arith, few)))
+counts-below set rule m (Tick j how ∷ g) legal few =
+    (omega (arith, few, was_released set rule j how g legal, releases_le g j.task.0), counts-below set rule m g legal.2 (omega (arith, few)))
+counts-below set rule m (Idle ∷ g) legal few = (tt, counts-below set rule m g legal.2 (omega (arith, few)))
 
--- so its text has at most 31 bytes, and 66 for each row, less 5 for each tick
-trace_le : (set : List Task) (rule : Rule) (h : List Row) → AreTasks set → Legal set rule h → length h < 10000000 → length (trace_text set (reverse h)) + 5 * ticks h ≤ 31 + 66 * length h
+-- the text of a legal trace has at most 31 bytes, and 66 for each row, less 5 for each tick
+pub trace_le : (set : List Task) (rule : Rule) (h : List Row) → AreTasks set → Legal set rule h → length h < 10000000 → length (trace_text set (reverse h)) + 5 * ticks h ≤ 31 + 66 * length h
 trace_le set rule h is legal few =
-    let counts = Each-reverse HasShortCount h (short_counts set rule h legal few) in
+    let counts = Each-reverse (HasCountBelow 10000000) h (counts-below set rule 10000000 h legal few) in
     let same = ticks-reverse h in
     let rows = length-reverse h in
     let text = text_le set (reverse h) is.each counts (omega (arith, few, rows)) in
     omega (arith, same, rows, text)
 
--- and so has that of a reply that tells it
+-- the text of a reply that is such a text has no more bytes
 pub told_le : (set : List Task) (rule : Rule) (h : List Row) (reply : Reply) → AreTasks set → Legal set rule h → length h < 10000000 → reply ≡ traced set h → length reply.text + 5 * ticks h ≤ 31 + 66 * length h
 told_le set rule h reply is legal few same = subst (λ (r : Reply). length r.text + 5 * ticks h ≤ 31 + 66 * length h) (sym same) (trace_le set rule h is legal few)

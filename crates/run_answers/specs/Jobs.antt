@@ -1,4 +1,4 @@
--- What is left to do in threads when a command's files are read.
+-- The jobs of `live` and `run`: what is left to do, in threads, once the command's files are read.
 use Rattle.std.specs.Prelude.{◌≡◌, ℕ, List}
 use Rattle.mc_task.specs.declared.task.Task.{Task}
 use Rattle.mc_model.specs.declared.work.WorkRow.{WorkRow}
@@ -6,19 +6,13 @@ use Rattle.mc_model.specs.Holds.{Fits, Holds}
 use Rattle.mc_model.specs.Work.{IsWork}
 use Rattle.replies.specs.Reply.{Reply}
 use Rattle.task_answers.specs.declared.ruled.Ruled.{Ruled}
-use Rattle.task_answers.specs.Admitted.{under}
 use Rattle.run_answers.specs.declared.run.RunJob.{RunJob}
 use Rattle.run_answers.specs.Run.{TellsTrace}
-use Rattle.run_answers.specs.Live.{Lives}
 
 -- a job of `live`: the rule fits, and holds for the set
 pub record IsLiveJob (job : Ruled) : Type 0 where
   pub fits : Fits job.rule
   pub holds : Holds job.set.tasks job.rule
-
--- the reply to a job of `live`, of this many ticks
-abbrev pub RepliesToLive : ℕ → Ruled → Reply → Type 0
-RepliesToLive ticks job reply = Lives ticks (under job.rule job.set) reply
 
 -- a job of `run`: the rule fits and holds for the set, and the work is for the set
 pub record IsRunJob (job : RunJob) : Type 0 where

@@ -9,32 +9,33 @@ use Rattle.mc_model.specs.TraceText.{trace_text}
 use Rattle.work_file.specs.WorkFile.{work_in}
 use Rattle.replies.specs.Reply.{Reply, reply_of}
 use Rattle.replies.specs.Refusal.{Refusal, WorkFile}
-use Rattle.replies.specs.Reading.{or_refuse}
+use Rattle.replies.specs.Reading.{refused_as}
 use Rattle.serving.specs.Command.{Command, answer, need}
 use Rattle.task_answers.specs.Admitted.{admitted, fetch_table}
 
--- the text of a trace, with status 0; the newest row of the trace stands first here
+-- the reply with the text of a trace and status 0; the newest row of the trace stands first here
 abbrev pub traced : List Task → List Row → Reply
 traced set h = reply_of 0 (trace_text set (reverse h))
 
--- the text has at most so many bytes
+-- the reply's text has at most this many bytes
 abbrev pub IsShort : ℕ → Reply → Type 0
 IsShort bytes reply = length reply.text ≤ bytes
 
--- the work that a work file says of a set
+-- the work for the set that a work file of these bytes says, or the file's refusal
 abbrev pub work_of : List Task → List ℕ → Result (List WorkRow) Refusal
-work_of set bytes = or_refuse WorkFile (work_in set bytes)
+work_of set bytes = refused_as WorkFile (work_in set bytes)
 
--- the one trace of so many ticks that follows from a set, a rule and work
+-- the reply is the text of the one trace of this many ticks that follows from the set, the rule and the work
 abbrev pub TellsTrace : ℕ → List Task → Rule → List WorkRow → Reply → Type 0
 TellsTrace ticks set rule work reply = (h : List Row) × Follows set rule work ticks h × (reply ≡ traced set h)
 
--- the run of the set in the task file, which has these bytes, with the work in the second file
+-- the command `run` with the work in the second file, once the task file was read and has these bytes
 abbrev pub run_on : List ℕ → ℕ → List ℕ → Command
 run_on work ticks bytes =
     need (admitted bytes) (λ ruled.
-    fetch_table work (λ more. need (work_of ruled.set.tasks more) (λ rows. answer (TellsTrace ticks ruled.set.tasks ruled.rule rows))))
+    fetch_table work (λ more.
+    need (work_of ruled.set.tasks more) (λ rows. answer (TellsTrace ticks ruled.set.tasks ruled.rule rows))))
 
--- the command
+-- the command `run` of this many ticks, on the task file and the work file of these names
 abbrev pub run : List ℕ → List ℕ → ℕ → Command
 run tasks work ticks = fetch_table tasks (run_on work ticks)

@@ -1,4 +1,4 @@
--- The command `soak NUMBER TASKS TICKS`: the trace of a workload that is made from a number, summed up and judged.
+-- The command `soak NUMBER TASKS TICKS`: the trace of a random workload, summed up and judged.
 use Rattle.std.specs.Prelude.{◌≡◌, ℕ, List, ◌++◌, codes, decimal, Some}
 use Rattle.mc_task.specs.declared.task.Task.{Task}
 use Rattle.mc_task.specs.declared.task.Rule.{Rule}
@@ -15,34 +15,40 @@ use Rattle.set_gen.specs.MadeWork.{made_work}
 use Rattle.replies.specs.Reply.{Reply, reply_of}
 use Rattle.serving.specs.Command.{Command, answer}
 
--- the set of a workload
+-- the set of the workload that is generated from a number
 abbrev pub workload_set : ℕ → ℕ → List Task
 workload_set number tasks = made_set (words_of number) tasks
 
--- the line of the call, which makes the same bytes again
+-- the first line, which names the call: running it again gives the same bytes
 abbrev pub call_line : ℕ → ℕ → ℕ → List ℕ
-call_line number tasks ticks = codes "soak " ++ (decimal number ++ (codes " " ++ (decimal tasks ++ (codes " " ++ (decimal ticks ++ codes "\n")))))
+call_line number tasks ticks =
+    codes "soak "
+    ++ (decimal number ++ (codes " " ++ (decimal tasks ++ (codes " " ++ (decimal ticks ++ codes "\n")))))
 
--- the line of the rule
+-- the second line, which names the rule
 abbrev pub rule_line : Rule → List ℕ
 rule_line Plain = codes "rule plain\n"
 rule_line (Virtual p q) = codes "rule virtual x " ++ (decimal p ++ (codes "/" ++ (decimal q ++ codes "\n")))
 
--- the call, the rule, the sums over the trace, whose newest row stands first here, and the verdict on it
+-- what `soak` writes of a trace, whose newest row stands first here: the call, the rule, the sums over the
+-- trace, and the verdict on it
 unfoldable pub soak_text : ℕ → ℕ → ℕ → List Task → Rule → List Row → List ℕ
 soak_text number tasks ticks set rule h =
-    call_line number tasks ticks ++ (rule_line rule ++ (summary_text set h ++ verdict_line set (verdict set rule h)))
+    call_line number tasks ticks
+    ++ (rule_line rule ++ (summary_text set h ++ verdict_line set (verdict set rule h)))
 
--- the trace is that of the workload, its set with its work, under the rule that the test gives the set
+-- the trace is the one that follows from the workload's set, its work, and the rule that the published test
+-- gives the set
 pub record IsSoaked (number tasks ticks : ℕ) (rule : Rule) (h : List Row) : Type 0 where
   pub test : published (workload_set number tasks) ≡ Some rule
   pub follows : Follows (workload_set number tasks) rule (made_work (words_of number) tasks ticks) ticks h
 
--- the text of that trace, with status 0
+-- the reply is what `soak` writes of the workload's trace, with status 0
 abbrev pub Soaks : ℕ → ℕ → ℕ → Reply → Type 0
 Soaks number tasks ticks reply =
-    (rule : Rule) × (h : List Row) × IsSoaked number tasks ticks rule h × (reply ≡ reply_of 0 (soak_text number tasks ticks (workload_set number tasks) rule h))
+    (rule : Rule) × (h : List Row) × IsSoaked number tasks ticks rule h
+    × (reply ≡ reply_of 0 (soak_text number tasks ticks (workload_set number tasks) rule h))
 
--- the command
+-- the command `soak` of a number, a number of tasks and a number of ticks
 abbrev pub soak : ℕ → ℕ → ℕ → Command
 soak number tasks ticks = answer (Soaks number tasks ticks)

@@ -1,6 +1,7 @@
 //! The commands that run tasks in threads: `run`, `soak` and `live`.
 #![tactic(auto)]
 
+mod alone;
 mod live;
 mod planned;
 mod run;
@@ -9,5 +10,5 @@ mod traced;
 
 pub use live::{Live, LiveTicks, finish_live};
 pub use run::{Run, RunJob, Ticks, finish_run, read_work_of};
-pub use soak::{Soak, TaskCount};
+pub use soak::Soak;
 pub use traced::trace_text;

@@ -1,14 +1,13 @@
-// The command `live`.
+//! The command `live`.
 ghost use Rattle.std.specs.Prelude.{◌≤◌, ◌^◌, IfOk, length, reverse};
 ghost use Rattle.mc_model.specs.LiveTrace.{LiveTrace};
 ghost use Rattle.task_threads.specs.LiveLeft.{HasLiveTrace};
 ghost use Rattle.replies.specs.Stop.{Replies};
 ghost use Rattle.serving.specs.Serves.{Serves, IsOwn, Prepares};
-ghost use Rattle.run_answers.specs.Live.{live};
+ghost use Rattle.run_answers.specs.Live.{Lives, live};
 ghost use Rattle.run_answers.specs.Run.{IsShort};
-ghost use Rattle.run_answers.specs.Jobs.{IsLiveJob, RepliesToLive};
+ghost use Rattle.run_answers.specs.Jobs.{IsLiveJob};
 
-use crate::planned::fresh_core;
 use crate::traced::trace_text;
 use executive::Gate;
 use mc_model::Row;
@@ -48,12 +47,12 @@ impl<'a> Live<'a> {
         ensures short { IfOk result (IsShort (2 ^ 27)) }
     {
         let job = self.job(alloc, shelf)?;
-        finish_live(rt, alloc, job, self.ticks.get(), gate)
+        finish_live(rt, alloc, job, &self.ticks, gate)
     }
 
     /// What is to be run, by the file. Without a runtime this cannot wait.
     pub fn job<S: Shelf>(&self, alloc: Global, shelf: &mut S) -> Result<Ruled, Stop>
-        ensures { Prepares 1 (live self.now.tasks self.now.ticks) IsLiveJob (RepliesToLive self.now.ticks) (S.state shelf.old) (S.state shelf.new) result }
+        ensures { Prepares 1 (live self.now.tasks self.now.ticks) IsLiveJob (Lives self.now.ticks) (S.state shelf.old) (S.state shelf.new) result }
     {
         let bytes = fetch(alloc, shelf, 1, &self.tasks, MOST_TABLE_BYTES)?;
         let Admitted { set, rule, .. } = read_admitted(alloc, &bytes)?;
@@ -66,29 +65,30 @@ pub fn finish_live<R: Threads + Wait + Sync, G: Gate + Sync>(
     rt: &R,
     alloc: Global,
     job: Ruled,
-    ticks: u64,
+    ticks: &LiveTicks,
     gate: &G,
 ) -> Result<Reply, Stop>
-    requires job { IsLiveJob job }
-    requires ticks { (1 ≤ ticks) × (ticks ≤ 100000) }
-    ensures lives { Replies (RepliesToLive ticks job) result }
+    requires { IsLiveJob job }
+    ensures lives { Replies (Lives ticks.now job) result }
     ensures short { IfOk result (IsShort (2 ^ 27)) }
     ensures own { Replies IsOwn result }
 {
     let Ruled { set, rule } = job;
-    // It has at most 128 tasks, so the places are few; and its names are short.
+    // The set has at most 128 tasks, so the capacity is small, and its names are short.
     let _is_set = set.len();
+    let ticks = ticks.get();
     let places = live_places(&set, ticks) as usize;
-    let core = fresh_core(alloc, &set, rule, places)?;
+    let core = Core::new(alloc, set, rule, places)?;
     let floor = Floor::new(core, Plan::Free);
     let Ok(floor) = run_live(rt, alloc, floor, ticks, gate) else {
         return Err(Stop::Memory);
     };
-    let text = trace_text(alloc, &set, live_rows(floor.core(), ticks))?;
+    let done = floor.core();
+    let text = trace_text(alloc, done.set(), live_rows(done, ticks))?;
     Ok(Reply::new(0, text))
 }
 
-// The rows up to that of the last of so many ticks.
+// The rows up to the one of the last of this many ticks.
 fn live_rows(core: &Core, ticks: u64) -> &[Row]
     requires some { 1 ≤ ticks }
     requires live { HasLiveTrace core.now ticks }

@@ -1,12 +1,12 @@
-// The command `run`.
-ghost use Rattle.std.specs.Prelude.{◌≤◌, IfOk, IfErr};
+//! The command `run`.
+ghost use Rattle.std.specs.Prelude.{IfOk, IfErr};
 ghost use Rattle.replies.specs.Stop.{StopsBy, Gives, Replies};
 ghost use Rattle.serving.specs.Serves.{Serves, IsOwn, Prepares};
 ghost use Rattle.run_answers.specs.Run.{IsShort, work_of, run, run_on};
 ghost use Rattle.run_answers.specs.Jobs.{IsRunJob, RepliesToRun, IsWorkOf};
 
 use crate::planned::planned;
-use crate::traced::trace_text;
+use crate::traced::trace_reply;
 use executive::Gate;
 use mc_task::{Rule, TaskSet};
 use mc_world::Shelf;
@@ -51,7 +51,7 @@ impl<'a> Run<'a> {
         ensures short { IfOk result (IsShort 128000024) }
     {
         let job = self.job(alloc, shelf)?;
-        finish_run(rt, alloc, job, self.ticks.get(), gate)
+        finish_run(rt, alloc, job, &self.ticks, gate)
     }
 
     /// What is to be run, by both files. Without a runtime this cannot wait.
@@ -89,19 +89,14 @@ pub fn finish_run<R: Threads + Wait + Sync, G: Gate + Sync>(
     rt: &R,
     alloc: Global,
     job: RunJob,
-    ticks: u64,
+    ticks: &Ticks,
     gate: &G,
 ) -> Result<Reply, Stop>
-    requires job { IsRunJob job }
-    requires ticks { (1 ≤ ticks) × (ticks ≤ 1000000) }
-    ensures trace { Replies (RepliesToRun ticks job) result }
+    requires { IsRunJob job }
+    ensures trace { Replies (RepliesToRun ticks.now job) result }
     ensures short { IfOk result (IsShort 128000024) }
     ensures own { Replies IsOwn result }
 {
-    let RunJob { set, rule, work } = job;
-    // Its names are short.
-    let _is_set = set.len();
-    let floor = planned(rt, alloc, &set, rule, work, ticks, gate)?;
-    let text = trace_text(alloc, &set, floor.core().rows())?;
-    Ok(Reply::new(0, text))
+    let floor = planned(rt, alloc, job, ticks, gate)?;
+    trace_reply(alloc, &floor)
 }

@@ -1,32 +1,28 @@
-// The command `soak`.
+//! The command `soak`.
 ghost use Rattle.std.specs.Prelude.{◌≡◌, ◌≤◌, ◌++◌, IfOk, length, reverse, string_bytes};
 ghost use Rattle.mc_model.specs.Holds.{Fits};
 ghost use Rattle.mc_model.specs.Legal.{Legal};
 ghost use Rattle.mc_model.specs.Verdict.{verdict};
 ghost use Rattle.mc_model.specs.VerdictText.{verdict_line};
 ghost use Rattle.sched_report.specs.ReportText.{summary_text};
-ghost use Rattle.replies.specs.Stop.{Replies};
-ghost use Rattle.serving.specs.Serves.{ServesAlone, IsOwn};
+ghost use Rattle.serving.specs.Serves.{ServesAlone};
 ghost use Rattle.run_answers.specs.Soak as spec;
 ghost use Rattle.run_answers.specs.Soak.{soak};
 
 use crate::planned::planned;
-use crate::run::Ticks;
+use crate::run::{RunJob, Ticks};
 use executive::Gate;
 use mc_model::Row;
 use mc_task::{Memory, Rule, TaskSet};
 use replies::{Reply, Stop, verdict_line};
 use sched_report::summary;
-use serving::Within;
+use serving::TaskCount;
 use set_gen::{Made, make};
 use std::alloc::{AllocError, Global};
 use std::sync::Wait;
 use std::thread::Threads;
 use trace_format::pack;
 use trace_judge::judge;
-
-/// How many tasks a workload has, 2 to 32.
-pub type TaskCount = Within<2, 32>;
 
 /// `soak NUMBER TASKS TICKS`.
 #[derive(Drop)]
@@ -48,44 +44,22 @@ impl Soak {
         ensures { ServesAlone (soak self.now.number self.now.tasks self.now.ticks) result }
     {
         let tasks = self.tasks.get() as u32;
-        finish_soak(rt, alloc, self.number, tasks, self.ticks.get(), gate)
+        let Made { set, rule, work } = make(alloc, self.number, tasks, self.ticks.get())?;
+        let floor = planned(rt, alloc, RunJob { set, rule, work }, &self.ticks, gate)?;
+        let front = self.front(alloc, rule)?;
+        let core = floor.core();
+        let text = with_sums(alloc, front, core.set(), rule, core.rows())?;
+        Ok(Reply::new(0, text))
     }
-}
 
-// The reply of a `soak` of these numbers.
-fn finish_soak<R: Threads + Wait + Sync, G: Gate + Sync>(
-    rt: &R,
-    alloc: Global,
-    number: u64,
-    tasks: u32,
-    ticks: u64,
-    gate: &G,
-) -> Result<Reply, Stop>
-    requires tasks { (2 ≤ tasks) × (tasks ≤ 32) }
-    requires ticks { (1 ≤ ticks) × (ticks ≤ 1000000) }
-    ensures soaks { Replies (spec.Soaks number tasks ticks) result }
-    ensures own { Replies IsOwn result }
-{
-    let Made { set, rule, work } = make(alloc, number, tasks, ticks)?;
-    let floor = planned(rt, alloc, &set, rule, work, ticks, gate)?;
-    let front = front_of(alloc, number, tasks, ticks, rule)?;
-    let text = with_sums(alloc, front, &set, rule, floor.core().rows())?;
-    Ok(Reply::new(0, text))
-}
-
-// The call and the rule.
-fn front_of(
-    alloc: Global,
-    number: u64,
-    tasks: u32,
-    ticks: u64,
-    rule: Rule,
-) -> Result<Vec<u8>, AllocError>
-    ensures { IfOk result (λ text. text.items ≡ spec.call_line number tasks ticks ++ spec.rule_line rule) }
-{
-    let rule = rule_line(alloc, rule)?;
-    let text = format!(in alloc; "soak {number} {tasks} {ticks}\n{rule}")?;
-    Ok(text.into_bytes())
+    // The first two lines: the call and the rule.
+    fn front(&self, alloc: Global, rule: Rule) -> Result<Vec<u8>, AllocError>
+        ensures { IfOk result (λ text. text.items ≡ spec.call_line self.now.number self.now.tasks self.now.ticks ++ spec.rule_line rule) }
+    {
+        let (number, tasks, ticks) = (self.number, self.tasks.get(), self.ticks.get());
+        let rule = rule_line(alloc, rule)?;
+        Ok(format!(in alloc; "soak {number} {tasks} {ticks}\n{rule}")?.into_bytes())
+    }
 }
 
 fn rule_line(alloc: Global, rule: Rule) -> Result<String, AllocError>
@@ -100,7 +74,7 @@ fn rule_line(alloc: Global, rule: Rule) -> Result<String, AllocError>
 // The front, the sums over the rows and the verdict on them.
 fn with_sums(
     alloc: Global,
-    front: Vec<u8>,
+    mut front: Vec<u8>,
     set: &TaskSet,
     rule: Rule,
     rows: &[Row],
@@ -114,8 +88,7 @@ fn with_sums(
     let sums = summary(alloc, set, &runs)?;
     let verdict = judge(alloc, set, rule, &runs)?;
     let line = verdict_line(alloc, set, verdict)?;
-    let mut text = front;
-    text.extend_from_slice(&sums)?;
-    text.extend_from_slice(&line)?;
-    Ok(text)
+    front.extend_from_slice(&sums)?;
+    front.extend_from_slice(&line)?;
+    Ok(front)
 }

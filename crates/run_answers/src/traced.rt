@@ -1,11 +1,19 @@
-// The text of a trace.
-ghost use Rattle.std.specs.Prelude.{◌≡◌, ◌≤◌, All, IfOk, length};
+//! The text of a trace.
+ghost use Rattle.std.specs.Prelude.{◌≡◌, ◌≤◌, ℕ, All, IfOk, length};
 ghost use Rattle.mc_model.specs.Legal.{IsOfSet};
 ghost use Rattle.mc_model.specs.TraceText.{trace_text};
+ghost use Rattle.replies.specs.Stop.{Replies};
+ghost use Rattle.serving.specs.Serves.{IsOwn};
+ghost use Rattle.run_answers.specs.declared.run.RunJob.{RunJob as Job};
+ghost use Rattle.run_answers.specs.Jobs.{RepliesToRun};
+ghost use Rattle.run_answers.specs.Planned.{IsPlanned};
+ghost use Rattle.run_answers.specs.Run.{IsShort};
 
 use mc_model::Row;
 use mc_task::{Memory, TaskSet};
+use replies::{Reply, Stop};
 use std::alloc::Global;
+use timetable::Floor;
 use trace_format::{pack, write_trace};
 
 /// The text of these rows of the set, the oldest first.
@@ -15,6 +23,20 @@ pub fn trace_text(alloc: Global, set: &TaskSet, rows: &[Row]) -> Result<Vec<u8>,
     ensures { IfOk result (λ text. text.items ≡ trace_text set.now.tasks rows.now) }
 {
     let runs = pack(alloc, rows)?;
-    let text = write_trace(alloc, set, &runs)?;
-    Ok(text)
+    Ok(write_trace(alloc, set, &runs)?)
+}
+
+/// The reply with the text of the trace on a floor at the end of its plan.
+pub fn trace_reply(alloc: Global, floor: &Floor) -> Result<Reply, Stop>
+    requires { length floor.now.core.rows ≤ 2000000 }
+    ensures trace { (job : Job) (ticks : ℕ) → IsPlanned job ticks floor.now → Replies (RepliesToRun ticks job) result }
+    ensures short { (job : Job) (ticks : ℕ) → IsPlanned job ticks floor.now → IfOk result (IsShort 128000024) }
+    ensures own { Replies IsOwn result }
+{
+    let core = floor.core();
+    let set = core.set();
+    // The names of a set are short.
+    let _is_set = set.len();
+    let text = trace_text(alloc, set, core.rows())?;
+    Ok(Reply::new(0, text))
 }

@@ -14,7 +14,7 @@ use Rattle.sched_chart.specs.ChartText.{ChartedModeLaw}
 use Rattle.mc_model.proofs.Bridge.{bridge}
 use Rattle.mc_model.proofs.Steps.{Hows, over, hows, tick_fits}
 
--- a tick that fits is an overrun under a virtual rule alone
+-- a tick that fits is an overrun only under EDF-VD
 over_is_virtual : (set : List Task) (rule : Rule) (g : List Row) (j : JobId) (how : How) → Hows set rule g j how → is_over how ≡ (is_virtual rule && is_over how)
 over_is_virtual set Plain g j Over (over v m y e a) = absurd (cc)
 over_is_virtual set rule g j how h = refl

@@ -16,11 +16,11 @@ use Rattle.sched_chart.specs.ChartText.{how_mark, task_marks, over_stands, mode_
 use Rattle.sched_chart.specs.Sheet.{line_length, place, filled, task_marks_to, mode_marks_to, chart_to}
 use Rattle.sched_chart.proofs.Lines.{set_behind, set-line, set-lines, lines_same, length-line, length-lines}
 
--- the first blank taken from those that are left
+-- the blanks that are left are one blank and the rest
 blank_next : (n t b : ℕ) (marks : List ℕ) → t < n → marks ++ replicate (n - t) b ≡ (marks ++ b ∷ []) ++ replicate (n - (t + 1)) b
 blank_next n t b marks h = (let left : n - t ≡ suc (n - (t + 1)) = omega arith in rw left (sym (append_assoc marks (b ∷ []) _)))
 
--- and a character set in its place
+-- setting the first blank to a character adds the character
 set_next : (n t b v : ℕ) (marks : List ℕ) → t < n → length marks ≡ t → set (marks ++ replicate (n - t) b) t v ≡ (marks ++ v ∷ []) ++ replicate (n - (t + 1)) b
 set_next n t b v marks h long =
     let left : n - t ≡ suc (n - (t + 1)) = omega arith in
@@ -30,7 +30,7 @@ length-how : (how : How) → length (how_mark how) ≡ 1
 length-how More = refl
 length-how how = refl
 
--- one character for each tick
+-- a task's line has one character for each tick
 length-marks : (k : ℕ) (g : List Row) → length (task_marks k g) ≡ ticks g
 length-marks k [] = refl
 length-marks k (Release j kept ∷ g) = length-marks k g
@@ -48,19 +48,19 @@ length-modes [] = refl
 length-modes (Release j kept ∷ g) = length-modes g
 length-modes (row ∷ g) = simp length-append (omega (arith, length-modes g, length-mode (over_stands g)))
 
--- with the blanks, n characters
+-- a task's line, with its blanks, has n characters
 length-task_marks_to : (n : ℕ) (g : List Row) → ticks g ≤ n → (k : ℕ) → length (task_marks_to n g k) ≡ n
 length-task_marks_to n g h k = simp (length-append, length-replicate) (omega (arith, length-marks k g))
 
 length-mode_marks_to : (n : ℕ) (g : List Row) → ticks g ≤ n → length (mode_marks_to n g) ≡ n
 length-mode_marks_to n g h = simp (length-append, length-replicate) (omega (arith, length-modes g))
 
--- the width is that of `(mode)` at least
+-- the width of names is at least that of `(mode)`
 pub least_width : (ts : List Task) → 6 ≤ name_width ts
 least_width [] = omega arith
 least_width (t ∷ ts) = omega (arith, least_width ts)
 
--- so many lines of the same length
+-- the chart has as many lines of the same length as tasks, and one more
 pub length-chart : (tasks : List Task) (n : ℕ) (g : List Row) → ticks g ≤ n → length (chart_to tasks n g) ≡ (length tasks + 1) * line_length (name_width tasks) n
 unfolding chart_to
 length-chart tasks n g h =
@@ -73,11 +73,11 @@ length-chart tasks n g h =
 abbrev chart_with : List Task → (ℕ → List ℕ) → List ℕ → List ℕ
 chart_with tasks f marks = lines_with f (name_width tasks) 1 tasks ++ chart_line (name_width tasks) (codes "(mode)") marks
 
--- with the character of high mode at this tick, where the mode is high
+-- the characters of the modes, with high mode at this tick if the mode is high
 abbrev with_mode : Bool → List Task → ℕ → ℕ → List ℕ → List ℕ
 with_mode high tasks n tick chart = cond high (set chart (place (name_width tasks) n (length tasks) tick) 72) chart
 
--- it is the next character of the last line
+-- setting the character of the mode adds the next one to the last line
 mode_line : (tasks : List Task) (n : ℕ) (f : ℕ → List ℕ) (g : List Row) (high : Bool) → ((m : ℕ) → length (f m) ≡ n) → ticks g < n
     → with_mode high tasks n (ticks g) (chart_with tasks f (mode_marks_to n g))
     ≡ chart_with tasks f ((mode_marks g ++ mode_mark high) ++ replicate (n - (ticks g + 1)) 76)
@@ -91,7 +91,7 @@ mode_line tasks n f g true each h =
     rw (behind, marked, set_next n (ticks g) 76 72 (mode_marks g) h (length-modes g)) refl
 mode_line tasks n f g false each h = rw (blank_next n (ticks g) 76 (mode_marks g) h) refl
 
--- a tick of a job, whose character is the next one in the line of its task
+-- setting the character of a tick adds the next one to the line of its task
 pub chart-tick : (tasks : List Task) (n v : ℕ) (j : JobId) (how : How) (g : List Row) (high : Bool) → IsIn tasks j.task.0 → ticks g < n → v ∷ [] ≡ how_mark how
     → over_stands g ≡ high
     → with_mode high tasks n (ticks g) (set (chart_to tasks n g) (place (name_width tasks) n (j.task.0 - 1) (ticks g)) v) ≡ chart_to tasks n (Tick j how ∷ g)
@@ -106,7 +106,7 @@ chart-tick tasks n v j how g high inside h is mode =
     let line = set-lines (task_marks_to n g) after (name_width tasks) n 1 k (ticks g) v tasks last (omega arith) each inside.0 (omega (arith, inside.1)) h mine others in
     rw (mode, line) (mode_line tasks n after g high (length-task_marks_to n (Tick j how ∷ g) (omega arith)) h)
 
--- an idle tick
+-- an idle tick sets the mode's character alone
 pub chart-idle : (tasks : List Task) (n : ℕ) (g : List Row) (high : Bool) → ticks g < n → over_stands g ≡ high
     → with_mode high tasks n (ticks g) (chart_to tasks n g) ≡ chart_to tasks n (Idle ∷ g)
 unfolding chart_to
@@ -114,7 +114,7 @@ chart-idle tasks n g high h mode =
     let lines = lines_same (task_marks_to n g) (task_marks_to n (Idle ∷ g)) (name_width tasks) 1 tasks (λ m later. blank_next n (ticks g) 46 (task_marks m g) h) in
     rw (mode, lines) (mode_line tasks n (task_marks_to n (Idle ∷ g)) g high (length-task_marks_to n (Idle ∷ g) (omega arith)) h)
 
--- with no tick to come it is the chart
+-- with no tick left to fill in, the text is the chart
 pub chart-whole : (tasks : List Task) (n : ℕ) (g : List Row) → ticks g ≡ n → chart_to tasks n g ≡ chart_text tasks g
 unfolding chart_to chart_text
 chart-whole tasks n g h =
@@ -122,7 +122,7 @@ chart-whole tasks n g h =
     let lines = lines_same (task_marks_to n g) (λ k. task_marks k g) (name_width tasks) 1 tasks (λ m later. rw none (append-nil (task_marks m g))) in
     rw (lines, none, append-nil (mode_marks g)) refl
 
--- rows before others of their kind
+-- copies of a row before a row of the same kind
 copies-between : (m : ℕ) (row : Row) (g : List Row) → replicate m row ++ (row ∷ g) ≡ row ∷ (replicate m row ++ g)
 copies-between zero row g = refl
 copies-between (suc m) row g = ap (λ (h : List Row). row ∷ h) (copies-between m row g)
@@ -131,7 +131,7 @@ ticks-span : (m : ℕ) (j : JobId) (how : How) (g : List Row) → ticks (replica
 ticks-span zero j how g = omega arith
 ticks-span (suc m) j how g = omega (arith, ticks-span m j how g)
 
--- a tick in the line of its task
+-- one tick of a job sets one character of its task's line
 task-tick : (tasks : List Task) (n v : ℕ) (j : JobId) (how : How) (g : List Row) (marks : List ℕ) → IsIn tasks j.task.0 → ticks g < n → v ∷ [] ≡ how_mark how
     → set (chart_with tasks (task_marks_to n g) marks) (place (name_width tasks) n (j.task.0 - 1) (ticks g)) v ≡ chart_with tasks (task_marks_to n (Tick j how ∷ g)) marks
 task-tick tasks n v j how g marks inside h is =
@@ -143,7 +143,7 @@ task-tick tasks n v j how g marks inside h is =
     let each = length-task_marks_to n g (omega arith) in
     set-lines (task_marks_to n g) after (name_width tasks) n 1 k (ticks g) v tasks last (omega arith) each inside.0 (omega (arith, inside.1)) h mine others
 
--- and m ticks
+-- m ticks of a job set m characters of its task's line
 task-span : (tasks : List Task) (n v m : ℕ) (j : JobId) (how : How) (g : List Row) (marks : List ℕ) → IsIn tasks j.task.0 → ticks g + m ≤ n → v ∷ [] ≡ how_mark how
     → filled (place (name_width tasks) n (j.task.0 - 1) (ticks g)) m v (chart_with tasks (task_marks_to n g) marks)
     ≡ chart_with tasks (task_marks_to n (replicate m (Tick j how) ++ g)) marks
@@ -154,7 +154,7 @@ task-span tasks n v (suc m) j how g marks inside h is =
     let rest = task-span tasks n v m j how (Tick j how ∷ g) marks inside (omega (arith, h)) is in
     rw (first, next) (rest ∙ ap (λ (h : List Row). chart_with tasks (task_marks_to n h) marks) (copies-between m (Tick j how) g))
 
--- the mode stays high
+-- in high mode, m ticks of a job set m characters of high mode
 mode-high : (tasks : List Task) (n m : ℕ) (f : ℕ → List ℕ) (j : JobId) (how : How) (g : List Row) → ((m : ℕ) → length (f m) ≡ n) → ticks g + m ≤ n → over_stands g ≡ true
     → filled (place (name_width tasks) n (length tasks) (ticks g)) m 72 (chart_with tasks f (mode_marks_to n g))
     ≡ chart_with tasks f (mode_marks_to n (replicate m (Tick j how) ++ g))
@@ -169,7 +169,7 @@ mode-high tasks n (suc m) f j how g each h high =
     still : (a b : Bool) → b ≡ true → (a || b) ≡ true
     still a b e = grind arith
 
--- the mode stays low after ticks of a job that goes on, and where there is one tick
+-- in low mode, ticks of a job that goes on, and a single tick, set characters of low mode
 mode-low : (tasks : List Task) (n m : ℕ) (f : ℕ → List ℕ) (j : JobId) (how : How) (g : List Row) → ((m : ℕ) → length (f m) ≡ n) → ticks g + m ≤ n → over_stands g ≡ false → (2 ≤ m → how ≡ More)
     → chart_with tasks f (mode_marks_to n g) ≡ chart_with tasks f (mode_marks_to n (replicate m (Tick j how) ++ g))
 mode-low tasks n zero f j how g each h low one = refl
@@ -180,7 +180,7 @@ mode-low tasks n (suc (suc m)) f j how g each h low one =
     let rest = mode-low tasks n (suc m) f j how (Tick j how ∷ g) each (omega (arith, h)) (rw more low) (λ two. more) in
     first ∙ (rest ∙ ap (λ (h : List Row). chart_with tasks f (mode_marks_to n h)) (copies-between (suc m) (Tick j how) g))
 
--- ticks of a job in high mode
+-- in high mode, m ticks of a job fill in the chart
 pub ticks-high : (tasks : List Task) (n v m : ℕ) (j : JobId) (how : How) (g : List Row) → IsIn tasks j.task.0 → ticks g + m ≤ n → v ∷ [] ≡ how_mark how → over_stands g ≡ true
     → filled (place (name_width tasks) n (length tasks) (ticks g)) m 72 (filled (place (name_width tasks) n (j.task.0 - 1) (ticks g)) m v (chart_to tasks n g))
     ≡ chart_to tasks n (replicate m (Tick j how) ++ g)
@@ -190,7 +190,7 @@ ticks-high tasks n v m j how g inside h is high =
     let each = length-task_marks_to n h' (omega (arith, ticks-span m j how g)) in
     rw (task-span tasks n v m j how g (mode_marks_to n g) inside h is) (mode-high tasks n m (task_marks_to n h') j how g each h high)
 
--- and in low mode
+-- in low mode, m ticks of a job fill in the chart
 pub ticks-low : (tasks : List Task) (n v m : ℕ) (j : JobId) (how : How) (g : List Row) → IsIn tasks j.task.0 → ticks g + m ≤ n → v ∷ [] ≡ how_mark how → over_stands g ≡ false
     → (2 ≤ m → how ≡ More)
     → filled (place (name_width tasks) n (j.task.0 - 1) (ticks g)) m v (chart_to tasks n g) ≡ chart_to tasks n (replicate m (Tick j how) ++ g)
@@ -200,14 +200,14 @@ ticks-low tasks n v m j how g inside h is low one =
     let each = length-task_marks_to n h' (omega (arith, ticks-span m j how g)) in
     task-span tasks n v m j how g (mode_marks_to n g) inside h is ∙ mode-low tasks n m (task_marks_to n h') j how g each h low one
 
--- idle ticks in low mode
+-- idle ticks in low mode leave the chart as it is
 idles-low : (tasks : List Task) (n m : ℕ) (g : List Row) → ticks g + m ≤ n → over_stands g ≡ false → chart_to tasks n g ≡ chart_to tasks n (replicate m Idle ++ g)
 idles-low tasks n zero g h low = refl
 idles-low tasks n (suc m) g h low =
     chart-idle tasks n g false (omega (arith, h)) low
     ∙ (idles-low tasks n m (Idle ∷ g) (omega (arith, h)) refl ∙ ap (λ (h : List Row). chart_to tasks n h) (copies-between m Idle g))
 
--- idle ticks, of which the first one has the mode before them
+-- idle ticks, of which the first has the mode before them, fill in the chart
 pub idles : (tasks : List Task) (n m : ℕ) (g : List Row) (high : Bool) → 1 ≤ m → ticks g + m ≤ n → over_stands g ≡ high
     → with_mode high tasks n (ticks g) (chart_to tasks n g) ≡ chart_to tasks n (replicate m Idle ++ g)
 idles tasks n zero g high some h mode = absurd (omega arith)
@@ -215,7 +215,7 @@ idles tasks n (suc m) g high some h mode =
     chart-idle tasks n g high (omega (arith, h)) mode
     ∙ (idles-low tasks n m (Idle ∷ g) (omega (arith, h)) refl ∙ ap (λ (h : List Row). chart_to tasks n h) (copies-between m Idle g))
 
--- the mode after m ticks
+-- the mode after m ticks of a job
 pub over-ticks : (m : ℕ) (j : JobId) (how : How) (g : List Row) → 1 ≤ m → over_stands (replicate m (Tick j how) ++ g) ≡ (is_over how || over_stands g)
 over-ticks zero j how g some = absurd (omega arith)
 over-ticks (suc zero) j how g some = refl
@@ -238,7 +238,7 @@ filled-after : (x at m v : ℕ) (xs : List ℕ) → filled (suc at) m v (x ∷ x
 filled-after x at zero v xs = refl
 filled-after x at (suc m) v xs = (let e : suc at + 1 ≡ suc (at + 1) = omega arith in rw e (filled-after x (at + 1) m v (set xs at v)))
 
--- what is filled in at once
+-- filling in a range at once is filling it in character by character
 pub filled-at : (xs : List ℕ) (at m v : ℕ) → at + m ≤ length xs → take at xs ++ (replicate m v ++ drop (at + m) xs) ≡ filled at m v xs
 filled-at [] zero zero v h = refl
 filled-at [] (suc at) m v h = absurd (omega arith)

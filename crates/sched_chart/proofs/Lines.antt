@@ -18,7 +18,7 @@ name_fits [] i d inside = absurd (omega arith)
 name_fits (t ∷ ts) zero d inside = omega arith
 name_fits (t ∷ ts) (suc i) d inside = omega (arith, name_fits ts i d (omega arith))
 
--- one task more
+-- the width with one more task
 pub name_width-more : (ts : List Task) (t : Task) → name_width (ts ++ t ∷ []) ≡ max (name_width ts) (length t.name)
 name_width-more [] t = omega arith
 name_width-more (u ∷ us) t = omega (arith, name_width-more us t)
@@ -33,11 +33,11 @@ length-lines f width n k (t ∷ ts) fit e =
     let rest = length-lines f width n (k + 1) ts (omega arith) e in
     rw (length-append (chart_line width t.name (f k)) _, length-line width n t.name (f k) (omega arith) (e k), rest) (omega arith)
 
--- a character that is set behind the first of two lists
+-- setting a character after the first of two lists sets it in the second
 pub set_behind : (front rest : List ℕ) (m i v : ℕ) → length front ≡ m → set (front ++ rest) (m + i) v ≡ front ++ set rest i v
 set_behind front rest m i v e = (let back : m + i - m ≡ i = omega arith in rw (set-append_right front rest m (m + i) v e (omega arith), back) refl)
 
--- in one line
+-- setting a character in one line
 pub set-line : (width p v : ℕ) (name marks : List ℕ) → length name ≤ width → p < length marks
     → set (chart_line width name marks) (width + 1 + p) v ≡ chart_line width name (set marks p v)
 set-line width p v name marks h inside =
@@ -46,12 +46,12 @@ set-line width p v name marks h inside =
     let apart : (ms : List ℕ) → chart_line width name ms ≡ head ++ (ms ++ codes "\n") = λ ms. simp append_assoc refl in
     rw (apart marks, apart (set marks p v), set_behind head (marks ++ codes "\n") (width + 1) p v long, set-append_left marks (codes "\n") p v inside) refl
 
--- lines of the same characters
+-- lines with the same characters are equal
 pub lines_same : (f g : ℕ → List ℕ) (width k : ℕ) (ts : List Task) → ((m : ℕ) → k ≤ m → f m ≡ g m) → lines_with f width k ts ≡ lines_with g width k ts
 lines_same f g width k [] h = refl
 lines_same f g width k (t ∷ ts) h = rw (h k (omega arith), lines_same f g width (k + 1) ts (λ m later. h m (omega arith))) refl
 
--- in the line of task number i: its characters change so, and those of the others stay
+-- setting a character in the line of task number i changes that line alone
 pub set-lines : (f g : ℕ → List ℕ) (width n k i p v : ℕ) (ts : List Task) (more : List ℕ) → name_width ts ≤ width → ((m : ℕ) → length (f m) ≡ n) → k ≤ i
     → i < k + length ts → p < n → g i ≡ set (f i) p v → ((m : ℕ) → m ≢ i → f m ≡ g m)
     → set (lines_with f width k ts ++ more) (place width n (i - k) p) v ≡ lines_with g width k ts ++ more
@@ -76,17 +76,17 @@ set-lines f g width n k i p v (t ∷ ts) more fit e first last small here others
           rw (apart f, apart g, next, far, set_behind line rest (line_length width n) _ v long, behind, others k other) refl
     ]
 
--- one line more, with all its ticks to come
+-- the lines with one more task, all its ticks still blank
 pub lines_more : (n width k : ℕ) (ts : List Task) (t : Task)
     → lines_with (task_marks_to n []) width k (ts ++ t ∷ []) ≡ lines_with (task_marks_to n []) width k ts ++ chart_line width t.name (replicate n 46)
 lines_more n width k [] t = (let all : n - 0 ≡ n = omega arith in rw all (append-nil _))
 lines_more n width k (u ∷ us) t = rw (lines_more n width (k + 1) us t) (sym (append_assoc (chart_line width u.name (task_marks_to n [] k)) _ _))
 
--- what is filled up to m with a character
+-- a text that is filled up to a length with a character
 filled_up : (text : List ℕ) (len m k v : ℕ) → length text ≡ len → m ≡ len + k → take m text ++ replicate (m - len) v ≡ text ++ replicate k v
 filled_up text len m k v long is = (let missing : m - len ≡ k = omega arith in rw (take_all m text (omega arith), missing) refl)
 
--- a name that is filled up twice, with spaces and with a character, and then ended, is a line
+-- a name, filled up with spaces and then with a character and ended with a line feed, is a line
 pub pushed-line : (width n mark l l1 l2 : ℕ) (old t1 t2 t3 t4 name : List ℕ) → length name ≤ width → length old ≡ l → l1 ≡ l + length name → l2 ≡ l + width + 1
     → t1 ≡ old ++ name → t2 ≡ take (l + width + 1) t1 ++ replicate (l + width + 1 - l1) 32
     → t3 ≡ take (l + width + 1 + n) t2 ++ replicate (l + width + 1 + n - l2) mark → t4 ≡ t3 ++ 10 ∷ [] → t4 ≡ old ++ chart_line width name (replicate n mark)

@@ -1,4 +1,4 @@
--- The ticks of runs, one more run after another.
+-- The ticks of runs, with one more run after another.
 use Rattle.std.proofs.Common.{◌≡◌, ℕ, ◌+◌, ◌<◌, ◌≤◌, ◌++◌, List, length, get_or, take, drop, reverse, [], ◌∷◌, zero, suc, replicate, refl, sym, ap, ◌∙◌, arith}
 use Rattle.std.proofs.lemmas.List.{take_all, take-append-drop}
 use Rattle.std.specs.List.{AllByRecursion}
@@ -9,7 +9,7 @@ use Rattle.mc_model.specs.Runs.{expand, rows_of, row_of, length_of, IsRun, size}
 use Rattle.mc_model.proofs.Ticks.{ticks-append, ticks-reverse}
 use Rattle.mc_model.proofs.Runs.{rows_more, expand-append, ticks-expand, some_rows}
 
--- one run more
+-- the ticks of a run's rows are its length
 rows-ticks : (r : Run) → ticks (rows_of r) ≡ length_of r
 rows-ticks r = let e = ticks-expand (r ∷ []) in let a = ticks-append (rows_of r) [] in omega (arith, e, a)
 
@@ -20,14 +20,14 @@ more runs i d t s inside was is =
     let a = ticks-append (rows_of (get_or runs i d)) (reverse (expand (take i runs))) in
     omega (arith, was, is, e, a, rows-ticks (get_or runs i d))
 
--- all of them
+-- the ticks of all rows are the same in reverse order
 pub reversed : (runs : List Run) → ticks (reverse (expand runs)) ≡ ticks (expand runs)
 reversed runs = ticks-reverse (expand runs)
 
 pub whole : (runs : List Run) (i t : ℕ) → length runs ≤ i → ticks (reverse (expand (take i runs))) ≡ t → t ≡ ticks (reverse (expand runs))
 whole runs i t past was = sym was ∙ ap (λ (rs : List Run). ticks (reverse (expand rs))) (take_all i runs past)
 
--- the first ones have no more
+-- the first runs have no more ticks than all
 pub first : (runs : List Run) (i : ℕ) → ticks (reverse (expand (take i runs))) ≤ ticks (reverse (expand runs))
 first runs i =
     let parts : ticks (expand runs) ≡ ticks (expand (take i runs)) + ticks (expand (drop i runs)) =
@@ -39,7 +39,7 @@ fit runs i t n d inside was few =
     let next = more runs i d t (t + length_of (get_or runs i d)) inside was refl in
     omega (arith, next, first runs (i + 1), reversed runs, few)
 
--- the first of equal rows, and what stands after them
+-- what holds of each of equal rows, and of those after them, holds of the row
 head : (P : Row → Type 0) (row : Row) (rows : List Row) (n : ℕ) → 1 ≤ n → AllByRecursion P (replicate n row ++ rows) → P row
 head P row rows zero some h = absurd (omega arith)
 head P row rows (suc n) some h = h.0
@@ -48,7 +48,7 @@ after_equal : (P : Row → Type 0) (row : Row) (rows : List Row) (n : ℕ) → A
 after_equal P row rows zero h = h
 after_equal P row rows (suc n) h = after_equal P row rows n h.1
 
--- the row of a run is of the set where all rows are
+-- the row of a run is of the set if all rows are
 pub of_set : (P : Row → Type 0) (runs : List Run) (i : ℕ) (d : Run) → i < length runs → AllByRecursion IsRun runs → AllByRecursion P (expand runs) → P (row_of (get_or runs i d))
 of_set P [] i d inside is h = absurd (omega arith)
 of_set P (r ∷ rs) zero d inside is h = head P (row_of r) (expand rs) (size r) (some_rows r is.0) h

@@ -10,14 +10,14 @@ use Rattle.mc_model.specs.declared.row.How.TheVariants.{More, Done, Stop, Over}
 use Rattle.mc_model.specs.declared.row.Row.{Row}
 use Rattle.mc_model.specs.declared.row.Row.TheVariants.{Release, Tick, Idle}
 
--- the character of a tick that ended so for its job
+-- the character of a tick with this outcome
 abbrev pub how_mark : How → List ℕ
 how_mark More = codes "#"
 how_mark Done = codes "D"
 how_mark Stop = codes "S"
 how_mark Over = codes "O"
 
--- the characters of task number k, one for each tick: a dot where the tick is not its own
+-- the characters of task number k, one for each tick: a dot if the tick is not its own
 abbrev pub task_marks : ℕ → List Row → List ℕ
 task_marks k [] = []
 task_marks k (Release j kept ∷ g) = task_marks k g
@@ -43,7 +43,7 @@ mode_marks (Release j kept ∷ g) = mode_marks g
 mode_marks (Tick j how ∷ g) = mode_marks g ++ mode_mark (over_stands g)
 mode_marks (Idle ∷ g) = mode_marks g ++ mode_mark (over_stands g)
 
--- the greater of 6 and the length of the longest name
+-- the width of names: 6, or the length of the longest name if that is greater
 abbrev pub name_width : List Task → ℕ
 name_width [] = 6
 name_width (t ∷ ts) = max (length t.name) (name_width ts)
@@ -53,7 +53,7 @@ abbrev pub chart_line : ℕ → List ℕ → List ℕ → List ℕ
 chart_line width name marks =
     name ++ (replicate (width - length name) 32 ++ (codes " " ++ (marks ++ codes "\n")))
 
--- the lines of these tasks, the first of which is number k, with the characters that are given for each number
+-- the lines of these tasks, the first of which is number k, with the characters given for each number
 abbrev pub lines_with : (ℕ → List ℕ) → ℕ → ℕ → List Task → List ℕ
 lines_with marks width k [] = []
 lines_with marks width k (t ∷ ts) = chart_line width t.name (marks k) ++ lines_with marks width (k + 1) ts
@@ -63,7 +63,7 @@ unfoldable pub chart_text : List Task → List Row → List ℕ
 chart_text set h = lines_with (λ k. task_marks k h) (name_width set) 1 set
     ++ chart_line (name_width set) (codes "(mode)") (mode_marks h)
 
--- law: of a legal trace the chart's mode is the mode under the rule
+-- law: the mode in the chart of a legal trace is the mode under the rule
 abbrev pub ChartedModeLaw : Type 0
 ChartedModeLaw =
     (set : List Task) (rule : Rule) (h : List Row) → Legal set rule h → over_stands h ≡ high_mode rule h

@@ -1,4 +1,4 @@
-// The chart, drawn on a text of blank ticks.
+//! The chart of a trace, drawn into a text of blank ticks.
 ghost use Rattle.std.specs.Prelude.{◌≡◌, ◌+◌, ◌^◌, ◌++◌, ◌≤◌, [], IfOk, OnOk, length, replicate, reverse, vec_len};
 ghost use Rattle.sched_chart.specs.ChartText.{chart_line, chart_text, name_width, ChartedModeLaw};
 ghost use Rattle.mc_model.specs.Rows.{ticks};
@@ -14,15 +14,17 @@ use std::alloc::{AllocError, Global};
 
 /// The chart of a trace: a line for each task in order, with a character for each tick, and a last line of the mode.
 ///
-/// A tick is `#`, `D`, `S` or `O` in the line of its task, as it ended with more to do, done, stopped or over its low
-/// budget, and `.` in the other lines. The mode is that before the tick, `H` or `L`.
+/// In the line of its task, a tick is `#` if its job has more to do, `D` if the job is done, `S` if it was stopped, and
+/// `O` if it overran its low budget; in the other lines it is `.`. The mode is `H` or `L`, that before the tick.
+///
+/// Fails with `Memory` if an allocation fails.
 #[tactic(auto, using(crate::proofs::ChartedMode::charted_mode))]
 pub fn chart(alloc: Global, set: &TaskSet, runs: &[Run]) -> Result<Vec<u8>, Memory>
     requires runs { AreRuns runs.now }
     requires trace { IsTraceOf set.now.tasks (reverse (expand runs.now)) }
     requires few { ticks (expand runs.now) ≤ 2000000 }
     ensures text { IfOk result (λ text. text.items ≡ chart_text set.now.tasks (reverse (expand runs.now))) }
-    // The mode of the chart is that of each rule under which the rows are legal.
+    // The mode in the chart is the mode under each rule for which the rows are legal.
     ensures mode { ChartedModeLaw }
 {
     let sheet = Sheet {
@@ -34,7 +36,7 @@ pub fn chart(alloc: Global, set: &TaskSet, runs: &[Run]) -> Result<Vec<u8>, Memo
     Ok(text)
 }
 
-// The greater of 6 and the length of the longest name.
+// The width of names: 6, or the length of the longest name if that is greater.
 fn name_width(tasks: &[Task]) -> usize
     ensures width { result ≡ name_width tasks.now }
     ensures most { result ≤ 32 }
@@ -58,7 +60,7 @@ fn count_ticks(runs: &[Run]) -> usize
     tick
 }
 
-// The chart with no tick filled in.
+// The chart with all ticks blank.
 fn blank(alloc: Global, set: &TaskSet, sheet: Sheet) -> Result<Vec<u8>, AllocError>
     requires sheet { IsSheet sheet }
     requires width { sheet.width ≡ name_width set.now.tasks }
@@ -73,7 +75,7 @@ fn blank(alloc: Global, set: &TaskSet, sheet: Sheet) -> Result<Vec<u8>, AllocErr
     Ok(text)
 }
 
-// A line with one character at all its ticks.
+// Adds a line with one character at all its ticks.
 fn push_line(text: &mut Vec<u8>, sheet: Sheet, name: &[u8], mark: u8) -> Result<(), AllocError>
     requires sheet { IsSheet sheet }
     requires name { length name.now ≤ sheet.width }

@@ -1,4 +1,4 @@
-// The characters of the ticks, run by run.
+//! The characters of the ticks, filled in run by run.
 ghost use Rattle.std.specs.Prelude.{◌≡◌, ◌+◌, ◌*◌, ◌^◌, ◌++◌, ◌∷◌, ◌≤◌, [], All, List, length, reverse};
 ghost use Rattle.mc_model.specs.declared.row.Row.{Row};
 ghost use Rattle.sched_chart.specs.ChartText.{how_mark, name_width, over_stands};
@@ -12,7 +12,7 @@ use crate::sheet::Sheet;
 use mc_model::{How, Run};
 use mc_task::TaskSet;
 
-// Fills in a chart of blank ticks.
+// Fills in the characters of all ticks in a chart of blank ticks.
 pub fn mark_runs(chart: &mut [u8], set: &TaskSet, sheet: Sheet, runs: &[Run])
     requires sheet { IsSheet sheet }
     requires width { sheet.width ≡ name_width set.now.tasks }
@@ -31,7 +31,7 @@ pub fn mark_runs(chart: &mut [u8], set: &TaskSet, sheet: Sheet, runs: &[Run])
     }
 }
 
-// Fills in the characters of one more run's ticks, if it has any, where the mode before it is low or high.
+// Fills in the characters of one more run's ticks, if it has any; `high` is the mode before it.
 fn mark_run(chart: &mut [u8], set: &TaskSet, sheet: Sheet, tick: usize, high: bool, run: Run)
     requires sheet { IsSheet sheet }
     requires width { sheet.width ≡ name_width set.now.tasks }
@@ -57,7 +57,7 @@ fn mark_run(chart: &mut [u8], set: &TaskSet, sheet: Sheet, tick: usize, high: bo
                 fill_in(chart, sheet.place(count, tick), length as usize, b'H');
             }
         }
-        // The mode is low after the first of them.
+        // The mode is low after the first idle tick.
         Run::Idles { .. } => {
             if high {
                 chart[sheet.place(count, tick)] = b'H';
@@ -66,7 +66,7 @@ fn mark_run(chart: &mut [u8], set: &TaskSet, sheet: Sheet, tick: usize, high: bo
     }
 }
 
-// Sets `count` characters, from `at` on.
+// Sets `count` characters, from position `at` on.
 fn fill_in(chart: &mut [u8], at: usize, count: usize, mark: u8)
     requires { at + count ≤ length chart.old }
     ensures { chart.new ≡ filled at count mark chart.old }
@@ -85,7 +85,7 @@ fn how_mark(how: How) -> u8
     }
 }
 
-// The tick of the row after this run.
+// The number of the tick after this run.
 pub fn tick_after(tick: usize, run: Run) -> usize
     requires { tick + length_of run ≤ 2 ^ 31 }
     ensures { result ≡ tick + length_of run }

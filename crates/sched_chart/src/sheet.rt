@@ -1,8 +1,8 @@
-// How the lines of a chart lie in its text.
+//! The positions of the lines of a chart in its text.
 ghost use Rattle.std.specs.Prelude.{◌≡◌, ◌+◌, ◌*◌, ◌<◌, ◌≤◌};
 ghost use Rattle.sched_chart.specs.Sheet.{line_length, place, IsSheet};
 
-// Each line has a name of this width, a space, the characters of this many ticks, and a line feed.
+// Each line has a name of `width` bytes, a space, the characters of `ticks` ticks, and a line feed.
 #[derive(Clone, Copy, Debug, PartialEq, Eq)]
 pub struct Sheet {
     pub width: usize,
@@ -10,7 +10,7 @@ pub struct Sheet {
 }
 
 impl Sheet {
-    // The bytes of so many lines.
+    // How many bytes `count` lines have.
     pub fn lines(self, count: usize) -> usize
         requires sheet { IsSheet self }
         requires few { count ≤ 129 }
@@ -19,7 +19,7 @@ impl Sheet {
         count * (self.width + self.ticks + 2)
     }
 
-    // The place of a tick's character in a line, the first of which is number 0.
+    // The position of a tick's character in a line; the first line is number 0.
     pub fn place(self, line: usize, tick: usize) -> usize
         requires sheet { IsSheet self }
         requires few { line ≤ 128 }

@@ -20,24 +20,24 @@ use Rattle.mc_model.proofs.Fold.{stays}
 use Rattle.sched_report.proofs.Released.{none_of_next, once, pending-release, ticks_pending}
 use Rattle.mc_model.proofs.Bridge.{pending-tick}
 
--- the discarded jobs of a task
+-- how many jobs of a task were discarded
 abbrev pub discarded : List Task → List Row → ℕ → ℕ
 discarded set h k = how_many (λ i. is_of k i && is_discarded set h i) (released h)
 
--- a row that is no overrun since the jobs' releases leaves them discarded or not
+-- a row that is not an overrun for any released job leaves the discarded jobs as they are
 quiet : (set : List Task) (row : Row) (g : List Row) (k : ℕ) → Each (λ x. over_since (row ∷ g) x.job ≡ over_since g x.job) (released g)
     → how_many (λ i. is_of k i && is_discarded set (row ∷ g) i) (released g) ≡ discarded set g k
 quiet set row g k same =
     how_many_same (λ i. is_of k i && is_discarded set (row ∷ g) i) (λ i. is_of k i && is_discarded set g i) (released g)
     (Each-map {P = λ x. over_since (row ∷ g) x.job ≡ over_since g x.job} (λ x e. rw (e, and-not_self (over_since g x.job)) refl) (released g) same)
 
--- as a release does with those before it
+-- a release leaves the discarded jobs as they are
 before_release : (set : List Task) (rule : Rule) (j : JobId) (kept : Bool) (g : List Row) (k : ℕ) → Legal set rule (Release j kept ∷ g)
     → how_many (λ i. is_of k i && is_discarded set (Release j kept ∷ g) i) (released g) ≡ discarded set g k
 before_release set rule j kept g k l =
     quiet set (Release j kept) g k (Each-map {P = λ x. same_job j x.job ≡ false} (λ x n. rw n refl) (released g) (none_of_next set rule j kept g l))
 
--- a release discards none
+-- a release discards no job
 pub discarded-release : (set : List Task) (rule : Rule) (j : JobId) (kept : Bool) (g : List Row) (k : ℕ) → Legal set rule (Release j kept ∷ g) → discarded set (Release j kept ∷ g) k ≡ discarded set g k
 discarded-release set rule j false g k l = before_release set rule j false g k l
 discarded-release set rule j true g k l =
@@ -46,15 +46,15 @@ discarded-release set rule j true g k l =
     how_many-cons (λ (i : KeptRelease). is_of k i && is_discarded set (Release j true ∷ g) i) new (released g)
     ∙ omega (arith, ap one not_new, before_release set rule j true g k l)
 
--- nor does an idle tick
+-- an idle tick discards no job
 pub discarded-idle : (set : List Task) (g : List Row) (k : ℕ) → discarded set (Idle ∷ g) k ≡ discarded set g k
 discarded-idle set g k = quiet set Idle g k (Each-all (λ x. refl) (released g))
 
--- nor a tick that is no overrun
+-- a tick that is not an overrun discards no job
 pub discarded-tick : (set : List Task) (j : JobId) (how : How) (g : List Row) (k : ℕ) → is_over how ≡ false → discarded set (Tick j how ∷ g) k ≡ discarded set g k
 discarded-tick set j how g k h = quiet set (Tick j how) g k (Each-all (λ x. rw h refl) (released g))
 
--- the pending jobs of a task
+-- how many jobs of a task are pending
 abbrev pub live : List Task → List Row → ℕ → ℕ
 live set h k = how_many (is_of k) (pending set h)
 
@@ -75,7 +75,7 @@ discarded-over set j g k =
         go true m = rw m refl
         go false m = rw m (grind arith)
 
--- one pending job at least is that of a tick
+-- a tick's job is pending: at least one pending job is that job
 own-some : (j : JobId) (xs : List KeptRelease) → is_pending xs j ≡ true → 1 ≤ how_many (λ x. same_job j x.job) xs
 own-some j [] h = cc
 own-some j (x ∷ xs) h = go (same_job j x.job) refl (own-some j xs)
@@ -84,7 +84,7 @@ own-some j (x ∷ xs) h = go (same_job j x.job) refl (own-some j xs)
     go true m ih = omega (arith, ap one m, how_many-cons (λ (x : KeptRelease). same_job j x.job) x xs)
     go false m ih = let more = ih (rw m at h) in omega (arith, more, how_many-cons (λ (x : KeptRelease). same_job j x.job) x xs)
 
--- one where it is of the task, and none otherwise
+-- of a task's pending jobs, one is the tick's job if it is of the task, and none otherwise
 own-one : (set : List Task) (rule : Rule) (j : JobId) (how : How) (g : List Row) (k : ℕ) → Legal set rule (Tick j how ∷ g) → how_many (λ x. same_job j x.job && is_of k x) (pending set g) ≡ one (j.task.0 == k)
 own-one set rule j how g k l =
     how_many_same (λ x. same_job j x.job && is_of k x) (λ x. same_job j x.job && (j.task.0 == k)) (pending set g) (Each-all mine (pending set g))
@@ -104,7 +104,7 @@ own-one set rule j how g k l =
         how_many_same (λ x. same_job j x.job && true) (λ x. same_job j x.job) (pending set g) (Each-all (λ x. and-true (same_job j x.job)) (pending set g))
         ∙ omega (arith, most, once set rule g j l.2, own-some j (pending set g) (ticks_pending set rule j how g l))
 
--- a job's last tick takes it from those that are pending
+-- a job's last tick takes one from the pending jobs of its task
 pub live-end : (set : List Task) (rule : Rule) (j : JobId) (how : How) (g : List Row) (k : ℕ) → is_end how ≡ true → is_over how ≡ false → Legal set rule (Tick j how ∷ g)
     → live set (Tick j how ∷ g) k + one (j.task.0 == k) ≡ live set g k
 live-end set rule j how g k e o l =
@@ -118,15 +118,15 @@ live-end set rule j how g k e o l =
     each : (x : KeptRelease) → one (stays set j how x && is_of k x) + one (same_job j x.job && is_of k x) ≡ one (is_of k x) + one false
     each x = rw (e, o) (grind arith)
 
--- as many where the second part holds
+-- the number of an `and` whose second part is true is that of its first part
 pub one_of : (b : Bool) → one (b && true) ≡ one b
 one_of b = grind arith
 
--- none where the second part fails
+-- the number of an `and` whose second part is false is 0
 pub none_of : (b : Bool) → one (b && false) ≡ 0
 none_of b = grind arith
 
--- what a tick adds to those that ended so
+-- what a tick adds to the ticks of a task with this outcome
 pub ended-tick : (j : JobId) (how kind : How) (g : List Row) (k : ℕ) → how_many (is_how_of k kind) (Tick j how ∷ g) ≡ one ((j.task.0 == k) && same_how how kind) + how_many (is_how_of k kind) g
 ended-tick j how kind g k = how_many-cons (is_how_of k kind) (Tick j how) g
 

@@ -1,4 +1,5 @@
--- How large the counts of a trace can be: those of jobs by its runs, those of ticks by its ticks.
+-- How large the counts of a trace can be: those of jobs by the number of its runs, those of ticks by its
+-- ticks.
 use Rattle.std.proofs.Common.{◌≡◌, ℕ, zero, suc, ◌+◌, ◌<◌, ◌≤◌, All, Bool, true, false, not, ◌&&◌, ◌==◌, cond, List, [], ◌∷◌, ◌++◌, length, reverse, replicate, take, drop, get_or, refl, sym, ap, ◌∙◌, subst, arith}
 use Rattle.std.proofs.Math.Bool.{and-false}
 use Rattle.std.proofs.lemmas.List.{reverse-append, take-append-drop, drop_more, take_all}
@@ -28,13 +29,13 @@ use Rattle.sched_report.specs.TaskTally.{tally_of, IsSmall}
 use Rattle.sched_report.specs.Tally.{numbered, Tallies, HasRoom, IsAmong}
 use Rattle.sched_report.proofs.HowMany.{one, one-le, how_many-cons, how_many-le}
 
--- a row that stands alone in its run: a release, and a tick behind which its job does not go on
+-- 1 for a row that is alone in its run: a release, or a tick after which its job does not go on
 abbrev event : Row → ℕ
 event (Release j kept) = 1
 event (Tick j how) = cond (same_how how More) 0 1
 event Idle = 0
 
--- how many there are
+-- how many rows are alone in their runs
 abbrev pub events : List Row → ℕ
 events h = total event h
 
@@ -48,7 +49,7 @@ releases-le [] k = omega arith
 releases-le (Release j kept ∷ g) k = omega (arith, releases-le g k, one-le (j.task.0 == k))
 releases-le (row ∷ g) k = omega (arith, releases-le g k)
 
--- of what only such rows have there are at most so many
+-- a test that only such rows pass counts at most as many rows
 few_events : (p : Row → Bool) → ((row : Row) → one (p row) ≤ event row) → (h : List Row) → how_many p h ≤ events h
 few_events p le [] = omega arith
 few_events p le (row ∷ g) = omega (arith, le row, few_events p le g, how_many-cons p row g)
@@ -57,7 +58,7 @@ drop-le : (k : ℕ) (row : Row) → one (is_drop_of k row) ≤ event row
 drop-le k (Release j kept) = one-le ((j.task.0 == k) && not kept)
 drop-le k row = omega arith
 
--- a tick that ended otherwise than More stands alone in its run
+-- a tick with another outcome than More is alone in its run
 how-le : (k : ℕ) (how : How) → same_how More how ≡ false → (row : Row) → one (is_how_of k how row) ≤ event row
 how-le k how other (Tick j More) = rw (other, and-false) (omega arith)
 how-le k how other (Tick j kind) = one-le ((j.task.0 == k) && same_how kind how)
@@ -67,25 +68,25 @@ switch-le : (row : Row) → one (is_switch row) ≤ event row
 switch-le (Tick j Over) = omega arith
 switch-le row = omega arith
 
--- the ticks of a task are among all
+-- the ticks of a task are at most all ticks
 ticks_of-le : (k : ℕ) (h : List Row) → how_many (is_tick_of k) h ≤ ticks h
 ticks_of-le k [] = omega arith
 ticks_of-le k (Tick j how ∷ g) = omega (arith, ticks_of-le k g, one-le (j.task.0 == k), how_many-cons (is_tick_of k) (Tick j how) g)
 ticks_of-le k (row ∷ g) = omega (arith, ticks_of-le k g)
 
--- rows that stand in a run of many are none
+-- rows in a run of several are not alone in it
 no_events : (row : Row) → event row ≡ 0 → (n : ℕ) → events (replicate n row) ≡ 0
 no_events row none zero = refl
 no_events row none (suc n) = omega (arith, none, no_events row none n)
 
--- a run has at most one such row
+-- a run has at most one row that is alone
 run_event : (r : Run) → IsRun r → events (rows_of r) ≤ 1
 run_event (run.Release j kept) v = omega arith
 run_event (run.Ticks j More n) v = omega (arith, no_events (Tick j More) refl n)
 run_event (run.Ticks j how n) v = rw (alone j how n v (λ e. cc)) (omega arith)
 run_event (run.Idles n) v = omega (arith, no_events Idle refl n)
 
--- so there are at most as many as runs
+-- there are at most as many rows alone in their runs as runs
 events_expand : (runs : List Run) → AllByRecursion IsRun runs → events (expand runs) ≤ length runs
 events_expand [] v = omega arith
 events_expand (r ∷ runs) v = omega (arith, run_event r v.0, events_expand runs v.1, total-append event (rows_of r) (expand runs))
@@ -118,7 +119,7 @@ few_read runs i v = record {
 pub few_rows : (runs : List Run) → AreRuns runs → AreFew (reverse (expand runs))
 few_rows runs v = subst (λ (xs : List Run). AreFew (reverse (expand xs))) (take_all (length runs) runs (omega arith)) (few_read runs (length runs) v)
 
--- each Tick or Idle row is one of them
+-- each Tick or Idle row is a tick
 pub ticks-idle : (h : List Row) → ticks h ≡ how_many is_tick h + how_many is_idle h
 ticks-idle [] = omega arith
 ticks-idle (Release j kept ∷ g) = ticks-idle g
@@ -129,7 +130,7 @@ ticks-idle (Idle ∷ g) = omega (arith, ticks-idle g, how_many-cons is_idle Idle
 pub few_ended : (h : List Row) (k : ℕ) (how : How) → same_how More how ≡ false → AreFew h → how_many (is_how_of k how) h ≤ 2000000
 few_ended h k how other few = omega (arith, few.events, few_events (is_how_of k how) (how-le k how other) h)
 
--- and all that is counted of it
+-- all that is counted of a task is small enough
 pub small : (tasks : List Task) (h : List Row) (k : ℕ) → AreFew h → IsSmall (tally_of tasks h k)
 small tasks h k few = record {
   released = omega (arith, few.events, releases-le h k);
@@ -145,13 +146,13 @@ each_numbered : (P : TaskTally → Type 0) (f : ℕ → TaskTally) (k : ℕ) (ts
 each_numbered P f k [] h = tt
 each_numbered P f k (t ∷ ts) h = (h k, each_numbered P f (k + 1) ts h)
 
--- of all
+-- all that is counted of all tasks is small enough
 pub all_small : (tasks : List Task) (h : List Row) (s : List TaskTally) → s ≡ numbered (tally_of tasks h) 1 tasks → AreFew h → All IsSmall s
 all_small tasks h s is few =
     subst (All IsSmall) (sym is)
     (All-from_recursion IsSmall (numbered (tally_of tasks h) 1 tasks) (each_numbered IsSmall (tally_of tasks h) 1 tasks (λ m. small tasks h m few)))
 
--- so there is room to count on
+-- the tally of a trace that is few enough can count on
 pub has_room : (tasks : List Task) (h : List Row) (s : Tally) → Tallies tasks h s → AreFew h → HasRoom s
 has_room tasks h s t few = record {
   tasks = all_small tasks h s.tasks.items t.tasks few;
@@ -165,7 +166,7 @@ pub among : (tasks : List Task) (n : ℕ) (row : Row) → n ≡ length tasks →
 among tasks n Idle e i = tt
 among tasks n row e i = rw e i
 
--- no run of a valid list has more ticks than all
+-- no run of a valid list has more than 100,000,000 ticks
 pub short_run : (runs : List Run) (i : ℕ) (d : Run) → i < length runs → AreRuns runs → length_of (get_or runs i d) ≤ 100000000
 short_run runs i d h v =
     let parts = total-append length_of (take i runs) (drop i runs) in

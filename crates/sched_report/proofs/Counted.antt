@@ -25,7 +25,7 @@ use Rattle.sched_report.proofs.Released.{release_of}
 use Rattle.sched_report.proofs.AddUp.{discarded, discarded-release, discarded-idle, discarded-tick, live, ended-tick, one_of, none_of, counts_add_up}
 use Rattle.sched_report.proofs.Responses.{responses-release, responses-tick, responses-other, responses-end}
 
--- tallies are equal where their parts are
+-- tallies are equal if their parts are
 tally_eq : (a b : TaskTally) → a.level ≡ b.level → a.released ≡ b.released → a.kept ≡ b.kept → a.dropped ≡ b.dropped → a.discarded ≡ b.discarded → a.done ≡ b.done → a.stopped ≡ b.stopped → a.ticks ≡ b.ticks → a.response ≡ b.response → a ≡ b
 tally_eq a b level released kept dropped discarded done stopped ticks response = λ i. record {
   level = level i;
@@ -44,7 +44,7 @@ kept-release : (j : JobId) (kept : Bool) (g : List Row) (k : ℕ) → how_many (
 kept-release j false g k = omega (arith, none_of (j.task.0 == k))
 kept-release j true g k = omega (arith, one_of (j.task.0 == k), how_many-cons (is_of k) (record { job = j; release = ticks g }) (released g))
 
--- a release of the task
+-- what a release of the task adds to its tally
 pub release-mine : (set : List Task) (rule : Rule) (j : JobId) (kept : Bool) (g : List Row) (k : ℕ) → Legal set rule (Release j kept ∷ g) → (j.task.0 == k) ≡ true
     → tally_of set (Release j kept ∷ g) k ≡ with_release kept (tally_of set g k)
 release-mine set rule j kept g k l o =
@@ -54,7 +54,7 @@ release-mine set rule j kept g k l o =
     (omega (arith, ap one o)) (omega (arith, kept-release j kept g k, kept_is)) (omega (arith, how_many-cons (is_drop_of k) (Release j kept) g, dropped_is))
     (discarded-release set rule j kept g k l) refl refl refl (ap greatest (responses-release set rule j kept g k l))
 
--- and of another one
+-- what a release of another task adds: nothing
 pub release-other : (set : List Task) (rule : Rule) (j : JobId) (kept : Bool) (g : List Row) (k : ℕ) → Legal set rule (Release j kept ∷ g) → (j.task.0 == k) ≡ false
     → tally_of set (Release j kept ∷ g) k ≡ tally_of set g k
 release-other set rule j kept g k l o =
@@ -63,7 +63,7 @@ release-other set rule j kept g k l o =
     (omega (arith, ap one o)) (omega (arith, kept-release j kept g k, none kept)) (omega (arith, how_many-cons (is_drop_of k) (Release j kept) g, none (not kept)))
     (discarded-release set rule j kept g k l) refl refl refl (ap greatest (responses-release set rule j kept g k l))
 
--- the ticks of a task after one more, and those that ended so
+-- the ticks of a task after one more, and those with this outcome
 ticks-tick : (j : JobId) (how : How) (g : List Row) (k : ℕ) → how_many (is_tick_of k) (Tick j how ∷ g) ≡ one (j.task.0 == k) + how_many (is_tick_of k) g
 ticks-tick j how g k = how_many-cons (is_tick_of k) (Tick j how) g
 
@@ -73,20 +73,20 @@ ended-mine j how kind g k o = let e = ended-tick j how kind g k in let f : one (
 ended-other : (j : JobId) (how kind : How) (g : List Row) (k : ℕ) → (j.task.0 == k) ≡ false → how_many (is_how_of k kind) (Tick j how ∷ g) ≡ how_many (is_how_of k kind) g
 ended-other j how kind g k o = let e = ended-tick j how kind g k in let f : one ((j.task.0 == k) && same_how how kind) ≡ 0 = rw o refl in omega (arith, e, f)
 
--- a tick of the task after which the job has more to do
+-- what a tick of the task adds if its job has more to do
 pub more-mine : (set : List Task) (j : JobId) (g : List Row) (k : ℕ) → (j.task.0 == k) ≡ true → tally_of set (Tick j More ∷ g) k ≡ with_tick More (tally_of set g k)
 more-mine set j g k o =
     tally_eq (tally_of set (Tick j More ∷ g) k) (with_tick More (tally_of set g k)) refl refl refl refl (discarded-tick set j More g k refl)
     (ended-mine j More Done g k o) (ended-mine j More Stop g k o) (omega (arith, ticks-tick j More g k, ap one o)) (ap greatest (responses-tick j More g k refl))
 
--- a job's last tick, of the task
+-- what a job's last tick adds to the tally of its task
 pub end-mine : (set : List Task) (rule : Rule) (j : JobId) (how : How) (g : List Row) (k : ℕ) → is_end how ≡ true → is_over how ≡ false → Legal set rule (Tick j how ∷ g) → (j.task.0 == k) ≡ true
     → tally_of set (Tick j how ∷ g) k ≡ with_response (ticks g + 1 - release_of g j) (with_tick how (tally_of set g k))
 end-mine set rule j how g k e v l o =
     tally_eq (tally_of set (Tick j how ∷ g) k) (with_response (ticks g + 1 - release_of g j) (with_tick how (tally_of set g k))) refl refl refl refl (discarded-tick set j how g k v)
     (ended-mine j how Done g k o) (ended-mine j how Stop g k o) (omega (arith, ticks-tick j how g k, ap one o)) (responses-end set rule j how g k e o l)
 
--- a tick of another task, which is no overrun
+-- what a tick of another task adds if it is not an overrun: nothing
 pub tick-other : (set : List Task) (j : JobId) (how : How) (g : List Row) (k : ℕ) → is_over how ≡ false → (j.task.0 == k) ≡ false → tally_of set (Tick j how ∷ g) k ≡ tally_of set g k
 tick-other set j how g k v o =
     tally_eq (tally_of set (Tick j how ∷ g) k) (tally_of set g k) refl refl refl refl (discarded-tick set j how g k v)
@@ -96,7 +96,7 @@ pub level-high : (t : Option Task) → is_high (level_in t) ≡ is_high_in t
 level-high None = refl
 level-high (Some t) = refl
 
--- of a high task no job is discarded
+-- no job of a high task is discarded
 discarded-high : (set : List Task) (h : List Row) (k : ℕ) → is_high_in (task_at set k) ≡ true → discarded set h k ≡ 0
 discarded-high set h k high = how_many_none (λ i. is_of k i && is_discarded set h i) (released h) (Each-all each (released h))
   where
@@ -114,7 +114,7 @@ live-low set j g k low = how_many-filter (is_of k) (is_live set (Tick j Over ∷
         let so : is_high_in (task_at set x.job.task.0) ≡ false = rw (eqb-true x.job.task.0 k m) low in
         cc (rw (so, and-false) at n))
 
--- what an overrun leaves discarded
+-- how many jobs are discarded after an overrun
 discarded-so : (set : List Task) (rule : Rule) (j : JobId) (g : List Row) (k : ℕ) → Legal set rule (Tick j Over ∷ g)
     → discarded set (Tick j Over ∷ g) k ≡ cond (is_high (level_in (task_at set k))) (discarded set g k) (how_many (is_of k) (released g) - how_many (is_how_of k Done) g - how_many (is_how_of k Stop) g)
 discarded-so set rule j g k l = go (is_high_in (task_at set k)) refl
@@ -127,11 +127,11 @@ discarded-so set rule j g k l = go (is_high_in (task_at set k)) refl
         rw (level-high (task_at set k), m)
         (omega (arith, all, live-low set j g k m, ended-tick j Over Done g k, ended-tick j Over Stop g k, none_of (j.task.0 == k)))
 
--- the tallies before an overrun discards jobs, with its tick at task number k
+-- the tallies with the tick of an overrun counted for task number k, before it discards jobs
 abbrev pub with_over : (ℕ → TaskTally) → ℕ → ℕ → TaskTally
 with_over f k m = cond (k == m) (with_tick Over (f m)) (f m)
 
--- an overrun, of the task or of another one
+-- what an overrun adds to the tally of each task
 pub over-same : (set : List Task) (rule : Rule) (j : JobId) (g : List Row) (k : ℕ) → Legal set rule (Tick j Over ∷ g)
     → tally_of set (Tick j Over ∷ g) k ≡ with_switch (with_over (tally_of set g) j.task.0 k)
 over-same set rule j g k l = go (j.task.0 == k) refl
@@ -145,11 +145,11 @@ over-same set rule j g k l = go (j.task.0 == k) refl
         tally_eq (tally_of set (Tick j Over ∷ g) k) (with_switch (tally_of set g k)) refl refl refl refl (discarded-so set rule j g k l)
         (ended-other j Over Done g k o) (ended-other j Over Stop g k o) (omega (arith, ticks-tick j Over g k, ap one o)) (ap greatest (responses-tick j Over g k refl))
 
--- an idle tick
+-- an idle tick adds nothing to the tally of a task
 pub idle-same : (set : List Task) (g : List Row) (k : ℕ) → tally_of set (Idle ∷ g) k ≡ tally_of set g k
 idle-same set g k = tally_eq (tally_of set (Idle ∷ g) k) (tally_of set g k) refl refl refl refl (discarded-idle set g k) refl refl refl refl
 
--- n ticks of the task after which the job has more to do
+-- n ticks of the task after which its job has more to do add n ticks
 more_next : (n : ℕ) (t : TaskTally) → with_tick More (with_more n t) ≡ with_more (suc n) t
 more_next n t = tally_eq (with_tick More (with_more n t)) (with_more (suc n) t) refl refl refl refl refl (omega arith) (omega arith) (omega arith) refl
 
@@ -157,12 +157,12 @@ pub more_run-mine : (set : List Task) (j : JobId) (n : ℕ) (g : List Row) (k : 
 more_run-mine set j zero g k o = tally_eq (tally_of set g k) (with_more 0 (tally_of set g k)) refl refl refl refl refl refl refl (omega arith) refl
 more_run-mine set j (suc n) g k o = more-mine set j (replicate n (Tick j More) ++ g) k o ∙ (ap (with_tick More) (more_run-mine set j n g k o) ∙ more_next n (tally_of set g k))
 
--- and of another one
+-- n ticks of another task add nothing
 pub more_run-other : (set : List Task) (j : JobId) (n : ℕ) (g : List Row) (k : ℕ) → (j.task.0 == k) ≡ false → tally_of set (replicate n (Tick j More) ++ g) k ≡ tally_of set g k
 more_run-other set j zero g k o = refl
 more_run-other set j (suc n) g k o = tick-other set j More (replicate n (Tick j More) ++ g) k refl o ∙ more_run-other set j n g k o
 
--- n idle ticks
+-- n idle ticks add nothing to the tally of a task
 pub idle_run-same : (set : List Task) (n : ℕ) (g : List Row) (k : ℕ) → tally_of set (replicate n Idle ++ g) k ≡ tally_of set g k
 idle_run-same set zero g k = refl
 idle_run-same set (suc n) g k = idle-same set (replicate n Idle ++ g) k ∙ idle_run-same set n g k

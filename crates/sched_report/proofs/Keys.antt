@@ -1,4 +1,4 @@
--- The keys of two jobs are equal where the jobs are, and a change at one of them.
+-- The keys of two jobs are equal exactly if the jobs are the same; and a change at one key.
 use Rattle.std.proofs.Common.{◌≡◌, ℕ, false, ◌&&◌, ◌==◌, Option, refl, ◌∙◌, arith}
 use Rattle.std.proofs.lemmas.Bool.Decides.{nat_tests}
 use Rattle.std.specs.BTreeMap.{get, is_at}
@@ -20,11 +20,11 @@ then_eq Greater p = refl
 cmp_eq : (x y : ℕ) → is_eq (nat_cmp x y) ≡ (x == y)
 cmp_eq x y = grind (arith, nat_tests)
 
--- a key is that of a job where it is the same job
+-- two keys are equal exactly if the jobs are the same
 pub key-same : (i j : JobId) → is_at (key_cmp (i.task.0, i.count)) (j.task.0, j.count) ≡ same_job i j
 key-same i j = rw (then_eq (nat_cmp i.task.0 j.task.0) (nat_cmp i.count j.count), cmp_eq i.task.0 j.task.0, cmp_eq i.count j.count) refl
 
--- a change of what is kept of a low task's job
+-- a change of what is stored for a low task's job
 pub low_changed : (old new : Waiting) (job : JobId) (r : Option ℕ) → get key_cmp new.low (job.task.0, job.count) ≡ r
     → ((q : ℕ × ℕ) → is_at (key_cmp (job.task.0, job.count)) q ≡ false → get key_cmp new.low q ≡ get key_cmp old.low q)
     → ((q : ℕ × ℕ) → get key_cmp new.high q ≡ get key_cmp old.high q) → ChangesOnly old new Low job r
@@ -34,7 +34,7 @@ low_changed old new job r here kept same = record { here = here; others = others
     others Low j apart = kept (j.task.0, j.count) (key-same job j ∙ apart)
     others High j apart = same (j.task.0, j.count)
 
--- and of a high task's
+-- a change of what is stored for a high task's job
 pub high_changed : (old new : Waiting) (job : JobId) (r : Option ℕ) → get key_cmp new.high (job.task.0, job.count) ≡ r
     → ((q : ℕ × ℕ) → is_at (key_cmp (job.task.0, job.count)) q ≡ false → get key_cmp new.high q ≡ get key_cmp old.high q)
     → ((q : ℕ × ℕ) → get key_cmp new.low q ≡ get key_cmp old.low q) → ChangesOnly old new High job r

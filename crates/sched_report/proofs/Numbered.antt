@@ -1,4 +1,4 @@
--- Lists with an element for each number from k on.
+-- Lists with an element for each task number from k on.
 use Rattle.std.proofs.Common.{◌≡◌, ℕ, zero, suc, ◌+◌, ◌<◌, ◌≤◌, ◌≢◌, List, [], ◌∷◌, ◌++◌, Some, length, drop, map, set, slice_get, refl, sym, ap, ap₂, ◌∙◌, arith, append_assoc}
 use Rattle.mc_task.specs.declared.task.Task.{Task}
 use Rattle.mc_task.specs.declared.task.Level.{Level}
@@ -22,7 +22,7 @@ get-numbered f k i n [] h e = absurd (omega (arith, h))
 get-numbered f k zero n (t ∷ ts) h e = let same : k ≡ n = omega (arith, e) in ap (λ m. Some (f m)) same
 get-numbered f k (suc i) n (t ∷ ts) h e = get-numbered f (k + 1) i n ts (omega (arith, h)) (omega (arith, e))
 
--- one of them changed
+-- a numbered list with one element changed
 pub set-numbered : {X : Type 0} (f g : ℕ → X) → (k i n : ℕ) (x : X) (ts : List Task) → i < length ts → k + i ≡ n → g n ≡ x → ((m : ℕ) → m ≢ n → g m ≡ f m)
     → set (numbered f k ts) i x ≡ numbered g k ts
 set-numbered f g k i n x [] h e here others = absurd (omega (arith, h))
@@ -40,7 +40,7 @@ map-numbered f g k (t ∷ ts) = ap (λ ys. g (f k) ∷ ys) (map-numbered f g (k 
 abbrev no_rows : Level → TaskTally
 no_rows level = record { level = level; released = 0; kept = 0; dropped = 0; discarded = 0; done = 0; stopped = 0; ticks = 0; response = 0 }
 
--- the tallies of no rows, one more of them
+-- the tallies of no rows, with one more task
 pub numbered_next : (tasks : List Task) (i : ℕ) (t : Task) (some more whole : List TaskTally) → slice_get tasks i ≡ Some t → more ≡ some ++ no_rows t.level ∷ []
     → some ++ numbered (tally_of tasks []) (i + 1) (drop i tasks) ≡ whole
     → more ++ numbered (tally_of tasks []) (i + 1 + 1) (drop (i + 1) tasks) ≡ whole

@@ -1,4 +1,5 @@
--- The kept releases of a legal trace, each of another job, and which of them are pending. The newest row stands first.
+-- The kept releases of a legal trace, each of a different job, and which jobs are pending. The newest row
+-- stands first.
 use Rattle.std.proofs.Common.{◌≡◌, ℕ, ◌≤◌, Bool, true, false, ◌&&◌, List, [], ◌∷◌, cond, refl, sym, ap, subst, ◌∙◌, arith}
 use Rattle.mc_task.specs.declared.task.Rule.{Rule}
 use Rattle.mc_task.specs.declared.task.Task.{Task}
@@ -43,7 +44,7 @@ release_of (Release i kept ∷ g) j = cond (kept && same_job j i) (ticks g) (rel
 release_of (Tick i how ∷ g) j = release_of g j
 release_of (Idle ∷ g) j = release_of g j
 
--- is that of its kept release
+-- a job's release time is that of its kept release
 pub release_is : (set : List Task) (rule : Rule) (h : List Row) (j : JobId) → Legal set rule h → Each (λ x. same_job j x.job ≡ true → x.release ≡ release_of h j) (released h)
 release_is set rule [] j l = tt
 release_is set rule (Release i true ∷ g) j l = (λ m. rw m refl, go (same_job j i) refl (release_is set rule g j l.2))
@@ -55,7 +56,7 @@ release_is set rule (Release i true ∷ g) j l = (λ m. rw m refl, go (same_job 
         Each-map {P = λ x. same_job i x.job ≡ false} (λ x n e. absurd (let f : same_job j x.job ≡ false = subst (λ k. same_job k x.job ≡ false) (sym (job_eq j i m)) n in cc (e, f))) (released g) (none_of_next set rule i true g l)
 release_is set rule (row ∷ g) j l = release_is set rule g j l.2
 
--- what is pending after a release
+-- the pending jobs after a release
 pub pending-release : (set : List Task) (rule : Rule) (j : JobId) (kept : Bool) (g : List Row) → Legal set rule (Release j kept ∷ g)
     → pending set (Release j kept ∷ g) ≡ cond kept (record { job = j; release = ticks g } ∷ pending set g) (pending set g)
 pending-release set rule j kept g l =
@@ -68,7 +69,7 @@ ticks_pending set rule j how g l =
     let b = bridge set rule (Tick j how ∷ g) l in
     subst (λ xs. is_pending xs j ≡ true) (sym (bridge set rule g l.2).same) (tick_fits set rule j how g b.legal.1).live
 
--- what is so of each pending job at its release time is so of one that is pending
+-- what holds of each pending job at its release time holds of one that is pending
 pub at_pending : (P : JobId → ℕ → Type 0) (j : JobId) (r : ℕ) (xs : List KeptRelease) → is_pending xs j ≡ true → Each (λ x. same_job j x.job ≡ true → x.release ≡ r) xs → Each (λ x. P x.job x.release) xs → P j r
 at_pending P j r [] e t h = cc
 at_pending P j r (x ∷ xs) e t h = go (same_job j x.job) refl (λ f. at_pending P j r xs f t.1 h.1)

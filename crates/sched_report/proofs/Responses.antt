@@ -20,7 +20,7 @@ use Rattle.std.proofs.lemmas.Bool.{and_parts, or_parts}
 use Rattle.std.proofs.Math.Bool.{and-false}
 use Rattle.mc_model.proofs.Booleans.{not_true, or_true}
 
--- tests that agree, and values that agree where they pass
+-- equal values, and tests that agree, pick the same values
 same_values : (f g : KeptRelease → ℕ) (p q : KeptRelease → Bool) (xs : List KeptRelease) → Each (λ x. (p x ≡ q x) × (q x ≡ true → f x ≡ g x)) xs → map f (filter p xs) ≡ map g (filter q xs)
 same_values f g p q [] h = refl
 same_values f g p q (x ∷ xs) h = go (q x) refl (same_values f g p q xs h.1)
@@ -29,12 +29,12 @@ same_values f g p q (x ∷ xs) h = go (q x) refl (same_values f g p q xs h.1)
     go true m ih = rw (h.0.0, m) (rw (h.0.1 m) (ap (λ ns. g x ∷ ns) ih))
     go false m ih = rw (h.0.0, m) ih
 
--- where no element is of the job, each is of another
+-- if no element is of the job, each is of another job
 none_there : (j : JobId) (xs : List KeptRelease) → is_pending xs j ≡ false → Each (λ x. same_job j x.job ≡ false) xs
 none_there j [] h = tt
 none_there j (x ∷ xs) h = let p = or_parts (same_job j x.job) (is_pending xs j) h in (p.0, none_there j xs p.1)
 
--- what a filter keeps is there before
+-- an element that a filter keeps was in the list
 there : (p : KeptRelease → Bool) (j : JobId) (xs : List KeptRelease) → is_pending (filter p xs) j ≡ true → is_pending xs j ≡ true
 there p j [] h = h
 there p j (x ∷ xs) h = go (p x) refl (there p j xs)
@@ -47,7 +47,7 @@ there p j (x ∷ xs) h = go (p x) refl (there p j xs)
     go true m ih = either (same_job j x.job) (is_pending (filter p xs) j) (is_pending xs j) ih (rw m at h)
     go false m ih = or_true (same_job j x.job) (is_pending xs j) (ih (rw m at h))
 
--- where the value of one job is added
+-- the tests and values differ only in one job, whose value is added
 record IsAdded (f g : KeptRelease → ℕ) (p q : KeptRelease → Bool) (j : JobId) (v : ℕ) (x : KeptRelease) : Type 0 where
   other : same_job j x.job ≡ false → (p x ≡ q x) × (f x ≡ g x)
   mine : same_job j x.job ≡ true → (q x ≡ false) × (p x ≡ true) × (f x ≡ v)
@@ -72,7 +72,7 @@ greatest_with f g p q j v (x ∷ xs) t h = go (same_job j x.job) refl (greatest_
     go true m ih = let s = h.0.mine m in rw (s.0, s.1, s.2) (tail (is_pending xs j) refl ih)
     go false m ih = first (q x) refl m (ih (rw m at t) h.1)
 
--- a release adds none
+-- a release adds no response
 pub responses-release : (set : List Task) (rule : Rule) (j : JobId) (kept : Bool) (g : List Row) (k : ℕ) → Legal set rule (Release j kept ∷ g) → responses (Release j kept ∷ g) k ≡ responses g k
 responses-release set rule j false g k l = refl
 responses-release set rule j true g k l =
@@ -81,13 +81,13 @@ responses-release set rule j true g k l =
     let fresh : ended g j ≡ false = not_ended g j ((counted set rule g b.2).fresh j (omega (arith, c))) in
     rw (fresh, and-false) refl
 
--- nor does a tick that is not the job's last
+-- a tick that is not its job's last adds no response
 pub responses-tick : (j : JobId) (how : How) (g : List Row) (k : ℕ) → is_end how ≡ false → responses (Tick j how ∷ g) k ≡ responses g k
 responses-tick j how g k e =
     same_values (response (Tick j how ∷ g)) (response g) (λ i. is_of k i && ended (Tick j how ∷ g) i.job) (λ i. is_of k i && ended g i.job) (released g)
     (Each-all (λ x. (rw e refl, λ m. rw e refl)) (released g))
 
--- nor does one of another task
+-- a tick of another task adds no response
 pub responses-other : (j : JobId) (how : How) (g : List Row) (k : ℕ) → (j.task.0 == k) ≡ false → responses (Tick j how ∷ g) k ≡ responses g k
 responses-other j how g k o =
     same_values (response (Tick j how ∷ g)) (response g) (λ i. is_of k i && ended (Tick j how ∷ g) i.job) (λ i. is_of k i && ended g i.job) (released g)

@@ -1,4 +1,4 @@
--- The tally after one more row of a legal trace is that of its rows. The newest row stands first.
+-- The tally after one more row of a legal trace counts that row too. The newest row stands first.
 use Rattle.std.proofs.Common.{◌≡◌, ℕ, zero, suc, ◌+◌, ◌-◌, ◌≤◌, Bool, true, false, not, ◌&&◌, ◌==◌, List, ◌∷◌, ◌++◌, Some, replicate, map, set, slice_get, refl, sym, ap, subst, ◌∙◌, arith}
 use Rattle.std.proofs.lemmas.Bool.Decides.{nat_tests}
 use Rattle.mc_task.specs.declared.task.Rule.{Rule}
@@ -35,32 +35,32 @@ use Rattle.sched_report.proofs.Released.{none_of_next, release_of, release_is, p
 use Rattle.sched_report.proofs.Counted.{release-mine, release-other, more_run-mine, more_run-other, end-mine, tick-other, with_over, over-same, idle_run-same, level-high}
 use Rattle.mc_model.proofs.Bridge.{pending-tick}
 
--- the tally of one task
+-- the tally of one task is the one at its index
 pub found : (tasks : List Task) (g : List Row) (k : ℕ) (old : List TaskTally) → IsIn tasks k → old ≡ numbered (tally_of tasks g) 1 tasks → slice_get old (k - 1) ≡ Some (tally_of tasks g k)
 found tasks g k old inside is =
     ap (λ l. slice_get l (k - 1)) is ∙ get-numbered (tally_of tasks g) 1 (k - 1) k tasks (omega (arith, inside.0, inside.1)) (omega (arith, inside.0))
 
--- the tallies with that of one task changed
+-- the tallies with that of one task changed are those after the row
 changed : (f g : ℕ → TaskTally) (tasks : List Task) (k : ℕ) (x : TaskTally) (old : List TaskTally) → IsIn tasks k → old ≡ numbered f 1 tasks → g k ≡ x → ((m : ℕ) → (k == m) ≡ false → g m ≡ f m) → set old (k - 1) x ≡ numbered g 1 tasks
 changed f g tasks k x old inside is here others =
     ap (λ l. set l (k - 1) x) is
     ∙ set-numbered f g 1 (k - 1) k x tasks (omega (arith, inside.0, inside.1)) (omega (arith, inside.0)) here (λ m a. others m (grind (arith, nat_tests, a)))
 
--- each of these jobs has its release time at hand
+-- the release time of each of these jobs is stored
 abbrev pub Held : List Task → Waiting → List KeptRelease → Type 0
 Held tasks w now = Each (λ i. release_in w (level_in (task_at tasks i.job.task.0)) i.job ≡ Some i.release) now
 
 held-stays : (tasks : List Task) (old new : Waiting) (now : List KeptRelease) → Stays old new → Held tasks old now → Held tasks new now
 held-stays tasks old new now same h = Each-map {P = λ i. release_in old (level_in (task_at tasks i.job.task.0)) i.job ≡ Some i.release} (λ x p. same _ x.job ∙ p) now h
 
--- the release time of the job of a tick
+-- the release time that is stored for the job of a tick
 pub held_at : (tasks : List Task) (rule : Rule) (j : JobId) (how : How) (g : List Row) (w : Waiting) → Legal tasks rule (Tick j how ∷ g) → Held tasks w (pending tasks g)
     → release_in w (level_in (task_at tasks j.task.0)) j ≡ Some (release_of g j)
 held_at tasks rule j how g w l h =
     at_pending (λ i r. release_in w (level_in (task_at tasks i.task.0)) i ≡ Some r) j (release_of g j) (pending tasks g) (ticks_pending tasks rule j how g l)
     (Each-filter (λ x. same_job j x.job ≡ true → x.release ≡ release_of g j) (is_live tasks g) (released g) (release_is tasks rule g j l.2)) h
 
--- after a release
+-- the tally after a release
 pub release_step : (tasks : List Task) (rule : Rule) (j : JobId) (kept : Bool) (g : List Row) (old new : Tally) → Legal tasks rule (Release j kept ∷ g) → Tallies tasks g old
     → Releases j kept (tally_of tasks g j.task.0) old new → Tallies tasks (Release j kept ∷ g) new
 release_step tasks rule j kept g old new l t s = record {
@@ -79,12 +79,12 @@ release_step tasks rule j kept g old new l t s = record {
         subst (Held tasks new.waiting) (sym (pending-release tasks rule j true g l))
         (w.here ∙ ap Some t.tick, Each-both (λ x a p. w.others _ x.job a ∙ p) (pending tasks g) apart t.waiting)
 
--- a run that is legal behind rows is of a task of the set
+-- a run that is legal after these rows is of a task of the set
 pub inside : (tasks : List Task) (rule : Rule) (row : Row) (n : ℕ) (g : List Row) → 1 ≤ n → Legal tasks rule (replicate n row ++ g) → IsOfSet tasks row
 inside tasks rule row zero g h l = absurd (omega (arith, h))
 inside tasks rule row (suc n) g h l = l.0
 
--- after n ticks that leave their job more to do
+-- the tally after n ticks that leave their job more to do
 pub more_run : (tasks : List Task) (j : JobId) (n : ℕ) (g : List Row) (old new : Tally) → IsIn tasks j.task.0 → Tallies tasks g old → GoesOn n j (tally_of tasks g j.task.0) old new → Tallies tasks (replicate n (Tick j More) ++ g) new
 more_run tasks j n g old new i t s = record {
   tasks = s.tasks ∙ changed (tally_of tasks g) (tally_of tasks (replicate n (Tick j More) ++ g)) tasks j.task.0 _ old.tasks.items i t.tasks (more_run-mine tasks j n g j.task.0 (eqb-refl j.task.0)) (λ m o. more_run-other tasks j n g m o);
@@ -94,7 +94,7 @@ more_run tasks j n g old new i t s = record {
   waiting = subst (Held tasks new.waiting) (sym (pending_more tasks j n g)) (held-stays tasks old.waiting new.waiting (pending tasks g) s.waiting t.waiting);
 }
 
--- after a job's last tick
+-- the tally after a job's last tick
 pub end_step : (tasks : List Task) (rule : Rule) (j : JobId) (how : How) (g : List Row) (old new : Tally) → is_end how ≡ true → is_over how ≡ false → Legal tasks rule (Tick j how ∷ g) → Tallies tasks g old
     → Ends j how (tally_of tasks g j.task.0) (release_of g j) old new → Tallies tasks (Tick j how ∷ g) new
 end_step tasks rule j how g old new e v l t s = record {
@@ -113,7 +113,7 @@ end_step tasks rule j how g old new e v l t s = record {
         Each-map {P = λ i. release_in old.waiting (level_in (task_at tasks i.job.task.0)) i.job ≡ Some i.release}
         (λ x p st. s.waiting.others _ x.job (not_true (same_job j x.job) (and_parts _ _ (rw e at st)).0) ∙ p) (pending tasks g) t.waiting
 
--- after an overrun
+-- the tally after an overrun
 pub over_step : (tasks : List Task) (rule : Rule) (j : JobId) (g : List Row) (old new : Tally) → Legal tasks rule (Tick j Over ∷ g) → Tallies tasks g old
     → Overruns j (tally_of tasks g j.task.0) old new → Tallies tasks (Tick j Over ∷ g) new
 over_step tasks rule j g old new l t s = record {
@@ -141,7 +141,7 @@ over_step tasks rule j g old new l t s = record {
         let high : level_in (task_at tasks x.job.task.0) ≡ High = at_high _ (level-high (task_at tasks x.job.task.0) ∙ left) in
         rw high (s.waiting x.job ∙ (rw high at p))) (pending tasks g) t.waiting
 
--- after n idle ticks
+-- the tally after n idle ticks
 pub idle_run : (tasks : List Task) (n : ℕ) (g : List Row) (old new : Tally) → Tallies tasks g old → Idles n old new → Tallies tasks (replicate n Idle ++ g) new
 idle_run tasks n g old new t s = record {
   tasks = s.tasks ∙ (t.tasks ∙ numbered_same (tally_of tasks g) (tally_of tasks (replicate n Idle ++ g)) 1 tasks (λ m a. sym (idle_run-same tasks n g m)));

@@ -24,7 +24,7 @@ legal_behind : (set : List Task) (rule : Rule) (g h : List Row) → Legal set ru
 legal_behind set rule [] h l = l
 legal_behind set rule (row ∷ g) h l = legal_behind set rule g h l.2
 
--- the rows of the first runs of a trace
+-- the rows of the first runs of a legal trace are legal
 pub legal_first : (set : List Task) (rule : Rule) (runs : List Run) (i : ℕ) → Legal set rule (reverse (expand runs)) → Legal set rule (reverse (expand (take i runs)))
 legal_first set rule runs i l =
     legal_behind set rule (reverse (expand (drop i runs))) (reverse (expand (take i runs)))
@@ -35,14 +35,14 @@ pub run_inside : (set : List Task) (rule : Rule) (runs : List Run) (i : ℕ) (d 
 run_inside set rule runs i d h v l =
     inside set rule (row_of (get_or runs i d)) (size (get_or runs i d)) (reverse (expand (take i runs))) (some_rows (get_or runs i d) v) (subst (Legal set rule) (rows_more runs i d h) (legal_first set rule runs (i + 1) l))
 
--- one line more
+-- the text with one more line
 pub line_more : (set : List Task) (h : List Row) (i : ℕ) (t : Task) (text longer last whole : List ℕ) (s : TaskTally) → slice_get set i ≡ Some t → s ≡ tally_of set h (i + 1) → longer ≡ text ++ tally_line t.name s
     → text ++ (report_lines set h (i + 1) (drop i set) ++ last) ≡ whole → longer ++ (report_lines set h (i + 1 + 1) (drop (i + 1) set) ++ last) ≡ whole
 unfolding report_line tally_line
 line_more set h i t text longer last whole s found is longer_is inv =
     rw (longer_is, is) (simp append_assoc (simp append_assoc at (rw (drop_at set i t found) at inv)))
 
--- counts are equal where their parts are
+-- counts are equal if their parts are
 counts_eq : (a b : JobCounts) → a.released ≡ b.released → a.kept ≡ b.kept → a.dropped ≡ b.dropped → a.discarded ≡ b.discarded → a.done ≡ b.done → a.stopped ≡ b.stopped → a ≡ b
 counts_eq a b released kept dropped discarded done stopped = λ i. record { released = released i; kept = kept i; dropped = dropped i; discarded = discarded i; done = done i; stopped = stopped i }
 
@@ -57,12 +57,12 @@ sum_more ts i d sum more whole inside is inv =
     ∙ (plus_assoc sum (counts_of_tally (get_or ts i d)) (sum_tallies (drop (i + 1) ts))
     ∙ (ap (λ (l : List TaskTally). plus sum (sum_tallies l)) (sym (drop_more ts i d inside)) ∙ inv))
 
--- the sum of all is that of the model
+-- the sum of all tallies is the sum in the model
 pub sum_is : (set : List Task) (h : List Row) (k : ℕ) (ts : List Task) → sum_tallies (numbered (tally_of set h) k ts) ≡ sum_counts set h k ts
 sum_is set h k [] = refl
 sum_is set h k (t ∷ ts) = ap (plus (counts_of_tally (tally_of set h k))) (sum_is set h (k + 1) ts)
 
--- the tally at an index is that of the next number
+-- the tally at an index is that of the next task number
 pub tally_at : (set : List Task) (h : List Row) (s : List TaskTally) (i : ℕ) (x : TaskTally) → s ≡ numbered (tally_of set h) 1 set → i < length set → x ≡ get_or s i x → x ≡ tally_of set h (i + 1)
 tally_at set h s i x is inside read =
     let found : slice_get s i ≡ Some (tally_of set h (i + 1)) = ap (λ l. slice_get l i) is ∙ get-numbered (tally_of set h) 1 i (i + 1) set inside (omega arith) in
@@ -79,7 +79,7 @@ small_counts t c is s = record {
   stopped = let e = ap (λ (x : JobCounts). x.stopped) is in omega (arith, e, s.stopped);
 }
 
--- and their sum with others grows by as much
+-- a sum with small counts grows by at most as much
 pub sum_grows : (i : ℕ) (a b c : mine.Counts) → counts_in c ≡ plus (counts_in a) (counts_in b) → AreAtMost (i * 2 ^ 24) a → AreAtMost (2 ^ 24) b → AreAtMost ((i + 1) * 2 ^ 24) c
 sum_grows i a b c is s t = record {
   released = let e = ap (λ (x : JobCounts). x.released) is in omega (arith, e, s.released, t.released);

@@ -1,11 +1,11 @@
--- The counts of jobs, as the model has them, and the line of a task.
+-- The counts of jobs as the model has them, and the line of a task.
 use Rattle.std.specs.Prelude.{ℕ, ◌+◌, ◌≤◌, ◌==◌, cond, List, [], ◌∷◌, codes, decimal}
 use Rattle.std.specs.List.{concat}
 use Rattle.sched_report.specs.ReportText as model
 use Rattle.sched_report.specs.declared.counts.Counts.{Counts}
 use Rattle.sched_report.specs.declared.task_tally.TaskTally.{TaskTally}
 
--- the counts, as the model has them
+-- the counts as the model has them
 abbrev pub counts_in : Counts → model.JobCounts
 counts_in c = record {
   released = c.released;
@@ -16,7 +16,7 @@ counts_in c = record {
   stopped = c.stopped;
 }
 
--- the counts of a task's tally, as the model has them
+-- the counts in a task's tally, as the model has them
 abbrev pub counts_of_tally : TaskTally → model.JobCounts
 counts_of_tally t = record {
   released = t.released;
@@ -27,7 +27,7 @@ counts_of_tally t = record {
   stopped = t.stopped;
 }
 
--- none of the counts is above this
+-- none of the counts is above n
 pub record AreAtMost (n : ℕ) (c : Counts) : Type 0 where
   pub released : c.released ≤ n
   pub kept : c.kept ≤ n
@@ -36,7 +36,7 @@ pub record AreAtMost (n : ℕ) (c : Counts) : Type 0 where
   pub done : c.done ≤ n
   pub stopped : c.stopped ≤ n
 
--- the greatest response of a task
+-- the words for the greatest response of a task
 abbrev pub response_of_tally : TaskTally → List ℕ
 response_of_tally t = cond (t.done + t.stopped == 0) (codes "-") (decimal t.response)
 

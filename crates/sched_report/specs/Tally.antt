@@ -1,4 +1,4 @@
--- What is counted of all rows, and what a row changes of it. The newest row stands first.
+-- The tally of all rows, and what a row changes in it. The newest row stands first.
 use Rattle.std.specs.Prelude.{◌≡◌, ℕ, ◌+◌, ◌-◌, ◌<◌, ◌≤◌, ◌^◌, Bool, true, false, All, List, [], ◌∷◌, ◌++◌, Some, None, map, slice_set}
 use Rattle.std.specs.List.{AllByRecursion}
 use Rattle.mc_task.specs.declared.task.JobId.{JobId}
@@ -23,12 +23,12 @@ use Rattle.sched_report.specs.declared.waiting.Waiting.{Waiting}
 use Rattle.sched_report.specs.TaskTally.{level_in, tally_of, with_release, with_tick, with_more, with_response, with_switch, IsSmall}
 use Rattle.sched_report.specs.Waiting.{release_in, ChangesOnly}
 
--- f of each number from k on, as many as there are tasks
+-- a list of f at each number from k on, one for each task
 abbrev pub numbered : {X : Type 0} → (ℕ → X) → ℕ → List Task → List X
 numbered f k [] = []
 numbered f k (t ∷ ts) = f k ∷ numbered f (k + 1) ts
 
--- the tally counts these rows, and the release time of each pending job is at hand
+-- the tally counts these rows, and stores the release time of each pending job
 pub record Tallies (set : List Task) (h : List Row) (s : Tally) : Type 0 where
   pub tasks : s.tasks.items ≡ numbered (tally_of set h) 1 set
   pub tick : s.tick ≡ ticks h
@@ -43,28 +43,28 @@ IsAmong n (Release j kept) = (1 ≤ j.task.0) × (j.task.0 ≤ n)
 IsAmong n (Tick j how) = (1 ≤ j.task.0) × (j.task.0 ≤ n)
 IsAmong n Idle = Unit {0}
 
--- there is room to count on
+-- the counters have capacity for one more run
 pub record HasRoom (s : Tally) : Type 0 where
   pub tasks : All IsSmall s.tasks.items
   pub tick : s.tick < 2 ^ 31
   pub idle : s.idle < 2 ^ 31
   pub switches : s.switches < 2 ^ 31
 
--- no release time is changed
+-- no release time changes
 abbrev pub Stays : Waiting → Waiting → Type 0
 Stays old new = (l : Level) (j : JobId) → release_in new l j ≡ release_in old l j
 
--- a kept job waits from now on; a dropped one changes nothing
+-- a kept job's release time is stored; a dropped release changes nothing
 abbrev pub Waits : Bool → Waiting → Waiting → Level → JobId → ℕ → Type 0
 Waits true old new level j now = ChangesOnly old new level j (Some now)
 Waits false old new level j now = Stays old new
 
--- the new tally is the old one with the rows of a run, where these are legal after the rows of the old one
+-- the new tally counts a run more than the old one, if its rows are legal after those of the old one
 abbrev pub AddsRun : Run → Tally → Tally → Type 0
 AddsRun run old new = (set : List Task) (rule : Rule) (g : List Row)
     → Legal set rule (rows_of run ++ g) → Tallies set g old → Tallies set (rows_of run ++ g) new
 
--- after a release of the job, whose task has this tally
+-- the tally after a release of the job, whose task has tally t
 pub record Releases (j : JobId) (kept : Bool) (t : TaskTally) (old new : Tally) : Type 0 where
   pub tasks : new.tasks.items ≡ slice_set old.tasks.items (j.task.0 - 1) (with_release kept t)
   pub waiting : Waits kept old.waiting new.waiting t.level j old.tick
@@ -72,7 +72,7 @@ pub record Releases (j : JobId) (kept : Bool) (t : TaskTally) (old new : Tally) 
   pub idle : new.idle ≡ old.idle
   pub switches : new.switches ≡ old.switches
 
--- after n ticks of the job that leave it more to do
+-- the tally after n ticks of the job that leave it more to do
 pub record GoesOn (n : ℕ) (j : JobId) (t : TaskTally) (old new : Tally) : Type 0 where
   pub tasks : new.tasks.items ≡ slice_set old.tasks.items (j.task.0 - 1) (with_more n t)
   pub waiting : Stays old.waiting new.waiting
@@ -80,7 +80,7 @@ pub record GoesOn (n : ℕ) (j : JobId) (t : TaskTally) (old new : Tally) : Type
   pub idle : new.idle ≡ old.idle
   pub switches : new.switches ≡ old.switches
 
--- after the job's last tick, where it was released at r
+-- the tally after the last tick of the job, which was released at r
 pub record Ends (j : JobId) (how : How) (t : TaskTally) (r : ℕ) (old new : Tally) : Type 0 where
   pub tasks : new.tasks.items ≡ slice_set old.tasks.items (j.task.0 - 1)
       (with_response (old.tick + 1 - r) (with_tick how t))
@@ -89,7 +89,7 @@ pub record Ends (j : JobId) (how : How) (t : TaskTally) (r : ℕ) (old new : Tal
   pub idle : new.idle ≡ old.idle
   pub switches : new.switches ≡ old.switches
 
--- after a tick of the job that overran
+-- the tally after a tick of the job that is an overrun
 pub record Overruns (j : JobId) (t : TaskTally) (old new : Tally) : Type 0 where
   pub tasks : new.tasks.items ≡ map with_switch (slice_set old.tasks.items (j.task.0 - 1) (with_tick Over t))
   pub waiting : (i : JobId) → release_in new.waiting High i ≡ release_in old.waiting High i
@@ -97,7 +97,7 @@ pub record Overruns (j : JobId) (t : TaskTally) (old new : Tally) : Type 0 where
   pub idle : new.idle ≡ old.idle
   pub switches : new.switches ≡ old.switches + 1
 
--- after n idle ticks
+-- the tally after n idle ticks
 pub record Idles (n : ℕ) (old new : Tally) : Type 0 where
   pub tasks : new.tasks.items ≡ old.tasks.items
   pub waiting : Stays old.waiting new.waiting

@@ -1,4 +1,4 @@
--- What is counted of a task, and what a row adds to it. The newest row stands first.
+-- The tally of one task, and what a row adds to it. The newest row stands first.
 use Rattle.std.specs.Prelude.{ℕ, ◌+◌, ◌-◌, ◌<◌, ◌^◌, max, Bool, cond, List, Option, None, Some}
 use Rattle.mc_task.specs.declared.task.Level.{Level}
 use Rattle.mc_task.specs.declared.task.Level.TheVariants.{Low}
@@ -12,12 +12,12 @@ use Rattle.mc_model.specs.declared.row.How.TheVariants.{Done, Stop}
 use Rattle.mc_model.specs.declared.row.Row.{Row}
 use Rattle.sched_report.specs.declared.task_tally.TaskTally.{TaskTally}
 
--- the level of a task; low where there is no task
+-- the level of a task; low if there is no task
 abbrev pub level_in : Option Task → Level
 level_in None = Low
 level_in (Some t) = t.level
 
--- what the rows say of task number k
+-- the tally of task number k in these rows
 abbrev pub tally_of : List Task → List Row → ℕ → TaskTally
 tally_of set h k = record {
   level = level_in (task_at set k);
@@ -31,7 +31,7 @@ tally_of set h k = record {
   response = greatest (responses h k);
 }
 
--- there is room to count on
+-- the counters of the task have capacity for one more run
 pub record IsSmall (t : TaskTally) : Type 0 where
   pub released : t.released < 2 ^ 24
   pub kept : t.kept < 2 ^ 24
@@ -41,12 +41,12 @@ pub record IsSmall (t : TaskTally) : Type 0 where
   pub stopped : t.stopped < 2 ^ 24
   pub ticks : t.ticks < 2 ^ 31
 
--- one more release
+-- the tally with one more release
 abbrev pub with_release : Bool → TaskTally → TaskTally
 with_release kept t =
     record t { released = t.released + 1; kept = t.kept + cond kept 1 0; dropped = t.dropped + cond kept 0 1 }
 
--- one more tick
+-- the tally with one more tick
 abbrev pub with_tick : How → TaskTally → TaskTally
 with_tick how t = record t {
   ticks = t.ticks + 1;
@@ -58,10 +58,10 @@ with_tick how t = record t {
 abbrev pub with_more : ℕ → TaskTally → TaskTally
 with_more n t = record t { ticks = t.ticks + n }
 
--- one more response
+-- the tally with one more response time
 abbrev pub with_response : ℕ → TaskTally → TaskTally
 with_response response t = record t { response = max t.response response }
 
--- after an overrun: of a low task, each kept job that has not ended is discarded
+-- the tally after an overrun: each kept job of a low task that has not ended is discarded
 abbrev pub with_switch : TaskTally → TaskTally
 with_switch t = record t { discarded = cond (is_high t.level) t.discarded (t.kept - t.done - t.stopped) }

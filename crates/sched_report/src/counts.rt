@@ -1,4 +1,4 @@
-// The counts of jobs, and their words.
+//! The counts of jobs, and the words for them.
 ghost use Rattle.std.specs.Prelude.{◌≡◌, ◌≤◌, ◌^◌, ◌++◌, OnOk, decimal};
 ghost use Rattle.sched_report.specs.ReportText as model;
 ghost use Rattle.sched_report.specs.Counts.{counts_in, counts_of_tally, AreAtMost};
@@ -7,7 +7,8 @@ use crate::task_tally::TaskTally;
 use itoa::Buffer;
 use std::alloc::AllocError;
 
-// How many releases there were, how many of them were kept and how many dropped, and what came of the kept jobs.
+// How many releases there were, how many of them were kept and how many dropped, and how many of the kept jobs were
+// discarded, done and stopped.
 #[derive(Clone, Copy, Debug, PartialEq, Eq)]
 pub struct Counts {
     pub released: u32,
@@ -32,7 +33,7 @@ impl Counts {
         }
     }
 
-    // Those of a task.
+    // The counts of one task.
     pub fn of(task: &TaskTally) -> Counts
         ensures { counts_in result ≡ counts_of_tally task.now }
     {
@@ -61,7 +62,7 @@ impl Counts {
         }
     }
 
-    // Adds the counts to a text, each behind its word.
+    // Adds the counts to a text, each after its word.
     pub fn push_to(&self, text: &mut Vec<u8>) -> Result<(), AllocError>
         ensures { OnOk result (text.new.items ≡ text.old.items ++ model.counts_text (counts_in self.now)) }
     {

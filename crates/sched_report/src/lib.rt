@@ -1,4 +1,4 @@
-//! What a trace did, in numbers: a report of each task, and a summary of all.
+//! The numbers of a trace: a report on each task, and a summary of all.
 #![tactic(auto)]
 
 mod counts;

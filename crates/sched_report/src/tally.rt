@@ -1,4 +1,4 @@
-// What is counted of the rows of a trace, run by run.
+//! The tally of the rows of a trace, run by run.
 ghost use Rattle.std.specs.Prelude.{◌≡◌, ◌-◌, ◌≤◌, ℕ, [], IfOk, OnOk, Some, slice_get, vec_len};
 ghost use Rattle.mc_model.specs.declared.run.Run.TheVariants as run;
 ghost use Rattle.mc_model.specs.Runs.{row_of, length_of, IsRun};
@@ -12,7 +12,7 @@ use mc_model::{How, Run};
 use mc_task::{JobId, TaskSet};
 use std::alloc::{AllocError, Global};
 
-// `tick` is the number of the next tick. Task number k stands at place k - 1.
+// What is counted of all tasks. `tick` is the number of the next tick; task number k stands at index k - 1.
 #[derive(Drop)]
 pub struct Tally {
     pub tasks: Vec<TaskTally>,
@@ -23,7 +23,7 @@ pub struct Tally {
 }
 
 impl Tally {
-    // With no row counted.
+    // The tally of no rows.
     pub fn new(alloc: Global, set: &TaskSet) -> Result<Tally, AllocError>
         ensures { IfOk result (λ tally. Tallies set.now.tasks [] tally) }
     {
@@ -41,7 +41,7 @@ impl Tally {
         })
     }
 
-    // Counts one more run of a legal trace, in one step.
+    // Counts one more run of a legal trace, in one step. Fails if an allocation fails.
     pub fn count(&mut self, run: Run) -> Result<(), AllocError>
         requires task { IsAmong (vec_len self.old.tasks) (row_of run) }
         requires is_run { IsRun run }
@@ -72,7 +72,7 @@ impl Tally {
         }
     }
 
-    // A release, which is kept or dropped.
+    // Counts a release.
     fn release(&mut self, job: JobId, kept: bool) -> Result<(), AllocError>
         requires first { 1 ≤ job.task.0 }
         requires last { job.task.0 ≤ vec_len self.old.tasks }
@@ -88,7 +88,7 @@ impl Tally {
         Ok(())
     }
 
-    // Ticks behind which the job has more to do.
+    // Counts `length` ticks after which the job has more to do.
     fn go_on(&mut self, job: JobId, length: u32)
         requires first { 1 ≤ job.task.0 }
         requires last { job.task.0 ≤ vec_len self.old.tasks }
@@ -101,7 +101,7 @@ impl Tally {
         self.tick += length;
     }
 
-    // The last tick of a job.
+    // Counts the last tick of a job.
     fn end(&mut self, job: JobId, how: How)
         requires first { 1 ≤ job.task.0 }
         requires last { job.task.0 ≤ vec_len self.old.tasks }
@@ -116,7 +116,7 @@ impl Tally {
         self.tick += 1;
     }
 
-    // A tick of a job that ran over its low budget.
+    // Counts an overrun: a tick at which a job used up its low budget and was not done.
     fn overrun(&mut self, job: JobId)
         requires first { 1 ≤ job.task.0 }
         requires last { job.task.0 ≤ vec_len self.old.tasks }
@@ -131,7 +131,7 @@ impl Tally {
         self.switches += 1;
     }
 
-    // Ticks in which nothing was pending.
+    // Counts `length` ticks in which nothing was pending.
     fn rest(&mut self, length: u32)
         requires short { length ≤ 100000000 }
         requires room { HasRoom self.old }

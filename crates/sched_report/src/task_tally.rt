@@ -1,11 +1,11 @@
-// What is counted of a task.
+//! The tally of one task.
 ghost use Rattle.std.specs.Prelude.{◌≡◌, ◌<◌, ◌≤◌, ◌^◌};
 ghost use Rattle.sched_report.specs.TaskTally as model;
 
 use mc_model::How;
 use mc_task::Level;
 
-// `response` is the greatest response in ticks so far, 0 where no job ended.
+// What is counted of one task. `response` is the greatest response time so far, in ticks; 0 if no job ended.
 #[derive(Clone, Copy, Debug, PartialEq, Eq)]
 pub struct TaskTally {
     pub level: Level,
@@ -36,7 +36,7 @@ impl TaskTally {
         }
     }
 
-    // With one more release, kept or dropped.
+    // The tally with one more release, kept or dropped.
     pub fn with_release(mut self, kept: bool) -> TaskTally
         requires { model.IsSmall self }
         ensures { result ≡ model.with_release kept self }
@@ -50,7 +50,7 @@ impl TaskTally {
         self
     }
 
-    // With one more tick, which ended so for its job.
+    // The tally with one more tick of this outcome.
     pub fn with_tick(mut self, how: How) -> TaskTally
         requires { model.IsSmall self }
         ensures { result ≡ model.with_tick how self }
@@ -64,7 +64,7 @@ impl TaskTally {
         self
     }
 
-    // With so many more ticks behind which the job goes on.
+    // The tally with `length` more ticks after which the job goes on.
     pub fn with_more(mut self, length: u32) -> TaskTally
         requires small { model.IsSmall self }
         requires short { length ≤ 100000000 }
@@ -74,7 +74,7 @@ impl TaskTally {
         self
     }
 
-    // With the response of one more job, in ticks.
+    // The tally with the response time of one more job, in ticks.
     pub fn with_response(mut self, response: u32) -> TaskTally
         ensures { result ≡ model.with_response response self }
     {
@@ -82,7 +82,7 @@ impl TaskTally {
         self
     }
 
-    // After an overrun, which discards the jobs of a low task that were kept and have not ended.
+    // The tally after an overrun, which discards the kept jobs of a low task that have not ended.
     pub fn with_switch(mut self) -> TaskTally
         ensures { result ≡ model.with_switch self }
     {

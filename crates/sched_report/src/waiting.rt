@@ -1,4 +1,4 @@
-// The release times of the pending jobs.
+//! The release times of the pending jobs.
 ghost use Rattle.std.specs.Prelude.{◌≡◌, OnOk, Some, None};
 ghost use Rattle.mc_task.specs.declared.task.JobId.{JobId};
 ghost use Rattle.mc_task.specs.declared.task.Level.{Level};
@@ -9,7 +9,7 @@ use mc_task::{JobId, Level};
 use std::alloc::{AllocError, Global};
 use std::collections::BTreeMap;
 
-// By a task's number and a job's count. Those of low tasks stand apart, since an overrun discards them all.
+// By a task's number and a job's number. Jobs of low tasks are stored apart, since an overrun discards them all.
 #[derive(Drop)]
 pub struct Waiting {
     low: BTreeMap<(u32, u32), u32>,
@@ -17,7 +17,7 @@ pub struct Waiting {
 }
 
 impl Waiting {
-    // No job is pending.
+    // Nothing is stored: no job is pending.
     pub fn new(alloc: Global) -> Waiting
         ensures { (level : Level) (job : JobId) → release_in result level job ≡ None }
     {
@@ -27,7 +27,7 @@ impl Waiting {
         }
     }
 
-    // Keeps the release time of a job.
+    // Stores the release time of a job. Fails if an allocation fails.
     pub fn put(&mut self, level: Level, job: JobId, release: u32) -> Result<(), AllocError>
         ensures { OnOk result (ChangesOnly self.old self.new level job (Some release)) }
     {
@@ -51,7 +51,7 @@ impl Waiting {
         }
     }
 
-    // Discards the jobs of low tasks.
+    // Removes all jobs of low tasks.
     pub fn discard(&mut self)
         ensures low { (job : JobId) → release_in self.new Low job ≡ None }
         ensures high { (job : JobId) → release_in self.new High job ≡ release_in self.old High job }

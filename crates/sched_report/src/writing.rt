@@ -1,4 +1,4 @@
-// The texts of a trace's numbers.
+//! The texts of a report and of a summary.
 ghost use Rattle.std.specs.Prelude.{◌≡◌, ◌≤◌, ◌++◌, IfOk, OnOk, codes, length, reverse};
 ghost use Rattle.sched_report.specs.ReportText.{report_text, summary_text, CountsAddUp};
 ghost use Rattle.mc_model.specs.Traces.{IsTraceOf};
@@ -14,7 +14,8 @@ use mc_task::{Memory, TaskSet};
 use std::alloc::{AllocError, Global};
 
 /// The report of a trace: for each task in order how many jobs were released, kept, dropped, discarded, done and
-/// stopped, its ticks and its greatest response in ticks, and then the idle ticks and the switches to high mode.
+/// stopped, its ticks, and its greatest response time in ticks; then the idle ticks and the switches to high mode.
+/// Fails with `Memory` if an allocation fails.
 #[tactic(auto, using(crate::proofs::AddUp::counts_add_up))]
 pub fn report(alloc: Global, set: &TaskSet, runs: &[Run]) -> Result<Vec<u8>, Memory>
     requires runs { AreRuns runs.now }
@@ -35,7 +36,8 @@ pub fn report(alloc: Global, set: &TaskSet, runs: &[Run]) -> Result<Vec<u8>, Mem
     Ok(text)
 }
 
-/// The sums of a report over all tasks, in one line, and the ticks of jobs, the idle ticks and the switches in another.
+/// The summary of a trace: the sums of a report's counts over all tasks in one line, and the ticks of jobs, the idle
+/// ticks and the switches to high mode in another. Fails with `Memory` if an allocation fails.
 pub fn summary(alloc: Global, set: &TaskSet, runs: &[Run]) -> Result<Vec<u8>, Memory>
     requires runs { AreRuns runs.now }
     requires trace { IsTraceOf set.now.tasks (reverse (expand runs.now)) }
@@ -79,7 +81,7 @@ fn push_task(text: &mut Vec<u8>, name: &[u8], task: &TaskTally) -> Result<(), Al
     Ok(())
 }
 
-// A dash where no job was done or stopped.
+// Adds the greatest response time, or a dash if no job was done or stopped.
 fn push_response(text: &mut Vec<u8>, task: &TaskTally) -> Result<(), AllocError>
     requires done { task.now.done ≤ 2000000 }
     requires stopped { task.now.stopped ≤ 2000000 }

@@ -1,3 +1,4 @@
+//! Tests of the ticks counted against budgets.
 ghost use Rattle.std.specs.Prelude.{◌≡◌, length, map};
 ghost use Rattle.budget_ledger.specs.Ledger.{budget};
 
@@ -29,7 +30,7 @@ fn three_tasks(alloc: Global) -> Option<TaskSet> {
     TaskSet::new(vec![in alloc; wide, low, even].ok()?).ok()
 }
 
-// What one more tick of the task comes to, if the task is in the set and its ticks are below its own budget.
+// The result of one more tick of the task, if the task is in the set and its ticks are below its own budget.
 fn spend(used: &mut Used, set: &TaskSet, task: u32) -> Option<Spent>
     requires budgets { used.old.budgets ≡ map budget set.now.tasks }
     requires ticks { length used.old.ticks ≡ length set.now.tasks }
@@ -57,7 +58,7 @@ fn start(used: &mut Used, set: &TaskSet, task: u32) -> Option<u32>
     Some(before)
 }
 
-// What five more ticks of the task come to.
+// The results of five more ticks of the task.
 fn five_ticks(used: &mut Used, set: &TaskSet, task: u32) -> [Option<Spent>; 5]
     requires budgets { used.old.budgets ≡ map budget set.now.tasks }
     requires ticks { length used.old.ticks ≡ length set.now.tasks }
@@ -90,7 +91,7 @@ fn a_job_comes_to_its_low_budget_and_then_to_its_own(rt: HostRuntime) -> Result<
     assert_eq!(rt; low, [BELOW, AT_OWN, None, None, None]);
     assert_eq!(rt; even, [BELOW, AT_OWN, None, None, None]);
     assert_eq!(rt; nobody, [None, None, None, None, None]);
-    // The next job of a task begins anew, and the others keep their ticks.
+    // The task's next job begins at 0, and the other tasks keep their ticks.
     assert_eq!(rt; start(&mut used, &set, 1), Some(4));
     assert_eq!(rt; spend(&mut used, &set, 1), BELOW);
     assert_eq!(rt; start(&mut used, &set, 1), Some(1));

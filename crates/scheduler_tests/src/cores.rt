@@ -1,3 +1,4 @@
+//! Tests of the scheduler's core.
 use mc_model::How;
 use mc_task::{JobId, Rule, TaskNo};
 use mode_core::{Core, GrantFault, Granted, IdleFault, NotOut, ReleaseFault, Released};
@@ -5,20 +6,20 @@ use std::alloc::Global;
 use std::test::Fail;
 use worked_sets::{CONTROL, job, set_of};
 
-// A core over the control set, with so many places.
+// A core over the control set, with this capacity.
 fn control(alloc: Global, places: u32) -> Result<Core, Fail> {
     let set = set_of(alloc, &CONTROL)?;
     let rule = Rule::Virtual { p: 2, q: 5 };
     Ok(Core::new(alloc, set, rule, places as usize)?)
 }
 
-// The answer to a release of the task, if it is in the set.
+// What a release of the task returns, if the task is in the set.
 fn release(core: &mut Core, task: u32) -> Option<Result<Released, ReleaseFault>> {
     core.set().get(TaskNo(task))?;
     Some(core.release(TaskNo(task)))
 }
 
-// The answer to a grant to the task, if it is in the set.
+// What a grant to the task returns, if the task is in the set.
 fn grant(core: &mut Core, task: u32) -> Option<Result<Granted, GrantFault>> {
     core.set().get(TaskNo(task))?;
     Some(core.grant(TaskNo(task)))
@@ -33,7 +34,7 @@ enum Call {
     Idle,
 }
 
-// What it answers.
+// What a call of a core returns.
 #[derive(Clone, Copy, Debug, PartialEq, Eq)]
 enum Answer {
     Released(Option<Result<Released, ReleaseFault>>),
@@ -51,7 +52,7 @@ fn ask(core: &mut Core, call: Call) -> Answer {
     }
 }
 
-// The calls of a core with four places, and their answers.
+// The calls of a core with a capacity of four rows, and what they return.
 fn four_places() -> [(Call, Answer); 13] {
     let ctl = job!(1, 1);
     let log = job!(2, 1);
@@ -103,7 +104,7 @@ fn four_places() -> [(Call, Answer); 13] {
     ]
 }
 
-// The calls of a core with one place, and their answers.
+// The calls of a core with a capacity of one row, and what they return.
 fn one_place() -> [(Call, Answer); 3] {
     [
         (Call::Idle, Answer::Idle(Ok(0))),
@@ -133,7 +134,7 @@ fn one_place_is_one_row(rt: HostRuntime) -> Result<(), Fail> {
     Ok(())
 }
 
-// Releases task 1 at 0 and gives it a tick that does not end its job. Whether the core took all three calls.
+// Releases task 1 at 0 and gives it a tick that does not end its job. Returns whether the core took all three calls.
 fn start(core: &mut Core) -> bool {
     let is_released = matches!(release(core, 1), Some(Ok(_)));
     let is_granted = matches!(grant(core, 1), Some(Ok(_)));
@@ -171,7 +172,7 @@ fn beside_the_switch(early: bool) -> [(Call, Answer); 3] {
     }
 }
 
-// Whether the cores are alike after the switch.
+// Whether the two cores are equal after the switch.
 fn stand_alike(early: &Core, late: &Core) -> bool {
     early.rows() == late.rows()
         && (early.rule(), early.out(), early.high_mode(), early.chosen())

@@ -1,3 +1,4 @@
+//! Tests of floors and their plans.
 ghost use Rattle.std.specs.Prelude.{◌≡◌, true, None, IfOk};
 ghost use Rattle.timetable.specs.Floor.{is_planned};
 
@@ -19,7 +20,7 @@ use worked_sets::{
     work_rows,
 };
 
-// A floor with no rows, whose plan is the jobs.
+// A floor with no rows, whose plan is these jobs.
 fn floor(alloc: Global, lines: &[Line], jobs: &[Job], ticks: u32) -> Result<Floor, Fail>
     ensures { IfOk result (λ floor. (is_planned floor.plan ≡ true) × (floor.core.out ≡ None)) }
 {
@@ -38,13 +39,13 @@ fn floor(alloc: Global, lines: &[Line], jobs: &[Job], ticks: u32) -> Result<Floo
     Ok(Floor::new(core, plan))
 }
 
-// The answer to a release of the task, if it is in the set.
+// What a release of the task returns, if the task is in the set.
 fn release(floor: &mut Floor, task: u32) -> Option<Result<Released, ActFault<ReleaseFault>>> {
     floor.core().set().get(TaskNo(task))?;
     Some(floor.release(TaskNo(task)))
 }
 
-// The answer to a grant to the task, if it is in the set.
+// What a grant to the task returns, if the task is in the set.
 fn grant(floor: &mut Floor, task: u32) -> Option<Result<Granted, ActFault<GrantFault>>> {
     floor.core().set().get(TaskNo(task))?;
     Some(floor.grant(TaskNo(task)))
@@ -77,7 +78,7 @@ enum Call {
     Finish,
 }
 
-// What it answers.
+// What a call of a floor returns.
 #[derive(Clone, Copy, Debug, PartialEq, Eq)]
 enum Answer {
     Next(Act),
@@ -103,7 +104,7 @@ const DUE_CTL: PlanFault = PlanFault::Due { task: TaskNo(1) };
 
 const DUE_LOG: PlanFault = PlanFault::Due { task: TaskNo(2) };
 
-// The calls of the plan with a release that is held, and their answers.
+// The calls of the plan with a release that is held, and what they return.
 fn held_release() -> [(Call, Answer); 18] {
     [
         (Call::Next, Answer::Next(Act::Release(TaskNo(1)))),
@@ -182,7 +183,7 @@ fn the_calls_of_a_planned_floor_are_answered_in_turn(rt: HostRuntime) -> Result<
     Ok(())
 }
 
-// Finishes the plan, where it is one and no tick is out.
+// Finishes the plan, if there is one and no tick is granted.
 fn finished(floor: &mut Floor) -> Option<()> {
     if floor.core().out().is_some() || !floor.is_planned() {
         return None;
@@ -191,7 +192,7 @@ fn finished(floor: &mut Floor) -> Option<()> {
     Some(())
 }
 
-// The calls of a floor with no plan, and their answers.
+// The calls of a floor with a free plan, and what they return.
 fn free_calls() -> [(Call, Answer); 10] {
     let too_soon = ReleaseFault::TooSoon { next: 11 };
     let chosen = GrantFault::NotChosen {

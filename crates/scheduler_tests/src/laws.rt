@@ -1,3 +1,4 @@
+//! Tests of the deadline laws, on worked traces.
 use demand_law::{low_mode_law, no_over_law, one_live_law, plain_law, switch_law};
 use mc_task::Rule;
 use std::test::Fail;
@@ -6,7 +7,7 @@ use worked_sets::{
     TAP_AND_ARM, TAP_AND_ARM_ROWS, set_of,
 };
 
-// A high job goes past its low budget under EDF, where nothing switches.
+// A high job exceeds its low budget under EDF, where the mode never changes.
 #[test]
 fn under_plain_edf_no_job_is_late(rt: HostRuntime) -> Result<(), Fail> {
     let set = set_of(rt.alloc(), &PLAIN_PAIR)?;
@@ -16,7 +17,7 @@ fn under_plain_edf_no_job_is_late(rt: HostRuntime) -> Result<(), Fail> {
     Ok(())
 }
 
-// The virtual deadline of the high job is four and a half ticks, before the five of the low one.
+// The virtual deadline of the high job is four and a half ticks, before the five ticks of the low job.
 #[test]
 fn in_low_mode_no_virtual_deadline_is_due(rt: HostRuntime) -> Result<(), Fail> {
     let set = set_of(rt.alloc(), &QUARTER_SCALE)?;
@@ -28,7 +29,7 @@ fn in_low_mode_no_virtual_deadline_is_due(rt: HostRuntime) -> Result<(), Fail> {
     Ok(())
 }
 
-// The high job overruns, the low one is discarded, and the mode is low again after an idle tick.
+// The high job overruns, the low job is discarded, and the mode is low again after an idle tick.
 #[test]
 fn an_overrun_and_the_return_leave_no_job_late(rt: HostRuntime) -> Result<(), Fail> {
     let set = set_of(rt.alloc(), &CONTROL)?;

@@ -6,6 +6,8 @@ mod budgets;
 #[cfg(test)]
 mod cores;
 #[cfg(test)]
+mod endless;
+#[cfg(test)]
 mod floors;
 #[cfg(test)]
 mod keys;

@@ -1,3 +1,4 @@
+//! Tests of the queue of pending jobs.
 ghost use Rattle.std.specs.Prelude.{◌≡◌, ◌≤◌};
 
 use mc_task::TaskNo;
@@ -15,7 +16,7 @@ fn item(task: u32, high: bool, key: u128, real: u128) -> Item
     }
 }
 
-// Puts an item in the place of its task's, and tells whether there was one.
+// Replaces the item of this item's task, and returns whether there was one.
 fn replace(queue: &mut ReadyQueue, item: Item) -> bool
     requires some { 1 ≤ item.task.0 }
     requires place { item.task.0 ≤ queue.old.places }
@@ -35,7 +36,7 @@ fn the_least_key_comes_first_and_then_the_lowest_number(rt: HostRuntime) -> Resu
     assert_eq!(rt; queue.least(), Some(TaskNo(1)));
     assert!(rt; !replace(&mut queue, item(3, true, 18, 48)));
     assert_eq!(rt; queue.least(), Some(TaskNo(3)));
-    // Of two with 18 the lower number.
+    // Of two items with key 18 the one with the lower number comes first.
     assert!(rt; !replace(&mut queue, item(2, true, 18, 99)));
     assert_eq!(rt; queue.least(), Some(TaskNo(2)));
     assert!(rt; replace(&mut queue, item(2, true, 19, 99)));
@@ -54,7 +55,7 @@ fn in_high_mode_low_items_are_gone_and_high_ones_go_by_real_deadlines(
     rt: HostRuntime,
 ) -> Result<(), Fail> {
     let mut queue = ReadyQueue::new(rt.alloc(), 4)?;
-    // By their virtual deadlines task 1 comes before task 4; by their real ones it is the other way round.
+    // By virtual deadlines task 1 comes before task 4; by real deadlines task 4 comes first.
     assert!(rt; !replace(&mut queue, item(1, true, 10, 40)));
     assert!(rt; !replace(&mut queue, item(2, false, 5, 5)));
     assert!(rt; !replace(&mut queue, item(4, true, 20, 30)));
@@ -73,7 +74,7 @@ fn in_high_mode_low_items_are_gone_and_high_ones_go_by_real_deadlines(
 fn items_of_all_places_come_out_by_their_keys(rt: HostRuntime) -> Result<(), Fail> {
     for places in [1, 2, 3, 7, 64, 100, 127, 128] {
         let mut queue = ReadyQueue::new(rt.alloc(), places)?;
-        // 37 times the number, modulo the prime 131, is another key for each task.
+        // The key is 37 times the number modulo the prime 131, a different key for each task.
         for task in 1..=places {
             let key = u128::from(task) * 37 % 131;
             assert!(rt; !replace(&mut queue, item(task, true, key, 0)));

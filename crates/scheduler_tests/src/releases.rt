@@ -1,3 +1,4 @@
+//! Tests of release times.
 ghost use Rattle.std.specs.Prelude.{◌≡◌, ◌+◌, ◌-◌, ◌<◌, ◌≤◌, ◌^◌, ℕ, IfSome, length};
 ghost use Rattle.arrivals.specs.Arrived.{count_of};
 
@@ -6,7 +7,7 @@ use mc_task::{Level, Name, Task, TaskNo, TaskSet};
 use std::alloc::Global;
 use std::test::Fail;
 
-// Of two tasks, with periods 10 and 4294967295.
+// The arrivals of two tasks, with periods 10 and 4294967295.
 fn two_tasks(alloc: Global) -> Option<Arrivals>
     ensures two { IfSome result (λ a. length a ≡ 2) }
     ensures fresh { IfSome result (λ a. (j : ℕ) → count_of a j ≡ 0) }
@@ -28,7 +29,7 @@ fn two_tasks(alloc: Global) -> Option<Arrivals>
     if set.len() == 2 { Some(arrivals) } else { None }
 }
 
-// Notes a release, of which so many may still come.
+// Notes a release; `left` more may come.
 fn note(arrivals: &mut Arrivals, left: u32, task: u32, at: u64) -> Result<u32, TooSoon>
     requires some { 1 ≤ task }
     requires task { task ≤ 2 }
@@ -53,7 +54,7 @@ fn two_releases_are_a_period_apart(rt: HostRuntime) -> Result<(), Fail> {
     assert_eq!(rt; note(&mut arrivals, 7, 2, 0), Ok(1));
     assert_eq!(rt; arrivals.next_allowed(TaskNo(2)), 4294967295);
     assert_eq!(rt; note(&mut arrivals, 6, 1, 13), Ok(2));
-    // A release that comes late moves the next one back.
+    // A release that comes late delays the next one.
     assert_eq!(rt; note(&mut arrivals, 5, 1, 30), Ok(3));
     assert_eq!(rt; note(&mut arrivals, 4, 1, 33), Err(TooSoon { next: 40 }));
     assert_eq!(rt; note(&mut arrivals, 3, 2, 4611686018427387904), Ok(2));

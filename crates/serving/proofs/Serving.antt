@@ -1,13 +1,13 @@
 -- How the reply to a command comes from the reply to what is left of it after a step.
-use Rattle.std.proofs.Common.{◌≡◌, inl, inr, ℕ, ◌+◌, List, Result, Ok, Err, refl, ◌∙◌}
+use Rattle.std.proofs.Common.{◌≡◌, ◌≢◌, inl, inr, ℕ, ◌+◌, ◌≤◌, List, Result, Ok, Err, refl, ap, ◌∙◌, arith}
 use Rattle.mc_world.specs.Shelf.{ShelfState}
-use Rattle.replies.specs.Reply.{Reply}
+use Rattle.replies.specs.Reply.{Reply, reply_of}
 use Rattle.replies.specs.Refusal.{Refusal}
 use Rattle.replies.specs.declared.stop.Stop.{Stop}
 use Rattle.replies.specs.declared.stop.Stop.TheVariants.{Refused, Memory}
 use Rattle.replies.specs.Stop.{StopsBy, Replies, Gives}
 use Rattle.serving.specs.Command.{Command, answer, fetch, need}
-use Rattle.serving.specs.Outcome.{HasBytes, AskedInOrder}
+use Rattle.serving.specs.Outcome.{HasBytes, IsOwnReply, AskedInOrder}
 use Rattle.serving.specs.Serves.{Serves, IsOwn, Prepares}
 
 -- no file was asked for
@@ -30,20 +30,26 @@ serves_need k Is (Err refusal) given next before after result gives then = absur
 -- after a file is fetched, the reply to the rest is the reply to the command
 pub serves_fetch : (k : ℕ) (name : List ℕ) (limit : ℕ) (next : List ℕ → Command) (bytes : List ℕ) (before mid after : ShelfState) (result : Result Reply Stop)
     → HasBytes name limit bytes before mid → mid.wanted ≡ before.wanted → Serves (k + 1) (next bytes) mid after result → Serves k (fetch name limit next) before after result
-serves_fetch k name limit next bytes before mid after (Ok reply) has same s =
-    record { reply = (inr (bytes, mid, has, s.reply.0), s.reply.1); wanted = s.wanted ∙ same; asked = inr (bytes, mid, has, s.asked) }
-serves_fetch k name limit next bytes before mid after (Err (Refused reply)) has same s = record {
-  reply = ((inr (bytes, mid, has, s.reply.0.0), s.reply.0.1), s.reply.1);
-  wanted = (s.wanted.0 ∙ same, s.wanted.1);
+serves_fetch k name limit next bytes before mid after result has same s = record {
+  reply = Replies-weaker {P = IsOwnReply (k + 1) (next bytes) mid after} (IsOwnReply k (fetch name limit next) before after) result
+      (λ reply is. (inr (bytes, mid, has, is.0), is.1)) s.reply;
+  wanted = Replies-weaker {P = λ reply. after.wanted ≡ mid.wanted} (λ reply. after.wanted ≡ before.wanted) result (λ reply is. is ∙ same) s.wanted;
   asked = inr (bytes, mid, has, s.asked);
 }
-serves_fetch k name limit next bytes before mid after (Err Memory) has same s = record { reply = tt; wanted = tt; asked = inr (bytes, mid, has, s.asked) }
 
 -- an answer is the reply to a command that answers
 pub serves_answer : (k : ℕ) (Is : Reply → Type 0) (shelf : ShelfState) (result : Result Reply Stop) → Replies Is result → Replies IsOwn result → Serves k (answer Is) shelf shelf result
 serves_answer k Is shelf (Ok reply) is own = record { reply = ((refl, is, own.faultless), own.other); wanted = refl; asked = refl }
 serves_answer k Is shelf (Err (Refused reply)) is own = record { reply = (((refl, is.0, own.0.faultless), own.0.other), is.1); wanted = (refl, is.1); asked = refl }
 serves_answer k Is shelf (Err Memory) is own = record { reply = tt; wanted = tt; asked = refl }
+
+-- a text with status 0 is the reply to a command that it answers
+pub serves_text : (k : ℕ) (Is : Reply → Type 0) (shelf : ShelfState) (reply : Reply) (text : List ℕ) → reply ≡ reply_of 0 text → Is reply
+    → Serves k (answer Is) shelf shelf (Ok reply)
+serves_text k Is shelf reply text same is =
+    let status : reply.status ≡ 0 = ap (λ (r : Reply). r.status) same in
+    let no : (n : ℕ) → 1 ≤ n → reply.status ≢ n = λ n some e. absurd (omega (arith, status, some, e)) in
+    serves_answer k Is shelf (Ok reply) is (record { faultless = record { read = no 7 (omega arith); write = no 8 (omega arith); memory = no 9 (omega arith) }; other = no 2 (omega arith) })
 
 -- the refusal of a value is the reply to the command that needs it
 pub serves_refused : {A B : Type 0} (k : ℕ) (Is : A → B → Type 0) (read : Result A Refusal) (next : A → Command) (shelf : ShelfState) (stop : Stop)

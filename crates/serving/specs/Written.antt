@@ -8,13 +8,14 @@ use Rattle.replies.specs.Reply.{Reply}
 abbrev pub Wrote : ℕ → List ℕ → SinkState → SinkState → Type 0
 Wrote n text before after = after.written ≡ option_map (λ bytes. bytes ++ take n text) before.written
 
--- the reply was written whole, and the program ended with its status
+-- the reply was written whole, without a fault, and the program ended with the reply's status
 pub record IsWritten (reply : Reply) (ended : ℕ) (before after : SinkState) : Type 0 where
   pub status : ended ≡ reply.status
   pub text : Wrote (length reply.text) reply.text before after
   pub faults : after.faults ≡ before.faults
 
--- the sink failed once a front of the reply was written, and nothing more was written to it
+-- the sink failed after some first bytes of the reply, nothing was written after the fault, and the program
+-- ended with status 8
 pub record IsCutShort (reply : Reply) (ended : ℕ) (before after : SinkState) : Type 0 where
   pub status : ended ≡ 8
   pub text : (n : ℕ) × (n ≤ length reply.text) × Wrote n reply.text before after

@@ -1,4 +1,4 @@
-// How a reply is written.
+//! How a reply is written.
 ghost use Rattle.std.specs.Prelude.{◌≡◌, ℕ, ◌<◌, ◌≤◌, ◌⊎◌, OnOk, OnErr, length};
 ghost use Rattle.mc_world.specs.Count.{one_more};
 ghost use Rattle.serving.specs.Written.{Wrote, IsWritten, IsCutShort};
@@ -6,7 +6,7 @@ ghost use Rattle.serving.specs.Written.{Wrote, IsWritten, IsCutShort};
 use mc_world::{Sink, SinkFault};
 use replies::Reply;
 
-/// Writes the reply's text, and answers the status that the program ends with: the reply's own, or 8 where the sink failed.
+/// Writes the reply's text, and returns the status that the program ends with: the reply's own, or 8 where the sink failed.
 pub fn deliver<K: Sink>(reply: &Reply, out: &mut K) -> u8
     ensures { IsWritten reply.now result (K.state out.old) (K.state out.new)
         ⊎ IsCutShort reply.now result (K.state out.old) (K.state out.new) }
@@ -17,7 +17,7 @@ pub fn deliver<K: Sink>(reply: &Reply, out: &mut K) -> u8
     }
 }
 
-// Writes all of the text, or stops where the sink fails. A piece of which nothing is taken is such a fault.
+// Writes all of the text, or stops where the sink fails. If the sink takes no byte of a piece, that is such a fault.
 fn write_whole<K: Sink>(out: &mut K, text: &[u8]) -> Result<(), SinkFault>
     ensures whole { OnOk result (Wrote (length text.now) text.now (K.state out.old) (K.state out.new)) }
     ensures calm { OnOk result ((K.state out.new).faults ≡ (K.state out.old).faults) }

@@ -1,4 +1,4 @@
-// How a command's file is fetched.
+//! How a command's file is fetched.
 ghost use Rattle.std.specs.Prelude.{◌≡◌, ◌<◌, ◌^◌, IfOk, OnOk, IfErr};
 ghost use Rattle.replies.specs.Stop.{StopsBy};
 ghost use Rattle.serving.specs.Outcome.{HasBytes, IsRefused, AddsAtMost};

@@ -1,4 +1,4 @@
-// The name of a file.
+//! The name of a file.
 ghost use Rattle.std.specs.Prelude.{◌≡◌};
 
 use std::marker::Model;

@@ -10,7 +10,7 @@ mod within;
 pub use delivery::deliver;
 pub use fetching::fetch;
 pub use file_name::FileName;
-pub use within::Within;
+pub use within::{TaskCount, Within};
 
 #[cfg(test)]
 mod tests;

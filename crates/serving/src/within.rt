@@ -1,4 +1,4 @@
-// A number within bounds.
+//! A number within bounds.
 ghost use Rattle.std.specs.Prelude.{◌≡◌, ◌≤◌};
 ghost use Rattle.serving.specs.Within.{within};
 
@@ -9,6 +9,9 @@ use std::marker::Model;
 pub struct Within<const LEAST: u64, const MOST: u64> {
     number: u64,
 }
+
+/// How many tasks a random set has, 2 to 32.
+pub type TaskCount = Within<2, 32>;
 
 impl<const LEAST: u64, const MOST: u64> Model for Within<LEAST, MOST> {
     ghost use Rattle.std.specs.Prelude.{◌≤◌, ℕ};
@@ -22,10 +25,11 @@ impl<const LEAST: u64, const MOST: u64> Model for Within<LEAST, MOST> {
 
 impl<const LEAST: u64, const MOST: u64> Within<LEAST, MOST> {
     /// The number, if it is within the bounds.
-    pub fn new(number: u64) -> Option<Within<LEAST, MOST>>
+    pub fn new(number: u128) -> Option<Within<LEAST, MOST>>
         ensures { result ≡ within LEAST MOST number }
     {
-        if LEAST <= number && number <= MOST {
+        if u128::from(LEAST) <= number && number <= u128::from(MOST) {
+            let number = number as u64;
             Some(Within { number })
         } else {
             None

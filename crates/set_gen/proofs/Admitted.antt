@@ -1,4 +1,4 @@
--- Each set that is made is admitted.
+-- Each generated set is admitted.
 use Rattle.std.proofs.Common.{◌≤◌, List, arith}
 use Rattle.std.proofs.lemmas.Nat.Gcd.{le_of_dvd}
 use Rattle.mc_task.specs.declared.task.Task.{Task}

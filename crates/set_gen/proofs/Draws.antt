@@ -1,4 +1,4 @@
--- One task more.
+-- The generated tasks, with one more.
 use Rattle.std.proofs.Common.{◌≡◌, ℕ, suc, ◌+◌, ◌-◌, ◌/◌, List, [], ◌∷◌, ◌++◌, map, ap, sym, ◌∙◌, arith}
 use Rattle.std.specs.List.{range_with_len}
 use Rattle.std.specs.Int.{div_ceil}
@@ -8,7 +8,7 @@ use Rattle.set_gen.specs.Words.{after}
 use Rattle.set_gen.specs.MadeSet.{words_taken, words_before}
 use Rattle.set_gen.proofs.WordLemmas.{after-add}
 
--- the words that are left once the tasks before number i have theirs
+-- the words that are left for task number i
 abbrev pub words_for : Lcg → ℕ → Lcg
 words_for words i = after (words_before (i - 1)) words
 
@@ -20,11 +20,11 @@ high_tasks n = (n + 1) / 2
 abbrev pub low_tasks : ℕ → ℕ
 low_tasks n = n / 2
 
--- half of them, rounded up
+-- half of n tasks, rounded up, are high
 pub halves : (n : ℕ) → div_ceil n 2 ≡ high_tasks n
 halves n = grind arith
 
--- one more element, made with the words that those before it leave
+-- one more element, generated from the words that those before it leave
 pub made_more : {X : Type 0} (make : Lcg → ℕ → X) (words left : Lcg) (i : ℕ) (xs more : List X) (x : X)
     → xs ≡ map (λ k. make (words_for words k) k) (range_with_len 1 i) → left ≡ after (words_before i) words → x ≡ make left (i + 1) → more ≡ xs ++ x ∷ []
     → more ≡ map (λ k. make (words_for words k) k) (range_with_len 1 (i + 1))
@@ -34,7 +34,7 @@ made_more {X} make words left i xs more x made words_left is longer =
     let one : x ≡ f (i + 1) = is ∙ ap (λ w. make w (i + 1)) words_left ∙ ap (λ j. make (after (words_before j) words) (i + 1)) place in
     longer ∙ ap (λ l. l ++ x ∷ []) made ∙ ap (λ y. map f (range_with_len 1 i) ++ y ∷ []) one ∙ sym (map-range_with_len_more f 1 i (i + 1) (omega arith))
 
--- and the words that are left then
+-- the words that are left after one more task
 pub words_more : (words left last : Lcg) (i : ℕ) → left ≡ after (words_before i) words → last ≡ after (words_taken (i + 1)) left → last ≡ after (words_before (i + 1)) words
 words_more words left last i before then =
     let one : suc i ≡ i + 1 = omega arith in

@@ -1,4 +1,4 @@
--- How far the releases of the tasks that are made stand apart.
+-- The gaps between the releases of generated tasks.
 use Rattle.std.proofs.Common.{◌≡◌, ℕ, ◌+◌, ◌-◌, ◌<◌, ◌≤◌, length, slice_index, refl, sym, ◌∙◌, arith}
 use Rattle.std.proofs.lemmas.List.FromFn.{length-map-range_with_len, get_or-map-range_with_len}
 use Rattle.rand_pcg.specs.Lcg.{Lcg}
@@ -29,7 +29,7 @@ made_gaps-at : (words : Lcg) (n k i : ℕ) → k < n → 1 + k ≡ i → slice_i
 unfolding made_gaps
 made_gaps-at words n k i few e = get_or-map-range_with_len (λ j. made_gap (words_for words j) j) 1 n k i 0 few e
 
--- each is 200 to 10015 ticks
+-- each gap is 200 to 10015 ticks
 pub record IsBounded (gap : ℕ) : Type 0 where
   pub least : 200 ≤ gap
   pub most : gap ≤ 10015

@@ -1,4 +1,4 @@
--- Releases with their needs.
+-- Releases together with their needs.
 use Rattle.std.proofs.Common.{◌≡◌, ℕ, suc, ◌+◌, ◌%◌, ◌≤◌, true, false, ◌&&◌, ◌==◌, cond, List, [], ◌∷◌, ◌++◌, length, Option, None, Some, refl, ap, arith}
 use Rattle.rand_pcg.specs.Lcg.{Lcg}
 use Rattle.mc_task.specs.declared.task.Task.{Task}
@@ -12,7 +12,7 @@ use Rattle.set_gen.specs.Words.{word, rest, after}
 use Rattle.set_gen.specs.MadeWork.{need_in, job_row, job_rows}
 use Rattle.set_gen.proofs.Plans.{Apart, IsPlan}
 
--- the rows of one list of releases behind another
+-- the rows of two joined lists of releases
 pub job_rows-append : (words : Lcg) (set : List Task) (xs ys : List Arrival) → job_rows words set (xs ++ ys) ≡ job_rows words set xs ++ job_rows (after (length xs) words) set ys
 job_rows-append words set [] ys = refl
 job_rows-append words set (x ∷ xs) ys = ap (λ z. job_row set x (word words) ∷ z) (job_rows-append (rest words) set xs ys)
@@ -32,7 +32,7 @@ unfolding job_row
 all_follow words set a w [] h = tt
 all_follow words set a w (b ∷ more) h = (record { order = h.0.order; apart = h.0.apart }, all_follow (rest words) set a w more h.1)
 
--- with needs a plan is work
+-- the releases of a plan, with needs, are a list of work
 pub job_rows-IsWork : (words : Lcg) (set : List Task) (plan : List Arrival) → Each IsTask set → IsPlan set plan → IsWork set (job_rows words set plan)
 unfolding job_row
 job_rows-IsWork words set [] each h = tt

@@ -1,4 +1,4 @@
--- The tasks that are made, one by one, and the set of them.
+-- The generated tasks, one by one, and the set of them.
 use Rattle.std.proofs.Common.{◌≡◌, ◌≢◌, ℕ, zero, suc, ◌+◌, ◌-◌, ◌*◌, ◌/◌, ◌%◌, ◌^◌, ◌<◌, ◌≤◌, Bool, true, false, cond, List, ◌∷◌, map, length, Some, IsTrue, refl, ap, sym, ◌∙◌, arith, decimal}
 use Prim.Native.Nat.{◌∣◌}
 use Rattle.std.specs.List.{range_with_len, AllByRecursion, list_all}
@@ -19,7 +19,7 @@ use Rattle.set_gen.proofs.Periods.{IsPeriod, period-IsPeriod}
 use Rattle.set_gen.proofs.Draws.{words_for, high_tasks, low_tasks}
 use Rattle.mc_model.proofs.Ranges.{each-map-range, slice_get-map-range}
 
--- what is so of a high task and of a low task, by the number of the task, is so of the task that is made
+-- what holds of a high task and of a low one, by their numbers, holds of the generated task
 pub by_parity : (P : Task → Type 0) (words : Lcg) (n i : ℕ)
     → (is_odd i ≡ true → P (high_task (task_name i) (period (word words)) (high_tasks n) (word (rest words))))
     → (is_odd i ≡ false → P (low_task (task_name i) (period (word words)) (low_tasks n)))
@@ -31,7 +31,7 @@ by_parity P words n i high low = go (is_odd i) refl
     go true e = high e
     go false e = low e
 
--- its name
+-- the name of a generated task
 pub made_task-name : (words : Lcg) (n i : ℕ) → (made_task words n i).name ≡ task_name i
 made_task-name words n i = by_parity (λ t. t.name ≡ task_name i) words n i (λ e. unfold high_task in refl) (λ e. unfold low_task in refl)
 
@@ -46,14 +46,14 @@ digits = decimal_by_steps (λ m ds. list_all is_name_byte ds ≡ true)
     (λ m l. rw (digit m l) refl)
     (λ m ds l h. rw (list_all-append, h, digit (m % 10) (omega arith)) refl)
 
--- a name is made of `t` and digits
+-- `t` and the digits of a number are a name
 pub task_name-is_name : (i : ℕ) → i < 2 ^ 32 → IsTrue (is_name (task_name i))
 unfolding task_name
 task_name-is_name i h =
     let wide : i < 2 ^ 64 = omega arith in
     letters (decimal i) (digits i wide) (decimal_nonempty i wide) (length-decimal-le 10 i (omega arith) (omega arith) wide)
 
--- names differ where the numbers do
+-- names of different numbers differ
 task_name-differ : (i j : ℕ) → i < j → j < 2 ^ 32 → task_name i ≢ task_name j
 unfolding task_name
 task_name-differ i j less small e =
@@ -88,7 +88,7 @@ low-IsTask name p m is period some few =
       budgets = refl;
     }
 
--- each task is one
+-- each generated task is valid
 pub made_task-IsTask : (words : Lcg) (n i : ℕ) → 2 ≤ n → n ≤ 32 → i < 2 ^ 32 → IsTask (made_task words n i)
 made_task-IsTask words n i some few small =
     let name = task_name-is_name i small in
@@ -97,11 +97,11 @@ made_task-IsTask words n i some few small =
     (λ e. high-IsTask (task_name i) (period (word words)) (high_tasks n) (word (rest words)) name length (omega arith) (omega arith))
     (λ e. low-IsTask (task_name i) (period (word words)) (low_tasks n) name length (omega arith) (omega arith))
 
--- its period
+-- the period of a generated task
 pub made_task-period : (words : Lcg) (n i : ℕ) → (made_task words n i).period ≡ period (word words)
 made_task-period words n i = by_parity (λ t. t.period ≡ period (word words)) words n i (λ e. unfold high_task in refl) (λ e. unfold low_task in refl)
 
--- the names of a set of tasks with names of this form differ
+-- tasks with names of different numbers have different names
 distinct : (f : ℕ → Task) (a n : ℕ) → a + n < 2 ^ 32 → ((i : ℕ) → (f i).name ≡ task_name i) → Distinct (names_of (map f (range_with_len a n)))
 distinct f a zero small named = tt
 distinct f a (suc n) small named = (others (a + 1) n (omega arith) (omega arith), distinct f (a + 1) n (omega arith) named)
@@ -110,7 +110,7 @@ distinct f a (suc n) small named = (others (a + 1) n (omega arith) (omega arith)
     others b zero less most = tt
     others b (suc m) less most = (λ same. task_name-differ a b less (omega arith) (sym (named a) ∙ same ∙ named b), others (b + 1) m (omega arith) (omega arith))
 
--- the set is one
+-- the generated set is a set of n tasks
 pub made_set-length : (words : Lcg) (n : ℕ) → length (made_set words n) ≡ n
 unfolding made_set
 made_set-length words n = length-map-range_with_len (λ i. made_task (words_for words i) n i) 1 n
@@ -119,7 +119,7 @@ pub made_set-each : (P : Task → Type 0) (words : Lcg) (n : ℕ) → ((i : ℕ)
 unfolding made_set
 made_set-each P words n h = each-map-range P (λ i. made_task (words_for words i) n i) 1 n (λ i first last. h i first (omega arith))
 
--- their periods divide 20000
+-- the periods of the generated set divide 20000
 pub made_set-divides : (words : Lcg) (n : ℕ) → AllByRecursion (λ t. t.period ∣ 20000) (made_set words n)
 made_set-divides words n =
     made_set-each (λ t. t.period ∣ 20000) words n
@@ -136,7 +136,7 @@ made_set-AreTasks words n some few =
       names = distinct (λ i. made_task (words_for words i) n i) 1 n (omega arith) (λ i. made_task-name (words_for words i) n i);
     }
 
--- task number i of it
+-- task number i of the generated set
 pub made_set-at : (words : Lcg) (n i : ℕ) → 1 ≤ i → i ≤ n → task_at (made_set words n) i ≡ Some (made_task (words_for words i) n i)
 unfolding made_set
 made_set-at words n i first last =

@@ -1,4 +1,4 @@
--- The periods.
+-- The periods of generated tasks.
 use Rattle.std.proofs.Common.{◌≡◌, ℕ, zero, suc, ◌%◌, ◌<◌, ◌≤◌, ◌==◌, ◌&&◌, Bool, true, nat_le, List, [], ◌∷◌, length, slice_index, refl, arith}
 use Prim.Native.Nat.{◌∣◌}
 use Rattle.std.specs.List.{list_all}
@@ -13,7 +13,7 @@ pub record IsPeriod (p : ℕ) : Type 0 where
   pub most : p ≤ 10000
   pub divides : p ∣ 20000
 
--- by a test
+-- whether a number is 200 to 10000 and divides 20000
 abbrev test : ℕ → Bool
 test p = (nat_le 200 p && nat_le p 10000) && (20000 % p == 0)
 
@@ -25,7 +25,7 @@ at [] i h lt = absurd (omega arith)
 at (p ∷ ps) zero h lt = is_period p (and_parts (test p) (list_all test ps) h).0
 at (p ∷ ps) (suc i) h lt = at ps i (and_parts (test p) (list_all test ps) h).1 (omega arith)
 
--- whatever the word
+-- each word picks such a period
 pub period-IsPeriod : (w : ℕ) → IsPeriod (period w)
 unfolding period
 period-IsPeriod w = at periods (w % 12) (unfold periods in refl) (let twelve : length periods ≡ 12 = unfold periods in refl in omega arith)

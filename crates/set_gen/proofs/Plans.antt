@@ -1,4 +1,4 @@
--- The releases of tasks that stand at least their periods apart.
+-- The releases of tasks are at least their periods apart.
 use Rattle.std.proofs.Common.{◌≡◌, ℕ, zero, suc, ◌+◌, ◌-◌, ◌%◌, ◌<◌, ◌≤◌, Bool, true, false, cond, filter, List, [], ◌∷◌, ◌++◌, map, length, slice_index, refl, arith}
 use Rattle.std.specs.List.{range_with_len}
 use Rattle.std.proofs.lemmas.Bool.Decides.{nat_tests}
@@ -12,14 +12,14 @@ use Rattle.mc_model.proofs.Lists.{Each, Each-map, Each-append, Each-filter_if}
 use Rattle.set_gen.specs.MadeWork.{is_released, releases_at, releases_below}
 use Rattle.mc_model.proofs.Ranges.{each-map, each-range}
 
--- of two multiples of a gap the later one is at least the gap later
+-- the later of two different multiples of a gap is at least a gap later
 pub later_multiple : (gap a b : ℕ) → 1 ≤ gap → a % gap ≡ 0 → b % gap ≡ 0 → a < b → a + gap ≤ b
 later_multiple gap a b some first second less =
     let apart = dvd-sub gap (dvd_of_mod-eq-zero gap second) (dvd_of_mod-eq-zero gap first) in
     let far : gap ≤ b - a = le_of_dvd (omega arith) apart in
     omega arith
 
--- b may be released after a
+-- release b may come after release a
 pub record Apart (set : List Task) (a b : Arrival) : Type 0 where
   pub order : a.at ≤ b.at
   pub apart : a.task ≡ b.task → a.at + period_in (task_at set a.task) ≤ b.at
@@ -39,7 +39,7 @@ pub record AreFar (set : List Task) (gaps : List ℕ) : Type 0 where
   pub some : (i : ℕ) → 1 ≤ i → i ≤ length gaps → 1 ≤ slice_index gaps (i - 1)
   pub far : (i : ℕ) → 1 ≤ i → i ≤ length gaps → period_in (task_at set i) ≤ slice_index gaps (i - 1)
 
--- a release of one of the tasks, at a multiple of its gap
+-- the release is of one of the tasks, at a multiple of its gap
 pub record IsRelease (gaps : List ℕ) (a : Arrival) : Type 0 where
   pub first : 1 ≤ a.task
   pub last : a.task ≤ length gaps
@@ -48,7 +48,7 @@ pub record IsRelease (gaps : List ℕ) (a : Arrival) : Type 0 where
 abbrev pub release : ℕ → ℕ → Arrival
 release r i = record { task = i; at = r }
 
--- those at a boundary are at that boundary
+-- the releases at a boundary are at that boundary
 pub at_boundary : (gaps : List ℕ) (r : ℕ) → Each (λ a. IsRelease gaps a × (a.at ≡ r)) (releases_at gaps r)
 unfolding is_released
 at_boundary gaps r =
@@ -57,7 +57,7 @@ at_boundary gaps r =
     (each-range (λ i. is_released gaps r i ≡ true → IsRelease gaps (release r i) × (r ≡ r)) 1 (length gaps)
     (λ i first last on. (record { first = first; last = omega arith; multiple = grind (arith, nat_tests, on) }, refl))))
 
--- those below a boundary are below it
+-- the releases below a boundary are below it
 pub below_boundary : (gaps : List ℕ) (r : ℕ) → Each (λ a. IsRelease gaps a × (a.at < r)) (releases_below gaps r)
 below_boundary gaps zero = tt
 below_boundary gaps (suc r) =
@@ -65,7 +65,7 @@ below_boundary gaps (suc r) =
     (Each-map (λ a h. (h.0, (let less : a.at < r = h.1 in omega arith))) (releases_below gaps r) (below_boundary gaps r))
     (Each-map (λ a h. (h.0, (let same : a.at ≡ r = h.1 in omega arith))) (releases_at gaps r) (at_boundary gaps r))
 
--- those at one boundary are of different tasks
+-- the releases at one boundary are of different tasks
 plan_at : (set : List Task) (p : ℕ → Bool) (r a n : ℕ) → 1 ≤ a → a + n ≤ 1 + length set → IsPlan set (map (release r) (filter p (range_with_len a n)))
 plan_at set p r a zero some most = tt
 plan_at set p r a (suc n) some most =
@@ -81,7 +81,7 @@ plan_at set p r a (suc n) some most =
         (each-range (λ i. p i ≡ true → Apart set (release r a) (release r i)) (a + 1) n
         (λ i first last on. record { order = omega arith; apart = λ (same : a ≡ i). absurd (omega arith) })))
 
--- a release below a boundary and one at it
+-- a release at a boundary may come after one below it
 across : (set : List Task) (gaps : List ℕ) (r : ℕ) → AreFar set gaps → (x y : Arrival) → IsRelease gaps x → x.at < r → IsRelease gaps y → y.at ≡ r → Apart set x y
 across set gaps r far x y is below its on = record {
   order = omega arith;
@@ -92,7 +92,7 @@ across set gaps r far x y is below its on = record {
       omega (arith, gap, far.far x.task is.first is.last);
 }
 
--- all releases below a boundary
+-- all releases below a boundary are a plan
 pub plan_below : (set : List Task) (gaps : List ℕ) (r : ℕ) → AreFar set gaps → IsPlan set (releases_below gaps r)
 plan_below set gaps zero far = tt
 plan_below set gaps (suc r) far =

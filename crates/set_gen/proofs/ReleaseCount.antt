@@ -1,4 +1,4 @@
--- How many releases there are.
+-- The number of releases below a boundary.
 use Rattle.std.proofs.Common.{◌≡◌, ℕ, zero, suc, ◌+◌, ◌-◌, ◌*◌, ◌/◌, ◌%◌, ◌<◌, ◌≤◌, inl, inr, ◌==◌, cond, filter, List, length, slice_index, sym, ◌∙◌, arith, length-append}
 use Rattle.std.specs.List.{range_with_len}
 use Rattle.std.proofs.lemmas.Bool.Decides.{eqb_tells}
@@ -16,7 +16,7 @@ times : ℕ → ℕ → ℕ
 times gap zero = 0
 times gap (suc r) = times gap r + cond (r % gap == 0) 1 0
 
--- that many numbers a gap apart do not reach further than a gap past r
+-- multiples of a gap below r, a gap each, reach at most a gap past r
 times-gap : (gap r : ℕ) → 1 ≤ gap → times gap r * gap < r + gap
 unfolding times
 times-gap gap zero some = omega arith
@@ -48,7 +48,7 @@ below gaps (suc r) =
     let parts = total-add (λ i. times (slice_index gaps (i - 1)) r) (λ i. cond (r % slice_index gaps (i - 1) == 0) 1 0) (range_with_len 1 (length gaps)) in
     omega (arith, length-append (releases_below gaps r) (releases_at gaps r), below gaps r, one_boundary gaps r, parts)
 
--- gaps of at least 200 ticks: below 1,000,000 ticks each task has at most 5,000 releases
+-- with gaps of at least 200 ticks, each task has at most 5,000 releases below 1,000,000 ticks
 pub few_releases : (gaps : List ℕ) (r : ℕ) → ((i : ℕ) → 1 ≤ i → i ≤ length gaps → 200 ≤ slice_index gaps (i - 1)) → length gaps ≤ 32 → r ≤ 1000000 → length (releases_below gaps r) ≤ 1000000
 few_releases gaps r wide few most =
     let each : total (λ i. times (slice_index gaps (i - 1)) r) (range_with_len 1 (length gaps)) ≤ 5000 * length (range_with_len 1 (length gaps)) =

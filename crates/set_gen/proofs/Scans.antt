@@ -26,7 +26,7 @@ kept : (r k : ℕ) (b : Bool) → map (release r) (cond b (k ∷ []) []) ≡ con
 kept r k true = refl
 kept r k false = refl
 
--- one task more
+-- the releases at boundary r of one more task
 pub released_of-more : (gaps : List ℕ) (r i : ℕ) → released_of gaps r (i + 1) ≡ released_of gaps r i ++ release_of (slice_index gaps i) r (i + 1)
 unfolding is_released
 released_of-more gaps r i =
@@ -37,7 +37,7 @@ released_of-more gaps r i =
     ∙ map-append one (filter (is_released gaps r) (range_with_len 1 i)) (filter (is_released gaps r) ((i + 1) ∷ []))
     ∙ ap (λ l. released_of gaps r i ++ l) (kept r (i + 1) (r % slice_index gaps ((i + 1) - 1) == 0) ∙ ap (λ k. release_of (slice_index gaps k) r (i + 1)) place)
 
--- jobs that are added behind others, with the words that those left
+-- jobs of more releases, added with the words that those before left
 pub rows-more : (set : List Task) (words : Lcg) (start rows more : List WorkRow) (left : Lcg) (xs ys : List Arrival)
     → rows ≡ start ++ job_rows words set xs → left ≡ after (length xs) words → more ≡ rows ++ job_rows left set ys → more ≡ start ++ job_rows words set (xs ++ ys)
 rows-more set words start rows more left xs ys first taken then =
@@ -46,20 +46,20 @@ rows-more set words start rows more left xs ys first taken then =
 pub words-more : (words left last : Lcg) (xs ys : List Arrival) → left ≡ after (length xs) words → last ≡ after (length ys) left → last ≡ after (length (xs ++ ys)) words
 words-more words left last xs ys first then = rw (then, first, length-append xs ys, after-add (length xs) (length ys) words) refl
 
--- a task is released only where its next release is due
+-- a task whose next release is not due is not released
 pub not_due : (gap at next : ℕ) → 1 ≤ gap → IsNext gap at next → next ≢ at → at % gap ≢ 0
 not_due gap at next some is other on =
     let past : at + gap ≤ next = later_multiple gap at next some on is.multiple (omega arith) in
     omega arith
 
--- the next release of a task behind a boundary, at which it is released or not
+-- the next release of a task after a boundary at which it is released
 pub next-due : (gap at : ℕ) → 1 ≤ gap → at % gap ≡ 0 → IsNext gap (at + 1) (at + gap)
 next-due gap at some on = record { multiple = add-mod_right at gap ∙ on; reached = omega arith; near = omega arith }
 
 pub next-not_due : (gap at next : ℕ) → IsNext gap at next → next ≢ at → IsNext gap (at + 1) next
 next-not_due gap at next is other = record { multiple = is.multiple; reached = omega arith; near = omega arith }
 
--- between a boundary and the next release of each task nothing is released
+-- between a boundary and the next release of any task nothing is released
 pub none_between : (gaps next : List ℕ) (at until r : ℕ) → ((k : ℕ) → k < length gaps → 1 ≤ slice_index gaps k) → ((k : ℕ) → k < length gaps → IsNext (slice_index gaps k) (at + 1) (slice_index next k))
     → ((k : ℕ) → k < length gaps → until ≤ slice_index next k) → at < r → r < until → releases_at gaps r ≡ []
 unfolding is_released
@@ -77,11 +77,11 @@ none_between gaps next at until r some are far after_at before =
           | inr t ↦ t.0
         ]
 
--- at the next boundary with a release each task's next release is what it was
+-- at the next boundary with a release, each task's next release is as it was
 pub next-until : (gap at until next : ℕ) → IsNext gap (at + 1) next → at < until → until ≤ next → IsNext gap until next
 next-until gap at until next is later far = record { multiple = is.multiple; reached = far; near = omega arith }
 
--- boundaries without a release add none
+-- boundaries without a release add no release
 jump-by : (gaps : List ℕ) (a d : ℕ) → ((r : ℕ) → a ≤ r → r < a + d → releases_at gaps r ≡ []) → releases_below gaps (a + d) ≡ releases_below gaps a
 jump-by gaps a zero none = let same : a + 0 ≡ a = omega arith in ap (releases_below gaps) same
 jump-by gaps a (suc d) none =
@@ -96,11 +96,11 @@ releases_below-until gaps at until later none =
     let one : at + 1 ≡ suc at = omega arith in
     ap (releases_below gaps) whole ∙ jump-by gaps (at + 1) d (λ r first last. none r (omega arith) (omega arith)) ∙ ap (releases_below gaps) one
 
--- at a boundary that is no multiple of its gap the task is not released
+-- at a boundary that is not a multiple of its gap a task is not released
 pub release_of-none : (gap at i : ℕ) → at % gap ≢ 0 → release_of gap at i ≡ []
 release_of-none gap at i off = let no : (at % gap == 0) ≡ false = grind (arith, nat_tests) in rw no refl
 
--- what is so of the tasks before place i, and of a new value there, is so of those before the next place
+-- what holds of the values before index i, and of a new value there, holds of those before the next index
 pub before_more : (P : ℕ → ℕ → Type 0) (old new : List ℕ) (i v : ℕ) → i < length old → new ≡ slice_set old i v → ((k : ℕ) → k < i → P k (slice_index old k)) → P i v → (k : ℕ) → k < i + 1 → P k (slice_index new k)
 before_more P old new i v within same before here k less =
     elim (eqb_tells k i) [
@@ -108,7 +108,7 @@ before_more P old new i v within same before here k less =
       | inr t ↦ rw (same, get_or-set_other old i k v 0 (t.1)) (before k (let other : k ≢ i = t.1 in omega arith))
     ]
 
--- and what is so of those behind it stays so
+-- what holds of the values after index i stays true when that value changes
 pub behind_more : (P : ℕ → ℕ → Type 0) (old new : List ℕ) (i v n : ℕ) → new ≡ slice_set old i v → ((k : ℕ) → i ≤ k → k < n → P k (slice_index old k)) → (k : ℕ) → i + 1 ≤ k → k < n → P k (slice_index new k)
 behind_more P old new i v n same behind k first last =
     let other : k ≢ i = λ e. (omega arith) in

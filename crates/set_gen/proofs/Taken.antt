@@ -1,4 +1,4 @@
--- The work that is made is work for its set.
+-- The generated work is a list of work for its set.
 use Rattle.std.proofs.Common.{◌≡◌, ℕ, ◌-◌, List, length, arith}
 use Rattle.rand_pcg.specs.Lcg.{Lcg}
 use Rattle.mc_task.specs.declared.task.Task.{Task}
@@ -13,7 +13,7 @@ use Rattle.set_gen.proofs.Gaps.{made_gaps-length, made_gaps-bounded, made_gaps-A
 use Rattle.set_gen.proofs.JobRows.{job_rows-length, job_rows-IsWork}
 use Rattle.set_gen.proofs.ReleaseCount.{few_releases}
 
--- the work of a set that is made is work for it
+-- law: the work of a generated set is a list of work for it
 pub made_work-taken : MadeWorkIsTaken
 unfolding made_work
 made_work-taken words n ticks some few most =
@@ -27,7 +27,7 @@ made_work-taken words n ticks some few most =
           omega (arith, all, job_rows-length left (made_set words n) plan);
     }
 
--- the jobs of the set, with the words that it leaves, are the work
+-- the jobs of the generated set, made with the words that the set leaves, are the work
 pub made_work-rows : (words left : Lcg) (n ticks : ℕ) (set : List Task) (gaps : List ℕ) (rows : List WorkRow)
     → set ≡ made_set words n → gaps ≡ made_gaps words n → left ≡ after (words_before n) words → rows ≡ job_rows left set (releases_below gaps ticks) → rows ≡ made_work words n ticks
 unfolding made_work

@@ -1,4 +1,4 @@
--- What the tasks that are made ask for at most.
+-- Upper bounds on the utilisations of generated tasks.
 use Rattle.std.proofs.Common.{◌≡◌, ℕ, zero, suc, ◌+◌, ◌*◌, ◌/◌, ◌%◌, ◌≤◌, ◌⊎◌, inl, inr, true, false, cond, List, [], ◌∷◌, map, refl, ap, subst, ◌∙◌, arith}
 use Prim.Native.Nat.{◌∣◌}
 use Rattle.std.specs.List.{range_with_len, AllByRecursion}
@@ -24,7 +24,7 @@ use Rattle.set_gen.proofs.Draws.{words_for, high_tasks, low_tasks}
 abbrev IsShare : (Task → ℕ) → (Task → ℕ) → ℕ → Task → Type 0
 IsShare budget share c t = c * budget t ≤ share t * t.period
 
--- and so the load is at most as many parts of all time as the tasks have together
+-- the load is at most as many c-ths of all time as the tasks have shares together
 load-share : (budget share : Task → ℕ) (c n : ℕ) (ts : List Task) → AllByRecursion (λ t. t.period ∣ n) ts → AllByRecursion (IsShare budget share c) ts
     → c * load budget n ts ≤ total share ts * n
 load-share budget share c n [] divides shares = omega arith
@@ -40,7 +40,7 @@ divide_product ts =
     let all : lcm_from 1 ts ∣ product ts = subst (λ z. lcm_from 1 ts ∣ z) (omega arith) (lcm_from-dvd 1 ts) in
     Each-map (λ t h. dvd_trans t.period h all) ts (periods-dvd 1 ts)
 
--- one number for each low task and another for each high one
+-- the share of a task: one number for low tasks, another for high ones
 abbrev parts : ℕ → ℕ → Task → ℕ
 parts low high t = by_level t.level low high
 
@@ -50,13 +50,13 @@ made-parts low high words n i =
     (λ e. unfold high_task in rw e refl)
     (λ e. unfold low_task in rw e refl)
 
--- the next number is one more of its kind
+-- with the next number there is one more task of its level
 parity : (j : ℕ) → ((is_odd (1 + j) ≡ true) × (high_tasks (suc j) ≡ high_tasks j + 1) × (low_tasks (suc j) ≡ low_tasks j))
     ⊎ ((is_odd (1 + j) ≡ false) × (high_tasks (suc j) ≡ high_tasks j) × (low_tasks (suc j) ≡ low_tasks j + 1))
 unfolding is_odd
 parity j = elim (eqb_tells ((1 + j) % 2) 1) [ inl t ↦ inl (t.0, omega (arith, t.1), omega (arith, t.1)) | inr t ↦ inr (t.0, omega (arith, t.1), omega (arith, t.1)) ]
 
--- the first j tasks have so many parts
+-- the shares of the first j tasks
 made-total : (low high : ℕ) (words : Lcg) (n j : ℕ) → total (parts low high) (map (λ i. made_task (words_for words i) n i) (range_with_len 1 j)) ≡ low * low_tasks j + high * high_tasks j
 made-total low high words n zero = omega arith
 made-total low high words n (suc j) =
@@ -76,7 +76,7 @@ set-total : (low high : ℕ) (words : Lcg) (n : ℕ) → total (parts low high) 
 unfolding made_set
 set-total low high words n = made-total low high words n n
 
--- each task's part
+-- the share of one task in each utilisation
 low_low-share : (words : Lcg) (n i : ℕ) → IsShare low_low (parts 1 0) (2 * low_tasks n) (made_task words n i)
 low_low-share words n i =
     by_parity (IsShare low_low (parts 1 0) (2 * low_tasks n)) words n i
@@ -102,7 +102,8 @@ high_high-share words n i =
     (λ e. unfold high_task in mul-div-le (3 * period (word words)) (4 * high_tasks n))
     (λ e. unfold low_task in omega arith)
 
--- where each task asks for at most its parts, each part an (a * k)-th of its period, and there are b * k parts
+-- the utilisation of tasks that each ask for at most their shares, each share an (a * k)-th of the period, if
+-- there are b * k shares
 utilisation : (budget share : Task → ℕ) (words : Lcg) (n a b k : ℕ) → 1 ≤ k → total share (made_set words n) ≡ b * k
     → ((i : ℕ) → IsShare budget share (a * k) (made_task (words_for words i) n i))
     → a * load budget (product (made_set words n)) (made_set words n) ≤ b * product (made_set words n)
@@ -112,7 +113,7 @@ utilisation budget share words n a b k some parts_of each =
     let apart : k * (a * load budget (product set) set) ≤ k * (b * product set) = omega (arith, rw parts_of at shares) in
     le_of_mul-le-mul_left apart some
 
--- the three utilisations
+-- the three utilisations of a generated set
 pub made-low_low : (words : Lcg) (n : ℕ) → 2 ≤ n → n ≤ 32 → 2 * load_ll (made_set words n) ≤ product (made_set words n)
 made-low_low words n some few =
     let each = λ (i : ℕ). low_low-share (words_for words i) n i in

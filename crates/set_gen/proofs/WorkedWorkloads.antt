@@ -1,5 +1,5 @@
--- The definitions at values from outside: the first words of PCG's reference program for the state 42 and the stream 54, and
--- workloads that a program of their own, written from the description alone, makes.
+-- The definitions, computed at values from outside: the first words of PCG's reference program for the state
+-- 42 and the stream 54, and workloads from an independent program, written from the description alone.
 use Rattle.std.proofs.Common.{◌≡◌, ℕ, [], ◌∷◌, codes, refl}
 use Rattle.std.specs.Fmt.{digits}
 use Rattle.mc_task.specs.declared.task.Level.TheVariants.{Low, High}

@@ -1,4 +1,4 @@
--- What is so of each set and each work that words make.
+-- What holds of each generated set and its work.
 use Rattle.std.specs.Prelude.{ℕ, ◌*◌, ◌≤◌, List, length, IsSome}
 use Rattle.rand_pcg.specs.Lcg.{Lcg}
 use Rattle.mc_task.specs.declared.task.Task.{Task}
@@ -11,8 +11,8 @@ use Rattle.mc_model.specs.declared.work.WorkRow.{WorkRow}
 use Rattle.set_gen.specs.MadeSet.{made_set}
 use Rattle.set_gen.specs.MadeWork.{made_work}
 
--- a set whose periods are within range, with U_LL ≤ 1/2, U_HL ≤ 1/4 and U_HH ≤ 3/4: by the 3/4 law the published test
--- gives it a rule
+-- a set whose periods are within range, with U_LL ≤ 1/2, U_HL ≤ 1/4 and U_HH ≤ 3/4: by the 3/4 law the
+-- published test gives it a rule
 pub record AreWithinThreeQuarters (tasks : List Task) : Type 0 where
   pub set : AreTasks tasks
   pub range : IsWithinRange tasks
@@ -22,7 +22,7 @@ pub record AreWithinThreeQuarters (tasks : List Task) : Type 0 where
   pub quarters : IsThreeQuarters tasks
   pub rule : IsSome (published tasks)
 
--- law: whatever the words, each set of 2 to 32 tasks is admitted
+-- law: whatever the words, each generated set of 2 to 32 tasks is admitted
 abbrev pub MadeSetsAreAdmitted : Type 0
 MadeSetsAreAdmitted = (words : Lcg) (n : ℕ) → 2 ≤ n → n ≤ 32 → AreWithinThreeQuarters (made_set words n)
 
@@ -31,7 +31,8 @@ pub record IsTaken (set : List Task) (rows : List WorkRow) : Type 0 where
   pub work : IsWork set rows
   pub few : length rows ≤ 1000000
 
--- law: whatever the words, the work of such a set below at most 1,000,000 ticks is work for it
+-- law: whatever the words, the work of a generated set below at most 1,000,000 ticks is a list of work for
+-- the set
 abbrev pub MadeWorkIsTaken : Type 0
 MadeWorkIsTaken = (words : Lcg) (n ticks : ℕ) → 2 ≤ n → n ≤ 32 → ticks ≤ 1000000
     → IsTaken (made_set words n) (made_work words n ticks)

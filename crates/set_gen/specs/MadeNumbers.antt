@@ -1,4 +1,4 @@
--- The numbers of one made task: all that it has but its name.
+-- The numbers of one generated task: all of it except its name.
 use Rattle.std.specs.Prelude.{◌≡◌, ◌≤◌}
 use Rattle.mc_task.specs.declared.task.Task.{Task}
 use Rattle.set_gen.specs.declared.tasks.Numbers.{Numbers}

@@ -1,5 +1,5 @@
--- The work that is made for a set: task number i is released at 0 and at each multiple of the i-th gap, and each job takes
--- a word for its need.
+-- The work that is generated for a set: task number i is released at 0 and at each multiple of the i-th gap,
+-- and each job takes one word for its need.
 use Rattle.std.specs.Prelude.{ℕ, zero, suc, ◌+◌, ◌-◌, ◌%◌, ◌==◌, ◌&&◌, Bool, if◌then◌else◌, List, [], ◌∷◌, ◌++◌, length, map, filter, slice_index, Option, None, Some}
 use Rattle.std.specs.List.{range_with_len}
 use Rattle.rand_pcg.specs.Lcg.{Lcg}
@@ -25,7 +25,8 @@ abbrev pub releases_below : List ℕ → ℕ → List Arrival
 releases_below gaps zero = []
 releases_below gaps (suc r) = releases_below gaps r ++ releases_at gaps r
 
--- the need of a job of the task, by the job's word: rarely a high task's high budget, otherwise 1 to the low budget
+-- the need of a job of the task, by the job's word: rarely a high task's high budget, otherwise 1 to the low
+-- budget
 unfoldable pub need_in : Option Task → ℕ → ℕ
 need_in None w = 0
 need_in (Some t) w = if is_high t.level && w % 64 == 0 then t.high else 1 + w % t.low
@@ -39,7 +40,7 @@ abbrev pub job_rows : Lcg → List Task → List Arrival → List WorkRow
 job_rows words set [] = []
 job_rows words set (a ∷ more) = job_row set a (word words) ∷ job_rows (rest words) set more
 
--- the work of n tasks with releases before this many ticks, made with the words that the set leaves
+-- the work of n tasks with releases before this many ticks, generated from the words that the set leaves
 unfoldable pub made_work : Lcg → ℕ → ℕ → List WorkRow
 made_work words n ticks =
     job_rows (after (words_before n) words) (made_set words n) (releases_below (made_gaps words n) ticks)

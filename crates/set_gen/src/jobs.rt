@@ -1,4 +1,4 @@
-// The jobs of a work list, by release and then by task number.
+//! The jobs of a generated list of work, by release and then by task number.
 ghost use Rattle.std.specs.Prelude.{◌≡◌, ◌≤◌, ◌<◌, ◌^◌, ◌++◌, ◌∷◌, [], IfOk, OnOk, length, slice_index};
 ghost use Rattle.mc_task.specs.TaskSet.{IsIn, task_at};
 ghost use Rattle.set_gen.specs.Words.{word, rest};
@@ -11,7 +11,7 @@ use mc_task::{TaskNo, TaskSet};
 use rand_pcg::Lcg64Xsh32;
 use std::alloc::{AllocError, Global};
 
-// The jobs of the set below so many ticks, the releases of task number i standing the i-th gap apart.
+// The jobs of the set below `ticks` ticks; the releases of task number i are the i-th gap apart.
 pub fn jobs_of(
     alloc: Global,
     words: Lcg64Xsh32,
@@ -35,7 +35,7 @@ pub fn jobs_of(
     Ok(jobs.rows)
 }
 
-// The jobs so far, the words that are left, and when each task is released next.
+// The jobs so far, the words that are left, and the next release of each task.
 #[derive(Drop)]
 struct Jobs {
     words: Lcg64Xsh32,
@@ -44,8 +44,8 @@ struct Jobs {
 }
 
 impl Jobs {
-    // Adds the jobs that are released at boundary `at`. The answer is the next boundary with a release, or `ticks`
-    // where there is none below it.
+    // Adds the jobs that are released at boundary `at`. Returns the next boundary with a release, or `ticks` if there
+    // is none below it.
     fn release(
         &mut self,
         set: &TaskSet,
@@ -67,7 +67,7 @@ impl Jobs {
         Ok(least)
     }
 
-    // Adds the job of the task at index i, where it is released at boundary `at`. The answer is its next release behind it.
+    // Adds the job of the task at index i, if it is released at boundary `at`. Returns its next release after that.
     fn visit(&mut self, set: &TaskSet, i: usize, gap: u32, at: u32) -> Result<u32, AllocError>
         requires task { i < length set.now.tasks }
         requires count { length self.old.next.items ≡ length set.now.tasks }
@@ -105,7 +105,7 @@ impl Jobs {
     }
 }
 
-// The need of a job of the task, in ticks.
+// The need of a job of the task, in ticks, by the job's word.
 #[tactic(auto, unfolding(crate::specs::MadeWork::need_in))]
 fn need(set: &TaskSet, task: TaskNo, word: u32) -> u32
     requires { IsIn set.now.tasks task.0 }

@@ -1,4 +1,4 @@
-//! Workloads from a number: a set that the test admits, and work for it.
+//! Workloads generated from a number: a set that the test admits, and work for it.
 #![tactic(auto)]
 
 mod jobs;

@@ -1,4 +1,4 @@
-// A workload as a whole.
+//! Workloads generated from a number.
 ghost use Rattle.std.specs.Prelude.{◌≡◌, ◌≤◌, length, IfOk, Some};
 ghost use Rattle.mc_task.specs.TaskSet.{AreTasks, unscaled};
 ghost use Rattle.mc_model.specs.Test.{published};
@@ -19,7 +19,7 @@ use mc_task::{Memory, Rule, Task, TaskSet};
 use std::alloc::{AllocError, Global};
 use work_file::Work;
 
-/// A set of tasks that the test admits, the rule that it gives the set, and work for it.
+/// A generated set of tasks, which the test admits, the rule that the test gives the set, and work for it.
 #[derive(Debug, Drop)]
 pub struct Made {
     pub set: TaskSet,
@@ -27,12 +27,12 @@ pub struct Made {
     pub work: Work,
 }
 
-/// The workload of a number: so many tasks, 2 to 32, and their jobs below so many ticks, 1 to 1,000,000. The same
-/// numbers give the same workload, whatever the machine.
+/// The workload of a number: `tasks` tasks, 2 to 32, and their jobs below `ticks` ticks, 1 to 1,000,000. Equal numbers
+/// give equal workloads on every machine.
 ///
-/// Odd task numbers are high tasks and even ones low tasks, with periods of 200 to 10,000 ticks, U_HL at most 1/4, U_LL
-/// at most 1/2 and U_HH at most 3/4, so that the test admits each set (Baruah et al., ECRTS 2012). The only error is want
-/// of memory.
+/// Tasks with odd numbers are high and those with even ones low. Periods are 200 to 10,000 ticks, and U_HL is at most
+/// 1/4, U_LL at most 1/2 and U_HH at most 3/4, so that the test admits each set (Baruah et al., ECRTS 2012). The only
+/// error is `Memory`, if an allocation fails.
 pub fn make(alloc: Global, number: u64, tasks: u32, ticks: u64) -> Result<Made, Memory>
     requires some { 2 ≤ tasks }
     requires few { tasks ≤ 32 }
@@ -98,7 +98,7 @@ fn rule_of(set: &TaskSet) -> Rule
     }
 }
 
-// These rows as work.
+// These rows as a list of work.
 fn work_of(set: &TaskSet, rows: Vec<WorkRow>) -> Work
     requires { IsTaken set.now.tasks rows.items }
     ensures { result ≡ rows.items }

@@ -1,4 +1,4 @@
-// The tasks of a set, and how far their releases stand apart.
+//! The tasks of a generated set, and the gaps between their releases.
 ghost use Rattle.std.specs.Prelude.{◌≡◌, ◌≤◌, ℕ, List, IfOk, OnOk};
 ghost use Rattle.set_gen.specs.Words.{after};
 ghost use Rattle.set_gen.specs.MadeSet as spec;
@@ -9,19 +9,19 @@ use mc_task::{Level, Name, Task};
 use rand_pcg::Lcg64Xsh32;
 use std::alloc::{AllocError, Global};
 
-// In ticks. Their least common multiple is 20000.
+// The periods, in ticks. Their least common multiple is 20000.
 const PERIODS: [u32; 12] = [
     200, 250, 400, 500, 800, 1000, 1250, 2000, 2500, 4000, 5000, 10000,
 ];
 
-// The tasks by their numbers, and for each how many ticks its releases stand apart.
+// The tasks in order of their numbers, and for each the gap between its releases, in ticks.
 #[derive(Drop)]
 pub struct Drawn {
     pub tasks: Vec<Task>,
     pub gaps: Vec<u32>,
 }
 
-/// The numbers of a made task, in ticks: all that it has but its name.
+/// The numbers of a generated task, in ticks: all of it except its name.
 #[derive(Clone, Copy)]
 pub struct Numbers {
     pub level: Level,
@@ -30,7 +30,7 @@ pub struct Numbers {
     pub high: u32,
 }
 
-// Makes so many tasks.
+// Generates `count` tasks.
 pub fn draw(alloc: Global, words: &mut Lcg64Xsh32, count: u32) -> Result<Drawn, AllocError>
     requires some { 2 ≤ count }
     requires few { count ≤ 32 }
@@ -48,7 +48,7 @@ pub fn draw(alloc: Global, words: &mut Lcg64Xsh32, count: u32) -> Result<Drawn, 
     Ok(Drawn { tasks, gaps })
 }
 
-// Makes the task of this number, and its gap.
+// Generates the task with this number, and its gap.
 fn draw_one(
     alloc: Global,
     words: &mut Lcg64Xsh32,
@@ -73,8 +73,8 @@ fn draw_one(
     Ok((task, gap))
 }
 
-/// Draws the numbers of task `number` of `count`, 2 to 32, with the next words, and how many ticks its releases stand apart.
-/// It takes no memory.
+/// Draws the numbers of task `number` of `count`, 2 to 32, from the next words, and the gap between its releases, in
+/// ticks. It allocates nothing.
 pub fn draw_numbers(words: &mut Lcg64Xsh32, count: u32, number: u32) -> (Numbers, u32)
     requires some { 2 ≤ count }
     requires few { count ≤ 32 }

@@ -1,11 +1,11 @@
-// The words of a number.
+//! The words of a number.
 ghost use Rattle.std.specs.Prelude.{◌≡◌};
 ghost use Rattle.set_gen.specs.Words as spec;
 
 use rand_core::utils::NextWord;
 use rand_pcg::Lcg64Xsh32;
 
-/// The words of this number, none of them taken.
+/// The words of this number, before any is taken.
 pub fn words_of(number: u64) -> Lcg64Xsh32
     ensures { result ≡ spec.words_of number }
 {

@@ -1,3 +1,4 @@
+//! Tests of the schedulability test.
 ghost use Rattle.std.specs.Prelude.{IfOk};
 ghost use Rattle.mc_task.specs.TaskSet.{IsScale};
 ghost use Rattle.load_sum.specs.Belong.{AreOfSomeSet};
@@ -105,7 +106,7 @@ fn a_chosen_scale_is_taken_where_it_holds(rt: HostRuntime) -> Result<(), Fail> {
     assert_eq!(rt; admit_scaled(&control, None), published);
     assert_eq!(rt; admit_scaled(&control, Some(whole())), published);
     assert_eq!(rt; admit_scaled(&control, Some(half())), chosen);
-    // Also where EDF fits.
+    // Scales hold for a set that EDF fits, too.
     let plain = loads_of(rt.alloc(), &PLAIN_PAIR)?;
     assert_eq!(rt; admit_scaled(&plain, Some(half())), chosen);
     // No scale holds for a set that is not admitted.
@@ -117,7 +118,7 @@ fn a_chosen_scale_is_taken_where_it_holds(rt: HostRuntime) -> Result<(), Fail> {
 #[test]
 fn a_scale_holds_within_its_two_bounds(rt: HostRuntime) -> Result<(), Fail> {
     let loads = loads_of(rt.alloc(), &CONTROL)?;
-    // From U_HL / (1 - U_LL) to (1 - U_HH) / U_LL, that is from 2/5 to 4/5.
+    // Scales hold from U_HL / (1 - U_LL) to (1 - U_HH) / U_LL, here from 2/5 to 4/5.
     let cases = [
         (39, 100, false),
         (2, 5, true),

@@ -1,4 +1,4 @@
-// The values that are wanted come from worked examples, and from a program of their own over fractions.
+//! Tests of first fit. Expected values come from worked examples, and from an independent program over fractions.
 use mc_model::WorkRow;
 use mc_task::Level::{High, Low};
 use mc_task::{TaskNo, TaskSet};
@@ -14,7 +14,7 @@ const PLANT: [Line; 3] = [
     ("log", Low, 10, 5, 5),
 ];
 
-// So many low tasks of one period and one budget.
+// A set of `count` low tasks with the same period and budget.
 fn equal_tasks(alloc: Global, count: u32, period: u32, budget: u32) -> Result<TaskSet, Fail> {
     let mut tasks = Vec::new(alloc);
     for number in 0..count {
@@ -28,11 +28,13 @@ fn equal_tasks(alloc: Global, count: u32, period: u32, budget: u32) -> Result<Ta
 fn each_task_goes_to_the_least_processor_that_takes_it(rt: HostRuntime) -> Result<(), Fail> {
     let alloc = rt.alloc();
     let cases: [(&str, u32, &[Line], &[u32]); 5] = [
-        // The first two have a load of 5/4 by their greatest budgets, and go together by virtual deadlines alone.
+        // The first two tasks have a load of 5/4 by their greatest budgets, and fit together only with virtual
+        // deadlines.
         ("plant", 2, &PLANT, &[1, 1, 2]),
         ("the first two on one", 1, &TAP_AND_ARM, &[1, 1]),
         (
-            // The third task would fill the second processor, and goes to the first; the last finds its place behind it.
+            // The third task would fill the second processor, and goes to the first; the last task then fits on the
+            // second.
             "first and not best or next",
             2,
             &[
@@ -55,7 +57,7 @@ fn each_task_goes_to_the_least_processor_that_takes_it(rt: HostRuntime) -> Resul
             &[1, 2, 3],
         ),
         (
-            // Together the periods are out of range.
+            // The periods of both tasks together are out of range.
             "periods that do not go together",
             2,
             &[
@@ -88,7 +90,7 @@ fn the_first_task_without_room_is_told(rt: HostRuntime) -> Result<(), Fail> {
     let set = equal_tasks(alloc, 18, 5, 5)?;
     let fault = fit(alloc, &set, 16).err();
     assert!(rt; fault == Some(FitFault::NoRoom { task: TaskNo(17) }));
-    // Without range on any processor, though the second of the two has hardly a load.
+    // Both tasks together are out of range on any processor, though the second one has hardly any load.
     let lines = [("a", Low, 4294967295, 1, 1), ("b", Low, 4294967294, 1, 1)];
     let fault = fit(alloc, &set_of(alloc, &lines)?, 1).err();
     assert!(rt; fault == Some(FitFault::NoRoom { task: TaskNo(2) }));
@@ -98,7 +100,7 @@ fn the_first_task_without_room_is_told(rt: HostRuntime) -> Result<(), Fail> {
 #[test]
 fn as_many_tasks_as_a_set_may_have(rt: HostRuntime) -> Result<(), Fail> {
     let alloc = rt.alloc();
-    // Eight of these fill a processor, so that they fill sixteen.
+    // Eight of these tasks fill a processor, so all of them fill sixteen.
     let set = equal_tasks(alloc, 128, 8, 1)?;
     let Ok(parts) = fit(alloc, &set, 16) else {
         return Err("no parts".into());
@@ -107,7 +109,7 @@ fn as_many_tasks_as_a_set_may_have(rt: HostRuntime) -> Result<(), Fail> {
     for (index, processor) in parts.of.iter().enumerate() {
         assert!(rt; *processor as usize == index / 8 + 1, "{index}");
     }
-    // All of these go on the first, and the others have none.
+    // All of these tasks go on the first processor, and the others have none.
     let set = equal_tasks(alloc, 128, 128, 1)?;
     let Ok(parts) = fit(alloc, &set, 16) else {
         return Err("no parts".into());

@@ -1,3 +1,4 @@
+//! Tests of divisors, multiples and fractions.
 use std::test::Fail;
 use tick_frac::{Ratio, gcd, lcm_within};
 

@@ -1,4 +1,5 @@
-//! Tests of the crates on sets of tasks: fractions, sets, the tests of admission, several processors, random sets, studies.
+//! Tests of the crates on sets of tasks: fractions, sets, the tests of admission, several processors, random sets,
+//! studies.
 #![tactic(auto)]
 
 #[cfg(test)]

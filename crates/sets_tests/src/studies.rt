@@ -1,4 +1,4 @@
-// The values that are wanted come from worked examples, and from a program of their own over fractions.
+//! Tests of studies. Expected values come from worked examples, and from an independent program over fractions.
 use admission::admit;
 use load_sum::sum_loads;
 use mc_task::Level::{High, Low};
@@ -14,7 +14,7 @@ const MOST: u32 = u32::MAX;
 
 const PERCENTAGES: [u32; 11] = [100, 110, 120, 130, 140, 150, 160, 170, 180, 190, 200];
 
-// Sets by what is told of them, and their stretches.
+// Sets, each with a description and its stretch.
 const SETS: [(&str, &[Line], Option<u32>); 8] = [
     ("control", &CONTROL, Some(149)),
     ("the scaled load reaches 1", &TAP_AND_ARM, Some(133)),
@@ -64,7 +64,7 @@ fn with_percent(alloc: Global, set: &TaskSet, s: u32) -> Result<TaskSet, Fail> {
     Ok(TaskSet::new(tasks)?)
 }
 
-// The last percentage up to 1000 at which the test admits the set, of all that are tried one by one.
+// The last percentage up to 1000 at which the test admits the set, when all are tried one by one.
 fn last_admitted(alloc: Global, set: &TaskSet) -> Result<Option<u32>, Fail> {
     let mut last = None;
     for s in 0..1001 {
@@ -154,7 +154,7 @@ fn made_sets_are_counted_by_their_stretch(rt: HostRuntime) -> Result<(), Fail> {
     Ok(())
 }
 
-// A call for one set starts no thread, and one for 10,000 sets starts some.
+// A call for one set starts no thread; a call for 10,000 sets starts some.
 #[test]
 fn several_threads_count_what_one_counts(rt: HostRuntime) -> Result<(), Fail> {
     let alloc = rt.alloc();

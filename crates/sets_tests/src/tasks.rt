@@ -1,3 +1,4 @@
+//! Tests of tasks and sets.
 ghost use Rattle.mc_task.specs.TaskSet.{IsScale};
 
 use mc_task::{Level, Name, Rule, Scale, SetFault, Task, TaskNo, TaskSet};
@@ -18,7 +19,7 @@ fn task(name: &[u8], level: Level, period: u32, low: u32, high: u32) -> Option<T
 // A task's name, level, period and two budgets.
 type Line = (&'static [u8], Level, u32, u32, u32);
 
-// Tasks by these lines.
+// The tasks of these lines.
 fn tasks(alloc: Global, lines: &[Line]) -> Result<Vec<Task>, AllocError> {
     let mut tasks = Vec::new(alloc);
     for (name, level, period, low, high) in lines {
@@ -33,7 +34,7 @@ fn set_of(alloc: Global, lines: &[Line]) -> Result<TaskSet, Fail> {
     Ok(TaskSet::new(tasks(alloc, lines)?)?)
 }
 
-// Why the lines are no set, if they are none.
+// Why the lines are not a set, if they are not.
 fn refusal(alloc: Global, lines: &[Line]) -> Result<Option<SetFault>, AllocError> {
     Ok(TaskSet::new(tasks(alloc, lines)?).err())
 }
@@ -80,7 +81,7 @@ const LOG: Line = (b"log", Level::Low, 10, 5, 5);
 
 const DISPLAY: Line = (b"display", Level::Low, 10, 1, 1);
 
-// Whether the set has this line's task under this number.
+// Whether the set has the task of this line under this number.
 fn has(set: &TaskSet, number: u32, line: Line) -> bool {
     let (name, level, period, low, high) = line;
     set.get(TaskNo(number)) == task(name, level, period, low, high)
@@ -107,7 +108,7 @@ fn a_copy_has_the_same_tasks(rt: HostRuntime) -> Result<(), Fail> {
     Ok(())
 }
 
-// The numbers of three tasks, and of a name that none of them has, as they are found from this number.
+// The numbers of three tasks, and of a name that no task has, as `find_near` returns them from this number.
 fn found_from(set: &TaskSet, near: u32) -> [Option<TaskNo>; 4] {
     let names = [b"ctl".as_slice(), b"log", b"display", b"lo"];
     names.map(|name| set.find_near(name, TaskNo(near)))

@@ -1,5 +1,6 @@
-// The values that are wanted come from a program of their own, written in Python from the description of the workloads
-// and from PCG's reference generator, whose first words for the state 42 and the stream 54 are known.
+//! Tests of generated workloads. Expected values come from an independent program, written in Python from the
+//! description of the workloads and from PCG's reference generator, whose first words for the state 42 and the stream
+//! 54 are known.
 ghost use Rattle.std.specs.Prelude.{◌≤◌};
 
 use mc_model::WorkRow;
@@ -53,7 +54,7 @@ fn jobs_text(alloc: Global, rows: &[WorkRow]) -> Result<String, AllocError> {
     Ok(text)
 }
 
-// One number that tells of all jobs and of their order.
+// One number that depends on all jobs and on their order.
 fn digest(rows: &[WorkRow]) -> u64 {
     let mut digest = 0u64;
     for row in rows {
@@ -66,7 +67,7 @@ fn digest(rows: &[WorkRow]) -> u64 {
     digest
 }
 
-// What a test compares: the set, the rule, the first jobs, how many jobs there are, and their digest.
+// What a test compares: the set, the rule, the first jobs, the number of jobs, and their digest.
 #[derive(Drop)]
 struct Seen {
     set: String,
@@ -119,7 +120,7 @@ fn a_high_task_rarely_needs_its_high_budget(rt: HostRuntime) -> Result<(), Fail>
     let set = "t1 high 200 19 75\nt2 low 10000 5000 5000\nt3 high 200 22 75\n";
     assert_eq!(rt; seen.set.as_str(), set);
     assert_eq!(rt; seen.rule.as_str(), "41/100");
-    // The needs of 75 are high budgets.
+    // The jobs of task 3 with the need 75 need the high budget.
     let jobs = "1@0+12 2@0+712 3@0+22 1@204+17 3@213+17 1@408+8 3@426+75 1@612+3 3@639+75 ";
     assert_eq!(rt; seen.jobs.as_str(), jobs);
     Ok(())

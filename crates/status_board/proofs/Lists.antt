@@ -1,4 +1,4 @@
--- Logs that grow, lists of which one begins another, and lists of views of which one changes.
+-- Logs that grow, lists of which one begins another, and lists of views in which one changes.
 use Rattle.std.proofs.Common.{◌≡◌, ℕ, zero, suc, ◌+◌, ◌≢◌, List, [], ◌∷◌, ◌++◌, length, set, sym, refl, ap, ◌∙◌, subst, ⊎_elim, append_assoc, append-nil, Bool, true, false, nat_lt, if◌then◌else◌}
 use mathlib.Core.Option.{some, some-ne-none}
 use lib.ListN.{get_elem?}
@@ -22,7 +22,7 @@ pub all_further : (more log : List Shown) (told : List (List Shown)) → StartsW
 all_further more log [] a h = tt
 all_further more log (x ∷ xs) a h = (further more log x a h.0, all_further more log xs a h.1)
 
--- of two beginnings the longer is one
+-- of two lists that begin a log, the longer one begins it
 pub longer_begins : (log xs ys : List Shown) → StartsWith log xs → StartsWith log ys → StartsWith log (longer xs ys)
 longer_begins log xs ys a b = go (nat_lt (length xs) (length ys))
   where
@@ -34,7 +34,7 @@ pub last_more : (d : Shown) (xs : List Shown) (x : Shown) → last_of d (xs ++ x
 last_more d [] x = refl
 last_more d (y ∷ ys) x = last_more y ys x
 
--- one more pair, with one tick more than the last
+-- one more pair, with one tick more than the last, leaves the ticks rising one at a time
 rises_more : (n : ℕ) (d : Shown) (xs : List Shown) (x : Shown) → d.ticks ≡ n → Rises n xs → x.ticks ≡ (last_of d xs).ticks + 1 → Rises n (xs ++ x ∷ [])
 rises_more n d [] x is h next = (next ∙ ap (λ (k : ℕ). k + 1) is, tt)
 rises_more n d (y ∷ ys) x is h next = (h.0, rises_more (n + 1) y ys x h.0 h.1 next)
@@ -44,7 +44,7 @@ log_more [] x h next = absurd h
 log_more (y ∷ ys) x h next = (h.0, (h.1.0, rises_more 0 y ys x h.0 h.1.1 next))
 
 module _ {A : Type 0} where
-  -- what holds of the new element, and of each other, holds of each
+  -- what holds of the new element, and of each other element, holds of each
   pub set_all : (P : ℕ → A → Type 0) (l : List A) (id : ℕ) (w : A) → P id w → ((j : ℕ) (u : A) → j ≢ id → get_elem? l j ≡ some u → P j u)
       → (j : ℕ) (u : A) → get_elem? (set l id w) j ≡ some u → P j u
   set_all P l id w here rest j u e = ⊎_elim

@@ -1,4 +1,4 @@
--- Each step keeps the rule, and tells what its `Play` says.
+-- Each step keeps the rule, and its result is what its `Play` says.
 use Rattle.std.proofs.Common.{◌≡◌, ℕ, zero, suc, ◌+◌, ◌≢◌, List, [], ◌∷◌, ◌++◌, set, slice_index, sym, refl, ap, ◌∙◌, subst, ⊎_elim, true, false}
 use mathlib.Core.Option.{some, some-injective, some-ne-none}
 use mathlib.Core.Option as maybe
@@ -19,17 +19,17 @@ first : (id : ℕ) (v : View) → get_elem? (writer_view ∷ []) id ≡ some v �
 first zero v e = subst (IsTokenOf (start ∷ []) 0) (some-injective writer_view v e) (record { first = λ _. refl; seen = λ _. whole (start ∷ []); told = tt })
 first (suc k) v e = absurd (some-ne-none v (sym e))
 
--- a board at the start
+-- a board that was just made keeps the rule
 pub starts : Orderly (opening (0 ∷ []) [] writer_view)
 starts = record { writer = writer_view; there = refl; writes = refl; log = (refl, (refl, tt)); word = refl; each = λ id v at. first id v at }
 
--- the writer is in the first place, and what it showed is the log
+-- the writer is the first token, and its list is the log
 is_first : (s : State (Unit {0}) View) (r : Orderly s) (id : ℕ) (v : View) → get_elem? s.views id ≡ some v → v.writes ≡ true → (id ≡ 0) × (r.writer ≡ v)
 is_first s r id v at writes =
     let z = (r.each id v at).first writes in
     (z, some-injective r.writer v (sym r.there ∙ (ap (λ (i : ℕ). get_elem? s.views i) (sym z) ∙ at)))
 
--- the writer shows a pair
+-- showing a pair keeps the rule
 pub shows : (n id : ℕ) (m : Standing) (now : Shown) → m.0.writes ≡ true → m.0.live ≡ true → now.ticks ≡ (last_of start m.0.list).ticks + 1
     → Allows Orderly n id m 0 (λ _. word_of now) (λ _. Shows (step n 0 (word_of now) 0 maybe.none) m (word_of now))
 shows n id m now writes live next s r wide at lt =
@@ -57,7 +57,7 @@ shows n id m now writes live next s r wide at lt =
       (now, refl, new, refl),
     )
 
--- a token sees the board
+-- a look at the board keeps the rule
 pub looks : (n id : ℕ) (m : Standing) → m.0.writes ≡ false → m.0.live ≡ true → Allows Orderly n id m 0 (λ k. k) (Looks (step n 0 0 0 maybe.none) m)
 looks n id m reads live s r wide at lt =
     let v : View = m.0 in
@@ -79,7 +79,7 @@ looks n id m reads live s r wide at lt =
       (log, r.log, f.seen live, f.told, ap (λ (ws : List ℕ). slice_index ws 0) r.word, refl),
     )
 
--- a copy of what the writer showed
+-- a copy of what the writer showed keeps the rule
 pub copies : (id : ℕ) (v : View) → v.live ≡ true → Splits Orderly id v v (watcher_view v)
 copies id v live s r at =
     let f = r.each id v at in
@@ -99,7 +99,7 @@ copies id v live s r at =
           (at_snoc (set s.views id v) (watcher_view v) u j at_j);
     }
 
--- a note is taken in by a watcher
+-- taking a note into a watcher keeps the rule
 pub joins : (id other : ℕ) (v w : View) → v.writes ≡ false → v.live ≡ true → w.writes ≡ false → w.live ≡ true → Joins Orderly id v other w (both_views v w) spent_view
 joins id other v w reads live note_reads note_live s r at ne at2 =
     let b : View = both_views v w in

@@ -1,4 +1,4 @@
--- Boards, by the names of their tables: a plain value, for what a caller keeps of a board in a type of its own.
+-- Boards by the names of their tables: a plain value by which a caller's own type can name a board.
 use Rattle.std.specs.Prelude.{ℕ, List}
 use Rattle.std.specs.Coded.{Coded, code_by, coded_ℕ, coded_list, coded×}
 use Rattle.atomic_table.specs.Seated.{TableId}
@@ -16,7 +16,7 @@ id_of t = record {
   slot_names = t.slot_names;
 }
 
--- two names are one in at most one way
+-- board names have codes, so any two proofs that two names are equal are equal
 abbrev pub board_id_coded : Coded BoardId
 board_id_coded =
     code_by (ℕ × (ℕ × (ℕ × (ℕ × (ℕ × (ℕ × List ℕ))))))

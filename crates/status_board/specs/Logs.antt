@@ -7,7 +7,7 @@ use Rattle.status_board.specs.declared.shown.Shown.{Shown}
 abbrev pub StartsWith : List Shown → List Shown → Type 0
 StartsWith list earlier = (later : List Shown) × (list ≡ earlier ++ later)
 
--- what stands on a board that was just made: no tick, and low mode
+-- what a new board shows: no tick, and low mode
 abbrev pub start : Shown
 start = record { ticks = 0; high_mode = false }
 
@@ -21,7 +21,7 @@ abbrev pub IsLog : List Shown → Type 0
 IsLog [] = ⊥
 IsLog (x ∷ xs) = (x.ticks ≡ 0) × ((x.high_mode ≡ false) × Rises 0 xs)
 
--- any two proofs that pairs rise so are equal
+-- any two proofs that pairs rise one tick at a time are equal
 pub Rises-prop : (n : ℕ) (xs : List Shown) → IsProp (Rises n xs)
 Rises-prop n [] = Unit-prop
 Rises-prop n (x ∷ xs) = ×_prop (Coded-set coded_ℕ x.ticks (n + 1)) (Rises-prop (n + 1) xs)
@@ -32,12 +32,12 @@ IsLog-prop [] = λ a b. absurd a
 IsLog-prop (x ∷ xs) =
     ×_prop (Coded-set coded_ℕ x.ticks 0) (×_prop (Coded-set coded_bool x.high_mode false) (Rises-prop 0 xs))
 
--- the last of the pairs, and d where there is none
+-- the last of the pairs; d if there is none
 abbrev pub last_of : Shown → List Shown → Shown
 last_of d [] = d
 last_of d (x ∷ xs) = last_of x xs
 
--- 1 in high mode
+-- 1 in high mode, 0 in low mode
 abbrev pub mode_bit : Bool → ℕ
 mode_bit true = 1
 mode_bit false = 0

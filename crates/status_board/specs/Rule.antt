@@ -1,5 +1,5 @@
--- The rule, which every step keeps: there is one writer, its list is a log, the word is the last pair of it, and all others
--- know a beginning of it.
+-- The rule that every step keeps: there is one writer, its list is a log, the word stands for the log's last
+-- pair, and every other token knows a beginning of the log.
 use Rattle.std.specs.Prelude.{◌≡◌, ℕ, List, [], ◌∷◌, true, ⊤}
 use mathlib.Core.Option.{some}
 use lib.ListN.{get_elem?}
@@ -13,15 +13,15 @@ abbrev pub AllBegin : List Shown → List (List Shown) → Type 0
 AllBegin log [] = ⊤
 AllBegin log (x ∷ xs) = StartsWith log x × AllBegin log xs
 
--- what is so of the token in place id
+-- what holds of token number id
 pub record IsTokenOf (log : List Shown) (id : ℕ) (v : View) : Type 0 where
-  -- the writer has the first place
+  -- the writer has number 0
   pub first : v.writes ≡ true → id ≡ 0
-  -- what the token showed or saw, and what it learned from others, is a beginning of the log
+  -- what the token showed or saw, and what it learned from other tokens, is a beginning of the log
   pub seen : v.live ≡ true → StartsWith log v.list
   pub told : AllBegin log v.told
 
--- what is so between any two steps
+-- what holds between any two steps
 pub record Orderly (s : State (Unit {0}) View) : Type 0 where
   pub writer : View
   pub there : get_elem? s.views 0 ≡ some writer

@@ -1,4 +1,4 @@
--- What contracts see of the tokens.
+-- Tokens as contracts see them.
 use Rattle.std.specs.Prelude.{◌≡◌, List, [], ◌∷◌}
 use Rattle.status_board.specs.declared.shown.Shown.{Shown}
 use Rattle.status_board.specs.declared.tokens.Writer.{Writer}
@@ -16,11 +16,11 @@ shown w = w.seat.me.0.list
 abbrev pub seen : Watcher → List Shown
 seen w = w.seat.me.0.list
 
--- the writer is the one of this board
+-- this is the writer of this board
 abbrev pub IsWriterOf : Board → Writer → Type 0
 IsWriterOf b w = w.seat.table_id ≡ b.table.shared.table_id
 
--- the watcher is one of this board
+-- the watcher belongs to this board
 abbrev pub IsWatcherOf : Board → Watcher → Type 0
 IsWatcherOf b w = w.seat.table_id ≡ b.table.shared.table_id
 
@@ -28,11 +28,11 @@ IsWatcherOf b w = w.seat.table_id ≡ b.table.shared.table_id
 abbrev pub board_id : Board → BoardId
 board_id b = id_of b.table.shared.table_id
 
--- of which board a writer's token is
+-- the board that a writer belongs to
 abbrev pub writer_board : Writer → BoardId
 writer_board w = id_of w.seat.table_id
 
--- of which board a watcher's token is
+-- the board that a watcher belongs to
 abbrev pub watcher_board : Watcher → BoardId
 watcher_board w = id_of w.seat.table_id
 

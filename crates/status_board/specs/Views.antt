@@ -1,4 +1,4 @@
--- What a token knows: its view of the board, and what becomes of it at each step.
+-- What a token knows: its view of the board, and how each step changes it.
 use Rattle.std.specs.Prelude.{List, [], ◌∷◌, ◌++◌, length, true, false, nat_lt, if◌then◌else◌}
 use Rattle.status_board.specs.declared.shown.Shown.{Shown}
 use Rattle.status_board.specs.declared.shown.View.{View}
@@ -12,11 +12,11 @@ writer_view = record { writes = true; live = true; list = start ∷ []; told = [
 abbrev pub watcher_view : View → View
 watcher_view v = record { writes = false; live = true; list = v.list; told = [] }
 
--- the writer showed one more pair
+-- a writer's view after it showed one more pair
 abbrev pub shown_view : Shown → View → View
 shown_view now v = record v { list = v.list ++ now ∷ [] }
 
--- a token saw the board, where this is the log
+-- a token's view after it saw the board, if this is the log
 abbrev pub seen_view : List Shown → View → View
 seen_view log v = record v { list = log; told = [] }
 
@@ -24,7 +24,7 @@ seen_view log v = record v { list = log; told = [] }
 abbrev pub longer : List Shown → List Shown → List Shown
 longer xs ys = if nat_lt (length xs) (length ys) then ys else xs
 
--- the first took in the second: it has the longer list, and keeps both
+-- a view after it took in another: it has the longer list, and keeps both
 abbrev pub both_views : View → View → View
 both_views v w = record v { list = longer v.list w.list; told = v.list ∷ w.list ∷ v.told }
 

@@ -1,4 +1,4 @@
-//! The board, and how it is shown on and read.
+//! The board, and how pairs are shown and read.
 ghost use Rattle.std.specs.Prelude.{◌≡◌, ◌+◌, ◌≤◌, ◌^◌, ◌++◌, ◌∷◌, []};
 ghost use Rattle.status_board.specs.Logs.{StartsWith, start, last_of, word_of};
 
@@ -8,17 +8,17 @@ use crate::tokens::{Watcher, Writer};
 use atomic_table::Table;
 use std::alloc::Global;
 
-// The word of the table: twice the ticks, and 1 more in high mode.
+// The table's word for a pair: twice the ticks, and 1 more in high mode.
 const WORD: usize = 0;
 
-/// A board that shows one pair of ticks and mode.
+/// A board that shows one pair of ticks and mode at a time.
 #[derive(Drop)]
 pub struct Board {
     pub(crate) table: Table<(), View, (), Rules, Global>,
     ghost sized: { table.shared.table_id.words ≡ 1 },
 }
 
-// The word of a pair.
+// The word for a pair.
 fn word(now: Shown) -> u64
     requires { now.ticks ≤ 2 ^ 62 }
     ensures { result ≡ word_of now }
@@ -29,7 +29,7 @@ fn word(now: Shown) -> u64
 impl Board {
     ghost use Rattle.status_board.specs.Tokens.{shown, seen, IsWriterOf, IsWatcherOf};
 
-    /// Shows one more pair. It waits for nobody.
+    /// Shows one more pair, with one tick more than the last. It never waits.
     pub fn show(&self, writer: &mut Writer, now: Shown)
         requires of { IsWriterOf self.now writer.old }
         requires next { now.ticks ≡ (last_of start (shown writer.old)).ticks + 1 }
@@ -42,7 +42,7 @@ impl Board {
             .store::<Show>(&mut writer.seat, WORD, word(now));
     }
 
-    /// The pair that stands on the board. It waits for nobody.
+    /// The pair that the board shows now. It never waits.
     pub fn read(&self, watcher: &mut Watcher) -> Shown
         requires of { IsWatcherOf self.now watcher.old }
         ensures of { IsWatcherOf self.now watcher.new }
@@ -56,7 +56,7 @@ impl Board {
         }
     }
 
-    /// From now on the watcher sees no less than the writer showed so far. It waits for nobody.
+    /// From now on the watcher sees no less than the writer has shown so far. It never waits.
     pub fn tell(&self, writer: &mut Writer, watcher: &mut Watcher)
         requires of { IsWriterOf self.now writer.old × IsWatcherOf self.now watcher.old }
         ensures of { IsWriterOf self.now writer.new × IsWatcherOf self.now watcher.new }

@@ -9,12 +9,13 @@ use crate::tokens::{Watcher, Writer};
 use atomic_table::Table;
 use std::alloc::Global;
 
-/// There was no memory.
+/// Out of memory.
 #[derive(Clone, Copy, Debug, PartialEq, Eq, Drop)]
 pub struct Memory;
 
 impl Board {
-    /// A board that shows (0, low), with its one writer and 1 to 128 watchers. It takes memory, and no later call does.
+    /// A board that shows (0, low), with its one writer and 1 to 128 watchers. Fails with `Memory` if an allocation
+    /// fails; no later call allocates.
     pub fn new(alloc: Global, watchers: u32) -> Result<(Board, Writer, Vec<Watcher>), Memory>
         requires { (1 ≤ watchers) × (watchers ≤ 128) }
         ensures writer { IfOk result (λ r. IsWriterOf r.0 r.1 × (shown r.1 ≡ start ∷ [])) }
@@ -32,7 +33,7 @@ impl Board {
         Ok((board, writer, list))
     }
 
-    // So many watchers, each with a copy of what the writer showed.
+    // Makes this number of watchers, each with a copy of what the writer showed.
     fn make_watchers(&self, writer: &mut Writer, watchers: u32, list: &mut Vec<Watcher>)
         requires writer { IsWriterOf self.now writer.old × (shown writer.old ≡ start ∷ []) }
         requires room { (list.old.items ≡ []) × (watchers ≤ vec_capacity list.old) }

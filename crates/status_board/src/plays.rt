@@ -1,4 +1,4 @@
-//! The rule, and what each kind of step tells. These types are for the proofs alone.
+//! The rule, and the result of each kind of step. These types are used in proofs alone.
 ghost use Rattle.status_board.specs.Rule.{Orderly};
 ghost use Rattle.status_board.specs.Views.{writer_view, watcher_view, both_views, spent_view};
 ghost use Rattle.status_board.specs.Steps.{Shows, Looks};
@@ -15,7 +15,7 @@ impl TableRule<(), View, ()> for Rules {
     ghost first = { λ _. writer_view };
 }
 
-/// A pair is shown.
+/// A step that shows a pair.
 pub struct Show;
 
 impl Play<(), View> for Show {
@@ -29,7 +29,7 @@ impl Play<(), View> for Look {
     ghost then = { Looks };
 }
 
-/// What the writer showed, as a note for a watcher.
+/// A step that copies what the writer showed into a note for a watcher.
 pub struct Copied;
 
 impl Split<View> for Copied {
@@ -38,7 +38,7 @@ impl Split<View> for Copied {
     ghost right = { watcher_view };
 }
 
-/// A note is taken in.
+/// A step that takes a note into a watcher.
 pub struct TakeIn;
 
 impl Join<View> for TakeIn {

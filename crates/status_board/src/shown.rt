@@ -1,14 +1,14 @@
-//! What is shown, and what a token knows of it.
+//! The pairs that are shown, and what a token knows of them.
 use std::collections::LinkedList;
 
-/// Ticks that have ended, and the mode that they left.
+/// How many ticks have ended, and the mode after them.
 #[derive(Clone, Copy, Debug, PartialEq, Eq)]
 pub struct Shown {
     pub ticks: u64,
     pub high_mode: bool,
 }
 
-/// Which board it is, by the name of its table. No value of it is made.
+/// The name of a board, which is that of its table. No value of this type is ever made.
 pub struct BoardId {
     pub words: u64,
     pub slots: u64,
@@ -19,14 +19,14 @@ pub struct BoardId {
     pub slot_names: LinkedList<u64>,
 }
 
-/// What a token knows. No value of it is made.
+/// What a token knows. No value of this type is ever made.
 pub struct View {
-    /// It is the writer's.
+    /// Whether the token is the writer's.
     pub writes: bool,
-    /// It was not joined into another.
+    /// Whether the token was not joined into another.
     pub live: bool,
-    /// The pairs that it showed, or saw.
+    /// The pairs that the token showed or saw.
     pub list: LinkedList<Shown>,
-    /// What it was told since it saw the board last.
+    /// The lists that the token learned from others since it last saw the board.
     pub told: LinkedList<LinkedList<Shown>>,
 }

@@ -1,4 +1,4 @@
-//! A board on one thread, and on two of which one shows and one reads.
+//! Tests of a board on one thread, and on two threads of which one shows and one reads.
 ghost use Rattle.std.specs.Prelude.{◌≡◌, ◌≤◌, ◌^◌, ◌∷◌, []};
 ghost use Rattle.status_board.specs.Logs.{start};
 ghost use Rattle.status_board.specs.Tokens.{shown, IsWriterOf, IsWatcherOf};
@@ -13,7 +13,7 @@ fn pair(ticks: u64, high_mode: bool) -> Shown
     Shown { ticks, high_mode }
 }
 
-// Shows the ticks from 1 on. Every third one is in high mode.
+// Shows the ticks from 1 on; every third one in high mode.
 #[tactic(auto, using(crate::proofs::Lists::last_more))]
 fn show_all(board: &Board, mut writer: Writer, ticks: u64)
     requires writer { IsWriterOf board.now writer × (shown writer ≡ start ∷ []) }
@@ -24,7 +24,7 @@ fn show_all(board: &Board, mut writer: Writer, ticks: u64)
     }
 }
 
-// Whether the ticks never fell, and the mode was always theirs.
+// Whether the ticks never fell, and the mode was always that of its tick.
 fn read_all(board: &Board, mut watcher: Watcher, reads: u32) -> bool
     requires { IsWatcherOf board.now watcher }
 {

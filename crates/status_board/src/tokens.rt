@@ -1,12 +1,12 @@
-//! What threads hold: the right to show, and the right to read.
+//! The tokens that threads own: the right to show, and the right to read.
 ghost use Rattle.std.specs.Prelude.{◌≡◌, true, false};
 ghost use Rattle.status_board.specs.Logs.{IsLog, IsLog-prop};
 
 use crate::shown::View;
 use atomic_table::Seat;
 
-/// The right to show on one board. Contracts see what it `shown`, from (0, low) on, one tick more with each pair. It has no
-/// bytes.
+/// The right to show on one board. In contracts, `shown` is what it showed: pairs from (0, low) on, each with one tick
+/// more. It has no bytes.
 #[derive(Drop)]
 pub struct Writer {
     pub(crate) seat: Seat<(), View>,
@@ -14,8 +14,8 @@ pub struct Writer {
     pub ghost log: { IsLog seat.me.0.list } by { IsLog-prop seat.me.0.list },
 }
 
-/// The right to read one board. Contracts see what it has `seen`, from (0, low) on, one tick more with each pair. It has no
-/// bytes.
+/// The right to read one board. In contracts, `seen` is what it has seen: pairs from (0, low) on, each with one tick
+/// more. It has no bytes.
 #[derive(Drop)]
 pub struct Watcher {
     pub(crate) seat: Seat<(), View>,

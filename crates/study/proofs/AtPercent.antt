@@ -1,4 +1,4 @@
--- The set with a percentage of its high budgets.
+-- A set with a percentage of its high budgets.
 use Rattle.std.proofs.Common.{◌≡◌, ℕ, ◌+◌, ◌*◌, ◌/◌, ◌≤◌, refl, sym, ap, subst, ◌∙◌, arith, List, [], ◌∷◌, length}
 use Rattle.std.proofs.lemmas.List.{length-map}
 use Rattle.std.proofs.Math.Nat.{mul-le-mul_left, mul-le-mul_right}
@@ -60,7 +60,7 @@ unfolding lcm_from
 lcm_from-at s [] m = refl
 lcm_from-at s (t ∷ ts) m = lcm_from-at s ts (lcm m t.period)
 
--- a sum over the set with s percent is a sum over the set
+-- a sum over the set at s percent is a sum over the set
 pub load-at : (budget own : Task → ℕ) (s n : ℕ) → ((t : Task) → budget (with_percent s t) ≡ own t) → (ts : List Task)
     → load budget n (at_percent ts s) ≡ load own n ts
 load-at budget own s n same [] = refl
@@ -73,7 +73,7 @@ load_ll-at s ts = ap (λ p. load low_low p (at_percent ts s)) (product-at s ts) 
 pub load_hl-at : (s : ℕ) (ts : List Task) → load_hl (at_percent ts s) ≡ load_hl ts
 load_hl-at s ts = ap (λ p. load high_low p (at_percent ts s)) (product-at s ts) ∙ load-at high_low high_low s (product ts) (λ t. refl) ts
 
--- less of its high budget is no more
+-- a lower percentage of a high budget is no more
 budget-grows : (l : Level) (low high r s : ℕ) → r ≤ s → by_level l 0 (by_level l high (percent low high r)) ≤ by_level l 0 (by_level l high (percent low high s))
 budget-grows Low low high r s h = omega arith
 budget-grows High low high r s h = omega (arith, mul-le-mul_left high h)
@@ -87,11 +87,11 @@ load_high-grows n r s (t ∷ ts) h =
 pub load_hh-grows : (r s : ℕ) (ts : List Task) → r ≤ s → load_hh (at_percent ts r) ≤ load_hh (at_percent ts s)
 load_hh-grows r s ts h = rw (product-at r ts, product-at s ts) (load_high-grows (product ts) r s ts h)
 
--- the same of another product and another load that are equal to these
+-- a product equation, with equal numbers in place of its own
 over : {p q a b : ℕ} (x l : ℕ) → q ≡ p → b ≡ a → x * p ≡ a * l → x * q ≡ b * l
 over x l same equal h = ap (λ z. x * z) same ∙ h ∙ ap (λ z. z * l) (sym equal)
 
--- with its numerator of U_HH the loads belong to the set with s percent
+-- with its numerator of U_HH the loads belong to the set at s percent
 pub at_percent-BelongTo : (set : List Task) (loads : Loads) (s c : ℕ) → BelongTo set loads → c ≡ load high_high loads.lcm (at_percent set s)
     → BelongTo (at_percent set s) (with_high loads c)
 at_percent-BelongTo set loads s c b is =

@@ -1,4 +1,4 @@
--- How many sets reach a percentage, by how many of the percentages each of them reaches.
+-- How many sets reach a percentage, from how many percentages each of them reaches.
 use Rattle.std.proofs.Common.{◌≡◌, ℕ, zero, suc, ◌+◌, ◌*◌, ◌<◌, refl, ap, sym, ◌∙◌, arith, Bool, cond, nat_lt, List, [], ◌∷◌, map, Option}
 use Rattle.std.specs.Prelude.{count_by}
 use Rattle.std.specs.List.{AllZip, range_with_len}
@@ -12,11 +12,12 @@ use Rattle.set_gen.specs.MadeSet.{made_set}
 use Rattle.set_gen.proofs.MadeTasks.{made_set-AreTasks}
 use Rattle.study.proofs.Reached.{reaches-admitted}
 
--- one element more
+-- counting a list with one more element
 counted-cons : {X : Type 0} (p : X → Bool) (x : X) (xs : List X) → count_by p (x ∷ xs) ≡ cond (p x) 1 0 + count_by p xs
 counted-cons p x xs = sum_by-cons (λ y. cond (p y) 1 0) x xs
 
--- as many stretches reach a percentage as sets reach more percentages than are below it
+-- a percentage is reached by as many stretches as there are sets that reach more percentages than lie below
+-- it
 reach : (f : ℕ → Option ℕ) (i : ℕ) → i < 11 → (zs ks : List ℕ) → AllZip (λ z k. IsReached (f z) k) zs ks → more_than i ks ≡ count_by (λ z. reaches (100 + 10 * i) (f z)) zs
 unfolding more_than
 reach f i lt [] [] h = refl
@@ -31,7 +32,7 @@ map-range-same f g a zero h = refl
 map-range-same f g a (suc n) h =
     ap (λ x. x ∷ map f (range_with_len (a + 1) n)) (h a (omega arith)) ∙ ap (λ l. g a ∷ l) (map-range-same f g (a + 1) n (λ i lt. h i (omega arith)))
 
--- two tests that say the same count the same
+-- tests that agree count the same
 counted-same : (p q : ℕ → Bool) (xs : List ℕ) → ((i : ℕ) → p i ≡ q i) → count_by p xs ≡ count_by q xs
 counted-same p q [] h = refl
 counted-same p q (x ∷ xs) h =
@@ -44,7 +45,7 @@ accepted-admitted number sets n s some few most =
     counted-same (λ i. reaches s (stretch (made_set (words_of (number + i)) n))) (λ i. is_admitted_at (made_set (words_of (number + i)) n) s) (range_with_len 0 sets)
     (λ i. reaches-admitted (made_set (words_of (number + i)) n) s (made_set-AreTasks (words_of (number + i)) n some few) most)
 
--- so the counts are the table
+-- the counts are the table
 pub counts-table : (number sets n : ℕ) (ks : List ℕ) → AllZip (λ i k. IsReached (made_stretch (number + i) n) k) (range_with_len 0 sets) ks
     → map (λ i. more_than i ks) (range_with_len 0 11) ≡ accept_table number sets n
 unfolding accept_table percentages accepted
@@ -52,7 +53,7 @@ counts-table number sets n ks h =
     map-range-same (λ i. more_than i ks) (λ i. count_by (λ z. reaches (100 + 10 * i) (made_stretch (number + z) n)) (range_with_len 0 sets)) 0 11
     (λ i lt. reach (λ z. made_stretch (number + z) n) i (omega arith) (range_with_len 0 sets) ks h)
 
--- the same numbers, counted from elsewhere
+-- counting two ranges that agree number by number
 counted-from : (p q : ℕ → Bool) (a b n : ℕ) → ((i : ℕ) → p (a + i) ≡ q (b + i)) → count_by p (range_with_len a n) ≡ count_by q (range_with_len b n)
 counted-from p q a b zero h = refl
 counted-from p q a b (suc n) h =

@@ -1,4 +1,5 @@
--- The greatest numerator of U_HH that the test admits, where U_LL is a/n, U_HL is b/n and U_HH is c/n, and b ≤ c.
+-- The greatest numerator of U_HH that the test admits, if U_LL is a/n, U_HL is b/n and U_HH is c/n, and b ≤
+-- c.
 use Rattle.std.proofs.Common.{◌≡◌, ℕ, ◌+◌, ◌-◌, ◌*◌, ◌/◌, ◌<◌, ◌≤◌, inl, inr, sym, subst, arith, true, false, refl, Option, Some, None}
 use Rattle.std.specs.Prelude.{is_some}
 use Rattle.std.proofs.lemmas.Bool.Decides.{leb_tells}
@@ -17,7 +18,7 @@ no_value (Some x) h = absurd (h x refl)
 abbrev IsScaled : ℕ → ℕ → ℕ → ℕ → Type 0
 IsScaled n a b c = a * b + c * (n - a) ≤ n * (n - a)
 
--- where it does, the test admits
+-- if the scaled load of the set fits, the test admits
 scaled-admitted : (n a b c : ℕ) → a < n → IsScaled n a b c → is_some (rule_of n a b c) ≡ true
 scaled-admitted n a b c low scaled =
     elim (leb_tells (a + c) n) [
@@ -25,7 +26,7 @@ scaled-admitted n a b c low scaled =
       | inr over ↦ rw (rule_of-virtual n a b c (record { over = over.1; low = low; scaled = scaled })) refl
     ]
 
--- what an admitted numerator says
+-- what follows if a numerator is admitted
 record IsWithin (n a b c : ℕ) : Type 0 where
   pub below : a + b ≤ n
   pub scaled : IsScaled n a b c
@@ -64,11 +65,11 @@ within n a b c rule order h =
           record { below = omega (arith, low); scaled = fits.scaled; none = λ full. absurd (omega (arith, low)) }
     ]
 
--- U_LL + U_HL is above 1
+-- if U_LL + U_HL is above 1, no numerator is admitted
 pub over-AdmitsUpTo : (n a b : ℕ) → n < a + b → AdmitsUpTo n a b None
 over-AdmitsUpTo n a b over = λ c order. no_value (rule_of n a b c) (λ rule h. let w = within n a b c rule order h in absurd (omega (arith, w.below)))
 
--- low tasks take all time
+-- if low tasks take all the time, only the numerator 0 is admitted
 pub full-AdmitsUpTo : (n a b : ℕ) → n ≡ a → AdmitsUpTo n a b (Some 0)
 full-AdmitsUpTo n a b full = λ c order.
     elim (leb_tells c 0) [
@@ -76,7 +77,7 @@ full-AdmitsUpTo n a b full = λ c order.
       | inr some ↦ rw some.0 (no_value (rule_of n a b c) (λ rule h. let w = within n a b c rule order h in absurd (omega (arith, w.none (omega arith), some.1))))
     ]
 
--- the scaled load fits up to this numerator
+-- if low tasks leave time, numerators are admitted as far as the scaled load fits
 pub part-AdmitsUpTo : (n a b : ℕ) → a < n → b ≤ n - a → AdmitsUpTo n a b (Some ((n * (n - a) - a * b) / (n - a)))
 part-AdmitsUpTo n a b low scale = λ c order.
     let lows : a * b ≤ a * (n - a) = mul-le-mul_left a scale in

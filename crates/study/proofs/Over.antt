@@ -20,7 +20,7 @@ use Rattle.study.proofs.AtPercent.{at_percent-AreTasks, load-at}
 scaled_rule : (k l p x y z a b c : ℕ) → 0 < k → p ≡ k * l → a ≡ k * x → b ≡ k * y → c ≡ k * z → rule_of p a b c ≡ rule_of l x y z
 scaled_rule k l p x y z a b c above whole low high most = rw (whole, low, high, most) (rule-scaled k l x y z above)
 
--- the rule of the loads over n is the test's
+-- the test gives the rule of the loads over n
 test-over : (n : ℕ) (ts : List Task) → 0 < n → AllByRecursion IsTask ts → AllByRecursion (λ t. t.period ∣ n) ts
     → rule_of n (load low_low n ts) (load high_low n ts) (load high_high n ts) ≡ published ts
 unfolding published
@@ -42,7 +42,7 @@ at-divides : (n s : ℕ) (ts : List Task) → AllByRecursion (λ t. t.period ∣
 at-divides n s [] h = tt
 at-divides n s (t ∷ ts) h = (h.0, at-divides n s ts h.1)
 
--- with s percent
+-- at s percent the test gives the rule of the loads over n
 test-at : (n s : ℕ) (set : List Task) → 0 < n → AreTasks set → AllByRecursion (λ t. t.period ∣ n) set
     → is_some (rule_of n (load low_low n set) (load high_low n set) (load (budget_at s) n set)) ≡ is_admitted_at set s
 test-at n s set some is divides =
@@ -57,12 +57,12 @@ order-at n s set is =
     let own : AreTasks (at_percent set s) = at_percent-AreTasks set s is in
     omega (arith, load-at high_low high_low s n (λ t. refl) set, load-at high_high (budget_at s) s n (λ t. refl) set, high-order n (at_percent set s) own.each)
 
--- where no numerator is admitted, no percentage is
+-- if no numerator is admitted, no percentage is
 pub over-none : (n s : ℕ) (set : List Task) → 0 < n → AreTasks set → AllByRecursion (λ t. t.period ∣ n) set
     → AdmitsUpTo n (load low_low n set) (load high_low n set) None → is_admitted_at set s ≡ false
 over-none n s set some is divides none = sym (test-at n s set some is divides) ∙ none (load (budget_at s) n set) (order-at n s set is)
 
--- where numerators are admitted up to one, so are the percentages that give such
+-- if numerators are admitted up to one, exactly the percentages with such a numerator are admitted
 pub over-some : (n s most : ℕ) (set : List Task) → 0 < n → AreTasks set → AllByRecursion (λ t. t.period ∣ n) set
     → AdmitsUpTo n (load low_low n set) (load high_low n set) (Some most) → is_admitted_at set s ≡ nat_le (load (budget_at s) n set) most
 over-some n s most set some is divides admits = sym (test-at n s set some is divides) ∙ admits (load (budget_at s) n set) (order-at n s set is)

@@ -1,4 +1,4 @@
--- Which of the percentages a made set reaches.
+-- The percentages that a generated set reaches.
 use Rattle.std.proofs.Common.{◌≡◌, ℕ, ◌+◌, ◌*◌, ◌<◌, ◌≤◌, inl, inr, refl, sym, ◌∙◌, arith, false, nat_le, le-leb, List, Option, Some, None}
 use Rattle.std.proofs.lemmas.Bool.{lt-leb, lt-ltb, le-ltb}
 use Rattle.std.proofs.lemmas.Bool.Decides.{leb_tells}
@@ -17,7 +17,7 @@ use Rattle.study.specs.declared.steps.Sums.{Sums}
 use Rattle.study.proofs.Percentages.{stretch-greatest, less-admitted}
 use Rattle.study.proofs.Over.{over-none, over-some}
 
--- a percentage is admitted exactly where the stretch reaches it
+-- a percentage is admitted exactly if the stretch reaches it
 pub reaches-admitted : (set : List Task) (s : ℕ) → AreTasks set → s ≤ 1000 → reaches s (stretch set) ≡ is_admitted_at set s
 reaches-admitted set s is most = go (stretch set) (stretch-greatest set)
   where
@@ -29,7 +29,7 @@ reaches-admitted set s is most = go (stretch set) (stretch-greatest set)
           | inr t ↦ t.0 ∙ sym (h.2 s (omega (arith, t.1)) most)
         ]
 
--- what is not reached at r is not at more
+-- a percentage above one that is not reached is not reached
 reaches-less : (o : Option ℕ) (r s : ℕ) → r ≤ s → reaches r o ≡ false → reaches s o ≡ false
 reaches-less None r s le h = refl
 reaches-less (Some m) r s le h =

@@ -10,7 +10,7 @@ use Rattle.study.specs.Shares.{pieces_of, sets_at, counts_at, added}
 use Rattle.study.specs.Steps.{IsReached}
 use Rattle.study.proofs.Counts.{map-range-same, parts-add}
 
--- one set more, with how many of the percentages it reaches
+-- one more set, with how many of the percentages it reaches
 pub reached-more : (f : ℕ → Option ℕ) (i k : ℕ) (ks more : List ℕ) → AllZip (λ j m. IsReached (f j) m) (range_with_len 0 i) ks → IsReached (f i) k → more ≡ ks ++ k ∷ []
     → AllZip (λ j m. IsReached (f j) m) (range_with_len 0 (i + 1)) more
 reached-more f i k ks more so_far here is =
@@ -24,14 +24,14 @@ pub table-none : (number n : ℕ) → 0 ∷ 0 ∷ 0 ∷ 0 ∷ 0 ∷ 0 ∷ 0 ∷ 
 unfolding accept_table percentages accepted
 table-none number n = refl
 
--- no more sets are counted than there are
+-- at most as many sets are counted as there are
 accepted-most : (number sets n s : ℕ) → accepted number sets n s ≤ sets
 unfolding accepted
 accepted-most number sets n s =
     let most = count_by-le-length (λ i. reaches s (made_stretch (number + i) n)) (range_with_len 0 sets) in
     omega (arith, most, length-range_with_len 0 sets)
 
--- what bounds each value bounds each element, and what stands past the end
+-- a bound on each value of f bounds each element of its list, and what stands past the end
 value-most : (f : ℕ → ℕ) (most : ℕ) → ((s : ℕ) → f s ≤ most) → (xs : List ℕ) (k : ℕ) → get_or (map f xs) k 0 ≤ most
 value-most f most h [] k = omega arith
 value-most f most h (x ∷ xs) zero = h x
@@ -50,7 +50,7 @@ tables-add number first second n =
     map-range-same (λ k. accepted number first n (100 + 10 * k) + accepted (number + first) second n (100 + 10 * k)) (λ k. accepted number (first + second) n (100 + 10 * k)) 0 11
     (λ k lt. sym (parts-add number first second n (100 + 10 * k)))
 
--- what the pieces before a place count, with the piece at it
+-- the counts of the pieces before a number, added to those of that piece
 pub pieces-more : (number sets n place : ℕ) (before piece after : List ℕ) → place < pieces_of sets → before ≡ accept_table number (min sets (128 * place)) n
     → piece ≡ counts_at number sets n place → after ≡ added before piece → after ≡ accept_table number (min sets (128 * (place + 1))) n
 pieces-more number sets n place before piece after lt b p is =

@@ -1,4 +1,4 @@
--- The tasks of a made set, one by one.
+-- The tasks of a generated set, one by one.
 use Rattle.std.proofs.Common.{◌≡◌, ℕ, ◌+◌, ◌-◌, ◌*◌, ◌/◌, ◌<◌, ◌≤◌, sym, ap, ◌∙◌, arith, List, [], ◌∷◌, ◌++◌, drop, length, slice_get, Some}
 use Rattle.std.specs.List.{AllByRecursion}
 use Rattle.std.proofs.Math.Nat.{mul-le-mul_left, mul-le-mul_right, div-mul-le_self}
@@ -23,7 +23,7 @@ use Rattle.study.specs.Stretch.{percent}
 use Rattle.study.specs.Loads.{budget_at}
 use Rattle.study.specs.Steps.{asks_at, IsSmall}
 
--- the task that the words left make
+-- the task generated from the words that are left
 pub made-here : (words left : Lcg) (n i : ℕ) → i < n → left ≡ after (words_before i) words → slice_get (made_set words n) i ≡ Some (made_task left n (i + 1))
 unfolding made_set
 made-here words left n i lt is =
@@ -32,7 +32,7 @@ made-here words left n i lt is =
     slice_get-map-range (λ j. made_task (words_for words j) n j) 1 n i lt ∙ ap (λ j. Some (made_task (words_for words j) n j)) place
     ∙ ap (λ j. Some (made_task (after (words_before j) words) n (i + 1))) before ∙ ap (λ w. Some (made_task w n (i + 1))) (sym is)
 
--- a sum with the task at a place
+-- a sum with the task at an index
 pub load-step : (budget : Task → ℕ) (n : ℕ) (ts : List Task) (i : ℕ) (t : Task) (done all new b p : ℕ) → slice_get ts i ≡ Some t → done + load budget n (drop i ts) ≡ all
     → budget t ≡ b → p ≡ t.period → new ≡ done + b * (n / p) → new + load budget n (drop (i + 1) ts) ≡ all
 load-step budget n ts i t done all new b p at inv asks period is =
@@ -42,7 +42,7 @@ pub load-end : (budget : Task → ℕ) (n : ℕ) (ts : List Task) (i done all : 
 load-end budget n ts i done all past inv =
     omega (arith, ap (λ xs. load budget n xs) (drop_all i ts past), inv)
 
--- a low task
+-- the numbers of a low task
 pub low-low : (t : Task) (d : Numbers) → AreOf t d → d.level ≡ Low → low_low t ≡ d.low
 low-low t d of is = ap (λ x. by_level x t.low 0) (sym of.level ∙ is) ∙ sym of.low
 
@@ -52,14 +52,14 @@ low-high t d of is = ap (λ x. by_level x 0 t.low) (sym of.level ∙ is)
 pub low-budget : (s : ℕ) (t : Task) (d : Numbers) → AreOf t d → d.level ≡ Low → budget_at s t ≡ 0
 low-budget s t d of is = ap (λ x. by_level x 0 (by_level x t.high (percent t.low t.high s))) (sym of.level ∙ is)
 
--- a high task
+-- the numbers of a high task
 pub high-low : (t : Task) (d : Numbers) → AreOf t d → d.level ≡ HighLevel → low_low t ≡ 0
 high-low t d of is = ap (λ x. by_level x t.low 0) (sym of.level ∙ is)
 
 pub high-high : (t : Task) (d : Numbers) → AreOf t d → d.level ≡ HighLevel → high_low t ≡ d.low
 high-high t d of is = ap (λ x. by_level x 0 t.low) (sym of.level ∙ is) ∙ sym of.low
 
--- with 100 percent or more a small high budget is neither below the low one nor past the limit
+-- at 100 percent or more, a small high budget is neither below the low one nor past the limit
 percent-plain : (low high s : ℕ) → low ≤ high → high ≤ 30000 → 100 ≤ s → s ≤ 200 → percent low high s ≡ high * s / 100
 percent-plain low high s order small least most =
     omega (arith, mul-le-mul_left high least, mul-le-mul_left high most, order, small)
@@ -71,7 +71,7 @@ high-budget s t d task of is small least most =
     ap (λ x. by_level x 0 (by_level x t.high (percent t.low t.high s))) level ∙ percent-plain t.low t.high s order (omega (arith, of.high, small)) least most
     ∙ ap (λ h. h * s / 100) (sym of.high)
 
--- one high task more
+-- the high tasks with one more
 pub asks-more : (s : ℕ) (old new : List High) (h : High) → new ≡ old ++ h ∷ [] → total (asks_at s) new ≡ total (asks_at s) old + asks_at s h
 asks-more s old new h is =
     omega (arith, ap (total (asks_at s)) is, total-append (asks_at s) old (h ∷ []))
@@ -79,7 +79,7 @@ asks-more s old new h is =
 pub small-more : (old new : List High) (h : High) → new ≡ old ++ h ∷ [] → AllByRecursion IsSmall old → IsSmall h → AllByRecursion IsSmall new
 small-more old new h is each one = rw is (Each-append IsSmall old (h ∷ []) each (one, tt))
 
--- how many jobs the span has of a made task
+-- the span has at most 100 jobs of a generated task
 pub jobs-few : (p : ℕ) → 200 ≤ p → 20000 / p ≤ 100
 jobs-few p least = omega (arith, div-mul-le_self 20000 p, mul-le-mul_left (20000 / p) least)
 

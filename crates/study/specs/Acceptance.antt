@@ -1,20 +1,20 @@
--- How many random sets have how large a stretch.
+-- The number of random sets with at least a given stretch.
 use Rattle.std.specs.Prelude.{◌≡◌, ℕ, ◌+◌, ◌≤◌, Bool, false, nat_le, List, [], ◌∷◌, map, count_by, Option, None, Some}
 use Rattle.std.specs.List.{range_with_len}
 use Rattle.set_gen.specs.Words.{words_of}
 use Rattle.set_gen.specs.MadeSet.{made_set}
 use Rattle.study.specs.Stretch.{is_admitted_at, stretch}
 
--- the stretch is at least s percent
+-- whether the stretch is at least s percent
 abbrev pub reaches : ℕ → Option ℕ → Bool
 reaches s None = false
 reaches s (Some most) = nat_le s most
 
--- the stretch of the set of n tasks that a number makes
+-- the stretch of the set of n tasks generated from a number
 unfoldable pub made_stretch : ℕ → ℕ → Option ℕ
 made_stretch number n = stretch (made_set (words_of number) n)
 
--- how many of the sets of n tasks with the numbers from this one on have a stretch of at least s percent
+-- how many of the sets of n tasks, generated from this number on, have a stretch of at least s percent
 unfoldable pub accepted : ℕ → ℕ → ℕ → ℕ → ℕ
 accepted number sets n s = count_by (λ i. reaches s (made_stretch (number + i) n)) (range_with_len 0 sets)
 
@@ -22,7 +22,7 @@ accepted number sets n s = count_by (λ i. reaches s (made_stretch (number + i) 
 unfoldable pub percentages : List ℕ
 percentages = 100 ∷ 110 ∷ 120 ∷ 130 ∷ 140 ∷ 150 ∷ 160 ∷ 170 ∷ 180 ∷ 190 ∷ 200 ∷ []
 
--- how many of the sets have a stretch of at least each percentage of the table
+-- for each percentage of the table, how many of the sets have at least that stretch
 unfoldable pub accept_table : ℕ → ℕ → ℕ → List ℕ
 accept_table number sets n = map (accepted number sets n) percentages
 
@@ -31,7 +31,8 @@ abbrev pub PartsAdd : Type 0
 PartsAdd = (number first second n s : ℕ)
     → accepted number (first + second) n s ≡ accepted number first n s + accepted (number + first) second n s
 
--- law: as many have a stretch of at least s percent, up to 1000, as the published test admits at s percent
+-- law: as many sets have a stretch of at least s percent, up to 1000, as the published test admits at s
+-- percent
 abbrev pub AcceptedAreAdmitted : Type 0
 AcceptedAreAdmitted = (number sets n s : ℕ) → 2 ≤ n → n ≤ 32 → s ≤ 1000
     → accepted number sets n s ≡ count_by (λ i. is_admitted_at (made_set (words_of (number + i)) n) s)

@@ -14,7 +14,7 @@ with_high loads c = record loads { high_high = c }
 abbrev pub budget_at : ℕ → Task → ℕ
 budget_at s t = high_high (with_percent s t)
 
--- where U_LL = a/n and U_HL = b/n, the test admits a numerator of U_HH, which is at least b, exactly up to this one
+-- with U_LL = a/n and U_HL = b/n, the test admits exactly the numerators of U_HH from b up to this one
 abbrev pub AdmitsUpTo : ℕ → ℕ → ℕ → Option ℕ → Type 0
 AdmitsUpTo n a b None = (c : ℕ) → b ≤ c → is_some (rule_of n a b c) ≡ false
 AdmitsUpTo n a b (Some most) = (c : ℕ) → b ≤ c → is_some (rule_of n a b c) ≡ nat_le c most

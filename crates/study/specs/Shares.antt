@@ -1,4 +1,4 @@
--- The sets of a table in pieces of 128, which threads share.
+-- The sets of a table, in pieces of 128 that threads share.
 use Rattle.std.specs.Prelude.{◌≡◌, ℕ, ◌+◌, ◌-◌, ◌*◌, ◌/◌, ◌<◌, min, List, map, slice_index, All}
 use Rattle.std.specs.List.{range_with_len}
 use Rattle.study.specs.declared.shares.Piece.{Piece}
@@ -8,23 +8,23 @@ use Rattle.study.specs.Acceptance.{accept_table}
 abbrev pub pieces_of : ℕ → ℕ
 pieces_of sets = (sets + 127) / 128
 
--- how many sets the piece at a place has: 128, and the last piece has those that are left
+-- how many sets the piece with this number has: 128, except that the last piece has those that are left
 abbrev pub sets_at : ℕ → ℕ → ℕ
 sets_at sets place = min 128 (sets - 128 * place)
 
--- the counts of the piece at a place
+-- the counts of the piece with this number
 abbrev pub counts_at : ℕ → ℕ → ℕ → ℕ → List ℕ
 counts_at number sets n place = accept_table (number + 128 * place) (sets_at sets place) n
 
--- the piece is one of the sets of n tasks made from this number on, and its counts are theirs
+-- the piece is one of the sets of n tasks generated from this number on, and has the counts of its sets
 pub record IsPieceOf (number sets n : ℕ) (piece : Piece) : Type 0 where
   pub place : piece.place < pieces_of sets
   pub counts : piece.counts ≡ counts_at number sets n piece.place
 
--- threads have taken such pieces; which ones, and whether one of them twice, is left open
+-- threads have taken such pieces; which pieces, and whether one was taken twice, is left open
 abbrev pub ArePiecesOf : ℕ → ℕ → ℕ → List Piece → Type 0
 ArePiecesOf number sets n pieces = All (IsPieceOf number sets n) pieces
 
--- the sums of two lists of eleven counts, place by place
+-- the sums of two lists of eleven counts, index by index
 abbrev pub added : List ℕ → List ℕ → List ℕ
 added first second = map (λ k. slice_index first k + slice_index second k) (range_with_len 0 11)

@@ -1,4 +1,4 @@
--- How many of the eleven percentages a random set reaches.
+-- The number of the eleven percentages that a random set reaches.
 use Rattle.std.specs.Prelude.{◌≡◌, ℕ, ◌+◌, ◌*◌, ◌/◌, ◌<◌, ◌≤◌, nat_lt, List, length, count_by, Option}
 use Rattle.std.specs.List.{AllByRecursion}
 use Rattle.mc_task.specs.declared.task.Task.{Task}
@@ -13,20 +13,20 @@ use Rattle.study.specs.Acceptance.{reaches}
 abbrev pub IsReached : Option ℕ → ℕ → Type 0
 IsReached stretch k = (i : ℕ) → i < 11 → reaches (100 + 10 * i) stretch ≡ nat_lt i k
 
--- how many are more than i
+-- how many numbers of the list are more than i
 unfoldable pub more_than : ℕ → List ℕ → ℕ
 more_than i ks = count_by (nat_lt i) ks
 
--- what a made task asks of the span by s percent of its high budget, for 100 or more
+-- what a generated task asks for of the span at s percent of its high budget, for 100 or more
 abbrev pub asks_at : ℕ → High → ℕ
 asks_at s high = high.budget * s / 100 * high.jobs
 
--- a made task has small numbers
+-- the numbers of a generated task are small
 pub record IsSmall (high : High) : Type 0 where
   pub budget : high.budget ≤ 30000
   pub jobs : high.jobs ≤ 100
 
--- what the tasks of the set ask of 20000 ticks
+-- what the tasks of the set ask for of 20000 ticks
 pub record AreSumsOf (set : List Task) (sums : Sums) : Type 0 where
   pub low_low : sums.low_low ≡ load low_low 20000 set
   pub high_low : sums.high_low ≡ load high_low 20000 set
@@ -34,7 +34,8 @@ pub record AreSumsOf (set : List Task) (sums : Sums) : Type 0 where
   pub few : length sums.highs.items ≤ 32
   pub small : AllByRecursion IsSmall sums.highs.items
 
--- at the first k of the percentages the high tasks ask for at most so much, and at the next one, if there is one, for more
+-- at the first k of the percentages the high tasks ask for at most this number of ticks, and at the next one,
+-- if there is one, for more
 pub record IsUpTo (highs : List High) (most k : ℕ) : Type 0 where
   pub few : k ≤ 11
   pub within : (i : ℕ) → i < k → total (asks_at (100 + 10 * i)) highs ≤ most

@@ -1,4 +1,4 @@
--- How much room a set has: the greatest percentage of its high budgets at which the published test admits it.
+-- The stretch of a set: the greatest percentage of its high budgets at which the published test admits it.
 use Rattle.std.specs.Prelude.{◌≡◌, ℕ, zero, suc, ◌*◌, ◌/◌, ◌<◌, ◌≤◌, min, max, Bool, true, false, if◌then◌else◌, List, map, Option, None, Some, is_some}
 use Rattle.mc_task.specs.declared.task.Task.{Task}
 use Rattle.mc_task.specs.TaskSet.{AreTasks}
@@ -17,20 +17,21 @@ with_percent s t = record t { high = by_level t.level t.high (percent t.low t.hi
 abbrev pub at_percent : List Task → ℕ → List Task
 at_percent set s = map (with_percent s) set
 
--- the published test admits it
+-- whether the published test admits the set at s percent
 abbrev pub is_admitted_at : List Task → ℕ → Bool
 is_admitted_at set s = is_some (published (at_percent set s))
 
--- the greatest number below n that passes
+-- the greatest number below n that passes, if any
 unfoldable pub greatest_below : (ℕ → Bool) → ℕ → Option ℕ
 greatest_below passes zero = None
 greatest_below passes (suc n) = if passes n then Some n else greatest_below passes n
 
--- the greatest percentage up to 1000 at which the set is admitted
+-- the greatest percentage up to 1000 at which the set is admitted, if any
 abbrev pub stretch : List Task → Option ℕ
 stretch set = greatest_below (is_admitted_at set) 1001
 
--- the set is admitted at this percentage and at none above it up to 1000; where there is none, at none up to 1000
+-- the set is admitted at this percentage and at none above it up to 1000; or, if none is given, at none up to
+-- 1000
 abbrev pub IsStretch : List Task → Option ℕ → Type 0
 IsStretch set None = (s : ℕ) → s ≤ 1000 → is_admitted_at set s ≡ false
 IsStretch set (Some s) =

@@ -1,4 +1,4 @@
-// How many made sets have how much room.
+//! The table of an acceptance study: how many random sets have at least a given stretch.
 ghost use Rattle.std.specs.Prelude.{◌≡◌, ◌+◌, ◌<◌, ◌≤◌, ◌^◌, IfOk};
 ghost use Rattle.study.specs.Acceptance as spec;
 ghost use Rattle.study.specs.Shares.{ArePiecesOf};
@@ -10,9 +10,9 @@ use std::alloc::Global;
 use std::sync::atomic::AtomicU64;
 use std::thread::Threads;
 
-/// Of so many made sets of so many tasks, those of `number`, `number + 1` and so on, how many have a stretch of at least 100
-/// percent, of at least 110 and so on to 200. The sets are tried in parallel; the counts are those of one thread. The only
-/// error is want of memory.
+/// Of `sets` random sets of `tasks` tasks, generated from the numbers `number`, `number + 1` and so on: how many have a
+/// stretch of at least 100 percent, of at least 110 and so on to 200. The sets are tried in parallel, and the counts
+/// are those of one thread. The only error is `Memory`, if an allocation fails.
 pub fn table<R: Threads + Sync>(
     rt: &R,
     alloc: Global,
@@ -35,7 +35,19 @@ pub fn table<R: Threads + Sync>(
     Ok(counts.as_slice().to_vec(alloc)?)
 }
 
-// What all sets count, piece by piece.
+/// The counts that [`table`] gives, by the caller's thread alone. It takes no memory.
+pub fn table_alone(number: u64, sets: u32, tasks: u32) -> [u32; 11]
+    requires some_sets { 1 ≤ sets }
+    requires few_sets { sets ≤ 10000 }
+    requires some_tasks { 2 ≤ tasks }
+    requires few_tasks { tasks ≤ 32 }
+    requires numbers { number + sets < 2 ^ 64 }
+    ensures { result ≡ spec.accept_table number sets tasks }
+{
+    total(&[], number, sets, tasks)
+}
+
+// The counts of all sets, added piece by piece.
 fn total(pieces: &[Piece], number: u64, sets: u32, tasks: u32) -> [u32; 11]
     requires pieces { ArePiecesOf number sets tasks pieces.now }
     requires few_sets { sets ≤ 10000 }

@@ -1,4 +1,4 @@
-// What the sets of a few numbers count, on one thread and without memory.
+//! The counts of a few random sets, on one thread and without allocation.
 ghost use Rattle.std.specs.Prelude.{◌≡◌, ◌+◌, ◌<◌, ◌≤◌, ◌^◌, ℕ, length, map, slice_index};
 ghost use Rattle.std.specs.List.{AllZip, range_with_len};
 ghost use Rattle.study.specs.Acceptance.{made_stretch, accept_table};
@@ -8,7 +8,7 @@ ghost use Rattle.study.specs.Steps.{IsReached, more_than};
 use crate::steps::steps_of;
 use arrayvec::ArrayVec;
 
-// Of so many made sets of so many tasks, those of `number` and so on, how many reach each of the percentages.
+// Of `sets` random sets of `tasks` tasks, generated from `number` on: how many reach each of the percentages.
 pub fn counts_of(number: u64, sets: u32, tasks: u32) -> [u32; 11]
     requires few_sets { sets ≤ 128 }
     requires some_tasks { 2 ≤ tasks }
@@ -47,7 +47,7 @@ fn counts(reached: &[u32]) -> [u32; 11]
     counts
 }
 
-// How many sets reach more percentages than so many.
+// How many sets reach more than `step` percentages.
 #[tactic(auto, unfolding(crate::specs::Steps::more_than))]
 fn how_many(reached: &[u32], step: u32) -> u32
     requires { length reached.now ≤ 128 }
@@ -56,7 +56,7 @@ fn how_many(reached: &[u32], step: u32) -> u32
     reached.iter().filter(|steps| step < **steps).count() as u32
 }
 
-// Adds counts to others, place by place.
+// Adds counts to others, index by index.
 pub fn add(counts: &mut [u32; 11], more: [u32; 11])
     requires { (k : ℕ) → k < 11 → slice_index counts.old k + slice_index more k < 2 ^ 32 }
     ensures { counts.new ≡ spec.added counts.old more }

@@ -1,4 +1,4 @@
-//! How much room task sets have, and how many made sets have how much.
+//! The stretch of task sets, and how many random task sets have at least a given stretch.
 #![tactic(auto)]
 
 mod acceptance;
@@ -7,5 +7,5 @@ mod room;
 mod shares;
 mod steps;
 
-pub use acceptance::table;
+pub use acceptance::{table, table_alone};
 pub use room::{high_at, stretch};

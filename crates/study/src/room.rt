@@ -1,4 +1,4 @@
-// How much room one set has.
+//! The stretch of one set.
 ghost use Rattle.std.specs.Prelude.{◌≡◌, ◌<◌, ◌≤◌, ◌^◌, ◌*◌, ◌/◌, nat_le};
 ghost use Rattle.mc_model.specs.Loads.{load, high_high};
 ghost use Rattle.load_sum.specs.Belong.{BelongTo};
@@ -8,9 +8,9 @@ ghost use Rattle.study.specs.Loads.{with_high, budget_at, AdmitsUpTo};
 use load_sum::Loads;
 use mc_task::{Level, Task, TaskSet};
 
-/// The greatest percentage, up to 1000, of a set's high budgets at which the published test admits the set: each is that
-/// percentage of itself, rounded down, but at least the low budget and at most 4,294,967,295. `None` exactly where the test
-/// admits the set at no percentage. The set has these loads.
+/// The stretch of a set with these loads: the greatest percentage, up to 1000, of its high budgets at which the
+/// published test admits the set. Each high budget is multiplied by the percentage and rounded down, but is at least
+/// the low budget and at most 4,294,967,295. `None` exactly if the test admits the set at no percentage.
 pub fn stretch(set: &TaskSet, loads: &Loads) -> Option<u32>
     requires { BelongTo set.now.tasks loads.now }
     ensures value { result ≡ spec.stretch set.now.tasks }
@@ -21,7 +21,8 @@ pub fn stretch(set: &TaskSet, loads: &Loads) -> Option<u32>
     greatest(set, loads.lcm, most)
 }
 
-/// The numerator over `loads.lcm` of U_HH of a set at `s` percent of its high budgets: with it the loads belong to that set.
+/// The numerator of U_HH, over `loads.lcm`, of a set at `s` percent of its high budgets. With it, the loads belong to
+/// that set.
 pub fn high_at(set: &TaskSet, loads: &Loads, s: u32) -> u128
     requires loads { BelongTo set.now.tasks loads.now }
     requires most { s ≤ 1001 }
@@ -30,8 +31,8 @@ pub fn high_at(set: &TaskSet, loads: &Loads, s: u32) -> u128
     sum_at(set, loads.lcm, s)
 }
 
-// The greatest numerator of U_HH that the test admits where U_LL is `a/n` and U_HL is `b/n`: it admits `U_HH <= 1 - x*U_LL`
-// by the scale `x = U_HL / (1 - U_LL)`. `None` where that scale is above 1, and nothing is admitted.
+// The greatest numerator of U_HH that the test admits if U_LL is `a/n` and U_HL is `b/n`: it admits `U_HH <= 1 -
+// x*U_LL` by the scale `x = U_HL / (1 - U_LL)`. `None` if that scale is above 1, and nothing is admitted.
 fn most_high(n: u128, a: u128, b: u128) -> Option<u128>
     requires { n ≤ 2 ^ 60 }
     ensures { AdmitsUpTo n a b result }
@@ -51,7 +52,7 @@ fn greatest(set: &TaskSet, lcm: u64, most: u128) -> Option<u32>
     requires { lcm ≤ 2 ^ 60 }
     ensures { result ≡ spec.greatest_below (λ s. nat_le (load high_high lcm (spec.at_percent set.now.tasks s)) most) 1001 }
 {
-    // They do at each percentage below `low`, and at none from `high` on.
+    // The high budgets ask for at most `most` at each percentage below `low`, and for more from `high` on.
     let mut low = 0;
     let mut high = 1001;
     while low < high {
@@ -65,7 +66,7 @@ fn greatest(set: &TaskSet, lcm: u64, most: u128) -> Option<u32>
     if low == 0 { None } else { Some(low - 1) }
 }
 
-// What the high tasks ask for of `lcm` ticks by `s` percent of their high budgets.
+// What the high tasks ask for, of `lcm` ticks, at `s` percent of their high budgets.
 fn sum_at(set: &TaskSet, lcm: u64, s: u32) -> u128
     requires lcm { lcm ≤ 2 ^ 60 }
     requires most { s ≤ 1001 }
@@ -79,7 +80,7 @@ fn sum_at(set: &TaskSet, lcm: u64, s: u32) -> u128
     sum
 }
 
-// What one task adds to that: a low task nothing.
+// What one task asks for, of `lcm` ticks, at `s` percent of its high budget; 0 for a low task.
 fn share(t: &Task, lcm: u64, s: u32) -> u128
     requires lcm { lcm ≤ 2 ^ 60 }
     requires period { 0 < t.now.period }
@@ -95,7 +96,7 @@ fn share(t: &Task, lcm: u64, s: u32) -> u128
     }
 }
 
-// That percentage of a high budget.
+// The given percentage of a high budget.
 fn percent(low: u32, high: u32, s: u32) -> u32
     requires { s ≤ 1001 }
     ensures { result ≡ spec.percent low high s }

@@ -1,5 +1,7 @@
-// The sets of a table in pieces, of which each thread takes the next as it comes: one that starts late takes fewer. No contract
-// says what the counter gives them, so what they hand back is looked through for each piece.
+//! The sets of a table, in pieces that threads take as they come.
+//!
+//! A thread that starts late takes fewer pieces. No contract says what the shared counter returns, so for each piece
+//! the results of the threads are searched.
 ghost use Rattle.std.specs.Prelude.{◌≡◌, ◌+◌, ◌/◌, ◌<◌, ◌≤◌, ◌^◌, IfOk};
 ghost use Rattle.study.specs.Shares as spec;
 
@@ -9,28 +11,28 @@ use std::alloc::{AllocError, Global};
 use std::sync::atomic::{AtomicU64, Ordering};
 use std::thread::Threads;
 
-// So many sets are a piece, and the last piece has those that are left.
+// How many sets a piece has; the last piece has those that are left.
 const PIECE: u32 = 128;
 
-// A thread takes as long to start as some hundred sets, so there is one for each so many sets at the most.
+// Starting a thread takes as long as trying some hundred sets, so each thread gets at least this number of sets.
 const LEAST_SHARE: u32 = 1250;
 
-// A piece by its place, and what its sets count.
+// A piece by its number, and the counts of its sets.
 #[derive(Clone, Copy)]
 pub struct Piece {
     place: u32,
     counts: [u32; 11],
 }
 
-// How many pieces so many sets have.
+// How many pieces this number of sets has.
 pub fn pieces_of(sets: u32) -> u32
     ensures { result ≡ spec.pieces_of sets }
 {
     sets.div_ceil(PIECE)
 }
 
-// How many threads take pieces beside this one: none on one processor, and otherwise as many as processors. That is one too many,
-// since the system may put the first onto the processor of this one, where it waits.
+// How many threads take pieces beside this one: none on one processor, otherwise as many as processors. That is one too
+// many, since the system may put the first onto the processor of this thread, which waits.
 pub fn others_for<R: Threads>(rt: &R, sets: u32) -> usize
     ensures { result ≤ sets / 1250 }
 {
@@ -41,8 +43,8 @@ pub fn others_for<R: Threads>(rt: &R, sets: u32) -> usize
     processors.min((sets / LEAST_SHARE) as usize)
 }
 
-// The pieces that this thread and so many others take from the next one on. It starts them all itself, one after the other, since
-// one that starts others may wait before it does, and gives each its room, so that none has to ask for memory.
+// The pieces that this thread and `others` others take, from the next one on. It starts all of them itself, since a
+// thread that starts others may wait before it does, and gives each a list with capacity, so that none has to allocate.
 #[cycle(starting)]
 pub fn pieces<R: Threads>(
     rt: &R,
@@ -78,7 +80,7 @@ pub fn pieces<R: Threads>(
     Ok(one)
 }
 
-// Takes the next piece that no thread has taken, until there is none.
+// Takes the next piece that no thread has taken, until none is left.
 fn share(
     mut pieces: Vec<Piece>,
     next: &AtomicU64,
@@ -106,7 +108,7 @@ fn share(
     Ok(pieces)
 }
 
-// What the sets of the piece at a place count.
+// The counts of the sets of the piece with this number.
 fn counts_at(number: u64, sets: u32, tasks: u32, place: u32) -> [u32; 11]
     requires place { place < spec.pieces_of sets }
     requires few_sets { sets ≤ 10000 }
@@ -119,7 +121,7 @@ fn counts_at(number: u64, sets: u32, tasks: u32, place: u32) -> [u32; 11]
     counts_of(number + u64::from(before), PIECE.min(sets - before), tasks)
 }
 
-// The same, as a thread has handed it back; what none has is counted here.
+// The counts of the piece with this number, as a thread returned them; if none did, they are counted here.
 pub fn counts_in(pieces: &[Piece], number: u64, sets: u32, tasks: u32, place: u32) -> [u32; 11]
     requires pieces { spec.ArePiecesOf number sets tasks pieces.now }
     requires place { place < spec.pieces_of sets }

@@ -1,5 +1,7 @@
-// How many of the eleven percentages a made set is admitted with. All periods of made sets divide 20000, so a set needs
-// neither names nor the least common multiple of its periods, and takes no memory.
+//! The number of the eleven percentages at which the test admits a random set.
+//!
+//! All periods of random sets divide 20000, so a set needs neither names nor its hyperperiod here, and nothing is
+//! allocated.
 ghost use Rattle.std.specs.Prelude.{◌≡◌, ◌≤◌, length};
 ghost use Rattle.std.specs.List.{AllByRecursion};
 ghost use Rattle.mc_model.specs.Sums.{total};
@@ -13,17 +15,17 @@ use arrayvec::ArrayVec;
 use mc_task::Level;
 use set_gen::{draw_numbers, words_of};
 
-// In ticks. Each period of a made set divides it.
+// A number of ticks that each period of a random set divides.
 const SPAN: u32 = 20000;
 
-// A high budget, and how many jobs of its task the span has.
+// A high budget, in ticks, and the number of jobs of its task in the span.
 #[derive(Clone, Copy, Default)]
 pub struct High {
     budget: u32,
     jobs: u32,
 }
 
-// What the low tasks of a set ask of the span, what the high ones ask by their low budgets, and each high task.
+// What the low tasks of a set ask for of the span, what the high ones ask for by their low budgets, and each high task.
 #[derive(Drop)]
 pub struct Sums {
     low_low: u32,
@@ -31,7 +33,7 @@ pub struct Sums {
     highs: ArrayVec<High, 32>,
 }
 
-// With how many of 100, 110 and so on to 200 percent the test admits the set of a number.
+// At how many of 100, 110 and so on to 200 percent the test admits the set generated from this number.
 pub fn steps_of(number: u64, tasks: u32) -> u32
     requires some_tasks { 2 ≤ tasks }
     requires few_tasks { tasks ≤ 32 }
@@ -44,7 +46,7 @@ pub fn steps_of(number: u64, tasks: u32) -> u32
     }
 }
 
-// The sums of the set of a number.
+// The sums of the set generated from this number.
 fn sums_of(number: u64, tasks: u32) -> Sums
     requires some_tasks { 2 ≤ tasks }
     requires few_tasks { tasks ≤ 32 }
@@ -75,7 +77,7 @@ fn sums_of(number: u64, tasks: u32) -> Sums
     }
 }
 
-// The greatest sum of high budgets that the test admits where the low tasks ask for `a` ticks of the span and the high
+// The greatest sum of high budgets that the test admits, if the low tasks ask for `a` ticks of the span and the high
 // ones for `b` by their low budgets.
 fn most_of(a: u32, b: u32) -> Option<u32>
     ensures { AdmitsUpTo 20000 a b result }
@@ -90,7 +92,7 @@ fn most_of(a: u32, b: u32) -> Option<u32>
     Some((SPAN * rest - a * b) / rest)
 }
 
-// With how many of the percentages, from 100 on, the high tasks ask for at most `most` ticks of the span.
+// At how many of the percentages, from 100 on, the high tasks ask for at most `most` ticks of the span.
 fn admitted(highs: &[High], most: u32) -> u32
     requires few { length highs.now ≤ 32 }
     requires small { AllByRecursion spec.IsSmall highs.now }
@@ -104,7 +106,7 @@ fn admitted(highs: &[High], most: u32) -> u32
     11
 }
 
-// What the high tasks ask of the span with `s` percent of their high budgets.
+// What the high tasks ask for, of the span, at `s` percent of their high budgets.
 fn asked(highs: &[High], s: u32) -> u32
     requires few { length highs.now ≤ 32 }
     requires small { AllByRecursion spec.IsSmall highs.now }

@@ -7,16 +7,18 @@ use Rattle.serving.specs.Command.{Command, answer}
 -- a line for each count, with its percentage: s for the first count, and 10 more for each next one
 abbrev pub lines_from : ℕ → List ℕ → List ℕ
 lines_from s [] = []
-lines_from s (count ∷ counts) = (decimal s ++ (codes " " ++ (decimal count ++ codes "\n"))) ++ lines_from (s + 10) counts
+lines_from s (count ∷ counts) =
+    (decimal s ++ (codes " " ++ (decimal count ++ codes "\n"))) ++ lines_from (s + 10) counts
 
--- the lines of a table
+-- what `accept` writes of a table: a line for each count, the first for 100 percent
 abbrev pub table_text : List ℕ → List ℕ
 table_text counts = lines_from 100 counts
 
--- the reply is the table of these sets, with status 0
+-- the reply is the table of this many random sets, each of this many tasks, generated from the numbers from
+-- this one on; with status 0
 abbrev pub Accepts : ℕ → ℕ → ℕ → Reply → Type 0
 Accepts number sets tasks reply = reply ≡ reply_of 0 (table_text (accept_table number sets tasks))
 
--- the command `accept`
+-- the command `accept` of the first number, the number of sets and the number of tasks
 abbrev pub accept : ℕ → ℕ → ℕ → Command
 accept number sets tasks = answer (Accepts number sets tasks)

@@ -13,26 +13,31 @@ use Rattle.task_answers.specs.Admitted.{set_in, fetch_table}
 -- the line of U_HH at s percent of the high budgets
 unfoldable pub high_line : List Task → ℕ → List ℕ
 high_line set s =
-    codes "U_HH " ++ (fraction_text (lowest (load_hh (at_percent set s)) (product (at_percent set s))) ++ (codes " at " ++ (decimal s ++ codes "\n")))
+    codes "U_HH "
+    ++ (fraction_text (lowest (load_hh (at_percent set s)) (product (at_percent set s)))
+    ++ (codes " at " ++ (decimal s ++ codes "\n")))
 
--- a percentage and the two loads that show it: there, and at one percent more, if that is still up to 1000
+-- what `stretch` writes of a percentage s: s, the load U_HH at s percent, and that at one percent more where
+-- this is at most 1000; where there is no such percentage, the load at 0 percent
 abbrev pub stretch_text : List Task → Option ℕ → List ℕ
 stretch_text set None = codes "stretch none\n" ++ high_line set 0
 stretch_text set (Some s) =
-    codes "stretch " ++ (decimal s ++ (codes "\n" ++ (high_line set s ++ (if nat_lt s 1000 then high_line set (s + 1) else []))))
+    codes "stretch " ++ (decimal s ++ (codes "\n"
+    ++ (high_line set s ++ (if nat_lt s 1000 then high_line set (s + 1) else []))))
 
--- the stretch of a set within range
+-- what `stretch` writes of a set, or the refusal of periods that are out of range
 abbrev pub measured : List Task → Result (List ℕ) Refusal
 measured set = do
   _ ← none_or OutOfRange (range_fault set)
   Ok (stretch_text set (room.stretch set))
 
--- the stretch of the set that a task file says, or the refusal
+-- what `stretch` writes of the set that a task file of these bytes says, or the refusal of the file or the
+-- set
 abbrev pub stretched : List ℕ → Result (List ℕ) Refusal
 stretched bytes = do
   set ← set_in bytes
   measured set.tasks
 
--- the command `stretch`
+-- the command `stretch` on the task file of this name
 abbrev pub stretch : List ℕ → Command
 stretch tasks = fetch_table tasks (λ bytes. answer (λ reply. reply ≡ reply_by (stretched bytes)))

@@ -1,14 +1,14 @@
-// The command `accept`.
+//! The command `accept`.
 ghost use Rattle.std.specs.Prelude.{◌≡◌, ◌≤◌, ◌<◌, ◌+◌, ◌^◌, IfOk, length};
 ghost use Rattle.serving.specs.Serves.{ServesAlone};
 ghost use Rattle.study_answers.specs.Accept as spec;
 ghost use Rattle.study_answers.specs.Accept.{accept};
 
 use replies::{Reply, Stop};
-use serving::Within;
+use serving::{TaskCount, Within};
 use std::alloc::{AllocError, Global};
 use std::thread::Threads;
-use study::table;
+use study::{table, table_alone};
 
 /// How many sets a study has, 1 to 10,000.
 pub type SetCount = Within<1, 10_000>;
@@ -20,7 +20,7 @@ pub struct Accept {
     pub number: u64,
     pub sets: SetCount,
     /// How many tasks each set has.
-    pub tasks: Within<2, 32>,
+    pub tasks: TaskCount,
 }
 
 impl Accept {
@@ -32,6 +32,16 @@ impl Accept {
         let (sets, tasks) = (self.sets.get() as u32, self.tasks.get() as u32);
         let counts = table(rt, alloc, self.number, sets, tasks)?;
         Ok(Reply::new(0, table_text(alloc, &counts)?))
+    }
+
+    /// The reply that [`Accept::reply`] gives, by the caller's thread alone.
+    pub fn reply_alone(&self, alloc: Global) -> Result<Reply, Stop>
+        requires { self.now.number + self.now.sets < 2 ^ 64 }
+        ensures { ServesAlone (accept self.now.number self.now.sets self.now.tasks) result }
+    {
+        let (sets, tasks) = (self.sets.get() as u32, self.tasks.get() as u32);
+        let alone = table_alone(self.number, sets, tasks);
+        Ok(Reply::new(0, table_text(alloc, &alone)?))
     }
 }
 

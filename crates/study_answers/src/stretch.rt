@@ -1,4 +1,4 @@
-// The command `stretch`.
+//! The command `stretch`.
 ghost use Rattle.std.specs.Prelude.{◌≡◌, ◌≤◌, IfOk, string_bytes};
 ghost use Rattle.load_sum.specs.Belong.{BelongTo};
 ghost use Rattle.study.specs.Stretch as room;

@@ -6,41 +6,40 @@ use Rattle.mc_model.specs.Loads.{range_fault}
 use Rattle.mc_model.specs.Test.{test}
 use Rattle.task_file.specs.TaskFile.{task_file}
 use Rattle.replies.specs.Refusal.{Refusal, TaskFile, OutOfRange, NotAdmitted}
-use Rattle.replies.specs.Reading.{◌>>=◌, or_refuse, none_or}
+use Rattle.replies.specs.Reading.{◌>>=◌, refused_as, none_or}
 use Rattle.serving.specs.Command.{Command, fetch}
+use Rattle.task_answers.specs.declared.ruled.Ruled.{Ruled}
 
 -- a set with the rule under which its jobs are ordered
-pub record Ruled : Type 0 where
-  pub set : Set
-  pub rule : Rule
-
--- the set with this rule
 abbrev pub under : Rule → Set → Ruled
 under rule set = record { set = set; rule = rule }
 
--- the set that a task file says
+-- the set that a task file of these bytes says, or the file's refusal
 abbrev pub set_in : List ℕ → Result Set Refusal
-set_in bytes = or_refuse TaskFile (task_file bytes)
+set_in bytes = refused_as TaskFile (task_file bytes)
 
--- a set within range, under the rule that the test gives it
+-- a set under the rule that the test gives it; or the refusal of a set whose periods are out of range, or
+-- that gets no rule
 abbrev pub tested : Set → Result Ruled Refusal
 tested set = do
   _ ← none_or OutOfRange (range_fault set.tasks)
   rule ← ok_or (test set) (NotAdmitted set.tasks)
   Ok (under rule set)
 
--- the set that a task file says, under the rule that the test gives it
+-- the set that a task file of these bytes says, under the rule that the test gives it, or the refusal of the
+-- file or the set
 abbrev pub admitted : List ℕ → Result Ruled Refusal
 admitted bytes = do
   set ← set_in bytes
   tested set
 
--- the set that a task file says, under a rule that the words give
+-- the set that a task file of these bytes says, under a given rule, or the file's refusal
 abbrev pub ruled_by : Rule → List ℕ → Result Ruled Refusal
 ruled_by rule bytes = do
   set ← set_in bytes
   Ok (under rule set)
 
--- the command asks for a task file, or a work file: at most 16,777,216 bytes
+-- the command that asks for a task file, a work file or a demand file, of at most 16,777,216 bytes, and goes
+-- on by its bytes
 abbrev pub fetch_table : List ℕ → (List ℕ → Command) → Command
 fetch_table name next = fetch name (2 ^ 24) next

@@ -1,4 +1,4 @@
-// The set in a task file, if the test admits it.
+//! The set in a task file, if the test admits it.
 ghost use Rattle.std.specs.Prelude.{◌≡◌};
 ghost use Rattle.replies.specs.Stop.{Gives};
 ghost use Rattle.task_answers.specs.Admitted.{set_in, tested, admitted};

@@ -1,4 +1,4 @@
-// The command `check`.
+//! The command `check`.
 ghost use Rattle.serving.specs.Serves.{Serves};
 ghost use Rattle.task_answers.specs.Check.{check};
 

@@ -1,4 +1,4 @@
-// The text of `check`.
+//! The text of `check`.
 ghost use Rattle.std.specs.Prelude.{◌≡◌, List, IfOk, IfSome, string_bytes};
 ghost use Rattle.mc_task.specs.declared.task.Task.{Task};
 ghost use Rattle.mc_task.specs.TaskSet.{IsScale};

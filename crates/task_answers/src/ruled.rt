@@ -1,4 +1,4 @@
-// The set in a task file, under a rule.
+//! The set in a task file, under a rule.
 ghost use Rattle.mc_model.specs.Holds.{Fits};
 ghost use Rattle.replies.specs.Stop.{Gives};
 ghost use Rattle.task_answers.specs.Admitted.{ruled_by};

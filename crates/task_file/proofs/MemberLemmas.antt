@@ -1,4 +1,4 @@
--- The first key of a table that a test does not know.
+-- The first key of a table that a test refuses.
 use Rattle.std.proofs.Common.{◌≡◌, ℕ, List, [], ◌∷◌, Bool, true, false, not, cond, Option, Some, None, option_map, option_copied, String, Global, string_bytes, refl, Bor}
 use Rattle.std.specs.Prelude.{find}
 use Rattle.std.specs.Map.{keys_of}

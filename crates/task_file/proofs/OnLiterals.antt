@@ -1,4 +1,4 @@
--- What an answer unfolds to compute `task_file` on a literal.
+-- The definitions that must be unfolded to compute `task_file` on a literal.
 use Rattle.std.specs.Prelude.{⊤}
 use Rattle.std.specs.Str.{is_utf8, chars}
 use Rattle.toml.proofs.OnLiterals.{toml_on_literals}

@@ -22,7 +22,7 @@ match_members Less a b c = refl
 match_members Equal a b c = refl
 match_members Greater a b c = refl
 
--- an insert into the map of a table
+-- inserting an entry into a table's map puts the member into the tree
 pub members_view-insert : (k : String Global) (v : Value) (es : List Entry) → members_view (insert_entry string_cmp es k v) ≡ put_member (string_bytes k) (view v) (members_view es)
 unfolding put_member
 members_view-insert k v [] = refl
@@ -38,19 +38,19 @@ pub put_scale : (scale tasks : Data) (ms : Members) → put_member (key_bytes ke
 unfolding put_member
 put_scale scale tasks ms = refl
 
--- the four members in order, put one by one
+-- putting the four common members one by one gives them in order
 pub put_common : (name level period low : Data)
     → put_member (key_bytes key.Low) low (put_member (key_bytes key.Period) period (put_member (key_bytes key.Level) level (put_member (key_bytes key.Name) name no_members)))
     ≡ member (key_bytes key.Level) level (member (key_bytes key.Low) low (member (key_bytes key.Name) name (member (key_bytes key.Period) period no_members)))
 unfolding put_member
 put_common name level period low = refl
 
--- the high budget goes before them
+-- the high budget goes before the common members
 pub put_high : (high level : Data) (ms : Members) → put_member (key_bytes key.High) high (member (key_bytes key.Level) level ms) ≡ member (key_bytes key.High) high (member (key_bytes key.Level) level ms)
 unfolding put_member
 put_high high level ms = refl
 
--- a name is ASCII
+-- a byte of a name is ASCII
 name_byte_ascii : (b : ℕ) → is_name_byte b ≡ true → b < 128
 name_byte_ascii b h = grind (arith, nat_tests, h)
 
@@ -59,6 +59,6 @@ name_bytes_ascii [] h i = omega arith
 name_bytes_ascii (b ∷ bs) h zero = name_byte_ascii b ((and_parts (is_name_byte b) (list_all is_name_byte bs) h).0)
 name_bytes_ascii (b ∷ bs) h (suc i) = name_bytes_ascii bs ((and_parts (is_name_byte b) (list_all is_name_byte bs) h).1) i
 
--- a name is a text
+-- a name is UTF-8
 pub IsUtf8-name : (name : List ℕ) → IsTrue (is_name name) → IsUtf8 name
 IsUtf8-name name h = IsUtf8-from_ascii name (name_bytes_ascii name ((and_parts _ (list_all is_name_byte name) h).1))

@@ -44,7 +44,7 @@ file_depth ts (Some x) = grind (arith, nat_tests, tasks_depth ts)
 tick_count : (n : ℕ) → IsTickCount n → is_tick_count n ≡ true
 tick_count n h = grind (arith, nat_tests, h.0, h.1)
 
--- a low task's table reads as the task, and so does a high task's
+-- a low task's table reads as the task
 low_task : (n : ℕ) (name : List ℕ) (period low : ℕ) → is_name name ≡ true → is_tick_count period ≡ true → is_tick_count low ≡ true
     → let t : Task = record { name = name; level = Low; period = period; low = low; high = low } in task_of n (table (task_members t)) ≡ Ok t
 unfolding first_other task_of
@@ -55,14 +55,14 @@ high_task : (n : ℕ) (name : List ℕ) (period low high : ℕ) → is_name name
 unfolding first_other task_of
 high_task n name period low high a b c d = rw (a, b, c, d)
 
--- a task's table reads as the task
+-- a task's table reads as the task, at either level
 task_back : (n : ℕ) (level : Level) (name : List ℕ) (period low high : ℕ) → let t : Task = record { name = name; level = level; period = period; low = low; high = high } in IsTask t → task_of n (table (task_members t)) ≡ Ok t
 task_back n Low name period low high is =
     let P : ℕ → Type 0 = λ x. let t : Task = record { name = name; level = Low; period = period; low = low; high = x } in task_of n (table (task_members t)) ≡ Ok t in
     subst P is.budgets (low_task n name period low is.name (tick_count period is.period) (tick_count low is.low))
 task_back n High name period low high is = high_task n name period low high is.name (tick_count period is.period) (tick_count low is.low) (tick_count high is.high)
 
--- each task reads as it was
+-- the tables of a set's tasks read as the tasks
 tasks_back : (n : ℕ) (ts : List Task) → AllByRecursion IsTask ts → tasks_from n (items_of (task_tables ts)) ≡ Ok ts
 unfolding tasks_from
 tasks_back n [] each = refl

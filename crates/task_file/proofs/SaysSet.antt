@@ -28,12 +28,12 @@ use Rattle.task_file.specs.declared.key.KeyName.TheVariants as key
 use Rattle.task_file.specs.declared.fault.TaskFault.{TaskFault}
 use Rattle.task_file.specs.declared.fault.TaskFault.TheVariants.{NotToml, TopKey, BadVersion, BadName, OutOfRange, KeyUnknown, WrongKind}
 
--- where the whole is there, so is the first, and the second after it
+-- if two steps in turn succeed, each of them succeeds
 after_first : {A B : Type 0} (first : Result A TaskFault) (then : A → Result B TaskFault) (b : B) → (first >>= then) ≡ Ok b → (a : A) × (first ≡ Ok a) × (then a ≡ Ok b)
 after_first (Ok a) then b h = (a, refl, h)
 after_first (Err e) then b h = absurd (cc)
 
--- a value that passes a test
+-- if a tested value is taken, it passed the test
 passed : {A : Type 0} (b : Bool) (x y : A) (e : TaskFault) → cond b (Ok x) (Err e) ≡ Ok y → (b ≡ true) × (x ≡ y)
 passed true x y e h = (refl, cc)
 passed false x y e h = absurd (cc)
@@ -54,7 +54,7 @@ number_taken n k (pos i) m h =
     subst IsTickCount (p.1) (IsTickCount-from_is_tick_count i (p.0))
 number_taken n k (negsuc i) m h = absurd (cc)
 
--- the high budget that is taken is the low one or what stands at its key, and both are budgets
+-- the high budget that is taken is the low one or the number at its key, and both are budgets
 high_taken : (n : ℕ) (level : Level) (low : ℕ) (d : Option ℤ) (given : Option ℕ) (high : ℕ) → IsTickCount low
     → if_some (number_of n key.High) d ≡ Ok given → high_of n level low given ≡ Ok high → IsTickCount high
 high_taken n Low low d None high is g h = let same : low ≡ high = cc in subst IsTickCount same is
@@ -66,14 +66,14 @@ high_taken n High low (Some d) (Some x) high is g h =
     let same : p.0 ≡ high = cc in
     subst IsTickCount same (number_taken n key.High d p.0 p.1)
 
--- a name of the form and three numbers of ticks: a task but for the order of its budgets
+-- a task with a valid name and three numbers of ticks, whose budgets may be out of order
 record IsRead (t : Task) : Type 0 where
   name : IsTrue (is_name t.name)
   period : IsTickCount t.period
   low : IsTickCount t.low
   high : IsTickCount t.high
 
--- the same, handed on
+-- if two steps in turn succeed, what the second needs follows from the first
 after : {A B P : Type 0} (first : Result A TaskFault) (then : A → Result B TaskFault) (b : B) → (first >>= then) ≡ Ok b → ((a : A) → first ≡ Ok a → then a ≡ Ok b → P) → P
 after (Ok a) then b h go = go a refl h
 after (Err e) then b h go = absurd (cc)
@@ -115,7 +115,7 @@ tasks_read n (item d ds) ts h =
     let same : one.0 ∷ more.0 ≡ ts = cc in
     subst (AllByRecursion IsRead) same (task_read n d one.0 (one.1), tasks_read (n + 1) ds more.0 (more.1))
 
--- with their budgets in order they are tasks
+-- tasks that were read with their budgets in order are valid tasks
 each_task : (ts : List Task) → AllByRecursion IsRead ts → AllByRecursion (λ t. InOrder t.level t.low t.high) ts → AllByRecursion IsTask ts
 each_task [] read order = tt
 each_task (t ∷ ts) read order =
@@ -123,7 +123,7 @@ each_task (t ∷ ts) read order =
     let is : IsTask t = record { name = r.name; period = r.period; low = r.low; high = r.high; budgets = order.0 } in
     (is, each_task ts read.1 order.1)
 
--- a list that has no fault is taken as it is
+-- a list without a fault is taken as it is
 no_fault : (ts : List Task) (scale : Option Scale) (set : Set) (e : Option SetFault)
     → option_map_or (λ e. Err (fault.Set e)) e (Ok (record { tasks = ts; scale = scale })) ≡ Ok set
     → (record { tasks = ts; scale = scale } ≡ set) × (e ≡ None)

@@ -1,4 +1,4 @@
--- The scale of a file: it is in lowest terms, and what is printed of it reads back.
+-- The scale of a file: it is valid, and what is printed of it reads back.
 use Rattle.std.proofs.Common.{◌≡◌, ℕ, ℤ, ◌*◌, ◌^◌, ◌<◌, ◌≤◌, ◌&&◌, pos, negsuc, nat_le, nat_lt, Bool, true, false, cond, List, [], ◌∷◌, length, Option, Some, None, Ok, IfSome, refl, sym, ap, subst, arith}
 use Rattle.std.proofs.lemmas.Bool.Decides.{nat_tests}
 use Rattle.std.proofs.Math.Nat.{le_of_mul-le-mul_left, lt_of_mul-lt-mul_left, mul-le-mul_right}
@@ -17,7 +17,7 @@ use Rattle.task_file.specs.Refusals.{◌>>=◌, or_refuse}
 use Rattle.task_file.specs.ScaleArray.{numbers_of, lowest_scale, scale_of, scale_in}
 use Rattle.task_file.specs.Printed.{scale_array}
 
--- a scale of such numbers, in lowest terms, is a scale
+-- a scale of two such numbers, put in lowest terms, is valid
 pub lowest-IsScale : (p q : ℕ) → 1 ≤ p → p ≤ q → q < 2 ^ 32 → IsScale (lowest_scale p q)
 lowest-IsScale p q some order small =
     let g : ℕ = gcd p q in
@@ -53,7 +53,7 @@ scale_back x is =
     let within : (nat_le 1 x.p && (nat_le x.p x.q && nat_lt x.q (2 ^ 32))) ≡ true = grind (arith, nat_tests, is.some, is.order, is.small) in
     rw (within, lowest-same x is)
 
--- two numbers that are taken give a scale
+-- two numbers that are taken give a valid scale
 pub scale_of-IsScale : (z w : ℤ) → IfSome (scale_of z w) IsScale
 scale_of-IsScale (negsuc p) w = tt
 scale_of-IsScale (pos p) (negsuc q) = tt
@@ -73,13 +73,13 @@ taken : (o : Option (ℤ × ℤ)) (scale : Option Scale)
 taken None scale h = absurd (cc)
 taken (Some (z, w)) scale h = made (scale_of z w) scale (scale_of-IsScale z w) h
 
--- what a file says of a scale is a scale
+-- the scale that a file says is valid
 pub scale_in-IsScale : (d : Option Data) (scale : Option Scale) → scale_in d ≡ Ok scale → IfSome scale IsScale
 unfolding scale_in
 scale_in-IsScale None scale h = let none : None ≡ scale = cc in subst (λ s. IfSome s IsScale) none tt
 scale_in-IsScale (Some d) scale h = taken (numbers_of d) scale h
 
--- only an array of two whole numbers has two numbers
+-- only an array of exactly two whole numbers has two numbers
 pub array_of_numbers : (d : Data) (ds : Items) → as_array d ≡ Some ds → numbers_of d ≡ numbers_of (array ds)
 array_of_numbers (array es) ds h = let same : es ≡ ds = cc in ap (λ xs. numbers_of (array xs)) same
 array_of_numbers (string s) ds h = absurd (cc)
@@ -89,7 +89,7 @@ array_of_numbers (boolean b) ds h = absurd (cc)
 array_of_numbers (datetime t) ds h = absurd (cc)
 array_of_numbers (table ms) ds h = absurd (cc)
 
--- an array of less than two values, or of more, has not
+-- an array of fewer or more than two values does not have two numbers
 one : (d : Data) → numbers_of (array (item d no_items)) ≡ None
 one (integer z) = refl
 one (string s) = refl

@@ -1,4 +1,4 @@
--- The definitions at small files.
+-- The definitions, computed at small files.
 use Rattle.std.proofs.Common.{◌≡◌, [], ◌∷◌, codes, Some, Ok, Err, refl}
 use Rattle.mc_task.specs.declared.task.Task.{Task}
 use Rattle.mc_task.specs.declared.task.Level.TheVariants.{Low, High}

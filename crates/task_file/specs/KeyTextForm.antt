@@ -1,4 +1,4 @@
--- How a shown key lies in its array.
+-- The array that stores a shown key.
 use Rattle.std.specs.Prelude.{◌≤◌, take, IsTrue}
 use Rattle.std.specs.List.{list_all}
 use Rattle.task_file.specs.KeyText.{is_visible}

@@ -17,7 +17,7 @@ numbers_of _ = None
 abbrev pub lowest_scale : ℕ → ℕ → Scale
 lowest_scale p q = record { p = (lowest p q).num; q = (lowest p q).den }
 
--- the scale p/q in lowest terms, where 1 ≤ p ≤ q ≤ 4,294,967,295
+-- the scale p/q in lowest terms, if 1 ≤ p ≤ q ≤ 4,294,967,295
 abbrev pub scale_of : ℤ → ℤ → Option Scale
 scale_of (pos p) (pos q) =
     if nat_le 1 p && (nat_le p q && nat_lt q (2 ^ 32)) then Some (lowest_scale p q) else None

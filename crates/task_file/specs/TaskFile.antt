@@ -16,20 +16,20 @@ use Rattle.task_file.specs.declared.fault.TaskFault.{TaskFault}
 use Rattle.task_file.specs.declared.fault.TaskFault.TheVariants.{NotToml, TopKey, BadVersion, NoTasks, WrongKind}
 use Rattle.task_file.specs.declared.fault.TaskFault.TheVariants as fault
 
--- `version`: 1 where it is absent, otherwise the whole number 1 or 2, and version 2 alone may have a scale
+-- the version: 1 if absent, otherwise the whole number 1 or 2
 abbrev pub version_in : Option Data → Option ℕ
 version_in None = Some 1
 version_in (Some (integer (pos n))) = if n == 1 || n == 2 then Some n else None
 version_in (Some _) = None
 
--- the items under `task`, which is an array and not empty
+-- the items under `task`, which must be a non-empty array
 abbrev pub task_items : Option Data → Result Items TaskFault
 task_items None = Err NoTasks
 task_items (Some (array no_items)) = Err NoTasks
 task_items (Some (array (item d ds))) = Ok (item d ds)
 task_items (Some _) = Err (WrongKind 0 key.Task)
 
--- the tasks that the items say, the first being number n
+-- the tasks that the items say, if the first is number n
 unfoldable pub tasks_from : ℕ → Items → Result (List Task) TaskFault
 tasks_from n no_items = Ok []
 tasks_from n (item d ds) = do
@@ -47,6 +47,6 @@ tree_set ms = do
   ts ← tasks_from 1 ds
   option_map_or (λ e. Err (fault.Set e)) (first_fault ts) (Ok (record { tasks = ts; scale = scale }))
 
--- the set that a file says, which is UTF-8
+-- the set that a file says; its bytes must be UTF-8
 unfoldable pub task_file : List ℕ → Result Set TaskFault
 task_file bytes = or_refuse NotToml (if is_utf8 bytes then parse_document bytes else None) >>= tree_set

@@ -13,7 +13,7 @@ use Rattle.task_file.specs.declared.key.KeyName.TheVariants as key
 use Rattle.task_file.specs.declared.fault.TaskFault.{TaskFault}
 use Rattle.task_file.specs.declared.fault.TaskFault.TheVariants.{KeyMissing, KeyUnknown, WrongKind, OutOfRange, BadName, HighOnLow}
 
--- the first key, in the order of the bytes, that the test does not know
+-- the first key, in byte order, that the test refuses
 unfoldable pub first_other : (List ℕ → Bool) → Members → Option (List ℕ)
 first_other known no_members = None
 first_other known (member k d ms) = if known k then first_other known ms else Some k
@@ -31,7 +31,7 @@ abbrev pub level_bytes : Level → List ℕ
 level_bytes Low = codes "low"
 level_bytes High = codes "high"
 
--- the text, where it is a name; otherwise the refusal
+-- the text, if it is a name; otherwise the refusal
 abbrev pub name_of : ℕ → List ℕ → Result (List ℕ) TaskFault
 name_of n text = if is_name text then Ok text else Err (BadName n)
 
@@ -39,17 +39,18 @@ name_of n text = if is_name text then Ok text else Err (BadName n)
 abbrev pub level_of : ℕ → List ℕ → Result Level TaskFault
 level_of n t = or_refuse (OutOfRange n key.Level) (find (λ l. bytes_eq t (level_bytes l)) (Low ∷ High ∷ []))
 
--- the whole number, where it may be a period or a budget, 1 to 4,294,967,295 ticks; otherwise the refusal
+-- the whole number, if it may be a period or a budget, 1 to 4,294,967,295 ticks; otherwise the refusal
 abbrev pub number_of : ℕ → KeyName → ℤ → Result ℕ TaskFault
 number_of n k (pos m) = if nat_le 1 m && nat_lt m (2 ^ 32) then Ok m else Err (OutOfRange n k)
 number_of n k _ = Err (OutOfRange n k)
 
--- nothing where the value is absent, otherwise what is read of it, or the refusal
+-- nothing if the value is absent, otherwise what is read of it, or the refusal
 abbrev pub if_some : {A B : Type 0} → (A → Result B TaskFault) → Option A → Result (Option B) TaskFault
 if_some read None = Ok None
 if_some read (Some x) = read x >>= λ y. Ok (Some y)
 
--- the high budget: a high task must give its high budget; a low task must not, and its high budget is its low one
+-- the high budget: a high task must give its high budget; a low task must not, and its high budget is its low
+-- one
 abbrev pub high_of : ℕ → Level → ℕ → Option ℕ → Result ℕ TaskFault
 high_of n High low (Some high) = Ok high
 high_of n High low None = Err (KeyMissing n key.High)

@@ -1,4 +1,4 @@
-// What a table has at a key, and the keys that a table may have.
+//! The value of a table at a key, and the keys that a table may have.
 ghost use Rattle.std.specs.Prelude.{◌≡◌, option_map, option_copied, find, not, string_bytes};
 ghost use Rattle.std.specs.BTreeMap.{keys};
 ghost use Rattle.toml.specs.Data.{get_member};
@@ -8,7 +8,7 @@ ghost use Rattle.task_file.specs.TaskTable.{first_other};
 
 use toml::{Table, Value};
 
-// What the table has at the key.
+// The value of the table at the key, if any.
 #[tactic(auto, using(toml::proofs::Views::table_get))]
 pub fn member<'a>(table: &'a Table, key: &str) -> Option<&'a Value>
     ensures { option_map (λ x. view x.now) result ≡ get_member key.now (table_view table.now) }
@@ -16,7 +16,7 @@ pub fn member<'a>(table: &'a Table, key: &str) -> Option<&'a Value>
     table.get(key)
 }
 
-// The first key, in the order of the bytes, that no document has which may or may not have a scale.
+// The first key of the table, in byte order, that a document may not have; `may_scale` allows `scale`.
 pub fn other_top_key(table: &Table, may_scale: bool) -> Option<&String>
     ensures { option_map (λ key. string_bytes key.now) result ≡ first_other (is_top_key may_scale) (table_view table.now) }
 {
@@ -31,7 +31,7 @@ fn find_top_other(table: &Table, may_scale: bool) -> Option<&String>
         .find(|key| !is_top_key(may_scale, key.as_str()))
 }
 
-// The first key, in the order of the bytes, that no task has.
+// The first key of the table, in byte order, that a task may not have.
 pub fn other_task_key(table: &Table) -> Option<&String>
     ensures { option_map (λ key. string_bytes key.now) result ≡ first_other is_task_key (table_view table.now) }
 {

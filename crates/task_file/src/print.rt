@@ -1,3 +1,4 @@
+//! Task files, printed.
 ghost use Rattle.std.specs.Prelude.{◌≡◌, pos, Ok, IfOk, string_bytes};
 ghost use Rattle.toml.specs.Data.{string, integer};
 ghost use Rattle.toml.specs.View.{view, table_view, array_view, items_of};
@@ -13,9 +14,9 @@ use std::alloc::{AllocError, Global};
 use toml::value::Array;
 use toml::{Table, Value};
 
-/// Prints a task file of version 2 that says the set: `read_tasks` of it gives an equal set, or want of memory.
+/// Prints the set as a task file of version 2. If memory suffices, `read_tasks` of it returns an equal set.
 ///
-/// The only error is want of memory.
+/// The only error is `Memory`, if an allocation fails.
 pub fn print_tasks(alloc: Global, set: &TaskSet) -> Result<Vec<u8>, Memory>
     ensures { IfOk result (λ bytes. task_file bytes.items ≡ Ok set.now) }
 {
@@ -26,7 +27,7 @@ pub fn print_tasks(alloc: Global, set: &TaskSet) -> Result<Vec<u8>, Memory>
     }
 }
 
-// The document: the version, the tasks, and the scale where the set has one.
+// The document: the version, the tasks, and the scale if the set has one.
 fn file_table(alloc: Global, set: &TaskSet) -> Result<Table, AllocError>
     ensures tree { IfOk result (λ table. table_view table ≡ file_members set.now) }
     ensures set { IsSet set.now }
@@ -94,7 +95,7 @@ fn task_table(alloc: Global, task: &Task) -> Result<Table, AllocError>
     }
 }
 
-// What a task of either level has.
+// The members that a task of either level has.
 fn common_table(alloc: Global, task: &Task) -> Result<Table, AllocError>
     ensures { IfOk result (λ table. table_view table ≡ common_members task.now) }
 {

@@ -1,4 +1,4 @@
-// The scale of a file.
+//! The scale of a task file.
 ghost use Rattle.std.specs.Prelude.{◌≡◌, ◌<◌, ◌≤◌, ◌^◌, option_map, IfOk, IfSome};
 ghost use Rattle.toml.specs.Data.{array};
 ghost use Rattle.toml.specs.View.{view, items_view};
@@ -11,7 +11,7 @@ use mc_task::Scale;
 use tick_frac::Ratio;
 use toml::Value;
 
-// The scale that stands under the key `scale`, in lowest terms, where the key is there.
+// The scale under the key `scale`, in lowest terms, or none if the key is absent.
 #[tactic(auto, unfolding(crate::specs::ScaleArray::scale_in))]
 pub fn scale_in(value: Option<&Value>) -> Result<Option<Scale>, TaskFault>
     ensures value { Gives (λ x. x) result (file.scale_in (option_map (λ v. view v.now) value.entry)) }

@@ -1,4 +1,4 @@
--- Lists of workers and of starts, by their tasks.
+-- Lists of workers and of starts, in the order of their tasks.
 use Rattle.std.proofs.Common.{arith, ◌++◌, ℕ, ◌≡◌, ◌<◌, ◌+◌, ◌-◌, ◌==◌, ◌∙◌, List, [], ◌∷◌, Bool, true, length, sym, subst}
 use Rattle.std.specs.List.{slice_index_or, slice_set}
 use Rattle.std.proofs.lemmas.Bool.{eq-eqb}
@@ -22,12 +22,12 @@ use Rattle.task_threads.specs.Starts.{IsStartOf, GoDown}
 pub from_fresh : (e : Executive) (ps : List TaskPass) → AreFresh e ps → AreInOrder IsPassFor e ps
 from_fresh e ps fresh i d lt = ((fresh i d lt).of, (fresh i d lt).task)
 
--- an element of a list that has one
+-- an element of a non-empty list
 pub first_of : {A : Type 0} (xs : List A) → 0 < length xs → A
 first_of [] h = absurd (omega (arith, h))
 first_of (x ∷ xs) h = x
 
--- of as many passes in order as there are tasks, none is missing
+-- if passes in order are as many as the tasks, no task lacks one
 pub none_missing : (e : Executive) (ps : List TaskPass) (k : ℕ) → AreInOrder IsPassFor e ps → IsMissing ps (floor_of e).core.set k → length ps ≡ length (floor_of e).core.set → ⊥
 none_missing e ps k order missing all =
     let a = missing.in_set.0 in
@@ -38,7 +38,7 @@ none_missing e ps k order missing all =
     let there : has_pass ps k ≡ true = list_any_at (λ p. (of_pass p).task == k) ps (k - 1) d lt (eq-eqb _ k ((order (k - 1) d lt).1 ∙ is)) in
     let none = missing.none in cc
 
--- one more worker, of the next task
+-- workers in order with one more, of the next task
 pub one_more : {T : Type 0} (is_of : Executive → ℕ → T → Type 0) (e : Executive) (ws : List T) (w : T) → AreInOrder is_of e ws → is_of e (length ws + 1) w → AreInOrder is_of e (ws ++ w ∷ [])
 one_more is_of e ws w all last i d lt =
     let len : length (ws ++ w ∷ []) ≡ length ws + 1 = length-append ws (w ∷ []) in
@@ -47,7 +47,7 @@ one_more is_of e ws w all last i d lt =
     (λ other. let before : i < length ws = omega (arith, len, lt, other) in
     subst (is_of e (i + 1)) (sym (get_or-append ws (w ∷ []) d i before)) (all i d before))
 
--- of n starts one is replaced by another of its task
+-- starts in order with one replaced by another of the same task
 pub replaced : {T : Type 0} (is_of : Executive → ℕ → T → Type 0) (e : Executive) (n m : ℕ) (ss : List (Start T)) (k : ℕ) (s : Start T) → m ≡ n → length ss ≡ n → k < m → GoDown is_of e n ss → IsStartOf is_of e (m - k) s → GoDown is_of e n (slice_set ss k s)
 replaced {T} is_of e n m ss k s same_number len below down is i d lt =
     let inside : k < length ss = omega (arith, same_number, len, below) in

@@ -1,4 +1,4 @@
--- Where the calls of each task end its jobs by their needs, so do the rows.
+-- If the calls of each task end its jobs by their needs, so do the rows.
 use Rattle.std.proofs.Common.{◌≡◌, ℕ, ◌+◌, ◌==◌, List, [], ◌∷◌, ◌++◌, Bool, true, false, Option, Some, None, refl, ap, sym, ◌∙◌, subst, cond}
 use Rattle.std.proofs.lemmas.Bool.{eq-eqb, eqb-true}
 use Rattle.mc_task.specs.TaskSet.{IsIn, task_at}
@@ -24,7 +24,7 @@ use Rattle.mc_model.specs.LiveTrace.{live_need, EndByNeed}
 use Rattle.task_threads.specs.LiveCalls.{granted_then, granted_last, IsByNeed, AreByNeed}
 use Rattle.timetable.proofs.RunsFollow.{done_as}
 
--- whose tick is out was granted it last, and no tick was written since
+-- the task with the granted tick was granted it last, and no tick was written since
 abbrev Knows : FloorState → (ℕ → Option Granted) → Type 0
 Knows f lasts = (j : JobId) → f.core.out ≡ Some j → lasts j.task.0 ≡ Some (granted f.core j)
 
@@ -49,7 +49,7 @@ knows_then f k c lasts h = go (way f k c)
     go (idle_written out) = λ i e. absurd (cc)
     go w = λ i e. either_way (k == i.task.0) (lasts i.task.0) ∙ h i e
 
--- rows
+-- Rows.
 
 held_ends : (tasks set : List Task) (rule : Rule) (js : List JobId) (g : List Row) → EndByNeed tasks g → EndByNeed tasks (add_held set rule js g)
 held_ends tasks set rule [] g h = h
@@ -58,7 +58,7 @@ held_ends tasks set rule (j ∷ js) g h = held_ends tasks set rule js g h
 pub told_by_plan : (p : Plan) (g : List Row) (j : JobId) (d : Bool) → p ≡ Free → done_by p g j d ≡ d
 told_by_plan p g j d e = rw e refl
 
--- the outcome of the tick that is out
+-- the outcome of the granted tick leaves rows that end jobs by their needs
 pub settled_ends : (tasks : List Task) (s : State) (j : JobId) (done : Bool) → done ≡ (used s.rows j + 1 == live_need (task_at tasks j.task.0) j.count)
     → EndByNeed tasks s.rows → EndByNeed tasks (core_ended s j done).rows
 settled_ends tasks s j done by ends =
@@ -76,7 +76,7 @@ ends_then tasks f k c lasts free may knows by h = go (way f k c) may by
         settled_ends tasks f.core j done (is ∙ (told_by_plan f.plan f.core.rows j told free ∙ met)) h
     go w may by = h
 
--- histories
+-- Histories.
 
 own_call : (need : ℕ → ℕ) (was : Option Granted) (b : Bool) (e : Entry) (es : List Entry) → b ≡ true → AreByNeed need was (cond b (e ∷ es) es) → IsByNeed need was e.call
 own_call need was true e es is h = h.0
@@ -99,13 +99,14 @@ rows_by_need tasks f (e ∷ es) lasts same free legal knows calls h =
     (λ i inside. later_calls (live_need (task_at tasks i)) (lasts i) (k == i) e (answer_to f k e.call) (calls_of i es) legal.0.answered (calls i inside))
     (ends_then tasks f k e.call lasts free legal.0.may knows by h)
 
--- of an opening floor without a plan a history leaves rows that end jobs by their needs, where the calls of each task do
+-- if the calls of each task end its jobs by their needs, a history from an opening floor without a plan
+-- leaves such rows
 pub live_rows : (o : FloorState) (log : List Entry) → o.plan ≡ Free → o.core.rows ≡ [] → o.core.out ≡ None → IsLegal o log
     → ((k : ℕ) → IsIn o.core.set k → AreByNeed (live_need (task_at o.core.set k)) None (calls_of k log)) → EndByNeed o.core.set (after o log).core.rows
 live_rows o log free rows out legal calls =
     rows_by_need o.core.set o log (λ k. None) refl free legal (λ j e. absurd (cc)) calls (subst (EndByNeed o.core.set) (sym rows) tt)
 
--- one call more
+-- calls that end jobs by their needs do so with one more such call
 pub by_need_more : (need : ℕ → ℕ) (was : Option Granted) (calls : List Entry) (e : Entry) → AreByNeed need was calls → IsByNeed need (granted_last was calls) e.call → AreByNeed need was (calls ++ e ∷ [])
 by_need_more need was [] e h by = (by, tt)
 by_need_more need was (x ∷ xs) e h by = (h.0, by_need_more need (granted_then x.answer was) xs e h.1 by)

@@ -1,4 +1,4 @@
--- What a release, a tick and an idle tick of one caller make of a floor without a plan.
+-- What a release, a tick and an idle tick of one caller do to a floor without a plan.
 use Rattle.std.proofs.Common.{◌≡◌, ℕ, ◌+◌, ◌≤◌, ◌==◌, List, [], ◌∷◌, ◌++◌, Bool, true, false, Option, Some, None, Ok, refl, ap, sym, ◌∙◌, subst, arith}
 use Rattle.std.proofs.lemmas.Bool.{eq-eqb}
 use mathlib.Core.Logic.{dite}
@@ -35,11 +35,11 @@ release_moves f k h = go (way f k Release)
     go (release_held x n j out) = let none = h.out in absurd (cc)
     go w = record { live = record { free = h.free; out = h.out; ends = h.ends }; same = refl; ticks = omega arith }
 
--- without a plan, what is next is a tick of the chosen job, or an idle one
+-- without a plan the next act is a tick of the chosen job, or an idle one
 pub free_next : (f : FloorState) → IsLiveFloor f → next_act f ≡ tick_act (chosen_now f.core)
 free_next f h = rw (h.free, h.out) refl
 
--- the chosen job, where its task is to be granted
+-- if the next act is a grant to task k, the chosen job is of that task
 pub grant_of : (o : Option JobId) (k : ℕ) → tick_act o ≡ act.Grant (record { 0 = k }) → (j : JobId) × (o ≡ Some j) × (j.task.0 ≡ k)
 grant_of None k e = absurd (cc)
 grant_of (Some j) k e = (j, refl, go (cc))
@@ -65,7 +65,7 @@ grants_left f k j h chosen task room =
       state = ap (λ o. floor_unless o (record f { core = Events.after_grant f.core k }) f) plan ∙ (ap (λ o. let g : FloorState = record f { core = Events.unless o (record f.core { out = chosen_now f.core }) f.core } in g) core ∙ ap (λ (o : Option JobId). let g : FloorState = record f { core = record f.core { out = o } } in g) chosen);
     }
 
--- and its outcome
+-- the outcome of that grant moves the floor by one tick
 pub outcome_moves : (f : FloorState) (j : JobId) (done : Bool) → IsLiveFloor f → done ≡ (used f.core.rows j + 1 == live_need (task_at f.core.set j.task.0) j.count)
     → Moves f (after_outcome (record f { core = record f.core { out = Some j } }) j done) 1
 outcome_moves f j done h by =
@@ -76,7 +76,7 @@ outcome_moves f j done h by =
       ticks = ticks-held f.core.set f.core.rule f.core.held (row.Tick j (outcome_of f.core.set f.core.rule f.core.rows j told) ∷ f.core.rows);
     })
 
--- an idle tick
+-- an idle tick moves the floor by one tick
 pub idle_moves : (f : FloorState) → IsLiveFloor f → chosen_now f.core ≡ None → is_full f.core ≡ false → Moves f (after_idle f) 1
 idle_moves f h none room =
     let plan : tick_refusal f ≡ None = rw h.free refl in
@@ -85,7 +85,7 @@ idle_moves f h none room =
     (sym (ap (λ o. floor_unless o (record f { core = Events.after_idle f.core }) f) plan ∙ ap (λ o. let g : FloorState = record f { core = Events.unless o (record f.core { rows = row.Idle ∷ f.core.rows }) f.core } in g) core))
     (record { live = record { free = h.free; out = h.out; ends = h.ends }; same = refl; ticks = refl })
 
--- the rows up to the n-th tick
+-- the rows up to the n-th tick of a live trace are a live trace
 
 prefix_of : (set : List Task) (rule : Rule) (n : ℕ) (g : List Row) → Legal set rule g → EndByNeed set g → 1 ≤ n → n ≤ ticks g → (later : List Row) × (h : List Row) × (g ≡ later ++ h) × LiveTrace set rule n h
 prefix_of set rule n [] legal ends some few = absurd (omega (arith, some, few))

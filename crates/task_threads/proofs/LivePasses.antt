@@ -1,4 +1,4 @@
--- What a call makes of a pass whose jobs end by their needs.
+-- What a call does to a pass whose jobs end by their needs.
 use Rattle.std.proofs.Common.{◌≡◌, ℕ, ◌+◌, ◌==◌, List, Bool, Option, Some, None, Ok, IfSome, ap, sym, ◌∙◌, subst}
 use Rattle.mc_task.specs.declared.task.Task.{Task}
 use Rattle.mc_task.specs.TaskSet.{task_at}
@@ -21,11 +21,11 @@ pub call_live : (set : List Task) (k : ℕ) (c : Call) (a : Answer) (p q : PassS
 call_live set k c a p q h calls by =
     subst (AreByNeed (live_need (task_at set k)) None) (sym calls.adds.makes) (by_need_more (live_need (task_at set k)) None p.lists.mine (entry p.task c a) h by)
 
--- a call that ends no tick
+-- a call that ends no tick leaves a pass whose jobs end by their needs
 pub pass_live : (e : Executive) (k : ℕ) (c : Call) (a : Answer) (p q : TaskPass) → IsPassOf e q → Calls c a (of_pass p) (of_pass q) → ((last : Option Granted) → IsByNeed (live_need (task_at (floor_of e).core.set k)) last c) → IsLivePass e k p → IsLivePass e k q
 pass_live e k c a p q of calls by h = ((of, calls.task ∙ h.0.1), call_live (floor_of e).core.set k c a (of_pass p) (of_pass q) h.1 calls (by _))
 
--- a tick that was taken, and ended by its job's need
+-- a tick that was taken and ended by its job's need leaves such a pass
 pub ticked_live : (set : List Task) (k : ℕ) (g : Granted) (done : Bool) (how : How) (p q r : PassState) → EndsByNeed set k p → Calls Take (Taken (Ok g)) p q → Calls (Outcome done) (Told (Ok how)) q r
     → done ≡ (g.before + 1 == live_need (task_at set k) g.job.count) → EndsByNeed set k r
 ticked_live set k g done how p q r h takes ends by =

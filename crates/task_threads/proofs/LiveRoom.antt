@@ -1,12 +1,14 @@
--- As many places as live_places says are not all used before so many ticks have begun: the periods keep the releases few.
+-- The capacity that `live_places` computes is not used up before its ticks have begun, since the periods
+-- limit the releases.
 use Rattle.std.proofs.Common.{◌≡◌, ℕ, zero, suc, ◌+◌, ◌*◌, ◌/◌, ◌<◌, ◌≤◌, ◌==◌, Bool, true, false, cond, List, [], ◌∷◌, Some, None, length, slice_get, drop, refl, ap, sym, ◌∙◌, subst, arith, eqb-true, ne_eqb, le_trans}
 use Rattle.std.proofs.Common.{suc-mul}
 use Rattle.std.proofs.Math.Nat.{le-div_iff_mul-le}
 use Rattle.mc_model.proofs.Walk.{IsTask-at, drop_at}
 use Rattle.std.proofs.lemmas.List.{drop_all}
+use Rattle.std.specs.List.{AllByRecursion}
 use Rattle.mc_task.specs.declared.task.Rule.{Rule}
 use Rattle.mc_task.specs.declared.task.Task.{Task}
-use Rattle.mc_task.specs.TaskSet.{task_at}
+use Rattle.mc_task.specs.TaskSet.{IsTask, task_at}
 use Rattle.mc_model.specs.declared.row.Row.{Row}
 use Rattle.mc_model.specs.declared.row.Row.TheVariants as row
 use Rattle.mc_model.specs.TaskNumbers.{period_in}
@@ -22,7 +24,7 @@ use Rattle.mode_core.specs.Events.{is_full}
 use Rattle.mode_core.proofs.CallerLemmas.{no_held}
 use Rattle.task_threads.specs.LivePasses.{live_places}
 
--- a task's releases are its period apart
+-- a task's releases are at least its period apart
 pub apart : (set : List Task) (rule : Rule) (g : List Row) (k : ℕ) → Legal set rule g → (releases g k * period_in (task_at set k) ≤ next_release set g k) × (next_release set g k ≤ ticks g + period_in (task_at set k))
 apart set rule [] k legal = (omega arith, omega arith)
 apart set rule (row.Tick j how ∷ g) k legal = let ih = apart set rule g k legal.2 in (ih.0, let b = ih.1 in omega (arith, b))
@@ -62,7 +64,7 @@ all_rows set rule (row.Release j kept ∷ g) legal =
 all_rows set rule (row.Tick j how ∷ g) legal = let rest = all_rows set rule g legal.2 in omega (arith, rest)
 all_rows set rule (row.Idle ∷ g) legal = let rest = all_rows set rule g legal.2 in omega (arith, rest)
 
--- of a task no more than the periods allow
+-- a task has at most as many releases as its period allows
 few_of : (r t x n : ℕ) → 1 ≤ t → r * t ≤ x + t → x ≤ n → r ≤ n / t + 1
 few_of zero t x n some h le = omega arith
 few_of (suc q) t x n some h le =
@@ -72,23 +74,28 @@ few_of (suc q) t x n some h le =
     let f : q ≤ n / t = (le-div_iff_mul-le {k = t} {x = q} {y = n} (omega (arith, some))).1 low in
     omega (arith, f)
 
+-- a legal trace has a row for each tick, and of each task no more releases than its period allows in n ticks
+pub rows-le : (set : List Task) (rule : Rule) (g : List Row) (n : ℕ) → AllByRecursion IsTask set → Legal set rule g → ticks g ≤ n → length g ≤ ticks g + total (λ t. n / t.period + 1) set
+rows-le set rule g n are legal before =
+    let each : (k : ℕ) (t : Task) → slice_get set k ≡ Some t → releases g (1 + k) ≤ n / t.period + 1 = λ k t at.
+    let a = apart set rule g (1 + k) legal in
+    let is : period_in (task_at set (1 + k)) ≡ t.period = ap period_in (task_at-next set k ∙ at) in
+    let some = (IsTask-at set k t are at).period.0 in
+    let r : ℕ = releases g (1 + k) in
+    few_of r t.period (ticks g) n some (subst (λ (p : ℕ). r * p ≤ ticks g + p) is (le_trans a.0 a.1)) before in
+    let few = sum-below set (λ k. releases g k) (λ t. n / t.period + 1) 1 each in
+    let rows = all_rows set rule g legal in
+    omega (arith, few, rows)
+
+-- the core of a live run has a free place until its ticks have begun
 pub has_room : (s : State) (n : ℕ) → IsSound s → s.out ≡ None → s.places ≡ live_places s.set n → ticks s.rows < n → is_full s ≡ false
 has_room s n sound out places more =
-    let set = s.set in
-    let legal = sound.good.legal in
-    let each : (k : ℕ) (t : Task) → slice_get set k ≡ Some t → releases s.rows (1 + k) ≤ n / t.period + 1 = λ k t at.
-    let a = apart set s.rule s.rows (1 + k) legal in
-    let is : period_in (task_at set (1 + k)) ≡ t.period = ap period_in (task_at-next set k ∙ at) in
-    let some = (IsTask-at set k t sound.tasks.each at).period.0 in
-    let r : ℕ = releases s.rows (1 + k) in
-    few_of r t.period (ticks s.rows) n some (subst (λ (p : ℕ). r * p ≤ ticks s.rows + p) is (le_trans a.0 a.1)) (omega (arith, more)) in
-    let few = sum-below set (λ k. releases s.rows k) (λ t. n / t.period + 1) 1 each in
-    let rows = all_rows set s.rule s.rows legal in
+    let rows = rows-le s.set s.rule s.rows n sound.tasks.each sound.good.legal (omega (arith, more)) in
     let held : length s.held ≡ 0 = ap length (no_held s sound.good out) in
     let no_tick : tick_out s.out ≡ 0 = ap tick_out out in
-    ne_eqb (places_used s) s.places (λ e. absurd (omega (arith, e, few, rows, held, no_tick, places, more)))
+    ne_eqb (places_used s) s.places (λ e. absurd (omega (arith, e, rows, held, no_tick, places, more)))
 
--- places, task by task
+-- the capacity, task by task
 
 pub places_more : (set : List Task) (i n m p : ℕ) (t : Task) → task_at set (i + 1) ≡ Some t → m + total (λ t. n / t.period + 1) (drop i set) ≡ p → m + (n / t.period + 1) + total (λ t. n / t.period + 1) (drop (i + 1) set) ≡ p
 places_more set i n m p t at sum =

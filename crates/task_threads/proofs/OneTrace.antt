@@ -1,4 +1,4 @@
--- The law of the traces that follow.
+-- The law that at most one trace follows.
 use Rattle.timetable.specs.OneTrace.{AtMostOneFollows}
 use Rattle.timetable.proofs.Determined.{one_follows}
 

@@ -17,12 +17,14 @@ abbrev pub granted_last : Option Granted → List Entry → Option Granted
 granted_last was [] = was
 granted_last was (e ∷ es) = granted_last (granted_then e.answer was) es
 
--- an outcome is done exactly where the ticks of the job that was granted last, this one included, are its need, by its count
+-- an outcome is done exactly if the job that was granted last has, with this tick, had the ticks that it
+-- needs by its number
 abbrev pub IsByNeed : (ℕ → ℕ) → Option Granted → Call → Type 0
 IsByNeed need last (Outcome done) = IfSome last (λ g. done ≡ (g.before + 1 == need g.job.count))
 IsByNeed need last _ = ⊤
 
--- each outcome among these calls is done exactly where the job that was granted last has had its need
+-- each outcome among these calls is done exactly if the job that was granted last has had the ticks that it
+-- needs
 abbrev pub AreByNeed : (ℕ → ℕ) → Option Granted → List Entry → Type 0
 AreByNeed need was [] = ⊤
 AreByNeed need was (e ∷ es) = IsByNeed need was e.call × AreByNeed need (granted_then e.answer was) es

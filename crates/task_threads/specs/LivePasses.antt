@@ -1,4 +1,4 @@
--- Passes whose tasks end their jobs by their needs.
+-- Passes of tasks that end their jobs by their needs.
 use Rattle.std.specs.Prelude.{◌≡◌, ℕ, ◌+◌, ◌/◌, ◌%◌, ◌==◌, ◌<◌, List, length, slice_index_or, Option, None, if◌then◌else◌}
 use Rattle.mc_task.specs.declared.task.Task.{Task}
 use Rattle.mc_task.specs.TaskSet.{task_at}
@@ -13,11 +13,11 @@ use Rattle.mc_model.specs.LiveTrace.{live_need}
 use Rattle.task_threads.specs.LiveCalls.{AreByNeed}
 use Rattle.task_threads.specs.Passes.{IsPassFor}
 
--- what the job with this count needs
+-- how many ticks the job with this number needs
 abbrev pub need_by : Needs → ℕ → ℕ
 need_by n count = if count % 4 == 0 then n.fourth else n.low
 
--- by these needs each job of the task needs what a live trace asks of it
+-- with these needs each job of the task needs what a live trace asks for
 abbrev pub AreNeedsOf : Option Task → Needs → Type 0
 AreNeedsOf task n = (count : ℕ) → need_by n count ≡ live_need task count
 
@@ -30,16 +30,17 @@ AreNeeds set needs =
 abbrev pub EndsByNeed : List Task → ℕ → PassState → Type 0
 EndsByNeed set k p = AreByNeed (live_need (task_at set k)) None p.lists.mine
 
--- the executive's pass of task number k, with such calls
+-- the executive's pass of task number k, whose calls ended the task's jobs by their needs
 abbrev pub IsLivePass : Executive → ℕ → TaskPass → Type 0
 IsLivePass e k p = IsPassFor e k p × EndsByNeed (floor_of e).core.set k (of_pass p)
 
--- the pass of task number k, with a watcher and the needs of the task
+-- a valid runner: the pass of task number k, with a watcher and the needs of the task
 pub record IsRunner (e : Executive) (k : ℕ) (r : Runner) : Type 0 where
   pub live : IsLivePass e k r.pass
   pub watches : IsWatcherOf e r.watcher
   pub needs : AreNeedsOf (task_at (floor_of e).core.set k) r.needs
 
--- the capacity that n ticks need: a row for each tick, and one for each release that the periods allow before the last
+-- the capacity that n ticks need: a row for each tick, and one for each release that the periods allow before
+-- the last tick
 abbrev pub live_places : List Task → ℕ → ℕ
 live_places set n = n + total (λ t. n / t.period + 1) set

@@ -1,4 +1,4 @@
--- Passes, by their tasks.
+-- Passes by their tasks.
 use Rattle.std.specs.Prelude.{◌≡◌, ℕ}
 use Rattle.executive.specs.declared.pass.TaskPass.{TaskPass}
 use Rattle.executive.specs.declared.executive.Executive.{Executive}

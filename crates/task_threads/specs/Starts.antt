@@ -1,10 +1,10 @@
--- Threads that were started, and workers for which none could be made.
+-- Threads that were started, and workers for which no thread could be started.
 use Rattle.std.specs.Prelude.{◌≡◌, ◌⊎◌, ℕ, ◌-◌, ◌<◌, List, length, slice_index_or, IfSome, IsSome}
 use Rattle.executive.specs.declared.executive.Executive.{Executive}
 use Rattle.task_threads.specs.declared.starts.Start.{Start}
 
 module _ {T : Type 0} where
-  -- of task number k: a thread that promises to give its worker back, or the worker
+  -- a start of task number k: a thread that promises to return its worker, or the worker
   abbrev pub IsStartOf : (Executive → ℕ → T → Type 0) → Executive → ℕ → Start T → Type 0
   IsStartOf is_of e k s =
       IfSome s.handle (λ h. (h.promise.executive.value ≡ e) × (h.promise.task.0 ≡ k))

@@ -1,4 +1,4 @@
-//! A live run: a thread for each task, which releases when it may.
+//! A live run: a thread for each task, which releases its jobs as early as it may.
 ghost use Rattle.std.specs.Prelude.{◌≡◌, ◌≤◌, [], None, length, vec_len, vec_capacity, IfOk, All};
 ghost use Rattle.mc_task.specs.TaskSet.{task_at};
 ghost use Rattle.timetable.specs.declared.plan.Plan.TheVariants.{Free};
@@ -25,10 +25,12 @@ use std::sync::Wait;
 use std::thread::Threads;
 use timetable::Floor;
 
-/// Runs a floor without a plan, with no rows and no tick out, for `ticks` ticks, in a thread for each task, and calls the gate on
-/// the way. Each task is released once in the beginning, and its thread releases it again where its period allows.
+/// Runs a floor without a plan, with no rows and no granted tick, for `ticks` ticks, in a thread for each task, and
+/// calls the gate on the way. Each task is released once at the start, and its thread releases it again as soon as its
+/// period allows.
 ///
-/// The rows up to the last of these ticks are then a live trace. It may wait, and nothing is said of how long.
+/// The rows up to the last of these ticks are then a live trace. It may wait for other threads; nothing is proved about
+/// how long. Fails with `Memory` if an allocation fails.
 pub fn run_live<R: Threads + Wait + Sync, G: Gate + Sync>(
     rt: &R,
     alloc: Global,
@@ -42,7 +44,7 @@ pub fn run_live<R: Threads + Wait + Sync, G: Gate + Sync>(
     requires ticks { (1 ≤ ticks) × (ticks ≤ 100_000) }
     requires places { floor.core.places ≡ live_places floor.core.set ticks }
     ensures trace { IfOk result (λ f. HasLiveTrace f.core ticks) }
-    // The set, the rule, the places and the plan are as before.
+    // The set, the rule, the capacity and the plan are as before.
     ensures same { IfOk result (λ f. opening_of f ≡ floor) }
     ensures none_out { IfOk result (λ f. f.core.out ≡ None) }
 {
@@ -75,7 +77,7 @@ pub fn run_live<R: Threads + Wait + Sync, G: Gate + Sync>(
     }
 }
 
-// Where the tasks wait, and room for each task in each list of a live run.
+// The spots where the tasks wait, and lists with capacity for each task of a live run.
 #[derive(Drop)]
 struct Rooms {
     places: Places,
@@ -106,7 +108,7 @@ fn make_rooms(alloc: Global, tasks: u32) -> Result<Rooms, Memory>
     })
 }
 
-// What the jobs of each task need.
+// Adds the needs of each task's jobs.
 pub fn needs_of_each(set: &TaskSet, needs: &mut Vec<Needs>)
     requires { (needs.old.items ≡ []) × (length set.now.tasks ≤ vec_capacity needs.old) }
     ensures { (vec_len needs.new ≡ length set.now.tasks) × AreNeeds set.now.tasks needs.new.items }
@@ -119,7 +121,7 @@ pub fn needs_of_each(set: &TaskSet, needs: &mut Vec<Needs>)
     }
 }
 
-// Releases each task, in their order, and gives each pass a watcher.
+// Releases each task once, in order, and gives each pass a watcher.
 pub fn make_runners<R: Wait, G: Gate>(
     serving: &Serving<'_, R, G>,
     needs: &[Needs],
@@ -143,7 +145,7 @@ pub fn make_runners<R: Wait, G: Gate>(
     }
 }
 
-// The first release of a task, whose pass then has the watcher.
+// Makes the first release of a task, whose pass then gets the watcher.
 #[tactic(auto, using(crate::proofs::LiveClose::fresh_live))]
 fn first_runner<R: Wait, G: Gate>(
     serving: &Serving<'_, R, G>,
@@ -170,7 +172,7 @@ fn first_runner<R: Wait, G: Gate>(
     }
 }
 
-// The passes of the runners.
+// Takes the passes back from the runners.
 pub fn give_passes(executive: &Executive, runners: Vec<Runner>, passes: &mut Vec<TaskPass>)
     requires runners { AreInOrder IsRunner executive.now runners.items }
     requires passes { (passes.old.items ≡ []) × (vec_len runners ≤ vec_capacity passes.old) }

@@ -1,4 +1,4 @@
-//! What is left of a live run once its threads have ended, done by one caller.
+//! The rest of a live run after its threads have ended, done by one caller.
 ghost use Rattle.std.specs.Prelude.{◌≡◌, ◌+◌, ◌<◌, ◌≤◌, length};
 ghost use Rattle.mc_task.specs.TaskSet.{IsIn};
 ghost use Rattle.mc_model.specs.Rows.{ticks as ticks_of};
@@ -10,7 +10,7 @@ use crate::live_needs::Needs;
 use mc_task::TaskNo;
 use timetable::{Act, Floor};
 
-// Makes ticks until there are `ticks` of them. Before each one, every task that may release does.
+// Makes ticks until there are `ticks` of them. Before each tick, every task that may release does.
 pub fn finish_live(floor: &mut Floor, needs: &[Needs], ticks: u64)
     requires live { IsLiveFloor floor.old }
     requires needs { AreNeeds floor.old.core.set needs.now × (length needs.now ≡ length floor.old.core.set) }
@@ -36,7 +36,7 @@ fn release_each(floor: &mut Floor)
     }
 }
 
-// Releases the task, where it may be.
+// Releases the task, if it may be released.
 #[tactic(auto, using(crate::proofs::LiveLeft::release_moves))]
 fn release_left(floor: &mut Floor, task: TaskNo)
     requires live { IsLiveFloor floor.old }
@@ -46,7 +46,7 @@ fn release_left(floor: &mut Floor, task: TaskNo)
     let _ = floor.release(task);
 }
 
-// One tick.
+// Makes one tick.
 fn tick_left(floor: &mut Floor, needs: &[Needs], ticks: u64)
     requires live { IsLiveFloor floor.old }
     requires needs { AreNeeds floor.old.core.set needs.now × (length needs.now ≡ length floor.old.core.set) }

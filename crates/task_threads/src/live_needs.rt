@@ -1,10 +1,11 @@
-//! What the jobs of a live run need.
+//! The ticks that the jobs of a live run need.
 ghost use Rattle.std.specs.Prelude.{◌≡◌};
 
 use mc_task::Level::{High, Low};
 use mc_task::Task;
 
-// What the jobs of a task need, and how far apart it releases them. Each fourth job of a high task needs its high budget.
+// What the jobs of a task need, and how far apart it releases them, in ticks. Every fourth job of a high task needs its
+// high budget.
 #[derive(Clone, Copy)]
 pub struct Needs {
     pub period: u32,
@@ -16,7 +17,7 @@ impl Needs {
     ghost use Rattle.std.specs.Prelude.{Some};
     ghost use Rattle.task_threads.specs.LivePasses.{need_by, AreNeedsOf};
 
-    // Those of a task.
+    // The needs of a task's jobs.
     pub fn of(task: &Task) -> Needs
         ensures { AreNeedsOf (Some task.now) result }
     {
@@ -30,7 +31,7 @@ impl Needs {
         }
     }
 
-    // What the job with this count needs.
+    // How many ticks the job with this number needs.
     pub fn of_count(self, count: u32) -> u32
         ensures { result ≡ need_by self count }
     {

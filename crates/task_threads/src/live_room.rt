@@ -1,10 +1,11 @@
-//! How many places a live run takes.
+//! The capacity that a live run needs.
 ghost use Rattle.std.specs.Prelude.{◌≡◌, ◌≤◌};
 ghost use Rattle.task_threads.specs.LivePasses.{live_places};
 
 use mc_task::{TaskNo, TaskSet};
 
-/// The places that a live run of `ticks` ticks takes: one for each tick, and one for each release that the periods allow.
+/// The capacity, in rows, that a live run of `ticks` ticks needs: one row for each tick, and one for each release that
+/// the periods allow.
 pub fn live_places(set: &TaskSet, ticks: u64) -> u64
     requires { ticks ≤ 100_000 }
     ensures places { result ≡ live_places set.now.tasks ticks }

@@ -1,4 +1,4 @@
-//! A round of a task in a live run.
+//! A round of a task's thread in a live run.
 ghost use Rattle.std.specs.Prelude.{IfOk};
 ghost use Rattle.mc_task.specs.TaskSet.{task_at};
 ghost use Rattle.executive.specs.Gates.{HasReleased};
@@ -16,13 +16,13 @@ use status_board::Watcher;
 use std::sync::Wait;
 use timetable::{Act, ActFault};
 
-// A pass with its watcher. The jobs of its task end by the needs.
+// A pass with its watcher. The task's jobs end when they have had the ticks that they need.
 #[derive(Drop)]
 pub struct Runner {
     pub pass: TaskPass,
     pub watcher: Watcher,
     pub needs: Needs,
-    // The ticks of the whole run.
+    // The number of ticks of the whole run.
     pub ticks: u64,
     // The boundary from which the task may release again.
     pub next: u64,
@@ -35,7 +35,8 @@ impl Worker for Runner {
         &self.pass
     }
 
-    // Watches; then, unless all ticks have ended, releases where that is allowed, looks, and does what is next.
+    // Watches; then, unless all ticks have ended, releases if that is allowed, looks, and does the next act if it is
+    // this task's.
     fn round<R: Wait, G: Gate>(self, serving: &Serving<'_, R, G>, task: TaskNo) -> (Runner, Came) {
         let Runner {
             pass,
@@ -64,7 +65,7 @@ impl Worker for Runner {
     }
 }
 
-// What a task does once it saw that `now` ticks have ended. The pass comes back with the boundary of the next release.
+// Acts after having seen that `now` ticks have ended. The pass comes back with the boundary of the next release.
 fn act_at<R: Wait, G: Gate>(
     serving: &Serving<'_, R, G>,
     needs: Needs,
@@ -83,7 +84,7 @@ fn act_at<R: Wait, G: Gate>(
     }
     serving.places.set_release(task, next);
     let (pass, came) = act(serving, needs, pass, now, task);
-    // A task that released is the one that acted last, also where its tick was idle.
+    // A task that released counts as the one that acted last, even if its tick was idle.
     if came == Came::Idled {
         (pass, next, came.max(release))
     } else {
@@ -91,7 +92,8 @@ fn act_at<R: Wait, G: Gate>(
     }
 }
 
-// What came of an act after which the task has no job to go on with: it rests if another task may release after that many ticks.
+// The result of an act after which the task has no job to go on with: it rests if another task may release after that
+// many ticks.
 fn unless_due(places: &Places, task: TaskNo, ticks: u64, came: Came) -> Came {
     if places.wake_due(task, ticks) {
         Came::Waits
@@ -100,7 +102,7 @@ fn unless_due(places: &Places, task: TaskNo, ticks: u64, came: Came) -> Came {
     }
 }
 
-// A release of the task, as the executive answers it.
+// Releases the task, and returns what the executive returns.
 fn released<R: Wait>(
     rt: &R,
     executive: &Executive,
@@ -117,7 +119,7 @@ fn released<R: Wait>(
     (pass, answer)
 }
 
-// The first release of a task, of a pass that made no call.
+// Makes the first release of a task, by a pass that made no call.
 pub fn release_first<R: Wait, G: Gate>(
     serving: &Serving<'_, R, G>,
     pass: TaskPass,
@@ -133,7 +135,7 @@ pub fn release_first<R: Wait, G: Gate>(
     pass
 }
 
-// A look.
+// Makes a look.
 fn looked<R: Wait>(rt: &R, executive: &Executive, pass: TaskPass, task: TaskNo) -> (TaskPass, Act)
     requires { IsLivePass executive.now task.0 pass }
     ensures { IsLivePass executive.now task.0 result.0 }
@@ -144,7 +146,7 @@ fn looked<R: Wait>(rt: &R, executive: &Executive, pass: TaskPass, task: TaskNo) 
     (pass, act)
 }
 
-// An idle tick.
+// Makes an idle tick.
 fn idled<R: Wait>(
     rt: &R,
     executive: &Executive,
@@ -160,7 +162,7 @@ fn idled<R: Wait>(
     (pass, answer)
 }
 
-// A tick of the task, whose step runs outside the turns. Its job is done where its need is met.
+// Takes a tick of the task, whose step runs outside the turns. Its job is done when it has had the ticks that it needs.
 fn ticked<R: Wait, G: Gate>(
     serving: &Serving<'_, R, G>,
     needs: Needs,
@@ -215,7 +217,8 @@ fn release_due<R: Wait, G: Gate>(
     }
 }
 
-// Looks once, and does what is next, if it is the task's or an idle tick. If it is another task's, that one is woken.
+// Looks once, and does the next act, if it is this task's or an idle tick. If it is another task's, that task's thread
+// is woken.
 fn act<R: Wait, G: Gate>(
     serving: &Serving<'_, R, G>,
     needs: Needs,
@@ -245,7 +248,7 @@ fn act<R: Wait, G: Gate>(
     }
 }
 
-// What came of a tick of the task.
+// The result of a tick of the task.
 fn came_of_tick(
     places: &Places,
     task: TaskNo,
@@ -259,7 +262,7 @@ fn came_of_tick(
             match how {
                 How::Done | How::Stop => unless_due(places, task, ticks, Came::Acted),
                 How::More | How::Over => {
-                    // The task goes on, while another that may release wakes.
+                    // The task goes on, while another that may release wakes up.
                     let _ = places.wake_due(task, ticks);
                     Came::Acted
                 }
@@ -270,7 +273,7 @@ fn came_of_tick(
     }
 }
 
-// What came of an idle tick.
+// The result of an idle tick.
 fn came_of_idle(places: &Places, task: TaskNo, answer: Result<u64, ActFault<IdleFault>>) -> Came {
     match answer {
         Ok(tick) => {

@@ -1,4 +1,4 @@
-//! Where the threads of the tasks rest, each at its task's place. Nothing rests on a wake-up that comes in time.
+//! Where the threads of the tasks rest. Correctness does not depend on wake-ups that come in time.
 use mc_task::TaskNo;
 use std::alloc::{AllocError, Global};
 use std::sync::Wait;
@@ -7,13 +7,13 @@ use std::sync::atomic::{AtomicBool, AtomicU64};
 use std::thread::Parker;
 use std::time::Duration;
 
-// The longest pause of a thread that nobody woke, in milliseconds.
+// The longest pause of a thread that nobody wakes, in milliseconds.
 const LONGEST: u32 = 1000;
 
-// Stands for `next_release` where no release is due.
+// Sentinel for `next_release`: no release is due.
 const NEVER: u64 = u64::MAX;
 
-// Stands for `next_release` of a task that was woken for its release and has not made it yet.
+// Sentinel for `next_release`: the task was woken for its release and has not made it yet.
 const AWAITED: u64 = u64::MAX - 1;
 
 // Where one thread rests: a parker, and whether the thread was called, which `park_timeout` does not return.
@@ -36,7 +36,7 @@ impl Spot {
         self.parker.unpark();
     }
 
-    // Rests until it is called, for `millis` milliseconds at most. Whether it was called.
+    // Rests until it is called, for at most `millis` milliseconds. Returns whether it was called.
     fn rest<R: Wait>(&self, rt: &R, millis: u32) -> bool {
         self.parker
             .park_timeout(rt, Duration::from_millis(u64::from(millis)));
@@ -44,30 +44,30 @@ impl Spot {
     }
 }
 
-// The place of a task.
+// What the threads know of one task.
 #[derive(Drop)]
 struct Place {
     task: TaskNo,
     spot: Spot,
-    // No thread could be made for the task, so the caller serves it.
+    // No thread could be started for the task, so the caller serves it.
     is_refused: AtomicBool,
-    // The boundary from which the task may release again, where others wake it for that.
+    // The boundary from which the task may release again, if others are to wake it for that.
     next_release: AtomicU64,
 }
 
-/// The places of the threads, that of the caller, and how many acts were done.
+/// The tasks' spots, the caller's spot, and how many acts were done.
 #[derive(Drop)]
 pub struct Places {
     places: Vec<Place>,
     caller: Spot,
     acts: AtomicU64,
-    // A lower bound of the ticks at which a task may release, and 0 where one was woken for its release. While a thread looks at
-    // all places it may be too high.
+    // A lower bound of the ticks at which a task may release; 0 if one was woken for its release. While a thread looks
+    // at all tasks it may be too high.
     soonest: AtomicU64,
 }
 
 impl Places {
-    // A place for each of `tasks` tasks.
+    // A spot for each of `tasks` tasks. Fails if an allocation fails.
     pub fn new(alloc: Global, tasks: u32) -> Result<Places, AllocError> {
         let mut places = Vec::with_capacity(alloc, tasks as usize)?;
         for task in 1..=tasks {
@@ -90,7 +90,7 @@ impl Places {
         self.places.get((task.0 as usize).saturating_sub(1))
     }
 
-    // Where whoever serves the task rests.
+    // The spot of whoever serves the task.
     fn spot(&self, task: TaskNo) -> &Spot {
         match self.of(task) {
             Some(place) if !place.is_refused.load(SeqCst) => &place.spot,
@@ -98,7 +98,7 @@ impl Places {
         }
     }
 
-    // No thread could be made for the task.
+    // Marks that no thread could be started for the task.
     pub fn refuse(&self, task: TaskNo) {
         if let Some(place) = self.of(task) {
             place.is_refused.store(true, SeqCst);
@@ -111,7 +111,7 @@ impl Places {
             .is_some_and(|place| place.is_refused.load(SeqCst))
     }
 
-    // The task may release again from this boundary on.
+    // Sets the boundary from which the task may release again.
     pub fn set_release(&self, task: TaskNo, boundary: u64) {
         if let Some(place) = self.of(task) {
             place.next_release.store(boundary, SeqCst);
@@ -119,20 +119,21 @@ impl Places {
         }
     }
 
-    // After the boundary stands at its place: a look that began before this call has lowered the soonest one itself.
+    // Called after the boundary is stored with its task: a look that began before this call has lowered the soonest
+    // boundary itself.
     fn keep_soonest(&self, boundary: u64) {
         if boundary < self.soonest.load(SeqCst) {
             self.soonest.fetch_min(boundary, SeqCst);
         }
     }
 
-    // Wakes the first other task that may release after `ticks` ticks. Whether there is one, or one that was woken for that and
-    // has not released yet. It looks at all places only if the soonest boundary has come.
+    // Wakes the first other task that may release after `ticks` ticks. Returns whether there is one, or one that was
+    // woken for that and has not released yet. It looks at all tasks only if the soonest boundary has come.
     pub fn wake_due(&self, task: TaskNo, ticks: u64) -> bool {
         self.soonest.load(SeqCst) <= ticks && self.wake_first_due(task, ticks)
     }
 
-    // The soonest boundary is raised first and then lowered place by place, so a boundary that is set meanwhile is kept.
+    // The soonest boundary is raised first and then lowered task by task, so a boundary that is set meanwhile is kept.
     fn wake_first_due(&self, task: TaskNo, ticks: u64) -> bool {
         let mut is_awaited = false;
         self.soonest.store(NEVER, SeqCst);
@@ -150,12 +151,12 @@ impl Places {
         is_awaited
     }
 
-    // Another act was done, so no thread that rests has to look.
+    // Counts an act, so that no thread that rests has to look.
     pub fn count_act(&self) {
         self.acts.fetch_add(1, SeqCst);
     }
 
-    // A tick was done, the one with this number. One of 64 is counted, which shows as well that a thread acts.
+    // Counts a tick, by its number: every 64th counts, which is enough to show that a thread acts.
     pub fn count_tick(&self, number: u64) {
         if number % 64 == 0 {
             self.count_act();
@@ -167,7 +168,7 @@ impl Places {
         self.spot(task).call();
     }
 
-    // The task is served no more. Whoever serves the next one is woken, which then wakes the one after it.
+    // The task is no longer served. Whoever serves the next task is woken, and then wakes the one after it.
     pub fn leave(&self, task: TaskNo) {
         self.set_release(task, NEVER);
         let next = task.0 as usize;
@@ -178,18 +179,18 @@ impl Places {
         }));
     }
 
-    // Rests until the task's thread is woken, or for a pause in which no act was done; the answer is the next pause.
+    // Rests until the task's thread is woken, or for a pause in which no act was done. Returns the next pause.
     pub fn rest<R: Wait>(&self, rt: &R, task: TaskNo, pause: u32) -> u32 {
         self.rest_while_acting(rt, self.spot(task), pause)
     }
 
-    // Rests, as the caller, until a task that it serves is woken, or for a pause in which no act was done; the answer is the next
-    // pause.
+    // Rests, as the caller, until a task that it serves is woken, or for a pause in which no act was done. Returns the
+    // next pause.
     pub fn rest_of_caller<R: Wait>(&self, rt: &R, pause: u32) -> u32 {
         self.rest_while_acting(rt, &self.caller, pause)
     }
 
-    // Each pause that ends without a call is followed by one that is twice as long, a second at most.
+    // Each pause that ends without a call is followed by one twice as long, at most a second.
     fn rest_while_acting<R: Wait>(&self, rt: &R, spot: &Spot, pause: u32) -> u32 {
         let mut pause = pause;
         let mut seen = self.acts.load(SeqCst);

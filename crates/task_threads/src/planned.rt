@@ -1,4 +1,4 @@
-//! A round of a pass whose floor has a plan.
+//! A round of a pass on a floor with a plan.
 ghost use Rattle.task_threads.specs.Passes.{IsPassFor};
 
 use crate::worker::{Came, Serving, Worker};
@@ -15,7 +15,7 @@ impl Worker for TaskPass {
         self
     }
 
-    // Does the floor's next act, if it is the task's.
+    // Does the floor's next act, if it is this task's.
     fn round<R: Wait, G: Gate>(
         self,
         serving: &Serving<'_, R, G>,
@@ -25,7 +25,7 @@ impl Worker for TaskPass {
     }
 }
 
-// Does the floor's next act, if it is the task's. If it is another task's, that one is woken.
+// Does the floor's next act, if it is this task's. If it is another task's, that task's thread is woken.
 fn serve<R: Wait, G: Gate>(
     serving: &Serving<'_, R, G>,
     pass: TaskPass,
@@ -62,8 +62,8 @@ fn serve<R: Wait, G: Gate>(
     }
 }
 
-// Takes ticks of the task and runs each one's step outside the turns, until a job ends or the floor refuses: then there is
-// to be a look.
+// Takes ticks of the task, and runs the step of each outside the turns, until a job ends or the floor refuses; then a
+// look is needed.
 fn serve_ticks<R: Wait, G: Gate>(
     serving: &Serving<'_, R, G>,
     pass: TaskPass,

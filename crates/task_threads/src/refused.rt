@@ -1,4 +1,4 @@
-//! The workers for which no thread could be made: the caller serves them, one round each in turn.
+//! The workers for which no thread could be started: the caller serves them, one round each in turn.
 ghost use Rattle.std.specs.Prelude.{◌≡◌, ◌≤◌, vec_len};
 ghost use Rattle.task_threads.specs.Starts.{IsStartOf, GoDown};
 
@@ -8,7 +8,7 @@ use executive::Gate;
 use mc_task::TaskNo;
 use std::sync::Wait;
 
-// Serves the workers that are here until each has left.
+// Serves these workers until each has left.
 pub fn serve_refused<T: Worker + Drop, R: Wait, G: Gate>(
     serving: &Serving<'_, R, G>,
     starts: &mut Vec<Start<T>>,
@@ -27,7 +27,7 @@ pub fn serve_refused<T: Worker + Drop, R: Wait, G: Gate>(
     unreachable!()
 }
 
-// A round of each worker that is here. The liveliest that came of one is the answer.
+// A round of each of these workers. Returns the liveliest result.
 fn serve_each<T: Worker + Drop, R: Wait, G: Gate>(
     serving: &Serving<'_, R, G>,
     starts: &mut Vec<Start<T>>,
@@ -45,7 +45,7 @@ fn serve_each<T: Worker + Drop, R: Wait, G: Gate>(
     came
 }
 
-// A round of a worker, if it is here and has not left.
+// A round of a worker, if it is served here and has not left.
 fn serve_one<T: Worker + Drop, R: Wait, G: Gate>(
     serving: &Serving<'_, R, G>,
     start: &mut Start<T>,

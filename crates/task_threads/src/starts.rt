@@ -12,7 +12,7 @@ use std::sync::Wait;
 use std::thread;
 use std::thread::{Promise, PromisedHandle, Scope, Threads};
 
-/// The worker that a thread gives back is the executive's, of this task.
+/// The promise of a thread: the worker that it returns belongs to the executive, and to this task.
 #[derive(Drop)]
 pub struct ComesBack {
     pub executive: Snapshot<Executive>,
@@ -23,16 +23,16 @@ impl<T: Worker> Promise<T> for ComesBack {
     ghost kept_by = { λ p r. T.is_of p.executive.value p.task.0 r };
 }
 
-/// A thread that has the worker, or the worker, where no thread could be made.
+/// A thread that has the worker, or the worker itself, if no thread could be started.
 #[derive(Drop)]
 pub struct Start<T: Worker> {
     pub handle: Option<PromisedHandle<T, ComesBack>>,
     pub worker: Option<T>,
-    /// Nothing is left to do for the worker that is here.
+    /// Whether the worker that is served here has nothing left to do.
     pub has_left: bool,
 }
 
-// A thread for each worker, until nothing is left to do. The workers come back in their order.
+// Runs a thread for each worker, until nothing is left to do. The workers come back in their order.
 pub fn in_threads<'s, T: Worker + Send + Drop + 's, R: Threads + Wait + Sync, G: Gate + Sync>(
     serving: &'s Serving<'s, R, G>,
     workers: Vec<T>,
@@ -59,8 +59,8 @@ pub fn in_threads<'s, T: Worker + Send + Drop + 's, R: Threads + Wait + Sync, G:
     )
 }
 
-// Starts a thread for the worker. Where none can be made, that is marked, and what it would have done is done here: it gives
-// the worker back.
+// Starts a thread for the worker. If none can be started, that is marked, and the closure, which is run here, returns
+// the worker.
 fn start_one<'s, E, T: Worker + Send + Drop + 's, R: Threads + Wait + Sync, G: Gate + Sync>(
     scope: &Scope<'s, E>,
     serving: &'s Serving<'s, R, G>,
@@ -91,7 +91,7 @@ fn start_one<'s, E, T: Worker + Send + Drop + 's, R: Threads + Wait + Sync, G: G
     }
 }
 
-// A worker for which no thread could be made.
+// A worker for which no thread could be started.
 pub fn kept_here<T: Worker>(worker: T) -> Start<T>
     ensures { (result.handle ≡ None) × (result.worker ≡ Some worker) }
 {
@@ -125,7 +125,7 @@ fn join_one<T: Worker + Drop, R: Threads>(
     }
 }
 
-// Starts a thread for each worker, the last one first.
+// Starts a thread for each worker, the last worker's first.
 fn start_all<'s, E, T: Worker + Send + Drop + 's, R: Threads + Wait + Sync, G: Gate + Sync>(
     scope: &Scope<'s, E>,
     serving: &'s Serving<'s, R, G>,
@@ -143,7 +143,7 @@ fn start_all<'s, E, T: Worker + Send + Drop + 's, R: Threads + Wait + Sync, G: G
     }
 }
 
-// Joins all threads, that of the first task first.
+// Joins all threads, the first task's first.
 pub fn join_all<T: Worker + Drop, R: Threads>(
     rt: &R,
     executive: &Executive,

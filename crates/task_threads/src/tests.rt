@@ -1,10 +1,9 @@
-//! Plans in threads: the rows that were worked by hand, and runs that are repeated.
+//! Plans in threads: their rows against rows that were worked by hand, and runs that are repeated.
 ghost use Rattle.std.specs.Prelude.{◌≡◌, ◌≤◌, [], true, None};
 ghost use Rattle.timetable.specs.Floor.{is_planned};
 
 mod apart;
 mod floors;
-mod gates;
 mod live;
 
 use crate::run_threads;
@@ -26,7 +25,7 @@ fn finished<R: Threads + Wait + Sync>(rt: &R, alloc: Global, floor: Floor) -> Re
     Ok(run_threads(rt, alloc, floor, &QuietGate)?)
 }
 
-// Whether the plan ends in threads as it was worked.
+// Whether the plan ends in threads with the rows that were worked by hand.
 fn ends_as_worked<R: Threads + Wait + Sync>(
     rt: &R,
     alloc: Global,
@@ -70,7 +69,7 @@ fn a_hundred_runs_of_two_tasks_give_the_same_rows(rt: HostRuntime) -> Result<(),
     Ok(())
 }
 
-// The first of these runs of a crowd that has other rows than one caller gives.
+// The first of these runs of a crowd whose rows differ from those of a single caller.
 fn first_other_run<R: Threads + Wait + Sync>(
     rt: &R,
     alloc: Global,

@@ -1,4 +1,4 @@
-//! A plan in threads, from a floor with no rows to its end.
+//! A plan run in threads, from a floor with no rows to the plan's end.
 ghost use Rattle.std.specs.Prelude.{◌≡◌, [], true, None, IfOk};
 ghost use Rattle.mc_model.specs.Late.{late};
 ghost use Rattle.demand_law.specs.NoOver.{NoOver, NoDrop, EndedInTime};
@@ -17,7 +17,7 @@ use std::sync::Wait;
 use std::thread::Threads;
 use timetable::Floor;
 
-/// There was no memory.
+/// Out of memory.
 #[derive(Clone, Copy, Debug, PartialEq, Eq, Drop)]
 pub struct Memory;
 
@@ -33,10 +33,11 @@ impl From<NoMemory> for Memory {
     }
 }
 
-/// Runs the plan of a floor with no rows and no tick out, in a thread for each task, and calls the gate on the way.
+/// Runs the plan of a floor with no rows and no granted tick, in a thread for each task, and calls the gate on the way.
 ///
-/// The rows are then those of the one trace that the set, the rule, the work and the ticks determine, however the threads
-/// interleave, and no job is late in them (Baruah et al., ECRTS 2012). It may wait, and nothing is said of how long.
+/// The rows are then the one trace that the set, the rule, the work and the ticks determine, however the threads
+/// interleave, and no job is late in it (Baruah et al., ECRTS 2012). It may wait for other threads; nothing is proved
+/// about how long. Fails with `Memory` if an allocation fails.
 #[tactic(auto, using(crate::proofs::OneTrace::at_most_one))]
 pub fn run_threads<R: Threads + Wait + Sync, G: Gate + Sync>(
     rt: &R,
@@ -47,16 +48,16 @@ pub fn run_threads<R: Threads + Wait + Sync, G: Gate + Sync>(
     requires planned { is_planned floor.plan ≡ true }
     requires rows { floor.core.rows ≡ [] }
     requires out { floor.core.out ≡ None }
-    // No other rows follow, whatever made them.
+    // No other rows follow from the plan, whatever made them.
     ensures trace { IfOk result (λ f. IsTraceOfPlan f.plan f.core) }
     ensures law { AtMostOneFollows }
     ensures timely { IfOk result (λ f. late f.core.set f.core.rows ≡ []) }
-    // Where no job overran, no release was dropped, and each job ended by its deadline.
+    // If no job overran, no release was dropped, and each job ended by its deadline.
     ensures kept { IfOk result (λ f. NoOver f.core.rows → NoDrop f.core.rows) }
     ensures ended { IfOk result (λ f. NoOver f.core.rows → EndedInTime f.core.set f.core.rows) }
     ensures taken { IfOk result (λ f. HasTaken f.plan f.taken) }
     ensures finished { IfOk result (λ f. next_act f ≡ act.Finished) }
-    // The set, the rule, the places and the plan are as before.
+    // The set, the rule, the capacity and the plan are as before.
     ensures same { IfOk result (λ f. opening_of f ≡ floor) }
     ensures none_out { IfOk result (λ f. f.core.out ≡ None) }
 {

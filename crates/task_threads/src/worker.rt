@@ -7,20 +7,20 @@ use executive::{Executive, Gate, TaskPass};
 use mc_task::TaskNo;
 use std::sync::Wait;
 
-/// What came of a round, from the least lively on.
+/// The result of a round, from the least lively on.
 #[derive(Clone, Copy, PartialEq, Eq, PartialOrd, Ord)]
 pub enum Came {
-    /// There is nothing left to do.
+    /// Nothing is left to do.
     Finished,
     /// Another task is next.
     Waits,
-    /// Nothing was pending, and the tick was idle.
+    /// Nothing was pending, and the task made an idle tick.
     Idled,
     /// The task acted.
     Acted,
 }
 
-/// What each thread of a run works with: the executive, the gate that is called, and the places where the tasks wait.
+/// What each thread of a run works with: the executive, the gate that is called, and where the tasks wait.
 #[derive(Drop)]
 pub struct Serving<'a, R, G> {
     pub rt: &'a R,
@@ -31,23 +31,23 @@ pub struct Serving<'a, R, G> {
 
 /// The pass of a task, with what its thread needs to serve it.
 pub trait Worker: Sized {
-    /// The worker is one of this executive, and of the task with this number.
+    /// Whether this is a worker of this executive and of the task with this number.
     ghost is_of: { Executive → ℕ → Self → Type 0 };
 
-    /// Its pass.
+    /// The worker's pass.
     fn pass(&self) -> &TaskPass;
 
-    /// One round. If another task is next, whoever serves that one is woken.
+    /// Does one round. If another task is next, whoever serves that task is woken.
     fn round<R: Wait, G: Gate>(self, serving: &Serving<'_, R, G>, task: TaskNo) -> (Self, Came)
         requires { is_of serving.now.executive.now task.0 self }
         ensures { is_of serving.now.executive.now task.0 result.0 };
 }
 
-// Serves the task until nothing is left to do. A task for which no thread could be made comes back unserved.
+// Serves the task until nothing is left to do. A task for which no thread could be started comes back unserved.
 //
-// The thread that acted last leads: it goes on while the ticks are idle, and rests once another task is next. The others rest
-// after one act, or they would all take their turns for the idle ticks. All but the first rest before their first look, and
-// none looks unwoken while others act: a look takes a turn.
+// The thread that acted last leads: it goes on while the ticks are idle, and rests once another task is next. The
+// others rest after one act, or they would all take turns for the idle ticks. All but the first rest before their first
+// look, and none looks unwoken while others act, since a look takes a turn.
 pub fn work<T: Worker, R: Wait, G: Gate>(serving: &Serving<'_, R, G>, worker: T, task: TaskNo) -> T
     requires { T.is_of serving.now.executive.now task.0 worker }
     ensures { T.is_of serving.now.executive.now task.0 result }

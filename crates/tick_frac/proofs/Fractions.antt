@@ -5,7 +5,7 @@ use Rattle.tick_frac.specs.Numbers.{gcd}
 use Rattle.tick_frac.specs.Fraction.{lowest, IsLowest}
 use Rattle.tick_frac.proofs.Numbers.{gcd-IsGcd, gcd_scaled, gcd_pos_second}
 
--- the parts of a fraction are those of its lowest terms, times their greatest common divisor
+-- the numerator is the lowest one times the greatest common divisor of numerator and denominator
 pub whole_num : (num den : ℕ) → gcd num den * (lowest num den).num ≡ num
 unfolding lowest
 whole_num num den = mul-div_cancel' (gcd num den) ((gcd-IsGcd num den).0)
@@ -21,7 +21,7 @@ lowest-scaled k num den h =
     let d : k * den / gcd (k * num) (k * den) ≡ den / gcd num den = ap (λ g. k * den / g) (gcd_scaled k num den h) ∙ mul-div-mul_left den (gcd num den) h in
     cc
 
--- it is the same fraction
+-- a fraction equals its lowest terms: num/den and lowest/lowest have equal cross products
 pub lowest-equal : (num den : ℕ) → (lowest num den).num * den ≡ num * (lowest num den).den
 lowest-equal num den =
     let n : ℕ = (lowest num den).num in

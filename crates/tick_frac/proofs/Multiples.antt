@@ -10,7 +10,7 @@ pub dvd-lcm_first : (a b : ℕ) → a ∣ lcm a b
 unfolding lcm
 dvd-lcm_first a b = dvd-mul_right a (b / gcd a b)
 
--- divisor and multiple of two numbers give their product
+-- the greatest common divisor of two numbers times their least common multiple is their product
 pub gcd-mul-lcm : (a b : ℕ) → gcd a b * lcm a b ≡ a * b
 unfolding lcm
 gcd-mul-lcm a b =
@@ -26,7 +26,7 @@ dvd-lcm_second a b =
     let other : g * (b / g) ≡ b = mul-div_cancel' g ((gcd-IsGcd a b).1) in
     subst (λ z. b ∣ z) (sym (turned ∙ ap (λ z. a / g * z) other)) (dvd-mul_left b (a / g))
 
--- it divides the product
+-- the least common multiple divides the product
 pub lcm-dvd : (a b : ℕ) → lcm a b ∣ a * b
 lcm-dvd a b = subst (λ z. lcm a b ∣ z) (gcd-mul-lcm a b) (dvd-mul_left (lcm a b) (gcd a b))
 

@@ -55,7 +55,7 @@ pub gcd_scaled : (k x y : ℕ) → 0 < k → gcd (k * x) (k * y) ≡ k * gcd x y
 unfolding gcd
 gcd_scaled k x y h = steps_scaled (suc y) (suc (k * y)) k x y h (omega arith) (omega arith)
 
--- a test of two numbers is one of their multiples
+-- comparing two numbers is comparing their multiples by the same number
 pub le_scaled : (k x y : ℕ) → 0 < k → nat_le (k * x) (k * y) ≡ nat_le x y
 le_scaled k x y h =
     elim (leb_tells x y) [

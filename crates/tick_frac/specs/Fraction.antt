@@ -1,4 +1,4 @@
--- Fractions in lowest terms, and how they are printed.
+-- Fractions in lowest terms, and the text of a fraction.
 use Rattle.std.specs.Prelude.{◌≡◌, ℕ, ◌/◌, ◌<◌, List, ◌++◌, codes, decimal}
 use Rattle.tick_frac.specs.Numbers.{gcd}
 

@@ -1,9 +1,10 @@
 -- The greatest common divisor and the least common multiple (Euclid, Elements VII, 2 and 34).
--- They compute; that they are the greatest and the least is a clause of `gcd` and of `lcm_within`.
+-- The definitions compute; the clauses `law` of `gcd` and `lcm_within` say that they are the greatest and the
+-- least.
 use Rattle.std.specs.Prelude.{ℕ, zero, suc, ◌*◌, ◌/◌, ◌%◌}
 use Prim.Native.Nat.{◌∣◌}
 
--- the greatest common divisor by at most n of Euclid's steps, which are enough where n is above b
+-- the greatest common divisor by at most n of Euclid's steps, which are enough if n is above b
 unfoldable pub gcd_steps : ℕ → ℕ → ℕ → ℕ
 gcd_steps zero a b = a
 gcd_steps (suc n) a zero = a

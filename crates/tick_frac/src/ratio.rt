@@ -1,3 +1,4 @@
+//! A fraction in lowest terms.
 ghost use Rattle.std.specs.Prelude.{◌≡◌, ◌<◌, ◌*◌, Some};
 ghost use Rattle.tick_frac.specs.Fraction.{lowest, IsLowest, fraction_text};
 
@@ -5,7 +6,7 @@ use crate::gcd;
 use std::fmt;
 use std::marker::Model;
 
-/// A fraction in lowest terms. It prints as `num/den`, and zero as `0/1`.
+/// A fraction in lowest terms. Its `Display` text is `num/den`; zero is `0/1`.
 #[derive(Clone, Copy, Debug, PartialEq, Eq)]
 pub struct Ratio {
     num: u128,
@@ -39,14 +40,14 @@ impl Ratio {
         }
     }
 
-    /// The numerator.
+    /// The numerator in lowest terms.
     pub fn num(&self) -> u128
         ensures { result ≡ self.now.num }
     {
         self.num
     }
 
-    /// The denominator, which is above 0.
+    /// The denominator in lowest terms, which is above 0.
     pub fn den(&self) -> u128
         ensures value { result ≡ self.now.den }
         ensures lowest { IsLowest self.now }

@@ -1,4 +1,4 @@
--- The calls of a floor, in turn, whose plan is four ticks of a set of two tasks; and one of a free plan.
+-- The calls of a floor in turn: one whose plan is four ticks of a set of two tasks, and one with a free plan.
 use Rattle.std.proofs.Common.{◌≡◌, ℕ, true, false, List, [], ◌∷◌, Ok, Err, codes, refl}
 use Rattle.mc_task.specs.declared.task.Level.{Level}
 use Rattle.mc_task.specs.declared.task.Level.TheVariants.{Low, High}
@@ -28,7 +28,7 @@ task name level period low high = record { name = name; level = level; period = 
 abbrev no : ℕ → TaskNo
 no k = record { 0 = k }
 
--- a job
+-- the job of a task with this number
 abbrev job : ℕ → ℕ → JobId
 job k c = record { task = no k; count = c }
 
@@ -40,11 +40,11 @@ work_row k r n = record { task = no k; release = r; need = n }
 abbrev fresh : Plan → FloorState
 fresh plan = opening (empty_state (task (codes "ctl") High 10 2 6 ∷ task (codes "log") Low 10 5 5 ∷ []) (Virtual 2 5) 9) plan
 
--- the first job is due at 0, and needs 6 ticks; the other is due at 2
+-- at the start: the first job is due at 0 and needs 6 ticks; the other is due at 2
 abbrev f0 : FloorState
 f0 = fresh (Rows (work_row 1 0 6 ∷ work_row 2 2 5 ∷ []) 4)
 
--- its release is next, and nothing else may come
+-- at the start the release of task 1 is the next act, and no other call is allowed
 first_release : next_act f0 ≡ act.Release (no 1)
 first_release = refl
 
@@ -57,34 +57,34 @@ no_other = refl
 kept : release_answer f0 1 ≡ Ok (Kept (job 1 1) 0)
 kept = refl
 
--- after it
+-- after the first release
 abbrev f1 : FloorState
 f1 = after_release f0 1
 
--- its tick is next, and no release is planned
+-- after the first release a tick of task 1 is the next act, and no release is planned
 first_grant : (next_act f1 ≡ act.Grant (no 1)) × (release_answer f1 2 ≡ Err (act_fault.Plan plan_fault.NotPlanned))
 first_grant = (refl, refl)
 
--- with its second tick out; that the caller tells that the job is done is not read
+-- with the second tick of task 1 granted; that the caller says the job is done is ignored
 abbrev f2 : FloorState
 f2 = after_grant (after_outcome (after_grant f1 1) (job 1 1) true) 1
 
--- the other job is due
+-- at boundary 2 the release of task 2 is due
 second_release : (next_act f2 ≡ act.Release (no 2)) × (grant_answer f2 2 ≡ Err (act_fault.Plan (plan_fault.Due (no 2))))
 second_release = (refl, refl)
 
--- after its release, which is held
+-- after the release of task 2, which is held
 abbrev f3 : FloorState
 f3 = after_release f2 2
 
 held : (release_answer f2 2 ≡ Ok (Held (job 2 1) 2)) × (next_act f3 ≡ act.Wait (job 1 1))
 held = (refl, refl)
 
--- the overrun
+-- the outcome of the second tick is an overrun
 over : outcome_answer f3 (job 1 1) true ≡ Ok Over
 over = refl
 
--- after the floor's next act; a job whose tick is out gets an outcome
+-- after the floor's next act; a job with a granted tick gets an outcome
 abbrev act_on : Act → FloorState → FloorState
 act_on (act.Release k) f = after_release f k.0
 act_on (act.Grant k) f = after_grant f k.0
@@ -95,7 +95,7 @@ act_on act.Finished f = f
 abbrev once : FloorState → FloorState
 once f = act_on (next_act f) f
 
--- after the outcome, and two more ticks with theirs
+-- after that outcome, and two more ticks with their outcomes
 abbrev f4 : FloorState
 f4 = once (once (once (once (once f3))))
 
@@ -106,13 +106,13 @@ finished = (refl, refl, refl)
 rows : f4.core.rows ≡ Tick (job 1 1) More ∷ Tick (job 1 1) More ∷ Release (job 2 1) false ∷ Tick (job 1 1) Over ∷ Tick (job 1 1) More ∷ Release (job 1 1) true ∷ []
 rows = refl
 
--- a release that is due waits where its task's tick is out: the core's answer, and the next act
+-- a release that is due waits while its task has a granted tick: the core's result, and the next act
 abbrev g0 : FloorState
 g0 = after_grant (after_release (fresh (Rows (work_row 1 0 6 ∷ work_row 1 1 1 ∷ []) 4)) 1) 1
 
 waits : (release_answer g0 1 ≡ Err (act_fault.Core (release_fault.Running (job 1 1)))) × (next_act g0 ≡ act.Wait (job 1 1))
 waits = (refl, refl)
 
--- by a free plan every release is the core's, and no act is the last
+-- under a free plan every release is the core's, and no act is the last
 free : (release_answer (fresh Free) 2 ≡ Ok (Kept (job 2 1) 0)) × (idle_answer (fresh Free) ≡ Ok 0) × (next_act (after_idle (fresh Free)) ≡ act.Idle) × ((after_release (fresh Free) 2).taken ≡ 0)
 free = (refl, refl, refl, refl)

@@ -1,4 +1,4 @@
--- A trace that follows adds at each row what the plan adds.
+-- In a trace that follows, each row is the one that the plan adds.
 use Rattle.std.proofs.Common.{◌≡◌, ℕ, ◌+◌, ◌<◌, ◌≤◌, Bool, true, false, List, [], ◌∷◌, ◌++◌, Option, Some, None, length, reverse, slice_get, nat_lt, refl, sym, ap, ap₂, ◌∙◌, subst, arith, ltb-true, ◌-◌, option_map, le_refl, le-leb, zero, suc, append_assoc, inl, inr, ne_eqb}
 use Rattle.std.proofs.lemmas.Option.{none-some, same_Some}
 use Rattle.std.proofs.lemmas.List.{append-nil, length-reverse}
@@ -34,49 +34,50 @@ abbrev pub Later : ℕ → List Arrival → Type 0
 Later t [] = Unit {0}
 Later t (a ∷ xs) = (t ≤ a.at) × Later t xs
 
--- what is to come at a later time is to come at an earlier one
+-- arrivals that come at a time or later come at an earlier time or later
 pub Later-less : (t u : ℕ) (xs : List Arrival) → t ≤ u → Later u xs → Later t xs
 Later-less t u [] h l = tt
 Later-less t u (a ∷ xs) h l = (omega (arith, h, l.0), Later-less t u xs h l.1)
 
--- the entry after so many
+-- the entry after the first list is the next one
 get_at : (xs : List Arrival) (a : Arrival) (ys : List Arrival) → slice_get (xs ++ a ∷ ys) (length xs) ≡ Some a
 get_at [] a ys = refl
 get_at (x ∷ xs) a ys = get_at xs a ys
 
--- there is none at the end
+-- there is no entry at the end
 get_past : (xs : List Arrival) → slice_get xs (length xs) ≡ None
 get_past [] = refl
 get_past (x ∷ xs) = get_past xs
 
--- what is so with a work row's arrival and without it is so of what is planned of the row and those behind it
+-- a property that holds with a work row's arrival and without it holds of what is planned of the row and
+-- those after it
 pub planned_either : (P : List Arrival → Type 0) (w : WorkRow) (ws : List WorkRow) (n : ℕ) →
     (w.release < n → P (record { task = w.task.0; at = w.release } ∷ planned ws n)) → P (planned ws n) → P (planned (w ∷ ws) n)
 planned_either P w ws n with without = elim (cases_Bool (nat_lt w.release n)) [ inl m ↦ rw m (with (ltb-true _ _ m)) | inr m ↦ rw m without ]
 
--- what is planned stands before n
+-- each planned arrival is before n
 pub planned_each : (work : List WorkRow) (n : ℕ) → Each (λ a. a.at < n) (planned work n)
 planned_each [] n = tt
 planned_each (w ∷ ws) n = planned_either (Each (λ (a : Arrival). a.at < n)) w ws n (λ h. (h, planned_each ws n)) (planned_each ws n)
 
--- what holds of each holds of one
+-- what holds of each arrival holds of the one at an index
 each_get : (P : Arrival → Type 0) (xs : List Arrival) (i : ℕ) (a : Arrival) → Each P xs → slice_get xs i ≡ Some a → P a
 each_get P [] i a h e = cc
 each_get P (x ∷ xs) zero a h e = let d : x ≡ a = cc in subst P d h.0
 each_get P (x ∷ xs) (suc i) a h e = each_get P xs i a h.1 e
 
--- by the test of two truth values
+-- two truth values that pass the test of equality are equal
 same_bool-is : (a b : Bool) → beq a b ≡ true → a ≡ b
 same_bool-is true true h = refl
 same_bool-is false false h = refl
 same_bool-is a b h = cc
 
--- the one how that is done
+-- the only outcome that is done is Done
 how_done : (h : How) → is_done h ≡ true → h ≡ Done
 how_done Done e = refl
 how_done h e = cc
 
--- by the test of two hows
+-- two outcomes that pass the test of equality are equal
 how_same : (h k : How) → same_how h k ≡ true → h ≡ k
 how_same More More e = refl
 how_same Done Done e = refl
@@ -84,18 +85,18 @@ how_same Stop Stop e = refl
 how_same Over Over e = refl
 how_same h k e = cc
 
--- the how of a tick is fixed by whether it is done
+-- the outcome of a tick is fixed by whether its job is done
 how_is : (set : List Task) (rule : Rule) (g : List Row) (j : JobId) (how : How) (d : Bool) → is_allowed_how set rule g j how ≡ true → is_done how ≡ d → how ≡ outcome_of set rule g j d
 how_is set rule g j how true a e = how_done how e
 how_is set rule g j how false a e = how_same how (how_of set rule g j (used g j + 1)) (rw e at a)
 
--- what a row says of the prefix before it
+-- What a row says of the prefix before it.
 
 -- the next row, by the first release that was not taken
 pub next_at : (set : List Task) (rule : Rule) (work : List WorkRow) (n : ℕ) (g : List Row) (o : Option Arrival) → ticks g < n → slice_get (planned work n) (length (arrivals g)) ≡ o → next_row set rule work n g ≡ Some (row_now set rule work g o)
 next_at set rule work n g o h e = rw (lt-leb n (ticks g) h, e) refl
 
--- a release that the trace has is the one that is due
+-- the next release of the trace is the one that is due
 release_next : (set : List Task) (rule : Rule) (work : List WorkRow) (n : ℕ) (j : JobId) (kept : Bool) (g : List Row) (rest : List Arrival) →
     Legal set rule (Release j kept ∷ g) → reverse (arrivals g) ++ record { task = j.task.0; at = ticks g } ∷ rest ≡ planned work n → next_row set rule work n g ≡ Some (Release j kept)
 release_next set rule work n j kept g rest l e =
@@ -123,7 +124,7 @@ not_due set rule work n g (a ∷ rest) h e l =
 pub reverse-move : (a : Arrival) (xs ys : List Arrival) → reverse (a ∷ xs) ++ ys ≡ reverse xs ++ a ∷ ys
 reverse-move a xs ys = ap (λ zs. zs ++ ys) (reverse_onto xs a []) ∙ append_assoc (reverse xs) (a ∷ []) ys
 
--- where nothing is pending, none is chosen
+-- if nothing is pending, no job is chosen
 nothing_chosen : (set : List Task) (rule : Rule) (g : List Row) → is_empty (pending set g) ≡ true → chosen set rule g ≡ None
 nothing_chosen set rule g e = ap (λ (xs : List KeptRelease). option_map (λ (i : KeptRelease). i.job) (first_to_run set rule (high_mode rule g) xs)) (none (pending set g) e)
   where
@@ -151,9 +152,9 @@ determined set rule work n (Idle ∷ g) rest s f l t e r d o =
       determined set rule work n g rest s f l.2 (omega (arith, t)) e (Later-less (ticks g) (ticks g + 1) rest (omega arith) r) d o,
     )
 
--- two lists of rows that the plan adds are one
+-- Two lists of rows that the plan adds are equal.
 
--- of one length they are one
+-- two lists of rows that the plan adds are equal if they have one length
 same_length : (set : List Task) (rule : Rule) (work : List WorkRow) (n : ℕ) (h k : List Row) → length h ≡ length k → Runs set rule work n h → Runs set rule work n k → h ≡ k
 same_length set rule work n [] [] e a b = refl
 same_length set rule work n [] (r ∷ k) e a b = absurd (omega (arith, e))
@@ -163,7 +164,7 @@ same_length set rule work n (q ∷ h) (r ∷ k) e a b =
     let next : q ≡ r = same_Some q r (sym a.0 ∙ (ap (next_row set rule work n) same ∙ b.0)) in
     ap₂ (λ (x : Row) (xs : List Row). x ∷ xs) next same
 
--- none is longer than one to which the plan adds no row
+-- no list of rows that the plan adds is longer than one to which the plan adds no row
 longer : (set : List Task) (rule : Rule) (work : List WorkRow) (n m : ℕ) (k h : List Row) → length k ≡ m + 1 + length h → Runs set rule work n k → Runs set rule work n h → next_row set rule work n h ≡ None → ⊥
 longer set rule work n m [] h e a b f = omega (arith, e)
 longer set rule work n zero (r ∷ k) h e a b f =
@@ -171,7 +172,7 @@ longer set rule work n zero (r ∷ k) h e a b f =
     none-some r (sym f ∙ (ap (next_row set rule work n) (sym same) ∙ a.0))
 longer set rule work n (suc m) (r ∷ k) h e a b f = longer set rule work n m k h (omega (arith, e)) a.1 b f
 
--- two to which the plan adds no row are one
+-- two lists of rows that the plan adds, and to which it adds no more, are equal
 pub one : (set : List Task) (rule : Rule) (work : List WorkRow) (n : ℕ) (h k : List Row) → Runs set rule work n h → Runs set rule work n k → next_row set rule work n h ≡ None → next_row set rule work n k ≡ None → h ≡ k
 one set rule work n h k a b c d = elim (cases_order (length h) (length k)) [
   | inl e ↦ same_length set rule work n h k e a b
@@ -179,12 +180,12 @@ one set rule work n h k a b c d = elim (cases_order (length h) (length k)) [
   | inr (inr q) ↦ absurd (longer set rule work n (length h - length k - 1) h k (omega (arith, q)) a b d)
 ]
 
--- a trace that follows is one that the plan adds
+-- the rows of a trace that follows are those that the plan adds
 pub follows_runs : (set : List Task) (rule : Rule) (work : List WorkRow) (n : ℕ) (h : List Row) → AllByRecursion IsTask set → Fits rule → Follows set rule work n h → Runs set rule work n h
 follows_runs set rule work n h s f x =
     determined set rule work n h [] s f x.legal (omega (arith, x.ticks)) (append-nil (reverse (arrivals h)) ∙ x.releases) tt x.done x.lowest
 
--- and the plan adds no more to it
+-- the plan adds no row to a trace that follows
 pub follows_ends : (set : List Task) (rule : Rule) (work : List WorkRow) (n : ℕ) (h : List Row) → Follows set rule work n h → next_row set rule work n h ≡ None
 follows_ends set rule work n h x = rw (le-leb n (ticks h) (omega (arith, x.ticks))) refl
 

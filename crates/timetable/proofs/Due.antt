@@ -1,4 +1,4 @@
--- A release that is due is allowed, and there is room for each row.
+-- A release that is due is allowed, and the core has capacity for each row.
 use Rattle.std.proofs.Common.{◌≡◌, ℕ, zero, suc, ◌+◌, ◌<◌, ◌≤◌, Bool, true, false, List, [], ◌∷◌, ◌++◌, Option, Some, None, length, cond, filter, map, reverse, slice_get, nat_lt, refl, sym, ap, ◌∙◌, subst, arith, ltb-false, eq-eqb, ne_eqb, inl, inr}
 use Rattle.std.proofs.lemmas.List.{length-append, length-reverse, reverse-reverse}
 use Rattle.mc_task.specs.declared.task.Rule.{Rule}
@@ -26,7 +26,7 @@ abbrev pub due_before : ℕ → Option WorkRow → Option Arrival
 due_before n None = None
 due_before n (Some w) = cond (nat_lt w.release n) (Some (arrival_of w)) None
 
--- nothing is planned behind a row that is released at n or later
+-- nothing is planned after a row that is released at n or later
 none_planned : (set : List Task) (w : WorkRow) (ws : List WorkRow) (n : ℕ) → AllFollow set w ws → n ≤ w.release → planned ws n ≡ []
 none_planned set w ws n f h = go (planned ws n) (later_planned set w ws n f) (planned_each ws n)
   where
@@ -34,7 +34,7 @@ none_planned set w ws n f h = go (planned ws n) (later_planned set w ws n f) (pl
     go [] l e = refl
     go (a ∷ xs) l e = absurd (omega (arith, l.0, e.0, h))
 
--- what is planned stands in the places of the work
+-- the planned arrivals have the indices of their rows in the work
 pub due_index : (set : List Task) (work : List WorkRow) (n i : ℕ) → IsWork set work → slice_get (planned work n) i ≡ due_before n (slice_get work i)
 due_index set [] n i w = refl
 due_index set (v ∷ vs) n i w = go (λ k. due_index set vs n k w.2) i (nat_lt v.release n) refl
@@ -52,12 +52,12 @@ due_index set (v ∷ vs) n i w = go (λ k. due_index set vs n k w.2) i (nat_lt v
 record IsApart (set : List Task) (b a : Arrival) : Type 0 where
   apart : b.task ≡ a.task → b.at + period_in (task_at set b.task) ≤ a.at
 
--- each is apart from those before it
+-- each arrival is apart from those before it
 abbrev Spaced : List Task → List Arrival → Type 0
 Spaced set [] = Unit {0}
 Spaced set (a ∷ xs) = Each (IsApart set a) xs × Spaced set xs
 
--- what is planned behind a work row is apart from it
+-- what is planned after a work row is apart from it
 apart_planned : (set : List Task) (w : WorkRow) (ws : List WorkRow) (n : ℕ) → AllFollow set w ws → Each (IsApart set (arrival_of w)) (planned ws n)
 apart_planned set w [] n f = tt
 apart_planned set w (v ∷ vs) n f =
@@ -69,12 +69,12 @@ planned_spaced : (set : List Task) (work : List WorkRow) (n : ℕ) → IsWork se
 planned_spaced set [] n w = tt
 planned_spaced set (v ∷ vs) n w = planned_either (Spaced set) v vs n (λ h. (apart_planned set v vs n w.1, planned_spaced set vs n w.2)) (planned_spaced set vs n w.2)
 
--- each before an arrival is apart from it
+-- each arrival before another is apart from it
 before_each : (set : List Task) (front : List Arrival) (a : Arrival) (xs : List Arrival) → Spaced set (front ++ a ∷ xs) → Each (λ b. IsApart set b a) front
 before_each set [] a xs s = tt
 before_each set (b ∷ bs) a xs s = (at_middle (IsApart set b) bs a xs s.0, before_each set bs a xs s.1)
 
--- where each arrival is apart from a, the next release of its task may be at a
+-- if each arrival so far is apart from a, the next release of its task may come at a
 next_by : (set : List Task) (h : List Row) (a : Arrival) → Each (λ b. IsApart set b a) (arrivals h) → next_release set h a.task ≤ a.at
 next_by set [] a e = omega arith
 next_by set (Release j kept ∷ g) a e = elim (cases_eq j.task.0 a.task) [

@@ -1,4 +1,4 @@
--- What the plan has added so far is the beginning of the trace that follows.
+-- The rows that the plan has added so far begin the trace that follows.
 use Rattle.std.proofs.Common.{◌≡◌, ℕ, zero, suc, ◌+◌, ◌≤◌, List, [], ◌∷◌, ◌++◌, Option, Some, None, length, slice_get, nat_le, refl, sym, subst, arith, leb-true, leb-false, eq-eqb, ne_eqb, inl, inr, append_assoc}
 use Rattle.std.proofs.lemmas.Bool.{cases_Bool, cases_eq}
 use Rattle.std.specs.List.{AllByRecursion}
@@ -25,7 +25,7 @@ use Rattle.timetable.proofs.RunsFollow.{runs_follow}
 use Rattle.timetable.proofs.Due.{due_allowed, need_at, length-rows, taken-few}
 use Rattle.timetable.proofs.Latest.{OfTask, of_task}
 
--- rows that follow are the only ones
+-- the rows that follow are the only ones that do
 pub only_trace : (set : List Task) (rule : Rule) (work : List WorkRow) (n : ℕ) (h : List Row) → AllByRecursion IsTask set → Fits rule → IsWork set work → 1 ≤ n → Legal set rule h → Runs set rule work n h → n ≤ ticks h → IsTheTrace set rule work n h
 only_trace set rule work n h s f w p l r e =
     let follows : Follows set rule work n h = runs_follow set rule work n h s w p l r e in
@@ -81,7 +81,7 @@ to_end set rule work n (suc left) g s w l r e = elim (cases_Bool (nat_le n (tick
       }
 ]
 
--- a core that runs by its plan keeps to it
+-- a core whose rows are those that the plan adds keeps to the plan
 pub keeps_plan : (s : State) (work : List WorkRow) (n taken : ℕ) → IsSound s → KeepsToWork s work n taken → Keeps work n taken s
 keeps_plan s work n taken sound r =
     let legal : Legal s.set s.rule (settled_by work s) = sound.good.settled (is_last work s.rows (job_in s.out)) in

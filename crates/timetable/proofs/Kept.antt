@@ -1,4 +1,5 @@
--- What is kept of a plan is kept by each of the floor's calls, and the core's refusals that never come under a plan.
+-- Each of the floor's calls keeps what the floor stores of its plan, and some refusals of the core never come
+-- under a plan.
 use Rattle.std.proofs.Common.{◌≡◌, ℕ, ◌+◌, ◌<◌, Bool, true, false, not, List, [], ◌∷◌, Option, Some, None, Ok, Err, cond, nat_lt, ◌==◌, slice_get, option_map, refl, sym, ap, ◌∙◌, subst, arith, eqb-true, le-ltb, lt-ltb, inl, inr}
 use Rattle.std.proofs.lemmas.Bool.{cases_Bool, not-false}
 use Rattle.std.specs.Option.{option_or}
@@ -18,9 +19,9 @@ use Rattle.mode_core.specs.declared.answers.GrantFault.TheVariants as grant_faul
 use Rattle.mode_core.specs.declared.answers.IdleFault.{IdleFault}
 use Rattle.mode_core.specs.declared.answers.IdleFault.TheVariants as idle_fault
 use Rattle.mode_core.specs.Events as core_event
-use Rattle.mode_core.specs.Events.{refused_if, answer, unless, running, is_full, is_of_task, is_out, chosen_now, job_in, granted, with_release}
+use Rattle.mode_core.specs.Events.{refused_if, answer, unless, running, is_full, is_spent, is_of_task, is_out, chosen_now, job_in, granted, with_release}
 use Rattle.mode_core.specs.Shape.{IsSound}
-use Rattle.mode_core.proofs.CallerLemmas.{neither, not_if, no_map, MayGrant, may_grant}
+use Rattle.mode_core.proofs.CallerLemmas.{neither, not_if, no_map, not_spent, MayGrant, may_grant}
 use Rattle.timetable.specs.declared.plan.Plan.{Plan}
 use Rattle.timetable.specs.declared.plan.Plan.TheVariants.{Free, Rows}
 use Rattle.timetable.specs.declared.needs.Needs.{Needs}
@@ -36,21 +37,21 @@ use Rattle.timetable.proofs.Steps.{IsDueRow, due_is, MayTake, may_take, IsTickTi
 use Rattle.timetable.proofs.Latest.{told_by_need}
 use Rattle.timetable.proofs.Extends.{keeps_plan}
 
--- what an answer says of the refusal
+-- What a result says of the refusal.
 
--- an answer that is no refusal
+-- a result that is Ok means that nothing was refused
 ok_none : {T E : Type 0} → (o : Option E) (t x : T) → answer o t ≡ Ok x → (o ≡ None) × (t ≡ x)
 ok_none None t x e = (refl, cc)
 ok_none (Some f) t x e = cc
 
--- a refusal
+-- a result that is Err is the refusal
 err_some : {T E : Type 0} → (o : Option E) (t : T) (f : E) → answer o t ≡ Err f → o ≡ Some f
 err_some None t f e = cc
 err_some (Some g) t f e = cc
 
--- at the start
+-- The start.
 
--- a plan is kept before the first row
+-- before the first row, what the floor stores of its plan is right
 pub kept_new : (plan : Plan) (s : State) (needs : Needs) → s.rows ≡ [] → s.out ≡ None → IsPlanFor s plan → ((work : List WorkRow) → Tracks work 0 needs) → IsKeptBy plan s 0 needs false
 kept_new Free s needs rows out p t = refl
 kept_new (Rows work n) s needs rows out p t = record {
@@ -59,16 +60,16 @@ kept_new (Rows work n) s needs rows out p t = record {
   told = rw out tt;
 }
 
--- a release
+-- Releases.
 
--- the row is due, of this task
+-- the work's row is due, and of this task
 record IsDueOf (work : List WorkRow) (n taken t k : ℕ) : Type 0 where
   row : WorkRow
   found : due_at (Rows work n) taken t ≡ Some row
   due : IsDueRow work n taken t row
   task : row.task.0 ≡ k
 
--- so it is where the plan refuses nothing
+-- if the plan refuses nothing, a row of the task is due
 due_of : (work : List WorkRow) (n taken t k : ℕ) → not_due (Rows work n) (due_at (Rows work n) taken t) k ≡ None → IsDueOf work n taken t k
 due_of work n taken t k e = go (due_at (Rows work n) taken t) refl e
   where
@@ -80,16 +81,16 @@ due_of work n taken t k e = go (due_at (Rows work n) taken t) refl e
 may_of : (s : State) (work : List WorkRow) (n taken k : ℕ) → IsSound s → KeepsToWork s work n taken → IsDueOf work n taken (begun s) k → MayTake s work n taken k
 may_of s work n taken k sound r d = subst (MayTake s work n taken) d.task (may_take s work n taken d.row sound r d.due)
 
--- a release leaves what is told of the tick that is out
+-- a release leaves it as it was whether the granted tick is its job's last
 told_release : (work : List WorkRow) (s : State) (o : Option JobId) (i : JobId) (last : Bool) → s.out ≡ o → IsTold work s.rows s.out last → IsTold work (with_release s o i).rows (with_release s o i).out last
 told_release work s None i last e t = subst (λ (x : Option JobId). IsTold work (with_release s None i).rows x last) (sym e) tt
 told_release work s (Some j) i last e t = t
 
--- the needs after one more row of the work
+-- the needs after one more row of the work is noted
 abbrev pub Notes : Needs → Needs → WorkRow → Type 0
 Notes old new w = (work : List WorkRow) (taken : ℕ) → Tracks work taken old → slice_get work taken ≡ Some w → Tracks work (taken + 1) new
 
--- after the due release
+-- after the due release, what the floor stores of its plan is right
 pub kept_release : (plan : Plan) (s t : State) (taken k : ℕ) (old new : Needs) (last : Bool) (w : WorkRow) (x : Released) → IsSound s → IsKeptBy plan s taken old last → due_at plan taken (begun s) ≡ Some w → not_due plan (due_at plan taken (begun s)) k ≡ None →
     core_event.release_answer s k ≡ Ok x → t ≡ core_event.after_release s k → Notes old new w → IsKeptBy plan t (taken + 1) new last
 kept_release Free s t taken k old new last w x sound kept d r a e notes = cc
@@ -105,31 +106,32 @@ kept_release (Rows work n) s t taken k old new last w x sound kept d r a e notes
       told = told_release work s s.out (next_job s k) last refl kept.told;
     })
 
--- a release is refused where its task's tick is out alone
+-- the refusal of a release of a task that has a granted tick
 pub record IsRunning (f : ReleaseFault) : Type 0 where
   pub job : JobId
   pub is : f ≡ release_fault.Running job
 
--- where it is not too soon, and there is a place
+-- a release that is not too soon, with capacity for its row, is refused only while its task has a granted
+-- tick
 only_running : (o : Option JobId) (b f : Bool) (n : ℕ) (g : ReleaseFault) → b ≡ false → f ≡ false → option_or (option_map release_fault.Running o) (option_or (refused_if b (release_fault.TooSoon n)) (refused_if f release_fault.Full)) ≡ Some g → IsRunning g
 only_running None false false n g p q e = cc
 only_running None b f n g p q e = cc
 only_running (Some j) b f n g p q e = record { job = j; is = cc }
 
--- so it is under a plan
+-- under a plan a release is refused only while its task has a granted tick
 pub release_faults : (plan : Plan) (s : State) (taken k : ℕ) (needs : Needs) (last : Bool) (f : ReleaseFault) → is_planned plan ≡ true → IsSound s → IsKeptBy plan s taken needs last → not_due plan (due_at plan taken (begun s)) k ≡ None → core_event.release_answer s k ≡ Err f → IsRunning f
 release_faults Free s taken k needs last f p sound kept r a = cc
 release_faults (Rows work n) s taken k needs last f p sound kept r a =
     let may : MayTake s work n taken k = may_of s work n taken k sound kept.run (due_of work n taken (begun s) k r) in
-    only_running (running s.out k) (nat_lt (begun s) (next s k)) (is_full s) (next s k) f (le-ltb _ _ may.soon) (not_full s may.room) (err_some _ _ f a)
+    only_running (running s.out k) (nat_lt (begun s) (next s k)) (is_spent s k) (next s k) f (le-ltb _ _ may.soon) (not_spent s k (omega (arith, sound.range)) may.room) (err_some _ _ f a)
 
--- a tick
+-- Ticks.
 
--- why a plan of which so many releases were taken refuses a tick at boundary t
+-- why a plan, of which `taken` releases were taken, refuses a tick at boundary t
 abbrev pub refused : Plan → ℕ → ℕ → Option PlanFault
 refused plan taken t = option_or (option_map (λ (w : WorkRow). plan_fault.Due w.task) (due_at plan taken t)) (refused_if (ends_at plan t) plan_fault.Finished)
 
--- it is time for one where the plan refuses nothing
+-- a tick may come if the plan refuses nothing
 tick_time : (s : State) (work : List WorkRow) (n taken : ℕ) → IsSound s → KeepsToWork s work n taken → refused (Rows work n) taken (begun s) ≡ None → IsTickTime s work n taken
 tick_time s work n taken sound r e =
     let p = neither _ _ e in
@@ -144,7 +146,7 @@ grant_task s k j c m =
     let is : is_of_task (chosen_now s) k ≡ true = not-false _ (not_if _ _ p.0) in
     eqb-true _ _ (subst (λ (o : Option JobId). is_of_task o k ≡ true) c is)
 
--- after a grant to the chosen job's task
+-- after a grant to the chosen job's task, what the floor stores of its plan is right
 pub kept_grant : (plan : Plan) (s t : State) (taken k need : ℕ) (needs : Needs) (last : Bool) (x : Granted) → IsSound s → IsKeptBy plan s taken needs last → refused plan taken (begun s) ≡ None →
     core_event.grant_answer s k ≡ Ok x → t ≡ core_event.after_grant s k → ((work : List WorkRow) (taken : ℕ) → Tracks work taken needs → need ≡ latest_need work taken k) → IsKeptBy plan t taken needs (x.before + 1 == need)
 kept_grant Free s t taken k need needs last x sound kept r a e at = kept
@@ -165,7 +167,7 @@ kept_grant (Rows work n) s t taken k need needs last x sound kept r a e at =
       told = subst (λ (o : Option JobId). IsTold work s.rows o (x.before + 1 == need)) (sym may.chosen) told;
     })
 
--- after an idle tick
+-- after an idle tick, what the floor stores of its plan is right
 pub kept_idle : (plan : Plan) (s t : State) (taken : ℕ) (needs : Needs) (last : Bool) → IsSound s → IsKeptBy plan s taken needs last → refused plan taken (begun s) ≡ None →
     t ≡ core_event.after_idle s → IsKeptBy plan t taken needs last
 kept_idle Free s t taken needs last sound kept r e = kept
@@ -186,7 +188,7 @@ kept_idle (Rows work n) s t taken needs last sound kept r e = subst (λ (u : Sta
           told = subst (λ (o : Option JobId). IsTold work (Idle ∷ s.rows) o last) (sym out) tt;
         }
 
--- a grant is not refused for want of a place under a plan
+-- under a plan no grant is refused because the core is full
 pub grant_not_full : (plan : Plan) (s : State) (taken k : ℕ) (needs : Needs) (last : Bool) → is_planned plan ≡ true → IsSound s → IsKeptBy plan s taken needs last → refused plan taken (begun s) ≡ None →
     core_event.grant_answer s k ≡ Err grant_fault.Full → ⊥
 grant_not_full Free s taken k needs last p sound kept r a = cc
@@ -199,7 +201,7 @@ grant_not_full (Rows work n) s taken k needs last p sound kept r a =
     no None true c true m e = cc
     no None true c false m e = cc
 
--- nor is an idle tick
+-- under a plan no idle tick is refused because the core is full
 pub idle_not_full : (plan : Plan) (s : State) (taken : ℕ) (needs : Needs) (last : Bool) → is_planned plan ≡ true → IsSound s → IsKeptBy plan s taken needs last → refused plan taken (begun s) ≡ None →
     core_event.idle_answer s ≡ Err idle_fault.Full → ⊥
 idle_not_full Free s taken needs last p sound kept r a = cc
@@ -212,19 +214,19 @@ idle_not_full (Rows work n) s taken needs last p sound kept r a =
     no None None true m e = cc
     no None None false m e = cc
 
--- an outcome
+-- Outcomes.
 
--- the tick that is out is the job's
+-- the granted tick is the job's
 out_is : (o : Option JobId) (j : JobId) → is_out o j ≡ true → o ≡ Some j
 out_is None j k = cc
 out_is (Some i) j k = ap (λ (x : JobId). Some x) (job_eq i j k)
 
--- what is told of the tick that is out is what the plan says of it
+-- whether the granted tick is its job's last is what the plan says
 done_is : (plan : Plan) (s : State) (taken : ℕ) (needs : Needs) (last told d : Bool) (j : JobId) → IsKeptBy plan s taken needs last → s.out ≡ Some j → d ≡ cond (is_planned plan) last told → d ≡ done_by plan s.rows j told
 done_is Free s taken needs last told d j kept o e = e
 done_is (Rows work n) s taken needs last told d j kept o e = e ∙ subst (λ (x : Option JobId). IsTold work s.rows x last) o kept.told
 
--- an outcome with what is told is one with what the plan says, as it is refused where the tick is not the job's
+-- an outcome with the stored flag is one with what the plan says, since a tick of another job is refused
 pub same_outcome : (plan : Plan) (s : State) (taken : ℕ) (needs : Needs) (last told d : Bool) (j : JobId) → IsKeptBy plan s taken needs last → d ≡ cond (is_planned plan) last told →
     (core_event.outcome_answer s j d ≡ core_event.outcome_answer s j (done_by plan s.rows j told)) × (core_event.after_outcome s j d ≡ core_event.after_outcome s j (done_by plan s.rows j told))
 same_outcome plan s taken needs last told d j kept e = elim (cases_Bool (is_out s.out j)) [

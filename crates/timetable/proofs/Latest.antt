@@ -1,4 +1,4 @@
--- A task's pending job is its latest, so its need is the one that is kept.
+-- A task's pending job is its latest, so the stored need is that of the pending job.
 use Rattle.std.proofs.Common.{◌≡◌, ◌≢◌, ℕ, suc, ◌+◌, ◌≤◌, Bool, true, false, List, [], ◌∷◌, Option, Some, None, length, cond, slice_get, take, nat_lt, ◌==◌, refl, sym, ap, ◌∙◌, subst, arith, eq-eqb, ne_eqb, inl, inr}
 use Rattle.std.specs.List.{AllByRecursion}
 use Rattle.std.proofs.lemmas.Bool.{cases_Bool, cases_eq}
@@ -37,13 +37,13 @@ use Rattle.timetable.proofs.Due.{arrival_of, due_before, due_index}
 use Rattle.timetable.proofs.NeedsLemmas.{rows-none, rows-more}
 use Rattle.timetable.proofs.Steps.{settled_none}
 
--- the latest job
+-- The latest job.
 
--- no later job of its task was released
+-- no later job of the same task was released
 abbrev IsLatest : List Row → KeptRelease → Type 0
 IsLatest h x = x.job.count ≡ releases h x.job.task.0
 
--- where none of these is of task number k, each is of another
+-- if none of these jobs is of task number k, each is of another task
 others : (k : ℕ) (xs : List KeptRelease) → pending_of k xs ≡ 0 → Each (λ x. k ≢ x.job.task.0) xs
 others k [] e = tt
 others k (x ∷ xs) e = elim (cases_eq x.job.task.0 k) [
@@ -51,11 +51,11 @@ others k (x ∷ xs) e = elim (cases_eq x.job.task.0 k) [
   | inr d ↦ (λ q. d (sym q), others k xs (omega (arith, rw (ne_eqb _ _ d) at e)))
 ]
 
--- a release of another task leaves a job the latest
+-- after a release of another task a job is still the latest of its task
 not_of : (j : JobId) (kept : Bool) (g : List Row) (x : KeptRelease) → j.task.0 ≢ x.job.task.0 → IsLatest g x → IsLatest (Release j kept ∷ g) x
 not_of j kept g x d e = rw (ne_eqb j.task.0 x.job.task.0 d) (omega (arith, e))
 
--- none is pending of a task that is released, so the others stay the latest
+-- a released task has no pending job, so all others are still the latest of their tasks
 stay_latest : (set : List Task) (rule : Rule) (j : JobId) (kept : Bool) (g : List Row) → AllByRecursion IsTask set → Holds set rule → Legal set rule g → next_release set g j.task.0 ≤ ticks g → Each (IsLatest g) (pending set g) → Each (IsLatest (Release j kept ∷ g)) (pending set g)
 stay_latest set rule j kept g s holds l soon ih =
     Each-both {P = λ x. j.task.0 ≢ x.job.task.0} {Q = IsLatest g} (λ x d e. not_of j kept g x d e) (pending set g) (others j.task.0 (pending set g) (none_live set rule g j.task.0 s holds l soon)) ih
@@ -70,7 +70,7 @@ latest set rule (Release j false ∷ g) s holds l = stay_latest set rule j false
 latest set rule (Tick j how ∷ g) s holds l = Each-filter (IsLatest g) (stays set j how) (pending set g) (latest set rule g s holds l.2)
 latest set rule (Idle ∷ g) s holds l = latest set rule g s holds l.2
 
--- a job that is pending by its name
+-- a pending job, found by its task and number, is the latest
 named : (h : List Row) (j : JobId) (xs : List KeptRelease) → is_pending xs j ≡ true → Each (IsLatest h) xs → j.count ≡ releases h j.task.0
 named h j [] e a = cc
 named h j (x ∷ xs) e a = elim (cases_Bool (same_job j x.job)) [
@@ -85,7 +85,7 @@ chosen_latest s j sound e =
     let waits : is_pending (model.pending s.set s.rows) j ≡ true = (chooses s.set s.rule s.rows j sound.tasks.each sound.good.legal e).waits in
     named s.rows j (pending s.set s.rows) (subst (λ (xs : List KeptRelease). is_pending xs j ≡ true) b.same waits) (latest s.set s.rule s.rows sound.tasks.each sound.holds b.legal)
 
--- the rows of the work that were taken
+-- The rows of the work that were taken.
 
 -- the row of the work that is an arrival of task number k
 pub record OfTask (work : List WorkRow) (i k : ℕ) : Type 0 where
@@ -93,7 +93,7 @@ pub record OfTask (work : List WorkRow) (i k : ℕ) : Type 0 where
   pub here : slice_get work i ≡ Some row
   pub task : row.task.0 ≡ k
 
--- there is one where the arrival is planned
+-- a planned arrival has its row of the work
 pub of_task : (set : List Task) (work : List WorkRow) (n i : ℕ) (a : Arrival) → IsWork set work → slice_get (planned work n) i ≡ Some a → OfTask work i a.task
 of_task set work n i a w e = go (slice_get work i) refl (sym (due_index set work n i w) ∙ e)
   where
@@ -101,11 +101,11 @@ of_task set work n i a w e = go (slice_get work i) refl (sym (due_index set work
     go None m k = cc
     go (Some v) m k = let p = cond_some (nat_lt v.release n) (arrival_of v) a k in record { row = v; here = m; task = ap (λ (x : Arrival). x.task) p.1 }
 
--- 1 for equal numbers
+-- 1 if two numbers are equal, otherwise 0
 abbrev is_one : ℕ → ℕ → ℕ
 is_one i k = cond (i == k) 1 0
 
--- the releases of a task are its rows among those that were taken
+-- a task's releases are its rows among those that were taken
 taken_rows : (set : List Task) (rule : Rule) (work : List WorkRow) (n : ℕ) (h : List Row) (k : ℕ) → IsWork set work → Runs set rule work n h → releases h k ≡ rows_of k (take (length (arrivals h)) work)
 taken_rows set rule work n [] k w r = sym (rows-none work k)
 taken_rows set rule work n (Release j kept ∷ g) k w r =
@@ -119,7 +119,7 @@ taken_rows set rule work n (Release j kept ∷ g) k w r =
     sum ∙ ap (λ (i : ℕ). rows_of k (take i work)) (sym one)
 taken_rows set rule work n (row ∷ g) k w r = taken_rows set rule work n g k w r.1
 
--- whether the next tick of the chosen job is its last, by the need that is kept of its task
+-- whether the next tick of the chosen job is its last, by the stored need of its task
 pub told_by_need : (s : State) (work : List WorkRow) (n taken : ℕ) (j : JobId) → IsSound s → KeepsToWork s work n taken → s.out ≡ None → chosen_now s ≡ Some j → (used s.rows j + 1 == latest_need work taken j.task.0) ≡ is_last work s.rows j
 told_by_need s work n taken j sound r o e =
     let rows = settled_none work s o in

@@ -1,4 +1,4 @@
--- What is kept of each task's needs, at the start and after one more row.
+-- The stored needs of the tasks, at the start and after one more row.
 use Rattle.std.proofs.Common.{◌≡◌, ◌≢◌, ℕ, zero, suc, ◌+◌, ◌-◌, ◌<◌, ◌≤◌, Bool, true, false, List, [], ◌∷◌, Some, length, cond, filter, map, slice_get, slice_index_or, set, get_or, get_or-set_same, get_or-set_other, take, replicate, ◌==◌, refl, sym, ap, ◌∙◌, subst, arith, eqb-true, eq-eqb, ne_eqb}
 use Rattle.std.proofs.lemmas.List.{length-set}
 use Rattle.std.proofs.lemmas.Option.{slice_get-get_or}
@@ -7,27 +7,27 @@ use Rattle.mc_model.specs.Follows.{needs_of, need_of}
 use Rattle.mc_model.proofs.Booleans.{eqb-false}
 use Rattle.timetable.specs.Needs.{rows_of, latest_need}
 
--- at the start
+-- The start.
 
--- each entry of a list of equal ones
+-- each entry of a list of equal numbers is that number
 get-replicate : (n i x : ℕ) → i < n → slice_get (replicate n x) i ≡ Some x
 get-replicate zero i x h = absurd (omega (arith, h))
 get-replicate (suc n) zero x h = refl
 get-replicate (suc n) (suc i) x h = get-replicate n i x (omega (arith, h))
 
--- no row, no count
+-- among no rows a task has none
 pub rows-none : (work : List WorkRow) (k : ℕ) → rows_of k (take 0 work) ≡ 0
 rows-none [] k = refl
 rows-none (w ∷ ws) k = refl
 
--- what is kept before the first row
+-- the stored needs before the first row are right
 pub tracks_start : (work : List WorkRow) (i : ℕ) → i < 128 → slice_get (replicate 128 0) i ≡ Some (latest_need work 0 (i + 1))
 tracks_start work i h =
     get-replicate 128 i 0 h ∙ sym (ap (λ (c : ℕ). Some (need_of work (i + 1) c)) (rows-none work (i + 1)))
 
--- one more row
+-- One more row.
 
--- the rows of a task are one more with a row of it
+-- a task has one more row, if the next row is its own
 pub rows-more : (work : List WorkRow) (i k : ℕ) (w : WorkRow) → slice_get work i ≡ Some w → rows_of k (take (suc i) work) ≡ cond (w.task.0 == k) 1 0 + rows_of k (take i work)
 rows-more [] i k w e = cc
 rows-more (v ∷ vs) zero k w e =
@@ -36,7 +36,7 @@ rows-more (v ∷ vs) zero k w e =
 rows-more (v ∷ vs) (suc i) k w e =
     omega (arith, rows-more vs i k w e)
 
--- its need stands behind those of the task's rows before it
+-- the need of the next row stands after those of its task's rows before it
 need-at : (work : List WorkRow) (i k : ℕ) (w : WorkRow) → slice_get work i ≡ Some w → w.task.0 ≡ k → slice_index_or (needs_of work k) (rows_of k (take i work)) 0 ≡ w.need
 need-at [] i k w e t = cc
 need-at (v ∷ vs) zero k w e t =
@@ -55,7 +55,7 @@ need-at (v ∷ vs) (suc i) k w e t = go (need-at vs i k w e t) (v.task.0 == k)
     go ih true = ap (λ (n : ℕ). slice_index_or (v.need ∷ needs_of vs k) n 0) (one_more (rows_of k (take i vs))) ∙ ih
     go ih false = ap (λ (n : ℕ). slice_index_or (needs_of vs k) n 0) (no_more (rows_of k (take i vs))) ∙ ih
 
--- so it is that of the job of its count
+-- the need of the next row is that of its task's job with its number
 need-more : (work : List WorkRow) (i k : ℕ) (w : WorkRow) → slice_get work i ≡ Some w → w.task.0 ≡ k → need_of work k (rows_of k (take i work) + 1) ≡ w.need
 need-more work i k w e t =
     rw (ne_eqb (rows_of k (take i work) + 1) 0 (omega arith)) (ap (λ (c : ℕ). slice_index_or (needs_of work k) c 0) back ∙ need-at work i k w e t)
@@ -63,11 +63,11 @@ need-more work i k w e t =
     back : rows_of k (take i work) + 1 - 1 ≡ rows_of k (take i work)
     back = omega arith
 
--- what is kept after so many rows, in a list by the tasks' numbers
+-- the stored needs are right after `taken` rows, as a list by task numbers
 abbrev pub Tracked : List WorkRow → ℕ → List ℕ → Type 0
 Tracked work taken kept = (i : ℕ) → i < 128 → slice_get kept i ≡ Some (latest_need work taken (i + 1))
 
--- what is kept after one more row
+-- the stored needs are right after one more row
 pub tracks_noted : (work : List WorkRow) (taken : ℕ) (w : WorkRow) (kept : List ℕ) → length kept ≡ 128 → Tracked work taken kept → slice_get work taken ≡ Some w → 1 ≤ w.task.0 → w.task.0 ≤ 128 → Tracked work (taken + 1) (set kept (w.task.0 - 1) w.need)
 tracks_noted work taken w kept len tracks e p q i h = by (w.task.0 == i + 1) refl
   where

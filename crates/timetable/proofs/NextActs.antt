@@ -1,4 +1,4 @@
--- The next act of a plan that is not finished adds a row, where no tick is out, and a finished plan has its trace.
+-- With no granted tick, the next act of an unfinished plan adds a row; a finished plan has its trace.
 use Rattle.std.proofs.Common.{◌≡◌, ℕ, ◌<◌, ◌≤◌, Bool, true, false, List, [], ◌∷◌, Option, Some, None, Result, Ok, Err, length, cond, option_map, refl, sym, ap, ◌∙◌, subst, arith, eqb-true, le-ltb}
 use Rattle.std.proofs.lemmas.List.{length-reverse}
 use Rattle.mc_task.specs.declared.task.TaskNo.{TaskNo}
@@ -34,13 +34,14 @@ use Rattle.timetable.proofs.Extends.{only_trace}
 abbrev floor : State → Plan → ℕ → FloorState
 floor s plan taken = record { core = s; plan = plan; taken = taken }
 
--- what the next act says, where no tick is out and the plan is not finished
+-- What the next act says, if no tick is granted and the plan is not finished.
 
--- by the due release, the job that is out, whether the plan is finished, and the chosen job
+-- the next act, by the due release, the job with a granted tick, whether the plan is finished, and the chosen
+-- job
 abbrev act_by : Option WorkRow → Option JobId → Bool → Option JobId → Act
 act_by o out f c = act_or (release_act o out) (act_or (option_map act.Wait out) (cond f act.Finished (tick_act c)))
 
--- a release
+-- the next act is a release of task k
 record IsRelease (o : Option WorkRow) (k : TaskNo) : Type 0 where
   row : WorkRow
   due : o ≡ Some row
@@ -53,7 +54,7 @@ is_release (Some w) None f c k p q e = record { row = w; due = refl; task = cc }
 is_release o None true c k p q e = cc
 is_release o (Some j) f c k p q e = cc
 
--- a tick of the chosen job
+-- the next act is a tick of task k
 record IsGrant (o : Option WorkRow) (c : Option JobId) (k : TaskNo) : Type 0 where
   none : o ≡ None
   job : JobId
@@ -67,21 +68,21 @@ is_grant (Some w) None f c k p q e = cc
 is_grant o None true c k p q e = cc
 is_grant o (Some j) f c k p q e = cc
 
--- nothing, where the plan is finished and no release is due
+-- the next act is none if the plan is finished and no release is due
 is_over : (o : Option WorkRow) (out : Option JobId) (f : Bool) (c : Option JobId) → o ≡ None → out ≡ None → f ≡ true → act_by o out f c ≡ act.Finished
 is_over None None true c p q r = refl
 is_over None None false c p q r = cc
 is_over None (Some j) f c p q r = cc
 is_over (Some w) out f c p q r = cc
 
--- an answer that is not refused
+-- two successful results of one call are equal
 ok_same : {T E : Type 0} → (r : Result T E) (x y : T) → r ≡ Ok x → r ≡ Ok y → x ≡ y
 ok_same (Ok z) x y p q = cc
 ok_same (Err e) x y p q = cc
 
--- places
+-- Capacity.
 
--- with a place left there is one for a row
+-- a core that is not full has capacity for one more row
 row_room : (s : State) → places_used s < s.places → length s.rows < s.places
 row_room s r = omega (arith, r)
 
@@ -89,15 +90,15 @@ row_room s r = omega (arith, r)
 adds_row : (f g : FloorState) (row : Row) (m : ℕ) → length f.core.rows < f.core.places → g ≡ record f { core = record f.core { rows = row ∷ f.core.rows }; taken = m } → AddsRow f g
 adds_row f g row m r e = subst (AddsRow f) (sym e) (record { room = r; row = row; after = refl })
 
--- the ticks begun are those of the rows
+-- with no granted tick, the ticks begun are those with rows
 begun_none : (s : State) → s.out ≡ None → begun s ≡ ticks s.rows
 begun_none s o = omega (arith, ap tick_out o)
 
--- what is begun of a plan that is not finished
+-- in a plan that is not finished fewer than n ticks are begun
 soon : (s : State) (work : List WorkRow) (n taken : ℕ) → IsSound s → KeepsToWork s work n taken → ends_at (Rows work n) (begun s) ≡ false → begun s < n
 soon s work n taken sound r e = omega (arith, within s work n taken sound r, eqb-false (begun s) n e)
 
--- the release
+-- Releases.
 
 -- the task is in the set, and its release adds a row
 pub record ReleaseAdds (f : FloorState) (k : ℕ) : Type 0 where
@@ -135,7 +136,7 @@ release_adds s (Rows work n) taken k p o f sound run e = record {
         omega (arith, a, may.soon, begun_none s o)
 
     core : core_event.after_release s k.0 ≡ record s { rows = row ∷ s.rows }
-    core = released s k.0 o held time may.room
+    core = released s k.0 (let range = sound.range in omega (arith, range)) o held time may.room
 
     none : not_due (Rows work n) (due_at (Rows work n) taken (begun s)) k.0 ≡ None
     none =
@@ -145,7 +146,7 @@ release_adds s (Rows work n) taken k p o f sound run e = record {
     after : after_release (floor s (Rows work n) taken) k.0 ≡ record (floor s (Rows work n) taken) { core = record s { rows = row ∷ s.rows }; taken = (after_release (floor s (Rows work n) taken) k.0).taken }
     after = rw none (ap (λ (t : State). let g : FloorState = record { core = t; plan = Rows work n; taken = (releasing (floor s (Rows work n) taken) k.0).taken } in g) core)
 
--- the tick
+-- Ticks.
 
 -- the task is in the set, and its tick with its outcome adds a row
 pub record GrantAdds (f : FloorState) (k : ℕ) : Type 0 where
@@ -188,9 +189,9 @@ grant_adds s (Rows work n) taken k p o f sound run e = record {
         ap (λ (i : JobId). core_event.after_outcome (core_event.after_grant s k.0) i d) j ∙ (ap (λ (i : TaskNo). core_event.after_outcome (core_event.after_grant s i.0) g.job d) (sym g.task) ∙ e1) in
         rw none (ap (λ (t : State). let y : FloorState = record { core = t; plan = Rows work n; taken = taken } in y) e2)
 
--- the end
+-- The end.
 
--- a finished plan has its trace, each planned release was taken, and nothing is next
+-- a finished plan has its trace, each planned release was taken, and there is no next act
 pub record IsEnded (f : FloorState) : Type 0 where
   pub trace : IsTraceOfPlan f.plan f.core
   pub taken : HasTaken f.plan f.taken

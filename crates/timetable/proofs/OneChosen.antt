@@ -1,4 +1,4 @@
--- The job that a row's tick takes, of equal keys the lowest number, is the chosen one.
+-- The job that takes a row's tick, of equal keys the one with the lowest number, is the chosen one.
 use Rattle.std.proofs.Common.{◌≡◌, ℕ, ◌+◌, ◌*◌, ◌≤◌, Bool, true, false, not, ◌&&◌, ◌||◌, List, [], ◌∷◌, Option, Some, None, cond, nat_lt, nat_le, ◌==◌, option_map, refl, sym, ap, ◌∙◌, subst, arith, inl, inr}
 use Rattle.std.specs.List.{list_all, list_any, AllByRecursion}
 use Rattle.std.proofs.lemmas.Bool.Decides.{nat_tests}
@@ -27,7 +27,7 @@ use Rattle.std.proofs.lemmas.Bool.{and_parts, cases_Bool}
 abbrev Alike : KeptRelease → List KeptRelease → Type 0
 Alike x xs = Each (λ i. x.job.task.0 ≡ i.job.task.0 → x.release ≡ i.release → i ≡ x) xs
 
--- so is one of a list of jobs that are apart
+-- each job of a list of jobs that are apart is the only one of its task and release time
 alike : (x : KeptRelease) (xs : List KeptRelease) → Apart xs → is_in xs x ≡ true → Alike x xs
 alike x [] a e = tt
 alike x (y ∷ ys) a e = elim (cases_Bool (same_live x y)) [
@@ -45,7 +45,7 @@ record Found (p : KeptRelease → Bool) (xs : List KeptRelease) : Type 0 where
   inside : is_in xs live ≡ true
   passes : p live ≡ true
 
--- there is one
+-- if some pending job passes the test, one is found
 found : (p : KeptRelease → Bool) (xs : List KeptRelease) → list_any p xs ≡ true → Found p xs
 found p [] e = cc
 found p (x ∷ xs) e = elim (cases_Bool (p x)) [
@@ -53,7 +53,7 @@ found p (x ∷ xs) e = elim (cases_Bool (p x)) [
   | inr m ↦ let f = found p xs (rw m at e) in record { live = f.live; inside = or_true _ _ f.inside; passes = f.passes }
 ]
 
--- what a test says of all it says of one
+-- what a test says of all pending jobs holds of one that is in the list
 listed : (p : KeptRelease → Bool) (x : KeptRelease) (xs : List KeptRelease) → is_in xs x ≡ true → list_all p xs ≡ true → p x ≡ true
 listed p x [] e h = cc
 listed p x (y ∷ ys) e h = elim (cases_Bool (same_live x y)) [
@@ -66,11 +66,11 @@ scale-pos : (rule : Rule) → Fits rule → 1 ≤ scale rule
 scale-pos Plain f = omega arith
 scale-pos (Virtual p q) f = omega (arith, f.0, f.1)
 
--- equal products of one factor
+-- a factor cancels in equal products
 times-inj : (q r s : ℕ) → 1 ≤ q → q * r ≡ q * s → r ≡ s
 times-inj q r s p e = grind arith
 
--- of one task, equal keys are of equal release times
+-- for one task, equal keys mean equal release times
 key-inj : (rule : Rule) (high : Bool) (set : List Task) (x y : KeptRelease) → Fits rule → x.job.task.0 ≡ y.job.task.0 → key set rule high x ≡ key set rule high y → x.release ≡ y.release
 key-inj rule high set x y f t e =
     let offset : ℕ → ℕ = λ k. cond high (scale rule * period_in (task_at set k)) (low_offset rule (task_at set k)) in
@@ -80,7 +80,7 @@ key-inj rule high set x y f t e =
     cancel : (a b c d : ℕ) → a + c ≡ b + d → c ≡ d → a ≡ b
     cancel a b c d h k = omega arith
 
--- neither key is below the other, and neither number
+-- if neither key is below the other, and neither number, both are equal
 order : (kx ki tx ti : ℕ) → nat_le ki kx ≡ true → (nat_lt ki kx || ((ki == kx) && nat_lt ti tx)) ≡ false → not ((kx == ki) && nat_lt tx ti) ≡ true → (kx ≡ ki) × (tx ≡ ti)
 order kx ki tx ti a b c = (grind (arith, nat_tests), grind (arith, nat_tests))
 
@@ -110,7 +110,7 @@ chosen_is set rule h j s f l least lowest = go (first_to_run set rule high xs) r
     of_k : (same_job j k.live.job ≡ true) × (none_lower set rule high k.live xs ≡ true)
     of_k = and_parts (same_job j k.live.job) (none_lower set rule high k.live xs) k.passes
 
-    -- both are the job's own one
+    -- both are the same pending job
     one : k.live ≡ i.live
     one =
         each_in (λ (z : KeptRelease). same_job i.live.job z.job ≡ true → z ≡ i.live) k.live xs k.inside (only i.live xs (pending_apart set rule h s l) i.inside)

@@ -1,4 +1,4 @@
--- Rows that the plan adds, until it adds none, follow.
+-- Rows that the plan adds follow, once the plan adds no more.
 use Rattle.std.proofs.Common.{◌≡◌, ◌≢◌, ℕ, ◌+◌, ◌<◌, ◌≤◌, Bool, true, false, not, ◌&&◌, ◌||◌, List, [], ◌∷◌, ◌++◌, Option, Some, None, length, cond, reverse, slice_get, nat_lt, nat_le, ◌==◌, refl, sym, ap, ap₂, ◌∙◌, subst, arith, leb-false, eq-eqb, ne_eqb, inl, inr}
 use Rattle.std.specs.List.{AllByRecursion}
 use Rattle.std.proofs.lemmas.Option.{none-some, same_Some}
@@ -30,16 +30,16 @@ use Rattle.timetable.proofs.Determined.{Later, Later-less, planned_either, plann
 use Rattle.std.proofs.lemmas.Bool.{and_from, cases_Bool, cases_eq}
 use Rattle.std.proofs.Math.Bool.{beq}
 
--- what is added
+-- The rows that are added.
 
--- a row that is added, with what was the first release that was not taken
+-- a row that the plan adds, with the first release that was not taken before it
 pub record Added (set : List Task) (rule : Rule) (work : List WorkRow) (n : ℕ) (g : List Row) (row : Row) : Type 0 where
   pub head : Option Arrival
   pub head_is : slice_get (planned work n) (length (arrivals g)) ≡ head
   pub row_is : row_now set rule work g head ≡ row
   pub soon : ticks g < n
 
--- a row that the plan adds
+-- each row that the plan adds has the parts of `Added`
 pub added : (set : List Task) (rule : Rule) (work : List WorkRow) (n : ℕ) (g : List Row) (row : Row) → next_row set rule work n g ≡ Some row → Added set rule work n g row
 added set rule work n g row e = elim (cases_Bool (nat_le n (ticks g))) [
   | inl m ↦ absurd (none-some row (rw m at e))
@@ -51,7 +51,7 @@ pub record IsTickRow (set : List Task) (rule : Rule) (work : List WorkRow) (g : 
   pub row_is : tick_row set rule work g (chosen set rule g) ≡ row
   pub not_due : (a : Arrival) → head ≡ Some a → a.at ≢ ticks g
 
--- what is added is a tick's row where it is no release
+-- if no release is added, the row is that of a tick
 no_release : (set : List Task) (rule : Rule) (work : List WorkRow) (g : List Row) (o : Option Arrival) (row : Row) → ((j : JobId) → release_row set rule j g ≢ row) → row_now set rule work g o ≡ row → IsTickRow set rule work g o row
 no_release set rule work g None row apart e = record { row_is = e; not_due = λ a k. cc }
 no_release set rule work g (Some a) row apart e = elim (cases_eq a.at (ticks g)) [
@@ -63,12 +63,12 @@ no_release set rule work g (Some a) row apart e = elim (cases_eq a.at (ticks g))
 abbrev pub arrival : ℕ → ℕ → Arrival
 arrival k t = record { task = k; at = t }
 
--- a tick's row is no release
+-- the row of a tick is not a release
 no_tick : (set : List Task) (rule : Rule) (work : List WorkRow) (g : List Row) (c : Option JobId) (j : JobId) (kept : Bool) → tick_row set rule work g c ≢ Release j kept
 no_tick set rule work g None j kept e = cc
 no_tick set rule work g (Some i) j kept e = cc
 
--- a release that is added is the head, at this boundary
+-- a release that is added is the first that was not taken, at this boundary
 pub release_rows : (set : List Task) (rule : Rule) (work : List WorkRow) (g : List Row) (o : Option Arrival) (j : JobId) (kept : Bool) → row_now set rule work g o ≡ Release j kept → o ≡ Some (arrival j.task.0 (ticks g))
 release_rows set rule work g None j kept e = absurd (no_tick set rule work g (chosen set rule g) j kept e)
 release_rows set rule work g (Some a) j kept e = elim (cases_eq a.at (ticks g)) [
@@ -79,12 +79,12 @@ release_rows set rule work g (Some a) j kept e = elim (cases_eq a.at (ticks g)) 
   | inr d ↦ absurd (no_tick set rule work g (chosen set rule g) j kept (rw (ne_eqb _ _ d) at e))
 ]
 
--- the job and the how of a tick that is added
+-- the job and the outcome of a tick that is added
 pub record IsChosenTick (set : List Task) (rule : Rule) (work : List WorkRow) (g : List Row) (j : JobId) (how : How) : Type 0 where
   pub chosen_is : chosen set rule g ≡ Some j
   pub how_is : how ≡ outcome_of set rule g j (is_last work g j)
 
--- a tick is of the chosen job, with the how that its need gives
+-- a tick that is added is of the chosen job, with the outcome that its need gives
 chosen_tick : (set : List Task) (rule : Rule) (work : List WorkRow) (g : List Row) (j : JobId) (how : How) → tick_row set rule work g (chosen set rule g) ≡ Tick j how → IsChosenTick set rule work g j how
 chosen_tick set rule work g j how e = go (chosen set rule g) refl e
   where
@@ -95,20 +95,20 @@ chosen_tick set rule work g j how e = go (chosen set rule g) refl e
         let h : outcome_of set rule g i (is_last work g i) ≡ how = cc in
         record { chosen_is = m ∙ ap (λ (x : JobId). Some x) d; how_is = sym (subst (λ (x : JobId). outcome_of set rule g x (is_last work g x) ≡ how) d h) }
 
--- the parts of following
+-- The parts of `Follows`.
 
--- a how that is determined is never done
+-- an outcome that is determined by budgets is never Done
 never_done : (b c : Bool) → is_done (cond b Stop (cond c Over More)) ≡ false
 never_done true c = refl
 never_done false true = refl
 never_done false false = refl
 
--- an outcome is done as it is told
+-- the outcome is Done exactly if the job is said to be done
 pub done_as : (set : List Task) (rule : Rule) (g : List Row) (j : JobId) (d : Bool) → is_done (outcome_of set rule g j d) ≡ d
 done_as set rule g j true = refl
 done_as set rule g j false = never_done _ _
 
--- of a key that is not before another, the number is not lower at an equal key
+-- if a key is not before another, its number is not lower at an equal key
 not_lower : (kx ki tx ti : ℕ) → (nat_lt kx ki || ((kx == ki) && nat_lt tx ti)) ≡ false → not ((kx == ki) && nat_lt tx ti) ≡ true
 not_lower kx ki tx ti h = grind (arith, nat_tests)
 
@@ -125,29 +125,29 @@ lowest set rule g j e =
     subst (λ (k : JobId). is_lowest set rule high (pending set g) k ≡ true) c.job
     (any_in (λ i. same_job c.live.job i.job && none_lower set rule high i (pending set g)) c.live (pending set g) f.inside (and_from _ _ (same_job-refl c.live.job) one))
 
--- the arrivals that are planned never fall
+-- the times of the arrivals never fall
 abbrev pub Sorted : List Arrival → Type 0
 Sorted [] = Unit {0}
 Sorted (a ∷ xs) = Later a.at xs × Sorted xs
 
--- what is planned behind a work row is not before it
+-- what is planned after a work row is not before it
 pub later_planned : (set : List Task) (w : WorkRow) (ws : List WorkRow) (n : ℕ) → AllFollow set w ws → Later w.release (planned ws n)
 later_planned set w [] n f = tt
 later_planned set w (v ∷ vs) n f =
     let behind = later_planned set w vs n f.1 in
     planned_either (Later w.release) v vs n (λ h. (f.0.order, behind)) behind
 
--- what is planned never falls
+-- the times of the planned arrivals never fall
 pub planned_sorted : (set : List Task) (work : List WorkRow) (n : ℕ) → IsWork set work → Sorted (planned work n)
 planned_sorted set [] n w = tt
 planned_sorted set (v ∷ vs) n w = planned_either Sorted v vs n (λ h. (later_planned set v vs n w.1, planned_sorted set vs n w.2)) (planned_sorted set vs n w.2)
 
--- all is at 0 or later
+-- each arrival is at 0 or later
 Later-any : (xs : List Arrival) → Later 0 xs
 Later-any [] = tt
 Later-any (a ∷ xs) = (omega arith, Later-any xs)
 
--- what is still to come
+-- the arrivals that are still to come
 pub record Rest (work : List WorkRow) (n : ℕ) (h : List Row) : Type 0 where
   pub rest : List Arrival
   pub split : reverse (arrivals h) ++ rest ≡ planned work n
@@ -155,7 +155,7 @@ pub record Rest (work : List WorkRow) (n : ℕ) (h : List Row) : Type 0 where
   pub sorted : Sorted rest
   pub within : ticks h ≤ n
 
--- the first of the rest
+-- the first of the arrivals that are still to come is the next entry
 head_of : (xs : List Arrival) (rest : List Arrival) → slice_get (xs ++ rest) (length xs) ≡ slice_get rest 0
 head_of [] rest = refl
 head_of (x ∷ xs) rest = head_of xs rest
@@ -165,19 +165,19 @@ pub head_at : (work : List WorkRow) (n : ℕ) (g : List Row) (rest : List Arriva
 head_at work n g rest e =
     subst (λ xs. slice_get xs (length (arrivals g)) ≡ slice_get rest 0) e (subst (λ (i : ℕ). slice_get (reverse (arrivals g) ++ rest) i ≡ slice_get rest 0) (length-reverse (arrivals g)) (head_of (reverse (arrivals g)) rest))
 
--- where the first is not due, all are later
+-- if the first arrival is not due, all are later
 later_more : (t : ℕ) (rest : List Arrival) → Later t rest → Sorted rest → ((a : Arrival) → slice_get rest 0 ≡ Some a → a.at ≢ t) → Later (t + 1) rest
 later_more t [] l s d = tt
 later_more t (a ∷ xs) l s d =
     (omega (arith, d a refl, l.0), Later-less (t + 1) a.at xs (omega (arith, d a refl, l.0)) s.0)
 
--- behind a row that is no release, what is still to come is later than its tick
+-- after a row that is not a release, what is still to come is later than its tick
 rest_later : (set : List Task) (rule : Rule) (work : List WorkRow) (n : ℕ) (g : List Row) (row : Row) → ((j : JobId) → release_row set rule j g ≢ row) → Added set rule work n g row → (r : Rest work n g) → Later (ticks g + 1) r.rest
 rest_later set rule work n g row apart x r =
     let t = no_release set rule work g x.head row apart x.row_is in
     later_more (ticks g) r.rest r.later r.sorted (λ a e. t.not_due a (sym x.head_is ∙ (head_at work n g r.rest r.split ∙ e)))
 
--- what the plan adds leaves a rest that is still to come
+-- the rows that the plan adds leave arrivals that are still to come
 pub rest_of : (set : List Task) (rule : Rule) (work : List WorkRow) (n : ℕ) (h : List Row) → IsWork set work → Runs set rule work n h → Rest work n h
 rest_of set rule work n [] w r = record { rest = planned work n; split = refl; later = Later-any (planned work n); sorted = planned_sorted set work n w; within = omega arith }
 rest_of set rule work n (Release j kept ∷ g) w r =
@@ -203,7 +203,7 @@ rest_of set rule work n (row ∷ g) w r =
     let x = added set rule work n g row r.0 in
     record { rest = ih.rest; split = ih.split; later = rest_later set rule work n g row (λ i e. cc) x ih; sorted = ih.sorted; within = omega (arith, x.soon) }
 
--- each tick that the plan adds is done by its need
+-- each tick that the plan adds is done exactly if its job has had the ticks that it needs
 done_parts : (set : List Task) (rule : Rule) (work : List WorkRow) (n : ℕ) (h : List Row) → Runs set rule work n h → done_by_need work h ≡ true
 done_parts set rule work n [] r = refl
 done_parts set rule work n (Tick j how ∷ g) r =
@@ -213,7 +213,7 @@ done_parts set rule work n (Tick j how ∷ g) r =
     and_from _ _ (subst (λ (b : Bool). beq b (is_last work g j) ≡ true) (sym d) (same_bool-refl (is_last work g j))) (done_parts set rule work n g r.1)
 done_parts set rule work n (row ∷ g) r = done_parts set rule work n g r.1
 
--- each tick that the plan adds takes the lowest number
+-- each tick that the plan adds goes to the lowest number among equal keys
 lowest_parts : (set : List Task) (rule : Rule) (work : List WorkRow) (n : ℕ) (h : List Row) → Runs set rule work n h → lowest_first set rule h ≡ true
 lowest_parts set rule work n [] r = refl
 lowest_parts set rule work n (Tick j how ∷ g) r =
@@ -222,18 +222,18 @@ lowest_parts set rule work n (Tick j how ∷ g) r =
     and_from _ _ (lowest set rule g j c.chosen_is) (lowest_parts set rule work n g r.1)
 lowest_parts set rule work n (row ∷ g) r = lowest_parts set rule work n g r.1
 
--- after n ticks the last row is of a tick
+-- after n ticks the last row is a tick
 ends : (set : List Task) (rule : Rule) (work : List WorkRow) (n : ℕ) (h : List Row) → 1 ≤ n → n ≤ ticks h → Runs set rule work n h → ends_in_tick h ≡ true
 ends set rule work n [] p e r = absurd (omega (arith, p, e))
 ends set rule work n (Release j kept ∷ g) p e r = absurd (omega (arith, (added set rule work n g (Release j kept) r.0).soon, e))
 ends set rule work n (row ∷ g) p e r = refl
 
--- what holds of each holds of one in the middle
+-- what holds of each arrival holds of one in the middle
 pub at_middle : (P : Arrival → Type 0) (front : List Arrival) (a : Arrival) (xs : List Arrival) → Each P (front ++ a ∷ xs) → P a
 at_middle P [] a xs e = e.0
 at_middle P (b ∷ bs) a xs e = at_middle P bs a xs e.1
 
--- after n ticks nothing is to come
+-- after n ticks no arrival is still to come
 nothing_left : (n : ℕ) (rest front : List Arrival) → Later n rest → Each (λ a. a.at < n) (front ++ rest) → rest ≡ []
 nothing_left n [] front l e = refl
 nothing_left n (a ∷ xs) front l e = absurd (omega (arith, l.0, at_middle (λ (b : Arrival). b.at < n) front a xs e))

@@ -23,20 +23,20 @@ use Rattle.timetable.proofs.Due.{arrival_of, due_allowed, length-rows, taken-few
 use Rattle.timetable.proofs.RunsFollow.{Rest, rest_of}
 use Rattle.timetable.proofs.Calls.{due_planned, release_row_next, tick_row_next}
 
--- the words for a state are those of its settled rows
+-- the numbers of a state are those of its settled rows
 pub record IsRead (work : List WorkRow) (s : State) : Type 0 where
   pub ticks : ticks (settled_by work s) ≡ begun s
   pub releases : (k : ℕ) → releases (settled_by work s) k ≡ released_so_far s k
   pub next : (k : ℕ) → next_release s.set (settled_by work s) k ≡ next s k
   pub places : length (settled_by work s) ≡ places_used s
 
--- so it is for each core
+-- the numbers of each valid core are those of its settled rows
 pub read_off : (work : List WorkRow) (s : State) → IsSound s → IsRead work s
 read_off work s sound =
     let w : IsSettled s.set s.rule s.rows s.out s.held (is_last work s.rows (job_in s.out)) = settled_words s.set s.rule s.rows s.out s.held (is_last work s.rows (job_in s.out)) sound.good.out in
     record { ticks = w.ticks; releases = w.releases; next = w.next; places = w.places }
 
--- before n ticks are begun there is a place left
+-- while fewer than n ticks are begun, there is capacity for one more row
 pub room_for : (s : State) (work : List WorkRow) (n taken : ℕ) → IsSound s → KeepsToWork s work n taken → begun s < n → places_used s < s.places
 room_for s work n taken sound r h =
     let x = read_off work s sound in
@@ -48,15 +48,15 @@ within s work n taken sound r =
     let y : Rest work n (settled_by work s) = rest_of s.set s.rule work n (settled_by work s) r.schedule.is_work r.runs in
     omega (arith, (read_off work s sound).ticks, y.within)
 
--- a release
+-- Releases.
 
--- the row is due: the first that was not taken, released at this boundary, and before n ticks are begun
+-- the row is due: the first that was not taken, released at this boundary, while fewer than n ticks are begun
 pub record IsDueRow (work : List WorkRow) (n taken t : ℕ) (w : WorkRow) : Type 0 where
   pub row : slice_get work taken ≡ Some w
   pub release : w.release ≡ t
   pub soon : t < n
 
--- a row that is found due is such
+-- a row that `due_at` finds is due
 pub due_is : (work : List WorkRow) (n taken t : ℕ) (w : WorkRow) → due_at (Rows work n) taken t ≡ Some w → IsDueRow work n taken t w
 due_is work n taken t w e = elim (cases_Bool (nat_lt t n)) [
   | inl m ↦ let p = found (slice_get work taken) (rw m at e) in record { row = p.0; release = p.1; soon = ltb-true _ _ m }
@@ -67,13 +67,13 @@ due_is work n taken t w e = elim (cases_Bool (nat_lt t n)) [
     found None k = cc
     found (Some v) k = let p = cond_some (v.release == t) v w k in (ap (λ (x : WorkRow). Some x) p.1, subst (λ (x : WorkRow). x.release ≡ t) p.1 (eqb-true _ _ p.0))
 
--- a release is one row more behind the settled ones
+-- a release adds one row after the settled ones
 settled_release : (work : List WorkRow) (set : List Task) (rule : Rule) (places : ℕ) (rows : List Row) (out : Option JobId) (held : List JobId) (i : JobId) → IsOut set rule rows out held →
     settled_by work (with_release (state set rule places rows out held) out i) ≡ release_row set rule i (settled_by work (state set rule places rows out held)) ∷ settled_by work (state set rule places rows out held)
 settled_release work set rule places rows None held i o = refl
 settled_release work set rule places rows (Some j) held i o = refl
 
--- the set, the rule and the places are as before
+-- a call leaves the set, the rule and the capacity as they are
 same_parts : (s : State) (o : Option JobId) (i : JobId) →
     ((with_release s o i).set ≡ s.set) × ((with_release s o i).rule ≡ s.rule) × ((with_release s o i).places ≡ s.places)
 same_parts s None i = (refl, refl, refl)
@@ -133,14 +133,14 @@ may_take s work n taken w sound r d = record {
     next : next_row s.set s.rule work n h ≡ Some row
     next = release_row_next s.set s.rule work n w h here now before ∙ ap (λ (j : JobId). Some (release_row s.set s.rule j h)) (sym job_is)
 
--- a tick
+-- Ticks.
 
--- no release is due, and not all ticks are begun
+-- no release is due, and fewer than n ticks are begun
 pub record IsTickTime (s : State) (work : List WorkRow) (n taken : ℕ) : Type 0 where
   pub none : due_row (slice_get work taken) (begun s) ≡ None
   pub soon : begun s < n
 
--- where no tick is out, the rows are settled
+-- with no granted tick, the rows are settled
 pub settled_none : (work : List WorkRow) (s : State) → s.out ≡ None → settled_by work s ≡ s.rows
 settled_none work s o = rw o refl
 
@@ -153,7 +153,7 @@ tick_next s work n taken r o t =
     let due : due_row (slice_get work (length (arrivals s.rows))) (ticks s.rows) ≡ None = subst (λ (i : ℕ). due_row (slice_get work i) (ticks s.rows) ≡ None) taken_are (subst (λ (u : ℕ). due_row (slice_get work taken) u ≡ None) now t.none) in
     tick_row_next s.set s.rule work n s.rows r.schedule.is_work due (omega (arith, now, t.soon))
 
--- the tick of the chosen job is the next row
+-- the tick of the chosen job is the next row of the plan
 pub run_grant : (s : State) (work : List WorkRow) (n taken : ℕ) (j : JobId) → IsSound s → KeepsToWork s work n taken → s.out ≡ None → chosen_now s ≡ Some j → IsTickTime s work n taken → KeepsToWork (record s { out = chosen_now s }) work n taken
 run_grant s work n taken j sound r o c t = subst (λ (x : Option JobId). KeepsToWork (record s { out = x }) work n taken) (sym c) (subst (λ (js : List JobId). KeepsToWork (record s { out = Some j; held = js }) work n taken) (sym none) made)
   where
@@ -169,7 +169,7 @@ run_grant s work n taken j sound r o c t = subst (λ (x : Option JobId). KeepsTo
     made : KeepsToWork (record s { out = Some j; held = [] }) work n taken
     made = extended s (record s { out = Some j; held = [] }) work n taken taken row r (refl, refl, refl) (ap (λ (g : List Row). row ∷ g) (sym (settled_none work s o))) next r.taken_are
 
--- an idle tick is the next row
+-- an idle tick is the next row of the plan
 pub run_idle : (s : State) (work : List WorkRow) (n taken : ℕ) → KeepsToWork s work n taken → s.out ≡ None → chosen_now s ≡ None → IsTickTime s work n taken → KeepsToWork (record s { rows = Idle ∷ s.rows }) work n taken
 run_idle s work n taken r o c t = extended s (record s { rows = Idle ∷ s.rows }) work n taken taken Idle r (refl, refl, refl) rows next r.taken_are
   where

@@ -1,5 +1,5 @@
--- A floor is a core with a plan: when the plan refuses a call, what each call answers, the state after it, and the next
--- act.
+-- A floor is a core with a plan: when the plan refuses a call, what each call returns, the state after it,
+-- and the next act.
 use Rattle.std.specs.Prelude.{ℕ, ◌+◌, Bool, true, false, not, List, Option, Some, None, Result, Ok, Err, cond, nat_lt, ◌==◌, slice_get, option_map}
 use Rattle.std.specs.Option.{option_or}
 use Rattle.mc_task.specs.declared.task.JobId.{JobId}
@@ -35,7 +35,7 @@ pub record FloorState : Type 0 where
 abbrev pub opening : State → Plan → FloorState
 opening s plan = record { core = s; plan = plan; taken = 0 }
 
--- there is work to follow
+-- whether there is work to follow
 abbrev pub is_planned : Plan → Bool
 is_planned Free = false
 is_planned (Rows work n) = true
@@ -50,25 +50,28 @@ abbrev pub due_at : Plan → ℕ → ℕ → Option WorkRow
 due_at Free taken t = None
 due_at (Rows work n) taken t = cond (nat_lt t n) (due_row (slice_get work taken) t) None
 
--- the due release: the plan's first that was not taken, if its time is the ticks begun and these are below the plan's ticks
+-- the due release: the plan's first that was not taken, if its time is the number of ticks begun, and that is
+-- below the plan's ticks
 abbrev pub due : FloorState → Option WorkRow
 due f = due_at f.plan f.taken (begun f.core)
 
--- the plan has no tick t, and t ticks before it
+-- whether the plan ends at boundary t: it has t ticks
 abbrev pub ends_at : Plan → ℕ → Bool
 ends_at Free t = false
 ends_at (Rows work n) t = t == n
 
--- the ticks of the plan were begun
+-- whether all ticks of the plan were begun
 abbrev pub is_finished : FloorState → Bool
 is_finished f = ends_at f.plan (begun f.core)
 
--- whether the job is done with its next tick: as the caller says where the plan is free, otherwise by the job's need
+-- whether the job is done with its next tick: under a free plan as the caller says, otherwise by the job's
+-- need
 abbrev pub done_by : Plan → List Row → JobId → Bool → Bool
 done_by Free g j told = told
 done_by (Rows work n) g j told = is_last work g j
 
--- why a plan refuses a release of task number k, by the release that is due: none is, or it is of another task
+-- why a plan refuses a release of task number k, by the release that is due: none is, or one of another task
+-- is
 abbrev pub not_due : Plan → Option WorkRow → ℕ → Option PlanFault
 not_due Free now k = None
 not_due (Rows work n) None k = Some plan_fault.NotPlanned
@@ -84,28 +87,28 @@ tick_refusal f =
     option_or (option_map (λ (w : WorkRow). plan_fault.Due w.task) (due f))
     (refused_if (is_finished f) plan_fault.Finished)
 
--- the core's answer
+-- the core's result, as the floor's
 abbrev pub of_core : {T F : Type 0} → Result T F → Result T (ActFault F)
 of_core (Ok x) = Ok x
 of_core (Err e) = Err (act_fault.Core e)
 
--- the plan's refusal, or else the core's answer
+-- the plan's refusal, if any; otherwise the core's result
 abbrev pub plan_answer : {T F : Type 0} → Option PlanFault → Result T F → Result T (ActFault F)
 plan_answer (Some e) r = Err (act_fault.Plan e)
 plan_answer None r = of_core r
 
--- the floor after a call, or as it was before, where the plan refuses it
+-- the floor after a call; as it was before, if the plan refuses the call
 abbrev pub floor_unless : Option PlanFault → FloorState → FloorState → FloorState
 floor_unless (Some e) after before = before
 floor_unless None after before = after
 
--- how many of the plan's releases a release takes
+-- how many of the plan's releases a call of `release` takes
 abbrev pub takes : Plan → Result Released ReleaseFault → ℕ
 takes Free r = 0
 takes (Rows work n) (Ok x) = 1
 takes (Rows work n) (Err e) = 0
 
--- the answer to a release of task number k
+-- what a release of task number k returns
 abbrev pub release_answer : FloorState → ℕ → Result Released (ActFault ReleaseFault)
 release_answer f k = plan_answer (release_refusal f k) (Events.release_answer f.core k)
 
@@ -120,7 +123,7 @@ releasing f k = record f {
 abbrev pub after_release : FloorState → ℕ → FloorState
 after_release f k = floor_unless (release_refusal f k) (releasing f k) f
 
--- the answer to a grant to task number k
+-- what a grant to task number k returns
 abbrev pub grant_answer : FloorState → ℕ → Result Granted (ActFault GrantFault)
 grant_answer f k = plan_answer (tick_refusal f) (Events.grant_answer f.core k)
 
@@ -128,7 +131,7 @@ grant_answer f k = plan_answer (tick_refusal f) (Events.grant_answer f.core k)
 abbrev pub after_grant : FloorState → ℕ → FloorState
 after_grant f k = floor_unless (tick_refusal f) (record f { core = Events.after_grant f.core k }) f
 
--- the answer to an outcome of the job
+-- what an outcome of the job returns
 abbrev pub outcome_answer : FloorState → JobId → Bool → Result How NotOut
 outcome_answer f j told = Events.outcome_answer f.core j (done_by f.plan f.core.rows j told)
 
@@ -136,7 +139,7 @@ outcome_answer f j told = Events.outcome_answer f.core j (done_by f.plan f.core.
 abbrev pub after_outcome : FloorState → JobId → Bool → FloorState
 after_outcome f j told = record f { core = Events.after_outcome f.core j (done_by f.plan f.core.rows j told) }
 
--- the answer to an idle tick
+-- what an idle tick returns
 abbrev pub idle_answer : FloorState → Result ℕ (ActFault IdleFault)
 idle_answer f = plan_answer (tick_refusal f) (Events.idle_answer f.core)
 
@@ -144,7 +147,7 @@ idle_answer f = plan_answer (tick_refusal f) (Events.idle_answer f.core)
 abbrev pub after_idle : FloorState → FloorState
 after_idle f = floor_unless (tick_refusal f) (record f { core = Events.after_idle f.core }) f
 
--- the task of the due release, where its tick is not out
+-- the release of the task that is due, unless that task has a granted tick
 abbrev pub release_act : Option WorkRow → Option JobId → Option Act
 release_act None out = None
 release_act (Some w) out = elim (running out w.task.0) [ None ↦ Some (act.Release w.task) | Some j ↦ None ]
@@ -154,13 +157,14 @@ abbrev pub tick_act : Option JobId → Act
 tick_act None = act.Idle
 tick_act (Some j) = act.Grant j.task
 
--- the first act if there is one, else the later one
+-- the first act if there is one, otherwise the second
 abbrev pub act_or : Option Act → Act → Act
 act_or None later = later
 act_or (Some a) later = a
 
--- the next act, the first that applies: the due release where its task's tick is not out, waiting for the tick that is
--- out, nothing after the plan's ticks, a tick of the chosen job, an idle tick
+-- the next act, the first that applies: the due release unless its task has a granted tick; waiting for the
+-- outcome of the granted tick; nothing once the plan's ticks were begun; a tick of the chosen job; an idle
+-- tick
 abbrev pub next_act : FloorState → Act
 next_act f =
     act_or (release_act (due f) f.core.out)

@@ -9,10 +9,10 @@ abbrev pub rows_of : ℕ → List WorkRow → ℕ
 rows_of k [] = 0
 rows_of k (w ∷ ws) = cond (w.task.0 == k) 1 0 + rows_of k ws
 
--- the need of the latest row of task number k among the first rows of the work; 0 where there is none
+-- the need of the latest row of task number k among the first rows of the work; 0 if there is none
 abbrev pub latest_need : List WorkRow → ℕ → ℕ → ℕ
 latest_need work taken k = need_of work k (rows_of k (take taken work))
 
--- what is kept of each task is the need of its latest row among those that were taken
+-- the stored need of each task is that of its latest row among those that were taken
 abbrev pub Tracks : List WorkRow → ℕ → Needs → Type 0
 Tracks work taken p = (i : ℕ) → i < 128 → slice_get p.needs i ≡ Some (latest_need work taken (i + 1))

@@ -1,4 +1,4 @@
--- How a floor is kept.
+-- How a floor is stored.
 use Rattle.std.specs.Prelude.{◌≡◌, ℕ, ◌+◌, ◌<◌, Bool, List, [], ◌∷◌, Option, Some, None, length, cond, slice_get, nat_le, ◌==◌}
 use Rattle.mc_task.specs.declared.task.Rule.{Rule}
 use Rattle.mc_task.specs.declared.task.Task.{Task}
@@ -17,18 +17,18 @@ use Rattle.timetable.specs.Floor.{FloorState}
 use Rattle.timetable.specs.Needs.{Tracks}
 use Rattle.timetable.specs.Plans.{IsSchedule, settled_by}
 
--- the job that a release of task number k makes where none is held
+-- the job that a release of task number k makes if no release is held
 abbrev pub first_job : List Row → ℕ → JobId
 first_job g k = record { task = record { 0 = k }; count = releases g k + 1 }
 
--- the release, if there is one and it is due; otherwise a tick of the chosen job, or idle
+-- the release, if there is one and it is due; otherwise a tick of the chosen job, or an idle one
 abbrev pub row_now : List Task → Rule → List WorkRow → List Row → Option Arrival → Row
 row_now set rule work g None = tick_row set rule work g (chosen set rule g)
 row_now set rule work g (Some a) =
     cond (a.at == ticks g) (release_row set rule (first_job g a.task) g)
     (tick_row set rule work g (chosen set rule g))
 
--- the row after these: of the first release that was not taken, if it is due, otherwise of a tick; and none after n ticks
+-- the next row: the first release that was not taken, if it is due, otherwise a tick; none after n ticks
 abbrev pub next_row : List Task → Rule → List WorkRow → ℕ → List Row → Option Row
 next_row set rule work n g =
     cond (nat_le n (ticks g)) None
@@ -39,43 +39,44 @@ abbrev pub Runs : List Task → Rule → List WorkRow → ℕ → List Row → T
 Runs set rule work n [] = Unit {0}
 Runs set rule work n (row ∷ g) = (next_row set rule work n g ≡ Some row) × Runs set rule work n g
 
--- a core keeps to its work: each row is the one that the plan adds, the rows of the tick that is out and of the held
--- releases included
+-- a core keeps to its work: each row is the one that the plan adds, including those of the granted tick and
+-- of the held releases
 pub record KeepsToWork (s : State) (work : List WorkRow) (n taken : ℕ) : Type 0 where
   pub schedule : IsSchedule s work n
   pub runs : Runs s.set s.rule work n (settled_by work s)
   pub taken_are : taken ≡ length (arrivals (settled_by work s))
 
--- the rows of a core are those that its plan adds; a free plan asks nothing
+-- the rows of a core are those that its plan adds; a free plan asks for nothing
 abbrev pub KeepsToPlan : Plan → State → ℕ → Type 0
 KeepsToPlan Free s taken = Unit {0}
 KeepsToPlan (Rows work n) s taken = KeepsToWork s work n taken
 
--- where a tick is out, the flag says whether it is the last that its job needs
+-- if a tick is granted, the flag says whether it is the last that its job needs
 abbrev pub IsTold : List WorkRow → List Row → Option JobId → Bool → Type 0
 IsTold work g None last = Unit {0}
 IsTold work g (Some j) last = last ≡ is_last work g j
 
--- the state, by the fields
+-- the floor's state, by its fields
 abbrev pub floor_of : Inside → FloorState
 floor_of a = record { core = a.core; plan = a.plan; taken = a.taken }
 
--- what is kept of a plan
+-- what a floor stores of a plan
 pub record IsKept (s : State) (work : List WorkRow) (n taken : ℕ) (needs : Needs) (last : Bool) : Type 0 where
   pub run : KeepsToWork s work n taken
   pub tracks : Tracks work taken needs
   pub told : IsTold work s.rows s.out last
 
--- what is kept of a plan; of a free one nothing is
+-- what a floor stores of its plan; nothing of a free one
 abbrev pub IsKeptBy : Plan → State → ℕ → Needs → Bool → Type 0
 IsKeptBy Free s taken needs last = taken ≡ 0
 IsKeptBy (Rows work n) s taken needs last = IsKept s work n taken needs last
 
--- the core, its plan, and what is kept of it
+-- the invariant of a floor: the core, its plan, and what is stored of it
 abbrev pub IsFloor : Inside → Type 0
 IsFloor a = IsKeptBy a.plan a.core a.taken a.needs a.last
 
--- there was room for one more row, the floor has it, and nothing else changed except how many releases were taken
+-- there was capacity for one more row, the floor has it, and nothing else changed except the number of
+-- releases taken
 pub record AddsRow (old new : FloorState) : Type 0 where
   pub room : length old.core.rows < old.core.places
   pub row : Row

@@ -14,7 +14,7 @@ use Rattle.mc_model.specs.Follows.{need_of}
 abbrev pub is_last : List WorkRow → List Row → JobId → Bool
 is_last work g j = used g j + 1 == need_of work j.task.0 j.count
 
--- the row of a tick of the job, or of an idle tick where there is none
+-- the row of a tick of the job, or of an idle tick if there is no job
 abbrev pub tick_row : List Task → Rule → List WorkRow → List Row → Option JobId → Row
 tick_row set rule work g None = Idle
 tick_row set rule work g (Some j) = Tick j (outcome_of set rule g j (is_last work g j))

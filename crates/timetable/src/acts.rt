@@ -1,17 +1,18 @@
+//! The acts of a floor, and why a call is refused.
 use mc_task::{JobId, TaskNo};
 
-/// Why the plan refuses a call, in the order in which the reasons are tried.
+/// Why the plan refuses a call. The reasons are tried in this order.
 #[derive(Clone, Copy, Debug, PartialEq, Eq)]
 pub enum PlanFault {
-    /// A release of this task is due before anything else.
+    /// The release of this task is due, and must come first.
     Due { task: TaskNo },
     /// No release is due.
     NotPlanned,
-    /// The plan's ticks were begun.
+    /// The plan's ticks have all begun.
     Finished,
 }
 
-/// A refusal of the plan, or of the core, which is asked only where the plan refuses nothing.
+/// Why a floor refuses a call: its plan does, or the core, which is only called if the plan does not refuse.
 #[derive(Clone, Copy, Debug, PartialEq, Eq)]
 pub enum ActFault<F> {
     Plan(PlanFault),
@@ -21,14 +22,14 @@ pub enum ActFault<F> {
 /// What a floor waits for next.
 #[derive(Clone, Copy, Debug, PartialEq, Eq)]
 pub enum Act {
-    /// A release of this task is due, and the task's tick is not out.
+    /// The release of this task, which is due. The task has no granted tick.
     Release(TaskNo),
-    /// A tick is to be granted to this task.
+    /// A tick to be granted to this task.
     Grant(TaskNo),
-    /// Nothing is pending, and the tick is to be idle.
+    /// An idle tick: nothing is pending.
     Idle,
-    /// The tick of this job is out, and wants its outcome.
+    /// The outcome of the granted tick of this job.
     Wait(JobId),
-    /// The plan's ticks were begun, and none is out.
+    /// Nothing more: the plan's ticks have all begun, and no granted tick waits for its outcome.
     Finished,
 }

@@ -1,4 +1,4 @@
-// The floor's state, what can be read of it, and its next act.
+//! The floor: its state, what can be read of it, and its next act.
 ghost use Rattle.std.specs.Prelude.{◌≡◌, [], None, slice_get};
 ghost use Rattle.mode_core.specs.Shape.{IsSound};
 ghost use Rattle.mode_core.specs.Timely.{IsTimely};
@@ -16,14 +16,15 @@ use mc_model::WorkRow;
 use mode_core::Core;
 use std::marker::Model;
 
-/// A core with its plan. Contracts see the core, the plan, and how many of the plan's releases were taken.
+/// A scheduler's core with its plan. In contracts it is the core, the plan, and how many of the plan's releases were
+/// taken.
 #[derive(Debug, Drop)]
 pub struct Floor {
     core: Core,
     plan: Plan,
     taken: usize,
     needs: Needs,
-    // Of the tick that is out, whether it is the last that its job needs by the plan.
+    // Whether the granted tick is the last that its job needs by the plan.
     last: bool,
 }
 
@@ -40,10 +41,10 @@ impl Model for Floor {
 }
 
 impl Floor {
-    /// A floor of a core with no rows and no tick out.
+    /// A floor with this core, which has no rows and no granted tick.
     ///
-    /// Under `Rows` the work was made for the core's set, `ticks` is 1 to 1,000,000, and there is a place for each tick
-    /// and each row of the work. It takes no memory, and no later call does.
+    /// Under `Rows` the work must be made for the core's set, `ticks` be 1 to 1,000,000, and the core have capacity for
+    /// each tick and each row of the work. It allocates nothing, and neither do later calls.
     pub fn new(core: Core, plan: Plan) -> Floor
         requires rows { core.rows ≡ [] }
         requires out { core.out ≡ None }
@@ -61,17 +62,17 @@ impl Floor {
         }
     }
 
-    /// The core.
+    /// The scheduler's core.
     pub fn core(&self) -> &Core
         ensures value { result.now ≡ self.now.core }
-        // So far its rows are the first of the one trace that the plan determines.
+        // So far the core's rows begin the one trace that the plan determines.
         ensures on_plan { IsOnPlan self.now.plan self.now.taken self.now.core }
     {
         let _sound = self.core.ticks();
         &self.core
     }
 
-    /// Whether there is work to follow.
+    /// Whether the plan is a list of work.
     pub fn is_planned(&self) -> bool
         ensures { result ≡ is_planned self.now.plan }
     {
@@ -81,8 +82,9 @@ impl Floor {
         }
     }
 
-    /// What the floor waits for: the due release, unless its task's tick is out; otherwise the outcome of the tick that is
-    /// out; otherwise nothing, once the plan's ticks were begun; otherwise a tick of the chosen job, or an idle one.
+    /// The floor's next act: the due release, unless its task has a granted tick; otherwise to wait for the outcome of
+    /// the granted tick; otherwise nothing, once the plan's ticks have all begun; otherwise a tick of the chosen job,
+    /// or an idle one.
     #[inline(always)]
     pub fn next_act(&self) -> Act
         ensures { result ≡ next_act self.now }
@@ -126,7 +128,7 @@ impl Floor {
         }
     }
 
-    // Whether the plan's ticks were begun.
+    // Whether the plan's ticks have all begun.
     fn is_finished(&self) -> bool
         ensures value { result ≡ is_finished self.now }
         ensures sound { IsSound self.now.core }
@@ -140,7 +142,7 @@ impl Floor {
     }
 }
 
-// The row at this place, if it is released at this boundary.
+// The row at this index, if it is released at this boundary.
 fn due_row(rows: &[WorkRow], place: usize, tick: u64) -> Option<WorkRow>
     ensures { result ≡ due_row (slice_get rows.now place) tick }
 {

@@ -1,4 +1,4 @@
-//! A floor: the scheduler's core with a plan, a list of work and a number of ticks, and the plan's next act.
+//! A floor: the scheduler's core with a plan, which is a list of work and a number of ticks, and the plan's next act.
 #![tactic(auto)]
 
 mod acts;

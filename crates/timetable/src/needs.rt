@@ -1,4 +1,4 @@
-// The need of each task's latest job.
+//! The need of each task's latest job.
 ghost use Rattle.std.specs.Prelude.{◌≡◌, ◌≤◌, ◌+◌, ℕ, List, Some, slice_get};
 ghost use Rattle.mc_model.specs.declared.work.WorkRow.{WorkRow};
 ghost use Rattle.timetable.specs.Needs.{latest_need, Tracks};
@@ -6,22 +6,22 @@ ghost use Rattle.timetable.specs.Needs.{latest_need, Tracks};
 use mc_model::WorkRow;
 use mc_task::TaskNo;
 
-// Of task number k, at place k - 1, the need of its latest row among those that were taken; 0 before its first. A task's
-// pending job is always its latest, since no deadline is missed, so nothing is looked up at a tick.
+// At index k - 1, the need of task number k's latest row among those that were taken; 0 before its first. A task's
+// pending job is always its latest, since no deadline is missed, so a tick needs no search in the work.
 #[derive(Debug, Drop)]
 pub struct Needs {
     needs: [u32; 128],
 }
 
 impl Needs {
-    // With no row taken.
+    // No row was taken.
     pub fn new() -> Needs
         ensures { (work : List WorkRow) → Tracks work 0 result }
     {
         Needs { needs: [0; 128] }
     }
 
-    // The row is taken.
+    // Notes that the row is taken.
     pub fn note(&mut self, row: WorkRow)
         requires first { 1 ≤ row.task.0 }
         requires last { row.task.0 ≤ 128 }

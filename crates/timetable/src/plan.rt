@@ -1,10 +1,11 @@
+//! The plan of a floor.
 use work_file::Work;
 
 /// What a floor has to do.
 #[derive(Debug, Drop)]
 pub enum Plan {
-    /// The callers decide.
+    /// No plan: the callers decide.
     Free,
-    /// These jobs are released at their times, and so many ticks are given.
+    /// The jobs of this list are released at their times, and this number of ticks is given.
     Rows { work: Work, ticks: u64 },
 }

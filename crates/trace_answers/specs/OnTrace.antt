@@ -1,4 +1,5 @@
--- The commands on a trace: it is judged, and of a good one something is told.
+-- The commands on a trace: `judge`, `chart`, `report` and `migrate`. A trace that is illegal or has late jobs
+-- is refused.
 use Rattle.std.specs.Prelude.{◌≡◌, ℕ, ◌≤◌, ◌<◌, ◌^◌, ◌==◌, nat_le, Bool, false, if◌then◌else◌, List, reverse, Result, Ok, Err}
 use Rattle.mc_task.specs.declared.task.Task.{Task}
 use Rattle.mc_task.specs.declared.task.Rule.TheVariants.{Virtual}
@@ -16,55 +17,63 @@ use Rattle.trace_format.specs.TraceFile.{trace_file}
 use Rattle.trace_answers.specs.declared.telling.Telling.{Telling}
 use Rattle.trace_answers.specs.declared.telling.Telling.TheVariants.{JudgeBy, Chart, Report, Migrate}
 use Rattle.replies.specs.Refusal.{Refusal, Trace, BadTrace, LongChart}
-use Rattle.replies.specs.Reading.{◌>>=◌, or_refuse, reply_by}
+use Rattle.replies.specs.Reading.{◌>>=◌, refused_as, reply_by}
 use Rattle.serving.specs.Command.{Command, answer, fetch, need}
-use Rattle.task_answers.specs.Admitted.{Ruled, admitted, ruled_by, fetch_table}
+use Rattle.task_answers.specs.Admitted.{admitted, ruled_by, fetch_table}
+use Rattle.task_answers.specs.declared.ruled.Ruled.{Ruled}
 
--- each row fits, and no job is late
+-- whether the verdict finds that each row fits and no job is late
 abbrev pub is_good : Verdict → Bool
 is_good (Legal late first) = late == 0
 is_good (Illegal place why) = false
 
--- the rows that a trace file says of a set, the newest first
+-- the rows of the trace in a file of these bytes, the newest first, or the file's refusal
 abbrev pub rows_in : List Task → List ℕ → Result (List Row) Refusal
 rows_in set bytes = do
-  runs ← or_refuse Trace (trace_file set bytes)
+  runs ← refused_as Trace (trace_file set bytes)
   Ok (reverse (expand runs))
 
--- the scale of a command that has one is at most 1, and its numbers are below 2^32
+-- a scale p/q on the command line is at most 1, and its numbers are from 1 to 2^32 - 1
 abbrev pub IsScale : Telling → Type 0
 IsScale (JudgeBy p q) = (1 ≤ p) × (p ≤ q) × (q < 2 ^ 32)
 IsScale telling = Unit {0}
 
--- what is told of a good trace, whose newest row stands first: the chart, of at most 2,000,000 ticks; the report; the trace
--- itself, equal ticks in one record; or the verdict
-abbrev pub told : Telling → Ruled → List Row → Result (List ℕ) Refusal
-told Chart ruled h = if nat_le (ticks h) 2000000 then Ok (chart_text ruled.set.tasks h) else Err (LongChart (ticks h))
-told Report ruled h = Ok (report_text ruled.set.tasks h)
-told Migrate ruled h = Ok (trace_text ruled.set.tasks (reverse h))
-told telling ruled h = Ok (verdict_line ruled.set.tasks (verdict ruled.set.tasks ruled.rule h))
+-- what a command writes of a good trace, whose newest row stands first here: `chart` its chart, if it has at
+-- most 2,000,000 ticks; `report` its report; `migrate` the trace itself, with equal rows in one record;
+-- `judge` the verdict
+abbrev pub good_text : Telling → Ruled → List Row → Result (List ℕ) Refusal
+good_text Chart ruled h =
+    if nat_le (ticks h) 2000000 then Ok (chart_text ruled.set.tasks h) else Err (LongChart (ticks h))
+good_text Report ruled h = Ok (report_text ruled.set.tasks h)
+good_text Migrate ruled h = Ok (trace_text ruled.set.tasks (reverse h))
+good_text telling ruled h = Ok (verdict_line ruled.set.tasks (verdict ruled.set.tasks ruled.rule h))
 
--- so, if the trace is good
+-- what a command writes of a trace, whose newest row stands first here, if the verdict on it is good; else a
+-- refusal by the verdict
 abbrev pub judged : Telling → Ruled → List Row → Result (List ℕ) Refusal
 judged telling ruled h =
-    let given = verdict ruled.set.tasks ruled.rule h in if is_good given then told telling ruled h else Err (BadTrace ruled.set.tasks given)
+    let given = verdict ruled.set.tasks ruled.rule h in
+    if is_good given then good_text telling ruled h else Err (BadTrace ruled.set.tasks given)
 
--- by the bytes of the trace
+-- what a command writes of the trace in a file of these bytes, or the refusal of the file or the trace
 abbrev pub tells : Telling → Ruled → List ℕ → Result (List ℕ) Refusal
 tells telling ruled bytes = do
   h ← rows_in ruled.set.tasks bytes
   judged telling ruled h
 
--- the set that a task file says, under the rule that the words give, or else the test
+-- the set that a task file of these bytes says, under the rule that the command line gives, or else the rule
+-- that the test gives
 abbrev pub ruled_for : Telling → List ℕ → Result Ruled Refusal
 ruled_for (JudgeBy p q) bytes = ruled_by (Virtual p q) bytes
 ruled_for telling bytes = admitted bytes
 
--- what a command says of the trace in the second file, of at most 134,217,728 bytes, where the task file has these bytes
+-- a command on the trace in the second file, of at most 134,217,728 bytes, once the task file was read and
+-- has these bytes
 abbrev pub on_trace_on : Telling → List ℕ → List ℕ → Command
 on_trace_on telling trace bytes =
-    need (ruled_for telling bytes) (λ ruled. fetch trace (2 ^ 27) (λ more. answer (λ reply. reply ≡ reply_by (tells telling ruled more))))
+    need (ruled_for telling bytes) (λ ruled.
+    fetch trace (2 ^ 27) (λ more. answer (λ reply. reply ≡ reply_by (tells telling ruled more))))
 
--- the command
+-- a command on the trace in the second file, of the set in the first
 abbrev pub on_trace : Telling → List ℕ → List ℕ → Command
 on_trace telling tasks trace = fetch_table tasks (on_trace_on telling trace)

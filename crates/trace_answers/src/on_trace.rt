@@ -1,4 +1,4 @@
-// A command on a trace.
+//! A command on a trace.
 ghost use Rattle.trace_answers.specs.OnTrace.{IsScale, on_trace, on_trace_on, ruled_for};
 ghost use Rattle.replies.specs.Stop.{Gives};
 ghost use Rattle.serving.specs.Serves.{Serves};
@@ -25,7 +25,7 @@ pub struct OnTrace<'a> {
 }
 
 impl<'a> OnTrace<'a> {
-    /// The reply: what the command says of the trace.
+    /// The reply: what the command writes of the trace.
     pub fn reply<S: Shelf>(&self, alloc: Global, shelf: &mut S) -> Result<Reply, Stop>
         requires { IsScale self.now.telling }
         ensures { Serves 1 (on_trace self.now.telling self.now.tasks self.now.trace) (S.state shelf.old) (S.state shelf.new) result }
@@ -39,14 +39,14 @@ impl<'a> OnTrace<'a> {
         requires { IsScale self.now.telling }
         ensures { Serves 2 (on_trace_on self.now.telling self.now.trace bytes.now) (S.state shelf.old) (S.state shelf.new) result }
     {
-        let Ruled { set, rule } = ruled(alloc, self.telling, bytes)?;
+        let ruled = ruled_for(alloc, self.telling, bytes)?;
         let bytes = fetch(alloc, shelf, 2, &self.trace, MOST_TRACE_BYTES)?;
-        tell(alloc, self.telling, &set, rule, &bytes)
+        tell(alloc, self.telling, &ruled, &bytes)
     }
 }
 
 // The set in a task file with these bytes, under the rule that the words give, or else the test's.
-fn ruled(alloc: Global, telling: Telling, bytes: &[u8]) -> Result<Ruled, Stop>
+fn ruled_for(alloc: Global, telling: Telling, bytes: &[u8]) -> Result<Ruled, Stop>
     requires { IsScale telling }
     ensures { Gives IsRuled (ruled_for telling bytes.now) result }
 {

@@ -1,4 +1,5 @@
-/// What a command says of a good trace.
+//! The commands on a trace.
+/// What a command writes of a good trace.
 #[derive(Clone, Copy, Debug, PartialEq, Eq)]
 pub enum Telling {
     /// The verdict under the test's rule.
@@ -9,6 +10,6 @@ pub enum Telling {
     Chart,
     /// The report.
     Report,
-    /// The trace itself, equal ticks in one record.
+    /// The trace itself, with equal ticks in one record.
     Migrate,
 }

@@ -1,4 +1,4 @@
-// The texts that are told of a good trace.
+//! What commands write of a good trace.
 ghost use Rattle.std.specs.Prelude.{◌≡◌, All, IfOk, reverse};
 ghost use Rattle.mc_model.specs.Rows.{ticks};
 ghost use Rattle.mc_model.specs.Runs.{expand, length_of, AreRuns, IsRunOfSet};
@@ -30,13 +30,12 @@ fn length_of(run: Run) -> u64
     }
 }
 
-/// The text of the runs' rows, equal ticks in one record.
+/// The text of the runs' rows, with equal ticks in one record.
 pub fn merged_text(alloc: Global, set: &TaskSet, runs: &[Run]) -> Result<Vec<u8>, Memory>
     requires runs { AreRuns runs.now }
     requires tasks { All (IsRunOfSet set.now.tasks) runs.now }
     ensures { IfOk result (λ text. text.items ≡ trace_text set.now.tasks (expand runs.now)) }
 {
     let merged = merge(alloc, runs)?;
-    let text = write_trace(alloc, set, &merged)?;
-    Ok(text)
+    Ok(write_trace(alloc, set, &merged)?)
 }

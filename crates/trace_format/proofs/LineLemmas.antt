@@ -1,4 +1,4 @@
--- The records of a written text.
+-- The records of a text that was written.
 use Rattle.std.proofs.Common.{◌≡◌, ℕ, ◌+◌, ◌^◌, ◌≤◌, ◌<◌, Bool, true, false, ◌&&◌, nat_le, List, [], ◌∷◌, ◌++◌, Some, IsTrue, refl, arith, length, append_assoc, decimal, codes}
 use Rattle.std.proofs.lemmas.Bool.Decides.{nat_tests}
 use Rattle.std.specs.List.{list_any, list_all, AllByRecursion}
@@ -29,7 +29,7 @@ run_fields set tick (Release j kept) = codes "release" ∷ decimal tick ∷ [] �
 run_fields set tick (Ticks j how n) = codes "tick" ∷ decimal tick ∷ decimal n ∷ name_in (task_at set j.task.0) ∷ decimal j.count ∷ how_word how ∷ []
 run_fields set tick (Idles n) = codes "idle" ∷ decimal tick ∷ decimal n ∷ [] ∷ [] ∷ [] ∷ []
 
--- the fields of the lines of runs that stand behind so many ticks
+-- the fields of the lines of runs that come after n ticks
 abbrev pub fields_from : List Task → ℕ → List Run → List (List (List ℕ))
 fields_from set tick [] = []
 fields_from set tick (r ∷ runs) = run_fields set tick r ∷ fields_from set (tick + length_of r) runs
@@ -37,7 +37,7 @@ fields_from set tick (r ∷ runs) = run_fields set tick r ∷ fields_from set (t
 abbrev pub header_fields : List (List ℕ)
 header_fields = codes "event" ∷ codes "tick" ∷ codes "length" ∷ codes "task" ∷ codes "job" ∷ codes "how" ∷ []
 
--- bytes that call for no quotes
+-- bytes that need no quotes
 abbrev IsPlain : List ℕ → Type 0
 IsPlain bytes = list_any (needs_byte default_writer) bytes ≡ false
 
@@ -66,7 +66,7 @@ plain_how Done = refl
 plain_how Stop = refl
 plain_how Over = refl
 
--- six plain fields, as a writer of records writes them
+-- the line of six fields that need no quotes
 line_is : (a b c d e f : List ℕ) → IsPlain a → IsPlain b → IsPlain c → IsPlain d → IsPlain e → IsPlain f → row_text default_writer (a ∷ b ∷ c ∷ d ∷ e ∷ f ∷ []) ≡ line_of a b c d e f
 unfolding fields_text is_blank
 line_is a b c d e f pa pb pc pd pe pf = rw (pa, pb, pc, pd, pe, pf) (simp append_assoc)
@@ -101,7 +101,7 @@ lines_reached set tick (r ∷ runs) s h w = (
   lines_reached set (tick + length_of r) runs s (omega (arith, h)) w.1,
 )
 
--- the records of what is written
+-- the records of a text that was written are the fields of its runs
 pub written_records : (set : List Task) (runs : List Run) → AreTasks set → total length_of runs ≤ 100000000 → AllByRecursion (IsWritable set) runs
     → AreRecords default_config st.StartRecord (strip_bom (runs_text set runs)) (header_fields ∷ fields_from set 0 runs)
 unfolding Reached strip_bom next_record

@@ -21,13 +21,13 @@ use Rattle.mc_model.proofs.Runs.{some_rows, all_expand, expand-more, ticks-expan
 use Rattle.trace_format.specs.Packing.{ArePacked, joined, with_last}
 use Rattle.trace_format.proofs.TickLemmas.{total-one, ticks-fit}
 
--- what two runs that are one have: the rows of both; and it is a run, which joins what the first of them joins
+-- two runs joined into one: it has the rows of both, is valid, and joins what the first of them joins
 record JoinedAs (r s both : Run) : Type 0 where
   rows : rows_of both ≡ rows_of r ++ rows_of s
   is_run : IsRun r → IsRun both
   same : (q : Run) → joins q both ≡ joins q r
 
--- whether a run joins another is not for that one's length to say
+-- whether a run joins another does not depend on that one's length
 any_length : (q : Run) (m n : ℕ) → ((j : JobId) → joins q (run.Ticks j More m) ≡ joins q (run.Ticks j More n)) × (joins q (run.Idles m) ≡ joins q (run.Idles n))
 any_length (run.Release i kept) m n = ((λ j. refl), refl)
 any_length (run.Ticks i More k) m n = ((λ j. refl), refl)
@@ -53,13 +53,13 @@ joined_as (run.Ticks i More m) (run.Ticks j More n) both h = elim (cases_Bool (s
 ]
 joined_as r s both h = absurd (cc)
 
--- two runs that are not one can't be
+-- if two runs are not joined, they could not be one run
 joined_none : (r s : Run) → joined r s ≡ None → joins r s ≡ false
 joined_none (run.Idles m) (run.Idles n) h = cc
 joined_none (run.Ticks i More m) (run.Ticks j More n) h = elim (cases_Bool (same_job i j)) [ inl yes_job ↦ (let some = rw yes_job at h in cc) | inr no_job ↦ no_job ]
 joined_none r s h = refl
 
--- a list by its last element
+-- a non-empty list is its start and its last element
 split_last : {X : Type 0} (xs : List X) (l : X) → slice_get xs (length xs - 1) ≡ Some l → xs ≡ take (length xs - 1) xs ++ l ∷ []
 split_last xs l h =
     let some : length xs - 1 < length xs = slice_get_within xs (length xs - 1) l h in
@@ -67,13 +67,13 @@ split_last xs l h =
     sym (take_all (length xs - 1 + 1) xs (omega (arith, n)))
     ∙ (take_more xs (length xs - 1) l some ∙ ap (λ x. take (length xs - 1) xs ++ x ∷ []) (get_or_from_slice_get xs (length xs - 1) l l h))
 
--- and with another one in its place
+-- a list with another last element is its start and that element
 set_last : {X : Type 0} (xs : List X) (y : X) → 1 ≤ length xs → slice_set xs (length xs - 1) y ≡ take (length xs - 1) xs ++ y ∷ []
 set_last xs y h =
     sym (take_all (length xs - 1 + 1) (slice_set xs (length xs - 1) y) (omega (arith, h, length-set xs (length xs - 1) y)))
     ∙ take_more_set xs (length xs - 1) y (omega (arith, h))
 
--- packed runs with others in place of the last, the first of which joins what it joins
+-- packed runs stay packed with others in place of the last, if the first of these joins what the last joins
 packed_end : (ts : List Run) (l m : Run) (ms : List Run) → ((q : Run) → joins q m ≡ joins q l) → (IsRun l → ArePacked (m ∷ ms)) → ArePacked (ts ++ l ∷ [])
     → ArePacked (ts ++ m ∷ ms)
 packed_end [] l m ms same end p = end p.each.0
@@ -82,7 +82,7 @@ packed_end (t ∷ u ∷ ts) l m ms same end p =
     let rest = packed_end (u ∷ ts) l m ms same end (record { each = p.each.1; packed = p.packed.1 }) in
     record { each = (p.each.0, rest.each); packed = (p.packed.0, rest.packed) }
 
--- the last of packed runs takes one more
+-- packed runs stay packed if the last takes one more run
 pub taken : (rs new : List Run) (s both : Run) → ArePacked rs → with_last rs s ≡ Some both → new ≡ slice_set rs (length rs - 1) both
     → (expand new ≡ expand rs ++ rows_of s) × ArePacked new
 taken rs new s both p h is = option_and_then_some (λ l. joined l s) (slice_get rs (length rs - 1)) both h (λ l at j.
@@ -96,7 +96,7 @@ taken rs new s both p h is = option_and_then_some (λ l. joined l s) (slice_get 
       rw now (packed_end ts l both [] f.same end (subst ArePacked old p)),
     ))
 
--- a run that it can't take is added
+-- packed runs stay packed if a run that the last cannot take is added
 pub added : (rs new : List Run) (s : Run) → ArePacked rs → IsRun s → with_last rs s ≡ None → new ≡ rs ++ s ∷ []
     → (expand new ≡ expand rs ++ rows_of s) × ArePacked new
 added [] new s p v h is = (ap expand is ∙ append-nil (rows_of s), rw is (record { each = (v, tt); packed = tt }))
@@ -110,25 +110,25 @@ added (r ∷ rs) new s p v h is =
     let end : IsRun l → ArePacked (l ∷ s ∷ []) = λ is_run. record { each = (is_run, (v, tt)); packed = (joined_none l s apart, tt) } in
     (ap expand is ∙ expand-more (r ∷ rs) s, rw now (packed_end ts l l (s ∷ []) (λ q. refl) end (subst ArePacked old p)))
 
--- no run has more ticks than all
+-- no run has more ticks than all runs together
 pub last_short : (rs : List Run) (l : Run) → slice_get rs (length rs - 1) ≡ Some l → length_of l ≤ total length_of rs
 last_short rs l at =
     let all = ap (total length_of) (split_last rs l at) ∙ total-one (take (length rs - 1) rs) l in
     omega (arith, all)
 
--- the ticks of the runs of the first rows
+-- the runs of the first rows have at most as many ticks as there are rows
 pub short_rows : (runs : List Run) (rows : List Row) (i : ℕ) → expand runs ≡ take i rows → total length_of runs ≤ length rows
 short_rows runs rows i e =
     let t : total length_of runs ≡ ticks (take i rows) = sym (ticks-expand runs) ∙ ap ticks e in
     omega (arith, t, ticks-le (take i rows), length-take i rows)
 
--- a row has at most one
+-- the run of a row has at most one tick
 pub one_short : (row : Row) (r : Run) → r ≡ run_of row → length_of r ≤ 1
 one_short (Release j kept) r e = rw e (omega arith)
 one_short (Tick j how) r e = rw e (omega arith)
 one_short Idle r e = rw e (omega arith)
 
--- all rows are read
+-- at the end of the loop the runs are those of all rows
 pub all_rows : (runs : List Run) (rows : List Row) (i : ℕ) → length rows ≤ i → expand runs ≡ take i rows → expand runs ≡ rows
 all_rows runs rows i h e = e ∙ take_all i rows h
 
@@ -139,7 +139,8 @@ short_runs merged runs i d h v e =
 pub all_runs : (merged runs : List Run) (i : ℕ) → length runs ≤ i → expand merged ≡ expand (take i runs) → expand merged ≡ expand runs
 all_runs merged runs i h e = e ∙ ap expand (take_all i runs h)
 
--- what holds of each row of a run, and of those behind it, holds of the row that it repeats, and of those behind it
+-- what holds of each row of a run, and of those after it, holds of the row that it repeats, and of those
+-- after it
 row_and_rest : (P : Row → Type 0) (n : ℕ) (x : Row) (ys : List Row) → 1 ≤ n → AllByRecursion P (replicate n x ++ ys) → P x × AllByRecursion P ys
 row_and_rest P zero x ys h a = absurd (omega (arith, h))
 row_and_rest P (suc zero) x ys h a = a
@@ -152,6 +153,6 @@ each_of_rows P (r ∷ runs) v a = let p = row_and_rest P (size r) (row_of r) (ex
 pub of_rows : (P : Row → Type 0) (runs : List Run) (rows : List Row) → AllByRecursion IsRun runs → expand runs ≡ rows → All P rows → All (λ r. P (row_of r)) runs
 of_rows P runs rows v e a = All-from_recursion (λ r. P (row_of r)) runs (each_of_rows P runs v (recursion_from_All P (expand runs) (subst (All P) (sym e) a)))
 
--- so it does of runs with the same rows
+-- a property of the row of each run passes to other runs with the same rows
 pub of_runs : (P : Row → Type 0) (merged runs : List Run) → AllByRecursion IsRun merged → expand merged ≡ expand runs → All (λ r. P (row_of r)) runs → All (λ r. P (row_of r)) merged
 of_runs P merged runs v e a = of_rows P merged (expand runs) v e (all_expand P runs (recursion_from_All (λ r. P (row_of r)) runs a))

@@ -30,14 +30,14 @@ use Rattle.trace_format.specs.Reading.{MayStandBehind}
 use Rattle.trace_format.specs.TraceFile.{header_words, wrong_width, task_told, numbers_told, is_length, run_told, record_run, behind_header, version_of, trace_file}
 use Rattle.mc_task.proofs.NamedLemmas.{found}
 
--- a length that is taken makes a run
+-- ticks with a length that is taken are a valid run
 ticks_are : (j : JobId) (how : How) (n : ℕ) → not (is_length (event.Tick how) n) ≡ false → IsRun (run.Ticks j how n)
 ticks_are j More n h = (grind (arith, nat_tests, h), λ two. refl)
 ticks_are j Done n h = let one : n ≡ 1 = grind (arith, nat_tests, h) in (omega (arith, one), λ two. absurd (omega (arith, one, two)))
 ticks_are j Stop n h = let one : n ≡ 1 = grind (arith, nat_tests, h) in (omega (arith, one), λ two. absurd (omega (arith, one, two)))
 ticks_are j Over n h = let one : n ≡ 1 = grind (arith, nat_tests, h) in (omega (arith, one), λ two. absurd (omega (arith, one, two)))
 
--- the run of a record with these numbers
+-- the run that a record with these numbers says is valid and of the set
 told_is : (set : List Task) (v : Version) (fields : List (List ℕ)) (told : Event) (task : ℕ) (n : Numbers) → task_told set v fields told ≡ Some task
     → not (is_length told n.length) ≡ false
     → IsRun (run_told told task n) × IsRunOfSet set (run_told told task n) × (length_of (run_told told task n) ≤ n.length)
@@ -46,7 +46,8 @@ told_is set v fields (event.Tick how) task n named length =
     (ticks_are (record { task = record { 0 = task }; count = n.count }) how n.length length, found (field fields (task_place v)) set task named, omega arith)
 told_is set v fields event.Idle task n named length = (grind (arith, nat_tests, length), tt, omega arith)
 
--- what is read on is read from a value that is there, and where no test refuses
+-- if a step that refuses an absent value gives a result, the value is there, and what follows gives that
+-- result
 from_some : {A : Type 0} (x : Option A) (cause : TraceCause) (more : A → Result Run TraceCause) (q : Run) → (or_refuse cause x >>= more) ≡ Ok q
     → (y : A) × (x ≡ Some y) × (more y ≡ Ok q)
 from_some None cause more q h = absurd (cc)
@@ -56,7 +57,7 @@ not_refused : (refuses : Bool) (cause : TraceCause) (more : Result Run TraceCaus
 not_refused true cause more q h = absurd (cc)
 not_refused false cause more q h = (refl, h)
 
--- the run of a record fits behind the runs before it
+-- the run of a record may stand after the runs before it
 pub of_record : (set : List Task) (v : Version) (before : List Run) (fields : List (List ℕ)) (q : Run) → record_run set v before fields ≡ Ok q
     → (length before < 2000000) × MayStandBehind set (total length_of before) q
 unfolding record_run
@@ -75,7 +76,7 @@ of_record set v before fields q h =
     record { is_run = is.0; task = is.1; short = grind (arith, nat_tests, short.0, is.2) } in
     (grind (arith, nat_tests, few.0), subst (MayStandBehind set (total length_of before)) same fits)
 
--- valid runs of the set
+-- the runs are valid, and of the set
 abbrev AreOf : List Task → List Run → Type 0
 AreOf set runs = AreRuns runs × AllByRecursion (IsRunOfSet set) runs
 
@@ -90,7 +91,7 @@ one_more set before r a f = (
   Each-append (IsRunOfSet set) before (r ∷ []) a.1 (f.1.task, tt),
 )
 
--- by a header of either version
+-- the runs after a header of either version are valid and of the set
 of_row : (set : List Task) (first : List (List ℕ)) (means : Means Run TraceCause) → behind_header set first ≡ Some means
     → (before : List Run) (fields : List (List ℕ)) (r : Run) → AreOf set before → means before fields ≡ Ok r → AreOf set (before ++ r ∷ [])
 of_row set first means is before fields r a read = go (version_of first) is
@@ -110,6 +111,6 @@ of_trace set text runs h =
 pub valid_runs : (set : List Task) (text : List ℕ) (runs : List Run) → trace_file set text ≡ Ok runs → AreRuns runs
 valid_runs set text runs h = (of_trace set text runs h).0
 
--- and of the set
+-- the runs of a trace that is read are of the set
 pub runs_of_set : (set : List Task) (text : List ℕ) (runs : List Run) → trace_file set text ≡ Ok runs → AllByRecursion (IsRunOfSet set) runs
 runs_of_set set text runs h = (of_trace set text runs h).1

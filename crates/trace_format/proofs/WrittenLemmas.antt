@@ -1,4 +1,4 @@
--- The records of a written text give its runs.
+-- The records of a text that was written say its runs.
 use Rattle.std.proofs.Common.{◌≡◌, ℕ, ◌+◌, ◌≤◌, ◌<◌, Bool, true, false, nat_le, nat_lt, List, [], ◌∷◌, ◌++◌, Some, Ok, All, refl, sym, ap, ◌∙◌, arith, length, append_assoc}
 use Rattle.std.proofs.lemmas.Bool.{lt-leb}
 use Rattle.std.proofs.lemmas.Bool.Decides.{nat_tests}
@@ -35,7 +35,7 @@ use Rattle.trace_format.proofs.TickLemmas.{total-one}
 few_ticks : (due n : ℕ) → due + n ≤ 100000000 → nat_lt 100000000 (due + n) ≡ false
 few_ticks due n h = grind (arith, nat_tests)
 
--- a run has a length that is taken
+-- a run has a length that the reader takes
 some_ticks : (n : ℕ) → 1 ≤ n → nat_le 1 n ≡ true
 some_ticks n h = grind (arith, nat_tests)
 
@@ -45,7 +45,7 @@ ticks_taken j Done n v = let one = alone j Done n v (λ e. cc) in grind (arith, 
 ticks_taken j Stop n v = let one = alone j Stop n v (λ e. cc) in grind (arith, nat_tests, one)
 ticks_taken j Over n v = let one = alone j Over n v (λ e. cc) in grind (arith, nat_tests, one)
 
--- a word is read as what it stands for
+-- the words of a release are read as the release that they stand for
 kept_read : (kept : Bool) → release_event (kept_word kept) ≡ Some (event.Release kept)
 unfolding release_event
 kept_read true = refl
@@ -58,7 +58,7 @@ how_read Done = refl
 how_read Stop = refl
 how_read Over = refl
 
--- a run is read from its fields
+-- a run is read from the fields of its line
 record_back : (set : List Task) (before : List Run) (r : Run) → AreTasks set → length before < 2000000 → total length_of before + length_of r ≤ 100000000
     → IsRun r → IsWritable set r → record_run set Two before (run_fields set (total length_of before) r) ≡ Ok r
 unfolding record_run field_at event_of idle_event
@@ -88,7 +88,7 @@ runs_back set before (r ∷ runs) s a h v w =
     let rest = runs_back set (before ++ r ∷ []) runs s (omega (arith, longer, a)) (omega (arith, more, h)) v.1 w.1 in
     rw (record_back set before r s (omega (arith, a)) (omega (arith, h)) v.0 w.0) (rw (more, append_assoc) at rest)
 
--- what is written is read as its runs
+-- a text that was written is read as its runs
 pub read_back : (set : List Task) (runs : List Run) (text : List ℕ) → AreTasks set → AreRuns runs → All (IsWritable set) runs → text ≡ runs_text set runs
     → trace_file set text ≡ Ok runs
 unfolding field_at

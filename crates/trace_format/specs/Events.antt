@@ -9,7 +9,7 @@ use Rattle.trace_format.specs.declared.event.Event.TheVariants.{Release, Tick, I
 use Rattle.trace_format.specs.declared.version.Version.{Version}
 use Rattle.trace_format.specs.declared.version.Version.TheVariants.{One, Two}
 
--- the release that the last field of a record says, in the words in which it is written
+-- the release that the last field of a record says: kept or dropped
 unfoldable pub release_event : List ℕ → Option Event
 release_event how = option_map Release (find (λ kept. bytes_eq how (kept_word kept)) (true ∷ false ∷ []))
 
@@ -17,11 +17,11 @@ release_event how = option_map Release (find (λ kept. bytes_eq how (kept_word k
 unfoldable pub tick_event : List ℕ → Option Event
 tick_event how = option_map Tick (find (λ h. bytes_eq how (how_word h)) (More ∷ Done ∷ Stop ∷ Over ∷ []))
 
--- an idle tick, where the fields of the task, the job and the outcome are empty
+-- an idle tick, if the fields of the task, the job and the outcome are empty
 unfoldable pub idle_event : List ℕ → List ℕ → List ℕ → Option Event
 idle_event task job how = if (length task == 0 && length job == 0) && length how == 0 then Some Idle else None
 
--- the place of the task's field; the fields of the job and of the outcome come after it
+-- the column of the task's field; the fields of the job and of the outcome come after it
 abbrev pub task_place : Version → ℕ
 task_place One = 2
 task_place Two = 3
@@ -31,7 +31,7 @@ abbrev pub has_no_length : Version → List (List ℕ) → Bool
 has_no_length One fields = true
 has_no_length Two fields = length (field fields 2) == 0
 
--- what the record says, by its first field and, after it, the fields that such a record needs
+-- what the record says, by its first field and the fields that such a record needs
 unfoldable pub event_of : Version → List (List ℕ) → Option Event
 event_of v fields =
     if bytes_eq (field fields 0) (codes "release")

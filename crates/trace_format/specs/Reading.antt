@@ -1,4 +1,4 @@
--- What is known of the runs that are read so far.
+-- What holds of the runs that are read so far.
 use Rattle.std.specs.Prelude.{◌≡◌, ◌+◌, ◌≤◌, ℕ, List, length}
 use Rattle.mc_task.specs.declared.task.Task.{Task}
 use Rattle.mc_model.specs.Sums.{total}

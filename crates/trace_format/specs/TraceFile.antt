@@ -1,4 +1,5 @@
--- What the text of a trace says: its runs, the oldest first, or the first refusal. The first record decides the version.
+-- The runs that the text of a trace says, the oldest first, or the first refusal. The first record decides
+-- the version.
 use Rattle.std.specs.Prelude.{ℕ, ◌+◌, Bool, true, not, ◌==◌, nat_le, nat_lt, if◌then◌else◌, List, [], ◌∷◌, codes, length, find, Option, Some, None, option_map, Result, Ok, Err}
 use lib.Pointwise.{pointwise}
 use Rattle.std.specs.Str.{bytes_eq}
@@ -38,22 +39,22 @@ abbrev pub wrong_width : Version → TraceCause
 wrong_width One = BadRecord
 wrong_width Two = NotSix
 
--- the number of ticks of a tick or idle record: one in version 1; none where the field is no number
+-- the number of ticks of a tick or idle record: one in version 1; none if the field is not a number
 abbrev pub length_in : Version → List (List ℕ) → Option ℕ
 length_in One fields = Some 1
 length_in Two fields = number (field fields 2)
 
--- the number of the task of a release or a tick, if there is one of that name; 0 where the record is idle
+-- the number of the task of a release or a tick, if the set has one of that name; 0 if the record is idle
 abbrev pub task_told : List Task → Version → List (List ℕ) → Event → Option ℕ
 task_told set v fields event.Idle = Some 0
 task_told set v fields _ = named (field fields (task_place v)) set
 
--- a tick, a length and a count, where each of them is a number
+-- a tick, a length and a job's number, if all three are numbers
 abbrev pub all_numbers : Option ℕ → Option ℕ → Option ℕ → Option Numbers
 all_numbers (Some t) (Some n) (Some c) = Some (record { tick = t; length = n; count = c })
 all_numbers _ _ _ = None
 
--- the numbers of a record: a release has no ticks, and an idle record has no job
+-- the numbers of a record: a release has no ticks, and an idle record no job
 abbrev pub numbers_told : Version → List (List ℕ) → Event → Option Numbers
 numbers_told v fields (event.Release kept) =
     all_numbers (number (field fields 1)) (Some 0) (number (field fields (task_place v + 1)))
@@ -61,8 +62,8 @@ numbers_told v fields (event.Tick how) =
     all_numbers (number (field fields 1)) (length_in v fields) (number (field fields (task_place v + 1)))
 numbers_told v fields event.Idle = all_numbers (number (field fields 1)) (length_in v fields) (Some 0)
 
--- whether the record may stand for n ticks: a tick or idle record for at least one, and for several only where its job
--- goes on after each of them, or where it is idle
+-- whether the record may stand for n ticks: a tick or idle record for at least one, and for several only if
+-- its job goes on after each of them, or if it is idle
 abbrev pub is_length : Event → ℕ → Bool
 is_length (event.Release kept) n = true
 is_length (event.Tick More) n = nat_le 1 n
@@ -75,7 +76,7 @@ run_told (event.Release kept) k n = run.Release (record { task = record { 0 = k 
 run_told (event.Tick how) k n = run.Ticks (record { task = record { 0 = k }; count = n.count }) how n.length
 run_told event.Idle k n = run.Idles n.length
 
--- the run of a record that says this event, where this tick is due; or the first of its refusals
+-- the run of a record that says this event, if this tick is the next one; or the first of its refusals
 abbrev pub run_at : List Task → Version → ℕ → List (List ℕ) → Event → Result Run TraceCause
 run_at set v due fields told =
     or_refuse UnknownTask (task_told set v fields told) >>= λ task.
@@ -96,6 +97,6 @@ record_run set v before fields =
 abbrev pub behind_header : List Task → List (List ℕ) → Option (Means Run TraceCause)
 behind_header set fields = option_map (record_run set) (version_of fields)
 
--- the runs of a text, or its first refusal; its records are as csv's reader gives them with its defaults
+-- the runs of a text, or its first refusal; its records are as csv's reader with its defaults returns them
 abbrev pub trace_file : List Task → List ℕ → Result (List Run) (Fault TraceCause)
 trace_file set text = rows_in (behind_header set) Header text

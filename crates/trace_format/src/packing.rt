@@ -1,4 +1,4 @@
-// Runs from rows, and from other runs.
+//! Rows, and runs, packed into the fewest runs.
 ghost use Rattle.std.specs.Prelude.{◌≡◌, ◌+◌, ◌++◌, ◌≤◌, All, IfOk, OnOk, List, length};
 ghost use Rattle.mc_task.specs.declared.task.Task.{Task};
 ghost use Rattle.mc_model.specs.Legal.{IsOfSet};
@@ -12,14 +12,14 @@ use mc_model::{How, Row, Run};
 use mc_task::{JobId, Memory};
 use std::alloc::{AllocError, Global};
 
-/// The rows as runs, no two neighbours of which could be one: idle ticks that stand together are one run, and so are
-/// ticks of a job behind which it goes on.
+/// The rows as runs, of which no two neighbours could be one: neighbouring idle ticks are one run, and so are ticks of
+/// a job that goes on after each. Fails with `Memory` if an allocation fails.
 pub fn pack(alloc: Global, rows: &[Row]) -> Result<Vec<Run>, Memory>
     requires few { length rows.now ≤ 2000000 }
     ensures pack { IfOk result (λ runs. runs.items ≡ model.pack rows.now) }
     ensures expands { IfOk result (λ runs. expand runs.items ≡ rows.now) }
     ensures packed { IfOk result (λ runs. IsPacked runs.items) }
-    // No other valid runs that are packed have these rows.
+    // These are the only valid packed runs with these rows.
     ensures only { IfOk result (λ runs. (others : List Run) → AreRuns others → IsPacked others → expand others ≡ rows.now → others ≡ runs.items) }
     ensures valid { IfOk result (λ runs. AreRuns runs.items) }
     ensures tasks { (set : List Task) → All (IsOfSet set) rows.now → IfOk result (λ runs. All (IsRunOfSet set) runs.items) }
@@ -31,7 +31,8 @@ pub fn pack(alloc: Global, rows: &[Row]) -> Result<Vec<Run>, Memory>
     Ok(runs)
 }
 
-/// The runs with the same rows of which no two neighbours could be one. There are no more of them.
+/// Runs with the same rows, of which no two neighbours could be one; there are no more of them than before. Fails with
+/// `Memory` if an allocation fails.
 pub fn merge(alloc: Global, runs: &[Run]) -> Result<Vec<Run>, Memory>
     requires { AreRuns runs.now }
     ensures pack { IfOk result (λ merged. merged.items ≡ model.pack (expand runs.now)) }
@@ -63,7 +64,7 @@ fn run_of(row: Row) -> Run
     }
 }
 
-// Adds a run at the end, to the last one where it can.
+// Adds a run at the end, joined to the last one if it can be.
 fn add(runs: &mut Vec<Run>, run: Run) -> Result<(), AllocError>
     requires is_run { IsRun run }
     requires packed { ArePacked runs.old.items }
@@ -80,7 +81,7 @@ fn add(runs: &mut Vec<Run>, run: Run) -> Result<(), AllocError>
     Ok(())
 }
 
-// The last run and this one as one, where they could be.
+// The last run and this one as one, if they could be.
 fn with_last(runs: &[Run], run: Run) -> Option<Run>
     requires short { total length_of runs.now + length_of run ≤ 100000000 }
     ensures { result ≡ with_last runs.now run }
@@ -91,7 +92,7 @@ fn with_last(runs: &[Run], run: Run) -> Option<Run>
     }
 }
 
-// The two as one run, where they could be.
+// The two runs as one, if they could be.
 fn joined(first: Run, next: Run) -> Option<Run>
     requires short { length_of first + length_of next ≤ 100000000 }
     ensures { result ≡ joined first next }

@@ -1,3 +1,4 @@
+//! Traces, read.
 ghost use Rattle.std.specs.Prelude.{All, IfOk};
 ghost use Rattle.csv_records.specs.Gives.{Gives};
 ghost use Rattle.mc_model.specs.Runs.{IsRunOfSet, AreRuns};
@@ -13,12 +14,12 @@ use mc_model::{How, Run};
 use mc_task::{TaskNo, TaskSet};
 use std::alloc::Global;
 
-/// Reads a trace: the first record is the header of version 1, `event,tick,task,job,how`, or that of version 2,
-/// `event,tick,length,task,job,how`, and each other record is a run; one of version 1 is a run of one row. Records are as
-/// csv's reader gives them, with commas and double quotes.
+/// Reads a trace. The first record is the header of version 1, `event,tick,task,job,how`, or of version 2,
+/// `event,tick,length,task,job,how`. Each other record is a run; in version 1, a run of one row. Records are as csv's
+/// reader returns them, with commas and double quotes.
 ///
-/// An error but `Memory`, which may come at any point, is the trace's first refusal: `Header` at line 1, and then for
-/// each record in turn `TooMany`, the 2,000,001st after the header; `BadRecord` or `NotSix`, by the version;
+/// `Memory` may be returned at any point. Any other error is the trace's first refusal: `Header` at line 1, and then
+/// for each record in turn `TooMany`, the 2,000,001st after the header; `BadRecord` or `NotSix`, by the version;
 /// `UnknownEvent`; `UnknownTask`; `BadNumber`; `WrongTick`; `BadLength`; `TooManyTicks`.
 pub fn read_trace(alloc: Global, set: &TaskSet, bytes: &[u8]) -> Result<Vec<Run>, TraceFault>
     ensures file { Gives (λ runs. runs.items) result (trace_file set.now.tasks bytes.now) }
@@ -30,13 +31,13 @@ pub fn read_trace(alloc: Global, set: &TaskSet, bytes: &[u8]) -> Result<Vec<Run>
     Ok(runs)
 }
 
-// The records of a trace of a set.
+// What the records of a trace of this set mean.
 #[derive(Drop)]
 struct TraceRecords<'a> {
     set: &'a TaskSet,
 }
 
-// The version of the records, the tick that is due after the runs so far, and the task that the next record likely names.
+// The version of the records, the number of the next tick, and the task that the next record likely names.
 #[derive(Clone, Copy)]
 pub struct Reading {
     pub version: Version,
@@ -44,8 +45,8 @@ pub struct Reading {
     pub likely: TaskNo,
 }
 
-// The task that the next record likely names: this run's where its job goes on, and else the one after it. It decides only how
-// soon a task is found.
+// The task that the next record likely names: this run's task if its job goes on, otherwise the task after it. This
+// decides only how fast a task is found.
 fn likely_after(set: &TaskSet, likely: TaskNo, run: Run) -> TaskNo {
     match run {
         Run::Ticks {

@@ -1,4 +1,4 @@
-// A record as a run.
+//! A record of a trace as a run.
 ghost use Rattle.std.specs.Prelude.{◌≡◌, ◌+◌, ◌≤◌, length, option_map};
 ghost use lib.Pointwise.{pointwise};
 ghost use Rattle.std.specs.Str.{bytes_eq};
@@ -58,7 +58,7 @@ fn is_second_header(fields: &ByteRecord) -> bool
                         && (is(field(fields, 4), "job") && is(field(fields, 5), "how"))))))
 }
 
-// The place of the task's field; the job's and the how's come after it.
+// The column of the task's field; the fields of the job and of the outcome come after it.
 #[inline(always)]
 fn task_place(version: Version) -> usize
     ensures place { result ≡ event.task_place version }
@@ -70,7 +70,7 @@ fn task_place(version: Version) -> usize
     }
 }
 
-// The number of fields.
+// The number of fields of a record.
 #[inline(always)]
 fn width(version: Version) -> usize
     ensures { result ≡ length (file.header_words version) }
@@ -81,7 +81,7 @@ fn width(version: Version) -> usize
     }
 }
 
-// The refusal of another number of fields.
+// The refusal of a record with another number of fields.
 pub fn wrong_width(version: Version) -> TraceCause
     ensures { result ≡ file.wrong_width version }
 {
@@ -91,8 +91,9 @@ pub fn wrong_width(version: Version) -> TraceCause
     }
 }
 
-// The run of a record after these runs, at the tick that is due there. The likely task is looked for first.
-// It has one caller, so that it is taken into the loop over the records.
+// The run of a record after these runs, if its tick is the next one; or why it is refused. The likely task is tried
+// first.
+// It has one caller, so that the compiler inlines it into the loop over the records.
 #[tactic(auto, unfolding(crate::specs::TraceFile::record_run))]
 pub fn record_run(
     set: &TaskSet,
@@ -126,8 +127,8 @@ pub fn record_run(
     }
 }
 
-// The run of a record that tells this event, at the tick that is due. It is written out for each kind of event by its caller,
-// so that nothing is asked twice of a record.
+// The run of a record that says this event, if its tick is the next one. The caller calls it once for each kind of
+// event, so that the inlined code tests no event twice.
 #[inline(always)]
 fn run_at(
     set: &TaskSet,
@@ -158,7 +159,7 @@ fn run_at(
     Ok(run_told(told, task, numbers))
 }
 
-// The task of a release or a tick; an idle record has none, for which 0 stands, the number of no task.
+// The number of the task of a release or a tick; 0, the number of no task, for an idle record.
 #[inline(always)]
 fn task_told(
     set: &TaskSet,
@@ -177,7 +178,7 @@ fn task_told(
     }
 }
 
-// The task with this name, which is soonest found where it is the likely one.
+// The task with this name; the likely one is tried first.
 #[inline(always)]
 fn find_likely(set: &TaskSet, name: &[u8], likely: TaskNo) -> Option<TaskNo>
     ensures { option_map (λ task. task.0) result ≡ named name.now set.now.tasks }
@@ -189,7 +190,7 @@ fn find_likely(set: &TaskSet, name: &[u8], likely: TaskNo) -> Option<TaskNo>
     set.find_near(name, set.task_after(likely))
 }
 
-// The tick, the length and the job's count of a record.
+// The tick, the length and the job's number of a record.
 #[derive(Clone, Copy, Debug, PartialEq, Eq)]
 pub struct Numbers {
     pub tick: u32,
@@ -197,7 +198,7 @@ pub struct Numbers {
     pub count: u32,
 }
 
-// Those of a record; `None` where one of them is no number.
+// The numbers of a record; `None` if one of its fields is not a number.
 #[inline(always)]
 fn numbers_told(version: Version, fields: &ByteRecord, told: Event) -> Option<Numbers>
     ensures { result ≡ file.numbers_told version (fields_of fields.now) told }
@@ -229,7 +230,7 @@ fn tick_in(fields: &ByteRecord) -> Option<u32>
     number(field(fields, 1))
 }
 
-// The count of the job.
+// The job's number of a record.
 #[inline(always)]
 fn count_in(version: Version, fields: &ByteRecord) -> Option<u32>
     ensures { result ≡ text.number (field (fields_of fields.now) (event.task_place version + 1)) }
@@ -237,7 +238,7 @@ fn count_in(version: Version, fields: &ByteRecord) -> Option<u32>
     number(field(fields, task_place(version) + 1))
 }
 
-// Whether a record may have so many ticks.
+// Whether a record that says this event may have this number of ticks.
 #[inline(always)]
 fn is_length(told: Event, length: u32) -> bool
     ensures { result ≡ file.is_length told length }
@@ -268,7 +269,7 @@ fn run_told(told: Event, task: TaskNo, numbers: Numbers) -> Run
     }
 }
 
-// The ticks of a tick or idle record.
+// The number of ticks of a tick or idle record.
 #[inline(always)]
 fn length_in(version: Version, fields: &ByteRecord) -> Option<u32>
     ensures { result ≡ file.length_in version (fields_of fields.now) }

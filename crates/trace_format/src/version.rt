@@ -1,4 +1,5 @@
-// The two versions of a trace file.
+//! The two versions of a trace file.
+
 #[derive(Clone, Copy, Debug, PartialEq, Eq)]
 pub enum Version {
     One,

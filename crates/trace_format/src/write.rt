@@ -1,3 +1,4 @@
+//! Traces, written.
 ghost use Rattle.std.specs.Prelude.{◌≡◌, ◌+◌, ◌++◌, ◌≤◌, [], All, Ok, IfOk, OnOk, decimal, codes};
 ghost use Rattle.mc_model.specs.Runs.{length_of, AreRuns, IsRunOfSet};
 ghost use Rattle.mc_model.specs.TraceText.{how_word, kept_word, line_of, run_line, runs_text};
@@ -9,7 +10,8 @@ use mc_model::{How, Run};
 use mc_task::{Memory, TaskSet};
 use std::alloc::{AllocError, Global};
 
-/// The runs as the text of a trace in version 2: the header, and a line for each run.
+/// The runs as the text of a trace in version 2: the header, and a line for each run. Fails with `Memory` if an
+/// allocation fails.
 pub fn write_trace(alloc: Global, set: &TaskSet, runs: &[Run]) -> Result<Vec<u8>, Memory>
     requires runs { AreRuns runs.now }
     requires tasks { All (IsRunOfSet set.now.tasks) runs.now }
@@ -27,7 +29,7 @@ pub fn write_trace(alloc: Global, set: &TaskSet, runs: &[Run]) -> Result<Vec<u8>
     Ok(out)
 }
 
-// The tick of the row after this run.
+// The number of the tick after this run.
 pub fn tick_after(tick: u32, run: Run) -> u32
     requires { tick + length_of run ≤ 100000000 }
     ensures { result ≡ tick + length_of run }
@@ -106,7 +108,7 @@ fn push_line(
     Ok(())
 }
 
-// The line of idle ticks, which has no job.
+// The line of idle ticks, in which the fields of the job are empty.
 fn push_idles(out: &mut Vec<u8>, tick: u32, length: &str) -> Result<(), AllocError>
     ensures { OnOk result (out.new.items ≡ out.old.items ++ line_of (codes "idle") (decimal tick) length.now [] [] []) }
 {

@@ -13,3 +13,4 @@ pub mod Keeps
 pub mod Ticks
 pub mod Watching
 pub mod TurnedLate
+pub mod Quiet

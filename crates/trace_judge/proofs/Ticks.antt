@@ -163,6 +163,14 @@ stops set rule g s j More n k p task i fit e h =
     }
 stops set rule g s j how n k p task i fit e h = one_stops set rule g s j how n k p task i fit e h
 
+-- where all fit, the rows with them are legal
+pub fits : (set : List Task) (rule : Rule) (g : List Row) (s : State) (j : JobId) (how : How) (n k : ℕ) (p : Pending) (task : Task) → IsTicking set rule g s j how n k p task →
+    n ≤ fitting rule s.high_mode (Some task) p.used how n → Legal set rule (replicate n (Tick j how) ++ g)
+fits set rule g s j More n k p task i h = more_fit set rule g s j n k p task i n (omega (arith, h))
+fits set rule g s j how n k p task i h =
+    let f = one_fits set rule g s j how n k p task i (λ e. cc) h in
+    subst (λ (c : ℕ). Legal set rule (replicate c (Tick j how) ++ g)) (sym f.0) f.2
+
 -- n ticks of the job of task t after each of which it goes on; or one tick, with which it overran or ended
 abbrev pub Ticks : List Task → Rule → Option Task → JobId → Pending → How → ℕ → State → State → Type 0
 Ticks set rule t j p More n old new = GoesOn n j old new

@@ -1,6 +1,9 @@
 -- The jobs that became late by a run are those that are pending and whose deadlines came with it.
 use Rattle.std.proofs.Common.{[], ◌≡◌, ℕ, ◌+◌, ◌≤◌, Bool, true, false, not, ◌&&◌, List, ◌∷◌, ◌++◌, cond, filter, map, nat_le, reverse, replicate, refl, sym, ap, ◌∙◌, subst, arith}
-use Rattle.std.specs.List.{AllByRecursion}
+use Rattle.std.specs.List.{AllByRecursion, sum_by}
+use Rattle.std.specs.List.Sorted.{IsPermutation}
+use Rattle.std.proofs.lemmas.List.Sorted.{sum_by-IsPermutation}
+use Rattle.std.proofs.lemmas.List.Sums.{sum_by-cons}
 use Rattle.std.proofs.lemmas.Bool.Decides.{nat_tests}
 use Rattle.std.proofs.lemmas.List.{reverse-append}
 use Rattle.mc_task.specs.declared.task.JobId.{JobId}
@@ -16,7 +19,6 @@ use Rattle.mc_model.specs.declared.run.Run.TheVariants as run
 use Rattle.mc_model.specs.TaskNumbers.{period_in}
 use Rattle.mc_model.specs.Rows.{ticks}
 use Rattle.mc_model.specs.Runs.{rows_of, IsRun}
-use Rattle.mc_model.specs.Pending.{KeptRelease, pending}
 use Rattle.mc_model.specs.Late.{is_late, late}
 use Rattle.mc_model.specs.Legal.{Legal}
 use Rattle.mc_model.specs.Sums.{total, when}
@@ -28,16 +30,26 @@ use Rattle.trace_judge.specs.declared.state.State.{State}
 use Rattle.trace_judge.specs.Entries.{Entry}
 use Rattle.trace_judge.specs.Placed.{Placed, new_one, placed, waiting, stays, is_due, gone_late}
 use Rattle.trace_judge.specs.Tracks.{Tracks, entry_of}
-use Rattle.trace_judge.specs.Turned.{is_turned, is_turned_entry, turned_of, AreTurned, AddLate}
+use Rattle.trace_judge.specs.declared.turned.Turned.{Turned}
+use Rattle.trace_judge.specs.Turned.{is_turned, is_turned_entry, turned_entry, turned_of, pending_placed, turned_job, AreTurned, AddLate}
 use Rattle.trace_judge.proofs.Keeps.{waiting_more, gone_more, waiting_idle, gone_idle}
 use Rattle.trace_judge.proofs.LateTotal.{late_total}
-use Rattle.trace_judge.proofs.Placed.{live_of, pending_is}
+use Rattle.trace_judge.proofs.Placed.{waiting_is}
 use Rattle.trace_judge.proofs.Verdicts.{late_is}
 
 -- a reversed list has the same sums
 total-reverse : {X : Type 0} (f : X → ℕ) → (xs : List X) → total f (reverse xs) ≡ total f xs
 total-reverse f [] = refl
 total-reverse f (x ∷ xs) = ap (total f) (reverse-append (x ∷ []) xs) ∙ (total-append f (reverse xs) (x ∷ []) ∙ omega (arith, total-reverse f xs))
+
+-- std's sum over a list
+total_is : {X : Type 0} (f : X → ℕ) → (xs : List X) → total f xs ≡ sum_by f xs
+total_is f [] = refl
+total_is f (x ∷ xs) = omega (arith, total_is f xs, sum_by-cons f x xs)
+
+-- a list in another order has the same sums
+pub total-permutation : {X : Type 0} (f : X → ℕ) → (xs ys : List X) → IsPermutation xs ys → total f ys ≡ total f xs
+total-permutation f xs ys p = total_is f ys ∙ (sum_by-IsPermutation f xs ys p ∙ sym (total_is f xs))
 
 -- nothing weighs nothing
 total-zero : {X : Type 0} (xs : List X) → total (λ x. 0) xs ≡ 0
@@ -119,33 +131,33 @@ late_sum set rule h l f =
     ∙ (total-filter (λ (x : Placed). f x.live.job) (λ x. is_late set h x.live) (placed h)
     ∙ late_total set rule h l (λ (x : Placed). f x.live.job))))
 
--- what those among the kept jobs sum up to
-turned_sum : (set : List Task) (rule : Rule) (h : List Row) (s : State) (since : ℕ) → Tracks set rule h s → (f : JobId → ℕ) →
-    total f (turned_of set since s.ticks s.waiting.entries) ≡ total (when (λ x. is_turned set since (ticks h) x.live) (λ (x : Placed). f x.live.job)) (waiting set h)
+-- what the entries whose jobs turned late sum up to
+turned_sum : (set : List Task) (rule : Rule) (h : List Row) (s : State) (since : ℕ) → Tracks set rule h s → (f : Turned → ℕ) →
+    total f (turned_of set since s.ticks s.waiting.entries) ≡ total (when (λ x. is_turned set since (ticks h) x.live) (λ x. f (turned_job set x))) (waiting set h)
 turned_sum set rule h s since t f =
-    let job : Entry → JobId = λ e. record { task = record { 0 = e.0.1 }; count = e.0.2 } in
     let p : Entry → Bool = is_turned_entry set since s.ticks in
-    total-map f job (filter p s.waiting.entries)
-    ∙ (total-filter (λ e. f (job e)) p s.waiting.entries
-    ∙ (t.waiting (when p (λ e. f (job e)))
-    ∙ total-same (λ x. when p (λ e. f (job e)) (entry_of set rule h x)) (when (λ x. is_turned set since (ticks h) x.live) (λ (x : Placed). f x.live.job)) (λ x. rw t.ticks refl) (waiting set h)))
+    total-map f (turned_entry set) (filter p s.waiting.entries)
+    ∙ (total-filter (λ e. f (turned_entry set e)) p s.waiting.entries
+    ∙ (t.waiting (when p (λ e. f (turned_entry set e)))
+    ∙ total-same (λ x. when p (λ e. f (turned_entry set e)) (entry_of set rule h x)) (when (λ x. is_turned set since (ticks h) x.live) (λ x. f (turned_job set x))) (λ x. rw t.ticks refl) (waiting set h)))
 
--- the jobs that are listed are the pending ones whose deadlines have come since
-pub are_turned : (set : List Task) (rule : Rule) (h : List Row) (s : State) (since : ℕ) → Legal set rule h → Tracks set rule h s → AreTurned set h since (turned_of set since s.ticks s.waiting.entries)
-are_turned set rule h s since l t f =
-    let q : KeptRelease → Bool = is_turned set since (ticks h) in
-    let g : KeptRelease → ℕ = λ i. f i.job in
-    let listed = total-map f (λ (i : KeptRelease). i.job) (filter q (pending set h))
-    ∙ (total-filter g q (pending set h)
-    ∙ (ap (total (when q g)) (pending_is set rule h l)
-    ∙ total-map (when q g) live_of (waiting set h))) in
-    turned_sum set rule h s since t f ∙ sym listed
+-- jobs with the sums of those entries are the pending ones whose deadlines have come since
+pub are_turned : (set : List Task) (rule : Rule) (h : List Row) (s : State) (since : ℕ) (ts : List Turned) → Legal set rule h → Tracks set rule h s →
+    ((f : Turned → ℕ) → total f ts ≡ total f (turned_of set since s.ticks s.waiting.entries)) → AreTurned set h since ts
+are_turned set rule h s since ts l t same f =
+    let q : Placed → Bool = λ x. is_turned set since (ticks h) x.live in
+    let g : Placed → ℕ = λ x. f (turned_job set x) in
+    let listed = total-map f (turned_job set) (filter q (pending_placed set h))
+    ∙ (total-filter g q (pending_placed set h)
+    ∙ ap (total (when q g)) (waiting_is set rule h l)) in
+    same f ∙ (turned_sum set rule h s since t f ∙ sym listed)
 
--- and those that became late by the run
-pub add_late : (set : List Task) (rule : Rule) (r : Run) (h : List Row) (s : State) (since : ℕ) → IsRun r → AllByRecursion IsTask set → since ≡ ticks h → Legal set rule (rows_of r ++ h) → Tracks set rule (rows_of r ++ h) s →
-    AddLate set r h (turned_of set since s.ticks s.waiting.entries)
-add_late set rule r h s since i each e l t f =
-    let now : total f (turned_of set since s.ticks s.waiting.entries) ≡ total (when (λ x. is_turned set (ticks h) (ticks (rows_of r ++ h)) x.live) (λ (x : Placed). f x.live.job)) (waiting set (rows_of r ++ h)) =
-    turned_sum set rule (rows_of r ++ h) s since t f
-    ∙ ap (λ (n : ℕ). total (when (λ x. is_turned set n (ticks (rows_of r ++ h)) x.live) (λ (x : Placed). f x.live.job)) (waiting set (rows_of r ++ h))) e in
+-- jobs with the sums of those entries are the ones that became late by the run
+pub add_late : (set : List Task) (rule : Rule) (r : Run) (h : List Row) (s : State) (since : ℕ) (ts : List Turned) → IsRun r → AllByRecursion IsTask set → since ≡ ticks h → Legal set rule (rows_of r ++ h) → Tracks set rule (rows_of r ++ h) s →
+    ((f : Turned → ℕ) → total f ts ≡ total f (turned_of set since s.ticks s.waiting.entries)) → AddLate set r h ts
+add_late set rule r h s since ts i each e l t same f =
+    let now : total (λ (x : Turned). f x.job) ts ≡ total (when (λ x. is_turned set (ticks h) (ticks (rows_of r ++ h)) x.live) (λ (x : Placed). f x.live.job)) (waiting set (rows_of r ++ h)) =
+    same (λ x. f x.job)
+    ∙ (turned_sum set rule (rows_of r ++ h) s since t (λ x. f x.job)
+    ∙ ap (λ (n : ℕ). total (when (λ x. is_turned set n (ticks (rows_of r ++ h)) x.live) (λ (x : Placed). f x.live.job)) (waiting set (rows_of r ++ h))) e) in
     omega (arith, late_sum set rule (rows_of r ++ h) l f, late_sum set rule h (rest_legal set rule (rows_of r) h l) f, run_late set rule r h i l each (λ (x : Placed). f x.live.job), now)

@@ -34,7 +34,7 @@ HasQueues h set = h.tasks ≡ length set
 abbrev pub is_of : JobId → Entry → Bool
 is_of j e = (j.task.0 == e.0.1) && (j.count == e.0.2)
 
--- more has e beside the entries of es
+-- `more` has the entries of es and e
 abbrev pub IsMore : List Entry → Entry → List Entry → Type 0
 IsMore more e es = (f : Entry → ℕ) → total f more ≡ f e + total f es
 
@@ -46,7 +46,7 @@ late_job j p = record { place = p.place; job = j }
 abbrev pub late_job_of : Entry → LateJob
 late_job_of e = late_job (record { task = record { 0 = e.0.1 }; count = e.0.2 }) e.1
 
--- a pending job with n more ticks used, as far as a count can go
+-- a pending job with n more ticks used, at most 2^64 - 1 of them
 abbrev pub ticked : ℕ → Pending → Pending
 ticked n p = record { release = p.release; used = min (p.used + n) (2 ^ 64 - 1); place = p.place }
 
@@ -58,7 +58,7 @@ spent_entry n e = (e.0, ticked n e.1)
 abbrev pub pending_in : List Entry → JobId → Bool
 pending_in es j = list_any (is_of j) es
 
--- where the job stands among the entries: it has none, or an entry has a lesser key than its own, or none has
+-- where the job stands among the entries: it has no entry, or some entry has a lesser key than the job's, or no entry has
 abbrev pub Stands : List Entry → JobId → Standing → Type 0
 Stands es j NotPending = pending_in es j ≡ false
 Stands es j NotLeast =

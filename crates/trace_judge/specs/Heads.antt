@@ -1,7 +1,7 @@
 -- The least keys of the queues, in a tree in one array.
 use Rattle.std.specs.Prelude.{◌≡◌, ◌≢◌, ℕ, ◌+◌, ◌-◌, ◌*◌, ◌/◌, ◌^◌, ◌<◌, ◌≤◌, min, List, length, drop, slice_index}
 
--- what stands for a queue without a job: no job has so great a key
+-- the key at the head of a queue without a job: no job has so great a key
 abbrev pub no_key : ℕ
 no_key = 2 ^ 128 - 1
 
@@ -17,7 +17,7 @@ IsTreeBut except nodes = (k : ℕ) → 1 ≤ k → 2 * k + 1 < length nodes → 
 abbrev pub IsTree : List ℕ → Type 0
 IsTree nodes = (k : ℕ) → 1 ≤ k → 2 * k + 1 < length nodes → IsLesser nodes k
 
--- the two below this place have been lowered to this key, and it not yet
+-- one of the two below this place has been lowered to this key, and the place has not been lowered yet
 abbrev pub IsLowered : ℕ → ℕ → List ℕ → Type 0
 IsLowered k key nodes =
     1 ≤ k → min (slice_index nodes k) key ≡ min (slice_index nodes (2 * k)) (slice_index nodes (2 * k + 1))

@@ -4,12 +4,12 @@ use Rattle.mc_model.specs.Rows.{same_job}
 use Rattle.trace_judge.specs.declared.lates.LateJob.{LateJob}
 use Rattle.trace_judge.specs.declared.lates.Lates.{Lates}
 
--- the one of the two that was released first, where there are two
+-- the late job that was released first: the one so far, if any, or this one
 abbrev pub earlier : Option LateJob → LateJob → Option LateJob
 earlier None late = Some late
 earlier (Some first) late = cond (nat_lt late.place first.place) (Some late) (Some first)
 
--- the late jobs with one more, counted as far as a count can go
+-- the late jobs with one more, counted up to 2^64 - 1
 abbrev pub noted : Lates → LateJob → Lates
 noted s late = record { count = min (s.count + 1) (2 ^ 64 - 1); first = earlier s.first late }
 
@@ -17,14 +17,14 @@ noted s late = record { count = min (s.count + 1) (2 ^ 64 - 1); first = earlier 
 abbrev pub same_late : LateJob → LateJob → Bool
 same_late m x = (x.place == m.place) && same_job x.job m.job
 
--- some late jobs are known by what they sum up to: `weigh f` is the sum of `f` over them. This is one of them, and
--- none of them stands before it; or there is none
+-- late jobs are given by their sums: `weigh f` is the sum of `f` over them. The option holds one of these jobs, before
+-- which none of them was released; or there is no late job
 abbrev pub IsEarliest : Option LateJob → ((LateJob → ℕ) → ℕ) → Type 0
 IsEarliest None weigh = weigh (λ x. 1) ≡ 0
 IsEarliest (Some m) weigh =
     (1 ≤ weigh (λ x. cond (same_late m x) 1 0)) × (weigh (λ x. cond (nat_lt x.place m.place) 1 0) ≡ 0)
 
--- the count and the first of the late jobs that are known by their sums
+-- the count and the first of the late jobs whose sums are given
 pub record CountsLates (s : Lates) (weigh : (LateJob → ℕ) → ℕ) : Type 0 where
   pub count : s.count ≡ min (weigh (λ x. 1)) (2 ^ 64 - 1)
   pub first : IsEarliest s.first weigh

@@ -8,5 +8,6 @@ pub mod Steps
 pub mod Switch
 pub mod Placed
 pub mod Tracks
+pub mod Quiet
 pub mod Watched
 pub mod Turned

@@ -32,14 +32,14 @@ abbrev pub stays : List Task → JobId → How → Placed → Bool
 stays set j how x = not (is_end how && same_job j x.live.job)
     && (not (is_over how) || is_high_in (task_at set x.live.job.task.0))
 
--- the pending ones of them
+-- the pending jobs, the newest release first
 abbrev pub waiting : List Task → List Row → List Placed
 waiting set [] = []
 waiting set (Release j kept ∷ g) = cond kept (new_one j g ∷ waiting set g) (waiting set g)
 waiting set (Tick j how ∷ g) = filter (stays set j how) (waiting set g)
 waiting set (Idle ∷ g) = waiting set g
 
--- the deadline has come
+-- the deadline of the kept release has come at boundary now
 abbrev pub is_due : List Task → ℕ → Placed → Bool
 is_due set now x = nat_le (deadline set x.live) now
 

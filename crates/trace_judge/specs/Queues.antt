@@ -9,7 +9,7 @@ use Rattle.trace_judge.specs.Entries.{Entry, Held, ticked}
 abbrev pub has_count : ℕ → Queued → Bool
 has_count count q = count == q.count
 
--- with n more ticks used
+-- the job with n more ticks used
 abbrev pub spent_job : ℕ → Queued → Queued
 spent_job n q = record { key = q.key; count = q.count; pending = ticked n q.pending }
 
@@ -18,12 +18,12 @@ abbrev pub head_key : List Queued → ℕ
 head_key [] = no_key
 head_key (q ∷ qs) = q.key
 
--- the keys ascend
+-- a queue of a task: the keys ascend, and each is less than that of an empty queue
 abbrev pub IsQueue : List Queued → Type 0
 IsQueue [] = Unit {0}
 IsQueue (q ∷ qs) = (q.key < no_key) × AllByRecursion (λ r. q.key ≤ r.key) qs × IsQueue qs
 
--- the place after the jobs whose keys are not greater
+-- the index after the jobs whose keys are not greater
 pub record IsPlaceFor (qs : List Queued) (key place : ℕ) : Type 0 where
   pub inside : place ≤ length qs
   pub behind : (d : Queued) → 1 ≤ place → (slice_index_or qs (place - 1) d).key ≤ key
@@ -46,12 +46,12 @@ held queues = record { tasks = length queues; entries = entries_from 1 queues }
 abbrev pub rest_of : List (List Queued) → ℕ → ℕ → List Entry
 rest_of queues next at = drop at (entries_from (next + 1) (drop next queues))
 
--- these are entries of the queue at the index
+-- a place among the queues: the queue at index `next` has at least `at` entries
 pub record IsRest (queues : List (List Queued)) (next at : ℕ) : Type 0 where
   pub few : length queues < 2 ^ 32
   pub inside : at ≤ length (slice_index_or queues next [])
 
--- each is a queue, and these are the keys of their heads
+-- each list of jobs is a queue, and the keys are those at the heads of the queues
 pub record AreQueues (queues : List (List Queued)) (heads : List ℕ) : Type 0 where
   pub some : 1 ≤ length queues
   pub few : length queues < 2 ^ 32

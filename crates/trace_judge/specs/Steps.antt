@@ -41,12 +41,12 @@ pub record IsNew (count : ℕ) (s : State) : Type 0 where
   pub count_zero : s.lates.count ≡ 0
   pub first : s.lates.first ≡ None
 
--- the job of this entry waits where it is kept
+-- the job of this entry is added to the entries if it is kept
 abbrev pub Waits : Bool → Entry → List Entry → List Entry → Type 0
 Waits true e old new = IsMore new e old
 Waits false e old new = new ≡ old
 
--- a release of a job of task t: its note is renewed, and the job waits where it is kept
+-- a release of a job of task t: the task's note is renewed, and the job is added to the pending ones if it is kept
 pub record Releases (rule : Rule) (t : Option Task) (j : JobId) (kept : Bool) (old new : State) : Type 0 where
   pub ticks : new.ticks ≡ old.ticks
   pub place : new.place ≡ old.place + 1
@@ -59,21 +59,21 @@ pub record Releases (rule : Rule) (t : Option Task) (j : JobId) (kept : Bool) (o
       old.waiting.entries new.waiting.entries
   pub lates : new.lates ≡ old.lates
 
--- n more ticks, and as many more rows
+-- n more ticks and n more rows
 pub record Moves (n : ℕ) (old new : State) : Type 0 where
   pub ticks : new.ticks ≡ old.ticks + n
   pub place : new.place ≡ old.place + n
   pub tasks : new.tasks.items ≡ old.tasks.items
   pub queues : new.waiting.tasks ≡ old.waiting.tasks
 
--- n ticks of the job, which goes on
+-- n ticks of the job, after each of which the job goes on
 pub record GoesOn (n : ℕ) (j : JobId) (old new : State) : Type 0 where
   pub moves : Moves n old new
   pub mode : new.high_mode ≡ old.high_mode
   pub waiting : new.waiting.entries ≡ change_first (is_of j) (spent_entry n) old.waiting.entries
   pub lates : new.lates ≡ old.lates
 
--- the last tick of the job of task t: it goes, and is late where its deadline came before
+-- the last tick of the job of task t: the job is taken out, and is late if its deadline came before this tick
 pub record Ends (t : Option Task) (j : JobId) (p : Pending) (old new : State) : Type 0 where
   pub moves : Moves 1 old new
   pub mode : new.high_mode ≡ old.high_mode

@@ -16,7 +16,7 @@ use Rattle.trace_judge.specs.Entries.{Rank, Entry, is_of, spent_entry, late_job_
 use Rattle.trace_judge.specs.Rules.{is_due_at}
 use Rattle.trace_judge.specs.Steps.{Moves}
 
--- the entry's deadline has come
+-- the deadline of the entry's job has come at boundary now
 abbrev pub is_due_entry : List Task → ℕ → Entry → Bool
 is_due_entry set now e = is_due_at (task_at set e.0.1) e.1.release now
 
@@ -24,7 +24,7 @@ is_due_entry set now e = is_due_at (task_at set e.0.1) e.1.release now
 abbrev pub is_discarded_late : List Task → ℕ → Entry → Bool
 is_discarded_late set now e = not (is_high_in (task_at set e.0.1)) && is_due_entry set now e
 
--- the late jobs, with each of the entries that pass the test noted, one after the other
+-- the late jobs, to which each entry that passes the test is added, one after the other
 abbrev pub noted_each : (Entry → Bool) → Lates → List Entry → Lates
 noted_each p s [] = s
 noted_each p s (e ∷ es) = noted_each p (cond (p e) (noted s (late_job_of e)) s) es
@@ -34,12 +34,12 @@ abbrev pub rekeyed : Rule → Option Task → Rank → Pending → Rank
 rekeyed rule None at p = at
 rekeyed rule (Some t) at p = (key_of rule true (Some t) p.release, at.1, at.2)
 
--- a weight of the high entries at their new ranks, where the low ones weigh nothing
+-- the weight of an entry of a high job at its new rank; an entry of a low job weighs nothing
 abbrev pub moved : List Task → Rule → (Entry → ℕ) → Entry → ℕ
 moved set rule f e =
     cond (is_high_in (task_at set e.0.1)) (f (rekeyed rule (task_at set e.0.1) e.0 e.1, e.1)) 0
 
--- of the entries the high ones are kept, at their new ranks
+-- the new entries are those of the high jobs, at their new ranks
 abbrev pub Switches : List Task → Rule → List Entry → List Entry → Type 0
 Switches set rule old new = (f : Entry → ℕ) → total f new ≡ total (moved set rule f) old
 

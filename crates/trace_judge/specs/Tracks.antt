@@ -24,11 +24,11 @@ entry_of set rule g x = (
   record { release = x.live.release; used = used g x.live.job; place = x.place },
 )
 
--- the job, as a late one
+-- the kept release as a late job
 abbrev pub late_job_in : Placed → LateJob
 late_job_in x = record { place = x.place; job = x.live.job }
 
--- what is kept is what the definitions say of these rows
+-- the state agrees with the definitions on these rows
 pub record Tracks (set : List Task) (rule : Rule) (g : List Row) (s : State) : Type 0 where
   pub ticks : s.ticks ≡ ticks g
   pub place : s.place ≡ length g
@@ -41,7 +41,7 @@ pub record Tracks (set : List Task) (rule : Rule) (g : List Row) (s : State) : T
       → total f s.waiting.entries ≡ total (λ x. f (entry_of set rule g x)) (waiting set g)
   pub lates : CountsLates s.lates (λ f. total (λ x. f (late_job_in x)) (gone_late set g))
 
--- the rows of the run before this one fit, and this one is the first that does not, for this part
+-- the misfit is the first row of the run that does not fit, and the part of it that fails
 pub record StopsAt (set : List Task) (rule : Rule) (run : Run) (g : List Row) (misfit : Misfit) : Type 0 where
   pub inside : misfit.after < size run
   pub before : Legal set rule (replicate misfit.after (row_of run) ++ g)
@@ -53,3 +53,10 @@ IsStep set rule run old None new = (g : List Row) → Legal set rule g → Track
     → Legal set rule (rows_of run ++ g) × Tracks set rule (rows_of run ++ g) new
 IsStep set rule run old (Some misfit) new =
     (g : List Row) → Legal set rule g → Tracks set rule g old → StopsAt set rule run g misfit
+
+-- after legal rows that are tracked: each row of the run fits, or this is the first row that does not fit
+abbrev pub Looks : List Task → Rule → Run → State → Option Misfit → Type 0
+Looks set rule run s None =
+    (g : List Row) → Legal set rule g → Tracks set rule g s → Legal set rule (rows_of run ++ g)
+Looks set rule run s (Some misfit) =
+    (g : List Row) → Legal set rule g → Tracks set rule g s → StopsAt set rule run g misfit

@@ -10,8 +10,10 @@ use Rattle.mc_model.specs.Verdict.{first_unfit}
 use Rattle.trace_judge.specs.declared.unfit.Unfit.{Unfit}
 use Rattle.trace_judge.specs.declared.state.State.{State}
 use Rattle.trace_judge.specs.Tracks.{Tracks}
+use Rattle.trace_judge.specs.declared.turned.Quiet.{Quiet}
+use Rattle.trace_judge.specs.Quiet.{IsQuiet}
 
--- a monitor: the set, the rule, what is kept of the rows that fit, and the first row that did not
+-- a monitor: the set, the rule, what is kept of the rows that fit, and the first row that does not fit
 pub record Watched : Type 0 where
   pub set : Set
   pub rule : Rule
@@ -22,7 +24,7 @@ pub record Watched : Type 0 where
 abbrev pub unfit_in : List Task → Rule → List Row → Option Unfit
 unfit_in set rule h = option_map (λ f. record { place = f.place; why = f.why }) (first_unfit set rule h)
 
--- the rows are legal and the state tracks them; or this is the first of them that does not fit
+-- the rows are legal and the state tracks them; or the option holds the first row that does not fit
 abbrev pub TracksOrUnfit : List Row → List Task → Rule → State → Option Unfit → Type 0
 TracksOrUnfit h set rule s None = Legal set rule h × Tracks set rule h s
 TracksOrUnfit h set rule s (Some u) = unfit_in set rule h ≡ Some u
@@ -31,22 +33,23 @@ TracksOrUnfit h set rule s (Some u) = unfit_in set rule h ≡ Some u
 abbrev pub Watches : List Row → Watched → Type 0
 Watches h m = TracksOrUnfit h m.set.tasks m.rule m.state m.unfit
 
--- the rule fits, and the state tracks some legal rows
-pub record IsWatched (set : List Task) (rule : Rule) (s : State) : Type 0 where
+-- the rule fits, and the state tracks some legal rows, after which no pending job has its deadline in the stretch of time
+pub record IsWatched (set : List Task) (rule : Rule) (s : State) (q : Quiet) : Type 0 where
   pub fits : Fits rule
   pub rows : List Row
   pub legal : Legal set rule rows
   pub tracks : Tracks set rule rows s
+  pub quiet : IsQuiet set rows q
 
--- whether no row failed
+-- whether no row is known that does not fit
 abbrev pub is_none : Option Unfit → Bool
 is_none None = true
 is_none (Some u) = false
 
--- the number of rows that fitted
+-- the number of rows that the monitor has seen and that fit
 abbrev pub seen : Watched → ℕ
 seen m = m.state.place
 
--- each row has fitted
+-- whether each row so far fits
 abbrev pub fits_so_far : Watched → Bool
 fits_so_far m = is_none m.unfit

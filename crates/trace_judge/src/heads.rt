@@ -1,6 +1,6 @@
-// The keys at the heads of the tasks' queues, in a tree in one array, as a winner tree (Knuth, The Art of Computer
-// Programming, volume 3, section 5.4.1): the last half are the leaves, and place k holds the lesser of the keys at the
-// places 2k and 2k + 1. Place 0 is not used.
+//! The keys at the heads of the tasks' queues, in a tree in one array, as a winner tree (Knuth, The Art of Computer
+//! Programming, volume 3, section 5.4.1): the last half are the leaves, and place k holds the lesser of the keys at the
+//! places 2k and 2k + 1. Place 0 is not used.
 ghost use Rattle.std.specs.Prelude.{◌≡◌, ◌+◌, ◌*◌, ◌/◌, ◌^◌, ◌<◌, ◌≤◌, ℕ, All, Contains, IfOk, length, drop, slice_index, slice_set, replicate};
 ghost use Rattle.trace_judge.specs.Heads.{no_key, IsTree, IsTreeBut, IsLowered};
 
@@ -8,7 +8,7 @@ use mc_task::Memory;
 use std::alloc::{AllocError, Global};
 use std::marker::Model;
 
-/// What stands for a queue without a job.
+/// The key at the head of a queue without a job: no job has so great a key.
 pub const NO_KEY: u128 = u128::MAX;
 
 /// The key at the head of each queue, as a list.
@@ -30,7 +30,7 @@ impl Model for Heads {
 }
 
 impl Heads {
-    /// The heads of `count` queues without a job.
+    /// The keys at the heads of `count` queues without a job.
     pub fn new(alloc: Global, count: u32) -> Result<Heads, Memory>
         requires { 1 ≤ count }
         ensures { IfOk result (λ heads. heads ≡ replicate count no_key) }
@@ -39,7 +39,7 @@ impl Heads {
         Ok(Heads { nodes })
     }
 
-    /// Puts another key at the head of a queue.
+    /// Replaces the key at the head of a queue.
     pub fn set(&mut self, index: usize, key: u128)
         requires { index < length self.old }
         ensures { self.new ≡ slice_set self.old index key }
@@ -47,7 +47,7 @@ impl Heads {
         put(&mut self.nodes, index, key);
     }
 
-    /// Puts a key that is not greater at the head of a queue.
+    /// Replaces the key at the head of a queue by one that is not greater.
     pub fn lower(&mut self, index: usize, key: u128)
         requires index { index < length self.old }
         requires lesser { key ≤ slice_index self.old index }
@@ -56,7 +56,7 @@ impl Heads {
         put_lesser(&mut self.nodes, index, key);
     }
 
-    /// The least of the keys.
+    /// The least key of all queues.
     pub fn least(&self) -> u128
         ensures below { All (λ key. result ≤ key) self.now }
         ensures there { Contains self.now result }
@@ -73,7 +73,7 @@ fn no_keys(alloc: Global, count: usize) -> Result<Vec<u128>, AllocError>
     vec![in alloc; NO_KEY; 2 * count]
 }
 
-// Puts a key at a leaf, and goes from there to the root.
+// Puts a key at a leaf, and mends the places above it.
 fn put(nodes: &mut [u128], leaf: usize, key: u128)
     requires even { length nodes.old ≡ 2 * (length nodes.old / 2) }
     requires leaf { leaf < length nodes.old / 2 }
@@ -87,7 +87,7 @@ fn put(nodes: &mut [u128], leaf: usize, key: u128)
     climb(nodes, place);
 }
 
-// Goes from a place, which was changed, towards the root, as far as a key changes.
+// Mends the places between a place that was changed and the root, as far up as a key changes.
 fn climb(nodes: &mut [u128], from: usize)
     requires pair { 2 * (from / 2) + 1 < length nodes.old }
     requires tree { IsTreeBut (from / 2) nodes.old }
@@ -106,7 +106,7 @@ fn climb(nodes: &mut [u128], from: usize)
     }
 }
 
-// Puts a key that is not greater at a leaf, and lowers those above it.
+// Puts a key that is not greater than the present one at a leaf, and lowers the places above it.
 fn put_lesser(nodes: &mut [u128], leaf: usize, key: u128)
     requires even { length nodes.old ≡ 2 * (length nodes.old / 2) }
     requires leaf { leaf < length nodes.old / 2 }
@@ -121,8 +121,8 @@ fn put_lesser(nodes: &mut [u128], leaf: usize, key: u128)
     lower_above(nodes, place, key);
 }
 
-// Goes from a place, which was lowered to this key, towards the root, as far as the key is less than what is there: what is beside
-// it need not be looked at.
+// Lowers the places between a place that was lowered to this key and the root, as far up as they hold a greater key. The
+// places beside them need not be read.
 fn lower_above(nodes: &mut [u128], from: usize, key: u128)
     requires pair { 2 * (from / 2) + 1 < length nodes.old }
     requires tree { IsTreeBut (from / 2) nodes.old }

@@ -1,4 +1,4 @@
-// The late jobs, as they are found.
+//! The late jobs, counted in the order in which they are found.
 ghost use Rattle.std.specs.Prelude.{◌≡◌};
 ghost use Rattle.trace_judge.specs.Lates.{noted, earlier};
 
@@ -28,7 +28,7 @@ impl Lates {
     }
 }
 
-// The one of the two that was released first, where there are two.
+// The late job that was released first: the one so far, if any, or this one.
 fn earlier(first: Option<LateJob>, late: LateJob) -> Option<LateJob>
     ensures { result ≡ earlier first late }
 {

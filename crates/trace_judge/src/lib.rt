@@ -1,4 +1,4 @@
-//! The judge of a trace: the first row that is not one of EDF-VD (Baruah et al., ECRTS 2012), or else who was late.
+//! The judge of a trace: the first row that breaks a rule of EDF-VD (Baruah et al., ECRTS 2012), or else which jobs were late.
 #![tactic(auto)]
 
 mod heads;
@@ -8,10 +8,12 @@ mod queue;
 mod rules;
 mod state;
 mod step;
+mod turned;
 mod unfit;
 mod verdict;
 mod waiting;
 
-pub use monitor::{Monitor, ObserveFault, Turned};
+pub use monitor::{Monitor, ObserveFault};
+pub use turned::Turned;
 pub use unfit::Unfit;
 pub use verdict::judge;

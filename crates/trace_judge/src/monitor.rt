@@ -1,5 +1,5 @@
-// A schedule that is judged while it happens.
-ghost use Rattle.std.specs.Prelude.{◌≡◌, ◌+◌, ◌++◌, ◌∷◌, ◌^◌, ◌<◌, ◌≤◌, nat_le, true, false, [], None, MatchOption, IfOk, OnErr, IfErr, List, length, option_map};
+//! A schedule that is judged while it happens.
+ghost use Rattle.std.specs.Prelude.{◌≡◌, ◌≢◌, ◌+◌, ◌++◌, ◌^◌, ◌<◌, ◌≤◌, nat_le, true, false, [], None, IsSome, IfOk, OnOk, OnErr, IfErr, List, length, option_map};
 ghost use Rattle.mc_model.specs.declared.row.Row.{Row};
 ghost use Rattle.mc_model.specs.declared.verdict.Verdict.TheVariants.{Legal};
 ghost use Rattle.mc_model.specs.Holds.{Fits, Holds};
@@ -10,29 +10,29 @@ ghost use Rattle.mc_model.specs.Mode.{high_mode};
 ghost use Rattle.mc_model.specs.Pending.{pending};
 ghost use Rattle.mc_model.specs.declared.run.Run.{Run};
 ghost use Rattle.trace_judge.specs.Watched.{Watches, unfit_in, seen, fits_so_far};
-ghost use Rattle.trace_judge.specs.Turned.{AreTurned, AddLate};
+ghost use Rattle.trace_judge.specs.Turned.{AreTurned, IsInOrder, AddLate};
 ghost use Rattle.trace_judge.specs.declared.monitor.ObserveFault.TheVariants as faults;
 
 use crate::lates::Lates;
-use crate::state::{State, is_due_task, job_at};
-use crate::step::{Misfit, step};
+use crate::state::State;
+use crate::step::{Misfit, look, step};
+use crate::turned::{Quiet, Turned, turned_late};
 use crate::unfit::Unfit;
-use crate::waiting::Rest;
 use mc_model::{How, Run, Verdict};
-use mc_task::{JobId, Memory, Rule, TaskNo, TaskSet};
+use mc_task::{Memory, Rule, TaskSet};
 use std::alloc::Global;
 use std::marker::Model;
 
-/// How many rows a monitor may see.
+/// The greatest number of rows that a monitor takes.
 const MOST_ROWS: u64 = 1 << 62;
 
-/// Why a monitor does not take a run. It is as it was.
+/// Why a monitor refuses a run. A refused run leaves the monitor as it was.
 #[derive(Clone, Copy, Debug, PartialEq, Eq)]
 pub enum ObserveFault {
     Memory,
     /// The set has no task with the run's number.
     UnknownTask,
-    /// The run has no row, or it has several rows of a tick after which its job does not go on.
+    /// The run has no row, or it has several ticks after which its job does not go on.
     NotARun,
     /// There would be more than 2^62 rows.
     Full,
@@ -46,16 +46,17 @@ impl From<Memory> for ObserveFault {
     }
 }
 
-/// A schedule that is judged while it happens, run by run, under a rule that fits and need not hold for the set.
+/// Judges a schedule while it happens, run by run, under a rule that fits and need not hold for the set.
 ///
-/// Contracts say what it answers for all rows that it may have seen, `Watches rows monitor`, the newest first. It holds no
-/// rows: its memory grows with the jobs that are pending alone.
+/// Contracts say what a monitor returns for all rows that it may have seen, `Watches rows monitor`, the newest first. A
+/// monitor stores no rows: its memory grows with the pending jobs alone.
 #[derive(Drop)]
 pub struct Monitor {
     set: TaskSet,
     rule: Rule,
     state: State,
     unfit: Option<Unfit>,
+    quiet: Quiet,
 }
 
 impl Model for Monitor {
@@ -65,11 +66,11 @@ impl Model for Monitor {
 
     ghost view = { λ a. record { set = a.set; rule = a.rule; state = a.state; unfit = a.unfit } };
 
-    ghost invariant = { λ a. IsWatched a.set.tasks a.rule a.state };
+    ghost invariant = { λ a. IsWatched a.set.tasks a.rule a.state a.quiet };
 }
 
 impl Monitor {
-    /// A monitor that has seen no row. It keeps the set.
+    /// A monitor that has seen no row. The set stays with the monitor.
     pub fn new(alloc: Global, set: TaskSet, rule: Rule) -> Result<Monitor, Memory>
         requires fits { Fits rule }
         ensures set { IfOk result (λ m. m.set ≡ set) }
@@ -84,10 +85,11 @@ impl Monitor {
             rule,
             state,
             unfit: None,
+            quiet: Quiet::always(),
         })
     }
 
-    /// Takes any run, and answers the first row so far that does not fit. Where it refuses a run it is as it was.
+    /// Takes any run, and returns the first row so far that does not fit. A run that is refused leaves the monitor as it was.
     pub fn observe(&mut self, alloc: Global, run: Run) -> Result<Option<Unfit>, ObserveFault>
         ensures answer { IfOk result (λ unfit. (h : List Row) → Watches h self.old → unfit ≡ unfit_in self.old.set.tasks self.old.rule (rows_of run ++ h)) }
         ensures rows { IfOk result (λ unfit. (h : List Row) → Watches h self.old → Watches (rows_of run ++ h) self.new) }
@@ -98,22 +100,15 @@ impl Monitor {
         ensures not_a_run { IfErr result (λ e. e ≡ faults.NotARun → ¬ IsRun run) }
         ensures full { IfErr result (λ e. e ≡ faults.Full → 2 ^ 62 < seen self.old + size run) }
     {
-        if !is_of_set(&self.set, run) {
-            return Err(ObserveFault::UnknownTask);
-        }
-        if !is_run(run) {
-            return Err(ObserveFault::NotARun);
-        }
-        if !self.has_room(run) {
-            return Err(ObserveFault::Full);
-        }
+        self.check_run(run)?;
         match self.follow(alloc, run) {
             Ok(unfit) => Ok(unfit),
             Err(_) => Err(ObserveFault::Memory),
         }
     }
 
-    /// The same for a run of the set for which there is room.
+    /// Takes a valid run of the set for which there is room, and returns the first row so far that does not fit. Without
+    /// memory the monitor stays as it was.
     pub fn follow(&mut self, alloc: Global, run: Run) -> Result<Option<Unfit>, Memory>
         requires task { IsRunOfSet self.old.set.tasks run }
         requires is_run { IsRun run }
@@ -129,14 +124,60 @@ impl Monitor {
             return Ok(Some(unfit));
         }
         let before = self.state.place;
+        let now = self.state.ticks;
         match step(&mut self.state, alloc, &self.set, self.rule, run)? {
-            None => Ok(None),
+            None => {
+                self.quiet = self.quiet.after_run(&self.set, now, run);
+                Ok(None)
+            }
             Some(misfit) => {
                 let unfit = unfit_after(before, misfit);
                 self.unfit = Some(unfit);
                 Ok(Some(unfit))
             }
         }
+    }
+
+    /// What `observe` would return for the run: the first row so far that does not fit. The monitor does not take the run, so
+    /// a dispatcher can ask before it makes a row. No memory is needed.
+    pub fn would_fit(&self, run: Run) -> Result<Option<Unfit>, ObserveFault>
+        ensures answer { IfOk result (λ unfit. (h : List Row) → Watches h self.now → unfit ≡ unfit_in self.now.set.tasks self.now.rule (rows_of run ++ h)) }
+        ensures found { IsSome self.now.unfit → IfOk result (λ unfit. unfit ≡ self.now.unfit) }
+        ensures memory { IfErr result (λ e. e ≢ faults.Memory) }
+        ensures unknown { IfErr result (λ e. e ≡ faults.UnknownTask → ¬ IsRunOfSet self.now.set.tasks run) }
+        ensures not_a_run { IfErr result (λ e. e ≡ faults.NotARun → ¬ IsRun run) }
+        ensures full { IfErr result (λ e. e ≡ faults.Full → 2 ^ 62 < seen self.now + size run) }
+    {
+        self.check_run(run)?;
+        if let Some(unfit) = self.unfit {
+            return Ok(Some(unfit));
+        }
+        match look(&self.state, &self.set, self.rule, run) {
+            None => Ok(None),
+            Some(misfit) => Ok(Some(unfit_after(self.state.place, misfit))),
+        }
+    }
+
+    // Refuses a run for each reason except out of memory.
+    fn check_run(&self, run: Run) -> Result<(), ObserveFault>
+        ensures task { OnOk result (IsRunOfSet self.now.set.tasks run) }
+        ensures is_run { OnOk result (IsRun run) }
+        ensures room { OnOk result (seen self.now + size run ≤ 2 ^ 62) }
+        ensures memory { IfErr result (λ e. e ≢ faults.Memory) }
+        ensures unknown { IfErr result (λ e. e ≡ faults.UnknownTask → ¬ IsRunOfSet self.now.set.tasks run) }
+        ensures not_a_run { IfErr result (λ e. e ≡ faults.NotARun → ¬ IsRun run) }
+        ensures full { IfErr result (λ e. e ≡ faults.Full → 2 ^ 62 < seen self.now + size run) }
+    {
+        if !is_of_set(&self.set, run) {
+            return Err(ObserveFault::UnknownTask);
+        }
+        if !is_run(run) {
+            return Err(ObserveFault::NotARun);
+        }
+        if !self.has_room(run) {
+            return Err(ObserveFault::Full);
+        }
+        Ok(())
     }
 
     /// Whether there is room for the rows of the run.
@@ -146,14 +187,14 @@ impl Monitor {
         self.state.place <= MOST_ROWS && size_of(run) <= MOST_ROWS - self.state.place
     }
 
-    /// How many rows have fitted.
+    /// How many rows the monitor has seen that fit.
     pub fn seen(&self) -> u64
         ensures { result ≡ seen self.now }
     {
         self.state.place
     }
 
-    /// Whether each row has fitted.
+    /// Whether each row so far fits.
     pub fn is_legal(&self) -> bool
         ensures { result ≡ fits_so_far self.now }
     {
@@ -163,7 +204,7 @@ impl Monitor {
         }
     }
 
-    /// How many ticks there were.
+    /// The number of ticks so far.
     pub fn ticks(&self) -> u64
         ensures { (h : List Row) → Watches h self.now → fits_so_far self.now ≡ true → result ≡ ticks h }
     {
@@ -185,19 +226,26 @@ impl Monitor {
         self.state.waiting.count()
     }
 
-    /// The pending jobs whose deadlines came after `since` ticks. After one run, with the ticks before it, these are all jobs
-    /// that became late by it. Nothing is said of a monitor that has seen a row that does not fit.
-    pub fn turned_late(&self, since: u64) -> Turned<'_>
-        ensures jobs { (h : List Row) → Watches h self.now → fits_so_far self.now ≡ true → AreTurned self.now.set.tasks h since result }
-        ensures late { (h : List Row) (run : Run) → Watches (rows_of run ++ h) self.now → fits_so_far self.now ≡ true → IsRun run → since ≡ ticks h → AddLate self.now.set.tasks run h result }
+    /// The pending jobs whose deadlines came after `since` ticks, in the order of their deadlines, and those with one deadline
+    /// in the order of their releases. After one run, with the number of ticks before it, these are all jobs that became late
+    /// by the run. Nothing is said of a monitor that has seen a row that does not fit.
+    ///
+    /// A call reads the pending jobs only if a deadline may have come since the last call that read them, or if `since` is
+    /// before that call. It reads each of them once, sorts those that it returns, and needs memory for these alone.
+    pub fn turned_late(&mut self, alloc: Global, since: u64) -> Result<Vec<Turned>, Memory>
+        ensures jobs { IfOk result (λ turned. (h : List Row) → Watches h self.old → fits_so_far self.old ≡ true → AreTurned self.old.set.tasks h since turned.items) }
+        ensures order { IfOk result (λ turned. IsInOrder turned.items) }
+        ensures late { IfOk result (λ turned. (h : List Row) (run : Run) → Watches (rows_of run ++ h) self.old → fits_so_far self.old ≡ true → IsRun run → since ≡ ticks h → AddLate self.old.set.tasks run h turned.items) }
+        ensures same { self.new ≡ self.old }
     {
         let _is_set = self.set.len();
-        Turned {
-            set: &self.set,
-            rest: self.state.waiting.rest(),
-            since,
-            now: self.state.ticks,
+        let now = self.state.ticks;
+        if self.quiet.after <= since && now < self.quiet.until {
+            return Ok(Vec::new(alloc));
         }
+        let (turned, until) = turned_late(&self.state, alloc, &self.set, since)?;
+        self.quiet = Quiet { after: now, until };
+        Ok(turned)
     }
 
     /// The verdict on the rows so far.
@@ -219,46 +267,7 @@ impl Monitor {
     }
 }
 
-/// Jobs that became late, in no order.
-#[derive(Drop)]
-pub struct Turned<'a> {
-    set: &'a TaskSet,
-    rest: Rest<'a>,
-    since: u64,
-    now: u64,
-}
-
-impl<'a> Model for Turned<'a> {
-    ghost use Rattle.std.specs.Prelude.{List};
-    ghost use Rattle.mc_task.specs.declared.task.JobId.{JobId};
-
-    ghost Value = { List JobId };
-
-    ghost use Rattle.trace_judge.specs.Turned.{turned_of};
-
-    ghost view = { λ a. turned_of a.set.now.tasks a.since a.now a.rest };
-
-    ghost invariant = { λ a. Unit {0} };
-}
-
-impl<'a> Turned<'a> {
-    /// The next job.
-    pub fn pop(&mut self) -> Option<JobId>
-        ensures { MatchOption result (self.old ≡ []) (λ job. self.old ≡ job ∷ self.new) }
-    {
-        while let Some((at, pending)) = self.rest.pop() {
-            let task = self.set.get(TaskNo(at.1));
-            if is_due_task(&task, pending.release, self.now)
-                && !is_due_task(&task, pending.release, self.since)
-            {
-                return Some(job_at(at));
-            }
-        }
-        None
-    }
-}
-
-/// The row of a run that does not fit, where `before` rows stand before the run.
+/// The first row that does not fit, in a run before which `before` rows stand.
 pub fn unfit_after(before: u64, misfit: Misfit) -> Unfit
     requires { before ≤ 2 ^ 62 }
     ensures { result ≡ record { place = before + misfit.after + 1; why = misfit.why } }
@@ -269,7 +278,7 @@ pub fn unfit_after(before: u64, misfit: Misfit) -> Unfit
     }
 }
 
-/// The verdict where each row fits.
+/// The verdict on rows that all fit.
 pub fn legal(lates: Lates) -> Verdict
     ensures { result ≡ Legal lates.count (option_map (λ late. late.job) lates.first) }
 {
@@ -295,7 +304,7 @@ fn is_of_set(set: &TaskSet, run: Run) -> bool
     }
 }
 
-// Whether the run has a row, and several only where its job goes on after each.
+// Whether the run has a row, and several ticks of a job only if the job goes on after each.
 fn is_run(run: Run) -> bool
     ensures yes { result ≡ true → IsRun run }
     ensures no { result ≡ false → ¬ IsRun run }
@@ -310,7 +319,7 @@ fn is_run(run: Run) -> bool
     }
 }
 
-// The number of its rows.
+// The number of rows of the run.
 fn size_of(run: Run) -> u64
     ensures { result ≡ size run }
 {

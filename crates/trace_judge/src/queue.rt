@@ -1,5 +1,5 @@
-// The pending jobs of one task, in ascending order of their keys. Jobs of a task are released in that order, so a new one
-// comes last, and the one that runs is the first.
+//! The pending jobs of one task, in ascending order of their keys. Jobs of a task are released in that order, so a new
+//! job is put last, and the job that runs is the first.
 ghost use Rattle.std.specs.Prelude.{◌≡◌, ◌+◌, ◌<◌, ◌≤◌, ℕ, [], OnOk, OnErr, IfOk, IfSome, IfNone, cond, length, slice_index_or, true, false, find};
 ghost use Rattle.std.specs.List.{list_any, insert, remove};
 ghost use Rattle.mc_model.specs.Sums.{total};
@@ -42,7 +42,7 @@ impl Model for Queue {
 }
 
 impl Queue {
-    /// No jobs.
+    /// A queue without jobs.
     pub fn new(alloc: Global) -> Queue
         ensures { result ≡ [] }
     {
@@ -51,7 +51,7 @@ impl Queue {
         }
     }
 
-    /// Puts a job in, after those whose keys are not greater, and returns whether it is the first.
+    /// Puts a job after those whose keys are not greater, and returns whether the job is now the first.
     #[inline(always)]
     pub fn push(&mut self, job: Queued) -> Result<bool, Memory>
         requires { job.key < no_key }
@@ -66,7 +66,7 @@ impl Queue {
         Ok(place == 0)
     }
 
-    /// The least key, that of the first job.
+    /// The key of the first job, which is the least.
     pub fn head_key(&self) -> u128
         ensures { result ≡ head_key self.now }
     {
@@ -106,7 +106,7 @@ impl Queue {
         }
     }
 
-    /// How many jobs there are.
+    /// The number of jobs.
     pub fn len(&self) -> usize
         ensures { result ≡ length self.now }
     {
@@ -122,7 +122,7 @@ impl Queue {
     }
 }
 
-// The place after the jobs whose keys are not greater. A task mostly has no other job, so that is asked first.
+// The index after the jobs whose keys are not greater. A task mostly has no other job, so that case is tried first.
 #[inline(always)]
 fn place_for(jobs: &VecDeque<Queued>, key: u128) -> usize
     requires { IsQueue jobs.now.items }
@@ -138,7 +138,7 @@ fn place_for(jobs: &VecDeque<Queued>, key: u128) -> usize
     place
 }
 
-// Puts a job in at this place, which is the last one for a job that was released after all others.
+// Puts a job at this index, which is the last one for a job that was released after all others.
 #[inline(always)]
 fn put_at(jobs: &mut VecDeque<Queued>, place: usize, job: Queued) -> Result<(), AllocError>
     requires { place ≤ length jobs.old.items }
@@ -153,7 +153,7 @@ fn put_at(jobs: &mut VecDeque<Queued>, place: usize, job: Queued) -> Result<(), 
     Ok(())
 }
 
-// Takes the job at this place out, which is the first one for a job that runs.
+// Takes out the job at this index, which is the first one for a job that runs.
 #[inline(always)]
 fn take_at(jobs: &mut VecDeque<Queued>, place: usize)
     requires { place < length jobs.old.items }
@@ -166,7 +166,7 @@ fn take_at(jobs: &mut VecDeque<Queued>, place: usize)
     let _ = jobs.pop_front();
 }
 
-// The place of the first job of this count. Mostly it is the job that runs, so the front is asked first.
+// The index of the first job of this count. Mostly it is the job that runs, so the front is tried first.
 #[inline(always)]
 fn place_of(jobs: &VecDeque<Queued>, count: u32) -> Option<usize>
     ensures first { IfSome result (IsFirstAt (has_count count) jobs.now.items) }

@@ -1,4 +1,4 @@
-// What the rules allow at a tick, by which key a job is ordered, and when a deadline has come.
+//! What the rules allow at a tick, by which key a job is ordered, and when a deadline has come.
 ghost use Rattle.std.specs.Prelude.{◌≡◌, ◌+◌, ◌<◌, ◌==◌, Some};
 ghost use Rattle.mc_model.specs.Holds.{Fits};
 ghost use Rattle.mc_model.specs.Key.{key_of};
@@ -34,7 +34,7 @@ fn budget(rule: Rule, high_mode: bool, task: &Task) -> u32
     }
 }
 
-/// How many of the next `length` ticks of a job of the task may end so, if it has had `used` ticks.
+/// How many of the next `length` ticks of a job of the task may end in this way, if the job has had `used` ticks.
 pub fn fitting(rule: Rule, high_mode: bool, task: &Task, used: u64, how: How, length: u32) -> u32
     ensures { result ≡ fitting rule high_mode (Some task.now) used how length }
 {
@@ -53,7 +53,7 @@ pub fn fitting(rule: Rule, high_mode: bool, task: &Task, used: u64, how: How, le
     }
 }
 
-// Whether the next tick of a job of the task may end so, if it has had `used` ticks.
+// Whether the next tick of a job of the task may end in this way, if the job has had `used` ticks.
 fn is_allowed(rule: Rule, high_mode: bool, task: &Task, used: u64, how: How) -> bool
     ensures { result ≡ allows rule high_mode (Some task.now) (used + 1) how }
 {
@@ -74,7 +74,7 @@ pub fn is_due(task: &Task, release: u64, now: u64) -> bool
     period <= now && release <= now - period
 }
 
-/// The key of a job of the task that was released at this boundary. It is less than what stands for an empty queue.
+/// The key of a job of the task that was released at this boundary. It is less than the key of an empty queue.
 pub fn key_at(rule: Rule, high_mode: bool, task: &Task, release: u64) -> u128
     requires { Fits rule }
     ensures key { result ≡ key_of rule high_mode (Some task.now) release }

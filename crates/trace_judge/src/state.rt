@@ -1,4 +1,4 @@
-// What is kept of the rows so far, and what each kind of row does to it.
+//! What is kept of the rows so far, and what each kind of row does to it.
 ghost use Rattle.std.specs.Prelude.{◌≡◌, ◌+◌, ◌-◌, ◌^◌, ◌<◌, ◌≤◌, OnOk, OnErr, IfOk, IsSome, Some, length};
 ghost use Rattle.mc_task.specs.TaskSet.{IsIn, task_at};
 ghost use Rattle.mc_model.specs.Holds.{Fits};
@@ -36,7 +36,7 @@ pub struct State {
 }
 
 impl State {
-    /// What is kept before the first row, for `count` tasks.
+    /// The state before the first row, for `count` tasks.
     pub fn new(alloc: Global, count: u32) -> Result<State, Memory>
         requires { 1 ≤ count }
         ensures { IfOk result (IsNew count) }
@@ -117,7 +117,7 @@ impl State {
         self.high_mode = false;
     }
 
-    /// Follows `length` ticks after which the job goes on. No job ends or is discarded at them, so none is found late.
+    /// Follows `length` ticks after which the job goes on. No job ends or is discarded at these ticks, so none is noted as late.
     pub fn go_on(&mut self, job: JobId, length: u32)
         requires queue { HasQueue self.old.waiting job.task.0 }
         requires room { self.old.place + length ≤ 2 ^ 62 }
@@ -172,8 +172,8 @@ impl State {
         Ok(())
     }
 
-    // The pending jobs without the low ones, which are discarded, and with the high ones at their keys of high mode; and
-    // the late jobs with those discarded: such a job is late where its deadline came before this tick.
+    // The pending jobs and the late ones after an overrun at this tick. High jobs get their keys of high mode. Low jobs are
+    // discarded, and one whose deadline came before this tick is late.
     fn switched(&self, alloc: Global, set: &TaskSet, rule: Rule) -> Result<(Waiting, Lates), Memory>
         requires { Fits rule }
         ensures queues { IfOk result (λ r. HasQueues r.0 set.now.tasks) }
@@ -221,7 +221,7 @@ pub fn job_at(at: Rank) -> JobId
     }
 }
 
-// The job, as a late one.
+// The pending job as a late one.
 fn late_job(job: JobId, pending: Pending) -> LateJob
     ensures { result ≡ late_job job pending }
 {
@@ -231,7 +231,7 @@ fn late_job(job: JobId, pending: Pending) -> LateJob
     }
 }
 
-// Whether the task is a high one.
+// Whether the task is there and is high.
 fn is_high_task(task: &Option<Task>) -> bool
     ensures { result ≡ is_high_in task.now }
 {
@@ -241,7 +241,7 @@ fn is_high_task(task: &Option<Task>) -> bool
     }
 }
 
-/// Whether the deadline of a job of the task has come.
+/// Whether the deadline of a job of the task that was released at this boundary has come at boundary `now`.
 pub fn is_due_task(task: &Option<Task>, release: u64, now: u64) -> bool
     ensures { result ≡ is_due_at task.now release now }
 {

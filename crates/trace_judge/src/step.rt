@@ -1,11 +1,14 @@
-// One run: whether its rows fit what is kept of the rows before it, and what is kept after it.
-ghost use Rattle.std.specs.Prelude.{◌≡◌, ◌≢◌, ◌-◌, ◌+◌, ◌^◌, ◌≤◌, IfOk, OnErr, IsSome, Some, length};
+//! One run: whether its rows fit what is kept of the rows before it, and what is kept after it.
+ghost use Rattle.std.specs.Prelude.{◌≡◌, ◌≢◌, ◌-◌, ◌+◌, ◌^◌, ◌≤◌, IfOk, OnOk, IfErr, OnErr, IsSome, Some, None, List, length};
+ghost use Rattle.mc_task.specs.declared.task.Rule.{Rule};
+ghost use Rattle.mc_task.specs.declared.task.Task.{Task};
 ghost use Rattle.mc_task.specs.TaskSet.{task_at};
 ghost use Rattle.mc_model.specs.Holds.{Fits};
 ghost use Rattle.mc_model.specs.Runs.{size, IsRun, IsRunOfSet};
 ghost use Rattle.mc_model.specs.declared.run.Run.TheVariants as run;
 ghost use Rattle.trace_judge.specs.Entries.{HasQueues, Stands};
-ghost use Rattle.trace_judge.specs.Tracks.{IsStep};
+ghost use Rattle.trace_judge.specs.Rules.{fitting};
+ghost use Rattle.trace_judge.specs.Tracks.{IsStep, Looks};
 ghost use Rattle.trace_judge.specs.declared.waiting.Standing.TheVariants as standing;
 
 use crate::rules::fitting;
@@ -23,7 +26,7 @@ pub struct Misfit {
 }
 
 impl Misfit {
-    // The run's first row does not fit.
+    // The first row of a run does not fit.
     fn first(why: Why) -> Misfit
         ensures { result ≡ record { after = 0; why = why } }
     {
@@ -39,7 +42,7 @@ struct JobTicks {
     length: u32,
 }
 
-/// The first row of the run that does not fit. Where there is none, the state follows the run, in one step.
+/// The first row of the run that does not fit. If all rows fit, the state follows the run, in one step.
 pub fn step(
     state: &mut State,
     alloc: Global,
@@ -67,7 +70,29 @@ pub fn step(
     }
 }
 
-// A release.
+/// The first row of the run that does not fit. The state stays as it is.
+pub fn look(state: &State, set: &TaskSet, rule: Rule, run: Run) -> Option<Misfit>
+    requires task { IsRunOfSet set.now.tasks run }
+    requires is_run { IsRun run }
+    requires count { length state.now.tasks.items ≡ length set.now.tasks }
+    requires queues { HasQueues state.now.waiting set.now.tasks }
+    requires time { state.now.ticks + size run ≤ 2 ^ 62 }
+    ensures { Looks set.now.tasks rule run state.now result }
+{
+    match run {
+        Run::Release { job, kept } => release_misfit(state, set, job, kept),
+        Run::Ticks { job, how, length } => {
+            let task = task_in(set, job.task);
+            match ticks_fit(state, set, rule, task, JobTicks { job, how, length }) {
+                Ok(_) => None,
+                Err(misfit) => Some(misfit),
+            }
+        }
+        Run::Idles { length } => idle_misfit(state, length),
+    }
+}
+
+// Follows a release, if it fits.
 fn release(
     state: &mut State,
     set: &TaskSet,
@@ -93,7 +118,20 @@ fn release(
     Ok(None)
 }
 
-// Ticks of a job.
+// Whether a release does not fit, under any rule.
+fn release_misfit(state: &State, set: &TaskSet, job: JobId, kept: bool) -> Option<Misfit>
+    requires task { IsRunOfSet set.now.tasks (run.Release job kept) }
+    requires count { length state.now.tasks.items ≡ length set.now.tasks }
+    ensures { (rule : Rule) → Looks set.now.tasks rule (run.Release job kept) state.now result }
+{
+    let task = task_in(set, job.task);
+    match state.release_why(task, job, kept) {
+        None => None,
+        Some(why) => Some(Misfit::first(why)),
+    }
+}
+
+// Follows ticks of a job, if they all fit.
 fn tick(
     state: &mut State,
     alloc: Global,
@@ -111,52 +149,86 @@ fn tick(
     ensures misfit { IfOk result (λ misfit. IsSome misfit → state.new ≡ state.old) }
     ensures unchanged { OnErr result (state.new ≡ state.old) }
 {
-    match state.waiting.standing_of(ticks.job) {
-        Standing::NotPending => Ok(Some(Misfit::first(Why::NotPending))),
-        Standing::NotLeast => Ok(Some(Misfit::first(Why::NotLeast))),
-        Standing::Least { pending } => tick_least(state, alloc, set, rule, ticks, pending),
+    let task = task_in(set, ticks.job.task);
+    match ticks_fit(state, set, rule, task, ticks) {
+        Err(misfit) => Ok(Some(misfit)),
+        Ok(pending) => {
+            follow_ticks(state, alloc, set, rule, task, ticks, pending)?;
+            Ok(None)
+        }
     }
 }
 
-// Ticks of a job at the least key. It stays there while it goes on, so only its budget can end them.
-fn tick_least(
+// What is kept of the job whose ticks these are, if they all fit, and otherwise the first that does not. A job that goes on
+// keeps the least key, so after its first tick only its budget can make a tick fail.
+#[inline(always)]
+fn ticks_fit(
+    state: &State,
+    set: &TaskSet,
+    rule: Rule,
+    task: &Task,
+    ticks: JobTicks,
+) -> Result<Pending, Misfit>
+    requires task { IsRunOfSet set.now.tasks (run.Ticks ticks.job ticks.how ticks.length) }
+    requires at { task_at set.now.tasks ticks.job.task.0 ≡ Some task.now }
+    requires is_run { IsRun (run.Ticks ticks.job ticks.how ticks.length) }
+    requires queues { HasQueues state.now.waiting set.now.tasks }
+    requires time { state.now.ticks + ticks.length ≤ 2 ^ 62 }
+    ensures least { IfOk result (λ pending. Stands state.now.waiting.entries ticks.job (standing.Least pending)) }
+    ensures fitting { IfOk result (λ pending. ticks.length ≤ fitting rule state.now.high_mode (Some task.now) pending.used ticks.how ticks.length) }
+    ensures fits { OnOk result (Looks set.now.tasks rule (run.Ticks ticks.job ticks.how ticks.length) state.now None) }
+    ensures misfit { IfErr result (λ misfit. Looks set.now.tasks rule (run.Ticks ticks.job ticks.how ticks.length) state.now (Some misfit)) }
+{
+    let _is_set = set.len();
+    let JobTicks { job, how, length } = ticks;
+    let pending = match state.waiting.standing_of(job) {
+        Standing::NotPending => return Err(Misfit::first(Why::NotPending)),
+        Standing::NotLeast => return Err(Misfit::first(Why::NotLeast)),
+        Standing::Least { pending } => pending,
+    };
+    let fit = fitting(rule, state.high_mode, task, pending.used, how, length);
+    if fit < length {
+        return Err(Misfit {
+            after: fit,
+            why: Why::WrongHow,
+        });
+    }
+    Ok(pending)
+}
+
+// Follows ticks of a job that all fit.
+fn follow_ticks(
     state: &mut State,
     alloc: Global,
     set: &TaskSet,
     rule: Rule,
+    task: &Task,
     ticks: JobTicks,
     pending: Pending,
-) -> Result<Option<Misfit>, Memory>
+) -> Result<(), Memory>
     requires fits { Fits rule }
     requires task { IsRunOfSet set.now.tasks (run.Ticks ticks.job ticks.how ticks.length) }
+    requires at { task_at set.now.tasks ticks.job.task.0 ≡ Some task.now }
     requires is_run { IsRun (run.Ticks ticks.job ticks.how ticks.length) }
     requires queues { HasQueues state.old.waiting set.now.tasks }
     requires room { state.old.place + ticks.length ≤ 2 ^ 62 }
     requires time { state.old.ticks + ticks.length ≤ 2 ^ 62 }
     requires least { Stands state.old.waiting.entries ticks.job (standing.Least pending) }
-    ensures step { IfOk result (λ misfit. IsStep set.now.tasks rule (run.Ticks ticks.job ticks.how ticks.length) state.old misfit state.new) }
-    ensures misfit { IfOk result (λ misfit. IsSome misfit → state.new ≡ state.old) }
+    requires fitting { ticks.length ≤ fitting rule state.old.high_mode (Some task.now) pending.used ticks.how ticks.length }
+    ensures step { OnOk result (IsStep set.now.tasks rule (run.Ticks ticks.job ticks.how ticks.length) state.old None state.new) }
     ensures unchanged { OnErr result (state.new ≡ state.old) }
 {
     let _is_set = set.len();
     let JobTicks { job, how, length } = ticks;
-    let task = task_in(set, job.task);
-    let fit = fitting(rule, state.high_mode, task, pending.used, how, length);
-    if fit < length {
-        return Ok(Some(Misfit {
-            after: fit,
-            why: Why::WrongHow,
-        }));
-    }
     match how {
         How::More => state.go_on(job, length),
         How::Done | How::Stop => state.end(task, job, pending),
         How::Over => state.overrun(alloc, set, rule, job)?,
     }
-    Ok(None)
+    Ok(())
 }
 
-// Idle ticks, which fit or not as the first of them does.
+// Follows idle ticks, if they fit. They all fit if the first of them does.
 fn idle(state: &mut State, set: &TaskSet, rule: Rule, length: u32) -> Option<Misfit>
     requires is_run { IsRun (run.Idles length) }
     requires room { state.old.place + length ≤ 2 ^ 62 }
@@ -169,6 +241,18 @@ fn idle(state: &mut State, set: &TaskSet, rule: Rule, length: u32) -> Option<Mis
     }
     state.rest(length);
     None
+}
+
+// Whether idle ticks do not fit, for any set and rule.
+fn idle_misfit(state: &State, length: u32) -> Option<Misfit>
+    requires is_run { IsRun (run.Idles length) }
+    ensures { (set : List Task) (rule : Rule) → Looks set rule (run.Idles length) state.now result }
+{
+    if state.waiting.is_empty() {
+        None
+    } else {
+        Some(Misfit::first(Why::IdlePending))
+    }
 }
 
 // The task with this number, which is in the set.

@@ -1,4 +1,4 @@
-// The verdict on a whole trace.
+//! The verdict on a whole trace.
 ghost use Rattle.std.specs.Prelude.{◌≡◌, IfOk, All, reverse};
 ghost use Rattle.mc_model.specs.Holds.{Fits, Holds};
 ghost use Rattle.mc_model.specs.Runs.{expand, AreRuns, IsRunOfSet};

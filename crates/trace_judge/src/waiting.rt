@@ -1,4 +1,4 @@
-// The pending jobs: those of each task in a queue, and the least key of each queue.
+//! The pending jobs: those of each task in a queue, and the least key of each queue.
 ghost use Rattle.std.specs.Prelude.{◌≡◌, ◌+◌, ◌-◌, ◌<◌, ◌≤◌, ◌==◌, min, [], ◌∷◌, ◌^◌, IfOk, OnOk, OnErr, MatchOption, length, replicate};
 ghost use Rattle.trace_judge.specs.Heads.{no_key};
 ghost use Rattle.trace_judge.specs.Firsts.{change_first, remove_first};
@@ -50,7 +50,7 @@ impl Model for Waiting {
 }
 
 impl Waiting {
-    /// No jobs, of `count` tasks.
+    /// No pending jobs, of `count` tasks.
     pub fn new(alloc: Global, count: u32) -> Result<Waiting, Memory>
         requires { 1 ≤ count }
         ensures { IfOk result (λ waiting. waiting ≡ record { tasks = count; entries = [] }) }
@@ -60,14 +60,14 @@ impl Waiting {
         Ok(Waiting { queues, heads })
     }
 
-    /// Whether there are no jobs.
+    /// Whether no job is pending.
     pub fn is_empty(&self) -> bool
         ensures { result ≡ (length self.now.entries == 0) }
     {
         self.heads.least() == NO_KEY
     }
 
-    /// How many jobs there are, as far as a count can go.
+    /// The number of pending jobs, at most 2^64 - 1.
     pub fn count(&self) -> u64
         ensures { result ≡ min (length self.now.entries) (2 ^ 64 - 1) }
     {
@@ -79,7 +79,7 @@ impl Waiting {
         count
     }
 
-    /// Where the job stands.
+    /// Where the job stands among the pending ones.
     pub fn standing_of(&self, job: JobId) -> Standing
         requires { HasQueue self.now job.task.0 }
         ensures { Stands self.now.entries job result }
@@ -98,7 +98,7 @@ impl Waiting {
         }
     }
 
-    /// Puts a pending job in.
+    /// Adds a pending job.
     // Inlined: the call would cost about as much as the body.
     #[inline(always)]
     pub fn put(&mut self, at: Rank, pending: Pending) -> Result<(), Memory>
@@ -144,7 +144,7 @@ impl Waiting {
         self.heads.set(index, queue.head_key());
     }
 
-    /// All jobs, to be gone through.
+    /// All pending jobs, to be gone through.
     pub fn rest(&self) -> Rest<'_>
         ensures { result ≡ self.now.entries }
     {
@@ -167,7 +167,8 @@ fn empty_queues(alloc: Global, count: u32) -> Result<Vec<Queue>, AllocError>
     Ok(queues)
 }
 
-/// Pending jobs that are gone through, task by task: those of the queues from `next` on, without the first `at`.
+/// The pending jobs that are still to be gone through, task by task: those of the queues from `next` on, except the first
+/// `at` of them.
 #[derive(Drop)]
 pub struct Rest<'a> {
     queues: &'a [Queue],

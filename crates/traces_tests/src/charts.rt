@@ -1,10 +1,11 @@
+//! Tests of charts.
 use mc_model::How::{More, Stop};
 use mc_model::Run;
 use sched_chart::chart;
 use std::test::Fail;
 use worked_sets::{CONTROL, LONG_NAME, OVERRUN_RUNS, release, set_of, ticks};
 
-// A job of ctl runs over its low budget and on to its end; log's job is discarded, and its next one runs.
+// A job of ctl overruns its low budget and runs to its end; log's job is discarded, and log's next job runs.
 #[test]
 fn the_chart_of_an_overrun(rt: HostRuntime) -> Result<(), Fail> {
     let alloc = rt.alloc();

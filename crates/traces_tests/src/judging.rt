@@ -1,9 +1,10 @@
+//! Tests of the judge.
 ghost use Rattle.std.specs.Prelude.{◌≡◌, ◌<◌, ◌≤◌, ◌^◌, IsTrue, All};
 ghost use Rattle.mc_model.specs.Holds.{Fits};
 ghost use Rattle.mc_model.specs.Sums.{total};
 ghost use Rattle.mc_model.specs.Runs.{length_of, IsRun, AreRuns, IsRunOfSet};
 
-// Verdicts in a few words. They are macros, since a constant's value cannot call a function.
+// Macros that write verdicts in a few words. They are macros, since a constant's value cannot call a function.
 macro_rules! illegal {
     ($row:expr, $why:expr) => {
         Verdict::Illegal {
@@ -22,7 +23,9 @@ macro_rules! late {
     };
 }
 
+mod drawn;
 mod many;
+mod turned;
 mod watched;
 
 use mc_model::{How, Run, Verdict, Why};
@@ -38,7 +41,7 @@ const SCALED: Rule = Rule::Virtual { p: 2, q: 5 };
 
 const UNSCALED: Rule = Rule::Virtual { p: 1, q: 1 };
 
-// No rule holds for it.
+// A set for which no rule holds.
 const OVERLOAD: [Line; 2] = [("a", Low, 1, 1, 1), ("b", Low, 1, 1, 1)];
 
 // A low task with a short period beside two high ones.
@@ -48,7 +51,7 @@ const SHORT_LOW: [Line; 3] = [
     ("fix", High, 10, 2, 3),
 ];
 
-// How a tick ends, by its word.
+// The outcome that a word says.
 fn how(word: &str) -> Option<How> {
     match word {
         "more" => Some(How::More),
@@ -78,7 +81,7 @@ fn number(text: &str) -> Option<u32> {
     text.parse::<u32>().ok()
 }
 
-// The run that a text says: `idle` or `idle` and a length; or an event, a task's name, a job's count, a word and, where
+// The run that a text says: `idle`, or `idle` and a length; or an event, a task's name, a job's number, a word and, if
 // it is not 1, a length.
 fn run(set: &TaskSet, text: &str) -> Option<Run> {
     let (event, rest) = text.split_once(' ').unwrap_or((text, "1"));
@@ -186,7 +189,7 @@ fn verdict(alloc: Global, set: &TaskSet, rule: Rule, text: &str) -> Result<Verdi
     judged(alloc, set, rule, &runs)
 }
 
-// The first of the texts on which the verdict is another than is told beside it, and the verdict.
+// The first of the texts whose verdict differs from the one beside it, and its verdict.
 fn first_wrong<'a>(
     alloc: Global,
     lines: &[Line],
@@ -224,7 +227,7 @@ const FIRST_MISFITS: [(&str, Verdict); 15] = [
         "release ctl 1 kept, tick ctl 1 more, tick ctl 1 more",
         illegal!(3, Why::WrongHow),
     ),
-    // The same in one run.
+    // The job's second tick must be an overrun; here the two ticks are one run.
     (
         "release ctl 1 kept, tick ctl 1 more 2",
         illegal!(3, Why::WrongHow),
@@ -242,7 +245,7 @@ const FIRST_MISFITS: [(&str, Verdict); 15] = [
         "release log 1 kept, tick log 1 more, tick log 1 more, tick log 1 more, tick log 1 more, tick log 1 over",
         illegal!(6, Why::WrongHow),
     ),
-    // The same in one run.
+    // log's fifth tick must be a stop; here it comes after a run of four ticks.
     (
         "release log 1 kept, tick log 1 more 4, tick log 1 over",
         illegal!(6, Why::WrongHow),
@@ -275,11 +278,11 @@ fn no_runs_are_legal(rt: HostRuntime) -> Result<(), Fail> {
     Ok(())
 }
 
-// Both jobs at once, log's five ticks first, and then ctl's six with an overrun.
+// Both jobs are released at once; log's five ticks come first, then ctl's six with an overrun.
 const LOG_FIRST: &str =
     "release ctl 1 kept, release log 1 kept, tick log 1 more, tick log 1 more, tick log 1 more, tick log 1 more, tick log 1 done, tick ctl 1 more, tick ctl 1 over, tick ctl 1 more, tick ctl 1 more, tick ctl 1 more, tick ctl 1 done";
 
-// The same with four ticks of log, so that ctl ends exactly at its deadline.
+// The trace `LOG_FIRST` with four ticks of log, so that ctl ends exactly at its deadline.
 const LOG_EARLY: &str =
     "release ctl 1 kept, release log 1 kept, tick log 1 more, tick log 1 more, tick log 1 more, tick log 1 done, tick ctl 1 more, tick ctl 1 over, tick ctl 1 more, tick ctl 1 more, tick ctl 1 more, tick ctl 1 done";
 
@@ -367,7 +370,7 @@ fn plain_edf_never_switches(rt: HostRuntime) -> Result<(), Fail> {
     Ok(())
 }
 
-// Two tasks, each with a deadline of 10 ticks, of which one may take 50.
+// Two tasks, each with a deadline of 10 ticks; one of them may take 50.
 const TWO_OF_TEN: [Line; 2] = [("long", Low, 10, 50, 50), ("b", Low, 10, 1, 1)];
 
 const WITHIN_RUNS: [(&str, Verdict); 11] = [
@@ -384,7 +387,7 @@ const WITHIN_RUNS: [(&str, Verdict); 11] = [
         "release log 1 kept, tick log 1 more 4, tick log 1 stop, idle 5, release log 2 kept, tick log 2 more 4, tick log 2 more 1",
         illegal!(17, Why::WrongHow),
     ),
-    // The own budget of a high job in high mode.
+    // A high job that reaches its own budget in high mode.
     (
         "release ctl 1 kept, tick ctl 1 more, tick ctl 1 over, tick ctl 1 more 4",
         illegal!(7, Why::WrongHow),
@@ -402,7 +405,7 @@ const WITHIN_RUNS: [(&str, Verdict); 11] = [
         "idle 7, release ctl 1 kept, release log 1 kept, tick log 1 more 3",
         illegal!(10, Why::NotLeast),
     ),
-    // A release in the midst of idle ticks is too soon by one.
+    // A release in the middle of idle ticks comes one tick too soon.
     (
         "release log 1 kept, tick log 1 done, idle 8, release log 2 kept",
         illegal!(11, Why::TooSoon),

@@ -1,4 +1,4 @@
-//! Tests of what is said of a trace: the judge and its monitor, charts and reports.
+//! Tests of the crates that judge and describe traces: the judge and its monitor, charts and reports.
 #![tactic(auto)]
 
 #[cfg(test)]

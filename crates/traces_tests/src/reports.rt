@@ -1,3 +1,4 @@
+//! Tests of reports.
 use mc_model::How::{Done, More, Stop};
 use mc_model::Run;
 use sched_report::{report, summary};
@@ -6,7 +7,7 @@ use worked_sets::{
     CONTROL, LONG_NAME, OVERRUN_RUNS, TAP_AND_ARM, TAP_AND_ARM_RUNS, release, set_of, ticks,
 };
 
-// A job of ctl runs over its low budget and on to its end; log's job is discarded, and its next one runs.
+// A job of ctl overruns its low budget and runs to its end; log's job is discarded, and log's next job runs.
 #[test]
 fn an_overrun_discards_a_job(rt: HostRuntime) -> Result<(), Fail> {
     let alloc = rt.alloc();
@@ -34,7 +35,7 @@ ticks 8 idle 4 switches 1
     Ok(())
 }
 
-// tap's first job was done before arm overran, and its next two are dropped.
+// tap's first job was done before arm overran, and tap's next two jobs are dropped.
 #[test]
 fn a_job_that_was_done_is_not_discarded(rt: HostRuntime) -> Result<(), Fail> {
     let alloc = rt.alloc();
@@ -62,7 +63,7 @@ ticks 4 idle 1 switches 1
     Ok(())
 }
 
-// A job that needs 5 ticks and is stopped, and then one that is done at once.
+// A job that needs 5 ticks and is stopped, and then a job that is done at once.
 #[test]
 fn the_greatest_response_is_told(rt: HostRuntime) -> Result<(), Fail> {
     let alloc = rt.alloc();

@@ -1,4 +1,4 @@
--- Lists of which one element changes, and lists that grow at the end.
+-- Lists in which one element changes, and lists that grow at the end.
 use Rattle.std.proofs.Common.{◌≡◌, ℕ, zero, suc, ◌<◌, ◌≢◌, List, [], ◌∷◌, ◌++◌, length, set, slice_index_or, slice_get, sym, refl, subst, inl, inr, arith, length-set, Bool, true, false, Some, All, map}
 use Rattle.std.specs.List.{list_any}
 use Rattle.std.proofs.lemmas.Bool.{cases_Bool}
@@ -19,7 +19,7 @@ module _ {A : Type 0} where
   below (x ∷ xs) zero a e = omega arith
   below (x ∷ xs) (suc i) a e = omega (arith, below xs i a e)
 
-  -- what holds of the new element, and of each other, holds of each
+  -- what holds of the new element, and of each other element, holds of each
   pub set_all : (P : ℕ → ℕ → A → Type 0) (l : List A) (id : ℕ) (w : A) → P (length l) id w
       → ((j : ℕ) (u : A) → j ≢ id → get_elem? l j ≡ some u → P (length l) j u)
       → (j : ℕ) (u : A) → get_elem? (set l id w) j ≡ some u → P (length (set l id w)) j u
@@ -50,7 +50,7 @@ module _ {A : Type 0} where
   held_first P f [] t h = All-nil (λ x. P (f x))
   held_first P f (x ∷ xs) t h = All-cons (λ y. P (f y)) x xs (All-head P (f x) (map f xs ++ t) h) (held_first P f xs t (All-tail P (f x) (map f xs ++ t) h))
 
-  -- what holds of each element by its place, and of one more, holds of each
+  -- what holds of each element by its index, and of one more, holds of each
   pub each_last : (P : ℕ → A → Type 0) (xs : List A) (a : A) → ((k : ℕ) (d : A) → k < length xs → P k (slice_index_or xs k d)) → P (length xs) a
       → (k : ℕ) (d : A) → k < length (xs ++ a ∷ []) → P k (slice_index_or (xs ++ a ∷ []) k d)
   each_last P [] a old new zero d lt = new
@@ -58,7 +58,7 @@ module _ {A : Type 0} where
   each_last P (x ∷ xs) a old new zero d lt = old zero d (omega arith)
   each_last P (x ∷ xs) a old new (suc k) d lt = each_last (λ i y. P (suc i) y) xs a (λ i e h. old (suc i) e (omega arith)) new k d (omega arith)
 
-  -- where some element passes the test, one that does stands at a place
+  -- if some element passes the test, one that passes stands at some index
   pub found : (p : A → Bool) (xs : List A) → list_any p xs ≡ true → (i : ℕ) × (x : A) × (slice_get xs i ≡ Some x) × (p x ≡ true)
   found p [] e = absurd (cc)
   found p (x ∷ xs) e = elim (cases_Bool (p x)) [

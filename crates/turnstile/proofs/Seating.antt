@@ -1,4 +1,5 @@
--- The rule at the start, as one more seat is made, and as one is joined into another; and what is left when one has taken in all others.
+-- The rule at the start, after one more seat is made, and after a seat is joined into another; and the state
+-- once one seat has taken in all others.
 use Rattle.std.proofs.Common.{◌≡◌, ℕ, zero, suc, ◌<◌, ◌≤◌, List, [], ◌∷◌, length, set, sym, refl, ap, ◌∙◌, subst, inl, inr, arith, length-set, true, false, Option, Some}
 use Rattle.std.proofs.lemmas.Bool.{false_from_ne_true}
 use Rattle.std.proofs.lemmas.List.{set_comm}
@@ -19,7 +20,7 @@ use Rattle.turnstile.proofs.Lists.{all_of, set_at, set_all, below, both_ways, ne
 use Rattle.turnstile.proofs.Stepping.{Rule, steps, quiet, slot_set, appended}
 
 module _ {S E F : Type 0} (kept : Ghosts S E F) (fixed : F) (seats : ℕ) where
-  -- a table without a seat
+  -- a table without a seat keeps the rule
   empty : (x : S) → kept.fixed x ≡ fixed → kept.stands 0 [] x → seats ≤ 128
       → Rule kept fixed seats (record { words = 0 ∷ 0 ∷ []; homes = some (Some x) ∷ []; views = [] })
   empty x same ok few = record {
@@ -36,12 +37,12 @@ module _ {S E F : Type 0} (kept : Ghosts S E F) (fixed : F) (seats : ℕ) where
     slot = inl (x, refl, ok, same, λ id v at. absurd (some-ne-none v (sym at)));
   }
 
-  -- the rule at the start
+  -- the rule holds at the start
   pub starts : (x : S) → kept.fixed x ≡ fixed → kept.stands 0 [] x → (0 < seats) × (seats ≤ 128)
       → Rule kept fixed seats (opening (0 ∷ 0 ∷ []) (Some x ∷ []) (newest_view fixed seats 0))
   starts x same ok few = appended kept fixed seats _ (empty x same ok few.1) few.0 (λ id v at. absurd (some-ne-none v (sym at)))
 
-  -- one more seat is made
+  -- making one more seat keeps the rule
   pub splits : (id : ℕ) (v : View E F) → (v.live ≡ true) × (v.has_ticket ≡ false) × (v.served ≡ false) → v.is_newest ≡ true → v.next_number < v.seats
       → Splits (Rule kept fixed seats) id v (older_view v) (next_view v)
   splits id v idle is_newest room s r at =
@@ -57,7 +58,7 @@ module _ {S E F : Type 0} (kept : Ghosts S E F) (fixed : F) (seats : ℕ) where
       let next : newest_view fixed seats (length s.views) ≡ next_view v = cc in
       rw (length-set s.views id m, next) at (appended kept fixed seats _ older (rw length-set (omega (arith, one.1, told.2))) none)
 
-  -- a seat is joined into another, which keeps what it knew: it is spent, and then the other takes it in
+  -- joining a seat into another, which keeps what the first knew, keeps the rule
   pub joins : (id other : ℕ) (v w : View E F) → (v.live ≡ true) × (v.has_ticket ≡ false) × (v.served ≡ false)
       → (w.live ≡ true) × (w.has_ticket ≡ false) × (w.served ≡ false) → Joins (Rule kept fixed seats) id v other w (both_views v w) spent_view
   unfolding steps quiet
@@ -85,7 +86,7 @@ module _ {S E F : Type 0} (kept : Ghosts S E F) (fixed : F) (seats : ℕ) where
       more_told {P} here there zero p e = subst P (some-injective (report_of w) p e) here
       more_told here there (suc k) p e = there k p e
 
--- once one seat has taken in all others, the state is at home
+-- once one seat has taken in all others, the state is in its slot
 pub ends : {S E F : Type 0} (kept : Ghosts S E F) (t : Turnstile S E F) (id : ℕ) (v : View E F) (ws : List ℕ) (xs : List (Option S))
     → (v.live ≡ true) × (v.has_ticket ≡ false) × (v.served ≡ false) → Covers (seats_of t) v
     → Final (Seen (Rule kept (fixed_part kept.fixed t) (seats_of t)) id v) ws xs → (x : S) × (get_elem? xs 0 ≡ some (Some x)) × Unseats kept t v x

@@ -26,7 +26,7 @@ tickets_le [] = omega arith
 tickets_le (x ∷ xs) = omega (arith, one_if_le x.has_ticket, tickets_le xs)
 
 module _ {S E F : Type 0} (kept : Ghosts S E F) (fixed : F) (seats : ℕ) where
-  -- a seat draws a ticket
+  -- a seat that draws a ticket keeps the rule
   pub draws : (n id : ℕ) (m : Standing S E F) → IsIdle m → Allows (Rule kept fixed seats) n id m 0 (λ k. (k + 1) % 2 ^ 64) (Draws (step n 0 1 0 maybe.none) m)
   draws n id m idle s r wide at lt =
       let v : View E F = m.0 in
@@ -62,7 +62,7 @@ module _ {S E F : Type 0} (kept : Ghosts S E F) (fixed : F) (seats : ℕ) where
         (r.drawn, refl, sym (ap (λ (ws : List ℕ). slice_index ws 0) r.words)),
       )
 
-  -- a seat whose ticket is the served one, and that is not served yet, finds the state at home
+  -- when a seat finds its ticket served, the state is in its slot
   at_home : (s : State (Option S) (View E F)) (r : Rule kept fixed seats s) (id : ℕ) (v : View E F) → get_elem? s.views id ≡ some v
       → v.has_ticket ≡ true → v.served ≡ false → v.ticket ≡ length r.history → IsAtHome kept fixed seats r.history s.homes s.views
   at_home s r id v at on off here = elim r.slot [
@@ -73,7 +73,8 @@ module _ {S E F : Type 0} (kept : Ghosts S E F) (fixed : F) (seats : ℕ) where
         absurd (cc)
   ]
 
-  -- a seat that waits looks at what is served: where it is its ticket, the slot leaves home with it
+  -- a seat that looks at the served ticket keeps the rule; if it is its own, the seat takes the state out of
+  -- the slot
   pub looks : (n id : ℕ) (m : Standing S E F) → IsWaiting m → Allows (Rule kept fixed seats) n id m 1 (λ k. k) (Looks kept (step n 1 0 0 maybe.none) m)
   looks n id m is s r wide at lt =
       let v : View E F = m.0 in
@@ -109,7 +110,7 @@ module _ {S E F : Type 0} (kept : Ghosts S E F) (fixed : F) (seats : ℕ) where
         )
       ]
 
-  -- the turn is passed on: the slot comes home with a state that stands for one more entry
+  -- passing the turn on keeps the rule: the slot has a state that stands for one more entry
   pub passes : (n id : ℕ) (m : Standing S E F) (v : View E F) (e : E) (x : S) → n ≡ 1 → m ≡ (v, (0, Some x) ∷ [])
       → (v.live ≡ true) × (v.has_ticket ≡ true) × (v.served ≡ true) → kept.by e ≡ v.number → kept.stands 0 (v.seen ++ e ∷ []) x → v.fixed ≡ Some (kept.fixed x)
       → Allows (Rule kept fixed seats) n id m 1 (λ k. (k + 1) % 2 ^ 64) (PassesOn e (step n 1 1 0 maybe.none) m)

@@ -1,4 +1,4 @@
--- A step of one seat keeps the rule, and so does one seat more.
+-- A step of one seat keeps the rule, and so does making one more seat.
 use Rattle.std.proofs.Common.{◌≡◌, ℕ, zero, suc, ◌+◌, ◌%◌, ◌^◌, ◌<◌, ◌≤◌, ◌≢◌, ◌⊎◌, List, [], ◌∷◌, ◌++◌, length, set, sym, refl, ap, ◌∙◌, inl, inr, arith, length-append, length-set, true, false, Option}
 use Rattle.std.proofs.lemmas.Bool.{cases_eq}
 use mathlib.Core.Option.{some, some-ne-none}
@@ -36,8 +36,8 @@ module _ {S E F : Type 0} (kept : Ghosts S E F) (fixed : F) (seats : ℕ) where
   abbrev Slot : List E → List (maybe.Option (Option S)) → List (View E F) → Type 0
   Slot history homes views = IsAtHome kept fixed seats history homes views ⊎ IsAway views
 
-  -- What a step of the seat id from the view v to the view w has to show
-  -- Behind it so many tickets are drawn, and the history is this one
+  -- what must be shown of a step in which seat id changes its view from v to w, after which this many tickets
+  -- were drawn, and this is the history
   pub record Steps (s : Table) (r : Rule s) (id : ℕ) (v w : View E F) (drawn : ℕ) (history : List E) : Type 0 where
     pub at : get_elem? s.views id ≡ some v
     pub live : v.live ≡ true
@@ -45,7 +45,7 @@ module _ {S E F : Type 0} (kept : Ghosts S E F) (fixed : F) (seats : ℕ) where
     pub grows : StartsWith history r.history
     pub others : (k : ℕ) → k ≢ id → made_by kept.by k history ≡ made_by kept.by k r.history
     pub count : drawn + length r.history + one_if v.has_ticket ≡ r.drawn + length history + one_if w.has_ticket
-    -- the seat keeps its ticket, unless it was served to the end, or has a new one
+    -- the seat keeps its ticket, unless its turn ended or it has a new one
     pub keeps : v.has_ticket ≡ true → length history ≤ v.ticket → (w.has_ticket ≡ true) × (w.ticket ≡ v.ticket)
     pub has : w.has_ticket ≡ true → ((v.has_ticket ≡ true) × (w.ticket ≡ v.ticket)) ⊎ (r.drawn ≤ w.ticket)
     pub next : (t : ℕ) → t < drawn → (t < r.drawn) ⊎ ((w.has_ticket ≡ true) × (w.ticket ≡ t))
@@ -60,7 +60,7 @@ module _ {S E F : Type 0} (kept : Ghosts S E F) (fixed : F) (seats : ℕ) where
   steps s r id v w drawn history ws homes t words slot =
       let at = t.at in
       let same_seat : (j : ℕ) (u : View E F) → j ≡ id → get_elem? s.views j ≡ some u → u ≡ v = λ j u e at_j. cc in
-      -- a seat with the ticket of the one that stepped is that one
+      -- a seat with the ticket of the seat that stepped is that seat
       let apart : (j : ℕ) (u : View E F) → j ≢ id → get_elem? s.views j ≡ some u → u.has_ticket ≡ true → w.has_ticket ≡ true → u.ticket ≡ w.ticket → ⊥
       = λ j u ne at_j on onw same. elim (t.has onw) [
         | inl e ↦ ne (r.differ j id u v at_j at on e.0 (same ∙ e.1))
@@ -129,7 +129,7 @@ module _ {S E F : Type 0} (kept : Ghosts S E F) (fixed : F) (seats : ℕ) where
     told = told;
   })
 
-  -- where the state is, as a seat steps that is not served before or after
+  -- where the state is, after a step of a seat that is not served before or after
   pub slot_set : (history : List E) (homes : List (maybe.Option (Option S))) (views : List (View E F)) (id : ℕ) (v w : View E F)
       → get_elem? views id ≡ some v → v.served ≡ false → w.served ≡ false → Slot history homes views → Slot history homes (set views id w)
   slot_set history homes views id v w at off off_after (inl h) = inl (h.0, h.1, h.2, h.3, set_all (λ n j u. u.served ≡ false) views id w off_after (λ j u ne. h.4 j u))
@@ -137,7 +137,7 @@ module _ {S E F : Type 0} (kept : Ghosts S E F) (fixed : F) (seats : ℕ) where
       let other : a.0 ≢ id = λ e. let same : a.1 ≡ v = cc in both_ways v.served (ap (λ (y : View E F). y.served) (sym same) ∙ a.3) off in
       inr (a.0, a.1, set_else views id a.0 w other ∙ a.2, a.3)
 
-  -- one seat more, made last, where none is the newest
+  -- making one more seat, the newest, keeps the rule if no other seat is the newest
   pub appended : (s : Table) → Rule s → length s.views < seats → ((j : ℕ) (u : View E F) → get_elem? s.views j ≡ some u → u.is_newest ≡ false)
       → Rule (record { words = s.words; homes = s.homes; views = s.views ++ newest_view fixed seats (length s.views) ∷ [] })
   appended s r room none =

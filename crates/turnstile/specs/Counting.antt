@@ -1,5 +1,5 @@
--- The state of the tests: counters, one for each seat. An entry is the number of a seat, and a turn adds one to that seat's
--- counter.
+-- The state of the tests: a counter for each seat. An entry is the number of a seat, and a turn adds one to
+-- that seat's counter.
 use Rattle.std.specs.Prelude.{◌≡◌, ℕ, ◌%◌, ◌^◌, ◌<◌, List, length, slice_index}
 use Rattle.turnstile.specs.History.{made_by}
 

@@ -1,4 +1,4 @@
--- A history is the list of the entries of all turns that were passed on, the first turn's entry first.
+-- A history is the list of the entries of all turns that ended, the first turn's entry first.
 use Rattle.std.specs.Prelude.{◌≡◌, ℕ, ◌==◌, List, ◌++◌, filter}
 
 -- the history begins with all of an earlier one

@@ -1,4 +1,4 @@
--- What one seat knows while it takes in all others, and what is left when it has.
+-- What one seat knows while it takes in all others, and the state once it has.
 use Rattle.std.specs.Prelude.{◌≡◌, ◌⊎◌, ℕ, ◌<◌, ◌≤◌, List, [], All}
 use mathlib.Core.Option.{some}
 use lib.ListN.{get_elem?}
@@ -19,12 +19,12 @@ module _ {E F : Type 0} where
       ⊎ ((i : ℕ) × (r : Report E) × (get_elem? v.joined i ≡ some r) × (r.number ≡ k))
 
 module _ {S E F : Type 0} {kept : Ghosts S E F} where
-  -- what a seat would report
+  -- what a seat reports when it is joined into another
   abbrev pub report : Seat S E F kept → Report E
   report s = report_of s.place.me.0
 
 module _ {S E F : Type 0} (kept : Ghosts S E F) where
-  -- the state is what one history leaves, which has all that the last seat knew and took from reports
+  -- the state stands for one history, which has all that the last seat knew and took in from reports
   pub record Unseats (t : Turnstile S E F) (v : View E F) (state : S) : Type 0 where
     pub log : List E
     pub stands : kept.stands 0 log state

@@ -1,4 +1,4 @@
--- What a turn lends.
+-- The state that a turn lends.
 use Rattle.std.specs.Prelude.{[]}
 use Rattle.std.specs.Borrow.{Lends, MutBor, Fml}
 use mir.Syntax.{named}

@@ -1,4 +1,4 @@
--- What contracts see of a turnstile, of its seats, and of a turn.
+-- A turnstile, its seats and a turn, as contracts see them.
 use Rattle.std.specs.Prelude.{◌≡◌, ℕ, ◌==◌, ◌<◌, ◌≤◌, List, [], Some, All, length, slice_index_or, true}
 use Rattle.std.specs.List.{list_any}
 use Rattle.turnstile.specs.declared.kept.Kept.{Ghosts}
@@ -12,7 +12,7 @@ module _ {S E F : Type 0} where
   abbrev pub seats_of : Turnstile S E F → ℕ
   seats_of t = t.board.shared.key.seats
 
-  -- the fixed part of the state that it was made with
+  -- the fixed part of the state that the turnstile was made with
   abbrev pub fixed_part : (S → F) → Turnstile S E F → F
   fixed_part fixed t = fixed t.board.shared.key.state.value
 
@@ -21,11 +21,11 @@ module _ {S E F : Type 0} {kept : Ghosts S E F} where
   abbrev pub number : Seat S E F kept → ℕ
   number s = s.place.me.0.number
 
-  -- the history up to the end of its last turn
+  -- the history that the seat saw, up to the end of its last turn
   abbrev pub seen : Seat S E F kept → List E
   seen s = s.place.me.0.seen
 
-  -- the entries that it made, in order
+  -- the entries that the seat made, in order
   abbrev pub mine : Seat S E F kept → List E
   mine s = s.place.me.0.mine
 
@@ -34,19 +34,19 @@ module _ {S E F : Type 0} {kept : Ghosts S E F} where
   IsOf t s = (s.place.table_id ≡ t.board.shared.table_id)
       × (s.place.me.0.fixed ≡ Some (fixed_part kept.fixed t))
 
-  -- the history for which the state stood when the turn began
+  -- the history that the state stood for when the turn began
   abbrev pub history : Turn S E F kept → List E
   history t = t.claim.place.me.0.seen
 
-  -- the state as it is now
+  -- the state at this moment of the turn
   abbrev pub state_of : Turn S E F kept → S
   state_of t = t.state
 
-  -- the number of the seat whose turn it is
+  -- the number of the seat that has the turn
   abbrev pub turn_number : Turn S E F kept → ℕ
   turn_number t = t.claim.place.me.0.number
 
-  -- the entries that this seat made before
+  -- the entries that the seat of the turn made before
   abbrev pub turn_mine : Turn S E F kept → List E
   turn_mine t = t.claim.place.me.0.mine
 
@@ -59,7 +59,7 @@ module _ {S E F : Type 0} {kept : Ghosts S E F} where
   abbrev pub IsFresh : ℕ → Seat S E F kept → Type 0
   IsFresh k s = (number s ≡ k) × (seen s ≡ []) × (mine s ≡ [])
 
-  -- such seats, each with its place in the list as its number
+  -- fresh seats, each with its index in the list as its number
   abbrev pub AreFresh : List (Seat S E F kept) → Type 0
   AreFresh seats = (k : ℕ) (d : Seat S E F kept) → k < length seats → IsFresh k (slice_index_or seats k d)
 
@@ -67,15 +67,16 @@ module _ {S E F : Type 0} {kept : Ghosts S E F} where
   abbrev pub HasEach : ℕ → List (Seat S E F kept) → Type 0
   HasEach n seats = (k : ℕ) → k < n → list_any (λ s. number s == k) seats ≡ true
 
-  -- the history begins with what the seat saw, and has, of its entries, just those that it made
+  -- the history begins with what the seat saw, and its entries with the seat's number are exactly those that
+  -- the seat made
   abbrev pub IsIn : List E → Seat S E F kept → Type 0
   IsIn log s = StartsWith log (seen s) × (mine s ≡ made_by kept.by (number s) log)
 
-  -- the state is what one history leaves, in which each of the seats is
+  -- the state stands for one history, of which each seat saw a beginning
   pub record Closes (t : Turnstile S E F) (seats : List (Seat S E F kept)) (state : S) : Type 0 where
     pub log : List E
     pub stands : kept.stands 0 log state
     pub fixed : kept.fixed state ≡ fixed_part kept.fixed t
     pub each : All (λ s. IsIn log s) seats
-    -- no entry is of a number that no seat has
+    -- no entry has a number that no seat has
     pub others : (k : ℕ) → seats_of t ≤ k → made_by kept.by k log ≡ []

@@ -1,10 +1,11 @@
--- What a seat knows: its view of the turnstile, and what becomes of it at each step.
+-- What a seat knows: its view of the turnstile, and how each step changes it.
 use Rattle.std.specs.Prelude.{ℕ, ◌+◌, List, [], ◌∷◌, ◌++◌, Option, Some, None, true, false}
 use Rattle.turnstile.specs.declared.board.View.{View}
 use Rattle.turnstile.specs.declared.board.Report.{Report}
 
 module _ {E F : Type 0} where
-  -- A seat that was made last, with number k, and what it knows of the fixed part. It has no ticket, and has seen and made nothing
+  -- the view of the seat that was made last, with number k, and what it knows of the fixed part: it has no
+  -- ticket, and has seen and made nothing
   abbrev pub last_view : Option F → ℕ → ℕ → View E F
   last_view fixed seats k = record {
     number = k;
@@ -21,15 +22,15 @@ module _ {E F : Type 0} where
     fixed = fixed;
   }
 
-  -- such a seat, which knows the fixed part
+  -- the view of the seat that was made last, which knows the fixed part
   abbrev pub newest_view : F → ℕ → ℕ → View E F
   newest_view fixed seats k = last_view (Some fixed) seats k
 
-  -- one more seat is made: the seat that made it is the newest no more
+  -- the view of a seat that made one more: it is no longer the newest
   abbrev pub older_view : View E F → View E F
   older_view v = record v { is_newest = false }
 
-  -- the new seat has the next number
+  -- the view of the seat that is made next, with the next number
   abbrev pub next_view : View E F → View E F
   next_view v = last_view v.fixed v.seats v.next_number
 
@@ -41,7 +42,7 @@ module _ {E F : Type 0} where
   abbrev pub served_view : View E F → List E → View E F
   served_view v history = record v { served = true; seen = history }
 
-  -- it passed the turn on, with one entry more
+  -- the view of a seat that ended its turn with one more entry
   abbrev pub left_view : View E F → E → View E F
   left_view v e =
       record v { has_ticket = false; served = false; seen = v.seen ++ e ∷ []; mine = v.mine ++ e ∷ [] }
@@ -54,7 +55,7 @@ module _ {E F : Type 0} where
   abbrev pub with_reports : View E F → List (Report E) → View E F
   with_reports v reports = record v { joined = reports }
 
-  -- the first seat took in the second
+  -- the first seat's view after it took in the second
   abbrev pub both_views : View E F → View E F → View E F
   both_views v w = with_reports v (report_of w ∷ v.joined)
 

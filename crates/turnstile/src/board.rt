@@ -1,4 +1,4 @@
-//! The table below a turnstile. Its words are the next ticket and the served one, and its one slot has the state.
+//! The table under a turnstile. Its words are the next ticket and the served one; its one slot has the state.
 use crate::kept::Kept;
 use atomic_table::{Table, TableRule};
 use std::alloc::Global;
@@ -6,43 +6,43 @@ use std::collections::LinkedList;
 use std::marker::PhantomData;
 use std::snapshot::Snapshot;
 
-/// What a seat told when it was joined into another: its number, the history that it saw, and the entries that it made.
-/// No value of it is made.
+/// What a seat reports when it is joined into another: its number, the history that it saw, and the entries that it
+/// made. No value of this type is ever made.
 pub struct Report<E> {
     pub number: u64,
     pub seen: LinkedList<E>,
     pub mine: LinkedList<E>,
 }
 
-/// What a seat knows. No value of it is made.
+/// What a seat knows. No value of this type is ever made.
 pub struct View<E, F> {
-    /// Its number.
+    /// The seat's number.
     pub number: u64,
-    /// It was not joined into another.
+    /// Whether the seat was not joined into another.
     pub live: bool,
-    /// It drew a ticket, and has not passed its turn on.
+    /// Whether the seat drew a ticket, and has not ended its turn.
     pub has_ticket: bool,
-    /// Its ticket is served.
+    /// Whether the seat's ticket is served.
     pub served: bool,
-    /// Its ticket, where it has one.
+    /// The seat's ticket, if it has one.
     pub ticket: u64,
-    /// It was made last, and so makes the next seat.
+    /// Whether the seat was made last; it then makes the next one.
     pub is_newest: bool,
-    /// The number of the seat that it would make.
+    /// The number of the next seat that this seat would make.
     pub next_number: u64,
-    /// The history up to the end of its last turn, or, while it is served, up to its turn.
+    /// The history up to the end of the seat's last turn, or during a turn up to its beginning.
     pub seen: LinkedList<E>,
-    /// The entries that it made.
+    /// The entries that the seat made.
     pub mine: LinkedList<E>,
-    /// What the seats told that were joined into it.
+    /// The reports of the seats that were joined into this one.
     pub joined: LinkedList<Report<E>>,
-    /// How many seats the turnstile is to have.
+    /// How many seats the turnstile will have.
     pub seats: u64,
-    /// What no turn changes.
+    /// The part of the state that no turn changes.
     pub fixed: Option<F>,
 }
 
-/// What the table is told once: the number of its seats, and the state that it was made with.
+/// What the table is given when it is opened: the number of seats, and the first state.
 #[derive(Drop)]
 pub struct Opening<S> {
     pub seats: u64,
@@ -63,7 +63,7 @@ impl<S: Kept> TableRule<Option<S>, View<S::Entry, S::Fixed>, Opening<S>> for Rul
     ghost first = { λ key. newest_view (S.fixed key.state.value) key.seats 0 };
 }
 
-/// The table.
+/// The table of a turnstile.
 pub type Board<S> = Table<
     Option<S>,
     View<<S as Kept>::Entry, <S as Kept>::Fixed>,
@@ -72,5 +72,5 @@ pub type Board<S> = Table<
     Global,
 >;
 
-/// A place at the table, with which a thread steps.
+/// A seat at the table, with which a thread makes steps.
 pub type Place<S> = atomic_table::Seat<Option<S>, View<<S as Kept>::Entry, <S as Kept>::Fixed>>;

@@ -12,8 +12,8 @@ use crate::tokens::Seat;
 use crate::turns::Turnstile;
 
 impl<S: Kept> Turnstile<S> {
-    /// Ends the turnstile, takes each seat back, and gives the state that all turns leave. It waits for nobody and takes no
-    /// memory.
+    /// Ends the turnstile, takes every seat back, and returns the state after all turns. It never waits and allocates
+    /// nothing.
     pub fn close(self, seats: Vec<Seat<S>>) -> S
         requires of { All (λ s. IsOf self s) seats.items }
         requires each { HasEach (seats_of self) seats.items }
@@ -26,7 +26,7 @@ impl<S: Kept> Turnstile<S> {
         self.unseat(place)
     }
 
-    // Joins all seats into the one at this place.
+    // Joins all seats into this one.
     fn gather(&self, place: &mut Place<S>, seats: Vec<Seat<S>>)
         requires table { place.old.table_id ≡ self.now.board.shared.table_id }
         requires idle { IsIdle place.old.me }

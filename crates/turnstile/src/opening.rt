@@ -19,12 +19,13 @@ use std::thread::Parker;
 /// Why a turnstile could not be made.
 #[derive(Drop)]
 pub enum NewFault<S> {
-    /// There was no memory. The state comes back.
+    /// Out of memory. The state is returned.
     Memory(S),
 }
 
 impl<S: Kept> Turnstile<S> {
-    /// A turnstile with 1 to 128 seats, numbered from 0. This takes memory, and no later call does.
+    /// A turnstile with 1 to 128 seats, numbered from 0. Fails with `Memory` if an allocation fails; no later call
+    /// allocates.
     pub fn new(
         alloc: Global,
         state: S,
@@ -35,7 +36,7 @@ impl<S: Kept> Turnstile<S> {
         ensures turnstile { IfOk result (λ r. (fixed_part S.fixed r.0 ≡ S.fixed state) × (seats_of r.0 ≡ seats)) }
         ensures seats { IfOk result (λ r. (vec_len r.1 ≡ seats) × AreFresh r.1.items × All (λ s. IsOf r.0 s) r.1.items) }
 
-        // An emptied list has room for the seats when they come back.
+        // The list, once emptied, has capacity for the seats when they come back.
         ensures room { IfOk result (λ r. seats ≤ vec_capacity r.1) }
         ensures memory { IfErr result (λ e. e ≡ Memory state) }
     {
@@ -47,7 +48,7 @@ impl<S: Kept> Turnstile<S> {
         Ok((turnstile, list))
     }
 
-    // The turnstile, and the place of its first seat.
+    // The turnstile, and the table's seat of its first seat.
     fn set_up(alloc: Global, state: S, seats: u32) -> Result<(Turnstile<S>, Place<S>), NewFault<S>>
         requires seats { (0 < seats) × (seats ≤ 128) }
         requires stands { S.stands 0 [] state }
@@ -76,7 +77,7 @@ impl<S: Kept> Turnstile<S> {
         }
     }
 
-    // Makes a seat of each number, each by a split of the one before it.
+    // Makes a seat of each number, each by splitting the one before it.
     fn seat_all(&self, place: Place<S>, seats: u32, list: &mut Vec<Seat<S>>)
         requires table { place.table_id ≡ self.now.board.shared.table_id }
         requires place { place.me ≡ (newest_view (fixed_part S.fixed self.now) seats 0, []) }
@@ -94,7 +95,7 @@ impl<S: Kept> Turnstile<S> {
     }
 }
 
-// The state in the one slot that could not be laid.
+// The state, taken out of the one slot for which no table could be made.
 fn given_back<S>(mut slots: Vec<Option<S>>) -> S
     requires { (x : S) × (slots.items ≡ Some x ∷ []) }
     ensures { slots.items ≡ Some result ∷ [] }

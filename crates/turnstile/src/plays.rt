@@ -1,4 +1,4 @@
-//! What each kind of step tells. These types are for the proofs alone.
+//! The result of each kind of step. These types are used in proofs alone.
 ghost use Rattle.turnstile.specs.Steps.{Draws, Looks, PassesOn};
 ghost use Rattle.turnstile.specs.Views.{older_view, next_view, both_views, spent_view};
 
@@ -7,7 +7,7 @@ use crate::kept::{Added, Kept};
 use atomic_table::{Join, Play, Split};
 use std::marker::PhantomData;
 
-/// A ticket is drawn.
+/// A step that draws a ticket.
 pub struct Draw;
 
 impl<S, E, F> Play<Option<S>, View<E, F>> for Draw {
@@ -21,7 +21,7 @@ impl<S: Kept> Play<Option<S>, View<S::Entry, S::Fixed>> for Look {
     ghost then = { Looks S.Kept };
 }
 
-/// The turn is passed on, with E's entry.
+/// A step that ends the turn with E's entry.
 pub struct PassOn<E> {
     marker: PhantomData<E>,
 }
@@ -30,7 +30,7 @@ impl<S, T, F, E: Added<T>> Play<Option<S>, View<T, F>> for PassOn<E> {
     ghost then = { PassesOn E.entry };
 }
 
-/// One more seat is made.
+/// A step that makes one more seat.
 pub struct OneMore;
 
 impl<E, F> Split<View<E, F>> for OneMore {
@@ -39,7 +39,7 @@ impl<E, F> Split<View<E, F>> for OneMore {
     ghost right = { next_view };
 }
 
-/// A seat is joined into another, which keeps what it told.
+/// A step that joins a seat into another, which keeps its report.
 pub struct TakeIn;
 
 impl<E, F> Join<View<E, F>> for TakeIn {

@@ -1,4 +1,4 @@
-//! Turns of few seats and of many, on one thread and on a thread for each seat.
+//! Tests of turns of few seats and of many, on one thread and with a thread for each seat.
 mod counters;
 mod rounds;
 

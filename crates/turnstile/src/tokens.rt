@@ -1,4 +1,4 @@
-//! What threads hold: seats, and turns.
+//! The tokens that threads own: seats, and turns.
 ghost use Rattle.std.specs.Prelude.{◌≡◌};
 ghost use Rattle.turnstile.specs.Steps.{IsIdle, IsServed};
 
@@ -7,21 +7,21 @@ use crate::kept::Kept;
 use crate::turns::Turnstile;
 use std::marker::PhantomData;
 
-/// The right to take turns at one turnstile. Contracts see its number and two lists of entries: `seen`, a beginning of the
-/// history, and `mine`, the entries that this seat made. It has no bytes. A turnstile of which a seat was let go cannot be
-/// closed.
+/// The right to take turns at one turnstile. In contracts it has a number and two lists of entries: `seen`, a beginning
+/// of the history, and `mine`, the entries that this seat made. It has no bytes. If a seat is dropped, its turnstile
+/// cannot be closed.
 pub struct Seat<S: Kept> {
     pub(crate) place: Place<S>,
     ghost idle: { IsIdle place.me },
 }
 
-// A seat that is served. It stands apart from the state, which can be lent without it.
+// A seat that has the turn. It is separate from the state, so that the state can be lent without it.
 pub(crate) struct Claim<S: Kept> {
     pub(crate) place: Place<S>,
     ghost served: { IsServed place.me },
 }
 
-/// A turn: the state, out of its turnstile, and the seat. It is spent by `Turnstile::leave` alone.
+/// A turn: the state, taken out of its turnstile, and the seat. Only `Turnstile::leave` ends it.
 pub struct Turn<'a, S: Kept> {
     pub(crate) claim: Claim<S>,
     pub(crate) state: S,

@@ -21,17 +21,17 @@ const NEXT: usize = 0;
 
 const SERVING: usize = 1;
 
-// As many as tickets can be out at once, so those that are out have different places.
+// At least the number of tickets that can wait at once, so that waiting tickets have different parkers.
 const PLACES: usize = 128;
 
-// So often a thread that is not served spins and looks again. Then it rests: where more threads run than there are processors,
-// one that spins or yields keeps the served one from its turn.
+// A thread whose ticket is not served spins and looks this often, and then rests: if more threads run than there are
+// processors, a thread that spins or yields keeps the one with the turn from its work.
 const SPINS: u32 = 10;
 
-/// A state that is taken in ticket order. It is ended by `close` alone.
+/// A state that threads take in ticket order. Only `close` ends it.
 pub struct Turnstile<S: Kept> {
     pub(crate) board: Board<S>,
-    // Where threads rest whose tickets are not served, each at its ticket's place. A wake-up that is late costs time alone.
+    // Threads whose tickets are not served rest here, each at the parker of its ticket. A late wake-up costs only time.
     pub(crate) parkers: [Parker; PLACES],
     // How many threads rest, or are about to.
     pub(crate) resting: AtomicU64,
@@ -42,16 +42,17 @@ pub struct Turnstile<S: Kept> {
 impl<S: Kept> Turnstile<S> {
     ghost use Rattle.turnstile.specs.Seats.{IsOf, IsTurnOf, number, seen, mine, history, state_of, turn_number, turn_mine, fixed_part};
 
-    /// Draws a ticket, looks until it is served, and takes the state. It may wait for other turns to end, and nothing is said of
-    /// how long. After a look that finds another ticket it backs off, and after some of these it yields the processor until
-    /// another thread's `leave` wakes it, or for a while.
+    /// Draws a ticket, waits until it is served, and takes the state. It may wait for other turns to end; nothing is
+    /// proved about how long. After a look that finds another ticket it backs off; after some of these looks it sleeps
+    /// until another thread's `leave` wakes it, or for a while.
     #[inline(always)]
     pub fn enter<R: Wait>(&self, rt: &R, seat: Seat<S>) -> Turn<'_, S>
         requires of { IsOf self.now seat }
         ensures of { IsTurnOf self.now result }
         ensures seat { (turn_number result ≡ number seat) × (turn_mine result ≡ mine seat) }
 
-        // There is one history: it begins with what the seat saw, and its entries of the seat's number are those that it made.
+        // There is one history: it begins with what the seat saw, and its entries with the seat's number are those that
+        // the seat made.
         ensures begins { StartsWith (history result) (seen seat) }
         ensures own { mine seat ≡ made_by S.by (number seat) (history result) }
         ensures stands { S.stands 0 (history result) (state_of result) }
@@ -79,7 +80,8 @@ impl<S: Kept> Turnstile<S> {
             } else if rests {
                 self.rest(rt, ticket);
             } else {
-                // Told before one more look, so that either this look or the `leave` before the turn sees the other.
+                // Counted before one more look, so that either this look sees the `leave` before the turn, or that
+                // `leave` sees the count.
                 self.resting.fetch_add(1, SeqCst);
                 rests = true;
             }
@@ -87,8 +89,8 @@ impl<S: Kept> Turnstile<S> {
         unreachable!()
     }
 
-    /// Puts the state back, which stands for one more entry, of this seat, and passes the turn on. It waits for nobody and
-    /// takes no memory.
+    /// Puts the state back, which stands for one more entry of this seat, and ends the turn. It never waits and
+    /// allocates nothing.
     pub fn leave<E: Added<S::Entry>>(&self, turn: Turn<'_, S>) -> Seat<S>
         requires of { IsTurnOf self.now turn }
         requires by { S.by E.entry ≡ turn_number turn }
@@ -125,7 +127,7 @@ impl<S: Kept> Turnstile<S> {
         self.board.shared.fetch_add::<Draw>(place, NEXT, 1)
     }
 
-    // Takes the state, where the ticket is served.
+    // Takes the state, if the ticket is served.
     fn look(&self, place: &mut Place<S>, ticket: u64) -> Option<S>
         requires table { place.old.table_id ≡ self.now.board.shared.table_id }
         requires waits { IsWaiting place.old.me }
@@ -142,13 +144,13 @@ impl<S: Kept> Turnstile<S> {
         }
     }
 
-    // Rests until the ticket is told to be served, for 16 milliseconds at most.
+    // Rests until the ticket is said to be served, at most 16 milliseconds.
     fn rest<R: Wait>(&self, rt: &R, ticket: u64) {
         let parker = &self.parkers[(ticket % PLACES as u64) as usize];
         parker.park_timeout(rt, Duration::from_millis(16));
     }
 
-    // Tells the thread with this ticket that it is served, where any thread rests.
+    // Wakes the thread with this ticket, which is now served, if any thread rests.
     fn wake(&self, ticket: u64) {
         if self.resting.load(SeqCst) != 0 {
             self.parkers[(ticket % PLACES as u64) as usize].unpark();

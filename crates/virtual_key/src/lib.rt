@@ -1,4 +1,4 @@
-//! The key by which a pending job is ordered.
+//! The key by which pending jobs are ordered.
 #![tactic(auto)]
 
 ghost use Rattle.std.specs.Prelude.{◌≡◌, Some};
@@ -7,7 +7,8 @@ ghost use Rattle.mc_model.specs.Holds.{Fits};
 
 use mc_task::{Level, Rule, Task};
 
-/// The key of a job of this task that was released at this boundary: the job with the least key runs.
+/// The key of a job of this task that was released at this boundary; the job with the least key runs (Baruah et al.,
+/// ECRTS 2012).
 ///
 /// With release r, period T and the scale p/q (q = 1 under `Plain`), in units of 1/q tick, so that nothing is rounded:
 ///
@@ -17,7 +18,7 @@ use mc_task::{Level, Rule, Task};
 /// | `Virtual`, low | q * r + p * T | q * (r + T) |
 /// | `Virtual`, high | q * (r + T) | q * (r + T) |
 ///
-/// In high mode no job of a low task is pending. It takes no memory and cannot fail.
+/// In high mode no job of a low task is pending. It allocates nothing and cannot fail.
 pub fn key(rule: Rule, high_mode: bool, task: &Task, release: u64) -> u128
     requires fits { Fits rule }
     ensures { result ≡ key_of rule high_mode (Some task.now) release }

@@ -1,4 +1,4 @@
--- A list of work is taken as it stands.
+-- A list of work has no bad row.
 use Rattle.std.proofs.Common.{◌≡◌, ℕ, ◌+◌, ◌≤◌, inl, inr, false, ◌==◌, nat_le, nat_lt, cond, List, [], ◌∷◌, ◌++◌, length, Option, Some, None, refl, sym, subst, arith, append_assoc, length-append}
 use Rattle.std.proofs.lemmas.Bool.Decides.{nat_tests, eqb_tells}
 use Rattle.std.specs.Option.{option_or}
@@ -19,7 +19,7 @@ need_at : (set : List Task) (before : List WorkRow) (w : WorkRow) (ws : List Wor
 need_at set [] w ws h = h.0
 need_at set (v ∷ vs) w ws h = need_at set vs w ws h.2
 
--- a row may stand after each row before it
+-- a row of a list of work may stand after each row before it
 after_each : (set : List Task) (before : List WorkRow) (w : WorkRow) (ws : List WorkRow) → IsWork set (before ++ w ∷ ws) → Each (λ v. MayFollow set v w) before
 after_each set [] w ws h = tt
 after_each set (v ∷ vs) w ws h = (follows set v vs w ws h.1, after_each set vs w ws h.2)
@@ -71,6 +71,6 @@ none_after set before (w ∷ ws) each work few =
     rw (no_row_fault set before w ws each work few)
     (none_after set (before ++ w ∷ []) ws each (subst (λ rows. IsWork set rows) (sym apart) work) (subst (λ rows. length rows ≤ 1000000) (sym apart) few))
 
--- so `Work::new` takes a list of work of at most 1,000,000 rows
+-- `Work::new` takes each list of work of at most 1,000,000 rows
 pub work-accepted : (set : List Task) (rows : List WorkRow) → Each IsTask set → IsWork set rows → length rows ≤ 1000000 → first_bad set rows ≡ None
 work-accepted set rows each work few = none_after set [] rows each work few

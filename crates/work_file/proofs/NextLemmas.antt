@@ -1,4 +1,4 @@
--- The next allowed releases of the tasks, in a list by their numbers.
+-- The next allowed releases of the tasks, in a list by task number.
 use Rattle.std.proofs.Common.{◌≡◌, ◌≢◌, ℕ, ◌+◌, ◌<◌, Bool, true, false, ◌==◌, cond, List, [], ◌∷◌, ◌++◌, length, set, get_or, refl, sym, ap, ◌∙◌, arith}
 use Rattle.std.proofs.lemmas.Bool.Decides.{nat_tests}
 use Rattle.std.proofs.lemmas.Grind.{get_or-set_at}
@@ -10,7 +10,7 @@ use Rattle.mc_model.specs.declared.work.WorkRow.{WorkRow}
 use Rattle.work_file.specs.Rows.{next_allowed}
 use Rattle.work_file.proofs.RowLemmas.{next-more}
 
--- they are those after one more row where its own task's is written
+-- after one more row, the next releases are right if that of the row's own task is written
 pub noted : (tasks : List Task) (before : List WorkRow) (w : WorkRow) (next : List ℕ) (place : ℕ) → place < length next → place + 1 ≡ w.task.0
     → ((i : ℕ) → i < 128 → get_or next i 0 ≡ next_allowed tasks before (i + 1))
     → (i : ℕ) → i < 128 → get_or (set next place (w.release + period_in (task_at tasks w.task.0))) i 0 ≡ next_allowed tasks (before ++ w ∷ []) (i + 1)

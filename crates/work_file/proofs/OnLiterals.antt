@@ -1,4 +1,4 @@
--- What an answer unfolds to compute `work_in` on a literal.
+-- The definitions that must be unfolded to compute `work_in` on a literal.
 use Rattle.std.specs.Prelude.{⊤}
 use Rattle.csv.specs.Records.{field_at}
 use Rattle.csv.proofs.OnLiterals.{csv_on_literals}

@@ -1,4 +1,4 @@
--- What is known of a row that may stand after others.
+-- What follows for a row that may stand after others.
 use Rattle.std.proofs.Common.{IfNone, set, ◌≡◌, ℕ, ◌+◌, ◌-◌, ◌≤◌, ◌⊎◌, inl, inr, Bool, true, false, ◌==◌, nat_lt, cond, List, [], ◌∷◌, ◌++◌, length, Option, Some, None, refl, sym, ap, ◌∙◌, subst, arith, slice_get}
 use Rattle.std.proofs.lemmas.Bool.Decides.{nat_tests}
 use Rattle.std.specs.Option.{option_or}
@@ -11,7 +11,7 @@ use Rattle.work_file.specs.declared.fault.WorkCause.{WorkCause}
 use Rattle.work_file.specs.declared.fault.WorkCause.TheVariants.{ZeroNeed, Unsorted, TooSoon}
 use Rattle.work_file.specs.Rows.{last_release, last_of, period_after, next_allowed, time_fault}
 
--- the release of the last row is the one at the last place
+-- the last release is that of the row at the last index
 at_last : (v : WorkRow) (us : List WorkRow) (w : WorkRow) → slice_get (v ∷ us) (length us) ≡ Some w → w.release ≡ last_release (v ∷ us)
 at_last v [] w h = cc
 at_last v (u ∷ us) w h = at_last u us w h
@@ -22,7 +22,7 @@ last_some (v ∷ us) w h =
     let place : length (v ∷ us) - 1 ≡ length us = omega arith in
     at_last v us w (subst (λ (n : ℕ). slice_get (v ∷ us) n ≡ Some w) place h)
 
--- one more row is the last of its task, and no other task's
+-- one more row is the last of its task, and changes the last row of no other task
 more_cases : (o : Option WorkRow) (a b : Bool) (v w : WorkRow) → option_or (cond a (Some w) o) (cond b (Some v) None) ≡ cond a (Some w) (option_or o (cond b (Some v) None))
 more_cases o true b v w = refl
 more_cases o false b v w = refl
@@ -33,7 +33,7 @@ last_of-more k (v ∷ vs) w =
     ap (λ (o : Option WorkRow). option_or o (cond (v.task.0 == k) (Some v) None)) (last_of-more k vs w)
     ∙ more_cases (last_of k vs) (w.task.0 == k) (v.task.0 == k) v w
 
--- the second choice is taken where there is no first
+-- if the second of two options is chosen, there is no first
 option_or-cases : {A : Type 0} (a b : Option A) (x : A) → option_or a b ≡ Some x → (a ≡ Some x) ⊎ ((a ≡ None) × (b ≡ Some x))
 option_or-cases (Some y) b x h = inl h
 option_or-cases None b x h = inr (refl, h)
@@ -42,12 +42,12 @@ chosen : {A : Type 0} (t : Bool) (x y : A) → cond t (Some x) None ≡ Some y �
 chosen true x y h = (refl, cc)
 chosen false x y h = absurd (cc)
 
--- a row that all of a list may follow is not released after the last of them
+-- a row that may come before all of a list is not released after the last of them
 follow-last : (set : List Task) (v u : WorkRow) (us : List WorkRow) → AllFollow set v (u ∷ us) → v.release ≤ last_release (u ∷ us)
 follow-last set v u [] h = h.0.order
 follow-last set v u (x ∷ xs) h = follow-last set v x xs (h.1)
 
--- and the last of its own task among them is released a period later
+-- the last row of the same task is released at least a period later
 follow-last_of : (set : List Task) (v : WorkRow) (us : List WorkRow) (x : WorkRow) → AllFollow set v us → last_of v.task.0 us ≡ Some x
     → v.release + period_in (task_at set v.task.0) ≤ x.release
 follow-last_of set v [] x h e = absurd (cc)
@@ -64,7 +64,7 @@ AllFollow-more : (set : List Task) (v : WorkRow) (us : List WorkRow) (w : WorkRo
 AllFollow-more set v [] w h last = (last, tt)
 AllFollow-more set v (u ∷ us) w h last = (h.0, AllFollow-more set v us w (h.1) last)
 
--- the last release and the next allowed one, without the first row
+-- without its first row, a list has no later last release, and no later next allowed release
 rest-last : (v : WorkRow) (vs : List WorkRow) (r : ℕ) → last_release (v ∷ vs) ≤ r → last_release vs ≤ r
 rest-last v [] r h = omega arith
 rest-last v (u ∷ us) r h = h
@@ -73,7 +73,7 @@ rest-next : (p r : ℕ) (o first : Option WorkRow) → period_after p (option_or
 rest-next p r None first h = omega arith
 rest-next p r (Some x) first h = h
 
--- where the next allowed release is at most r, so is a period after a row that all of the rest may follow
+-- if the next allowed release is at most r, r is at least a period after a row before all others
 first-apart : (set : List Task) (v : WorkRow) (vs : List WorkRow) (r : ℕ) → AllFollow set v vs → next_allowed set (v ∷ vs) v.task.0 ≤ r
     → v.release + period_in (task_at set v.task.0) ≤ r
 first-apart set v vs r h next = by (last_of v.task.0 vs) refl next
@@ -93,7 +93,7 @@ first-may set v vs w h last next = record {
     order [] f l = l
     order (u ∷ us) f l = let first : v.release ≤ last_release (u ∷ us) = follow-last set v u us f in omega arith
 
--- a list of work with one more row that may stand there
+-- a list of work with one more row that may stand there is a list of work
 more : (set : List Task) (before : List WorkRow) (w : WorkRow) → IsWork set before → IsNeed set w → last_release before ≤ w.release → next_allowed set before w.task.0 ≤ w.release
     → IsWork set (before ++ w ∷ [])
 more set [] w h need last next = (need, tt, tt)
@@ -103,7 +103,7 @@ more set (v ∷ vs) w h need last next = (
   more set vs w (h.2) need (rest-last v vs w.release last) (rest-next _ w.release (last_of w.task.0 vs) _ next),
 )
 
--- what no fault means
+-- what the absence of a fault means
 no_fault : (set : List Task) (before : List WorkRow) (w : WorkRow) → time_fault set before w ≡ None
     → (1 ≤ w.need) × (last_release before ≤ w.release) × (next_allowed set before w.task.0 ≤ w.release)
 unfolding time_fault

@@ -1,4 +1,4 @@
--- The definitions at small files and lists, for the set of a high task with period 10 and a low one.
+-- The definitions, computed at small files and lists, for a high task with period 10 and a low task.
 use Rattle.std.proofs.Common.{◌≡◌, ℕ, List, [], ◌∷◌, codes, Some, Ok, Err, refl}
 use Rattle.mc_task.specs.declared.task.Task.{Task}
 use Rattle.mc_task.specs.declared.task.Level.TheVariants.{Low, High}

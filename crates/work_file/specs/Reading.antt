@@ -1,4 +1,4 @@
--- What is known of the rows that are read so far.
+-- What holds of the rows that are read so far.
 use Rattle.std.specs.Prelude.{◌≤◌, List, length}
 use Rattle.mc_task.specs.declared.task.Task.{Task}
 use Rattle.mc_model.specs.Work.{IsWork}

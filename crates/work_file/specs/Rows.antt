@@ -9,7 +9,7 @@ use Rattle.work_file.specs.declared.fault.WorkCause.{WorkCause}
 use Rattle.work_file.specs.declared.fault.WorkCause.TheVariants.{UnknownTask, ZeroNeed, Unsorted, TooSoon, TooMany}
 use Rattle.work_file.specs.declared.work.BadRow.{BadRow}
 
--- the release of the last row; 0 where there is no row
+-- the release of the last row; 0 if there is no row
 abbrev pub last_release : List WorkRow → ℕ
 last_release [] = 0
 last_release (w ∷ []) = w.release
@@ -20,12 +20,13 @@ abbrev pub last_of : ℕ → List WorkRow → Option WorkRow
 last_of k [] = None
 last_of k (w ∷ ws) = option_or (last_of k ws) (if w.task.0 == k then Some w else None)
 
--- a period after the release of the row; 0 where there is no row
+-- a period after the release of the row; 0 if there is no row
 abbrev pub period_after : ℕ → Option WorkRow → ℕ
 period_after period None = 0
 period_after period (Some w) = w.release + period
 
--- 0 before the first row of task number k, otherwise its last release plus its period
+-- the next allowed release: 0 before the first row of task number k, otherwise its last release plus its
+-- period
 abbrev pub next_allowed : List Task → List WorkRow → ℕ → ℕ
 next_allowed set before k = period_after (period_in (task_at set k)) (last_of k before)
 

@@ -1,4 +1,4 @@
--- What the records of a work file say: its rows, or the first refusal.
+-- The rows that the records of a work file say, or the first refusal.
 use Rattle.std.specs.Prelude.{ℕ, Bool, ◌==◌, nat_le, if◌then◌else◌, List, [], ◌∷◌, codes, length, Option, Some, None, Result, Ok, Err}
 use lib.Pointwise.{pointwise}
 use Rattle.std.specs.Str.{bytes_eq}
@@ -17,7 +17,7 @@ use Rattle.work_file.specs.Rows.{time_fault}
 abbrev pub is_header : List (List ℕ) → Bool
 is_header fields = pointwise bytes_eq fields (codes "task" ∷ codes "release" ∷ codes "need" ∷ [])
 
--- the row of a task, a release and a need, where both are numbers
+-- the row of a task, a release and a need, if both are numbers
 abbrev pub numbered_row : ℕ → Option ℕ → Option ℕ → Result WorkRow WorkCause
 numbered_row task None need = Err BadNumber
 numbered_row task (Some release) None = Err BadNumber
@@ -33,12 +33,12 @@ named_row (Some task) fields = numbered_row task (number (field fields 1)) (numb
 abbrev pub row_of : List Task → List (List ℕ) → Result WorkRow WorkCause
 row_of set fields = named_row (named (field fields 0) set) fields
 
--- the row, where nothing is wrong
+-- the row, if nothing is wrong
 abbrev pub row_unless : Option WorkCause → WorkRow → Result WorkRow WorkCause
 row_unless None w = Ok w
 row_unless (Some cause) w = Err cause
 
--- the row, where its need and its release may stand after these rows
+-- the row, if its need and its release may stand after these rows
 abbrev pub in_time : List Task → List WorkRow → Result WorkRow WorkCause → Result WorkRow WorkCause
 in_time set before (Err cause) = Err cause
 in_time set before (Ok w) = row_unless (time_fault set before w) w

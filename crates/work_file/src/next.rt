@@ -1,4 +1,4 @@
-// The first release that each task may have next.
+//! The first boundary at which each task may be released next.
 ghost use Rattle.std.specs.Prelude.{◌≡◌, ◌<◌, ◌+◌, ◌++◌, ◌∷◌, [], IfNone, List};
 ghost use Rattle.mc_task.specs.declared.task.Task.{Task};
 ghost use Rattle.mc_task.specs.TaskSet.{IsIn, task_at};
@@ -12,21 +12,21 @@ use crate::WorkCause;
 use mc_model::WorkRow;
 use mc_task::{TaskNo, TaskSet};
 
-// For task number k, at place k - 1: 0 before its first row, otherwise its last release plus its period, in ticks.
+// At index k - 1, for task number k: 0 before its first row, otherwise its last release plus its period, in ticks.
 #[derive(Drop)]
 pub struct NextReleases {
     next: [u64; 128],
 }
 
 impl NextReleases {
-    // Before the first row.
+    // Before the first row: each task may be released at 0.
     pub fn new() -> NextReleases
         ensures { (set : List Task) → Tracks set [] result }
     {
         NextReleases { next: [0; 128] }
     }
 
-    // Why the row may not stand after the rows before it. If it may, it is one of them from then on.
+    // Why the row may not stand after the rows before it. If it may, it counts as one of them from then on.
     pub fn take(&mut self, set: &TaskSet, before: &[WorkRow], row: WorkRow) -> Option<WorkCause>
         requires task { IsIn set.now.tasks row.task.0 }
         requires tracks { Tracks set.now.tasks before.now self.old }

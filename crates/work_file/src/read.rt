@@ -1,3 +1,4 @@
+//! Work files, read.
 ghost use Rattle.std.specs.Prelude.{◌≤◌, IfOk, length};
 ghost use Rattle.csv_records.specs.Gives.{Gives};
 ghost use Rattle.mc_model.specs.Work.{IsWork};
@@ -12,13 +13,13 @@ use mc_model::WorkRow;
 use mc_task::TaskSet;
 use std::alloc::Global;
 
-/// Reads a work file: records of three fields, the first of them the header `task,release,need`, each other one a
-/// task's name, its release and its need in ticks. Records are as csv's reader gives them, with commas and double
+/// Reads a work file: records of three fields. The first is the header `task,release,need`; each other record has a
+/// task's name, its release and its need, in ticks. Records are as csv's reader returns them, with commas and double
 /// quotes.
 ///
-/// An error but `Memory`, which may come at any point, is the file's first refusal: `Header` at line 1, and then for
-/// each record in turn `TooMany`, the 1,000,001st row; `BadRecord`; `UnknownTask`; `BadNumber`; `ZeroNeed`;
-/// `Unsorted`; `TooSoon`.
+/// `Memory` may be returned at any point. Any other error is the file's first refusal: `Header` at line 1, and then for
+/// each record in turn `TooMany`, the 1,000,001st row; `BadRecord`; `UnknownTask`; `BadNumber`; `ZeroNeed`; `Unsorted`;
+/// `TooSoon`.
 pub fn read_work(alloc: Global, set: &TaskSet, bytes: &[u8]) -> Result<Work, WorkFault>
     ensures file { Gives (λ work. work) result (work_in set.now.tasks bytes.now) }
     ensures work { IfOk result (λ work. IsWork set.now.tasks work) }
@@ -29,7 +30,7 @@ pub fn read_work(alloc: Global, set: &TaskSet, bytes: &[u8]) -> Result<Work, Wor
     Ok(Work::from_rows(rows))
 }
 
-// The records of a work file for a set.
+// What the records of a work file for this set mean.
 #[derive(Drop)]
 struct WorkRecords<'a> {
     set: &'a TaskSet,

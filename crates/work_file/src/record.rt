@@ -1,4 +1,4 @@
-// A record as a row.
+//! A record of a work file as a row.
 ghost use Rattle.std.specs.Prelude.{◌≡◌, ◌<◌, ◌++◌, ◌∷◌, [], IfOk, OnOk, length};
 ghost use Rattle.csv.specs.Records.{fields_of};
 ghost use Rattle.mc_task.specs.TaskSet.{IsIn};
@@ -24,7 +24,8 @@ pub fn is_header(fields: &ByteRecord) -> bool
             && (is(field(fields, 1), "release") && is(field(fields, 2), "need")))
 }
 
-// The row of a record after the rows before it. From then on it is one of them.
+// The row of a record after the rows before it, or why it is refused. A row returned counts as one of the rows from
+// then on.
 #[tactic(auto, unfolding(crate::specs::WorkFile::record_row))]
 pub fn record_row(
     next: &mut NextReleases,
@@ -51,7 +52,7 @@ pub fn record_row(
     }
 }
 
-// The task of the last row, near which the next row's likely is. It decides only how soon a task is found.
+// A task near which the next row's task likely is: that of the last row. This decides only how fast a task is found.
 fn near(before: &[WorkRow]) -> TaskNo {
     match before.last() {
         Some(row) => row.task,
@@ -59,7 +60,7 @@ fn near(before: &[WorkRow]) -> TaskNo {
     }
 }
 
-// The row that three fields say.
+// The row that three fields say, or why they are refused.
 fn row_of(set: &TaskSet, near: TaskNo, fields: &ByteRecord) -> Result<WorkRow, WorkCause>
     ensures row { result ≡ file.row_of set.now.tasks (fields_of fields.now) }
     ensures task { IfOk result (λ row. IsIn set.now.tasks row.task.0) }

@@ -1,3 +1,4 @@
+//! A list of work, and why rows are not one.
 ghost use Rattle.std.specs.Prelude.{◌≡◌, ◌++◌, ◌∷◌, [], ◌<◌, ◌≤◌, length, IfOk, IfErr, IfNone, Some, None};
 ghost use Rattle.mc_model.specs.Work.{IsWork};
 ghost use Rattle.work_file.specs.Rows.{first_bad, row_fault};
@@ -9,15 +10,15 @@ use mc_model::WorkRow;
 use mc_task::TaskSet;
 use std::marker::Model;
 
-/// A row of a list that is refused: its index from 0, and why.
+/// A row that is refused: its index from 0, and the cause.
 #[derive(Clone, Copy, Debug, PartialEq, Eq)]
 pub struct BadRow {
     pub index: usize,
     pub cause: WorkCause,
 }
 
-/// A list of work for the set of tasks that it was made with: at most 1,000,000 jobs by their releases, each task's at
-/// least its period apart. Contracts see the list of its rows.
+/// A list of work for the set that it was made with: at most 1,000,000 jobs in the order of their releases, each task's
+/// at least its period apart. In contracts it is the list of its rows.
 #[derive(Debug, Drop)]
 pub struct Work {
     rows: Vec<WorkRow>,
@@ -35,7 +36,7 @@ impl Model for Work {
 }
 
 impl Work {
-    /// The list of these rows, for this set. On a refusal the list is dropped. It takes no memory.
+    /// The list of these rows, for this set. On an error the rows are dropped. It allocates nothing.
     ///
     /// An error is the first row that is refused, with the first of these causes: `TooMany`, `UnknownTask`, `ZeroNeed`,
     /// `Unsorted`, `TooSoon`.
@@ -51,7 +52,7 @@ impl Work {
         }
     }
 
-    // At most 1,000,000 rows as they stand.
+    // A list of work from at most 1,000,000 rows that are known to be one.
     pub(crate) fn from_rows(rows: Vec<WorkRow>) -> Work
         requires { length rows.items ≤ 1000000 }
         ensures { result ≡ rows.items }
@@ -59,7 +60,7 @@ impl Work {
         Work { rows }
     }
 
-    /// The rows, in order.
+    /// The rows, in the order of their releases.
     pub fn rows(&self) -> &[WorkRow]
         ensures value { result.now ≡ self.now }
         ensures few { length self.now ≤ 1000000 }
@@ -82,7 +83,7 @@ fn first_bad(set: &TaskSet, rows: &[WorkRow]) -> Option<BadRow>
     None
 }
 
-// Why the row may not stand after the rows before it. If it may, it is one of them from then on.
+// Why the row may not stand after the rows before it. If it may, it counts as one of them from then on.
 #[tactic(auto, unfolding(crate::specs::Rows::row_fault))]
 fn row_fault(
     next: &mut NextReleases,

@@ -1,4 +1,4 @@
--- Tasks and jobs by their lines.
+-- The tasks and jobs that lines of the worked examples say.
 use Rattle.std.specs.Prelude.{ℕ, List}
 use Rattle.std.specs.Borrow.{Bor}
 use Rattle.mc_task.specs.declared.task.Task.{Task}

@@ -8,7 +8,7 @@ mod tasks;
 mod traces;
 mod work;
 
-// What the macros name.
+// The macros use these names.
 pub use mc_model::{Row, Run};
 pub use mc_task::{JobId, TaskNo};
 pub use plans::{PLANS, WorkedPlan};

@@ -1,4 +1,4 @@
-// Plans, and the rows that they come to.
+//! Plans, and the rows of their schedules.
 use crate::sets::{CONTROL, PLAIN_PAIR, QUARTER_SCALE, TAP_AND_ARM, TWO_HIGH_TASKS};
 use crate::traces::{
     HELD_RELEASE_ROWS, OVERRUN_ROWS, PLAIN_PAIR_ROWS, QUARTER_SCALE_ROWS, TAP_AND_ARM_ROWS,
@@ -9,7 +9,7 @@ use mc_model::How::{More, Stop};
 use mc_model::Row;
 use mc_task::Rule;
 
-/// A set, the rule of the test for it, work for so many ticks, and the rows of its schedule.
+/// A set, the rule of the test for it, work for `ticks` ticks, and the rows of its schedule.
 #[derive(Clone, Copy)]
 pub struct WorkedPlan {
     pub shows: &'static str,

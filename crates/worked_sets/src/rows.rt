@@ -1,7 +1,9 @@
-// Jobs, rows and runs in a few words. They are macros, since a constant's value cannot call a function, and since what
-// a function gives is known by its contract alone.
+//! Macros that write jobs, rows and runs in a few words.
+//!
+//! They are macros, since a constant's value cannot call a function, and since contracts know a function's result only
+//! by its clauses.
 
-/// The job of this task with this count.
+/// The job of this task with this number.
 #[macro_export]
 macro_rules! job {
     ($task:expr, $count:expr) => {
@@ -12,7 +14,7 @@ macro_rules! job {
     };
 }
 
-/// The row of a release of this job, which is kept.
+/// The row of a kept release of this job.
 #[macro_export]
 macro_rules! kept {
     ($task:expr, $count:expr) => {
@@ -23,7 +25,7 @@ macro_rules! kept {
     };
 }
 
-/// The row of a release of this job, which is dropped.
+/// The row of a dropped release of this job.
 #[macro_export]
 macro_rules! dropped {
     ($task:expr, $count:expr) => {
@@ -34,7 +36,7 @@ macro_rules! dropped {
     };
 }
 
-/// The row of a tick of this job that ends so.
+/// The row of a tick of this job with this outcome.
 #[macro_export]
 macro_rules! tick {
     ($task:expr, $count:expr, $how:expr) => {
@@ -45,7 +47,7 @@ macro_rules! tick {
     };
 }
 
-/// The run of a release of this job, which is kept or not.
+/// The run of a release of this job, kept or dropped.
 #[macro_export]
 macro_rules! release {
     ($task:expr, $count:expr, $kept:expr) => {
@@ -56,7 +58,7 @@ macro_rules! release {
     };
 }
 
-/// The run of so many ticks of this job, each of which ends so.
+/// The run of this number of ticks of this job, each with this outcome.
 #[macro_export]
 macro_rules! ticks {
     ($task:expr, $count:expr, $how:expr, $length:expr) => {

@@ -1,4 +1,4 @@
-// The rows that the work of a set comes to, and the runs of some.
+//! The rows of the schedules of worked plans, and the runs of some.
 use crate::{dropped, kept, release, tick, ticks};
 use mc_model::How::{Done, More, Over};
 use mc_model::{Row, Run};
@@ -14,7 +14,8 @@ pub const QUARTER_SCALE_ROWS: [Row; 7] = [
     Row::Idle,
 ];
 
-/// The high job of `CONTROL` overruns, the low one is discarded, and its next one runs after the return to low mode.
+/// The high job of `CONTROL` overruns, the low job is discarded, and the next low job runs after the return to low
+/// mode.
 pub const OVERRUN_ROWS: [Row; 15] = [
     kept!(1, 1),
     kept!(2, 1),
@@ -82,7 +83,7 @@ pub const HELD_RELEASE_ROWS: [Row; 6] = [
     tick!(1, 1, More),
 ];
 
-/// The high job of `PLAIN_PAIR` goes past its low budget, and nothing switches.
+/// The high job of `PLAIN_PAIR` exceeds its low budget, and the mode stays low.
 pub const PLAIN_PAIR_ROWS: [Row; 6] = [
     kept!(1, 1),
     kept!(2, 1),

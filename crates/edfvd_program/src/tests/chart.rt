@@ -1,3 +1,4 @@
+//! Charts and reports.
 use super::outside::{Case, first_wrong};
 use super::{CHART, CONTROL, HEADER, LOW_FIRST, OVERRUN, REPORT};
 

@@ -1,3 +1,4 @@
+//! Sets that the test admits, and sets that it refuses.
 use super::outside::{Case, first_wrong};
 use super::{AVIONICS, CHECK, CONTROL, CONTROL_TEXT, QUARTER_SCALE, TWO_HIGH_TASKS};
 

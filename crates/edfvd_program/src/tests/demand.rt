@@ -1,4 +1,4 @@
-// Sets with constrained deadlines under plain EDF.
+//! Sets with constrained deadlines under plain EDF.
 use super::DEMAND;
 use super::outside::{Case, first_wrong};
 

@@ -1,4 +1,4 @@
-// Files that cannot be read, and writes that fail.
+//! Files that cannot be read, and writes that fail.
 use super::outside::{Faults, NO_FAULTS, Outside, calm_status, ends};
 use super::{
     CHECK, CONTROL, CONTROL_TEXT, HEADER, JUDGE, LONG_PERIODS, LOW_FIRST, OVERLOADED, OVERRUN_WORK,

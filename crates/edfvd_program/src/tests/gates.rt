@@ -1,95 +1,10 @@
-//! Gates for tests of threads: two hold calls until another call came, and one counts its calls.
+//! Gates for tests of threads: one holds a step until a release came, and one counts its calls.
 use executive::{Gate, Grant, TaskPass};
 use mc_task::TaskNo;
 use std::alloc::{AllocError, Global};
+use std::sync::atomic::AtomicU64;
 use std::sync::atomic::Ordering::SeqCst;
-use std::sync::atomic::{AtomicBool, AtomicU64};
-use std::thread::yield_now;
-
-// How often a held call looks, at most, for the call that it waits for.
-const LOOKS: u32 = 20_000_000;
-
-// A call that others wait for.
-#[derive(Drop)]
-struct Awaited {
-    came: AtomicBool,
-    missed: AtomicBool,
-}
-
-impl Awaited {
-    fn new() -> Awaited {
-        Awaited {
-            came: AtomicBool::new(false),
-            missed: AtomicBool::new(false),
-        }
-    }
-
-    // The call comes.
-    fn comes(&self) {
-        self.came.store(true, SeqCst);
-    }
-
-    // Holds the caller until the call came. Where it does not come in so many looks, it is missed.
-    fn hold(&self) {
-        for _look in 0..LOOKS {
-            if self.came.load(SeqCst) {
-                return;
-            }
-            yield_now();
-        }
-        self.missed.store(true, SeqCst);
-    }
-
-    // Whether the call came before a caller gave up.
-    fn is_kept(&self) -> bool {
-        self.came.load(SeqCst) && !self.missed.load(SeqCst)
-    }
-}
-
-/// Holds one task's thread until another's is there, and that one's until the first's is.
-#[derive(Drop)]
-pub struct MeetingGate {
-    tasks: (u32, u32),
-    first: Awaited,
-    second: Awaited,
-}
-
-impl MeetingGate {
-    /// Of the first task and the second.
-    pub fn new() -> MeetingGate {
-        MeetingGate::of(1, 2)
-    }
-
-    /// Of the tasks with these numbers.
-    pub fn of(first: u32, second: u32) -> MeetingGate {
-        MeetingGate {
-            tasks: (first, second),
-            first: Awaited::new(),
-            second: Awaited::new(),
-        }
-    }
-
-    /// Whether both came, and neither gave up.
-    pub fn is_kept(&self) -> bool {
-        self.first.is_kept() && self.second.is_kept()
-    }
-}
-
-impl Gate for MeetingGate {
-    fn enter(&self, task: u32, _pass: &TaskPass) {
-        if task == self.tasks.0 {
-            self.first.comes();
-            self.second.hold();
-        } else if task == self.tasks.1 {
-            self.second.comes();
-            self.first.hold();
-        }
-    }
-
-    fn released(&self, _task: u32, _pass: &TaskPass) {}
-
-    fn step(&self, _task: u32, _grant: &Grant) {}
-}
+use worked_gates::Awaited;
 
 /// Holds the second tick of the first task's first job until the second task's first release was taken.
 #[derive(Drop)]

@@ -1,4 +1,4 @@
-// Files that are cut or wrong.
+//! Files that are cut or wrong.
 use super::outside::{Case, first_wrong};
 use super::{CHECK, CONTROL, JUDGE};
 

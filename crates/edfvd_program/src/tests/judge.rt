@@ -1,3 +1,4 @@
+//! Recorded traces, judged.
 use super::outside::{Case, first_wrong};
 use super::{CONTROL, HEADER, JUDGE, LONG_PERIODS, LOW_FIRST, OVERLOADED, UNDER_HALF, UNDER_ONE};
 

@@ -1,4 +1,4 @@
-// Files at their limits.
+//! Files at their limits.
 use super::outside::{Outside, ends};
 use super::parts::Part::{Each, Once};
 use super::parts::{LongCase, Part, first_long_wrong, text_of};

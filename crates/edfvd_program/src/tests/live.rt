@@ -1,7 +1,7 @@
-// Live runs: tasks that release when they may.
+//! Live runs: tasks that release when they may.
 use super::CONTROL;
-use super::gates::MeetingGate;
 use super::outside::{Case, Outside, ended, first_wrong};
+use worked_gates::MeetingGate;
 
 const TEN_TICKS: &[&str] = &["live", "tasks.toml", "10"];
 

@@ -4,8 +4,10 @@ ghost use Rattle.mc_world.specs.Shelf.{NamesDiffer};
 ghost use Rattle.mc_world.specs.MemoryShelfState.{files_of};
 
 use crate::edfvd::edfvd;
+use command_line::form_of;
 use executive::{Gate, QuietGate};
 use mc_world::{CalmShelf, CalmSink, MemoryShelf, MemorySink, Shelf, Sink};
+use replies::Stop;
 use std::alloc::{AllocError, Global};
 use std::sync::Wait;
 use std::thread::Threads;
@@ -172,6 +174,38 @@ pub fn first_wrong<R: Threads + Wait + Sync>(
 ) -> Option<usize> {
     for (index, case) in cases.iter().enumerate() {
         if !ends_as(rt, alloc, case, &QuietGate) {
+            return Some(index);
+        }
+    }
+    None
+}
+
+// The status and the text of the reply to these words on the caller's thread. There is none if their command starts threads.
+fn alone(alloc: Global, words: &[&str], outside: &Outside<'_>) -> Option<(u8, Vec<u8>)> {
+    let words = words_of(alloc, words).ok()?;
+    let mut shelf = outside.shelf(alloc).ok()?;
+    let form = form_of(&words)?;
+    match form.reply_alone(alloc, &mut shelf)? {
+        Ok(reply) | Err(Stop::Refused(reply)) => {
+            Some((reply.status(), reply.text().to_vec(alloc).ok()?))
+        }
+        Err(Stop::Memory) => None,
+    }
+}
+
+/// Whether these words have a reply on the caller's thread, over files without a byte.
+pub fn has_reply_alone(alloc: Global, words: &[&str]) -> bool {
+    alone(alloc, words, &Outside::new("", "")).is_some()
+}
+
+/// The index of the first case whose reply on the caller's thread is not the one that it says.
+pub fn first_wrong_alone(alloc: Global, cases: &[Case]) -> Option<usize> {
+    for (index, (words, tasks, second, status, text)) in cases.iter().enumerate() {
+        let is_right = match alone(alloc, words, &Outside::new(tasks, second)) {
+            Some((ended, written)) => ended == *status && written.as_slice() == text.as_bytes(),
+            None => false,
+        };
+        if !is_right {
             return Some(index);
         }
     }

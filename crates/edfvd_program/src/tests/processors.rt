@@ -1,11 +1,12 @@
 //! `partition` and `runall`.
-use super::gates::{CountingGate, MeetingGate, TracedJob};
+use super::gates::{CountingGate, TracedJob};
 use super::outside::{Case, ends_as, first_wrong};
 use super::parts::Part::{Each, Once};
 use super::parts::{LongCase, long_ends_as};
 use super::{CONTROL, OVERRUN_RUNS, OVERRUN_WORK, PLANT, PLANT_WORK, RUN_ALL, TAP_AND_ARM};
 use executive::QuietGate;
 use std::test::Fail;
+use worked_gates::MeetingGate;
 
 // The traces of the plant: the first processor in high mode, and the second beside it in low mode.
 const PLANT_TRACES: &str = "processor 1

@@ -1,4 +1,4 @@
-// How much room sets have.
+//! How much room sets have.
 use super::outside::{Case, Outside, ended, first_wrong};
 use super::{CONTROL, STRETCH, TAP_AND_ARM};
 use executive::QuietGate;

@@ -1,3 +1,4 @@
+//! Traces of runs.
 use super::outside::{Case, first_wrong};
 use super::{
     CONTROL, OVERRUN_RUNS, OVERRUN_WORK, PLAIN_PAIR, QUARTER_SCALE, TAP_AND_ARM, TWO_HIGH_TASKS,

@@ -1,4 +1,4 @@
-// Traces whose equal ticks stand in one record.
+//! Traces whose equal ticks stand in one record.
 use super::outside::{Case, first_wrong};
 use super::{CHART, CONTROL, JUDGE, LOW_FIRST, MIGRATE, OVERRUN, OVERRUN_RUNS, REPORT};
 

@@ -1,6 +1,6 @@
-// The texts are those of another program, a plain simulation in fractions, written from the rules alone.
-use super::gates::MeetingGate;
+//! The texts are those of another program, a plain simulation in fractions, written from the rules alone.
 use super::outside::{Case, ends_as, first_wrong};
+use worked_gates::MeetingGate;
 
 const SOAK_7: &[&str] = &["soak", "7", "8", "20000"];
 

@@ -1,8 +1,9 @@
 //! What no clause can say of threads: that those of the tasks work beside each other, each step outside the turns.
-use super::gates::{CountingGate, MeetingGate, StepGate, TracedJob};
+use super::gates::{CountingGate, StepGate, TracedJob};
 use super::outside::{Case, ends_as};
 use super::{CONTROL, OVERRUN_RUNS, OVERRUN_WORK};
 use std::test::Fail;
+use worked_gates::MeetingGate;
 
 const RUN: &[&str] = &["run", "tasks.toml", "second.csv", "12"];
 

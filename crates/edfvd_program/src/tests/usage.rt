@@ -1,4 +1,4 @@
-// Words of no command.
+//! Words of no command.
 use super::CONTROL;
 use super::outside::{Faults, NO_FAULTS, Outside, ends};
 use executive::QuietGate;

@@ -1,4 +1,4 @@
-// Traces that the program wrote, read again by it.
+//! Traces that the program wrote, read again by it.
 use super::outside::{Outside, ended, ends};
 use super::{AVIONICS, CONTROL, JUDGE, REPORT};
 use executive::QuietGate;

@@ -1,8 +1,9 @@
+//! Tests of a shelf in memory.
 use super::*;
 use crate::tests::gives;
 use std::alloc::AllocError;
 
-// A shelf with one file and the fetches from it: each with its name, its limit and its answer.
+// A shelf with one file, and fetches from it: each with its name, its limit and its result.
 struct Case {
     shows: &'static str,
     bytes: &'static str,

@@ -1,4 +1,4 @@
-// A reader and a writer whose every other call a signal interrupts, the first one too.
+//! A reader and a writer whose every other call is interrupted by a signal, from the first one on.
 use crate::device::Device;
 use crate::edge::{read_whole, write_piece};
 use crate::{FetchFault, SinkFault};
@@ -7,8 +7,8 @@ use std::io::{self, ErrorKind, Read, Write};
 
 const TEXT: &str = "tasks 2\n";
 
-// What comes of the calls, numbered from 1: each odd one is interrupted, one of the others may fail, and the rest move at most
-// three bytes.
+// What happens at the calls, numbered from 1: each odd one is interrupted, one of the others may fail, and the rest
+// move at most three bytes.
 #[derive(Drop)]
 struct Signals {
     calls: u64,
@@ -61,7 +61,8 @@ impl Write for SignalledWriter<'_> {
     }
 }
 
-// Whether the text is read so within the limit, by so many bytes, from a reader that fails at this call.
+// Whether the text is read with this result within the limit, in this number of bytes, from a reader that fails at this
+// call.
 fn is_read(
     alloc: Global,
     fails: u64,
@@ -88,7 +89,7 @@ fn an_interrupted_read_is_tried_again(rt: HostRuntime) {
         (0, 8, Ok(()), 8),
         (0, 7, Err(FetchFault::TooLong), 8),
         (4, 8, Err(FetchFault::Failed), 3),
-        // The read that would tell the end.
+        // The read that would show the end of the text.
         (8, 8, Err(FetchFault::Failed), 8),
     ];
     for (fails, limit, wanted, read) in cases {
@@ -96,7 +97,7 @@ fn an_interrupted_read_is_tried_again(rt: HostRuntime) {
     }
 }
 
-// Whether two writes are answered so, by a writer that fails at this call and has then taken this.
+// Whether two writes have these results, with a writer that fails at this call and has then taken these bytes.
 fn is_written(
     alloc: Global,
     fails: u64,
@@ -118,7 +119,7 @@ fn is_written(
 fn an_interrupted_write_or_flush_is_tried_again(rt: HostRuntime) {
     let cases = [
         (0, [Ok(3), Ok(1)], "task"),
-        // The write, the flush after it, and those of the second piece.
+        // The write, the flush after it, and both for the second piece.
         (2, [Err(SinkFault), Ok(1)], "k"),
         (4, [Err(SinkFault), Ok(1)], "task"),
         (6, [Ok(3), Err(SinkFault)], "tas"),

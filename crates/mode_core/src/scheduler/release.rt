@@ -1,7 +1,7 @@
-// Releases: written at once, or held while a tick is out.
+//! Releases: written at once, or held while a tick is out.
 ghost use Rattle.std.specs.Prelude.{◌≡◌, ◌∷◌, cond, IsSome, None};
 ghost use Rattle.mc_task.specs.TaskSet.{IsIn};
-ghost use Rattle.mc_model.specs.Core.{begun, next, next_job, release_row};
+ghost use Rattle.mc_model.specs.Core.{begun, next, next_job, release_row, released_so_far};
 ghost use Rattle.mode_core.specs.declared.answers.Released.TheVariants as released;
 ghost use Rattle.mode_core.specs.Events.{release_refusal, release_answer, after_release, taken, with_release};
 
@@ -9,15 +9,17 @@ use super::Core;
 use crate::steps::{keeps, note_release};
 use crate::{ReleaseFault, Released};
 use mc_task::{JobId, TaskNo};
+use row_history::Recorder;
 
-impl Core {
-    ghost use Rattle.mode_core.specs.Shape.{IsSound};
+impl<R: Recorder> Core<R> {
+    ghost use Rattle.mode_core.specs.Shape.{IsSoundUpTo};
     ghost use Rattle.mode_core.specs.Timely.{IsTimely};
 
     /// Releases the task's next job. The release time is the number of ticks that were begun.
     ///
     /// With a tick out it is held until the outcome. Otherwise its row is written: dropped where the task is low and the
-    /// mode is high, and kept in the other cases. A refusal changes nothing.
+    /// mode is high, and kept in the other cases. A refusal changes nothing. `Full` comes where each place is used, or each of
+    /// the 2^32 - 1 numbers that the task's jobs may have.
     pub fn release(&mut self, task: TaskNo) -> Result<Released, ReleaseFault>
         requires in_set { IsIn self.old.set task.0 }
         ensures answer { result ≡ release_answer self.old task.0 }
@@ -34,7 +36,7 @@ impl Core {
     fn release_fault(&self, task: TaskNo) -> Option<ReleaseFault>
         requires in_set { IsIn self.now.set task.0 }
         ensures value { result ≡ release_refusal self.now task.0 }
-        ensures sound { IsSound self.now }
+        ensures sound { IsSoundUpTo R.most self.now }
     {
         if let Some(job) = self.out {
             if job.task == task {
@@ -45,11 +47,19 @@ impl Core {
         if self.ticks_begun() < next {
             return Some(ReleaseFault::TooSoon { next });
         }
-        if self.is_full() {
+        if self.is_full() || self.released(task) >= u32::MAX {
             Some(ReleaseFault::Full)
         } else {
             None
         }
+    }
+
+    // How many releases of the task there were.
+    fn released(&self, task: TaskNo) -> u32
+        requires in_set { IsIn self.now.set task.0 }
+        ensures { result ≡ released_so_far self.now task.0 }
+    {
+        self.arrivals.count(task)
     }
 
     // The boundary from which the task may be released.
@@ -66,7 +76,7 @@ impl Core {
         requires none { release_refusal self.old task.0 ≡ None }
         ensures answer { result ≡ taken self.old self.old.out task.0 }
         ensures state { self.new ≡ with_release self.old self.old.out (next_job self.old task.0) }
-        ensures sound { IsSound self.new }
+        ensures sound { IsSoundUpTo R.most self.new }
     {
         match self.out {
             Some(_) => self.hold(task),
@@ -81,7 +91,7 @@ impl Core {
         requires out { IsSome self.old.out }
         ensures answer { result ≡ released.Held (next_job self.old task.0) (begun self.old) }
         ensures state { self.new ≡ record self.old { held = next_job self.old task.0 ∷ self.old.held } }
-        ensures sound { IsSound self.new }
+        ensures sound { IsSoundUpTo R.most self.new }
     {
         let at = self.book.ticks() + 1;
         let job = note_release(&mut self.arrivals, task, at);
@@ -98,7 +108,7 @@ impl Core {
         ensures state { self.new ≡ record self.old {
           rows = release_row self.old.set self.old.rule (next_job self.old task.0) self.old.rows ∷ self.old.rows;
         } }
-        ensures sound { IsSound self.new }
+        ensures sound { IsSoundUpTo R.most self.new }
     {
         let at = self.book.ticks();
         let job = note_release(&mut self.arrivals, task, at);

@@ -1,4 +1,4 @@
-// Ticks: granted to the chosen job and then ended, or idle.
+//! Ticks: granted to the chosen job and then ended, or idle.
 ghost use Rattle.std.specs.Prelude.{◌≡◌, ◌∷◌, [], None};
 ghost use Rattle.mc_task.specs.TaskSet.{IsIn};
 ghost use Rattle.mc_model.specs.declared.row.Row.TheVariants as row;
@@ -11,9 +11,10 @@ use crate::steps::{is_of_task, write_held};
 use crate::{GrantFault, Granted, IdleFault, NotOut};
 use mc_model::How;
 use mc_task::{JobId, TaskNo};
+use row_history::Recorder;
 
-impl Core {
-    ghost use Rattle.mode_core.specs.Shape.{IsSound};
+impl<R: Recorder> Core<R> {
+    ghost use Rattle.mode_core.specs.Shape.{IsSoundUpTo};
     ghost use Rattle.mode_core.specs.Timely.{IsTimely};
 
     /// Puts the tick of the chosen job out, which has to be of this task, and keeps a place for its row.
@@ -34,7 +35,7 @@ impl Core {
     // Why the task gets no tick.
     fn grant_fault(&self, task: TaskNo) -> Option<GrantFault>
         ensures value { result ≡ grant_refusal self.now task.0 }
-        ensures sound { IsSound self.now }
+        ensures sound { IsSoundUpTo R.most self.now }
     {
         if let Some(job) = self.out {
             return Some(GrantFault::TickOut { job });
@@ -55,7 +56,7 @@ impl Core {
         requires none { grant_refusal self.old task.0 ≡ None }
         ensures answer { result ≡ granted self.old (job_in (chosen_now self.old)) }
         ensures state { self.new ≡ record self.old { out = chosen_now self.old } }
-        ensures sound { IsSound self.new }
+        ensures sound { IsSoundUpTo R.most self.new }
     {
         match self.book.first() {
             Some(x) => {
@@ -88,7 +89,7 @@ impl Core {
     // Why the outcome is refused.
     fn outcome_fault(&self, job: JobId) -> Option<NotOut>
         ensures value { result ≡ outcome_refusal self.now job }
-        ensures sound { IsSound self.now }
+        ensures sound { IsSoundUpTo R.most self.now }
     {
         let is_out = match self.out {
             Some(out) => out == job,
@@ -109,7 +110,7 @@ impl Core {
         requires none { outcome_refusal self.old job ≡ None }
         ensures answer { result ≡ outcome_of self.old.set self.old.rule self.old.rows job done }
         ensures state { self.new ≡ record self.old { rows = settle self.old done; out = None; held = [] } }
-        ensures sound { IsSound self.new }
+        ensures sound { IsSoundUpTo R.most self.new }
     {
         self.out = None;
         let how = self.book.push_tick(job, done);
@@ -133,7 +134,7 @@ impl Core {
     // Why the tick is not idle.
     fn idle_fault(&self) -> Option<IdleFault>
         ensures value { result ≡ idle_refusal self.now }
-        ensures sound { IsSound self.now }
+        ensures sound { IsSoundUpTo R.most self.now }
     {
         if let Some(job) = self.out {
             return Some(IdleFault::TickOut { job });
@@ -153,7 +154,7 @@ impl Core {
         requires none { idle_refusal self.old ≡ None }
         ensures answer { result ≡ ticks self.old.rows }
         ensures state { self.new ≡ record self.old { rows = row.Idle ∷ self.old.rows } }
-        ensures sound { IsSound self.new }
+        ensures sound { IsSoundUpTo R.most self.new }
     {
         let tick = self.book.ticks();
         self.book.push_idle();

@@ -1,5 +1,7 @@
-// The scheduler's core as a plain program, written from the rules alone: a list of pending jobs, which each call goes
-// through. A call answers `None` where its task is not in the set, or memory is short.
+//! The scheduler's core as a plain program, written from the rules alone: a list of pending jobs, which each call
+//! searches.
+//!
+//! A call returns `None` if its task is not in the set, or memory runs out.
 use mc_model::{How, Row};
 use mc_task::{JobId, Level, Rule, Task, TaskNo, TaskSet};
 use mode_core::{GrantFault, Granted, IdleFault, NotOut, ReleaseFault, Released};
@@ -13,14 +15,14 @@ struct Pending {
     used: u32,
 }
 
-// What is kept of a task: how many releases there were, and from when the next one is allowed.
+// What is stored of a task: how many releases there were, and from when the next one is allowed.
 #[derive(Clone, Copy, Debug, PartialEq, Eq)]
 struct Slot {
     count: u32,
     next: u64,
 }
 
-/// A schedule as it grows, one event a call.
+/// A schedule that grows by one event a call.
 #[derive(Debug, Drop)]
 pub struct PlainCore {
     set: TaskSet,
@@ -168,7 +170,7 @@ impl PlainCore {
         Some(Ok(tick))
     }
 
-    // Whether each place is used: by a row, a held release, or the tick that is out.
+    // Whether the capacity is used up, by rows, held releases and the granted tick.
     fn is_full(&self) -> bool {
         let out = match self.out {
             Some(_) => 1,
@@ -178,7 +180,7 @@ impl PlainCore {
         used.saturating_add(out) >= self.places
     }
 
-    // Holds the release while a tick is out, and writes it otherwise.
+    // Holds the release while a tick is granted, and writes it otherwise.
     fn add_release(&mut self, job: JobId, at: u64) -> Option<Result<Released, ReleaseFault>> {
         if self.out.is_some() {
             self.held.push(job).ok()?;
@@ -191,7 +193,7 @@ impl PlainCore {
         }))
     }
 
-    // Writes the row of a release, and answers whether it is kept.
+    // Writes the row of a release, and returns whether the release is kept.
     fn write_release(&mut self, job: JobId) -> Option<bool> {
         let kept = !self.high || is_high(&self.set, job.task);
         self.rows.push(Row::Release { job, kept }).ok()?;
@@ -206,7 +208,7 @@ impl PlainCore {
         Some(kept)
     }
 
-    // The outcome of the job's tick, which is its u-th, where the job is not done.
+    // The outcome of the job's tick, which is its u-th, if the job is not done.
     fn how(&self, job: JobId, u: u32) -> Option<How> {
         let task = self.set.get(job.task)?;
         let switches = self.rule != Rule::Plain && !self.high && task.level == Level::High;
@@ -219,7 +221,7 @@ impl PlainCore {
         })
     }
 
-    // Counts the tick; an end takes its job out, and an overrun the low jobs.
+    // Counts the tick. A tick that ends its job removes it, and an overrun discards the low jobs.
     fn after_tick(&mut self, job: JobId, used: u32, how: How) {
         for x in self.pending.iter_mut() {
             if x.job == job {
@@ -237,7 +239,7 @@ impl PlainCore {
         }
     }
 
-    // The pending job with the least key, of equal keys the one of the lowest task number.
+    // The pending job with the least key; of equal keys, the one with the lowest task number.
     fn first(&self) -> Option<Pending> {
         let mut first: Option<Pending> = None;
         for x in &self.pending {
@@ -249,7 +251,7 @@ impl PlainCore {
         first
     }
 
-    // By what a job runs before others: its key in units of 1/q tick, and its task's number.
+    // The order in which jobs run: by the key in units of 1/q tick, then by the task's number.
     fn order(&self, x: &Pending) -> (u128, u32) {
         let number = x.job.task.0;
         let Some(task) = self.set.get(x.job.task) else {
@@ -273,7 +275,7 @@ impl PlainCore {
     }
 }
 
-// Whether the task is a high one.
+// Whether the task is high.
 fn is_high(set: &TaskSet, task: TaskNo) -> bool {
     match set.get(task) {
         Some(task) => task.level == Level::High,

@@ -1,4 +1,4 @@
-// The core beside a plain one, on the same calls.
+//! The core beside a plain one, given the same calls.
 ghost use Rattle.std.specs.Prelude.{◌≡◌, ◌<◌, ℕ};
 
 use super::plain_core::PlainCore;
@@ -17,10 +17,10 @@ const CALLS: u32 = 16000;
 
 const PLACES: usize = 4000;
 
-// Their least common multiple is 25,200.
+// The periods of the tasks. Their least common multiple is 25,200.
 const PERIODS: [u32; 8] = [200, 210, 240, 252, 280, 300, 350, 360];
 
-// Numbers by a linear congruence.
+// Pseudo-random numbers by a linear congruence.
 #[derive(Debug, Drop)]
 struct Numbers {
     last: u64,
@@ -53,7 +53,7 @@ enum Answer {
     Idle(Result<u64, IdleFault>),
 }
 
-// The next call: often the one that brings the schedule on, often a release, and now and then any other.
+// The next call: often the one that advances the schedule, often a release, and now and then any other.
 fn next_call(numbers: &mut Numbers, core: &PlainCore) -> Call {
     let task = TaskNo(1 + numbers.below(TASKS));
     match numbers.below(16) {
@@ -69,8 +69,8 @@ fn next_call(numbers: &mut Numbers, core: &PlainCore) -> Call {
     }
 }
 
-// What is seen after a call: the answer, the job whose tick is out, the chosen one, the ticks begun, and whether the mode is
-// high.
+// What is seen after a call: its result, the job of the granted tick, the chosen job, the ticks begun, and whether the
+// mode is high.
 #[derive(Clone, Copy, Debug, PartialEq, Eq)]
 struct Seen {
     answer: Answer,
@@ -80,7 +80,7 @@ struct Seen {
     high: bool,
 }
 
-// What the core shows after this call, where the task is in the set.
+// What the core shows after this call, if the task is in the set.
 fn ask(core: &mut Core, call: Call) -> Option<Seen> {
     let answer = match call {
         Call::Release(task) => {
@@ -103,7 +103,7 @@ fn ask(core: &mut Core, call: Call) -> Option<Seen> {
     })
 }
 
-// What the plain core shows after it.
+// What the plain core shows after this call.
 fn ask_plain(core: &mut PlainCore, call: Call) -> Option<Seen> {
     let answer = match call {
         Call::Release(task) => Answer::Release(core.release(task)?),
@@ -120,7 +120,8 @@ fn ask_plain(core: &mut PlainCore, call: Call) -> Option<Seen> {
     })
 }
 
-// 128 tasks: each second one is high, with the low budget 1 and this high one, and the others have the budget 1 or 2.
+// A set of 128 tasks: every second one is high, with the low budget 1 and this high budget; the others have the budget
+// 1 or 2.
 fn made_set(alloc: Global, high: u32, numbers: &mut Numbers) -> Result<TaskSet, Fail> {
     let mut tasks = Vec::new(alloc);
     for k in 0..TASKS {
@@ -137,14 +138,14 @@ fn made_set(alloc: Global, high: u32, numbers: &mut Numbers) -> Result<TaskSet, 
     Ok(TaskSet::new(tasks)?)
 }
 
-// The two cores over the same set, under the rule of the test.
+// The two cores over equal sets, under the rule of the test.
 fn both(alloc: Global, set: TaskSet) -> Result<(Core, PlainCore), Fail> {
     let rule = admit(&sum_loads(&set)?).ok_or("not admitted")?;
     let plain = PlainCore::new(alloc, set.copy(alloc)?, rule, PLACES)?;
     Ok((Core::new(alloc, set, rule, PLACES)?, plain))
 }
 
-// A call of both, and what each shows after it.
+// Makes the call on both, and returns what each shows after it.
 fn step(
     numbers: &mut Numbers,
     core: &mut Core,
@@ -156,7 +157,7 @@ fn step(
     Ok((call, seen, wanted))
 }
 
-// Whether both wrote the same rows, one in each place, with an overrun where one is wanted.
+// Whether both wrote the same rows and used up their capacity, with an overrun if one is expected.
 fn ended_alike(core: &Core, plain: &PlainCore, overrun: bool) -> bool {
     let rows = core.rows();
     let over = |row: &Row| matches!(row, Row::Tick { how: How::Over, .. });
@@ -166,7 +167,7 @@ fn ended_alike(core: &Core, plain: &PlainCore, overrun: bool) -> bool {
 #[test]
 fn the_core_answers_as_a_plain_one(rt: HostRuntime) -> Result<(), Fail> {
     let alloc = rt.alloc();
-    // Only the first set is run without a switch.
+    // Only the first set runs without a switch.
     for (seed, high) in [(1, 1), (2, 3), (3, 3)] {
         let mut numbers = Numbers { last: seed };
         let (mut core, mut plain) = both(alloc, made_set(alloc, high, &mut numbers)?)?;

@@ -27,7 +27,7 @@ use std::thread::{Threads, join};
 use timetable::Floor;
 use worked_sets::{CONTROL, Line, OVERRUN_ROWS, OVERRUN_WORK};
 
-// What the threads work with where no gate is called.
+// What the threads work with when no gate is called.
 fn quietly<'a, R: Wait>(
     rt: &'a R,
     executive: &'a Executive,
@@ -43,7 +43,7 @@ fn quietly<'a, R: Wait>(
     }
 }
 
-// The floor once its two tasks were served by threads with places of their own, each of which so wakes nobody.
+// The floor once its two tasks were served by threads with spots of their own, so that neither wakes the other.
 fn served_apart<R: Threads + Wait + Sync + Abort>(
     rt: &R,
     alloc: Global,
@@ -91,7 +91,7 @@ fn a_wake_up_that_never_comes_costs_time_alone(rt: HostRuntime) -> Result<(), Fa
     Ok(())
 }
 
-// Where two tasks wait, and room for their threads and their passes.
+// Where two tasks wait, and lists with capacity for their threads and their passes.
 #[derive(Drop)]
 struct Rooms {
     places: Places,
@@ -150,8 +150,8 @@ fn a_watcher_beside_a_live_run_sees_ticks_that_never_fall_and_the_last(
     Ok(())
 }
 
-// The runners in threads, until 100,000 ticks have ended, and a watcher that reads all the time. Whether the ticks that it saw
-// never fell.
+// Runs the runners in threads until 100,000 ticks have ended, beside a watcher that reads all the time. Returns whether
+// the ticks that it saw never fell.
 fn beside<'s, R: Threads + Wait + Sync>(
     rt: &'s R,
     executive: &'s Executive,
@@ -187,7 +187,8 @@ fn beside<'s, R: Threads + Wait + Sync>(
     )
 }
 
-// An executive of two tasks, released once, for a live run of so many ticks, with their runners and one more watcher.
+// An executive of two tasks, each released once, for a live run of this many ticks, with their runners and one more
+// watcher.
 fn opened<R: Wait>(
     rt: &R,
     alloc: Global,
@@ -223,7 +224,7 @@ fn opened<R: Wait>(
     Ok((executive, runners, watcher))
 }
 
-// The floor that is left.
+// Closes the executive and returns the floor that is left.
 fn closed<R: Wait + Abort>(
     rt: &R,
     executive: Executive,
@@ -242,7 +243,7 @@ fn closed<R: Wait + Abort>(
     }
 }
 
-// As if no thread could be made for any of the workers.
+// Workers as if no thread could be started for any of them.
 fn all_kept_here<T: Worker + Drop>(
     executive: &Executive,
     places: &Places,
@@ -261,7 +262,7 @@ fn all_kept_here<T: Worker + Drop>(
     }
 }
 
-// Reads until so many ticks have ended. Whether they never fell.
+// Reads until this many ticks have ended. Returns whether they never fell.
 fn watched_to<R: Wait>(rt: &R, executive: &Executive, watcher: Watcher, ticks: u64) -> bool
     requires { IsWatcherOf executive.now watcher }
 {

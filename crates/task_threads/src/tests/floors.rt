@@ -41,8 +41,8 @@ pub fn floor(alloc: Global, lines: &[Line], jobs: &[Job], ticks: u32) -> Result<
     planned(alloc, set_of(alloc, lines)?, work_rows(alloc, jobs)?, ticks)
 }
 
-/// A floor with no rows: twenty low tasks, and twelve high ones that overrun in each second period, the first
-/// among them, for so many periods.
+/// A floor with no rows for this many periods: twenty low tasks, and twelve high ones that overrun in every second
+/// period, the first among them.
 pub fn crowd(alloc: Global, periods: u32, ticks: u32) -> Result<Floor, Fail>
     requires { periods ≤ 1000 }
     ensures { IfOk result (λ f. (is_planned f.plan ≡ true) × (f.core.rows ≡ []) × (f.core.out ≡ None)) }
@@ -93,7 +93,7 @@ fn planned(alloc: Global, set: TaskSet, rows: Vec<WorkRow>, ticks: u32) -> Resul
     Ok(Floor::new(core, plan))
 }
 
-/// A floor without a plan, for a live run of so many ticks.
+/// A floor without a plan, for a live run of this many ticks.
 pub fn free(alloc: Global, lines: &[Line], ticks: u64) -> Result<Floor, Fail>
     requires { ticks ≤ 100_000 }
     ensures { IfOk result (λ f. (f.plan ≡ Free) × (f.core.rows ≡ []) × (f.core.out ≡ None) × (f.core.places ≡ live_places f.core.set ticks)) }

@@ -1,8 +1,7 @@
-//! Live runs: rows that can only come in one way, and runs of several threads.
+//! Live runs: rows that can only come out in one way, and runs of several threads.
 ghost use Rattle.std.specs.Prelude.{◌≤◌};
 
 use super::floors::{LIVE_ROWS, free};
-use super::gates::MeetingGate;
 use crate::run_live;
 use executive::{Gate, QuietGate};
 use mc_model::How::Done;
@@ -13,6 +12,7 @@ use std::sync::Wait;
 use std::test::Fail;
 use std::thread::Threads;
 use timetable::Floor;
+use worked_gates::MeetingGate;
 use worked_sets::{CONTROL, Line, kept, tick};
 
 // The floor after a live run of these tasks, of `ticks` ticks.
@@ -29,7 +29,7 @@ fn lived<R: Threads + Wait + Sync, G: Gate + Sync>(
     Ok(run_live(rt, alloc, floor, ticks, gate)?)
 }
 
-// Whether its first rows are these.
+// Whether the floor's first rows are these.
 fn begins_with(floor: &Floor, rows: &[Row]) -> bool {
     floor.core().rows().starts_with(rows)
 }
@@ -63,7 +63,7 @@ fn a_task_releases_again_where_its_period_allows(rt: HostRuntime) -> Result<(), 
 
 #[test]
 fn a_live_run_has_a_thread_for_each_task(rt: HostRuntime) -> Result<(), Fail> {
-    let gate = MeetingGate::new();
+    let gate = MeetingGate::of(1, 2);
     let _floor = lived(&rt, rt.alloc(), &CONTROL, 10, &gate)?;
     assert!(rt; gate.is_kept());
     Ok(())

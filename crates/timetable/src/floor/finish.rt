@@ -1,4 +1,4 @@
-// A plan, done to its end by one caller.
+//! A plan, done to its end by one caller.
 ghost use Rattle.std.specs.Prelude.{◌≡◌, true, false, None};
 ghost use Rattle.demand_law.specs.NoOver.{NoOver, NoDrop, EndedInTime};
 ghost use Rattle.mode_core.specs.Shape.{IsSound};
@@ -15,16 +15,16 @@ use crate::Act;
 impl Floor {
     /// Does the next acts of the plan until it is finished.
     ///
-    /// The rows are then those of the one trace that the core's set and rule, the work and the ticks determine, whatever
-    /// was done by other calls before. No job is late in them (Baruah et al., ECRTS 2012).
+    /// The rows are then the one trace that the core's set and rule, the work and the ticks determine, whatever other
+    /// calls did before. No job in it is late (Baruah et al., ECRTS 2012).
     pub fn finish(&mut self)
         requires planned { is_planned self.old.plan ≡ true }
         requires out { self.old.core.out ≡ None }
-        // No other rows follow, whatever made them.
+        // No other rows follow from the plan, whatever made them.
         ensures trace { IsTraceOfPlan self.new.plan self.new.core }
         ensures law { AtMostOneFollows }
         ensures timely { IsTimely self.new.core }
-        // Where no job overran, no release was dropped, and each job ended by its deadline.
+        // If no job overran, no release was dropped, and each job ended by its deadline.
         ensures kept { NoOver self.new.core.rows → NoDrop self.new.core.rows }
         ensures ended { NoOver self.new.core.rows → EndedInTime self.new.core.set self.new.core.rows }
         ensures taken { HasTaken self.new.plan self.new.taken }
@@ -36,7 +36,7 @@ impl Floor {
         }
     }
 
-    // Does the next act, where no tick is out and the plan is not finished.
+    // Does the next act, if no tick is granted and the plan is not finished.
     fn act(&mut self)
         requires planned { is_planned self.old.plan ≡ true }
         requires out { self.old.core.out ≡ None }

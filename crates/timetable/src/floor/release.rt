@@ -1,4 +1,4 @@
-// Releases, as the plan and the core take them.
+//! Releases under a plan.
 ghost use Rattle.std.specs.Prelude.{◌≡◌, ◌≢◌, ℕ, true, None, Err};
 ghost use Rattle.mc_task.specs.TaskSet.{IsIn};
 ghost use Rattle.mode_core.specs.Events as core_event;
@@ -15,15 +15,15 @@ use mode_core::{ReleaseFault, Released};
 impl Floor {
     /// Releases the task's next job.
     ///
-    /// Under `Rows` it is refused with `Due` where the release of another task is due, and with `NotPlanned` where none
-    /// is. Otherwise the answer is the core's. A refusal changes nothing.
+    /// Under `Rows` it is refused with `Due` if the release of another task is due, and with `NotPlanned` if no release
+    /// is due. Otherwise it returns what the core returns. A refusal changes nothing.
     #[inline(always)]
     pub fn release(&mut self, task: TaskNo) -> Result<Released, ActFault<ReleaseFault>>
         requires in_set { IsIn self.old.core.set task.0 }
         ensures answer { result ≡ release_answer self.old task.0 }
         ensures state { self.new ≡ after_release self.old task.0 }
         ensures timely { IsTimely self.new.core }
-        // A planned release comes in time, and finds a place.
+        // A planned release is never too soon, and finds capacity.
         ensures no_too_soon { (next : ℕ) → is_planned self.old.plan ≡ true → result ≢ Err (act_fault.Core (release_fault.TooSoon next)) }
         ensures no_full { is_planned self.old.plan ≡ true → result ≢ Err (act_fault.Core release_fault.Full) }
     {
@@ -54,7 +54,7 @@ impl Floor {
         }
     }
 
-    // A release that the plan does not refuse.
+    // Makes a release that the plan does not refuse.
     fn release_now(&mut self, task: TaskNo) -> Result<Released, ActFault<ReleaseFault>>
         requires in_set { IsIn self.old.core.set task.0 }
         requires none { release_refusal self.old task.0 ≡ None }

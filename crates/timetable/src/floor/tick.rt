@@ -1,4 +1,4 @@
-// Ticks, as the plan and the core give them.
+//! Ticks under a plan.
 ghost use Rattle.std.specs.Prelude.{◌≡◌, ◌≢◌, true, None, Err};
 ghost use Rattle.mc_task.specs.TaskSet.{IsIn};
 ghost use Rattle.mode_core.specs.Events as core_event;
@@ -15,17 +15,17 @@ use mc_task::{JobId, TaskNo};
 use mode_core::{GrantFault, Granted, IdleFault, NotOut};
 
 impl Floor {
-    /// Puts the tick of the chosen job out, which has to be of this task.
+    /// Grants a tick to the chosen job, which must be of this task.
     ///
-    /// It is refused with `Due` where a release is due, and with `Finished` where the plan's ticks were begun. Otherwise
-    /// the answer is the core's. A refusal changes nothing.
+    /// It is refused with `Due` if a release is due, and with `Finished` if the plan's ticks have all begun. Otherwise
+    /// it returns what the core returns. A refusal changes nothing.
     #[inline(always)]
     pub fn grant(&mut self, task: TaskNo) -> Result<Granted, ActFault<GrantFault>>
         requires in_set { IsIn self.old.core.set task.0 }
         ensures answer { result ≡ grant_answer self.old task.0 }
         ensures state { self.new ≡ after_grant self.old task.0 }
         ensures timely { IsTimely self.new.core }
-        // A planned tick finds a place.
+        // A planned tick finds capacity.
         ensures no_full { is_planned self.old.plan ≡ true → result ≢ Err (act_fault.Core grant_fault.Full) }
     {
         match self.tick_fault() {
@@ -34,7 +34,7 @@ impl Floor {
         }
     }
 
-    // Why the plan refuses a tick.
+    // Why the plan refuses a tick, if it does.
     fn tick_fault(&self) -> Option<PlanFault>
         ensures value { result ≡ tick_refusal self.now }
         ensures timely { IsTimely self.now.core }
@@ -52,7 +52,7 @@ impl Floor {
         }
     }
 
-    // A grant that the plan does not refuse.
+    // Makes a grant that the plan does not refuse.
     #[inline(always)]
     fn grant_now(&mut self, task: TaskNo) -> Result<Granted, ActFault<GrantFault>>
         requires in_set { IsIn self.old.core.set task.0 }
@@ -73,10 +73,10 @@ impl Floor {
         }
     }
 
-    /// Writes the row of the tick that is out, and then those of the held releases.
+    /// Writes the row of the granted tick, and then those of the held releases.
     ///
-    /// Under `Rows` the job is done where this tick is the last that its row of the work needs, and `done` is not read.
-    /// The answer is the core's. A refusal changes nothing.
+    /// Under `Rows` the job is done if this tick is the last that its row of the work needs, and `done` is ignored. It
+    /// returns what the core returns. A refusal changes nothing.
     #[inline(always)]
     pub fn outcome(&mut self, job: JobId, done: bool) -> Result<How, NotOut>
         ensures answer { result ≡ outcome_answer self.old job done }
@@ -88,16 +88,16 @@ impl Floor {
         self.core.outcome(job, done)
     }
 
-    /// Writes an idle tick and answers its number.
+    /// Writes an idle tick and returns its number.
     ///
-    /// It is refused with `Due` and `Finished` as a grant is. Otherwise the answer is the core's. A refusal changes
-    /// nothing.
+    /// It is refused with `Due` if a release is due, and with `Finished` if the plan's ticks have all begun. Otherwise
+    /// it returns what the core returns. A refusal changes nothing.
     #[inline(always)]
     pub fn idle(&mut self) -> Result<u64, ActFault<IdleFault>>
         ensures answer { result ≡ idle_answer self.old }
         ensures state { self.new ≡ after_idle self.old }
         ensures timely { IsTimely self.new.core }
-        // A planned tick finds a place.
+        // A planned tick finds capacity.
         ensures no_full { is_planned self.old.plan ≡ true → result ≢ Err (act_fault.Core idle_fault.Full) }
     {
         match self.tick_fault() {
@@ -106,7 +106,7 @@ impl Floor {
         }
     }
 
-    // An idle tick that the plan does not refuse.
+    // Makes an idle tick that the plan does not refuse.
     #[inline(always)]
     fn idle_now(&mut self) -> Result<u64, ActFault<IdleFault>>
         requires none { tick_refusal self.old ≡ None }

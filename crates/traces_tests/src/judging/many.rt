@@ -1,4 +1,4 @@
-// Thousands of pending jobs. The verdicts are worked by hand.
+//! Tests of the judge with thousands of pending jobs. The verdicts are worked out by hand.
 ghost use Rattle.std.specs.Prelude.{◌≤◌};
 
 use super::{OVERLOAD, UNSCALED, judged};
@@ -22,7 +22,7 @@ fn verdict_with(
     judged(alloc, set, rule, &all)
 }
 
-// The first of the runs with which the verdict is another than is told beside it, and the verdict.
+// The first of the runs after which the verdict differs from the one beside it, and that verdict.
 fn first_wrong(
     alloc: Global,
     set: &TaskSet,
@@ -39,8 +39,8 @@ fn first_wrong(
     Ok(None)
 }
 
-// So many tasks with a deadline of one tick are released at each of so many ticks, and the first of their jobs run, each
-// for one tick, in the order of their releases.
+// The runs in which this number of tasks, each with a deadline of one tick, are released in each of `rounds` ticks, and
+// their first jobs run for one tick each, in the order of their releases.
 fn flood(alloc: Global, tasks: u32, rounds: u32) -> Result<Vec<Run>, Fail>
     requires tasks { 1 ≤ tasks }
     requires few { tasks ≤ 128 }
@@ -56,7 +56,7 @@ fn flood(alloc: Global, tasks: u32, rounds: u32) -> Result<Vec<Run>, Fail>
     Ok(runs)
 }
 
-// 3,000 rounds of two tasks: each job is late but the first, half of them pending.
+// 3,000 rounds of two tasks: each job except the first is late, and half of the jobs are pending.
 const OF_TWO: [(Run, Verdict); 8] = [
     (ticks!(1, 1501, How::Stop, 1), late!(5999, 2, 1)),
     (ticks!(2, 1501, How::Done, 1), late!(5999, 2, 1)),
@@ -87,7 +87,7 @@ const THIRTEEN: [&str; 13] = [
     "a", "b", "c", "d", "e", "f", "g", "h", "i", "j", "k", "l", "m",
 ];
 
-// Low tasks of these names, each with a deadline of one tick.
+// A set of low tasks with these names, each with a deadline of one tick.
 fn floods(alloc: Global, names: &[&str]) -> Result<TaskSet, Fail> {
     let mut tasks = Vec::new(alloc);
     for name in names {
@@ -96,7 +96,7 @@ fn floods(alloc: Global, names: &[&str]) -> Result<TaskSet, Fail> {
     Ok(TaskSet::new(tasks)?)
 }
 
-// 400 rounds of 13 tasks, so that the jobs of the first 30 rounds have run, and 10 of those of the 31st.
+// 400 rounds of 13 tasks: the jobs of the first 30 rounds have run, and 10 of those of the 31st.
 const OF_THIRTEEN: [(Run, Verdict); 5] = [
     (ticks!(11, 31, How::Done, 1), late!(5199, 2, 1)),
     (ticks!(13, 31, How::Done, 1), late!(5199, 2, 1)),
@@ -120,10 +120,10 @@ fn thirteen_tasks_have_thousands_of_pending_jobs(rt: HostRuntime) -> Result<(), 
     Ok(())
 }
 
-// A high task that passes its low budget in its 3,000th tick, beside a low one with a job at each tick.
+// A high task that exceeds its low budget in its 3,000th tick, and a low one with a job at each tick.
 const LONG_RUN: [Line; 2] = [("long", High, 100_000, 3000, 3001), ("short", Low, 1, 1, 1)];
 
-// A release of its jobs in each tick, until the high task overruns.
+// Runs with a release of the low task's job in each tick, until the high task overruns.
 fn overrun(alloc: Global) -> Result<Vec<Run>, Fail> {
     let mut runs = vec![in alloc; release!(1, 1, true)]?;
     for tick in 0..3000u32 {
@@ -134,7 +134,7 @@ fn overrun(alloc: Global) -> Result<Vec<Run>, Fail> {
     Ok(runs)
 }
 
-// The jobs of the low task are discarded by then, all but the last of them behind their deadlines.
+// The jobs of the low task were discarded by then, all except the last of them after their deadlines.
 const AFTER_OVERRUN: [(Run, Verdict); 3] = [
     (ticks!(1, 1, How::Stop, 1), late!(2999, 2, 1)),
     (

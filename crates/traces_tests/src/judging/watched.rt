@@ -1,38 +1,40 @@
+//! Tests of the monitor.
 use super::{OVERLOAD, SCALED, SHORT_LOW, TWO_OF_TEN, UNSCALED, fits, judged, runs_of};
 use mc_model::{How, Run, Verdict, Why};
-use mc_task::{JobId, Rule, TaskSet};
+use mc_task::{Rule, TaskSet};
 use std::alloc::Global;
 use std::test::Fail;
 use trace_judge::{Monitor, ObserveFault, Unfit};
-use worked_sets::{CONTROL, Line, job, release, set_of, ticks};
+use worked_sets::{CONTROL, Line, release, set_of, ticks};
 
 // A monitor of the set of these lines.
-fn monitor(alloc: Global, lines: &[Line], rule: Rule) -> Result<Monitor, Fail> {
+pub fn monitor(alloc: Global, lines: &[Line], rule: Rule) -> Result<Monitor, Fail> {
     if !fits(rule) {
         return Err(Fail::from("a rule"));
     }
     Ok(Monitor::new(alloc, set_of(alloc, lines)?, rule)?)
 }
 
-// Whether the monitor says this verdict, and says the same with its answer to the last run.
-fn says(monitor: &Monitor, unfit: Option<Unfit>, verdict: Verdict) -> bool {
-    let is_told = match (unfit, verdict) {
+// Whether the verdict on some rows says this of the first row that does not fit.
+pub fn agrees(unfit: Option<Unfit>, verdict: Verdict) -> bool {
+    match (unfit, verdict) {
         (None, Verdict::Legal { .. }) => true,
         (Some(unfit), Verdict::Illegal { place, why }) => unfit == Unfit { place, why },
         _ => false,
-    };
-    is_told && monitor.verdict() == verdict
+    }
 }
 
-// Whether after each run of the text a monitor says the verdict of the judge, who is given the runs so far.
+// Whether after each run of the text the monitor has the verdict that the judge has of the runs so far, and has foretold
+// whether the run fits.
 fn agree(alloc: Global, lines: &[Line], rule: Rule, text: &str) -> Result<bool, Fail> {
     let set = set_of(alloc, lines)?;
     let runs = runs_of(alloc, &set, text)?;
     let mut monitor = monitor(alloc, lines, rule)?;
     for count in 0..runs.len() {
+        let foretold = monitor.would_fit(runs[count])?;
         let unfit = monitor.observe(alloc, runs[count])?;
         let verdict = judged(alloc, &set, rule, &runs[..=count])?;
-        if !says(&monitor, unfit, verdict) {
+        if foretold != unfit || !agrees(unfit, verdict) || monitor.verdict() != verdict {
             return Ok(false);
         }
     }
@@ -75,51 +77,12 @@ fn a_monitor_says_what_the_judge_says_of_the_rows_so_far(rt: HostRuntime) -> Res
     Ok(())
 }
 
-// The first of the jobs that turn late with this run.
-fn first_turned(alloc: Global, monitor: &mut Monitor, run: Run) -> Result<Option<JobId>, Fail> {
-    let since = monitor.ticks();
-    monitor.observe(alloc, run)?;
-    Ok(monitor.turned_late(since).pop())
-}
-
-const LONG: JobId = job!(1, 1);
-
-// Runs of `TWO_OF_TEN`, each with the first job that turns late with it.
-const TURNS: [(Run, Option<JobId>); 7] = [
-    (release!(1, 1, true), None),
-    (ticks!(1, 1, How::More, 1), None),
-    (release!(2, 1, true), None),
-    (ticks!(1, 1, How::More, 8), None),
-    (ticks!(1, 1, How::More, 1), Some(LONG)),
-    (ticks!(1, 1, How::More, 1), Some(job!(2, 1))),
-    (ticks!(1, 1, How::More, 30), None),
-];
-
-#[test]
-fn a_job_is_told_late_once_at_the_boundary_of_its_deadline(rt: HostRuntime) -> Result<(), Fail> {
-    let alloc = rt.alloc();
-    let mut monitor = monitor(alloc, &TWO_OF_TEN, Rule::Plain)?;
-    for (run, expected) in TURNS {
-        assert_eq!(rt;
-            first_turned(alloc, &mut monitor, run)?,
-            expected,
-            "{run:?}"
-        );
-    }
-    let ended = Verdict::Legal {
-        late: 2,
-        first: Some(LONG),
-    };
-    assert!(rt; (monitor.ticks(), monitor.seen(), monitor.verdict()) == (41, 43, ended));
-    Ok(())
-}
-
 const MISFIT: Unfit = Unfit {
     place: 8589934592,
     why: Why::IdlePending,
 };
 
-// Runs that a monitor of `CONTROL` is given, each with its answer.
+// Runs that are given to a monitor of `CONTROL`, each with its result.
 const OBSERVED: [(Run, Result<Option<Unfit>, ObserveFault>); 10] = [
     (ticks!(0, 1, How::More, 1), Err(ObserveFault::UnknownTask)),
     (ticks!(3, 1, How::More, 1), Err(ObserveFault::UnknownTask)),
@@ -143,5 +106,88 @@ fn a_monitor_refuses_what_is_no_run_of_its_set_and_keeps_a_misfit(
         assert_eq!(rt; monitor.observe(alloc, run), expected, "{run:?}");
     }
     assert!(rt; (monitor.pending(), monitor.is_legal(), monitor.high_mode()) == (1, false, false));
+    Ok(())
+}
+
+// What `would_fit` answers where this row is the first that does not fit.
+macro_rules! unfit {
+    ($row:expr, $why:expr) => {
+        Ok(Some(Unfit {
+            place: $row,
+            why: $why,
+        }))
+    };
+}
+
+// A run, and what `would_fit` answers to it.
+type Asked = (Run, Result<Option<Unfit>, ObserveFault>);
+
+// The next row is the fourth, in low mode; ctl's job has had one tick, and its second one is an overrun or its last.
+const BEFORE_AN_OVERRUN: [Asked; 13] = [
+    (ticks!(1, 1, How::Over, 1), Ok(None)),
+    (ticks!(1, 1, How::Done, 1), Ok(None)),
+    (ticks!(1, 1, How::More, 1), unfit!(4, Why::WrongHow)),
+    (ticks!(1, 1, How::More, 7), unfit!(4, Why::WrongHow)),
+    (ticks!(1, 1, How::Stop, 1), unfit!(4, Why::WrongHow)),
+    (ticks!(2, 1, How::More, 1), unfit!(4, Why::NotLeast)),
+    (ticks!(1, 2, How::More, 1), unfit!(4, Why::NotPending)),
+    (Run::Idles { length: 3 }, unfit!(4, Why::IdlePending)),
+    (release!(2, 2, true), unfit!(4, Why::TooSoon)),
+    (ticks!(3, 1, How::More, 1), Err(ObserveFault::UnknownTask)),
+    (release!(0, 1, true), Err(ObserveFault::UnknownTask)),
+    (ticks!(1, 1, How::Over, 2), Err(ObserveFault::NotARun)),
+    (Run::Idles { length: 0 }, Err(ObserveFault::NotARun)),
+];
+
+// The next row is the fifth, in high mode; log's job was discarded, and ctl's job stops with its sixth tick.
+const AFTER_AN_OVERRUN: [Asked; 5] = [
+    (ticks!(1, 1, How::More, 3), Ok(None)),
+    (ticks!(1, 1, How::More, 4), unfit!(8, Why::WrongHow)),
+    (ticks!(1, 1, How::Stop, 1), unfit!(5, Why::WrongHow)),
+    (ticks!(2, 1, How::More, 1), unfit!(5, Why::NotPending)),
+    (release!(2, 2, false), unfit!(5, Why::TooSoon)),
+];
+
+// The next row is the thirteenth, in low mode at boundary 10, and no job is pending.
+const AT_REST: [Asked; 6] = [
+    (release!(1, 2, true), Ok(None)),
+    (Run::Idles { length: 4294967295 }, Ok(None)),
+    (release!(1, 3, true), unfit!(13, Why::WrongCount)),
+    (release!(1, 1, true), unfit!(13, Why::WrongCount)),
+    (release!(2, 2, false), unfit!(13, Why::WrongKept)),
+    (ticks!(1, 1, How::Done, 1), unfit!(13, Why::NotPending)),
+];
+
+// The thirteenth row did not fit.
+const AFTER_A_MISFIT: [Asked; 3] = [
+    (release!(1, 2, true), unfit!(13, Why::NotPending)),
+    (Run::Idles { length: 1 }, unfit!(13, Why::NotPending)),
+    (Run::Idles { length: 0 }, Err(ObserveFault::NotARun)),
+];
+
+// Runs of `CONTROL` that a monitor takes one after the other, and what it then answers to runs that it does not take.
+const ASKED: [(&str, &[Asked]); 4] = [
+    (
+        "release log 1 kept, release ctl 1 kept, tick ctl 1 more",
+        &BEFORE_AN_OVERRUN,
+    ),
+    ("tick ctl 1 over", &AFTER_AN_OVERRUN),
+    ("tick ctl 1 done, idle 7", &AT_REST),
+    ("tick ctl 1 done", &AFTER_A_MISFIT),
+];
+
+#[test]
+fn a_monitor_says_whether_a_run_would_fit(rt: HostRuntime) -> Result<(), Fail> {
+    let alloc = rt.alloc();
+    let set = set_of(alloc, &CONTROL)?;
+    let mut monitor = monitor(alloc, &CONTROL, SCALED)?;
+    for (text, asked) in ASKED {
+        for run in runs_of(alloc, &set, text)? {
+            monitor.observe(alloc, run)?;
+        }
+        for (run, expected) in asked {
+            assert_eq!(rt; monitor.would_fit(*run), *expected, "after {text}: {run:?}");
+        }
+    }
     Ok(())
 }

@@ -1,4 +1,4 @@
-//! Counters that seats share, one for each seat. An entry is the number of a seat.
+//! The state of the tests: a counter for each seat. An entry is the number of a seat.
 ghost use Rattle.std.specs.Prelude.{◌≡◌, ◌+◌, ◌<◌, ◌∷◌, ◌++◌, [], List, length, vec_len};
 ghost use Rattle.turnstile.specs.Seats.{IsOf, number, mine, fixed_part};
 ghost use Rattle.turnstile.specs.Counting.{CountsTurns};
@@ -41,7 +41,7 @@ impl Counters {
     }
 }
 
-/// A seat beside its number.
+/// A seat together with its number.
 #[derive(Drop)]
 pub struct Player {
     pub which: u32,
@@ -71,7 +71,7 @@ impl Player {
         Player::new(which, turns.leave::<Brand>(turn))
     }
 
-    /// So many turns.
+    /// Takes `each` turns.
     pub fn play<R: Wait>(self, rt: &R, turns: &Turnstile<Counters>, each: u32) -> Player
         requires of { IsOf turns.now self.seat }
         requires inside { self.which < fixed_part (λ s. vec_len s.counters) turns.now }

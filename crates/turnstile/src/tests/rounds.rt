@@ -1,4 +1,4 @@
-//! A turnstile over counters, from its opening to its end.
+//! A turnstile over counters, from opening to close.
 ghost use Rattle.std.specs.Prelude.{◌≡◌, ℕ, ◌+◌, ◌<◌, ◌≤◌, [], length, vec_len, vec_capacity, All, map, slice_index_or};
 ghost use Rattle.turnstile.specs.Seats.{IsOf, AreFresh, mine, fixed_part, seats_of};
 
@@ -9,7 +9,7 @@ use std::process::Abort;
 use std::sync::Wait;
 use std::thread::{Threads, map_vec};
 
-/// A turnstile over counters that are 0, a player for each seat, and the list that the seats came in.
+/// A turnstile over counters that are 0, a player for each seat, and the empty list that the seats came in.
 pub fn opened<R: Abort>(
     rt: &R,
     alloc: Global,
@@ -30,7 +30,7 @@ pub fn opened<R: Abort>(
     (turns, players, list)
 }
 
-// A player for each seat, the last one first.
+// Makes a player of each seat, the last one first.
 fn seat_all(turns: &Turnstile<Counters>, list: &mut Vec<Seat<Counters>>, players: &mut Vec<Player>)
     requires list { (vec_len list.old ≤ 128) × AreFresh list.old.items × All (λ s. IsOf turns.now s) list.old.items }
     requires room { (players.old.items ≡ []) × (vec_len list.old ≤ vec_capacity players.old) }
@@ -61,7 +61,7 @@ pub fn turn_of_each<R: Wait>(rt: &R, turns: &Turnstile<Counters>, players: &mut 
     players.push_reserved(first);
 }
 
-/// Each player takes so many turns, in a thread of its own where one can be made.
+/// Each player takes `each` turns, in a thread of its own if one can be started.
 pub fn in_threads<R: Threads + Wait + Abort + Sync>(
     rt: &R,
     turns: &Turnstile<Counters>,
@@ -84,7 +84,7 @@ pub fn in_threads<R: Threads + Wait + Abort + Sync>(
     .expect(rt, "memory")
 }
 
-/// The counters, once each seat has taken so many turns.
+/// The counters after each seat has taken its turns.
 pub fn closed(
     turns: Turnstile<Counters>,
     players: Vec<Player>,
@@ -103,7 +103,7 @@ pub fn closed(
     turns.close(list)
 }
 
-// The seats go back into their list.
+// Puts the seats back into their list.
 fn give_seats(players: Vec<Player>, list: &mut Vec<Seat<Counters>>)
     requires { (list.old.items ≡ []) × (vec_len players ≤ vec_capacity list.old) }
     ensures { list.new.items ≡ map (λ p. p.seat) players.items }
@@ -114,7 +114,7 @@ fn give_seats(players: Vec<Player>, list: &mut Vec<Seat<Counters>>)
     }
 }
 
-/// So many turns of each of the seats, in threads.
+/// The counters after `each` turns of each seat, in threads.
 pub fn counted<R: Threads + Wait + Abort + Sync>(
     rt: &R,
     alloc: Global,

@@ -20,7 +20,7 @@ returns-in-Some-clause-law c = test-holds
 pub returns-in-Some-clause-none : goal.returns-in-Some-clause-none
 returns-in-Some-clause-none c = test-none
 
--- no scale holds: the set has that which was given, or none
+-- no scale holds: the set has one that does not hold, or none
 pub returns-in_default-clause-test : goal.returns-in_default-clause-test
 returns-in_default-clause-test c = λ set belong same.
     let none : (x : Scale) → set.scale ≡ Some x → ¬ Holds set.tasks (Virtual x.p x.q) = λ x is holds.

@@ -2,7 +2,7 @@ use Rattle.std.proofs.Common.{◌≡◌, [], length}
 use Rattle.csv_records.specs.Rows.{rows_from}
 use Rattle.csv_records.proofs.rows.read_behind.Given as goal
 
--- the records that are left say, behind the rows so far, what all of them say
+-- the records that are left, after the rows so far, say what all records say
 abbrev pub invariant-records : goal.invariant-records
 invariant-records g l = record {
   keeps : g.M.Meaning.keeps l.meaning l.kept l.rows.items;

@@ -1,4 +1,4 @@
--- The law over all traces, at these rows.
+-- The law over all traces, applied to these rows.
 use Rattle.std.proofs.Common.{reverse}
 use Rattle.demand_law.proofs.law.one_live_law.Goals as goal
 use Rattle.demand_law.proofs.Laws.{at_most_one, none_at_release}

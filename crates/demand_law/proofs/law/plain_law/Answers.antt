@@ -1,4 +1,4 @@
--- The law over all traces, at these rows.
+-- The law over all traces, applied to these rows.
 use Rattle.std.proofs.Common.{reverse}
 use Rattle.demand_law.proofs.law.plain_law.Goals as goal
 use Rattle.demand_law.proofs.Laws.{none_late}

@@ -1,6 +1,6 @@
 use Rattle.command_line.specs.Form.{form_in}
 use Rattle.edfvd_program.proofs.Outcomes.{answers, kept, calm_outcome}
-use Rattle.edfvd_program.proofs.Headlines.{gave_up}
+use Rattle.promises.proofs.Headlines.{gave_up}
 use Rattle.edfvd_program.proofs.edfvd.edfvd.Goals as goal
 
 pub returns-in-Ok-clause-answer : goal.returns-in-Ok-clause-answer
@@ -8,19 +8,19 @@ returns-in-Ok-clause-answer g c = answers c.in-Ok.ensures.reply c.deliver.ensure
 
 pub returns-in-Ok-clause-headline : goal.returns-in-Ok-clause-headline
 returns-in-Ok-clause-headline g c files old tells told calm =
-    (kept c.in-Ok.ensures.range c.in-Ok.ensures.reply c.deliver.ensures files old tells told calm).0
+    (kept c.in-Ok.ensures.range c.in-Ok.ensures.ticks c.in-Ok.ensures.reply c.deliver.ensures files old tells told calm).0
 
 pub returns-in-Ok-clause-told : goal.returns-in-Ok-clause-told
 returns-in-Ok-clause-told g c files old tells told calm =
-    (kept c.in-Ok.ensures.range c.in-Ok.ensures.reply c.deliver.ensures files old tells told calm).1
+    (kept c.in-Ok.ensures.range c.in-Ok.ensures.ticks c.in-Ok.ensures.reply c.deliver.ensures files old tells told calm).1
 
 pub returns-in-Ok-clause-complete : goal.returns-in-Ok-clause-complete
 returns-in-Ok-clause-complete g c files old tells told calm =
-    (kept c.in-Ok.ensures.range c.in-Ok.ensures.reply c.deliver.ensures files old tells told calm).2
+    (kept c.in-Ok.ensures.range c.in-Ok.ensures.ticks c.in-Ok.ensures.reply c.deliver.ensures files old tells told calm).2
 
 pub returns-in-Ok-clause-tested : goal.returns-in-Ok-clause-tested
 returns-in-Ok-clause-tested g c files old tells told calm =
-    (kept c.in-Ok.ensures.range c.in-Ok.ensures.reply c.deliver.ensures files old tells told calm).3
+    (kept c.in-Ok.ensures.range c.in-Ok.ensures.ticks c.in-Ok.ensures.reply c.deliver.ensures files old tells told calm).3
 
 pub returns-in-Ok-clause-calm_shelf : goal.returns-in-Ok-clause-calm_shelf
 returns-in-Ok-clause-calm_shelf g c = calm_outcome c.in-Ok.ensures.reply c.deliver.ensures

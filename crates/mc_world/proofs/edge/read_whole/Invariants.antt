@@ -11,6 +11,6 @@ invariant-pieces g l = record {
   no_failure : l.reader.tally.failures ≡ l.fn.reader.tally.failures;
 }
 
--- each turn takes a byte or a try
+-- each turn of the loop reads a byte or uses up a try
 abbrev pub decreases-pieces : goal.decreases-pieces
 decreases-pieces g l = l.limit + 1 - vec_len l.bytes + l.reader.tally.tries

@@ -6,10 +6,10 @@ use Rattle.part_answers.proofs.floors.floors_of.Goals as goal
 
 pub loop-processor-preserved : goal.loop-processor-preserved
 loop-processor-preserved c =
-    let used = is_used (parted_of c.args.parted.now) in
+    let used = is_used (parted_of c.args.job.now.parted) in
     let l = c.loop-processor in
     record {
-      used = made-more (filter used) (λ k. filter used (k ∷ [])) l.processor c.args.processors l.parts.used.items _ _ (filter-one used) (let t = c.loop-processor-test.true in omega (arith, t))
+      used = made-more (filter used) (λ k. filter used (k ∷ [])) l.processor c.args.processors.now l.parts.used.items _ _ (filter-one used) (let t = c.loop-processor-test.true in omega (arith, t, c.get-most.ensures.value))
           l.invariant.used c.in_ok-add.ensures.used;
       planned = c.in_ok-add.ensures.planned;
       few = (let more = c.in_ok-add.ensures.few in let few = l.invariant.few in omega (arith, more, few));

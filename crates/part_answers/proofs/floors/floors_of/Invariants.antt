@@ -6,7 +6,7 @@ use Rattle.part_answers.proofs.floors.floors_of.Given as goal
 
 abbrev pub invariant-loop-processor : goal.invariant-loop-processor
 invariant-loop-processor l = record {
-  used : l.parts.used.items ++ filter (is_used (parted_of l.fn.parted)) (range_with_len l.processor (l.fn.processors + 1 - l.processor)) ≡ used l.fn.processors (parted_of l.fn.parted);
-  planned : ArePlanned l.fn.ticks (parted_of l.fn.parted) l.fn.work l.parts;
+  used : l.parts.used.items ++ filter (is_used (parted_of l.fn.job.parted)) (range_with_len l.processor (l.fn.processors + 1 - l.processor)) ≡ used l.fn.processors (parted_of l.fn.job.parted);
+  planned : ArePlanned l.fn.ticks (parted_of l.fn.job.parted) l.fn.job.work l.parts;
   few : length l.parts.floors.items + 1 ≤ l.processor;
 }

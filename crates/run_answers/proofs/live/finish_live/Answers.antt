@@ -1,5 +1,6 @@
 use Rattle.std.proofs.Common.{rules, ◌≡◌, ◌∙◌, reverse, ap, sym, arith}
 use Rattle.std.proofs.lemmas.List.{length-reverse, reverse-reverse}
+use Rattle.mc_model.specs.Core.{State}
 use Rattle.mc_model.specs.TraceText.{trace_text}
 use Rattle.mc_model.proofs.Traces.{rows_of_trace}
 use Rattle.replies.specs.Reply.{reply_of}
@@ -13,29 +14,32 @@ trace_text-requires-clause-tasks g c =
     let set : c.in-Ok.floor.core.set ≡ c.args.job.set.tasks = search rules in
     let rule : c.in-Ok.floor.core.rule ≡ c.args.job.rule = search rules in
     let rows = c.live_rows.result.now in
-    let live = live_of c.core.result.now c.in-Ok.floor.core c.args.job.set.tasks c.args.job.rule c.args.ticks (reverse c.live_rows.result.now) c.core.ensures.value set rule c.live_rows.ensures.live in
-    rows_of_trace c.args.job.set.tasks rows (record { rule = c.args.job.rule; fits = c.requires.job.fits; legal = live.legal })
+    let live = live_of c.core-done.result.now c.in-Ok.floor.core c.args.job.set.tasks c.args.job.rule c.get-ticks.result (reverse rows) c.core-done.ensures.value set rule c.live_rows.ensures.live in
+    rw (c.set.ensures ∙ (ap (λ (s : State). s.set) c.core-done.ensures.value ∙ set))
+    (rows_of_trace c.args.job.set.tasks rows (record { rule = c.args.job.rule; fits = c.requires.fits; legal = live.legal }))
 
 pub trace_text-requires-clause-few : goal.trace_text-requires-clause-few
 trace_text-requires-clause-few g c =
     let places : c.in-Ok.floor.core.places ≡ c.live_places-places.result = search rules in
-    few_live_rows c.args.job.set.tasks c.args.job.rule c.args.ticks c.core.result.now c.in-Ok.floor.core c.live_places-places.result c.live_rows.result.now c.len-is_set.ensures.set c.requires.job.holds c.requires.ticks.1 c.core.ensures.value places c.live_places-places.ensures.places c.live_rows.ensures.few
+    few_live_rows c.args.job.set.tasks c.args.job.rule c.get-ticks.result c.core-done.result.now c.in-Ok.floor.core c.live_places-places.result c.live_rows.result.now c.len-is_set.ensures.set c.requires.holds c.get-ticks.ensures.most c.core-done.ensures.value places c.live_places-places.ensures.places c.live_rows.ensures.few
 
 pub returns-clause-lives : goal.returns-clause-lives
 returns-clause-lives g c =
     let set : c.in-Ok.floor.core.set ≡ c.args.job.set.tasks = search rules in
     let rule : c.in-Ok.floor.core.rule ≡ c.args.job.rule = search rules in
     let rows = c.live_rows.result.now in
-    let live = live_of c.core.result.now c.in-Ok.floor.core c.args.job.set.tasks c.args.job.rule c.args.ticks (reverse c.live_rows.result.now) c.core.ensures.value set rule c.live_rows.ensures.live in
-    let text : c.new.result ≡ reply_of 0 c.in_ok-text.text.items = search rules in
-    (reverse rows, live, text ∙ ap (reply_of 0) (c.in_ok-text.ensures ∙ ap (trace_text c.args.job.set.tasks) (sym (reverse-reverse rows))))
+    let live = live_of c.core-done.result.now c.in-Ok.floor.core c.args.job.set.tasks c.args.job.rule c.get-ticks.result (reverse rows) c.core-done.ensures.value set rule c.live_rows.ensures.live in
+    let text : c.new-2.result ≡ reply_of 0 c.in_ok-text.text.items = search rules in
+    let of_set = c.set.ensures ∙ (ap (λ (s : State). s.set) c.core-done.ensures.value ∙ set) in
+    let is : c.in_ok-text.text.items ≡ trace_text c.args.job.set.tasks rows = rw of_set at c.in_ok-text.ensures in
+    (reverse rows, rw (c.get-ticks.ensures.value) at live, text ∙ ap (reply_of 0) (is ∙ ap (trace_text c.args.job.set.tasks) (sym (reverse-reverse rows))))
 
 pub returns-clause-short : goal.returns-clause-short
 unfolding returns-clause-lives
 returns-clause-short g c =
     let told = returns-clause-lives g c in
     let places : c.in-Ok.floor.core.places ≡ c.live_places-places.result = search rules in
-    let few = few_live_rows c.args.job.set.tasks c.args.job.rule c.args.ticks c.core.result.now c.in-Ok.floor.core c.live_places-places.result c.live_rows.result.now c.len-is_set.ensures.set c.requires.job.holds c.requires.ticks.1 c.core.ensures.value places c.live_places-places.ensures.places c.live_rows.ensures.few in
+    let few = few_live_rows c.args.job.set.tasks c.args.job.rule c.get-ticks.result c.core-done.result.now c.in-Ok.floor.core c.live_places-places.result c.live_rows.result.now c.len-is_set.ensures.set c.requires.holds c.get-ticks.ensures.most c.core-done.ensures.value places c.live_places-places.ensures.places c.live_rows.ensures.few in
     let rows = length-reverse c.live_rows.result.now in
-    let text = told_le c.args.job.set.tasks c.args.job.rule (reverse c.live_rows.result.now) c.new.result c.len-is_set.ensures.set told.1.legal (omega (arith, few, rows)) told.2 in
+    let text = told_le c.args.job.set.tasks c.args.job.rule (reverse c.live_rows.result.now) c.new-2.result c.len-is_set.ensures.set told.1.legal (omega (arith, few, rows)) told.2 in
     omega (arith, few, rows, text)

@@ -14,7 +14,7 @@ use Rattle.task_threads.proofs.LiveRoom.{has_room}
 use Rattle.task_threads.proofs.live_left.tick_left.Goals as goal
 use Rattle.task_threads.proofs.live_left.tick_left.Goals.{In-Grant}
 
--- what is next, where it is a grant
+-- the next act, if it is a grant
 record Next (f : FloorState) (k : ℕ) : Type 0 where
   job : JobId
   inside : IsIn f.core.set k

@@ -6,7 +6,7 @@ use Rattle.trace_format.proofs.PackLemmas.{taken, added}
 use Rattle.trace_format.proofs.packing.add.Goals.{In-Some, In_ok-push}
 use Rattle.trace_format.proofs.packing.add.Goals as goal
 
--- the last run takes it
+-- the last run takes the new one
 by_last : (c : In-Some) (n : ℕ) → n ≡ length c.args.runs.now.items
     → let new = slice_set c.args.runs.now.items (n - 1) c.in-Some.both in (expand new ≡ expand c.args.runs.now.items ++ rows_of c.args.run) × ArePacked new
 by_last c n all =
@@ -20,7 +20,7 @@ returns-in-Some-clause-rows c = (by_last (goal.at.returns-in-Some-clause-rows c)
 pub returns-in-Some-clause-packed : goal.returns-in-Some-clause-packed
 returns-in-Some-clause-packed c = (by_last (goal.at.returns-in-Some-clause-packed c).In-Some _ (omega (arith, c.len-last.ensures, c.args.runs.now.ok.0))).1
 
--- it is added
+-- the new run is added by itself
 by_itself : (c : In_ok-push) → (expand c.push.new.self.items ≡ expand c.args.runs.now.items ++ rows_of c.args.run) × ArePacked c.push.new.self.items
 by_itself c =
     added c.args.runs.now.items c.push.new.self.items c.args.run c.requires.packed c.requires.is_run

@@ -2,7 +2,7 @@ use Rattle.std.proofs.Common.{refl, sym}
 use Rattle.mc_task.proofs.NamedLemmas.{found_task}
 use Rattle.trace_format.proofs.record.find_likely.Goals as goal
 
--- the likely task, where it has the name, is the one that the name finds
+-- if the likely task has the name, it is the task that the name finds
 pub returns-then-is_named : goal.returns-then-is_named
 returns-then-is_named c =
     sym (found_task c.args.set.now.tasks c.args.likely.0 c.args.name.now c.len-is_set.ensures.set (c.if-is_named.ensures.inside refl) (c.if-is_named.ensures.name refl))

@@ -6,7 +6,7 @@ use Rattle.mc_model.specs.Runs.{length_of}
 use Rattle.mc_model.proofs.Sums.{total-append}
 use Rattle.traces_tests.proofs.judging.has_few_ticks.Goals as goal
 
--- the ticks of one run more
+-- the ticks up to and with the next run
 one_more : (runs : List Run) (i n m : ℕ) (d : Run) → i < length runs → n ≡ total length_of (take i runs) → m ≡ length_of (get_or runs i d) → n + m ≡ total length_of (take (i + 1) runs)
 one_more runs i n m d h was one =
     omega (arith, ap (total length_of) (take_more runs i d h), total-append length_of (take i runs) (get_or runs i d ∷ []), was, one)

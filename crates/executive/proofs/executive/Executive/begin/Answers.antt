@@ -18,7 +18,7 @@ use Rattle.executive.proofs.Adding.{Found, may_there, stands_more, adds}
 use Rattle.executive.proofs.executive.Executive.begin.Goals as goal
 use Rattle.executive.proofs.executive.Executive.begin.Goals.{After-enter-turn}
 
--- what the turn found
+-- what the turn found before the call
 found : (g : _) (c : After-enter-turn g) → Found (opening_of c.enter-turn.result.state.called.floor) c.args.task.0 (history c.enter-turn.result) (lists c.args.seat)
 found g c =
     let t = c.enter-turn.ensures in record {

@@ -1,4 +1,4 @@
-use Rattle.std.proofs.Common.{◌≡◌, option_map, reverse, subst}
+use Rattle.std.proofs.Common.{◌≡◌, option_map, subst}
 use Rattle.mc_model.specs.Mode.{high_mode}
 use Rattle.mc_model.specs.Pending.{pending}
 use Rattle.mc_model.specs.Core.{first_to_run}
@@ -8,6 +8,6 @@ use Rattle.mode_core.proofs.FirstJob.{first_told}
 use Rattle.mode_core.proofs.book.Book.first.Goals as goal
 
 pub returns : goal.returns
-returns c =
+returns g c =
     subst (λ (w : Written). c.first.result ≡ option_map (entry w.rows) (first_to_run w.set w.rule (high_mode w.rule w.rows) (pending w.set w.rows))) c.self.view_is
-    (first_told (reverse c.self.inside.rows.items) c.self.inside.live c.self.inside.ticks c.first.result c.self.invariant.tasks.each c.self.invariant.holds c.self.invariant.tally c.first.ensures.first c.first.ensures.none)
+    (first_told (g.R.Recorder.rows c.self.inside.recorder) c.self.inside.live c.self.inside.ticks c.first.result c.self.invariant.tasks.each c.self.invariant.holds c.self.invariant.tally c.first.ensures.first c.first.ensures.none)

@@ -7,25 +7,25 @@ use Rattle.mode_core.proofs.scheduler.Core.end_tick.Goals as goal
 use Rattle.mc_model.specs.Core.{State, outcome_of}
 
 pub push_tick-how-requires-clause-legal : goal.push_tick-how-requires-clause-legal
-push_tick-how-requires-clause-legal c =
+push_tick-how-requires-clause-legal g c =
     let r = subst (λ (s : State). outcome_refusal s c.args.job ≡ None) (sym c.self.view_is) c.requires.none in
     (ticking (state_of c.self.inside) c.args.job c.self.invariant.sound r).legal c.args.done
 
 pub write_held-requires-clause-legal : goal.write_held-requires-clause-legal
-write_held-requires-clause-legal c =
+write_held-requires-clause-legal g c =
     let r = subst (λ (s : State). outcome_refusal s c.args.job ≡ None) (sym c.self.view_is) c.requires.none in
     let t = ticking (state_of c.self.inside) c.args.job c.self.invariant.sound r in
     held_legal c.self.inside c.args.job c.args.done c.push_tick-how.new.self c.deref.result.now c.self.invariant t c.push_tick-how.ensures.state c.deref.ensures.value
 
 pub invariant_of-self : goal.invariant_of-self
-invariant_of-self c =
+invariant_of-self g c =
     let r = subst (λ (s : State). outcome_refusal s c.args.job ≡ None) (sym c.self.view_is) c.requires.none in
     let t = ticking (state_of c.self.inside) c.args.job c.self.invariant.sound r in
     let b = end_book c.self.inside c.args.job c.args.done c.push_tick-how.new.self c.write_held.new.book c.deref.result.now t c.push_tick-how.ensures.state c.deref.ensures.value c.write_held.ensures in
     core_end c.self.inside _ c.args.done c.self.invariant b refl c.clear.ensures.items c.clear.ensures.capacity refl
 
 pub returns : goal.returns
-returns c =
+returns g c =
     let a = c.self.inside in
     let r = subst (λ (s : State). outcome_refusal s c.args.job ≡ None) (sym c.self.view_is) c.requires.none in
     let t = ticking (state_of a) c.args.job c.self.invariant.sound r in
@@ -35,5 +35,5 @@ returns c =
     record {
       answer = subst (λ (s : State). c.push_tick-how.result ≡ outcome_of s.set s.rule s.rows c.args.job c.args.done) c.self.view_is c.push_tick-how.ensures.answer;
       state = end_state a after c.args.done b refl c.clear.ensures.items ∙ ap (λ (s : State). ended s c.args.done) c.self.view_is;
-      sound = (invariant_of-self c).sound;
+      sound = (invariant_of-self g c).sound;
     }

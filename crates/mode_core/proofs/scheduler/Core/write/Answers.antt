@@ -8,18 +8,18 @@ use Rattle.mode_core.proofs.Releasing.{takes, begun_in, may_note, job_is, notes_
 use Rattle.mode_core.proofs.scheduler.Core.write.Goals as goal
 
 pub note_release-job-requires : goal.note_release-job-requires
-note_release-job-requires c =
+note_release-job-requires g c =
     may_note c.self.inside c.args.task.0 c.ticks-at.result (takes c.self.inside _ c.args.task.0 c.self.invariant c.self.view_is c.requires.in_set c.requires.none)
     (c.ticks-at.ensures.value ∙ begun_in (state_of c.self.inside) (ap (λ (s : State). s.out) c.self.view_is ∙ c.requires.out))
 
 pub push_release-requires-clause-legal : goal.push_release-requires-clause-legal
-push_release-requires-clause-legal c =
+push_release-requires-clause-legal g c =
     let take = takes c.self.inside _ c.args.task.0 c.self.invariant c.self.view_is c.requires.in_set c.requires.none in
     write_legal c.self.inside c.args.task.0 _ take (ap (λ (s : State). s.out) c.self.view_is ∙ c.requires.out)
     (row_is c.self.inside c.args.task.0 _ _ (job_is c.self.inside c.args.task _ take c.note_release-job.ensures.job) c.keeps-kept.ensures)
 
 pub invariant_of-self : goal.invariant_of-self
-invariant_of-self c =
+invariant_of-self g c =
     let take = takes c.self.inside _ c.args.task.0 c.self.invariant c.self.view_is c.requires.in_set c.requires.none in
     core_write c.self.inside _ c.args.task.0 _ take (ap (λ (s : State). s.out) c.self.view_is ∙ c.requires.out)
     (row_is c.self.inside c.args.task.0 _ _ (job_is c.self.inside c.args.task _ take c.note_release-job.ensures.job) c.keeps-kept.ensures)
@@ -27,7 +27,7 @@ invariant_of-self c =
     (notes_after c.self.inside c.note_release-job.new.arrivals c.args.task.0 c.ticks-at.result (ticks c.self.inside.book.rows) c.self.invariant c.note_release-job.ensures.notes c.ticks-at.ensures.value)
 
 pub returns : goal.returns
-returns c =
+returns g c =
     let a = c.self.inside in
     let take = takes a _ c.args.task.0 c.self.invariant c.self.view_is c.requires.in_set c.requires.none in
     let job = job_is a c.args.task _ take c.note_release-job.ensures.job in
@@ -40,5 +40,5 @@ returns c =
       state =
           write_state a after c.args.task.0 _ (row_is a c.args.task.0 _ _ job c.keeps-kept.ensures) c.push_release.ensures refl refl
           ∙ ap (λ (s : State). writing s (next_job s c.args.task.0)) c.self.view_is;
-      sound = (invariant_of-self c).sound;
+      sound = (invariant_of-self g c).sound;
     }

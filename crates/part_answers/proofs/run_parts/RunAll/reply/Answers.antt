@@ -7,4 +7,4 @@ returns-in_err-job g c =
     rw (is_err, same) c.in_err-job.ensures
 
 pub returns : goal.returns
-returns g c = c.in_ok-job.ensures.1 c.finish_run_all.result (rw (c.get-processors.ensures.value, c.get.ensures.value) at c.finish_run_all.ensures.traces) c.finish_run_all.ensures.own
+returns g c = c.in_ok-job.ensures.1 c.finish_run_all.result c.finish_run_all.ensures.traces c.finish_run_all.ensures.own

@@ -7,4 +7,4 @@ returns-in_err-job-clause-serves g c =
     rw (is_err, same) c.in_err-job.ensures
 
 pub returns-clause-serves : goal.returns-clause-serves
-returns-clause-serves g c = c.in_ok-job.ensures.1 c.finish_live.result (rw c.get.ensures.value at c.finish_live.ensures.lives) c.finish_live.ensures.own
+returns-clause-serves g c = c.in_ok-job.ensures.1 c.finish_live.result c.finish_live.ensures.lives c.finish_live.ensures.own

@@ -7,4 +7,4 @@ returns-in_err-job-clause-serves g c =
     rw (is_err, same) c.in_err-job.ensures
 
 pub returns-clause-serves : goal.returns-clause-serves
-returns-clause-serves g c = c.in_ok-job.ensures.1 c.finish_run.result (rw c.get.ensures.value at c.finish_run.ensures.trace) c.finish_run.ensures.own
+returns-clause-serves g c = c.in_ok-job.ensures.1 c.finish_run.result c.finish_run.ensures.trace c.finish_run.ensures.own

@@ -9,7 +9,7 @@ use Rattle.trace_format.proofs.RunsOfSet.{of_record}
 use Rattle.trace_format.proofs.read.TraceRecordsMeaning.row.Goals.{In_ok-run}
 use Rattle.trace_format.proofs.read.TraceRecordsMeaning.row.Goals as goal
 
--- the run that was read fits behind those before it
+-- the run that was read may stand after those before it
 run_fits : (c : In_ok-run) → (length c.args.before.now < 2000000) × MayStandBehind c.args.self.now.set.now.tasks (total length_of c.args.before.now) c.in_ok-run.run'
 run_fits c = of_record c.args.self.now.set.now.tasks c.args.reading.now.version c.args.before.now (fields_of c.args.fields.now) c.in_ok-run.run' (sym c.in_ok-run.ensures)
 

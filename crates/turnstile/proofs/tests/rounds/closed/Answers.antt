@@ -14,7 +14,7 @@ use Rattle.turnstile.proofs.tests.rounds.closed.Goals as goal
 abbrev Order : ℕ → List Player → Type 0
 Order n ps = (k : ℕ) (d : Player) → k < length ps → (slice_index_or ps k d).which + k + 1 ≡ n
 
--- players whose numbers go down to 0 have each number below n
+-- in a list of players whose numbers fall to 0, each number below n has a player
 has_each : (n k : ℕ) (ps : List Player) → length ps ≡ n → Order n ps → k < n → list_any (λ s. number s == k) (map (λ p. p.seat) ps) ≡ true
 has_each n k [] len order lt = absurd (omega arith)
 has_each n k (p ∷ ps) len order lt =

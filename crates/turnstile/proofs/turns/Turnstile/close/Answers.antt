@@ -15,7 +15,7 @@ use Rattle.turnstile.specs.Joined.{report}
 use Rattle.turnstile.proofs.Lists.{held_first}
 use Rattle.turnstile.proofs.turns.Turnstile.close.Goals as goal
 
--- a number that some seat of a list has is that of the last one, or one of the others told it
+-- a number of some seat of a list is that of the last seat, or of one of the seats that it took in
 covered : {S E F : Type 0} {kept : Ghosts S E F} (seats : List (Seat S E F kept)) (last : Seat S E F kept) (more : List (Report E)) (k : ℕ)
     → list_any (λ s. number s == k) (seats ++ last ∷ []) ≡ true
     → (k ≡ number last) ⊎ ((i : ℕ) × (r : Report E) × (get_elem? (map report seats ++ more) i ≡ some r) × (r.number ≡ k))

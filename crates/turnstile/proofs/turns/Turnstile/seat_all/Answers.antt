@@ -10,7 +10,7 @@ use Rattle.turnstile.proofs.Seating.{splits}
 use Rattle.turnstile.proofs.Lists.{each_last}
 use Rattle.turnstile.proofs.turns.Turnstile.seat_all.Goals as goal
 
--- one more seat of the turnstile at the end, of which the view is a fresh one
+-- one more fresh seat of the turnstile at the end of the list
 one_more : {S E F : Type 0} {kept : Ghosts S E F} (t : Turnstile S E F) (seats more : List (Seat S E F kept)) (s : Seat S E F kept) (v : View E F)
     → more ≡ seats ++ s ∷ [] → AreFresh seats → All (λ s. IsOf t s) seats → s.place.table_id ≡ t.board.shared.table_id → s.place.me.0 ≡ v
     → (v.number ≡ length seats) × (v.seen ≡ []) × (v.mine ≡ []) × (v.fixed ≡ Some (fixed_part kept.fixed t)) → AreFresh more × All (λ s. IsOf t s) more

@@ -1,0 +1,202 @@
+-- What the commands on several processors promise: `partition` and `runall`.
+use Rattle.std.proofs.Common.{◌≡◌, ◌≢◌, ◌⊎◌, ◌≤◌, inl, inr, ℕ, ◌^◌, nat_lt, true, List, [], ◌∷◌, ◌++◌, length, reverse, flat_map, zip, Some, Result, Ok, Err, refl, ap, ◌∙◌, arith}
+use Rattle.std.specs.List.{AllByRecursion, AllZip, range_with_len}
+use Rattle.mc_task.specs.declared.task.Task.{Task}
+use Rattle.mc_task.specs.TaskSet.{Set, AreTasks, task_at, name_in}
+use Rattle.mc_model.specs.declared.row.Row.{Row}
+use Rattle.mc_model.specs.declared.work.WorkRow.{WorkRow}
+use Rattle.mc_model.specs.TraceText.{trace_text}
+use Rattle.mc_model.proofs.Lists.{Each-all, Each-filter_if}
+use Rattle.mc_model.proofs.RuleHolds.{published-holds}
+use Rattle.demand_law.proofs.Promise.{keeps_deadlines}
+use Rattle.task_file.proofs.SaysSet.{says_set}
+use Rattle.part_fit.specs.FirstFit.{first_fit}
+use Rattle.part_fit.specs.Partition.{IsPartition, IsAdmittedPart}
+use Rattle.part_fit.specs.PartWork.{part_rows}
+use Rattle.part_fit.proofs.Placed.{first_fit-IsPartition}
+use Rattle.part_fit.proofs.WorkRows.{part_rows-length}
+use Rattle.command_line.specs.declared.form.Form.TheVariants as form
+use Rattle.part_answers.specs.declared.partition.Partition.{Partition}
+use Rattle.part_answers.specs.declared.run_parts.RunAll.{RunAll}
+use Rattle.replies.specs.Reply.{Reply, reply_of}
+use Rattle.replies.specs.Refusal.{NoRoom, WorkFile}
+use Rattle.replies.specs.Reading.{◌>>=◌, refused_as, reply_by}
+use Rattle.serving.specs.Command.{answer}
+use Rattle.task_answers.specs.Admitted.{set_in}
+use Rattle.run_answers.specs.Run.{work_of}
+use Rattle.part_answers.specs.Parted.{Parted, tasks_on, spread, fitted, parted}
+use Rattle.part_answers.specs.Partition.{partition_text, placed}
+use Rattle.part_answers.specs.RunAll.{is_used, used, IsTraceOn, TellsTraces, trace_lines}
+use Rattle.promises.specs.Headline.{bytes_of, SaysSet, IsSpread, SpreadsExactly, IsTimelyOn, lines_of}
+use Rattle.promises.specs.Told.{WritesParts}
+use Rattle.promises.specs.Complete.{ServesSpread}
+use Rattle.promises.proofs.Cases.{By, OfSet, held, by_text, by_steps, by_set, of_set, for_file, decided}
+use Rattle.promises.proofs.FewRows.{work-few, follows-few}
+use Rattle.promises.proofs.Promised.{Keeps}
+use Rattle.promises.proofs.Written.{says_timely}
+use Rattle.promises.proofs.Scheduled.{OfWork, by_work, of_work}
+
+-- the reply refuses the task file, or a task that has no room, or this is so of the set on its processors
+abbrev Spreads : ℕ → List ℕ → (Parted → Type 0) → Reply → Type 0
+Spreads m bytes Then reply = OfSet bytes (λ set. By (fitted m set.tasks) Then reply) reply
+
+-- first fit finds no room for a task, with status 12, or this is so of the processors that it finds
+by_fit : (m : ℕ) (set : Set) (Then : Parted → Type 0) (reply : Reply) → By (fitted m set.tasks) Then reply
+    → ((task : ℕ) × (first_fit set.tasks m ≡ Err task) × (reply.status ≡ 12)) ⊎ ((of : List ℕ) × (first_fit set.tasks m ≡ Ok of) × Then (spread set.tasks of))
+by_fit m set Then reply h = go (first_fit set.tasks m) refl h
+  where
+    go : (found : Result (List ℕ) ℕ) → first_fit set.tasks m ≡ found
+        → By (refused_as (λ k. NoRoom (name_in (task_at set.tasks k)) m) found >>= (λ of. Ok (spread set.tasks of))) Then reply
+        → ((task : ℕ) × (first_fit set.tasks m ≡ Err task) × (reply.status ≡ 12)) ⊎ ((of : List ℕ) × (first_fit set.tasks m ≡ Ok of) × Then (spread set.tasks of))
+    go (Ok of) e k = inr (of, e, k)
+    go (Err task) e k = inl (task, e, ap (λ r. r.status) k)
+
+-- Status 12 comes exactly where a task has no room, if what comes next has another status.
+spreads_exactly : (m : ℕ) (bytes : List ℕ) (Then : Parted → Type 0) (reply : Reply) → ((x : Parted) → Then x → reply.status ≢ 12) → Spreads m bytes Then reply
+    → SpreadsExactly m bytes reply.status
+spreads_exactly m bytes Then reply other h = record { refused = only; refuses = always }
+  where
+    only : reply.status ≡ 12 → (set : Set) × (task : ℕ) × SaysSet bytes set × (first_fit set.tasks m ≡ Err task)
+    only e =
+        let (set, says, k) = of_set bytes (λ set. By (fitted m set.tasks) Then reply) reply (λ z. absurd (omega arith)) (λ z. absurd (omega arith)) h in
+        elim (by_fit m set Then reply k) [ inl none ↦ (set, none.0, says, none.1) | inr r ↦ absurd (other (spread set.tasks r.0) r.2 e) ]
+
+    always : (set : Set) (task : ℕ) → SaysSet bytes set → first_fit set.tasks m ≡ Err task → (reply.status ≡ 12) ⊎ (reply.status ≡ 9)
+    always set task says none =
+        let refuses : fitted m set.tasks ≡ Err (NoRoom (name_in (task_at set.tasks task)) m) = rw none refl in
+        inl (ap (λ r. r.status) (decided bytes (λ set. fitted m set.tasks) (Err (NoRoom (name_in (task_at set.tasks task)) m)) Then reply set says refuses h))
+
+-- of an answer with status 0 this is so
+only_spread : (m : ℕ) (bytes : List ℕ) (Then : Parted → Type 0) (reply : Reply) → Spreads m bytes Then reply → reply.status ≡ 0
+    → (set : Set) × (of : List ℕ) × IsSpread m bytes set of × Then (spread set.tasks of)
+only_spread m bytes Then reply h e =
+    let (set, says, k) = of_set bytes (λ set. By (fitted m set.tasks) Then reply) reply (λ z. absurd (omega arith)) (λ z. absurd (omega arith)) h in
+    elim (by_fit m set Then reply k) [ inl none ↦ absurd (omega (arith, none.2)) | inr r ↦ (set, r.0, (says, r.1), r.2) ]
+
+-- and so it is of each set that is spread
+next_spread : (m : ℕ) (bytes : List ℕ) (Then : Parted → Type 0) (reply : Reply) (set : Set) (of : List ℕ) → IsSpread m bytes set of → Spreads m bytes Then reply
+    → Then (spread set.tasks of)
+next_spread m bytes Then reply set of is h =
+    let fits : fitted m set.tasks ≡ Ok (spread set.tasks of) = rw is.1 refl in
+    decided bytes (λ set. fitted m set.tasks) (Ok (spread set.tasks of)) Then reply set is.0 fits h
+
+-- each task is on one processor, and the tasks of each are admitted
+parts_of : (m : ℕ) (bytes : List ℕ) (set : Set) (of : List ℕ) → IsSpread m bytes set of → IsPartition set.tasks of m
+parts_of m bytes set of is = first_fit-IsPartition set.tasks m of (says_set bytes set is.0.1).tasks is.1
+
+pub partitions : (command : Partition) → Keeps (form.Partition command)
+partitions command files old reply h = (
+  tt,
+  tt,
+  tt,
+  (
+    spreads_exactly command.processors bytes Next reply (λ on k e. absurd (omega (arith, ap (λ (r : Reply). r.status) k))) c,
+    record {
+      writes = λ e. (let (set, of, is, k) = only_spread command.processors bytes Next reply c e in (set, of, is, parts_of command.processors bytes set of is, ap (λ (r : Reply). Some (old ++ r.text)) k));
+      complete = λ set of is. inl (ap (λ (r : Reply). r.status) (next_spread command.processors bytes Next reply set of is c));
+    },
+  ),
+)
+  where
+    bytes : List ℕ
+    bytes = bytes_of files command.tasks
+
+    Next : Parted → Type 0
+    Next on = reply ≡ reply_of 0 (partition_text command.processors on)
+
+    c : Spreads command.processors bytes Next reply
+    c =
+        held files 1 (2 ^ 24) command.tasks (λ bytes. answer (λ reply. reply ≡ reply_by (placed command.processors bytes)))
+        (λ bytes. By (set_in bytes) (λ set. By (fitted command.processors set.tasks) Next reply) reply) reply
+        (λ bytes k. by_steps (set_in bytes) (λ set. fitted command.processors set.tasks) Next reply (by_text (parted command.processors bytes) (λ on. Ok (partition_text command.processors on)) reply k)) h
+
+-- the tasks of an admitted part that has some are those of a set
+used_tasks : (tasks : List Task) → nat_lt 0 (length tasks) ≡ true → IsAdmittedPart tasks → AreTasks tasks
+used_tasks tasks some admitted = elim admitted [ inl none ↦ (let one = rw none at some in absurd (cc)) | inr are ↦ are.0 ]
+
+-- the text of the trace that follows on a processor is a trace file, whose trace keeps the deadlines
+timely_on : (ticks : ℕ) (parted : Parted) (work : List WorkRow) (n : ℕ) (h : List Row) → ticks ≤ 1000000 → length work ≤ 1000000 → is_used parted n ≡ true
+    → IsAdmittedPart (tasks_on parted n) → IsTraceOn ticks parted work n h → IsTimelyOn parted n (trace_text (tasks_on parted n) (reverse h))
+timely_on ticks parted work n h short rows used admitted is =
+    let tasks = used_tasks (tasks_on parted n) used admitted in
+    let follows = follows-few (tasks_on parted n) is.rule (part_rows n parted.of work) ticks h is.follows in
+    let few : length h ≤ 2000000 = omega (arith, short, rows, follows, part_rows-length n parted.of work) in
+    let keeps = keeps_deadlines (tasks_on parted n) is.rule h tasks.each (published-holds (tasks_on parted n) is.rule tasks is.test) is.follows.legal in
+    (is.rule, is.test, says_timely (tasks_on parted n) is.rule h tasks few (is.follows.legal, keeps))
+
+-- the text of each trace, on the processor of its place
+abbrev texts_of : Parted → List ℕ → List (List Row) → List (List ℕ)
+texts_of parted (n ∷ ns) (t ∷ ts) = trace_text (tasks_on parted n) (reverse t) ∷ texts_of parted ns ts
+texts_of parted ns ts = []
+
+-- the texts of the traces on processors with tasks are trace files whose traces keep the deadlines
+all_timely : (ticks : ℕ) (parted : Parted) (work : List WorkRow) (ns : List ℕ) (traces : List (List Row)) → ticks ≤ 1000000 → length work ≤ 1000000
+    → AllByRecursion (λ n. is_used parted n ≡ true) ns → ((n : ℕ) → IsAdmittedPart (tasks_on parted n)) → AllZip (IsTraceOn ticks parted work) ns traces
+    → AllZip (IsTimelyOn parted) ns (texts_of parted ns traces)
+all_timely ticks parted work [] [] short rows used admitted h = tt
+all_timely ticks parted work [] (t ∷ ts) short rows used admitted h = absurd h
+all_timely ticks parted work (n ∷ ns) [] short rows used admitted h = absurd h
+all_timely ticks parted work (n ∷ ns) (t ∷ ts) short rows used admitted h =
+    (timely_on ticks parted work n t short rows used.0 (admitted n) h.0, all_timely ticks parted work ns ts short rows used.1 admitted h.1)
+
+-- what is written of all processors are the lines of these texts
+lines_of_texts : (parted : Parted) (ns : List ℕ) (traces : List (List Row))
+    → flat_map (trace_lines parted) (zip ns traces) ≡ flat_map lines_of (zip ns (texts_of parted ns traces))
+lines_of_texts parted [] traces = refl
+lines_of_texts parted (n ∷ ns) [] = refl
+lines_of_texts parted (n ∷ ns) (t ∷ ts) = ap (λ more. trace_lines parted (n, t) ++ more) (lines_of_texts parted ns ts)
+
+-- the processors that have tasks pass the test for it
+used_each : (m : ℕ) (parted : Parted) → AllByRecursion (λ n. is_used parted n ≡ true) (used m parted)
+used_each m parted =
+    Each-filter_if (λ n. is_used parted n ≡ true) (is_used parted) (range_with_len 1 m)
+    (Each-all {P = λ n. is_used parted n ≡ true → is_used parted n ≡ true} (λ n h. h) (range_with_len 1 m))
+
+pub runs_all : (command : RunAll) → command.ticks ≤ 1000000 → Keeps (form.RunAll command)
+runs_all command short files old reply h = (
+  (
+    spreads_exactly command.processors bytes Next reply not_12 c,
+    λ e. (let (set, of, rows, traces, is, says, each, written) = writes e in
+        let on : Parted = spread set.tasks of in
+        let ns : List ℕ = used command.processors on in (
+          set,
+          of,
+          texts_of on ns traces,
+          is,
+          all_timely command.ticks on rows ns traces short (work-few set.tasks more rows says.1) (used_each command.processors on) (parts_of command.processors bytes set of is).admitted each,
+          written ∙ ap (λ text. Some (old ++ text)) (lines_of_texts on ns traces),
+        )),
+  ),
+  writes,
+  complete,
+  tt,
+)
+  where
+    bytes : List ℕ
+    bytes = bytes_of files command.tasks
+
+    more : List ℕ
+    more = bytes_of files command.work
+
+    Next : Parted → Type 0
+    Next on = OfWork on.set more (λ rows. TellsTraces command.ticks command.processors on rows reply) reply
+
+    c : Spreads command.processors bytes Next reply
+    c = by_set files command.tasks (λ set. fitted command.processors set.tasks) _ Next reply (λ on. by_work files on.set command.work _ (λ rows. TellsTraces command.ticks command.processors on rows reply) reply (λ rows t. t)) h
+
+    not_12 : (on : Parted) → Next on → reply.status ≢ 12
+    not_12 on k e =
+        let (rows, says, t) = of_work on.set more _ reply (λ z. absurd (omega arith)) (λ z. absurd (omega arith)) k in
+        absurd (omega (arith, ap (λ (r : Reply). r.status) t.2))
+
+    writes : WritesParts command.ticks command.processors bytes more old reply.status (Some (old ++ reply.text))
+    writes e =
+        let (set, of, is, k) = only_spread command.processors bytes Next reply c e in
+        let (rows, says, t) = of_work set.tasks more _ reply (λ z. absurd (omega arith)) (λ z. absurd (omega arith)) k in
+        (set, of, rows, t.0, is, says, t.1, ap (λ (r : Reply). Some (old ++ r.text)) t.2)
+
+    complete : ServesSpread command.processors bytes more reply.status
+    complete set of rows is says =
+        let t = for_file 2 (2 ^ 24) more (work_of set.tasks more) (λ rows. TellsTraces command.ticks command.processors (spread set.tasks of) rows reply) reply rows says.0 (ap (refused_as WorkFile) says.1)
+        (next_spread command.processors bytes Next reply set of is c) in
+        inl (ap (λ (r : Reply). r.status) t.2)

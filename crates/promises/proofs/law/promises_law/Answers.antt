@@ -1,0 +1,5 @@
+use Rattle.promises.proofs.Headlines.{of_reply}
+use Rattle.promises.proofs.law.promises_law.Goals as goal
+
+pub returns : goal.returns
+returns c form files old reply range short answer = of_reply form range short files old reply answer
