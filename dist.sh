@@ -1,7 +1,8 @@
 #!/bin/sh
-# Makes an archive FOLDER/edfvd-VERSION-MACHINE-linux.tar.gz of the proved program: what install.sh installs, which is the program,
-# its page, README.md, the licences, and RELEASE with version, commit, kit and the sha256 of each file. Unpacked over a prefix it
-# installs the program there. The same program and commit make the same bytes. It writes the archive's sha256.
+# Makes an archive FOLDER/edfvd-VERSION-MACHINE-linux.tar.gz of what install.sh installs: the proved program, its page, README.md, the
+# licences, RELEASE with version, commit, kit and the sha256 of each file, and, if c/build.sh has made them, the C libraries with their
+# header. Unpacked over a prefix it installs all that there. The same program, libraries and commit make the same bytes. It writes the
+# archive's sha256.
 # usage: dist.sh FOLDER
 set -u
 here=$(dirname -- "$(readlink -f -- "$0")")
@@ -19,6 +20,7 @@ work=$(mktemp -d) || exit 1
 trap 'rm -rf "$work"' EXIT
 trap 'exit 1' HUP INT TERM
 "$here/install.sh" "$work/edfvd" >/dev/null || exit 1
+[ -e "$work/edfvd/include/edfvd.h" ] || echo "dist.sh: the archive has no C libraries, since $here/c/build.sh has not made them" >&2
 
 name=edfvd-$(awk 'NR == 1 { print $3 }' "$work/edfvd/share/doc/edfvd/RELEASE")-$(uname -m)-linux
 mv "$work/edfvd" "$work/$name" || exit 1

@@ -1,6 +1,7 @@
 #!/bin/sh
 # Puts the proved program to PREFIX/bin/edfvd and its page to PREFIX/share/man/man1/edfvd.1. What is installed needs the C library
-# alone: neither this folder, nor the wrapper, nor the command rt.
+# alone: neither this folder, nor the wrapper, nor the command rt. If c/build.sh has made the C libraries, they go to PREFIX/lib and
+# PREFIX/include, with a file for pkg-config.
 # usage: install.sh PREFIX
 #        as in install.sh ~/.local
 set -u
@@ -32,6 +33,14 @@ bin=$prefix/bin
 man=$prefix/share/man/man1
 doc=$prefix/share/doc/edfvd
 mkdir -p "$bin" "$man" "$doc" || refuse "$bin, $man and $doc cannot be made"
+libraries=
+if [ -e "$here/c/out/libedfvd.a" ]; then
+    newer=$(find "$here/c/edfvd.h" "$here"/c/*.c "$here/crates" \( -name '*.[hc]' -o -name '*.rt' \) \
+        -newer "$here/c/out/libedfvd.a" -print -quit)
+    [ -z "$newer" ] || refuse "the C libraries are older than their sources: run $here/c/build.sh first"
+    libraries='include/edfvd.h lib/libedfvd.a lib/libedfvd_core.a lib/libedfvd.so lib/pkgconfig/edfvd.pc'
+    mkdir -p "$prefix/include" "$prefix/lib/pkgconfig" || refuse "$prefix/include and $prefix/lib/pkgconfig cannot be made"
+fi
 for folder in "$bin" "$man" "$doc"; do
     [ -w "$folder" ] || refuse "$folder cannot be written"
 done
@@ -59,7 +68,8 @@ release() {
     fi
     echo "# commit $commit"
     echo "# kit $(cat "$here/KIT")"
-    (cd "$prefix" && sha256sum bin/edfvd share/man/man1/edfvd.1 share/doc/edfvd/README.md share/doc/edfvd/LICENSE-*)
+    # shellcheck disable=SC2086
+    (cd "$prefix" && sha256sum bin/edfvd share/man/man1/edfvd.1 share/doc/edfvd/README.md share/doc/edfvd/LICENSE-* $libraries)
 }
 
 put 755 "$program" "$bin/edfvd"
@@ -67,6 +77,19 @@ put 644 "$page" "$man/edfvd.1"
 for file in README.md LICENSE-APACHE LICENSE-MIT; do
     put 644 "$here/$file" "$doc/$file"
 done
+if [ -n "$libraries" ]; then
+    put 644 "$here/c/edfvd.h" "$prefix/include/edfvd.h"
+    for file in libedfvd.a libedfvd_core.a libedfvd.so; do
+        put 644 "$here/c/out/$file" "$prefix/lib/$file"
+    done
+    pc=$doc/.pc.$$
+    # The folders are found from where the file is, so that all may be moved.
+    # shellcheck disable=SC2016
+    sed -e 's|^libdir=.*|libdir=${pcfiledir}/..|' -e 's|^includedir=.*|includedir=${pcfiledir}/../../include|' \
+        "$here/c/out/edfvd.pc" >"$pc" || refuse "$doc cannot be written"
+    put 644 "$pc" "$prefix/lib/pkgconfig/edfvd.pc"
+    rm -f "$pc"
+fi
 text=$doc/.release.$$
 if ! release >"$text"; then
     rm -f "$text"
@@ -75,6 +98,7 @@ fi
 put 644 "$text" "$doc/RELEASE"
 rm -f "$text"
 echo "installed $bin/edfvd and $man/edfvd.1"
+if [ -n "$libraries" ]; then echo "installed $prefix/include/edfvd.h, and the libraries in $prefix/lib"; fi
 echo "version, commit, kit and checksums are in $doc/RELEASE"
 case :$PATH: in
     *":$bin:"*) ;;

@@ -15,6 +15,7 @@ night.sh 2
 compare.sh
 memcheck.sh
 usages.sh
+library.sh
 check.sh
 mutate.sh
 faults.sh

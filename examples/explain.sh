@@ -149,6 +149,8 @@ wants 0 flight/expected.txt flight.py "$work"
 
 python3 -B explain_check.py "${1:-100}" "${2:-1}" || failed=$((failed + 1))
 python3 -B pages.py || failed=$((failed + 1))
+# Each wrong body that the gate leaves out still applies to its source.
+python3 -B wrong_bodies.py || failed=$((failed + 1))
 # How many lines of definitions the headline reaches, and the longest of them; too many or too long is a failure.
 python3 -B definitions.py headline >"$work/out" || failed=$((failed + 1))
 grep -E '^(headline|longest line|definitions):' "$work/out"

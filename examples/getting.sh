@@ -84,6 +84,27 @@ tries 0 control/check.txt '' "$alone" "$tree/edfvd" check "$tasks"
 } >"$work/installed"
 tries 0 "$work/installed" '' "$alone" "$tree/install.sh" "$work/prefix"
 cmp ../man/edfvd.1 "$work/prefix/share/man/man1/edfvd.1" || failed=$((failed + 1))
+# The C libraries are installed if they are there.
+mkdir -p "$tree/c/out"
+cp ../c/edfvd.h ../c/*.c "$tree/c"
+for file in libedfvd.a libedfvd_core.a libedfvd.so; do echo "$file" >"$tree/c/out/$file"; done
+printf 'libdir=here\nincludedir=there\n' >"$tree/c/out/edfvd.pc"
+sed "1a installed $work/prefix/include/edfvd.h, and the libraries in $work/prefix/lib" "$work/installed" >"$work/installed_too"
+sed "s|$work/prefix|&_too|g" "$work/installed_too" >"$work/wanted"
+tries 0 "$work/wanted" '' "$alone" "$tree/install.sh" "$work/prefix_too"
+(cd "$work/prefix_too" && cmp include/edfvd.h "$tree/c/edfvd.h" && sha256sum --status -c share/doc/edfvd/RELEASE &&
+    grep -q pcfiledir lib/pkgconfig/edfvd.pc && grep -q libedfvd.so lib/libedfvd.so) || failed=$((failed + 1))
+# An archive has them, too.
+mkdir "$work/with"
+bounded env PATH="$alone" "$tree/dist.sh" "$work/with" >"$work/out" 2>"$work/err" || failed=$((failed + 1))
+[ ! -s "$work/err" ] || failed=$((failed + 1))
+tar -tzf "$work/with"/*.tar.gz | sed -n 's|^[^/]*/\(.*[^/]\)$|\1|p' | sort >"$work/out"
+(cd "$work/prefix_too" && find . -type f | sed 's|^\./||' | sort) >"$work/files"
+judge 0 0 "$work/files" 'the files of the archive with the C libraries'
+# None that is older than its sources is installed.
+touch "$tree/c/edfvd.h"
+tries 1 "$work/empty" 'the C libraries are older than their sources' "$alone" "$tree/install.sh" "$work/prefix_older"
+rm -r "$tree/c"
 tries 2 "$work/empty" 'usage: install.sh PREFIX' "$alone" "$tree/install.sh"
 tries 1 "$work/empty" 'is no folder' "$alone" "$tree/install.sh" "$tasks"
 
@@ -111,6 +132,7 @@ archive=edfvd-$version-$(uname -m)-linux
 mkdir "$work/first" "$work/second" "$work/unpacked"
 for folder in first second; do
     bounded env PATH="$alone" "$tree/dist.sh" "$work/$folder" >"$work/sum" 2>"$work/err" || failed=$((failed + 1))
+    grep -q 'the archive has no C libraries' "$work/err" || failed=$((failed + 1))
     (cd "$work/$folder" && sha256sum -c "$work/sum" >/dev/null) || failed=$((failed + 1))
 done
 cmp "$work/first/$archive.tar.gz" "$work/second/$archive.tar.gz" || failed=$((failed + 1))

@@ -1,0 +1,115 @@
+#!/bin/sh
+# Builds the C libraries from the proved static libraries and the guards, into c/out, and puts the shared one where the Python
+# package looks for it:
+#
+#     libedfvd.a        every call of edfvd.h
+#     libedfvd_core.a   every call except edfvd_ask, which is most of the code
+#     libedfvd.so       every call, shared
+#     edfvd.pc          for pkg-config, with these folders; install.sh writes one with its own
+#
+# With FOLDER, only the static libraries are built, and into that folder.
+# Nothing is built that is not proved. After ./edfvd or the gate the crates below are proved, and only edfvd_c, edfvd_ask_c and what
+# else the program does not have are proved here, which takes some minutes; with no change since, it takes seconds. CC, CFLAGS, LD,
+# AR and OBJCOPY may name other tools.
+# usage: build.sh [FOLDER]
+set -eu
+here=$(cd "$(dirname -- "$0")" && pwd)
+. "$here/../examples/usage.sh"
+takes 0 1 "$@"
+for tool in rt "${CC:=cc}" "${LD:=ld}" "${AR:=ar}" "${OBJCOPY:=objcopy}"; do
+    command -v "$tool" >/dev/null || { echo "build.sh: $tool is not on the PATH" >&2; exit 127; }
+done
+strict='-std=c11 -Wall -Wextra -Werror -Wpedantic -Wconversion -Wshadow'
+kit=$(dirname "$(dirname "$(readlink -f "$(command -v rt)")")")
+crates=$(cd "$here/../crates" && pwd)
+out=${1:-$here/out}
+mkdir -p "$out"
+parts=$(mktemp -d) || exit 1
+trap 'rm -rf "$parts"' EXIT
+trap 'exit 1' HUP INT TERM
+
+# below CRATE: the crates of this repository that it stands on
+below() {
+    awk -F: -v top="$1" '
+        function go(name, of, count, i) {
+            count = split(uses[name], of, " ")
+            for (i = 1; i <= count; i++) if (of[i] in uses && !(of[i] in seen)) { seen[of[i]] = 1; print of[i]; go(of[i]) }
+        }
+        { sub(/#.*/, "") }
+        NF { sub(/ .*/, "", $1); uses[$1] = $2 }
+        END { go(top) }
+    ' "$here/../crates.txt"
+}
+
+# changed PATH CRATE..: a source of these crates that is newer than the path, if there is one
+changed() {
+    path=$1
+    shift
+    for name; do
+        find "$crates/$name" -name out -prune -o \( -name '*.rt' -o -name '*.antt' \) -newer "$path" -print -quit
+    done
+}
+
+# on_gate CRATE: whether each crate below it stands as rt ci has proved it, which leaves no stamp
+on_gate() {
+    for name in $(below "$1"); do
+        rlib=$crates/$name/out/rlib/$name.rlib
+        if ! [ -d "$rlib" ] || [ -e "$crates/$name/out/rlib/stamp" ] || [ -n "$(changed "$rlib" "$name")" ]; then return 1; fi
+    done
+}
+
+# library CRATE: proves and builds the crate's static library. rt lib takes no library that rt ci has made, and would prove each
+# crate below again; so after the gate this calls rattle as rt does.
+library() {
+    crate=$1
+    made=$crates/$crate/out/lib$crate.a
+    # shellcheck disable=SC2046
+    if ! on_gate "$crate"; then
+        (cd "$crates/$crate" && rt lib >&2)
+    elif ! [ -e "$made" ] || [ -n "$(changed "$made" "$crate" $(below "$crate"))" ]; then
+        mkdir -p "$crates/$crate/out"
+        set -- --antt-project "$kit/rattle/logic/antt-project.json" --logic-built "$kit/logic_built" -L "dependency=$kit/rlibs"
+        for name in $(below "$crate"); do set -- "$@" -L "dependency=$crates/$name/out/rlib"; done
+        for name in std $(sed -n "s/^$crate staticlib: //p" "$here/../crates.txt"); do
+            rlib=$crates/$name/out/rlib/$name.rlib
+            [ -d "$rlib" ] || rlib=$kit/rlibs/$name.rlib
+            set -- "$@" --extern "$name=$rlib"
+        done
+        (cd "$crates/$crate" && "$kit/bin/rattle" build --crate-name "$crate" --crate-type staticlib src/lib.rt --links "$crate=" "$@" \
+            --jobs 2 --toolchain "$kit/toolchain" --backend llvm -o "$made" >&2)
+    fi
+}
+
+# one CRATE GUARD: an object with the proved code, the guard and the system calls of the kit, of which other objects see only the
+# calls of edfvd.h. Each crate brings the library code that it uses, so two of these objects can be linked together.
+one() {
+    library "$1"
+    mkdir "$parts/$1"
+    # shellcheck disable=SC2086
+    "$CC" $strict ${CFLAGS:--O2} -fPIC -c "$here/$2" -o "$parts/$1/guard.o"
+    (cd "$parts/$1" && "$AR" x "$crates/$1/out/lib$1.a" && "$AR" x "$kit/c/liblibc_c.a")
+    "$LD" -r -o "$parts/$1.o" "$parts/$1"/*.o
+    "$OBJCOPY" --keep-global-symbols="$parts/calls" "$parts/$1.o"
+}
+sed -n 's/^\(edfvd_status \|const char \*\)\(edfvd_[a-z_]*\)(.*$/\2/p' "$here/edfvd.h" >"$parts/calls"
+one edfvd_c edfvd.c
+one edfvd_ask_c edfvd_ask.c
+rm -f "$out/libedfvd.a" "$out/libedfvd_core.a"
+"$AR" rcs "$out/libedfvd_core.a" "$parts/edfvd_c.o"
+"$AR" rcs "$out/libedfvd.a" "$parts/edfvd_c.o" "$parts/edfvd_ask_c.o"
+if [ $# -eq 1 ]; then exit; fi
+"$CC" -shared -o "$out/libedfvd.so" "$parts/edfvd_c.o" "$parts/edfvd_ask_c.o" \
+    -Wl,-z,defs,-z,now,-z,relro -Wl,-soname,libedfvd.so
+cp "$out/libedfvd.so" "$here/../python/edfvd/libedfvd.so"
+version=$(sed -n 's/^version: //p' "$here/../CITATION.cff")
+cat >"$out/edfvd.pc" <<END
+libdir=$out
+includedir=$here
+
+Name: edfvd
+Description: EDF-VD task sets tested, traces judged, and a scheduler driven event by event
+Version: $version
+Libs: -L\${libdir} -ledfvd
+Cflags: -I\${includedir}
+END
+echo "built $out/libedfvd.a, libedfvd_core.a and libedfvd.so"

@@ -1,0 +1,178 @@
+#!/usr/bin/env python3
+"""Compares what C declares with what the proved libraries export: each call, each struct and each number.
+
+No compiler sees both sides: where they differ, a call does what nobody proved. So this script reads the sources of
+crates/edfvd_c and crates/edfvd_ask_c, and edfvd.h, edfvd.c and edfvd_ask.c, and reports each difference. With the word
+`offsets` it writes C text instead, which a compiler refuses unless each struct of edfvd.h is laid out as the library's.
+
+usage: declared.py [offsets]
+"""
+
+from __future__ import annotations
+
+import re
+import sys
+from pathlib import Path
+
+HERE = Path(__file__).resolve().parent
+CRATES = [HERE.parent / "crates" / name / "src" for name in ("edfvd_c", "edfvd_ask_c")]
+
+# The structs that cross, by their names on both sides.
+STRUCTS = {
+    "GivenTask": "edfvd_task", "Tested": "edfvd_test", "Answer": "edfvd_answer", "Seen": "edfvd_look",
+    "SeenRow": "edfvd_row", "Judged": "edfvd_verdict", "UnfitRow": "edfvd_unfit", "Watching": "edfvd_watch",
+    "LateJob": "edfvd_late",
+}
+# The structs that C holds and never writes: a mark and a pointer, which edfvd.c and edfvd.h declare again.
+HANDLES = {"Scheduler": ("raw_scheduler", "edfvd_scheduler"), "MonitorHandle": ("raw_monitor", "edfvd_monitor")}
+NUMBERS = {"u8": "uint8_t", "u32": "uint32_t", "u64": "uint64_t", "usize": "size_t", "bool": "bool"}
+C_TYPES = {**NUMBERS, **STRUCTS, "Scheduler": "raw_scheduler", "MonitorHandle": "raw_monitor"}
+BYTES = {"uint32_t": 4, "uint64_t": 8}
+
+
+def passed(kind: str) -> list[str]:
+    """How C passes a parameter of this type: a slice as a pointer and a length, the allocator not at all."""
+    if kind == "Global":
+        return []
+    if found := re.fullmatch(r"&(mut )?\[(\w+)\]", kind):
+        return [f"{'' if found[1] else 'const '}{C_TYPES[found[2]]} *", "size_t"]
+    if found := re.fullmatch(r"&mut \[(\w+); \d+\]", kind):
+        return [f"{C_TYPES[found[1]]} *"]
+    if found := re.fullmatch(r"&(mut )?(\w+)", kind):
+        return [f"{'' if found[1] else 'const '}{C_TYPES[found[2]]} *"]
+    return [C_TYPES[kind]]
+
+
+def exported(text: str) -> dict[str, tuple[list[str], str]]:
+    """The exports, each with its parameters and its result as C has them."""
+    calls = {}
+    for name, parameters, result in re.findall(r'pub extern "C" fn (\w+)\((.*?)\)\s*->\s*(\w+)', text, re.S):
+        kinds = [part.split(":", 1)[1].strip() for part in re.split(r",\s*(?=\w+:|$)", parameters.strip()) if part]
+        calls[name] = ([word for kind in kinds for word in passed(kind)], C_TYPES[result])
+    return calls
+
+
+def declared(text: str) -> dict[str, tuple[list[str], str]]:
+    """The same, as the guards declare them."""
+    calls = {}
+    for result, name, parameters in re.findall(r"^extern (\w+) (edfvd_raw_\w+)\((.*?)\);", text, re.S | re.M):
+        kinds = [re.sub(r"\s*\b\w+$", "", " ".join(part.split())) for part in parameters.split(",")]
+        calls[name] = (kinds, result)
+    return calls
+
+
+def rattle_structs(text: str) -> dict[str, list[tuple[str, str]]]:
+    """The fields of each struct that crosses, with their types in C."""
+    structs = {}
+    for name, fields in re.findall(r"#\[repr\(C\)\].*?pub struct (\w+) \{(.*?)\n\}", text, re.S):
+        if name in STRUCTS:
+            pairs = re.findall(r"^\s*pub (\w+): (\w+),", fields, re.M)
+            structs[STRUCTS[name]] = [(field, NUMBERS[kind]) for field, kind in pairs]
+    return structs
+
+
+def c_structs(text: str) -> dict[str, list[tuple[str, str]]]:
+    """The fields of each struct, as edfvd.h declares them."""
+    structs = {}
+    for body, name in re.findall(r"typedef struct \w+ \{(.*?)\n\} (\w+);", text, re.S):
+        plain = re.sub(r"/\*.*?\*/", "", body, flags=re.S)
+        structs[name] = [
+            (field.strip(), kind) for kind, fields in re.findall(r"(\w+_t) ([\w, ]+);", plain) for field in fields.split(",")
+        ]
+    return structs
+
+
+def rattle_handle(text: str, name: str) -> list[tuple[str, str]]:
+    """The fields of a struct that C holds, with those of the handle in it. An allocator has no bytes."""
+    found = re.search(rf"#\[repr\(C\)\][^{{]*?pub struct {name} \{{(.*?)\n\}}", text, re.S)
+    fields = []
+    for field, kind in re.findall(r"^\s*(?:pub )?(\w+): ([*\w ]+),", found[1] if found else "", re.M):
+        if kind == "Handle":
+            fields += rattle_handle(text, kind)
+        elif kind != "Global":
+            fields.append((field, "void *" if kind == "*mut u8" else NUMBERS[kind]))
+    return fields
+
+
+def c_handle(text: str, name: str) -> list[tuple[str, str]]:
+    """The fields as C declares them: those of the struct at the beginning, if there is one."""
+    found = re.search(rf"struct {name} \{{\s*(?:struct \{{)?(.*?)\}}", text, re.S)
+    return [(field, kind) for kind, field in re.findall(r"(\w+_t|void \*)\s?(\w+);", found[1] if found else "")]
+
+
+def handle_faults(rattle: str, c_text: str) -> list[str]:
+    """The structs that C holds and that differ on the two sides."""
+    faults = []
+    for name, twins in HANDLES.items():
+        fields = rattle_handle(rattle, name)
+        faults += [f"{twin}: {fields} in Rattle, {c_handle(c_text, twin)} in C" for twin in twins
+                   if not fields or c_handle(c_text, twin) != fields]
+    return faults
+
+
+def offsets(fields: list[tuple[str, str]]) -> tuple[list[tuple[str, int, int]], int]:
+    """The place and size of each field of a struct with `repr(C)`, and the size of the struct."""
+    places, at, most = [], 0, 1
+    for field, kind in fields:
+        size = BYTES[kind]
+        at = (at + size - 1) // size * size
+        places.append((field, at, size))
+        at, most = at + size, max(most, size)
+    return places, (at + most - 1) // most * most
+
+
+def numbers(text: str) -> dict[str, dict[str, str]]:
+    """The numbers that cross, by kind and by their names in C: statuses, events and the rules that a row breaks."""
+    def shouted(name: str) -> str:
+        return re.sub(r"(?<=[a-z])(?=[A-Z])", "_", name).upper()
+
+    constants = dict(re.findall(r"^(?:pub )?const (\w+): u32 = (\d+);", text, re.M))
+    events = {"KEPT", "DROPPED", "HELD", "GIVEN", "MORE", "DONE", "STOP", "OVER", "IDLE"}
+    whys = {f"WHY_{shouted(name)}": number for name, number in re.findall(r"Why::(\w+) => (\d+),", text)}
+    return {
+        "status": {name: number for name, number in constants.items() if name not in events},
+        "event": {name: number for name, number in constants.items() if name in events},
+        "why": whys,
+    }
+
+
+def main() -> int:
+    if sys.argv[1:] not in ([], ["offsets"]):
+        print(__doc__.rsplit("\n\n", 1)[1], end="", file=sys.stderr)
+        return 2
+    rattle = "".join(path.read_text() for crate in CRATES for path in sorted(crate.glob("*.rt")))
+    guards = "".join((HERE / name).read_text() for name in ("edfvd.c", "edfvd_ask.c"))
+    header = (HERE / "edfvd.h").read_text()
+    fields = rattle_structs(rattle)
+    if sys.argv[1:] == ["offsets"]:
+        print('#include "edfvd.h"')
+        for name, pairs in fields.items():
+            places, size = offsets(pairs)
+            print(f'_Static_assert(sizeof({name}) == {size}, "{name}");')
+            for field, at, wide in places:
+                print(f'_Static_assert(offsetof({name}, {field}) == {at}, "{name}.{field}");')
+                print(f'_Static_assert(sizeof((({name} *)0)->{field}) == {wide}, "{name}.{field}");')
+        return 0
+
+    faults = []
+    ours, theirs = exported(rattle), declared(guards)
+    faults += [f"{name}: {ours.get(name)} is exported, {theirs.get(name)} declared"
+               for name in sorted(ours.keys() | theirs.keys()) if ours.get(name) != theirs.get(name)]
+    in_c = c_structs(header)
+    faults += [f"{name}: {pairs} in Rattle, {in_c.get(name)} in C" for name, pairs in fields.items() if in_c.get(name) != pairs]
+    faults += handle_faults(rattle, guards + header)
+    words = dict(re.findall(r"\bEDFVD_(\w+) = (\d+)", header))
+    known = numbers(rattle)
+    faults += [f"{kind} {name}: {number} in Rattle, {words.get(name)} in C"
+               for kind, names in known.items() for name, number in names.items() if words.get(name) != number]
+    if not ours or len(fields) != len(STRUCTS) or not all(known.values()):
+        faults.append("an export, a struct or a number was not found")
+    for fault in faults:
+        print(f"declared.py: {fault}", file=sys.stderr)
+    count = sum(len(names) for names in known.values())
+    print(f"{len(ours)} calls, {len(fields) + len(HANDLES)} structs and {count} numbers: {len(faults)} differ")
+    return 1 if faults else 0
+
+
+if __name__ == "__main__":
+    sys.exit(main())

@@ -1,0 +1,397 @@
+/*
+ * EDF-VD for C: task sets tested, traces judged, a scheduler that is driven event by event, and a monitor that judges a
+ * schedule while it happens, for C11 and C++17.
+ *
+ * Time is counted in ticks; a period, a budget and a release are numbers of ticks. A task set is an array of edfvd_task, and
+ * the n-th task of the array is task number n, from 1. A job is a task's number with a count: its task's count-th release,
+ * from 1.
+ *
+ * Each call returns a status. EDFVD_OK means that it did what its comment says. With any other status no scheduler and no
+ * monitor has changed; what is stored through the other pointers is stated at the call. Each call lists the other statuses
+ * that it may return. These are not listed, because many calls share them:
+ *
+ *     EDFVD_NULL                 a pointer is null, and the call does not say that it may be; nothing is stored
+ *     EDFVD_MOVED, EDFVD_BUSY    any call with a scheduler or monitor; nothing is stored
+ *     EDFVD_CLOSED               any call with a scheduler or monitor, except the one that opens it
+ *
+ * What you keep. Each pointer leads to as many elements as you say. Memory that a call writes does not overlap anything else
+ * that you pass to it. No call is made from a signal handler, nor in the forked child of a process with threads. A call keeps
+ * none of your pointers, except that an open edfvd_scheduler or edfvd_monitor stays where it is. Different ones may be used by
+ * different threads at once.
+ *
+ * Each call stands on a function of the proved libraries in crates/edfvd_c and crates/edfvd_ask_c. edfvd.c and edfvd_ask.c,
+ * which are not proved, stand between: they refuse null pointers, a scheduler or monitor that was copied or moved while it was
+ * open, and one that another thread is in. docs/C-AND-PYTHON.md says what is proved and what has to be trusted.
+ */
+#ifndef EDFVD_H
+#define EDFVD_H
+
+#include <stdbool.h>
+#include <stddef.h>
+#include <stdint.h>
+
+#ifdef __cplusplus
+extern "C" {
+#endif
+
+#define EDFVD_VERSION 1
+
+/* What a call returns. "The task" and "the job" are stored where the call says. */
+typedef enum edfvd_status {
+    EDFVD_OK = 0,
+    EDFVD_EMPTY = 1,         /* the set has no task */
+    EDFVD_TOO_MANY = 2,      /* the set has more than 128 tasks */
+    EDFVD_ZERO_NUMBER = 3,   /* a period or a budget of the task is 0 */
+    EDFVD_BUDGET_ORDER = 4,  /* the task's low budget is above its high one, or it is a low task with two budgets */
+    EDFVD_SAME_NAME = 5,     /* never returned: tasks have numbers here, and no names */
+    EDFVD_LEVEL = 6,         /* the task's level is neither EDFVD_LOW nor EDFVD_HIGH */
+    EDFVD_PERIODS = 7,       /* the hyperperiod of the tasks up to this one exceeds 2^60 ticks */
+    EDFVD_NOT_ADMITTED = 8,  /* the published test gives the set no rule */
+    EDFVD_MEMORY = 9,        /* malloc failed */
+    EDFVD_NO_TASK = 10,      /* the set has no task of this number */
+    EDFVD_CLOSED = 12,       /* the scheduler or monitor is closed */
+    EDFVD_OPEN = 13,         /* the scheduler or monitor is open already */
+    EDFVD_RUNNING = 20,      /* a tick of the task's job is in progress: its outcome comes first */
+    EDFVD_TOO_SOON = 21,     /* answer.at is the first tick at which the task may release again */
+    EDFVD_FULL = 22,         /* there is no room for another row, or no number for another job of the task */
+    EDFVD_TICK_OUT = 23,     /* a tick of the job is in progress: its outcome comes first */
+    EDFVD_NOT_CHOSEN = 24,   /* another job is the chosen one; task 0 if none is pending */
+    EDFVD_NOT_OUT = 25,      /* no tick of this job is in progress; the job is the one with a tick, or task 0 */
+    EDFVD_PENDING = 26,      /* the job is pending, so the tick is not idle */
+    EDFVD_NO_ROW = 27,       /* the scheduler has no row of this number yet */
+    EDFVD_NO_ROOM = 28,      /* the published test admits the set at no percentage */
+    EDFVD_NO_PROCESSOR = 29, /* the task fits on none of the processors */
+    EDFVD_GONE = 30,         /* the row is older than those that a scheduler without an end keeps */
+    EDFVD_NULL = 40,         /* a pointer is null */
+    EDFVD_MOVED = 41,        /* the scheduler or monitor was copied or moved after it was opened */
+    EDFVD_BUSY = 42,         /* another thread is in a call with this scheduler or monitor */
+    EDFVD_ARGUMENT = 43,     /* a number is outside the range that the call states */
+    EDFVD_ROOM = 44,         /* the buffer or array is too small; the length that it needs is stored */
+    EDFVD_THREADS = 45       /* the command starts threads, which a library does not: soak, live, runall */
+} edfvd_status;
+
+/* A few words for a status, such as "too soon"; those of another number say that it is unknown. The text is never null, stays
+   valid, and is not yours to free. */
+const char *edfvd_word(edfvd_status status);
+
+/*
+ * ---- Task sets ----
+ *
+ * `tasks` has `count` elements, which a call reads and does not keep; it may be null if `count` is 0. An array that is no set
+ * is refused with EDFVD_EMPTY, _TOO_MANY, _ZERO_NUMBER, _BUDGET_ORDER or _LEVEL: these five are meant where a call says "the
+ * refusals of a set". The task that one of them is about is stored, or 0.
+ */
+
+#define EDFVD_LOW 0u
+#define EDFVD_HIGH 1u
+
+typedef struct edfvd_task {
+    uint32_t level;  /* EDFVD_LOW or EDFVD_HIGH */
+    uint32_t period; /* ticks from a release to its deadline, and at least to the next release */
+    uint32_t low;    /* ticks: the budget in low mode */
+    uint32_t high;   /* ticks: the budget in high mode; a low task has its one budget here again */
+} edfvd_task;
+
+/* What the published test says of a set. Loads are fractions over lcm, and each numerator is top * 2^64 + rest. */
+typedef struct edfvd_test {
+    uint32_t rule;                          /* 0 not admitted, 1 plain EDF, 2 EDF-VD with the scale p/q */
+    uint32_t task;                          /* the task that a refusal is about, or 0 */
+    uint64_t p, q;                          /* the scale in lowest terms, under rule 2 */
+    uint64_t lcm;                           /* the hyperperiod: the least common multiple of the periods, in ticks */
+    uint64_t low_low_top, low_low;          /* U_LL: the low tasks with their low budgets */
+    uint64_t high_low_top, high_low;        /* U_HL: the high tasks with their low budgets */
+    uint64_t high_high_top, high_high;      /* U_HH: the high tasks with their high budgets */
+} edfvd_test;
+
+/*
+ * Tests a set by the published test (Baruah et al., ECRTS 2012). A set that is not admitted is EDFVD_OK with rule 0. With any
+ * other status `test` holds zeros and the task.
+ *
+ * Statuses: the refusals of a set, EDFVD_PERIODS, EDFVD_MEMORY.
+ */
+edfvd_status edfvd_check(const edfvd_task *tasks, size_t count, edfvd_test *test);
+
+/*
+ * Stores the greatest percentage, up to 1000, at which the test admits the set if the high budgets of the high tasks are taken
+ * at that percentage, rounded down to whole ticks but at least their low budgets. With any other status than EDFVD_OK
+ * `percent` gets 0. `task` gets the task of a refusal, or 0, and may be null.
+ *
+ * Statuses: EDFVD_NO_ROOM if there is no such percentage, the refusals of a set, EDFVD_PERIODS, EDFVD_MEMORY.
+ */
+edfvd_status edfvd_stretch(const edfvd_task *tasks, size_t count, uint32_t *percent, uint32_t *task);
+
+/*
+ * Puts the tasks on processors 1 to `processors`, which is 1 to 16, by first fit with the published test, and stores the
+ * processor of each task in order: `on` has `count` elements, and is written only with EDFVD_OK. `task` gets the task of a
+ * refusal, or 0, and may be null.
+ *
+ * Statuses: EDFVD_NO_PROCESSOR if a task fits nowhere, with the first such task; EDFVD_ARGUMENT, the refusals of a set,
+ * EDFVD_MEMORY.
+ */
+edfvd_status edfvd_partition(const edfvd_task *tasks, size_t count, uint32_t processors, uint32_t *on, uint32_t *task);
+
+/*
+ * Of `sets` random sets of `tasks` tasks, those generated from `number`, number + 1 and so on, counts how many have a stretch
+ * of at least 100 percent (counts[0]), 110 percent (counts[1]) and so on to 200 percent (counts[10]). `sets` is 1 to 10000,
+ * `tasks` 2 to 32, and number + sets is below 2^64. `counts` is written only with EDFVD_OK. The call takes no memory.
+ *
+ * Status: EDFVD_ARGUMENT.
+ */
+edfvd_status edfvd_accept(uint64_t number, uint32_t sets, uint32_t tasks, uint32_t counts[11]);
+
+/* ---- A scheduler ---- */
+
+/*
+ * A scheduler, open or closed. Begin with EDFVD_NONE, or all bytes 0, which is a closed one. While it is open it must not be
+ * copied, moved or written by you; edfvd_close ends that.
+ */
+typedef struct edfvd_scheduler {
+    struct {
+        uint64_t mark;
+        void *at;
+    } held;
+    const void *self;
+    uint32_t busy;
+} edfvd_scheduler;
+
+#define EDFVD_NONE {{0, NULL}, NULL, 0}
+
+/* What came of an event, and what a row records. */
+typedef enum edfvd_event {
+    EDFVD_KEPT = 1,    /* a release: the job is pending */
+    EDFVD_DROPPED = 2, /* a release in high mode of a low task: the job never runs */
+    EDFVD_HELD = 3,    /* a release while a tick is in progress: it is kept or dropped at that tick's outcome */
+    EDFVD_GIVEN = 4,   /* tick `at` is granted to the job, which has had `before` ticks */
+    EDFVD_MORE = 5,    /* the job ran for the tick, and has more to do */
+    EDFVD_DONE = 6,    /* the job is done */
+    EDFVD_STOP = 7,    /* the job has used its own budget, and is stopped */
+    EDFVD_OVER = 8,    /* the job passed its low budget: the mode is high from now on, and pending low jobs are discarded */
+    EDFVD_IDLE = 9     /* an idle tick: the mode is low from now on */
+} edfvd_event;
+
+typedef struct edfvd_answer {
+    uint32_t what;   /* an edfvd_event; 0 after a refusal */
+    uint32_t task;   /* the job's task, or 0 */
+    uint32_t count;  /* which of its task's releases the job is, from 1 */
+    uint32_t before; /* EDFVD_GIVEN: how many ticks the job has had */
+    uint64_t at;     /* the tick, from 0, of a release, a grant or an idle tick; see also EDFVD_TOO_SOON */
+} edfvd_answer;
+
+typedef struct edfvd_look {
+    uint64_t ticks;                     /* how many ticks have ended */
+    uint64_t rows;                      /* how many rows there have been */
+    uint32_t high_mode;                 /* 1 in high mode, otherwise 0 */
+    uint32_t out_task, out_count;       /* the job whose tick is in progress; 0 if there is none */
+    uint32_t chosen_task, chosen_count; /* the pending job that comes first, which the next grant must name; 0 if there is none */
+} edfvd_look;
+
+typedef struct edfvd_row {
+    uint32_t event; /* EDFVD_KEPT, EDFVD_DROPPED, or EDFVD_MORE to EDFVD_IDLE */
+    uint32_t task;  /* 0 in an idle row */
+    uint32_t count; /* 0 in an idle row */
+} edfvd_row;
+
+/*
+ * Opens a scheduler of the set under the rule that the published test gives it. It keeps all its rows. A place is used by each
+ * row, each held release and the tick in progress; after `places` of them events are EDFVD_FULL. All memory is taken here,
+ * some 16 bytes a place, and no event takes more. `task` gets the task of a refusal, or 0, and may be null.
+ *
+ * Statuses: EDFVD_OPEN, the refusals of a set, EDFVD_PERIODS, EDFVD_NOT_ADMITTED, EDFVD_MEMORY.
+ */
+edfvd_status edfvd_open(edfvd_scheduler *s, const edfvd_task *tasks, size_t count, uint32_t places, uint32_t *task);
+
+/*
+ * Opens a scheduler without an end: as edfvd_open, but it keeps the latest 256 rows alone, and its memory depends on the
+ * number of tasks alone. An event makes at most one row more than there are tasks, so that is at most 129: if you read the
+ * rows after each event, from the `rows` of the edfvd_peek before it on, you get them all. Every other call with it is that
+ * of a plain scheduler. Events are EDFVD_FULL after 2^62 rows.
+ *
+ * Statuses: those of edfvd_open.
+ */
+edfvd_status edfvd_open_endless(edfvd_scheduler *s, const edfvd_task *tasks, size_t count, uint32_t *task);
+
+/* Closes the scheduler and frees its memory. It may be opened again. No further statuses. */
+edfvd_status edfvd_close(edfvd_scheduler *s);
+
+/*
+ * The four events. `answer` gets what came of the event, or after a refusal the numbers that its comment names and otherwise
+ * zeros; it may be null. No event takes memory.
+ */
+
+/*
+ * Releases the task's next job, at the tick that begins next: EDFVD_KEPT, EDFVD_DROPPED or EDFVD_HELD. A task has at most
+ * 2^32 - 1 releases.
+ *
+ * Statuses: EDFVD_NO_TASK; EDFVD_RUNNING, with the job; EDFVD_TOO_SOON, with `at`; EDFVD_FULL.
+ */
+edfvd_status edfvd_release(edfvd_scheduler *s, uint32_t task, edfvd_answer *answer);
+
+/*
+ * Grants the next tick to the task, whose job must be the chosen one: EDFVD_GIVEN. Its outcome comes next.
+ *
+ * Statuses: EDFVD_NO_TASK; EDFVD_TICK_OUT, with the job that has the tick; EDFVD_NOT_CHOSEN, with the chosen job; EDFVD_FULL.
+ */
+edfvd_status edfvd_grant(edfvd_scheduler *s, uint32_t task, edfvd_answer *answer);
+
+/*
+ * Reports how the tick in progress ended for its job, which is done or not: EDFVD_MORE, _DONE, _STOP or _OVER. `task` and
+ * `count` are those of the grant's answer.
+ *
+ * Status: EDFVD_NOT_OUT, with the job that has the tick.
+ */
+edfvd_status edfvd_outcome(edfvd_scheduler *s, uint32_t task, uint32_t count, bool done, edfvd_answer *answer);
+
+/*
+ * Reports that the next tick is idle, which it may be only if no job is pending: EDFVD_IDLE.
+ *
+ * Statuses: EDFVD_TICK_OUT, with the job that has the tick; EDFVD_PENDING, with the chosen job; EDFVD_FULL.
+ */
+edfvd_status edfvd_idle(edfvd_scheduler *s, edfvd_answer *answer);
+
+/* Stores the scheduler's clock, mode and jobs; after a refusal zeros. No further statuses. */
+edfvd_status edfvd_peek(edfvd_scheduler *s, edfvd_look *look);
+
+/*
+ * Stores row number `number`, from 0: the oldest row is the first. After a refusal the row is zeros.
+ *
+ * Statuses: EDFVD_NO_ROW; EDFVD_GONE, of a scheduler without an end alone.
+ */
+edfvd_status edfvd_row_at(edfvd_scheduler *s, uint64_t number, edfvd_row *row);
+
+/* ---- The judge ---- */
+
+/* Which rule a row breaks. */
+typedef enum edfvd_why {
+    EDFVD_FITS = 0,
+    EDFVD_WHY_TOO_SOON = 1,     /* a release before its period has passed */
+    EDFVD_WHY_WRONG_COUNT = 2,  /* a release with another count than the next */
+    EDFVD_WHY_WRONG_KEPT = 3,   /* a release kept that must be dropped, or the other way round */
+    EDFVD_WHY_NOT_PENDING = 4,  /* a tick of a job that is not pending */
+    EDFVD_WHY_NOT_LEAST = 5,    /* a tick of a job although another comes first */
+    EDFVD_WHY_WRONG_HOW = 6,    /* a tick that ends otherwise than the budgets say */
+    EDFVD_WHY_IDLE_PENDING = 7  /* an idle tick although a job is pending */
+} edfvd_why;
+
+typedef struct edfvd_verdict {
+    uint32_t why;         /* EDFVD_FITS if the trace is legal; otherwise what the first row that does not fit breaks */
+    uint32_t task, count; /* of a legal trace: the late job that was released first, or 0; otherwise 0, or a refusal's task */
+    uint64_t late;        /* of a legal trace: how many jobs are late */
+    uint64_t place;       /* the number of the row that does not fit, from 1; 0 in a legal trace */
+} edfvd_verdict;
+
+/*
+ * Judges `length` rows, the oldest first, at most 2000000; `rows` may be null if that is 0. If p is 0, the rule is that of the
+ * published test, which must admit the set; otherwise it is EDF-VD with the scale p/q, 1 <= p <= q <= 2^60, whether or not the
+ * test holds with it. With any other status than EDFVD_OK `verdict` holds zeros and the task of a refusal.
+ *
+ * Statuses: EDFVD_ARGUMENT for another scale, or a row that is none of edfvd_row's kinds; EDFVD_FULL for more rows;
+ * EDFVD_NO_TASK for a row of a task that the set does not have; the refusals of a set, EDFVD_MEMORY; if p is 0,
+ * EDFVD_PERIODS and EDFVD_NOT_ADMITTED.
+ */
+edfvd_status edfvd_judge(const edfvd_task *tasks, size_t count, const edfvd_row *rows, size_t length, uint64_t p, uint64_t q,
+                         edfvd_verdict *verdict);
+
+/* ---- A monitor ---- */
+
+/*
+ * A monitor judges a schedule while it happens. It is open or closed: begin with EDFVD_NONE, or all bytes 0, which is a closed
+ * one. While it is open it must not be copied, moved or written by you; edfvd_monitor_close ends that.
+ */
+typedef struct edfvd_monitor {
+    struct {
+        uint64_t mark;
+        void *at;
+    } held;
+    const void *self;
+    uint32_t busy;
+} edfvd_monitor;
+
+/* The first row so far that does not fit. */
+typedef struct edfvd_unfit {
+    uint32_t why;   /* an edfvd_why: which rule the row breaks; EDFVD_FITS if each row so far fits */
+    uint64_t place; /* the number of the row, from 1, or 0 */
+} edfvd_unfit;
+
+/* What a monitor has seen. After a row that does not fit, ticks, pending and high_mode mean nothing. */
+typedef struct edfvd_watch {
+    uint64_t rows;      /* how many rows have fitted */
+    uint64_t ticks;     /* how many ticks have ended */
+    uint64_t pending;   /* how many jobs are pending */
+    uint32_t legal;     /* 1 if each row has fitted, otherwise 0 */
+    uint32_t high_mode; /* 1 in high mode, otherwise 0 */
+} edfvd_watch;
+
+/* A job that is late, and its deadline, as the number of ticks before it. */
+typedef struct edfvd_late {
+    uint32_t task, count;
+    uint64_t deadline;
+} edfvd_late;
+
+/*
+ * Opens a monitor of the set, under the rule that edfvd_judge takes for p and q. `task` gets the task of a refusal, or 0, and
+ * may be null.
+ *
+ * Statuses: EDFVD_OPEN, EDFVD_ARGUMENT for another scale, the refusals of a set, EDFVD_MEMORY; if p is 0, EDFVD_PERIODS and
+ * EDFVD_NOT_ADMITTED.
+ */
+edfvd_status edfvd_monitor_open(edfvd_monitor *m, const edfvd_task *tasks, size_t count, uint64_t p, uint64_t q,
+                                uint32_t *task);
+
+/* Closes the monitor and frees its memory. It may be opened again. No further statuses. */
+edfvd_status edfvd_monitor_close(edfvd_monitor *m);
+
+/*
+ * Takes the next rows of the schedule: `times` rows that are all `row`. `times` is 1, except that a tick with EDFVD_MORE or
+ * EDFVD_IDLE may come many times. `unfit`, which may be null, gets the first row so far that does not fit, and zeros after a
+ * refusal. The monitor keeps no rows: its memory grows with the number of pending jobs alone.
+ *
+ * Statuses: EDFVD_ARGUMENT for a row that is none of edfvd_row's kinds, or another `times`; EDFVD_NO_TASK for a task that the
+ * set does not have; EDFVD_FULL for more than 2^62 rows; EDFVD_MEMORY.
+ */
+edfvd_status edfvd_monitor_observe(edfvd_monitor *m, const edfvd_row *row, uint32_t times, edfvd_unfit *unfit);
+
+/*
+ * Stores in `unfit` what edfvd_monitor_observe would store for these rows, and the monitor does not take them: a dispatcher can
+ * ask before it acts. It takes no memory.
+ *
+ * Statuses: those of edfvd_monitor_observe, except EDFVD_MEMORY.
+ */
+edfvd_status edfvd_monitor_would_fit(edfvd_monitor *m, const edfvd_row *row, uint32_t times, edfvd_unfit *unfit);
+
+/*
+ * Stores the pending jobs whose deadlines came after `since` ticks, in the order of their deadlines, and their number in
+ * `count`. After one observed row or run, with the ticks before it, these are the jobs that became late by it. `jobs` has
+ * `room` elements, and may be null if that is 0. Nothing is said after a row that does not fit.
+ *
+ * Statuses: EDFVD_ROOM if there are more jobs than `room`, with their number alone: ask again with a longer array;
+ * EDFVD_MEMORY.
+ */
+edfvd_status edfvd_monitor_late(edfvd_monitor *m, uint64_t since, edfvd_late *jobs, size_t room, uint64_t *count);
+
+/* Stores the verdict on all rows so far, as edfvd_judge finds it. No further statuses. */
+edfvd_status edfvd_monitor_verdict(edfvd_monitor *m, edfvd_verdict *verdict);
+
+/* Stores the monitor's clock, mode and counts. No further statuses. */
+edfvd_status edfvd_monitor_peek(edfvd_monitor *m, edfvd_watch *watch);
+
+/* ---- Any command (not in libedfvd_core.a) ---- */
+
+/*
+ * Asks what the words ask of the program, such as {"judge", "1", "2"}, over the bytes of two files in memory, which the words
+ * name "1" and "2"; any other name is an empty file. Words end with a 0 byte, and more than five words are no command (exit
+ * status 2). The reply's text is stored in `out`, which has `room` bytes, without a 0 byte at its end; its length in bytes in
+ * `length`, and the status that the program would exit with in `exit_status`; so a refused task file is EDFVD_OK with exit
+ * status 3. `run` and `accept` work on this thread, with the program's reply. The call needs some 100 KB of stack. `words`,
+ * `first`, `second` and `out` may be null if their lengths are 0.
+ *
+ * Statuses: EDFVD_ROOM if `out` is too small, with the length alone: ask again with a longer buffer; EDFVD_ARGUMENT for a word
+ * that is not UTF-8; EDFVD_THREADS for soak, live and runall; EDFVD_MEMORY.
+ */
+edfvd_status edfvd_ask(size_t count, const char *const *words, const void *first, size_t first_length, const void *second,
+                       size_t second_length, void *out, size_t room, size_t *length, uint32_t *exit_status);
+
+#ifdef __cplusplus
+}
+#endif
+
+#endif

@@ -1,0 +1,128 @@
+/* Each allocation of each call fails in turn: the call returns EDFVD_MEMORY or does without that memory, and leaves nothing
+   allocated. Link with -Wl,--wrap=malloc,--wrap=realloc,--wrap=free. */
+#include "edfvd.h"
+#include <stdio.h>
+#include <string.h>
+
+void *__real_malloc(size_t size);
+void *__real_realloc(void *at, size_t size);
+void __real_free(void *at);
+void *__wrap_malloc(size_t size);
+void *__wrap_realloc(void *at, size_t size);
+void __wrap_free(void *at);
+
+static long left = -1, live;
+
+static bool fails(void) { return left >= 0 && left-- == 0; }
+
+void *__wrap_malloc(size_t size) {
+    void *at = fails() ? NULL : __real_malloc(size);
+    live += at != NULL;
+    return at;
+}
+
+void *__wrap_realloc(void *at, size_t size) { return fails() ? NULL : __real_realloc(at, size); }
+
+void __wrap_free(void *at) {
+    live -= at != NULL;
+    __real_free(at);
+}
+
+static const edfvd_task tasks[] = {{EDFVD_HIGH, 10, 2, 6}, {EDFVD_LOW, 10, 5, 5}};
+static const char file[] = "task = [{name='ctl', level='high', period=10, low=2, high=6}, {name='log', level='low', period=10, low=5}]";
+static const char work[] = "task,release,need\nctl,0,6\nlog,0,3\nctl,10,6\n";
+static const char trace[] = "event,tick,task,job,how\nrelease,0,ctl,1,kept\ntick,0,ctl,1,done\n";
+
+static const char demands[] = "task,period,deadline,budget\na,4,2,1\nb,6,3,2\n";
+
+static edfvd_status try_check(void) {
+    edfvd_test test;
+    return edfvd_check(tasks, 2, &test);
+}
+
+static edfvd_status try_stretch(void) {
+    uint32_t percent;
+    return edfvd_stretch(tasks, 2, &percent, NULL);
+}
+
+static edfvd_status try_partition(void) {
+    uint32_t on[2];
+    return edfvd_partition(tasks, 2, 2, on, NULL);
+}
+
+static edfvd_status try_open(void) {
+    edfvd_scheduler s = EDFVD_NONE;
+    edfvd_status status = edfvd_open(&s, tasks, 2, 100, NULL);
+    return status == EDFVD_OK ? edfvd_close(&s) : status;
+}
+
+static edfvd_status try_open_endless(void) {
+    edfvd_scheduler s = EDFVD_NONE;
+    edfvd_status status = edfvd_open_endless(&s, tasks, 2, NULL);
+    if (status != EDFVD_OK) return status;
+    long before = left;
+    left = 0; /* and less than 0 once an allocation was tried, which no event does */
+    for (int tick = 0; tick < 1000 && status == EDFVD_OK; tick++) status = edfvd_idle(&s, NULL);
+    bool tried = left != 0;
+    left = before;
+    edfvd_status closed = edfvd_close(&s);
+    return tried ? EDFVD_FULL : status == EDFVD_OK ? closed : status;
+}
+
+static edfvd_status try_judge(void) {
+    static const edfvd_row rows[] = {{EDFVD_KEPT, 1, 1}, {EDFVD_DONE, 1, 1}, {EDFVD_IDLE, 0, 0}};
+    edfvd_verdict verdict;
+    return edfvd_judge(tasks, 2, rows, 3, 0, 0, &verdict);
+}
+
+static edfvd_status try_monitor(void) {
+    static const edfvd_row rows[] = {{EDFVD_KEPT, 1, 1}, {EDFVD_KEPT, 2, 1}, {EDFVD_DONE, 1, 1}};
+    edfvd_monitor m = EDFVD_NONE;
+    edfvd_status status = edfvd_monitor_open(&m, tasks, 2, 0, 0, NULL);
+    if (status != EDFVD_OK) return status;
+    for (size_t place = 0; place < 3 && status == EDFVD_OK; place++)
+        status = edfvd_monitor_observe(&m, &rows[place], 1, NULL);
+    edfvd_status closed = edfvd_monitor_close(&m);
+    return status == EDFVD_OK ? closed : status;
+}
+
+static edfvd_status ask(size_t count, const char *const *words, const char *second) {
+    static char out[4096];
+    size_t length;
+    uint32_t ended;
+    return edfvd_ask(count, words, file, strlen(file), second, strlen(second), out, sizeof out, &length, &ended);
+}
+
+static edfvd_status ask_check(void) { return ask(2, (const char *const[]){"check", "1"}, ""); }
+static edfvd_status ask_run(void) { return ask(4, (const char *const[]){"run", "1", "2", "20"}, work); }
+static edfvd_status ask_report(void) { return ask(3, (const char *const[]){"report", "1", "2"}, trace); }
+static edfvd_status ask_partition(void) { return ask(3, (const char *const[]){"partition", "1", "2"}, ""); }
+static edfvd_status ask_demand(void) { return ask(2, (const char *const[]){"demand", "2"}, demands); }
+static edfvd_status ask_accept(void) { return ask(4, (const char *const[]){"accept", "1", "20", "4"}, ""); }
+
+int main(void) {
+    static const struct {
+        const char *name;
+        edfvd_status (*call)(void);
+    } calls[] = {{"check", try_check},          {"stretch", try_stretch},           {"partition", try_partition},
+                 {"open", try_open},            {"open_endless", try_open_endless}, {"judge", try_judge},
+                 {"monitor", try_monitor},      {"ask check", ask_check},           {"ask run", ask_run},
+                 {"ask report", ask_report},    {"ask partition", ask_partition},   {"ask demand", ask_demand},
+                 {"ask accept", ask_accept}};
+    for (size_t place = 0; place < sizeof calls / sizeof *calls; place++) {
+        long failed = 0;
+        for (;; failed++) {
+            left = failed;
+            long before = live;
+            edfvd_status status = calls[place].call();
+            if (live != before) return printf("%s: a leak at allocation %ld\n", calls[place].name, failed), 1;
+            if (left >= 0) break; /* the call made fewer allocations than that */
+            /* A vector that gets no memory for more than it needs asks again for less, so a call may still succeed. */
+            if (status != EDFVD_OK && status != EDFVD_MEMORY)
+                return printf("%s: %s at allocation %ld\n", calls[place].name, edfvd_word(status), failed), 1;
+        }
+        if (failed == 0) return printf("%s: no allocation was seen\n", calls[place].name), 1;
+        printf("%s: each allocation failed in turn\n", calls[place].name);
+    }
+    return 0;
+}

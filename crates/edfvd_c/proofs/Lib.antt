@@ -1,0 +1,3 @@
+pub mod AsBox
+pub mod HeldRows
+pub mod Lookups

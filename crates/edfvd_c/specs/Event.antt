@@ -1,0 +1,118 @@
+-- What an event through a call returns: a status, and what came of it.
+use Rattle.std.specs.Prelude.{ℕ, Option, Some, None, Result, Ok, Err, Bool, nat_le, ◌&&◌}
+use Rattle.std.specs.Prelude.{if◌then◌else◌, length}
+use Rattle.mc_task.specs.declared.task.JobId.{JobId}
+use Rattle.mc_model.specs.declared.row.How.{How}
+use Rattle.mc_model.specs.declared.row.How.TheVariants as how
+use Rattle.mc_model.specs.Core.{State}
+use Rattle.mode_core.specs.declared.answers.Released.{Released}
+use Rattle.mode_core.specs.declared.answers.Released.TheVariants as released
+use Rattle.mode_core.specs.declared.answers.Granted.{Granted}
+use Rattle.mode_core.specs.declared.answers.NotOut.{NotOut}
+use Rattle.mode_core.specs.declared.answers.ReleaseFault.{ReleaseFault}
+use Rattle.mode_core.specs.declared.answers.ReleaseFault.TheVariants as release_fault
+use Rattle.mode_core.specs.declared.answers.GrantFault.{GrantFault}
+use Rattle.mode_core.specs.declared.answers.GrantFault.TheVariants as grant_fault
+use Rattle.mode_core.specs.declared.answers.IdleFault.{IdleFault}
+use Rattle.mode_core.specs.declared.answers.IdleFault.TheVariants as idle_fault
+use Rattle.mode_core.specs.Events.{release_answer, grant_answer, outcome_answer, idle_answer}
+use Rattle.mode_core.specs.Events.{after_release, after_grant, after_outcome}
+use Rattle.edfvd_c.specs.declared.event.Answer.{Answer}
+
+-- a status with an answer
+abbrev pub Returned : Type 0
+Returned = ℕ × Answer
+
+-- the job, and what came of it at a tick
+abbrev pub of_job : ℕ → JobId → ℕ → ℕ → Answer
+of_job what j before at = record { what = what; task = j.task.0; count = j.count; before = before; at = at }
+
+-- nothing but a tick
+abbrev pub at_tick : ℕ → ℕ → Answer
+at_tick what at = record { what = what; task = 0; count = 0; before = 0; at = at }
+
+-- no job, and no tick
+abbrev pub nothing : Answer
+nothing = at_tick 0 0
+
+-- the job, if there is one
+abbrev pub of_some : Option JobId → Answer
+of_some None = nothing
+of_some (Some j) = of_job 0 j 0 0
+
+-- what came of a release: 1 kept, 2 dropped, 3 held
+abbrev pub of_released : Released → Answer
+of_released (released.Kept j at) = of_job 1 j 0 at
+of_released (released.Dropped j at) = of_job 2 j 0 at
+of_released (released.Held j at) = of_job 3 j 0 at
+
+-- a release: status 0; or 20 while a tick of the job is in progress, 21 with the first tick that is not too
+-- soon, 22 if no place is left
+abbrev pub returned_release : Result Released ReleaseFault → Returned
+returned_release (Ok r) = (0, of_released r)
+returned_release (Err (release_fault.Running j)) = (20, of_job 0 j 0 0)
+returned_release (Err (release_fault.TooSoon next)) = (21, at_tick 0 next)
+returned_release (Err release_fault.Full) = (22, nothing)
+
+-- a grant: status 0 with the ticks that the job has had; or 23 while a tick is in progress, 24 with the
+-- chosen job, 22 if no place is left
+abbrev pub returned_grant : Result Granted GrantFault → Returned
+returned_grant (Ok g) = (0, of_job 4 g.job g.before g.at)
+returned_grant (Err (grant_fault.TickOut j)) = (23, of_job 0 j 0 0)
+returned_grant (Err (grant_fault.NotChosen chosen)) = (24, of_some chosen)
+returned_grant (Err grant_fault.Full) = (22, nothing)
+
+-- how a tick ended: 5 more, 6 done, 7 stopped, 8 over the low budget
+abbrev pub how_number : How → ℕ
+how_number how.More = 5
+how_number how.Done = 6
+how_number how.Stop = 7
+how_number how.Over = 8
+
+-- an outcome: status 0; or 25 with the job that has the tick in progress
+abbrev pub returned_outcome : JobId → Result How NotOut → Returned
+returned_outcome j (Ok h) = (0, of_job (how_number h) j 0 0)
+returned_outcome j (Err e) = (25, of_some e.out)
+
+-- an idle tick: status 0; or 23 while a tick is in progress, 26 with a pending job, 22 if no place is left
+abbrev pub returned_idle : Result ℕ IdleFault → Returned
+returned_idle (Ok at) = (0, at_tick 9 at)
+returned_idle (Err (idle_fault.TickOut j)) = (23, of_job 0 j 0 0)
+returned_idle (Err (idle_fault.Pending j)) = (26, of_job 0 j 0 0)
+returned_idle (Err idle_fault.Full) = (22, nothing)
+
+-- a task of this number is in the set
+abbrev pub is_in : State → ℕ → Bool
+is_in s k = nat_le 1 k && nat_le k (length s.set)
+
+-- what a release by this number returns: status 10 if no task has it
+abbrev pub release_returns : State → ℕ → Returned
+release_returns s k = if is_in s k then returned_release (release_answer s k) else (10, nothing)
+
+-- the state after a release by this number
+abbrev pub release_after : State → ℕ → State
+release_after s k = if is_in s k then after_release s k else s
+
+-- what a grant by this number returns: status 10 if no task has it
+abbrev pub grant_returns : State → ℕ → Returned
+grant_returns s k = if is_in s k then returned_grant (grant_answer s k) else (10, nothing)
+
+-- the state after a grant by this number
+abbrev pub grant_after : State → ℕ → State
+grant_after s k = if is_in s k then after_grant s k else s
+
+-- the job of this task with this count
+abbrev pub job_of : ℕ → ℕ → JobId
+job_of k n = record { task = record { 0 = k }; count = n }
+
+-- what an outcome returns for the job with these numbers
+abbrev pub outcome_returns : State → ℕ → ℕ → Bool → Returned
+outcome_returns s k n done = returned_outcome (job_of k n) (outcome_answer s (job_of k n) done)
+
+-- the state after an outcome for the job with these numbers
+abbrev pub outcome_after : State → ℕ → ℕ → Bool → State
+outcome_after s k n done = after_outcome s (job_of k n) done
+
+-- what an idle tick returns
+abbrev pub idle_returns : State → Returned
+idle_returns s = returned_idle (idle_answer s)

@@ -1,0 +1,83 @@
+-- What a handle owns: the scheduler or the monitor behind its pointer, if it holds one. And what an event does
+-- to the scheduler that a handle holds.
+use Rattle.std.specs.Prelude.{◌≡◌, ◌≢◌, ℕ, Bool, true, false, List, Option, Some, None, IsSome, MatchOption}
+use Rattle.std.specs.Coded.{Coded, coded_option}
+use base.Fml.{Fml, ftrue}
+use denote.RawPtr.{Ptr}
+use Rattle.std.specs.Box.Ownership.{box_owns}
+use Rattle.std.specs.Global.{Global}
+use Rattle.std_heap.specs.contracts.GlobalAllocator.TheImpl.{ghosts}
+use Rattle.edfvd_c.specs.contracts.held.Held.{the_row}
+use Rattle.edfvd_c.specs.declared.held.Held.{Held}
+use Rattle.edfvd_c.specs.declared.held.Held.TheVariants as held
+use Rattle.mc_model.specs.Core.{State}
+use Rattle.trace_judge.specs.Watched.{Watched}
+use Rattle.edfvd_c.specs.declared.event.Answer.{Answer}
+use Rattle.mc_task.specs.declared.task.Task.{Task}
+use Rattle.mc_task.specs.declared.task.Rule.{Rule}
+use Rattle.mc_model.specs.Test.{published}
+use Rattle.mode_core.specs.Events.{empty_state}
+use Rattle.edfvd_c.specs.declared.given.GivenTask.{GivenTask}
+use Rattle.edfvd_c.specs.Given.{AreOf}
+use Rattle.edfvd_c.specs.Event.{Returned, nothing}
+use Rattle.edfvd_c.specs.Latest.{latest_from}
+
+-- what a handle owns: nothing, or the block behind its pointer with what it holds
+abbrev pub handle_owns : Global → Ptr → Option Held → Fml
+handle_owns alloc at None = ftrue
+handle_owns alloc at (Some x) = box_owns (ghosts.dealloc_token alloc) the_row at x
+
+-- how what a handle holds is stored in proofs
+abbrev pub held_coded : Coded (Option Held)
+held_coded = coded_option the_row.coded
+
+-- the scheduler that is held, if it is one
+abbrev pub core_of : Option Held → Option State
+core_of (Some (held.Core s)) = Some s
+core_of (Some (held.Endless s)) = Some s
+core_of other = None
+
+-- whether a scheduler without an end is held
+abbrev pub is_endless : Option Held → Bool
+is_endless (Some (held.Endless s)) = true
+is_endless other = false
+
+-- the number of the oldest row that is kept: a scheduler without an end keeps its latest 256 rows, and any other keeps each
+abbrev pub kept_from : Option Held → ℕ
+kept_from (Some (held.Endless s)) = latest_from s.rows
+kept_from other = 0
+
+-- the monitor that is held, if it is one
+abbrev pub monitor_of : Option Held → Option Watched
+monitor_of (Some (held.Monitor w)) = Some w
+monitor_of other = None
+
+-- the number that an open scheduler bears
+abbrev pub open_mark : ℕ
+open_mark = 7306077154177934129
+
+-- the number that an open monitor bears
+abbrev pub monitor_mark : ℕ
+monitor_mark = 7306077154177936689
+
+-- with this mark a scheduler is held, and with any other nothing
+abbrev pub IsMarked : ℕ → Option Held → Type 0
+IsMarked mark h = (mark ≡ open_mark → IsSome (core_of h)) × (mark ≢ open_mark → h ≡ None)
+
+-- with this mark a monitor is held, and with any other nothing
+abbrev pub IsMonitorMarked : ℕ → Option Held → Type 0
+IsMonitorMarked mark h = (mark ≡ monitor_mark → IsSome (monitor_of h)) × (mark ≢ monitor_mark → h ≡ None)
+
+-- an event through a handle: with a closed one the status is 12 and it stays closed; with an open one its state
+-- says what is returned, and which state it has after
+abbrev pub Does : Option State → Option State → ℕ → Answer → (State → Returned) → (State → State) → Type 0
+Does old new status answer returns after =
+    MatchOption old ((new ≡ None) × (status ≡ 12) × (answer ≡ nothing))
+    (λ s. (new ≡ Some (after s)) × (status ≡ (returns s).0) × (answer ≡ (returns s).1))
+
+-- an opened scheduler: the tasks have the given numbers, the rule is that of the published test, and it has no
+-- rows
+abbrev pub IsOpening : List GivenTask → ℕ → Option State → Type 0
+IsOpening given places core =
+    (tasks : List Task) × (rule : Rule) × AreOf given tasks × (published tasks ≡ Some rule)
+    × (core ≡ Some (empty_state tasks rule places))

@@ -1,0 +1,11 @@
+pub mod Given
+pub mod Tested
+pub mod Room
+pub mod Parted
+pub mod Event
+pub mod Seen
+pub mod Latest
+pub mod Slots
+pub mod Handle
+pub mod Judged
+pub mod Monitor

@@ -1,0 +1,123 @@
+-- What a monitor in C is, and what is observed through it. The newest row stands first.
+use Rattle.std.specs.Prelude.{◌≡◌, ◌≢◌, ◌<◌, ◌+◌, ◌^◌, ◌⊎◌, ⊤, ℕ, ◌==◌, true, List, [], ◌++◌, length, take, map, cond, if◌then◌else◌, Option, Some, None, option_and_then, MatchOption, IfSome}
+use Rattle.mc_model.specs.declared.row.Row.{Row}
+use Rattle.mc_model.specs.declared.row.Row.TheVariants.{Release, Tick, Idle}
+use Rattle.mc_model.specs.declared.run.Run.{Run}
+use Rattle.mc_model.specs.declared.run.Run.TheVariants as run
+use Rattle.mc_model.specs.Mode.{high_mode}
+use Rattle.mc_model.specs.Pending.{pending}
+use Rattle.mc_model.specs.Rows.{ticks}
+use Rattle.mc_model.specs.Runs.{size, rows_of, IsRun, IsRunOfSet}
+use Rattle.mc_model.specs.Verdict.{verdict}
+use Rattle.trace_judge.specs.declared.unfit.Unfit.{Unfit}
+use Rattle.trace_judge.specs.declared.turned.Turned.{Turned}
+use Rattle.trace_judge.specs.Turned.{AreTurned, IsInOrder, AddLate}
+use Rattle.trace_judge.specs.Watched.{Watched, Watches, unfit_in, seen, fits_so_far}
+use Rattle.edfvd_c.specs.declared.given.GivenTask.{GivenTask}
+use Rattle.edfvd_c.specs.declared.judged.Judged.{Judged}
+use Rattle.edfvd_c.specs.declared.seen.SeenRow.{SeenRow}
+use Rattle.edfvd_c.specs.declared.monitor.UnfitRow.{UnfitRow}
+use Rattle.edfvd_c.specs.declared.monitor.Watching.{Watching}
+use Rattle.edfvd_c.specs.declared.monitor.LateJob.{LateJob}
+use Rattle.edfvd_c.specs.Given.{AreOf}
+use Rattle.edfvd_c.specs.Seen.{row_in}
+use Rattle.edfvd_c.specs.Judged.{judged, why_number, IsRule}
+
+-- an opened monitor: its tasks have the given numbers, the rule is as for the judge, and it has seen no row
+abbrev pub IsMonitorOpening : List GivenTask → ℕ → ℕ → Option Watched → Type 0
+IsMonitorOpening given p q m = MatchOption m ⊥
+    (λ w. AreOf given w.set.tasks × IsRule p q w.set.tasks w.rule × Watches [] w)
+
+-- this many of the row as a run; a release stands alone
+abbrev pub run_of : ℕ → Row → Option Run
+run_of n (Release j kept) = if n == 1 then Some (run.Release j kept) else None
+run_of n (Tick j how) = Some (run.Ticks j how n)
+run_of n Idle = Some (run.Idles n)
+
+-- the run that the numbers stand for
+abbrev pub run_in : SeenRow → ℕ → Option Run
+run_in row n = option_and_then (run_of n) (row_in row)
+
+-- the first row so far that does not fit; zeros if each fits
+abbrev pub unfit_row : Option Unfit → UnfitRow
+unfit_row None = record { why = 0; place = 0 }
+unfit_row (Some u) = record { why = why_number u.why; place = u.place }
+
+-- the monitor has seen the run after all rows before, and this is what it found
+pub record Takes (run : Run) (before after : Watched) (unfit : UnfitRow) : Type 0 where
+  pub set : after.set ≡ before.set
+  pub rule : after.rule ≡ before.rule
+  pub rows : (h : List Row) → Watches h before → Watches (rows_of run ++ h) after
+  pub found : (h : List Row) → Watches h before
+      → unfit ≡ unfit_row (unfit_in before.set.tasks before.rule (rows_of run ++ h))
+
+-- the numbers stand for no run, or for one that is not valid
+abbrev pub IsNoRun : SeenRow → ℕ → Type 0
+IsNoRun row n = MatchOption (run_in row n) ⊤ (λ run. ¬ IsRun run)
+
+-- why a monitor does not take this many of a row
+pub record HasReason (row : SeenRow) (n : ℕ) (w : Watched) (status : ℕ) : Type 0 where
+  pub no_run : status ≡ 43 → IsNoRun row n
+  pub no_task : status ≡ 10 → IfSome (run_in row n) (λ run. ¬ IsRunOfSet w.set.tasks run)
+  pub full : status ≡ 22 → IfSome (run_in row n) (λ run. 2 ^ 62 < seen w + size run)
+  -- there is no other status; 9 is out of memory
+  pub only : (status ≡ 0) ⊎ (status ≡ 9) ⊎ (status ≡ 10) ⊎ (status ≡ 22) ⊎ (status ≡ 43)
+
+-- what an open monitor does with this many of a row
+pub record Observed (row : SeenRow) (n : ℕ) (before : Watched) (new : Option Watched) (status : ℕ)
+    (found : UnfitRow) : Type 0 where
+  -- with status 0 it has seen the run
+  pub taken : status ≡ 0 → (run : Run) × (after : Watched)
+      × (run_in row n ≡ Some run) × (new ≡ Some after) × Takes run before after found
+  -- with any other status it has not
+  pub refused : status ≢ 0 → new ≡ Some before
+  pub reason : HasReason row n before status
+
+-- what is observed through a monitor: with a closed one the status is 12 and it stays closed
+abbrev pub Observes : SeenRow → ℕ → Option Watched → Option Watched → ℕ → UnfitRow → Type 0
+Observes row n old new status found =
+    MatchOption old ((new ≡ None) × (status ≡ 12) × (found ≡ unfit_row None))
+    (λ before. Observed row n before new status found)
+
+-- what an open monitor would find if this many of a row came next
+pub record WouldFind (row : SeenRow) (n : ℕ) (w : Watched) (status : ℕ) (unfit : UnfitRow) : Type 0 where
+  pub found : status ≡ 0 → (run : Run) × (run_in row n ≡ Some run) × ((h : List Row) → Watches h w
+      → unfit ≡ unfit_row (unfit_in w.set.tasks w.rule (rows_of run ++ h)))
+  pub reason : HasReason row n w status
+  pub memory : status ≢ 9
+
+-- a job that turned late, in numbers
+abbrev pub late_job : Turned → LateJob
+late_job t = record { task = t.job.task.0; count = t.job.count; deadline = t.deadline }
+
+-- these are the jobs that turned late after this many ticks, in the order of their deadlines; if one run came
+-- since then, it added exactly these to the late jobs
+pub record TurnedLate (w : Watched) (since : ℕ) (ts : List Turned) : Type 0 where
+  pub jobs : (h : List Row) → Watches h w → fits_so_far w ≡ true → AreTurned w.set.tasks h since ts
+  pub order : IsInOrder ts
+  pub late : (h : List Row) (run : Run) → Watches (rows_of run ++ h) w → fits_so_far w ≡ true
+      → IsRun run → since ≡ ticks h → AddLate w.set.tasks run h ts
+
+-- what is stored of the jobs that turned late
+pub record StoresLate (w : Watched) (since status many : ℕ) (jobs : List LateJob) : Type 0 where
+  -- with status 0 the array begins with them, and this is their number
+  pub stored : status ≡ 0 → (ts : List Turned)
+      × TurnedLate w since ts × (many ≡ length ts) × (take many jobs ≡ map late_job ts)
+  -- with status 44 this is their number, and the array has fewer elements
+  pub room : status ≡ 44 → (ts : List Turned)
+      × TurnedLate w since ts × (many ≡ length ts) × (length jobs < many)
+  -- there is no other status; 9 is out of memory
+  pub only : (status ≡ 0) ⊎ (status ≡ 9) ⊎ (status ≡ 44)
+
+-- this is the verdict on the rows that the monitor has seen
+abbrev pub IsVerdict : Watched → Judged → Type 0
+IsVerdict w found = (h : List Row) → Watches h w → found ≡ judged (verdict w.set.tasks w.rule h)
+
+-- how many rows have fitted, and whether each has; if so, the clock, the mode and the number of pending jobs
+pub record IsWatching (w : Watched) (found : Watching) : Type 0 where
+  pub rows : found.rows ≡ seen w
+  pub legal : found.legal ≡ cond (fits_so_far w) 1 0
+  pub ticks : (h : List Row) → Watches h w → fits_so_far w ≡ true → found.ticks ≡ ticks h
+  pub mode : (h : List Row) → Watches h w → fits_so_far w ≡ true → found.high_mode ≡ cond (high_mode w.rule h) 1 0
+  pub pending : (h : List Row) → Watches h w → fits_so_far w ≡ true
+      → found.pending ≡ length (pending w.set.tasks h)

@@ -1,0 +1,159 @@
+//! The events, by the numbers that C passes.
+ghost use Rattle.std.specs.Prelude.{◌≡◌};
+ghost use Rattle.mode_core.specs.Events.{after_idle};
+ghost use Rattle.edfvd_c.specs.Event as spec;
+
+use crate::status;
+use mc_model::How;
+use mc_task::{JobId, TaskNo};
+use mode_core::{Core, GrantFault, Granted, IdleFault, NotOut, ReleaseFault, Released};
+use row_history::Recorder;
+
+/// What came of an event, the job and its numbers; each is 0 where there is none.
+#[repr(C)]
+#[derive(Clone, Copy)]
+pub struct Answer {
+    pub what: u32,
+    pub task: u32,
+    pub count: u32,
+    pub before: u32,
+    pub at: u64,
+}
+
+pub const NOTHING: Answer = Answer {
+    what: 0,
+    task: 0,
+    count: 0,
+    before: 0,
+    at: 0,
+};
+
+const KEPT: u32 = 1;
+
+const DROPPED: u32 = 2;
+
+const HELD: u32 = 3;
+
+const GIVEN: u32 = 4;
+
+const MORE: u32 = 5;
+
+const DONE: u32 = 6;
+
+const STOP: u32 = 7;
+
+const OVER: u32 = 8;
+
+const IDLE: u32 = 9;
+
+/// A release of the task of this number.
+pub fn release<R: Recorder>(core: &mut Core<R>, task: u32) -> (u32, Answer)
+    ensures exact { result ≡ spec.release_returns core.old task }
+    ensures state { core.new ≡ spec.release_after core.old task }
+{
+    if core.set().get(TaskNo(task)).is_none() {
+        return (status::NO_TASK, NOTHING);
+    }
+    match core.release(TaskNo(task)) {
+        Ok(released) => (status::OK, of_released(released)),
+        Err(ReleaseFault::Running { job }) => (status::RUNNING, of_job(0, job, 0, 0)),
+        Err(ReleaseFault::TooSoon { next }) => (status::TOO_SOON, at_tick(0, next)),
+        Err(ReleaseFault::Full) => (status::FULL, NOTHING),
+    }
+}
+
+fn of_released(released: Released) -> Answer
+    ensures { result ≡ spec.of_released released }
+{
+    match released {
+        Released::Kept { job, at } => of_job(KEPT, job, 0, at),
+        Released::Dropped { job, at } => of_job(DROPPED, job, 0, at),
+        Released::Held { job, at } => of_job(HELD, job, 0, at),
+    }
+}
+
+/// A grant to the task of this number.
+pub fn grant<R: Recorder>(core: &mut Core<R>, task: u32) -> (u32, Answer)
+    ensures exact { result ≡ spec.grant_returns core.old task }
+    ensures state { core.new ≡ spec.grant_after core.old task }
+{
+    if core.set().get(TaskNo(task)).is_none() {
+        return (status::NO_TASK, NOTHING);
+    }
+    match core.grant(TaskNo(task)) {
+        Ok(Granted { job, at, before }) => (status::OK, of_job(GIVEN, job, before, at)),
+        Err(GrantFault::TickOut { job }) => (status::TICK_OUT, of_job(0, job, 0, 0)),
+        Err(GrantFault::NotChosen { chosen }) => (status::NOT_CHOSEN, of_some(chosen)),
+        Err(GrantFault::Full) => (status::FULL, NOTHING),
+    }
+}
+
+/// The outcome of the tick of this job.
+pub fn outcome<R: Recorder>(core: &mut Core<R>, task: u32, count: u32, done: bool) -> (u32, Answer)
+    ensures exact { result ≡ spec.outcome_returns core.old task count done }
+    ensures state { core.new ≡ spec.outcome_after core.old task count done }
+{
+    let job = JobId {
+        task: TaskNo(task),
+        count,
+    };
+    match core.outcome(job, done) {
+        Ok(how) => (status::OK, of_job(how_number(how), job, 0, 0)),
+        Err(NotOut { out, .. }) => (status::NOT_OUT, of_some(out)),
+    }
+}
+
+/// An idle tick.
+pub fn idle<R: Recorder>(core: &mut Core<R>) -> (u32, Answer)
+    ensures exact { result ≡ spec.idle_returns core.old }
+    ensures state { core.new ≡ after_idle core.old }
+{
+    match core.idle() {
+        Ok(at) => (status::OK, at_tick(IDLE, at)),
+        Err(IdleFault::TickOut { job }) => (status::TICK_OUT, of_job(0, job, 0, 0)),
+        Err(IdleFault::Pending { job }) => (status::PENDING, of_job(0, job, 0, 0)),
+        Err(IdleFault::Full) => (status::FULL, NOTHING),
+    }
+}
+
+pub fn how_number(how: How) -> u32
+    ensures { result ≡ spec.how_number how }
+{
+    match how {
+        How::More => MORE,
+        How::Done => DONE,
+        How::Stop => STOP,
+        How::Over => OVER,
+    }
+}
+
+fn of_job(what: u32, job: JobId, before: u32, at: u64) -> Answer
+    ensures { result ≡ spec.of_job what job before at }
+{
+    Answer {
+        what,
+        task: job.task.0,
+        count: job.count,
+        before,
+        at,
+    }
+}
+
+fn at_tick(what: u32, at: u64) -> Answer
+    ensures { result ≡ spec.at_tick what at }
+{
+    Answer {
+        what,
+        at,
+        ..NOTHING
+    }
+}
+
+fn of_some(job: Option<JobId>) -> Answer
+    ensures { result ≡ spec.of_some job }
+{
+    match job {
+        Some(job) => of_job(0, job, 0, 0),
+        None => NOTHING,
+    }
+}

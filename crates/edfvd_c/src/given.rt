@@ -1,0 +1,113 @@
+//! A task set from numbers in memory.
+ghost use Rattle.std.specs.Prelude.{◌≡◌, ◌≢◌, ◌<◌, IfOk, IfErr, IfSome};
+ghost use Rattle.edfvd_c.specs.Given.{AreOf, numbers_of};
+
+use crate::status;
+use mc_task::{Level, Name, SetFault, Task, TaskSet};
+use std::alloc::Global;
+
+/// A task's numbers: level 0 for low and 1 for high, period and budgets in ticks. A low task has one budget, given twice.
+#[repr(C)]
+#[derive(Clone, Copy)]
+pub struct GivenTask {
+    pub level: u32,
+    pub period: u32,
+    pub low: u32,
+    pub high: u32,
+}
+
+/// Why the tasks are no set: a status, and the number of the task that is at fault, or 0.
+#[derive(Clone, Copy)]
+pub struct NoSet {
+    pub status: u32,
+    pub task: u32,
+}
+
+/// The set of the tasks, which are named by their numbers.
+pub fn set_of(alloc: Global, given: &[GivenTask]) -> Result<TaskSet, NoSet>
+    ensures status { IfErr result (λ no. (no.status ≢ 0) × (no.status ≢ 28) × (no.status ≢ 29)) }
+    ensures tasks { IfOk result (λ set. AreOf given.now set.tasks) }
+{
+    if given.len() > 128 {
+        return Err(NoSet {
+            status: status::TOO_MANY,
+            task: 0,
+        });
+    }
+    let mut tasks = Vec::new(alloc);
+    for place in 0..given.len() {
+        let number = place as u32 + 1;
+        let Some(task) = task_of(given[place], number) else {
+            return Err(NoSet {
+                status: status::LEVEL,
+                task: number,
+            });
+        };
+        if tasks.push(task).is_err() {
+            return Err(NoSet {
+                status: status::MEMORY,
+                task: 0,
+            });
+        }
+    }
+    match TaskSet::new(tasks) {
+        Ok(set) => Ok(set),
+        Err(fault) => Err(no_set(fault)),
+    }
+}
+
+fn no_set(fault: SetFault) -> NoSet
+    ensures { (result.status ≢ 0) × (result.status ≢ 28) × (result.status ≢ 29) }
+{
+    match fault {
+        SetFault::Empty => NoSet {
+            status: status::EMPTY,
+            task: 0,
+        },
+        SetFault::TooMany { .. } => NoSet {
+            status: status::TOO_MANY,
+            task: 0,
+        },
+        SetFault::ZeroNumber { task } => NoSet {
+            status: status::ZERO_NUMBER,
+            task: task.0,
+        },
+        SetFault::BudgetOrder { task } => NoSet {
+            status: status::BUDGET_ORDER,
+            task: task.0,
+        },
+        SetFault::SameName { second, .. } => NoSet {
+            status: status::SAME_NAME,
+            task: second.0,
+        },
+    }
+}
+
+fn task_of(given: GivenTask, number: u32) -> Option<Task>
+    requires { number < 1000 }
+    ensures { IfSome result (λ task. numbers_of task ≡ given) }
+{
+    let level = match given.level {
+        0 => Level::Low,
+        1 => Level::High,
+        _ => return None,
+    };
+    Some(Task {
+        name: name_of(number)?,
+        level,
+        period: given.period,
+        low: given.low,
+        high: given.high,
+    })
+}
+
+// `t` and three digits.
+fn name_of(number: u32) -> Option<Name>
+    requires { number < 1000 }
+{
+    Name::new(&[b't', digit(number / 100), digit(number / 10), digit(number)])
+}
+
+fn digit(number: u32) -> u8 {
+    b'0' + (number % 10) as u8
+}

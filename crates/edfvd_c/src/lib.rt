@@ -1,0 +1,18 @@
+//! Calls for C: task sets tested, traces judged, and a scheduler driven event by event. Numbers alone cross, and no text.
+#![tactic(auto)]
+
+mod either;
+mod event;
+mod given;
+mod handle;
+mod held;
+mod judged;
+mod latest;
+mod monitor;
+mod parted;
+mod parts;
+mod room;
+mod scheduler;
+mod seen;
+mod status;
+mod tested;

@@ -1,0 +1,368 @@
+//! A monitor that a caller in C feeds with rows.
+ghost use Rattle.std.specs.Prelude.{◌≡◌, ◌≢◌, IsSome, IfSome, IfNone, IfOk, IfErr, MatchOption};
+ghost use Rattle.edfvd_c.specs.Handle.{monitor_of, IsMonitorMarked};
+ghost use Rattle.edfvd_c.specs.Monitor as spec;
+
+use crate::given::{GivenTask, NoSet, set_of};
+use crate::handle::Handle;
+use crate::held::Held;
+use crate::judged::{Judged, UNJUDGED, in_numbers, row_of, rule_of, why_number};
+use crate::parts::Parts;
+use crate::seen::SeenRow;
+use crate::status;
+use mc_model::{Row, Run};
+use std::alloc::Global;
+use std::mem::replace;
+use trace_judge::{Monitor, ObserveFault, Turned, Unfit};
+
+const MONITOR_MARK: u64 = 0x6564_6676_645f_6d31;
+
+/// A monitor, or none: all of it 0 is none. C never writes in it.
+#[repr(C)]
+#[derive(Drop)]
+pub struct MonitorHandle {
+    mark: u64,
+    handle: Handle,
+    ghost marked: { IsMonitorMarked mark handle.held },
+}
+
+/// The first row so far that does not fit: which rule it breaks, and its number, from 1. Both are 0 if each row fits.
+#[repr(C)]
+#[derive(Clone, Copy)]
+pub struct UnfitRow {
+    pub why: u32,
+    pub place: u64,
+}
+
+/// What a monitor has seen: how many rows have fitted, and whether each has; if so, the clock, the mode and the jobs.
+#[repr(C)]
+#[derive(Clone, Copy)]
+pub struct Watching {
+    pub rows: u64,
+    pub ticks: u64,
+    pub pending: u64,
+    pub legal: u32,
+    pub high_mode: u32,
+}
+
+/// A job that turned late, and its deadline in ticks.
+#[repr(C)]
+#[derive(Clone, Copy)]
+pub struct LateJob {
+    pub task: u32,
+    pub count: u32,
+    pub deadline: u64,
+}
+
+const NOTHING_WATCHED: Watching = Watching {
+    rows: 0,
+    ticks: 0,
+    pending: 0,
+    legal: 0,
+    high_mode: 0,
+};
+
+// Takes the monitor out, and leaves none.
+fn take(monitor: &mut MonitorHandle, alloc: Global) -> Option<Box<Held>>
+    ensures was { IfSome result (λ held. monitor_of monitor.old.handle.held ≡ monitor_of (Some held.value)) }
+    ensures some { IfSome result (λ held. IsSome (monitor_of (Some held.value))) }
+    ensures none { IfNone result (monitor_of monitor.old.handle.held ≡ None) }
+    ensures closed { monitor.new.handle.held ≡ None }
+{
+    if monitor.mark != MONITOR_MARK {
+        return None;
+    }
+    let none = MonitorHandle {
+        mark: 0,
+        handle: Handle::closed(alloc),
+    };
+    let old = replace(monitor, none);
+    Some(old.handle.into_parts().into_box())
+}
+
+// Puts a monitor in.
+fn put(monitor: &mut MonitorHandle, held: Box<Held>)
+    requires { IsSome (monitor_of (Some held.value)) }
+    ensures { monitor.new.handle.held ≡ Some held.value }
+{
+    *monitor = MonitorHandle {
+        mark: MONITOR_MARK,
+        handle: Handle::of_parts(Parts::of(held)),
+    };
+}
+
+/// Opens a monitor of the tasks under the rule of the published test where `p` is 0, and otherwise under EDF-VD with the scale
+/// `p/q`, which need not hold.
+#[unsafe(no_mangle)]
+pub extern "C" fn edfvd_raw_monitor_open(
+    alloc: Global,
+    monitor: &mut MonitorHandle,
+    given: &[GivenTask],
+    p: u64,
+    q: u64,
+    task: &mut u32,
+) -> u32
+    ensures open { result ≡ 0 → monitor_of monitor.old.handle.held ≡ None }
+    ensures made { result ≡ 0 → spec.IsMonitorOpening given.now p q (monitor_of monitor.new.handle.held) }
+    ensures refused { result ≢ 0 → monitor_of monitor.new.handle.held ≡ monitor_of monitor.old.handle.held }
+{
+    *task = 0;
+    if monitor.mark == MONITOR_MARK {
+        return status::OPEN;
+    }
+    match opened(alloc, given, p, q) {
+        Ok(held) => {
+            put(monitor, held);
+            status::OK
+        }
+        Err(no) => {
+            *task = no.task;
+            no.status
+        }
+    }
+}
+
+fn opened(alloc: Global, given: &[GivenTask], p: u64, q: u64) -> Result<Box<Held>, NoSet>
+    ensures made { IfOk result (λ held. spec.IsMonitorOpening given.now p q (monitor_of (Some held.value))) }
+    ensures some { IfOk result (λ held. IsSome (monitor_of (Some held.value))) }
+    ensures status { IfErr result (λ no. no.status ≢ 0) }
+{
+    let set = set_of(alloc, given)?;
+    let rule = rule_of(&set, p, q)?;
+    let wanting = NoSet {
+        status: status::MEMORY,
+        task: 0,
+    };
+    let Ok(monitor) = Monitor::new(alloc, set, rule) else {
+        return Err(wanting);
+    };
+    match Box::new(alloc, Held::Monitor(monitor)) {
+        Ok(held) => Ok(held),
+        Err(_) => Err(wanting),
+    }
+}
+
+/// Closes the monitor, and frees what it took.
+#[unsafe(no_mangle)]
+pub extern "C" fn edfvd_raw_monitor_close(alloc: Global, monitor: &mut MonitorHandle) -> u32
+    ensures closed { monitor_of monitor.new.handle.held ≡ None }
+    ensures status { MatchOption (monitor_of monitor.old.handle.held) (result ≡ 12) (λ w. result ≡ 0) }
+{
+    match take(monitor, alloc) {
+        Some(_held) => status::OK,
+        None => status::CLOSED,
+    }
+}
+
+/// Takes this many of the row, and finds the first row so far that does not fit.
+#[unsafe(no_mangle)]
+pub extern "C" fn edfvd_raw_monitor_observe(
+    alloc: Global,
+    monitor: &mut MonitorHandle,
+    row: &SeenRow,
+    length: u32,
+    unfit: &mut UnfitRow,
+) -> u32
+    ensures { spec.Observes row.now length (monitor_of monitor.old.handle.held) (monitor_of monitor.new.handle.held) result unfit.new }
+{
+    *unfit = unfit_row(None);
+    let Some(mut held) = take(monitor, alloc) else {
+        return status::CLOSED;
+    };
+    let Held::Monitor(watch) = &mut *held else {
+        return status::CLOSED;
+    };
+    let (ended, found) = observed(alloc, watch, *row, length);
+    *unfit = found;
+    put(monitor, held);
+    ended
+}
+
+fn observed(alloc: Global, monitor: &mut Monitor, row: SeenRow, length: u32) -> (u32, UnfitRow)
+    ensures { spec.Observed row length monitor.old (Some monitor.new) result.0 result.1 }
+{
+    let none = unfit_row(None);
+    let Some(run) = run_in(row, length) else {
+        return (status::ARGUMENT, none);
+    };
+    match monitor.observe(alloc, run) {
+        Ok(unfit) => (status::OK, unfit_row(unfit)),
+        Err(ObserveFault::Memory) => (status::MEMORY, none),
+        Err(ObserveFault::UnknownTask) => (status::NO_TASK, none),
+        Err(ObserveFault::NotARun) => (status::ARGUMENT, none),
+        Err(ObserveFault::Full) => (status::FULL, none),
+    }
+}
+
+fn unfit_row(unfit: Option<Unfit>) -> UnfitRow
+    ensures { result ≡ spec.unfit_row unfit }
+{
+    match unfit {
+        Some(unfit) => UnfitRow {
+            why: why_number(unfit.why),
+            place: unfit.place,
+        },
+        None => UnfitRow { why: 0, place: 0 },
+    }
+}
+
+fn run_in(row: SeenRow, length: u32) -> Option<Run>
+    ensures { result ≡ spec.run_in row length }
+{
+    match row_of(row)? {
+        Row::Release { job, kept } if length == 1 => Some(Run::Release { job, kept }),
+        Row::Release { .. } => None,
+        Row::Tick { job, how } => Some(Run::Ticks { job, how, length }),
+        Row::Idle => Some(Run::Idles { length }),
+    }
+}
+
+/// Finds the first row that would not fit if this many of the row came next. The monitor does not take them.
+#[unsafe(no_mangle)]
+pub extern "C" fn edfvd_raw_monitor_would_fit(
+    alloc: Global,
+    monitor: &mut MonitorHandle,
+    row: &SeenRow,
+    length: u32,
+    unfit: &mut UnfitRow,
+) -> u32
+    ensures same { monitor_of monitor.new.handle.held ≡ monitor_of monitor.old.handle.held }
+    ensures found { MatchOption (monitor_of monitor.old.handle.held) (result ≡ 12) (λ w. spec.WouldFind row.now length w result unfit.new) }
+{
+    *unfit = unfit_row(None);
+    let Some(held) = take(monitor, alloc) else {
+        return status::CLOSED;
+    };
+    let Held::Monitor(watch) = &*held else {
+        return status::CLOSED;
+    };
+    let (ended, found) = would_find(watch, *row, length);
+    *unfit = found;
+    put(monitor, held);
+    ended
+}
+
+fn would_find(monitor: &Monitor, row: SeenRow, length: u32) -> (u32, UnfitRow)
+    ensures { spec.WouldFind row length monitor.now result.0 result.1 }
+{
+    let none = unfit_row(None);
+    let Some(run) = run_in(row, length) else {
+        return (status::ARGUMENT, none);
+    };
+    match monitor.would_fit(run) {
+        Ok(unfit) => (status::OK, unfit_row(unfit)),
+        Err(ObserveFault::Memory) => (status::MEMORY, none),
+        Err(ObserveFault::UnknownTask) => (status::NO_TASK, none),
+        Err(ObserveFault::NotARun) => (status::ARGUMENT, none),
+        Err(ObserveFault::Full) => (status::FULL, none),
+    }
+}
+
+/// Stores the jobs that turned late after this many ticks, in the order of their deadlines, and their number. If the array is
+/// too short for them, the call returns status 44.
+#[unsafe(no_mangle)]
+pub extern "C" fn edfvd_raw_monitor_late(
+    alloc: Global,
+    monitor: &mut MonitorHandle,
+    since: u64,
+    jobs: &mut [LateJob],
+    many: &mut u64,
+) -> u32
+    ensures same { monitor_of monitor.new.handle.held ≡ monitor_of monitor.old.handle.held }
+    ensures stored { MatchOption (monitor_of monitor.old.handle.held) (result ≡ 12) (λ w. spec.StoresLate w since result many.new jobs.new) }
+{
+    *many = 0;
+    let Some(mut held) = take(monitor, alloc) else {
+        return status::CLOSED;
+    };
+    let Held::Monitor(watch) = &mut *held else {
+        return status::CLOSED;
+    };
+    let (ended, number) = store_late(alloc, watch, since, jobs);
+    *many = number;
+    put(monitor, held);
+    ended
+}
+
+fn store_late(alloc: Global, monitor: &mut Monitor, since: u64, jobs: &mut [LateJob]) -> (u32, u64)
+    ensures same { monitor.new ≡ monitor.old }
+    ensures stored { spec.StoresLate monitor.old since result.0 result.1 jobs.new }
+{
+    let Ok(turned) = monitor.turned_late(alloc, since) else {
+        return (status::MEMORY, 0);
+    };
+    let many = turned.len() as u64;
+    if jobs.len() < turned.len() {
+        return (status::ROOM, many);
+    }
+    for place in 0..turned.len() {
+        jobs[place] = late_job(turned[place]);
+    }
+    (status::OK, many)
+}
+
+fn late_job(turned: Turned) -> LateJob
+    ensures { result ≡ spec.late_job turned }
+{
+    LateJob {
+        task: turned.job.task.0,
+        count: turned.job.count,
+        deadline: turned.deadline,
+    }
+}
+
+/// Stores the verdict on all rows that the monitor has seen.
+#[unsafe(no_mangle)]
+pub extern "C" fn edfvd_raw_monitor_verdict(
+    alloc: Global,
+    monitor: &mut MonitorHandle,
+    judged: &mut Judged,
+) -> u32
+    ensures same { monitor_of monitor.new.handle.held ≡ monitor_of monitor.old.handle.held }
+    ensures verdict { MatchOption (monitor_of monitor.old.handle.held) (result ≡ 12) (λ w. (result ≡ 0) × spec.IsVerdict w judged.new) }
+{
+    *judged = UNJUDGED;
+    let Some(held) = take(monitor, alloc) else {
+        return status::CLOSED;
+    };
+    let Held::Monitor(watch) = &*held else {
+        return status::CLOSED;
+    };
+    *judged = in_numbers(watch.verdict());
+    put(monitor, held);
+    status::OK
+}
+
+/// Stores the monitor's clock, mode and counts.
+#[unsafe(no_mangle)]
+pub extern "C" fn edfvd_raw_monitor_look(
+    alloc: Global,
+    monitor: &mut MonitorHandle,
+    seen: &mut Watching,
+) -> u32
+    ensures same { monitor_of monitor.new.handle.held ≡ monitor_of monitor.old.handle.held }
+    ensures seen { MatchOption (monitor_of monitor.old.handle.held) (result ≡ 12) (λ w. (result ≡ 0) × spec.IsWatching w seen.new) }
+{
+    *seen = NOTHING_WATCHED;
+    let Some(held) = take(monitor, alloc) else {
+        return status::CLOSED;
+    };
+    let Held::Monitor(watch) = &*held else {
+        return status::CLOSED;
+    };
+    *seen = look(watch);
+    put(monitor, held);
+    status::OK
+}
+
+fn look(monitor: &Monitor) -> Watching
+    ensures { spec.IsWatching monitor.now result }
+{
+    Watching {
+        rows: monitor.seen(),
+        ticks: monitor.ticks(),
+        pending: monitor.pending(),
+        legal: if monitor.is_legal() { 1 } else { 0 },
+        high_mode: if monitor.high_mode() { 1 } else { 0 },
+    }
+}

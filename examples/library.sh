@@ -1,0 +1,166 @@
+#!/bin/sh
+# Builds the C libraries of the proved code and tries them: the declarations beside the exports, the examples in C with warnings as
+# errors, under the compiler's sanitizers and under memcheck, wrong calls of each kind, each allocation failing in turn, the file for
+# pkg-config, the commands of README.md, the Python package with its types, its tests and its examples, and at least 2,000 replies
+# beside the program's. What a missing tool makes impossible is left out, with a line that says so.
+# The first run after the gate proves edfvd_c and edfvd_ask_c for the libraries, which takes some minutes; all else takes less than
+# three on two processors.
+# usage: library.sh
+. "$(dirname -- "$0")/usage.sh"
+takes 0 0 "$@"
+cd "$(dirname -- "$0")" || exit 1
+. ./expect.sh
+c=$PWD/../c
+python=$PWD/../python
+strict='-Wall -Wextra -Werror -Wpedantic -Wconversion -Wshadow'
+CC=${CC:-cc}
+limit=300
+
+# has TOOL WITHOUT: whether the tool is there; if not, says what is left out
+has() {
+    command -v "$1" >/dev/null 2>&1 && return 0
+    echo "library: $2 left out: there is no $1"
+    return 1
+}
+
+# passes WHAT COMMAND..: notes one run, which must end with status 0, within $limit seconds
+passes() {
+    what=$1
+    shift
+    runs=$((runs + 1))
+    if ! timeout "$limit" "$@" >"$work/out" 2>&1; then
+        failed=$((failed + 1))
+        echo "library: $what failed:"
+        tail -n 20 "$work/out"
+    fi
+}
+
+# tries WHAT EXAMPLE COMMAND..: notes one run of an example, which must end with status 0 and write what is expected
+tries() {
+    what=$1
+    text=$c/expected/$2.txt
+    shift 2
+    # shellcheck disable=SC2016
+    passes "$what" sh -c 'text=$1; shift; "$@" | cmp - "$text"' sh "$text" "$@"
+}
+
+# compiled EXAMPLE TO FLAGS..: whether the example is compiled, without a warning
+compiled() {
+    example=$1
+    to=$2
+    shift 2
+    links=
+    [ "$example" != memory ] || links=-Wl,--wrap=malloc,--wrap=realloc,--wrap=free
+    # shellcheck disable=SC2086
+    passes "compiling $example.c with $*" "$CC" -std=c11 $strict -I"$c" "$c/examples/$example.c" "$@" $links -pthread -o "$to"
+    [ -x "$to" ]
+}
+
+# accepted: the table of 10,000 random sets, and its picture
+accepted() {
+    picture=
+    if command -v gnuplot >/dev/null 2>&1 || python3 -c 'import matplotlib' 2>/dev/null; then
+        picture=$work/acceptance.svg
+    else
+        echo 'library: the picture of acceptance.py is left out: there is neither gnuplot nor matplotlib'
+    fi
+    passes 'acceptance.py' python3 "$python/examples/acceptance.py" 10000 ${picture:+"$picture"}
+    cp "$work/out" "$work/table"
+    # shellcheck disable=SC2016
+    passes 'the shares of acceptance.py, which fall' awk '
+        BEGIN { before = 1 }
+        $2 <= before { falls++ }
+        { before = $2 }
+        END { exit !(NR == 10 && falls == 10) }
+    ' "$work/table"
+    [ -z "$picture" ] || passes 'the picture of acceptance.py' grep '</svg>' "$picture"
+}
+
+# readme: the commands of README.md for C and Python, with a folder of its own for the package
+readme() {
+    sed -n '/^c\/build\.sh/,/^```$/{ /^```$/!p; }' "$c/../README.md" >"$work/readme.sh"
+    # shellcheck disable=SC2016
+    passes 'the commands of README.md' env PIP_TARGET="$work/site" PIP_NO_INDEX=1 PYTHONPATH="$work/site" \
+        sh -ec 'cd "$1"; . "$2"' sh "$c/.." "$work/readme.sh"
+    cp "$work/out" "$work/readme.txt"
+    for scale in 'x 2/5' 'Fraction(2, 5)'; do
+        passes "$scale from the commands of README.md" grep -F "$scale" "$work/readme.txt"
+    done
+}
+
+if has "$CC" 'the libraries are' && has rt 'the libraries are' && has objcopy 'the libraries are'; then
+    limit=3600
+    passes 'c/build.sh' "$c/build.sh"
+    limit=300
+    if has python3 'the comparison of declarations is'; then
+        passes 'declared.py' python3 "$c/declared.py"
+        python3 "$c/declared.py" offsets >"$work/offsets.c"
+        # shellcheck disable=SC2086
+        passes 'the layout of structs' "$CC" -std=c11 $strict -I"$c" -c "$work/offsets.c" -o "$work/offsets.o"
+    fi
+    cat >"$work/header.cc" <<'END'
+#include "edfvd.h"
+static edfvd_scheduler none = EDFVD_NONE;
+int main() { return edfvd_close(&none) == EDFVD_CLOSED ? 0 : 1; }
+END
+    if has "${CXX:=c++}" 'the header as C++ is'; then
+        # shellcheck disable=SC2086
+        passes 'the header as C++17' "$CXX" -std=c++17 $strict -I"$c" "$work/header.cc" "$c/out/libedfvd_core.a" -o "$work/header"
+        passes 'a call from C++' "$work/header"
+    fi
+    if has pkg-config 'the file for pkg-config is'; then
+        # shellcheck disable=SC2016
+        passes 'pkg-config' env PKG_CONFIG_PATH="$c/out" sh -c '
+            "$1" "$2/examples/control.c" $(pkg-config --cflags --libs edfvd) -o "$3"
+        ' sh "$CC" "$c" "$work/shared"
+        tries 'control with the shared library' control env LD_LIBRARY_PATH="$c/out" "$work/shared"
+    fi
+    if has nm 'the symbols of dispatcher.c are'; then
+        # shellcheck disable=SC2016
+        passes 'dispatcher.c without a C library' sh -c '
+            "$1" -std=c11 -O2 -ffreestanding -I"$2" -c "$2/examples/dispatcher.c" -o "$3" && ! nm -u "$3" | grep -v " U edfvd_"
+        ' sh "$CC" "$c" "$work/dispatcher.o"
+    fi
+    # The sanitizers see the guards and the examples, and not the proved code, which is compiled already.
+    sane='-O1 -g -fsanitize=address,undefined -fno-sanitize-recover=all'
+    # shellcheck disable=SC2086
+    if echo 'int main(void) { return 0; }' | "$CC" -xc $sane - -o "$work/none" 2>/dev/null; then
+        passes 'the libraries with sanitizers' env CFLAGS="$sane" "$c/build.sh" "$work/sane"
+    else
+        sane=
+        echo "library: the sanitizers are left out: $CC has none"
+    fi
+    for example in control dispatcher monitor endless wrong threads ask memory; do
+        library=$c/out/libedfvd_core.a
+        case $example in ask | memory) library=$c/out/libedfvd.a ;; esac
+        compiled "$example" "$work/$example" -O2 "$library" || continue
+        tries "$example" "$example" "$work/$example"
+        [ "$example" != memory ] || continue
+        # shellcheck disable=SC2086
+        if [ -n "$sane" ] && compiled "$example" "$work/$example.sane" $sane "$work/sane/libedfvd.a"; then
+            tries "$example with sanitizers" "$example" "$work/$example.sane"
+        fi
+        command -v valgrind >/dev/null 2>&1 || continue
+        # Under memcheck threads takes long, and so do three million ticks.
+        case $example in
+        threads) ;;
+        endless) passes 'endless under memcheck' valgrind -q --leak-check=full --error-exitcode=9 "$work/endless" 2000 ;;
+        *) tries "$example under memcheck" "$example" valgrind -q --leak-check=full --error-exitcode=9 "$work/$example" ;;
+        esac
+    done
+    has valgrind 'memcheck is'
+    if has python3 'the Python package is'; then
+        unset EDFVD_LIBRARY
+        export PYTHONPATH="$python" PYTHONDONTWRITEBYTECODE=1
+        passes 'the tests and examples in Python' python3 -m unittest discover -q -s "$python/tests"
+        passes 'the replies beside the program' python3 "$python/tests/against_program.py" "$program" 2000
+        tail -n 1 "$work/out"
+        accepted
+        if has mypy 'the check of types is'; then
+            passes 'mypy' env MYPYPATH="$python" mypy --config-file "$python/pyproject.toml" --cache-dir="$work/mypy" \
+                "$python/edfvd" "$python/tests" "$python/examples" "$python/backend.py" "$c/declared.py"
+        fi
+        if has pip 'the commands of README.md are'; then readme; fi
+    fi
+fi
+ends library

@@ -1,0 +1,26 @@
+"""EDF-VD in Python: the proved library of edfvd, called in this process.
+
+>>> control = [Task("ctl", "high", period=10, low=2, high=6), Task("log", "low", period=10, low=5)]
+>>> check(control).scale
+Fraction(2, 5)
+>>> stretch(control)
+149
+
+Time is counted in ticks, and task sets, jobs and rows are plain values. A call that the library refuses raises
+:class:`Refused`, one that a command of the program refuses raises :class:`CommandRefused`, and a wrong type or a number out of
+range raises ``TypeError`` or ``ValueError`` before any call. docs/C-AND-PYTHON.md in the repository says what is proved.
+"""
+
+from ._calls import accept, ask, check, demand, judge, partition, run, stretch
+from ._errors import CommandRefused, EdfvdError, Refused, Status
+from ._monitor import Monitor
+from ._scheduler import Scheduler
+from ._values import (
+    Answer, Demand, DemandVerdict, Event, Job, Late, Look, Row, Rule, Task, Test, Unfit, Verdict, Watch, Why,
+)
+
+__all__ = [
+    "Answer", "CommandRefused", "Demand", "DemandVerdict", "EdfvdError", "Event", "Job", "Late", "Look", "Monitor", "Refused",
+    "Row", "Rule", "Scheduler", "Status", "Task", "Test", "Unfit", "Verdict", "Watch", "Why",
+    "accept", "ask", "check", "demand", "judge", "partition", "run", "stretch",
+]

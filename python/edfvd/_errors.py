@@ -1,0 +1,84 @@
+"""Why a call is refused."""
+
+from __future__ import annotations
+
+import enum
+from typing import Optional
+
+from ._library import library
+
+
+class Status(enum.IntEnum):
+    """Why the library refuses a call; the numbers are those of ``edfvd.h``."""
+
+    EMPTY = 1
+    TOO_MANY = 2
+    ZERO_NUMBER = 3
+    BUDGET_ORDER = 4
+    SAME_NAME = 5
+    LEVEL = 6
+    PERIODS = 7
+    NOT_ADMITTED = 8
+    MEMORY = 9
+    NO_TASK = 10
+    CLOSED = 12
+    OPEN = 13
+    RUNNING = 20
+    TOO_SOON = 21
+    FULL = 22
+    TICK_OUT = 23
+    NOT_CHOSEN = 24
+    NOT_OUT = 25
+    PENDING = 26
+    NO_ROW = 27
+    NO_ROOM = 28
+    NO_PROCESSOR = 29
+    GONE = 30
+    NULL = 40
+    MOVED = 41
+    BUSY = 42
+    ARGUMENT = 43
+    ROOM = 44
+    THREADS = 45
+
+
+class EdfvdError(Exception):
+    """A call was refused."""
+
+
+class Refused(EdfvdError):
+    """The library refused a call.
+
+    ``status`` says why, and ``task`` names the task that it is about, if any. If a release came too soon, ``at`` is the first
+    tick at which the task may release again.
+
+    >>> from edfvd import Task, check
+    >>> try:
+    ...     check([Task("a", "low", period=0, low=1)])
+    ... except Refused as refused:
+    ...     print(refused.status.name, "-", refused)
+    ZERO_NUMBER - task a: a period or budget is 0
+    """
+
+    def __init__(self, status: Status, task: Optional[str] = None, at: int = 0) -> None:
+        self.status = status
+        self.task = task
+        self.at = at
+        word = library.edfvd_word(status).decode()
+        super().__init__(word if task is None else f"task {task}: {word}")
+
+
+class CommandRefused(EdfvdError):
+    """A command of the program refused its files or words: its exit status, and its text as the message.
+
+    >>> from edfvd import Job, Task, run
+    >>> try:
+    ...     run([Task("a", "low", period=4, low=1)], [Job("b", release=0, need=1)], 8)
+    ... except CommandRefused as refused:
+    ...     print(refused.exit_status, refused)
+    4 work file line 2: unknown task
+    """
+
+    def __init__(self, exit_status: int, text: str) -> None:
+        self.exit_status = exit_status
+        super().__init__(text)

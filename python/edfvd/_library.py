@@ -1,0 +1,123 @@
+"""The shared library, with its structs and calls as ``edfvd.h`` declares them. ``tests`` compare the two."""
+
+from __future__ import annotations
+
+import ctypes
+import os
+from pathlib import Path
+from typing import Any, Dict, List
+
+u32 = ctypes.c_uint32
+u64 = ctypes.c_uint64
+size = ctypes.c_size_t
+
+
+class CTask(ctypes.Structure):
+    _fields_ = [("level", u32), ("period", u32), ("low", u32), ("high", u32)]
+
+
+class CTest(ctypes.Structure):
+    _fields_ = [
+        ("rule", u32), ("task", u32), ("p", u64), ("q", u64), ("lcm", u64),
+        ("low_low_top", u64), ("low_low", u64), ("high_low_top", u64), ("high_low", u64),
+        ("high_high_top", u64), ("high_high", u64),
+    ]
+
+
+class CHeld(ctypes.Structure):
+    _fields_ = [("mark", u64), ("at", ctypes.c_void_p)]
+
+
+class CScheduler(ctypes.Structure):
+    _fields_ = [("held", CHeld), ("self", ctypes.c_void_p), ("busy", u32)]
+
+
+class CMonitor(ctypes.Structure):
+    _fields_ = [("held", CHeld), ("self", ctypes.c_void_p), ("busy", u32)]
+
+
+class CAnswer(ctypes.Structure):
+    _fields_ = [("what", u32), ("task", u32), ("count", u32), ("before", u32), ("at", u64)]
+
+
+class CLook(ctypes.Structure):
+    _fields_ = [
+        ("ticks", u64), ("rows", u64), ("high_mode", u32), ("out_task", u32), ("out_count", u32),
+        ("chosen_task", u32), ("chosen_count", u32),
+    ]
+
+
+class CRow(ctypes.Structure):
+    _fields_ = [("event", u32), ("task", u32), ("count", u32)]
+
+
+class CVerdict(ctypes.Structure):
+    _fields_ = [("why", u32), ("task", u32), ("count", u32), ("late", u64), ("place", u64)]
+
+
+class CUnfit(ctypes.Structure):
+    _fields_ = [("why", u32), ("place", u64)]
+
+
+class CWatch(ctypes.Structure):
+    _fields_ = [("rows", u64), ("ticks", u64), ("pending", u64), ("legal", u32), ("high_mode", u32)]
+
+
+class CLate(ctypes.Structure):
+    _fields_ = [("task", u32), ("count", u32), ("deadline", u64)]
+
+
+STRUCTS = {
+    "edfvd_task": CTask, "edfvd_test": CTest, "edfvd_answer": CAnswer, "edfvd_look": CLook, "edfvd_row": CRow,
+    "edfvd_verdict": CVerdict, "edfvd_unfit": CUnfit, "edfvd_watch": CWatch, "edfvd_late": CLate,
+}
+
+_pointer = ctypes.POINTER
+_tasks = [_pointer(CTask), size]
+_scheduler = _pointer(CScheduler)
+_monitor = _pointer(CMonitor)
+
+CALLS: Dict[str, List[Any]] = {
+    "edfvd_check": [*_tasks, _pointer(CTest)],
+    "edfvd_stretch": [*_tasks, _pointer(u32), _pointer(u32)],
+    "edfvd_partition": [*_tasks, u32, _pointer(u32), _pointer(u32)],
+    "edfvd_accept": [u64, u32, u32, _pointer(u32)],
+    "edfvd_judge": [*_tasks, _pointer(CRow), size, u64, u64, _pointer(CVerdict)],
+    "edfvd_ask": [
+        size, _pointer(ctypes.c_char_p), ctypes.c_char_p, size, ctypes.c_char_p, size, ctypes.c_char_p, size,
+        _pointer(size), _pointer(u32),
+    ],
+    "edfvd_open": [_scheduler, *_tasks, u32, _pointer(u32)],
+    "edfvd_open_endless": [_scheduler, *_tasks, _pointer(u32)],
+    "edfvd_close": [_scheduler],
+    "edfvd_release": [_scheduler, u32, _pointer(CAnswer)],
+    "edfvd_grant": [_scheduler, u32, _pointer(CAnswer)],
+    "edfvd_outcome": [_scheduler, u32, u32, ctypes.c_bool, _pointer(CAnswer)],
+    "edfvd_idle": [_scheduler, _pointer(CAnswer)],
+    "edfvd_peek": [_scheduler, _pointer(CLook)],
+    "edfvd_row_at": [_scheduler, u64, _pointer(CRow)],
+    "edfvd_monitor_open": [_monitor, *_tasks, u64, u64, _pointer(u32)],
+    "edfvd_monitor_close": [_monitor],
+    "edfvd_monitor_observe": [_monitor, _pointer(CRow), u32, _pointer(CUnfit)],
+    "edfvd_monitor_would_fit": [_monitor, _pointer(CRow), u32, _pointer(CUnfit)],
+    "edfvd_monitor_late": [_monitor, u64, _pointer(CLate), size, _pointer(u64)],
+    "edfvd_monitor_verdict": [_monitor, _pointer(CVerdict)],
+    "edfvd_monitor_peek": [_monitor, _pointer(CWatch)],
+}
+
+
+def _load() -> ctypes.CDLL:
+    """The library named by ``EDFVD_LIBRARY``, or the one beside this file."""
+    path = os.environ.get("EDFVD_LIBRARY") or str(Path(__file__).with_name("libedfvd.so"))
+    try:
+        loaded = ctypes.CDLL(path)
+    except OSError as error:
+        raise ImportError(f"the library of edfvd cannot be loaded; c/build.sh makes it: {error}") from error
+    for name, arguments in CALLS.items():
+        call = getattr(loaded, name)
+        call.argtypes, call.restype = arguments, ctypes.c_int
+    loaded.edfvd_word.argtypes, loaded.edfvd_word.restype = [ctypes.c_int], ctypes.c_char_p
+    return loaded
+
+
+library = _load()
