@@ -39,6 +39,10 @@ awk 'BEGIN { for (i = 0; i < 127; i++) print "t" i, 160, 33 + i, 1; print "long 
 # 128 tasks of period 500,000, which ask for 500,001 ticks in 500,000: a counterexample of that length.
 awk 'BEGIN { for (i = 1; i < 128; i++) print "t" i, 500000, 500000, 3906; print "t128 500000 500000 3939" }' | demands past
 
+# The 127 tasks of `dense`, and one with which the set asks for 500,001 ticks in 500,000: a counterexample of that length, in
+# which four of five ticks are the only one of a job.
+awk 'BEGIN { for (i = 0; i < 127; i++) print "t" i, 160, 33 + i, 1; print "long 500000 500000 103126" }' | demands dense_past
+
 # instructions COMMAND..: how many the whole process takes
 instructions() {
     if command -v valgrind >/dev/null 2>&1; then
@@ -76,3 +80,4 @@ beside() {
 beside wide
 beside dense
 beside past
+beside dense_past
