@@ -19,7 +19,8 @@ CRATES = [HERE.parent / "crates" / name / "src" for name in ("edfvd_c", "edfvd_a
 
 # The structs that cross, by their names on both sides.
 STRUCTS = {
-    "GivenTask": "edfvd_task", "Tested": "edfvd_test", "Answer": "edfvd_answer", "Seen": "edfvd_look",
+    "GivenTask": "edfvd_task", "Tested": "edfvd_test", "GivenDemand": "edfvd_demand_task",
+    "DemandTested": "edfvd_demand_test", "Answer": "edfvd_answer", "Seen": "edfvd_look",
     "SeenRow": "edfvd_row", "Judged": "edfvd_verdict", "UnfitRow": "edfvd_unfit", "Watching": "edfvd_watch",
     "LateJob": "edfvd_late",
 }

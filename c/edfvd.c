@@ -17,6 +17,7 @@ extern uint32_t edfvd_raw_stretch(const edfvd_task *tasks, size_t count, uint32_
 extern uint32_t edfvd_raw_accept(uint64_t number, uint32_t sets, uint32_t tasks, uint32_t *counts);
 extern uint32_t edfvd_raw_judge(const edfvd_task *tasks, size_t count, const edfvd_row *rows, size_t length, uint64_t p,
                                 uint64_t q, edfvd_verdict *verdict);
+extern uint32_t edfvd_raw_demand(const edfvd_demand_task *tasks, size_t count, edfvd_demand_test *test);
 extern uint32_t edfvd_raw_partition(const edfvd_task *tasks, size_t count, uint32_t processors, uint32_t *on, size_t length,
                                     uint32_t *task);
 extern uint32_t edfvd_raw_open(raw_scheduler *s, const edfvd_task *tasks, size_t count, uint32_t places, uint32_t *task);
@@ -39,6 +40,8 @@ extern uint32_t edfvd_raw_monitor_look(raw_monitor *m, edfvd_watch *watch);
 
 _Static_assert(sizeof(edfvd_task) == 16, "edfvd_task");
 _Static_assert(sizeof(edfvd_test) == 80, "edfvd_test");
+_Static_assert(sizeof(edfvd_demand_task) == 12, "edfvd_demand_task");
+_Static_assert(sizeof(edfvd_demand_test) == 24, "edfvd_demand_test");
 _Static_assert(sizeof(edfvd_answer) == 24, "edfvd_answer");
 _Static_assert(sizeof(edfvd_look) == 40, "edfvd_look");
 _Static_assert(sizeof(edfvd_row) == 12, "edfvd_row");
@@ -108,6 +111,12 @@ edfvd_status edfvd_partition(const edfvd_task *tasks, size_t count, uint32_t pro
 edfvd_status edfvd_accept(uint64_t number, uint32_t sets, uint32_t tasks, uint32_t counts[11]) {
     if (counts == NULL) return EDFVD_NULL;
     return (edfvd_status)edfvd_raw_accept(number, sets, tasks, counts);
+}
+
+edfvd_status edfvd_demand(const edfvd_demand_task *tasks, size_t count, edfvd_demand_test *test) {
+    static const edfvd_demand_task none[1];
+    if (test == NULL || (tasks == NULL && count != 0)) return EDFVD_NULL;
+    return (edfvd_status)edfvd_raw_demand(count == 0 ? none : tasks, count, test);
 }
 
 edfvd_status edfvd_judge(const edfvd_task *tasks, size_t count, const edfvd_row *rows, size_t length, uint64_t p, uint64_t q,
@@ -247,7 +256,7 @@ const char *edfvd_word(edfvd_status status) {
     case EDFVD_OK: return "ok";
     case EDFVD_EMPTY: return "no tasks";
     case EDFVD_TOO_MANY: return "more than 128 tasks";
-    case EDFVD_ZERO_NUMBER: return "a period or budget is 0";
+    case EDFVD_ZERO_NUMBER: return "a period, deadline or budget is 0";
     case EDFVD_BUDGET_ORDER: return "budgets out of order";
     case EDFVD_SAME_NAME: return "two tasks have one name";
     case EDFVD_LEVEL: return "neither low nor high";
@@ -255,6 +264,7 @@ const char *edfvd_word(edfvd_status status) {
     case EDFVD_NOT_ADMITTED: return "not admitted";
     case EDFVD_MEMORY: return "out of memory";
     case EDFVD_NO_TASK: return "no such task";
+    case EDFVD_DEADLINE_ORDER: return "the deadline is above the period";
     case EDFVD_CLOSED: return "closed";
     case EDFVD_OPEN: return "open already";
     case EDFVD_RUNNING: return "a tick of its job is in progress";

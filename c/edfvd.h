@@ -39,35 +39,36 @@ extern "C" {
 /* What a call returns. "The task" and "the job" are stored where the call says. */
 typedef enum edfvd_status {
     EDFVD_OK = 0,
-    EDFVD_EMPTY = 1,         /* the set has no task */
-    EDFVD_TOO_MANY = 2,      /* the set has more than 128 tasks */
-    EDFVD_ZERO_NUMBER = 3,   /* a period or a budget of the task is 0 */
-    EDFVD_BUDGET_ORDER = 4,  /* the task's low budget is above its high one, or it is a low task with two budgets */
-    EDFVD_SAME_NAME = 5,     /* never returned: tasks have numbers here, and no names */
-    EDFVD_LEVEL = 6,         /* the task's level is neither EDFVD_LOW nor EDFVD_HIGH */
-    EDFVD_PERIODS = 7,       /* the hyperperiod of the tasks up to this one exceeds 2^60 ticks */
-    EDFVD_NOT_ADMITTED = 8,  /* the published test gives the set no rule */
-    EDFVD_MEMORY = 9,        /* malloc failed */
-    EDFVD_NO_TASK = 10,      /* the set has no task of this number */
-    EDFVD_CLOSED = 12,       /* the scheduler or monitor is closed */
-    EDFVD_OPEN = 13,         /* the scheduler or monitor is open already */
-    EDFVD_RUNNING = 20,      /* a tick of the task's job is in progress: its outcome comes first */
-    EDFVD_TOO_SOON = 21,     /* answer.at is the first tick at which the task may release again */
-    EDFVD_FULL = 22,         /* there is no room for another row, or no number for another job of the task */
-    EDFVD_TICK_OUT = 23,     /* a tick of the job is in progress: its outcome comes first */
-    EDFVD_NOT_CHOSEN = 24,   /* another job is the chosen one; task 0 if none is pending */
-    EDFVD_NOT_OUT = 25,      /* no tick of this job is in progress; the job is the one with a tick, or task 0 */
-    EDFVD_PENDING = 26,      /* the job is pending, so the tick is not idle */
-    EDFVD_NO_ROW = 27,       /* the scheduler has no row of this number yet */
-    EDFVD_NO_ROOM = 28,      /* the published test admits the set at no percentage */
-    EDFVD_NO_PROCESSOR = 29, /* the task fits on none of the processors */
-    EDFVD_GONE = 30,         /* the row is older than those that a scheduler without an end keeps */
-    EDFVD_NULL = 40,         /* a pointer is null */
-    EDFVD_MOVED = 41,        /* the scheduler or monitor was copied or moved after it was opened */
-    EDFVD_BUSY = 42,         /* another thread is in a call with this scheduler or monitor */
-    EDFVD_ARGUMENT = 43,     /* a number is outside the range that the call states */
-    EDFVD_ROOM = 44,         /* the buffer or array is too small; the length that it needs is stored */
-    EDFVD_THREADS = 45       /* the command starts threads, which a library does not: soak, live, runall */
+    EDFVD_EMPTY = 1,           /* the set has no task */
+    EDFVD_TOO_MANY = 2,        /* the set has more than 128 tasks */
+    EDFVD_ZERO_NUMBER = 3,     /* a period, deadline or budget of the task is 0 */
+    EDFVD_BUDGET_ORDER = 4,    /* the task's low budget is above its high one, or it is a low task with two budgets */
+    EDFVD_SAME_NAME = 5,       /* never returned: tasks have numbers here, and no names */
+    EDFVD_LEVEL = 6,           /* the task's level is neither EDFVD_LOW nor EDFVD_HIGH */
+    EDFVD_PERIODS = 7,         /* the hyperperiod of the tasks up to this one exceeds 2^60 ticks, or 500,000 for edfvd_demand */
+    EDFVD_NOT_ADMITTED = 8,    /* the published test gives the set no rule */
+    EDFVD_MEMORY = 9,          /* malloc failed */
+    EDFVD_NO_TASK = 10,        /* the set has no task of this number */
+    EDFVD_DEADLINE_ORDER = 11, /* the task's deadline is above its period */
+    EDFVD_CLOSED = 12,         /* the scheduler or monitor is closed */
+    EDFVD_OPEN = 13,           /* the scheduler or monitor is open already */
+    EDFVD_RUNNING = 20,        /* a tick of the task's job is in progress: its outcome comes first */
+    EDFVD_TOO_SOON = 21,       /* answer.at is the first tick at which the task may release again */
+    EDFVD_FULL = 22,           /* there is no room for another row, or no number for another job of the task */
+    EDFVD_TICK_OUT = 23,       /* a tick of the job is in progress: its outcome comes first */
+    EDFVD_NOT_CHOSEN = 24,     /* another job is the chosen one; task 0 if none is pending */
+    EDFVD_NOT_OUT = 25,        /* no tick of this job is in progress; the job is the one with a tick, or task 0 */
+    EDFVD_PENDING = 26,        /* the job is pending, so the tick is not idle */
+    EDFVD_NO_ROW = 27,         /* the scheduler has no row of this number yet */
+    EDFVD_NO_ROOM = 28,        /* the published test admits the set at no percentage */
+    EDFVD_NO_PROCESSOR = 29,   /* the task fits on none of the processors */
+    EDFVD_GONE = 30,           /* the row is older than those that a scheduler without an end keeps */
+    EDFVD_NULL = 40,           /* a pointer is null */
+    EDFVD_MOVED = 41,          /* the scheduler or monitor was copied or moved after it was opened */
+    EDFVD_BUSY = 42,           /* another thread is in a call with this scheduler or monitor */
+    EDFVD_ARGUMENT = 43,       /* a number is outside the range that the call states */
+    EDFVD_ROOM = 44,           /* the buffer or array is too small; the length that it needs is stored */
+    EDFVD_THREADS = 45         /* the command starts threads, which a library does not: soak, live, runall */
 } edfvd_status;
 
 /* A few words for a status, such as "too soon"; those of another number say that it is unknown. The text is never null, stays
@@ -138,6 +139,37 @@ edfvd_status edfvd_partition(const edfvd_task *tasks, size_t count, uint32_t pro
  * Status: EDFVD_ARGUMENT.
  */
 edfvd_status edfvd_accept(uint64_t number, uint32_t sets, uint32_t tasks, uint32_t counts[11]);
+
+/*
+ * ---- Deadlines below periods ----
+ *
+ * Tasks of one level under plain EDF, whose deadlines may be shorter than their periods: an array of 1 to 128 elements, of which
+ * the n-th is task number n. It may be null if `count` is 0.
+ */
+
+typedef struct edfvd_demand_task {
+    uint32_t period;   /* ticks from a release at least to the next */
+    uint32_t deadline; /* ticks from a release to its deadline: at most the period */
+    uint32_t budget;   /* ticks that a job takes at most */
+} edfvd_demand_task;
+
+/* What the processor-demand test finds. */
+typedef struct edfvd_demand_test {
+    uint32_t past;   /* 0 if plain EDF schedules the tasks, and 1 if they ask for more ticks than a length of time has */
+    uint32_t task;   /* the task that a refusal is about, or 0 */
+    uint64_t length; /* the least such length, in ticks; without one the hyperperiod, up to which each length was tested */
+    uint64_t demand; /* the ticks that they ask for in that length; 0 without one */
+} edfvd_demand_test;
+
+/*
+ * Tests whether plain EDF meets every deadline of the tasks, by the processor-demand test (Baruah, Mok and Rosier, RTSS 1990).
+ * Tasks that it does not schedule are EDFVD_OK with `past` 1. With any other status `test` holds zeros and the task. The call
+ * takes 8 bytes for each tick of the hyperperiod, and time that grows with it.
+ *
+ * Statuses: EDFVD_TOO_MANY, with task 0, before any other; EDFVD_EMPTY; then those of the first task at fault, in this order:
+ * EDFVD_ZERO_NUMBER, EDFVD_DEADLINE_ORDER, EDFVD_PERIODS; EDFVD_MEMORY.
+ */
+edfvd_status edfvd_demand(const edfvd_demand_task *tasks, size_t count, edfvd_demand_test *test);
 
 /* ---- A scheduler ---- */
 

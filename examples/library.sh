@@ -130,7 +130,7 @@ END
         sane=
         echo "library: the sanitizers are left out: $CC has none"
     fi
-    for example in control dispatcher monitor endless wrong threads ask memory; do
+    for example in control deadlines dispatcher monitor endless wrong threads ask memory; do
         library=$c/out/libedfvd_core.a
         case $example in ask | memory) library=$c/out/libedfvd.a ;; esac
         compiled "$example" "$work/$example" -O2 "$library" || continue

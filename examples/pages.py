@@ -76,7 +76,7 @@ def evidence_mended(page):
     def link(match):
         name, clause, path, _ = match.groups()
         return re.sub(r'#L\d+', f'#L{line_of(name, clause, path)}', match[0])
-    told = [definitions.total_line(label, definitions.read([label])) for label in ('headline', 'told', 'complete', 'tested', 'answer', 'outcome')]
+    told = [definitions.total_line(label, definitions.read([label])) for label in ('headline', 'right_text', 'complete', 'tested', 'answer', 'outcome')]
     told.append(definitions.total_line('all clauses', definitions.read(definitions.clauses())))
     return TOTALS.sub(lambda match: match[1] + '\n'.join(told) + match[3], LINK.sub(link, page))
 

@@ -1,4 +1,4 @@
-"""The wrong bodies that the gate leaves out, for each of which it tries another one of the same crate. They stand in wrong_bodies/,
+"""The wrong bodies that the gate leaves out; except of calling_examples it tries others of the same crate. They stand in wrong_bodies/,
 a folder for each crate, in the form of those in must-fail/ of the crates: each is a plausible mistake that the prover must refuse.
 
 With no word, looks whether each still applies: an old line stands exactly once in its file. With names of crates, or `all`, has

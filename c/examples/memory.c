@@ -69,6 +69,12 @@ static edfvd_status try_open_endless(void) {
     return tried ? EDFVD_FULL : status == EDFVD_OK ? closed : status;
 }
 
+static edfvd_status try_demand(void) {
+    static const edfvd_demand_task three[] = {{4, 2, 1}, {6, 3, 2}, {12, 12, 1}};
+    edfvd_demand_test test;
+    return edfvd_demand(three, 3, &test);
+}
+
 static edfvd_status try_judge(void) {
     static const edfvd_row rows[] = {{EDFVD_KEPT, 1, 1}, {EDFVD_DONE, 1, 1}, {EDFVD_IDLE, 0, 0}};
     edfvd_verdict verdict;
@@ -104,11 +110,11 @@ int main(void) {
     static const struct {
         const char *name;
         edfvd_status (*call)(void);
-    } calls[] = {{"check", try_check},          {"stretch", try_stretch},           {"partition", try_partition},
-                 {"open", try_open},            {"open_endless", try_open_endless}, {"judge", try_judge},
-                 {"monitor", try_monitor},      {"ask check", ask_check},           {"ask run", ask_run},
-                 {"ask report", ask_report},    {"ask partition", ask_partition},   {"ask demand", ask_demand},
-                 {"ask accept", ask_accept}};
+    } calls[] = {{"check", try_check},       {"stretch", try_stretch},   {"partition", try_partition},
+                 {"demand", try_demand},     {"open", try_open},         {"open_endless", try_open_endless},
+                 {"judge", try_judge},       {"monitor", try_monitor},   {"ask check", ask_check},
+                 {"ask run", ask_run},       {"ask report", ask_report}, {"ask partition", ask_partition},
+                 {"ask demand", ask_demand}, {"ask accept", ask_accept}};
     for (size_t place = 0; place < sizeof calls / sizeof *calls; place++) {
         long failed = 0;
         for (;; failed++) {

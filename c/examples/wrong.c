@@ -33,6 +33,17 @@ int main(void) {
     say("partition a task above its period", edfvd_partition(bad, 2, 16, on, &task));
     say("stretch a set that is admitted nowhere", edfvd_stretch(bad, 2, &task, NULL));
     say("accept no sets", edfvd_accept(1, 0, 8, (uint32_t[11]){0}));
+    edfvd_demand_task short_one = {4, 5, 1};
+    edfvd_demand_test demand;
+    say("demand of NULL", edfvd_demand(NULL, 1, &demand));
+    say("demand of no tasks", edfvd_demand(NULL, 0, &demand));
+    say("demand with a deadline above the period", edfvd_demand(&short_one, 1, &demand));
+    short_one = (edfvd_demand_task){0, 0, 1};
+    say("demand with a period of 0", edfvd_demand(&short_one, 1, &demand));
+    short_one = (edfvd_demand_task){500001, 1, 1};
+    say("demand with a period above 500,000", edfvd_demand(&short_one, 1, &demand));
+    short_one = (edfvd_demand_task){4, 2, 3};
+    say("demand of 3 ticks in 2", edfvd_demand(&short_one, 1, &demand));
     say("judge a row of a third task", edfvd_judge(tasks, 2, &(edfvd_row){EDFVD_KEPT, 3, 1}, 1, 0, 0, &(edfvd_verdict){0, 0, 0, 0, 0}));
     say("judge a row of no kind", edfvd_judge(tasks, 2, &(edfvd_row){EDFVD_GIVEN, 1, 1}, 1, 0, 0, &(edfvd_verdict){0, 0, 0, 0, 0}));
     say("judge by a scale above 1", edfvd_judge(tasks, 2, NULL, 0, 3, 2, &(edfvd_verdict){0, 0, 0, 0, 0}));

@@ -7,7 +7,7 @@ from fractions import Fraction
 from typing import Dict, Iterable, List, Mapping, Optional, Sequence, Tuple
 
 from ._errors import CommandRefused, Refused, Status
-from ._library import CRow, CTask, CTest, CVerdict, library, size, u32
+from ._library import CDemandTask, CDemandTest, CRow, CTask, CTest, CVerdict, library, size, u32
 from ._values import Demand, DemandVerdict, Event, Job, Row, Rule, Task, Test, Verdict, Why
 
 _LEVELS = {"low": 0, "high": 1}
@@ -250,15 +250,25 @@ def run(tasks: Sequence[Task], jobs: Iterable[Job], ticks: int) -> List[Row]:
 def demand(tasks: Sequence[Demand]) -> DemandVerdict:
     """Whether plain EDF schedules tasks with deadlines of at most their periods, by the processor-demand test.
 
+    A counterexample is text of the program, so if there is one, the names must have the form that files allow.
+
     >>> demand([Demand("a", period=4, deadline=2, budget=1), Demand("b", period=6, deadline=3, budget=2)]).schedulable
     True
     """
+    if len({task.name for task in tasks}) != len(tasks):
+        raise ValueError("two tasks have one name")
+    array = (CDemandTask * len(tasks))()
+    for place, task in zip(array, tasks):
+        place.period = number(task.period, _MOST_32, f"task {task.name}: the period")
+        place.deadline = number(task.deadline, _MOST_32, f"task {task.name}: the deadline")
+        place.budget = number(task.budget, _MOST_32, f"task {task.name}: the budget")
+    test = CDemandTest()
+    status = library.edfvd_demand(array, len(tasks), test)
+    if status:
+        raise Refused(Status(status), tasks[test.task - 1].name if test.task else None)
+    if not test.past:
+        return DemandVerdict(True, test.length, None, ())
     lines = ["task,period,deadline,budget"]
-    for task in tasks:
-        numbers = [number(n, _MOST_64, f"task {task.name}: a number") for n in (task.period, task.deadline, task.budget)]
-        lines.append(",".join([_field(task.name), *map(str, numbers)]))
-    ended, text = _asked(["demand", "1"], "\n".join(lines) + "\n", "", 10)
-    words = text[0].split()
-    if ended == 0:
-        return DemandVerdict(True, int(words[-1]), None, ())
-    return DemandVerdict(False, int(words[-1]), int(words[3]), tuple(text[1:]))
+    lines += [f"{_field(task.name)},{task.period},{task.deadline},{task.budget}" for task in tasks]
+    _, text = _asked(["demand", "1"], "\n".join(lines) + "\n", "", 10)
+    return DemandVerdict(False, test.length, test.demand, tuple(text[1:]))

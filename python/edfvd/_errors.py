@@ -21,6 +21,7 @@ class Status(enum.IntEnum):
     NOT_ADMITTED = 8
     MEMORY = 9
     NO_TASK = 10
+    DEADLINE_ORDER = 11
     CLOSED = 12
     OPEN = 13
     RUNNING = 20
@@ -57,7 +58,7 @@ class Refused(EdfvdError):
     ...     check([Task("a", "low", period=0, low=1)])
     ... except Refused as refused:
     ...     print(refused.status.name, "-", refused)
-    ZERO_NUMBER - task a: a period or budget is 0
+    ZERO_NUMBER - task a: a period, deadline or budget is 0
     """
 
     def __init__(self, status: Status, task: Optional[str] = None, at: int = 0) -> None:

@@ -24,6 +24,14 @@ class CTest(ctypes.Structure):
     ]
 
 
+class CDemandTask(ctypes.Structure):
+    _fields_ = [("period", u32), ("deadline", u32), ("budget", u32)]
+
+
+class CDemandTest(ctypes.Structure):
+    _fields_ = [("past", u32), ("task", u32), ("length", u64), ("demand", u64)]
+
+
 class CHeld(ctypes.Structure):
     _fields_ = [("mark", u64), ("at", ctypes.c_void_p)]
 
@@ -68,7 +76,8 @@ class CLate(ctypes.Structure):
 
 
 STRUCTS = {
-    "edfvd_task": CTask, "edfvd_test": CTest, "edfvd_answer": CAnswer, "edfvd_look": CLook, "edfvd_row": CRow,
+    "edfvd_task": CTask, "edfvd_test": CTest, "edfvd_demand_task": CDemandTask, "edfvd_demand_test": CDemandTest,
+    "edfvd_answer": CAnswer, "edfvd_look": CLook, "edfvd_row": CRow,
     "edfvd_verdict": CVerdict, "edfvd_unfit": CUnfit, "edfvd_watch": CWatch, "edfvd_late": CLate,
 }
 
@@ -82,6 +91,7 @@ CALLS: Dict[str, List[Any]] = {
     "edfvd_stretch": [*_tasks, _pointer(u32), _pointer(u32)],
     "edfvd_partition": [*_tasks, u32, _pointer(u32), _pointer(u32)],
     "edfvd_accept": [u64, u32, u32, _pointer(u32)],
+    "edfvd_demand": [_pointer(CDemandTask), size, _pointer(CDemandTest)],
     "edfvd_judge": [*_tasks, _pointer(CRow), size, u64, u64, _pointer(CVerdict)],
     "edfvd_ask": [
         size, _pointer(ctypes.c_char_p), ctypes.c_char_p, size, ctypes.c_char_p, size, ctypes.c_char_p, size,

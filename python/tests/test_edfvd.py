@@ -166,6 +166,9 @@ class Calls(unittest.TestCase):
             (lambda: accept(2**64 - 1, 1, 8), Status.ARGUMENT),
             (lambda: partition(CONTROL, 17), Status.ARGUMENT),
             (lambda: judge(CONTROL, [Row(Event.GIVEN, "ctl", 1)]), Status.ARGUMENT),
+            (lambda: demand([]), Status.EMPTY),
+            (lambda: demand([Demand("a", 4, 5, 1)]), Status.DEADLINE_ORDER),
+            (lambda: demand([Demand("a", 500_001, 5, 1)]), Status.PERIODS),
         ]
         for call, status in cases:
             with self.assertRaises(Refused) as caught:
@@ -173,7 +176,7 @@ class Calls(unittest.TestCase):
             self.assertIs(caught.exception.status, status)
         with self.assertRaises(Refused) as caught:
             check([CTL, Task("log", "low", 0, 1)])
-        self.assertEqual(str(caught.exception), "task log: a period or budget is 0")
+        self.assertEqual(str(caught.exception), "task log: a period, deadline or budget is 0")
 
     def test_refused_commands(self) -> None:
         cases: List[Tuple[Callable[[], object], int]] = [
@@ -181,7 +184,7 @@ class Calls(unittest.TestCase):
             (lambda: run(CONTROL, [Job("no", 0, 1)], 4), 4),
             (lambda: run(CONTROL, [Job("ctl", 0, 0)], 4), 4),
             (lambda: run(CONTROL, [], 0), 2),
-            (lambda: demand([Demand("a", 4, 5, 1)]), 11),
+            (lambda: demand([Demand("a b", 4, 2, 3)]), 11),
         ]
         for call, status in cases:
             with self.assertRaises(CommandRefused) as caught:
@@ -197,6 +200,8 @@ class Calls(unittest.TestCase):
         cases: List[Callable[[], object]] = [
             lambda: check([Task("a", "middle", 4, 1)]),
             lambda: check([CTL, CTL]),
+            lambda: demand([Demand("a", 4, 2, 1), Demand("a", 4, 2, 1)]),
+            lambda: demand([Demand("a\n", 4, 2, 3)]),
             lambda: judge(CONTROL, [Row(Event.KEPT, "no", 1)]),
             lambda: judge(CONTROL, [], Fraction(3, 2)),
             lambda: run(CONTROL, [Job("ctl,0,1\nlog", 0, 1)], 4),

@@ -1,4 +1,4 @@
--- What is kept after one more note, and what it tells of one task.
+-- What is stored after one more note, and what it says of one task.
 use Rattle.std.proofs.Common.{◌≡◌, ℕ, suc, zero, ◌+◌, ◌-◌, ◌≤◌, ◌<◌, true, false, ◌==◌, List, [], ◌∷◌, option_map, get_or, set, map, refl, sym, ap, ◌∙◌, arith, eq-eqb}
 use Rattle.std.specs.Prelude.{slice_get, unwrap_or}
 use Rattle.std.proofs.lemmas.Bool.Decides.{nat_tests}
@@ -51,7 +51,7 @@ pub arrived_none : (k : ℕ) (ts : List Task) → map fresh_slot ts ≡ arrived_
 arrived_none k [] = refl
 arrived_none k (t ∷ ts) = ap (λ (ss : List Slot). fresh_slot t ∷ ss) (arrived_none (k + 1) ts)
 
--- from when a task may be released, by its place in the list
+-- the boundary from which a task may be released, by its index in the list
 next_at : (k i : ℕ) (ts : List Task) (notes : List Note) → (get_or (arrived_from k ts notes) i no_slot).next ≡ unwrap_or (option_map (λ (t : Task). next_after t.period notes (k + i)) (slice_get ts i)) 0
 next_at k i [] notes = refl
 next_at k zero (t ∷ ts) notes = ap (next_after t.period notes) (let e : k ≡ k + 0 = omega arith in e)

@@ -67,7 +67,7 @@ impl Arrivals {
         self.slots[task.0 as usize - 1].count
     }
 
-    /// Notes a release of the task at this boundary, and answers which of its releases it is, from 1.
+    /// Notes a release of the task at this boundary, and returns the release's number, from 1.
     ///
     /// It is refused, and nothing changes, exactly where the boundary lies before the one that is allowed.
     pub fn note(&mut self, task: TaskNo, at: u64) -> Result<u32, TooSoon>

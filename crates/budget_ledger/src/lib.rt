@@ -1,4 +1,4 @@
-//! How many ticks each task's live job has had, against the task's budgets.
+//! How many ticks each task's pending job has had, against the task's budgets.
 #![tactic(auto)]
 
 mod used;

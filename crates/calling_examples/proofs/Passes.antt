@@ -19,9 +19,9 @@ before (x ∷ xs) ys k h =
     let there = or_right ((of_pass x).task == k) (has_pass (xs ++ ys) k) h in
     neither ((of_pass x).task == k) (has_pass xs k) here (before xs ys k there)
 
-behind : (xs ys : List TaskPass) (k : ℕ) → has_pass (xs ++ ys) k ≡ false → has_pass ys k ≡ false
-behind [] ys k h = h
-behind (x ∷ xs) ys k h = behind xs ys k (or_right ((of_pass x).task == k) (has_pass (xs ++ ys) k) h)
+after : (xs ys : List TaskPass) (k : ℕ) → has_pass (xs ++ ys) k ≡ false → has_pass ys k ≡ false
+after [] ys k h = h
+after (x ∷ xs) ys k h = after xs ys k (or_right ((of_pass x).task == k) (has_pass (xs ++ ys) k) h)
 
 second : (k : ℕ) → 1 ≤ k → k ≤ 2 → k ≢ 1 → k ≡ 2
 second k low high other = omega (arith, low, high, other)
@@ -30,6 +30,6 @@ second k low high other = omega (arith, low, high, other)
 pub none_missing : (list : List TaskPass) (p q : TaskPass) (k : ℕ) → (of_pass p).task ≡ 1 → (of_pass q).task ≡ 2 → 1 ≤ k → k ≤ 2 → has_pass ((list ++ p ∷ []) ++ q ∷ []) k ≡ false → ⊥
 none_missing list p q k one two low high none =
     let front = before (list ++ p ∷ []) (q ∷ []) k none in
-    let not_one = eqb-false (of_pass p).task k (or_left ((of_pass p).task == k) false (behind list (p ∷ []) k front)) in
-    let not_two = eqb-false (of_pass q).task k (or_left ((of_pass q).task == k) false (behind (list ++ p ∷ []) (q ∷ []) k none)) in
+    let not_one = eqb-false (of_pass p).task k (or_left ((of_pass p).task == k) false (after list (p ∷ []) k front)) in
+    let not_two = eqb-false (of_pass q).task k (or_left ((of_pass q).task == k) false (after (list ++ p ∷ []) (q ∷ []) k none)) in
     dite (ℕ_discrete k 1) (λ (same : k ≡ 1). not_one (one ∙ sym same)) (λ (other : k ≢ 1). not_two (two ∙ sym (second k low high other)))

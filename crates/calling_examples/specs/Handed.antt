@@ -20,8 +20,8 @@ live_rows written a = record {
   stop = a.stop;
 }
 
--- there is room for 2^62 rows, and the clock is that of the rows; and until it stops, the monitor has seen the rows, and their
--- text was written
+-- the recorder has capacity for 2^62 rows, and the clock is that of the rows; and until the schedule stops,
+-- the monitor has seen the rows, and their text was written
 pub record IsLive {W : Type 0} (written : Option (List ℕ)) (a : Inside W) : Type 0 where
   pub room : vec_capacity a.rows ≡ 2 ^ 62
   pub set : a.set ≡ a.monitor.set

@@ -33,7 +33,7 @@ pub trait Machine: Device {
 
 /// Where the lines of a trace go.
 pub trait Lines: Drop {
-    /// The bytes that were written, if this place can say them.
+    /// The bytes that were written, if this object can say them.
     ghost written: { Self → Option (List ℕ) };
 
     /// Writes the whole line.
@@ -91,7 +91,7 @@ impl<W: Lines> Model for Live<W> {
 }
 
 impl<W: Lines> Live<W> {
-    /// Writes the header of a trace to a place to which nothing was written before.
+    /// Writes the header of a trace, before anything else was written.
     pub fn new(alloc: Global, set: &TaskSet, rule: Rule, out: W) -> Result<Live<W>, Stop>
         requires fits { Fits rule }
         requires empty { IfSome (W.written out) (λ bytes. bytes ≡ []) }
@@ -140,7 +140,7 @@ impl<W: Lines> Live<W> {
         &self.monitor
     }
 
-    /// The place to which the lines went.
+    /// The object to which the lines were written.
     pub fn into_lines(self) -> W
         ensures { W.written result ≡ self.written }
     {

@@ -8,8 +8,8 @@ use Rattle.serving.specs.Command.{Command, answer}
 use Rattle.serving.specs.Within.{within}
 use Rattle.task_answers.specs.Check.{check}
 use Rattle.trace_answers.specs.OnTrace.{on_trace, IsScale}
-use Rattle.trace_answers.specs.declared.telling.Telling.{Telling}
-use Rattle.trace_answers.specs.declared.telling.Telling.TheVariants.{Judge, JudgeBy, Chart, Report, Migrate}
+use Rattle.trace_answers.specs.declared.action.TraceAction.{TraceAction}
+use Rattle.trace_answers.specs.declared.action.TraceAction.TheVariants.{Judge, JudgeBy, Chart, Report, Migrate}
 use Rattle.run_answers.specs.Run.{run}
 use Rattle.run_answers.specs.Soak.{soak}
 use Rattle.run_answers.specs.Live.{live}
@@ -25,7 +25,7 @@ use Rattle.command_line.specs.declared.form.Form.TheVariants as form
 abbrev pub command_of : Form → Command
 command_of (form.Check c) = check c.tasks
 command_of (form.Run c) = run c.tasks c.work c.ticks
-command_of (form.OnTrace c) = on_trace c.telling c.tasks c.trace
+command_of (form.OnTrace c) = on_trace c.action c.tasks c.trace
 command_of (form.Soak c) = soak c.number c.tasks c.ticks
 command_of (form.Live c) = live c.tasks c.ticks
 command_of (form.Demand c) = demand c.demands
@@ -37,7 +37,7 @@ command_of (form.Accept c) = accept c.number c.sets c.tasks
 -- a form's numbers are within bounds that its command needs: a scale is at most 1, a workload has 2 to 32
 -- tasks, and the numbers of a study's sets are below 2^64
 abbrev pub IsInRange : Form → Type 0
-IsInRange (form.OnTrace c) = IsScale c.telling
+IsInRange (form.OnTrace c) = IsScale c.action
 IsInRange (form.Soak c) = (2 ≤ c.tasks) × (c.tasks ≤ 32)
 IsInRange (form.Accept c) = c.number + c.sets < 2 ^ 64
 IsInRange c = Unit {0}
@@ -65,7 +65,7 @@ abbrev pub number : ℕ → ℕ → List ℕ → Option ℕ
 number least most word = option_and_then (within least most) (numeral 20 word)
 
 -- `judge` under the scale p/q, which is at most 1
-abbrev pub judge_by : Option ℕ → Option ℕ → Option Telling
+abbrev pub judge_by : Option ℕ → Option ℕ → Option TraceAction
 judge_by (Some p) (Some q) = if nat_le p q then Some (JudgeBy p q) else None
 judge_by p q = None
 
@@ -87,16 +87,16 @@ parts_run tasks work (Some ticks) (Some processors) =
 parts_run tasks work ticks processors = None
 
 -- the command on a trace that the word names
-abbrev pub telling_of : List ℕ → Option Telling
-telling_of word =
+abbrev pub action_of : List ℕ → Option TraceAction
+action_of word =
     if bytes_eq word (codes "judge") then Some Judge
     else if bytes_eq word (codes "chart") then Some Chart
     else if bytes_eq word (codes "report") then Some Report
     else if bytes_eq word (codes "migrate") then Some Migrate else None
 
 -- the form of a command on a trace
-abbrev pub trace_form : List ℕ → List ℕ → Telling → Form
-trace_form tasks trace telling = form.OnTrace (record { telling = telling; tasks = tasks; trace = trace })
+abbrev pub trace_form : List ℕ → List ℕ → TraceAction → Form
+trace_form tasks trace action = form.OnTrace (record { action = action; tasks = tasks; trace = trace })
 
 -- the form of a command with one more word
 abbrev pub with_one : List ℕ → List ℕ → Option Form
@@ -112,7 +112,7 @@ with_two word a b =
     then option_map (λ ticks. form.Live (record { tasks = a; ticks = ticks })) (number 1 100000 b)
     else if bytes_eq word (codes "partition")
     then option_map (λ m. form.Partition (record { tasks = a; processors = m })) (number 1 16 b)
-    else option_map (trace_form a b) (telling_of word)
+    else option_map (trace_form a b) (action_of word)
 
 -- the form of a command with three more words
 abbrev pub with_three : List ℕ → List ℕ → List ℕ → List ℕ → Option Form

@@ -4,20 +4,20 @@ ghost use Rattle.serving.specs.Serves.{Serves};
 ghost use Rattle.trace_answers.specs.OnTrace.{IsScale};
 ghost use Rattle.command_line.specs.Form as spec;
 
-use demand_answers::Demand;
+use demand_answers::DemandCommand;
 use executive::Gate;
 use mc_world::Shelf;
 use numeral::numeral;
-use part_answers::{Partition, RunAll};
+use part_answers::{PartitionCommand, RunAllCommand};
 use replies::{Reply, Stop};
-use run_answers::{Live, LiveTicks, Run, Soak, Ticks};
+use run_answers::{LiveCommand, LiveTicks, RunCommand, SoakCommand, Ticks};
 use serving::{FileName, TaskCount, Within};
 use std::alloc::{AllocError, Global};
 use std::sync::Wait;
 use std::thread::Threads;
-use study_answers::{Accept, SetCount, Stretch};
-use task_answers::Check;
-use trace_answers::{OnTrace, Telling};
+use study_answers::{AcceptCommand, SetCount, StretchCommand};
+use task_answers::CheckCommand;
+use trace_answers::{TraceAction, TraceCommand};
 
 // A number of a scale `p/q`.
 type ScalePart = Within<1, 4_294_967_295>;
@@ -28,16 +28,16 @@ type SetNumber = Within<0, 18_446_744_073_709_551_615>;
 /// A command, as the words of the command line name it.
 #[derive(Drop)]
 pub enum Form<'a> {
-    Check(Check<'a>),
-    Run(Run<'a>),
-    OnTrace(OnTrace<'a>),
-    Soak(Soak),
-    Live(Live<'a>),
-    Demand(Demand<'a>),
-    Partition(Partition<'a>),
-    RunAll(RunAll<'a>),
-    Stretch(Stretch<'a>),
-    Accept(Accept),
+    Check(CheckCommand<'a>),
+    Run(RunCommand<'a>),
+    OnTrace(TraceCommand<'a>),
+    Soak(SoakCommand),
+    Live(LiveCommand<'a>),
+    Demand(DemandCommand<'a>),
+    Partition(PartitionCommand<'a>),
+    RunAll(RunAllCommand<'a>),
+    Stretch(StretchCommand<'a>),
+    Accept(AcceptCommand),
 }
 
 impl<'a> Form<'a> {
@@ -126,9 +126,9 @@ fn with_one<'a>(word: &str, file: &'a str) -> Option<Form<'a>>
 {
     let file = FileName::new(file);
     match word {
-        "check" => Some(Form::Check(Check { tasks: file })),
-        "demand" => Some(Form::Demand(Demand { demands: file })),
-        "stretch" => Some(Form::Stretch(Stretch { tasks: file })),
+        "check" => Some(Form::Check(CheckCommand { tasks: file })),
+        "demand" => Some(Form::Demand(DemandCommand { demands: file })),
+        "stretch" => Some(Form::Stretch(StretchCommand { tasks: file })),
         _ => None,
     }
 }
@@ -144,14 +144,14 @@ fn with_two<'a>(word: &str, tasks: &'a str, second: &'a str) -> Option<Form<'a>>
             let ticks: LiveTicks = bounded(second)?;
             // The ticks are within their bounds.
             let _count = ticks.get();
-            Some(Form::Live(Live { tasks, ticks }))
+            Some(Form::Live(LiveCommand { tasks, ticks }))
         }
         "partition" => {
             let tasks = FileName::new(tasks);
             let processors = bounded(second)?;
-            Some(Form::Partition(Partition { tasks, processors }))
+            Some(Form::Partition(PartitionCommand { tasks, processors }))
         }
-        _ => Some(on_trace(telling_of(word)?, tasks, second)),
+        _ => Some(on_trace(action_of(word)?, tasks, second)),
     }
 }
 
@@ -167,7 +167,7 @@ fn with_three<'a>(word: &str, first: &'a str, second: &'a str, third: &str) -> O
             let ticks: Ticks = bounded(third)?;
             // The ticks are within their bounds.
             let _count = ticks.get();
-            Some(Form::Run(Run { tasks, work, ticks }))
+            Some(Form::Run(RunCommand { tasks, work, ticks }))
         }
         "soak" => workload(first, second, third),
         "accept" => study(first, second, third),
@@ -195,7 +195,7 @@ fn with_four<'a>(
             // The ticks are within their bounds.
             let _count = ticks.get();
             let processors = bounded(fourth)?;
-            Some(Form::RunAll(RunAll {
+            Some(Form::RunAll(RunAllCommand {
                 tasks,
                 work,
                 ticks,
@@ -206,32 +206,32 @@ fn with_four<'a>(
     }
 }
 
-fn on_trace<'a>(telling: Telling, tasks: &'a str, trace: &'a str) -> Form<'a>
-    ensures { result ≡ spec.trace_form tasks.now trace.now telling }
+fn on_trace<'a>(action: TraceAction, tasks: &'a str, trace: &'a str) -> Form<'a>
+    ensures { result ≡ spec.trace_form tasks.now trace.now action }
 {
     let tasks = FileName::new(tasks);
     let trace = FileName::new(trace);
-    Form::OnTrace(OnTrace {
-        telling,
+    Form::OnTrace(TraceCommand {
+        action,
         tasks,
         trace,
     })
 }
 
-fn telling_of(word: &str) -> Option<Telling>
-    ensures form { result ≡ spec.telling_of word.now }
+fn action_of(word: &str) -> Option<TraceAction>
+    ensures form { result ≡ spec.action_of word.now }
     ensures scale { IfSome result IsScale }
 {
     match word {
-        "judge" => Some(Telling::Judge),
-        "chart" => Some(Telling::Chart),
-        "report" => Some(Telling::Report),
-        "migrate" => Some(Telling::Migrate),
+        "judge" => Some(TraceAction::Judge),
+        "chart" => Some(TraceAction::Chart),
+        "report" => Some(TraceAction::Report),
+        "migrate" => Some(TraceAction::Migrate),
         _ => None,
     }
 }
 
-fn judge_by(p: &str, q: &str) -> Option<Telling>
+fn judge_by(p: &str, q: &str) -> Option<TraceAction>
     ensures form { result ≡ spec.judge_by (spec.number 1 4294967295 p.now) (spec.number 1 4294967295 q.now) }
     ensures scale { IfSome result IsScale }
 {
@@ -239,7 +239,7 @@ fn judge_by(p: &str, q: &str) -> Option<Telling>
     let q: ScalePart = bounded(q)?;
     let (p, q) = (p.get(), q.get());
     if p <= q {
-        Some(Telling::JudgeBy { p, q })
+        Some(TraceAction::JudgeBy { p, q })
     } else {
         None
     }
@@ -256,7 +256,7 @@ fn workload<'a>(seed: &str, tasks: &str, ticks: &str) -> Option<Form<'a>>
     let ticks = bounded(ticks)?;
     // The tasks are within their bounds.
     let _count = tasks.get();
-    Some(Form::Soak(Soak {
+    Some(Form::Soak(SoakCommand {
         number: seed.get(),
         tasks,
         ticks,
@@ -276,7 +276,7 @@ fn study<'a>(first: &str, sets: &str, tasks: &str) -> Option<Form<'a>>
     if sets.get() > u64::MAX - number {
         return None;
     }
-    Some(Form::Accept(Accept {
+    Some(Form::Accept(AcceptCommand {
         number,
         sets,
         tasks,

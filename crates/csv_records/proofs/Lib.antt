@@ -1,4 +1,5 @@
 pub mod RecordLemmas
 pub mod WidthLemmas
 pub mod RowLemmas
+pub mod Taking
 pub mod WordLemmas

@@ -8,7 +8,7 @@ use Rattle.csv.specs.declared.parser.State.{State}
 use Rattle.csv.specs.declared.parser.State.TheVariants as st
 use Rattle.csv.specs.declared.reader.Reader.{Reader}
 use Rattle.csv.proofs.ReadFacts.{rows-end, rows-more}
-use Rattle.csv_records.specs.Left.{GivesRecords, bytes_left, records_after, records_left}
+use Rattle.csv_records.specs.Left.{ReturnsRecords, bytes_left, records_after, records_left}
 
 none_some : {A : Type 0} (x : A) (o : Option A) → o ≡ None → o ≡ Some x → ⊥
 none_some x o a b = cc
@@ -112,7 +112,7 @@ after_read : (s t : State) (y z : List ℕ) (f : List (List ℕ)) (p : Read) →
 after_read s t y z f p some is state bytes = rw (is, ← state, ← bytes) (after_first s y p some)
 
 -- a read that found a record took the first of those that were left
-pub taken : (a b : Reader (Bor (List ℕ))) (f : List (List ℕ)) → GivesRecords a → ReadRecord bytes_left a b true f → records_left false a ≡ f ∷ records_left false b
+pub taken : (a b : Reader (Bor (List ℕ))) (f : List (List ℕ)) → ReturnsRecords a → ReadRecord bytes_left a b true f → records_left false a ≡ f ∷ records_left false b
 unfolding Reached
 taken a b f gives read = by (source_of bytes_left a) refl gives.source
   where
@@ -124,7 +124,7 @@ taken a b f gives read = by (source_of bytes_left a) refl gives.source
         ap (records_after a.state) source ∙ (after_read a.state b.state y m.0 f p m.2.1 m.2.2 m.2.3.0 m.2.3.1 ∙ ap (λ o. f ∷ records_after b.state o) (sym m.1))
 
 -- if a read found no record, none was left
-pub ended : (a b : Reader (Bor (List ℕ))) (f : List (List ℕ)) → GivesRecords a → ReadRecord bytes_left a b false f → records_left false a ≡ []
+pub ended : (a b : Reader (Bor (List ℕ))) (f : List (List ℕ)) → ReturnsRecords a → ReadRecord bytes_left a b false f → records_left false a ≡ []
 ended a b f gives read = by (source_of bytes_left a) refl gives.source
   where
     by : (o : Option (List ℕ)) → source_of bytes_left a ≡ o → IsSome o → records_left false a ≡ []

@@ -5,12 +5,12 @@ use Rattle.std.proofs.lemmas.List.{length-append, length-drop}
 use Rattle.csv.specs.Machine.{Read, next_record, step, in_field, start_field, start_record, ends_with, after_end, is_end, fields_after, field_after, ends_at_end}
 use Rattle.csv.specs.Reading.{default_config, records, records_from, records_next, strip_bom}
 use Rattle.csv.specs.declared.parser.State.{State}
-use Rattle.csv.specs.declared.parser.State.TheVariants as state
+use Rattle.csv.specs.declared.parser.State.TheVariants as csv_state
 use Rattle.csv.specs.declared.parser.Action.{Action}
 use Rattle.csv.specs.declared.parser.Action.TheVariants as act
-use Rattle.csv_records.specs.declared.width.Count.{Count}
+use Rattle.csv_records.specs.declared.width.FieldCount.{FieldCount}
 use Rattle.csv_records.specs.declared.width.Ends.TheVariants as ends
-use Rattle.csv_records.specs.Width.{StartsWide, has_mark, state_of, ends_of, is_inside, CountsFields}
+use Rattle.csv_records.specs.Width.{StartsWide, has_mark, csv_state_of, ends_of, is_inside, CountsFields}
 use Rattle.csv_records.proofs.RecordLemmas.{one_read}
 
 -- a text without its byte order mark is the text from its fourth byte on
@@ -38,7 +38,7 @@ FieldInside to = to.1 ≡ act.EndField → is_inside to.0 ≡ true
 abbrev StaysInside : State × Action → Type 0
 StaysInside to = is_end to.1 ≡ false → is_inside to.0 ≡ true
 
-in_field_by : (d e : Bool) (s : State) → StaysInside (cond d (state.StartField, act.EndField) (cond e (s, act.EndRecord) (state.InField, act.Copy)))
+in_field_by : (d e : Bool) (s : State) → StaysInside (cond d (csv_state.StartField, act.EndField) (cond e (s, act.EndRecord) (csv_state.InField, act.Copy)))
 in_field_by true e s h = refl
 in_field_by false true s h = cc
 in_field_by false false s h = refl
@@ -52,18 +52,18 @@ skips_or true s a to inside stays h = inside
 skips_or false s a to inside stays h = stays h
 
 start_field_stays : (b : ℕ) → StaysInside (start_field default_config b)
-start_field_stays b = skips_or (default_config.quoting && (b == default_config.quote)) state.InQuoted act.Skip (in_field default_config b) refl (in_field_stays b)
+start_field_stays b = skips_or (default_config.quoting && (b == default_config.quote)) csv_state.InQuoted act.Skip (in_field default_config b) refl (in_field_stays b)
 
 -- inside a record, a byte either ends the record or stays inside it
 stays : (s : State) (b : ℕ) → is_inside s ≡ true → StaysInside (step default_config s b)
-stays state.StartRecord b h = cc
-stays state.AfterCr b h = cc
-stays state.InComment b h = cc
-stays state.StartField b h = start_field_stays b
-stays state.InField b h = in_field_stays b
-stays state.InQuoted b h = skips_or (b == 34) state.AfterQuote act.Skip (state.InQuoted, act.Copy) refl (λ still. refl)
-stays state.AfterQuote b h = skips_or (b == 34) state.InQuoted act.Copy (in_field default_config b) refl (in_field_stays b)
-stays state.InEscape b h = λ still. refl
+stays csv_state.StartRecord b h = cc
+stays csv_state.AfterCr b h = cc
+stays csv_state.InComment b h = cc
+stays csv_state.StartField b h = start_field_stays b
+stays csv_state.InField b h = in_field_stays b
+stays csv_state.InQuoted b h = skips_or (b == 34) csv_state.AfterQuote act.Skip (csv_state.InQuoted, act.Copy) refl (λ still. refl)
+stays csv_state.AfterQuote b h = skips_or (b == 34) csv_state.InQuoted act.Copy (in_field default_config b) refl (in_field_stays b)
+stays csv_state.InEscape b h = λ still. refl
 
 -- a field that ends does not end its record
 field_is_inside : (to : State × Action) → StaysInside to → FieldInside to
@@ -75,29 +75,29 @@ skipped_or true s to inside h = cc
 skipped_or false s to inside h = inside h
 
 start_record_field : (b : ℕ) → FieldInside (start_record default_config b)
-start_record_field b = skipped_or (ends_with default_config.terminator b) state.StartRecord (start_field default_config b) (field_is_inside (start_field default_config b) (start_field_stays b))
+start_record_field b = skipped_or (ends_with default_config.terminator b) csv_state.StartRecord (start_field default_config b) (field_is_inside (start_field default_config b) (start_field_stays b))
 
 -- after each byte that ends a field, the machine is inside a record
 field_inside : (s : State) (b : ℕ) → FieldInside (step default_config s b)
-field_inside state.StartRecord b = start_record_field b
-field_inside state.AfterCr b = skipped_or (b == 10) state.StartRecord (start_record default_config b) (start_record_field b)
-field_inside state.InComment b = skipped_or (b == 10) state.StartRecord (state.InComment, act.Skip) (λ h. cc)
-field_inside state.StartField b = field_is_inside (step default_config state.StartField b) (stays state.StartField b refl)
-field_inside state.InField b = field_is_inside (step default_config state.InField b) (stays state.InField b refl)
-field_inside state.InQuoted b = field_is_inside (step default_config state.InQuoted b) (stays state.InQuoted b refl)
-field_inside state.AfterQuote b = field_is_inside (step default_config state.AfterQuote b) (stays state.AfterQuote b refl)
-field_inside state.InEscape b = field_is_inside (step default_config state.InEscape b) (stays state.InEscape b refl)
+field_inside csv_state.StartRecord b = start_record_field b
+field_inside csv_state.AfterCr b = skipped_or (b == 10) csv_state.StartRecord (start_record default_config b) (start_record_field b)
+field_inside csv_state.InComment b = skipped_or (b == 10) csv_state.StartRecord (csv_state.InComment, act.Skip) (λ h. cc)
+field_inside csv_state.StartField b = field_is_inside (step default_config csv_state.StartField b) (stays csv_state.StartField b refl)
+field_inside csv_state.InField b = field_is_inside (step default_config csv_state.InField b) (stays csv_state.InField b refl)
+field_inside csv_state.InQuoted b = field_is_inside (step default_config csv_state.InQuoted b) (stays csv_state.InQuoted b refl)
+field_inside csv_state.AfterQuote b = field_is_inside (step default_config csv_state.AfterQuote b) (stays csv_state.AfterQuote b refl)
+field_inside csv_state.InEscape b = field_is_inside (step default_config csv_state.InEscape b) (stays csv_state.InEscape b refl)
 
 -- a text ends the record that the machine is inside of
 inside_ends : (s : State) → is_inside s ≡ true → ends_at_end s ≡ true
-inside_ends state.StartRecord h = cc
-inside_ends state.AfterCr h = cc
-inside_ends state.InComment h = cc
-inside_ends state.StartField h = refl
-inside_ends state.InField h = refl
-inside_ends state.InQuoted h = refl
-inside_ends state.AfterQuote h = refl
-inside_ends state.InEscape h = refl
+inside_ends csv_state.StartRecord h = cc
+inside_ends csv_state.AfterCr h = cc
+inside_ends csv_state.InComment h = cc
+inside_ends csv_state.StartField h = refl
+inside_ends csv_state.InField h = refl
+inside_ends csv_state.InQuoted h = refl
+inside_ends csv_state.AfterQuote h = refl
+inside_ends csv_state.InEscape h = refl
 
 -- the next record, by the action on its next byte
 by_action : (s : State) (fields : List (List ℕ)) (part : List ℕ) (b : ℕ) (rest : List ℕ) (a : Action) → (step default_config s b).1 ≡ a
@@ -114,7 +114,7 @@ ends_wider : (s : State) (fields : List (List ℕ)) (part xs : List ℕ) → is_
 unfolding next_record
 ends_wider s fields part [] h =
     let longer = length-append fields (part ∷ []) in
-    ((fields ++ (part ∷ []), state.StartRecord, []), ap (λ (b : Bool). cond b (Some (fields ++ (part ∷ []), state.StartRecord, [])) None) (inside_ends s h), omega (arith, longer))
+    ((fields ++ (part ∷ []), csv_state.StartRecord, []), ap (λ (b : Bool). cond b (Some (fields ++ (part ∷ []), csv_state.StartRecord, [])) None) (inside_ends s h), omega (arith, longer))
 ends_wider s fields part (b ∷ rest) h = go (step default_config s b).1 refl (λ s fields part h. ends_wider s fields part rest h)
   where
     go : (a : Action) → (step default_config s b).1 ≡ a
@@ -135,38 +135,38 @@ ends_wider s fields part (b ∷ rest) h = go (step default_config s b).1 refl (�
         (more.0, by_action s fields part b rest act.Copy e ∙ more.1, more.2)
 
 -- after six fields of a record, the record is too wide
-pub told : (text : List ℕ) (i : ℕ) (count : Count) → CountsFields text i count → 6 ≤ count.fields → StartsWide (drop count.records (records default_config text))
-told text i count counts wide =
+pub has_too_many : (text : List ℕ) (i : ℕ) (count : FieldCount) → CountsFields text i count → 6 ≤ count.fields → StartsWide (drop count.records (records default_config text))
+has_too_many text i count counts wide =
     let width = counts.width in
-    let more = ends_wider (state_of count.place) counts.fields counts.part (drop i text) (counts.inside (omega (arith, wide))) in
+    let more = ends_wider (csv_state_of count.state) counts.fields counts.part (drop i text) (counts.inside (omega (arith, wide))) in
     let left = counts.left ∙ ap (records_next (records_from default_config (length text - count.records))) more.1 in
     subst (λ (rs : List (List (List ℕ))). StartsWide rs) (sym left) (omega (arith, width, wide, more.2))
 
 -- before the first byte the counts are right
-pub none_counted : (text : List ℕ) (count : Count) → count.records ≡ 0 → count.fields ≡ 0 → state_of count.place ≡ state.StartRecord → CountsFields text 0 count
+pub none_counted : (text : List ℕ) (count : FieldCount) → count.records ≡ 0 → count.fields ≡ 0 → csv_state_of count.state ≡ csv_state.StartRecord → CountsFields text 0 count
 none_counted text count none no_field start = record {
   fields = [];
   part = [];
   width = sym no_field;
   inside = λ some. absurd (omega (arith, some, no_field));
   order = omega (arith, none);
-  left = rw (none, start) (one_read state.StartRecord text (length text + 1) (length text - 0) (omega arith));
+  left = rw (none, start) (one_read csv_state.StartRecord text (length text + 1) (length text - 0) (omega arith));
 }
 
 -- if y stands first of what is left after n, ys is what is left after n + 1
-drop_behind : {A : Type 0} (n : ℕ) (xs : List A) (y : A) (ys : List A) → drop n xs ≡ y ∷ ys → drop (suc n) xs ≡ ys
-drop_behind zero [] y ys h = cc
-drop_behind zero (x ∷ xs) y ys h = ap (drop 1) h
-drop_behind (suc n) [] y ys h = cc
-drop_behind (suc n) (x ∷ xs) y ys h = drop_behind n xs y ys h
+drop_after : {A : Type 0} (n : ℕ) (xs : List A) (y : A) (ys : List A) → drop n xs ≡ y ∷ ys → drop (suc n) xs ≡ ys
+drop_after zero [] y ys h = cc
+drop_after zero (x ∷ xs) y ys h = ap (drop 1) h
+drop_after (suc n) [] y ys h = cc
+drop_after (suc n) (x ∷ xs) y ys h = drop_after n xs y ys h
 
 -- the counts are right after one more byte that ends nothing
-pub goes_on : (text : List ℕ) (i b : ℕ) (old new : Count) → drop i text ≡ b ∷ drop (i + 1) text → CountsFields text i old → ends_of (step default_config (state_of old.place) b).1 ≡ ends.Nothing
-    → state_of new.place ≡ (step default_config (state_of old.place) b).0 → new.records ≡ old.records → new.fields ≡ old.fields → CountsFields text (i + 1) new
-goes_on text i b old new byte counts nothing place same_records same_fields = go (step default_config (state_of old.place) b).1 refl
+pub goes_on : (text : List ℕ) (i b : ℕ) (old new : FieldCount) → drop i text ≡ b ∷ drop (i + 1) text → CountsFields text i old → ends_of (step default_config (csv_state_of old.state) b).1 ≡ ends.Nothing
+    → csv_state_of new.state ≡ (step default_config (csv_state_of old.state) b).0 → new.records ≡ old.records → new.fields ≡ old.fields → CountsFields text (i + 1) new
+goes_on text i b old new byte counts nothing state same_records same_fields = go (step default_config (csv_state_of old.state) b).1 refl
   where
-    on : (part : List ℕ) → is_end (step default_config (state_of old.place) b).1 ≡ false
-        → next_record default_config (state_of old.place) counts.fields counts.part (b ∷ drop (i + 1) text) ≡ next_record default_config (step default_config (state_of old.place) b).0 counts.fields part (drop (i + 1) text)
+    on : (part : List ℕ) → is_end (step default_config (csv_state_of old.state) b).1 ≡ false
+        → next_record default_config (csv_state_of old.state) counts.fields counts.part (b ∷ drop (i + 1) text) ≡ next_record default_config (step default_config (csv_state_of old.state) b).0 counts.fields part (drop (i + 1) text)
         → CountsFields text (i + 1) new
     on part still next =
         let order = counts.order in
@@ -174,15 +174,15 @@ goes_on text i b old new byte counts nothing place same_records same_fields = go
           fields = counts.fields;
           part = part;
           width = counts.width ∙ sym same_fields;
-          inside = λ some. ap is_inside place ∙ stays (state_of old.place) b (counts.inside (omega (arith, some, same_fields))) still;
+          inside = λ some. ap is_inside state ∙ stays (csv_state_of old.state) b (counts.inside (omega (arith, some, same_fields))) still;
           order = omega (arith, order, same_records);
-          left = rw (same_records, place) (counts.left ∙ ap (λ (xs : List ℕ). records_next (records_from default_config (length text - old.records)) (next_record default_config (state_of old.place) counts.fields counts.part xs)) byte
+          left = rw (same_records, state) (counts.left ∙ ap (λ (xs : List ℕ). records_next (records_from default_config (length text - old.records)) (next_record default_config (csv_state_of old.state) counts.fields counts.part xs)) byte
               ∙ ap (records_next (records_from default_config (length text - old.records))) next);
         }
 
-    go : (a : Action) → (step default_config (state_of old.place) b).1 ≡ a → CountsFields text (i + 1) new
-    go act.Skip e = on counts.part (ap is_end e) (by_action (state_of old.place) counts.fields counts.part b (drop (i + 1) text) act.Skip e)
-    go act.Copy e = on (counts.part ++ (b ∷ [])) (ap is_end e) (by_action (state_of old.place) counts.fields counts.part b (drop (i + 1) text) act.Copy e)
+    go : (a : Action) → (step default_config (csv_state_of old.state) b).1 ≡ a → CountsFields text (i + 1) new
+    go act.Skip e = on counts.part (ap is_end e) (by_action (csv_state_of old.state) counts.fields counts.part b (drop (i + 1) text) act.Skip e)
+    go act.Copy e = on (counts.part ++ (b ∷ [])) (ap is_end e) (by_action (csv_state_of old.state) counts.fields counts.part b (drop (i + 1) text) act.Copy e)
     go act.EndField e = absurd (let bad = ap ends_of e in let no : ends.Field ≡ ends.Nothing = sym bad ∙ nothing in cc)
     go act.EndRecord e = absurd (let bad = ap ends_of e in let no : ends.Record ≡ ends.Nothing = sym bad ∙ nothing in cc)
 
@@ -199,9 +199,9 @@ only_record act.Skip h = cc
 only_record act.Copy h = cc
 
 -- the counts are right after one more byte that ends a field
-pub ends_field : (text : List ℕ) (i b : ℕ) (old new : Count) → drop i text ≡ b ∷ drop (i + 1) text → CountsFields text i old → ends_of (step default_config (state_of old.place) b).1 ≡ ends.Field
-    → state_of new.place ≡ (step default_config (state_of old.place) b).0 → new.records ≡ old.records → new.fields ≡ old.fields + 1 → CountsFields text (i + 1) new
-ends_field text i b old new byte counts field place same_records one_more =
+pub ends_field : (text : List ℕ) (i b : ℕ) (old new : FieldCount) → drop i text ≡ b ∷ drop (i + 1) text → CountsFields text i old → ends_of (step default_config (csv_state_of old.state) b).1 ≡ ends.Field
+    → csv_state_of new.state ≡ (step default_config (csv_state_of old.state) b).0 → new.records ≡ old.records → new.fields ≡ old.fields + 1 → CountsFields text (i + 1) new
+ends_field text i b old new byte counts field state same_records one_more =
     let e = only_field _ field in
     let order = counts.order in
     let width = counts.width in
@@ -210,22 +210,22 @@ ends_field text i b old new byte counts field place same_records one_more =
       fields = counts.fields ++ (counts.part ∷ []);
       part = [];
       width = omega (arith, longer, width, one_more);
-      inside = λ some. ap is_inside place ∙ field_inside (state_of old.place) b e;
+      inside = λ some. ap is_inside state ∙ field_inside (csv_state_of old.state) b e;
       order = omega (arith, order, same_records);
-      left = rw (same_records, place) (counts.left ∙ ap (λ (xs : List ℕ). records_next (records_from default_config (length text - old.records)) (next_record default_config (state_of old.place) counts.fields counts.part xs)) byte
-          ∙ ap (records_next (records_from default_config (length text - old.records))) (by_action (state_of old.place) counts.fields counts.part b (drop (i + 1) text) act.EndField e));
+      left = rw (same_records, state) (counts.left ∙ ap (λ (xs : List ℕ). records_next (records_from default_config (length text - old.records)) (next_record default_config (csv_state_of old.state) counts.fields counts.part xs)) byte
+          ∙ ap (records_next (records_from default_config (length text - old.records))) (by_action (csv_state_of old.state) counts.fields counts.part b (drop (i + 1) text) act.EndField e));
     }
 
 -- the counts are right after one more byte that ends a record
-pub ends_record : (text : List ℕ) (i b : ℕ) (old new : Count) → drop i text ≡ b ∷ drop (i + 1) text → CountsFields text i old → ends_of (step default_config (state_of old.place) b).1 ≡ ends.Record
-    → state_of new.place ≡ (step default_config (state_of old.place) b).0 → new.records ≡ old.records + 1 → new.fields ≡ 0 → CountsFields text (i + 1) new
-ends_record text i b old new byte counts ended place one_more no_field =
+pub ends_record : (text : List ℕ) (i b : ℕ) (old new : FieldCount) → drop i text ≡ b ∷ drop (i + 1) text → CountsFields text i old → ends_of (step default_config (csv_state_of old.state) b).1 ≡ ends.Record
+    → csv_state_of new.state ≡ (step default_config (csv_state_of old.state) b).0 → new.records ≡ old.records + 1 → new.fields ≡ 0 → CountsFields text (i + 1) new
+ends_record text i b old new byte counts ended state one_more no_field =
     let e = only_record _ ended in
     let order = counts.order in
     let inside : i < length text = before_end i text byte in
-    let one = counts.left ∙ ap (λ (xs : List ℕ). records_next (records_from default_config (length text - old.records)) (next_record default_config (state_of old.place) counts.fields counts.part xs)) byte
-    ∙ ap (records_next (records_from default_config (length text - old.records))) (by_action (state_of old.place) counts.fields counts.part b (drop (i + 1) text) act.EndRecord e) in
-    let behind = drop_behind old.records (records default_config text) _ _ one in
+    let one = counts.left ∙ ap (λ (xs : List ℕ). records_next (records_from default_config (length text - old.records)) (next_record default_config (csv_state_of old.state) counts.fields counts.part xs)) byte
+    ∙ ap (records_next (records_from default_config (length text - old.records))) (by_action (csv_state_of old.state) counts.fields counts.part b (drop (i + 1) text) act.EndRecord e) in
+    let after = drop_after old.records (records default_config text) _ _ one in
     let next : suc old.records ≡ old.records + 1 = omega arith in
     record {
       fields = [];
@@ -233,8 +233,8 @@ ends_record text i b old new byte counts ended place one_more no_field =
       width = sym no_field;
       inside = λ some. absurd (omega (arith, some, no_field));
       order = omega (arith, order, one_more);
-      left = rw (one_more, place) (ap (λ (n : ℕ). drop n (records default_config text)) (sym next) ∙ behind
-          ∙ one_read (step default_config (state_of old.place) b).0 (drop (i + 1) text) (length text - old.records) (length text - (old.records + 1)) (omega (arith, order, inside)));
+      left = rw (one_more, state) (ap (λ (n : ℕ). drop n (records default_config text)) (sym next) ∙ after
+          ∙ one_read (step default_config (csv_state_of old.state) b).0 (drop (i + 1) text) (length text - old.records) (length text - (old.records + 1)) (omega (arith, order, inside)));
     }
   where
     before_end : (i : ℕ) (text : List ℕ) → drop i text ≡ b ∷ drop (i + 1) text → i < length text

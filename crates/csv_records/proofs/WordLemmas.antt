@@ -30,13 +30,13 @@ no_fields : (n : ℕ) (b : Bool) → false ≡ ((0 == suc n) && b)
 no_fields n b = grind (arith, nat_tests)
 
 -- the fields are these words if there are as many of them, and each is the word of its column
-pub words_by_place : (fields words : List (List ℕ)) → pointwise bytes_eq fields words ≡ (length fields == length words && are_at 0 fields words)
+pub words_by_column : (fields words : List (List ℕ)) → pointwise bytes_eq fields words ≡ (length fields == length words && are_at 0 fields words)
 unfolding field_at
-words_by_place [] [] = refl
-words_by_place [] (w ∷ ws) = no_fields (length ws) _
-words_by_place (f ∷ fs) [] = no_words (length fs) _
-words_by_place (f ∷ fs) (w ∷ ws) =
-    ap (λ b. bytes_eq f w && b) (words_by_place fs ws)
+words_by_column [] [] = refl
+words_by_column [] (w ∷ ws) = no_fields (length ws) _
+words_by_column (f ∷ fs) [] = no_words (length fs) _
+words_by_column (f ∷ fs) (w ∷ ws) =
+    ap (λ b. bytes_eq f w && b) (words_by_column fs ws)
     ∙ (swap (bytes_eq f w) (length fs == length ws) (are_at 0 fs ws)
     ∙ (ap (λ b. (length fs == length ws) && (bytes_eq f w && b)) (sym (later 0 f fs ws))
     ∙ ap (λ b. b && (bytes_eq f w && are_at 1 (f ∷ fs) ws)) (sym (both (length fs) (length ws)))))
@@ -45,7 +45,7 @@ more : (b c : Bool) (m n : ℕ) → (b && c) ≡ true → (c ≡ true → m ≡ 
 more true c m n h same = ap suc (same h)
 more false c m n h same = absurd (cc)
 
--- fields that are these words are as many as the words
+-- fields that are these words have the number of the words
 pub words_length : (fields words : List (List ℕ)) → pointwise bytes_eq fields words ≡ true → length fields ≡ length words
 words_length [] [] h = refl
 words_length [] (w ∷ ws) h = absurd (cc)

@@ -32,7 +32,7 @@ IsOfReader (kind.Serialize text) = ⊥
 IsOfReader (kind.Deserialize pos err) = ⊥
 
 -- the reader returns the records of the bytes that are left, unchanged and of any lengths
-pub record GivesRecords (r : Reader (Bor (List ℕ))) : Type 0 where
+pub record ReturnsRecords (r : Reader (Bor (List ℕ))) : Type 0 where
   pub trim : r.trim ≡ trim.None
   pub ready : Ready r
   pub flexible : is_flexible r ≡ true
@@ -41,4 +41,4 @@ pub record GivesRecords (r : Reader (Bor (List ℕ))) : Type 0 where
 
 -- a reader that was not dropped returns the records of the bytes that are left
 abbrev pub ReadsText : Bool → Reader (Bor (List ℕ)) → Type 0
-ReadsText let_go r = let_go ≡ false → GivesRecords r
+ReadsText is_dropped r = is_dropped ≡ false → ReturnsRecords r

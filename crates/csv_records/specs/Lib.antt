@@ -1,5 +1,5 @@
 pub mod Left
 pub mod Width
 pub mod Fields
-pub mod Gives
+pub mod Reads
 pub mod Rows

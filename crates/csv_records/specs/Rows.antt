@@ -1,6 +1,6 @@
 -- The rows that the records of a text say: a header, then rows, each read after the rows before it; or the
 -- first refusal.
-use Rattle.std.specs.Prelude.{◌≡◌, ℕ, ◌+◌, List, [], ◌∷◌, ◌++◌, length, take, slice_get, Option, Some, Result, Ok, Err}
+use Rattle.std.specs.Prelude.{◌≡◌, ℕ, ◌+◌, List, [], ◌∷◌, ◌++◌, length, take, slice_get, Option, None, Some, Result, Ok, Err}
 use Rattle.std.specs.Option.{option_map_or}
 use Rattle.csv.specs.Reading.{default_config, records, strip_bom}
 use Rattle.csv_records.specs.declared.fault.Fault.{Fault}
@@ -16,6 +16,11 @@ abbrev pub rows_with : {Row Cause : Type 0} → List Row → (List Row → Resul
     → Result Row Cause → Result (List Row) (Fault Cause)
 rows_with before more (Err cause) = Err (At (length before + 2) cause)
 rows_with before more (Ok row) = more (before ++ row ∷ [])
+
+-- the record means one row more, which is taken after the rows before it, or it is refused for this cause
+abbrev pub IsTaken : {Row Cause : Type 0} → (List Row → Type 0) → List Row → Option Cause → Result Row Cause → Type 0
+IsTaken {Row = Row} took before None says = (row : Row) × (says ≡ Ok row) × took (before ++ row ∷ [])
+IsTaken took before (Some cause) says = says ≡ Err cause
 
 -- these rows and then the rows of the records, or the first refusal
 abbrev pub rows_from : {R C : Type 0} → Means R C → List (List (List ℕ)) → List R → Result (List R) (Fault C)

@@ -12,7 +12,7 @@ use std::marker::Model;
 #[derive(Drop)]
 pub struct AllRecords<'a> {
     reader: Reader<&'a [u8]>,
-    let_go: bool,
+    is_dropped: bool,
 }
 
 impl<'a> Model for AllRecords<'a> {
@@ -21,9 +21,9 @@ impl<'a> Model for AllRecords<'a> {
 
     ghost Value = { List (List (List ℕ)) };
 
-    ghost view = { λ a. records_left a.let_go a.reader };
+    ghost view = { λ a. records_left a.is_dropped a.reader };
 
-    ghost invariant = { λ a. ReadsText a.let_go a.reader };
+    ghost invariant = { λ a. ReadsText a.is_dropped a.reader };
 }
 
 impl<'a> AllRecords<'a> {
@@ -37,7 +37,7 @@ impl<'a> AllRecords<'a> {
             .from_reader(alloc, text);
         AllRecords {
             reader,
-            let_go: false,
+            is_dropped: false,
         }
     }
 
@@ -49,18 +49,18 @@ impl<'a> AllRecords<'a> {
         ensures ended { result ≡ Ok false → self.new ≡ [] }
         ensures memory { OnErr result (self.new ≡ []) }
     {
-        if self.let_go {
+        if self.is_dropped {
             return Ok(false);
         }
         match self.reader.read_byte_record(fields) {
             Ok(true) => Ok(true),
             Ok(false) => {
-                self.let_go = true;
+                self.is_dropped = true;
                 Ok(false)
             }
             Err(error) => {
-                self.let_go = true;
-                Err(want_of_memory(&error))
+                self.is_dropped = true;
+                Err(out_of_memory(&error))
             }
         }
     }
@@ -68,7 +68,7 @@ impl<'a> AllRecords<'a> {
 
 // Each error of reading bytes in memory, with records of any lengths, is a failed allocation. A slice's reader cannot
 // fail otherwise, but none of its clauses says so.
-fn want_of_memory(error: &Error) -> AllocError
+fn out_of_memory(error: &Error) -> AllocError
     requires { IsOfReader (error_kind error.now) }
 {
     match error.kind() {

@@ -8,10 +8,10 @@ use csv::ByteRecord;
 
 /// The field in this column, from 0; empty if there is none.
 #[inline(always)]
-pub fn field(fields: &ByteRecord, place: usize) -> &[u8]
-    ensures { result.now ≡ spec.field (fields_of fields.now) place }
+pub fn field(fields: &ByteRecord, column: usize) -> &[u8]
+    ensures { result.now ≡ spec.field (fields_of fields.now) column }
 {
-    match fields.get(place) {
+    match fields.get(column) {
         Some(field) => field,
         None => b"",
     }

@@ -4,13 +4,16 @@
 mod all;
 mod fault;
 mod fields;
-mod meaning;
 mod records;
+mod row_list;
+mod row_reader;
 mod rows;
+mod takes_rows;
 mod width;
 
 pub use fault::Fault;
 pub use fields::{field, is};
-pub use meaning::Meaning;
 pub use records::{Next, Records};
-pub use rows::read_rows;
+pub use row_reader::RowReader;
+pub use rows::{read_rows, take_rows};
+pub use takes_rows::TakesRows;

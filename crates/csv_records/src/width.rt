@@ -2,7 +2,7 @@
 ghost use Rattle.std.specs.Prelude.{◌≡◌, ◌<◌, ◌≤◌, ◌+◌, ◌-◌, ◌^◌, ◌∷◌, ℕ, List, true, IfSome, drop, length};
 ghost use Rattle.csv.specs.Machine as machine;
 ghost use Rattle.csv.specs.Reading.{default_config, records, strip_bom};
-ghost use Rattle.csv_records.specs.Width.{StartsWide, CountsFields, state_of, ends_of, has_mark};
+ghost use Rattle.csv_records.specs.Width.{StartsWide, CountsFields, csv_state_of, ends_of, has_mark};
 
 use memchr::memchr;
 
@@ -12,9 +12,9 @@ pub const MOST_FIELDS: usize = 6;
 // A record of this many bytes needs a few MiB at most, however many fields it has.
 const FEW_BYTES: usize = 131_072;
 
-// A reader's place in a record: the state of csv's machine with its defaults.
+// The state of csv's machine with its defaults.
 #[derive(Clone, Copy, PartialEq, Eq, Debug)]
-pub enum Place {
+pub enum ParserState {
     StartRecord,
     AfterCr,
     StartField,
@@ -32,12 +32,12 @@ pub enum Ends {
 }
 
 // What is known after some bytes of a text: how many records ended, how many fields of the current record ended, and
-// the place in it.
+// the parser's state.
 #[derive(Clone, Copy, PartialEq, Eq, Debug)]
-pub struct Count {
+pub struct FieldCount {
     pub records: usize,
     pub fields: usize,
-    pub place: Place,
+    pub state: ParserState,
 }
 
 // The number of records before the first one with more than `MOST_FIELDS` fields; `None` if each record has few fields
@@ -83,10 +83,10 @@ fn has_mark(text: &[u8]) -> bool
 fn first_wide(text: &[u8]) -> Option<usize>
     ensures { IfSome result (λ n. StartsWide (drop n (records default_config text.now))) }
 {
-    let mut count = Count {
+    let mut count = FieldCount {
         records: 0,
         fields: 0,
-        place: Place::StartRecord,
+        state: ParserState::StartRecord,
     };
     for b in text {
         count = counted(count, *b);
@@ -98,57 +98,57 @@ fn first_wide(text: &[u8]) -> Option<usize>
 }
 
 // The count after one more byte.
-fn counted(count: Count, b: u8) -> Count
+fn counted(count: FieldCount, b: u8) -> FieldCount
     requires fields { count.fields < 6 }
     requires records { count.records < 2 ^ 64 - 1 }
     ensures { (text : List ℕ) (i : ℕ) → drop i text ≡ b ∷ drop (i + 1) text → CountsFields text i count → CountsFields text (i + 1) result }
 {
-    let (place, ends) = step(count.place, b);
+    let (state, ends) = step(count.state, b);
     match ends {
-        Ends::Nothing => Count {
+        Ends::Nothing => FieldCount {
             records: count.records,
             fields: count.fields,
-            place,
+            state,
         },
-        Ends::Field => Count {
+        Ends::Field => FieldCount {
             records: count.records,
             fields: count.fields + 1,
-            place,
+            state,
         },
-        Ends::Record => Count {
+        Ends::Record => FieldCount {
             records: count.records + 1,
             fields: 0,
-            place,
+            state,
         },
     }
 }
 
-// The place in a record after a byte, and what the byte ends.
-fn step(place: Place, b: u8) -> (Place, Ends)
-    ensures place { state_of result.0 ≡ (machine.step default_config (state_of place) b).0 }
-    ensures ends { result.1 ≡ ends_of (machine.step default_config (state_of place) b).1 }
+// The parser's state after a byte, and what the byte ends.
+fn step(state: ParserState, b: u8) -> (ParserState, Ends)
+    ensures state { csv_state_of result.0 ≡ (machine.step default_config (csv_state_of state) b).0 }
+    ensures ends { result.1 ≡ ends_of (machine.step default_config (csv_state_of state) b).1 }
 {
-    match place {
-        Place::StartRecord => start_record(b),
-        Place::AfterCr => {
+    match state {
+        ParserState::StartRecord => start_record(b),
+        ParserState::AfterCr => {
             if b == b'\n' {
-                (Place::StartRecord, Ends::Nothing)
+                (ParserState::StartRecord, Ends::Nothing)
             } else {
                 start_record(b)
             }
         }
-        Place::StartField => start_field(b),
-        Place::InField => in_field(b),
-        Place::InQuoted => {
+        ParserState::StartField => start_field(b),
+        ParserState::InField => in_field(b),
+        ParserState::InQuoted => {
             if b == b'"' {
-                (Place::AfterQuote, Ends::Nothing)
+                (ParserState::AfterQuote, Ends::Nothing)
             } else {
-                (Place::InQuoted, Ends::Nothing)
+                (ParserState::InQuoted, Ends::Nothing)
             }
         }
-        Place::AfterQuote => {
+        ParserState::AfterQuote => {
             if b == b'"' {
-                (Place::InQuoted, Ends::Nothing)
+                (ParserState::InQuoted, Ends::Nothing)
             } else {
                 in_field(b)
             }
@@ -156,39 +156,39 @@ fn step(place: Place, b: u8) -> (Place, Ends)
     }
 }
 
-fn start_record(b: u8) -> (Place, Ends)
-    ensures place { state_of result.0 ≡ (machine.start_record default_config b).0 }
+fn start_record(b: u8) -> (ParserState, Ends)
+    ensures state { csv_state_of result.0 ≡ (machine.start_record default_config b).0 }
     ensures ends { result.1 ≡ ends_of (machine.start_record default_config b).1 }
 {
     if b == b'\r' || b == b'\n' {
-        (Place::StartRecord, Ends::Nothing)
+        (ParserState::StartRecord, Ends::Nothing)
     } else {
         start_field(b)
     }
 }
 
-fn start_field(b: u8) -> (Place, Ends)
-    ensures place { state_of result.0 ≡ (machine.start_field default_config b).0 }
+fn start_field(b: u8) -> (ParserState, Ends)
+    ensures state { csv_state_of result.0 ≡ (machine.start_field default_config b).0 }
     ensures ends { result.1 ≡ ends_of (machine.start_field default_config b).1 }
 {
     if b == b'"' {
-        (Place::InQuoted, Ends::Nothing)
+        (ParserState::InQuoted, Ends::Nothing)
     } else {
         in_field(b)
     }
 }
 
-fn in_field(b: u8) -> (Place, Ends)
-    ensures place { state_of result.0 ≡ (machine.in_field default_config b).0 }
+fn in_field(b: u8) -> (ParserState, Ends)
+    ensures state { csv_state_of result.0 ≡ (machine.in_field default_config b).0 }
     ensures ends { result.1 ≡ ends_of (machine.in_field default_config b).1 }
 {
     if b == b',' {
-        (Place::StartField, Ends::Field)
+        (ParserState::StartField, Ends::Field)
     } else if b == b'\r' {
-        (Place::AfterCr, Ends::Record)
+        (ParserState::AfterCr, Ends::Record)
     } else if b == b'\n' {
-        (Place::StartRecord, Ends::Record)
+        (ParserState::StartRecord, Ends::Record)
     } else {
-        (Place::InField, Ends::Nothing)
+        (ParserState::InField, Ends::Nothing)
     }
 }

@@ -10,7 +10,7 @@ use Rattle.demand_test.specs.DemandFile.{demands_in}
 use Rattle.replies.specs.Reply.{Reply, reply_of}
 use Rattle.replies.specs.Refusal.{DemandFile}
 use Rattle.replies.specs.Reading.{refused_as}
-use Rattle.serving.specs.Command.{Command, answer, need}
+use Rattle.serving.specs.Command.{Command, answer, read_or_refuse}
 use Rattle.task_answers.specs.Admitted.{fetch_table}
 
 -- the line for a set that is schedulable: in each length up to h it asks for no more ticks than there are
@@ -24,19 +24,19 @@ past_line n m =
 
 -- the reply says the test's answer: with status 0 that the set is schedulable, or with status 10 that it is
 -- not, with a counterexample
-abbrev pub TellsFit : List Asked → Fit → Reply → Type 0
-TellsFit set (Within h) reply = reply ≡ reply_of 0 (within_line h)
-TellsFit set (Past n m) reply =
+abbrev pub IsFitReply : List Asked → Fit → Reply → Type 0
+IsFitReply set (Within h) reply = reply ≡ reply_of 0 (within_line h)
+IsFitReply set (Past n m) reply =
     (text : List ℕ) × ShowsCounter set n text × (reply ≡ reply_of 10 (past_line n m ++ text))
 
 -- the tasks that were read are a set, and the reply says the test's answer for it
-pub record TellsTested (set : List Asked) (reply : Reply) : Type 0 where
+pub record IsDemandReply (set : List Asked) (reply : Reply) : Type 0 where
   pub is_set : IsDemandSet set
   pub fit : Fit
   pub is : IsFit set fit
-  pub told : TellsFit set fit reply
+  pub fit_reply : IsFitReply set fit reply
 
 -- the command `demand` on the demand file of this name
 abbrev pub demand : List ℕ → Command
 demand demands = fetch_table demands (λ bytes.
-    need (refused_as DemandFile (demands_in bytes)) (λ set. answer (TellsTested set)))
+    read_or_refuse (refused_as DemandFile (demands_in bytes)) (λ set. answer (IsDemandReply set)))

@@ -2,7 +2,7 @@
 ghost use Rattle.std.specs.Prelude.{IfOk};
 ghost use Rattle.demand_test.specs.DemandSet.{IsDemandSet};
 ghost use Rattle.serving.specs.Serves.{Serves, IsOwn};
-ghost use Rattle.demand_answers.specs.Demand.{TellsTested, demand};
+ghost use Rattle.demand_answers.specs.Demand.{IsDemandReply, demand};
 
 use demand_test::{DemandSet, Fit, check_demand, counter, read_demands};
 use mc_task::Memory;
@@ -14,11 +14,11 @@ use task_answers::MOST_TABLE_BYTES;
 
 /// `demand DEMANDS`.
 #[derive(Drop)]
-pub struct Demand<'a> {
+pub struct DemandCommand<'a> {
     pub demands: FileName<'a>,
 }
 
-impl<'a> Demand<'a> {
+impl<'a> DemandCommand<'a> {
     /// The reply: whether the set in the file meets its deadlines under plain EDF.
     pub fn reply<S: Shelf>(&self, alloc: Global, shelf: &mut S) -> Result<Reply, Stop>
         ensures { Serves 1 (demand self.now.demands) (S.state shelf.old) (S.state shelf.new) result }
@@ -34,7 +34,7 @@ impl<'a> Demand<'a> {
 // The reply that reports the test's answer for the set.
 fn fitted(alloc: Global, set: &DemandSet) -> Result<Reply, Memory>
     requires { IsDemandSet set.now }
-    ensures fits { IfOk result (TellsTested set.now) }
+    ensures fits { IfOk result (IsDemandReply set.now) }
     ensures own { IfOk result IsOwn }
 {
     match check_demand(alloc, set)? {

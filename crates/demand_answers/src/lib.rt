@@ -3,4 +3,4 @@
 
 mod demand;
 
-pub use demand::Demand;
+pub use demand::DemandCommand;

@@ -7,7 +7,7 @@ use Rattle.mc_task.specs.TaskSet.{task_at, IsTask}
 use Rattle.mc_model.specs.declared.row.Row.{Row}
 use Rattle.mc_model.specs.TaskNumbers.{period_in}
 use Rattle.mc_model.specs.Holds.{Holds}
-use Rattle.mc_model.specs.Pending.{KeptRelease, released, pending, is_live}
+use Rattle.mc_model.specs.Pending.{KeptRelease, released, pending, is_still_pending}
 use Rattle.mc_model.specs.Rows.{ticks}
 use Rattle.mc_model.specs.Legal.{Legal}
 use Rattle.mc_model.specs.Mode.{high_mode}
@@ -30,14 +30,14 @@ use Rattle.mc_model.proofs.Booleans.{not_both}
 pub not_late : (set : List Task) (rule : Rule) (h : List Row) → AllByRecursion IsTask set → Holds set rule → Legal set rule h → (x : KeptRelease) → Reaches h x → 1 ≤ period_in (task_at set x.job.task.0) → is_late set h x ≡ false
 not_late set rule h s holds l x r n = not_both _ _ (λ a b. at (up_to (deadline set x) h) refl a b)
   where
-    at : (g : List Row) → up_to (deadline set x) h ≡ g → nat_le (deadline set x) (ticks h) ≡ true → is_live set (up_to (deadline set x) h) x ≡ true → ⊥
+    at : (g : List Row) → up_to (deadline set x) h ≡ g → nat_le (deadline set x) (ticks h) ≡ true → is_still_pending set (up_to (deadline set x) h) x ≡ true → ⊥
     at g e a b =
         let due : deadline set x ≤ ticks h = leb-true _ _ a in
         let t : ticks (up_to (deadline set x) h) ≡ deadline set x = ticks-up_to (deadline set x) h due in
         let lg : Legal set rule (up_to (deadline set x) h) = legal-up_to set rule (deadline set x) h l in
         let br : IsBridged set rule (up_to (deadline set x) h) = bridge set rule (up_to (deadline set x) h) lg in
         let i : is_in (released (up_to (deadline set x) h)) x ≡ true = r (deadline set x) (omega (arith, n)) in
-        let k : is_in (pending set (up_to (deadline set x) h)) x ≡ true = kept_in (is_live set (up_to (deadline set x) h)) x (released (up_to (deadline set x) h)) i b in
+        let k : is_in (pending set (up_to (deadline set x) h)) x ≡ true = kept_in (is_still_pending set (up_to (deadline set x) h)) x (released (up_to (deadline set x) h)) i b in
         let f : is_in (Fold.pending set (up_to (deadline set x) h)) x ≡ true = subst (λ xs. is_in xs x ≡ true) br.same k in
         let c : ticks (up_to (deadline set x) h) + 1 ≤ deadline set x = each_in (InTime set (up_to (deadline set x) h)) x (Fold.pending set (up_to (deadline set x) h)) f (in_time set rule (up_to (deadline set x) h) s holds br.legal) in
         omega (arith, t, c)

@@ -9,17 +9,17 @@ use Rattle.mc_task.specs.declared.task.JobId.{JobId}
 use Rattle.mc_model.specs.Rows.{same_job}
 use Rattle.mc_model.proofs.Runs.{reverse-copies}
 use Rattle.std.proofs.lemmas.List.{reverse-append}
-use Rattle.mc_model.proofs.Lists.{Each-filter}
+use Rattle.mc_model.proofs.Lists.{Each-map, Each-filter}
 use Rattle.demand_test.specs.declared.demand.Demand.{Demand}
 use Rattle.demand_test.specs.declared.row.EdfRow.{EdfRow}
 use Rattle.demand_test.specs.declared.row.EdfRow.TheVariants.{Tick, Idle}
 use Rattle.demand_test.specs.declared.play.Job.{Job}
-use Rattle.demand_test.specs.DemandSet.{IsIn, demand_at, period_in, budget_in}
-use Rattle.demand_test.specs.Runs.{released, releases, used}
-use Rattle.demand_test.specs.Play.{Between, IsFirst, Awaits, OnTheWay, GoesFirst, as_released, spent_one, spent, has_ticks}
+use Rattle.demand_test.specs.DemandSet.{IsIn, demand_at, period_in}
+use Rattle.demand_test.specs.Runs.{released, releases}
+use Rattle.demand_test.specs.Play.{Between, Awaits, OnTheWay, GoesFirst, with_left}
 use Rattle.demand_test.proofs.Tasks.{period_of, some_at, demand_at-in}
-use Rattle.demand_test.proofs.Membership.{in_list, contains_in, in_map, in_filter, each_map, each_of}
-use Rattle.demand_test.proofs.Played.{placed_more, tick_step, idle_step}
+use Rattle.demand_test.proofs.Membership.{in_map, in_filter, each_map}
+use Rattle.demand_test.proofs.Played.{Leads, spent_one, has_ticks, spent, placed_more, tick_step, idle_step}
 
 -- the ticks after a boundary at which no task releases
 quiet : (set : List Demand) (b c : ℕ) (h : List EdfRow) (js : List Job) → b < c → ((k : ℕ) → IsIn set k → c ≤ releases h k * period_of set k) → Between set b 0 h js → Between set b (length set) h js
@@ -33,6 +33,7 @@ quiet set b c h js l away w = record {
   placed = placed_more b 0 (length set) (released h) (omega arith) w.placed;
   next = λ k number. let n = rw (lt-leb k 0 number.0) at (w.next k number) in rw (le-leb k (length set) number.1) (omega (arith, away k number, n));
   jobs = w.jobs;
+  due = w.due;
   left = w.left;
 }
 
@@ -75,21 +76,22 @@ spent_more n id [] = refl
 spent_more n id (p ∷ ps) =
     let rest : spent n id (spent 1 id ps) ≡ spent (suc n) id ps = spent_more n id ps in
     let same : spent_one n id (spent_one 1 id p) ≡ spent_one (suc n) id p =
-    ap (λ (l : ℕ). record { id = p.id; release = p.release; left = l }) (left_more (same_job id p.id) p.left n) in
+    ap (with_left p) (left_more (same_job id p.id) p.left n) in
     elim (cases_Bool (has_ticks (spent_one 1 id p))) [
       | inl some ↦ rw some (ap₂ {C = List Job} (λ (q : Job) (qs : List Job). cond (has_ticks q) (q ∷ qs) qs) same rest)
       | inr none ↦ rw (none, gone (same_job id p.id) p.left n none) rest
     ]
 
 -- the first job goes before the others after a tick of its own too
-first_spent : (set : List Demand) (js : List Job) (p : Job) → 2 ≤ p.left → IsFirst set js p → IsFirst set (spent 1 p.id js) (spent_one 1 p.id p)
-first_spent set js p two f =
-    let some : has_ticks (spent_one 1 p.id p) ≡ true = still (same_job p.id p.id) p.left two in
+first_spent : (js : List Job) (p : Job) → 2 ≤ p.left → Leads js p → Leads (spent 1 p.id js) (spent_one 1 p.id p)
+first_spent js p two f =
+    let id = p.id in
+    let some : has_ticks (spent_one 1 id p) ≡ true = still (same_job id id) p.left two in
     record {
-      one = contains_in (spent_one 1 p.id p) (spent 1 p.id js)
-          (in_filter has_ticks (spent_one 1 p.id p) (map (spent_one 1 p.id) js) (in_map (spent_one 1 p.id) p js (in_list p js f.one)) some);
-      first = Each-filter (λ q. GoesFirst set (as_released p) (as_released q)) has_ticks (map (spent_one 1 p.id) js)
-          (each_map (λ q. GoesFirst set (as_released p) (as_released q)) (spent_one 1 p.id) js f.first);
+      one = in_filter has_ticks (spent_one 1 id p) (map (spent_one 1 id) js) (in_map (spent_one 1 id) p js f.one) some;
+      before = Each-filter (λ q. GoesFirst (spent_one 1 id p) q) has_ticks (map (spent_one 1 id) js)
+          (each_map (λ q. GoesFirst (spent_one 1 id p) q) (spent_one 1 id) js
+          (Each-map {P = λ q. GoesFirst p q} (λ q g. record { earliest = g.earliest; tie = g.tie }) js f.before));
     }
   where
     still : (m : Bool) (l : ℕ) → 2 ≤ l → nat_lt 0 (cond m (l - 1) l) ≡ true
@@ -100,7 +102,7 @@ left_enough true l n e = omega arith
 left_enough false l n e = omega arith
 
 -- a tick of the first job, after which no task releases
-tick_on : (set : List Demand) (b c : ℕ) (h : List EdfRow) (js : List Job) (p : Job) → IsFirst set js p → b + 1 ≤ c → Awaits set b c h js → OnTheWay set (b + 1) c (Tick p.id false ∷ h) (spent 1 p.id js)
+tick_on : (set : List Demand) (b c : ℕ) (h : List EdfRow) (js : List Job) (p : Job) → Leads js p → b + 1 ≤ c → Awaits set b c h js → OnTheWay set (b + 1) c (Tick p.id false ∷ h) (spent 1 p.id js)
 tick_on set b c h js p f l w = later set (b + 1) c (Tick p.id false ∷ h) (spent 1 p.id js) l w.away (tick_step set b h js p f w.so)
 
 -- one tick of the first job, and n more
@@ -116,12 +118,12 @@ tick_then set n b c h js id w =
 
 -- ticks of the first job, up to its last one
 pub tick_span :
-    (set : List Demand) (n b c : ℕ) (h : List EdfRow) (js : List Job) (p : Job) → IsFirst set js p → suc n ≤ p.left → b + suc n ≤ c → Awaits set b c h js →
+    (set : List Demand) (n b c : ℕ) (h : List EdfRow) (js : List Job) (p : Job) → Leads js p → suc n ≤ p.left → b + suc n ≤ c → Awaits set b c h js →
     OnTheWay set (b + suc n) c (replicate (suc n) (Tick p.id false) ++ h) (spent (suc n) p.id js)
 tick_span set zero b c h js p f some l w = tick_on set b c h js p f l w
 tick_span set (suc n) b c h js p f some l w =
     let next = (tick_on set b c h js p f (omega (arith, l)) w).before (omega (arith, l)) in
-    let rest = tick_span set n (b + 1) c (Tick p.id false ∷ h) (spent 1 p.id js) (spent_one 1 p.id p) (first_spent set js p (omega (arith, some)) f)
+    let rest = tick_span set n (b + 1) c (Tick p.id false ∷ h) (spent 1 p.id js) (spent_one 1 p.id p) (first_spent js p (omega (arith, some)) f)
     (left_enough (same_job p.id p.id) p.left n some) (omega (arith, l)) next in
     tick_then set (suc n) b c h js p.id rest
 
@@ -132,15 +134,10 @@ idle_ticks set zero b c h js none some l w = absurd (omega arith)
 idle_ticks set (suc n) b c h js none some l w = idle_span set n b c h js none l w
 
 pub first_ticks :
-    (set : List Demand) (n b c : ℕ) (h : List EdfRow) (js : List Job) (p : Job) → IsFirst set js p → 1 ≤ n → n ≤ p.left → b + n ≤ c → Awaits set b c h js →
+    (set : List Demand) (n b c : ℕ) (h : List EdfRow) (js : List Job) (p : Job) → Leads js p → 1 ≤ n → n ≤ p.left → b + n ≤ c → Awaits set b c h js →
     OnTheWay set (b + n) c (replicate n (Tick p.id false) ++ h) (spent n p.id js)
 first_ticks set zero b c h js p f some left l w = absurd (omega arith)
 first_ticks set (suc n) b c h js p f some left l w = tick_span set n b c h js p f left l w
-
--- the first job has a tick left
-pub first_left : (set : List Demand) (b i : ℕ) (h : List EdfRow) (js : List Job) (p : Job) → IsFirst set js p → Between set b i h js → 1 ≤ p.left
-first_left set b i h js p f w =
-    (each_of (λ p. (1 ≤ p.left) × (p.left + used h p.id ≡ budget_in (demand_at set p.id.task.0))) p js w.left (in_list p js f.one)).0
 
 -- a multiple of p above b is at least p more than the last multiple up to b
 multiple_above : (b m p : ℕ) → b + 1 ≤ m * p → b + p ≤ m * p + b % p

@@ -14,7 +14,6 @@ use Rattle.demand_test.specs.DemandSet.{IsDemand, IsIn, demand_at, deadline_in}
 use Rattle.demand_test.specs.Runs.{ticks, Released, released, releases, is_marked, pending, deadline}
 use Rattle.demand_test.specs.EdfRuns.{MayRun, IsEdfSchedule}
 use Rattle.demand_test.specs.Counter.{AtMultiples, InTaskOrder, IsLowest, LowestFirst, IsCounter}
-use Rattle.demand_test.specs.Play.{GoesFirst}
 use Rattle.demand_test.proofs.Membership.{In, in_list, each_of}
 use Rattle.demand_test.proofs.Tasks.{known, period_of}
 use Rattle.demand_test.proofs.Counts.{of_pending}
@@ -147,11 +146,16 @@ job_same set x y pos p q t r =
     let c : x.job.count ≡ y.job.count = eq_of_mul-eq-mul_right (period_of set x.job.task.0) pos _ _ (omega arith) in
     ap₂ {C = JobId} (λ (k n : ℕ). record { task = record { 0 = k }; count = n }) t c
 
+-- x has an earlier deadline than y, or the same deadline and no higher task number
+record RunsFirst (set : List Demand) (x y : Released) : Type 0 where
+  earliest : deadline set x ≤ deadline set y
+  tie : deadline set y ≡ deadline set x → x.job.task.0 ≤ y.job.task.0
+
 -- the job of a tick goes first
-goes_first :
+runs_first :
     (set : List Demand) (g : List EdfRow) (j : JobId) (run : MayRun set g j) (low : IsLowest set g j) → AtMultiples set g →
-    Each (GoesFirst set low.x) (pending set g)
-goes_first set g j run low a =
+    Each (RunsFirst set low.x) (pending set g)
+runs_first set g j run low a =
     let job : run.x.job ≡ low.x.job = run.job ∙ sym low.job in
     let at : run.x.release + period_of set low.x.job.task.0 ≡ low.x.job.count * period_of set low.x.job.task.0 =
     rw job at (of_pending (IsAtMultiple set) set g run.x a run.live) in
@@ -168,8 +172,8 @@ same_tick :
 same_tick set g j j' is r a run low run' low' =
     let x = low.x in
     let x' = low'.x in
-    let before : GoesFirst set x x' = each_of (GoesFirst set x) x' (pending set g) (goes_first set g j run low a) (in_list x' (pending set g) low'.live) in
-    let after : GoesFirst set x' x = each_of (GoesFirst set x') x (pending set g) (goes_first set g j' run' low' a) (in_list x (pending set g) low.live) in
+    let before : RunsFirst set x x' = each_of (RunsFirst set x) x' (pending set g) (runs_first set g j run low a) (in_list x' (pending set g) low'.live) in
+    let after : RunsFirst set x' x = each_of (RunsFirst set x') x (pending set g) (runs_first set g j' run' low' a) (in_list x (pending set g) low.live) in
     let task : x.job.task.0 ≡ x'.job.task.0 = omega arith in
     let reach : deadline_in (demand_at set x.job.task.0) ≡ deadline_in (demand_at set x'.job.task.0) = ap (λ (k : ℕ). deadline_in (demand_at set k)) task in
     let at : IsAtMultiple set x = of_pending (IsAtMultiple set) set g x a low.live in

@@ -58,8 +58,8 @@ record_task before fields = do
   Ok t
 
 -- what the records after this one mean, if it is the header
-abbrev pub behind_header : List (List ℕ) → Option (Means Demand DemandCause)
-behind_header fields = if is_header fields then Some record_task else None
+abbrev pub after_header : List (List ℕ) → Option (Means Demand DemandCause)
+after_header fields = if is_header fields then Some record_task else None
 
 -- these tasks, of which there must be at least one
 abbrev pub some_tasks : List Demand → Result (List Demand) (Fault DemandCause)
@@ -69,5 +69,5 @@ some_tasks (t ∷ ts) = Ok (t ∷ ts)
 -- the tasks of a file of these bytes
 abbrev pub demands_in : List ℕ → Result (List Demand) (Fault DemandCause)
 demands_in bytes = do
-  tasks ← rows_in behind_header Header bytes
+  tasks ← rows_in after_header Header bytes
   some_tasks tasks

@@ -8,4 +8,5 @@ pub mod CounterText
 pub mod Play
 pub mod Refusals
 pub mod DemandFile
+pub mod DemandList
 pub mod SoFar

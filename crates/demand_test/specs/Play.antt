@@ -1,12 +1,12 @@
 -- The rows of the counterexample so far, newest first, and the pending jobs, oldest first, while it is
 -- played.
-use Rattle.std.specs.Prelude.{◌≡◌, ℕ, ◌+◌, ◌-◌, ◌*◌, ◌<◌, ◌≤◌, Bool, false, List, [], ◌∷◌, length, Option, Some, None, if◌then◌else◌, cond, nat_le, nat_lt, map, filter, reverse, Contains, ◌⊎◌}
+use Rattle.std.specs.Prelude.{◌≡◌, ℕ, ◌+◌, ◌-◌, ◌*◌, ◌<◌, ◌≤◌, false, List, [], ◌∷◌, length, Option, Some, None, if◌then◌else◌, cond, nat_le, nat_lt, map, remove, reverse, slice_get, slice_set, ◌⊎◌}
 use Rattle.std.specs.List.{AllByRecursion}
 use Rattle.mc_task.specs.declared.task.JobId.{JobId}
-use Rattle.mc_model.specs.Rows.{same_job}
 use Rattle.demand_test.specs.declared.demand.Demand.{Demand}
 use Rattle.demand_test.specs.declared.row.EdfRow.{EdfRow}
 use Rattle.demand_test.specs.declared.play.Job.{Job}
+use Rattle.demand_test.specs.declared.play.Place.{Place}
 use Rattle.demand_test.specs.DemandSet.{IsIn, demand_at, period_in, budget_in}
 use Rattle.demand_test.specs.Runs.{ticks, Released, released, releases, used, is_marked, pending, deadline}
 use Rattle.demand_test.specs.EdfRuns.{IsEdfSchedule}
@@ -16,39 +16,41 @@ use Rattle.demand_test.specs.Counter.{AtMultiples, InTaskOrder, LowestFirst}
 abbrev pub as_released : Job → Released
 as_released p = record { job = p.id; release = p.release }
 
--- x has an earlier deadline than y, or the same deadline and no higher task number
-pub record GoesFirst (set : List Demand) (x y : Released) : Type 0 where
-  pub earliest : deadline set x ≤ deadline set y
-  pub tie : deadline set y ≡ deadline set x → x.job.task.0 ≤ y.job.task.0
+-- p is due earlier than q, or at the same time with no higher task number
+pub record GoesFirst (p q : Job) : Type 0 where
+  pub earliest : p.due ≤ q.due
+  pub tie : q.due ≡ p.due → p.id.task.0 ≤ q.id.task.0
+
+-- the job stands at its index in the list
+abbrev pub IsAt : List Job → Place → Type 0
+IsAt js place = slice_get js place.index ≡ Some place.job
 
 -- the first of two jobs: it is one of them, and goes before both
-pub record IsFirstOf (set : List Demand) (p q : Job) (first : Job) : Type 0 where
-  pub one : (first ≡ p) ⊎ (first ≡ q)
-  pub before_p : GoesFirst set (as_released first) (as_released p)
-  pub before_q : GoesFirst set (as_released first) (as_released q)
+pub record IsFirstOf (p q best : Place) : Type 0 where
+  pub one : (best ≡ p) ⊎ (best ≡ q)
+  pub before_p : GoesFirst best.job p.job
+  pub before_q : GoesFirst best.job q.job
 
 -- the first of all jobs: it is one of them, and goes before each
-pub record IsFirst (set : List Demand) (js : List Job) (job : Job) : Type 0 where
-  pub one : Contains js job
-  pub first : AllByRecursion (λ p. GoesFirst set (as_released job) (as_released p)) js
+pub record IsFirst (js : List Job) (best : Place) : Type 0 where
+  pub here : IsAt js best
+  pub first : AllByRecursion (λ p. GoesFirst best.job p) js
 
--- a job after n ticks that went to the job with this name
-abbrev pub spent_one : ℕ → JobId → Job → Job
-spent_one n id p =
-    record { id = p.id; release = p.release; left = cond (same_job id p.id) (p.left - n) p.left }
+-- a job with this many ticks left
+abbrev pub with_left : Job → ℕ → Job
+with_left p l = record { id = p.id; release = p.release; due = p.due; left = l }
 
--- whether the job has more to do
-abbrev pub has_ticks : Job → Bool
-has_ticks p = nat_lt 0 p.left
-
--- the jobs after n ticks of the job with this name, without those that are done
-abbrev pub spent : ℕ → JobId → List Job → List Job
-spent n id js = filter has_ticks (map (spent_one n id) js)
+-- the jobs after n ticks of the job at this place, without that job if they were its last
+abbrev pub spent_at : ℕ → Place → List Job → List Job
+spent_at n place js =
+    if nat_lt n place.job.left
+    then slice_set js place.index (with_left place.job (place.job.left - n))
+    else remove js place.index
 
 -- the first of the jobs whose deadline has come by n
-abbrev pub first_due : List Demand → ℕ → List Job → Option JobId
-first_due set n [] = None
-first_due set n (p ∷ ps) = if nat_le (deadline set (as_released p)) n then Some p.id else first_due set n ps
+abbrev pub first_due : ℕ → List Job → Option JobId
+first_due n [] = None
+first_due n (p ∷ ps) = if nat_le p.due n then Some p.id else first_due n ps
 
 -- n is the first multiple of p that is not below c
 abbrev pub IsFirstFrom : ℕ → ℕ → ℕ → Type 0
@@ -67,6 +69,7 @@ pub record Between (set : List Demand) (b i : ℕ) (h : List EdfRow) (js : List 
       → IsFirstFrom (cond (nat_le k i) (b + 1) b) (releases h k * period_in (demand_at set k))
       (period_in (demand_at set k))
   pub jobs : reverse (map as_released js) ≡ pending set h
+  pub due : AllByRecursion (λ p. p.due ≡ deadline set (as_released p)) js
   pub left : AllByRecursion
       (λ p. (1 ≤ p.left) × (p.left + used h p.id ≡ budget_in (demand_at set p.id.task.0))) js
 

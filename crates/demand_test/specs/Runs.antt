@@ -46,12 +46,12 @@ is_marked (Tick j last ∷ g) i = (last && same_job j i) || is_marked g i
 is_marked (Idle ∷ g) i = is_marked g i
 
 -- whether the job has not ended: no tick of it is marked as its last, and it had fewer ticks than its budget
-abbrev pub is_live : List Demand → List EdfRow → Released → Bool
-is_live set h x = not (is_marked h x.job) && nat_lt (used h x.job) (budget_in (demand_at set x.job.task.0))
+abbrev pub is_still_pending : List Demand → List EdfRow → Released → Bool
+is_still_pending set h x = not (is_marked h x.job) && nat_lt (used h x.job) (budget_in (demand_at set x.job.task.0))
 
 -- the pending jobs: released, and not ended; the newest release first
 abbrev pub pending : List Demand → List EdfRow → List Released
-pending set h = filter (is_live set h) (released h)
+pending set h = filter (is_still_pending set h) (released h)
 
 -- the time of a job's deadline: its release time plus its task's deadline
 abbrev pub deadline : List Demand → Released → ℕ
@@ -64,7 +64,7 @@ up_to d (row ∷ g) = cond (nat_le (ticks (row ∷ g)) d) (row ∷ g) (up_to d g
 
 -- whether a released job is late: its deadline has come, and in the rows up to it the job has not ended
 abbrev pub is_late : List Demand → List EdfRow → Released → Bool
-is_late set h x = nat_le (deadline set x) (ticks h) && is_live set (up_to (deadline set x) h) x
+is_late set h x = nat_le (deadline set x) (ticks h) && is_still_pending set (up_to (deadline set x) h) x
 
 -- the late jobs, in the order of their releases
 abbrev pub late : List Demand → List EdfRow → List JobId

@@ -8,7 +8,7 @@ ghost use Rattle.demand_test.specs.Play.{first_due};
 
 use crate::DemandSet;
 use crate::lines::{push_late, push_rows};
-use crate::play::{Job, deadline, played};
+use crate::play::{Job, played};
 use mc_task::{JobId, Memory};
 use std::alloc::Global;
 
@@ -26,16 +26,16 @@ pub fn counter(alloc: Global, set: &DemandSet, length: u64) -> Result<Vec<u8>, M
     let play = played(alloc, set, length)?;
     let mut out = Vec::new(alloc);
     push_rows(&mut out, set, &play.rows)?;
-    push_late(&mut out, set, first_due(set, length, &play.jobs))?;
+    push_late(&mut out, set, first_due(&play.jobs, length))?;
     Ok(out)
 }
 
 // The first of the jobs whose deadline has come, if any.
-fn first_due(set: &DemandSet, ticks: u32, jobs: &[Job]) -> Option<JobId>
-    ensures { result ≡ first_due set.now ticks jobs.now }
+fn first_due(jobs: &[Job], ticks: u32) -> Option<JobId>
+    ensures { result ≡ first_due ticks jobs.now }
 {
     for job in jobs {
-        if deadline(set, *job) <= u64::from(ticks) {
+        if job.due <= u64::from(ticks) {
             return Some(job.id);
         }
     }

@@ -1,6 +1,6 @@
 //! Demand files, read.
 ghost use Rattle.std.specs.Prelude.{IfOk};
-ghost use Rattle.csv_records.specs.Gives.{Gives};
+ghost use Rattle.csv_records.specs.Reads.{Reads};
 ghost use Rattle.demand_test.specs.DemandFile.{demands_in, some_tasks};
 ghost use Rattle.demand_test.specs.DemandSet.{IsDemandSet};
 ghost use Rattle.demand_test.specs.SoFar.{IsSoFar};
@@ -8,7 +8,7 @@ ghost use Rattle.demand_test.specs.SoFar.{IsSoFar};
 use crate::record::{is_header, record_task};
 use crate::{Demand, DemandCause, DemandFault, DemandSet};
 use csv::ByteRecord;
-use csv_records::{Meaning, read_rows};
+use csv_records::{RowReader, read_rows};
 use std::alloc::Global;
 
 /// Reads a demand file: records of four fields. The first is the header `task,period,deadline,budget`; each other
@@ -19,7 +19,7 @@ use std::alloc::Global;
 /// and then for each record in turn `TooMany`, the 129th task; `BadRecord`; `BadName`; `SameName`; `BadNumber`;
 /// `ZeroNumber`; `DeadlineOrder`; `Range`.
 pub fn read_demands(alloc: Global, bytes: &[u8]) -> Result<DemandSet, DemandFault>
-    ensures file { Gives (λ set. set) result (demands_in bytes.now) }
+    ensures file { Reads (λ set. set) result (demands_in bytes.now) }
     ensures set { IfOk result (λ set. IsDemandSet set) }
 {
     let (tasks, multiple) = read_rows(alloc, bytes, DemandCause::Header, &DemandRecords)?;
@@ -29,7 +29,7 @@ pub fn read_demands(alloc: Global, bytes: &[u8]) -> Result<DemandSet, DemandFaul
 // The set of these tasks, which have this hyperperiod; at least one task is needed.
 fn set_of(tasks: Vec<Demand>, multiple: u32) -> Result<DemandSet, DemandFault>
     requires { IsSoFar tasks.items multiple }
-    ensures file { Gives (λ set. set) result (some_tasks tasks.items) }
+    ensures file { Reads (λ set. set) result (some_tasks tasks.items) }
     ensures set { IfOk result (λ set. IsDemandSet set) }
 {
     if tasks.is_empty() {
@@ -45,24 +45,24 @@ fn set_of(tasks: Vec<Demand>, multiple: u32) -> Result<DemandSet, DemandFault>
 #[derive(Drop)]
 struct DemandRecords;
 
-impl Meaning for DemandRecords {
+impl RowReader for DemandRecords {
     ghost use Rattle.std.proofs.Common.{arith};
     ghost use Rattle.std.proofs.lemmas.Bool.Decides.{nat_tests};
     ghost use Rattle.csv_records.proofs.WordLemmas.{words_length};
-    ghost use Rattle.demand_test.specs.DemandFile.{behind_header, record_task};
+    ghost use Rattle.demand_test.specs.DemandFile.{after_header, record_task};
     ghost use Rattle.demand_test.specs.SoFar.{IsSoFar};
 
     type Row = Demand;
 
     type Cause = DemandCause;
 
-    type Kept = u32;
+    type State = u32;
 
-    ghost header = { λ file. behind_header };
+    ghost header = { λ file. after_header };
 
     ghost means = { λ file multiple. record_task };
 
-    ghost keeps = { λ file multiple tasks. IsSoFar tasks multiple };
+    ghost is_state_of = { λ file multiple tasks. IsSoFar tasks multiple };
 
     fn header(&self, fields: &ByteRecord) -> Option<u32> {
         if is_header(fields) { Some(1) } else { None }

@@ -3,6 +3,7 @@ ghost use Rattle.std.specs.Prelude.{◌≡◌, ◌<◌, ◌≤◌, ◌^◌, ◌+
 ghost use Rattle.csv.specs.Records.{fields_of};
 ghost use Rattle.demand_test.specs.DemandSet.{hyperperiod};
 ghost use Rattle.demand_test.specs.DemandFile as file;
+ghost use Rattle.demand_test.specs.DemandList as list;
 ghost use Rattle.demand_test.specs.SoFar.{IsSoFar};
 
 use crate::{Demand, DemandCause};
@@ -13,7 +14,7 @@ use numeral::number;
 use tick_frac::lcm_within;
 
 // Whether the record is `task,period,deadline,budget`.
-#[tactic(auto, using(csv_records::proofs::WordLemmas::words_by_place))]
+#[tactic(auto, using(csv_records::proofs::WordLemmas::words_by_column))]
 pub fn is_header(fields: &ByteRecord) -> bool
     ensures { result ≡ file.is_header (fields_of fields.now) }
 {
@@ -96,11 +97,27 @@ fn numbered_task(name: Name, fields: &ByteRecord) -> Result<Demand, DemandCause>
     })
 }
 
+// The hyperperiod with this task after these tasks, which have this hyperperiod; or why the task is refused.
+pub fn multiple_after(before: &[Demand], multiple: u32, t: &Demand) -> Result<u32, DemandCause>
+    requires so_far { IsSoFar before.now multiple }
+    ensures value { result ≡ list.multiple_after before.now t.now }
+    ensures so_far { IfOk result (λ multiple. IsSoFar (before.now ++ t.now ∷ []) multiple) }
+{
+    if before.len() >= 128 {
+        return Err(DemandCause::TooMany);
+    }
+    if has_name(before, t.name.bytes()) {
+        return Err(DemandCause::SameName);
+    }
+    multiple_with(before, multiple, t)
+}
+
 // The hyperperiod with this task's period, if the task's numbers are in order; or why it is refused.
 fn multiple_with(before: &[Demand], multiple: u32, task: &Demand) -> Result<u32, DemandCause>
     requires multiple { multiple ≡ hyperperiod before.now }
     requires some { 1 ≤ multiple }
-    ensures { result ≡ file.multiple_with before.now task.now }
+    ensures value { result ≡ file.multiple_with before.now task.now }
+    ensures small { OnOk result ((task.now.period < 2 ^ 32) × (task.now.deadline < 2 ^ 32) × (task.now.budget < 2 ^ 32)) }
 {
     if task.period == 0 || task.deadline == 0 || task.budget == 0 {
         return Err(DemandCause::ZeroNumber);

@@ -18,7 +18,7 @@ IsReplied words first second ended len out =
     (reply : Reply) × IsAnswered words first second reply
     × (ended ≡ reply.status) × (len ≡ length reply.text) × (take len out ≡ reply.text)
 
--- the text of the program's reply has this length, which is more than the room of the buffer
+-- the text of the program's reply has this length, which exceeds the capacity of the buffer
 abbrev pub IsTooLong : List (List ℕ) → List ℕ → List ℕ → ℕ → ℕ → Type 0
 IsTooLong words first second len room =
     (reply : Reply) × IsAnswered words first second reply × (len ≡ length reply.text) × (room < len)
@@ -32,5 +32,5 @@ pub record Asks (words : List (List ℕ)) (first second : List ℕ) (status ende
   pub threads : status ≡ 45 → AskForThreads words
   pub alone : status ≡ 0 → ¬ AskForThreads words
   pub not_text : status ≡ 43 → ¬ (All IsUtf8 words)
-  -- there is no other status; 9 is out of memory
+  -- no other status is returned; 9 is out of memory
   pub only : (status ≡ 0) ⊎ (status ≡ 9) ⊎ (status ≡ 43) ⊎ (status ≡ 44) ⊎ (status ≡ 45)

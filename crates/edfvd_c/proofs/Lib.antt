@@ -1,3 +1,4 @@
 pub mod AsBox
 pub mod HeldRows
 pub mod Lookups
+pub mod Names

@@ -47,7 +47,7 @@ of_released (released.Dropped j at) = of_job 2 j 0 at
 of_released (released.Held j at) = of_job 3 j 0 at
 
 -- a release: status 0; or 20 while a tick of the job is in progress, 21 with the first tick that is not too
--- soon, 22 if no place is left
+-- soon, 22 if no capacity is left
 abbrev pub returned_release : Result Released ReleaseFault → Returned
 returned_release (Ok r) = (0, of_released r)
 returned_release (Err (release_fault.Running j)) = (20, of_job 0 j 0 0)
@@ -55,7 +55,7 @@ returned_release (Err (release_fault.TooSoon next)) = (21, at_tick 0 next)
 returned_release (Err release_fault.Full) = (22, nothing)
 
 -- a grant: status 0 with the ticks that the job has had; or 23 while a tick is in progress, 24 with the
--- chosen job, 22 if no place is left
+-- chosen job, 22 if no capacity is left
 abbrev pub returned_grant : Result Granted GrantFault → Returned
 returned_grant (Ok g) = (0, of_job 4 g.job g.before g.at)
 returned_grant (Err (grant_fault.TickOut j)) = (23, of_job 0 j 0 0)
@@ -74,7 +74,7 @@ abbrev pub returned_outcome : JobId → Result How NotOut → Returned
 returned_outcome j (Ok h) = (0, of_job (how_number h) j 0 0)
 returned_outcome j (Err e) = (25, of_some e.out)
 
--- an idle tick: status 0; or 23 while a tick is in progress, 26 with a pending job, 22 if no place is left
+-- an idle tick: status 0; or 23 while a tick is in progress, 26 with a pending job, 22 if no capacity is left
 abbrev pub returned_idle : Result ℕ IdleFault → Returned
 returned_idle (Ok at) = (0, at_tick 9 at)
 returned_idle (Err (idle_fault.TickOut j)) = (23, of_job 0 j 0 0)

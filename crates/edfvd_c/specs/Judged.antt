@@ -26,7 +26,7 @@ why_number why.NotLeast = 5
 why_number why.WrongHow = 6
 why_number why.IdlePending = 7
 
--- `why` is 0 for a legal trace; place is that of the row that does not fit, the first being 1
+-- `why` is 0 for a legal trace; `place` is the number, from 1, of the row that does not fit
 abbrev pub judged : Verdict → Judged
 judged (Legal late first) = record {
   why = 0;

@@ -1,5 +1,6 @@
 pub mod Given
 pub mod Tested
+pub mod DemandTested
 pub mod Room
 pub mod Parted
 pub mod Event

@@ -60,7 +60,7 @@ pub record HasReason (row : SeenRow) (n : ℕ) (w : Watched) (status : ℕ) : Ty
   pub no_run : status ≡ 43 → IsNoRun row n
   pub no_task : status ≡ 10 → IfSome (run_in row n) (λ run. ¬ IsRunOfSet w.set.tasks run)
   pub full : status ≡ 22 → IfSome (run_in row n) (λ run. 2 ^ 62 < seen w + size run)
-  -- there is no other status; 9 is out of memory
+  -- no other status is returned; 9 is out of memory
   pub only : (status ≡ 0) ⊎ (status ≡ 9) ⊎ (status ≡ 10) ⊎ (status ≡ 22) ⊎ (status ≡ 43)
 
 -- what an open monitor does with this many of a row
@@ -106,7 +106,7 @@ pub record StoresLate (w : Watched) (since status many : ℕ) (jobs : List LateJ
   -- with status 44 this is their number, and the array has fewer elements
   pub room : status ≡ 44 → (ts : List Turned)
       × TurnedLate w since ts × (many ≡ length ts) × (length jobs < many)
-  -- there is no other status; 9 is out of memory
+  -- no other status is returned; 9 is out of memory
   pub only : (status ≡ 0) ⊎ (status ≡ 9) ⊎ (status ≡ 44)
 
 -- this is the verdict on the rows that the monitor has seen

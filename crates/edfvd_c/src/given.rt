@@ -1,5 +1,5 @@
 //! A task set from numbers in memory.
-ghost use Rattle.std.specs.Prelude.{◌≡◌, ◌≢◌, ◌<◌, IfOk, IfErr, IfSome};
+ghost use Rattle.std.specs.Prelude.{◌≡◌, ◌≢◌, ◌<◌, ◌≤◌, IfOk, IfErr, IfSome};
 ghost use Rattle.edfvd_c.specs.Given.{AreOf, numbers_of};
 
 use crate::status;
@@ -93,7 +93,7 @@ fn task_of(given: GivenTask, number: u32) -> Option<Task>
         _ => return None,
     };
     Some(Task {
-        name: name_of(number)?,
+        name: name_of(number),
         level,
         period: given.period,
         low: given.low,
@@ -101,13 +101,20 @@ fn task_of(given: GivenTask, number: u32) -> Option<Task>
     })
 }
 
-// `t` and three digits.
-fn name_of(number: u32) -> Option<Name>
+/// The name of the task of this number: `t` and three digits.
+#[tactic(auto, using(crate::proofs::Names::is_named))]
+pub fn name_of(number: u32) -> Name
     requires { number < 1000 }
 {
-    Name::new(&[b't', digit(number / 100), digit(number / 10), digit(number)])
+    let bytes = [b't', digit(number / 100), digit(number / 10), digit(number)];
+    let Some(name) = Name::new(&bytes) else {
+        unreachable!()
+    };
+    name
 }
 
-fn digit(number: u32) -> u8 {
+fn digit(number: u32) -> u8
+    ensures { (48 ≤ result) × (result ≤ 57) }
+{
     b'0' + (number % 10) as u8
 }

@@ -17,8 +17,8 @@ use std::alloc::Global;
 use trace_format::pack;
 use trace_judge::judge;
 
-/// A verdict: `why` is 0 for a legal trace, with the number of late jobs and the one released first; otherwise it says what
-/// does not fit of the row at the place, the first being 1.
+/// A verdict: `why` is 0 for a legal trace, with the number of late jobs and the one released first; otherwise it says
+/// what does not fit of the row with the number `place`, from 1.
 #[repr(C)]
 #[derive(Clone, Copy)]
 pub struct Judged {
@@ -37,8 +37,9 @@ pub const UNJUDGED: Judged = Judged {
     place: 0,
 };
 
-/// Judges rows, the oldest first, under the rule of the published test where `p` is 0, and otherwise under EDF-VD with the
-/// scale `p/q`, which need not hold. On a refusal `place` is that of the row, or `task` the task, that it speaks of.
+/// Judges rows, the oldest first, under the rule of the published test if `p` is 0, and otherwise under EDF-VD with the
+/// scale `p/q`, which need not hold. On a refusal `place` is the number of the row, or `task` that of the task, that
+/// the refusal is about.
 #[unsafe(no_mangle)]
 pub extern "C" fn edfvd_raw_judge(
     alloc: Global,

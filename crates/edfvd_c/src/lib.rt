@@ -1,6 +1,7 @@
 //! Calls for C: task sets tested, traces judged, and a scheduler driven event by event. Numbers alone cross, and no text.
 #![tactic(auto)]
 
+mod demand;
 mod either;
 mod event;
 mod given;

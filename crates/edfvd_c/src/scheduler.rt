@@ -71,7 +71,7 @@ fn put(scheduler: &mut Scheduler, held: Box<Held>)
     };
 }
 
-/// Opens a scheduler of the tasks under the rule of the published test, with this many places for rows.
+/// Opens a scheduler of the tasks under the rule of the published test, with this capacity in rows.
 #[unsafe(no_mangle)]
 pub extern "C" fn edfvd_raw_open(
     alloc: Global,

@@ -22,6 +22,8 @@ pub const MEMORY: u32 = 9;
 
 pub const NO_TASK: u32 = 10;
 
+pub const DEADLINE_ORDER: u32 = 11;
+
 pub const CLOSED: u32 = 12;
 
 pub const OPEN: u32 = 13;

@@ -1,4 +1,4 @@
--- What a call answers, from its reply and what became of it.
+-- What a call leaves, by its reply and how much of it was written.
 use Rattle.std.proofs.Common.{◌≡◌, ◌⊎◌, inl, inr, ℕ, List, Option, Some, IfSome, sym, subst}
 use Rattle.mc_world.specs.Count.{Rose}
 use Rattle.mc_world.specs.Shelf.{Files, ShelfState}
@@ -7,27 +7,28 @@ use Rattle.replies.specs.Reply.{Reply}
 use Rattle.command_line.specs.declared.form.Form.{Form}
 use Rattle.command_line.specs.Form.{IsInRange, HasFewTicks, command}
 use Rattle.serving.specs.Written.{IsWritten, IsCutShort}
-use Rattle.serving.specs.Outcome.{Tells}
-use Rattle.serving.proofs.Outcomes.{is_answer, tells_no_fault}
+use Rattle.serving.specs.Outcome.{Exposes}
+use Rattle.serving.proofs.Outcomes.{is_answer, reports_no_fault}
 use Rattle.serving.proofs.Written.{wrote_whole, one_more-rose}
 use Rattle.promises.specs.Reply.{IsReply}
 use Rattle.edfvd_program.specs.Outcome.{WritesAnswer, CalmOutcome}
 use Rattle.promises.specs.Promises.{Promises}
 use Rattle.promises.proofs.Headlines.{of_reply, gave_up}
 
--- with the files told and no fault the reply is the answer, and where it was written whole, that is what was written
+-- if the shelf exposes its files and has no fault, the reply is the answer, and if it was written whole, the
+-- answer was written
 pub answers : {form : Option Form} {before after : ShelfState} {sink_before sink_after : SinkState} {reply : Reply} {ended : ℕ} → IsReply form before after reply
     → IsWritten reply ended sink_before sink_after ⊎ IsCutShort reply ended sink_before sink_after
-    → (files : Files) (old : List ℕ) → Tells files before after → sink_before.written ≡ Some old → (Rose sink_before.faults sink_after.faults → ⊥)
+    → (files : Files) (old : List ℕ) → Exposes files before after → sink_before.written ≡ Some old → (Rose sink_before.faults sink_after.faults → ⊥)
     → WritesAnswer form files old ended sink_after.written
-answers {form} {before} {after} {sink_before} {sink_after} {reply} r written files old tells told calm =
+answers {form} {before} {after} {sink_before} {sink_after} {reply} r written files old exposes sink_written calm =
     elim written [
       | inl w ↦
-          inr (reply, is_answer files 1 (command form) before after reply r.is tells, w.status, wrote_whole old reply.text sink_before.written sink_after.written told w.text)
+          inr (reply, is_answer files 1 (command form) before after reply r.is exposes, w.status, wrote_whole old reply.text sink_before.written sink_after.written sink_written w.text)
       | inr cut ↦ absurd (calm (one_more-rose sink_before.faults sink_after.faults cut.once))
     ]
 
--- the promises hold of what a call leaves behind, whether it wrote an answer or ran out of memory
+-- the promises hold of what a call leaves, whether it wrote an answer or ran out of memory
 promises : (form : Option Form) → IfSome form IsInRange → IfSome form HasFewTicks → (files : Files) (old : List ℕ) (ended : ℕ) (new : Option (List ℕ)) → WritesAnswer form files old ended new
     → Promises form files old ended new
 promises form range short files old ended new h =
@@ -38,16 +39,16 @@ promises form range short files old ended new h =
           (subst (λ o. Promises form files old r.0.status o) (sym r.3) (of_reply form range short files old r.0 r.1))
     ]
 
--- so all that the program promises is so
+-- a call whose reply was written keeps all that the program promises
 pub kept : {form : Option Form} {before after : ShelfState} {sink_before sink_after : SinkState} {reply : Reply} {ended : ℕ} → IfSome form IsInRange → IfSome form HasFewTicks
     → IsReply form before after reply
     → IsWritten reply ended sink_before sink_after ⊎ IsCutShort reply ended sink_before sink_after
-    → (files : Files) (old : List ℕ) → Tells files before after → sink_before.written ≡ Some old → (Rose sink_before.faults sink_after.faults → ⊥)
+    → (files : Files) (old : List ℕ) → Exposes files before after → sink_before.written ≡ Some old → (Rose sink_before.faults sink_after.faults → ⊥)
     → Promises form files old ended sink_after.written
-kept {form} {sink_after} {ended} range short r written files old tells told calm =
-    promises form range short files old ended sink_after.written (answers r written files old tells told calm)
+kept {form} {sink_after} {ended} range short r written files old exposes sink_written calm =
+    promises form range short files old ended sink_after.written (answers r written files old exposes sink_written calm)
 
 pub calm_outcome : {form : Option Form} {before after : ShelfState} {sink_before sink_after : SinkState} {reply : Reply} {ended : ℕ} → IsReply form before after reply
     → IsWritten reply ended sink_before sink_after ⊎ IsCutShort reply ended sink_before sink_after
     → after.faults ≡ 0 → CalmOutcome form before after sink_before sink_after ended
-calm_outcome {form} {before} {after} {reply} r written zero = inr (reply, (r, tells_no_fault 1 (command form) before after reply r.is zero), written)
+calm_outcome {form} {before} {after} {reply} r written zero = inr (reply, (r, reports_no_fault 1 (command form) before after reply r.is zero), written)

@@ -7,7 +7,7 @@ use Rattle.mc_world.specs.Sink.{SinkState}
 use Rattle.replies.specs.Reply.{Reply}
 use Rattle.replies.specs.Refusal.{ReadFault, refuse}
 use Rattle.command_line.specs.declared.form.Form.{Form}
-use Rattle.serving.specs.Outcome.{IsAnswer, Tells}
+use Rattle.serving.specs.Outcome.{IsAnswer, Exposes}
 use Rattle.serving.specs.Written.{IsWritten, IsCutShort}
 use Rattle.command_line.specs.Form.{command}
 use Rattle.promises.specs.Reply.{IsReply}
@@ -46,5 +46,5 @@ WritesAnswer form files old ended new =
 abbrev pub WhereReported : (Files → List ℕ → ℕ → Option (List ℕ) → Type 0)
     → ShelfState → ShelfState → SinkState → SinkState → ℕ → Type 0
 WhereReported Is shelf_before shelf_after sink_before sink_after ended =
-    (files : Files) (old : List ℕ) → Tells files shelf_before shelf_after → sink_before.written ≡ Some old
+    (files : Files) (old : List ℕ) → Exposes files shelf_before shelf_after → sink_before.written ≡ Some old
     → (Rose sink_before.faults sink_after.faults → ⊥) → Is files old ended sink_after.written

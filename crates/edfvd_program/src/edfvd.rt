@@ -4,7 +4,7 @@ ghost use Rattle.mc_world.specs.Count.{Rose};
 ghost use Rattle.serving.specs.Outcome.{AskedInOrder};
 ghost use Rattle.command_line.specs.Form.{form_in, command, IsInRange, HasFewTicks};
 ghost use Rattle.promises.specs.Headline.{Headline};
-ghost use Rattle.promises.specs.Told.{Told};
+ghost use Rattle.promises.specs.RightText.{RightText};
 ghost use Rattle.promises.specs.Complete.{Complete};
 ghost use Rattle.promises.specs.Tested.{Tested};
 ghost use Rattle.promises.specs.Reply.{IsReply};
@@ -41,7 +41,7 @@ pub fn edfvd<R: Threads + Wait + Sync, S: Shelf, K: Sink, G: Gate + Sync>(
     ensures headline { WhereReported (Headline (form_in words.now)) (S.state shelf.old) (S.state shelf.new) (K.state out.old) (K.state out.new) result }
 
     // The trace that is written is the one of the set and its work, and what is written about a trace is true.
-    ensures told { WhereReported (Told (form_in words.now)) (S.state shelf.old) (S.state shelf.new) (K.state out.old) (K.state out.new) result }
+    ensures right_text { WhereReported (RightText (form_in words.now)) (S.state shelf.old) (S.state shelf.new) (K.state out.old) (K.state out.new) result }
 
     // Nothing is refused without reason.
     ensures complete { WhereReported (λ files old ended new. Complete (form_in words.now) files ended) (S.state shelf.old) (S.state shelf.new) (K.state out.old) (K.state out.new) result }
@@ -59,7 +59,7 @@ pub fn edfvd<R: Threads + Wait + Sync, S: Shelf, K: Sink, G: Gate + Sync>(
     ensures calm_sink { (K.state out.new).faults ≡ 0 → result ≢ 8 }
 
     // If a fetch ran out of memory, the status is 9.
-    ensures memory { (S.state shelf.old).wanted < (S.state shelf.new).wanted → result ≡ 9 }
+    ensures memory { (S.state shelf.old).memory_faults < (S.state shelf.new).memory_faults → result ≡ 9 }
 
     // Even if memory runs out, no file is asked for except the command's, in their order, none after one that failed, and the
     // second only where the first lets the command go on.
@@ -79,7 +79,7 @@ fn reply_to<R: Threads + Wait + Sync, S: Shelf, G: Gate + Sync>(
     gate: &G,
 ) -> Result<Reply, AllocError>
     ensures reply { IfOk result (IsReply (form_in words.now) (S.state shelf.old) (S.state shelf.new)) }
-    ensures wanted { OnOk result ((S.state shelf.new).wanted ≡ (S.state shelf.old).wanted) }
+    ensures memory_faults { OnOk result ((S.state shelf.new).memory_faults ≡ (S.state shelf.old).memory_faults) }
     ensures asked { AskedInOrder (command (form_in words.now)) (S.state shelf.old) (S.state shelf.new) }
     ensures range { IfSome (form_in words.now) IsInRange }
     ensures ticks { IfSome (form_in words.now) HasFewTicks }

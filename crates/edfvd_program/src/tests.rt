@@ -75,7 +75,7 @@ const TAP_AND_ARM: &str = "task = [
     {name='arm', level='high', period=4, low=1, high=3},
 ]";
 
-// The two, and a third task for which they leave no room.
+// Those two tasks, and a third one that does not fit on their processor.
 const PLANT: &str = "task = [
     {name='tap', level='low', period=2, low=1},
     {name='arm', level='high', period=4, low=1, high=3},

@@ -16,8 +16,8 @@ use Rattle.executive.specs.Shows.{shows, HasShown}
 use Rattle.executive.specs.Stands.{opening_of, IsKept, Stands}
 use Rattle.executive.specs.Seats.{Lists, lists, floor_seen, floor_or_none, job_out}
 use Rattle.executive.specs.declared.executive.Executive.{Executive}
-use Rattle.executive.specs.declared.pass.Held.{Held}
-use Rattle.executive.specs.Passes.{Adds, job_then, floor_of, IsHeldOf}
+use Rattle.executive.specs.declared.pass.CountedSeat.{CountedSeat}
+use Rattle.executive.specs.Passes.{Adds, job_then, floor_of, IsCountedSeatOf}
 use Rattle.executive.proofs.Histories.{opening_after, after_more, legal_more, out_own, still_out, may_still}
 use Rattle.mc_model.proofs.Sums.{total-append}
 use Rattle.executive.proofs.Counting.{IsEmpty, few}
@@ -112,7 +112,7 @@ pub opens_empty : (e : Executive) → IsEmpty (floor_of e)
 opens_empty e = record { rows = refl; held = refl }
 
 -- the floor that a task's seat knows as the first one is empty
-pub empty : (e : Executive) (h : Held) → IsHeldOf e h → IsEmpty (lists h.seat).opening
+pub empty : (e : Executive) (h : CountedSeat) → IsCountedSeatOf e h → IsEmpty (lists h.seat).opening
 empty e h of = subst IsEmpty (sym (ap floor_or_none of.0.1)) (opens_empty e)
 
 -- no call changes the capacity

@@ -24,7 +24,7 @@ use Rattle.executive.specs.Histories.{IsLegal, after, calls_of, seat_number}
 use Rattle.executive.specs.Counts.{idled, tally}
 use Rattle.executive.specs.Stands.{opening_of, IsKept, Stands}
 use Rattle.executive.specs.Seats.{floor_or_none}
-use Rattle.executive.specs.Passes.{PassState, of_pass, of_resting, floor_of, IsHeldOf, IsPassOf}
+use Rattle.executive.specs.Passes.{PassState, of_pass, of_resting, floor_of, IsCountedSeatOf, IsPassOf}
 use Rattle.executive.specs.Closing.{seat_of, seat_of_resting, has_pass, HasPassOfEach, IsPartOf, AgreesWith, OneHistoryLeaves}
 use Rattle.executive.proofs.Histories.{opening_after, own_calls, still_out, none_out, seat_of_task}
 use Rattle.executive.proofs.Counting.{IsEmpty, all_counted, idles_counted}
@@ -54,7 +54,7 @@ to_passes Q ps ss same h = unmap (λ o. IfSome o Q) seat_of ps (subst (All (λ o
 pub of_seats : (e : Executive) (ps : List TaskPass) (ss : List OurSeat) → AreSeats ps ss → All (λ p. IsPassOf e p) ps → All (λ s. IsOf e.turns s) ss
 of_seats e ps ss same h = to_seats (λ s. IsOf e.turns s) ps ss same (λ k d lt. first (slice_index_or ps k d).resting (h k d lt))
   where
-    first : (r : Option Resting) → IfSome r (λ x. IsHeldOf e x.held) → IfSome (seat_of_resting r) (λ s. IsOf e.turns s)
+    first : (r : Option Resting) → IfSome r (λ x. IsCountedSeatOf e x.counted_seat) → IfSome (seat_of_resting r) (λ s. IsOf e.turns s)
     first (Some r) h = h.0
     first None h = tt
 
@@ -62,10 +62,10 @@ of_seats e ps ss same h = to_seats (λ s. IsOf e.turns s) ps ss same (λ k d lt.
 same_test : (n : ℕ) (r : Option Resting) (s : OurSeat) → Some s ≡ seat_of_resting r → (number s == n) ≡ ((of_resting r).task == n + 1)
 same_test n None s e = absurd (cc)
 same_test n (Some r) s e =
-    let same : s ≡ r.held.seat = cc in
+    let same : s ≡ r.counted_seat.seat = cc in
     let back : n + 1 - 1 ≡ n = omega arith in
-    ap (λ (i : ℕ). i == n) (ap number same ∙ r.held.number)
-    ∙ (ap (λ (i : ℕ). r.held.task.0 - 1 == i) (sym back) ∙ seat_of_task r.held.task.0 (n + 1) r.held.some (omega arith))
+    ap (λ (i : ℕ). i == n) (ap number same ∙ r.counted_seat.number)
+    ∙ (ap (λ (i : ℕ). r.counted_seat.task.0 - 1 == i) (sym back) ∙ seat_of_task r.counted_seat.task.0 (n + 1) r.counted_seat.some (omega arith))
 
 same_tests : (n : ℕ) (ps : List TaskPass) (ss : List OurSeat) → AreSeats ps ss → list_any (λ s. number s == n) ss ≡ has_pass ps (n + 1)
 same_tests n [] [] e = refl
@@ -85,17 +85,17 @@ record IsBack (o : FloorState) (log : List Entry) (p : PassState) : Type 0 where
   none_out : running (after o log).core.out p.task ≡ None
   counts : p.count ≡ tally (calls_of p.task log)
 
-is_back : (e : Executive) (log : List Entry) → IsLegal (floor_of e) log → (r : Option Resting) → IsSome r → IfSome r (λ x. IsHeldOf e x.held)
+is_back : (e : Executive) (log : List Entry) → IsLegal (floor_of e) log → (r : Option Resting) → IsSome r → IfSome r (λ x. IsCountedSeatOf e x.counted_seat)
     → IfSome (seat_of_resting r) (IsInLog log) → IsBack (floor_of e) log (of_resting r)
 is_back e log legal None there of h = absurd (cc)
 is_back e log legal (Some r) there of h =
-    let k = r.held.task.0 in
-    let s = r.held.seat in
-    let own : mine s ≡ calls_of k log = h.1 ∙ (ap (λ (i : ℕ). made_by seat_number i log) r.held.number ∙ own_calls (floor_of e) log k legal r.held.some) in record {
+    let k = r.counted_seat.task.0 in
+    let s = r.counted_seat.seat in
+    let own : mine s ≡ calls_of k log = h.1 ∙ (ap (λ (i : ℕ). made_by seat_number i log) r.counted_seat.number ∙ own_calls (floor_of e) log k legal r.counted_seat.some) in record {
       part = record { begins = h.0; own = own };
-      none_out = still_out k (floor_of e) (seen s) log h.0 legal (sym r.held.whole ∙ own)
+      none_out = still_out k (floor_of e) (seen s) log h.0 legal (sym r.counted_seat.whole ∙ own)
           ∙ (ap (λ (o : Option Opened). running (after (floor_or_none o) (seen s)).core.out k) (sym of.0.1) ∙ r.none_out);
-      counts = r.held.counts ∙ ap tally own;
+      counts = r.counted_seat.counts ∙ ap tally own;
     }
 
 -- if each pass is back, no tick is granted

@@ -1,4 +1,4 @@
--- A task has as many rows, held releases included, as the answers to its calls say.
+-- A task has the number of rows, held releases included, that the answers to its calls count.
 use Rattle.std.proofs.Common.{◌≡◌, ℕ, ◌≤◌, ◌+◌, ◌==◌, List, [], ◌∷◌, length, Bool, true, false, refl, ap, sym, ◌∙◌, arith, cond}
 use Rattle.std.proofs.lemmas.Bool.{eqb-true}
 use Rattle.mc_task.specs.declared.task.Task.{Task}
@@ -58,7 +58,7 @@ gains k f j c may = go (way f j c) may
     go : {d : Call} {a : Answer} {g : FloorState} → Way f j d a g → MayCall f j d → Gains k j f a g
     go (release_written x n out) may = record { releases = omega arith; ticks = none _ _; ends = none _ _; idles = omega arith }
     go (release_held x n i out) may = record { releases = omega arith; ticks = none _ _; ends = none _ _; idles = omega arith }
-    go (outcome_written told done i out is) may =
+    go (outcome_written claimed done i out is) may =
         let rows : List Row = row.Tick i (outcome_of f.core.set f.core.rule f.core.rows i done) ∷ f.core.rows in
         let own : i.task.0 ≡ j = eqb-true i.task.0 j (ap (λ o. is_of_task o j) (sym out) ∙ may) in
         let of_job = λ (n : ℕ). ap (λ (l : ℕ). cond (l == k) n 0) own in
@@ -77,7 +77,7 @@ gains k f j c may = go (way f j c) may
 
 -- Over a whole history.
 
--- if the number is 0 on the first floor, a history leaves as many as the answers to the task's calls say
+-- if the count is 0 on the first floor, a history leaves the count of the answers to the task's calls
 counted : (m : FloorState → ℕ) (w : Answer → ℕ) (k : ℕ) → ((f : FloorState) (j : ℕ) (c : Call) → MayCall f j c → m (after_call f j c) ≡ m f + cond (j == k) (w (answer_to f j c)) 0)
     → (f : FloorState) (log : List Entry) → m f ≡ 0 → IsLegal f log → total (λ (e : Entry). w e.answer) (calls_of k log) ≡ m (after f log)
 counted m w k law f log empty legal =
@@ -105,7 +105,7 @@ all_counted k f log empty legal =
       ends = counted (λ (g : FloorState). ends_of k g.core.rows) ended k (λ g j c may. (gains k g j c may).ends) f log (ap (ends_of k) empty.rows) legal;
     }
 
--- after a history of an empty floor, there are as many idle ticks as all answers count
+-- after a history of an empty floor, the number of idle ticks is what all answers count
 pub idles_counted : (f : FloorState) (log : List Entry) → IsEmpty f → IsLegal f log → total (λ (e : Entry). idled e.answer) log ≡ idle_ticks (after f log).core.rows
 idles_counted f log empty legal =
     let all = measured (λ (g : FloorState). idle_ticks g.core.rows) (λ (j : ℕ) (a : Answer). idled a) (λ g j c may. (gains 0 g j c may).idles) f log legal in

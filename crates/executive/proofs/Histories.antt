@@ -29,7 +29,7 @@ use Rattle.executive.specs.declared.entry.Entry.{Entry}
 use Rattle.executive.specs.declared.entry.Call.{Call}
 use Rattle.executive.specs.declared.entry.Call.TheVariants.{Release, Take, Outcome, Idle, Look}
 use Rattle.executive.specs.declared.entry.Answer.{Answer}
-use Rattle.executive.specs.declared.entry.Answer.TheVariants.{Released, Taken, Told, Idled, Next}
+use Rattle.executive.specs.declared.entry.Answer.TheVariants.{Released, Taken, Settled, Idled, Next}
 use Rattle.executive.specs.Histories.{MayCall, answer_to, after_call, after, IsLegalEntry, IsLegal, calls_of, seat_number}
 use Rattle.executive.specs.Stands.{opening_of}
 use Rattle.executive.specs.Passes.{job_then}
@@ -53,9 +53,9 @@ pub data Way (f : FloorState) (k : ℕ) : Call → Answer → FloorState → Typ
   grant_refused : (e : ActFault GrantFault) → Way f k Take (Taken (Err e)) f
   grant_given : (j : JobId) → f.core.out ≡ None → chosen_now f.core ≡ Some j → j.task.0 ≡ k
       → Way f k Take (Taken (Ok (granted f.core j))) (with_core f (record f.core { out = Some j }) f.taken)
-  outcome_refused : (told : Bool) (e : NotOut) → Way f k (Outcome told) (Told (Err e)) f
-  outcome_written : (told done : Bool) (j : JobId) → f.core.out ≡ Some j → done ≡ done_by f.plan f.core.rows j told
-      → Way f k (Outcome told) (Told (Ok (outcome_of f.core.set f.core.rule f.core.rows j done))) (with_core f (core_ended f.core j done) f.taken)
+  outcome_refused : (claimed : Bool) (e : NotOut) → Way f k (Outcome claimed) (Settled (Err e)) f
+  outcome_written : (claimed done : Bool) (j : JobId) → f.core.out ≡ Some j → done ≡ done_by f.plan f.core.rows j claimed
+      → Way f k (Outcome claimed) (Settled (Ok (outcome_of f.core.set f.core.rule f.core.rows j done))) (with_core f (core_ended f.core j done) f.taken)
   idle_refused : (e : ActFault IdleFault) → Way f k Idle (Idled (Err e)) f
   idle_written : f.core.out ≡ None → Way f k Idle (Idled (Ok (ticks f.core.rows))) (with_core f (record f.core { rows = row.Idle ∷ f.core.rows }) f.taken)
   looked : (a : Act) → Way f k Look (Next a) f
@@ -94,18 +94,18 @@ way f k Take = plan (tick_refusal f)
         (floor_unless o (with_core f (Events.after_grant f.core k) f.taken) f)
     plan (Some e) = grant_refused _
     plan None = core (Events.grant_refusal f.core k) refl
-way f k (Outcome told) = of f.core.out refl
+way f k (Outcome claimed) = of f.core.out refl
   where
     core : (o : Option NotOut) (j : JobId) → f.core.out ≡ Some j
-        → Way f k (Outcome told) (Told (Events.answer o (outcome_of f.core.set f.core.rule f.core.rows j (done_by f.plan f.core.rows j told))))
-        (with_core f (Events.unless o (core_ended f.core j (done_by f.plan f.core.rows j told)) f.core) f.taken)
-    core (Some e) j is = outcome_refused told e
-    core None j is = outcome_written told _ j is refl
+        → Way f k (Outcome claimed) (Settled (Events.answer o (outcome_of f.core.set f.core.rule f.core.rows j (done_by f.plan f.core.rows j claimed))))
+        (with_core f (Events.unless o (core_ended f.core j (done_by f.plan f.core.rows j claimed)) f.core) f.taken)
+    core (Some e) j is = outcome_refused claimed e
+    core None j is = outcome_written claimed _ j is refl
 
-    of : (o : Option JobId) → f.core.out ≡ o → let s = record f.core { out = o } in let done = done_by f.plan f.core.rows (job_in o) told in
-        Way f k (Outcome told) (Told (Events.outcome_answer s (job_in o) done))
+    of : (o : Option JobId) → f.core.out ≡ o → let s = record f.core { out = o } in let done = done_by f.plan f.core.rows (job_in o) claimed in
+        Way f k (Outcome claimed) (Settled (Events.outcome_answer s (job_in o) done))
         (with_core f (Events.unless (Events.outcome_refusal s (job_in o)) (record s { rows = settle s done; out = None; held = [] }) f.core) f.taken)
-    of None is = outcome_refused told _
+    of None is = outcome_refused claimed _
     of (Some j) is = core _ j is
 way f k Idle = plan (tick_refusal f)
   where
@@ -179,7 +179,7 @@ out_other f k task c may ne = go (way f task c) may
   where
     go : {d : Call} {a : Answer} {g : FloorState} → Way f task d a g → MayCall f task d → running g.core.out k ≡ running f.core.out k
     go (grant_given j out chosen own) may = runs_no_other (Some j) task k (eq-eqb j.task.0 task own) ne ∙ ap (λ (o : Option JobId). running o k) (sym out)
-    go (outcome_written told done j out is) may = sym (runs_no_other f.core.out task k may ne)
+    go (outcome_written claimed done j out is) may = sym (runs_no_other f.core.out task k may ne)
     go w may = refl
 
 -- what a call of the task does to its granted tick

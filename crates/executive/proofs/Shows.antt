@@ -35,7 +35,7 @@ pub ticks_law : (f : FloorState) (k : ℕ) (c : Call) → ticks (after_call f k 
 ticks_law f k c = go (way f k c)
   where
     go : {d : Call} {a : Answer} {g : FloorState} → Way f k d a g → ticks g.core.rows ≡ ticks f.core.rows + cond (ends_tick a) 1 0
-    go (outcome_written told done j out is) =
+    go (outcome_written claimed done j out is) =
         ticks-held f.core.set f.core.rule f.core.held (row.Tick j (outcome_of f.core.set f.core.rule f.core.rows j done) ∷ f.core.rows)
     go (idle_written out) = refl
     go w = nothing _

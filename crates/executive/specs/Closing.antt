@@ -63,7 +63,7 @@ pub record OneHistoryLeaves (opening : FloorState) (passes : List TaskPass) (f :
 
 -- the seat of a task with no granted tick, if there is one
 abbrev pub seat_of_resting : Option Resting → Option (Seat State Entry Opened ghosts)
-seat_of_resting (Some r) = Some r.held.seat
+seat_of_resting (Some r) = Some r.counted_seat.seat
 seat_of_resting None = None
 
 -- the seat of a pass

@@ -7,7 +7,7 @@ use Rattle.mc_model.specs.Sums.{total}
 use Rattle.executive.specs.declared.count.Count.{Count}
 use Rattle.executive.specs.declared.entry.Entry.{Entry}
 use Rattle.executive.specs.declared.entry.Answer.{Answer}
-use Rattle.executive.specs.declared.entry.Answer.TheVariants.{Released, Told, Idled}
+use Rattle.executive.specs.declared.entry.Answer.TheVariants.{Released, Settled, Idled}
 
 -- 1 for a release that the floor took, otherwise 0
 abbrev pub released : Answer → ℕ
@@ -16,12 +16,12 @@ released _ = 0
 
 -- 1 for the outcome of a tick, otherwise 0
 abbrev pub ticked : Answer → ℕ
-ticked (Told (Ok how)) = 1
+ticked (Settled (Ok how)) = 1
 ticked _ = 0
 
 -- 1 for an outcome that ended its job, otherwise 0
 abbrev pub ended : Answer → ℕ
-ended (Told (Ok how)) = cond (is_end how) 1 0
+ended (Settled (Ok how)) = cond (is_end how) 1 0
 ended _ = 0
 
 -- 1 for an idle tick, otherwise 0

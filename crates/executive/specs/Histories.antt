@@ -9,7 +9,7 @@ use Rattle.turnstile.specs.History.{made_by}
 use Rattle.executive.specs.declared.entry.Call.{Call}
 use Rattle.executive.specs.declared.entry.Call.TheVariants.{Release, Take, Outcome, Idle, Look}
 use Rattle.executive.specs.declared.entry.Answer.{Answer}
-use Rattle.executive.specs.declared.entry.Answer.TheVariants.{Released, Taken, Told, Idled, Next}
+use Rattle.executive.specs.declared.entry.Answer.TheVariants.{Released, Taken, Settled, Idled, Next}
 use Rattle.executive.specs.declared.entry.Entry.{Entry}
 
 -- a call of task number k, with its answer
@@ -29,7 +29,7 @@ MayCall f k _ = Unit {0}
 abbrev pub answer_to : FloorState → ℕ → Call → Answer
 answer_to f k Release = Released (release_answer f k)
 answer_to f k Take = Taken (grant_answer f k)
-answer_to f k (Outcome done) = Told (outcome_answer f (job_in f.core.out) done)
+answer_to f k (Outcome done) = Settled (outcome_answer f (job_in f.core.out) done)
 answer_to f k Idle = Idled (idle_answer f)
 answer_to f k Look = Next (next_act f)
 

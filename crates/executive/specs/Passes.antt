@@ -12,7 +12,7 @@ use Rattle.executive.specs.declared.entry.Call.TheVariants as call
 use Rattle.executive.specs.declared.entry.Answer.{Answer}
 use Rattle.executive.specs.declared.entry.Answer.TheVariants as answer
 use Rattle.executive.specs.declared.entry.Entry.{Entry}
-use Rattle.executive.specs.declared.pass.Held.{Held}
+use Rattle.executive.specs.declared.pass.CountedSeat.{CountedSeat}
 use Rattle.executive.specs.declared.pass.Resting.{Resting}
 use Rattle.executive.specs.declared.pass.TaskPass.{TaskPass}
 use Rattle.executive.specs.declared.pass.Grant.{Grant}
@@ -32,8 +32,8 @@ pub record PassState : Type 0 where
   pub lists : Lists
 
 -- the state of a task's seat and count
-abbrev pub of_held : Held → PassState
-of_held h = record { task = h.task.0; count = h.count; lists = lists h.seat }
+abbrev pub of_counted_seat : CountedSeat → PassState
+of_counted_seat h = record { task = h.task.0; count = h.count; lists = lists h.seat }
 
 -- the state of no task
 abbrev pub no_pass : PassState
@@ -45,7 +45,7 @@ no_pass = record {
 
 -- the state of a task with no granted tick, if there is one
 abbrev pub of_resting : Option Resting → PassState
-of_resting (Some r) = of_held r.held
+of_resting (Some r) = of_counted_seat r.counted_seat
 of_resting None = no_pass
 
 -- the state of a pass
@@ -54,28 +54,28 @@ of_pass p = of_resting p.resting
 
 -- the state of a grant
 abbrev pub of_grant : Grant → PassState
-of_grant t = of_held t.held
+of_grant t = of_counted_seat t.counted_seat
 
 -- the floor that the executive was made with, before any call
 abbrev pub floor_of : Executive → FloorState
 floor_of e = (fixed_part opened e.turns).floor
 
 -- a seat and count of this executive, of a task of its set
-abbrev pub IsHeldOf : Executive → Held → Type 0
-IsHeldOf e h = IsOf e.turns h.seat × IsIn (floor_of e).core.set h.task.0
+abbrev pub IsCountedSeatOf : Executive → CountedSeat → Type 0
+IsCountedSeatOf e h = IsOf e.turns h.seat × IsIn (floor_of e).core.set h.task.0
 
 -- the pass belongs to this executive
 abbrev pub IsPassOf : Executive → TaskPass → Type 0
-IsPassOf e p = IfSome p.resting (λ r. IsHeldOf e r.held)
+IsPassOf e p = IfSome p.resting (λ r. IsCountedSeatOf e r.counted_seat)
 
 -- the grant belongs to this executive
 abbrev pub IsGrantOf : Executive → Grant → Type 0
-IsGrantOf e t = IsHeldOf e t.held
+IsGrantOf e t = IsCountedSeatOf e t.counted_seat
 
 -- the job of the granted tick of task number k after a call of the task, by its answer
 abbrev pub job_then : Answer → Option JobId → Option JobId
 job_then (answer.Taken (Ok x)) was = Some x.job
-job_then (answer.Told (Ok how)) was = None
+job_then (answer.Settled (Ok how)) was = None
 job_then _ was = was
 
 -- one legal history begins with what was seen and ends with this entry, and all of it is seen now; the task's

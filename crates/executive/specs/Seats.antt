@@ -32,12 +32,12 @@ floor_or_none None = no_floor
 
 -- what a seat knows
 abbrev pub lists : {g : Ghosts State Entry Opened} → Seat State Entry Opened g → Lists
-lists s = record { opening = floor_or_none s.place.me.0.fixed; seen = seen s; mine = mine s }
+lists s = record { opening = floor_or_none s.table_seat.me.0.fixed; seen = seen s; mine = mine s }
 
 -- what the seat of a turn knows once the turn has ended
 abbrev pub lists_left : {g : Ghosts State Entry Opened} → Turn State Entry Opened g → Lists
 lists_left t = record {
-  opening = floor_or_none t.claim.place.me.0.fixed;
+  opening = floor_or_none t.claim.table_seat.me.0.fixed;
   seen = history t ++ (state_of t).called.last ∷ [];
   mine = turn_mine t ++ (state_of t).called.last ∷ [];
 }

@@ -9,7 +9,7 @@ use Rattle.status_board.specs.declared.tokens.Writer.{Writer}
 use Rattle.status_board.specs.Logs.{start, last_of}
 use Rattle.status_board.specs.Tokens.{shown}
 use Rattle.executive.specs.declared.entry.Answer.{Answer}
-use Rattle.executive.specs.declared.entry.Answer.TheVariants.{Told, Idled}
+use Rattle.executive.specs.declared.entry.Answer.TheVariants.{Settled, Idled}
 use Rattle.executive.specs.declared.entry.Entry.{Entry}
 use Rattle.executive.specs.Histories.{after_call}
 
@@ -19,7 +19,7 @@ shown_of f = record { ticks = ticks f.core.rows; high_mode = high_mode f.core.ru
 
 -- whether the answer ends a tick: an outcome, or an idle tick that was taken
 abbrev pub ends_tick : Answer → Bool
-ends_tick (Told (Ok how)) = true
+ends_tick (Settled (Ok how)) = true
 ends_tick (Idled (Ok n)) = true
 ends_tick _ = false
 

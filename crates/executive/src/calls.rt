@@ -52,10 +52,13 @@ impl Executive {
         ensures of { IsTakenOf self.now result }
         ensures calls { Takes (of_pass pass) result }
     {
-        let (held, answer) = self.call(rt, pass.into_held(), Call::Take);
+        let (counted_seat, answer) = self.call(rt, pass.into_counted_seat(), Call::Take);
         match answer.into_taken() {
-            Ok(granted) => Taken::Given(Grant { held, granted }),
-            Err(fault) => Taken::NotNow(held.at_rest(), fault),
+            Ok(granted) => Taken::Given(Grant {
+                counted_seat,
+                granted,
+            }),
+            Err(fault) => Taken::NotNow(counted_seat.at_rest(), fault),
         }
     }
 
@@ -65,12 +68,15 @@ impl Executive {
     pub fn outcome<R: Wait>(&self, rt: &R, grant: Grant, done: bool) -> (TaskPass, How)
         requires { IsGrantOf self.now grant }
         ensures of { IsPassOf self.now result.0 }
-        ensures calls { Calls (call.Outcome done) (answer.Told (Ok result.1)) (of_grant grant) (of_pass result.0) }
+        ensures calls { Calls (call.Outcome done) (answer.Settled (Ok result.1)) (of_grant grant) (of_pass result.0) }
     {
-        let Grant { held, granted: _ } = grant;
-        let (held, answer) = self.call(rt, held, Call::Outcome(done));
-        match answer.into_told() {
-            Ok(how) => (held.at_rest(), how),
+        let Grant {
+            counted_seat,
+            granted: _,
+        } = grant;
+        let (counted_seat, answer) = self.call(rt, counted_seat, Call::Outcome(done));
+        match answer.into_settled() {
+            Ok(how) => (counted_seat.at_rest(), how),
             Err(_) => unreachable!(),
         }
     }
@@ -105,9 +111,9 @@ impl Executive {
         ensures kind { (f : FloorState) × (k : ℕ) × (result ≡ answer_to f k call) }
         ensures none_out { job_out (of_pass pass.old).task (of_pass pass.old).lists ≡ None }
     {
-        let Resting { held } = pass.resting.take().unwrap();
-        let (held, answer) = self.call(rt, held, call);
-        pass.resting = Some(Resting { held });
+        let Resting { counted_seat } = pass.resting.take().unwrap();
+        let (counted_seat, answer) = self.call(rt, counted_seat, call);
+        pass.resting = Some(Resting { counted_seat });
         answer
     }
 }

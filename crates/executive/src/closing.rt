@@ -5,7 +5,7 @@ ghost use Rattle.executive.specs.Closing.{has_pass, HasPassOfEach, IsMissing, se
 ghost use Rattle.executive.specs.Passes.{IsPassOf, floor_of};
 
 use crate::executive::{Executive, Reserved};
-use crate::pass::{Held, TaskPass};
+use crate::pass::{CountedSeat, TaskPass};
 use crate::state::State;
 use mc_task::TaskNo;
 use std::sync::Wait;
@@ -89,11 +89,11 @@ fn give_seats(passes: Vec<TaskPass>, list: &mut Vec<Seat<State>>)
     ensures { map (λ s. Some s) list.new.items ≡ map seat_of passes.items }
 {
     for pass in passes {
-        let Held {
+        let CountedSeat {
             task: _,
             count: _,
             seat,
-        } = pass.into_held();
+        } = pass.into_counted_seat();
         list.push_reserved(seat);
     }
 }

@@ -37,7 +37,7 @@ impl Count {
         let mut count = self;
         match answer {
             Answer::Released(Ok(_)) => count.releases += 1,
-            Answer::Told(Ok(how)) => {
+            Answer::Settled(Ok(how)) => {
                 count.ticks += 1;
                 match how {
                     How::Done | How::Stop => count.ends += 1,
@@ -47,7 +47,7 @@ impl Count {
             Answer::Idled(Ok(_)) => count.idles += 1,
             Answer::Released(Err(_))
             | Answer::Taken(_)
-            | Answer::Told(Err(_))
+            | Answer::Settled(Err(_))
             | Answer::Idled(Err(_))
             | Answer::Next(_) => {}
         }

@@ -28,7 +28,7 @@ pub enum Call {
 pub enum Answer {
     Released(Result<Released, ActFault<ReleaseFault>>),
     Taken(Result<Granted, ActFault<GrantFault>>),
-    Told(Result<How, NotOut>),
+    Settled(Result<How, NotOut>),
     Idled(Result<u64, ActFault<IdleFault>>),
     Next(Act),
 }
@@ -56,10 +56,10 @@ impl Answer {
         ensures { result ≡ ends_tick self.now }
     {
         match self {
-            Answer::Told(Ok(_)) | Answer::Idled(Ok(_)) => true,
+            Answer::Settled(Ok(_)) | Answer::Idled(Ok(_)) => true,
             Answer::Released(_)
             | Answer::Taken(_)
-            | Answer::Told(Err(_))
+            | Answer::Settled(Err(_))
             | Answer::Idled(Err(_))
             | Answer::Next(_) => false,
         }
@@ -74,7 +74,7 @@ impl Answer {
     {
         match self {
             Answer::Released(result) => result,
-            Answer::Taken(_) | Answer::Told(_) | Answer::Idled(_) | Answer::Next(_) => {
+            Answer::Taken(_) | Answer::Settled(_) | Answer::Idled(_) | Answer::Next(_) => {
                 unreachable!()
             }
         }
@@ -86,18 +86,18 @@ impl Answer {
     {
         match self {
             Answer::Taken(result) => result,
-            Answer::Released(_) | Answer::Told(_) | Answer::Idled(_) | Answer::Next(_) => {
+            Answer::Released(_) | Answer::Settled(_) | Answer::Idled(_) | Answer::Next(_) => {
                 unreachable!()
             }
         }
     }
 
-    pub(crate) fn into_told(self) -> Result<How, NotOut>
-        requires { (r : _) × (self ≡ answer.Told r) }
-        ensures { self ≡ answer.Told result }
+    pub(crate) fn into_settled(self) -> Result<How, NotOut>
+        requires { (r : _) × (self ≡ answer.Settled r) }
+        ensures { self ≡ answer.Settled result }
     {
         match self {
-            Answer::Told(result) => result,
+            Answer::Settled(result) => result,
             Answer::Released(_) | Answer::Taken(_) | Answer::Idled(_) | Answer::Next(_) => {
                 unreachable!()
             }
@@ -110,7 +110,7 @@ impl Answer {
     {
         match self {
             Answer::Idled(result) => result,
-            Answer::Released(_) | Answer::Taken(_) | Answer::Told(_) | Answer::Next(_) => {
+            Answer::Released(_) | Answer::Taken(_) | Answer::Settled(_) | Answer::Next(_) => {
                 unreachable!()
             }
         }
@@ -122,7 +122,7 @@ impl Answer {
     {
         match self {
             Answer::Next(act) => act,
-            Answer::Released(_) | Answer::Taken(_) | Answer::Told(_) | Answer::Idled(_) => {
+            Answer::Released(_) | Answer::Taken(_) | Answer::Settled(_) | Answer::Idled(_) => {
                 unreachable!()
             }
         }

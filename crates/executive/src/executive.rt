@@ -10,7 +10,7 @@ ghost use Rattle.executive.specs.Stands.{opened, Stands};
 ghost use Rattle.executive.specs.Seats.{lists, lists_left, floor_seen};
 
 use crate::entry::{Answer, Call};
-use crate::pass::Held;
+use crate::pass::CountedSeat;
 use crate::state::State;
 use mc_task::TaskNo;
 use status_board::Board;
@@ -41,7 +41,7 @@ pub struct Executive {
 }
 
 impl Executive {
-    ghost use Rattle.executive.specs.Passes.{floor_of, IsHeldOf, of_held, Adds, Calls};
+    ghost use Rattle.executive.specs.Passes.{floor_of, IsCountedSeatOf, of_counted_seat, Adds, Calls};
 
     // Makes a call, whose answer is counted.
     //
@@ -49,15 +49,20 @@ impl Executive {
     // kind of call has code of its own. One function for all kinds would branch on the kind three times and clear a
     // large frame first: a tick of the avionics set would take 660 instructions, not 369.
     #[inline(always)]
-    pub(crate) fn call<R: Wait>(&self, rt: &R, held: Held, call: Call) -> (Held, Answer)
-        requires of { IsHeldOf self.now held }
-        requires may { MayCall (floor_seen (lists held.seat)) held.task.0 call }
-        ensures of { IsHeldOf self.now result.0 }
-        ensures calls { Calls call result.1 (of_held held) (of_held result.0) }
+    pub(crate) fn call<R: Wait>(
+        &self,
+        rt: &R,
+        counted_seat: CountedSeat,
+        call: Call,
+    ) -> (CountedSeat, Answer)
+        requires of { IsCountedSeatOf self.now counted_seat }
+        requires may { MayCall (floor_seen (lists counted_seat.seat)) counted_seat.task.0 call }
+        ensures of { IsCountedSeatOf self.now result.0 }
+        ensures calls { Calls call result.1 (of_counted_seat counted_seat) (of_counted_seat result.0) }
     {
-        let Held { task, count, seat } = held;
+        let CountedSeat { task, count, seat } = counted_seat;
         let (seat, answer) = self.turn(rt, seat, task, call);
-        (Held::counted(task, count, seat, &answer), answer)
+        (CountedSeat::counted(task, count, seat, &answer), answer)
     }
 
     // One turn of the task's seat.

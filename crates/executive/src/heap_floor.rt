@@ -104,7 +104,7 @@ fn answered(floor: &mut Floor, task: TaskNo, call: Call) -> Answer
         Call::Release => Answer::Released(floor.release(task)),
         Call::Take => Answer::Taken(floor.grant(task)),
         Call::Outcome(done) => match floor.core().out() {
-            Some(job) => Answer::Told(floor.outcome(job, done)),
+            Some(job) => Answer::Settled(floor.outcome(job, done)),
             None => unreachable!(),
         },
         Call::Idle => Answer::Idled(floor.idle()),

@@ -13,7 +13,7 @@ ghost use Rattle.executive.specs.Watching.{IsWatcherOf};
 use crate::count::Count;
 use crate::executive::{Executive, Reserved};
 use crate::heap_floor::HeapFloor;
-use crate::pass::{Held, TaskPass};
+use crate::pass::{CountedSeat, TaskPass};
 use crate::state::State;
 use mc_task::TaskNo;
 use status_board::{Board, Watcher, Writer};
@@ -129,18 +129,18 @@ impl Executive {
         let mut task = 0;
         for seat in seats {
             task += 1;
-            passes.push_reserved(new_held(TaskNo(task), seat).at_rest());
+            passes.push_reserved(new_counted_seat(TaskNo(task), seat).at_rest());
         }
     }
 }
 
 // A task that made no call.
-fn new_held(task: TaskNo, seat: Seat<State>) -> Held
+fn new_counted_seat(task: TaskNo, seat: Seat<State>) -> CountedSeat
     requires some { 1 ≤ task.0 }
     requires seat { turn_seats.IsFresh (task.0 - 1) seat }
     ensures { (result.task ≡ task) × (result.seat ≡ seat) × (result.count ≡ tally []) }
 {
-    Held {
+    CountedSeat {
         task,
         count: Count::ZERO,
         seat,

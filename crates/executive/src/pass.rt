@@ -14,7 +14,7 @@ use turnstile::Seat;
 
 // The seat of a task, with the count of the answers to its calls.
 #[derive(Drop)]
-pub(crate) struct Held {
+pub(crate) struct CountedSeat {
     pub(crate) task: TaskNo,
     pub(crate) count: Count,
     pub(crate) seat: Seat<State>,
@@ -28,8 +28,8 @@ pub(crate) struct Held {
 // A task with no granted tick.
 #[derive(Drop)]
 pub(crate) struct Resting {
-    pub(crate) held: Held,
-    ghost none_out: { job_out held.task.0 (lists held.seat) ≡ None },
+    pub(crate) counted_seat: CountedSeat,
+    ghost none_out: { job_out counted_seat.task.0 (lists counted_seat.seat) ≡ None },
 }
 
 /// The right of one task to call; each task has one. Only an executive makes it.
@@ -45,13 +45,13 @@ pub struct TaskPass {
 
 /// A granted tick, with its task's pass inside. Only `Executive::outcome` ends it.
 pub struct Grant {
-    pub(crate) held: Held,
+    pub(crate) counted_seat: CountedSeat,
     pub(crate) granted: Granted,
-    ghost out: { job_out held.task.0 (lists held.seat) ≡ Some granted.job },
+    ghost out: { job_out counted_seat.task.0 (lists counted_seat.seat) ≡ Some granted.job },
 }
 
-impl Held {
-    ghost use Rattle.executive.specs.Passes.{of_held, of_pass, Adds};
+impl CountedSeat {
+    ghost use Rattle.executive.specs.Passes.{of_counted_seat, of_pass, Adds};
     ghost use Rattle.executive.specs.Histories.{entry};
     ghost use Rattle.executive.specs.Seats.{Lists};
     ghost use Rattle.executive.specs.Counts.{with_answer};
@@ -60,13 +60,18 @@ impl Held {
 
     // The seat of a task that made one more call, with its answer counted.
     #[inline(always)]
-    pub(crate) fn counted(task: TaskNo, count: Count, seat: Seat<State>, answer: &Answer) -> Held
+    pub(crate) fn counted(
+        task: TaskNo,
+        count: Count,
+        seat: Seat<State>,
+        answer: &Answer,
+    ) -> CountedSeat
         requires some { 1 ≤ task.0 }
         requires number { number seat ≡ task.0 - 1 }
         requires adds { (old : Lists) × (call : Call) × Adds (entry task.0 call answer.now) old (lists seat) × (old.opening.core.rows ≡ []) × (old.opening.core.held ≡ []) × (count ≡ tally old.mine) }
         ensures { (result.task ≡ task) × (result.seat ≡ seat) × (result.count ≡ with_answer count answer.now) }
     {
-        Held {
+        CountedSeat {
             task,
             count: count.with(answer),
             seat,
@@ -77,28 +82,28 @@ impl Held {
     #[inline(always)]
     pub(crate) fn at_rest(self) -> TaskPass
         requires { job_out self.task.0 (lists self.seat) ≡ None }
-        ensures same { IfSome result.resting (λ r. r.held ≡ self) }
-        ensures state { of_pass result ≡ of_held self }
+        ensures same { IfSome result.resting (λ r. r.counted_seat ≡ self) }
+        ensures state { of_pass result ≡ of_counted_seat self }
     {
         TaskPass {
-            resting: Some(Resting { held: self }),
+            resting: Some(Resting { counted_seat: self }),
         }
     }
 }
 
 impl TaskPass {
-    ghost use Rattle.executive.specs.Passes.{of_held, of_pass};
+    ghost use Rattle.executive.specs.Passes.{of_counted_seat, of_pass};
     ghost use Rattle.std.specs.Prelude.{IfSome};
 
     // The task's seat and count.
-    pub(crate) fn into_held(self) -> Held
-        ensures same { IfSome self.resting (λ r. r.held ≡ result) }
-        ensures state { of_held result ≡ of_pass self }
+    pub(crate) fn into_counted_seat(self) -> CountedSeat
+        ensures same { IfSome self.resting (λ r. r.counted_seat ≡ result) }
+        ensures state { of_counted_seat result ≡ of_pass self }
         ensures none_out { job_out result.task.0 (lists result.seat) ≡ None }
     {
         let TaskPass { resting } = self;
-        let Resting { held } = resting.unwrap();
-        held
+        let Resting { counted_seat } = resting.unwrap();
+        counted_seat
     }
 
     /// The number of the pass's task.
@@ -106,7 +111,7 @@ impl TaskPass {
         ensures { result.0 ≡ (of_pass self.now).task }
     {
         match &self.resting {
-            Some(resting) => resting.held.task,
+            Some(resting) => resting.counted_seat.task,
             None => unreachable!(),
         }
     }
@@ -119,7 +124,7 @@ impl TaskPass {
         ensures few { IsAtMost result (of_pass self.now).lists.opening.core.places }
     {
         match &self.resting {
-            Some(resting) => resting.held.count,
+            Some(resting) => resting.counted_seat.count,
             None => unreachable!(),
         }
     }

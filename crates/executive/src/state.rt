@@ -88,7 +88,7 @@ impl State {
         ensures watcher { watcher_board watcher.new ≡ watcher_board watcher.old }
         ensures shown { (log : List Shown) → HasShown log self.old.writer → HasShown log self.new.writer }
         ensures begins { StartsWith (seen watcher.new) (seen watcher.old) }
-        ensures told { (log : List Shown) → HasShown log self.old.writer → StartsWith (seen watcher.new) log }
+        ensures learned { (log : List Shown) → HasShown log self.old.writer → StartsWith (seen watcher.new) log }
     {
         match self.writer.take() {
             Some(mut writer) => match board {

@@ -6,13 +6,13 @@ ghost use Rattle.turnstile.specs.History.{StartsWith};
 ghost use Rattle.timetable.specs.declared.acts.Act.{Act as TheAct};
 ghost use Rattle.executive.specs.declared.entry.Call.TheVariants as call;
 ghost use Rattle.executive.specs.declared.entry.Answer.TheVariants as answer;
-ghost use Rattle.executive.specs.Passes.{IsHeldOf, IsPassOf, of_held, of_pass, Calls};
+ghost use Rattle.executive.specs.Passes.{IsCountedSeatOf, IsPassOf, of_counted_seat, of_pass, Calls};
 ghost use Rattle.executive.specs.Shows.{shows};
 ghost use Rattle.executive.specs.Watching.{IsWatcherOf};
 
 use crate::entry::Call;
 use crate::executive::Executive;
-use crate::pass::{Held, Resting, TaskPass};
+use crate::pass::{CountedSeat, Resting, TaskPass};
 use status_board::{Shown, Watcher};
 use std::marker::Brand;
 use std::sync::Wait;
@@ -42,25 +42,30 @@ impl Executive {
         ensures of { IsPassOf self.now pass.new × IsWatcherOf self.now watcher.new }
         ensures calls { (act : TheAct) × Calls call.Look (answer.Next act) (of_pass pass.old) (of_pass pass.new) }
         ensures begins { StartsWith (seen watcher.new) (seen watcher.old) }
-        ensures told { StartsWith (seen watcher.new) (shows (of_pass pass.new).lists.opening (of_pass pass.new).lists.seen) }
+        ensures learned { StartsWith (seen watcher.new) (shows (of_pass pass.new).lists.opening (of_pass pass.new).lists.seen) }
     {
-        let Resting { held } = pass.resting.take().unwrap();
-        let held = self.told(rt, held, watcher);
-        pass.resting = Some(Resting { held });
+        let Resting { counted_seat } = pass.resting.take().unwrap();
+        let counted_seat = self.tell_watcher(rt, counted_seat, watcher);
+        pass.resting = Some(Resting { counted_seat });
     }
 
     // Makes a look, in whose turn the watcher is brought up to date.
-    fn told<R: Wait>(&self, rt: &R, held: Held, watcher: &mut Watcher) -> Held
-        requires of { IsHeldOf self.now held }
+    fn tell_watcher<R: Wait>(
+        &self,
+        rt: &R,
+        counted_seat: CountedSeat,
+        watcher: &mut Watcher,
+    ) -> CountedSeat
+        requires of { IsCountedSeatOf self.now counted_seat }
         requires watcher { IsWatcherOf self.now watcher.old }
-        ensures of { IsHeldOf self.now result × IsWatcherOf self.now watcher.new }
-        ensures calls { (act : TheAct) × Calls call.Look (answer.Next act) (of_held held) (of_held result) }
+        ensures of { IsCountedSeatOf self.now result × IsWatcherOf self.now watcher.new }
+        ensures calls { (act : TheAct) × Calls call.Look (answer.Next act) (of_counted_seat counted_seat) (of_counted_seat result) }
         ensures begins { StartsWith (seen watcher.new) (seen watcher.old) }
-        ensures told { StartsWith (seen watcher.new) (shows (of_held result).lists.opening (of_held result).lists.seen) }
+        ensures learned { StartsWith (seen watcher.new) (shows (of_counted_seat result).lists.opening (of_counted_seat result).lists.seen) }
     {
-        let Held { task, count, seat } = held;
+        let CountedSeat { task, count, seat } = counted_seat;
         let (mut turn, answer) = self.begin(rt, seat, task, Call::Look);
         turn.state().tell(&self.board, watcher);
-        Held::counted(task, count, self.turns.leave::<Brand>(turn), &answer)
+        CountedSeat::counted(task, count, self.turns.leave::<Brand>(turn), &answer)
     }
 }

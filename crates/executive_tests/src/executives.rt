@@ -398,7 +398,7 @@ fn shown(ticks: u64, high_mode: bool) -> Shown {
 }
 
 #[test]
-fn a_watcher_that_is_told_sees_the_idle_tick(rt: HostRuntime) -> Result<(), Fail> {
+fn a_watcher_sees_the_idle_tick_after_a_tell(rt: HostRuntime) -> Result<(), Fail> {
     let (executive, passes, mut first, second, mut watcher) = watched(&rt, rt.alloc())?;
     let idle = executive.idle(&rt, &mut first);
     executive.tell(&rt, &mut first, &mut watcher);
@@ -414,7 +414,7 @@ fn a_watcher_that_is_told_sees_the_idle_tick(rt: HostRuntime) -> Result<(), Fail
 }
 
 #[test]
-fn a_watcher_that_is_not_told_sees_the_idle_tick_too(rt: HostRuntime) -> Result<(), Fail> {
+fn a_watcher_sees_the_idle_tick_without_a_tell_too(rt: HostRuntime) -> Result<(), Fail> {
     let (executive, passes, mut first, second, mut watcher) = watched(&rt, rt.alloc())?;
     let before = executive.watch(&mut watcher);
     let idle = executive.idle(&rt, &mut first);

@@ -2,7 +2,7 @@
 use demand_test::{
     Demand, DemandCause, DemandFault, DemandSet, Fit, check_demand, counter, read_demands,
 };
-use mc_task::TaskNo;
+use mc_task::{Name, TaskNo};
 use std::alloc::{AllocError, Global};
 use std::test::Fail;
 
@@ -181,17 +181,17 @@ fn counterexample(alloc: Global, set: &DemandSet) -> Result<Option<Vec<u8>>, Fai
 }
 
 // Whether the set of these records has this counterexample.
-fn is_shown(alloc: Global, records: &str, wanted: &str) -> Result<bool, Fail> {
+fn is_shown(alloc: Global, records: &str, expected: &str) -> Result<bool, Fail> {
     let set = set_of(alloc, records)?;
     let shown = counterexample(alloc, &set)?;
-    Ok(shown.is_some_and(|shown| shown.as_slice() == wanted.as_bytes()))
+    Ok(shown.is_some_and(|shown| shown.as_slice() == expected.as_bytes()))
 }
 
 #[test]
 fn a_counterexample_ends_in_its_first_late_job(rt: HostRuntime) -> Result<(), Fail> {
     let alloc = rt.alloc();
-    for (records, wanted) in &COUNTEREXAMPLES {
-        assert!(rt; is_shown(alloc, records, wanted)?, "{records}");
+    for (records, expected) in &COUNTEREXAMPLES {
+        assert!(rt; is_shown(alloc, records, expected)?, "{records}");
     }
     Ok(())
 }
@@ -299,29 +299,29 @@ fn push_demand(alloc: Global, text: &mut String, task: &Demand) -> Result<(), Al
 }
 
 // Whether reading the bytes gives these tasks, or this refusal.
-fn is_answered(alloc: Global, bytes: &[u8], wanted: &str) -> Result<bool, AllocError> {
+fn is_answered(alloc: Global, bytes: &[u8], expected: &str) -> Result<bool, AllocError> {
     let text = match read_demands(alloc, bytes) {
         Ok(set) => tasks_text(alloc, &set)?,
         Err(fault) => format!(in alloc; "{fault}")?,
     };
-    Ok(text.as_str() == wanted)
+    Ok(text.as_str() == expected)
 }
 
 // Whether reading these records after the header, separated by spaces, gives this result.
-fn are_answered(alloc: Global, records: &str, wanted: &str) -> Result<bool, AllocError> {
+fn are_answered(alloc: Global, records: &str, expected: &str) -> Result<bool, AllocError> {
     let lines = records.replace(alloc, " ", "\n")?;
     let text = format!(in alloc; "{HEADER}{lines}\n")?;
-    is_answered(alloc, text.as_bytes(), wanted)
+    is_answered(alloc, text.as_bytes(), expected)
 }
 
 #[test]
 fn a_file_gives_its_tasks_or_its_first_refusal(rt: HostRuntime) -> Result<(), Fail> {
     let alloc = rt.alloc();
-    for (text, wanted) in &FILES {
-        assert!(rt; is_answered(alloc, text.as_bytes(), wanted)?, "{text}");
+    for (text, expected) in &FILES {
+        assert!(rt; is_answered(alloc, text.as_bytes(), expected)?, "{text}");
     }
-    for (records, wanted) in &RECORDS {
-        assert!(rt; are_answered(alloc, records, wanted)?, "{records}");
+    for (records, expected) in &RECORDS {
+        assert!(rt; are_answered(alloc, records, expected)?, "{records}");
     }
     Ok(())
 }
@@ -351,6 +351,109 @@ fn there_are_at_most_128_tasks(rt: HostRuntime) -> Result<(), Fail> {
     Ok(())
 }
 
+// A task's name, period, deadline and budget.
+type Listed = (&'static str, u32, u32, u32);
+
+// Adds the task to the list.
+fn push_listed(tasks: &mut Vec<Demand>, listed: Listed) -> Result<(), Fail> {
+    let (name, period, deadline, budget) = listed;
+    let name = Name::new(name.as_bytes()).ok_or("a name")?;
+    tasks.push(Demand {
+        name,
+        period,
+        deadline,
+        budget,
+    })?;
+    Ok(())
+}
+
+// The tasks of the set of this list as `name period deadline budget;`, or the list's first refusal.
+fn listed_text(alloc: Global, tasks: Vec<Demand>) -> Result<String, AllocError> {
+    match DemandSet::new(tasks) {
+        Ok(set) => tasks_text(alloc, &set),
+        Err(refused) => format!(in alloc; "task {}: {:?}", refused.task.0, refused.cause),
+    }
+}
+
+// Whether the set of these tasks is this, or the list has this refusal.
+fn is_listed(alloc: Global, listed: &[Listed], expected: &str) -> Result<bool, Fail> {
+    let mut tasks = Vec::new(alloc);
+    for task in listed {
+        push_listed(&mut tasks, *task)?;
+    }
+    Ok(listed_text(alloc, tasks)?.as_str() == expected)
+}
+
+#[test]
+fn a_list_of_tasks_is_a_set_or_has_a_first_refusal(rt: HostRuntime) -> Result<(), Fail> {
+    let cases: [(&[Listed], &str); 17] = [
+        (&[], "task 0: Empty"),
+        (&[("a", 4, 2, 1)], "a 4 2 1;"),
+        (
+            &[("a", 4, 4, u32::MAX), ("b-2", 500_000, 4, 1)],
+            "a 4 4 4294967295;b-2 500000 4 1;",
+        ),
+        (&[("a", 4, 2, 1), ("a", 6, 3, 2)], "task 2: SameName"),
+        (&[("a", 0, 2, 1)], "task 1: ZeroNumber"),
+        (&[("a", 4, 0, 1)], "task 1: ZeroNumber"),
+        (&[("a", 4, 2, 0)], "task 1: ZeroNumber"),
+        (&[("a", 4, 5, 1)], "task 1: DeadlineOrder"),
+        (&[("a", 500_001, 1, 1)], "task 1: Range"),
+        (&[("a", 1000, 1, 1), ("b", 501, 1, 1)], "task 2: Range"),
+        (
+            &[("a", 500_000, 1, 1), ("b", 250_000, 1, 1), ("c", 3, 1, 1)],
+            "task 3: Range",
+        ),
+        // If several causes apply, the first in their order is reported, and of several tasks the first.
+        (&[("a", 4, 2, 1), ("a", 0, 5, 0)], "task 2: SameName"),
+        (&[("a", 4, 5, 0)], "task 1: ZeroNumber"),
+        (&[("a", 600_000, 600_001, 1)], "task 1: DeadlineOrder"),
+        (&[("a", 500_001, 1, 1), ("a", 0, 0, 0)], "task 1: Range"),
+        (
+            &[("a", 4, 2, 1), ("b", 4, 0, 1), ("a", 4, 2, 1)],
+            "task 2: ZeroNumber",
+        ),
+        (
+            &[("a", 4, 2, 1), ("b", 6, 3, 2), ("a", 4, 2, 1)],
+            "task 3: SameName",
+        ),
+    ];
+    for (listed, expected) in cases {
+        assert!(rt; is_listed(rt.alloc(), listed, expected)?, "{expected}");
+    }
+    Ok(())
+}
+
+// The tasks of the set of these records, in a list.
+fn copied(alloc: Global, records: &str) -> Result<Vec<Demand>, Fail> {
+    let set = set_of(alloc, records)?;
+    let mut tasks = Vec::new(alloc);
+    for i in 0..set.len() {
+        if let Some(task) = set.get(TaskNo(i + 1)) {
+            tasks.push(task)?;
+        }
+    }
+    Ok(tasks)
+}
+
+#[test]
+fn a_list_has_at_most_128_tasks(rt: HostRuntime) -> Result<(), Fail> {
+    let alloc = rt.alloc();
+    let records = many(alloc, "1,1,1", "1,1,2")?;
+    let set = DemandSet::new(copied(alloc, records.as_str())?)
+        .ok()
+        .ok_or("a set")?;
+    assert_eq!(rt;
+        (set.len(), check_demand(alloc, &set)?),
+        (128, past(1, 129))
+    );
+    let mut tasks = copied(alloc, records.as_str())?;
+    // The 129th task is refused before its name and its numbers are looked at.
+    push_listed(&mut tasks, ("t1", 0, 0, 0))?;
+    assert_eq!(rt; listed_text(alloc, tasks)?.as_str(), "task 129: TooMany");
+    Ok(())
+}
+
 #[test]
 fn bytes_that_are_no_text_are_refused(rt: HostRuntime) {
     let cases: [(&[u8], u32, DemandCause); 3] = [
@@ -373,13 +476,13 @@ fn bytes_that_are_no_text_are_refused(rt: HostRuntime) {
 }
 
 // Whether reading a record of 200,000 commas after this text gives this result.
-fn is_wide_answered(alloc: Global, before: &str, wanted: &str) -> Result<bool, AllocError> {
+fn is_wide_answered(alloc: Global, before: &str, expected: &str) -> Result<bool, AllocError> {
     let mut file = Vec::new(alloc);
     file.extend_from_slice(before.as_bytes())?;
     for _ in 0..200_000u32 {
         file.push(b',')?;
     }
-    is_answered(alloc, &file, wanted)
+    is_answered(alloc, &file, expected)
 }
 
 #[test]
@@ -395,8 +498,8 @@ fn a_wide_record_of_a_long_file_is_refused_by_its_width(rt: HostRuntime) -> Resu
         ),
         (full.as_str(), "line 130: TooMany"),
     ];
-    for (before, wanted) in cases {
-        assert!(rt; is_wide_answered(alloc, before, wanted)?, "{wanted}");
+    for (before, expected) in cases {
+        assert!(rt; is_wide_answered(alloc, before, expected)?, "{expected}");
     }
     Ok(())
 }

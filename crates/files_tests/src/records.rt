@@ -4,7 +4,7 @@ ghost use Rattle.std.proofs.Common.{arith};
 ghost use Rattle.std.proofs.lemmas.Bool.Decides.{nat_tests};
 
 use csv::ByteRecord;
-use csv_records::{Meaning, Next, Records, read_rows};
+use csv_records::{Next, Records, RowReader, read_rows};
 use std::alloc::{AllocError, Global};
 use std::test::Fail;
 
@@ -30,8 +30,8 @@ fn records_are_given_in_order(rt: HostRuntime) {
     let text = b"\xEF\xBB\xBFa,b\n\"c,\"\"d\",\r\n\ne";
     let mut records = Records::new(alloc, text);
     let mut fields = ByteRecord::new(alloc);
-    let wanted: [&[&[u8]]; 3] = [&[b"a", b"b"], &[b"c,\"d", b""], &[b"e"]];
-    for record in wanted {
+    let expected: [&[&[u8]]; 3] = [&[b"a", b"b"], &[b"c,\"d", b""], &[b"e"]];
+    for record in expected {
         assert!(rt; is_next(&mut records, &mut fields, record.len(), record));
     }
     assert!(rt; records.next(&mut fields) == Ok(Next::End));
@@ -49,7 +49,7 @@ fn long_text(alloc: Global) -> Result<Vec<u8>, AllocError> {
 }
 
 #[test]
-fn a_wide_record_of_a_long_text_is_told_and_not_read(rt: HostRuntime) -> Result<(), Fail> {
+fn a_wide_record_of_a_long_text_is_reported_and_not_read(rt: HostRuntime) -> Result<(), Fail> {
     let alloc = rt.alloc();
     let text = long_text(alloc)?;
     let mut records = Records::new(alloc, &text);
@@ -69,20 +69,20 @@ fn a_wide_record_of_a_long_text_is_told_and_not_read(rt: HostRuntime) -> Result<
 #[derive(Drop)]
 struct Widths;
 
-impl Meaning for Widths {
+impl RowReader for Widths {
     type Row = usize;
 
     type Cause = usize;
 
-    type Kept = ();
+    type State = ();
 
     ghost header = { λ widths fields. if length fields == 1
         then Some (λ before fields. if nat_lt (length before) 3 && nat_le (length fields) 2 then Ok (length fields) else Err (length before))
         else None };
 
-    ghost means = { λ widths kept before fields. if nat_lt (length before) 3 && nat_le (length fields) 2 then Ok (length fields) else Err (length before) };
+    ghost means = { λ widths state before fields. if nat_lt (length before) 3 && nat_le (length fields) 2 then Ok (length fields) else Err (length before) };
 
-    ghost keeps = { λ widths kept rows. length rows ≤ 3 };
+    ghost is_state_of = { λ widths state rows. length rows ≤ 3 };
 
     fn header(&self, fields: &ByteRecord) -> Option<()> {
         if fields.len() == 1 { Some(()) } else { None }
@@ -102,7 +102,7 @@ impl Meaning for Widths {
 
     ghost narrow = { λ widths fields wide. Prim.grind (arith, nat_tests) };
 
-    ghost few = { λ widths kept rows three. Prim.omega (arith, three) };
+    ghost few = { λ widths state rows three. Prim.omega (arith, three) };
 }
 
 // Whether reading the text gives these rows, or this refusal.

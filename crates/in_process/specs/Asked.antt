@@ -14,7 +14,7 @@ use Rattle.in_process.specs.declared.reply.NoReply.TheVariants.{Memory, Threads,
 abbrev pub few_words : ℕ → List ℕ → List ℕ → List ℕ → List ℕ → List ℕ → List (List ℕ)
 few_words n a b c d e = if nat_le n 5 then take n (a ∷ b ∷ c ∷ d ∷ e ∷ []) else []
 
--- the five words that a call has room for
+-- the five words that a call takes at most
 abbrev pub five_of : Words → List (List ℕ)
 five_of w = w.first.now ∷ w.second.now ∷ w.third.now ∷ w.fourth.now ∷ w.fifth.now ∷ []
 

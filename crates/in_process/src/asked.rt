@@ -57,7 +57,7 @@ fn texts(alloc: Global, words: Words<'_>) -> Result<Vec<String>, NoReply>
     Ok(texts)
 }
 
-// The word at this place, from 0, as a text.
+// The word at this index, from 0, as a text.
 fn text_at(alloc: Global, words: Words<'_>, place: usize) -> Result<String, NoReply>
     requires { place < 5 }
     ensures text { IfOk result (λ text. string_bytes text ≡ slice_index_or (five_of words.entry) place []) }

@@ -7,7 +7,7 @@ use Rattle.mc_task.specs.TaskSet.{task_at}
 use Rattle.mc_model.specs.declared.row.Row.{Row}
 use Rattle.mc_model.specs.declared.row.Row.TheVariants.{Release, Tick, Idle}
 use Rattle.mc_model.specs.TaskNumbers.{is_high_in}
-use Rattle.mc_model.specs.Pending.{released, ended, over_since, is_live, is_end}
+use Rattle.mc_model.specs.Pending.{released, ended, over_since, is_still_pending, is_end}
 use Rattle.mc_model.specs.Rows.{same_job, ticks, used, releases}
 use Rattle.mc_model.specs.Mode.{is_over}
 use Rattle.mc_model.specs.Legal.{fault_among}
@@ -59,9 +59,9 @@ other_job g j i c k = go (same_job j i) refl
         absurd (omega (arith, e, k))
 
 -- a release leaves the other jobs as they are
-pub others : (set : List Task) (rule : Rule) (j : JobId) (kept : Bool) (g : List Row) → Fold.Legal set rule g → j.count ≡ releases g j.task.0 + 1 → filter (is_live set (Release j kept ∷ g)) (released g) ≡ filter (is_live set g) (released g)
+pub others : (set : List Task) (rule : Rule) (j : JobId) (kept : Bool) (g : List Row) → Fold.Legal set rule g → j.count ≡ releases g j.task.0 + 1 → filter (is_still_pending set (Release j kept ∷ g)) (released g) ≡ filter (is_still_pending set g) (released g)
 others set rule j kept g l c =
-    filter_ext (is_live set (Release j kept ∷ g)) (is_live set g) (released g)
+    filter_ext (is_still_pending set (Release j kept ∷ g)) (is_still_pending set g) (released g)
     (Each-map {P = λ x. x.job.count ≤ releases g x.job.task.0} (λ x k. let n = other_job g j x.job c k in rw n refl) (released g) (released_count set rule g l))
 
 -- a job that was just released is pending
@@ -85,8 +85,8 @@ bridge set rule (Tick j how ∷ g) l =
     record {
       legal = (l.0, subst (λ xs. fault_among set rule xs (Tick j how) g ≡ None) b.same l.1, b.legal);
       same =
-          filter_ext (is_live set (Tick j how ∷ g)) (λ x. is_live set g x && stays set j how x) (released g) (Each-all (λ x. tick_live (is_end how) (same_job j x.job) (ended g x.job) (is_high_in (task_at set x.job.task.0)) (is_over how) (over_since g x.job)) (released g))
-          ∙ (sym (filter-filter (stays set j how) (is_live set g) (released g)) ∙ ap (filter (stays set j how)) b.same);
+          filter_ext (is_still_pending set (Tick j how ∷ g)) (λ x. is_still_pending set g x && stays set j how x) (released g) (Each-all (λ x. tick_live (is_end how) (same_job j x.job) (ended g x.job) (is_high_in (task_at set x.job.task.0)) (is_over how) (over_since g x.job)) (released g))
+          ∙ (sym (filter-filter (stays set j how) (is_still_pending set g) (released g)) ∙ ap (filter (stays set j how)) b.same);
     }
 bridge set rule (Release j false ∷ g) l =
     let b : IsBridged set rule g = bridge set rule g l.2 in
@@ -100,7 +100,7 @@ bridge set rule (Release j true ∷ g) l =
     let f = subst (λ xs. fault_among set rule xs (Release j true) g ≡ None) b.same l.1 in
     let c = (release_fits set rule j true g f).count in
     let u : used g j ≡ 0 = (counted set rule g b.legal).fresh j (omega (arith, c)) in
-    let lv : is_live set (Release j true ∷ g) (record { job = j; release = ticks g }) ≡ true =
+    let lv : is_still_pending set (Release j true ∷ g) (record { job = j; release = ticks g }) ≡ true =
     rw (not_ended g j u, same_job-refl j) (or_not (is_high_in (task_at set j.task.0))) in
     record {
       legal = (l.0, f, b.legal);

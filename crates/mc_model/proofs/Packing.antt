@@ -157,7 +157,7 @@ put_le : (row : Row) (rs : List Run) → length (put_before row rs) ≤ length r
 put_le row [] = omega arith
 put_le row (r ∷ rs) = elim (joins (run_of row) r) as (λ b. length (cond b (longer r ∷ rs) (run_of row ∷ r ∷ rs)) ≤ length (r ∷ rs) + 1) [ true ↦ omega arith | false ↦ omega arith ]
 
--- the runs of a trace are at most as many as its rows
+-- a trace has at most one run for each row
 pub length-pack-le : (h : List Row) → length (pack h) ≤ length h
 length-pack-le [] = omega arith
 length-pack-le (row ∷ h) = let one = put_le row (pack h) in let rest : length (pack h) ≤ length h = length-pack-le h in omega (arith, one, rest)

@@ -89,7 +89,7 @@ size_le (run.Release j kept) = omega arith
 size_le (run.Ticks j how n) = omega arith
 size_le (run.Idles n) = omega arith
 
--- the rows are at most as many as runs and ticks together
+-- there are at most as many rows as runs and ticks together
 pub length-expand-le : (rs : List Run) → length (expand rs) ≤ length rs + total length_of rs
 length-expand-le [] = omega arith
 length-expand-le (r ∷ rs) =

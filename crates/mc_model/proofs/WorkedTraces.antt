@@ -38,8 +38,8 @@ a_tick_of_a_job_that_was_not_released = refl
 a_tick_past_an_earlier_virtual_deadline : judged (Release (job 1 1) true ∷ Release (job 2 1) true ∷ Tick (job 2 1) More ∷ []) ≡ Illegal 3 NotLeast
 a_tick_past_an_earlier_virtual_deadline = refl
 
-an_overrun_that_is_not_told : judged (Release (job 1 1) true ∷ Tick (job 1 1) More ∷ Tick (job 1 1) More ∷ []) ≡ Illegal 3 WrongHow
-an_overrun_that_is_not_told = refl
+an_overrun_that_is_not_reported : judged (Release (job 1 1) true ∷ Tick (job 1 1) More ∷ Tick (job 1 1) More ∷ []) ≡ Illegal 3 WrongHow
+an_overrun_that_is_not_reported = refl
 
 an_idle_tick_while_a_job_is_pending : judged (Release (job 1 1) true ∷ Idle ∷ []) ≡ Illegal 2 IdlePending
 an_idle_tick_while_a_job_is_pending = refl

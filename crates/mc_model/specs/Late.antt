@@ -5,7 +5,7 @@ use Rattle.mc_task.specs.declared.task.JobId.{JobId}
 use Rattle.mc_task.specs.TaskSet.{task_at}
 use Rattle.mc_model.specs.TaskNumbers.{period_in}
 use Rattle.mc_model.specs.Rows.{ticks}
-use Rattle.mc_model.specs.Pending.{KeptRelease, released, is_live}
+use Rattle.mc_model.specs.Pending.{KeptRelease, released, is_still_pending}
 use Rattle.mc_model.specs.declared.row.Row.{Row}
 
 -- the part of the trace before tick number d, counted from 0: all that happens by boundary d
@@ -20,7 +20,7 @@ deadline set i = i.release + period_in (task_at set i.job.task.0)
 -- whether the job is late: its deadline has come, and in the rows up to it the job has not ended, and is of a
 -- high task or has seen no overrun
 abbrev pub is_late : List Task → List Row → KeptRelease → Bool
-is_late set h i = nat_le (deadline set i) (ticks h) && is_live set (up_to (deadline set i) h) i
+is_late set h i = nat_le (deadline set i) (ticks h) && is_still_pending set (up_to (deadline set i) h) i
 
 -- the late jobs, in the order of their releases
 abbrev pub late : List Task → List Row → List JobId

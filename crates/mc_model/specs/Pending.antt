@@ -46,9 +46,9 @@ over_since (Tick i how ∷ g) j = is_over how || over_since g j
 over_since (Idle ∷ g) j = over_since g j
 
 -- whether the job has not ended, and is of a high task or has seen no overrun since its release
-abbrev pub is_live : List Task → List Row → KeptRelease → Bool
-is_live set h i = not (ended h i.job) && (is_high_in (task_at set i.job.task.0) || not (over_since h i.job))
+abbrev pub is_still_pending : List Task → List Row → KeptRelease → Bool
+is_still_pending set h i = not (ended h i.job) && (is_high_in (task_at set i.job.task.0) || not (over_since h i.job))
 
 -- the pending jobs, newest release first
 abbrev pub pending : List Task → List Row → List KeptRelease
-pending set h = filter (is_live set h) (released h)
+pending set h = filter (is_still_pending set h) (released h)

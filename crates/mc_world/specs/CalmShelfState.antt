@@ -13,7 +13,7 @@ pub record CalmShelfState : Type 0 where
   -- the fetches with a result, the first one first; none failed
   pub fetches : List Fetch
   -- how many fetches ran out of memory; these are not among `fetches`
-  pub wanted : ℕ
+  pub memory_faults : ℕ
 
 -- the fetches of these names, none of which failed
 abbrev pub calm_fetches : List (String Global) → List Fetch
@@ -21,7 +21,7 @@ calm_fetches names = map (λ n. fetch_of (string_bytes n) false) names
 
 -- a calm shelf without any fetch
 abbrev pub new_calm_shelf : List (List ℕ × List ℕ) → CalmShelfState
-new_calm_shelf files = record { files = files; fetches = []; wanted = 0 }
+new_calm_shelf files = record { files = files; fetches = []; memory_faults = 0 }
 
 -- the bytes under a name; none if the list lacks it
 abbrev pub bytes_at : List ℕ → List (List ℕ × List ℕ) → List ℕ
@@ -33,5 +33,5 @@ calm_files files name = Some (bytes_at name files)
 
 -- the calm shelf after a fetch of that name with that result
 abbrev pub after_calm_fetch : CalmShelfState → List ℕ → Result (Vec ℕ Global) FetchFault → CalmShelfState
-after_calm_fetch s name (Err Memory) = record s { wanted = one_more s.wanted }
+after_calm_fetch s name (Err Memory) = record s { memory_faults = one_more s.memory_faults }
 after_calm_fetch s name _ = record s { fetches = s.fetches ++ fetch_of name false ∷ [] }

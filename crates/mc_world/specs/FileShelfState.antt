@@ -6,6 +6,6 @@ pub record FileShelfState : Type 0 where
   -- how many fetches failed
   pub faults : ℕ
   -- how many fetches ran out of memory
-  pub wanted : ℕ
+  pub memory_faults : ℕ
   -- how many bytes were read, over all fetches
   pub bytes_read : ℕ

@@ -18,7 +18,7 @@ pub record MemoryShelfState : Type 0 where
   -- how many fetches failed
   pub faults : ℕ
   -- how many fetches ran out of memory; these are not among `fetches`
-  pub wanted : ℕ
+  pub memory_faults : ℕ
 
 -- the files of a list in memory
 abbrev pub files_of : List (String Global × Vec ℕ Global) → List (List ℕ × List ℕ)
@@ -30,7 +30,7 @@ fetches_of fetches = map (λ f. fetch_of (string_bytes f.0) f.1) fetches
 
 -- a shelf without any fetch
 abbrev pub new_shelf : List (List ℕ × List ℕ) → List ℕ → MemoryShelfState
-new_shelf files fails = record { files = files; fails = fails; fetches = []; faults = 0; wanted = 0 }
+new_shelf files fails = record { files = files; fails = fails; fetches = []; faults = 0; memory_faults = 0 }
 
 -- the result of a fetch for a file, if there is one
 abbrev pub answer_of : Option (List ℕ) → ℕ → Result (List ℕ) FetchFault
@@ -51,7 +51,7 @@ Answers (Ok bytes) answer = answer ≡ Ok bytes.items
 
 -- the shelf after a fetch of that name with that result
 abbrev pub after_fetch : MemoryShelfState → List ℕ → Result (Vec ℕ Global) FetchFault → MemoryShelfState
-after_fetch s name (Err Memory) = record s { wanted = one_more s.wanted }
+after_fetch s name (Err Memory) = record s { memory_faults = one_more s.memory_faults }
 after_fetch s name (Err Failed) =
     record s { fetches = s.fetches ++ fetch_of name true ∷ []; faults = s.faults + 1 }
 after_fetch s name _ = record s { fetches = s.fetches ++ fetch_of name false ∷ [] }

@@ -31,7 +31,7 @@ pub record ShelfState : Type 0 where
   -- how many fetches have failed
   pub faults : ℕ
   -- how many fetches have run out of memory
-  pub wanted : ℕ
+  pub memory_faults : ℕ
   -- how many bytes have been read, over all fetches
   pub bytes_read : ℕ
 

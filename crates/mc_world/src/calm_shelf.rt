@@ -16,7 +16,7 @@ pub struct CalmShelf {
     alloc: Global,
     files: Vec<(String, Vec<u8>)>,
     asked: Vec<String>,
-    wanted: u64,
+    memory_faults: u64,
 }
 
 impl Model for CalmShelf {
@@ -26,7 +26,7 @@ impl Model for CalmShelf {
 
     ghost Value = { CalmShelfState };
 
-    ghost view = { λ s. record { files = files_of s.files.items; fetches = calm_fetches s.asked.items; wanted = s.wanted } };
+    ghost view = { λ s. record { files = files_of s.files.items; fetches = calm_fetches s.asked.items; memory_faults = s.memory_faults } };
 
     ghost invariant = { λ s. NamesDiffer (files_of s.files.items) };
 }
@@ -41,7 +41,7 @@ impl CalmShelf {
             alloc,
             files,
             asked: Vec::new(alloc),
-            wanted: 0,
+            memory_faults: 0,
         }
     }
 }
@@ -52,7 +52,7 @@ impl Shelf for CalmShelf {
       holds = Some (calm_files s.files);
       fetches = Some s.fetches;
       faults = 0;
-      wanted = s.wanted;
+      memory_faults = s.memory_faults;
       bytes_read = 0;
     } };
 
@@ -62,16 +62,16 @@ impl Shelf for CalmShelf {
         ensures leaves { self.new ≡ after_calm_fetch self.old name.now result }
     {
         let Ok(copy) = String::from_str(self.alloc, name) else {
-            self.wanted = self.wanted.saturating_add(1);
+            self.memory_faults = self.memory_faults.saturating_add(1);
             return Err(FetchFault::Memory);
         };
         let answer = copied(alloc, held(&self.files, name), limit);
         if let Err(FetchFault::Memory) = answer {
-            self.wanted = self.wanted.saturating_add(1);
+            self.memory_faults = self.memory_faults.saturating_add(1);
             return answer;
         }
         if self.asked.push(copy).is_err() {
-            self.wanted = self.wanted.saturating_add(1);
+            self.memory_faults = self.memory_faults.saturating_add(1);
             return Err(FetchFault::Memory);
         }
         answer

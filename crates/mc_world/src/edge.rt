@@ -25,7 +25,7 @@ pub fn read_whole<T: Read>(
     ensures whole { IfOk result (λ bytes. IfSome (T.remaining reader.old.inner) (λ left. bytes.items ≡ left)) }
     ensures short { IfOk result (λ bytes. length bytes.items ≤ limit) }
     ensures long { IsErrOf result FetchFault.TooLong → IfSome (T.remaining reader.old.inner) (λ left. limit < length left) }
-    ensures long_untold { IsErrOf result FetchFault.TooLong → RoseByMoreThan limit bytes_read.old bytes_read.new }
+    ensures long_hidden { IsErrOf result FetchFault.TooLong → RoseByMoreThan limit bytes_read.old bytes_read.new }
     ensures more_read { bytes_read.old ≤ bytes_read.new }
 
     // Each byte returned was counted once.

@@ -15,7 +15,7 @@ use std::rt::Files;
 pub struct FileShelf<'a, R: Files> {
     rt: &'a R,
     faults: u64,
-    wanted: u64,
+    memory_faults: u64,
     bytes_read: u64,
 }
 
@@ -24,20 +24,20 @@ impl<'a, R: Files> Model for FileShelf<'a, R> {
 
     ghost Value = { FileShelfState };
 
-    ghost view = { λ s. record { faults = s.faults; wanted = s.wanted; bytes_read = s.bytes_read } };
+    ghost view = { λ s. record { faults = s.faults; memory_faults = s.memory_faults; bytes_read = s.bytes_read } };
 }
 
 impl<'a, R: Files> FileShelf<'a, R> {
     /// A shelf that has read nothing so far. In contracts it is its counts.
     pub fn new(rt: &'a R) -> FileShelf<'a, R>
         ensures no_fault { result.faults ≡ 0 }
-        ensures no_want { result.wanted ≡ 0 }
+        ensures no_memory_fault { result.memory_faults ≡ 0 }
         ensures nothing_read { result.bytes_read ≡ 0 }
     {
         FileShelf {
             rt,
             faults: 0,
-            wanted: 0,
+            memory_faults: 0,
             bytes_read: 0,
         }
     }
@@ -48,7 +48,7 @@ impl<R: Files> Shelf for FileShelf<'_, R> {
       holds = None;
       fetches = None;
       faults = s.faults;
-      wanted = s.wanted;
+      memory_faults = s.memory_faults;
       bytes_read = s.bytes_read;
     } };
 
@@ -60,7 +60,7 @@ impl<R: Files> Shelf for FileShelf<'_, R> {
         let answer = read_whole(alloc, &mut Device::new(file), limit, &mut self.bytes_read);
         match answer {
             Err(FetchFault::Failed) => self.faults = self.faults.saturating_add(1),
-            Err(FetchFault::Memory) => self.wanted = self.wanted.saturating_add(1),
+            Err(FetchFault::Memory) => self.memory_faults = self.memory_faults.saturating_add(1),
             _ => {}
         }
         answer

@@ -17,7 +17,7 @@ pub struct MemoryShelf {
     // The name of each fetch, and whether the fetch failed.
     fetches: Vec<(String, bool)>,
     faults: u64,
-    wanted: u64,
+    memory_faults: u64,
 }
 
 impl Model for MemoryShelf {
@@ -32,7 +32,7 @@ impl Model for MemoryShelf {
       fails = s.fails.items;
       fetches = fetches_of s.fetches.items;
       faults = s.faults;
-      wanted = s.wanted;
+      memory_faults = s.memory_faults;
     } };
 
     ghost invariant = { λ s. NamesDiffer (files_of s.files.items) × (s.faults ≤ length s.fetches.items) };
@@ -50,7 +50,7 @@ impl MemoryShelf {
             fails,
             fetches: Vec::new(alloc),
             faults: 0,
-            wanted: 0,
+            memory_faults: 0,
         }
     }
 }
@@ -61,7 +61,7 @@ impl Shelf for MemoryShelf {
       holds = Some (λ name. file_at name s.files);
       fetches = Some s.fetches;
       faults = s.faults;
-      wanted = s.wanted;
+      memory_faults = s.memory_faults;
       bytes_read = 0;
     } };
 
@@ -71,7 +71,7 @@ impl Shelf for MemoryShelf {
         ensures leaves { self.new ≡ after_fetch self.old name.now result }
     {
         let Ok(copy) = String::from_str(self.alloc, name) else {
-            self.wanted = self.wanted.saturating_add(1);
+            self.memory_faults = self.memory_faults.saturating_add(1);
             return Err(FetchFault::Memory);
         };
         let answer = if self.fails.contains(&(self.fetches.len() as u64 + 1)) {
@@ -80,12 +80,12 @@ impl Shelf for MemoryShelf {
             found(alloc, &self.files, name, limit)
         };
         if let Err(FetchFault::Memory) = answer {
-            self.wanted = self.wanted.saturating_add(1);
+            self.memory_faults = self.memory_faults.saturating_add(1);
             return answer;
         }
         let failed = matches!(answer, Err(FetchFault::Failed));
         if self.fetches.push((copy, failed)).is_err() {
-            self.wanted = self.wanted.saturating_add(1);
+            self.memory_faults = self.memory_faults.saturating_add(1);
             return Err(FetchFault::Memory);
         }
         if failed {

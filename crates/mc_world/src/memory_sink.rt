@@ -234,7 +234,7 @@ mod tests {
     }
 
     #[test]
-    fn fails_and_stops_where_it_is_told_to_and_where_it_is_full(rt: HostRuntime) {
+    fn fails_and_stops_where_listed_and_where_it_is_full(rt: HostRuntime) {
         for case in &CASES {
             assert!(rt; is_met(rt.alloc(), case), "{}", case.shows);
         }

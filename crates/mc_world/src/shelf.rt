@@ -36,14 +36,14 @@ pub trait Shelf {
         ensures no_fault { ((state self.new).faults ≡ (state self.old).faults) ⊎ IsErrOf result FetchFault.Failed }
 
         // `Memory` comes only if the count of fetches out of memory rose, and that count rises with no other result.
-        ensures wanted { IsErrOf result FetchFault.Memory → Rose (state self.old).wanted (state self.new).wanted }
-        ensures no_want { ((state self.new).wanted ≡ (state self.old).wanted) ⊎ IsErrOf result FetchFault.Memory }
+        ensures memory_faults { IsErrOf result FetchFault.Memory → Rose (state self.old).memory_faults (state self.new).memory_faults }
+        ensures no_memory_fault { ((state self.new).memory_faults ≡ (state self.old).memory_faults) ⊎ IsErrOf result FetchFault.Memory }
 
         // `TooLong` means that the bytes of the file exceed the limit; if the shelf does not expose them, that more
         // bytes than the limit were read.
         ensures long { IsErrOf result FetchFault.TooLong → IfSome (state self.old).holds (λ files.
             IsSomeAnd (files name.now) (λ bytes. limit < length bytes)) }
-        ensures long_untold { IsErrOf result FetchFault.TooLong → (state self.old).holds ≡ None
+        ensures long_hidden { IsErrOf result FetchFault.TooLong → (state self.old).holds ≡ None
             → RoseByMoreThan limit (state self.old).bytes_read (state self.new).bytes_read }
         ensures more_read { (state self.old).bytes_read ≤ (state self.new).bytes_read }
 
@@ -52,5 +52,5 @@ pub trait Shelf {
         ensures memory { IsErrOf result FetchFault.Memory → (state self.new).fetches ≡ (state self.old).fetches }
         ensures adds { IsErrOf result FetchFault.Memory ⊎ ((state self.new).fetches
             ≡ option_map (λ fetches. fetches ++ fetch_of name.now (is_failed result) ∷ []) (state self.old).fetches) }
-        ensures tells { IsSome (state self.old).holds → IsSome (state self.old).fetches };
+        ensures exposes { IsSome (state self.old).holds → IsSome (state self.old).fetches };
 }

@@ -1,4 +1,4 @@
-//! The trait of sinks: places to write bytes to.
+//! The trait of sinks, to which bytes are written.
 ghost use Rattle.std.specs.Prelude.{◌≡◌, ◌<◌, ◌≤◌, List, ℕ, length, Option, IfOk, OnErr};
 ghost use Rattle.mc_world.specs.Count.{Rose, one_more};
 ghost use Rattle.mc_world.specs.Sink.{Appends, SinkState};
@@ -7,7 +7,7 @@ ghost use Rattle.mc_world.specs.Sink.{Appends, SinkState};
 #[derive(Clone, Copy, Debug, PartialEq, Eq)]
 pub struct SinkFault;
 
-/// A place for bytes, which are written piece by piece.
+/// A sink takes bytes piece by piece.
 pub trait Sink {
     /// The sink in contracts: what was written, if it exposes that, and its counts.
     ghost state: { Self → SinkState };

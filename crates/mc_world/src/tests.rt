@@ -16,7 +16,7 @@ fn fetch_from<S: Shelf>(
     name: &str,
     limit: u32,
 ) -> Result<Vec<u8>, FetchFault>
-    ensures told { (files : Files) → (S.state shelf.old).holds ≡ Some files
+    ensures exposed { (files : Files) → (S.state shelf.old).holds ≡ Some files
         → IsSomeAnd (files name.now) (λ bytes. limit < length bytes)
         → (Rose (S.state shelf.old).faults (S.state shelf.new).faults → ⊥)
         → IsErrOf result FetchFault.TooLong ⊎ IsErrOf result FetchFault.Memory }
@@ -30,9 +30,9 @@ pub fn gives<S: Shelf>(
     alloc: Global,
     name: &str,
     limit: u32,
-    wanted: Result<&str, FetchFault>,
+    expected: Result<&str, FetchFault>,
 ) -> bool {
-    match (fetch_from(shelf, alloc, name, limit), wanted) {
+    match (fetch_from(shelf, alloc, name, limit), expected) {
         (Ok(bytes), Ok(text)) => bytes.as_slice() == text.as_bytes(),
         (Err(fault), Err(other)) => fault == other,
         _ => false,

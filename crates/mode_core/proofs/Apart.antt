@@ -10,7 +10,7 @@ use Rattle.mc_model.specs.declared.row.Row.TheVariants.{Release}
 use Rattle.std.specs.List.{AllByRecursion}
 use Rattle.mc_task.specs.TaskSet.{IsTask, task_at}
 use Rattle.mc_model.specs.TaskNumbers.{period_in}
-use Rattle.mc_model.specs.Pending.{KeptRelease, released, pending, is_live}
+use Rattle.mc_model.specs.Pending.{KeptRelease, released, pending, is_still_pending}
 use Rattle.mc_model.specs.Rows.{ticks, same_job, releases, next_release}
 use Rattle.mc_model.specs.Legal.{Legal}
 use Rattle.mc_model.proofs.Jobs.{same_live, is_in, same_job_is, live_eq, each_in}
@@ -24,7 +24,7 @@ pub record Older (x y : KeptRelease) : Type 0 where
   pub count : x.job.task.0 ≡ y.job.task.0 → y.job.count < x.job.count
   pub time : x.job.task.0 ≡ y.job.task.0 → y.release < x.release
 
--- each is newer than those behind it of its task
+-- each kept release is newer than the later ones of its task in the list
 abbrev pub Apart : List KeptRelease → Type 0
 Apart [] = Unit {0}
 Apart (x ∷ xs) = Each (Older x) xs × Apart xs
@@ -42,7 +42,7 @@ time_grows set j kept g r k soon f = elim (cases_eq j.task.0 k) [
   | inr d ↦ rw (ne_eqb _ _ d) f
 ]
 
--- and so what the rows say of a kept release
+-- a release leaves true what the rows say of a kept release
 past_release : (set : List Task) (rule : Rule) (j : JobId) (kept : Bool) (g : List Row) → next_release set g j.task.0 ≤ ticks g → (y : KeptRelease) → Past set g y → Past set (Release j kept ∷ g) y
 past_release set rule j kept g soon y p = record {
   count = grows _ _ _ p.count;
@@ -87,9 +87,9 @@ Apart-filter p (x ∷ xs) h =
     elim (p x) as (λ b. Apart (cond b (x ∷ filter p xs) (filter p xs)))
     [ true ↦ (Each-filter (Older x) p xs h.0, Apart-filter p xs h.1) | false ↦ Apart-filter p xs h.1 ]
 
--- and so are the pending jobs
+-- the pending jobs of legal rows are apart, task by task
 pub pending_apart : (set : List Task) (rule : Rule) (h : List Row) → AllByRecursion IsTask set → Legal set rule h → Apart (pending set h)
-pending_apart set rule h s l = Apart-filter (is_live set h) (released h) (released_apart set rule h s l)
+pending_apart set rule h s l = Apart-filter (is_still_pending set h) (released h) (released_apart set rule h s l)
 
 -- x is the only one with its job
 abbrev pub Only : KeptRelease → List KeptRelease → Type 0
@@ -100,8 +100,8 @@ pub only : (x : KeptRelease) (xs : List KeptRelease) → Apart xs → is_in xs x
 only x [] a e = tt
 only x (y ∷ ys) a e = elim (cases_Bool (same_live x y)) [
   | inl m ↦
-      let behind : Only y ys = Each-map {P = Older y} (λ i p k. let q = same_job_is y.job i.job k in absurd (omega (arith, p.count q.0, q.1))) ys a.0 in
-      subst (λ (z : KeptRelease). Only z (y ∷ ys)) (sym (live_eq x y m)) (λ k. refl, behind)
+      let after : Only y ys = Each-map {P = Older y} (λ i p k. let q = same_job_is y.job i.job k in absurd (omega (arith, p.count q.0, q.1))) ys a.0 in
+      subst (λ (z : KeptRelease). Only z (y ∷ ys)) (sym (live_eq x y m)) (λ k. refl, after)
   | inr m ↦
       let o : Older y x = each_in (Older y) x ys (rw m at e) a.0 in
       (λ k. let q = same_job_is x.job y.job k in absurd (omega (arith, o.count (sym q.0), q.1)), only x ys a.1 (rw m at e))

@@ -9,14 +9,14 @@ use Rattle.mc_model.specs.Legal.{is_pending}
 use Rattle.mc_model.proofs.Booleans.{or_true}
 use Rattle.mc_model.proofs.Jobs.{same_live, is_in, head_in, live_eq, job_eq}
 use Rattle.demand_law.specs.OneLive.{pending_of}
-use Rattle.mode_core.specs.Kept.{job_of}
+use Rattle.mode_core.specs.Representation.{job_of}
 
 -- the job that is found is of the task
 pub job_of-task : (k : ℕ) (xs : List KeptRelease) (x : KeptRelease) → job_of k xs ≡ Some x → x.job.task.0 ≡ k
 job_of-task k [] x e = cc
 job_of-task k (y ∷ ys) x e = elim (cases_eq y.job.task.0 k) [ inl m ↦ let q = rw (eq-eqb _ _ m) at e in cc | inr n ↦ job_of-task k ys x (rw (ne_eqb _ _ n) at e) ]
 
--- and it is one of the list
+-- the job that is found is one of the list
 pub job_of-in : (k : ℕ) (xs : List KeptRelease) (x : KeptRelease) → job_of k xs ≡ Some x → is_in xs x ≡ true
 job_of-in k [] x e = cc
 job_of-in k (y ∷ ys) x e = elim (cases_eq y.job.task.0 k) [
@@ -40,7 +40,7 @@ counted_in x (y ∷ ys) e = elim (cases_Bool (same_live x y)) [
   | inr m ↦ omega (arith, counted_in x ys (rw m at e))
 ]
 
--- and the one that is found, where it is the only one
+-- the only job of its task in the list is the one that is found
 pub job_of-one : (x : KeptRelease) (xs : List KeptRelease) → is_in xs x ≡ true → pending_of x.job.task.0 xs ≤ 1 → job_of x.job.task.0 xs ≡ Some x
 job_of-one x [] e n = cc
 job_of-one x (y ∷ ys) e n = elim (cases_Bool (same_live x y)) [
@@ -70,14 +70,14 @@ job_of-filter k p (x ∷ xs) n = go (job_of-filter k p xs (omega (arith, n))) (p
 
 -- a job that is pending, by the list
 pub record IsThere (xs : List KeptRelease) (j : JobId) : Type 0 where
-  pub live : KeptRelease
-  pub inside : is_in xs live ≡ true
-  pub job : live.job ≡ j
+  pub kept : KeptRelease
+  pub inside : is_in xs kept ≡ true
+  pub job : kept.job ≡ j
 
--- so it is by the test
+-- a job that passes the test for pending jobs is there by the list
 pub pending_there : (xs : List KeptRelease) (j : JobId) → is_pending xs j ≡ true → IsThere xs j
 pending_there [] j e = cc
 pending_there (y ∷ ys) j e = elim (cases_Bool (same_job j y.job)) [
-  | inl m ↦ record { live = y; inside = head_in y ys; job = sym (job_eq j y.job m) }
-  | inr m ↦ let t = pending_there ys j (rw m at e) in record { live = t.live; inside = or_true _ _ t.inside; job = t.job }
+  | inl m ↦ record { kept = y; inside = head_in y ys; job = sym (job_eq j y.job m) }
+  | inr m ↦ let t = pending_there ys j (rw m at e) in record { kept = t.kept; inside = or_true _ _ t.inside; job = t.job }
 ]

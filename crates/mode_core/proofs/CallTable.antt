@@ -1,4 +1,4 @@
--- The calls of a core with four places, in turn, and of one with one place.
+-- The calls of a core with capacity for four rows, in turn, and of one with capacity for one row.
 use Rattle.std.proofs.Common.{◌≡◌, ℕ, true, false, List, [], ◌∷◌, Some, None, Ok, Err, codes, refl}
 use Rattle.mc_task.specs.declared.task.Level.{Level}
 use Rattle.mc_task.specs.declared.task.Level.TheVariants.{Low, High}
@@ -17,7 +17,7 @@ use Rattle.mc_model.specs.Core.{State}
 abbrev task : List ℕ → Level → ℕ → ℕ → ℕ → Task
 task name level period low high = record { name = name; level = level; period = period; low = low; high = high }
 
--- a core with so many places and no rows
+-- a core with this capacity and no rows
 abbrev fresh : ℕ → State
 fresh places = empty_state (task (codes "ctl") High 10 2 6 ∷ task (codes "log") Low 10 5 5 ∷ []) (Virtual 2 5) places
 
@@ -49,7 +49,7 @@ too_soon = refl
 not_chosen : grant_answer s2 2 ≡ Err (grant_fault.NotChosen (Some (job 1 1)))
 not_chosen = refl
 
--- no tick is out that could have an outcome
+-- an outcome is refused if no tick is granted
 not_out : outcome_answer s2 (job 1 1) true ≡ Err (record { given = job 1 1; out = None })
 not_out = refl
 
@@ -65,7 +65,7 @@ s3 = after_grant s2 1
 tick_out : grant_answer s3 1 ≡ Err (grant_fault.TickOut (job 1 1))
 tick_out = refl
 
--- nor is one idle
+-- no tick is idle while one is granted
 idle_out : idle_answer s3 ≡ Err (idle_fault.TickOut (job 1 1))
 idle_out = refl
 
@@ -93,11 +93,11 @@ s5 = after_outcome s4 (job 1 1) false
 is_pending : idle_answer s5 ≡ Err (idle_fault.Pending (job 1 1))
 is_pending = refl
 
--- and with four places used none is granted
+-- no tick is granted if four of four rows are used
 full : grant_answer s5 1 ≡ Err grant_fault.Full
 full = refl
 
--- with one place there is one row
+-- a core with capacity for one row takes one row
 one_place : (release_answer (after_idle (fresh 1)) 1 ≡ Err release_fault.Full) × (idle_answer (after_idle (fresh 1)) ≡ Err idle_fault.Full)
 one_place = (refl, refl)
 

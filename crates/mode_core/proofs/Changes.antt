@@ -1,4 +1,4 @@
--- What is told of the slots after a change.
+-- What the slots have after a change.
 use Rattle.std.proofs.Common.{◌≡◌, ℕ, ◌+◌, ◌-◌, ◌<◌, ◌≤◌, true, false, nat_lt, cond, List, Option, Some, None, option_map, length, get_or, refl, sym, ap, ap₂, subst, ◌∙◌, arith, le-ltb, lt-ltb, inl, inr}
 use Rattle.std.specs.Prelude.{slice_set}
 use Rattle.std.proofs.lemmas.Bool.{cases_eq, cases_lt}
@@ -8,8 +8,8 @@ use Rattle.mc_task.specs.declared.task.Task.{Task}
 use Rattle.mc_task.specs.declared.task.JobId.{JobId}
 use Rattle.mc_task.specs.TaskSet.{IsIn, task_at}
 use Rattle.mc_model.specs.TaskNumbers.{is_high_in}
-use Rattle.mode_core.specs.declared.live.LiveJob.{LiveJob}
-use Rattle.mode_core.specs.Slots.{Slots, job_at, ticks_at, told, ChangesOnly, GoesHigh}
+use Rattle.mode_core.specs.declared.pending_jobs.ReleasedJob.{ReleasedJob}
+use Rattle.mode_core.specs.Slots.{Slots, job_at, ticks_at, as_pending, ChangesOnly, GoesHigh}
 use Rattle.mode_core.proofs.Options.{map-cond, same-cond}
 
 -- a job begins
@@ -23,11 +23,11 @@ begun s j r inside rooms lines = record {
   this_task =
       let slot = get_or-set_same s.jobs (j.task.0 - 1) (Some (record { count = j.count; release = r })) None (omega (arith, rooms, inside.0, inside.1)) in
       let line = get_or-set_same s.ticks (j.task.0 - 1) 0 0 (omega (arith, lines, inside.0, inside.1)) in
-      ap₂ (λ (o : Option LiveJob) (n : ℕ). option_map (told j.task.0 n) o) slot line;
+      ap₂ (λ (o : Option ReleasedJob) (n : ℕ). option_map (as_pending j.task.0 n) o) slot line;
   other_tasks = λ i there other.
       let slot = get_or-set_other s.jobs (j.task.0 - 1) (i - 1) (Some (record { count = j.count; release = r })) None (omega (arith, inside.0, there.0, other)) in
       let line = get_or-set_other s.ticks (j.task.0 - 1) (i - 1) 0 0 (omega (arith, inside.0, there.0, other)) in
-      ap₂ (λ (o : Option LiveJob) (n : ℕ). option_map (told i n) o) slot line;
+      ap₂ (λ (o : Option ReleasedJob) (n : ℕ). option_map (as_pending i n) o) slot line;
 }
 
 -- a job ends
@@ -36,38 +36,38 @@ ended s k inside rooms = record {
   same_set = refl;
   same_rule = refl;
   same_mode = refl;
-  this_task = ap (option_map (told k (ticks_at s k))) (get_or-set_same s.jobs (k - 1) None None (omega (arith, rooms, inside.0, inside.1)));
-  other_tasks = λ i there other. ap (option_map (told i (ticks_at s i))) (get_or-set_other s.jobs (k - 1) (i - 1) None None (omega (arith, inside.0, there.0, other)));
+  this_task = ap (option_map (as_pending k (ticks_at s k))) (get_or-set_same s.jobs (k - 1) None None (omega (arith, rooms, inside.0, inside.1)));
+  other_tasks = λ i there other. ap (option_map (as_pending i (ticks_at s i))) (get_or-set_other s.jobs (k - 1) (i - 1) None None (omega (arith, inside.0, there.0, other)));
 }
 
 -- the mode becomes high
-pub switched : (s : Slots) (after : List (Option LiveJob)) → ((k : ℕ) → 1 ≤ k → job_at after k ≡ cond (is_high_in (task_at s.set k)) (job_at s.jobs k) None) → GoesHigh s (record s { high = true; jobs = after })
+pub switched : (s : Slots) (after : List (Option ReleasedJob)) → ((k : ℕ) → 1 ≤ k → job_at after k ≡ cond (is_high_in (task_at s.set k)) (job_at s.jobs k) None) → GoesHigh s (record s { high = true; jobs = after })
 switched s after cleared = record {
   same_set = refl;
   same_rule = refl;
   mode = refl;
-  each_task = λ i there. ap (option_map (told i (ticks_at s i))) (cleared i there.0) ∙ map-cond (told i (ticks_at s i)) (is_high_in (task_at s.set i)) (job_at s.jobs i);
+  each_task = λ i there. ap (option_map (as_pending i (ticks_at s i))) (cleared i there.0) ∙ map-cond (as_pending i (ticks_at s i)) (is_high_in (task_at s.set i)) (job_at s.jobs i);
 }
 
 -- the slots of low tasks, cleared one by one
 
 -- slot i, where those below n were cleared
-abbrev pub cleared : List Task → List (Option LiveJob) → ℕ → ℕ → Option LiveJob
+abbrev pub cleared : List Task → List (Option ReleasedJob) → ℕ → ℕ → Option ReleasedJob
 cleared ts jobs n i = cond (nat_lt i n) (cond (is_high_in (task_at ts (i + 1))) (get_or jobs i None) None) (get_or jobs i None)
 
 -- none yet
-pub cleared_start : (ts : List Task) (jobs : List (Option LiveJob)) (i : ℕ) → get_or jobs i None ≡ cleared ts jobs 0 i
+pub cleared_start : (ts : List Task) (jobs : List (Option ReleasedJob)) (i : ℕ) → get_or jobs i None ≡ cleared ts jobs 0 i
 cleared_start ts jobs i = let none : nat_lt i 0 ≡ false = grind (arith, nat_tests) in rw none refl
 
 -- one more
 pub cleared_more :
-    (ts : List Task) (jobs now : List (Option LiveJob)) (n : ℕ) (o : Option LiveJob) → n < length now → ((i : ℕ) → get_or now i None ≡ cleared ts jobs n i) →
+    (ts : List Task) (jobs now : List (Option ReleasedJob)) (n : ℕ) (o : Option ReleasedJob) → n < length now → ((i : ℕ) → get_or now i None ≡ cleared ts jobs n i) →
     o ≡ cond (is_high_in (task_at ts (n + 1))) (get_or now n None) None → (i : ℕ) → get_or (slice_set now n o) i None ≡ cleared ts jobs (n + 1) i
 cleared_more ts jobs now n o within before e i = elim (cases_eq i n) [
   | inl d ↦
       let old : get_or now n None ≡ get_or jobs n None = rw (le-ltb n n (omega arith)) at (before n) in
       subst (λ (m : ℕ). get_or (slice_set now n o) m None ≡ cleared ts jobs (n + 1) m) (sym d)
-      (rw (lt-ltb n (n + 1) (omega arith)) (get_or-set_same now n o None within ∙ (e ∙ ap (λ (x : Option LiveJob). cond (is_high_in (task_at ts (n + 1))) x None) old)))
+      (rw (lt-ltb n (n + 1) (omega arith)) (get_or-set_same now n o None within ∙ (e ∙ ap (λ (x : Option ReleasedJob). cond (is_high_in (task_at ts (n + 1))) x None) old)))
   | inr d ↦
       let same : nat_lt i (n + 1) ≡ nat_lt i n = grind (arith, nat_tests) in
       rw same (get_or-set_other now n i o None d ∙ before i)
@@ -75,7 +75,7 @@ cleared_more ts jobs now n o within before e i = elim (cases_eq i n) [
 
 -- all
 pub cleared_all :
-    (ts : List Task) (jobs now : List (Option LiveJob)) → length now ≡ length jobs → ((i : ℕ) → get_or now i None ≡ cleared ts jobs (length jobs) i) →
+    (ts : List Task) (jobs now : List (Option ReleasedJob)) → length now ≡ length jobs → ((i : ℕ) → get_or now i None ≡ cleared ts jobs (length jobs) i) →
     (k : ℕ) → 1 ≤ k → job_at now k ≡ cond (is_high_in (task_at ts k)) (job_at jobs k) None
 cleared_all ts jobs now len at k first = elim (cases_lt (k - 1) (length jobs)) [
   | inl h ↦

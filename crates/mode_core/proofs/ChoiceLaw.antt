@@ -32,10 +32,10 @@ pub choice_of : (set : List Task) (rule : Rule) (h : List Row) (o : Option JobId
 choice_of set rule h None e = none_pending set rule h (sym e)
 choice_of set rule h (Some j) e =
     let c : Choice set rule h j = choice set rule h j (sym e) in
-    let f = is_first set rule (high_mode rule h) (pending set h) c.live c.first in
+    let f = is_first set rule (high_mode rule h) (pending set h) c.kept c.first in
     record {
-      live = c.live;
+      kept = c.kept;
       of_job = c.job;
-      waiting = contained c.live (pending set h) f.inside;
-      others = All-from_recursion (MayWait set rule (high_mode rule h) c.live) (pending set h) (Each-map {P = λ i. runs_before set rule (high_mode rule h) i c.live ≡ false} (λ y r. may_wait set rule (high_mode rule h) c.live y r) (pending set h) f.none_before);
+      waiting = contained c.kept (pending set h) f.inside;
+      others = All-from_recursion (MayWait set rule (high_mode rule h) c.kept) (pending set h) (Each-map {P = λ i. runs_before set rule (high_mode rule h) i c.kept ≡ false} (λ y r. may_wait set rule (high_mode rule h) c.kept y r) (pending set h) f.none_before);
     }

@@ -42,7 +42,7 @@ pub record IsFirst (set : List Task) (rule : Rule) (high : Bool) (xs : List Kept
   pub inside : is_in xs x ≡ true
   pub none_before : Each (λ i. runs_before set rule high i x ≡ false) xs
 
--- so is the job that runs first
+-- the job that runs first is of the list, and none of the list runs before it
 pub is_first : (set : List Task) (rule : Rule) (high : Bool) (xs : List KeptRelease) (x : KeptRelease) → first_to_run set rule high xs ≡ Some x → IsFirst set rule high xs x
 is_first set rule high [] x e = cc
 is_first set rule high (i ∷ []) x e =
@@ -65,7 +65,7 @@ pub all_from : (p : KeptRelease → Bool) (xs : List KeptRelease) → Each (λ x
 all_from p [] h = refl
 all_from p (x ∷ xs) h = let a = h.0 in rw a (all_from p xs h.1)
 
--- and so its key is a least one
+-- the job that runs first has a least key
 pub least : (set : List Task) (rule : Rule) (high : Bool) (xs : List KeptRelease) (x : KeptRelease) → IsFirst set rule high xs x → is_least set rule high xs x.job ≡ true
 least set rule high xs x f =
     let below : none_below set rule high (key set rule high x) xs ≡ true =
@@ -79,15 +79,15 @@ pending_one x xs e = any_in (λ i. same_job x.job i.job) x xs e (same_job-refl x
 
 -- the pending job that is chosen
 pub record Choice (set : List Task) (rule : Rule) (h : List Row) (j : JobId) : Type 0 where
-  pub live : KeptRelease
-  pub first : first_to_run set rule (high_mode rule h) (pending set h) ≡ Some live
-  pub job : live.job ≡ j
+  pub kept : KeptRelease
+  pub first : first_to_run set rule (high_mode rule h) (pending set h) ≡ Some kept
+  pub job : kept.job ≡ j
 
 -- a job that is chosen is one that runs first
 pub choice : (set : List Task) (rule : Rule) (h : List Row) (j : JobId) → chosen set rule h ≡ Some j → Choice set rule h j
 choice set rule h j e =
     let m = mapped (λ (i : KeptRelease). i.job) (first_to_run set rule (high_mode rule h) (pending set h)) j e in
-    record { live = m.0; first = m.1; job = m.2 }
+    record { kept = m.0; first = m.1; job = m.2 }
 
 -- where none runs first there is none
 pub none_runs : (set : List Task) (rule : Rule) (high : Bool) (xs : List KeptRelease) → first_to_run set rule high xs ≡ None → xs ≡ []

@@ -22,7 +22,7 @@ abbrev made_of : Written → Option JobId → List JobId → State
 made_of w o js = record { set = w.set; rule = w.rule; places = w.places; rows = w.rows; out = o; held = js }
 
 -- the state of a core whose fields are these
-pub same_state : {K : Type 0} (b : Inside K) (w : Written) (o : Option JobId) (js : List JobId) → b.book ≡ w → b.out ≡ o → reverse b.held.items ≡ js → state_of b ≡ made_of w o js
+pub same_state : {K : Type 0} (b : Inside K) (w : Written) (o : Option JobId) (js : List JobId) → b.log ≡ w → b.out ≡ o → reverse b.held.items ≡ js → state_of b ≡ made_of w o js
 same_state b w o js p q r = rw (p, q, r) refl
 
 -- a core whose state is sound
@@ -34,17 +34,17 @@ core_from {n = n} b t e sound notes room = record {
 }
 
 -- a core in which a tick is put out
-pub core_give : {K : Type 0} {n : ℕ} (a b : Inside K) (k : ℕ) → IsCore n a → grant_refusal (state_of a) k ≡ None → b.book ≡ a.book → b.out ≡ chosen_now (state_of a) → b.held.items ≡ a.held.items → vec_capacity b.held ≡ vec_capacity a.held → b.arrivals ≡ a.arrivals → IsCore n b
+pub core_give : {K : Type 0} {n : ℕ} (a b : Inside K) (k : ℕ) → IsCore n a → grant_refusal (state_of a) k ≡ None → b.log ≡ a.log → b.out ≡ chosen_now (state_of a) → b.held.items ≡ a.held.items → vec_capacity b.held ≡ vec_capacity a.held → b.arrivals ≡ a.arrivals → IsCore n b
 core_give a b k core r eb eo eh ec en =
     let s : State = state_of a in
-    let e = same_state b a.book (chosen_now s) (reverse a.held.items) eb eo (ap reverse eh) in
+    let e = same_state b a.log (chosen_now s) (reverse a.held.items) eb eo (ap reverse eh) in
     core_from b (giving s) e (sound_grant s core.sound (may_grant s k core.sound r)) (en ∙ core.notes_are) (omega (arith, core.held_room, ec))
 
 -- a core in which a tick has its outcome
-pub core_end : {K : Type 0} {n : ℕ} (a b : Inside K) (done : Bool) → IsCore n a → b.book ≡ record a.book { rows = settle (state_of a) done } → b.out ≡ None → b.held.items ≡ [] → vec_capacity b.held ≡ vec_capacity a.held → b.arrivals ≡ a.arrivals → IsCore n b
+pub core_end : {K : Type 0} {n : ℕ} (a b : Inside K) (done : Bool) → IsCore n a → b.log ≡ record a.log { rows = settle (state_of a) done } → b.out ≡ None → b.held.items ≡ [] → vec_capacity b.held ≡ vec_capacity a.held → b.arrivals ≡ a.arrivals → IsCore n b
 core_end a b done core eb eo eh ec en =
     let s : State = state_of a in
-    let e = same_state b (record a.book { rows = settle s done }) None [] eb eo (ap reverse eh) in
+    let e = same_state b (record a.log { rows = settle s done }) None [] eb eo (ap reverse eh) in
     core_from b (ended s done) e (sound_end s done core.sound)
     (en ∙ (core.notes_are ∙ ap (arrived s.set) (sym (notes_ended s done core.sound)))) (omega (arith, core.held_room, ec))
 
@@ -58,15 +58,15 @@ pub no_job_first : (h : List Row) (o : Option KeptRelease) → None ≡ option_m
 no_job_first h o e = rw (no_map (entry h) o (sym e)) refl
 
 -- the rows once the tick's row and the held releases are written
-pub end_book : {K : Type 0} (a : Inside K) (j : JobId) (done : Bool) (w v : Written) (hs : List JobId) → IsTicking (state_of a) j → w ≡ record a.book { rows = Tick j (outcome_of a.book.set a.book.rule a.book.rows j done) ∷ a.book.rows } → hs ≡ a.held.items →
-    v ≡ record w { rows = add_held w.set w.rule (reverse hs) w.rows } → v ≡ record a.book { rows = settle (state_of a) done }
-end_book a j done w v hs t ew es ev = rw (ev, ew, es, t.settle_is done) refl
+pub end_log : {K : Type 0} (a : Inside K) (j : JobId) (done : Bool) (w v : Written) (hs : List JobId) → IsTicking (state_of a) j → w ≡ record a.log { rows = Tick j (outcome_of a.log.set a.log.rule a.log.rows j done) ∷ a.log.rows } → hs ≡ a.held.items →
+    v ≡ record w { rows = add_held w.set w.rule (reverse hs) w.rows } → v ≡ record a.log { rows = settle (state_of a) done }
+end_log a j done w v hs t ew es ev = rw (ev, ew, es, t.settle_is done) refl
 
--- and they are legal
-pub held_legal : {K : Type 0} {n : ℕ} (a : Inside K) (j : JobId) (done : Bool) (w : Written) (hs : List JobId) → IsCore n a → IsTicking (state_of a) j → w ≡ record a.book { rows = Tick j (outcome_of a.book.set a.book.rule a.book.rows j done) ∷ a.book.rows } → hs ≡ a.held.items → Legal w.set w.rule (add_held w.set w.rule (reverse hs) w.rows)
+-- the rows with the tick's row and the held releases are legal
+pub held_legal : {K : Type 0} {n : ℕ} (a : Inside K) (j : JobId) (done : Bool) (w : Written) (hs : List JobId) → IsCore n a → IsTicking (state_of a) j → w ≡ record a.log { rows = Tick j (outcome_of a.log.set a.log.rule a.log.rows j done) ∷ a.log.rows } → hs ≡ a.held.items → Legal w.set w.rule (add_held w.set w.rule (reverse hs) w.rows)
 held_legal a j done w hs core t ew es =
-    subst (λ (v : Written). Legal v.set v.rule v.rows) (sym (end_book a j done w (record w { rows = add_held w.set w.rule (reverse hs) w.rows }) hs t ew es refl)) (core.sound.good.settled done)
+    subst (λ (v : Written). Legal v.set v.rule v.rows) (sym (end_log a j done w (record w { rows = add_held w.set w.rule (reverse hs) w.rows }) hs t ew es refl)) (core.sound.good.settled done)
 
 -- the state is then that of the event
-pub end_state : {K : Type 0} (a b : Inside K) (done : Bool) → b.book ≡ record a.book { rows = settle (state_of a) done } → b.out ≡ None → b.held.items ≡ [] → state_of b ≡ ended (state_of a) done
-end_state a b done eb eo eh = same_state b (record a.book { rows = settle (state_of a) done }) None [] eb eo (ap reverse eh)
+pub end_state : {K : Type 0} (a b : Inside K) (done : Bool) → b.log ≡ record a.log { rows = settle (state_of a) done } → b.out ≡ None → b.held.items ≡ [] → state_of b ≡ ended (state_of a) done
+end_state a b done eb eo eh = same_state b (record a.log { rows = settle (state_of a) done }) None [] eb eo (ap reverse eh)

@@ -45,7 +45,7 @@ of_all : (set : List Task) (js : List JobId) → Each (λ (j : JobId). IsIn set 
 of_all set [] h = of_none (length set)
 of_all set (j ∷ js) h = omega (arith, of_all set js h.1, of_within (length set) j js h.0.0 h.0.1)
 
--- one for each task is at most as many as there are tasks
+-- with at most one job of each task there are no more jobs than tasks
 one_each : (n : ℕ) (js : List JobId) → ((k : ℕ) → jobs_of k js ≤ 1) → of_first n js ≤ n
 one_each zero js h = omega arith
 one_each (suc n) js h = omega (arith, one_each n js h, h (suc n))

@@ -1,4 +1,4 @@
--- The live job that runs first is the pending job that runs first.
+-- The job that runs first among the slots is the pending job that runs first.
 use Rattle.std.proofs.Common.{◌≡◌, ℕ, Bool, true, false, List, Option, Some, None, IfSome, IfNone, option_map, refl, sym, ap, subst, ◌∙◌, arith}
 use Rattle.std.proofs.lemmas.Bool.Decides.{nat_tests}
 use Rattle.std.proofs.lemmas.Option.{same_Some, none-some}
@@ -15,9 +15,9 @@ use Rattle.mc_model.proofs.Jobs.{is_in, each_in}
 use Rattle.mc_model.proofs.Live.{IsLiveOk}
 use Rattle.demand_law.proofs.Laws.{at_most_one}
 use Rattle.mode_core.specs.declared.pending.Pending.{Pending}
-use Rattle.mode_core.specs.Entries.{entry, live_of}
+use Rattle.mode_core.specs.Entries.{entry, kept_release_of}
 use Rattle.mode_core.specs.Slots.{Slots, waiting, IsQuiet, RunsFirst}
-use Rattle.mode_core.specs.Kept.{job_of, IsTally}
+use Rattle.mode_core.specs.Representation.{job_of, IsTally}
 use Rattle.mode_core.proofs.ByTask.{job_of-in, job_of-one}
 use Rattle.mode_core.proofs.Chosen.{IsFirst, is_first, none_runs}
 use Rattle.mode_core.proofs.Options.{mapped}
@@ -27,11 +27,11 @@ use Rattle.mode_core.proofs.Fits.{each_ok}
 same_task : (set : List Task) (rule : Rule) (high : Bool) (x y : KeptRelease) → runs_before set rule high x y ≡ false → runs_before set rule high y x ≡ false → x.job.task.0 ≡ y.job.task.0
 same_task set rule high x y h k = grind (arith, nat_tests)
 
--- the live job that runs first, as it is told
-pub first_told :
+-- the job that runs first among the slots, with its ticks
+pub first_pending :
     (h : List Row) (s : Slots) (t : ℕ) (o : Option Pending) → AllByRecursion IsTask s.set → Holds s.set s.rule → IsTally s.set s.rule h t s.high (waiting s) →
     IfSome o (RunsFirst s) → IfNone o (IsQuiet s) → o ≡ option_map (entry h) (first_to_run s.set s.rule (high_mode s.rule h) (pending s.set h))
-first_told h s t o tasks holds y some none = go o some none (first_to_run s.set s.rule (high_mode s.rule h) (pending s.set h)) refl
+first_pending h s t o tasks holds y some none = go o some none (first_to_run s.set s.rule (high_mode s.rule h) (pending s.set h)) refl
   where
     xs : List KeptRelease
     xs = pending s.set h
@@ -51,10 +51,10 @@ first_told h s t o tasks holds y some none = go o some none (first_to_run s.set 
         let here : is_in xs j.0 ≡ true = job_of-in p.job.task.0 xs j.0 j.1 in
         let back : runs_before s.set s.rule (high_mode s.rule h) j.0 x ≡ false =
         each_in (λ i. runs_before s.set s.rule (high_mode s.rule h) i x ≡ false) j.0 xs here f.none_before in
-        let ahead : runs_before s.set s.rule s.high x (live_of p) ≡ false = r.others x.job.task.0 (entry h x) (inside x f.inside) (slot x f.inside) in
+        let ahead : runs_before s.set s.rule s.high x (kept_release_of p) ≡ false = r.others x.job.task.0 (entry h x) (inside x f.inside) (slot x f.inside) in
         let front : runs_before s.set s.rule (high_mode s.rule h) x j.0 ≡ false =
         subst (λ (m : Bool). runs_before s.set s.rule m x j.0 ≡ false) y.mode_is
-        (subst (λ (q : Pending). runs_before s.set s.rule s.high x (live_of q) ≡ false) (sym j.2) ahead) in
+        (subst (λ (q : Pending). runs_before s.set s.rule s.high x (kept_release_of q) ≡ false) (sym j.2) ahead) in
         let number : j.0.job.task.0 ≡ x.job.task.0 = same_task s.set s.rule (high_mode s.rule h) j.0 x back front in
         let same : j.0 ≡ x = same_Some j.0 x (sym (found j.0 here) ∙ (ap (λ (k : ℕ). job_of k xs) number ∙ found x f.inside)) in
         ap (λ (q : Pending). Some q) (sym j.2 ∙ ap (entry h) same)

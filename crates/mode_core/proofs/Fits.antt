@@ -77,17 +77,17 @@ pub record Chooses (set : List Task) (rule : Rule) (g : List Row) (j : JobId) : 
   pub waits : is_pending (pending set g) j ≡ true
   pub soonest : is_least set rule (high_mode rule g) (pending set g) j ≡ true
 
--- so it is of the job that is chosen
+-- the chosen job has a tick of its budget left, is pending and has a least key
 pub chooses : (set : List Task) (rule : Rule) (g : List Row) (j : JobId) → AllByRecursion IsTask set → Legal set rule g → chosen set rule g ≡ Some j → Chooses set rule g j
 chooses set rule g j s l e =
     let c : Choice set rule g j = choice set rule g j e in
-    let f = is_first set rule (high_mode rule g) (pending set g) c.live c.first in
-    let ok : IsLiveOk set rule g c.live = each_in (IsLiveOk set rule g) c.live (pending set g) f.inside (each_ok set rule g s l) in
+    let f = is_first set rule (high_mode rule g) (pending set g) c.kept c.first in
+    let ok : IsLiveOk set rule g c.kept = each_in (IsLiveOk set rule g) c.kept (pending set g) f.inside (each_ok set rule g s l) in
     subst (Chooses set rule g) c.job (record {
       inside = ok.inside;
       own = ok.own;
-      waits = pending_one c.live (pending set g) f.inside;
-      soonest = least set rule (high_mode rule g) (pending set g) c.live f;
+      waits = pending_one c.kept (pending set g) f.inside;
+      soonest = least set rule (high_mode rule g) (pending set g) c.kept f;
     })
 
 -- the row of a tick of the chosen job

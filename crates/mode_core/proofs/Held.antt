@@ -1,4 +1,4 @@
--- The words for a state, read off the rows once the tick that is out has its outcome.
+-- The definitions on a state, read off the rows after the granted tick has its outcome.
 use Rattle.std.proofs.Common.{◌≡◌, ℕ, ◌+◌, Bool, List, [], ◌∷◌, Option, Some, None, length, refl, arith}
 use Rattle.mc_task.specs.declared.task.Rule.{Rule}
 use Rattle.mc_task.specs.declared.task.Task.{Task}
@@ -13,29 +13,29 @@ pub ticks-held : (set : List Task) (rule : Rule) (js : List JobId) (g : List Row
 ticks-held set rule [] g = refl
 ticks-held set rule (j ∷ js) g = ticks-held set rule js g
 
--- and one release each
+-- each held release of a task adds one release of it
 pub releases-held : (set : List Task) (rule : Rule) (js : List JobId) (g : List Row) (k : ℕ) → releases (add_held set rule js g) k ≡ releases g k + jobs_of k js
 releases-held set rule [] g k = omega arith
 releases-held set rule (j ∷ js) g k = omega (arith, releases-held set rule js g k)
 
--- and one row each
+-- each held release adds one row
 pub length-held : (set : List Task) (rule : Rule) (js : List JobId) (g : List Row) → length (add_held set rule js g) ≡ length g + length js
 length-held set rule [] g = omega arith
 length-held set rule (j ∷ js) g = omega (arith, length-held set rule js g)
 
--- the next release counts from the boundary behind the tick
+-- the next release of a held job's task counts from the boundary after the granted tick
 next-held : (set : List Task) (rule : Rule) (js : List JobId) (g rows : List Row) (k : ℕ) → ticks g ≡ ticks rows + 1 → next_release set g k ≡ next_release set rows k → next_release set (add_held set rule js g) k ≡ next_after set rows js k
 next-held set rule [] g rows k t n = n
 next-held set rule (j ∷ js) g rows k t n = rw (next-held set rule js g rows k t n, ticks-held set rule js g, t) refl
 
--- the words of these parts are those of the settled rows
+-- the counts of these rows, granted tick and held releases are those of the settled rows
 pub record IsSettled (set : List Task) (rule : Rule) (rows : List Row) (out : Option JobId) (held : List JobId) (done : Bool) : Type 0 where
   pub ticks : ticks (settled set rule done rows out held) ≡ ticks rows + tick_out out
   pub releases : (k : ℕ) → releases (settled set rule done rows out held) k ≡ releases rows k + jobs_of k held
   pub next : (k : ℕ) → next_release set (settled set rule done rows out held) k ≡ next_after set rows held k
   pub places : length (settled set rule done rows out held) ≡ length rows + length held + tick_out out
 
--- so they are for each state of which the tick that is out is known
+-- each state whose granted tick is known has the counts of its settled rows
 pub settled_words : (set : List Task) (rule : Rule) (rows : List Row) (out : Option JobId) (held : List JobId) (done : Bool) → IsOut set rule rows out held → IsSettled set rule rows out held done
 settled_words set rule rows None [] done o = record {
   ticks = omega arith;

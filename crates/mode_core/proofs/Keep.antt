@@ -16,7 +16,7 @@ use Rattle.mc_model.specs.Core.{State, Good, begun, next, next_job, chosen, rele
 abbrev pub state : List Task → Rule → ℕ → List Row → Option JobId → List JobId → State
 state set rule places rows out held = record { set = set; rule = rule; places = places; rows = rows; out = out; held = held }
 
--- nothing is held without a tick out
+-- no release is held if no tick is granted
 pub no_held : (s : State) → Good s → s.out ≡ None → s.held ≡ []
 no_held s g o = subst (λ (x : Option JobId). IsOut s.set s.rule s.rows x s.held) o g.out
 
@@ -33,7 +33,7 @@ good_release s o k m good inside n = go o m
     go None m = let l = rw m at (fits true) in record { legal = l; out = rw m (no_held s good m); settled = λ done. rw m l }
     go (Some i) m = record { legal = good.legal; out = rw m (rw m at good.out); settled = λ done. rw m (rw m at (fits done)) }
 
--- so does a tick that is put out
+-- a granted tick keeps a state good
 pub good_grant : (s : State) (j : JobId) → AllByRecursion IsTask s.set → Good s → s.out ≡ None → chosen s.set s.rule s.rows ≡ Some j → Good (record s { out = Some j })
 good_grant s j tasks good o e = record {
   legal = good.legal;
@@ -41,6 +41,6 @@ good_grant s j tasks good o e = record {
   settled = λ done. rw (no_held s good o) (tick_legal s.set s.rule j s.rows done tasks good.legal e);
 }
 
--- so does its outcome
+-- an outcome keeps a state good
 pub good_outcome : (s : State) (done : Bool) → Good s → Good (record s { rows = settle s done; out = None; held = [] })
 good_outcome s done good = record { legal = good.settled done; out = refl; settled = λ d. good.settled done }

@@ -1,4 +1,4 @@
--- What the notes of a state tell of each task, and that an outcome changes none of them.
+-- What the notes of a state say of each task, and that an outcome changes none of them.
 use Rattle.std.proofs.Common.{◌≡◌, ℕ, ◌+◌, ◌≤◌, ◌==◌, Bool, cond, List, [], ◌∷◌, ◌++◌, map, Option, option_map, Some, None, refl, ap, ap₂, ◌∙◌, arith}
 use Rattle.std.specs.Prelude.{unwrap_or}
 use Rattle.mc_task.specs.declared.task.Rule.{Rule}
@@ -29,13 +29,13 @@ notes_settled set rule rows None [] done o = refl
 notes_settled set rule rows None (j ∷ js) done o = cc
 notes_settled set rule rows (Some j) held done o = notes-held set rule held (Tick j (outcome_of set rule rows j done) ∷ rows)
 
--- of these rows each release is noted once
+-- each release of the rows is noted once
 count-rows : (h : List Row) (k : ℕ) → count (notes_of_rows h) k ≡ releases h k
 count-rows [] k = refl
 count-rows (Release j kept ∷ g) k = ap (λ (n : ℕ). cond (j.task.0 == k) 1 0 + n) (count-rows g k)
 count-rows (row ∷ g) k = count-rows g k
 
--- and so is each held one
+-- each held release is noted once
 count-held : (at k : ℕ) (js : List JobId) (h : List Row) → count (map (note_at at) js ++ notes_of_rows h) k ≡ releases h k + jobs_of k js
 count-held at k [] h = omega (arith, count-rows h k)
 count-held at k (j ∷ js) h = omega (arith, count-held at k js h)
@@ -50,7 +50,7 @@ next-rows set [] k = refl
 next-rows set (Release j kept ∷ g) k = ap (λ (n : ℕ). cond (j.task.0 == k) (ticks g + period_in (task_at set k)) n) (next-rows set g k)
 next-rows set (row ∷ g) k = next-rows set g k
 
--- and by those of held ones behind them
+-- the boundary of the next release, by the notes of the rows and of the releases held after them
 next-held : (set : List Task) (rows : List Row) (js : List JobId) (k : ℕ) → Notes.next_after (period_in (task_at set k)) (map (note_at (ticks rows + 1)) js ++ notes_of_rows rows) k ≡ next_after set rows js k
 next-held set rows [] k = next-rows set rows k
 next-held set rows (j ∷ js) k = ap (λ (n : ℕ). cond (j.task.0 == k) (ticks rows + 1 + period_in (task_at set k)) n) (next-held set rows js k)

@@ -1,5 +1,5 @@
--- What a book that is opened gives, and when it is a book again with one row more. Beside its fields stand the rows that its
--- recorder took.
+-- What the fields of a schedule log satisfy, with the rows that its recorder took, and when they are a
+-- schedule log again after one more row.
 use Rattle.std.proofs.Common.{◌≡◌, ℕ, ◌<◌, ◌≤◌, ◌^◌, List, ◌∷◌, length, refl, sym, subst, ap, arith}
 use Rattle.mc_task.specs.declared.task.Task.{Task}
 use Rattle.mc_task.specs.declared.task.Rule.{Rule}
@@ -7,43 +7,43 @@ use Rattle.mc_model.specs.declared.row.Row.{Row}
 use Rattle.mc_model.specs.Legal.{Legal}
 use Rattle.mode_core.specs.Slots.{waiting}
 use Rattle.mode_core.specs.Written.{Written}
-use Rattle.mode_core.specs.Kept.{written, IsBook, IsTally}
-use Rattle.mode_core.specs.declared.book.Book.TheInside.{Inside}
+use Rattle.mode_core.specs.Representation.{written, IsScheduleLog, IsTally}
+use Rattle.mode_core.specs.declared.schedule_log.ScheduleLog.TheInside.{Inside}
 use Rattle.mode_core.proofs.Pendings.{ticks-few}
 
 module _ {K : Type 0} (h : List Row) (a : Inside K) where
-  -- what the value says of its rows and a row behind them, at the fields
-  pub opened_legal : (w : Written) (row : Written → Row) → written h a ≡ w → Legal w.set w.rule (row w ∷ w.rows) → Legal a.live.set a.live.rule (row (written h a) ∷ h)
+  -- one more row is legal after the recorder's rows, by the log's fields
+  pub opened_legal : (w : Written) (row : Written → Row) → written h a ≡ w → Legal w.set w.rule (row w ∷ w.rows) → Legal a.pending_jobs.set a.pending_jobs.rule (row (written h a) ∷ h)
   opened_legal w row e l = subst (λ (v : Written). Legal v.set v.rule (row v ∷ v.rows)) (sym e) l
 
-  -- and there is room
+  -- the log has capacity for one more row
   pub opened_room : (w : Written) → written h a ≡ w → length w.rows < w.places → length h < a.places
   opened_room w e r = subst (λ (v : Written). length v.rows < v.places) (sym e) r
 
-  module _ (n : ℕ) (is_for : List Task → Rule → Type 0) (k : IsBook h n is_for a) where
+  module _ (n : ℕ) (is_for : List Task → Rule → Type 0) (k : IsScheduleLog h n is_for a) where
     -- the clock is in range
     pub clock_small : a.ticks ≤ 2 ^ 62
     clock_small = omega (arith, k.tally.clock_is, ticks-few h, k.few, k.range)
 
-    -- the recorder has room for one row more
+    -- the recorder has capacity for one more row
     pub room_for_one : (w : Written) → written h a ≡ w → length w.rows < w.places → length h < n
     room_for_one w e r = omega (arith, opened_room w e r, k.room)
 
--- the same set, rule and room, and one row more
+-- the same set, rule and capacity, and one more row
 pub record OneMore {K : Type 0} (h g : List Row) (a b : Inside K) (row : Row) : Type 0 where
-  pub set : b.live.set ≡ a.live.set
-  pub rule : b.live.rule ≡ a.live.rule
+  pub set : b.pending_jobs.set ≡ a.pending_jobs.set
+  pub rule : b.pending_jobs.rule ≡ a.pending_jobs.rule
   pub places : b.places ≡ a.places
   pub rows : g ≡ row ∷ h
 
--- so it is seen
+-- contracts see one more row
 pub one_more_seen : {K : Type 0} (h g : List Row) (a b : Inside K) (row : Row) → OneMore h g a b row → written g b ≡ record (written h a) { rows = row ∷ h }
 one_more_seen h g a b row m = rw (m.set, m.rule, m.places, m.rows) refl
 
--- it is a book, where the tally is of the rows
+-- the fields are a schedule log after one more row, if its tally is that of the rows
 pub one_more_kept :
-    {K : Type 0} (h g : List Row) (a b : Inside K) (row : Row) (n m : ℕ) (old_for new_for : List Task → Rule → Type 0) → IsBook h n old_for a → length h < a.places → OneMore h g a b row → m ≡ n →
-    ((set : List Task) (rule : Rule) → old_for set rule → new_for set rule) → IsTally a.live.set a.live.rule (row ∷ h) b.ticks b.live.high (waiting b.live) → IsBook g m new_for b
+    {K : Type 0} (h g : List Row) (a b : Inside K) (row : Row) (n m : ℕ) (old_for new_for : List Task → Rule → Type 0) → IsScheduleLog h n old_for a → length h < a.places → OneMore h g a b row → m ≡ n →
+    ((set : List Task) (rule : Rule) → old_for set rule → new_for set rule) → IsTally a.pending_jobs.set a.pending_jobs.rule (row ∷ h) b.ticks b.pending_jobs.high (waiting b.pending_jobs) → IsScheduleLog g m new_for b
 one_more_kept h g a b row n m old_for new_for k r o cap keeps tally = record {
   tasks = rw o.set k.tasks;
   fits = rw o.rule k.fits;
@@ -52,5 +52,5 @@ one_more_kept h g a b row n m old_for new_for k r o cap keeps tally = record {
   range = omega (arith, k.range, o.places);
   few = omega (arith, r, o.places, ap length o.rows);
   room = omega (arith, k.room, o.places, cap);
-  recorder = rw (o.set, o.rule) (keeps a.live.set a.live.rule k.recorder);
+  recorder = rw (o.set, o.rule) (keeps a.pending_jobs.set a.pending_jobs.rule k.recorder);
 }

@@ -4,12 +4,12 @@ use Rattle.std.proofs.lemmas.Option.{same_Some}
 use Rattle.std.specs.Option.{option_or}
 use Rattle.mode_core.specs.Events.{refused_if}
 
--- there is one to tell, where one is told
+-- if the mapped option has a value, so has the option
 pub mapped : {D E : Type 0} → (f : D → E) (o : Option D) (y : E) → option_map f o ≡ Some y → (x : D) × (o ≡ Some x) × (f x ≡ y)
 mapped f None y e = cc
 mapped f (Some x) y e = (x, refl, same_Some (f x) y e)
 
--- there is nothing to tell
+-- if the mapped option has no value, neither has the option
 pub no_map : {D E : Type 0} → (f : D → E) (o : Option D) → option_map f o ≡ None → o ≡ None
 no_map f None h = refl
 no_map f (Some x) h = cc

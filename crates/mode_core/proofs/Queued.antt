@@ -11,19 +11,19 @@ use Rattle.ready_queue.specs.declared.item.Item.{Item}
 use Rattle.ready_queue.specs.Items.{item_of, with_item, without, by_real}
 use Rattle.ready_queue.specs.Tree.{rekeyed}
 use Rattle.ready_queue.proofs.CallerLemmas.{OnePerTask, item_of-with_item, item_of-without, item_of-rekeyed}
-use Rattle.mode_core.specs.declared.live.LiveJob.{LiveJob}
+use Rattle.mode_core.specs.declared.pending_jobs.ReleasedJob.{ReleasedJob}
 use Rattle.mode_core.specs.Entries.{item}
 use Rattle.mode_core.specs.Slots.{job_at}
-use Rattle.mode_core.specs.Kept.{AreQueued}
+use Rattle.mode_core.specs.Representation.{AreQueued}
 use Rattle.mode_core.proofs.Options.{map-cond, same-cond}
 
 -- the item of task number k for what stands in its slot
-abbrev item_for : List Task → Rule → Bool → ℕ → Option LiveJob → Option Item
-item_for ts rule high k o = option_map (λ (x : LiveJob). item ts rule high k x.release) o
+abbrev item_for : List Task → Rule → Bool → ℕ → Option ReleasedJob → Option Item
+item_for ts rule high k o = option_map (λ (x : ReleasedJob). item ts rule high k x.release) o
 
 -- a task's slot is written, and its item
 queued_set :
-    (ts : List Task) (rule : Rule) (high : Bool) (jobs : List (Option LiveJob)) (items after : List Item) (k : ℕ) (o : Option LiveJob) →
+    (ts : List Task) (rule : Rule) (high : Bool) (jobs : List (Option ReleasedJob)) (items after : List Item) (k : ℕ) (o : Option ReleasedJob) →
     AreQueued ts rule high jobs items → IsIn ts k → k ≤ length jobs →
     ((i : ℕ) → item_of after i ≡ cond (k == i) (item_for ts rule high k o) (item_of items i)) → AreQueued ts rule high (slice_set jobs (k - 1) o) after
 queued_set ts rule high jobs items after k o queued inside room found i there = elim (cases_eq k i) [
@@ -39,7 +39,7 @@ queued_set ts rule high jobs items after k o queued inside room found i there = 
 
 -- a job begins
 pub queued_begin :
-    (ts : List Task) (rule : Rule) (high : Bool) (jobs : List (Option LiveJob)) (items : List Item) (k : ℕ) (j : LiveJob) → AreQueued ts rule high jobs items →
+    (ts : List Task) (rule : Rule) (high : Bool) (jobs : List (Option ReleasedJob)) (items : List Item) (k : ℕ) (j : ReleasedJob) → AreQueued ts rule high jobs items →
     IsIn ts k → k ≤ length jobs → job_at jobs k ≡ None → AreQueued ts rule high (slice_set jobs (k - 1) (Some j)) (with_item (item ts rule high k j.release) items)
 queued_begin ts rule high jobs items k j queued inside room free =
     let none : item_of items k ≡ None = queued k inside ∙ ap (item_for ts rule high k) free in
@@ -47,18 +47,18 @@ queued_begin ts rule high jobs items k j queued inside room free =
 
 -- a job ends
 pub queued_end :
-    (ts : List Task) (rule : Rule) (high : Bool) (jobs : List (Option LiveJob)) (items : List Item) (k : ℕ) → AreQueued ts rule high jobs items →
+    (ts : List Task) (rule : Rule) (high : Bool) (jobs : List (Option ReleasedJob)) (items : List Item) (k : ℕ) → AreQueued ts rule high jobs items →
     IsIn ts k → k ≤ length jobs → AreQueued ts rule high (slice_set jobs (k - 1) None) (without k items)
 queued_end ts rule high jobs items k queued inside room = queued_set ts rule high jobs items _ k None queued inside room (item_of-without k items)
 
 -- the mode becomes high
 pub queued_high :
-    (ts : List Task) (rule : Rule) (high : Bool) (jobs after : List (Option LiveJob)) (items : List Item) → OnePerTask items → AreQueued ts rule high jobs items →
+    (ts : List Task) (rule : Rule) (high : Bool) (jobs after : List (Option ReleasedJob)) (items : List Item) → OnePerTask items → AreQueued ts rule high jobs items →
     ((k : ℕ) → 1 ≤ k → job_at after k ≡ cond (is_high_in (task_at ts k)) (job_at jobs k) None) →
     AreQueued ts rule true after (map by_real (filter (λ i. i.high) items))
 queued_high ts rule high jobs after items one queued cleared k inside =
     let is_high : Bool = is_high_in (task_at ts k) in
     item_of-rekeyed items k one
-    ∙ rw (queued k inside, cleared k inside.0, map-cond (λ (x : LiveJob). item ts rule true k x.release) is_high (job_at jobs k))
+    ∙ rw (queued k inside, cleared k inside.0, map-cond (λ (x : ReleasedJob). item ts rule true k x.release) is_high (job_at jobs k))
     (elim (job_at jobs k) as (λ o. rekeyed (item_for ts rule high k o) ≡ cond is_high (item_for ts rule true k o) None)
     [ None ↦ sym (same-cond is_high None) | Some j ↦ refl ])

@@ -29,10 +29,10 @@ use Rattle.mode_core.proofs.CoreSteps.{same_state, core_from}
 -- an opened core that takes a release of task number k
 pub record Takes {K : Type 0} (n : ℕ) (a : Inside K) (k : ℕ) : Type 0 where
   pub core : IsCore n a
-  pub inside : IsIn a.book.set k
+  pub inside : IsIn a.log.set k
   pub none : release_refusal (state_of a) k ≡ None
 
--- so it is where its state does
+-- a core takes a release if the release of its state is not refused
 pub takes : {K : Type 0} {n : ℕ} (a : Inside K) (s : State) (k : ℕ) → IsCore n a → state_of a ≡ s → IsIn s.set k → release_refusal s k ≡ None → Takes n a k
 takes a s k core same inside none = record {
   core = core;
@@ -45,11 +45,11 @@ some_of : (o : Option JobId) → IsSome o → (i : JobId) × (o ≡ Some i)
 some_of (Some i) h = (i, refl)
 some_of None h = cc
 
--- with a tick out one more was begun than the rows tell
+-- with a granted tick, one more tick was begun than the rows have
 pub begun_out : (s : State) → IsSome s.out → ticks s.rows + 1 ≡ begun s
 begun_out s h = rw (some_of s.out h).1 refl
 
--- and without one as many
+-- without a granted tick, as many ticks were begun as the rows have
 pub begun_in : (s : State) → s.out ≡ None → ticks s.rows ≡ begun s
 begun_in s e = omega (arith, ap tick_out e)
 
@@ -59,12 +59,12 @@ releases-few [] k = omega arith
 releases-few (Release j kept ∷ g) k = let ih : releases g k ≤ length g = releases-few g k in elim (j.task.0 == k) as (λ b. cond b 1 0 + releases g k ≤ length (Release j kept ∷ g)) [ true ↦ omega (arith, ih) | false ↦ omega (arith, ih) ]
 releases-few (row ∷ g) k = omega (arith, releases-few g k)
 
--- nor more jobs of one task than jobs
+-- there are no more jobs of one task than jobs
 pub jobs-few : (k : ℕ) (js : List JobId) → jobs_of k js ≤ length js
 jobs-few k [] = omega arith
 jobs-few k (j ∷ js) = let ih : jobs_of k js ≤ length js = jobs-few k js in elim (j.task.0 == k) as (λ b. cond b 1 0 + jobs_of k js ≤ length (j ∷ js)) [ true ↦ omega (arith, ih) | false ↦ omega (arith, ih) ]
 
--- where there are fewer than 2^32 places and one is left, a number is left too
+-- if the capacity is below 2^32 rows and not all of it is used, the task's jobs have numbers left
 pub not_spent : (s : State) (k : ℕ) → s.places < 2 ^ 32 → places_used s < s.places → is_spent s k ≡ false
 not_spent s k small room =
     or_from _ _ (ne_eqb (places_used s) s.places (omega arith)) (lt-leb _ _ (omega (arith, small, room, releases-few s.rows k, jobs-few k s.held)))
@@ -81,21 +81,21 @@ may_note a k at take e =
       allowed = omega (arith, e, may.soon, next_of-arrived s.set (notes_of s) k take.inside.0, next_noted s k take.core.sound.tasks take.inside);
     })
 
--- its job is the next one
+-- the job of a release that is taken is its task's next one
 pub job_is : {K : Type 0} {n : ℕ} (a : Inside K) (task : TaskNo) (j : JobId) → Takes n a task.0 → j ≡ record { task = task; count = count_of a.arrivals task.0 + 1 } → j ≡ next_job (state_of a) task.0
 job_is a task j take e =
     let s : State = state_of a in
     e ∙ ap (λ (n : ℕ). let i : JobId = record { task = task; count = n + 1 } in i)
     (ap (λ (slots : List Slot). count_of slots task.0) take.core.notes_are ∙ (count_of-arrived s.set (notes_of s) task.0 take.inside ∙ count_noted s task.0))
 
--- and the notes are then these
-pub notes_after : {K : Type 0} {n : ℕ} (a : Inside K) (slots : List Slot) (k at now : ℕ) → IsCore n a → ForNotes a.arrivals (λ set notes. slots ≡ arrived set (note k at ∷ notes)) → at ≡ now → slots ≡ arrived a.book.set (note k now ∷ notes_of (state_of a))
+-- the notes after a release are those before it, with the release
+pub notes_after : {K : Type 0} {n : ℕ} (a : Inside K) (slots : List Slot) (k at now : ℕ) → IsCore n a → ForNotes a.arrivals (λ set notes. slots ≡ arrived set (note k at ∷ notes)) → at ≡ now → slots ≡ arrived a.log.set (note k now ∷ notes_of (state_of a))
 notes_after a slots k at now core noted e =
-    noted a.book.set (notes_of (state_of a)) core.notes_are ∙ ap (λ (t : ℕ). arrived a.book.set (note k t ∷ notes_of (state_of a))) e
+    noted a.log.set (notes_of (state_of a)) core.notes_are ∙ ap (λ (t : ℕ). arrived a.log.set (note k t ∷ notes_of (state_of a))) e
 
 -- A release that is held
 
--- there is room for it
+-- the list of held releases has capacity for one more
 pub hold_room : {K : Type 0} {n : ℕ} (a : Inside K) (k : ℕ) → Takes n a k → IsSome a.out → length a.held.items < vec_capacity a.held
 hold_room a k take out =
     let i = some_of a.out out in
@@ -103,12 +103,12 @@ hold_room a k take out =
     omega (arith, held_few (holding (state_of a) (next_job (state_of a) k)) sound.tasks sound.good, take.core.held_room, length-reverse a.held.items)
 
 -- the state after it
-pub hold_state : {K : Type 0} (a b : Inside K) (k : ℕ) (j : JobId) → j ≡ next_job (state_of a) k → b.book ≡ a.book → b.out ≡ a.out → b.held.items ≡ a.held.items ++ j ∷ [] → state_of b ≡ holding (state_of a) (next_job (state_of a) k)
-hold_state a b k j ej eb eo eh = same_state b a.book a.out (j ∷ reverse a.held.items) eb eo (pushed j a.held.items b.held.items eh) ∙ ap (holding (state_of a)) ej
+pub hold_state : {K : Type 0} (a b : Inside K) (k : ℕ) (j : JobId) → j ≡ next_job (state_of a) k → b.log ≡ a.log → b.out ≡ a.out → b.held.items ≡ a.held.items ++ j ∷ [] → state_of b ≡ holding (state_of a) (next_job (state_of a) k)
+hold_state a b k j ej eb eo eh = same_state b a.log a.out (j ∷ reverse a.held.items) eb eo (pushed j a.held.items b.held.items eh) ∙ ap (holding (state_of a)) ej
 
 -- the core after it
-pub core_hold : {K : Type 0} {n : ℕ} (a b : Inside K) (k : ℕ) (j : JobId) → Takes n a k → IsSome a.out → j ≡ next_job (state_of a) k → b.book ≡ a.book → b.out ≡ a.out → b.held.items ≡ a.held.items ++ j ∷ [] →
-    vec_capacity b.held ≡ vec_capacity a.held → b.arrivals ≡ arrived a.book.set (note k (ticks a.book.rows + 1) ∷ notes_of (state_of a)) → IsCore n b
+pub core_hold : {K : Type 0} {n : ℕ} (a b : Inside K) (k : ℕ) (j : JobId) → Takes n a k → IsSome a.out → j ≡ next_job (state_of a) k → b.log ≡ a.log → b.out ≡ a.out → b.held.items ≡ a.held.items ++ j ∷ [] →
+    vec_capacity b.held ≡ vec_capacity a.held → b.arrivals ≡ arrived a.log.set (note k (ticks a.log.rows + 1) ∷ notes_of (state_of a)) → IsCore n b
 core_hold a b k j take out ej eb eo eh ec en =
     let s : State = state_of a in
     let i = some_of a.out out in
@@ -117,39 +117,39 @@ core_hold a b k j take out ej eb eo eh ec en =
 
 -- A release that is written
 
--- its row
+-- the row of a release that is written
 abbrev row_of : State → ℕ → Row
 row_of s k = release_row s.set s.rule (next_job s k) s.rows
 
 -- which is that of its job, kept where the mode keeps it
-pub row_is : {K : Type 0} (a : Inside K) (k : ℕ) (j : JobId) (kept : Bool) → j ≡ next_job (state_of a) k → kept ≡ keeps a.book.set a.book.rule a.book.rows k → Release j kept ≡ row_of (state_of a) k
+pub row_is : {K : Type 0} (a : Inside K) (k : ℕ) (j : JobId) (kept : Bool) → j ≡ next_job (state_of a) k → kept ≡ keeps a.log.set a.log.rule a.log.rows k → Release j kept ≡ row_of (state_of a) k
 row_is a k j kept ej e = ap₂ (λ (i : JobId) (b : Bool). Release i b) ej e
 
 -- the row fits
-pub write_legal : {K : Type 0} {n : ℕ} (a : Inside K) (k : ℕ) (row : Row) → Takes n a k → a.out ≡ None → row ≡ row_of (state_of a) k → Legal a.book.set a.book.rule (row ∷ a.book.rows)
+pub write_legal : {K : Type 0} {n : ℕ} (a : Inside K) (k : ℕ) (row : Row) → Takes n a k → a.out ≡ None → row ≡ row_of (state_of a) k → Legal a.log.set a.log.rule (row ∷ a.log.rows)
 write_legal a k row take out e =
-    subst (λ (r : Row). Legal a.book.set a.book.rule (r ∷ a.book.rows)) (sym e)
+    subst (λ (r : Row). Legal a.log.set a.log.rule (r ∷ a.log.rows)) (sym e)
     (sound_write (state_of a) k take.core.sound out take.inside take.none).good.legal
 
 -- the answer
-pub write_answer : {K : Type 0} (a : Inside K) (k : ℕ) (j : JobId) (kept : Bool) (at : ℕ) → j ≡ next_job (state_of a) k → kept ≡ keeps a.book.set a.book.rule a.book.rows k → at ≡ begun (state_of a) → cond kept (Kept j at) (Dropped j at) ≡ taken (state_of a) None k
+pub write_answer : {K : Type 0} (a : Inside K) (k : ℕ) (j : JobId) (kept : Bool) (at : ℕ) → j ≡ next_job (state_of a) k → kept ≡ keeps a.log.set a.log.rule a.log.rows k → at ≡ begun (state_of a) → cond kept (Kept j at) (Dropped j at) ≡ taken (state_of a) None k
 write_answer a k j kept at ej e now =
     ap (λ (b : Bool). cond b (Kept j at) (Dropped j at)) e
-    ∙ ap₂ (λ (i : JobId) (t : ℕ). cond (keeps a.book.set a.book.rule a.book.rows k) (Kept i t) (Dropped i t)) ej now
+    ∙ ap₂ (λ (i : JobId) (t : ℕ). cond (keeps a.log.set a.log.rule a.log.rows k) (Kept i t) (Dropped i t)) ej now
 
 -- the state after it
-pub write_state : {K : Type 0} (a b : Inside K) (k : ℕ) (row : Row) → row ≡ row_of (state_of a) k → b.book ≡ record a.book { rows = row ∷ a.book.rows } → b.out ≡ a.out → b.held.items ≡ a.held.items → state_of b ≡ writing (state_of a) (next_job (state_of a) k)
+pub write_state : {K : Type 0} (a b : Inside K) (k : ℕ) (row : Row) → row ≡ row_of (state_of a) k → b.log ≡ record a.log { rows = row ∷ a.log.rows } → b.out ≡ a.out → b.held.items ≡ a.held.items → state_of b ≡ writing (state_of a) (next_job (state_of a) k)
 write_state a b k row er eb eo eh =
-    same_state b (record a.book { rows = row ∷ a.book.rows }) a.out (reverse a.held.items) eb eo (ap reverse eh)
-    ∙ ap (λ (r : Row). let s : State = record (state_of a) { rows = r ∷ a.book.rows } in s) er
+    same_state b (record a.log { rows = row ∷ a.log.rows }) a.out (reverse a.held.items) eb eo (ap reverse eh)
+    ∙ ap (λ (r : Row). let s : State = record (state_of a) { rows = r ∷ a.log.rows } in s) er
 
 -- a release that is written is noted at its row
 notes_written : (s : State) (j : JobId) → s.held ≡ [] → notes_of (writing s j) ≡ note_at (ticks s.rows) j ∷ notes_of s
 notes_written s j h = rw h refl
 
 -- the core after it
-pub core_write : {K : Type 0} {n : ℕ} (a b : Inside K) (k : ℕ) (row : Row) → Takes n a k → a.out ≡ None → row ≡ row_of (state_of a) k → b.book ≡ record a.book { rows = row ∷ a.book.rows } → b.out ≡ a.out → b.held.items ≡ a.held.items →
-    vec_capacity b.held ≡ vec_capacity a.held → b.arrivals ≡ arrived a.book.set (note k (ticks a.book.rows) ∷ notes_of (state_of a)) → IsCore n b
+pub core_write : {K : Type 0} {n : ℕ} (a b : Inside K) (k : ℕ) (row : Row) → Takes n a k → a.out ≡ None → row ≡ row_of (state_of a) k → b.log ≡ record a.log { rows = row ∷ a.log.rows } → b.out ≡ a.out → b.held.items ≡ a.held.items →
+    vec_capacity b.held ≡ vec_capacity a.held → b.arrivals ≡ arrived a.log.set (note k (ticks a.log.rows) ∷ notes_of (state_of a)) → IsCore n b
 core_write a b k row take out er eb eo eh ec en =
     let s : State = state_of a in
     core_from b (writing s (next_job s k)) (write_state a b k row er eb eo eh) (sound_write s k take.core.sound out take.inside take.none)

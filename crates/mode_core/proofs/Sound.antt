@@ -18,7 +18,7 @@ use Rattle.mc_model.specs.Core.{State, Good, begun, next, next_job, places_used,
 use Rattle.mc_model.proofs.Booleans.{eqb-false}
 use Rattle.mc_model.proofs.Jobs.{job_eq}
 
--- a place is left where not each is used
+-- a sound state that is not full has capacity for one more row
 pub room_left : {n : ℕ} (s : State) → IsSoundUpTo n s → is_full s ≡ false → places_used s < s.places
 room_left s k f = omega (arith, eqb-false _ _ f, k.room)
 
@@ -28,14 +28,14 @@ pub record MayRelease (s : State) (k : ℕ) : Type 0 where
   pub room : places_used s < s.places
   pub few : released_so_far s k < 2 ^ 32 - 1
 
--- so it is where no refusal applies
+-- a release that no refusal applies to is allowed
 pub may_release : {n : ℕ} (s : State) (k : ℕ) → IsSoundUpTo n s → release_refusal s k ≡ None → MayRelease s k
 may_release s k sound e =
     let p = neither _ _ (neither _ _ e).1 in
     let left = or_parts _ _ (not_if _ _ p.1) in
     record { soon = ltb-false _ _ (not_if _ _ p.0); room = room_left s sound left.0; few = leb-false _ _ left.1 }
 
--- a sound state with other rows, another tick out or other releases held
+-- a sound state with other rows, another granted tick or other held releases
 sound_with : {n : ℕ} (s : State) (rows : List Row) (out : Option JobId) (held : List JobId) → IsSoundUpTo n s → Good (record s { rows = rows; out = out; held = held }) →
     length rows + length held + tick_out out ≤ s.places → IsSoundUpTo n (record s { rows = rows; out = out; held = held })
 sound_with s rows out held sound good room = record { tasks = sound.tasks; fits = sound.fits; holds = sound.holds; good = good; range = sound.range; small = sound.small; room = room }
@@ -44,7 +44,7 @@ sound_with s rows out held sound good room = record { tasks = sound.tasks; fits 
 abbrev pub holding : State → JobId → State
 holding s j = record s { held = j ∷ s.held }
 
--- it leaves a sound state
+-- a held release leaves a sound state
 pub sound_hold : {n : ℕ} (s : State) (k : ℕ) (i : JobId) → IsSoundUpTo n s → s.out ≡ Some i → IsIn s.set k → release_refusal s k ≡ None → IsSoundUpTo n (holding s (next_job s k))
 sound_hold s k i sound o inside e =
     let may = may_release s k sound e in
@@ -54,7 +54,7 @@ sound_hold s k i sound o inside e =
 abbrev pub writing : State → JobId → State
 writing s j = record s { rows = release_row s.set s.rule j s.rows ∷ s.rows }
 
--- it leaves a sound state
+-- a release that is written leaves a sound state
 pub sound_write : {n : ℕ} (s : State) (k : ℕ) → IsSoundUpTo n s → s.out ≡ None → IsIn s.set k → release_refusal s k ≡ None → IsSoundUpTo n (writing s (next_job s k))
 sound_write s k sound o inside e =
     let may = may_release s k sound e in
@@ -72,7 +72,7 @@ pub record MayGrant (s : State) : Type 0 where
   pub out : s.out ≡ None
   pub room : places_used s < s.places
 
--- so it is where no refusal applies
+-- a grant that no refusal applies to is allowed
 pub may_grant : {n : ℕ} (s : State) (k : ℕ) → IsSoundUpTo n s → grant_refusal s k ≡ None → MayGrant s
 may_grant s k sound e =
     let p = neither _ _ e in
@@ -83,13 +83,13 @@ may_grant s k sound e =
     go None m f n r = cc
     go (Some j) m f n r = record { job = j; chosen = m; out = n; room = room_left s sound r }
 
--- it leaves a sound state
+-- a grant leaves a sound state
 pub sound_grant : {n : ℕ} (s : State) → IsSoundUpTo n s → MayGrant s → IsSoundUpTo n (giving s)
 sound_grant s sound may =
     let good = good_grant s may.job sound.tasks.each sound.good may.out may.chosen in
     rw may.chosen (sound_with s s.rows (Some may.job) s.held sound good (omega (arith, may.room, ap tick_out may.out)))
 
--- a tick that is out
+-- a state with a granted tick
 pub record IsTicking (s : State) (j : JobId) : Type 0 where
   pub out : s.out ≡ Some j
   pub chosen : chosen_now s ≡ Some j
@@ -97,7 +97,7 @@ pub record IsTicking (s : State) (j : JobId) : Type 0 where
   pub legal : (done : Bool) → Legal s.set s.rule (Tick j (outcome_of s.set s.rule s.rows j done) ∷ s.rows)
   pub settle_is : (done : Bool) → settle s done ≡ add_held s.set s.rule s.held (Tick j (outcome_of s.set s.rule s.rows j done) ∷ s.rows)
 
--- so it is where no refusal of an outcome applies
+-- if no refusal of an outcome of the job applies, the granted tick is the job's
 pub ticking : {n : ℕ} (s : State) (j : JobId) → IsSoundUpTo n s → outcome_refusal s j ≡ None → IsTicking s j
 ticking s j sound e = go (s.out) refl (not-false _ (not_if _ _ e))
   where
@@ -118,12 +118,12 @@ ticking s j sound e = go (s.out) refl (not-false _ (not_if _ _ e))
 abbrev pub ended : State → Bool → State
 ended s done = record s { rows = settle s done; out = None; held = [] }
 
--- it is sound
+-- an outcome leaves a sound state
 pub sound_end : {n : ℕ} (s : State) (done : Bool) → IsSoundUpTo n s → IsSoundUpTo n (ended s done)
 sound_end s done sound =
     let w : IsSettled s.set s.rule s.rows s.out s.held done = settled_words s.set s.rule s.rows s.out s.held done sound.good.out in
     sound_with s (settle s done) None [] sound (good_outcome s done sound.good) (omega (arith, sound.room, w.places))
 
--- and the notes are as they were
+-- an outcome leaves the notes as they were
 pub notes_ended : {n : ℕ} (s : State) (done : Bool) → IsSoundUpTo n s → notes_of (ended s done) ≡ notes_of s
 notes_ended s done sound = notes_settled s.set s.rule s.rows s.out s.held done sound.good.out

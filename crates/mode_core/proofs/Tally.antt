@@ -1,4 +1,4 @@
--- What a book keeps agrees with its rows after each row.
+-- The clock, the mode and the slots agree with the rows after each row.
 use Rattle.std.proofs.Common.{◌≡◌, ℕ, ◌+◌, ◌≤◌, Bool, true, false, not, ◌&&◌, ◌||◌, List, [], ◌∷◌, Option, Some, None, option_map, cond, ◌==◌, refl, sym, ap, ap₂, subst, ◌∙◌, arith, eq-eqb, ne_eqb, inl, inr}
 use Rattle.std.proofs.Math.Bool.{and-false}
 use Rattle.std.proofs.lemmas.Bool.{cases_eq}
@@ -27,8 +27,8 @@ use Rattle.mc_model.proofs.Steps.{release_fits, TickFits, tick_fits, idle_fits, 
 use Rattle.demand_law.proofs.Laws.{at_most_one, none_at_release}
 use Rattle.mode_core.specs.declared.pending.Pending.{Pending}
 use Rattle.mode_core.specs.Entries.{entry}
-use Rattle.mode_core.specs.Slots.{Slots, job_at, ticks_at, told, waiting, ChangesOnly, IsLeft, is_left, one_more}
-use Rattle.mode_core.specs.Kept.{job_of, IsTally}
+use Rattle.mode_core.specs.Slots.{Slots, job_at, ticks_at, as_pending, waiting, ChangesOnly, IsLeft, is_left, one_more}
+use Rattle.mode_core.specs.Representation.{job_of, IsTally}
 use Rattle.mode_core.proofs.Options.{mapped, map-cond, same-cond}
 use Rattle.mode_core.proofs.ByTask.{job_of-task, job_of-none, job_of-one, left, job_of-filter, IsThere, pending_there}
 use Rattle.mode_core.proofs.Fits.{each_ok}
@@ -43,9 +43,9 @@ tally_dropped set rule h t m slots j l y = record {
   slots_are = λ k i. y.slots_are k i ∙ ap (λ xs. option_map (entry h) (job_of k xs)) (sym (pending-dropped set rule j h l));
 }
 
--- the ticks of a live job are those that are counted
-told_ticks : (s : Slots) (k : ℕ) (p : Pending) → waiting s k ≡ Some p → p.used ≡ ticks_at s k
-told_ticks s k p e = let m = mapped (told k (ticks_at s k)) (job_at s.jobs k) p e in ap (λ (z : Pending). z.used) (sym m.2)
+-- the ticks of a pending job are those that are counted in its slot
+pending_ticks : (s : Slots) (k : ℕ) (p : Pending) → waiting s k ≡ Some p → p.used ≡ ticks_at s k
+pending_ticks s k p e = let m = mapped (as_pending k (ticks_at s k)) (job_at s.jobs k) p e in ap (λ (z : Pending). z.used) (sym m.2)
 
 -- a release that is allowed finds its task's slot free
 pub slot_free : (set : List Task) (rule : Rule) (h : List Row) (t : ℕ) (m : Bool) (slots : ℕ → Option Pending) (j : JobId) (kept : Bool) → AllByRecursion IsTask set → Holds set rule → Legal set rule (Release j kept ∷ h) → IsTally set rule h t m slots → slots j.task.0 ≡ None
@@ -93,36 +93,36 @@ tally_idle set rule h t m slots l y = record {
 
 -- the pending job that ticks
 pub record Ticks (set : List Task) (h : List Row) (j : JobId) : Type 0 where
-  pub live : KeptRelease
-  pub there : job_of j.task.0 (pending set h) ≡ Some live
-  pub inside : is_in (pending set h) live ≡ true
-  pub job : live.job ≡ j
+  pub kept : KeptRelease
+  pub there : job_of j.task.0 (pending set h) ≡ Some kept
+  pub inside : is_in (pending set h) kept ≡ true
+  pub job : kept.job ≡ j
 
--- it is its task's only one
+-- the pending job that ticks is its task's only one
 pub ticking_job : (set : List Task) (rule : Rule) (h : List Row) (j : JobId) (how : How) → AllByRecursion IsTask set → Holds set rule → Legal set rule (Tick j how ∷ h) → Ticks set h j
 ticking_job set rule h j how s holds l =
     let waits : is_pending (pending set h) j ≡ true = subst (λ xs. is_pending xs j ≡ true) (sym (bridge set rule h l.2).same) (tick_fits set rule j how h (bridge set rule (Tick j how ∷ h) l).legal.1).live in
     let is : IsThere (pending set h) j = pending_there (pending set h) j waits in
-    let found : job_of is.live.job.task.0 (pending set h) ≡ Some is.live = job_of-one is.live (pending set h) is.inside (at_most_one set rule h s holds l.2 is.live.job.task.0) in
-    record { live = is.live; there = subst (λ (i : JobId). job_of i.task.0 (pending set h) ≡ Some is.live) is.job found; inside = is.inside; job = is.job }
+    let found : job_of is.kept.job.task.0 (pending set h) ≡ Some is.kept = job_of-one is.kept (pending set h) is.inside (at_most_one set rule h s holds l.2 is.kept.job.task.0) in
+    record { kept = is.kept; there = subst (λ (i : JobId). job_of i.task.0 (pending set h) ≡ Some is.kept) is.job found; inside = is.inside; job = is.job }
 
--- and has a tick of its budget left
+-- the pending job that ticks has a tick of its budget left
 pub ticking_own : (set : List Task) (rule : Rule) (h : List Row) (j : JobId) (how : How) → AllByRecursion IsTask set → Holds set rule → Legal set rule (Tick j how ∷ h) → used h j + 1 ≤ own_in (task_at set j.task.0)
 ticking_own set rule h j how s holds l =
     let t : Ticks set h j = ticking_job set rule h j how s holds l in
-    let ok : IsLiveOk set rule h t.live = each_in (IsLiveOk set rule h) t.live (pending set h) t.inside (each_ok set rule h s l.2) in
+    let ok : IsLiveOk set rule h t.kept = each_in (IsLiveOk set rule h) t.kept (pending set h) t.inside (each_ok set rule h s l.2) in
     subst (λ (i : JobId). used h i + 1 ≤ own_in (task_at set i.task.0)) t.job ok.own
 
 -- the slots have counted its ticks
 pub ticking_line : (s : Slots) (h : List Row) (t : ℕ) (m : Bool) (j : JobId) (how : How) → AllByRecursion IsTask s.set → Holds s.set s.rule → Legal s.set s.rule (Tick j how ∷ h) → IsTally s.set s.rule h t m (waiting s) → used h j ≡ ticks_at s j.task.0
 ticking_line s h t m j how tasks holds l y =
     let k : Ticks s.set h j = ticking_job s.set s.rule h j how tasks holds l in
-    ap (used h) (sym k.job) ∙ told_ticks s j.task.0 (entry h k.live) (y.slots_are j.task.0 l.0 ∙ ap (option_map (entry h)) k.there)
+    ap (used h) (sym k.job) ∙ pending_ticks s j.task.0 (entry h k.kept) (y.slots_are j.task.0 l.0 ∙ ap (option_map (entry h)) k.there)
 
 -- a task's job is the one that ticks exactly where the task is its task
 is_it : (set : List Task) (h : List Row) (j : JobId) (k : ℕ) (x : KeptRelease) → Ticks set h j → job_of k (pending set h) ≡ Some x → same_job j x.job ≡ (j.task.0 == k)
 is_it set h j k x t e = elim (cases_eq j.task.0 k) [
-  | inl m ↦ let a : t.live ≡ x = same_Some t.live x (sym t.there ∙ (ap (λ n. job_of n (pending set h)) m ∙ e)) in
+  | inl m ↦ let a : t.kept ≡ x = same_Some t.kept x (sym t.there ∙ (ap (λ n. job_of n (pending set h)) m ∙ e)) in
       rw (eq-eqb _ _ m) (subst (λ (i : JobId). same_job j i ≡ true) (cc (a, t.job)) (same_job-refl j))
   | inr m ↦
       let n : (j.task.0 == x.job.task.0) ≡ false = subst (λ n. (j.task.0 == n) ≡ false) (sym (job_of-task k (pending set h) x e)) (ne_eqb _ _ m) in

@@ -1,5 +1,5 @@
--- What the deadline laws say of a sound state: its rows are legal under a rule that holds, and so are those that each
--- outcome of the tick that is out would leave.
+-- What the deadline laws say of a sound state: its rows are legal under a rule that holds, and so are the
+-- rows that each outcome of the granted tick would leave.
 use Rattle.std.proofs.Common.{ℕ, arith}
 use Rattle.demand_law.proofs.Laws.{none_late, at_most_one, none_at_release}
 use Rattle.mc_model.specs.Core.{State, settle}
@@ -15,7 +15,7 @@ sound_timely s sound = record {
   settled = λ done. none_late s.set s.rule (settle s done) sound.tasks.each sound.holds (sound.good.settled done);
 }
 
--- and the jobs of a task do not meet
+-- no task has two pending jobs in a sound state
 pub sound_one_live : {n : ℕ} (s : State) → IsSoundUpTo n s → IsOneLive s
 sound_one_live s sound = record {
   now = at_most_one s.set s.rule s.rows sound.tasks.each sound.holds sound.good.legal;

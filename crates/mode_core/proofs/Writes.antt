@@ -28,7 +28,7 @@ pub add_one : (set : List Task) (rule : Rule) (js : List JobId) (i : ℕ) (d : J
     add_held set rule (reverse (take (i + 1) js)) g ≡ release_row set rule (get_or js i d) (add_held set rule (reverse (take i js)) g) ∷ add_held set rule (reverse (take i js)) g
 add_one set rule js i d g h = ap (λ xs. add_held set rule xs g) (reverse-more js i d h)
 
--- and that row fits
+-- the row of the next held release fits
 pub legal_one : (set : List Task) (rule : Rule) (js : List JobId) (i : ℕ) (d : JobId) (g : List Row) → i < length js → Legal set rule (add_held set rule (reverse js) g) →
     Legal set rule (release_row set rule (get_or js i d) (add_held set rule (reverse (take i js)) g) ∷ add_held set rule (reverse (take i js)) g)
 legal_one set rule js i d g h l =
@@ -39,7 +39,7 @@ legal_one set rule js i d g h l =
     rw (split, held-append set rule (reverse (drop (i + 1) js)) (reverse (take (i + 1) js)) g) at l in
     subst (Legal set rule) (add_one set rule js i d g h) (legal-before set rule (reverse (drop (i + 1) js)) before all)
 
--- and there is room for it
+-- there is capacity for the next held release
 pub room_one : (set : List Task) (rule : Rule) (js : List JobId) (i n : ℕ) (g : List Row) → i < length js → length g + length js ≤ n → length (add_held set rule (reverse (take i js)) g) < n
 room_one set rule js i n g h r =
     omega (arith, length-held set rule (reverse (take i js)) g, length-reverse (take i js), length-take-le i js (omega (arith, h)), h, r)

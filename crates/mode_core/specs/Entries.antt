@@ -16,10 +16,11 @@ abbrev pub entry : List Row → KeptRelease → Pending
 entry h x = record { job = x.job; release = x.release; used = used h x.job }
 
 -- the job with its release time alone
-abbrev pub live_of : Pending → KeptRelease
-live_of p = record { job = p.job; release = p.release }
+abbrev pub kept_release_of : Pending → KeptRelease
+kept_release_of p = record { job = p.job; release = p.release }
 
--- what the queue holds of a job of task number k that was released at r: its key in this mode, and its key in high mode
+-- what the queue stores of a job of task number k that was released at r: its key in this mode, and its key
+-- in high mode
 abbrev pub item : List Task → Rule → Bool → ℕ → ℕ → Item
 item set rule high k r = record {
   task = record { 0 = k };

@@ -2,7 +2,7 @@ pub mod Events
 pub mod Written
 pub mod Entries
 pub mod Slots
-pub mod Kept
+pub mod Representation
 pub mod Noted
 pub mod Shape
 pub mod Choice

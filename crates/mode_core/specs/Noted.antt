@@ -20,7 +20,7 @@ notes_of_rows (Release j kept ∷ g) = note_at (ticks g) j ∷ notes_of_rows g
 notes_of_rows (Tick j how ∷ g) = notes_of_rows g
 notes_of_rows (Idle ∷ g) = notes_of_rows g
 
--- the releases of a state: those of its rows, and the held ones, at the boundary after the tick that is out
+-- the releases of a state: those of its rows, and the held ones, at the boundary after the granted tick
 abbrev pub notes_of : State → List Note
 notes_of s = map (note_at (ticks s.rows + 1)) s.held ++ notes_of_rows s.rows
 

@@ -1,4 +1,4 @@
--- How a core is kept.
+-- How a core is represented.
 use Rattle.std.specs.Prelude.{◌≡◌, ℕ, ◌-◌, ◌≤◌, ◌^◌, length, reverse, vec_capacity}
 use Rattle.mode_core.specs.declared.scheduler.Core.TheInside.{Inside}
 use Rattle.mc_task.specs.TaskSet.{AreTasks}
@@ -10,15 +10,15 @@ use Rattle.mode_core.specs.Noted.{notes_of}
 -- the state, by the fields
 abbrev pub state_of : {K : Type 0} → Inside K → State
 state_of a = record {
-  set = a.book.set;
-  rule = a.book.rule;
-  places = a.book.places;
-  rows = a.book.rows;
+  set = a.log.set;
+  rule = a.log.rule;
+  places = a.log.places;
+  rows = a.log.rows;
   out = a.out;
   held = reverse a.held.items;
 }
 
--- what holds of the state of every core of at most this many places
+-- what is true of the state of every core of at most this capacity
 pub record IsSoundUpTo (most : ℕ) (s : State) : Type 0 where
   pub tasks : AreTasks s.set
   pub fits : Fits s.rule
@@ -28,12 +28,12 @@ pub record IsSoundUpTo (most : ℕ) (s : State) : Type 0 where
   pub small : s.places ≤ 2 ^ 62
   pub room : places_used s ≤ s.places
 
--- what holds of the state of every core that keeps its rows in a list
+-- what is true of the state of every core that stores its rows in a list
 abbrev pub IsSound : State → Type 0
 IsSound = IsSoundUpTo (2 ^ 32 - 1)
 
--- the state is sound, its releases are noted, and there is room for a held release of each task
+-- the state is sound, its releases are noted, and the list of held releases has capacity for one of each task
 pub record IsCore {K : Type 0} (most : ℕ) (a : Inside K) : Type 0 where
   pub sound : IsSoundUpTo most (state_of a)
-  pub notes_are : a.arrivals ≡ arrived a.book.set (notes_of (state_of a))
-  pub held_room : length a.book.set ≤ vec_capacity a.held
+  pub notes_are : a.arrivals ≡ arrived a.log.set (notes_of (state_of a))
+  pub held_room : length a.log.set ≤ vec_capacity a.held

@@ -1,4 +1,4 @@
--- The live job of each task: a task has at most one pending job, so one slot for each is enough.
+-- The pending job of each task: a task has at most one, so one slot for each task is enough.
 use Rattle.std.specs.Prelude.{◌≡◌, ◌≢◌, ℕ, ◌+◌, ◌-◌, Bool, true, false, not, ◌&&◌, ◌||◌, ◌==◌, cond, List, length, replicate, slice_index, slice_index_or, Option, Some, None, option_map}
 use Rattle.mc_task.specs.declared.task.Task.{Task}
 use Rattle.mc_task.specs.declared.task.Rule.{Rule}
@@ -12,19 +12,20 @@ use Rattle.mc_model.specs.Mode.{high_mode, is_over}
 use Rattle.mc_model.specs.Pending.{is_end}
 use Rattle.mc_model.specs.Core.{runs_before, outcome_of}
 use Rattle.mode_core.specs.declared.pending.Pending.{Pending}
-use Rattle.mode_core.specs.declared.live.LiveJob.{LiveJob}
-use Rattle.mode_core.specs.Entries.{live_of}
+use Rattle.mode_core.specs.declared.pending_jobs.ReleasedJob.{ReleasedJob}
+use Rattle.mode_core.specs.Entries.{kept_release_of}
 
--- the set and the rule, whether the mode is high, and task by task the live job and the ticks that are counted
+-- the set and the rule, whether the mode is high, and task by task the pending job and the ticks that are
+-- counted
 pub record Slots : Type 0 where
   pub set : List Task
   pub rule : Rule
   pub high : Bool
-  pub jobs : List (Option LiveJob)
+  pub jobs : List (Option ReleasedJob)
   pub ticks : List ℕ
 
--- the live job of task number k
-abbrev pub job_at : List (Option LiveJob) → ℕ → Option LiveJob
+-- the pending job of task number k
+abbrev pub job_at : List (Option ReleasedJob) → ℕ → Option ReleasedJob
 job_at jobs k = slice_index_or jobs (k - 1) None
 
 -- the ticks that are counted for task number k
@@ -32,15 +33,15 @@ abbrev pub ticks_at : Slots → ℕ → ℕ
 ticks_at s k = slice_index s.ticks (k - 1)
 
 -- a job of task number k that has used n ticks
-abbrev pub told : ℕ → ℕ → LiveJob → Pending
-told k n j =
+abbrev pub as_pending : ℕ → ℕ → ReleasedJob → Pending
+as_pending k n j =
     record { job = record { task = record { 0 = k }; count = j.count }; release = j.release; used = n }
 
--- the live job of task number k, with its ticks
+-- the pending job of task number k, with its ticks
 abbrev pub waiting : Slots → ℕ → Option Pending
-waiting s k = option_map (told k (ticks_at s k)) (job_at s.jobs k)
+waiting s k = option_map (as_pending k (ticks_at s k)) (job_at s.jobs k)
 
--- no live job of any task, in low mode
+-- no pending job of any task, in low mode
 abbrev pub free_slots : List Task → Rule → Slots
 free_slots set rule = record {
   set = set;
@@ -50,7 +51,7 @@ free_slots set rule = record {
   ticks = replicate (length set) 0;
 }
 
--- task number k has this job now, and all else is as it was
+-- task number k has this pending job now, and nothing else changed
 pub record ChangesOnly (old new : Slots) (k : ℕ) (entry : Option Pending) : Type 0 where
   pub same_set : new.set ≡ old.set
   pub same_rule : new.rule ≡ old.rule
@@ -62,7 +63,7 @@ pub record ChangesOnly (old new : Slots) (k : ℕ) (entry : Option Pending) : Ty
 abbrev pub one_more : Pending → Pending
 one_more p = record p { used = p.used + 1 }
 
--- the mode is high, no low task has a live job, and all else is as it was
+-- the mode is high, no low task has a pending job, and nothing else changed
 pub record GoesHigh (old new : Slots) : Type 0 where
   pub same_set : new.set ≡ old.set
   pub same_rule : new.rule ≡ old.rule
@@ -70,8 +71,8 @@ pub record GoesHigh (old new : Slots) : Type 0 where
   pub each_task : (i : ℕ) → IsIn old.set i
       → waiting new i ≡ cond (is_high_in (task_at old.set i)) (waiting old i) None
 
--- a tick of task number k with this outcome leaves the live job of task number i: an end clears the task's own slot, and an
--- overrun clears the slots of the low tasks
+-- a tick of task number k with this outcome leaves the pending job of task number i: an end clears the task's
+-- own slot, and an overrun clears the slots of the low tasks
 abbrev pub is_left : List Task → ℕ → How → ℕ → Bool
 is_left set k how i = not (is_end how && (k == i)) && (not (is_over how) || is_high_in (task_at set i))
 
@@ -88,13 +89,13 @@ abbrev pub IsOutcome : Slots → JobId → Bool → How → Type 0
 IsOutcome s j done how = (g : List Row) → high_mode s.rule g ≡ s.high → used g j ≡ ticks_at s j.task.0
     → how ≡ outcome_of s.set s.rule g j done
 
--- no task has a live job
+-- no task has a pending job
 abbrev pub IsQuiet : Slots → Type 0
 IsQuiet s = (k : ℕ) → IsIn s.set k → waiting s k ≡ None
 
--- the job is the live job of its task, and no live job runs before it
+-- the job is the pending job of its task, and no pending job runs before it
 pub record RunsFirst (s : Slots) (p : Pending) : Type 0 where
   pub inside : IsIn s.set p.job.task.0
   pub there : waiting s p.job.task.0 ≡ Some p
   pub others : (k : ℕ) (q : Pending) → IsIn s.set k → waiting s k ≡ Some q
-      → runs_before s.set s.rule s.high (live_of q) (live_of p) ≡ false
+      → runs_before s.set s.rule s.high (kept_release_of q) (kept_release_of p) ≡ false

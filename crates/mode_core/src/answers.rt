@@ -8,11 +8,12 @@ pub enum Released {
     Kept { job: JobId, at: u64 },
     /// The task is low and the mode is high: the release counts for the separation, and its job never runs.
     Dropped { job: JobId, at: u64 },
-    /// A tick is out: the release is written when its outcome comes, behind that tick, and is kept or dropped then.
+    /// A tick is granted: the release is written after that tick, when the tick has its outcome, and is kept or dropped
+    /// then.
     Held { job: JobId, at: u64 },
 }
 
-/// A tick that was put out: its job, its number, and how many ticks the job had before it.
+/// A granted tick: its job, its number, and how many ticks the job had before it.
 #[derive(Clone, Copy, Debug, PartialEq, Eq)]
 pub struct Granted {
     pub job: JobId,
@@ -23,37 +24,37 @@ pub struct Granted {
 /// Why a release is refused, in the order in which the reasons are tried.
 #[derive(Clone, Copy, Debug, PartialEq, Eq)]
 pub enum ReleaseFault {
-    /// This job of the task has its tick out.
+    /// This job of the task has a granted tick.
     Running { job: JobId },
     /// The task's last release is less than a period ago; this is the first boundary at which one is allowed.
     TooSoon { next: u64 },
-    /// Each place is used.
+    /// The whole capacity is used.
     Full,
 }
 
 /// Why a tick is not granted, in the order in which the reasons are tried.
 #[derive(Clone, Copy, Debug, PartialEq, Eq)]
 pub enum GrantFault {
-    /// This job has its tick out.
+    /// This job has a granted tick.
     TickOut { job: JobId },
-    /// The chosen job is of another task; none is chosen where nothing is pending.
+    /// The chosen job is of another task; no job is chosen if none is pending.
     NotChosen { chosen: Option<JobId> },
-    /// Each place is used.
+    /// The whole capacity is used.
     Full,
 }
 
-/// Why a tick is not idle, in the order in which the reasons are tried.
+/// Why no idle tick is made, in the order in which the reasons are tried.
 #[derive(Clone, Copy, Debug, PartialEq, Eq)]
 pub enum IdleFault {
-    /// This job has its tick out.
+    /// This job has a granted tick.
     TickOut { job: JobId },
-    /// Something is pending, and this job is chosen.
+    /// A job is pending, and this one is chosen.
     Pending { job: JobId },
-    /// Each place is used.
+    /// The whole capacity is used.
     Full,
 }
 
-/// An outcome was given for a job whose tick is not out.
+/// An outcome was given for a job without a granted tick.
 #[derive(Clone, Copy, Debug, PartialEq, Eq)]
 pub struct NotOut {
     pub given: JobId,

@@ -2,9 +2,9 @@
 #![tactic(auto)]
 
 mod answers;
-mod book;
-mod live;
 mod pending;
+mod pending_jobs;
+mod schedule_log;
 mod scheduler;
 mod steps;
 

@@ -1,4 +1,4 @@
-//! A pending job, as it is told, and as it is queued.
+//! A pending job, as callers see it and as it is queued.
 ghost use Rattle.std.specs.Prelude.{◌≡◌, ◌≤◌, ◌^◌};
 ghost use Rattle.mc_task.specs.TaskSet.{task_at, IsIn};
 ghost use Rattle.mc_model.specs.TaskNumbers.{is_high_in};
@@ -27,7 +27,7 @@ pub fn is_high(set: &TaskSet, task: TaskNo) -> bool
     }
 }
 
-/// What the queue holds of the task's job that was released at this boundary.
+/// What the queue stores of the task's job that was released at this boundary.
 pub fn item(set: &TaskSet, rule: Rule, high: bool, task: TaskNo, release: u64) -> Item
     requires fits { Fits rule }
     requires in_set { IsIn set.now.tasks task.0 }

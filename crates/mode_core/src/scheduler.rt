@@ -12,7 +12,7 @@ ghost use Rattle.mode_core.specs.Events.{empty_state, is_full};
 mod release;
 mod tick;
 
-use crate::book::Book;
+use crate::schedule_log::ScheduleLog;
 use arrivals::Arrivals;
 use mc_model::Row;
 use mc_task::{JobId, Memory, Rule, TaskSet};
@@ -20,14 +20,14 @@ use row_history::Recorder;
 use std::alloc::Global;
 use std::marker::Model;
 
-/// A schedule as it grows, one event a call. Contracts see the set, the rule, the number of places, the rows, the job
-/// whose tick is out, and the releases that are held until its outcome.
+/// A schedule as it grows, one event a call. Contracts see the set, the rule, the capacity in rows, the rows, the job
+/// of the granted tick, and the releases that are held until its outcome.
 ///
-/// Each row goes to a recorder. That of a plain `Core` is a list, which keeps them all; with one that keeps none, a core
-/// takes memory for each task alone and can run for ever.
+/// Each row goes to a recorder. The recorder of a plain `Core` is a list, which stores them all; with a recorder that
+/// stores none, a core needs memory for each task alone and can run for ever.
 #[derive(Debug, Drop)]
 pub struct Core<R: Recorder = Vec<Row>> {
-    book: Book<R>,
+    log: ScheduleLog<R>,
     arrivals: Arrivals,
     held: Vec<JobId>,
     out: Option<JobId>,
@@ -49,10 +49,10 @@ impl Core<Vec<Row>> {
     ghost use Rattle.mode_core.specs.Timely.{IsTimely};
     ghost use Rattle.mode_core.specs.OneLive.{IsOneLive};
 
-    /// A core with no rows, in low mode, with no tick out and nothing held. On want of memory the set is dropped.
+    /// A core with no rows, in low mode, with no granted tick and no held release. If memory runs out, the set is
+    /// dropped.
     ///
-    /// `places` is how many rows there is room for, held releases and a tick that is out among them. No later call
-    /// takes memory.
+    /// `places` is the capacity in rows, including held releases and a granted tick. No later call allocates.
     pub fn new(alloc: Global, set: TaskSet, rule: Rule, places: usize) -> Result<Core, Memory>
         requires fits { Fits rule }
         requires holds { Holds set.tasks rule }
@@ -80,10 +80,10 @@ impl<R: Recorder> Core<R> {
     ghost use Rattle.mode_core.specs.Timely.{IsTimely};
     ghost use Rattle.mode_core.specs.OneLive.{IsOneLive};
 
-    /// A core whose rows go to this recorder, which took none so far.
+    /// A core whose rows go to this recorder, which has taken no rows so far.
     ///
-    /// `places` is how many rows there may be in all, held releases and a tick that is out among them. No later call
-    /// takes memory, but for what the recorder takes.
+    /// `places` is the capacity in rows, including held releases and a granted tick. No later call allocates, except
+    /// what the recorder allocates.
     pub fn with_recorder(
         alloc: Global,
         set: TaskSet,
@@ -103,16 +103,16 @@ impl<R: Recorder> Core<R> {
     {
         let arrivals = Arrivals::new(alloc, &set)?;
         let held = Vec::with_capacity(alloc, set.len() as usize)?;
-        let book = Book::new(alloc, set, rule, places, recorder)?;
+        let log = ScheduleLog::new(alloc, set, rule, places, recorder)?;
         Ok(Core {
-            book,
+            log,
             arrivals,
             held,
             out: None,
         })
     }
 
-    /// What took the rows. No job is late in them, and no task has two pending jobs.
+    /// The recorder that took the rows. No job is late in them, and no task has two pending jobs.
     pub fn recorder(&self) -> &R
         ensures rows { R.rows result.now ≡ self.now.rows }
         ensures set { R.is_for result.now self.now.set self.now.rule }
@@ -120,7 +120,7 @@ impl<R: Recorder> Core<R> {
         ensures timely { IsTimely self.now }
         ensures one_live { IsOneLive self.now }
     {
-        self.book.recorder()
+        self.log.recorder()
     }
 
     /// The recorder, at the end of the schedule.
@@ -129,36 +129,36 @@ impl<R: Recorder> Core<R> {
         ensures set { R.is_for result self.set self.rule }
     {
         let Core {
-            book,
+            log,
             arrivals: _,
             held: _,
             out: _,
         } = self;
-        book.into_recorder()
+        log.into_recorder()
     }
 
-    /// The job whose tick is out.
+    /// The job of the granted tick.
     pub fn out(&self) -> Option<JobId>
         ensures { result ≡ self.now.out }
     {
         self.out
     }
 
-    /// How many ticks the rows tell.
+    /// The number of ticks in the rows.
     pub fn ticks(&self) -> u64
         ensures value { result ≡ ticks self.now.rows }
         ensures sound { IsSoundUpTo R.most self.now }
     {
-        self.book.ticks()
+        self.log.ticks()
     }
 
-    /// How many ticks were begun: those of the rows, and the one that is out.
+    /// The number of ticks that were begun: those of the rows, and the granted one.
     pub fn ticks_begun(&self) -> u64
         ensures { result ≡ begun self.now }
     {
         match self.out {
-            Some(_) => self.book.ticks() + 1,
-            None => self.book.ticks(),
+            Some(_) => self.log.ticks() + 1,
+            None => self.log.ticks(),
         }
     }
 
@@ -166,45 +166,45 @@ impl<R: Recorder> Core<R> {
     pub fn high_mode(&self) -> bool
         ensures { result ≡ high_mode self.now.rule self.now.rows }
     {
-        self.book.high_mode()
+        self.log.high_mode()
     }
 
-    /// The pending job with the least key, of equal keys the one of the lowest task number; `None` exactly where
-    /// nothing is pending.
+    /// The pending job with the least key, and of equal keys the one of the lowest task number; `None` exactly if no
+    /// job is pending.
     pub fn chosen(&self) -> Option<JobId>
         ensures value { result ≡ chosen self.now.set self.now.rule self.now.rows }
         ensures law { IsChoice self.now.set self.now.rule self.now.rows result }
         ensures task { IfSome result (λ job. IsIn self.now.set job.task.0) }
     {
-        match self.book.first() {
+        match self.log.first() {
             Some(x) => Some(x.job),
             None => None,
         }
     }
 
-    /// How many rows there is room for.
+    /// The capacity in rows.
     pub fn places(&self) -> usize
         ensures value { result ≡ self.now.places }
         ensures sound { IsSoundUpTo R.most self.now }
     {
-        self.book.places()
+        self.log.places()
     }
 
     /// The task set.
     pub fn set(&self) -> &TaskSet
         ensures { result.now.tasks ≡ self.now.set }
     {
-        self.book.set()
+        self.log.set()
     }
 
     /// The rule.
     pub fn rule(&self) -> Rule
         ensures { result ≡ self.now.rule }
     {
-        self.book.rule()
+        self.log.rule()
     }
 
-    // Whether each place is used.
+    // Whether the whole capacity is used.
     fn is_full(&self) -> bool
         ensures { result ≡ is_full self.now }
     {
@@ -212,6 +212,6 @@ impl<R: Recorder> Core<R> {
             Some(_) => 1,
             None => 0,
         };
-        self.book.len() + self.held.len() + out == self.book.places()
+        self.log.len() + self.held.len() + out == self.log.places()
     }
 }

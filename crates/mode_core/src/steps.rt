@@ -6,13 +6,13 @@ ghost use Rattle.mode_core.specs.Events.{is_of_task};
 ghost use Rattle.mc_model.specs.Legal.{Legal};
 ghost use Rattle.mc_model.specs.Core.{keeps, add_held};
 
-use crate::book::Book;
 use crate::pending::is_high;
+use crate::schedule_log::ScheduleLog;
 use arrivals::Arrivals;
 use mc_task::{JobId, TaskNo};
 use row_history::Recorder;
 
-/// Notes a release of the task, which is allowed, and answers its job.
+/// Notes a release of the task, which is allowed, and returns its job.
 pub fn note_release(arrivals: &mut Arrivals, task: TaskNo, at: u64) -> JobId
     requires { MayNote arrivals.old task.0 at }
     ensures job { result ≡ record { task = task; count = count_of arrivals.old task.0 + 1 } }
@@ -36,23 +36,23 @@ pub fn is_of_task(job: Option<JobId>, task: TaskNo) -> bool
 }
 
 /// Whether a release of the task is kept.
-pub fn keeps<R: Recorder>(book: &Book<R>, task: TaskNo) -> bool
-    ensures { result ≡ keeps book.now.set book.now.rule book.now.rows task.0 }
+pub fn keeps<R: Recorder>(log: &ScheduleLog<R>, task: TaskNo) -> bool
+    ensures { result ≡ keeps log.now.set log.now.rule log.now.rows task.0 }
 {
-    is_high(book.set(), task) || !book.high_mode()
+    is_high(log.set(), task) || !log.high_mode()
 }
 
 /// Writes the held releases, in the order in which they were taken.
-pub fn write_held<R: Recorder>(book: &mut Book<R>, held: &[JobId])
-    requires legal { Legal book.old.set book.old.rule
-        (add_held book.old.set book.old.rule (reverse held.now) book.old.rows) }
-    requires room { length book.old.rows + length held.now ≤ book.old.places }
-    ensures { book.new ≡ record book.old {
-      rows = add_held book.old.set book.old.rule (reverse held.now) book.old.rows;
+pub fn write_held<R: Recorder>(log: &mut ScheduleLog<R>, held: &[JobId])
+    requires legal { Legal log.old.set log.old.rule
+        (add_held log.old.set log.old.rule (reverse held.now) log.old.rows) }
+    requires room { length log.old.rows + length held.now ≤ log.old.places }
+    ensures { log.new ≡ record log.old {
+      rows = add_held log.old.set log.old.rule (reverse held.now) log.old.rows;
     } }
 {
     for job in held {
-        let kept = keeps(book, job.task);
-        book.push_release(*job, kept);
+        let kept = keeps(log, job.task);
+        log.push_release(*job, kept);
     }
 }

@@ -8,7 +8,7 @@ use Rattle.mc_model.proofs.Walk.{drop_at}
 use Rattle.part_fit.specs.PartWork.{is_on}
 use Rattle.part_answers.specs.Partition.{spaced_names}
 
--- one name more, behind a space
+-- one name more, after a space
 pub names-more : (tasks : List Task) (i : ℕ) (t : Task) (line spaced more whole : List ℕ) → slice_get tasks i ≡ Some t → line ++ spaced_names (drop i tasks) ≡ whole → spaced ≡ line ++ codes " "
     → more ≡ spaced ++ t.name → more ++ spaced_names (drop (i + 1) tasks) ≡ whole
 names-more tasks i t line spaced more whole task inv space name =
@@ -17,7 +17,7 @@ names-more tasks i t line spaced more whole task inv space name =
     let here : spaced_names (drop i tasks) ≡ (codes " " ++ t.name) ++ rest = ap spaced_names (drop_at tasks i t task) in
     ap (λ l. l ++ rest) grows ∙ append_assoc line (codes " " ++ t.name) rest ∙ sym (ap (λ l. line ++ l) here) ∙ inv
 
--- whether the task at a place is on the processor
+-- whether the task at an index is on the processor
 pub on-place : (n : ℕ) (of : List ℕ) (i : ℕ) → i < length of → is_on n of (i + 1) ≡ (get_or of i 0 == n)
 on-place n of i within =
     let number : i + 1 ≡ suc i = omega arith in

@@ -68,7 +68,7 @@ all-ended ticks parted work (n ∷ ns) [] ds h runs = absurd h
 all-ended ticks parted work (n ∷ ns) (f ∷ fs) [] h runs = absurd runs
 all-ended ticks parted work (n ∷ ns) (f ∷ fs) (d ∷ ds) h runs = (ended ticks parted work n f d h.0 runs.0, all-ended ticks parted work ns fs ds h.1 runs.1)
 
--- each has few places
+-- each part's core has a small capacity
 pub all-few : (ticks : ℕ) (parted : Parted) (work : List WorkRow) (ns : List ℕ) (done : List FloorState) → AllZip (IsEnded ticks parted work) ns done
     → All HasFewPlaces done
 all-few ticks parted work ns done h = every (IsEnded ticks parted work) HasFewPlaces ns done (λ n floor is. is.few) h

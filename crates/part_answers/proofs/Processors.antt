@@ -8,7 +8,7 @@ from_next n m within =
     let here : m + 1 - n ≡ suc (m + 1 - (n + 1)) = omega arith in
     ap (range_with_len n) here
 
--- what is made of one more goes behind what is made of those before it
+-- what is made for one more processor comes after what is made for those before it
 pub made-more : (make : List ℕ → List ℕ) (one : ℕ → List ℕ) (n m : ℕ) (some more whole : List ℕ) → ((k : ℕ) (ks : List ℕ) → make (k ∷ ks) ≡ one k ++ make ks) → n < m + 1
     → some ++ make (range_with_len n (m + 1 - n)) ≡ whole → more ≡ some ++ one n → more ++ make (range_with_len (n + 1) (m + 1 - (n + 1))) ≡ whole
 made-more make one n m some more whole steps within inv grows =

@@ -10,7 +10,7 @@ use Rattle.part_fit.specs.PartWork.{part_rows, is_on}
 use Rattle.part_fit.specs.Partition.{IsPartition}
 use Rattle.replies.specs.Reply.{Reply}
 use Rattle.part_answers.specs.Parted.{Parted, tasks_on, spread}
-use Rattle.part_answers.specs.RunAll.{TellsTraces}
+use Rattle.part_answers.specs.RunAll.{IsTracesReply}
 use Rattle.part_answers.specs.Runs.{IsFresh}
 use Rattle.part_answers.specs.declared.parted.Parted.{Parted as Given}
 use Rattle.part_answers.specs.declared.floors.PartFloors.{PartFloors}
@@ -27,7 +27,7 @@ pub record IsRunAllJob (m : ℕ) (job : RunAllJob) : Type 0 where
 
 -- the reply to a job of `runall`, of this many ticks on m processors
 abbrev pub RepliesToRunAll : ℕ → ℕ → RunAllJob → Reply → Type 0
-RepliesToRunAll ticks m job reply = TellsTraces ticks m (parted_of job.parted) job.work reply
+RepliesToRunAll ticks m job reply = IsTracesReply ticks m (parted_of job.parted) job.work reply
 
 -- the numbers in the whole set of the tasks on processor n
 abbrev pub numbers_on : ℕ → List ℕ → ℕ → List ℕ

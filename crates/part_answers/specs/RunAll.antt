@@ -9,7 +9,7 @@ use Rattle.mc_model.specs.Follows.{Follows}
 use Rattle.mc_model.specs.TraceText.{trace_text}
 use Rattle.part_fit.specs.PartWork.{part_rows}
 use Rattle.replies.specs.Reply.{Reply, reply_of}
-use Rattle.serving.specs.Command.{Command, answer, need}
+use Rattle.serving.specs.Command.{Command, answer, read_or_refuse}
 use Rattle.task_answers.specs.Admitted.{fetch_table}
 use Rattle.run_answers.specs.Run.{work_of}
 use Rattle.part_answers.specs.Parted.{Parted, tasks_on, parted}
@@ -36,17 +36,17 @@ trace_lines parted on =
     codes "processor " ++ (decimal on.0 ++ (codes "\n" ++ trace_text (tasks_on parted on.0) (reverse on.1)))
 
 -- the reply is the text of the traces that follow on all processors that have tasks, with status 0
-abbrev pub TellsTraces : ℕ → ℕ → Parted → List WorkRow → Reply → Type 0
-TellsTraces ticks m parted work reply =
+abbrev pub IsTracesReply : ℕ → ℕ → Parted → List WorkRow → Reply → Type 0
+IsTracesReply ticks m parted work reply =
     (traces : List (List Row)) × AllZip (IsTraceOn ticks parted work) (used m parted) traces
     × (reply ≡ reply_of 0 (flat_map (trace_lines parted) (zip (used m parted) traces)))
 
 -- the command `runall` with the work in the second file, once the task file was read and has these bytes
 abbrev pub run_all_on : List ℕ → ℕ → ℕ → List ℕ → Command
 run_all_on work ticks m bytes =
-    need (parted m bytes) (λ spread.
+    read_or_refuse (parted m bytes) (λ spread.
     fetch_table work (λ more.
-    need (work_of spread.set more) (λ rows. answer (TellsTraces ticks m spread rows))))
+    read_or_refuse (work_of spread.set more) (λ rows. answer (IsTracesReply ticks m spread rows))))
 
 -- the command `runall` of this many ticks, on the task file and the work file of these names, for processors
 -- 1 to m

@@ -10,8 +10,8 @@ mod side_by_side;
 mod traces;
 
 pub use parted::{Parted, Processors};
-pub use partition::Partition;
-pub use run_parts::{RunAll, RunAllJob, finish_run_all};
+pub use partition::PartitionCommand;
+pub use run_parts::{RunAllCommand, RunAllJob, finish_run_all};
 pub use side_by_side::run_all;
 
 #[cfg(test)]

@@ -1,5 +1,5 @@
 //! The set that a task file says, on several processors.
-ghost use Rattle.replies.specs.Stop.{Gives};
+ghost use Rattle.replies.specs.Stop.{ReadsOrRefuses};
 ghost use Rattle.part_answers.specs.Parted.{fitted, parted};
 ghost use Rattle.part_answers.specs.Given.{IsParted};
 
@@ -22,13 +22,13 @@ pub type Processors = Within<1, 16>;
 
 /// The set in a task file with these bytes, on this many processors by first fit.
 pub fn read_parted(alloc: Global, bytes: &[u8], processors: &Processors) -> Result<Parted, Stop>
-    ensures { Gives (IsParted processors.now) (parted processors.now bytes.now) result }
+    ensures { ReadsOrRefuses (IsParted processors.now) (parted processors.now bytes.now) result }
 {
     fitted(alloc, read_set(alloc, bytes)?, processors)
 }
 
 fn fitted(alloc: Global, set: TaskSet, processors: &Processors) -> Result<Parted, Stop>
-    ensures { Gives (IsParted processors.now) (fitted processors.now set.tasks) result }
+    ensures { ReadsOrRefuses (IsParted processors.now) (fitted processors.now set.tasks) result }
 {
     let processors = processors.get() as u32;
     match fit(alloc, &set, processors) {

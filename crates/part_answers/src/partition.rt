@@ -16,12 +16,12 @@ use task_answers::MOST_TABLE_BYTES;
 
 /// `partition TASKS M`.
 #[derive(Drop)]
-pub struct Partition<'a> {
+pub struct PartitionCommand<'a> {
     pub tasks: FileName<'a>,
     pub processors: Processors,
 }
 
-impl<'a> Partition<'a> {
+impl<'a> PartitionCommand<'a> {
     /// The reply: on which processor each task of the set in the file is.
     pub fn reply<S: Shelf>(&self, alloc: Global, shelf: &mut S) -> Result<Reply, Stop>
         ensures { Serves 1 (partition self.now.tasks self.now.processors) (S.state shelf.old) (S.state shelf.new) result }

@@ -21,7 +21,7 @@ use work_file::Work;
 
 /// `runall TASKS WORK TICKS M`.
 #[derive(Drop)]
-pub struct RunAll<'a> {
+pub struct RunAllCommand<'a> {
     pub tasks: FileName<'a>,
     pub work: FileName<'a>,
     pub ticks: Ticks,
@@ -35,7 +35,7 @@ pub struct RunAllJob {
     pub work: Work,
 }
 
-impl<'a> RunAll<'a> {
+impl<'a> RunAllCommand<'a> {
     /// The reply. The files are read first; then each processor with tasks has an executive and each task a thread, and the gate
     /// is called at its steps by the number that the task has in the whole set. This may wait.
     pub fn reply<R: Threads + Wait + Sync, S: Shelf, G: Gate + Sync>(
@@ -51,7 +51,7 @@ impl<'a> RunAll<'a> {
         finish_run_all(rt, alloc, job, &self.ticks, &self.processors, gate)
     }
 
-    /// What is to be run, by both files. Without a runtime this cannot wait.
+    /// The job to run, by both files. Without a runtime this cannot wait.
     pub fn job<S: Shelf>(&self, alloc: Global, shelf: &mut S) -> Result<RunAllJob, Stop>
         ensures { Prepares 1 (run_all self.now.tasks self.now.work self.now.ticks self.now.processors)
             (IsRunAllJob self.now.processors) (RepliesToRunAll self.now.ticks self.now.processors) (S.state shelf.old) (S.state shelf.new) result }
@@ -60,7 +60,7 @@ impl<'a> RunAll<'a> {
         self.job_on(alloc, shelf, &bytes)
     }
 
-    // What is to be run, by the bytes of the task file and by the work file.
+    // The job to run, by the bytes of the task file and by the work file.
     fn job_on<S: Shelf>(
         &self,
         alloc: Global,
@@ -77,7 +77,7 @@ impl<'a> RunAll<'a> {
     }
 }
 
-/// The reply of a `runall` of this many ticks on this many processors, as [`RunAll::reply`] gives it once the files are read.
+/// The reply of a `runall` of this many ticks on this many processors, as [`RunAllCommand::reply`] gives it once the files are read.
 pub fn finish_run_all<R: Threads + Wait + Sync, G: Gate + Sync>(
     rt: &R,
     alloc: Global,

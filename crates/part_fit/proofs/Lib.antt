@@ -1,5 +1,5 @@
 mod Least
-mod Kept
+mod ProcessorLoads
 mod LoadSums
 mod Numbers
 mod OnOne

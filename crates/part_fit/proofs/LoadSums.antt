@@ -19,7 +19,7 @@ use Rattle.load_sum.specs.Belong.{BelongTo}
 use Rattle.load_sum.proofs.BelongTo.{BelongTo-from_sums}
 use Rattle.admission.proofs.Sets.{rule_of-published, high_low-most}
 use Rattle.part_fit.specs.FirstFit.{fits}
-use Rattle.part_fit.specs.KeptLoads.{AreLoadsOf, AreSmall, load_over, with_task, IsNext}
+use Rattle.part_fit.specs.ProcessorLoads.{AreLoadsOf, AreSmall, load_over, with_task, IsNext}
 
 lcm_from-append : (m : ℕ) (ts : List Task) (t : Task) → lcm_from m (ts ++ t ∷ []) ≡ lcm (lcm_from m ts) t.period
 unfolding lcm_from

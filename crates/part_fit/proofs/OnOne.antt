@@ -22,10 +22,10 @@ not_one (u ∷ us) t new (zero, less, is) = new.0 (ap (λ x. x.name) (sym is))
 not_one (u ∷ us) t new (suc k, less, is) = not_one us t new.1 (k, omega arith, is)
 
 -- a task in the list that is not the first is among the rest
-behind : (b : Bool) (t : Task) (rest : List Task) (x : Task) → t.name ≢ x.name → Contains (cond b (t ∷ rest) rest) x → Contains rest x
-behind true t rest x new (zero, less, is) = absurd (new (ap (λ u. u.name) is))
-behind true t rest x new (suc k, less, is) = (k, omega arith, is)
-behind false t rest x new there = there
+after : (b : Bool) (t : Task) (rest : List Task) (x : Task) → t.name ≢ x.name → Contains (cond b (t ∷ rest) rest) x → Contains rest x
+after true t rest x new (zero, less, is) = absurd (new (ap (λ u. u.name) is))
+after true t rest x new (suc k, less, is) = (k, omega arith, is)
+after false t rest x new there = there
 
 -- the tasks after the first are on the processors where they were
 others-on : (t : Task) (ts : List Task) (p : ℕ) (ps : List ℕ) (m : ℕ) (xs : List Task) → AllByRecursion (λ name. t.name ≢ name) (names_of xs)
@@ -39,7 +39,7 @@ others-on t ts p ps m (x ∷ xs) new h =
         first = on.first;
         last = on.last;
         there = cond_both (p == on.processor) (t ∷ rest) rest (λ us. Contains us x) (λ same. Contains-append_right (t ∷ []) rest x on.there) (λ other. on.there);
-        alone = λ n there. on.alone n (behind (p == n) t (part_of ts ps n) x new.0 there);
+        alone = λ n there. on.alone n (after (p == n) t (part_of ts ps n) x new.0 there);
       },
       others-on t ts p ps m xs new.1 h.1,
     )

@@ -1,6 +1,6 @@
 pub mod Parts
 pub mod FirstFit
-pub mod KeptLoads
+pub mod ProcessorLoads
 pub mod Partition
 pub mod PartWork
 pub mod Numbering

@@ -2,7 +2,7 @@
 ghost use Rattle.std.specs.Prelude.{◌≡◌, ◌≤◌, IfOk, IfErr, IfSome, replicate, List, ℕ, IfSome, Ok};
 ghost use Rattle.mc_task.specs.declared.task.Task.{Task};
 ghost use Rattle.part_fit.specs.FirstFit as spec;
-ghost use Rattle.part_fit.specs.KeptLoads.{IsToPlace, IsToPlaceInSome, IsPlace, AreSmall, no_loads};
+ghost use Rattle.part_fit.specs.ProcessorLoads.{IsToPlace, IsToPlaceInSome, IsPlace, AreSmall, no_loads};
 ghost use Rattle.part_fit.specs.Partition.{IsPartition};
 ghost use Rattle.part_fit.specs.declared.placing.FitFault.TheVariants.{Memory};
 

@@ -3,8 +3,8 @@ ghost use Rattle.std.specs.Prelude.{◌≡◌, ◌+◌, ◌*◌, ◌^◌, ◌<�
 ghost use Rattle.mc_task.specs.declared.task.Task.{Task};
 ghost use Rattle.tick_frac.specs.Numbers.{lcm};
 ghost use Rattle.mc_model.specs.Loads.{low_low, high_low, high_high, most_lcm};
-ghost use Rattle.part_fit.specs.KeptLoads as spec;
-ghost use Rattle.part_fit.specs.KeptLoads.{AreSmall, IsNext, IsNextOfSome, IsTried};
+ghost use Rattle.part_fit.specs.ProcessorLoads as spec;
+ghost use Rattle.part_fit.specs.ProcessorLoads.{AreSmall, IsNext, IsNextOfSome, IsTried};
 
 use admission::admit;
 use load_sum::Loads;

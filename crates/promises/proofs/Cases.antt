@@ -7,12 +7,12 @@ use Rattle.task_file.specs.TaskFile.{task_file}
 use Rattle.replies.specs.Reply.{Reply}
 use Rattle.replies.specs.Refusal.{Refusal, TaskFile, Longer, status_of, refuse}
 use Rattle.replies.specs.Reading.{◌>>=◌, refused_as, reply_by}
-use Rattle.serving.specs.Command.{Command, fetch, need}
+use Rattle.serving.specs.Command.{Command, fetch, read_or_refuse}
 use Rattle.serving.specs.Outcome.{IsAnswer}
 use Rattle.task_answers.specs.Admitted.{set_in}
 use Rattle.promises.specs.Headline.{bytes_of, SaysSet}
 
--- the reply tells that file k is longer than its limit; otherwise this is so
+-- the reply reports that file k is longer than its limit; otherwise this holds
 abbrev pub Held : ℕ → ℕ → List ℕ → Type 0 → Reply → Type 0
 Held k limit bytes Q reply = MatchBool (nat_lt limit (length bytes)) (reply ≡ refuse (Longer k limit)) Q
 
@@ -45,10 +45,10 @@ held files k limit name next Q reply then h = go (files name) h
           | false ↦ λ answer. then bytes answer
         ]) h
 
--- that of one that goes on by what was read
+-- the answer of a command that continues with what was read
 pub by_need : {A : Type 0} (files : Files) (k : ℕ) (read : Result A Refusal) (next : A → Command) (P : A → Type 0) (reply : Reply)
     → ((x : A) → IsAnswer files k (next x) reply → P x)
-    → IsAnswer files k (need read next) reply → By read P reply
+    → IsAnswer files k (read_or_refuse read next) reply → By read P reply
 by_need files k (Ok x) next P reply then h = then x h
 by_need files k (Err refusal) next P reply then h = h
 
@@ -58,7 +58,7 @@ pub by_text : {A : Type 0} (read : Result A Refusal) (f : A → Result (List ℕ
 by_text (Ok x) f reply h = h
 by_text (Err refusal) f reply h = h
 
--- and a value by steps
+-- a value by steps, the first of which reads a value
 pub by_steps : {A B : Type 0} (read : Result A Refusal) (f : A → Result B Refusal) (P : B → Type 0) (reply : Reply) → By (read >>= f) P reply
     → By read (λ x. By (f x) P reply) reply
 by_steps (Ok x) f P reply h = h
@@ -67,9 +67,9 @@ by_steps (Err refusal) f P reply h = h
 -- the answer of a command that asks for a task file and goes on by what is decided of its set
 pub by_set : {A : Type 0} (files : Files) (tasks : List ℕ) (decide : Set → Result A Refusal) (next : A → Command) (P : A → Type 0) (reply : Reply)
     → ((x : A) → IsAnswer files 2 (next x) reply → P x)
-    → IsAnswer files 1 (fetch tasks (2 ^ 24) (λ bytes. need (set_in bytes >>= decide) next)) reply → OfSet (bytes_of files tasks) (λ set. By (decide set) P reply) reply
+    → IsAnswer files 1 (fetch tasks (2 ^ 24) (λ bytes. read_or_refuse (set_in bytes >>= decide) next)) reply → OfSet (bytes_of files tasks) (λ set. By (decide set) P reply) reply
 by_set files tasks decide next P reply then h =
-    held files 1 (2 ^ 24) tasks (λ bytes. need (set_in bytes >>= decide) next) (λ bytes. By (set_in bytes) (λ set. By (decide set) P reply) reply) reply
+    held files 1 (2 ^ 24) tasks (λ bytes. read_or_refuse (set_in bytes >>= decide) next) (λ bytes. By (set_in bytes) (λ set. By (decide set) P reply) reply) reply
     (λ bytes k. by_steps (set_in bytes) decide P reply (by_need files 2 (set_in bytes >>= decide) next P reply then k)) h
 
 -- the file is within its limit, if the status is not that of a longer one
@@ -102,12 +102,12 @@ of_set bytes P reply not_7 not_3 h = of_file 1 (2 ^ 24) bytes TaskFile (task_fil
 pub by_is : {A : Type 0} (read r : Result A Refusal) (P : A → Type 0) (reply : Reply) → read ≡ r → By read P reply → By r P reply
 by_is read r P reply is h = subst (λ x. By x P reply) is h
 
--- and of the file, if that is within its limit
+-- a fact about each value is one about the value of a file within its limit
 pub for_file : {A : Type 0} (k limit : ℕ) (bytes : List ℕ) (read : Result A Refusal) (P : A → Type 0) (reply : Reply) (x : A) → length bytes ≤ limit → read ≡ Ok x
     → OfFile k limit bytes read P reply → P x
 for_file k limit bytes read P reply x short is h = by_is read (Ok x) P reply is (rw (le-ltb limit (length bytes) short) at h)
 
--- and of what is decided of the set that a task file says
+-- a fact about each value is one about what is decided of the set that a task file says
 pub decided : {A : Type 0} (bytes : List ℕ) (decide : Set → Result A Refusal) (r : Result A Refusal) (P : A → Type 0) (reply : Reply) (set : Set) → SaysSet bytes set
     → decide set ≡ r
     → OfSet bytes (λ set. By (decide set) P reply) reply → By r P reply

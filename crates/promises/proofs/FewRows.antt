@@ -12,7 +12,7 @@ use Rattle.mc_model.specs.declared.work.WorkRow.{WorkRow}
 use Rattle.mc_model.specs.Follows.{arrivals, planned, Follows}
 use Rattle.work_file.specs.declared.fault.WorkCause.{WorkCause}
 use Rattle.work_file.specs.declared.fault.WorkCause.TheVariants.{BadRecord, Header, TooMany}
-use Rattle.work_file.specs.WorkFile.{is_header, row_of, in_time, record_row, behind_header, work_in}
+use Rattle.work_file.specs.WorkFile.{is_header, row_of, in_time, record_row, after_header, work_in}
 use Rattle.timetable.proofs.Due.{length-rows, planned-few}
 
 -- a record means a row only where fewer than 1,000,000 rows stand before it
@@ -26,7 +26,7 @@ room_before set before fields w h = go (nat_le 1000000 (length before)) refl h
     go false e h = grind (arith, nat_tests, e)
 
 -- one row more is within 1,000,000
-one_more : (set : List Task) (first : List (List ℕ)) (means : Means WorkRow WorkCause) → behind_header set first ≡ Some means
+one_more : (set : List Task) (first : List (List ℕ)) (means : Means WorkRow WorkCause) → after_header set first ≡ Some means
     → (before : List WorkRow) (fields : List (List ℕ)) (w : WorkRow) → length before ≤ 1000000 → means before fields ≡ Ok w → length (before ++ w ∷ []) ≤ 1000000
 one_more set first means is before fields w few read = go (is_header first) is
   where
@@ -39,7 +39,7 @@ one_more set first means is before fields w few read = go (is_header first) is
 
 -- a work file has at most 1,000,000 rows
 pub work-few : (set : List Task) (bytes : List ℕ) (work : List WorkRow) → work_in set bytes ≡ Ok work → length work ≤ 1000000
-work-few set bytes work is = file_keeps (λ rows. length rows ≤ 1000000) (behind_header set) Header (omega arith) (one_more set) (records default_config (strip_bom bytes)) work is
+work-few set bytes work is = file_keeps (λ rows. length rows ≤ 1000000) (after_header set) Header (omega arith) (one_more set) (records default_config (strip_bom bytes)) work is
 
 -- a trace that follows has a row for each tick, and at most one for each row of the work
 pub follows-few : (set : List Task) (rule : Rule) (work : List WorkRow) (n : ℕ) (h : List Row) → Follows set rule work n h → length h ≤ n + length work

@@ -18,76 +18,77 @@ use Rattle.demand_law.proofs.Laws.{none_late}
 use Rattle.sched_chart.specs.ChartText.{chart_text}
 use Rattle.trace_format.specs.TraceFile.{trace_file}
 use Rattle.trace_format.proofs.RunsOfSet.{runs_of_set}
-use Rattle.trace_answers.specs.declared.telling.Telling.{Telling}
-use Rattle.trace_answers.specs.declared.telling.Telling.TheVariants.{JudgeBy, Chart, Migrate}
+use Rattle.trace_answers.specs.declared.action.TraceAction.{TraceAction}
+use Rattle.trace_answers.specs.declared.action.TraceAction.TheVariants.{JudgeBy, Chart, Migrate}
 use Rattle.command_line.specs.declared.form.Form.TheVariants as form
-use Rattle.trace_answers.specs.declared.on_trace.OnTrace.{OnTrace}
+use Rattle.trace_answers.specs.declared.on_trace.TraceCommand.{TraceCommand}
 use Rattle.replies.specs.Reply.{Reply, reply_of}
 use Rattle.replies.specs.Refusal.{Refusal, Trace, BadTrace, LongChart, status_of}
 use Rattle.replies.specs.Reading.{◌>>=◌, refused_as, reply_by}
-use Rattle.serving.specs.Command.{answer, fetch, need}
+use Rattle.serving.specs.Command.{answer, fetch, read_or_refuse}
 use Rattle.serving.specs.Outcome.{IsAnswer}
-use Rattle.task_answers.specs.Admitted.{under, tested, admitted}
-use Rattle.task_answers.specs.declared.ruled.Ruled.{Ruled}
-use Rattle.trace_answers.specs.OnTrace.{is_good, rows_in, good_text, judged, tells, on_trace}
+use Rattle.task_answers.specs.Admitted.{with_rule, tested, admitted}
+use Rattle.task_answers.specs.declared.set_with_rule.SetWithRule.{SetWithRule}
+use Rattle.trace_answers.specs.OnTrace.{is_good, rows_in, good_text, judged, output_for, on_trace}
 use Rattle.trace_answers.proofs.GoodTrace.{no_fault_in, rows_of_runs}
 use Rattle.promises.specs.Headline.{bytes_of, IsAdmitted, SchedulesExactly, trace_of, SaysTrace, WritesAgain, Finds, FindsUnder}
-use Rattle.promises.specs.Told.{TellsOf, TellsUnder}
-use Rattle.promises.specs.Complete.{IsTold, FindsEach, FindsBy, FindsAll}
+use Rattle.promises.specs.RightText.{WritesAbout, WritesAboutUnder}
+use Rattle.promises.specs.Complete.{IsShortEnough, FindsEach, FindsBy, FindsAll}
 use Rattle.promises.proofs.Cases.{By, OfFile, OfSet, held, by_text, by_steps, by_set, within, by_reader, for_file, decided}
 use Rattle.promises.proofs.Written.{again_read}
 use Rattle.promises.proofs.Promised.{Keeps, Comes, holds_for, timely, only_ruled, next_of, schedules_exactly}
 
--- the reply refuses the trace file, or tells what is asked of its rows
-abbrev TellsNext : Telling → List ℕ → Reply → Ruled → Type 0
-TellsNext telling more reply ruled = OfFile 2 (2 ^ 27) more (rows_in ruled.set.tasks more) (λ h. reply ≡ reply_by (judged telling ruled h)) reply
+-- the reply refuses the trace file, or is the command's reply to the rows in it
+abbrev RepliesNext : TraceAction → List ℕ → Reply → SetWithRule → Type 0
+RepliesNext action more reply ruled = OfFile 2 (2 ^ 27) more (rows_in ruled.set.tasks more) (λ h. reply ≡ reply_by (judged action ruled h)) reply
 
 -- the answer of a command that asks for one
-by_trace : (telling : Telling) (files : Files) (trace : List ℕ) (reply : Reply) (ruled : Ruled)
-    → IsAnswer files 2 (fetch trace (2 ^ 27) (λ more. answer (λ reply. reply ≡ reply_by (tells telling ruled more)))) reply
-    → TellsNext telling (bytes_of files trace) reply ruled
-by_trace telling files trace reply ruled h =
-    held files 2 (2 ^ 27) trace (λ more. answer (λ reply. reply ≡ reply_by (tells telling ruled more)))
-    (λ more. By (rows_in ruled.set.tasks more) (λ h. reply ≡ reply_by (judged telling ruled h)) reply) reply
-    (λ more k. by_text (rows_in ruled.set.tasks more) (judged telling ruled) reply k) h
+by_trace : (action : TraceAction) (files : Files) (trace : List ℕ) (reply : Reply) (ruled : SetWithRule)
+    → IsAnswer files 2 (fetch trace (2 ^ 27) (λ more. answer (λ reply. reply ≡ reply_by (output_for action ruled more)))) reply
+    → RepliesNext action (bytes_of files trace) reply ruled
+by_trace action files trace reply ruled h =
+    held files 2 (2 ^ 27) trace (λ more. answer (λ reply. reply ≡ reply_by (output_for action ruled more)))
+    (λ more. By (rows_in ruled.set.tasks more) (λ h. reply ≡ reply_by (judged action ruled h)) reply) reply
+    (λ more k. by_text (rows_in ruled.set.tasks more) (judged action ruled) reply k) h
 
--- something is told, or a chart is too long
-told_ok : (telling : Telling) (ruled : Ruled) (h : List Row) → IsTold telling h → (text : List ℕ) × (good_text telling ruled h ≡ Ok text)
-told_ok Chart ruled h short = (chart_text ruled.set.tasks h, rw (le-leb (ticks h) 2000000 short) refl)
-told_ok telling ruled h k = (_, refl)
+-- a command writes its text about each good trace, except a chart that is too long
+text_ok : (action : TraceAction) (ruled : SetWithRule) (h : List Row) → IsShortEnough action h → (text : List ℕ) × (good_text action ruled h ≡ Ok text)
+text_ok Chart ruled h short = (chart_text ruled.set.tasks h, rw (le-leb (ticks h) 2000000 short) refl)
+text_ok action ruled h k = (_, refl)
 
-told_status : (telling : Telling) (ruled : Ruled) (h : List Row) (refusal : Refusal) → good_text telling ruled h ≡ Err refusal → status_of refusal ≡ 5
-told_status Chart ruled h refusal k = go (nat_le (ticks h) 2000000) k
+text_status : (action : TraceAction) (ruled : SetWithRule) (h : List Row) (refusal : Refusal) → good_text action ruled h ≡ Err refusal → status_of refusal ≡ 5
+text_status Chart ruled h refusal k = go (nat_le (ticks h) 2000000) k
   where
     go : (b : Bool) → (if b then Ok (chart_text ruled.set.tasks h) else Err (LongChart (ticks h))) ≡ Err refusal → status_of refusal ≡ 5
     go true e = cc
     go false e = let same : LongChart (ticks h) ≡ refusal = cc in rw (← same) refl
-told_status telling ruled h refusal k = cc
+text_status action ruled h refusal k = cc
 
--- the reply to the rows of a trace blames them, or a chart that is too long, or tells what is asked of a good one
-data Judges (telling : Telling) (ruled : Ruled) (h : List Row) (reply : Reply) : Type 0 where
-  blames : is_good (verdict ruled.set.tasks ruled.rule h) ≡ false → reply.status ≡ 6 → Judges telling ruled h reply
-  refuses : reply.status ≡ 5 → Judges telling ruled h reply
-  says : (text : List ℕ) → is_good (verdict ruled.set.tasks ruled.rule h) ≡ true → good_text telling ruled h ≡ Ok text → reply ≡ reply_of 0 text → Judges telling ruled h reply
+-- the reply to the rows of a trace reports a row that does not fit, or a chart that is too long, or is the
+-- command's text about a good trace
+data Judges (action : TraceAction) (ruled : SetWithRule) (h : List Row) (reply : Reply) : Type 0 where
+  blames : is_good (verdict ruled.set.tasks ruled.rule h) ≡ false → reply.status ≡ 6 → Judges action ruled h reply
+  refuses : reply.status ≡ 5 → Judges action ruled h reply
+  says : (text : List ℕ) → is_good (verdict ruled.set.tasks ruled.rule h) ≡ true → good_text action ruled h ≡ Ok text → reply ≡ reply_of 0 text → Judges action ruled h reply
 
-judges : (telling : Telling) (ruled : Ruled) (h : List Row) (reply : Reply) → reply ≡ reply_by (judged telling ruled h) → Judges telling ruled h reply
-judges telling ruled h reply k = go (is_good (verdict ruled.set.tasks ruled.rule h)) refl k
+judges : (action : TraceAction) (ruled : SetWithRule) (h : List Row) (reply : Reply) → reply ≡ reply_by (judged action ruled h) → Judges action ruled h reply
+judges action ruled h reply k = go (is_good (verdict ruled.set.tasks ruled.rule h)) refl k
   where
-    tells_it : is_good (verdict ruled.set.tasks ruled.rule h) ≡ true → (t : Result (List ℕ) Refusal) → good_text telling ruled h ≡ t → reply ≡ reply_by t
-        → Judges telling ruled h reply
-    tells_it good (Ok text) e k = says text good e k
-    tells_it good (Err refusal) e k = refuses (ap (λ (r : Reply). r.status) k ∙ told_status telling ruled h refusal e)
+    reports_it : is_good (verdict ruled.set.tasks ruled.rule h) ≡ true → (t : Result (List ℕ) Refusal) → good_text action ruled h ≡ t → reply ≡ reply_by t
+        → Judges action ruled h reply
+    reports_it good (Ok text) e k = says text good e k
+    reports_it good (Err refusal) e k = refuses (ap (λ (r : Reply). r.status) k ∙ text_status action ruled h refusal e)
 
     go : (b : Bool) → is_good (verdict ruled.set.tasks ruled.rule h) ≡ b
-        → reply ≡ reply_by (if b then good_text telling ruled h else Err (BadTrace ruled.set.tasks (verdict ruled.set.tasks ruled.rule h))) → Judges telling ruled h reply
-    go true e k = tells_it e (good_text telling ruled h) refl k
+        → reply ≡ reply_by (if b then good_text action ruled h else Err (BadTrace ruled.set.tasks (verdict ruled.set.tasks ruled.rule h))) → Judges action ruled h reply
+    go true e k = reports_it e (good_text action ruled h) refl k
     go false e k = blames e (ap (λ (r : Reply). r.status) k)
 
 -- the rows of the trace file, which are of the set, and the judgement on them, if the status is none of the file's refusals
-judged_of : (telling : Telling) (more : List ℕ) (reply : Reply) (ruled : Ruled) → reply.status ≢ 7 → reply.status ≢ 5 → TellsNext telling more reply ruled
-    → (runs : List Run) × SaysTrace more ruled.set.tasks runs × AllByRecursion (IsOfSet ruled.set.tasks) (trace_of runs) × Judges telling ruled (trace_of runs) reply
-judged_of telling more reply ruled not_7 not_5 k =
-    let P : List Row → Type 0 = λ h. reply ≡ reply_by (judged telling ruled h) in
+judged_of : (action : TraceAction) (more : List ℕ) (reply : Reply) (ruled : SetWithRule) → reply.status ≢ 7 → reply.status ≢ 5 → RepliesNext action more reply ruled
+    → (runs : List Run) × SaysTrace more ruled.set.tasks runs × AllByRecursion (IsOfSet ruled.set.tasks) (trace_of runs) × Judges action ruled (trace_of runs) reply
+judged_of action more reply ruled not_7 not_5 k =
+    let P : List Row → Type 0 = λ h. reply ≡ reply_by (judged action ruled h) in
     let (short, by) = within 2 (2 ^ 27) more (By (rows_in ruled.set.tasks more) P reply) reply not_7 k in
     let file = trace_file ruled.set.tasks more in
     let (runs, is, p) = by_reader Trace file (λ runs. P (trace_of runs)) reply (λ fault. not_5)
@@ -95,42 +96,42 @@ judged_of telling more reply ruled not_7 not_5 k =
       runs,
       (short, is),
       rows_of_runs ruled.set.tasks runs (runs_of_set ruled.set.tasks more runs is),
-      judges telling ruled (trace_of runs) reply p,
+      judges action ruled (trace_of runs) reply p,
     )
 
--- a good trace of which something can be told gets a 0
-good_0 : (telling : Telling) (more : List ℕ) (reply : Reply) (ruled : Ruled) (runs : List Run) → SaysTrace more ruled.set.tasks runs
-    → is_good (verdict ruled.set.tasks ruled.rule (trace_of runs)) ≡ true → IsTold telling (trace_of runs)
-    → TellsNext telling more reply ruled → reply.status ≡ 0
-good_0 telling more reply ruled runs said good is k =
-    let (text, t) = told_ok telling ruled (trace_of runs) is in
-    let tells : judged telling ruled (trace_of runs) ≡ Ok text = rw (good, t) refl in
+-- a good trace that is short enough for the command gets status 0
+good_0 : (action : TraceAction) (more : List ℕ) (reply : Reply) (ruled : SetWithRule) (runs : List Run) → SaysTrace more ruled.set.tasks runs
+    → is_good (verdict ruled.set.tasks ruled.rule (trace_of runs)) ≡ true → IsShortEnough action (trace_of runs)
+    → RepliesNext action more reply ruled → reply.status ≡ 0
+good_0 action more reply ruled runs said good is k =
+    let (text, t) = text_ok action ruled (trace_of runs) is in
+    let output_for : judged action ruled (trace_of runs) ≡ Ok text = rw (good, t) refl in
     let rows : rows_in ruled.set.tasks more ≡ Ok (trace_of runs) = ap (λ read. refused_as Trace read >>= (λ runs. Ok (trace_of runs))) said.1 in
-    let P : List Row → Type 0 = λ h. reply ≡ reply_by (judged telling ruled h) in
-    ap (λ (r : Reply). r.status) (for_file 2 (2 ^ 27) more (rows_in ruled.set.tasks more) P reply (trace_of runs) said.0 rows k ∙ ap reply_by tells)
+    let P : List Row → Type 0 = λ h. reply ≡ reply_by (judged action ruled h) in
+    ap (λ (r : Reply). r.status) (for_file 2 (2 ^ 27) more (rows_in ruled.set.tasks more) P reply (trace_of runs) said.0 rows k ∙ ap reply_by output_for)
 
 -- what `migrate` writes of a trace that it finds legal is a trace file of the same rows
-again : (telling : Telling) (ruled : Ruled) (more : List ℕ) (runs : List Run) (text old : List ℕ) (new : Option (List ℕ)) → AreTasks ruled.set.tasks
-    → SaysTrace more ruled.set.tasks runs → Legal ruled.set.tasks ruled.rule (trace_of runs) → good_text telling ruled (trace_of runs) ≡ Ok text → new ≡ Some (old ++ text)
-    → WritesAgain telling ruled.set.tasks runs old new
+again : (action : TraceAction) (ruled : SetWithRule) (more : List ℕ) (runs : List Run) (text old : List ℕ) (new : Option (List ℕ)) → AreTasks ruled.set.tasks
+    → SaysTrace more ruled.set.tasks runs → Legal ruled.set.tasks ruled.rule (trace_of runs) → good_text action ruled (trace_of runs) ≡ Ok text → new ≡ Some (old ++ text)
+    → WritesAgain action ruled.set.tasks runs old new
 again Migrate ruled more runs text old new is said legal t w =
     let same : trace_text ruled.set.tasks (reverse (trace_of runs)) ≡ text = cc in
     let (read, rows) = again_read ruled.set.tasks ruled.rule more runs is said.1 legal in
     (text, pack (reverse (trace_of runs)), w, subst (λ (bytes : List ℕ). trace_file ruled.set.tasks bytes ≡ Ok (pack (reverse (trace_of runs)))) same read, rows)
-again telling ruled more runs text old new is said legal t w = tt
+again action ruled more runs text old new is said legal t w = tt
 
 -- a legal trace of an admitted set is good
 good_of : (bytes : List ℕ) (set : Set) (rule : Rule) (h : List Row) → IsAdmitted bytes set rule → Legal set.tasks rule h → is_good (verdict set.tasks rule h) ≡ true
 good_of bytes set rule h a l = let s = holds_for bytes set rule a in ap is_good (verdict-good set.tasks rule h l (none_late set.tasks rule h s.0.each s.1 l))
 
 -- under the test's rule
-finds : (telling : Telling) (tasks trace : List ℕ) (files : Files) (old : List ℕ) (reply : Reply)
-    → IsAnswer files 1 (fetch tasks (2 ^ 24) (λ bytes. need (admitted bytes)
-    (λ ruled. fetch trace (2 ^ 27) (λ more. answer (λ reply. reply ≡ reply_by (tells telling ruled more)))))) reply
-    → (SchedulesExactly (bytes_of files tasks) reply.status × Finds telling (bytes_of files tasks) (bytes_of files trace) old reply.status (Some (old ++ reply.text)))
-    × TellsOf telling (bytes_of files tasks) (bytes_of files trace) old reply.status (Some (old ++ reply.text))
-    × FindsEach telling (bytes_of files tasks) (bytes_of files trace) reply.status × Unit {0}
-finds telling tasks trace files old reply h = (
+finds : (action : TraceAction) (tasks trace : List ℕ) (files : Files) (old : List ℕ) (reply : Reply)
+    → IsAnswer files 1 (fetch tasks (2 ^ 24) (λ bytes. read_or_refuse (admitted bytes)
+    (λ ruled. fetch trace (2 ^ 27) (λ more. answer (λ reply. reply ≡ reply_by (output_for action ruled more)))))) reply
+    → (SchedulesExactly (bytes_of files tasks) reply.status × Finds action (bytes_of files tasks) (bytes_of files trace) old reply.status (Some (old ++ reply.text)))
+    × WritesAbout action (bytes_of files tasks) (bytes_of files trace) old reply.status (Some (old ++ reply.text))
+    × FindsEach action (bytes_of files tasks) (bytes_of files trace) reply.status × Unit {0}
+finds action tasks trace files old reply h = (
   (
     schedules_exactly bytes Next reply not_1 c,
     record {
@@ -141,13 +142,13 @@ finds telling tasks trace files old reply h = (
         a,
         said,
         timely bytes set rule (trace_of runs) a legal,
-        again telling (under rule set) more runs text old (Some (old ++ reply.text)) (holds_for bytes set rule a).0 said legal t w,
+        again action (with_rule rule set) more runs text old (Some (old ++ reply.text)) (holds_for bytes set rule a).0 said legal t w,
       ));
       illegal = faulty;
     },
   ),
   λ e. (let (set, rule, runs, text, legal, a, said, t, w) = found e in (set, rule, runs, text, a, said, t, w)),
-  λ set rule runs a said legal is. inl (good_0 telling more reply (under rule set) runs said (good_of bytes set rule (trace_of runs) a legal) is (next_of bytes Next reply set rule a c)),
+  λ set rule runs a said legal is. inl (good_0 action more reply (with_rule rule set) runs said (good_of bytes set rule (trace_of runs) a legal) is (next_of bytes Next reply set rule a c)),
   tt,
 )
   where
@@ -157,17 +158,17 @@ finds telling tasks trace files old reply h = (
     more : List ℕ
     more = bytes_of files trace
 
-    Next : Ruled → Type 0
-    Next ruled = TellsNext telling more reply ruled
+    Next : SetWithRule → Type 0
+    Next ruled = RepliesNext action more reply ruled
 
     c : Comes bytes Next reply
     c =
-        by_set files tasks tested (λ ruled. fetch trace (2 ^ 27) (λ more. answer (λ reply. reply ≡ reply_by (tells telling ruled more))))
-        Next reply (by_trace telling files trace reply) h
+        by_set files tasks tested (λ ruled. fetch trace (2 ^ 27) (λ more. answer (λ reply. reply ≡ reply_by (output_for action ruled more))))
+        Next reply (by_trace action files trace reply) h
 
-    not_1 : (ruled : Ruled) → Next ruled → reply.status ≢ 1
+    not_1 : (ruled : SetWithRule) → Next ruled → reply.status ≢ 1
     not_1 ruled k e =
-        let (t, said, of, verdict) = judged_of telling more reply ruled (λ z. absurd (omega arith)) (λ z. absurd (omega arith)) k in
+        let (t, said, of, verdict) = judged_of action more reply ruled (λ z. absurd (omega arith)) (λ z. absurd (omega arith)) k in
         elim verdict [
           | blames bad s ↦ absurd (omega arith)
           | refuses s ↦ absurd (omega arith)
@@ -175,11 +176,11 @@ finds telling tasks trace files old reply h = (
         ]
 
     found : reply.status ≡ 0 → (set : Set) × (rule : Rule) × (runs : List Run) × (text : List ℕ) × Legal set.tasks rule (trace_of runs)
-        × IsAdmitted bytes set rule × SaysTrace more set.tasks runs × (good_text telling (under rule set) (trace_of runs) ≡ Ok text)
+        × IsAdmitted bytes set rule × SaysTrace more set.tasks runs × (good_text action (with_rule rule set) (trace_of runs) ≡ Ok text)
         × (Some (old ++ reply.text) ≡ Some (old ++ text))
     found e =
         let (set, rule, a, k) = only_ruled bytes Next reply (λ z. absurd (omega arith)) (λ z. absurd (omega arith)) (λ z. absurd (omega arith)) c in
-        let (runs, said, of, verdict) = judged_of telling more reply (under rule set) (λ z. absurd (omega arith)) (λ z. absurd (omega arith)) k in
+        let (runs, said, of, verdict) = judged_of action more reply (with_rule rule set) (λ z. absurd (omega arith)) (λ z. absurd (omega arith)) k in
         elim verdict [
           | blames bad s ↦ absurd (omega arith)
           | refuses s ↦ absurd (omega arith)
@@ -193,7 +194,7 @@ finds telling tasks trace files old reply h = (
         × (Legal set.tasks rule (trace_of runs) → ⊥)
     faulty e =
         let (set, rule, a, k) = only_ruled bytes Next reply (λ z. absurd (omega arith)) (λ z. absurd (omega arith)) (λ z. absurd (omega arith)) c in
-        let (runs, said, of, verdict) = judged_of telling more reply (under rule set) (λ z. absurd (omega arith)) (λ z. absurd (omega arith)) k in
+        let (runs, said, of, verdict) = judged_of action more reply (with_rule rule set) (λ z. absurd (omega arith)) (λ z. absurd (omega arith)) k in
         elim verdict [
           | blames bad s ↦ (set, rule, runs, a, said, λ legal. (let clash : true ≡ false = sym (good_of bytes set rule (trace_of runs) a legal) ∙ bad in cc))
           | refuses s ↦ absurd (omega arith)
@@ -218,24 +219,24 @@ finds_by p q tasks trace files old reply h = (
     more : List ℕ
     more = bytes_of files trace
 
-    ruled : Set → Ruled
-    ruled set = under (Virtual p q) set
+    ruled : Set → SetWithRule
+    ruled set = with_rule (Virtual p q) set
 
-    Next : Ruled → Type 0
-    Next ruled = TellsNext (JudgeBy p q) more reply ruled
+    Next : SetWithRule → Type 0
+    Next ruled = RepliesNext (JudgeBy p q) more reply ruled
 
     c : OfSet bytes (λ set. By (Ok (ruled set)) Next reply) reply
     c =
-        by_set files tasks (λ set. Ok (ruled set)) (λ ruled. fetch trace (2 ^ 27) (λ more. answer (λ reply. reply ≡ reply_by (tells (JudgeBy p q) ruled more))))
+        by_set files tasks (λ set. Ok (ruled set)) (λ ruled. fetch trace (2 ^ 27) (λ more. answer (λ reply. reply ≡ reply_by (output_for (JudgeBy p q) ruled more))))
         Next reply
         (by_trace (JudgeBy p q) files trace reply) h
 
-under_rule : (telling : Telling) (tasks trace : List ℕ) (files : Files) (old : List ℕ) (reply : Reply) → IsAnswer files 1 (on_trace telling tasks trace) reply
-    → FindsUnder telling (bytes_of files tasks) (bytes_of files trace) old reply.status (Some (old ++ reply.text))
-    × TellsUnder telling (bytes_of files tasks) (bytes_of files trace) old reply.status (Some (old ++ reply.text))
-    × FindsAll telling (bytes_of files tasks) (bytes_of files trace) reply.status × Unit {0}
+under_rule : (action : TraceAction) (tasks trace : List ℕ) (files : Files) (old : List ℕ) (reply : Reply) → IsAnswer files 1 (on_trace action tasks trace) reply
+    → FindsUnder action (bytes_of files tasks) (bytes_of files trace) old reply.status (Some (old ++ reply.text))
+    × WritesAboutUnder action (bytes_of files tasks) (bytes_of files trace) old reply.status (Some (old ++ reply.text))
+    × FindsAll action (bytes_of files tasks) (bytes_of files trace) reply.status × Unit {0}
 under_rule (JudgeBy p q) tasks trace = finds_by p q tasks trace
-under_rule telling tasks trace = finds telling tasks trace
+under_rule action tasks trace = finds action tasks trace
 
-pub tells_of_trace : (command : OnTrace) → Keeps (form.OnTrace command)
-tells_of_trace command = under_rule command.telling command.tasks command.trace
+pub trace_keeps : (command : TraceCommand) → Keeps (form.OnTrace command)
+trace_keeps command = under_rule command.action command.tasks command.trace

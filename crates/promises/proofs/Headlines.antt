@@ -6,10 +6,10 @@ use Rattle.command_line.specs.declared.form.Form.TheVariants as form
 use Rattle.command_line.specs.Form.{IsInRange, HasFewTicks, command}
 use Rattle.replies.specs.Reply.{Reply}
 use Rattle.serving.specs.Outcome.{IsAnswer}
-use Rattle.trace_answers.specs.declared.telling.Telling.{Telling}
-use Rattle.trace_answers.specs.declared.telling.Telling.TheVariants.{JudgeBy}
+use Rattle.trace_answers.specs.declared.action.TraceAction.{TraceAction}
+use Rattle.trace_answers.specs.declared.action.TraceAction.TheVariants.{JudgeBy}
 use Rattle.promises.specs.Headline.{bytes_of, FindsUnder}
-use Rattle.promises.specs.Told.{TellsUnder}
+use Rattle.promises.specs.RightText.{WritesAboutUnder}
 use Rattle.promises.specs.Complete.{FindsAll}
 use Rattle.promises.specs.Promises.{Promises}
 use Rattle.promises.proofs.Tested.{of_form}
@@ -21,14 +21,14 @@ of_reply None range short files old reply h = (tt, tt, tt, tt)
 of_reply (Some form) range short files old reply h = of_form form range short files old reply h
 
 -- a command on a trace that ran out of memory promises nothing
-gave_up_on : (telling : Telling) (bytes more old : List ℕ) (new : Option (List ℕ))
-    → FindsUnder telling bytes more old 9 new × TellsUnder telling bytes more old 9 new × FindsAll telling bytes more 9 × Unit {0}
+gave_up_on : (action : TraceAction) (bytes more old : List ℕ) (new : Option (List ℕ))
+    → FindsUnder action bytes more old 9 new × WritesAboutUnder action bytes more old 9 new × FindsAll action bytes more 9 × Unit {0}
 gave_up_on (JudgeBy p q) bytes more old new = search (arith, inl, inr)
-gave_up_on telling bytes more old new = search (arith, inl, inr)
+gave_up_on action bytes more old new = search (arith, inl, inr)
 
--- a call that gave up, since memory was wanting
+-- a call that gave up because memory ran out
 pub gave_up : (form : Option Form) (files : Files) (old : List ℕ) (new : Option (List ℕ)) → Promises form files old 9 new
 gave_up None files old new = (tt, tt, tt, tt)
 gave_up (Some (form.Check c)) files old new = search (arith, inl, inr)
-gave_up (Some (form.OnTrace c)) files old new = gave_up_on c.telling (bytes_of files c.tasks) (bytes_of files c.trace) old new
+gave_up (Some (form.OnTrace c)) files old new = gave_up_on c.action (bytes_of files c.tasks) (bytes_of files c.trace) old new
 gave_up (Some command) files old new = search (arith, inl, inr)

@@ -22,8 +22,8 @@ use Rattle.replies.specs.Refusal.{OutOfRange, NotAdmitted}
 use Rattle.replies.specs.Reading.{◌>>=◌, none_or}
 use Rattle.command_line.specs.declared.form.Form.{Form}
 use Rattle.serving.specs.Outcome.{IsAnswer}
-use Rattle.task_answers.specs.Admitted.{under, tested}
-use Rattle.task_answers.specs.declared.ruled.Ruled.{Ruled}
+use Rattle.task_answers.specs.Admitted.{with_rule, tested}
+use Rattle.task_answers.specs.declared.set_with_rule.SetWithRule.{SetWithRule}
 use Rattle.command_line.specs.Form.{command}
 use Rattle.promises.specs.Headline.{SaysSet, IsAdmitted, IsTimely, SchedulesExactly}
 use Rattle.promises.specs.Promises.{Promises}
@@ -38,7 +38,7 @@ Keeps form =
 pub holds_for : (bytes : List ℕ) (set : Set) (rule : Rule) → IsAdmitted bytes set rule → AreTasks set.tasks × Holds set.tasks rule
 holds_for bytes set rule a = let s = (says_set bytes set a.says.1).tasks in (s, test-holds set rule s a.test)
 
--- and its legal traces keep the deadlines
+-- the legal traces of an admitted set keep the deadlines
 pub timely : (bytes : List ℕ) (set : Set) (rule : Rule) (h : List Row) → IsAdmitted bytes set rule → Legal set.tasks rule h → IsTimely set.tasks rule h
 timely bytes set rule h a l = let s = holds_for bytes set rule a in (l, keeps_deadlines set.tasks rule h s.0.each s.1 l)
 
@@ -56,7 +56,7 @@ within_from k m (t ∷ ts) small e =
       | inr few ↦ within_from (k + 1) (lcm m t.period) ts (omega (arith, few.1)) (rw (few.0) at e)
     ]
 
--- and those of a set within range do so nowhere
+-- the periods of a set within range take their least common multiple past the limit nowhere
 no_fault : (set : List Task) → AllByRecursion IsTask set → IsWithinRange set → (o : Option ℕ) → range_fault set ≡ o → o ≡ None
 no_fault set are within None e = refl
 no_fault set are within (Some n) e = absurd (omega (arith, within, range_fault-past 1 1 n set (omega arith) are e))
@@ -66,7 +66,7 @@ pub in_range_says : (bytes : List ℕ) (set : Set) → SaysSet bytes set → IsW
 in_range_says bytes set says within = no_fault set.tasks (says_set bytes set says.1).tasks.each within (range_fault set.tasks) refl
 
 -- the reply refuses the task file or its set, or this is so of the set under the rule that the test gives it
-abbrev pub Comes : List ℕ → (Ruled → Type 0) → Reply → Type 0
+abbrev pub Comes : List ℕ → (SetWithRule → Type 0) → Reply → Type 0
 Comes bytes Then reply = OfSet bytes (λ set. By (tested set) Then reply) reply
 
 -- the periods are within range, if the status is not that of a range fault
@@ -78,20 +78,20 @@ in_range set P reply not_3 h = go (range_fault set) refl h
     go (Some task) e k = absurd (not_3 (ap (λ r. r.status) k))
 
 -- the test gives no rule, with status 1, or this is so of the one that it gives
-by_test : (set : Set) (Then : Ruled → Type 0) (reply : Reply) → reply.status ≢ 3 → By (tested set) Then reply
-    → IsWithinRange set.tasks × (((test set ≡ None) × (reply.status ≡ 1)) ⊎ ((rule : Rule) × (test set ≡ Some rule) × Then (under rule set)))
+by_test : (set : Set) (Then : SetWithRule → Type 0) (reply : Reply) → reply.status ≢ 3 → By (tested set) Then reply
+    → IsWithinRange set.tasks × (((test set ≡ None) × (reply.status ≡ 1)) ⊎ ((rule : Rule) × (test set ≡ Some rule) × Then (with_rule rule set)))
 by_test set Then reply not_3 h =
     let (range, k) = in_range set.tasks _ reply not_3 (by_steps (none_or OutOfRange (range_fault set.tasks)) _ Then reply h) in
     (range, go (test set) refl k)
   where
-    go : (o : Option Rule) → test set ≡ o → By (ok_or o (NotAdmitted set.tasks) >>= (λ rule. Ok (under rule set))) Then reply
-        → ((test set ≡ None) × (reply.status ≡ 1)) ⊎ ((rule : Rule) × (test set ≡ Some rule) × Then (under rule set))
+    go : (o : Option Rule) → test set ≡ o → By (ok_or o (NotAdmitted set.tasks) >>= (λ rule. Ok (with_rule rule set))) Then reply
+        → ((test set ≡ None) × (reply.status ≡ 1)) ⊎ ((rule : Rule) × (test set ≡ Some rule) × Then (with_rule rule set))
     go None e k = inl (e, ap (λ r. r.status) k)
     go (Some rule) e k = inr (rule, e, k)
 
 -- the set is admitted, if the status is none of the refusals of its file
-pub only_ruled : (bytes : List ℕ) (Then : Ruled → Type 0) (reply : Reply) → reply.status ≢ 7 → reply.status ≢ 3 → reply.status ≢ 1 → Comes bytes Then reply
-    → (set : Set) × (rule : Rule) × IsAdmitted bytes set rule × Then (under rule set)
+pub only_ruled : (bytes : List ℕ) (Then : SetWithRule → Type 0) (reply : Reply) → reply.status ≢ 7 → reply.status ≢ 3 → reply.status ≢ 1 → Comes bytes Then reply
+    → (set : Set) × (rule : Rule) × IsAdmitted bytes set rule × Then (with_rule rule set)
 only_ruled bytes Then reply not_7 not_3 not_1 h =
     let (set, says, k) = of_set bytes (λ set. By (tested set) Then reply) reply not_7 not_3 h in
     let (range, given) = by_test set Then reply not_3 k in
@@ -101,14 +101,14 @@ only_ruled bytes Then reply not_7 not_3 not_1 h =
     ]
 
 -- of an admitted set this is so
-pub next_of : (bytes : List ℕ) (Then : Ruled → Type 0) (reply : Reply) (set : Set) (rule : Rule) → IsAdmitted bytes set rule → Comes bytes Then reply
-    → Then (under rule set)
+pub next_of : (bytes : List ℕ) (Then : SetWithRule → Type 0) (reply : Reply) (set : Set) (rule : Rule) → IsAdmitted bytes set rule → Comes bytes Then reply
+    → Then (with_rule rule set)
 next_of bytes Then reply set rule a h =
-    let admits : tested set ≡ Ok (under rule set) = rw (in_range_says bytes set a.says a.range, a.test) refl in
-    decided bytes tested (Ok (under rule set)) Then reply set a.says admits h
+    let admits : tested set ≡ Ok (with_rule rule set) = rw (in_range_says bytes set a.says a.range, a.test) refl in
+    decided bytes tested (Ok (with_rule rule set)) Then reply set a.says admits h
 
 -- Status 1 comes exactly where the test gives no rule, if what comes next has another status.
-pub schedules_exactly : (bytes : List ℕ) (Then : Ruled → Type 0) (reply : Reply) → ((x : Ruled) → Then x → reply.status ≢ 1) → Comes bytes Then reply
+pub schedules_exactly : (bytes : List ℕ) (Then : SetWithRule → Type 0) (reply : Reply) → ((x : SetWithRule) → Then x → reply.status ≢ 1) → Comes bytes Then reply
     → SchedulesExactly bytes reply.status
 schedules_exactly bytes Then reply other h = record { refused = only; refuses = always }
   where
@@ -116,7 +116,7 @@ schedules_exactly bytes Then reply other h = record { refused = only; refuses = 
     only e =
         let (set, says, k) = of_set bytes (λ set. By (tested set) Then reply) reply (λ z. absurd (omega arith)) (λ z. absurd (omega arith)) h in
         let (range, given) = by_test set Then reply (λ z. absurd (omega arith)) k in
-        elim given [ inl none ↦ (set, says, range, (none_of bytes set says).0 none.0) | inr r ↦ absurd (other (under r.0 set) r.2 e) ]
+        elim given [ inl none ↦ (set, says, range, (none_of bytes set says).0 none.0) | inr r ↦ absurd (other (with_rule r.0 set) r.2 e) ]
 
     always : (set : Set) → SaysSet bytes set → IsWithinRange set.tasks → published set.tasks ≡ None → (reply.status ≡ 1) ⊎ (reply.status ≡ 9)
     always set says range none =

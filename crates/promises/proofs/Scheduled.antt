@@ -8,27 +8,27 @@ use Rattle.mc_model.specs.CheckText.{check_text}
 use Rattle.mc_model.proofs.RuleHolds.{published-holds}
 use Rattle.demand_law.proofs.Promise.{keeps_deadlines}
 use Rattle.set_gen.specs.Words.{words_of}
-use Rattle.set_gen.proofs.Admitted.{made_sets-admitted}
+use Rattle.set_gen.proofs.Admitted.{generated_sets-admitted}
 use Rattle.work_file.specs.WorkFile.{work_in}
 use Rattle.command_line.specs.declared.form.Form.TheVariants as form
-use Rattle.task_answers.specs.declared.check.Check.{Check}
-use Rattle.run_answers.specs.declared.run.Run.{Run}
-use Rattle.run_answers.specs.declared.live.Live.{Live}
-use Rattle.run_answers.specs.declared.soak.Soak.{Soak}
+use Rattle.task_answers.specs.declared.check.CheckCommand.{CheckCommand}
+use Rattle.run_answers.specs.declared.run.RunCommand.{RunCommand}
+use Rattle.run_answers.specs.declared.live.LiveCommand.{LiveCommand}
+use Rattle.run_answers.specs.declared.soak.SoakCommand.{SoakCommand}
 use Rattle.replies.specs.Reply.{Reply, reply_of}
 use Rattle.replies.specs.Refusal.{WorkFile}
 use Rattle.replies.specs.Reading.{refused_as, reply_by}
-use Rattle.serving.specs.Command.{Command, answer, fetch, need}
+use Rattle.serving.specs.Command.{Command, answer, fetch, read_or_refuse}
 use Rattle.serving.specs.Outcome.{IsAnswer}
 use Rattle.task_answers.specs.Admitted.{set_in, tested, admitted}
-use Rattle.task_answers.specs.declared.ruled.Ruled.{Ruled}
+use Rattle.task_answers.specs.declared.set_with_rule.SetWithRule.{SetWithRule}
 use Rattle.task_answers.specs.Check.{checked}
-use Rattle.run_answers.specs.Run.{TellsTrace, work_of}
-use Rattle.run_answers.specs.Live.{Lives}
-use Rattle.run_answers.proofs.LivePlaces.{few_rows}
+use Rattle.run_answers.specs.Run.{IsTraceReply, work_of}
+use Rattle.run_answers.specs.Live.{IsLiveReply}
+use Rattle.run_answers.proofs.LiveCapacity.{few_rows}
 use Rattle.run_answers.specs.Soak.{workload_set}
 use Rattle.promises.specs.Headline.{bytes_of}
-use Rattle.promises.specs.Told.{WritesRun, WritesLive}
+use Rattle.promises.specs.RightText.{WritesRun, WritesLive}
 use Rattle.promises.specs.Complete.{SaysWork, ServesWork}
 use Rattle.promises.proofs.Cases.{By, OfFile, held, by_need, by_text, by_steps, by_set, of_file, for_file}
 use Rattle.promises.proofs.FewRows.{work-few, follows-few}
@@ -42,9 +42,9 @@ OfWork set more P reply = OfFile 2 (2 ^ 24) more (work_of set more) P reply
 -- the answer of a command that asks for one
 pub by_work : (files : Files) (set : List Task) (work : List ℕ) (next : List WorkRow → Command) (P : List WorkRow → Type 0) (reply : Reply)
     → ((rows : List WorkRow) → IsAnswer files 3 (next rows) reply → P rows)
-    → IsAnswer files 2 (fetch work (2 ^ 24) (λ more. need (work_of set more) next)) reply → OfWork set (bytes_of files work) P reply
+    → IsAnswer files 2 (fetch work (2 ^ 24) (λ more. read_or_refuse (work_of set more) next)) reply → OfWork set (bytes_of files work) P reply
 by_work files set work next P reply then h =
-    held files 2 (2 ^ 24) work (λ more. need (work_of set more) next) (λ more. By (work_of set more) P reply) reply
+    held files 2 (2 ^ 24) work (λ more. read_or_refuse (work_of set more) next) (λ more. By (work_of set more) P reply) reply
     (λ more k. by_need files 3 (work_of set more) next P reply then k) h
 
 -- some work is read, if the status is none of its refusals
@@ -52,15 +52,15 @@ pub of_work : (set : List Task) (more : List ℕ) (P : List WorkRow → Type 0) 
     → (rows : List WorkRow) × SaysWork more set rows × P rows
 of_work set more P reply not_7 not_4 h = of_file 2 (2 ^ 24) more WorkFile (work_in set more) P reply not_7 (λ fault. not_4) h
 
-pub checks : (command : Check) → Keeps (form.Check command)
-checks command files old reply h = (
+pub check_keeps : (command : CheckCommand) → Keeps (form.Check command)
+check_keeps command files old reply h = (
   schedules_exactly (bytes_of files command.tasks) Next reply (λ ruled k e. absurd (omega (arith, ap (λ (r : Reply). r.status) k))) c,
   tt,
   λ set rule a. inl (ap (λ r. r.status) (next_of (bytes_of files command.tasks) Next reply set rule a c)),
   tt,
 )
   where
-    Next : Ruled → Type 0
+    Next : SetWithRule → Type 0
     Next ruled = reply ≡ reply_of 0 (check_text ruled.set ruled.rule)
 
     c : Comes (bytes_of files command.tasks) Next reply
@@ -69,8 +69,8 @@ checks command files old reply h = (
         (λ bytes. By (set_in bytes) (λ set. By (tested set) Next reply) reply) reply
         (λ bytes k. by_steps (set_in bytes) tested Next reply (by_text (admitted bytes) (λ ruled. Ok (check_text ruled.set ruled.rule)) reply k)) h
 
-pub runs : (command : Run) → command.ticks ≤ 1000000 → Keeps (form.Run command)
-runs command short files old reply h = (
+pub run_keeps : (command : RunCommand) → command.ticks ≤ 1000000 → Keeps (form.Run command)
+run_keeps command short files old reply h = (
   (
     schedules_exactly (bytes_of files command.tasks) Next reply not_1 c,
     λ e. (let (set, rule, rows, t, a, says, follows, written) = writes e in
@@ -86,15 +86,15 @@ runs command short files old reply h = (
     more : List ℕ
     more = bytes_of files command.work
 
-    Next : Ruled → Type 0
-    Next ruled = OfWork ruled.set.tasks more (λ rows. TellsTrace command.ticks ruled.set.tasks ruled.rule rows reply) reply
+    Next : SetWithRule → Type 0
+    Next ruled = OfWork ruled.set.tasks more (λ rows. IsTraceReply command.ticks ruled.set.tasks ruled.rule rows reply) reply
 
     c : Comes (bytes_of files command.tasks) Next reply
     c =
         by_set files command.tasks tested _ Next reply
-        (λ ruled. by_work files ruled.set.tasks command.work _ (λ rows. TellsTrace command.ticks ruled.set.tasks ruled.rule rows reply) reply (λ rows t. t)) h
+        (λ ruled. by_work files ruled.set.tasks command.work _ (λ rows. IsTraceReply command.ticks ruled.set.tasks ruled.rule rows reply) reply (λ rows t. t)) h
 
-    not_1 : (ruled : Ruled) → Next ruled → reply.status ≢ 1
+    not_1 : (ruled : SetWithRule) → Next ruled → reply.status ≢ 1
     not_1 ruled k e =
         let (rows, says, t) = of_work ruled.set.tasks more _ reply (λ z. absurd (omega arith)) (λ z. absurd (omega arith)) k in
         absurd (omega (arith, ap (λ (r : Reply). r.status) t.2))
@@ -107,12 +107,12 @@ runs command short files old reply h = (
 
     complete : ServesWork (bytes_of files command.tasks) more reply.status
     complete set rule rows a says =
-        let t = for_file 2 (2 ^ 24) more (work_of set.tasks more) (λ rows. TellsTrace command.ticks set.tasks rule rows reply) reply rows says.0 (ap (refused_as WorkFile) says.1)
+        let t = for_file 2 (2 ^ 24) more (work_of set.tasks more) (λ rows. IsTraceReply command.ticks set.tasks rule rows reply) reply rows says.0 (ap (refused_as WorkFile) says.1)
         (next_of (bytes_of files command.tasks) Next reply set rule a c) in
         inl (ap (λ (r : Reply). r.status) t.2)
 
-pub lives : (command : Live) → command.ticks ≤ 100000 → Keeps (form.Live command)
-lives command short files old reply h = (
+pub live_keeps : (command : LiveCommand) → command.ticks ≤ 100000 → Keeps (form.Live command)
+live_keeps command short files old reply h = (
   (
     schedules_exactly (bytes_of files command.tasks) Next reply (λ ruled k e. absurd (omega (arith, ap (λ (r : Reply). r.status) k.2))) c,
     λ e. (let (set, rule, t, a, is, written) = writes e in
@@ -125,8 +125,8 @@ lives command short files old reply h = (
   tt,
 )
   where
-    Next : Ruled → Type 0
-    Next ruled = Lives command.ticks ruled reply
+    Next : SetWithRule → Type 0
+    Next ruled = IsLiveReply command.ticks ruled reply
 
     c : Comes (bytes_of files command.tasks) Next reply
     c = by_set files command.tasks tested _ Next reply (λ ruled k. k) h
@@ -137,10 +137,10 @@ lives command short files old reply h = (
         (set, rule, k.0, a, k.1, ap (λ (r : Reply). Some (old ++ r.text)) k.2)
 
 -- each workload's set is admitted, so its trace keeps the deadlines
-pub soaks : (command : Soak) → (2 ≤ command.tasks) × (command.tasks ≤ 32) → Keeps (form.Soak command)
-soaks command range files old reply h =
+pub soak_keeps : (command : SoakCommand) → (2 ≤ command.tasks) × (command.tasks ≤ 32) → Keeps (form.Soak command)
+soak_keeps command range files old reply h =
     let set = workload_set command.number command.tasks in
-    let is = made_sets-admitted (words_of command.number) command.tasks range.0 range.1 in
+    let is = generated_sets-admitted (words_of command.number) command.tasks range.0 range.1 in
     let s = h.2 in
     let keeps = keeps_deadlines set h.0 h.1 is.set.each (published-holds set h.0 is.set s.test) s.follows.legal in (
       λ e. (h.0, h.1, s, (s.follows.legal, keeps)),

@@ -16,8 +16,8 @@ use Rattle.part_fit.specs.PartWork.{part_rows}
 use Rattle.part_fit.proofs.Placed.{first_fit-IsPartition}
 use Rattle.part_fit.proofs.WorkRows.{part_rows-length}
 use Rattle.command_line.specs.declared.form.Form.TheVariants as form
-use Rattle.part_answers.specs.declared.partition.Partition.{Partition}
-use Rattle.part_answers.specs.declared.run_parts.RunAll.{RunAll}
+use Rattle.part_answers.specs.declared.partition.PartitionCommand.{PartitionCommand}
+use Rattle.part_answers.specs.declared.run_parts.RunAllCommand.{RunAllCommand}
 use Rattle.replies.specs.Reply.{Reply, reply_of}
 use Rattle.replies.specs.Refusal.{NoRoom, WorkFile}
 use Rattle.replies.specs.Reading.{◌>>=◌, refused_as, reply_by}
@@ -26,9 +26,9 @@ use Rattle.task_answers.specs.Admitted.{set_in}
 use Rattle.run_answers.specs.Run.{work_of}
 use Rattle.part_answers.specs.Parted.{Parted, tasks_on, spread, fitted, parted}
 use Rattle.part_answers.specs.Partition.{partition_text, placed}
-use Rattle.part_answers.specs.RunAll.{is_used, used, IsTraceOn, TellsTraces, trace_lines}
+use Rattle.part_answers.specs.RunAll.{is_used, used, IsTraceOn, IsTracesReply, trace_lines}
 use Rattle.promises.specs.Headline.{bytes_of, SaysSet, IsSpread, SpreadsExactly, IsTimelyOn, lines_of}
-use Rattle.promises.specs.Told.{WritesParts}
+use Rattle.promises.specs.RightText.{WritesParts}
 use Rattle.promises.specs.Complete.{ServesSpread}
 use Rattle.promises.proofs.Cases.{By, OfSet, held, by_text, by_steps, by_set, of_set, for_file, decided}
 use Rattle.promises.proofs.FewRows.{work-few, follows-few}
@@ -36,11 +36,12 @@ use Rattle.promises.proofs.Promised.{Keeps}
 use Rattle.promises.proofs.Written.{says_timely}
 use Rattle.promises.proofs.Scheduled.{OfWork, by_work, of_work}
 
--- the reply refuses the task file, or a task that has no room, or this is so of the set on its processors
+-- the reply refuses the task file, or the first task that fits on no processor, or this holds of the set on
+-- its processors
 abbrev Spreads : ℕ → List ℕ → (Parted → Type 0) → Reply → Type 0
 Spreads m bytes Then reply = OfSet bytes (λ set. By (fitted m set.tasks) Then reply) reply
 
--- first fit finds no room for a task, with status 12, or this is so of the processors that it finds
+-- first fit finds no processor for a task, with status 12, or this holds of the processors that it finds
 by_fit : (m : ℕ) (set : Set) (Then : Parted → Type 0) (reply : Reply) → By (fitted m set.tasks) Then reply
     → ((task : ℕ) × (first_fit set.tasks m ≡ Err task) × (reply.status ≡ 12)) ⊎ ((of : List ℕ) × (first_fit set.tasks m ≡ Ok of) × Then (spread set.tasks of))
 by_fit m set Then reply h = go (first_fit set.tasks m) refl h
@@ -51,7 +52,7 @@ by_fit m set Then reply h = go (first_fit set.tasks m) refl h
     go (Ok of) e k = inr (of, e, k)
     go (Err task) e k = inl (task, e, ap (λ r. r.status) k)
 
--- Status 12 comes exactly where a task has no room, if what comes next has another status.
+-- Status 12 comes exactly if a task fits on no processor, provided that the next step has another status.
 spreads_exactly : (m : ℕ) (bytes : List ℕ) (Then : Parted → Type 0) (reply : Reply) → ((x : Parted) → Then x → reply.status ≢ 12) → Spreads m bytes Then reply
     → SpreadsExactly m bytes reply.status
 spreads_exactly m bytes Then reply other h = record { refused = only; refuses = always }
@@ -73,7 +74,7 @@ only_spread m bytes Then reply h e =
     let (set, says, k) = of_set bytes (λ set. By (fitted m set.tasks) Then reply) reply (λ z. absurd (omega arith)) (λ z. absurd (omega arith)) h in
     elim (by_fit m set Then reply k) [ inl none ↦ absurd (omega (arith, none.2)) | inr r ↦ (set, r.0, (says, r.1), r.2) ]
 
--- and so it is of each set that is spread
+-- an answer with status 0 says this of each set that is spread
 next_spread : (m : ℕ) (bytes : List ℕ) (Then : Parted → Type 0) (reply : Reply) (set : Set) (of : List ℕ) → IsSpread m bytes set of → Spreads m bytes Then reply
     → Then (spread set.tasks of)
 next_spread m bytes Then reply set of is h =
@@ -84,8 +85,8 @@ next_spread m bytes Then reply set of is h =
 parts_of : (m : ℕ) (bytes : List ℕ) (set : Set) (of : List ℕ) → IsSpread m bytes set of → IsPartition set.tasks of m
 parts_of m bytes set of is = first_fit-IsPartition set.tasks m of (says_set bytes set is.0.1).tasks is.1
 
-pub partitions : (command : Partition) → Keeps (form.Partition command)
-partitions command files old reply h = (
+pub partition_keeps : (command : PartitionCommand) → Keeps (form.Partition command)
+partition_keeps command files old reply h = (
   tt,
   tt,
   tt,
@@ -124,7 +125,7 @@ timely_on ticks parted work n h short rows used admitted is =
     let keeps = keeps_deadlines (tasks_on parted n) is.rule h tasks.each (published-holds (tasks_on parted n) is.rule tasks is.test) is.follows.legal in
     (is.rule, is.test, says_timely (tasks_on parted n) is.rule h tasks few (is.follows.legal, keeps))
 
--- the text of each trace, on the processor of its place
+-- the text of each trace, on the processor at its index
 abbrev texts_of : Parted → List ℕ → List (List Row) → List (List ℕ)
 texts_of parted (n ∷ ns) (t ∷ ts) = trace_text (tasks_on parted n) (reverse t) ∷ texts_of parted ns ts
 texts_of parted ns ts = []
@@ -152,8 +153,8 @@ used_each m parted =
     Each-filter_if (λ n. is_used parted n ≡ true) (is_used parted) (range_with_len 1 m)
     (Each-all {P = λ n. is_used parted n ≡ true → is_used parted n ≡ true} (λ n h. h) (range_with_len 1 m))
 
-pub runs_all : (command : RunAll) → command.ticks ≤ 1000000 → Keeps (form.RunAll command)
-runs_all command short files old reply h = (
+pub run_all_keeps : (command : RunAllCommand) → command.ticks ≤ 1000000 → Keeps (form.RunAll command)
+run_all_keeps command short files old reply h = (
   (
     spreads_exactly command.processors bytes Next reply not_12 c,
     λ e. (let (set, of, rows, traces, is, says, each, written) = writes e in
@@ -179,10 +180,10 @@ runs_all command short files old reply h = (
     more = bytes_of files command.work
 
     Next : Parted → Type 0
-    Next on = OfWork on.set more (λ rows. TellsTraces command.ticks command.processors on rows reply) reply
+    Next on = OfWork on.set more (λ rows. IsTracesReply command.ticks command.processors on rows reply) reply
 
     c : Spreads command.processors bytes Next reply
-    c = by_set files command.tasks (λ set. fitted command.processors set.tasks) _ Next reply (λ on. by_work files on.set command.work _ (λ rows. TellsTraces command.ticks command.processors on rows reply) reply (λ rows t. t)) h
+    c = by_set files command.tasks (λ set. fitted command.processors set.tasks) _ Next reply (λ on. by_work files on.set command.work _ (λ rows. IsTracesReply command.ticks command.processors on rows reply) reply (λ rows t. t)) h
 
     not_12 : (on : Parted) → Next on → reply.status ≢ 12
     not_12 on k e =
@@ -197,6 +198,6 @@ runs_all command short files old reply h = (
 
     complete : ServesSpread command.processors bytes more reply.status
     complete set of rows is says =
-        let t = for_file 2 (2 ^ 24) more (work_of set.tasks more) (λ rows. TellsTraces command.ticks command.processors (spread set.tasks of) rows reply) reply rows says.0 (ap (refused_as WorkFile) says.1)
+        let t = for_file 2 (2 ^ 24) more (work_of set.tasks more) (λ rows. IsTracesReply command.ticks command.processors (spread set.tasks of) rows reply) reply rows says.0 (ap (refused_as WorkFile) says.1)
         (next_spread command.processors bytes Next reply set of is c) in
         inl (ap (λ (r : Reply). r.status) t.2)

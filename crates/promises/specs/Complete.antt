@@ -14,8 +14,8 @@ use Rattle.mc_model.specs.Rows.{ticks}
 use Rattle.mc_model.specs.Legal.{Legal}
 use Rattle.mc_model.specs.Late.{late}
 use Rattle.work_file.specs.WorkFile.{work_in}
-use Rattle.trace_answers.specs.declared.telling.Telling.{Telling}
-use Rattle.trace_answers.specs.declared.telling.Telling.TheVariants.{JudgeBy, Chart}
+use Rattle.trace_answers.specs.declared.action.TraceAction.{TraceAction}
+use Rattle.trace_answers.specs.declared.action.TraceAction.TheVariants.{JudgeBy, Chart}
 use Rattle.command_line.specs.declared.form.Form.{Form}
 use Rattle.command_line.specs.declared.form.Form.TheVariants as form
 use Rattle.promises.specs.Headline.{bytes_of, SaysSet, IsAdmitted, trace_of, SaysTrace, IsSpread}
@@ -44,16 +44,16 @@ ServesSpread m bytes more ended = (set : Set) (of : List ℕ) (work : List WorkR
     → IsSpread m bytes set of → SaysWork more set.tasks work → Succeeds ended
 
 -- the trace is short enough for the command: for `chart` it has at most 2,000,000 ticks
-abbrev pub IsTold : Telling → List Row → Type 0
-IsTold Chart h = ticks h ≤ 2000000
-IsTold telling h = Unit {0}
+abbrev pub IsShortEnough : TraceAction → List Row → Type 0
+IsShortEnough Chart h = ticks h ≤ 2000000
+IsShortEnough action h = Unit {0}
 
 -- what `judge`, `chart`, `report` and `migrate` promise: they succeed for each set that the test admits, with
 -- each trace file whose trace is legal under the test's rule and short enough
-abbrev pub FindsEach : Telling → List ℕ → List ℕ → ℕ → Type 0
-FindsEach telling bytes more ended = (set : Set) (rule : Rule) (runs : List Run)
+abbrev pub FindsEach : TraceAction → List ℕ → List ℕ → ℕ → Type 0
+FindsEach action bytes more ended = (set : Set) (rule : Rule) (runs : List Run)
     → IsAdmitted bytes set rule → SaysTrace more set.tasks runs → Legal set.tasks rule (trace_of runs)
-    → IsTold telling (trace_of runs) → Succeeds ended
+    → IsShortEnough action (trace_of runs) → Succeeds ended
 
 -- what `judge` promises under a rule that the command line gives: it succeeds for each set, with each trace
 -- file whose trace is legal under the rule and has no late jobs
@@ -63,9 +63,9 @@ FindsBy rule bytes more ended = (set : Set) (runs : List Run)
     → late set.tasks (trace_of runs) ≡ [] → Succeeds ended
 
 -- what each command on a trace promises, under the rule that the command line gives or else the test's rule
-abbrev pub FindsAll : Telling → List ℕ → List ℕ → ℕ → Type 0
+abbrev pub FindsAll : TraceAction → List ℕ → List ℕ → ℕ → Type 0
 FindsAll (JudgeBy p q) bytes more ended = FindsBy (Virtual p q) bytes more ended
-FindsAll telling bytes more ended = FindsEach telling bytes more ended
+FindsAll action bytes more ended = FindsEach action bytes more ended
 
 -- which calls succeed, by the files and the status
 abbrev pub Complete : Option Form → Files → ℕ → Type 0
@@ -76,5 +76,5 @@ Complete (Some (form.Soak c)) files ended = Succeeds ended
 Complete (Some (form.RunAll c)) files ended =
     ServesSpread c.processors (bytes_of files c.tasks) (bytes_of files c.work) ended
 Complete (Some (form.OnTrace c)) files ended =
-    FindsAll c.telling (bytes_of files c.tasks) (bytes_of files c.trace) ended
+    FindsAll c.action (bytes_of files c.tasks) (bytes_of files c.trace) ended
 Complete form files ended = Unit {0}

@@ -1,7 +1,7 @@
 -- The headline of the program, where the shelf and the sink expose their bytes and have no fault: it
 -- schedules a set exactly where the published test holds, and every trace that it writes, or finds legal for
--- such a set, keeps the deadlines. Told says which traces these are, and Complete that nothing is refused
--- without reason. A trace has its newest row first, and a list of runs its oldest run first.
+-- such a set, keeps the deadlines. RightText says which traces these are, and Complete that nothing is
+-- refused without reason. A trace has its newest row first, and a list of runs its oldest run first.
 use Rattle.std.specs.Prelude.{◌≡◌, ◌⊎◌, ℕ, ◌≤◌, ◌^◌, List, [], ◌++◌, length, reverse, codes, decimal, Option, Some, None, Ok, Err, flat_map, zip, unwrap_or}
 use Rattle.std.specs.List.{AllZip}
 use Rattle.mc_task.specs.declared.task.Task.{Task}
@@ -15,8 +15,8 @@ use Rattle.mc_model.specs.Test.{published, test}
 use Rattle.mc_model.specs.Legal.{Legal}
 use Rattle.mc_model.specs.Runs.{expand}
 use Rattle.mc_model.specs.Promise.{KeepsDeadlines}
-use Rattle.trace_answers.specs.declared.telling.Telling.{Telling}
-use Rattle.trace_answers.specs.declared.telling.Telling.TheVariants.{JudgeBy, Migrate}
+use Rattle.trace_answers.specs.declared.action.TraceAction.{TraceAction}
+use Rattle.trace_answers.specs.declared.action.TraceAction.TheVariants.{JudgeBy, Migrate}
 use Rattle.command_line.specs.declared.form.Form.{Form}
 use Rattle.command_line.specs.declared.form.Form.TheVariants as form
 use Rattle.task_file.specs.TaskFile.{task_file}
@@ -72,29 +72,29 @@ WritesTimely bytes old ended new = ended ≡ 0 → (set : Set) × (rule : Rule) 
 
 -- what `migrate` writes with status 0 is a trace file whose runs stand for the same rows as those of the file
 -- that it read; the other commands on a trace write no trace
-abbrev pub WritesAgain : Telling → List Task → List Run → List ℕ → Option (List ℕ) → Type 0
+abbrev pub WritesAgain : TraceAction → List Task → List Run → List ℕ → Option (List ℕ) → Type 0
 WritesAgain Migrate set runs old new = (text : List ℕ) × (again : List Run)
     × (new ≡ Some (old ++ text)) × (trace_file set text ≡ Ok again) × (expand again ≡ expand runs)
-WritesAgain telling set runs old new = Unit {0}
+WritesAgain action set runs old new = Unit {0}
 
 -- what `judge`, `chart`, `report` and `migrate` promise of the trace file that they read, under the rule that
 -- the test gives the set of the task file
-pub record Finds (telling : Telling) (bytes more old : List ℕ) (ended : ℕ)
+pub record Finds (action : TraceAction) (bytes more old : List ℕ) (ended : ℕ)
     (new : Option (List ℕ)) : Type 0 where
   -- with status 0 the trace in the file is legal and keeps the deadlines, and `migrate` has written it
   pub finds : ended ≡ 0 → (set : Set) × (rule : Rule) × (runs : List Run)
       × IsAdmitted bytes set rule × SaysTrace more set.tasks runs × IsTimely set.tasks rule (trace_of runs)
-      × WritesAgain telling set.tasks runs old new
+      × WritesAgain action set.tasks runs old new
   -- status 6 comes only where the trace in the file is illegal, never where it is legal and a job is late
   pub illegal : ended ≡ 6 → (set : Set) × (rule : Rule) × (runs : List Run)
       × IsAdmitted bytes set rule × SaysTrace more set.tasks runs × (Legal set.tasks rule (trace_of runs) → ⊥)
 
 -- the promise of each command on a trace; `judge` under a rule that the words of the command line give has
 -- none
-abbrev pub FindsUnder : Telling → List ℕ → List ℕ → List ℕ → ℕ → Option (List ℕ) → Type 0
+abbrev pub FindsUnder : TraceAction → List ℕ → List ℕ → List ℕ → ℕ → Option (List ℕ) → Type 0
 FindsUnder (JudgeBy p q) bytes more old ended new = Unit {0}
-FindsUnder telling bytes more old ended new =
-    SchedulesExactly bytes ended × Finds telling bytes more old ended new
+FindsUnder action bytes more old ended new =
+    SchedulesExactly bytes ended × Finds action bytes more old ended new
 
 -- the trace that `soak` sums up with status 0 is the one of its workload; it is legal and keeps the deadlines
 abbrev pub SumsTimely : ℕ → ℕ → ℕ → ℕ → Type 0
@@ -141,5 +141,5 @@ Headline (Some (form.RunAll c)) files old ended new =
     SpreadsExactly c.processors (bytes_of files c.tasks) ended
     × WritesAllTimely c.processors (bytes_of files c.tasks) old ended new
 Headline (Some (form.OnTrace c)) files old ended new =
-    FindsUnder c.telling (bytes_of files c.tasks) (bytes_of files c.trace) old ended new
+    FindsUnder c.action (bytes_of files c.tasks) (bytes_of files c.trace) old ended new
 Headline form files old ended new = Unit {0}

@@ -1,6 +1,6 @@
 pub mod Reply
 pub mod Headline
 pub mod Complete
-pub mod Told
+pub mod RightText
 pub mod Tested
 pub mod Promises

@@ -6,7 +6,7 @@ use Rattle.serving.specs.Outcome.{IsAnswer}
 use Rattle.command_line.specs.declared.form.Form.{Form}
 use Rattle.command_line.specs.Form.{IsInRange, HasFewTicks, command}
 use Rattle.promises.specs.Headline.{Headline}
-use Rattle.promises.specs.Told.{Told}
+use Rattle.promises.specs.RightText.{RightText}
 use Rattle.promises.specs.Complete.{Complete}
 use Rattle.promises.specs.Tested.{Tested}
 
@@ -14,7 +14,7 @@ use Rattle.promises.specs.Tested.{Tested}
 -- what is written after
 abbrev pub Promises : Option Form → Files → List ℕ → ℕ → Option (List ℕ) → Type 0
 Promises form files old ended new =
-    Headline form files old ended new × Told form files old ended new
+    Headline form files old ended new × RightText form files old ended new
     × Complete form files ended × Tested form files old ended new
 
 -- each answer to a command, written whole, keeps all that the program promises of the command

@@ -37,7 +37,7 @@ pub record Tests (bytes : List ℕ) (ended : ℕ) : Type 0 where
   pub complete : (set : List Demand) → SaysDemands bytes set → (ended ≡ 10) ⊎ Succeeds ended
 
 -- what `partition` promises of the set in the task file, for processors 1 to m
-pub record Places (m : ℕ) (bytes old : List ℕ) (ended : ℕ) (new : Option (List ℕ)) : Type 0 where
+pub record Partitions (m : ℕ) (bytes old : List ℕ) (ended : ℕ) (new : Option (List ℕ)) : Type 0 where
   -- with status 0 each task is on one processor, the tasks of each processor are admitted, and the text names
   -- them
   pub writes : ended ≡ 0 → (set : Set) × (of : List ℕ)
@@ -69,7 +69,7 @@ abbrev pub Tested : Option Form → Files → List ℕ → ℕ → Option (List 
 Tested (Some (form.Demand c)) files old ended new = Tests (bytes_of files c.demands) ended
 Tested (Some (form.Partition c)) files old ended new =
     SpreadsExactly c.processors (bytes_of files c.tasks) ended
-    × Places c.processors (bytes_of files c.tasks) old ended new
+    × Partitions c.processors (bytes_of files c.tasks) old ended new
 Tested (Some (form.Stretch c)) files old ended new = Measures (bytes_of files c.tasks) old ended new
 Tested (Some (form.Accept c)) files old ended new = Tabulates c.number c.sets c.tasks old ended new
 Tested form files old ended new = Unit {0}

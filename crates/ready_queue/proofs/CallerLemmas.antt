@@ -34,20 +34,20 @@ pub item_of-with_item : (i : Item) (items : List Item) (k : ℕ) → item_of ite
 item_of-with_item i [] k free = refl
 item_of-with_item i (j ∷ items) k free = go (item_of-with_item i items k) (nat_lt i.task.0 j.task.0) (j.task.0 == i.task.0) refl free
   where
-    behind : (item_of items i.task.0 ≡ None → item_of (with_item i items) k ≡ cond (i.task.0 == k) (Some i) (item_of items k)) →
+    after : (item_of items i.task.0 ≡ None → item_of (with_item i items) k ≡ cond (i.task.0 == k) (Some i) (item_of items k)) →
         (a b : Bool) → (i.task.0 == k) ≡ a → (j.task.0 == k) ≡ b → (j.task.0 == i.task.0) ≡ false → item_of items i.task.0 ≡ None →
         cond b (Some j) (item_of (with_item i items) k) ≡ cond a (Some i) (cond b (Some j) (item_of items k))
-    behind ih true true e f other none = absurd (grind (arith, nat_tests))
-    behind ih true false e f other none = ih none ∙ rw e refl
-    behind ih false true e f other none = refl
-    behind ih false false e f other none = ih none ∙ rw e refl
+    after ih true true e f other none = absurd (grind (arith, nat_tests))
+    after ih true false e f other none = ih none ∙ rw e refl
+    after ih false true e f other none = refl
+    after ih false false e f other none = ih none ∙ rw e refl
 
     go : (item_of items i.task.0 ≡ None → item_of (with_item i items) k ≡ cond (i.task.0 == k) (Some i) (item_of items k)) →
         (less other : Bool) → (j.task.0 == i.task.0) ≡ other → cond other (Some j) (item_of items i.task.0) ≡ None →
         item_of (cond less (i ∷ j ∷ items) (j ∷ with_item i items)) k ≡ cond (i.task.0 == k) (Some i) (item_of (j ∷ items) k)
     go ih true other e none = refl
     go ih false true e none = absurd (cc)
-    go ih false false e none = behind ih (i.task.0 == k) (j.task.0 == k) refl refl e none
+    go ih false false e none = after ih (i.task.0 == k) (j.task.0 == k) refl refl e none
 
 -- the item of each task after `remove`
 pub item_of-without : (t : ℕ) (items : List Item) (k : ℕ) → item_of (without t items) k ≡ cond (t == k) None (item_of items k)

@@ -7,7 +7,7 @@ use Rattle.mc_task.specs.declared.task.TaskNo.{TaskNo}
 use Rattle.ready_queue.specs.declared.item.Item.{Item}
 use Rattle.ready_queue.specs.Items.{before, first_of_two, least, IsFirstItem}
 use Rattle.ready_queue.specs.Tree.{winner, node, IsTree}
-use Rattle.ready_queue.specs.Kept.{items_in}
+use Rattle.ready_queue.specs.Representation.{items_in}
 use Rattle.ready_queue.proofs.Matches.{beats, beats-trans, beats-tie, winner_left, winner_right, winner_is, earlier-self, earlier-back, earlier-trans}
 use Rattle.ready_queue.proofs.Trees.{Leaf, a_leaf, root_first}
 

@@ -5,7 +5,7 @@ use Rattle.std.proofs.lemmas.Bool.{cases_lt}
 use Rattle.ready_queue.specs.declared.item.Item.{Item}
 use Rattle.ready_queue.specs.Items.{Queue, item_of, with_item, without, by_real, AreItems}
 use Rattle.ready_queue.specs.Tree.{rekeyed, IsTree}
-use Rattle.ready_queue.specs.Kept.{items_at, AreLeavesFrom, AreNodes}
+use Rattle.ready_queue.specs.Representation.{items_at, AreLeavesFrom, AreNodes}
 use Rattle.ready_queue.proofs.Leaves.{items_in-set, items_in-clear, items_in-rekeyed, items_in-free, item_of-items_in, item_of-zero, without-nobody, AreLeavesFrom-set, AreLeavesFrom-clear, AreLeavesFrom-rekeyed, AreLeavesFrom-free, are_items}
 
 -- a queue with other items in place of its own

@@ -4,7 +4,7 @@ use Rattle.std.proofs.lemmas.Bool.Decides.{nat_tests}
 use Rattle.ready_queue.specs.declared.item.Item.{Item}
 use Rattle.ready_queue.specs.Items.{item_of, with_item, without, by_real, AreItemsFrom}
 use Rattle.ready_queue.specs.Tree.{rekeyed}
-use Rattle.ready_queue.specs.Kept.{items_in, AreLeavesFrom}
+use Rattle.ready_queue.specs.Representation.{items_in, AreLeavesFrom}
 
 less_number : (a b : ℕ) → a < b → nat_lt a b ≡ true
 less_number a b e = grind (arith, nat_tests)

@@ -4,7 +4,7 @@ use Rattle.std.specs.List.{AllByRecursion}
 use Rattle.mc_task.specs.declared.task.TaskNo.{TaskNo}
 use Rattle.ready_queue.specs.declared.item.Item.{Item}
 
--- the queue has capacity for tasks with the numbers 1 to places, and these items
+-- the queue has capacity for tasks with the numbers 1 to `places`, and these items
 pub record Queue : Type 0 where
   pub places : ℕ
   pub items : List Item
@@ -53,6 +53,6 @@ AreItemsFrom above places [] = Unit {0}
 AreItemsFrom above places (i ∷ is) =
     (above < i.task.0) × (i.task.0 ≤ places) × AreItemsFrom i.task.0 places is
 
--- the items are of different tasks with numbers from 1 to places, in the order of these numbers
+-- the items are of different tasks with numbers from 1 to `places`, in the order of these numbers
 abbrev pub AreItems : ℕ → List Item → Type 0
 AreItems places items = AreItemsFrom 0 places items

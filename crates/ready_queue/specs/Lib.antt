@@ -1,3 +1,3 @@
 pub mod Items
 pub mod Tree
-pub mod Kept
+pub mod Representation

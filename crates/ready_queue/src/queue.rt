@@ -20,7 +20,7 @@ impl Model for ReadyQueue {
 
     ghost Value = { Queue };
 
-    ghost use Rattle.ready_queue.specs.Kept.{queue_of, IsQueue};
+    ghost use Rattle.ready_queue.specs.Representation.{queue_of, IsQueue};
 
     ghost view = { queue_of };
 

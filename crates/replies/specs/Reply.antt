@@ -1,4 +1,4 @@
--- What the program answers: a status and a text.
+-- What the program replies: a status and a text.
 use Rattle.std.specs.Prelude.{ℕ, List}
 
 -- the status that the program ends with, and the bytes that it writes

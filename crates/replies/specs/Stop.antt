@@ -16,11 +16,11 @@ Refuses refusal stop = StopsBy (λ reply. reply ≡ refuse refusal) stop
 
 -- where the definition reads a value, this holds of it and of the code's value; where it refuses, the code's
 -- reply reports that refusal; or memory ran out
-abbrev pub Gives : {A B : Type 0} → (A → B → Type 0) → Result A Refusal → Result B Stop → Type 0
-Gives Is (Ok read) (Ok given) = Is read given
-Gives Is (Err refusal) (Ok given) = ⊥
-Gives Is (Err refusal) (Err stop) = Refuses refusal stop
-Gives Is (Ok read) (Err stop) = stop ≡ Memory
+abbrev pub ReadsOrRefuses : {A B : Type 0} → (A → B → Type 0) → Result A Refusal → Result B Stop → Type 0
+ReadsOrRefuses Is (Ok read) (Ok given) = Is read given
+ReadsOrRefuses Is (Err refusal) (Ok given) = ⊥
+ReadsOrRefuses Is (Err refusal) (Err stop) = Refuses refusal stop
+ReadsOrRefuses Is (Ok read) (Err stop) = stop ≡ Memory
 
 -- this holds of the reply, whether it comes as a value or as a refusal; or memory ran out
 abbrev pub Replies : (Reply → Type 0) → Result Reply Stop → Type 0

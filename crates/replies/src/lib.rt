@@ -1,4 +1,4 @@
-//! What the program answers: a status and a text, and the replies that refuse.
+//! What the program replies: a status and a text, and the replies that refuse.
 #![tactic(auto)]
 
 mod load_text;

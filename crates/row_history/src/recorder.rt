@@ -71,7 +71,7 @@ impl Recorder for Vec<Snapshot<Row>> {
     }
 }
 
-/// No rows, and room for 2^62 of them. It takes no memory then.
+/// No rows, and capacity for 2^62 of them. It allocates nothing then.
 pub fn row_count(alloc: Global) -> Result<RowCount, AllocError>
     ensures rows { IfOk result (λ count. count.items ≡ []) }
     ensures capacity { IfOk result (λ count. vec_capacity count ≡ 2 ^ 62) }

@@ -1,5 +1,5 @@
 mod Soaked
-pub mod LivePlaces
+pub mod LiveCapacity
 mod LiveRows
 pub mod TextBytes
 pub mod TraceBytes

@@ -20,13 +20,13 @@ is_tick : (row : Row) (g h : List Row) → ends_in_tick (row ∷ g) ≡ true →
 is_tick (Release j kept) g h last = absurd (cc)
 is_tick row g h last = (last, omega arith)
 
--- so rows that end with one have more ticks than those before it
+-- rows that end with a tick have more ticks than those before that tick
 more_ticks : (row : Row) (later h : List Row) → ends_in_tick (row ∷ later ++ h) ≡ true → ticks h < ticks (row ∷ later ++ h)
 more_ticks row later h last =
     let one = (is_tick row (later ++ h) (later ++ h) last).1 in
     omega (arith, one, ticks-append later h)
 
--- of the same rows there is one part that has so many ticks and ends with one
+-- two parts of the same rows that have the same number of ticks and end with a tick are the same part
 same_part : (later other g h : List Row) → later ++ g ≡ other ++ h → ticks g ≡ ticks h → ends_in_tick g ≡ true → ends_in_tick h ≡ true → g ≡ h
 same_part [] [] g h same n a b = same
 same_part [] (row ∷ other) g h same n a b =
@@ -39,15 +39,15 @@ same_part (row ∷ later) [] g h same n a b =
     absurd (omega (arith, more, t, n))
 same_part (row ∷ later) (next ∷ other) g h same n a b = same_part later other g h (cc) n a b
 
--- the rows up to this place, the newest first: the row there and those before it
+-- the rows up to this index, the newest first: the row at the index and those before it
 up_to_place : (rows : List Row) (i : ℕ) (d : Row) → i < length rows → reverse (take (i + 1) rows) ≡ get_or rows i d ∷ reverse (take i rows)
 up_to_place rows i d inside = ap reverse (take_more rows i d inside) ∙ reverse-append (take i rows) (get_or rows i d ∷ [])
 
--- all rows, the newest first: those behind this place, and those up to it
+-- all rows, the newest first: those from this index on, and those before it
 parts : (rows : List Row) (i : ℕ) → reverse (drop i rows) ++ reverse (take i rows) ≡ reverse rows
 parts rows i = sym (reverse-append (take i rows) (drop i rows)) ∙ ap reverse (take-append-drop i rows)
 
--- the rows up to the place of the last of so many ticks are the live trace
+-- the rows up to the index of the n-th tick are the live trace
 live_part : (s : State) (n i : ℕ) (d : Row) → HasLiveTrace s n → i < length (reverse s.rows) → ends_in_tick (get_or (reverse s.rows) i d ∷ []) ≡ true
     → ticks (reverse (take i (reverse s.rows))) + 1 ≡ n → LiveTrace s.set s.rule n (reverse (take (i + 1) (reverse s.rows)))
 live_part s n i d live inside tick before =
@@ -59,7 +59,7 @@ live_part s n i d live inside tick before =
     let same : reverse (take (i + 1) (reverse s.rows)) ≡ live.h = same_part (reverse (drop (i + 1) (reverse s.rows))) live.later (reverse (take (i + 1) (reverse s.rows))) live.h whole (count ∙ (before ∙ sym live.live.ticks)) last live.live.last in
     subst (λ h. LiveTrace s.set s.rule n h) (sym same) live.live
 
--- as the code finds them: at this place there is a tick, which is the last that is left
+-- in the code's words: the row at this index is a tick, and it is the last tick that is left
 pub live_front : (s : State) (n i left : ℕ) (rows part : List Row) (d : Row) → HasLiveTrace s n → rows ≡ reverse s.rows → part ≡ take (i + 1) rows → i < length rows
     → ((j : JobId) × (how : How) × (get_or rows i d ≡ Tick j how)) ⊎ (get_or rows i d ≡ Idle) → 1 ≤ left → left - 1 ≡ 0 → ticks (reverse (take i rows)) + left ≡ n
     → LiveTrace s.set s.rule n (reverse part)
@@ -70,7 +70,7 @@ live_front s n i left rows part d live is front inside tick some none sum =
     (subst (λ xs. LiveTrace s.set s.rule n (reverse (take (i + 1) xs))) (sym is)
     (live_part s n i d live (subst (λ xs. i < length xs) is inside) (subst (λ xs. ends_in_tick (get_or xs i d ∷ []) ≡ true) is here) (subst (λ xs. ticks (reverse (take i xs)) + 1 ≡ n) is one)))
 
--- they are no more than the places
+-- the rows of a part are no more than the core's capacity
 pub few_rows : (s : State) (i : ℕ) (rows part : List Row) → IsSound s → rows ≡ reverse s.rows → part ≡ take i rows → length part ≤ s.places
 few_rows s i rows part sound is front =
     let a = ap length front ∙ length-take i rows in
@@ -78,7 +78,7 @@ few_rows s i rows part sound is front =
     let room = sound.room in
     omega (arith, a, b, room)
 
--- among all rows there is such a place
+-- the index of the n-th tick is found before the rows end
 pub some_place : (s : State) (n i left : ℕ) (rows : List Row) → HasLiveTrace s n → rows ≡ reverse s.rows → length rows ≤ i → 1 ≤ left → ticks (reverse (take i rows)) + left ≡ n → ⊥
 some_place s n i left rows live is end some sum =
     let all = ap ticks live.rows ∙ ticks-append live.later live.h in

@@ -10,14 +10,14 @@ use Rattle.mc_model.specs.Verdict.{verdict}
 use Rattle.mc_model.specs.VerdictText.{verdict_line}
 use Rattle.sched_report.specs.ReportText.{summary_text}
 use Rattle.set_gen.specs.Words.{words_of}
-use Rattle.set_gen.specs.MadeWork.{made_work}
+use Rattle.set_gen.specs.GeneratedWork.{generated_work}
 use Rattle.run_answers.specs.Soak.{workload_set, call_line, rule_line, soak_text, IsSoaked}
 
-pub is_soaked : (number tasks ticks : ℕ) (set : List Task) (rule : Rule) (work : List WorkRow) (h : List Row) → set ≡ workload_set number tasks → work ≡ made_work (words_of number) tasks ticks → published set ≡ Some rule
+pub is_soaked : (number tasks ticks : ℕ) (set : List Task) (rule : Rule) (work : List WorkRow) (h : List Row) → set ≡ workload_set number tasks → work ≡ generated_work (words_of number) tasks ticks → published set ≡ Some rule
     → Follows set rule work ticks h → IsSoaked number tasks ticks rule h
 is_soaked number tasks ticks set rule work h s w t f = record {
   test = subst (λ x. published x ≡ Some rule) s t;
-  follows = subst (λ x. Follows x rule (made_work (words_of number) tasks ticks) ticks h) s (subst (λ x. Follows set rule x ticks h) w f);
+  follows = subst (λ x. Follows x rule (generated_work (words_of number) tasks ticks) ticks h) s (subst (λ x. Follows set rule x ticks h) w f);
 }
 
 -- the text, piece by piece, with the rows as they stand in the code

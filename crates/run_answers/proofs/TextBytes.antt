@@ -48,13 +48,13 @@ short_name name h =
     let most = (and_parts (nat_le 1 (length name)) (nat_le (length name) 32) few.0).1 in
     leb-true _ _ most
 
--- and so has that of each task, by its place in the list
+-- the name of each task has at most 32 bytes, by the task's index in the list
 name_at_place : (ts : List Task) (i : ℕ) → AllByRecursion IsTask ts → length (name_in (slice_get ts i)) ≤ 32
 name_at_place [] i is = omega arith
 name_at_place (t ∷ ts) zero is = short_name t.name is.0.name
 name_at_place (t ∷ ts) (suc i) is = name_at_place ts i is.1
 
--- and by its number
+-- the name of each task has at most 32 bytes, by the task's number
 name_of_task : (set : List Task) (k : ℕ) → AllByRecursion IsTask set → length (name_in (task_at set k)) ≤ 32
 name_of_task set k is = elim (k == 0) as (λ b. length (name_in (if b then None else slice_get set (k - 1))) ≤ 32) [ true ↦ omega arith | false ↦ name_at_place set (k - 1) is ]
 
@@ -92,7 +92,7 @@ line_le set tick (run.Idles n) is v count short =
     let digits = digits_le n (omega (arith, short)) v in
     omega (arith, line, at, v, digits)
 
--- and so those of all runs
+-- the lines of all runs have at most 66 bytes for each row, less 5 for each tick
 lines_le : (set : List Task) (tick : ℕ) (runs : List Run) → AllByRecursion IsTask set → AllByRecursion IsRun runs → AllByRecursion (λ r. HasCountBelow 10000000 (row_of r)) runs → tick + total length_of runs < 10000000
     → length (lines_from set tick runs) + 5 * total length_of runs ≤ 66 * length (expand runs)
 lines_le set tick [] is v counts short = omega arith
@@ -101,7 +101,7 @@ lines_le set tick (r ∷ runs) is v counts short =
     let rest = lines_le set (tick + length_of r) runs is v.1 counts.1 (omega (arith, short)) in
     simp (length-append, length-replicate) (omega (arith, here, rest))
 
--- so the text of rows has its header of 31 bytes, and at most 66 for each row, less 5 for each tick
+-- the text of rows has its header of 31 bytes, and at most 66 for each row, less 5 for each tick
 pub text_le : (set : List Task) (rows : List Row) → AllByRecursion IsTask set → AllByRecursion (HasCountBelow 10000000) rows → length rows < 10000000 → length (trace_text set rows) + 5 * ticks rows ≤ 31 + 66 * length rows
 text_le set rows is counts few =
     let all = ap length (expand-pack rows) in

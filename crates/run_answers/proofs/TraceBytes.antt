@@ -61,5 +61,5 @@ trace_le set rule h is legal few =
     omega (arith, same, rows, text)
 
 -- the text of a reply that is such a text has no more bytes
-pub told_le : (set : List Task) (rule : Rule) (h : List Row) (reply : Reply) → AreTasks set → Legal set rule h → length h < 10000000 → reply ≡ traced set h → length reply.text + 5 * ticks h ≤ 31 + 66 * length h
-told_le set rule h reply is legal few same = subst (λ (r : Reply). length r.text + 5 * ticks h ≤ 31 + 66 * length h) (sym same) (trace_le set rule h is legal few)
+pub trace_text_le : (set : List Task) (rule : Rule) (h : List Row) (reply : Reply) → AreTasks set → Legal set rule h → length h < 10000000 → reply ≡ traced set h → length reply.text + 5 * ticks h ≤ 31 + 66 * length h
+trace_text_le set rule h reply is legal few same = subst (λ (r : Reply). length r.text + 5 * ticks h ≤ 31 + 66 * length h) (sym same) (trace_le set rule h is legal few)

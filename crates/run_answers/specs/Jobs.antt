@@ -5,12 +5,12 @@ use Rattle.mc_model.specs.declared.work.WorkRow.{WorkRow}
 use Rattle.mc_model.specs.Holds.{Fits, Holds}
 use Rattle.mc_model.specs.Work.{IsWork}
 use Rattle.replies.specs.Reply.{Reply}
-use Rattle.task_answers.specs.declared.ruled.Ruled.{Ruled}
+use Rattle.task_answers.specs.declared.set_with_rule.SetWithRule.{SetWithRule}
 use Rattle.run_answers.specs.declared.run.RunJob.{RunJob}
-use Rattle.run_answers.specs.Run.{TellsTrace}
+use Rattle.run_answers.specs.Run.{IsTraceReply}
 
 -- a job of `live`: the rule fits, and holds for the set
-pub record IsLiveJob (job : Ruled) : Type 0 where
+pub record IsLiveJob (job : SetWithRule) : Type 0 where
   pub fits : Fits job.rule
   pub holds : Holds job.set.tasks job.rule
 
@@ -22,7 +22,7 @@ pub record IsRunJob (job : RunJob) : Type 0 where
 
 -- the reply to a job of `run`, of this many ticks
 abbrev pub RepliesToRun : ℕ → RunJob → Reply → Type 0
-RepliesToRun ticks job reply = TellsTrace ticks job.set.tasks job.rule job.work reply
+RepliesToRun ticks job reply = IsTraceReply ticks job.set.tasks job.rule job.work reply
 
 -- the code's work is the work in the file, and is for the set
 pub record IsWorkOf (set : List Task) (read given : List WorkRow) : Type 0 where

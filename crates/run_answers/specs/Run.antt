@@ -10,7 +10,7 @@ use Rattle.work_file.specs.WorkFile.{work_in}
 use Rattle.replies.specs.Reply.{Reply, reply_of}
 use Rattle.replies.specs.Refusal.{Refusal, WorkFile}
 use Rattle.replies.specs.Reading.{refused_as}
-use Rattle.serving.specs.Command.{Command, answer, need}
+use Rattle.serving.specs.Command.{Command, answer, read_or_refuse}
 use Rattle.task_answers.specs.Admitted.{admitted, fetch_table}
 
 -- the reply with the text of a trace and status 0; the newest row of the trace stands first here
@@ -26,15 +26,17 @@ abbrev pub work_of : List Task → List ℕ → Result (List WorkRow) Refusal
 work_of set bytes = refused_as WorkFile (work_in set bytes)
 
 -- the reply is the text of the one trace of this many ticks that follows from the set, the rule and the work
-abbrev pub TellsTrace : ℕ → List Task → Rule → List WorkRow → Reply → Type 0
-TellsTrace ticks set rule work reply = (h : List Row) × Follows set rule work ticks h × (reply ≡ traced set h)
+abbrev pub IsTraceReply : ℕ → List Task → Rule → List WorkRow → Reply → Type 0
+IsTraceReply ticks set rule work reply =
+    (h : List Row) × Follows set rule work ticks h × (reply ≡ traced set h)
 
 -- the command `run` with the work in the second file, once the task file was read and has these bytes
 abbrev pub run_on : List ℕ → ℕ → List ℕ → Command
 run_on work ticks bytes =
-    need (admitted bytes) (λ ruled.
+    read_or_refuse (admitted bytes) (λ ruled.
     fetch_table work (λ more.
-    need (work_of ruled.set.tasks more) (λ rows. answer (TellsTrace ticks ruled.set.tasks ruled.rule rows))))
+    read_or_refuse (work_of ruled.set.tasks more) (λ rows.
+    answer (IsTraceReply ticks ruled.set.tasks ruled.rule rows))))
 
 -- the command `run` of this many ticks, on the task file and the work file of these names
 abbrev pub run : List ℕ → List ℕ → ℕ → Command

@@ -10,14 +10,14 @@ use Rattle.mc_model.specs.Verdict.{verdict}
 use Rattle.mc_model.specs.VerdictText.{verdict_line}
 use Rattle.sched_report.specs.ReportText.{summary_text}
 use Rattle.set_gen.specs.Words.{words_of}
-use Rattle.set_gen.specs.MadeSet.{made_set}
-use Rattle.set_gen.specs.MadeWork.{made_work}
+use Rattle.set_gen.specs.GeneratedSet.{generated_set}
+use Rattle.set_gen.specs.GeneratedWork.{generated_work}
 use Rattle.replies.specs.Reply.{Reply, reply_of}
 use Rattle.serving.specs.Command.{Command, answer}
 
 -- the set of the workload that is generated from a number
 abbrev pub workload_set : ℕ → ℕ → List Task
-workload_set number tasks = made_set (words_of number) tasks
+workload_set number tasks = generated_set (words_of number) tasks
 
 -- the first line, which names the call: running it again gives the same bytes
 abbrev pub call_line : ℕ → ℕ → ℕ → List ℕ
@@ -41,14 +41,15 @@ soak_text number tasks ticks set rule h =
 -- gives the set
 pub record IsSoaked (number tasks ticks : ℕ) (rule : Rule) (h : List Row) : Type 0 where
   pub test : published (workload_set number tasks) ≡ Some rule
-  pub follows : Follows (workload_set number tasks) rule (made_work (words_of number) tasks ticks) ticks h
+  pub follows :
+      Follows (workload_set number tasks) rule (generated_work (words_of number) tasks ticks) ticks h
 
 -- the reply is what `soak` writes of the workload's trace, with status 0
-abbrev pub Soaks : ℕ → ℕ → ℕ → Reply → Type 0
-Soaks number tasks ticks reply =
+abbrev pub IsSoakReply : ℕ → ℕ → ℕ → Reply → Type 0
+IsSoakReply number tasks ticks reply =
     (rule : Rule) × (h : List Row) × IsSoaked number tasks ticks rule h
     × (reply ≡ reply_of 0 (soak_text number tasks ticks (workload_set number tasks) rule h))
 
 -- the command `soak` of a number, a number of tasks and a number of ticks
 abbrev pub soak : ℕ → ℕ → ℕ → Command
-soak number tasks ticks = answer (Soaks number tasks ticks)
+soak number tasks ticks = answer (IsSoakReply number tasks ticks)

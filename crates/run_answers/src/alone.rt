@@ -4,14 +4,14 @@ ghost use Rattle.serving.specs.Serves.{Serves};
 ghost use Rattle.run_answers.specs.Run.{IsShort, run};
 
 use crate::planned::planned_alone;
-use crate::run::Run;
+use crate::run::RunCommand;
 use crate::traced::trace_reply;
 use mc_world::Shelf;
 use replies::{Reply, Stop};
 use std::alloc::Global;
 
-impl<'a> Run<'a> {
-    /// The reply that [`Run::reply`] gives, by the caller's thread alone: there is one trace, and this thread makes it.
+impl<'a> RunCommand<'a> {
+    /// The reply that [`RunCommand::reply`] gives, by the caller's thread alone: there is one trace, and this thread makes it.
     pub fn reply_alone<S: Shelf>(&self, alloc: Global, shelf: &mut S) -> Result<Reply, Stop>
         ensures serves { Serves 1 (run self.now.tasks self.now.work self.now.ticks) (S.state shelf.old) (S.state shelf.new) result }
         // `judge` reads a trace of at most 2 ^ 27 bytes.

@@ -8,7 +8,7 @@ mod run;
 mod soak;
 mod traced;
 
-pub use live::{Live, LiveTicks, finish_live};
-pub use run::{Run, RunJob, Ticks, finish_run, read_work_of};
-pub use soak::Soak;
+pub use live::{LiveCommand, LiveTicks, finish_live};
+pub use run::{RunCommand, RunJob, Ticks, finish_run, read_work_of};
+pub use soak::SoakCommand;
 pub use traced::trace_text;

@@ -4,7 +4,7 @@ ghost use Rattle.mc_model.specs.LiveTrace.{LiveTrace};
 ghost use Rattle.task_threads.specs.LiveLeft.{HasLiveTrace};
 ghost use Rattle.replies.specs.Stop.{Replies};
 ghost use Rattle.serving.specs.Serves.{Serves, IsOwn, Prepares};
-ghost use Rattle.run_answers.specs.Live.{Lives, live};
+ghost use Rattle.run_answers.specs.Live.{IsLiveReply, live};
 ghost use Rattle.run_answers.specs.Run.{IsShort};
 ghost use Rattle.run_answers.specs.Jobs.{IsLiveJob};
 
@@ -18,8 +18,8 @@ use serving::{FileName, Within, fetch};
 use std::alloc::Global;
 use std::sync::Wait;
 use std::thread::Threads;
-use task_answers::{Admitted, MOST_TABLE_BYTES, Ruled, read_admitted};
-use task_threads::{live_places, run_live};
+use task_answers::{Admitted, MOST_TABLE_BYTES, SetWithRule, read_admitted};
+use task_threads::{live_capacity, run_live};
 use timetable::{Floor, Plan};
 
 /// How many ticks a live run has, 1 to 100,000.
@@ -27,12 +27,12 @@ pub type LiveTicks = Within<1, 100_000>;
 
 /// `live TASKS TICKS`.
 #[derive(Drop)]
-pub struct Live<'a> {
+pub struct LiveCommand<'a> {
     pub tasks: FileName<'a>,
     pub ticks: LiveTicks,
 }
 
-impl<'a> Live<'a> {
+impl<'a> LiveCommand<'a> {
     /// The reply. The file is read first; then each task runs in a thread that releases when it may, and the gate is called at
     /// its steps. This may wait.
     pub fn reply<R: Threads + Wait + Sync, S: Shelf, G: Gate + Sync>(
@@ -50,34 +50,34 @@ impl<'a> Live<'a> {
         finish_live(rt, alloc, job, &self.ticks, gate)
     }
 
-    /// What is to be run, by the file. Without a runtime this cannot wait.
-    pub fn job<S: Shelf>(&self, alloc: Global, shelf: &mut S) -> Result<Ruled, Stop>
-        ensures { Prepares 1 (live self.now.tasks self.now.ticks) IsLiveJob (Lives self.now.ticks) (S.state shelf.old) (S.state shelf.new) result }
+    /// The job to run, by the file. Without a runtime this cannot wait.
+    pub fn job<S: Shelf>(&self, alloc: Global, shelf: &mut S) -> Result<SetWithRule, Stop>
+        ensures { Prepares 1 (live self.now.tasks self.now.ticks) IsLiveJob (IsLiveReply self.now.ticks) (S.state shelf.old) (S.state shelf.new) result }
     {
         let bytes = fetch(alloc, shelf, 1, &self.tasks, MOST_TABLE_BYTES)?;
         let Admitted { set, rule, .. } = read_admitted(alloc, &bytes)?;
-        Ok(Ruled { set, rule })
+        Ok(SetWithRule { set, rule })
     }
 }
 
-/// The reply of a `live` of this many ticks, as [`Live::reply`] gives it once the file is read.
+/// The reply of a `live` of this many ticks, as [`LiveCommand::reply`] gives it once the file is read.
 pub fn finish_live<R: Threads + Wait + Sync, G: Gate + Sync>(
     rt: &R,
     alloc: Global,
-    job: Ruled,
+    job: SetWithRule,
     ticks: &LiveTicks,
     gate: &G,
 ) -> Result<Reply, Stop>
     requires { IsLiveJob job }
-    ensures lives { Replies (Lives ticks.now job) result }
+    ensures live_reply { Replies (IsLiveReply ticks.now job) result }
     ensures short { IfOk result (IsShort (2 ^ 27)) }
     ensures own { Replies IsOwn result }
 {
-    let Ruled { set, rule } = job;
+    let SetWithRule { set, rule } = job;
     // The set has at most 128 tasks, so the capacity is small, and its names are short.
     let _is_set = set.len();
     let ticks = ticks.get();
-    let places = live_places(&set, ticks) as usize;
+    let places = live_capacity(&set, ticks) as usize;
     let core = Core::new(alloc, set, rule, places)?;
     let floor = Floor::new(core, Plan::Free);
     let Ok(floor) = run_live(rt, alloc, floor, ticks, gate) else {

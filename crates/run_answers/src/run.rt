@@ -1,6 +1,6 @@
 //! The command `run`.
 ghost use Rattle.std.specs.Prelude.{IfOk, IfErr};
-ghost use Rattle.replies.specs.Stop.{StopsBy, Gives, Replies};
+ghost use Rattle.replies.specs.Stop.{StopsBy, ReadsOrRefuses, Replies};
 ghost use Rattle.serving.specs.Serves.{Serves, IsOwn, Prepares};
 ghost use Rattle.run_answers.specs.Run.{IsShort, work_of, run, run_on};
 ghost use Rattle.run_answers.specs.Jobs.{IsRunJob, RepliesToRun, IsWorkOf};
@@ -23,7 +23,7 @@ pub type Ticks = Within<1, 1_000_000>;
 
 /// `run TASKS WORK TICKS`.
 #[derive(Drop)]
-pub struct Run<'a> {
+pub struct RunCommand<'a> {
     pub tasks: FileName<'a>,
     pub work: FileName<'a>,
     pub ticks: Ticks,
@@ -37,7 +37,7 @@ pub struct RunJob {
     pub work: Work,
 }
 
-impl<'a> Run<'a> {
+impl<'a> RunCommand<'a> {
     /// The reply. The files are read first; then each task runs in a thread, and the gate is called at its steps. This may wait.
     pub fn reply<R: Threads + Wait + Sync, S: Shelf, G: Gate + Sync>(
         &self,
@@ -54,7 +54,7 @@ impl<'a> Run<'a> {
         finish_run(rt, alloc, job, &self.ticks, gate)
     }
 
-    /// What is to be run, by both files. Without a runtime this cannot wait.
+    /// The job to run, by both files. Without a runtime this cannot wait.
     pub fn job<S: Shelf>(&self, alloc: Global, shelf: &mut S) -> Result<RunJob, Stop>
         ensures { Prepares 1 (run self.now.tasks self.now.work self.now.ticks) IsRunJob (RepliesToRun self.now.ticks) (S.state shelf.old) (S.state shelf.new) result }
     {
@@ -62,7 +62,7 @@ impl<'a> Run<'a> {
         self.job_on(alloc, shelf, &bytes)
     }
 
-    // What is to be run, by the bytes of the task file and by the work file.
+    // The job to run, by the bytes of the task file and by the work file.
     fn job_on<S: Shelf>(&self, alloc: Global, shelf: &mut S, bytes: &[u8]) -> Result<RunJob, Stop>
         ensures { Prepares 2 (run_on self.now.work self.now.ticks bytes.now) IsRunJob (RepliesToRun self.now.ticks) (S.state shelf.old) (S.state shelf.new) result }
     {
@@ -75,7 +75,7 @@ impl<'a> Run<'a> {
 
 /// The work for the set in a work file with these bytes.
 pub fn read_work_of(alloc: Global, set: &TaskSet, bytes: &[u8]) -> Result<Work, Stop>
-    ensures work { Gives (IsWorkOf set.now.tasks) (work_of set.now.tasks bytes.now) result }
+    ensures work { ReadsOrRefuses (IsWorkOf set.now.tasks) (work_of set.now.tasks bytes.now) result }
     ensures own { IfErr result (StopsBy IsOwn) }
 {
     match read_work(alloc, set, bytes) {
@@ -84,7 +84,7 @@ pub fn read_work_of(alloc: Global, set: &TaskSet, bytes: &[u8]) -> Result<Work, 
     }
 }
 
-/// The reply of a `run` of this many ticks, as [`Run::reply`] gives it once the files are read.
+/// The reply of a `run` of this many ticks, as [`RunCommand::reply`] gives it once the files are read.
 pub fn finish_run<R: Threads + Wait + Sync, G: Gate + Sync>(
     rt: &R,
     alloc: Global,

@@ -26,13 +26,13 @@ use trace_judge::judge;
 
 /// `soak NUMBER TASKS TICKS`.
 #[derive(Drop)]
-pub struct Soak {
+pub struct SoakCommand {
     pub number: u64,
     pub tasks: TaskCount,
     pub ticks: Ticks,
 }
 
-impl Soak {
+impl SoakCommand {
     /// The reply, which needs no file. Each task of the workload runs in a thread, and the gate is called at its steps; the trace
     /// is judged and summed up. This may wait.
     pub fn reply<R: Threads + Wait + Sync, G: Gate + Sync>(

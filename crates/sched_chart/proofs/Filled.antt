@@ -14,7 +14,7 @@ use Rattle.mc_model.specs.Mode.{is_over}
 use Rattle.mc_model.proofs.Booleans.{eqb-refl}
 use Rattle.sched_chart.specs.ChartText.{how_mark, task_marks, over_stands, mode_mark, mode_marks, name_width, lines_with, chart_line, chart_text}
 use Rattle.sched_chart.specs.Sheet.{line_length, place, filled, task_marks_to, mode_marks_to, chart_to}
-use Rattle.sched_chart.proofs.Lines.{set_behind, set-line, set-lines, lines_same, length-line, length-lines}
+use Rattle.sched_chart.proofs.Lines.{set_after, set-line, set-lines, lines_same, length-line, length-lines}
 
 -- the blanks that are left are one blank and the rest
 blank_next : (n t b : ℕ) (marks : List ℕ) → t < n → marks ++ replicate (n - t) b ≡ (marks ++ b ∷ []) ++ replicate (n - (t + 1)) b
@@ -86,9 +86,9 @@ mode_line tasks n f g true each h =
     let lines = length-lines f width n 1 tasks (omega arith) each in
     let long : ticks g < length (mode_marks_to n g) = rw (length-mode_marks_to n g (omega arith)) h in
     let last : List ℕ = chart_line width (codes "(mode)") (mode_marks_to n g) in
-    let behind = set_behind (lines_with f width 1 tasks) last (length tasks * line_length width n) (width + 1 + ticks g) 72 lines in
+    let later_part = set_after (lines_with f width 1 tasks) last (length tasks * line_length width n) (width + 1 + ticks g) 72 lines in
     let marked = set-line width (ticks g) 72 (codes "(mode)") (mode_marks_to n g) (least_width tasks) long in
-    rw (behind, marked, set_next n (ticks g) 76 72 (mode_marks g) h (length-modes g)) refl
+    rw (later_part, marked, set_next n (ticks g) 76 72 (mode_marks g) h (length-modes g)) refl
 mode_line tasks n f g false each h = rw (blank_next n (ticks g) 76 (mode_marks g) h) refl
 
 -- setting the character of a tick adds the next one to the line of its task

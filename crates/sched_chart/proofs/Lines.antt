@@ -34,8 +34,8 @@ length-lines f width n k (t ∷ ts) fit e =
     rw (length-append (chart_line width t.name (f k)) _, length-line width n t.name (f k) (omega arith) (e k), rest) (omega arith)
 
 -- setting a character after the first of two lists sets it in the second
-pub set_behind : (front rest : List ℕ) (m i v : ℕ) → length front ≡ m → set (front ++ rest) (m + i) v ≡ front ++ set rest i v
-set_behind front rest m i v e = (let back : m + i - m ≡ i = omega arith in rw (set-append_right front rest m (m + i) v e (omega arith), back) refl)
+pub set_after : (front rest : List ℕ) (m i v : ℕ) → length front ≡ m → set (front ++ rest) (m + i) v ≡ front ++ set rest i v
+set_after front rest m i v e = (let back : m + i - m ≡ i = omega arith in rw (set-append_right front rest m (m + i) v e (omega arith), back) refl)
 
 -- setting a character in one line
 pub set-line : (width p v : ℕ) (name marks : List ℕ) → length name ≤ width → p < length marks
@@ -44,7 +44,7 @@ set-line width p v name marks h inside =
     let head : List ℕ = name ++ (replicate (width - length name) 32 ++ codes " ") in
     let long : length head ≡ width + 1 = simp (length-append, length-replicate) (omega arith) in
     let apart : (ms : List ℕ) → chart_line width name ms ≡ head ++ (ms ++ codes "\n") = λ ms. simp append_assoc refl in
-    rw (apart marks, apart (set marks p v), set_behind head (marks ++ codes "\n") (width + 1) p v long, set-append_left marks (codes "\n") p v inside) refl
+    rw (apart marks, apart (set marks p v), set_after head (marks ++ codes "\n") (width + 1) p v long, set-append_left marks (codes "\n") p v inside) refl
 
 -- lines with the same characters are equal
 pub lines_same : (f g : ℕ → List ℕ) (width k : ℕ) (ts : List Task) → ((m : ℕ) → k ≤ m → f m ≡ g m) → lines_with f width k ts ≡ lines_with g width k ts
@@ -72,8 +72,8 @@ set-lines f g width n k i p v (t ∷ ts) more fit e first last small here others
       | inr other ↦
           let next : i - k ≡ suc (i - (k + 1)) = omega arith in
           let far : place width n (suc (i - (k + 1))) p ≡ line_length width n + place width n (i - (k + 1)) p = omega arith in
-          let behind = set-lines f g width n (k + 1) i p v ts more (omega arith) e (omega arith) (omega arith) small here others in
-          rw (apart f, apart g, next, far, set_behind line rest (line_length width n) _ v long, behind, others k other) refl
+          let after = set-lines f g width n (k + 1) i p v ts more (omega arith) e (omega arith) (omega arith) small here others in
+          rw (apart f, apart g, next, far, set_after line rest (line_length width n) _ v long, after, others k other) refl
     ]
 
 -- the lines with one more task, all its ticks still blank

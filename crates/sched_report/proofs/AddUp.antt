@@ -7,7 +7,7 @@ use Rattle.mc_model.specs.declared.row.How.{How}
 use Rattle.mc_model.specs.declared.row.How.TheVariants.{More, Done, Stop, Over}
 use Rattle.mc_model.specs.declared.row.Row.{Row}
 use Rattle.mc_model.specs.declared.row.Row.TheVariants.{Release, Tick, Idle}
-use Rattle.mc_model.specs.Pending.{KeptRelease, released, pending, is_end, is_live, over_since}
+use Rattle.mc_model.specs.Pending.{KeptRelease, released, pending, is_end, is_still_pending, over_since}
 use Rattle.mc_model.specs.Rows.{same_job, ticks}
 use Rattle.mc_model.specs.Mode.{is_over}
 use Rattle.mc_model.specs.Legal.{Legal, is_pending, same_how}
@@ -61,17 +61,17 @@ live set h k = how_many (is_of k) (pending set h)
 -- an overrun discards the pending jobs of low tasks
 pub discarded-over : (set : List Task) (j : JobId) (g : List Row) (k : ℕ) → discarded set (Tick j Over ∷ g) k + live set (Tick j Over ∷ g) k ≡ discarded set g k + live set g k
 discarded-over set j g k =
-    let after : live set (Tick j Over ∷ g) k ≡ how_many (λ x. is_live set (Tick j Over ∷ g) x && is_of k x) (released g) = how_many-filter (is_of k) (is_live set (Tick j Over ∷ g)) (released g) in
-    let before : live set g k ≡ how_many (λ x. is_live set g x && is_of k x) (released g) = how_many-filter (is_of k) (is_live set g) (released g) in
+    let after : live set (Tick j Over ∷ g) k ≡ how_many (λ x. is_still_pending set (Tick j Over ∷ g) x && is_of k x) (released g) = how_many-filter (is_of k) (is_still_pending set (Tick j Over ∷ g)) (released g) in
+    let before : live set g k ≡ how_many (λ x. is_still_pending set g x && is_of k x) (released g) = how_many-filter (is_of k) (is_still_pending set g) (released g) in
     let both =
-    how_many_both (λ x. is_of k x && is_discarded set (Tick j Over ∷ g) x) (λ x. is_live set (Tick j Over ∷ g) x && is_of k x) (λ x. is_of k x && is_discarded set g x) (λ x. is_live set g x && is_of k x) (released g)
+    how_many_both (λ x. is_of k x && is_discarded set (Tick j Over ∷ g) x) (λ x. is_still_pending set (Tick j Over ∷ g) x && is_of k x) (λ x. is_of k x && is_discarded set g x) (λ x. is_still_pending set g x && is_of k x) (released g)
     (Each-all each (released g)) in
     ap (λ n. discarded set (Tick j Over ∷ g) k + n) after ∙ (both ∙ ap (λ n. discarded set g k + n) (sym before))
   where
-    each : (x : KeptRelease) → one (is_of k x && is_discarded set (Tick j Over ∷ g) x) + one (is_live set (Tick j Over ∷ g) x && is_of k x) ≡ one (is_of k x && is_discarded set g x) + one (is_live set g x && is_of k x)
+    each : (x : KeptRelease) → one (is_of k x && is_discarded set (Tick j Over ∷ g) x) + one (is_still_pending set (Tick j Over ∷ g) x && is_of k x) ≡ one (is_of k x && is_discarded set g x) + one (is_still_pending set g x && is_of k x)
     each x = go (over_since g x.job) refl
       where
-        go : (b : Bool) → over_since g x.job ≡ b → one (is_of k x && is_discarded set (Tick j Over ∷ g) x) + one (is_live set (Tick j Over ∷ g) x && is_of k x) ≡ one (is_of k x && is_discarded set g x) + one (is_live set g x && is_of k x)
+        go : (b : Bool) → over_since g x.job ≡ b → one (is_of k x && is_discarded set (Tick j Over ∷ g) x) + one (is_still_pending set (Tick j Over ∷ g) x && is_of k x) ≡ one (is_of k x && is_discarded set g x) + one (is_still_pending set g x && is_of k x)
         go true m = rw m refl
         go false m = rw m (grind arith)
 
@@ -100,7 +100,7 @@ own-one set rule j how g k l =
     by_task : (b : Bool) → how_many (λ x. same_job j x.job && b) (pending set g) ≡ one b
     by_task false = how_many_none (λ x. same_job j x.job && false) (pending set g) (Each-all (λ x. and-false (same_job j x.job)) (pending set g))
     by_task true =
-        let most = how_many-kept (λ (x : KeptRelease). same_job j x.job) (is_live set g) (released g) in
+        let most = how_many-kept (λ (x : KeptRelease). same_job j x.job) (is_still_pending set g) (released g) in
         how_many_same (λ x. same_job j x.job && true) (λ x. same_job j x.job) (pending set g) (Each-all (λ x. and-true (same_job j x.job)) (pending set g))
         ∙ omega (arith, most, once set rule g j l.2, own-some j (pending set g) (ticks_pending set rule j how g l))
 

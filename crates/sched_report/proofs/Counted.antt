@@ -10,7 +10,7 @@ use Rattle.mc_model.specs.declared.row.Row.{Row}
 use Rattle.mc_model.specs.declared.row.Row.TheVariants.{Release, Tick, Idle}
 use Rattle.mc_task.specs.Kinds.{is_high}
 use Rattle.mc_model.specs.TaskNumbers.{is_high_in}
-use Rattle.mc_model.specs.Pending.{KeptRelease, released, is_end, is_live}
+use Rattle.mc_model.specs.Pending.{KeptRelease, released, is_end, is_still_pending}
 use Rattle.mc_model.specs.Rows.{ticks}
 use Rattle.mc_model.specs.Mode.{is_over}
 use Rattle.mc_model.specs.Legal.{Legal, same_how}
@@ -107,10 +107,10 @@ discarded-high set h k high = how_many_none (λ i. is_of k i && is_discarded set
 
 -- after an overrun no job of a low task is pending
 live-low : (set : List Task) (j : JobId) (g : List Row) (k : ℕ) → is_high_in (task_at set k) ≡ false → live set (Tick j Over ∷ g) k ≡ 0
-live-low set j g k low = how_many-filter (is_of k) (is_live set (Tick j Over ∷ g)) (released g) ∙ how_many_none (λ x. is_live set (Tick j Over ∷ g) x && is_of k x) (released g) (Each-all each (released g))
+live-low set j g k low = how_many-filter (is_of k) (is_still_pending set (Tick j Over ∷ g)) (released g) ∙ how_many_none (λ x. is_still_pending set (Tick j Over ∷ g) x && is_of k x) (released g) (Each-all each (released g))
   where
-    each : (x : KeptRelease) → (is_live set (Tick j Over ∷ g) x && is_of k x) ≡ false
-    each x = not_both (is_live set (Tick j Over ∷ g) x) (is_of k x) (λ n m.
+    each : (x : KeptRelease) → (is_still_pending set (Tick j Over ∷ g) x && is_of k x) ≡ false
+    each x = not_both (is_still_pending set (Tick j Over ∷ g) x) (is_of k x) (λ n m.
         let so : is_high_in (task_at set x.job.task.0) ≡ false = rw (eqb-true x.job.task.0 k m) low in
         cc (rw (so, and-false) at n))
 

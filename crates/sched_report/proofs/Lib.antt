@@ -6,6 +6,7 @@ pub mod Keys
 pub mod Numbered
 pub mod Released
 pub mod Responses
+pub mod Stored
 pub mod Steps
 pub mod Texts
 pub mod WorkedReports

@@ -6,7 +6,7 @@ use Rattle.mc_task.specs.declared.task.JobId.{JobId}
 use Rattle.mc_model.specs.declared.row.How.{How}
 use Rattle.mc_model.specs.declared.row.Row.{Row}
 use Rattle.mc_model.specs.declared.row.Row.TheVariants.{Release, Tick}
-use Rattle.mc_model.specs.Pending.{KeptRelease, released, pending, is_end, is_live, ended}
+use Rattle.mc_model.specs.Pending.{KeptRelease, released, pending, is_end, is_still_pending, ended}
 use Rattle.mc_model.specs.Rows.{same_job, ticks, releases}
 use Rattle.mc_model.specs.Legal.{Legal, is_pending}
 use Rattle.sched_report.specs.ReportText.{is_of, response, responses, greatest}
@@ -108,14 +108,14 @@ pub responses-end : (set : List Task) (rule : Rule) (j : JobId) (how : How) (g :
     → greatest (responses (Tick j how ∷ g) k) ≡ max (greatest (responses g k)) (ticks g + 1 - release_of g j)
 responses-end set rule j how g k e o l =
     greatest_with (response (Tick j how ∷ g)) (response g) (λ i. is_of k i && ended (Tick j how ∷ g) i.job) (λ i. is_of k i && ended g i.job) j (ticks g + 1 - release_of g j) (released g)
-    (there (is_live set g) j (released g) (ticks_pending set rule j how g l))
+    (there (is_still_pending set g) j (released g) (ticks_pending set rule j how g l))
     (Each-map {P = λ x. same_job j x.job ≡ true → x.release ≡ release_of g j} (λ x r. record { other = other x; mine = mine x r }) (released g) (release_is set rule g j l.2))
   where
     open_job : ended g j ≡ false
     open_job =
         at_pending (λ i r. ended g i ≡ false) j (release_of g j) (pending set g) (ticks_pending set rule j how g l)
-        (Each-filter (λ x. same_job j x.job ≡ true → x.release ≡ release_of g j) (is_live set g) (released g) (release_is set rule g j l.2))
-        (Each-filter_if (λ x. ended g x.job ≡ false) (is_live set g) (released g) (Each-all (λ x h. not_true (ended g x.job) (and_parts _ _ h).0) (released g)))
+        (Each-filter (λ x. same_job j x.job ≡ true → x.release ≡ release_of g j) (is_still_pending set g) (released g) (release_is set rule g j l.2))
+        (Each-filter_if (λ x. ended g x.job ≡ false) (is_still_pending set g) (released g) (Each-all (λ x h. not_true (ended g x.job) (and_parts _ _ h).0) (released g)))
 
     other : (x : KeptRelease) → same_job j x.job ≡ false → ((is_of k x && ended (Tick j how ∷ g) x.job) ≡ (is_of k x && ended g x.job)) × (response (Tick j how ∷ g) x ≡ response g x)
     other x m = (rw (e, m) refl, rw (e, m) refl)

@@ -13,7 +13,7 @@ use Rattle.mc_model.specs.declared.row.Row.{Row}
 use Rattle.mc_model.specs.declared.row.Row.TheVariants.{Release, Tick, Idle}
 use Rattle.mc_task.specs.Kinds.{is_high}
 use Rattle.mc_model.specs.TaskNumbers.{is_high_in}
-use Rattle.mc_model.specs.Pending.{KeptRelease, released, pending, is_end, is_live}
+use Rattle.mc_model.specs.Pending.{KeptRelease, released, pending, is_end, is_still_pending}
 use Rattle.mc_model.specs.Rows.{same_job}
 use Rattle.mc_model.specs.Mode.{is_over}
 use Rattle.mc_model.specs.Legal.{Legal, IsOfSet}
@@ -24,9 +24,9 @@ use Rattle.mc_model.proofs.Booleans.{eqb-refl, not_true}
 use Rattle.mc_model.proofs.Lists.{Each, Each-map, Each-both, Each-filter, Each-filter_if}
 use Rattle.sched_report.specs.declared.task_tally.TaskTally.{TaskTally}
 use Rattle.sched_report.specs.declared.tally.Tally.{Tally}
-use Rattle.sched_report.specs.declared.waiting.Waiting.{Waiting}
+use Rattle.sched_report.specs.declared.pending_releases.PendingReleases.{PendingReleases}
 use Rattle.sched_report.specs.TaskTally.{level_in, tally_of, with_tick, with_response, with_switch}
-use Rattle.sched_report.specs.Waiting.{release_in, ChangesOnly}
+use Rattle.sched_report.specs.PendingReleases.{release_in, ChangesOnly}
 use Rattle.sched_report.specs.Tally.{numbered, Tallies, Stays, Releases, GoesOn, Ends, Overruns, Idles}
 use Rattle.sched_report.specs.ReportText.{is_idle, is_switch}
 use Rattle.sched_report.proofs.HowMany.{how_many-replicate}
@@ -47,18 +47,18 @@ changed f g tasks k x old inside is here others =
     ∙ set-numbered f g 1 (k - 1) k x tasks (omega (arith, inside.0, inside.1)) (omega (arith, inside.0)) here (λ m a. others m (grind (arith, nat_tests, a)))
 
 -- the release time of each of these jobs is stored
-abbrev pub Held : List Task → Waiting → List KeptRelease → Type 0
+abbrev pub Held : List Task → PendingReleases → List KeptRelease → Type 0
 Held tasks w now = Each (λ i. release_in w (level_in (task_at tasks i.job.task.0)) i.job ≡ Some i.release) now
 
-held-stays : (tasks : List Task) (old new : Waiting) (now : List KeptRelease) → Stays old new → Held tasks old now → Held tasks new now
+held-stays : (tasks : List Task) (old new : PendingReleases) (now : List KeptRelease) → Stays old new → Held tasks old now → Held tasks new now
 held-stays tasks old new now same h = Each-map {P = λ i. release_in old (level_in (task_at tasks i.job.task.0)) i.job ≡ Some i.release} (λ x p. same _ x.job ∙ p) now h
 
 -- the release time that is stored for the job of a tick
-pub held_at : (tasks : List Task) (rule : Rule) (j : JobId) (how : How) (g : List Row) (w : Waiting) → Legal tasks rule (Tick j how ∷ g) → Held tasks w (pending tasks g)
+pub held_at : (tasks : List Task) (rule : Rule) (j : JobId) (how : How) (g : List Row) (w : PendingReleases) → Legal tasks rule (Tick j how ∷ g) → Held tasks w (pending tasks g)
     → release_in w (level_in (task_at tasks j.task.0)) j ≡ Some (release_of g j)
 held_at tasks rule j how g w l h =
     at_pending (λ i r. release_in w (level_in (task_at tasks i.task.0)) i ≡ Some r) j (release_of g j) (pending tasks g) (ticks_pending tasks rule j how g l)
-    (Each-filter (λ x. same_job j x.job ≡ true → x.release ≡ release_of g j) (is_live tasks g) (released g) (release_is tasks rule g j l.2)) h
+    (Each-filter (λ x. same_job j x.job ≡ true → x.release ≡ release_of g j) (is_still_pending tasks g) (released g) (release_is tasks rule g j l.2)) h
 
 -- the tally after a release
 pub release_step : (tasks : List Task) (rule : Rule) (j : JobId) (kept : Bool) (g : List Row) (old new : Tally) → Legal tasks rule (Release j kept ∷ g) → Tallies tasks g old
@@ -75,7 +75,7 @@ release_step tasks rule j kept g old new l t s = record {
     waits false l s = subst (Held tasks new.waiting) (sym (pending-release tasks rule j false g l)) (held-stays tasks old.waiting new.waiting (pending tasks g) s.waiting t.waiting)
     waits true l s =
         let w : ChangesOnly old.waiting new.waiting (level_in (task_at tasks j.task.0)) j (Some old.tick) = s.waiting in
-        let apart : Each (λ x. same_job j x.job ≡ false) (pending tasks g) = Each-filter (λ x. same_job j x.job ≡ false) (is_live tasks g) (released g) (none_of_next tasks rule j true g l) in
+        let apart : Each (λ x. same_job j x.job ≡ false) (pending tasks g) = Each-filter (λ x. same_job j x.job ≡ false) (is_still_pending tasks g) (released g) (none_of_next tasks rule j true g l) in
         subst (Held tasks new.waiting) (sym (pending-release tasks rule j true g l))
         (w.here ∙ ap Some t.tick, Each-both (λ x a p. w.others _ x.job a ∙ p) (pending tasks g) apart t.waiting)
 

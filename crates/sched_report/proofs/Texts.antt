@@ -20,14 +20,14 @@ use Rattle.sched_report.specs.Counts.{counts_in, counts_of_tally, sum_tallies, t
 use Rattle.sched_report.proofs.Numbered.{get-numbered}
 
 -- the rows before a row of a legal trace are legal
-legal_behind : (set : List Task) (rule : Rule) (g h : List Row) → Legal set rule (g ++ h) → Legal set rule h
-legal_behind set rule [] h l = l
-legal_behind set rule (row ∷ g) h l = legal_behind set rule g h l.2
+legal_after : (set : List Task) (rule : Rule) (g h : List Row) → Legal set rule (g ++ h) → Legal set rule h
+legal_after set rule [] h l = l
+legal_after set rule (row ∷ g) h l = legal_after set rule g h l.2
 
 -- the rows of the first runs of a legal trace are legal
 pub legal_first : (set : List Task) (rule : Rule) (runs : List Run) (i : ℕ) → Legal set rule (reverse (expand runs)) → Legal set rule (reverse (expand (take i runs)))
 legal_first set rule runs i l =
-    legal_behind set rule (reverse (expand (drop i runs))) (reverse (expand (take i runs)))
+    legal_after set rule (reverse (expand (drop i runs))) (reverse (expand (take i runs)))
     (subst (Legal set rule) (ap (λ xs. reverse (expand xs)) (sym (take-append-drop i runs)) ∙ (ap reverse (expand-append (take i runs) (drop i runs)) ∙ reverse-append (expand (take i runs)) (expand (drop i runs)))) l)
 
 -- a run of a trace is of its set

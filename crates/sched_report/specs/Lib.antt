@@ -1,5 +1,6 @@
 pub mod ReportText
-pub mod Waiting
+pub mod ReleaseTimes
+pub mod PendingReleases
 pub mod TaskTally
 pub mod Tally
 pub mod Counts

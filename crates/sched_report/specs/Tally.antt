@@ -19,9 +19,9 @@ use Rattle.mc_model.specs.Runs.{rows_of}
 use Rattle.mc_model.specs.declared.row.Row.TheVariants.{Release, Tick, Idle}
 use Rattle.sched_report.specs.declared.task_tally.TaskTally.{TaskTally}
 use Rattle.sched_report.specs.declared.tally.Tally.{Tally}
-use Rattle.sched_report.specs.declared.waiting.Waiting.{Waiting}
+use Rattle.sched_report.specs.declared.pending_releases.PendingReleases.{PendingReleases}
 use Rattle.sched_report.specs.TaskTally.{level_in, tally_of, with_release, with_tick, with_more, with_response, with_switch, IsSmall}
-use Rattle.sched_report.specs.Waiting.{release_in, ChangesOnly}
+use Rattle.sched_report.specs.PendingReleases.{release_in, ChangesOnly}
 
 -- a list of f at each number from k on, one for each task
 abbrev pub numbered : {X : Type 0} → (ℕ → X) → ℕ → List Task → List X
@@ -51,11 +51,11 @@ pub record HasRoom (s : Tally) : Type 0 where
   pub switches : s.switches < 2 ^ 31
 
 -- no release time changes
-abbrev pub Stays : Waiting → Waiting → Type 0
+abbrev pub Stays : PendingReleases → PendingReleases → Type 0
 Stays old new = (l : Level) (j : JobId) → release_in new l j ≡ release_in old l j
 
 -- a kept job's release time is stored; a dropped release changes nothing
-abbrev pub Waits : Bool → Waiting → Waiting → Level → JobId → ℕ → Type 0
+abbrev pub Waits : Bool → PendingReleases → PendingReleases → Level → JobId → ℕ → Type 0
 Waits true old new level j now = ChangesOnly old new level j (Some now)
 Waits false old new level j now = Stays old new
 

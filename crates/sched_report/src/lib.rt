@@ -2,9 +2,10 @@
 #![tactic(auto)]
 
 mod counts;
+mod pending_releases;
+mod release_times;
 mod tally;
 mod task_tally;
-mod waiting;
 mod writing;
 
 pub use writing::{report, summary};

@@ -3,11 +3,11 @@ ghost use Rattle.std.specs.Prelude.{◌≡◌, ◌-◌, ◌≤◌, ℕ, [], IfOk
 ghost use Rattle.mc_model.specs.declared.run.Run.TheVariants as run;
 ghost use Rattle.mc_model.specs.Runs.{row_of, length_of, IsRun};
 ghost use Rattle.sched_report.specs.declared.task_tally.TaskTally.{TaskTally};
-ghost use Rattle.sched_report.specs.Waiting.{release_in};
+ghost use Rattle.sched_report.specs.PendingReleases.{release_in};
 ghost use Rattle.sched_report.specs.Tally.{Tallies, AddsRun, IsAmong, HasRoom, Releases, GoesOn, Ends, Overruns, Idles};
 
+use crate::pending_releases::PendingReleases;
 use crate::task_tally::TaskTally;
-use crate::waiting::Waiting;
 use mc_model::{How, Run};
 use mc_task::{JobId, TaskSet};
 use std::alloc::{AllocError, Global};
@@ -19,7 +19,7 @@ pub struct Tally {
     pub tick: u32,
     pub idle: u32,
     pub switches: u32,
-    waiting: Waiting,
+    waiting: PendingReleases,
 }
 
 impl Tally {
@@ -37,7 +37,7 @@ impl Tally {
             tick: 0,
             idle: 0,
             switches: 0,
-            waiting: Waiting::new(alloc),
+            waiting: PendingReleases::new(alloc, set.len())?,
         })
     }
 

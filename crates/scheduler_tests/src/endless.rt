@@ -17,7 +17,7 @@ use worked_sets::{
 // The largest capacity that a core may have.
 const MOST: usize = 1 << 62;
 
-// Compares each row with the row that is expected in its place, and keeps none.
+// Compares each row with the row that is expected there, and stores none.
 #[derive(Drop)]
 struct Compared {
     expected: Vec<Row>,
@@ -186,12 +186,12 @@ fn a_million_ticks_need_no_memory_for_rows(rt: HostRuntime) -> Result<(), Fail> 
     Ok(())
 }
 
-// Whether the core has no place for a release of this task.
+// Whether the core has no capacity left for a release of this task.
 fn is_full_for(core: &mut Core<RowCount>, task: TaskNo) -> bool {
     core.set().get(task).is_some() && core.release(task) == Err(ReleaseFault::Full)
 }
 
-// Whether a core of two places is full after a release and a tick.
+// Whether a core with capacity for two rows is full after a release and a tick.
 fn is_full_after_two(core: &mut Core<RowCount>) -> bool {
     release(core, TaskNo(1))
         && tick(core, true)
@@ -213,7 +213,7 @@ fn grant(core: &mut Core<RowCount>, task: TaskNo) -> Option<Result<Granted, Gran
     Some(core.grant(task))
 }
 
-// Whether a core of three places is full with a tick, a release before it and one that it held.
+// Whether a core with capacity for three rows is full with a tick, a release before it and one that it held.
 fn is_full_with_a_held_release(core: &mut Core<RowCount>) -> bool {
     release(core, TaskNo(1))
         && matches!(grant(core, TaskNo(1)), Some(Ok(_)))

@@ -1,4 +1,4 @@
--- What the reply is over a shelf that tells its files, and over one that does not fail.
+-- The reply over a shelf that exposes its files, and over one that does not fail.
 use Rattle.std.proofs.Common.{◌≡◌, ◌≢◌, inl, inr, ℕ, ◌+◌, ◌<◌, ◌≤◌, List, [], ◌∷◌, length, Option, Some, None, IfSome, ap, sym, ◌∙◌, subst, arith, le-leb}
 use Rattle.std.specs.Prelude.{MatchBool, nat_lt, IsSomeAnd}
 use Rattle.std.proofs.lemmas.Bool.{lt-leb}
@@ -7,13 +7,13 @@ use Rattle.mc_world.specs.Shelf.{Files, ShelfState}
 use Rattle.replies.specs.Reply.{Reply}
 use Rattle.replies.specs.Refusal.{ReadFault, Longer, refuse}
 use Rattle.serving.specs.Command.{Command, answer, fetch}
-use Rattle.serving.specs.Outcome.{HasBytes, IsReply, Tells, IsAnswer}
+use Rattle.serving.specs.Outcome.{HasBytes, IsReply, Exposes, IsAnswer}
 
 -- bytes past a limit
 past : (P Q : Type 0) (limit : ℕ) (bytes : List ℕ) → limit < length bytes → P → MatchBool (nat_lt limit (length bytes)) P Q
 past P Q limit bytes long h = subst (λ b. MatchBool b P Q) (sym (le-leb _ _ long)) h
 
--- and within it
+-- bytes within a limit
 within : (P Q : Type 0) (limit : ℕ) (bytes : List ℕ) → length bytes ≤ limit → Q → MatchBool (nat_lt limit (length bytes)) P Q
 within P Q limit bytes short h = subst (λ b. MatchBool b P Q) (sym (lt-leb _ _ (omega arith))) h
 
@@ -23,12 +23,12 @@ long_answer : (P Q : List ℕ → Type 0) (limit : ℕ) (file : Option (List ℕ
 long_answer P Q limit None long h = absurd long
 long_answer P Q limit (Some bytes) long h = past (P bytes) (Q bytes) limit bytes long (h bytes)
 
--- and what is told after a file was read is what was told before
-tells_on : (name : List ℕ) (limit : ℕ) (bytes : List ℕ) (files : Files) (before mid after : ShelfState) → HasBytes name limit bytes before mid → Tells files before after → Tells files mid after
-tells_on name limit bytes files before mid after h t = record { told = h.same ∙ t.told; calm = λ rose. t.calm (subst (λ n. Rose n after.faults) h.calm rose) }
+-- a shelf that exposes its files before a fetch exposes the same files after it
+exposes_on : (name : List ℕ) (limit : ℕ) (bytes : List ℕ) (files : Files) (before mid after : ShelfState) → HasBytes name limit bytes before mid → Exposes files before after → Exposes files mid after
+exposes_on name limit bytes files before mid after h t = record { exposed = h.same ∙ t.exposed; calm = λ rose. t.calm (subst (λ n. Rose n after.faults) h.calm rose) }
 
--- with the files told and no fault the reply is the answer
-pub is_answer : (files : Files) (k : ℕ) (command : Command) (before after : ShelfState) (reply : Reply) → IsReply k command before after reply → Tells files before after → IsAnswer files k command reply
+-- if the shelf exposes its files and has no fault, the reply is the answer
+pub is_answer : (files : Files) (k : ℕ) (command : Command) (before after : ShelfState) (reply : Reply) → IsReply k command before after reply → Exposes files before after → IsAnswer files k command reply
 is_answer files k (answer Is) before after reply r t = r.1
 is_answer files k (fetch name limit next) before after reply r t =
     elim r [
@@ -37,13 +37,13 @@ is_answer files k (fetch name limit next) before after reply r t =
             | inl failed ↦ absurd (t.calm failed.0.rose)
             | inr long ↦
                 long_answer (λ bytes. reply ≡ refuse (Longer k limit)) (λ bytes. IsAnswer files (k + 1) (next bytes) reply) limit (files name)
-                (subst (λ o. IfSome o (λ files. IsSomeAnd (files name) (λ bytes. limit < length bytes))) t.told long.0.told) (λ bytes. long.1)
+                (subst (λ o. IfSome o (λ files. IsSomeAnd (files name) (λ bytes. limit < length bytes))) t.exposed long.0.exposed) (λ bytes. long.1)
           ]
       | inr more ↦
           subst (λ o. IsSomeAnd o (λ bytes. MatchBool (nat_lt limit (length bytes)) (reply ≡ refuse (Longer k limit)) (IsAnswer files (k + 1) (next bytes) reply)))
-          (sym (subst (λ o. IfSome o (λ files. files name ≡ Some more.0)) t.told more.2.told))
+          (sym (subst (λ o. IfSome o (λ files. files name ≡ Some more.0)) t.exposed more.2.exposed))
           (within (reply ≡ refuse (Longer k limit)) (IsAnswer files (k + 1) (next more.0) reply) limit more.0 more.2.short
-          (is_answer files (k + 1) (next more.0) more.1 after reply more.3 (tells_on name limit more.0 files before more.1 after more.2 t)))
+          (is_answer files (k + 1) (next more.0) more.1 after reply more.3 (exposes_on name limit more.0 files before more.1 after more.2 t)))
     ]
 
 -- a count that is 0 never rose
@@ -62,11 +62,11 @@ first_byte (c ∷ cs) = c
 not_longer : (j k limit : ℕ) → refuse (ReadFault j) ≢ refuse (Longer k limit)
 not_longer j k limit same = let e : 114 ≡ 102 = ap (λ r. first_byte r.text) same in absurd (omega (arith, e))
 
--- over a shelf whose count is 0 no reply tells a read fault
-pub tells_no_fault : (k : ℕ) (command : Command) (before after : ShelfState) (reply : Reply) → IsReply k command before after reply → after.faults ≡ 0 → (j : ℕ) → reply ≢ refuse (ReadFault j)
-tells_no_fault k (answer Is) before after reply r zero j is = r.2.read (ap (λ (r : Reply). r.status) is)
-tells_no_fault k (fetch name limit next) before after reply r zero j is =
+-- over a shelf whose count of faults is 0 no reply reports a read fault
+pub reports_no_fault : (k : ℕ) (command : Command) (before after : ShelfState) (reply : Reply) → IsReply k command before after reply → after.faults ≡ 0 → (j : ℕ) → reply ≢ refuse (ReadFault j)
+reports_no_fault k (answer Is) before after reply r zero j is = r.2.read (ap (λ (r : Reply). r.status) is)
+reports_no_fault k (fetch name limit next) before after reply r zero j is =
     elim r [
       | inl refused ↦ elim refused [ inl failed ↦ absurd (never_rose before.faults after.faults zero failed.0.rose) | inr long ↦ absurd (not_longer j k limit (sym is ∙ long.1)) ]
-      | inr more ↦ tells_no_fault (k + 1) (next more.0) more.1 after reply more.3 zero j is
+      | inr more ↦ reports_no_fault (k + 1) (next more.0) more.1 after reply more.3 zero j is
     ]

@@ -5,8 +5,8 @@ use Rattle.replies.specs.Reply.{Reply, reply_of}
 use Rattle.replies.specs.Refusal.{Refusal}
 use Rattle.replies.specs.declared.stop.Stop.{Stop}
 use Rattle.replies.specs.declared.stop.Stop.TheVariants.{Refused, Memory}
-use Rattle.replies.specs.Stop.{StopsBy, Replies, Gives}
-use Rattle.serving.specs.Command.{Command, answer, fetch, need}
+use Rattle.replies.specs.Stop.{StopsBy, Replies, ReadsOrRefuses}
+use Rattle.serving.specs.Command.{Command, answer, fetch, read_or_refuse}
 use Rattle.serving.specs.Outcome.{HasBytes, IsOwnReply, AskedInOrder}
 use Rattle.serving.specs.Serves.{Serves, IsOwn, Prepares}
 
@@ -23,27 +23,27 @@ Replies-weaker Q (Err Memory) then is = tt
 
 -- after a value is read, the reply to the rest is the reply to the command
 pub serves_need : {A B : Type 0} (k : ℕ) (Is : A → B → Type 0) (read : Result A Refusal) (given : B) (next : A → Command) (before after : ShelfState) (result : Result Reply Stop)
-    → Gives Is read (Ok given) → ((x : A) → Is x given → Serves k (next x) before after result) → Serves k (need read next) before after result
+    → ReadsOrRefuses Is read (Ok given) → ((x : A) → Is x given → Serves k (next x) before after result) → Serves k (read_or_refuse read next) before after result
 serves_need k Is (Ok x) given next before after result gives then = then x gives
 serves_need k Is (Err refusal) given next before after result gives then = absurd gives
 
 -- after a file is fetched, the reply to the rest is the reply to the command
 pub serves_fetch : (k : ℕ) (name : List ℕ) (limit : ℕ) (next : List ℕ → Command) (bytes : List ℕ) (before mid after : ShelfState) (result : Result Reply Stop)
-    → HasBytes name limit bytes before mid → mid.wanted ≡ before.wanted → Serves (k + 1) (next bytes) mid after result → Serves k (fetch name limit next) before after result
+    → HasBytes name limit bytes before mid → mid.memory_faults ≡ before.memory_faults → Serves (k + 1) (next bytes) mid after result → Serves k (fetch name limit next) before after result
 serves_fetch k name limit next bytes before mid after result has same s = record {
   reply = Replies-weaker {P = IsOwnReply (k + 1) (next bytes) mid after} (IsOwnReply k (fetch name limit next) before after) result
       (λ reply is. (inr (bytes, mid, has, is.0), is.1)) s.reply;
-  wanted = Replies-weaker {P = λ reply. after.wanted ≡ mid.wanted} (λ reply. after.wanted ≡ before.wanted) result (λ reply is. is ∙ same) s.wanted;
+  memory_faults = Replies-weaker {P = λ reply. after.memory_faults ≡ mid.memory_faults} (λ reply. after.memory_faults ≡ before.memory_faults) result (λ reply is. is ∙ same) s.memory_faults;
   asked = inr (bytes, mid, has, s.asked);
 }
 
--- an answer is the reply to a command that answers
+-- an answer is the reply to a command that asks for no file
 pub serves_answer : (k : ℕ) (Is : Reply → Type 0) (shelf : ShelfState) (result : Result Reply Stop) → Replies Is result → Replies IsOwn result → Serves k (answer Is) shelf shelf result
-serves_answer k Is shelf (Ok reply) is own = record { reply = ((refl, is, own.faultless), own.other); wanted = refl; asked = refl }
-serves_answer k Is shelf (Err (Refused reply)) is own = record { reply = (((refl, is.0, own.0.faultless), own.0.other), is.1); wanted = (refl, is.1); asked = refl }
-serves_answer k Is shelf (Err Memory) is own = record { reply = tt; wanted = tt; asked = refl }
+serves_answer k Is shelf (Ok reply) is own = record { reply = ((refl, is, own.faultless), own.other); memory_faults = refl; asked = refl }
+serves_answer k Is shelf (Err (Refused reply)) is own = record { reply = (((refl, is.0, own.0.faultless), own.0.other), is.1); memory_faults = (refl, is.1); asked = refl }
+serves_answer k Is shelf (Err Memory) is own = record { reply = tt; memory_faults = tt; asked = refl }
 
--- a text with status 0 is the reply to a command that it answers
+-- a text with status 0 is the reply to a command whose answer it is
 pub serves_text : (k : ℕ) (Is : Reply → Type 0) (shelf : ShelfState) (reply : Reply) (text : List ℕ) → reply ≡ reply_of 0 text → Is reply
     → Serves k (answer Is) shelf shelf (Ok reply)
 serves_text k Is shelf reply text same is =
@@ -53,15 +53,15 @@ serves_text k Is shelf reply text same is =
 
 -- the refusal of a value is the reply to the command that needs it
 pub serves_refused : {A B : Type 0} (k : ℕ) (Is : A → B → Type 0) (read : Result A Refusal) (next : A → Command) (shelf : ShelfState) (stop : Stop)
-    → Gives Is read (Err stop) → StopsBy IsOwn stop → Serves k (need read next) shelf shelf (Err stop)
-serves_refused k Is (Err refusal) next shelf (Refused reply) gives own = record { reply = (((refl, gives.0, own.0.faultless), own.0.other), gives.1); wanted = (refl, gives.1); asked = refl }
-serves_refused k Is (Err refusal) next shelf Memory gives own = record { reply = tt; wanted = tt; asked = refl }
+    → ReadsOrRefuses Is read (Err stop) → StopsBy IsOwn stop → Serves k (read_or_refuse read next) shelf shelf (Err stop)
+serves_refused k Is (Err refusal) next shelf (Refused reply) gives own = record { reply = (((refl, gives.0, own.0.faultless), own.0.other), gives.1); memory_faults = (refl, gives.1); asked = refl }
+serves_refused k Is (Err refusal) next shelf Memory gives own = record { reply = tt; memory_faults = tt; asked = refl }
 serves_refused k Is (Ok x) next shelf (Refused reply) gives own = absurd cc
-serves_refused k Is (Ok x) next shelf Memory gives own = record { reply = tt; wanted = tt; asked = asked-none (next x) shelf shelf refl }
+serves_refused k Is (Ok x) next shelf Memory gives own = record { reply = tt; memory_faults = tt; asked = asked-none (next x) shelf shelf refl }
 
 -- after a file is fetched, the job that the rest gives is the one that the command gives
 pub prepares_fetch : {A : Type 0} (k : ℕ) (name : List ℕ) (limit : ℕ) (next : List ℕ → Command) (IsJob : A → Type 0) (RepliesTo : A → Reply → Type 0) (bytes : List ℕ) (before mid after : ShelfState) (result : Result A Stop)
-    → HasBytes name limit bytes before mid → mid.wanted ≡ before.wanted → Prepares (k + 1) (next bytes) IsJob RepliesTo mid after result → Prepares k (fetch name limit next) IsJob RepliesTo before after result
+    → HasBytes name limit bytes before mid → mid.memory_faults ≡ before.memory_faults → Prepares (k + 1) (next bytes) IsJob RepliesTo mid after result → Prepares k (fetch name limit next) IsJob RepliesTo before after result
 prepares_fetch k name limit next IsJob RepliesTo bytes before mid after (Ok job) has same prepares =
-    (prepares.0, λ reply tells own. serves_fetch k name limit next bytes before mid after reply has same (prepares.1 reply tells own))
+    (prepares.0, λ reply says own. serves_fetch k name limit next bytes before mid after reply has same (prepares.1 reply says own))
 prepares_fetch k name limit next IsJob RepliesTo bytes before mid after (Err stop) has same s = serves_fetch k name limit next bytes before mid after (Err stop) has same s

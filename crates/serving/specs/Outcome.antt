@@ -20,15 +20,15 @@ pub record IsFailed (name : List ℕ) (before after : ShelfState) : Type 0 where
 -- the file is longer than its limit: its bytes are, where the shelf exposes its files, and where it does not,
 -- more bytes than the limit were read
 pub record IsLonger (name : List ℕ) (limit : ℕ) (before after : ShelfState) : Type 0 where
-  pub told : IfSome before.holds (λ files. IsSomeAnd (files name) (λ bytes. limit < length bytes))
-  pub untold : before.holds ≡ None → RoseByMoreThan limit before.bytes_read after.bytes_read
+  pub exposed : IfSome before.holds (λ files. IsSomeAnd (files name) (λ bytes. limit < length bytes))
+  pub hidden : before.holds ≡ None → RoseByMoreThan limit before.bytes_read after.bytes_read
   pub calm : after.faults ≡ before.faults
   pub adds : AddsFetch name false before after
 
 -- the fetch gave these bytes, no more than the limit; where the shelf exposes its files, they are the bytes
 -- of the file
 pub record HasBytes (name : List ℕ) (limit : ℕ) (bytes : List ℕ) (before after : ShelfState) : Type 0 where
-  pub told : IfSome before.holds (λ files. files name ≡ Some bytes)
+  pub exposed : IfSome before.holds (λ files. files name ≡ Some bytes)
   pub short : length bytes ≤ limit
   pub calm : after.faults ≡ before.faults
   pub adds : AddsFetch name false before after
@@ -36,7 +36,7 @@ pub record HasBytes (name : List ℕ) (limit : ℕ) (bytes : List ℕ) (before a
 
 -- the reply's status is none of 7, 8 and 9: it is not the one for a fault of the shelf, a fault of the sink,
 -- or out of memory
-pub record TellsNoFault (reply : Reply) : Type 0 where
+pub record ReportsNoFault (reply : Reply) : Type 0 where
   pub read : reply.status ≢ 7
   pub write : reply.status ≢ 8
   pub memory : reply.status ≢ 9
@@ -47,11 +47,11 @@ IsRefused k name limit before after reply =
     (IsFailed name before after × (reply ≡ refuse (ReadFault k)))
     ⊎ (IsLonger name limit before after × (reply ≡ refuse (Longer k limit)))
 
--- a reply to a command whose next file is its file number k. Where the command answers, nothing is fetched,
--- and the reply is its answer and has no status of a fault. Where it asks for a file, the reply refuses that
--- file, or the file has some bytes, and the reply is one to the command that these give
+-- a reply to a command whose next file is its file number k. If the command gives its answer, nothing is
+-- fetched, and the reply is that answer and has no status of a fault. If it asks for a file, the reply
+-- refuses that file, or the file has some bytes, and the reply is one to the command that these determine
 abbrev pub IsReply : ℕ → Command → ShelfState → ShelfState → Reply → Type 0
-IsReply k (answer Is) before after reply = (after ≡ before) × Is reply × TellsNoFault reply
+IsReply k (answer Is) before after reply = (after ≡ before) × Is reply × ReportsNoFault reply
 IsReply k (fetch name limit next) before after reply =
     IsRefused k name limit before after reply
     ⊎ ((bytes : List ℕ) × (mid : ShelfState) × HasBytes name limit bytes before mid
@@ -76,8 +76,8 @@ AskedInOrder (fetch name limit next) before after =
     × AskedInOrder (next bytes) mid after)
 
 -- the shelf exposes that it holds these files, and its count of faults does not rise
-pub record Tells (files : Files) (before after : ShelfState) : Type 0 where
-  pub told : before.holds ≡ Some files
+pub record Exposes (files : Files) (before after : ShelfState) : Type 0 where
+  pub exposed : before.holds ≡ Some files
   pub calm : Rose before.faults after.faults → ⊥
 
 -- the reply is the answer of a command whose next file is its file number k, over a shelf with these files,

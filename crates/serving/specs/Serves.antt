@@ -5,7 +5,7 @@ use Rattle.replies.specs.Reply.{Reply}
 use Rattle.replies.specs.declared.stop.Stop.{Stop}
 use Rattle.replies.specs.Stop.{Replies}
 use Rattle.serving.specs.Command.{Command}
-use Rattle.serving.specs.Outcome.{IsOwnReply, TellsNoFault, AskedInOrder}
+use Rattle.serving.specs.Outcome.{IsOwnReply, ReportsNoFault, AskedInOrder}
 
 -- the result of serving a command whose next file is its file number k: a reply to it, returned as a value
 -- or, for a refusal, as an error; or out of memory
@@ -13,7 +13,7 @@ pub record Serves (k : ℕ) (command : Command) (before after : ShelfState)
     (result : Result Reply Stop) : Type 0 where
   pub reply : Replies (IsOwnReply k command before after) result
   -- no fetch ran out of memory if there is a reply
-  pub wanted : Replies (λ reply. after.wanted ≡ before.wanted) result
+  pub memory_faults : Replies (λ reply. after.memory_faults ≡ before.memory_faults) result
   -- even if memory ran out, no file is asked for except the command's, in their order
   pub asked : AskedInOrder command before after
 
@@ -24,7 +24,7 @@ ServesAlone command result = (shelf : ShelfState) → Serves 1 command shelf she
 -- the reply's status is none of 2, 7, 8 and 9: it is not the one for words that name no command, a fault of
 -- the shelf, a fault of the sink, or out of memory
 pub record IsOwn (reply : Reply) : Type 0 where
-  pub faultless : TellsNoFault reply
+  pub faultless : ReportsNoFault reply
   pub other : reply.status ≢ 2
 
 -- the command's files were read and give a job, and each result that replies to the job, with a status that

@@ -19,8 +19,8 @@ pub fn fetch<S: Shelf>(
     requires { limit < 2 ^ 40 }
     ensures bytes { IfOk result (λ bytes. HasBytes name.now limit bytes.items (S.state shelf.old) (S.state shelf.new)) }
     ensures refused { IfErr result (StopsBy (IsRefused file name.now limit (S.state shelf.old) (S.state shelf.new))) }
-    ensures wanted { OnOk result ((S.state shelf.new).wanted ≡ (S.state shelf.old).wanted) }
-    ensures wanted_refused { IfErr result (StopsBy (λ reply. (S.state shelf.new).wanted ≡ (S.state shelf.old).wanted)) }
+    ensures memory_faults { OnOk result ((S.state shelf.new).memory_faults ≡ (S.state shelf.old).memory_faults) }
+    ensures memory_faults_refused { IfErr result (StopsBy (λ reply. (S.state shelf.new).memory_faults ≡ (S.state shelf.old).memory_faults)) }
     ensures asked { AddsAtMost name.now (S.state shelf.old) (S.state shelf.new) }
 {
     match shelf.fetch(alloc, name.text(), limit) {

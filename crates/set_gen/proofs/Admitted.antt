@@ -6,16 +6,16 @@ use Rattle.mc_model.specs.Loads.{hyperperiod}
 use Rattle.mc_model.specs.Holds.{IsThreeQuarters}
 use Rattle.mc_model.proofs.Hyperperiod.{hyperperiod-IsLeastCommon}
 use Rattle.mc_model.proofs.ThreeQuarters.{three_quarters-admitted}
-use Rattle.set_gen.specs.MadeSet.{made_set}
-use Rattle.set_gen.specs.Laws.{MadeSetsAreAdmitted}
-use Rattle.set_gen.proofs.MadeTasks.{made_set-divides, made_set-AreTasks}
+use Rattle.set_gen.specs.GeneratedSet.{generated_set}
+use Rattle.set_gen.specs.Laws.{GeneratedSetsAreAdmitted}
+use Rattle.set_gen.proofs.GeneratedTasks.{generated_set-divides, generated_set-AreTasks}
 use Rattle.set_gen.proofs.Utilisations.{made-low_low, made-high_low, made-high_high}
 
-pub made_sets-admitted : MadeSetsAreAdmitted
-made_sets-admitted words n some few =
-    let set : List Task = made_set words n in
-    let is = made_set-AreTasks words n some few in
-    let within : hyperperiod set ≤ 20000 = le_of_dvd (omega arith) ((hyperperiod-IsLeastCommon set).least 20000 (made_set-divides words n)) in
+pub generated_sets-admitted : GeneratedSetsAreAdmitted
+generated_sets-admitted words n some few =
+    let set : List Task = generated_set words n in
+    let is = generated_set-AreTasks words n some few in
+    let within : hyperperiod set ≤ 20000 = le_of_dvd (omega arith) ((hyperperiod-IsLeastCommon set).least 20000 (generated_set-divides words n)) in
     let low_low = made-low_low words n some few in
     let high_low = made-high_low words n some few in
     let high_high = made-high_high words n some few in

@@ -4,13 +4,13 @@ use Rattle.std.proofs.Math.Nat.{div-le_self}
 use Rattle.std.proofs.lemmas.Nat.{le-div}
 use Rattle.rand_pcg.specs.Lcg.{Lcg}
 use Rattle.set_gen.specs.declared.tasks.Numbers.{Numbers}
-use Rattle.set_gen.specs.MadeSet.{task_name, made_task}
-use Rattle.set_gen.specs.MadeNumbers.{AreOf}
-use Rattle.set_gen.proofs.MadeTasks.{made_task-name}
+use Rattle.set_gen.specs.GeneratedSet.{task_name, generated_task}
+use Rattle.set_gen.specs.GeneratedNumbers.{AreOf}
+use Rattle.set_gen.proofs.GeneratedTasks.{generated_task-name}
 
-pub named : (words : Lcg) (n i : ℕ) (name : List ℕ) (numbers : Numbers) → name ≡ task_name i → AreOf (made_task words n i) numbers
-    → record { name = name; level = numbers.level; period = numbers.period; low = numbers.low; high = numbers.high } ≡ made_task words n i
-named words n i name numbers is of = rw (is, ← made_task-name words n i, of.level, of.period, of.low, of.high) refl
+pub named : (words : Lcg) (n i : ℕ) (name : List ℕ) (numbers : Numbers) → name ≡ task_name i → AreOf (generated_task words n i) numbers
+    → record { name = name; level = numbers.level; period = numbers.period; low = numbers.low; high = numbers.high } ≡ generated_task words n i
+named words n i name numbers is of = rw (is, ← generated_task-name words n i, of.level, of.period, of.low, of.high) refl
 
 -- a low budget is within the period
 pub low-within : (p d w : ℕ) → 200 ≤ p → p ≤ 10000 → 1 ≤ d → d ≤ 64 → 1 + w % (p / d) ≤ 10000

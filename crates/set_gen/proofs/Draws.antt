@@ -5,7 +5,7 @@ use Rattle.std.specs.Int.{div_ceil}
 use Rattle.std.proofs.lemmas.List.FromFn.{map-range_with_len_more}
 use Rattle.rand_pcg.specs.Lcg.{Lcg}
 use Rattle.set_gen.specs.Words.{after}
-use Rattle.set_gen.specs.MadeSet.{words_taken, words_before}
+use Rattle.set_gen.specs.GeneratedSet.{words_taken, words_before}
 use Rattle.set_gen.proofs.WordLemmas.{after-add}
 
 -- the words that are left for task number i
@@ -25,10 +25,10 @@ pub halves : (n : ℕ) → div_ceil n 2 ≡ high_tasks n
 halves n = grind arith
 
 -- one more element, generated from the words that those before it leave
-pub made_more : {X : Type 0} (make : Lcg → ℕ → X) (words left : Lcg) (i : ℕ) (xs more : List X) (x : X)
+pub generated_more : {X : Type 0} (make : Lcg → ℕ → X) (words left : Lcg) (i : ℕ) (xs more : List X) (x : X)
     → xs ≡ map (λ k. make (words_for words k) k) (range_with_len 1 i) → left ≡ after (words_before i) words → x ≡ make left (i + 1) → more ≡ xs ++ x ∷ []
     → more ≡ map (λ k. make (words_for words k) k) (range_with_len 1 (i + 1))
-made_more {X} make words left i xs more x made words_left is longer =
+generated_more {X} make words left i xs more x made words_left is longer =
     let f : ℕ → X = λ k. make (words_for words k) k in
     let place : i ≡ (i + 1) - 1 = omega arith in
     let one : x ≡ f (i + 1) = is ∙ ap (λ w. make w (i + 1)) words_left ∙ ap (λ j. make (after (words_before j) words) (i + 1)) place in

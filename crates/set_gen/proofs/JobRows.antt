@@ -9,7 +9,7 @@ use Rattle.mc_model.specs.Work.{AllFollow, IsWork}
 use Rattle.mc_model.proofs.Lists.{Each}
 use Rattle.mc_model.proofs.Tasks.{IsKnown, known}
 use Rattle.set_gen.specs.Words.{word, rest, after}
-use Rattle.set_gen.specs.MadeWork.{need_in, job_row, job_rows}
+use Rattle.set_gen.specs.GeneratedWork.{need_in, job_row, job_rows}
 use Rattle.set_gen.proofs.Plans.{Apart, IsPlan}
 
 -- the rows of two joined lists of releases

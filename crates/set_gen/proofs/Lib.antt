@@ -1,6 +1,6 @@
 pub mod WordLemmas
 pub mod Periods
-pub mod MadeTasks
+pub mod GeneratedTasks
 pub mod Utilisations
 pub mod Admitted
 pub mod Plans

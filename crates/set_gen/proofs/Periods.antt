@@ -5,7 +5,7 @@ use Rattle.std.specs.List.{list_all}
 use Rattle.std.proofs.lemmas.Bool.{and_parts}
 use Rattle.std.proofs.lemmas.Bool.Decides.{nat_tests}
 use Rattle.std.proofs.lemmas.Nat.Gcd.{dvd_of_mod-eq-zero}
-use Rattle.set_gen.specs.MadeSet.{periods, period}
+use Rattle.set_gen.specs.GeneratedSet.{periods, period}
 
 -- a period is 200 to 10000 ticks, and divides 20000
 pub record IsPeriod (p : ℕ) : Type 0 where

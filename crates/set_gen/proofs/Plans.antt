@@ -9,7 +9,7 @@ use Rattle.mc_task.specs.TaskSet.{IsIn, task_at}
 use Rattle.mc_model.specs.TaskNumbers.{period_in}
 use Rattle.mc_model.specs.Follows.{Arrival}
 use Rattle.mc_model.proofs.Lists.{Each, Each-map, Each-append, Each-filter_if}
-use Rattle.set_gen.specs.MadeWork.{is_released, releases_at, releases_below}
+use Rattle.set_gen.specs.GeneratedWork.{is_released, releases_at, releases_below}
 use Rattle.mc_model.proofs.Ranges.{each-map, each-range}
 
 -- the later of two different multiples of a gap is at least a gap later

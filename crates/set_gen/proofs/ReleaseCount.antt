@@ -8,7 +8,7 @@ use Rattle.std.proofs.lemmas.Nat.Gcd.{dvd_of_mod-eq-zero}
 use Rattle.std.proofs.Math.Nat.{mul-div_cancel', mul-le-mul_right, lt_of_mul-lt-mul_right}
 use Rattle.mc_model.specs.Sums.{total}
 use Rattle.mc_model.proofs.Sums.{total-add}
-use Rattle.set_gen.specs.MadeWork.{is_released, releases_at, releases_below}
+use Rattle.set_gen.specs.GeneratedWork.{is_released, releases_at, releases_below}
 use Rattle.mc_model.proofs.Ranges.{each-range, total-zero, total-most, length-filter}
 
 -- how many multiples of a gap are below r

@@ -11,7 +11,7 @@ use Rattle.mc_model.specs.Follows.{Arrival}
 use Rattle.mc_model.specs.declared.work.WorkRow.{WorkRow}
 use Rattle.mc_model.proofs.Lists.{filter_none}
 use Rattle.set_gen.specs.Words.{after}
-use Rattle.set_gen.specs.MadeWork.{is_released, releases_at, releases_below, job_rows}
+use Rattle.set_gen.specs.GeneratedWork.{is_released, releases_at, releases_below, job_rows}
 use Rattle.set_gen.specs.NextReleases.{IsNext, release_of}
 use Rattle.set_gen.proofs.WordLemmas.{after-add}
 use Rattle.mc_model.proofs.Ranges.{range-more, each-range}
@@ -109,7 +109,7 @@ before_more P old new i v within same before here k less =
     ]
 
 -- what holds of the values after index i stays true when that value changes
-pub behind_more : (P : ℕ → ℕ → Type 0) (old new : List ℕ) (i v n : ℕ) → new ≡ slice_set old i v → ((k : ℕ) → i ≤ k → k < n → P k (slice_index old k)) → (k : ℕ) → i + 1 ≤ k → k < n → P k (slice_index new k)
-behind_more P old new i v n same behind k first last =
+pub after_more : (P : ℕ → ℕ → Type 0) (old new : List ℕ) (i v n : ℕ) → new ≡ slice_set old i v → ((k : ℕ) → i ≤ k → k < n → P k (slice_index old k)) → (k : ℕ) → i + 1 ≤ k → k < n → P k (slice_index new k)
+after_more P old new i v n same later_part k first last =
     let other : k ≢ i = λ e. (omega arith) in
-    rw (same, get_or-set_other old i k v 0 other) (behind k (omega arith) last)
+    rw (same, get_or-set_other old i k v 0 other) (later_part k (omega arith) last)

@@ -14,10 +14,10 @@ use Rattle.mc_model.specs.Sums.{total}
 use Rattle.mc_model.proofs.Lists.{Each-map}
 use Rattle.mc_model.proofs.Hyperperiod.{periods-dvd, lcm_from-dvd}
 use Rattle.set_gen.specs.Words.{word, rest}
-use Rattle.set_gen.specs.MadeSet.{period, is_odd, high_task, low_task, made_task, made_set}
+use Rattle.set_gen.specs.GeneratedSet.{period, is_odd, high_task, low_task, generated_task, generated_set}
 use Rattle.set_gen.proofs.Periods.{period-IsPeriod}
 use Rattle.mc_model.proofs.Sums.{total-append}
-use Rattle.set_gen.proofs.MadeTasks.{by_parity, made_set-each}
+use Rattle.set_gen.proofs.GeneratedTasks.{by_parity, generated_set-each}
 use Rattle.set_gen.proofs.Draws.{words_for, high_tasks, low_tasks}
 
 -- the budget is at most share parts of the period, each part a c-th
@@ -44,7 +44,7 @@ divide_product ts =
 abbrev parts : ℕ → ℕ → Task → ℕ
 parts low high t = by_level t.level low high
 
-made-parts : (low high : ℕ) (words : Lcg) (n i : ℕ) → parts low high (made_task words n i) ≡ cond (is_odd i) high low
+made-parts : (low high : ℕ) (words : Lcg) (n i : ℕ) → parts low high (generated_task words n i) ≡ cond (is_odd i) high low
 made-parts low high words n i =
     by_parity (λ t. parts low high t ≡ cond (is_odd i) high low) words n i
     (λ e. unfold high_task in rw e refl)
@@ -57,10 +57,10 @@ unfolding is_odd
 parity j = elim (eqb_tells ((1 + j) % 2) 1) [ inl t ↦ inl (t.0, omega (arith, t.1), omega (arith, t.1)) | inr t ↦ inr (t.0, omega (arith, t.1), omega (arith, t.1)) ]
 
 -- the shares of the first j tasks
-made-total : (low high : ℕ) (words : Lcg) (n j : ℕ) → total (parts low high) (map (λ i. made_task (words_for words i) n i) (range_with_len 1 j)) ≡ low * low_tasks j + high * high_tasks j
+made-total : (low high : ℕ) (words : Lcg) (n j : ℕ) → total (parts low high) (map (λ i. generated_task (words_for words i) n i) (range_with_len 1 j)) ≡ low * low_tasks j + high * high_tasks j
 made-total low high words n zero = omega arith
 made-total low high words n (suc j) =
-    let f : ℕ → Task = λ i. made_task (words_for words i) n i in
+    let f : ℕ → Task = λ i. generated_task (words_for words i) n i in
     let e : suc j ≡ j + 1 = omega arith in
     let more : total (parts low high) (map f (range_with_len 1 (suc j))) ≡ total (parts low high) (map f (range_with_len 1 j)) + (parts low high (f (1 + j)) + 0) =
     ap (λ k. total (parts low high) (map f (range_with_len 1 k))) e ∙ ap (total (parts low high)) (map-range_with_len_more f 1 j (1 + j) refl)
@@ -72,12 +72,12 @@ made-total low high words n (suc j) =
       | inr p ↦ more ∙ omega (arith, before, rw (p.0) at one, ap (λ z. high * z) (p.1), ap (λ z. low * z) (p.2))
     ]
 
-set-total : (low high : ℕ) (words : Lcg) (n : ℕ) → total (parts low high) (made_set words n) ≡ low * low_tasks n + high * high_tasks n
-unfolding made_set
+set-total : (low high : ℕ) (words : Lcg) (n : ℕ) → total (parts low high) (generated_set words n) ≡ low * low_tasks n + high * high_tasks n
+unfolding generated_set
 set-total low high words n = made-total low high words n n
 
 -- the share of one task in each utilisation
-low_low-share : (words : Lcg) (n i : ℕ) → IsShare low_low (parts 1 0) (2 * low_tasks n) (made_task words n i)
+low_low-share : (words : Lcg) (n i : ℕ) → IsShare low_low (parts 1 0) (2 * low_tasks n) (generated_task words n i)
 low_low-share words n i =
     by_parity (IsShare low_low (parts 1 0) (2 * low_tasks n)) words n i
     (λ e. unfold high_task in omega arith)
@@ -90,13 +90,13 @@ quarter p k w least some few =
     let most : (4 * k) * (1 + w % (p / (4 * k))) ≤ (4 * k) * (p / (4 * k)) = mul-le-mul_left (4 * k) budget in
     omega (arith, most, mul-div-le p (4 * k))
 
-high_low-share : (words : Lcg) (n i : ℕ) → 2 ≤ n → n ≤ 32 → IsShare high_low (parts 0 1) (4 * high_tasks n) (made_task words n i)
+high_low-share : (words : Lcg) (n i : ℕ) → 2 ≤ n → n ≤ 32 → IsShare high_low (parts 0 1) (4 * high_tasks n) (generated_task words n i)
 high_low-share words n i some few =
     by_parity (IsShare high_low (parts 0 1) (4 * high_tasks n)) words n i
     (λ e. unfold high_task in quarter (period (word words)) (high_tasks n) (word (rest words)) (period-IsPeriod (word words)).least (omega arith) (omega arith))
     (λ e. unfold low_task in omega arith)
 
-high_high-share : (words : Lcg) (n i : ℕ) → IsShare high_high (parts 0 3) (4 * high_tasks n) (made_task words n i)
+high_high-share : (words : Lcg) (n i : ℕ) → IsShare high_high (parts 0 3) (4 * high_tasks n) (generated_task words n i)
 high_high-share words n i =
     by_parity (IsShare high_high (parts 0 3) (4 * high_tasks n)) words n i
     (λ e. unfold high_task in mul-div-le (3 * period (word words)) (4 * high_tasks n))
@@ -104,27 +104,27 @@ high_high-share words n i =
 
 -- the utilisation of tasks that each ask for at most their shares, each share an (a * k)-th of the period, if
 -- there are b * k shares
-utilisation : (budget share : Task → ℕ) (words : Lcg) (n a b k : ℕ) → 1 ≤ k → total share (made_set words n) ≡ b * k
-    → ((i : ℕ) → IsShare budget share (a * k) (made_task (words_for words i) n i))
-    → a * load budget (product (made_set words n)) (made_set words n) ≤ b * product (made_set words n)
+utilisation : (budget share : Task → ℕ) (words : Lcg) (n a b k : ℕ) → 1 ≤ k → total share (generated_set words n) ≡ b * k
+    → ((i : ℕ) → IsShare budget share (a * k) (generated_task (words_for words i) n i))
+    → a * load budget (product (generated_set words n)) (generated_set words n) ≤ b * product (generated_set words n)
 utilisation budget share words n a b k some parts_of each =
-    let set : List Task = made_set words n in
-    let shares = load-share budget share (a * k) (product set) set (divide_product set) (made_set-each (IsShare budget share (a * k)) words n (λ i first last. each i)) in
+    let set : List Task = generated_set words n in
+    let shares = load-share budget share (a * k) (product set) set (divide_product set) (generated_set-each (IsShare budget share (a * k)) words n (λ i first last. each i)) in
     let apart : k * (a * load budget (product set) set) ≤ k * (b * product set) = omega (arith, rw parts_of at shares) in
     le_of_mul-le-mul_left apart some
 
 -- the three utilisations of a generated set
-pub made-low_low : (words : Lcg) (n : ℕ) → 2 ≤ n → n ≤ 32 → 2 * load_ll (made_set words n) ≤ product (made_set words n)
+pub made-low_low : (words : Lcg) (n : ℕ) → 2 ≤ n → n ≤ 32 → 2 * load_ll (generated_set words n) ≤ product (generated_set words n)
 made-low_low words n some few =
     let each = λ (i : ℕ). low_low-share (words_for words i) n i in
     omega (arith, utilisation low_low (parts 1 0) words n 2 1 (low_tasks n) (omega arith) (set-total 1 0 words n ∙ omega arith) each)
 
-pub made-high_low : (words : Lcg) (n : ℕ) → 2 ≤ n → n ≤ 32 → 4 * load_hl (made_set words n) ≤ product (made_set words n)
+pub made-high_low : (words : Lcg) (n : ℕ) → 2 ≤ n → n ≤ 32 → 4 * load_hl (generated_set words n) ≤ product (generated_set words n)
 made-high_low words n some few =
     let each = λ (i : ℕ). high_low-share (words_for words i) n i some few in
     omega (arith, utilisation high_low (parts 0 1) words n 4 1 (high_tasks n) (omega arith) (set-total 0 1 words n ∙ omega arith) each)
 
-pub made-high_high : (words : Lcg) (n : ℕ) → 2 ≤ n → n ≤ 32 → 4 * load_hh (made_set words n) ≤ 3 * product (made_set words n)
+pub made-high_high : (words : Lcg) (n : ℕ) → 2 ≤ n → n ≤ 32 → 4 * load_hh (generated_set words n) ≤ 3 * product (generated_set words n)
 made-high_high words n some few =
     let each = λ (i : ℕ). high_high-share (words_for words i) n i in
     utilisation high_high (parts 0 3) words n 4 3 (high_tasks n) (omega arith) (set-total 0 3 words n ∙ omega arith) each

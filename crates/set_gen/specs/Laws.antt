@@ -8,8 +8,8 @@ use Rattle.mc_model.specs.Test.{published}
 use Rattle.mc_model.specs.Holds.{IsThreeQuarters}
 use Rattle.mc_model.specs.Work.{IsWork}
 use Rattle.mc_model.specs.declared.work.WorkRow.{WorkRow}
-use Rattle.set_gen.specs.MadeSet.{made_set}
-use Rattle.set_gen.specs.MadeWork.{made_work}
+use Rattle.set_gen.specs.GeneratedSet.{generated_set}
+use Rattle.set_gen.specs.GeneratedWork.{generated_work}
 
 -- a set whose periods are within range, with U_LL ≤ 1/2, U_HL ≤ 1/4 and U_HH ≤ 3/4: by the 3/4 law the
 -- published test gives it a rule
@@ -23,8 +23,9 @@ pub record AreWithinThreeQuarters (tasks : List Task) : Type 0 where
   pub rule : IsSome (published tasks)
 
 -- law: whatever the words, each generated set of 2 to 32 tasks is admitted
-abbrev pub MadeSetsAreAdmitted : Type 0
-MadeSetsAreAdmitted = (words : Lcg) (n : ℕ) → 2 ≤ n → n ≤ 32 → AreWithinThreeQuarters (made_set words n)
+abbrev pub GeneratedSetsAreAdmitted : Type 0
+GeneratedSetsAreAdmitted =
+    (words : Lcg) (n : ℕ) → 2 ≤ n → n ≤ 32 → AreWithinThreeQuarters (generated_set words n)
 
 -- a list of work for the set, of at most 1,000,000 jobs
 pub record IsTaken (set : List Task) (rows : List WorkRow) : Type 0 where
@@ -33,6 +34,6 @@ pub record IsTaken (set : List Task) (rows : List WorkRow) : Type 0 where
 
 -- law: whatever the words, the work of a generated set below at most 1,000,000 ticks is a list of work for
 -- the set
-abbrev pub MadeWorkIsTaken : Type 0
-MadeWorkIsTaken = (words : Lcg) (n ticks : ℕ) → 2 ≤ n → n ≤ 32 → ticks ≤ 1000000
-    → IsTaken (made_set words n) (made_work words n ticks)
+abbrev pub GeneratedWorkIsTaken : Type 0
+GeneratedWorkIsTaken = (words : Lcg) (n ticks : ℕ) → 2 ≤ n → n ≤ 32 → ticks ≤ 1000000
+    → IsTaken (generated_set words n) (generated_work words n ticks)

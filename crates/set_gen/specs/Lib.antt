@@ -1,6 +1,6 @@
 pub mod Words
-pub mod MadeSet
-pub mod MadeNumbers
-pub mod MadeWork
+pub mod GeneratedSet
+pub mod GeneratedNumbers
+pub mod GeneratedWork
 pub mod Laws
 pub mod NextReleases

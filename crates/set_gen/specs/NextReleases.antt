@@ -3,7 +3,7 @@ use Rattle.std.specs.Prelude.{◌≡◌, ℕ, ◌+◌, ◌%◌, ◌^◌, ◌<◌
 use Rattle.mc_task.specs.declared.task.Task.{Task}
 use Rattle.mc_model.specs.Follows.{Arrival}
 use Rattle.set_gen.specs.Words.{after}
-use Rattle.set_gen.specs.MadeWork.{releases_at, job_rows}
+use Rattle.set_gen.specs.GeneratedWork.{releases_at, job_rows}
 use Rattle.set_gen.specs.declared.jobs.Jobs.{Jobs}
 
 -- one gap for each task of the set, 1 to 2^16 - 1 ticks

@@ -2,7 +2,7 @@
 ghost use Rattle.std.specs.Prelude.{◌≡◌, ◌≤◌, ◌<◌, ◌^◌, ◌++◌, ◌∷◌, [], IfOk, OnOk, length, slice_index};
 ghost use Rattle.mc_task.specs.TaskSet.{IsIn, task_at};
 ghost use Rattle.set_gen.specs.Words.{word, rest};
-ghost use Rattle.set_gen.specs.MadeWork as spec;
+ghost use Rattle.set_gen.specs.GeneratedWork as spec;
 ghost use Rattle.set_gen.specs.NextReleases.{AreGaps, IsNext, AreNext, Visit, Pass};
 
 use crate::words::take;
@@ -88,7 +88,7 @@ impl Jobs {
     }
 
     // Adds one job.
-    #[tactic(auto, unfolding(crate::specs::MadeWork::job_row))]
+    #[tactic(auto, unfolding(crate::specs::GeneratedWork::job_row))]
     fn add(&mut self, set: &TaskSet, task: TaskNo, at: u32) -> Result<(), AllocError>
         requires { IsIn set.now.tasks task.0 }
         ensures rows { OnOk result (self.new.rows.items ≡ self.old.rows.items ++ spec.job_row set.now.tasks (record { task = task.0; at = at }) (word self.old.words) ∷ []) }
@@ -106,7 +106,7 @@ impl Jobs {
 }
 
 // The need of a job of the task, in ticks, by the job's word.
-#[tactic(auto, unfolding(crate::specs::MadeWork::need_in))]
+#[tactic(auto, unfolding(crate::specs::GeneratedWork::need_in))]
 fn need(set: &TaskSet, task: TaskNo, word: u32) -> u32
     requires { IsIn set.now.tasks task.0 }
     ensures { result ≡ spec.need_in (task_at set.now.tasks task.0) word }

@@ -5,9 +5,9 @@ ghost use Rattle.mc_model.specs.Test.{published};
 ghost use Rattle.mc_model.specs.Holds.{Holds, Fits};
 ghost use Rattle.mc_model.specs.Work.{IsWork};
 ghost use Rattle.set_gen.specs.Words as spec;
-ghost use Rattle.set_gen.specs.MadeSet.{made_set};
-ghost use Rattle.set_gen.specs.MadeWork.{made_work};
-ghost use Rattle.set_gen.specs.Laws.{AreWithinThreeQuarters, IsTaken, MadeSetsAreAdmitted, MadeWorkIsTaken};
+ghost use Rattle.set_gen.specs.GeneratedSet.{generated_set};
+ghost use Rattle.set_gen.specs.GeneratedWork.{generated_work};
+ghost use Rattle.set_gen.specs.Laws.{AreWithinThreeQuarters, IsTaken, GeneratedSetsAreAdmitted, GeneratedWorkIsTaken};
 
 use crate::jobs::jobs_of;
 use crate::tasks::{Drawn, draw};
@@ -38,15 +38,15 @@ pub fn make(alloc: Global, number: u64, tasks: u32, ticks: u64) -> Result<Made, 
     requires few { tasks ≤ 32 }
     requires first { 1 ≤ ticks }
     requires last { ticks ≤ 1000000 }
-    ensures set { IfOk result (λ made. made.set ≡ unscaled (made_set (spec.words_of number) tasks)) }
+    ensures set { IfOk result (λ made. made.set ≡ unscaled (generated_set (spec.words_of number) tasks)) }
     ensures rule { IfOk result (λ made. published made.set.tasks ≡ Some made.rule) }
-    ensures work { IfOk result (λ made. made.work ≡ made_work (spec.words_of number) tasks ticks) }
+    ensures work { IfOk result (λ made. made.work ≡ generated_work (spec.words_of number) tasks ticks) }
     ensures admitted { IfOk result (λ made. AreWithinThreeQuarters made.set.tasks) }
     ensures fits { IfOk result (λ made. Fits made.rule) }
     ensures holds { IfOk result (λ made. Holds made.set.tasks made.rule) }
     ensures is_work { IfOk result (λ made. IsWork made.set.tasks made.work) }
-    ensures sets { MadeSetsAreAdmitted }
-    ensures works { MadeWorkIsTaken }
+    ensures sets { GeneratedSetsAreAdmitted }
+    ensures works { GeneratedWorkIsTaken }
 {
     let made = make_all(alloc, number, tasks, ticks as u32)?;
     Ok(made)
@@ -56,9 +56,9 @@ fn make_all(alloc: Global, number: u64, count: u32, ticks: u32) -> Result<Made, 
     requires some { 2 ≤ count }
     requires few { count ≤ 32 }
     requires last { ticks ≤ 1000000 }
-    ensures set { IfOk result (λ made. made.set ≡ unscaled (made_set (spec.words_of number) count)) }
+    ensures set { IfOk result (λ made. made.set ≡ unscaled (generated_set (spec.words_of number) count)) }
     ensures rule { IfOk result (λ made. published made.set.tasks ≡ Some made.rule) }
-    ensures work { IfOk result (λ made. made.work ≡ made_work (spec.words_of number) count ticks) }
+    ensures work { IfOk result (λ made. made.work ≡ generated_work (spec.words_of number) count ticks) }
     ensures fits { IfOk result (λ made. Fits made.rule) }
     ensures holds { IfOk result (λ made. Holds made.set.tasks made.rule) }
 {

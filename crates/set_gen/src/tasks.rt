@@ -1,8 +1,8 @@
 //! The tasks of a generated set, and the gaps between their releases.
 ghost use Rattle.std.specs.Prelude.{◌≡◌, ◌≤◌, ℕ, List, IfOk, OnOk};
 ghost use Rattle.set_gen.specs.Words.{after};
-ghost use Rattle.set_gen.specs.MadeSet as spec;
-ghost use Rattle.set_gen.specs.MadeNumbers.{AreOf, AreSmall};
+ghost use Rattle.set_gen.specs.GeneratedSet as spec;
+ghost use Rattle.set_gen.specs.GeneratedNumbers.{AreOf, AreSmall};
 
 use crate::words::take;
 use mc_task::{Level, Name, Task};
@@ -34,8 +34,8 @@ pub struct Numbers {
 pub fn draw(alloc: Global, words: &mut Lcg64Xsh32, count: u32) -> Result<Drawn, AllocError>
     requires some { 2 ≤ count }
     requires few { count ≤ 32 }
-    ensures tasks { IfOk result (λ drawn. drawn.tasks.items ≡ spec.made_set words.old count) }
-    ensures gaps { IfOk result (λ drawn. drawn.gaps.items ≡ spec.made_gaps words.old count) }
+    ensures tasks { IfOk result (λ drawn. drawn.tasks.items ≡ spec.generated_set words.old count) }
+    ensures gaps { IfOk result (λ drawn. drawn.gaps.items ≡ spec.generated_gaps words.old count) }
     ensures words { OnOk result (words.new ≡ after (spec.words_before count) words.old) }
 {
     let mut tasks = Vec::new(alloc);
@@ -57,8 +57,8 @@ fn draw_one(
 ) -> Result<(Task, u32), AllocError>
     requires some { 2 ≤ count }
     requires few { count ≤ 32 }
-    ensures task { IfOk result (λ drawn. drawn.0 ≡ spec.made_task words.old count number) }
-    ensures gap { IfOk result (λ drawn. drawn.1 ≡ spec.made_gap words.old number) }
+    ensures task { IfOk result (λ drawn. drawn.0 ≡ spec.generated_task words.old count number) }
+    ensures gap { IfOk result (λ drawn. drawn.1 ≡ spec.generated_gap words.old number) }
     ensures words { OnOk result (words.new ≡ after (spec.words_taken number) words.old) }
 {
     let name = name_of(alloc, number)?;
@@ -78,9 +78,9 @@ fn draw_one(
 pub fn draw_numbers(words: &mut Lcg64Xsh32, count: u32, number: u32) -> (Numbers, u32)
     requires some { 2 ≤ count }
     requires few { count ≤ 32 }
-    ensures task { AreOf (spec.made_task words.old count number) result.0 }
+    ensures task { AreOf (spec.generated_task words.old count number) result.0 }
     ensures small { AreSmall result.0 }
-    ensures gap { result.1 ≡ spec.made_gap words.old number }
+    ensures gap { result.1 ≡ spec.generated_gap words.old number }
     ensures words { words.new ≡ after (spec.words_taken number) words.old }
 {
     let period = period(take(words));
@@ -93,7 +93,7 @@ pub fn draw_numbers(words: &mut Lcg64Xsh32, count: u32, number: u32) -> (Numbers
     (numbers, period + extra_gap)
 }
 
-#[tactic(auto, unfolding(crate::specs::MadeSet::task_name))]
+#[tactic(auto, unfolding(crate::specs::GeneratedSet::task_name))]
 fn name_of(alloc: Global, number: u32) -> Result<Name, AllocError>
     ensures { IfOk result (λ name. name ≡ spec.task_name number) }
 {
@@ -104,7 +104,7 @@ fn name_of(alloc: Global, number: u32) -> Result<Name, AllocError>
     }
 }
 
-#[tactic(auto, unfolding(crate::specs::MadeSet::period, crate::specs::MadeSet::periods))]
+#[tactic(auto, unfolding(crate::specs::GeneratedSet::period, crate::specs::GeneratedSet::periods))]
 fn period(word: u32) -> u32
     ensures value { result ≡ spec.period word }
     ensures least { 200 ≤ result }

@@ -68,11 +68,11 @@ fn each_task_goes_to_the_least_processor_that_takes_it(rt: HostRuntime) -> Resul
             &[1, 2, 2],
         ),
     ];
-    for (name, processors, lines, wanted) in cases {
+    for (name, processors, lines, expected) in cases {
         let set = set_of(alloc, lines)?;
         match fit(alloc, &set, processors) {
             Ok(parts) => {
-                assert!(rt; parts.of.as_slice() == wanted, "{name}");
+                assert!(rt; parts.of.as_slice() == expected, "{name}");
             }
             Err(_) => return Err("no parts".into()),
         }
@@ -81,7 +81,7 @@ fn each_task_goes_to_the_least_processor_that_takes_it(rt: HostRuntime) -> Resul
 }
 
 #[test]
-fn the_first_task_without_room_is_told(rt: HostRuntime) -> Result<(), Fail> {
+fn the_first_task_without_a_processor_is_reported(rt: HostRuntime) -> Result<(), Fail> {
     let alloc = rt.alloc();
     let set = set_of(alloc, &PLANT)?;
     let fault = fit(alloc, &set, 1).err();
@@ -152,13 +152,13 @@ fn a_part_has_its_tasks_and_their_work(rt: HostRuntime) -> Result<(), Fail> {
         ),
         (2, "log ", &[work_row(1, 0, 5)]),
     ];
-    for (n, names, wanted) in cases {
+    for (n, names, expected) in cases {
         let Some(tasks) = part(alloc, &set, &parts, n)? else {
             return Err("no part".into());
         };
         assert!(rt; names_of(alloc, &tasks)?.as_str() == names, "processor {n}");
         let own = part_work(alloc, &set, &parts, n, &work)?;
-        assert!(rt; own.rows() == wanted, "processor {n}");
+        assert!(rt; own.rows() == expected, "processor {n}");
     }
     assert!(rt; part(alloc, &set, &parts, 3)?.is_none());
     Ok(())

@@ -78,12 +78,12 @@ fn last_admitted(alloc: Global, set: &TaskSet) -> Result<Option<u32>, Fail> {
 
 #[test]
 fn a_stretch_is_the_last_percentage_admitted(rt: HostRuntime) -> Result<(), Fail> {
-    for (name, lines, wanted) in SETS {
+    for (name, lines, expected) in SETS {
         let set = set_of(rt.alloc(), lines)?;
         let loads = sum_loads(&set)?;
-        assert!(rt; stretch(&set, &loads) == wanted, "{name}");
+        assert!(rt; stretch(&set, &loads) == expected, "{name}");
         assert!(rt;
-            last_admitted(rt.alloc(), &set)? == wanted,
+            last_admitted(rt.alloc(), &set)? == expected,
             "{name}, one by one"
         );
     }
@@ -113,7 +113,7 @@ fn the_load_of_high_tasks_follows_the_percentage(rt: HostRuntime) -> Result<(), 
 }
 
 #[test]
-fn a_made_set_is_counted_up_to_its_stretch(rt: HostRuntime) -> Result<(), Fail> {
+fn a_generated_set_is_counted_up_to_its_stretch(rt: HostRuntime) -> Result<(), Fail> {
     let alloc = rt.alloc();
     for number in 1..25u32 {
         let tasks = 1 + number;
@@ -134,16 +134,19 @@ fn a_made_set_is_counted_up_to_its_stretch(rt: HostRuntime) -> Result<(), Fail> 
 }
 
 #[test]
-fn made_sets_are_counted_by_their_stretch(rt: HostRuntime) -> Result<(), Fail> {
+fn generated_sets_are_counted_by_their_stretch(rt: HostRuntime) -> Result<(), Fail> {
     let alloc = rt.alloc();
     let cases: [(u64, u32, u32, [u32; 3]); 2] = [(1, 50, 8, [50, 49, 16]), (7, 20, 5, [20, 17, 5])];
-    for (number, sets, tasks, wanted) in cases {
+    for (number, sets, tasks, expected) in cases {
         if number > 1000 || sets < 1 || sets > 10000 || tasks < 2 || tasks > 32 {
             continue;
         }
         let counts = table(&rt, alloc, number, sets, tasks)?;
         assert!(rt; counts.len() == 11, "sets of {tasks}");
-        assert!(rt; counts.iter().take(3).eq(wanted.iter()), "sets of {tasks}");
+        assert!(rt;
+            counts.iter().take(3).eq(expected.iter()),
+            "sets of {tasks}"
+        );
         assert!(rt;
             counts.iter().skip(3).all(|count| *count == 0),
             "sets of {tasks}"

@@ -68,7 +68,7 @@ const LISTS: [(&[Line], SetFault); 5] = [
 ];
 
 #[test]
-fn the_first_fault_of_a_list_is_told(rt: HostRuntime) -> Result<(), Fail> {
+fn the_first_fault_of_a_list_is_reported(rt: HostRuntime) -> Result<(), Fail> {
     for (lines, fault) in LISTS {
         assert_eq!(rt; refusal(rt.alloc(), lines)?, Some(fault));
     }
@@ -148,7 +148,7 @@ fn a_chosen_scale_stays_with_the_set_and_its_copy(rt: HostRuntime) -> Result<(),
 }
 
 #[test]
-fn levels_and_rules_are_told_apart(rt: HostRuntime) {
+fn levels_and_rules_differ(rt: HostRuntime) {
     let high = task(b"a", Level::High, 4, 1, 2).map(|task| task.is_high());
     let low = task(b"b", Level::Low, 4, 1, 1).map(|task| task.is_high());
     assert!(rt; (high, low) == (Some(true), Some(false)));

@@ -18,7 +18,7 @@ whole l = ([], sym (append-nil l))
 pub further : (more log seen : List Shown) → StartsWith more log → StartsWith log seen → StartsWith more seen
 further more log seen a b = (b.0 ++ a.0, a.1 ∙ (ap (λ l. l ++ a.0) b.1 ∙ append_assoc seen b.0 a.0))
 
-pub all_further : (more log : List Shown) (told : List (List Shown)) → StartsWith more log → AllBegin log told → AllBegin more told
+pub all_further : (more log : List Shown) (learned : List (List Shown)) → StartsWith more log → AllBegin log learned → AllBegin more learned
 all_further more log [] a h = tt
 all_further more log (x ∷ xs) a h = (further more log x a h.0, all_further more log xs a h.1)
 

@@ -2,14 +2,14 @@
 use Rattle.std.specs.Prelude.{◌≡◌, ℕ, List}
 use Rattle.atomic_table.specs.Table.{Me, Step}
 use Rattle.status_board.specs.declared.shown.Shown.{Shown}
-use Rattle.status_board.specs.declared.shown.View.{View}
+use Rattle.status_board.specs.declared.shown.TokenView.{TokenView}
 use Rattle.status_board.specs.Logs.{StartsWith, IsLog, start, last_of, word_of}
 use Rattle.status_board.specs.Views.{shown_view, seen_view}
 use Rattle.status_board.specs.Rule.{AllBegin}
 
 -- a token's view, and the slots that it has taken, of which there are none
 abbrev pub Standing : Type 0
-Standing = Me (Unit {0}) View
+Standing = Me (Unit {0}) TokenView
 
 -- the step showed a pair: the word found is that of the pair, which comes after those before it
 abbrev pub Shows : Step (Unit {0}) → Standing → ℕ → Standing → Type 0
@@ -22,6 +22,6 @@ abbrev pub Looks : Step (Unit {0}) → Standing → ℕ → Standing → Type 0
 Looks st before found after = (log : List Shown)
     × IsLog log
     × StartsWith log before.0.list
-    × AllBegin log before.0.told
+    × AllBegin log before.0.learned
     × (found ≡ word_of (last_of start log))
     × (after ≡ (seen_view log before.0, before.1))

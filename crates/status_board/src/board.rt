@@ -2,8 +2,8 @@
 ghost use Rattle.std.specs.Prelude.{◌≡◌, ◌+◌, ◌≤◌, ◌^◌, ◌++◌, ◌∷◌, []};
 ghost use Rattle.status_board.specs.Logs.{StartsWith, start, last_of, word_of};
 
-use crate::plays::{Copied, Look, Rules, Show, TakeIn};
-use crate::shown::{Shown, View};
+use crate::plays::{BoardRule, JoinToken, LoadWord, Show, SplitToken};
+use crate::shown::{Shown, TokenView};
 use crate::tokens::{Watcher, Writer};
 use atomic_table::Table;
 use std::alloc::Global;
@@ -14,7 +14,7 @@ const WORD: usize = 0;
 /// A board that shows one pair of ticks and mode at a time.
 #[derive(Drop)]
 pub struct Board {
-    pub(crate) table: Table<(), View, (), Rules, Global>,
+    pub(crate) table: Table<(), TokenView, (), BoardRule, Global>,
     ghost sized: { table.shared.table_id.words ≡ 1 },
 }
 
@@ -49,7 +49,7 @@ impl Board {
         ensures begins { StartsWith (seen watcher.new) (seen watcher.old) }
         ensures last { result ≡ last_of start (seen watcher.new) }
     {
-        let found = self.table.shared.load::<Look>(&mut watcher.seat, WORD);
+        let found = self.table.shared.load::<LoadWord>(&mut watcher.seat, WORD);
         Shown {
             ticks: found / 2,
             high_mode: found % 2 == 1,
@@ -62,11 +62,11 @@ impl Board {
         ensures of { IsWriterOf self.now writer.new × IsWatcherOf self.now watcher.new }
         ensures shown { shown writer.new ≡ shown writer.old }
         ensures begins { StartsWith (seen watcher.new) (seen watcher.old) }
-        ensures told { StartsWith (seen watcher.new) (shown writer.old) }
+        ensures learned { StartsWith (seen watcher.new) (shown writer.old) }
     {
         let shared = &self.table.shared;
-        let note = shared.split_seat::<Copied>(&mut writer.seat);
-        shared.join_seat::<TakeIn>(&mut watcher.seat, note);
-        shared.load::<Look>(&mut watcher.seat, WORD);
+        let note = shared.split_seat::<SplitToken>(&mut writer.seat);
+        shared.join_seat::<JoinToken>(&mut watcher.seat, note);
+        shared.load::<LoadWord>(&mut watcher.seat, WORD);
     }
 }

@@ -11,5 +11,5 @@ mod tokens;
 
 pub use board::Board;
 pub use opening::Memory;
-pub use shown::{BoardId, Shown, View};
+pub use shown::{BoardId, Shown, TokenView};
 pub use tokens::{Watcher, Writer};

@@ -4,7 +4,7 @@ ghost use Rattle.status_board.specs.Logs.{start};
 ghost use Rattle.status_board.specs.Tokens.{shown, IsWriterOf, IsFresh};
 
 use crate::board::Board;
-use crate::plays::Copied;
+use crate::plays::SplitToken;
 use crate::tokens::{Watcher, Writer};
 use atomic_table::Table;
 use std::alloc::Global;
@@ -53,7 +53,7 @@ impl Board {
         ensures watcher { IsFresh self.now result }
     {
         Watcher {
-            seat: self.table.shared.split_seat::<Copied>(&mut writer.seat),
+            seat: self.table.shared.split_seat::<SplitToken>(&mut writer.seat),
         }
     }
 }

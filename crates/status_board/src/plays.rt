@@ -3,13 +3,13 @@ ghost use Rattle.status_board.specs.Rule.{Orderly};
 ghost use Rattle.status_board.specs.Views.{writer_view, watcher_view, both_views, spent_view};
 ghost use Rattle.status_board.specs.Steps.{Shows, Looks};
 
-use crate::shown::View;
+use crate::shown::TokenView;
 use atomic_table::{Join, Play, Split, TableRule};
 
 /// The rule that each step keeps.
-pub struct Rules;
+pub struct BoardRule;
 
-impl TableRule<(), View, ()> for Rules {
+impl TableRule<(), TokenView, ()> for BoardRule {
     ghost holds = { λ _. Orderly };
 
     ghost first = { λ _. writer_view };
@@ -18,30 +18,30 @@ impl TableRule<(), View, ()> for Rules {
 /// A step that shows a pair.
 pub struct Show;
 
-impl Play<(), View> for Show {
+impl Play<(), TokenView> for Show {
     ghost then = { Shows };
 }
 
 /// A look at the board.
-pub struct Look;
+pub struct LoadWord;
 
-impl Play<(), View> for Look {
+impl Play<(), TokenView> for LoadWord {
     ghost then = { Looks };
 }
 
 /// A step that copies what the writer showed into a note for a watcher.
-pub struct Copied;
+pub struct SplitToken;
 
-impl Split<View> for Copied {
+impl Split<TokenView> for SplitToken {
     ghost left = { λ v. v };
 
     ghost right = { watcher_view };
 }
 
 /// A step that takes a note into a watcher.
-pub struct TakeIn;
+pub struct JoinToken;
 
-impl Join<View> for TakeIn {
+impl Join<TokenView> for JoinToken {
     ghost both = { both_views };
 
     ghost spent = { spent_view };

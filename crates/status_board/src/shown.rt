@@ -20,7 +20,7 @@ pub struct BoardId {
 }
 
 /// What a token knows. No value of this type is ever made.
-pub struct View {
+pub struct TokenView {
     /// Whether the token is the writer's.
     pub writes: bool,
     /// Whether the token was not joined into another.
@@ -28,5 +28,5 @@ pub struct View {
     /// The pairs that the token showed or saw.
     pub list: LinkedList<Shown>,
     /// The lists that the token learned from others since it last saw the board.
-    pub told: LinkedList<LinkedList<Shown>>,
+    pub learned: LinkedList<LinkedList<Shown>>,
 }

@@ -58,7 +58,7 @@ fn a_watcher_reads_what_was_shown_last(rt: HostRuntime) -> Result<(), Fail> {
 }
 
 #[test]
-fn as_many_watchers_are_made_as_were_asked_for(rt: HostRuntime) -> Result<(), Fail> {
+fn watchers_are_made_in_the_number_asked_for(rt: HostRuntime) -> Result<(), Fail> {
     for watchers in [1, 2, 128] {
         let Ok((_board, _writer, list)) = Board::new(rt.alloc(), watchers) else {
             return Err("memory".into());

@@ -4,12 +4,12 @@ use Rattle.std.specs.Prelude.{count_by}
 use Rattle.std.specs.List.{AllZip, range_with_len}
 use Rattle.std.proofs.lemmas.List.Sums.{sum_by-cons, sum_by-append}
 use Rattle.rayon.specs.Shown.{run-append}
-use Rattle.study.specs.Acceptance.{reaches, made_stretch, accepted, percentages, accept_table, PartsAdd, AcceptedAreAdmitted}
-use Rattle.study.specs.Steps.{IsReached, more_than}
+use Rattle.study.specs.Acceptance.{reaches, generated_stretch, accepted, percentages, accept_table, PartsAdd, AcceptedAreAdmitted}
+use Rattle.study.specs.Levels.{IsReached, more_than}
 use Rattle.study.specs.Stretch.{is_admitted_at, stretch}
 use Rattle.set_gen.specs.Words.{words_of}
-use Rattle.set_gen.specs.MadeSet.{made_set}
-use Rattle.set_gen.proofs.MadeTasks.{made_set-AreTasks}
+use Rattle.set_gen.specs.GeneratedSet.{generated_set}
+use Rattle.set_gen.proofs.GeneratedTasks.{generated_set-AreTasks}
 use Rattle.study.proofs.Reached.{reaches-admitted}
 
 -- counting a list with one more element
@@ -40,18 +40,18 @@ counted-same p q (x ∷ xs) h =
 
 -- law: a stretch reaches what the test admits
 pub accepted-admitted : AcceptedAreAdmitted
-unfolding accepted made_stretch
+unfolding accepted generated_stretch
 accepted-admitted number sets n s some few most =
-    counted-same (λ i. reaches s (stretch (made_set (words_of (number + i)) n))) (λ i. is_admitted_at (made_set (words_of (number + i)) n) s) (range_with_len 0 sets)
-    (λ i. reaches-admitted (made_set (words_of (number + i)) n) s (made_set-AreTasks (words_of (number + i)) n some few) most)
+    counted-same (λ i. reaches s (stretch (generated_set (words_of (number + i)) n))) (λ i. is_admitted_at (generated_set (words_of (number + i)) n) s) (range_with_len 0 sets)
+    (λ i. reaches-admitted (generated_set (words_of (number + i)) n) s (generated_set-AreTasks (words_of (number + i)) n some few) most)
 
 -- the counts are the table
-pub counts-table : (number sets n : ℕ) (ks : List ℕ) → AllZip (λ i k. IsReached (made_stretch (number + i) n) k) (range_with_len 0 sets) ks
+pub counts-table : (number sets n : ℕ) (ks : List ℕ) → AllZip (λ i k. IsReached (generated_stretch (number + i) n) k) (range_with_len 0 sets) ks
     → map (λ i. more_than i ks) (range_with_len 0 11) ≡ accept_table number sets n
 unfolding accept_table percentages accepted
 counts-table number sets n ks h =
-    map-range-same (λ i. more_than i ks) (λ i. count_by (λ z. reaches (100 + 10 * i) (made_stretch (number + z) n)) (range_with_len 0 sets)) 0 11
-    (λ i lt. reach (λ z. made_stretch (number + z) n) i (omega arith) (range_with_len 0 sets) ks h)
+    map-range-same (λ i. more_than i ks) (λ i. count_by (λ z. reaches (100 + 10 * i) (generated_stretch (number + z) n)) (range_with_len 0 sets)) 0 11
+    (λ i lt. reach (λ z. generated_stretch (number + z) n) i (omega arith) (range_with_len 0 sets) ks h)
 
 -- counting two ranges that agree number by number
 counted-from : (p q : ℕ → Bool) (a b n : ℕ) → ((i : ℕ) → p (a + i) ≡ q (b + i)) → count_by p (range_with_len a n) ≡ count_by q (range_with_len b n)
@@ -71,10 +71,10 @@ pub parts-add : PartsAdd
 unfolding accepted
 parts-add number first second n s =
     ap (count_by p) (sym (run-append 0 first second)) ∙ sum_by-append (λ i. cond (p i) 1 0) (range_with_len 0 first) (range_with_len (0 + first) second)
-    ∙ ap (λ r. count_by p (range_with_len 0 first) + r) (counted-from p q (0 + first) 0 second (λ i. ap (λ k. reaches s (made_stretch k n)) (omega arith)))
+    ∙ ap (λ r. count_by p (range_with_len 0 first) + r) (counted-from p q (0 + first) 0 second (λ i. ap (λ k. reaches s (generated_stretch k n)) (omega arith)))
   where
     p : ℕ → Bool
-    p i = reaches s (made_stretch (number + i) n)
+    p i = reaches s (generated_stretch (number + i) n)
 
     q : ℕ → Bool
-    q i = reaches s (made_stretch ((number + first) + i) n)
+    q i = reaches s (generated_stretch ((number + first) + i) n)

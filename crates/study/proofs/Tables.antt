@@ -5,9 +5,9 @@ use Rattle.std.proofs.lemmas.List.FromFn.{length-range_with_len}
 use Rattle.std.proofs.lemmas.List.Elements.{AllZip-push}
 use Rattle.std.proofs.lemmas.List.Sums.{count_by-le-length}
 use Rattle.rayon.specs.Shown.{run-append}
-use Rattle.study.specs.Acceptance.{reaches, made_stretch, accepted, percentages, accept_table}
-use Rattle.study.specs.Shares.{pieces_of, sets_at, counts_at, added}
-use Rattle.study.specs.Steps.{IsReached}
+use Rattle.study.specs.Acceptance.{reaches, generated_stretch, accepted, percentages, accept_table}
+use Rattle.study.specs.Shares.{pieces_of, sets_at, piece_counts, added}
+use Rattle.study.specs.Levels.{IsReached}
 use Rattle.study.proofs.Counts.{map-range-same, parts-add}
 
 -- one more set, with how many of the percentages it reaches
@@ -28,7 +28,7 @@ table-none number n = refl
 accepted-most : (number sets n s : ℕ) → accepted number sets n s ≤ sets
 unfolding accepted
 accepted-most number sets n s =
-    let most = count_by-le-length (λ i. reaches s (made_stretch (number + i) n)) (range_with_len 0 sets) in
+    let most = count_by-le-length (λ i. reaches s (generated_stretch (number + i) n)) (range_with_len 0 sets) in
     omega (arith, most, length-range_with_len 0 sets)
 
 -- a bound on each value of f bounds each element of its list, and what stands past the end
@@ -51,9 +51,9 @@ tables-add number first second n =
     (λ k lt. sym (parts-add number first second n (100 + 10 * k)))
 
 -- the counts of the pieces before a number, added to those of that piece
-pub pieces-more : (number sets n place : ℕ) (before piece after : List ℕ) → place < pieces_of sets → before ≡ accept_table number (min sets (128 * place)) n
-    → piece ≡ counts_at number sets n place → after ≡ added before piece → after ≡ accept_table number (min sets (128 * (place + 1))) n
-pieces-more number sets n place before piece after lt b p is =
-    let whole : min sets (128 * place) ≡ 128 * place = omega (arith, lt) in
-    is ∙ (λ t. added (b t) (p t)) ∙ ap (λ k. added (accept_table number k n) (counts_at number sets n place)) whole ∙ tables-add number (128 * place) (sets_at sets place) n
+pub pieces-more : (number sets n index : ℕ) (before piece after : List ℕ) → index < pieces_of sets → before ≡ accept_table number (min sets (128 * index)) n
+    → piece ≡ piece_counts number sets n index → after ≡ added before piece → after ≡ accept_table number (min sets (128 * (index + 1))) n
+pieces-more number sets n index before piece after lt b p is =
+    let whole : min sets (128 * index) ≡ 128 * index = omega (arith, lt) in
+    is ∙ (λ t. added (b t) (p t)) ∙ ap (λ k. added (accept_table number k n) (piece_counts number sets n index)) whole ∙ tables-add number (128 * index) (sets_at sets index) n
     ∙ ap (λ k. accept_table number k n) (omega (arith, lt))

@@ -13,24 +13,24 @@ use Rattle.mc_model.proofs.Sums.{total-append}
 use Rattle.mc_model.proofs.Lists.{Each-append}
 use Rattle.mc_model.proofs.Walk.{load_more}
 use Rattle.set_gen.specs.Words.{after}
-use Rattle.set_gen.specs.MadeSet.{made_task, made_set, words_before}
+use Rattle.set_gen.specs.GeneratedSet.{generated_task, generated_set, words_before}
 use Rattle.set_gen.proofs.Draws.{words_for}
-use Rattle.set_gen.specs.MadeNumbers.{AreOf}
+use Rattle.set_gen.specs.GeneratedNumbers.{AreOf}
 use Rattle.set_gen.specs.declared.tasks.Numbers.{Numbers}
 use Rattle.mc_model.proofs.Ranges.{slice_get-map-range}
-use Rattle.study.specs.declared.steps.High.{High}
+use Rattle.study.specs.declared.levels.High.{High}
 use Rattle.study.specs.Stretch.{percent}
 use Rattle.study.specs.Loads.{budget_at}
-use Rattle.study.specs.Steps.{asks_at, IsSmall}
+use Rattle.study.specs.Levels.{asks_at, IsSmall}
 
 -- the task generated from the words that are left
-pub made-here : (words left : Lcg) (n i : ℕ) → i < n → left ≡ after (words_before i) words → slice_get (made_set words n) i ≡ Some (made_task left n (i + 1))
-unfolding made_set
+pub made-here : (words left : Lcg) (n i : ℕ) → i < n → left ≡ after (words_before i) words → slice_get (generated_set words n) i ≡ Some (generated_task left n (i + 1))
+unfolding generated_set
 made-here words left n i lt is =
     let place : 1 + i ≡ i + 1 = omega arith in
     let before : (i + 1) - 1 ≡ i = omega arith in
-    slice_get-map-range (λ j. made_task (words_for words j) n j) 1 n i lt ∙ ap (λ j. Some (made_task (words_for words j) n j)) place
-    ∙ ap (λ j. Some (made_task (after (words_before j) words) n (i + 1))) before ∙ ap (λ w. Some (made_task w n (i + 1))) (sym is)
+    slice_get-map-range (λ j. generated_task (words_for words j) n j) 1 n i lt ∙ ap (λ j. Some (generated_task (words_for words j) n j)) place
+    ∙ ap (λ j. Some (generated_task (after (words_before j) words) n (i + 1))) before ∙ ap (λ w. Some (generated_task w n (i + 1))) (sym is)
 
 -- a sum with the task at an index
 pub load-step : (budget : Task → ℕ) (n : ℕ) (ts : List Task) (i : ℕ) (t : Task) (done all new b p : ℕ) → slice_get ts i ≡ Some t → done + load budget n (drop i ts) ≡ all

@@ -2,7 +2,7 @@
 use Rattle.std.specs.Prelude.{◌≡◌, ℕ, ◌+◌, ◌≤◌, Bool, false, nat_le, List, [], ◌∷◌, map, count_by, Option, None, Some}
 use Rattle.std.specs.List.{range_with_len}
 use Rattle.set_gen.specs.Words.{words_of}
-use Rattle.set_gen.specs.MadeSet.{made_set}
+use Rattle.set_gen.specs.GeneratedSet.{generated_set}
 use Rattle.study.specs.Stretch.{is_admitted_at, stretch}
 
 -- whether the stretch is at least s percent
@@ -11,12 +11,13 @@ reaches s None = false
 reaches s (Some most) = nat_le s most
 
 -- the stretch of the set of n tasks generated from a number
-unfoldable pub made_stretch : ℕ → ℕ → Option ℕ
-made_stretch number n = stretch (made_set (words_of number) n)
+unfoldable pub generated_stretch : ℕ → ℕ → Option ℕ
+generated_stretch number n = stretch (generated_set (words_of number) n)
 
 -- how many of the sets of n tasks, generated from this number on, have a stretch of at least s percent
 unfoldable pub accepted : ℕ → ℕ → ℕ → ℕ → ℕ
-accepted number sets n s = count_by (λ i. reaches s (made_stretch (number + i) n)) (range_with_len 0 sets)
+accepted number sets n s =
+    count_by (λ i. reaches s (generated_stretch (number + i) n)) (range_with_len 0 sets)
 
 -- the percentages of the table: 100, 110 and so on to 200
 unfoldable pub percentages : List ℕ
@@ -35,5 +36,5 @@ PartsAdd = (number first second n s : ℕ)
 -- percent
 abbrev pub AcceptedAreAdmitted : Type 0
 AcceptedAreAdmitted = (number sets n s : ℕ) → 2 ≤ n → n ≤ 32 → s ≤ 1000
-    → accepted number sets n s ≡ count_by (λ i. is_admitted_at (made_set (words_of (number + i)) n) s)
+    → accepted number sets n s ≡ count_by (λ i. is_admitted_at (generated_set (words_of (number + i)) n) s)
     (range_with_len 0 sets)

@@ -1,5 +1,5 @@
 pub mod Stretch
 pub mod Loads
 pub mod Acceptance
-pub mod Steps
+pub mod Levels
 pub mod Shares

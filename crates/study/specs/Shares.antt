@@ -10,16 +10,16 @@ pieces_of sets = (sets + 127) / 128
 
 -- how many sets the piece with this number has: 128, except that the last piece has those that are left
 abbrev pub sets_at : ℕ → ℕ → ℕ
-sets_at sets place = min 128 (sets - 128 * place)
+sets_at sets index = min 128 (sets - 128 * index)
 
 -- the counts of the piece with this number
-abbrev pub counts_at : ℕ → ℕ → ℕ → ℕ → List ℕ
-counts_at number sets n place = accept_table (number + 128 * place) (sets_at sets place) n
+abbrev pub piece_counts : ℕ → ℕ → ℕ → ℕ → List ℕ
+piece_counts number sets n index = accept_table (number + 128 * index) (sets_at sets index) n
 
 -- the piece is one of the sets of n tasks generated from this number on, and has the counts of its sets
 pub record IsPieceOf (number sets n : ℕ) (piece : Piece) : Type 0 where
-  pub place : piece.place < pieces_of sets
-  pub counts : piece.counts ≡ counts_at number sets n piece.place
+  pub index : piece.index < pieces_of sets
+  pub counts : piece.counts ≡ piece_counts number sets n piece.index
 
 -- threads have taken such pieces; which pieces, and whether one was taken twice, is left open
 abbrev pub ArePiecesOf : ℕ → ℕ → ℕ → List Piece → Type 0

@@ -4,7 +4,7 @@ ghost use Rattle.study.specs.Acceptance as spec;
 ghost use Rattle.study.specs.Shares.{ArePiecesOf};
 
 use crate::counting::add;
-use crate::shares::{Piece, counts_in, others_for, pieces, pieces_of};
+use crate::shares::{Piece, others_for, piece_counts, pieces, pieces_of};
 use mc_task::Memory;
 use std::alloc::Global;
 use std::sync::atomic::AtomicU64;
@@ -57,8 +57,11 @@ fn total(pieces: &[Piece], number: u64, sets: u32, tasks: u32) -> [u32; 11]
     ensures { result ≡ spec.accept_table number sets tasks }
 {
     let mut counts = [0; 11];
-    for place in 0..pieces_of(sets) {
-        add(&mut counts, counts_in(pieces, number, sets, tasks, place));
+    for index in 0..pieces_of(sets) {
+        add(
+            &mut counts,
+            piece_counts(pieces, number, sets, tasks, index),
+        );
     }
     counts
 }

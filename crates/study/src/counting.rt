@@ -1,11 +1,11 @@
 //! The counts of a few random sets, on one thread and without allocation.
 ghost use Rattle.std.specs.Prelude.{◌≡◌, ◌+◌, ◌<◌, ◌≤◌, ◌^◌, ℕ, length, map, slice_index};
 ghost use Rattle.std.specs.List.{AllZip, range_with_len};
-ghost use Rattle.study.specs.Acceptance.{made_stretch, accept_table};
+ghost use Rattle.study.specs.Acceptance.{generated_stretch, accept_table};
 ghost use Rattle.study.specs.Shares as spec;
-ghost use Rattle.study.specs.Steps.{IsReached, more_than};
+ghost use Rattle.study.specs.Levels.{IsReached, more_than};
 
-use crate::steps::steps_of;
+use crate::levels::levels_passed;
 use arrayvec::ArrayVec;
 
 // Of `sets` random sets of `tasks` tasks, generated from `number` on: how many reach each of the percentages.
@@ -26,11 +26,11 @@ fn reached(number: u64, sets: u32, tasks: u32) -> ArrayVec<u32, 128>
     requires some_tasks { 2 ≤ tasks }
     requires few_tasks { tasks ≤ 32 }
     requires numbers { number + sets < 2 ^ 64 }
-    ensures { AllZip (λ i k. IsReached (made_stretch (number + i) tasks) k) (range_with_len 0 sets) result.items }
+    ensures { AllZip (λ i k. IsReached (generated_stretch (number + i) tasks) k) (range_with_len 0 sets) result.items }
 {
     let mut reached = ArrayVec::new();
     for i in 0..sets {
-        reached.push(steps_of(number + u64::from(i), tasks));
+        reached.push(levels_passed(number + u64::from(i), tasks));
     }
     reached
 }
@@ -48,12 +48,12 @@ fn counts(reached: &[u32]) -> [u32; 11]
 }
 
 // How many sets reach more than `step` percentages.
-#[tactic(auto, unfolding(crate::specs::Steps::more_than))]
+#[tactic(auto, unfolding(crate::specs::Levels::more_than))]
 fn how_many(reached: &[u32], step: u32) -> u32
     requires { length reached.now ≤ 128 }
     ensures { result ≡ more_than step reached.now }
 {
-    reached.iter().filter(|steps| step < **steps).count() as u32
+    reached.iter().filter(|levels| step < **levels).count() as u32
 }
 
 // Adds counts to others, index by index.

@@ -3,9 +3,9 @@
 
 mod acceptance;
 mod counting;
+mod levels;
 mod room;
 mod shares;
-mod steps;
 
 pub use acceptance::{table, table_alone};
 pub use room::{high_at, stretch};

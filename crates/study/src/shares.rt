@@ -20,7 +20,7 @@ const LEAST_SHARE: u32 = 1250;
 // A piece by its number, and the counts of its sets.
 #[derive(Clone, Copy)]
 pub struct Piece {
-    place: u32,
+    index: u32,
     counts: [u32; 11],
 }
 
@@ -31,8 +31,8 @@ pub fn pieces_of(sets: u32) -> u32
     sets.div_ceil(PIECE)
 }
 
-// How many threads take pieces beside this one: none on one processor, otherwise as many as processors. That is one too
-// many, since the system may put the first onto the processor of this thread, which waits.
+// The number of threads that take pieces beside this one: none on one processor, otherwise the number of processors.
+// That is one too many, since the system may put the first onto the processor of this thread, which waits.
 pub fn others_for<R: Threads>(rt: &R, sets: u32) -> usize
     ensures { result ≤ sets / 1250 }
 {
@@ -97,44 +97,44 @@ fn share(
 {
     let most = pieces_of(sets);
     for _turn in 0..most {
-        let place = next.fetch_add(1, Ordering::SeqCst);
-        if u64::from(most) <= place {
+        let index = next.fetch_add(1, Ordering::SeqCst);
+        if u64::from(most) <= index {
             break;
         }
-        let place = place as u32;
-        let counts = counts_at(number, sets, tasks, place);
-        pieces.push(Piece { place, counts })?;
+        let index = index as u32;
+        let counts = count_piece(number, sets, tasks, index);
+        pieces.push(Piece { index, counts })?;
     }
     Ok(pieces)
 }
 
 // The counts of the sets of the piece with this number.
-fn counts_at(number: u64, sets: u32, tasks: u32, place: u32) -> [u32; 11]
-    requires place { place < spec.pieces_of sets }
+fn count_piece(number: u64, sets: u32, tasks: u32, index: u32) -> [u32; 11]
+    requires index { index < spec.pieces_of sets }
     requires few_sets { sets ≤ 10000 }
     requires some_tasks { 2 ≤ tasks }
     requires few_tasks { tasks ≤ 32 }
     requires numbers { number + sets < 2 ^ 64 }
-    ensures { result ≡ spec.counts_at number sets tasks place }
+    ensures { result ≡ spec.piece_counts number sets tasks index }
 {
-    let before = PIECE * place;
+    let before = PIECE * index;
     counts_of(number + u64::from(before), PIECE.min(sets - before), tasks)
 }
 
 // The counts of the piece with this number, as a thread returned them; if none did, they are counted here.
-pub fn counts_in(pieces: &[Piece], number: u64, sets: u32, tasks: u32, place: u32) -> [u32; 11]
+pub fn piece_counts(pieces: &[Piece], number: u64, sets: u32, tasks: u32, index: u32) -> [u32; 11]
     requires pieces { spec.ArePiecesOf number sets tasks pieces.now }
-    requires place { place < spec.pieces_of sets }
+    requires index { index < spec.pieces_of sets }
     requires few_sets { sets ≤ 10000 }
     requires some_tasks { 2 ≤ tasks }
     requires few_tasks { tasks ≤ 32 }
     requires numbers { number + sets < 2 ^ 64 }
-    ensures { result ≡ spec.counts_at number sets tasks place }
+    ensures { result ≡ spec.piece_counts number sets tasks index }
 {
     for piece in pieces {
-        if piece.place == place {
+        if piece.index == index {
             return piece.counts;
         }
     }
-    counts_at(number, sets, tasks, place)
+    count_piece(number, sets, tasks, index)
 }

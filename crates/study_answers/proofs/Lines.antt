@@ -13,7 +13,7 @@ lines-more counts i s count text line more all here is longer inv =
     ∙ append_assoc text (decimal s ++ (codes " " ++ (decimal count ++ codes "\n"))) (lines_from (s + 10) (drop (i + 1) counts))
     ∙ ap (λ l. text ++ lines_from s l) (sym here) ∙ inv
 
--- and all are
+-- all lines are written
 pub lines-end : (counts : List ℕ) (i s : ℕ) (text all : List ℕ) → length counts ≤ i → text ++ lines_from s (drop i counts) ≡ all → text ≡ all
 lines-end counts i s text all past inv = sym (append-nil text) ∙ ap (λ l. text ++ lines_from s l) (sym (drop_all i counts past)) ∙ inv
 

@@ -16,9 +16,9 @@ table_text counts = lines_from 100 counts
 
 -- the reply is the table of this many random sets, each of this many tasks, generated from the numbers from
 -- this one on; with status 0
-abbrev pub Accepts : ℕ → ℕ → ℕ → Reply → Type 0
-Accepts number sets tasks reply = reply ≡ reply_of 0 (table_text (accept_table number sets tasks))
+abbrev pub IsAcceptReply : ℕ → ℕ → ℕ → Reply → Type 0
+IsAcceptReply number sets tasks reply = reply ≡ reply_of 0 (table_text (accept_table number sets tasks))
 
 -- the command `accept` of the first number, the number of sets and the number of tasks
 abbrev pub accept : ℕ → ℕ → ℕ → Command
-accept number sets tasks = answer (Accepts number sets tasks)
+accept number sets tasks = answer (IsAcceptReply number sets tasks)

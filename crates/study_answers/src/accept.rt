@@ -15,7 +15,7 @@ pub type SetCount = Within<1, 10_000>;
 
 /// `accept NUMBER SETS TASKCOUNT`.
 #[derive(Drop)]
-pub struct Accept {
+pub struct AcceptCommand {
     /// The number of the first set; that of the one after the last is below 2^64.
     pub number: u64,
     pub sets: SetCount,
@@ -23,7 +23,7 @@ pub struct Accept {
     pub tasks: TaskCount,
 }
 
-impl Accept {
+impl AcceptCommand {
     /// The reply, which needs no file: how many of the sets have each stretch. Several threads try the sets, and none of them waits.
     pub fn reply<R: Threads + Sync>(&self, rt: &R, alloc: Global) -> Result<Reply, Stop>
         requires { self.now.number + self.now.sets < 2 ^ 64 }
@@ -34,7 +34,7 @@ impl Accept {
         Ok(Reply::new(0, table_text(alloc, &counts)?))
     }
 
-    /// The reply that [`Accept::reply`] gives, by the caller's thread alone.
+    /// The reply that [`AcceptCommand::reply`] gives, by the caller's thread alone.
     pub fn reply_alone(&self, alloc: Global) -> Result<Reply, Stop>
         requires { self.now.number + self.now.sets < 2 ^ 64 }
         ensures { ServesAlone (accept self.now.number self.now.sets self.now.tasks) result }

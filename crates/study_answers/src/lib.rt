@@ -1,8 +1,8 @@
-//! The commands on how much room sets have: `stretch` and `accept`.
+//! The commands on how far the high budgets of sets could grow: `stretch` and `accept`.
 #![tactic(auto)]
 
 mod accept;
 mod stretch;
 
-pub use accept::{Accept, SetCount};
-pub use stretch::Stretch;
+pub use accept::{AcceptCommand, SetCount};
+pub use stretch::StretchCommand;

@@ -18,11 +18,11 @@ use tick_frac::Ratio;
 
 /// `stretch TASKS`.
 #[derive(Drop)]
-pub struct Stretch<'a> {
+pub struct StretchCommand<'a> {
     pub tasks: FileName<'a>,
 }
 
-impl<'a> Stretch<'a> {
+impl<'a> StretchCommand<'a> {
     /// The reply: how far the high budgets of the set in the file can be stretched.
     pub fn reply<S: Shelf>(&self, alloc: Global, shelf: &mut S) -> Result<Reply, Stop>
         ensures { Serves 1 (stretch self.now.tasks) (S.state shelf.old) (S.state shelf.new) result }

@@ -8,11 +8,11 @@ use Rattle.task_file.specs.TaskFile.{task_file}
 use Rattle.replies.specs.Refusal.{Refusal, TaskFile, OutOfRange, NotAdmitted}
 use Rattle.replies.specs.Reading.{◌>>=◌, refused_as, none_or}
 use Rattle.serving.specs.Command.{Command, fetch}
-use Rattle.task_answers.specs.declared.ruled.Ruled.{Ruled}
+use Rattle.task_answers.specs.declared.set_with_rule.SetWithRule.{SetWithRule}
 
 -- a set with the rule under which its jobs are ordered
-abbrev pub under : Rule → Set → Ruled
-under rule set = record { set = set; rule = rule }
+abbrev pub with_rule : Rule → Set → SetWithRule
+with_rule rule set = record { set = set; rule = rule }
 
 -- the set that a task file of these bytes says, or the file's refusal
 abbrev pub set_in : List ℕ → Result Set Refusal
@@ -20,24 +20,24 @@ set_in bytes = refused_as TaskFile (task_file bytes)
 
 -- a set under the rule that the test gives it; or the refusal of a set whose periods are out of range, or
 -- that gets no rule
-abbrev pub tested : Set → Result Ruled Refusal
+abbrev pub tested : Set → Result SetWithRule Refusal
 tested set = do
   _ ← none_or OutOfRange (range_fault set.tasks)
   rule ← ok_or (test set) (NotAdmitted set.tasks)
-  Ok (under rule set)
+  Ok (with_rule rule set)
 
 -- the set that a task file of these bytes says, under the rule that the test gives it, or the refusal of the
 -- file or the set
-abbrev pub admitted : List ℕ → Result Ruled Refusal
+abbrev pub admitted : List ℕ → Result SetWithRule Refusal
 admitted bytes = do
   set ← set_in bytes
   tested set
 
 -- the set that a task file of these bytes says, under a given rule, or the file's refusal
-abbrev pub ruled_by : Rule → List ℕ → Result Ruled Refusal
-ruled_by rule bytes = do
+abbrev pub set_with_rule : Rule → List ℕ → Result SetWithRule Refusal
+set_with_rule rule bytes = do
   set ← set_in bytes
-  Ok (under rule set)
+  Ok (with_rule rule set)
 
 -- the command that asks for a task file, a work file or a demand file, of at most 16,777,216 bytes, and goes
 -- on by its bytes

@@ -1,6 +1,6 @@
 //! The set in a task file, if the test admits it.
 ghost use Rattle.std.specs.Prelude.{◌≡◌};
-ghost use Rattle.replies.specs.Stop.{Gives};
+ghost use Rattle.replies.specs.Stop.{ReadsOrRefuses};
 ghost use Rattle.task_answers.specs.Admitted.{set_in, tested, admitted};
 ghost use Rattle.task_answers.specs.Given.{IsGivenAs};
 
@@ -24,14 +24,14 @@ pub struct Admitted {
 
 /// The set in a task file with these bytes, if the test admits it.
 pub fn read_admitted(alloc: Global, bytes: &[u8]) -> Result<Admitted, Stop>
-    ensures { Gives IsGivenAs (admitted bytes.now) result }
+    ensures { ReadsOrRefuses IsGivenAs (admitted bytes.now) result }
 {
     tested_set(alloc, read_set(alloc, bytes)?)
 }
 
 /// The set in a task file with these bytes.
 pub fn read_set(alloc: Global, bytes: &[u8]) -> Result<TaskSet, Stop>
-    ensures { Gives (λ set given. given ≡ set) (set_in bytes.now) result }
+    ensures { ReadsOrRefuses (λ set given. given ≡ set) (set_in bytes.now) result }
 {
     match read_tasks(alloc, bytes) {
         Ok(set) => Ok(set),
@@ -40,7 +40,7 @@ pub fn read_set(alloc: Global, bytes: &[u8]) -> Result<TaskSet, Stop>
 }
 
 fn tested_set(alloc: Global, set: TaskSet) -> Result<Admitted, Stop>
-    ensures { Gives IsGivenAs (tested set) result }
+    ensures { ReadsOrRefuses IsGivenAs (tested set) result }
 {
     let loads = match sum_loads(&set) {
         Ok(loads) => loads,

@@ -11,11 +11,11 @@ use std::alloc::Global;
 
 /// `check TASKS`.
 #[derive(Drop)]
-pub struct Check<'a> {
+pub struct CheckCommand<'a> {
     pub tasks: FileName<'a>,
 }
 
-impl<'a> Check<'a> {
+impl<'a> CheckCommand<'a> {
     /// The reply: the loads of the set in the file, and its rule, if the test admits it.
     pub fn reply<S: Shelf>(&self, alloc: Global, shelf: &mut S) -> Result<Reply, Stop>
         ensures { Serves 1 (check self.now.tasks) (S.state shelf.old) (S.state shelf.new) result }

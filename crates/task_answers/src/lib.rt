@@ -4,8 +4,8 @@
 mod admitted;
 mod check;
 mod check_lines;
-mod ruled;
+mod set_with_rule;
 
 pub use admitted::{Admitted, MOST_TABLE_BYTES, read_admitted, read_set};
-pub use check::Check;
-pub use ruled::{Ruled, read_ruled};
+pub use check::CheckCommand;
+pub use set_with_rule::{SetWithRule, read_set_with_rule};

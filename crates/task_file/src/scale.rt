@@ -4,7 +4,7 @@ ghost use Rattle.toml.specs.Data.{array};
 ghost use Rattle.toml.specs.View.{view, items_view};
 ghost use Rattle.mc_task.specs.TaskSet.{IsScale};
 ghost use Rattle.task_file.specs.ScaleArray as file;
-ghost use Rattle.task_file.specs.Gives.{Gives};
+ghost use Rattle.task_file.specs.Reads.{Reads};
 
 use crate::{KeyName, TaskFault};
 use mc_task::Scale;
@@ -14,7 +14,7 @@ use toml::Value;
 // The scale under the key `scale`, in lowest terms, or none if the key is absent.
 #[tactic(auto, unfolding(crate::specs::ScaleArray::scale_in))]
 pub fn scale_in(value: Option<&Value>) -> Result<Option<Scale>, TaskFault>
-    ensures value { Gives (λ x. x) result (file.scale_in (option_map (λ v. view v.now) value.entry)) }
+    ensures value { Reads (λ x. x) result (file.scale_in (option_map (λ v. view v.now) value.entry)) }
     ensures scale { IfOk result (λ x. IfSome x IsScale) }
 {
     let Some(value) = value else {

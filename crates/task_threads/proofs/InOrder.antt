@@ -13,10 +13,10 @@ use Rattle.executive.specs.declared.executive.Executive.{Executive}
 use Rattle.executive.specs.Opening.{AreFresh}
 use Rattle.executive.specs.Passes.{of_pass, floor_of}
 use Rattle.executive.specs.Closing.{has_pass, IsMissing}
-use Rattle.task_threads.specs.declared.starts.Start.{Start}
+use Rattle.task_threads.specs.declared.starts.SpawnResult.{SpawnResult}
 use Rattle.task_threads.specs.Passes.{IsPassFor}
 use Rattle.task_threads.specs.Workers.{AreInOrder}
-use Rattle.task_threads.specs.Starts.{IsStartOf, GoDown}
+use Rattle.task_threads.specs.Starts.{IsSpawnResultOf, GoDown}
 
 -- passes that were just made are in order
 pub from_fresh : (e : Executive) (ps : List TaskPass) → AreFresh e ps → AreInOrder IsPassFor e ps
@@ -27,7 +27,7 @@ pub first_of : {A : Type 0} (xs : List A) → 0 < length xs → A
 first_of [] h = absurd (omega (arith, h))
 first_of (x ∷ xs) h = x
 
--- if passes in order are as many as the tasks, no task lacks one
+-- if there are as many passes in order as tasks, no task lacks one
 pub none_missing : (e : Executive) (ps : List TaskPass) (k : ℕ) → AreInOrder IsPassFor e ps → IsMissing ps (floor_of e).core.set k → length ps ≡ length (floor_of e).core.set → ⊥
 none_missing e ps k order missing all =
     let a = missing.in_set.0 in
@@ -48,10 +48,10 @@ one_more is_of e ws w all last i d lt =
     subst (is_of e (i + 1)) (sym (get_or-append ws (w ∷ []) d i before)) (all i d before))
 
 -- starts in order with one replaced by another of the same task
-pub replaced : {T : Type 0} (is_of : Executive → ℕ → T → Type 0) (e : Executive) (n m : ℕ) (ss : List (Start T)) (k : ℕ) (s : Start T) → m ≡ n → length ss ≡ n → k < m → GoDown is_of e n ss → IsStartOf is_of e (m - k) s → GoDown is_of e n (slice_set ss k s)
+pub replaced : {T : Type 0} (is_of : Executive → ℕ → T → Type 0) (e : Executive) (n m : ℕ) (ss : List (SpawnResult T)) (k : ℕ) (s : SpawnResult T) → m ≡ n → length ss ≡ n → k < m → GoDown is_of e n ss → IsSpawnResultOf is_of e (m - k) s → GoDown is_of e n (slice_set ss k s)
 replaced {T} is_of e n m ss k s same_number len below down is i d lt =
     let inside : k < length ss = omega (arith, same_number, len, below) in
-    let here : IsStartOf is_of e (n - k) s = subst (λ (l : ℕ). IsStartOf is_of e (l - k) s) same_number is in
+    let here : IsSpawnResultOf is_of e (n - k) s = subst (λ (l : ℕ). IsSpawnResultOf is_of e (l - k) s) same_number is in
     dite (ℕ_discrete i k)
-    (λ same. subst (λ (j : ℕ). IsStartOf is_of e (n - j) (slice_index_or (slice_set ss k s) j d)) (sym same) (subst (IsStartOf is_of e (n - k)) (sym (get_or-set_same ss k s d inside)) here))
-    (λ other. subst (IsStartOf is_of e (n - i)) (sym (get_or-set_other ss k i s d other)) (down i d (subst (λ (m : ℕ). i < m) (length-set ss k s) lt)))
+    (λ same. subst (λ (j : ℕ). IsSpawnResultOf is_of e (n - j) (slice_index_or (slice_set ss k s) j d)) (sym same) (subst (IsSpawnResultOf is_of e (n - k)) (sym (get_or-set_same ss k s d inside)) here))
+    (λ other. subst (IsSpawnResultOf is_of e (n - i)) (sym (get_or-set_other ss k i s d other)) (down i d (subst (λ (m : ℕ). i < m) (length-set ss k s) lt)))

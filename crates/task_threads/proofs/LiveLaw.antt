@@ -45,7 +45,7 @@ knows_then f k c lasts h = go (way f k c)
         let same : j ≡ i = cc in
         let mine : (k == j.task.0) ≡ true = eq-eqb k j.task.0 (sym own) in
         subst (λ (l : JobId). cond (k == l.task.0) (Some (granted f.core j)) (lasts l.task.0) ≡ Some (granted f.core l)) same (rw mine refl)
-    go (outcome_written told done j out is) = λ i e. absurd (cc)
+    go (outcome_written claimed done j out is) = λ i e. absurd (cc)
     go (idle_written out) = λ i e. absurd (cc)
     go w = λ i e. either_way (k == i.task.0) (lasts i.task.0) ∙ h i e
 
@@ -55,8 +55,8 @@ held_ends : (tasks set : List Task) (rule : Rule) (js : List JobId) (g : List Ro
 held_ends tasks set rule [] g h = h
 held_ends tasks set rule (j ∷ js) g h = held_ends tasks set rule js g h
 
-pub told_by_plan : (p : Plan) (g : List Row) (j : JobId) (d : Bool) → p ≡ Free → done_by p g j d ≡ d
-told_by_plan p g j d e = rw e refl
+pub claimed_by_plan : (p : Plan) (g : List Row) (j : JobId) (d : Bool) → p ≡ Free → done_by p g j d ≡ d
+claimed_by_plan p g j d e = rw e refl
 
 -- the outcome of the granted tick leaves rows that end jobs by their needs
 pub settled_ends : (tasks : List Task) (s : State) (j : JobId) (done : Bool) → done ≡ (used s.rows j + 1 == live_need (task_at tasks j.task.0) j.count)
@@ -69,11 +69,11 @@ ends_then : (tasks : List Task) (f : FloorState) (k : ℕ) (c : Call) (lasts : �
 ends_then tasks f k c lasts free may knows by h = go (way f k c) may by
   where
     go : {d : Call} {a : Answer} {g : FloorState} → Way f k d a g → MayCall f k d → IsByNeed (live_need (task_at tasks k)) (lasts k) d → EndByNeed tasks g.core.rows
-    go (outcome_written told done j out is) may by =
+    go (outcome_written claimed done j out is) may by =
         let own : k ≡ j.task.0 = sym (eqb-true j.task.0 k (ap (λ (o : Option JobId). is_of_task o k) (sym out) ∙ may)) in
-        let own_by = subst (λ (i : ℕ). IsByNeed (live_need (task_at tasks i)) (lasts i) (Outcome told)) own by in
-        let met = subst (λ (l : Option Granted). IsByNeed (live_need (task_at tasks j.task.0)) l (Outcome told)) (knows j out) own_by in
-        settled_ends tasks f.core j done (is ∙ (told_by_plan f.plan f.core.rows j told free ∙ met)) h
+        let own_by = subst (λ (i : ℕ). IsByNeed (live_need (task_at tasks i)) (lasts i) (Outcome claimed)) own by in
+        let met = subst (λ (l : Option Granted). IsByNeed (live_need (task_at tasks j.task.0)) l (Outcome claimed)) (knows j out) own_by in
+        settled_ends tasks f.core j done (is ∙ (claimed_by_plan f.plan f.core.rows j claimed free ∙ met)) h
     go w may by = h
 
 -- Histories.

@@ -25,7 +25,7 @@ use Rattle.executive.proofs.Histories.{Way, release_held, way}
 use Rattle.mode_core.proofs.CallerLemmas.{ticks-held}
 use Rattle.mc_model.specs.LiveTrace.{live_need, EndByNeed, LiveTrace}
 use Rattle.task_threads.specs.LiveLeft.{IsLiveFloor, Moves, HasLiveTrace}
-use Rattle.task_threads.proofs.LiveLaw.{settled_ends, told_by_plan}
+use Rattle.task_threads.proofs.LiveLaw.{settled_ends, claimed_by_plan}
 
 -- a release, taken or not
 pub release_moves : (f : FloorState) (k : ℕ) → IsLiveFloor f → Moves f (after_release f k) 0
@@ -69,11 +69,11 @@ grants_left f k j h chosen task room =
 pub outcome_moves : (f : FloorState) (j : JobId) (done : Bool) → IsLiveFloor f → done ≡ (used f.core.rows j + 1 == live_need (task_at f.core.set j.task.0) j.count)
     → Moves f (after_outcome (record f { core = record f.core { out = Some j } }) j done) 1
 outcome_moves f j done h by =
-    let told : Bool = done_by f.plan f.core.rows j done in
+    let claimed : Bool = done_by f.plan f.core.rows j done in
     rw (same_job-refl j) (record {
-      live = record { free = h.free; out = refl; ends = settled_ends f.core.set f.core j told (told_by_plan f.plan f.core.rows j done h.free ∙ by) h.ends };
+      live = record { free = h.free; out = refl; ends = settled_ends f.core.set f.core j claimed (claimed_by_plan f.plan f.core.rows j done h.free ∙ by) h.ends };
       same = refl;
-      ticks = ticks-held f.core.set f.core.rule f.core.held (row.Tick j (outcome_of f.core.set f.core.rule f.core.rows j told) ∷ f.core.rows);
+      ticks = ticks-held f.core.set f.core.rule f.core.held (row.Tick j (outcome_of f.core.set f.core.rule f.core.rows j claimed) ∷ f.core.rows);
     })
 
 -- an idle tick moves the floor by one tick

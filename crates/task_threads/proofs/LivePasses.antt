@@ -7,7 +7,7 @@ use Rattle.mode_core.specs.declared.answers.Granted.{Granted}
 use Rattle.executive.specs.declared.entry.Call.{Call}
 use Rattle.executive.specs.declared.entry.Call.TheVariants.{Take, Outcome}
 use Rattle.executive.specs.declared.entry.Answer.{Answer}
-use Rattle.executive.specs.declared.entry.Answer.TheVariants.{Taken, Told}
+use Rattle.executive.specs.declared.entry.Answer.TheVariants.{Taken, Settled}
 use Rattle.executive.specs.declared.pass.TaskPass.{TaskPass}
 use Rattle.executive.specs.declared.executive.Executive.{Executive}
 use Rattle.executive.specs.Histories.{entry}
@@ -26,9 +26,9 @@ pub pass_live : (e : Executive) (k : ℕ) (c : Call) (a : Answer) (p q : TaskPas
 pass_live e k c a p q of calls by h = ((of, calls.task ∙ h.0.1), call_live (floor_of e).core.set k c a (of_pass p) (of_pass q) h.1 calls (by _))
 
 -- a tick that was taken and ended by its job's need leaves such a pass
-pub ticked_live : (set : List Task) (k : ℕ) (g : Granted) (done : Bool) (how : How) (p q r : PassState) → EndsByNeed set k p → Calls Take (Taken (Ok g)) p q → Calls (Outcome done) (Told (Ok how)) q r
+pub ticked_live : (set : List Task) (k : ℕ) (g : Granted) (done : Bool) (how : How) (p q r : PassState) → EndsByNeed set k p → Calls Take (Taken (Ok g)) p q → Calls (Outcome done) (Settled (Ok how)) q r
     → done ≡ (g.before + 1 == live_need (task_at set k) g.job.count) → EndsByNeed set k r
 ticked_live set k g done how p q r h takes ends by =
     let last : granted_last None q.lists.mine ≡ Some g = ap (granted_last None) takes.adds.makes ∙ granted_more None p.lists.mine (entry p.task Take (Taken (Ok g))) in
-    call_live set k (Outcome done) (Told (Ok how)) q r (call_live set k Take (Taken (Ok g)) p q h takes tt) ends
+    call_live set k (Outcome done) (Settled (Ok how)) q r (call_live set k Take (Taken (Ok g)) p q h takes tt) ends
     (subst (λ (l : Option Granted). IfSome l (λ x. done ≡ (x.before + 1 == live_need (task_at set k) x.job.count))) (sym last) by)

@@ -1,4 +1,4 @@
--- The capacity that `live_places` computes is not used up before its ticks have begun, since the periods
+-- The capacity that `live_capacity` computes is not used up before its ticks have begun, since the periods
 -- limit the releases.
 use Rattle.std.proofs.Common.{◌≡◌, ℕ, zero, suc, ◌+◌, ◌*◌, ◌/◌, ◌<◌, ◌≤◌, ◌==◌, Bool, true, false, cond, List, [], ◌∷◌, Some, None, length, slice_get, drop, refl, ap, sym, ◌∙◌, subst, arith, eqb-true, ne_eqb, le_trans}
 use Rattle.std.proofs.Common.{suc-mul}
@@ -22,7 +22,7 @@ use Rattle.mc_model.proofs.Tasks.{task_at-next}
 use Rattle.mode_core.specs.Shape.{IsSound}
 use Rattle.mode_core.specs.Events.{is_full}
 use Rattle.mode_core.proofs.CallerLemmas.{no_held}
-use Rattle.task_threads.specs.LivePasses.{live_places}
+use Rattle.task_threads.specs.LivePasses.{live_capacity}
 
 -- a task's releases are at least its period apart
 pub apart : (set : List Task) (rule : Rule) (g : List Row) (k : ℕ) → Legal set rule g → (releases g k * period_in (task_at set k) ≤ next_release set g k) × (next_release set g k ≤ ticks g + period_in (task_at set k))
@@ -87,8 +87,8 @@ rows-le set rule g n are legal before =
     let rows = all_rows set rule g legal in
     omega (arith, few, rows)
 
--- the core of a live run has a free place until its ticks have begun
-pub has_room : (s : State) (n : ℕ) → IsSound s → s.out ≡ None → s.places ≡ live_places s.set n → ticks s.rows < n → is_full s ≡ false
+-- the core of a live run has capacity for one more row until its ticks have begun
+pub has_room : (s : State) (n : ℕ) → IsSound s → s.out ≡ None → s.places ≡ live_capacity s.set n → ticks s.rows < n → is_full s ≡ false
 has_room s n sound out places more =
     let rows = rows-le s.set s.rule s.rows n sound.tasks.each sound.good.legal (omega (arith, more)) in
     let held : length s.held ≡ 0 = ap length (no_held s sound.good out) in
@@ -97,14 +97,14 @@ has_room s n sound out places more =
 
 -- the capacity, task by task
 
-pub places_more : (set : List Task) (i n m p : ℕ) (t : Task) → task_at set (i + 1) ≡ Some t → m + total (λ t. n / t.period + 1) (drop i set) ≡ p → m + (n / t.period + 1) + total (λ t. n / t.period + 1) (drop (i + 1) set) ≡ p
-places_more set i n m p t at sum =
+pub capacity_more : (set : List Task) (i n m p : ℕ) (t : Task) → task_at set (i + 1) ≡ Some t → m + total (λ t. n / t.period + 1) (drop i set) ≡ p → m + (n / t.period + 1) + total (λ t. n / t.period + 1) (drop (i + 1) set) ≡ p
+capacity_more set i n m p t at sum =
     let same : 1 + i ≡ i + 1 = omega arith in
     let here = drop_at set i t (sym (task_at-next set i) ∙ (ap (λ (k : ℕ). task_at set k) same ∙ at)) in
     let s : m + (n / t.period + 1 + total (λ (t : Task). n / t.period + 1) (drop (i + 1) set)) ≡ p = ap (λ (ts : List Task). m + total (λ (t : Task). n / t.period + 1) ts) (sym here) ∙ sum in
     omega (arith, s)
 
-pub places_all : (set : List Task) (i n m p : ℕ) → length set ≤ i → m + total (λ t. n / t.period + 1) (drop i set) ≡ p → m ≡ p
-places_all set i n m p end sum =
+pub capacity_all : (set : List Task) (i n m p : ℕ) → length set ≤ i → m + total (λ t. n / t.period + 1) (drop i set) ≡ p → m ≡ p
+capacity_all set i n m p end sum =
     let none = ap (λ (ts : List Task). total (λ (t : Task). n / t.period + 1) ts) (drop_all i set end) in
     omega (arith, sum, none)

@@ -7,24 +7,24 @@ use Rattle.executive.specs.declared.pass.TaskPass.{TaskPass}
 use Rattle.executive.specs.declared.executive.Executive.{Executive}
 use Rattle.executive.specs.Passes.{PassState, of_pass, floor_of}
 use Rattle.executive.specs.Watching.{IsWatcherOf}
-use Rattle.task_threads.specs.declared.live_needs.Needs.{Needs}
+use Rattle.task_threads.specs.declared.live_needs.LiveNeeds.{LiveNeeds}
 use Rattle.task_threads.specs.declared.live_round.Runner.{Runner}
 use Rattle.mc_model.specs.LiveTrace.{live_need}
 use Rattle.task_threads.specs.LiveCalls.{AreByNeed}
 use Rattle.task_threads.specs.Passes.{IsPassFor}
 
 -- how many ticks the job with this number needs
-abbrev pub need_by : Needs → ℕ → ℕ
+abbrev pub need_by : LiveNeeds → ℕ → ℕ
 need_by n count = if count % 4 == 0 then n.fourth else n.low
 
 -- with these needs each job of the task needs what a live trace asks for
-abbrev pub AreNeedsOf : Option Task → Needs → Type 0
+abbrev pub AreNeedsOf : Option Task → LiveNeeds → Type 0
 AreNeedsOf task n = (count : ℕ) → need_by n count ≡ live_need task count
 
 -- the needs of the tasks from 1 on
-abbrev pub AreNeeds : List Task → List Needs → Type 0
+abbrev pub AreNeeds : List Task → List LiveNeeds → Type 0
 AreNeeds set needs =
-    (i : ℕ) (d : Needs) → i < length needs → AreNeedsOf (task_at set (i + 1)) (slice_index_or needs i d)
+    (i : ℕ) (d : LiveNeeds) → i < length needs → AreNeedsOf (task_at set (i + 1)) (slice_index_or needs i d)
 
 -- the calls of task number k ended its jobs by their needs
 abbrev pub EndsByNeed : List Task → ℕ → PassState → Type 0
@@ -42,5 +42,5 @@ pub record IsRunner (e : Executive) (k : ℕ) (r : Runner) : Type 0 where
 
 -- the capacity that n ticks need: a row for each tick, and one for each release that the periods allow before
 -- the last tick
-abbrev pub live_places : List Task → ℕ → ℕ
-live_places set n = n + total (λ t. n / t.period + 1) set
+abbrev pub live_capacity : List Task → ℕ → ℕ
+live_capacity set n = n + total (λ t. n / t.period + 1) set

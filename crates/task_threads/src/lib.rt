@@ -6,7 +6,7 @@ mod live_left;
 mod live_needs;
 mod live_room;
 mod live_round;
-mod places;
+mod parking_spots;
 mod planned;
 mod refused;
 mod starts;
@@ -16,5 +16,5 @@ mod threads;
 mod worker;
 
 pub use live::run_live;
-pub use live_room::live_places;
+pub use live_room::live_capacity;
 pub use threads::{Memory, run_threads};

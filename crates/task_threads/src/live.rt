@@ -6,15 +6,15 @@ ghost use Rattle.executive.specs.Stands.{opening_of};
 ghost use Rattle.executive.specs.Passes.{floor_of};
 ghost use Rattle.executive.specs.Opening.{IsFresh, AreFresh};
 ghost use Rattle.executive.specs.Watching.{IsWatcherOf};
-ghost use Rattle.task_threads.specs.LivePasses.{IsLivePass, IsRunner, AreNeeds, AreNeedsOf, live_places};
+ghost use Rattle.task_threads.specs.LivePasses.{IsLivePass, IsRunner, AreNeeds, AreNeedsOf, live_capacity};
 ghost use Rattle.task_threads.specs.Workers.{AreInOrder};
 ghost use Rattle.task_threads.specs.LiveLeft.{HasLiveTrace};
 
 use crate::live_left::finish_live;
-use crate::live_needs::Needs;
+use crate::live_needs::LiveNeeds;
 use crate::live_round::{Runner, release_first};
-use crate::places::Places;
-use crate::starts::{Start, in_threads};
+use crate::parking_spots::ParkingSpots;
+use crate::starts::{SpawnResult, in_threads};
 use crate::threads::Memory;
 use crate::worker::Serving;
 use executive::{Executive, Gate, TaskPass};
@@ -42,7 +42,7 @@ pub fn run_live<R: Threads + Wait + Sync, G: Gate + Sync>(
     requires rows { floor.core.rows ≡ [] }
     requires out { floor.core.out ≡ None }
     requires ticks { (1 ≤ ticks) × (ticks ≤ 100_000) }
-    requires places { floor.core.places ≡ live_places floor.core.set ticks }
+    requires places { floor.core.places ≡ live_capacity floor.core.set ticks }
     ensures trace { IfOk result (λ f. HasLiveTrace f.core ticks) }
     // The set, the rule, the capacity and the plan are as before.
     ensures same { IfOk result (λ f. opening_of f ≡ floor) }
@@ -50,7 +50,7 @@ pub fn run_live<R: Threads + Wait + Sync, G: Gate + Sync>(
 {
     let tasks = floor.core().set().len();
     let Rooms {
-        places,
+        spots,
         starts,
         mut needs,
         mut runners,
@@ -63,7 +63,7 @@ pub fn run_live<R: Threads + Wait + Sync, G: Gate + Sync>(
         rt,
         executive: &executive,
         gate,
-        places: &places,
+        spots: &spots,
     };
     make_runners(&serving, all, ticks, passes, watchers, &mut runners);
     let runners = in_threads(&serving, runners, starts);
@@ -80,9 +80,9 @@ pub fn run_live<R: Threads + Wait + Sync, G: Gate + Sync>(
 // The spots where the tasks wait, and lists with capacity for each task of a live run.
 #[derive(Drop)]
 struct Rooms {
-    places: Places,
-    starts: Vec<Start<Runner>>,
-    needs: Vec<Needs>,
+    spots: ParkingSpots,
+    starts: Vec<SpawnResult<Runner>>,
+    needs: Vec<LiveNeeds>,
     runners: Vec<Runner>,
     back: Vec<TaskPass>,
 }
@@ -94,13 +94,13 @@ fn make_rooms(alloc: Global, tasks: u32) -> Result<Rooms, Memory>
     ensures back { IfOk result (λ r. (r.back.items ≡ []) × (tasks ≤ vec_capacity r.back)) }
 {
     let most = tasks as usize;
-    let places = Places::new(alloc, tasks)?;
+    let spots = ParkingSpots::new(alloc, tasks)?;
     let starts = Vec::with_capacity(alloc, most)?;
     let needs = Vec::with_capacity(alloc, most)?;
     let runners = Vec::with_capacity(alloc, most)?;
     let back = Vec::with_capacity(alloc, most)?;
     Ok(Rooms {
-        places,
+        spots,
         starts,
         needs,
         runners,
@@ -109,13 +109,13 @@ fn make_rooms(alloc: Global, tasks: u32) -> Result<Rooms, Memory>
 }
 
 // Adds the needs of each task's jobs.
-pub fn needs_of_each(set: &TaskSet, needs: &mut Vec<Needs>)
+pub fn needs_of_each(set: &TaskSet, needs: &mut Vec<LiveNeeds>)
     requires { (needs.old.items ≡ []) × (length set.now.tasks ≤ vec_capacity needs.old) }
     ensures { (vec_len needs.new ≡ length set.now.tasks) × AreNeeds set.now.tasks needs.new.items }
 {
     for task in 1..=set.len() {
         match set.get(TaskNo(task)) {
-            Some(task) => needs.push_reserved(Needs::of(&task)),
+            Some(task) => needs.push_reserved(LiveNeeds::of(&task)),
             None => unreachable!(),
         }
     }
@@ -124,7 +124,7 @@ pub fn needs_of_each(set: &TaskSet, needs: &mut Vec<Needs>)
 // Releases each task once, in order, and gives each pass a watcher.
 pub fn make_runners<R: Wait, G: Gate>(
     serving: &Serving<'_, R, G>,
-    needs: &[Needs],
+    needs: &[LiveNeeds],
     ticks: u64,
     passes: Vec<TaskPass>,
     watchers: Vec<Watcher>,
@@ -139,9 +139,9 @@ pub fn make_runners<R: Wait, G: Gate>(
     let mut watchers = watchers;
     for pass in passes {
         let watcher = watchers.pop().unwrap();
-        let place = runners.len();
-        let task = TaskNo(place as u32 + 1);
-        runners.push_reserved(first_runner(serving, needs[place], ticks, pass, watcher, task));
+        let position = runners.len();
+        let task = TaskNo(position as u32 + 1);
+        runners.push_reserved(first_runner(serving, needs[position], ticks, pass, watcher, task));
     }
 }
 
@@ -149,7 +149,7 @@ pub fn make_runners<R: Wait, G: Gate>(
 #[tactic(auto, using(crate::proofs::LiveClose::fresh_live))]
 fn first_runner<R: Wait, G: Gate>(
     serving: &Serving<'_, R, G>,
-    needs: Needs,
+    needs: LiveNeeds,
     ticks: u64,
     pass: TaskPass,
     watcher: Watcher,
@@ -162,7 +162,7 @@ fn first_runner<R: Wait, G: Gate>(
 {
     let pass = release_first(serving, pass, task);
     let next = u64::from(needs.period);
-    serving.places.set_release(task, next);
+    serving.spots.set_release(task, next);
     Runner {
         pass,
         watcher,

@@ -3,18 +3,18 @@ ghost use Rattle.std.specs.Prelude.{◌≡◌, ◌+◌, ◌<◌, ◌≤◌, leng
 ghost use Rattle.mc_task.specs.TaskSet.{IsIn};
 ghost use Rattle.mc_model.specs.Rows.{ticks as ticks_of};
 ghost use Rattle.executive.specs.Stands.{opening_of};
-ghost use Rattle.task_threads.specs.LivePasses.{AreNeeds, live_places};
+ghost use Rattle.task_threads.specs.LivePasses.{AreNeeds, live_capacity};
 ghost use Rattle.task_threads.specs.LiveLeft.{IsLiveFloor, Moves, HasLiveTrace};
 
-use crate::live_needs::Needs;
+use crate::live_needs::LiveNeeds;
 use mc_task::TaskNo;
 use timetable::{Act, Floor};
 
 // Makes ticks until there are `ticks` of them. Before each tick, every task that may release does.
-pub fn finish_live(floor: &mut Floor, needs: &[Needs], ticks: u64)
+pub fn finish_live(floor: &mut Floor, needs: &[LiveNeeds], ticks: u64)
     requires live { IsLiveFloor floor.old }
     requires needs { AreNeeds floor.old.core.set needs.now × (length needs.now ≡ length floor.old.core.set) }
-    requires places { floor.old.core.places ≡ live_places floor.old.core.set ticks }
+    requires places { floor.old.core.places ≡ live_capacity floor.old.core.set ticks }
     requires some { 1 ≤ ticks }
     ensures trace { HasLiveTrace floor.new.core ticks }
     ensures live { IsLiveFloor floor.new }
@@ -47,10 +47,10 @@ fn release_left(floor: &mut Floor, task: TaskNo)
 }
 
 // Makes one tick.
-fn tick_left(floor: &mut Floor, needs: &[Needs], ticks: u64)
+fn tick_left(floor: &mut Floor, needs: &[LiveNeeds], ticks: u64)
     requires live { IsLiveFloor floor.old }
     requires needs { AreNeeds floor.old.core.set needs.now × (length needs.now ≡ length floor.old.core.set) }
-    requires places { floor.old.core.places ≡ live_places floor.old.core.set ticks }
+    requires places { floor.old.core.places ≡ live_capacity floor.old.core.set ticks }
     requires more { ticks_of floor.old.core.rows < ticks }
     ensures { Moves floor.old floor.new 1 }
 {

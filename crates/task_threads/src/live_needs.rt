@@ -7,21 +7,21 @@ use mc_task::Task;
 // What the jobs of a task need, and how far apart it releases them, in ticks. Every fourth job of a high task needs its
 // high budget.
 #[derive(Clone, Copy)]
-pub struct Needs {
+pub struct LiveNeeds {
     pub period: u32,
     pub low: u32,
     pub fourth: u32,
 }
 
-impl Needs {
+impl LiveNeeds {
     ghost use Rattle.std.specs.Prelude.{Some};
     ghost use Rattle.task_threads.specs.LivePasses.{need_by, AreNeedsOf};
 
     // The needs of a task's jobs.
-    pub fn of(task: &Task) -> Needs
+    pub fn of(task: &Task) -> LiveNeeds
         ensures { AreNeedsOf (Some task.now) result }
     {
-        Needs {
+        LiveNeeds {
             period: task.period,
             low: task.low,
             fourth: match task.level {

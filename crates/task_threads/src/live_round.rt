@@ -5,9 +5,9 @@ ghost use Rattle.executive.specs.Gates.{HasReleased};
 ghost use Rattle.executive.specs.Passes.{floor_of, of_pass};
 ghost use Rattle.task_threads.specs.LivePasses.{IsLivePass, IsRunner, AreNeedsOf};
 
-use crate::live_needs::Needs;
-use crate::places::Places;
-use crate::worker::{Came, Serving, Worker};
+use crate::live_needs::LiveNeeds;
+use crate::parking_spots::ParkingSpots;
+use crate::worker::{Progress, Serving, Worker};
 use executive::{Executive, Gate, Taken, TaskPass};
 use mc_model::How;
 use mc_task::TaskNo;
@@ -21,7 +21,7 @@ use timetable::{Act, ActFault};
 pub struct Runner {
     pub pass: TaskPass,
     pub watcher: Watcher,
-    pub needs: Needs,
+    pub needs: LiveNeeds,
     // The number of ticks of the whole run.
     pub ticks: u64,
     // The boundary from which the task may release again.
@@ -37,7 +37,11 @@ impl Worker for Runner {
 
     // Watches; then, unless all ticks have ended, releases if that is allowed, looks, and does the next act if it is
     // this task's.
-    fn round<R: Wait, G: Gate>(self, serving: &Serving<'_, R, G>, task: TaskNo) -> (Runner, Came) {
+    fn round<R: Wait, G: Gate>(
+        self,
+        serving: &Serving<'_, R, G>,
+        task: TaskNo,
+    ) -> (Runner, Progress) {
         let Runner {
             pass,
             mut watcher,
@@ -46,13 +50,13 @@ impl Worker for Runner {
             next,
         } = self;
         let now = serving.executive.watch(&mut watcher).ticks;
-        let (pass, next, came) = if now < ticks {
+        let (pass, next, progress) = if now < ticks {
             act_at(serving, needs, pass, next, now, task)
         } else {
-            (pass, next, Came::Finished)
+            (pass, next, Progress::Finished)
         };
-        if came == Came::Finished {
-            serving.places.leave(task);
+        if progress == Progress::Finished {
+            serving.spots.leave(task);
         }
         let runner = Runner {
             pass,
@@ -61,44 +65,44 @@ impl Worker for Runner {
             ticks,
             next,
         };
-        (runner, came)
+        (runner, progress)
     }
 }
 
 // Acts after having seen that `now` ticks have ended. The pass comes back with the boundary of the next release.
 fn act_at<R: Wait, G: Gate>(
     serving: &Serving<'_, R, G>,
-    needs: Needs,
+    needs: LiveNeeds,
     pass: TaskPass,
     next: u64,
     now: u64,
     task: TaskNo,
-) -> (TaskPass, u64, Came)
+) -> (TaskPass, u64, Progress)
     requires pass { IsLivePass serving.now.executive.now task.0 pass }
     requires needs { AreNeedsOf (task_at (floor_of serving.now.executive.now).core.set task.0) needs }
     ensures { IsLivePass serving.now.executive.now task.0 result.0 }
 {
     let (pass, next, release) = release_due(serving, needs, pass, next, now, task);
-    if release == Came::Finished {
-        return (pass, next, Came::Finished);
+    if release == Progress::Finished {
+        return (pass, next, Progress::Finished);
     }
-    serving.places.set_release(task, next);
-    let (pass, came) = act(serving, needs, pass, now, task);
+    serving.spots.set_release(task, next);
+    let (pass, progress) = act(serving, needs, pass, now, task);
     // A task that released counts as the one that acted last, even if its tick was idle.
-    if came == Came::Idled {
-        (pass, next, came.max(release))
+    if progress == Progress::Idled {
+        (pass, next, progress.max(release))
     } else {
-        (pass, next, came)
+        (pass, next, progress)
     }
 }
 
 // The result of an act after which the task has no job to go on with: it rests if another task may release after that
 // many ticks.
-fn unless_due(places: &Places, task: TaskNo, ticks: u64, came: Came) -> Came {
-    if places.wake_due(task, ticks) {
-        Came::Waits
+fn unless_due(spots: &ParkingSpots, task: TaskNo, ticks: u64, progress: Progress) -> Progress {
+    if spots.wake_due(task, ticks) {
+        Progress::Waits
     } else {
-        came
+        progress
     }
 }
 
@@ -165,7 +169,7 @@ fn idled<R: Wait>(
 // Takes a tick of the task, whose step runs outside the turns. Its job is done when it has had the ticks that it needs.
 fn ticked<R: Wait, G: Gate>(
     serving: &Serving<'_, R, G>,
-    needs: Needs,
+    needs: LiveNeeds,
     pass: TaskPass,
     task: TaskNo,
 ) -> (TaskPass, Result<How, ActFault<GrantFault>>)
@@ -189,17 +193,17 @@ fn ticked<R: Wait, G: Gate>(
 // Releases the task again, if it may after `now` ticks. The pass comes back with the boundary of the next release.
 fn release_due<R: Wait, G: Gate>(
     serving: &Serving<'_, R, G>,
-    needs: Needs,
+    needs: LiveNeeds,
     pass: TaskPass,
     next: u64,
     now: u64,
     task: TaskNo,
-) -> (TaskPass, u64, Came)
+) -> (TaskPass, u64, Progress)
     requires { IsLivePass serving.now.executive.now task.0 pass }
     ensures { IsLivePass serving.now.executive.now task.0 result.0 }
 {
     if now < next {
-        return (pass, next, Came::Waits);
+        return (pass, next, Progress::Waits);
     }
     let (pass, answer) = released(serving.rt, serving.executive, pass, task);
     match answer {
@@ -207,12 +211,12 @@ fn release_due<R: Wait, G: Gate>(
             {
                 serving.gate.released(task.0, &pass);
                 let next = at.saturating_add(u64::from(needs.period));
-                (pass, next, Came::Acted)
+                (pass, next, Progress::Acted)
             }
-        Err(ActFault::Core(ReleaseFault::TooSoon { next })) => (pass, next, Came::Waits),
-        Err(ActFault::Core(ReleaseFault::Full)) => (pass, next, Came::Finished),
+        Err(ActFault::Core(ReleaseFault::TooSoon { next })) => (pass, next, Progress::Waits),
+        Err(ActFault::Core(ReleaseFault::Full)) => (pass, next, Progress::Finished),
         Err(ActFault::Core(ReleaseFault::Running { .. }) | ActFault::Plan(_)) => {
-            (pass, next, Came::Waits)
+            (pass, next, Progress::Waits)
         }
     }
 }
@@ -221,11 +225,11 @@ fn release_due<R: Wait, G: Gate>(
 // is woken.
 fn act<R: Wait, G: Gate>(
     serving: &Serving<'_, R, G>,
-    needs: Needs,
+    needs: LiveNeeds,
     pass: TaskPass,
     now: u64,
     task: TaskNo,
-) -> (TaskPass, Came)
+) -> (TaskPass, Progress)
     requires pass { IsLivePass serving.now.executive.now task.0 pass }
     requires needs { AreNeedsOf (task_at (floor_of serving.now.executive.now).core.set task.0) needs }
     ensures { IsLivePass serving.now.executive.now task.0 result.0 }
@@ -234,53 +238,57 @@ fn act<R: Wait, G: Gate>(
     match next {
         Act::Grant(chosen) if chosen == task => {
             let (pass, answer) = ticked(serving, needs, pass, task);
-            (pass, came_of_tick(serving.places, task, now, answer))
+            (pass, progress_of_tick(serving.spots, task, now, answer))
         }
         Act::Idle => {
             let (pass, answer) = idled(serving.rt, serving.executive, pass, task);
-            (pass, came_of_idle(serving.places, task, answer))
+            (pass, progress_of_idle(serving.spots, task, answer))
         }
         Act::Grant(other) | Act::Release(other) => {
-            serving.places.wake(other);
-            (pass, Came::Waits)
+            serving.spots.wake(other);
+            (pass, Progress::Waits)
         }
-        Act::Wait(_) | Act::Finished => (pass, Came::Waits),
+        Act::Wait(_) | Act::Finished => (pass, Progress::Waits),
     }
 }
 
 // The result of a tick of the task.
-fn came_of_tick(
-    places: &Places,
+fn progress_of_tick(
+    spots: &ParkingSpots,
     task: TaskNo,
     now: u64,
     answer: Result<How, ActFault<GrantFault>>,
-) -> Came {
+) -> Progress {
     let ticks = now.saturating_add(1);
     match answer {
         Ok(how) => {
-            places.count_tick(now);
+            spots.count_tick(now);
             match how {
-                How::Done | How::Stop => unless_due(places, task, ticks, Came::Acted),
+                How::Done | How::Stop => unless_due(spots, task, ticks, Progress::Acted),
                 How::More | How::Over => {
                     // The task goes on, while another that may release wakes up.
-                    let _ = places.wake_due(task, ticks);
-                    Came::Acted
+                    let _ = spots.wake_due(task, ticks);
+                    Progress::Acted
                 }
             }
         }
-        Err(ActFault::Core(GrantFault::Full)) => Came::Finished,
-        Err(_) => Came::Waits,
+        Err(ActFault::Core(GrantFault::Full)) => Progress::Finished,
+        Err(_) => Progress::Waits,
     }
 }
 
 // The result of an idle tick.
-fn came_of_idle(places: &Places, task: TaskNo, answer: Result<u64, ActFault<IdleFault>>) -> Came {
+fn progress_of_idle(
+    spots: &ParkingSpots,
+    task: TaskNo,
+    answer: Result<u64, ActFault<IdleFault>>,
+) -> Progress {
     match answer {
         Ok(tick) => {
-            places.count_tick(tick);
-            unless_due(places, task, tick.saturating_add(1), Came::Idled)
+            spots.count_tick(tick);
+            unless_due(spots, task, tick.saturating_add(1), Progress::Idled)
         }
-        Err(ActFault::Core(IdleFault::Full)) => Came::Finished,
-        Err(_) => Came::Waits,
+        Err(ActFault::Core(IdleFault::Full)) => Progress::Finished,
+        Err(_) => Progress::Waits,
     }
 }

@@ -1,7 +1,7 @@
 //! A round of a pass on a floor with a plan.
 ghost use Rattle.task_threads.specs.Passes.{IsPassFor};
 
-use crate::worker::{Came, Serving, Worker};
+use crate::worker::{Progress, Serving, Worker};
 use executive::{Gate, Taken, TaskPass};
 use mc_model::How;
 use mc_task::TaskNo;
@@ -20,7 +20,7 @@ impl Worker for TaskPass {
         self,
         serving: &Serving<'_, R, G>,
         task: TaskNo,
-    ) -> (TaskPass, Came) {
+    ) -> (TaskPass, Progress) {
         serve(serving, self, task)
     }
 }
@@ -30,7 +30,7 @@ fn serve<R: Wait, G: Gate>(
     serving: &Serving<'_, R, G>,
     pass: TaskPass,
     task: TaskNo,
-) -> (TaskPass, Came)
+) -> (TaskPass, Progress)
     requires { IsPassFor serving.now.executive.now task.0 pass }
     ensures { IsPassFor serving.now.executive.now task.0 result.0 }
 {
@@ -38,26 +38,26 @@ fn serve<R: Wait, G: Gate>(
     match serving.executive.look(serving.rt, &mut pass) {
         Act::Release(due) if due == task => {
             if serving.executive.release(serving.rt, &mut pass).is_ok() {
-                serving.places.count_act();
+                serving.spots.count_act();
                 serving.gate.released(task.0, &pass);
             }
-            (pass, Came::Acted)
+            (pass, Progress::Acted)
         }
-        Act::Grant(chosen) if chosen == task => (serve_ticks(serving, pass, task), Came::Acted),
+        Act::Grant(chosen) if chosen == task => (serve_ticks(serving, pass, task), Progress::Acted),
         Act::Release(other) | Act::Grant(other) => {
-            serving.places.wake(other);
-            (pass, Came::Waits)
+            serving.spots.wake(other);
+            (pass, Progress::Waits)
         }
         Act::Idle => {
             if let Ok(tick) = serving.executive.idle(serving.rt, &mut pass) {
-                serving.places.count_tick(tick);
+                serving.spots.count_tick(tick);
             }
-            (pass, Came::Idled)
+            (pass, Progress::Idled)
         }
-        Act::Wait(_) => (pass, Came::Waits),
+        Act::Wait(_) => (pass, Progress::Waits),
         Act::Finished => {
-            serving.places.leave(task);
-            (pass, Came::Finished)
+            serving.spots.leave(task);
+            (pass, Progress::Finished)
         }
     }
 }
@@ -78,7 +78,7 @@ fn serve_ticks<R: Wait, G: Gate>(
             Taken::Given(grant) => {
                 let before = grant.granted().before;
                 serving.gate.step(task.0, &grant);
-                serving.places.count_tick(u64::from(before));
+                serving.spots.count_tick(u64::from(before));
                 let (back, how) = serving.executive.outcome(serving.rt, grant, false);
                 if how != How::More {
                     return back;

@@ -1,6 +1,6 @@
 //! How the threads are started and joined.
 ghost use Rattle.std.specs.Prelude.{◌≡◌, ◌+◌, ◌<◌, ◌≤◌, ◌^◌, [], None, Some, vec_len, vec_capacity};
-ghost use Rattle.task_threads.specs.Starts.{IsStartOf, GoDown};
+ghost use Rattle.task_threads.specs.Starts.{IsSpawnResultOf, GoDown};
 ghost use Rattle.task_threads.specs.Workers.{AreInOrder};
 
 use crate::refused::serve_refused;
@@ -14,19 +14,19 @@ use std::thread::{Promise, PromisedHandle, Scope, Threads};
 
 /// The promise of a thread: the worker that it returns belongs to the executive, and to this task.
 #[derive(Drop)]
-pub struct ComesBack {
+pub struct JoinPromise {
     pub executive: Snapshot<Executive>,
     pub task: TaskNo,
 }
 
-impl<T: Worker> Promise<T> for ComesBack {
+impl<T: Worker> Promise<T> for JoinPromise {
     ghost kept_by = { λ p r. T.is_of p.executive.value p.task.0 r };
 }
 
 /// A thread that has the worker, or the worker itself, if no thread could be started.
 #[derive(Drop)]
-pub struct Start<T: Worker> {
-    pub handle: Option<PromisedHandle<T, ComesBack>>,
+pub struct SpawnResult<T: Worker> {
+    pub handle: Option<PromisedHandle<T, JoinPromise>>,
     pub worker: Option<T>,
     /// Whether the worker that is served here has nothing left to do.
     pub has_left: bool,
@@ -36,7 +36,7 @@ pub struct Start<T: Worker> {
 pub fn in_threads<'s, T: Worker + Send + Drop + 's, R: Threads + Wait + Sync, G: Gate + Sync>(
     serving: &'s Serving<'s, R, G>,
     workers: Vec<T>,
-    starts: Vec<Start<T>>,
+    starts: Vec<SpawnResult<T>>,
 ) -> Vec<T>
     requires workers { AreInOrder T.is_of serving.now.executive.now workers.items × (vec_len workers ≤ 128) }
     requires starts { (starts.items ≡ []) × (vec_len workers ≤ vec_capacity starts) }
@@ -66,36 +66,36 @@ fn start_one<'s, E, T: Worker + Send + Drop + 's, R: Threads + Wait + Sync, G: G
     serving: &'s Serving<'s, R, G>,
     worker: T,
     task: TaskNo,
-) -> Start<T>
+) -> SpawnResult<T>
     requires { T.is_of serving.now.executive.now task.0 worker }
-    ensures { IsStartOf T.is_of serving.entry.now.executive.now task.0 result }
+    ensures { IsSpawnResultOf T.is_of serving.entry.now.executive.now task.0 result }
 {
     let work = move || -> T
         requires { T.is_of serving.now.executive.now task.0 worker }
         ensures { T.is_of serving.entry.now.executive.now task.0 result }
     { work(serving, worker, task) };
-    let back = ComesBack {
+    let back = JoinPromise {
         executive: Snapshot::of(serving.executive),
         task,
     };
     match scope.spawn_with(back, work) {
-        Ok(handle) => Start {
+        Ok(handle) => SpawnResult {
             handle: Some(handle),
             worker: None,
             has_left: false,
         },
         Err(refused) => {
-            serving.places.refuse(task);
+            serving.spots.refuse(task);
             kept_here((refused.value)())
         }
     }
 }
 
 // A worker for which no thread could be started.
-pub fn kept_here<T: Worker>(worker: T) -> Start<T>
+pub fn kept_here<T: Worker>(worker: T) -> SpawnResult<T>
     ensures { (result.handle ≡ None) × (result.worker ≡ Some worker) }
 {
-    Start {
+    SpawnResult {
         handle: None,
         worker: Some(worker),
         has_left: false,
@@ -106,15 +106,15 @@ pub fn kept_here<T: Worker>(worker: T) -> Start<T>
 fn join_one<T: Worker + Drop, R: Threads>(
     rt: &R,
     executive: &Executive,
-    start: Start<T>,
+    start: SpawnResult<T>,
     task: TaskNo,
 ) -> T
-    requires { IsStartOf T.is_of executive.now task.0 start }
+    requires { IsSpawnResultOf T.is_of executive.now task.0 start }
     ensures { T.is_of executive.now task.0 result }
 {
     let _ = executive;
     let _ = task;
-    let Start {
+    let SpawnResult {
         handle,
         worker,
         has_left: _,
@@ -130,7 +130,7 @@ fn start_all<'s, E, T: Worker + Send + Drop + 's, R: Threads + Wait + Sync, G: G
     scope: &Scope<'s, E>,
     serving: &'s Serving<'s, R, G>,
     workers: &mut Vec<T>,
-    starts: &mut Vec<Start<T>>,
+    starts: &mut Vec<SpawnResult<T>>,
 )
     requires workers { AreInOrder T.is_of serving.now.executive.now workers.old.items × (vec_len workers.old ≤ 128) }
     requires starts { (starts.old.items ≡ []) × (vec_len workers.old ≤ vec_capacity starts.old) }
@@ -147,7 +147,7 @@ fn start_all<'s, E, T: Worker + Send + Drop + 's, R: Threads + Wait + Sync, G: G
 pub fn join_all<T: Worker + Drop, R: Threads>(
     rt: &R,
     executive: &Executive,
-    starts: &mut Vec<Start<T>>,
+    starts: &mut Vec<SpawnResult<T>>,
     workers: &mut Vec<T>,
 )
     requires starts { GoDown T.is_of executive.now (vec_len starts.old) starts.old.items × (vec_len starts.old ≤ 128) }

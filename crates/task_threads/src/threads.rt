@@ -8,7 +8,7 @@ ghost use Rattle.timetable.specs.Plans.{IsTraceOfPlan, HasTaken};
 ghost use Rattle.timetable.specs.OneTrace.{AtMostOneFollows};
 ghost use Rattle.executive.specs.Stands.{opening_of};
 
-use crate::places::Places;
+use crate::parking_spots::ParkingSpots;
 use crate::starts::in_threads;
 use crate::worker::Serving;
 use executive::{Executive, Gate, NoMemory};
@@ -80,14 +80,14 @@ fn serve_all<R: Threads + Wait + Sync, G: Gate + Sync>(
     ensures none_out { IfOk result (λ f. f.core.out ≡ None) }
 {
     let tasks = floor.core().set().len();
-    let places = Places::new(alloc, tasks)?;
+    let spots = ParkingSpots::new(alloc, tasks)?;
     let starts = Vec::with_capacity(alloc, tasks as usize)?;
     let (executive, passes) = Executive::new(rt, alloc, floor)?;
     let serving = Serving {
         rt,
         executive: &executive,
         gate,
-        places: &places,
+        spots: &spots,
     };
     let passes = in_threads(&serving, passes, starts);
     match executive.close(rt, passes) {

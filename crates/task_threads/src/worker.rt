@@ -2,14 +2,14 @@
 ghost use Rattle.std.specs.Prelude.{ℕ};
 ghost use Rattle.executive.specs.declared.executive.Executive.{Executive};
 
-use crate::places::Places;
+use crate::parking_spots::ParkingSpots;
 use executive::{Executive, Gate, TaskPass};
 use mc_task::TaskNo;
 use std::sync::Wait;
 
 /// The result of a round, from the least lively on.
 #[derive(Clone, Copy, PartialEq, Eq, PartialOrd, Ord)]
-pub enum Came {
+pub enum Progress {
     /// Nothing is left to do.
     Finished,
     /// Another task is next.
@@ -26,7 +26,7 @@ pub struct Serving<'a, R, G> {
     pub rt: &'a R,
     pub executive: &'a Executive,
     pub gate: &'a G,
-    pub places: &'a Places,
+    pub spots: &'a ParkingSpots,
 }
 
 /// The pass of a task, with what its thread needs to serve it.
@@ -38,7 +38,7 @@ pub trait Worker: Sized {
     fn pass(&self) -> &TaskPass;
 
     /// Does one round. If another task is next, whoever serves that task is woken.
-    fn round<R: Wait, G: Gate>(self, serving: &Serving<'_, R, G>, task: TaskNo) -> (Self, Came)
+    fn round<R: Wait, G: Gate>(self, serving: &Serving<'_, R, G>, task: TaskNo) -> (Self, Progress)
         requires { is_of serving.now.executive.now task.0 self }
         ensures { is_of serving.now.executive.now task.0 result.0 };
 }
@@ -52,7 +52,7 @@ pub fn work<T: Worker, R: Wait, G: Gate>(serving: &Serving<'_, R, G>, worker: T,
     requires { T.is_of serving.now.executive.now task.0 worker }
     ensures { T.is_of serving.now.executive.now task.0 result }
 {
-    if serving.places.is_refused(task) {
+    if serving.spots.is_refused(task) {
         return worker;
     }
     serving.gate.enter(task.0, worker.pass());
@@ -60,19 +60,19 @@ pub fn work<T: Worker, R: Wait, G: Gate>(serving: &Serving<'_, R, G>, worker: T,
     let mut leads = task.0 == 1;
     let mut pause = task.0;
     if !leads {
-        pause = serving.places.rest(serving.rt, task, pause);
+        pause = serving.spots.rest(serving.rt, task, pause);
     }
     for _ in serving.rt.forever() {
-        let (back, came) = worker.round(serving, task);
+        let (back, progress) = worker.round(serving, task);
         worker = back;
-        match came {
-            Came::Acted => leads = true,
-            Came::Idled if leads => {}
-            Came::Idled | Came::Waits => {
+        match progress {
+            Progress::Acted => leads = true,
+            Progress::Idled if leads => {}
+            Progress::Idled | Progress::Waits => {
                 leads = false;
-                pause = serving.places.rest(serving.rt, task, pause);
+                pause = serving.spots.rest(serving.rt, task, pause);
             }
-            Came::Finished => return worker,
+            Progress::Finished => return worker,
         }
     }
     unreachable!()

@@ -61,8 +61,8 @@ Spaced set (a ∷ xs) = Each (IsApart set a) xs × Spaced set xs
 apart_planned : (set : List Task) (w : WorkRow) (ws : List WorkRow) (n : ℕ) → AllFollow set w ws → Each (IsApart set (arrival_of w)) (planned ws n)
 apart_planned set w [] n f = tt
 apart_planned set w (v ∷ vs) n f =
-    let behind = apart_planned set w vs n f.1 in
-    planned_either (Each (IsApart set (arrival_of w))) v vs n (λ h. (record { apart = f.0.apart }, behind)) behind
+    let after = apart_planned set w vs n f.1 in
+    planned_either (Each (IsApart set (arrival_of w))) v vs n (λ h. (record { apart = f.0.apart }, after)) after
 
 -- what is planned is spaced
 planned_spaced : (set : List Task) (work : List WorkRow) (n : ℕ) → IsWork set work → Spaced set (planned work n)

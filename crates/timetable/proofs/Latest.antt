@@ -120,8 +120,8 @@ taken_rows set rule work n (Release j kept ∷ g) k w r =
 taken_rows set rule work n (row ∷ g) k w r = taken_rows set rule work n g k w r.1
 
 -- whether the next tick of the chosen job is its last, by the stored need of its task
-pub told_by_need : (s : State) (work : List WorkRow) (n taken : ℕ) (j : JobId) → IsSound s → KeepsToWork s work n taken → s.out ≡ None → chosen_now s ≡ Some j → (used s.rows j + 1 == latest_need work taken j.task.0) ≡ is_last work s.rows j
-told_by_need s work n taken j sound r o e =
+pub last_by_need : (s : State) (work : List WorkRow) (n taken : ℕ) (j : JobId) → IsSound s → KeepsToWork s work n taken → s.out ≡ None → chosen_now s ≡ Some j → (used s.rows j + 1 == latest_need work taken j.task.0) ≡ is_last work s.rows j
+last_by_need s work n taken j sound r o e =
     let rows = settled_none work s o in
     let taken_are : taken ≡ length (arrivals s.rows) = r.taken_are ∙ ap (λ (g : List Row). length (arrivals g)) rows in
     let runs : Runs s.set s.rule work n s.rows = subst (λ (g : List Row). Runs s.set s.rule work n g) rows r.runs in

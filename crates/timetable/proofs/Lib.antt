@@ -8,6 +8,6 @@ pub mod NeedsLemmas
 pub mod Latest
 pub mod Extends
 pub mod CallTable
-pub mod Kept
+pub mod KeepsPlan
 pub mod NextActs
 pub mod InTime

@@ -151,13 +151,13 @@ release_adds s (Rows work n) taken k p o f sound run e = record {
 -- the task is in the set, and its tick with its outcome adds a row
 pub record GrantAdds (f : FloorState) (k : ℕ) : Type 0 where
   pub inside : IsIn f.core.set k
-  pub given : (x : Granted) (told : Bool) → grant_answer f k ≡ Ok x → AddsRow f (after_outcome (after_grant f k) x.job told)
+  pub given : (x : Granted) (claimed : Bool) → grant_answer f k ≡ Ok x → AddsRow f (after_outcome (after_grant f k) x.job claimed)
 
 pub grant_adds : (s : State) (plan : Plan) (taken : ℕ) (k : TaskNo) → is_planned plan ≡ true → s.out ≡ None → is_finished (floor s plan taken) ≡ false → IsSound s → KeepsToPlan plan s taken → next_act (floor s plan taken) ≡ act.Grant k → GrantAdds (floor s plan taken) k.0
 grant_adds s Free taken k p o f sound run e = cc
 grant_adds s (Rows work n) taken k p o f sound run e = record {
   inside = subst (λ (i : TaskNo). IsIn s.set i.0) g.task (chooses s.set s.rule s.rows g.job sound.tasks.each sound.good.legal g.chosen).inside;
-  given = λ x told a. adds_row (floor s (Rows work n) taken) _ (Tick g.job (outcome_of s.set s.rule s.rows g.job (done_by (Rows work n) (core_event.after_grant s k.0).rows x.job told))) taken (row_room s room) (after x told (job_is x a));
+  given = λ x claimed a. adds_row (floor s (Rows work n) taken) _ (Tick g.job (outcome_of s.set s.rule s.rows g.job (done_by (Rows work n) (core_event.after_grant s k.0).rows x.job claimed))) taken (row_room s room) (after x claimed (job_is x a));
 }
   where
     g : IsGrant (due_at (Rows work n) taken (begun s)) (chosen_now s) k
@@ -178,12 +178,12 @@ grant_adds s (Rows work n) taken k p o f sound run e = record {
     job_is : (x : Granted) → grant_answer (floor s (Rows work n) taken) k.0 ≡ Ok x → x.job ≡ g.job
     job_is x a = ap (λ (y : Granted). y.job) (ok_same _ x (granted s g.job) a answer)
 
-    after : (x : Granted) (told : Bool) → x.job ≡ g.job →
-        after_outcome (after_grant (floor s (Rows work n) taken) k.0) x.job told ≡ record (floor s (Rows work n) taken) {
-          core = record s { rows = Tick g.job (outcome_of s.set s.rule s.rows g.job (done_by (Rows work n) (core_event.after_grant s k.0).rows x.job told)) ∷ s.rows };
+    after : (x : Granted) (claimed : Bool) → x.job ≡ g.job →
+        after_outcome (after_grant (floor s (Rows work n) taken) k.0) x.job claimed ≡ record (floor s (Rows work n) taken) {
+          core = record s { rows = Tick g.job (outcome_of s.set s.rule s.rows g.job (done_by (Rows work n) (core_event.after_grant s k.0).rows x.job claimed)) ∷ s.rows };
         }
-    after x told j =
-        let d : Bool = done_by (Rows work n) (core_event.after_grant s k.0).rows x.job told in
+    after x claimed j =
+        let d : Bool = done_by (Rows work n) (core_event.after_grant s k.0).rows x.job claimed in
         let e1 : core_event.after_outcome (core_event.after_grant s g.job.task.0) g.job d ≡ record s { rows = Tick g.job (outcome_of s.set s.rule s.rows g.job d) ∷ s.rows } = given s g.job d o (no_held s sound.good o) g.chosen room in
         let e2 : core_event.after_outcome (core_event.after_grant s k.0) x.job d ≡ record s { rows = Tick g.job (outcome_of s.set s.rule s.rows g.job d) ∷ s.rows } =
         ap (λ (i : JobId). core_event.after_outcome (core_event.after_grant s k.0) i d) j ∙ (ap (λ (i : TaskNo). core_event.after_outcome (core_event.after_grant s i.0) g.job d) (sym g.task) ∙ e1) in

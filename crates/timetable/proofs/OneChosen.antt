@@ -32,8 +32,8 @@ alike : (x : KeptRelease) (xs : List KeptRelease) → Apart xs → is_in xs x �
 alike x [] a e = tt
 alike x (y ∷ ys) a e = elim (cases_Bool (same_live x y)) [
   | inl m ↦
-      let behind : Alike y ys = Each-map {P = Older y} (λ i p t r. absurd (omega (arith, p.time t, r))) ys a.0 in
-      subst (λ (z : KeptRelease). Alike z (y ∷ ys)) (sym (live_eq x y m)) (λ t r. refl, behind)
+      let after : Alike y ys = Each-map {P = Older y} (λ i p t r. absurd (omega (arith, p.time t, r))) ys a.0 in
+      subst (λ (z : KeptRelease). Alike z (y ∷ ys)) (sym (live_eq x y m)) (λ t r. refl, after)
   | inr m ↦
       let o : Older y x = each_in (Older y) x ys (rw m at e) a.0 in
       (λ t r. absurd (omega (arith, o.time (sym t), r)), alike x ys a.1 (rw m at e))
@@ -41,16 +41,16 @@ alike x (y ∷ ys) a e = elim (cases_Bool (same_live x y)) [
 
 -- one of the pending jobs that passes a test
 record Found (p : KeptRelease → Bool) (xs : List KeptRelease) : Type 0 where
-  live : KeptRelease
-  inside : is_in xs live ≡ true
-  passes : p live ≡ true
+  kept : KeptRelease
+  inside : is_in xs kept ≡ true
+  passes : p kept ≡ true
 
 -- if some pending job passes the test, one is found
 found : (p : KeptRelease → Bool) (xs : List KeptRelease) → list_any p xs ≡ true → Found p xs
 found p [] e = cc
 found p (x ∷ xs) e = elim (cases_Bool (p x)) [
-  | inl m ↦ record { live = x; inside = head_in x xs; passes = m }
-  | inr m ↦ let f = found p xs (rw m at e) in record { live = f.live; inside = or_true _ _ f.inside; passes = f.passes }
+  | inl m ↦ record { kept = x; inside = head_in x xs; passes = m }
+  | inr m ↦ let f = found p xs (rw m at e) in record { kept = f.kept; inside = or_true _ _ f.inside; passes = f.passes }
 ]
 
 -- what a test says of all pending jobs holds of one that is in the list
@@ -98,40 +98,40 @@ chosen_is set rule h j s f l least lowest = go (first_to_run set rule high xs) r
     i : Found (λ z. same_job j z.job && none_below set rule high (key set rule high z) xs) xs
     i = found (λ z. same_job j z.job && none_below set rule high (key set rule high z) xs) xs least
 
-    of_i : (same_job j i.live.job ≡ true) × (none_below set rule high (key set rule high i.live) xs ≡ true)
-    of_i = and_parts (same_job j i.live.job) (none_below set rule high (key set rule high i.live) xs) i.passes
+    of_i : (same_job j i.kept.job ≡ true) × (none_below set rule high (key set rule high i.kept) xs ≡ true)
+    of_i = and_parts (same_job j i.kept.job) (none_below set rule high (key set rule high i.kept) xs) i.passes
 
-    i_job : i.live.job ≡ j
-    i_job = sym (job_eq j i.live.job of_i.0)
+    i_job : i.kept.job ≡ j
+    i_job = sym (job_eq j i.kept.job of_i.0)
 
     k : Found (λ z. same_job j z.job && none_lower set rule high z xs) xs
     k = found (λ z. same_job j z.job && none_lower set rule high z xs) xs lowest
 
-    of_k : (same_job j k.live.job ≡ true) × (none_lower set rule high k.live xs ≡ true)
-    of_k = and_parts (same_job j k.live.job) (none_lower set rule high k.live xs) k.passes
+    of_k : (same_job j k.kept.job ≡ true) × (none_lower set rule high k.kept xs ≡ true)
+    of_k = and_parts (same_job j k.kept.job) (none_lower set rule high k.kept xs) k.passes
 
     -- both are the same pending job
-    one : k.live ≡ i.live
+    one : k.kept ≡ i.kept
     one =
-        each_in (λ (z : KeptRelease). same_job i.live.job z.job ≡ true → z ≡ i.live) k.live xs k.inside (only i.live xs (pending_apart set rule h s l) i.inside)
-        (subst (λ (n : JobId). same_job n k.live.job ≡ true) (sym i_job) of_k.0)
+        each_in (λ (z : KeptRelease). same_job i.kept.job z.job ≡ true → z ≡ i.kept) k.kept xs k.inside (only i.kept xs (pending_apart set rule h s l) i.inside)
+        (subst (λ (n : JobId). same_job n k.kept.job ≡ true) (sym i_job) of_k.0)
 
-    low : none_lower set rule high i.live xs ≡ true
+    low : none_lower set rule high i.kept xs ≡ true
     low = subst (λ (z : KeptRelease). none_lower set rule high z xs ≡ true) one of_k.1
 
     go : (o : Option KeptRelease) → first_to_run set rule high xs ≡ o → option_map (λ (x : KeptRelease). x.job) (first_to_run set rule high xs) ≡ Some j
     go None m = absurd (none xs m i.inside)
       where
-        none : (ys : List KeptRelease) → first_to_run set rule high ys ≡ None → is_in ys i.live ≡ true → ⊥
+        none : (ys : List KeptRelease) → first_to_run set rule high ys ≡ None → is_in ys i.kept ≡ true → ⊥
         none [] m e = cc
         none (y ∷ ys) m e = cc
     go (Some x) m =
         let first : IsFirst set rule high xs x = is_first set rule high xs x m in
-        let le : nat_le (key set rule high i.live) (key set rule high x) ≡ true = listed (λ (z : KeptRelease). nat_le (key set rule high i.live) (key set rule high z)) x xs first.inside of_i.1 in
-        let nb : runs_before set rule high i.live x ≡ false = each_in (λ (z : KeptRelease). runs_before set rule high z x ≡ false) i.live xs i.inside first.none_before in
-        let lx : not ((key set rule high x == key set rule high i.live) && nat_lt x.job.task.0 i.live.job.task.0) ≡ true =
-        listed (λ (z : KeptRelease). not ((key set rule high z == key set rule high i.live) && nat_lt z.job.task.0 i.live.job.task.0)) x xs first.inside low in
-        let eq = order (key set rule high x) (key set rule high i.live) x.job.task.0 i.live.job.task.0 le nb lx in
-        let time : i.live.release ≡ x.release = sym (key-inj rule high set x i.live f eq.1 eq.0) in
-        let same : x ≡ i.live = each_in (λ (z : KeptRelease). i.live.job.task.0 ≡ z.job.task.0 → i.live.release ≡ z.release → z ≡ i.live) x xs first.inside (alike i.live xs (pending_apart set rule h s l) i.inside) (sym eq.1) time in
+        let le : nat_le (key set rule high i.kept) (key set rule high x) ≡ true = listed (λ (z : KeptRelease). nat_le (key set rule high i.kept) (key set rule high z)) x xs first.inside of_i.1 in
+        let nb : runs_before set rule high i.kept x ≡ false = each_in (λ (z : KeptRelease). runs_before set rule high z x ≡ false) i.kept xs i.inside first.none_before in
+        let lx : not ((key set rule high x == key set rule high i.kept) && nat_lt x.job.task.0 i.kept.job.task.0) ≡ true =
+        listed (λ (z : KeptRelease). not ((key set rule high z == key set rule high i.kept) && nat_lt z.job.task.0 i.kept.job.task.0)) x xs first.inside low in
+        let eq = order (key set rule high x) (key set rule high i.kept) x.job.task.0 i.kept.job.task.0 le nb lx in
+        let time : i.kept.release ≡ x.release = sym (key-inj rule high set x i.kept f eq.1 eq.0) in
+        let same : x ≡ i.kept = each_in (λ (z : KeptRelease). i.kept.job.task.0 ≡ z.job.task.0 → i.kept.release ≡ z.release → z ≡ i.kept) x xs first.inside (alike i.kept xs (pending_apart set rule h s l) i.inside) (sym eq.1) time in
         ap (option_map (λ (z : KeptRelease). z.job)) m ∙ ap (λ (k : JobId). Some k) (ap (λ (z : KeptRelease). z.job) same ∙ i_job)

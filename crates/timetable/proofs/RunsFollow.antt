@@ -117,13 +117,13 @@ lowest : (set : List Task) (rule : Rule) (g : List Row) (j : JobId) → chosen s
 lowest set rule g j e =
     let c : Choice set rule g j = choice set rule g j e in
     let high : Bool = high_mode rule g in
-    let f : IsFirst set rule high (pending set g) c.live = is_first set rule high (pending set g) c.live c.first in
-    let one : none_lower set rule high c.live (pending set g) ≡ true =
-    all_from (λ z. not ((key set rule high z == key set rule high c.live) && nat_lt z.job.task.0 c.live.job.task.0)) (pending set g)
-    (Each-map {P = λ z. runs_before set rule high z c.live ≡ false}
-    (λ z r. not_lower (key set rule high z) (key set rule high c.live) z.job.task.0 c.live.job.task.0 r) (pending set g) f.none_before) in
+    let f : IsFirst set rule high (pending set g) c.kept = is_first set rule high (pending set g) c.kept c.first in
+    let one : none_lower set rule high c.kept (pending set g) ≡ true =
+    all_from (λ z. not ((key set rule high z == key set rule high c.kept) && nat_lt z.job.task.0 c.kept.job.task.0)) (pending set g)
+    (Each-map {P = λ z. runs_before set rule high z c.kept ≡ false}
+    (λ z r. not_lower (key set rule high z) (key set rule high c.kept) z.job.task.0 c.kept.job.task.0 r) (pending set g) f.none_before) in
     subst (λ (k : JobId). is_lowest set rule high (pending set g) k ≡ true) c.job
-    (any_in (λ i. same_job c.live.job i.job && none_lower set rule high i (pending set g)) c.live (pending set g) f.inside (and_from _ _ (same_job-refl c.live.job) one))
+    (any_in (λ i. same_job c.kept.job i.job && none_lower set rule high i (pending set g)) c.kept (pending set g) f.inside (and_from _ _ (same_job-refl c.kept.job) one))
 
 -- the times of the arrivals never fall
 abbrev pub Sorted : List Arrival → Type 0
@@ -134,8 +134,8 @@ Sorted (a ∷ xs) = Later a.at xs × Sorted xs
 pub later_planned : (set : List Task) (w : WorkRow) (ws : List WorkRow) (n : ℕ) → AllFollow set w ws → Later w.release (planned ws n)
 later_planned set w [] n f = tt
 later_planned set w (v ∷ vs) n f =
-    let behind = later_planned set w vs n f.1 in
-    planned_either (Later w.release) v vs n (λ h. (f.0.order, behind)) behind
+    let after = later_planned set w vs n f.1 in
+    planned_either (Later w.release) v vs n (λ h. (f.0.order, after)) after
 
 -- the times of the planned arrivals never fall
 pub planned_sorted : (set : List Task) (work : List WorkRow) (n : ℕ) → IsWork set work → Sorted (planned work n)

@@ -67,8 +67,8 @@ is_finished f = ends_at f.plan (begun f.core)
 -- whether the job is done with its next tick: under a free plan as the caller says, otherwise by the job's
 -- need
 abbrev pub done_by : Plan → List Row → JobId → Bool → Bool
-done_by Free g j told = told
-done_by (Rows work n) g j told = is_last work g j
+done_by Free g j claimed = claimed
+done_by (Rows work n) g j claimed = is_last work g j
 
 -- why a plan refuses a release of task number k, by the release that is due: none is, or one of another task
 -- is
@@ -133,11 +133,12 @@ after_grant f k = floor_unless (tick_refusal f) (record f { core = Events.after_
 
 -- what an outcome of the job returns
 abbrev pub outcome_answer : FloorState → JobId → Bool → Result How NotOut
-outcome_answer f j told = Events.outcome_answer f.core j (done_by f.plan f.core.rows j told)
+outcome_answer f j claimed = Events.outcome_answer f.core j (done_by f.plan f.core.rows j claimed)
 
 -- the floor after an outcome of the job
 abbrev pub after_outcome : FloorState → JobId → Bool → FloorState
-after_outcome f j told = record f { core = Events.after_outcome f.core j (done_by f.plan f.core.rows j told) }
+after_outcome f j claimed =
+    record f { core = Events.after_outcome f.core j (done_by f.plan f.core.rows j claimed) }
 
 -- what an idle tick returns
 abbrev pub idle_answer : FloorState → Result ℕ (ActFault IdleFault)

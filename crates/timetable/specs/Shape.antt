@@ -52,28 +52,29 @@ KeepsToPlan Free s taken = Unit {0}
 KeepsToPlan (Rows work n) s taken = KeepsToWork s work n taken
 
 -- if a tick is granted, the flag says whether it is the last that its job needs
-abbrev pub IsTold : List WorkRow → List Row → Option JobId → Bool → Type 0
-IsTold work g None last = Unit {0}
-IsTold work g (Some j) last = last ≡ is_last work g j
+abbrev pub FlagsLast : List WorkRow → List Row → Option JobId → Bool → Type 0
+FlagsLast work g None last = Unit {0}
+FlagsLast work g (Some j) last = last ≡ is_last work g j
 
 -- the floor's state, by its fields
 abbrev pub floor_of : Inside → FloorState
 floor_of a = record { core = a.core; plan = a.plan; taken = a.taken }
 
 -- what a floor stores of a plan
-pub record IsKept (s : State) (work : List WorkRow) (n taken : ℕ) (needs : Needs) (last : Bool) : Type 0 where
+pub record IsStoredPlan (s : State) (work : List WorkRow) (n taken : ℕ) (needs : Needs)
+    (last : Bool) : Type 0 where
   pub run : KeepsToWork s work n taken
   pub tracks : Tracks work taken needs
-  pub told : IsTold work s.rows s.out last
+  pub flag : FlagsLast work s.rows s.out last
 
 -- what a floor stores of its plan; nothing of a free one
-abbrev pub IsKeptBy : Plan → State → ℕ → Needs → Bool → Type 0
-IsKeptBy Free s taken needs last = taken ≡ 0
-IsKeptBy (Rows work n) s taken needs last = IsKept s work n taken needs last
+abbrev pub IsStoredBy : Plan → State → ℕ → Needs → Bool → Type 0
+IsStoredBy Free s taken needs last = taken ≡ 0
+IsStoredBy (Rows work n) s taken needs last = IsStoredPlan s work n taken needs last
 
 -- the invariant of a floor: the core, its plan, and what is stored of it
 abbrev pub IsFloor : Inside → Type 0
-IsFloor a = IsKeptBy a.plan a.core a.taken a.needs a.last
+IsFloor a = IsStoredBy a.plan a.core a.taken a.needs a.last
 
 -- there was capacity for one more row, the floor has it, and nothing else changed except the number of
 -- releases taken

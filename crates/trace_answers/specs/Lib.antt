@@ -1,1 +1,2 @@
+pub mod JudgedText
 pub mod OnTrace

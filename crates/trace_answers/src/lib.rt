@@ -1,10 +1,11 @@
 //! The commands on a trace: `judge`, `chart`, `report` and `migrate`.
 #![tactic(auto)]
 
+mod action;
+mod judged_text;
 mod judging;
 mod on_trace;
-mod telling;
 mod texts;
 
-pub use on_trace::OnTrace;
-pub use telling::Telling;
+pub use action::TraceAction;
+pub use on_trace::TraceCommand;

@@ -1,34 +1,34 @@
 //! A command on a trace.
-ghost use Rattle.trace_answers.specs.OnTrace.{IsScale, on_trace, on_trace_on, ruled_for};
-ghost use Rattle.replies.specs.Stop.{Gives};
+ghost use Rattle.trace_answers.specs.OnTrace.{IsScale, on_trace, on_trace_on, set_with_rule_for};
+ghost use Rattle.replies.specs.Stop.{ReadsOrRefuses};
 ghost use Rattle.serving.specs.Serves.{Serves};
-ghost use Rattle.task_answers.specs.Given.{IsRuled};
+ghost use Rattle.task_answers.specs.Given.{IsSetWithRule};
 
-use crate::judging::tell;
-use crate::telling::Telling;
+use crate::action::TraceAction;
+use crate::judging::reply_to_trace;
 use mc_task::Rule;
 use mc_world::Shelf;
 use replies::{Reply, Stop};
 use serving::{FileName, fetch};
 use std::alloc::Global;
-use task_answers::{Admitted, MOST_TABLE_BYTES, Ruled, read_admitted, read_ruled};
+use task_answers::{Admitted, MOST_TABLE_BYTES, SetWithRule, read_admitted, read_set_with_rule};
 
 /// The most bytes of a trace.
 const MOST_TRACE_BYTES: usize = 1 << 27;
 
 /// A command on the trace in the second file, of the set in the first.
 #[derive(Drop)]
-pub struct OnTrace<'a> {
-    pub telling: Telling,
+pub struct TraceCommand<'a> {
+    pub action: TraceAction,
     pub tasks: FileName<'a>,
     pub trace: FileName<'a>,
 }
 
-impl<'a> OnTrace<'a> {
+impl<'a> TraceCommand<'a> {
     /// The reply: what the command writes of the trace.
     pub fn reply<S: Shelf>(&self, alloc: Global, shelf: &mut S) -> Result<Reply, Stop>
-        requires { IsScale self.now.telling }
-        ensures { Serves 1 (on_trace self.now.telling self.now.tasks self.now.trace) (S.state shelf.old) (S.state shelf.new) result }
+        requires { IsScale self.now.action }
+        ensures { Serves 1 (on_trace self.now.action self.now.tasks self.now.trace) (S.state shelf.old) (S.state shelf.new) result }
     {
         let bytes = fetch(alloc, shelf, 1, &self.tasks, MOST_TABLE_BYTES)?;
         self.reply_on(alloc, shelf, &bytes)
@@ -36,25 +36,25 @@ impl<'a> OnTrace<'a> {
 
     // The reply, where the task file has these bytes.
     fn reply_on<S: Shelf>(&self, alloc: Global, shelf: &mut S, bytes: &[u8]) -> Result<Reply, Stop>
-        requires { IsScale self.now.telling }
-        ensures { Serves 2 (on_trace_on self.now.telling self.now.trace bytes.now) (S.state shelf.old) (S.state shelf.new) result }
+        requires { IsScale self.now.action }
+        ensures { Serves 2 (on_trace_on self.now.action self.now.trace bytes.now) (S.state shelf.old) (S.state shelf.new) result }
     {
-        let ruled = ruled_for(alloc, self.telling, bytes)?;
+        let ruled = set_with_rule_for(alloc, self.action, bytes)?;
         let bytes = fetch(alloc, shelf, 2, &self.trace, MOST_TRACE_BYTES)?;
-        tell(alloc, self.telling, &ruled, &bytes)
+        reply_to_trace(alloc, self.action, &ruled, &bytes)
     }
 }
 
 // The set in a task file with these bytes, under the rule that the words give, or else the test's.
-fn ruled_for(alloc: Global, telling: Telling, bytes: &[u8]) -> Result<Ruled, Stop>
-    requires { IsScale telling }
-    ensures { Gives IsRuled (ruled_for telling bytes.now) result }
+fn set_with_rule_for(alloc: Global, action: TraceAction, bytes: &[u8]) -> Result<SetWithRule, Stop>
+    requires { IsScale action }
+    ensures { ReadsOrRefuses IsSetWithRule (set_with_rule_for action bytes.now) result }
 {
-    match telling {
-        Telling::JudgeBy { p, q } => read_ruled(alloc, Rule::Virtual { p, q }, bytes),
-        Telling::Judge | Telling::Chart | Telling::Report | Telling::Migrate => {
+    match action {
+        TraceAction::JudgeBy { p, q } => read_set_with_rule(alloc, Rule::Virtual { p, q }, bytes),
+        TraceAction::Judge | TraceAction::Chart | TraceAction::Report | TraceAction::Migrate => {
             let Admitted { set, rule, .. } = read_admitted(alloc, bytes)?;
-            Ok(Ruled { set, rule })
+            Ok(SetWithRule { set, rule })
         }
     }
 }

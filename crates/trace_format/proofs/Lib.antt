@@ -1,4 +1,5 @@
 pub mod TickLemmas
+pub mod NextRun
 pub mod PackLemmas
 pub mod LineLemmas
 pub mod WrittenLemmas

@@ -21,7 +21,7 @@ use Rattle.mc_model.specs.declared.run.Run.TheVariants.{Release, Ticks, Idles}
 use Rattle.trace_format.specs.declared.version.Version.TheVariants.{Two}
 use Rattle.trace_format.specs.declared.event.Event.TheVariants as event
 use Rattle.trace_format.specs.Events.{event_of, release_event, tick_event, idle_event}
-use Rattle.trace_format.specs.TraceFile.{is_length, record_run, behind_header, trace_file}
+use Rattle.trace_format.specs.TraceFile.{is_length, record_run, after_header, trace_file}
 use Rattle.trace_format.specs.Writable.{IsWritable}
 use Rattle.trace_format.specs.declared.fault.TraceCause.TheVariants.{Header}
 use Rattle.csv_records.specs.Rows.{rows_from, rows_of}
@@ -97,4 +97,4 @@ read_back set runs text s v writable is =
     let written = written_records set runs s v.short w in
     let same = same_records _ _ (records default_config (strip_bom (runs_text set runs))) (header_fields ∷ fields_from set 0 runs) (records_are _) written in
     let back = runs_back set [] runs s (omega (arith, v.few)) (omega (arith, v.short)) (recursion_from_All IsRun runs v.each) w in
-    ap (trace_file set) is ∙ (ap (rows_of (behind_header set) Header) same ∙ back)
+    ap (trace_file set) is ∙ (ap (rows_of (after_header set) Header) same ∙ back)

@@ -22,9 +22,9 @@ unfoldable pub idle_event : List ℕ → List ℕ → List ℕ → Option Event
 idle_event task job how = if (length task == 0 && length job == 0) && length how == 0 then Some Idle else None
 
 -- the column of the task's field; the fields of the job and of the outcome come after it
-abbrev pub task_place : Version → ℕ
-task_place One = 2
-task_place Two = 3
+abbrev pub task_column : Version → ℕ
+task_column One = 2
+task_column Two = 3
 
 -- whether the record has no length: version 1 has no such field, and in version 2 it is empty
 abbrev pub has_no_length : Version → List (List ℕ) → Bool
@@ -35,9 +35,9 @@ has_no_length Two fields = length (field fields 2) == 0
 unfoldable pub event_of : Version → List (List ℕ) → Option Event
 event_of v fields =
     if bytes_eq (field fields 0) (codes "release")
-    then (if has_no_length v fields then release_event (field fields (task_place v + 2)) else None)
-    else if bytes_eq (field fields 0) (codes "tick") then tick_event (field fields (task_place v + 2))
+    then (if has_no_length v fields then release_event (field fields (task_column v + 2)) else None)
+    else if bytes_eq (field fields 0) (codes "tick") then tick_event (field fields (task_column v + 2))
     else if bytes_eq (field fields 0) (codes "idle")
-    then idle_event (field fields (task_place v)) (field fields (task_place v + 1))
-    (field fields (task_place v + 2))
+    then idle_event (field fields (task_column v)) (field fields (task_column v + 1))
+    (field fields (task_column v + 2))
     else None

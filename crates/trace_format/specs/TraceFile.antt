@@ -21,8 +21,8 @@ use Rattle.trace_format.specs.declared.event.Event.{Event}
 use Rattle.trace_format.specs.declared.event.Event.TheVariants as event
 use Rattle.trace_format.specs.declared.fault.TraceCause.{TraceCause}
 use Rattle.trace_format.specs.declared.fault.TraceCause.TheVariants.{BadRecord, Header, UnknownEvent, UnknownTask, BadNumber, WrongTick, TooMany, BadLength, TooManyTicks, NotSix}
-use Rattle.trace_format.specs.declared.record.Numbers.{Numbers}
-use Rattle.trace_format.specs.Events.{event_of, task_place}
+use Rattle.trace_format.specs.declared.record.RecordNumbers.{RecordNumbers}
+use Rattle.trace_format.specs.Events.{event_of, task_column}
 
 -- the header of a version; each record of that version has as many fields
 abbrev pub header_words : Version → List (List ℕ)
@@ -45,22 +45,22 @@ length_in One fields = Some 1
 length_in Two fields = number (field fields 2)
 
 -- the number of the task of a release or a tick, if the set has one of that name; 0 if the record is idle
-abbrev pub task_told : List Task → Version → List (List ℕ) → Event → Option ℕ
-task_told set v fields event.Idle = Some 0
-task_told set v fields _ = named (field fields (task_place v)) set
+abbrev pub task_in : List Task → Version → List (List ℕ) → Event → Option ℕ
+task_in set v fields event.Idle = Some 0
+task_in set v fields _ = named (field fields (task_column v)) set
 
 -- a tick, a length and a job's number, if all three are numbers
-abbrev pub all_numbers : Option ℕ → Option ℕ → Option ℕ → Option Numbers
+abbrev pub all_numbers : Option ℕ → Option ℕ → Option ℕ → Option RecordNumbers
 all_numbers (Some t) (Some n) (Some c) = Some (record { tick = t; length = n; count = c })
 all_numbers _ _ _ = None
 
 -- the numbers of a record: a release has no ticks, and an idle record no job
-abbrev pub numbers_told : Version → List (List ℕ) → Event → Option Numbers
-numbers_told v fields (event.Release kept) =
-    all_numbers (number (field fields 1)) (Some 0) (number (field fields (task_place v + 1)))
-numbers_told v fields (event.Tick how) =
-    all_numbers (number (field fields 1)) (length_in v fields) (number (field fields (task_place v + 1)))
-numbers_told v fields event.Idle = all_numbers (number (field fields 1)) (length_in v fields) (Some 0)
+abbrev pub numbers_in : Version → List (List ℕ) → Event → Option RecordNumbers
+numbers_in v fields (event.Release kept) =
+    all_numbers (number (field fields 1)) (Some 0) (number (field fields (task_column v + 1)))
+numbers_in v fields (event.Tick how) =
+    all_numbers (number (field fields 1)) (length_in v fields) (number (field fields (task_column v + 1)))
+numbers_in v fields event.Idle = all_numbers (number (field fields 1)) (length_in v fields) (Some 0)
 
 -- whether the record may stand for n ticks: a tick or idle record for at least one, and for several only if
 -- its job goes on after each of them, or if it is idle
@@ -71,20 +71,20 @@ is_length (event.Tick _) n = n == 1
 is_length event.Idle n = nat_le 1 n
 
 -- the run that a record says, by its event, its task number k and its other numbers
-abbrev pub run_told : Event → ℕ → Numbers → Run
-run_told (event.Release kept) k n = run.Release (record { task = record { 0 = k }; count = n.count }) kept
-run_told (event.Tick how) k n = run.Ticks (record { task = record { 0 = k }; count = n.count }) how n.length
-run_told event.Idle k n = run.Idles n.length
+abbrev pub run_from : Event → ℕ → RecordNumbers → Run
+run_from (event.Release kept) k n = run.Release (record { task = record { 0 = k }; count = n.count }) kept
+run_from (event.Tick how) k n = run.Ticks (record { task = record { 0 = k }; count = n.count }) how n.length
+run_from event.Idle k n = run.Idles n.length
 
 -- the run of a record that says this event, if this tick is the next one; or the first of its refusals
 abbrev pub run_at : List Task → Version → ℕ → List (List ℕ) → Event → Result Run TraceCause
-run_at set v due fields told =
-    or_refuse UnknownTask (task_told set v fields told) >>= λ task.
-    or_refuse BadNumber (numbers_told v fields told) >>= λ n.
+run_at set v due fields said =
+    or_refuse UnknownTask (task_in set v fields said) >>= λ task.
+    or_refuse BadNumber (numbers_in v fields said) >>= λ n.
     if not (n.tick == due) then Err WrongTick
-    else if not (is_length told n.length) then Err BadLength
+    else if not (is_length said n.length) then Err BadLength
     else if nat_lt 100000000 (due + n.length) then Err TooManyTicks
-    else Ok (run_told told task n)
+    else Ok (run_from said task n)
 
 -- the run of a record after these runs, or the first of its refusals
 unfoldable pub record_run : List Task → Version → List Run → List (List ℕ) → Result Run TraceCause
@@ -94,9 +94,9 @@ record_run set v before fields =
     else (or_refuse UnknownEvent (event_of v fields) >>= run_at set v (total length_of before) fields)
 
 -- what the records after this one mean, if it is a header
-abbrev pub behind_header : List Task → List (List ℕ) → Option (Means Run TraceCause)
-behind_header set fields = option_map (record_run set) (version_of fields)
+abbrev pub after_header : List Task → List (List ℕ) → Option (Means Run TraceCause)
+after_header set fields = option_map (record_run set) (version_of fields)
 
 -- the runs of a text, or its first refusal; its records are as csv's reader with its defaults returns them
 abbrev pub trace_file : List Task → List ℕ → Result (List Run) (Fault TraceCause)
-trace_file set text = rows_in (behind_header set) Header text
+trace_file set text = rows_in (after_header set) Header text

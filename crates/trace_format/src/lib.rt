@@ -6,10 +6,13 @@ mod fault;
 mod packing;
 mod read;
 mod record;
+mod run_list;
+mod takes_runs;
 mod version;
 mod write;
 
 pub use fault::{TraceCause, TraceFault};
 pub use packing::{merge, pack};
-pub use read::read_trace;
+pub use read::{read_runs, read_trace};
+pub use takes_runs::TakesRuns;
 pub use write::write_trace;

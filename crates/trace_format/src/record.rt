@@ -1,5 +1,5 @@
 //! A record of a trace as a run.
-ghost use Rattle.std.specs.Prelude.{◌≡◌, ◌+◌, ◌≤◌, length, option_map};
+ghost use Rattle.std.specs.Prelude.{◌≡◌, ◌+◌, ◌≤◌, List, length, option_map};
 ghost use lib.Pointwise.{pointwise};
 ghost use Rattle.std.specs.Str.{bytes_eq};
 ghost use Rattle.csv.specs.Records.{fields_of};
@@ -8,7 +8,8 @@ ghost use Rattle.numeral.specs.Numeral as text;
 ghost use Rattle.mc_task.specs.Faults.{named};
 ghost use Rattle.mc_model.specs.Sums.{total};
 ghost use Rattle.mc_model.specs.Runs.{length_of};
-ghost use Rattle.trace_format.specs.Events as event;
+ghost use Rattle.mc_model.specs.declared.run.Run.{Run};
+ghost use Rattle.trace_format.specs.Events as events;
 ghost use Rattle.trace_format.specs.TraceFile as file;
 
 use crate::TraceCause;
@@ -34,7 +35,7 @@ pub fn version_of(fields: &ByteRecord) -> Option<Version>
 }
 
 // Whether the record is `event,tick,task,job,how`.
-#[tactic(auto, using(csv_records::proofs::WordLemmas::words_by_place))]
+#[tactic(auto, using(csv_records::proofs::WordLemmas::words_by_column))]
 fn is_first_header(fields: &ByteRecord) -> bool
     ensures { result ≡ pointwise bytes_eq (fields_of fields.now) (file.header_words Version.One) }
 {
@@ -46,7 +47,7 @@ fn is_first_header(fields: &ByteRecord) -> bool
 }
 
 // Whether the record is `event,tick,length,task,job,how`.
-#[tactic(auto, using(csv_records::proofs::WordLemmas::words_by_place))]
+#[tactic(auto, using(csv_records::proofs::WordLemmas::words_by_column))]
 fn is_second_header(fields: &ByteRecord) -> bool
     ensures { result ≡ pointwise bytes_eq (fields_of fields.now) (file.header_words Version.Two) }
 {
@@ -60,8 +61,8 @@ fn is_second_header(fields: &ByteRecord) -> bool
 
 // The column of the task's field; the fields of the job and of the outcome come after it.
 #[inline(always)]
-fn task_place(version: Version) -> usize
-    ensures place { result ≡ event.task_place version }
+fn task_column(version: Version) -> usize
+    ensures column { result ≡ events.task_column version }
     ensures few { result ≤ 3 }
 {
     match version {
@@ -91,23 +92,22 @@ pub fn wrong_width(version: Version) -> TraceCause
     }
 }
 
-// The run of a record after these runs, if its tick is the next one; or why it is refused. The likely task is tried
-// first.
-// It has one caller, so that the compiler inlines it into the loop over the records.
+// The run of a record after this number of runs, if its tick is the next one; or why it is refused. The likely task is
+// tried first. Inlined, so that the loop over the records makes no call for a record.
+#[inline(always)]
 #[tactic(auto, unfolding(crate::specs::TraceFile::record_run))]
 pub fn record_run(
     set: &TaskSet,
     version: Version,
-    before: &[Run],
+    count: u32,
     due: u32,
     likely: TaskNo,
     fields: &ByteRecord,
 ) -> Result<Run, TraceCause>
-    requires due { due ≡ total length_of before.now }
-    requires short { due ≤ 100000000 }
-    ensures { result ≡ file.record_run set.now.tasks version before.now (fields_of fields.now) }
+    requires { due ≤ 100000000 }
+    ensures { (before : List Run) → count ≡ length before → due ≡ total length_of before → result ≡ file.record_run set.now.tasks version before (fields_of fields.now) }
 {
-    if before.len() >= 2_000_000 {
+    if count >= 2_000_000 {
         return Err(TraceCause::TooMany);
     }
     if fields.len() != width(version) {
@@ -115,12 +115,12 @@ pub fn record_run(
     }
     match event_of(version, fields) {
         Some(Event::Release { kept }) => {
-            let told = Event::Release { kept };
-            run_at(set, version, due, likely, fields, told)
+            let event = Event::Release { kept };
+            run_at(set, version, due, likely, fields, event)
         }
         Some(Event::Tick { how }) => {
-            let told = Event::Tick { how };
-            run_at(set, version, due, likely, fields, told)
+            let event = Event::Tick { how };
+            run_at(set, version, due, likely, fields, event)
         }
         Some(Event::Idle) => run_at(set, version, due, likely, fields, Event::Idle),
         None => Err(TraceCause::UnknownEvent),
@@ -136,43 +136,43 @@ fn run_at(
     due: u32,
     likely: TaskNo,
     fields: &ByteRecord,
-    told: Event,
+    event: Event,
 ) -> Result<Run, TraceCause>
     requires { due ≤ 100000000 }
-    ensures { result ≡ file.run_at set.now.tasks version due (fields_of fields.now) told }
+    ensures { result ≡ file.run_at set.now.tasks version due (fields_of fields.now) event }
 {
-    let Some(task) = task_told(set, version, likely, fields, told) else {
+    let Some(task) = task_in(set, version, likely, fields, event) else {
         return Err(TraceCause::UnknownTask);
     };
-    let Some(numbers) = numbers_told(version, fields, told) else {
+    let Some(numbers) = numbers_in(version, fields, event) else {
         return Err(TraceCause::BadNumber);
     };
     if numbers.tick != due {
         return Err(TraceCause::WrongTick);
     }
-    if !is_length(told, numbers.length) {
+    if !is_length(event, numbers.length) {
         return Err(TraceCause::BadLength);
     }
     if u64::from(due) + u64::from(numbers.length) > 100_000_000 {
         return Err(TraceCause::TooManyTicks);
     }
-    Ok(run_told(told, task, numbers))
+    Ok(run_from(event, task, numbers))
 }
 
 // The number of the task of a release or a tick; 0, the number of no task, for an idle record.
 #[inline(always)]
-fn task_told(
+fn task_in(
     set: &TaskSet,
     version: Version,
     likely: TaskNo,
     fields: &ByteRecord,
-    told: Event,
+    event: Event,
 ) -> Option<TaskNo>
-    ensures { option_map (λ task. task.0) result ≡ file.task_told set.now.tasks version (fields_of fields.now) told }
+    ensures { option_map (λ task. task.0) result ≡ file.task_in set.now.tasks version (fields_of fields.now) event }
 {
-    match told {
+    match event {
         Event::Release { .. } | Event::Tick { .. } => {
-            find_likely(set, field(fields, task_place(version)), likely)
+            find_likely(set, field(fields, task_column(version)), likely)
         }
         Event::Idle => Some(TaskNo(0)),
     }
@@ -192,7 +192,7 @@ fn find_likely(set: &TaskSet, name: &[u8], likely: TaskNo) -> Option<TaskNo>
 
 // The tick, the length and the job's number of a record.
 #[derive(Clone, Copy, Debug, PartialEq, Eq)]
-pub struct Numbers {
+pub struct RecordNumbers {
     pub tick: u32,
     pub length: u32,
     pub count: u32,
@@ -200,21 +200,21 @@ pub struct Numbers {
 
 // The numbers of a record; `None` if one of its fields is not a number.
 #[inline(always)]
-fn numbers_told(version: Version, fields: &ByteRecord, told: Event) -> Option<Numbers>
-    ensures { result ≡ file.numbers_told version (fields_of fields.now) told }
+fn numbers_in(version: Version, fields: &ByteRecord, event: Event) -> Option<RecordNumbers>
+    ensures { result ≡ file.numbers_in version (fields_of fields.now) event }
 {
-    match told {
-        Event::Release { .. } => Some(Numbers {
+    match event {
+        Event::Release { .. } => Some(RecordNumbers {
             tick: tick_in(fields)?,
             length: 0,
             count: count_in(version, fields)?,
         }),
-        Event::Tick { .. } => Some(Numbers {
+        Event::Tick { .. } => Some(RecordNumbers {
             tick: tick_in(fields)?,
             length: length_in(version, fields)?,
             count: count_in(version, fields)?,
         }),
-        Event::Idle => Some(Numbers {
+        Event::Idle => Some(RecordNumbers {
             tick: tick_in(fields)?,
             length: length_in(version, fields)?,
             count: 0,
@@ -233,17 +233,17 @@ fn tick_in(fields: &ByteRecord) -> Option<u32>
 // The job's number of a record.
 #[inline(always)]
 fn count_in(version: Version, fields: &ByteRecord) -> Option<u32>
-    ensures { result ≡ text.number (field (fields_of fields.now) (event.task_place version + 1)) }
+    ensures { result ≡ text.number (field (fields_of fields.now) (events.task_column version + 1)) }
 {
-    number(field(fields, task_place(version) + 1))
+    number(field(fields, task_column(version) + 1))
 }
 
 // Whether a record that says this event may have this number of ticks.
 #[inline(always)]
-fn is_length(told: Event, length: u32) -> bool
-    ensures { result ≡ file.is_length told length }
+fn is_length(event: Event, length: u32) -> bool
+    ensures { result ≡ file.is_length event length }
 {
-    match told {
+    match event {
         Event::Release { .. } => true,
         Event::Tick { how } => match how {
             How::More => length >= 1,
@@ -254,15 +254,15 @@ fn is_length(told: Event, length: u32) -> bool
 }
 
 #[inline(always)]
-fn run_told(told: Event, task: TaskNo, numbers: Numbers) -> Run
-    ensures { result ≡ file.run_told told task.0 numbers }
+fn run_from(event: Event, task: TaskNo, numbers: RecordNumbers) -> Run
+    ensures { result ≡ file.run_from event task.0 numbers }
 {
     let job = JobId {
         task,
         count: numbers.count,
     };
     let length = numbers.length;
-    match told {
+    match event {
         Event::Release { kept } => Run::Release { job, kept },
         Event::Tick { how } => Run::Ticks { job, how, length },
         Event::Idle => Run::Idles { length },
@@ -283,30 +283,30 @@ fn length_in(version: Version, fields: &ByteRecord) -> Option<u32>
 #[inline(always)]
 #[tactic(auto, unfolding(crate::specs::Events::event_of))]
 fn event_of(version: Version, fields: &ByteRecord) -> Option<Event>
-    ensures { result ≡ event.event_of version (fields_of fields.now) }
+    ensures { result ≡ events.event_of version (fields_of fields.now) }
 {
     let word = field(fields, 0);
-    let place = task_place(version);
+    let column = task_column(version);
     if is(word, "release") {
         if has_no_length(version, fields) {
-            return release_event(field(fields, place + 2));
+            return release_event(field(fields, column + 2));
         }
         return None;
     }
     if is(word, "tick") {
-        return tick_event(field(fields, place + 2));
+        return tick_event(field(fields, column + 2));
     }
     if is(word, "idle") {
-        let task = field(fields, place);
-        let job = field(fields, place + 1);
-        return idle_event(task, job, field(fields, place + 2));
+        let task = field(fields, column);
+        let job = field(fields, column + 1);
+        return idle_event(task, job, field(fields, column + 2));
     }
     None
 }
 
 #[inline(always)]
 fn has_no_length(version: Version, fields: &ByteRecord) -> bool
-    ensures { result ≡ event.has_no_length version (fields_of fields.now) }
+    ensures { result ≡ events.has_no_length version (fields_of fields.now) }
 {
     match version {
         Version::One => true,
@@ -317,7 +317,7 @@ fn has_no_length(version: Version, fields: &ByteRecord) -> bool
 #[inline(always)]
 #[tactic(auto, unfolding(crate::specs::Events::release_event))]
 fn release_event(how: &[u8]) -> Option<Event>
-    ensures { result ≡ event.release_event how.now }
+    ensures { result ≡ events.release_event how.now }
 {
     if is(how, "kept") {
         Some(Event::Release { kept: true })
@@ -331,7 +331,7 @@ fn release_event(how: &[u8]) -> Option<Event>
 #[inline(always)]
 #[tactic(auto, unfolding(crate::specs::Events::tick_event))]
 fn tick_event(how: &[u8]) -> Option<Event>
-    ensures { result ≡ event.tick_event how.now }
+    ensures { result ≡ events.tick_event how.now }
 {
     if is(how, "more") {
         Some(Event::Tick { how: How::More })
@@ -349,7 +349,7 @@ fn tick_event(how: &[u8]) -> Option<Event>
 #[inline(always)]
 #[tactic(auto, unfolding(crate::specs::Events::idle_event))]
 fn idle_event(task: &[u8], job: &[u8], how: &[u8]) -> Option<Event>
-    ensures { result ≡ event.idle_event task.now job.now how.now }
+    ensures { result ≡ events.idle_event task.now job.now how.now }
 {
     if task.len() == 0 && job.len() == 0 && how.len() == 0 {
         Some(Event::Idle)

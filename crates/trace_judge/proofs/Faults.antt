@@ -21,7 +21,7 @@ use Rattle.mc_model.specs.Key.{key}
 use Rattle.mc_model.specs.Legal.{Legal, is_pending, is_least, is_empty, none_below, fault, fault_among, first_of_parts}
 use Rattle.mc_model.proofs.Jobs.{job_eq}
 use Rattle.mc_model.specs.Sums.{total, when}
-use Rattle.trace_judge.specs.declared.waiting.Pending.{Pending}
+use Rattle.trace_judge.specs.declared.pending_queues.Pending.{Pending}
 use Rattle.trace_judge.specs.Entries.{Entry, is_of, pending_in, Stands}
 use Rattle.trace_judge.specs.declared.state.TaskNote.{TaskNote}
 use Rattle.trace_judge.specs.declared.state.State.{State}
@@ -29,18 +29,18 @@ use Rattle.trace_judge.specs.Placed.{Placed, waiting}
 use Rattle.trace_judge.specs.Steps.{release_why, note_at}
 use Rattle.trace_judge.specs.Rules.{allows}
 use Rattle.trace_judge.specs.Tracks.{Tracks, entry_of}
-use Rattle.trace_judge.specs.declared.waiting.Standing.TheVariants as standing
+use Rattle.trace_judge.specs.declared.pending_queues.Standing.TheVariants as standing
 use Rattle.mc_model.proofs.Sums.{one, total-one}
 use Rattle.trace_judge.proofs.Same.{list_all-true, list_any-map, list_all-map, same_any, same_all}
 use Rattle.trace_judge.proofs.Firsts.{found_passes, found_any, found_both, one_fails}
-use Rattle.trace_judge.proofs.Placed.{live_of, pending_is, one_waiting}
+use Rattle.trace_judge.proofs.Placed.{kept_of, pending_is, one_waiting}
 
 -- each entry has a job of its own
 pub apart : (set : List Task) (rule : Rule) (g : List Row) (s : State) → Legal set rule g → Tracks set rule g s → (i : JobId) → total (when (is_of i) one) s.waiting.entries ≤ 1
 apart set rule g s l t i =
     omega (arith, one_waiting set rule g l i, t.waiting (when (is_of i) one))
 
--- too soon is before the next release that is allowed
+-- the next release of a task is allowed at most a period after the rows end
 next_le : (set : List Task) (g : List Row) (k : ℕ) → next_release set g k ≤ ticks g + period_in (task_at set k)
 next_le set [] k = omega arith
 next_le set (Release j kept ∷ g) k = grind (arith, next_le set g k)
@@ -72,31 +72,31 @@ release_fault set rule g s j kept task t a b at =
 abbrev pub least_in : List Entry → JobId → Bool
 least_in es j = list_any (λ e. is_of j e && list_all (λ o. nat_le e.0.0 o.0.0) es) es
 
--- so it is where it is found at a key that none is below
+-- an entry that is found at a key with no lesser one has a least key
 pub found_least : (j : JobId) (e : Entry) (es : List Entry) → list_all (λ (o : Entry). nat_le e.0.0 o.0.0) es ≡ true → find (is_of j) es ≡ Some e → least_in es j ≡ true
 found_least j e es = found_both (is_of j) (λ (x : Entry). list_all (λ (o : Entry). nat_le x.0.0 o.0.0) es) e es
 
--- and not where it is found at one that some is below, the only entry of its job
+-- the only entry of a job has no least key if some entry has a lesser one
 pub not_least : (j : JobId) (e : Entry) (es : List Entry) → total (when (is_of j) one) es ≤ 1 → list_all (λ (o : Entry). nat_le e.0.0 o.0.0) es ≡ false → find (is_of j) es ≡ Some e → least_in es j ≡ false
 not_least j e es = one_fails (is_of j) (λ (x : Entry). list_all (λ (o : Entry). nat_le x.0.0 o.0.0) es) e es
 
 -- the tests of a tick's job among the pending jobs are those among the entries
-pub pending_same : (set : List Task) (rule : Rule) (g : List Row) (s : State) (j : JobId) → Tracks set rule g s → is_pending (map live_of (waiting set g)) j ≡ pending_in s.waiting.entries j
+pub pending_same : (set : List Task) (rule : Rule) (g : List Row) (s : State) (j : JobId) → Tracks set rule g s → is_pending (map kept_of (waiting set g)) j ≡ pending_in s.waiting.entries j
 pending_same set rule g s j t =
-    list_any-map (λ i. same_job j i.job) live_of (λ x. same_job j x.live.job) (λ x. refl) (waiting set g)
+    list_any-map (λ i. same_job j i.job) kept_of (λ x. same_job j x.kept.job) (λ x. refl) (waiting set g)
     ∙ sym (same_any s.waiting.entries (entry_of set rule g) (waiting set g) t.waiting (is_of j))
 
--- and so is the test of the least key
-pub least_same : (set : List Task) (rule : Rule) (g : List Row) (s : State) (j : JobId) → Tracks set rule g s → is_least set rule (high_mode rule g) (map live_of (waiting set g)) j ≡ least_in s.waiting.entries j
+-- the test of the least key among the pending jobs is the test among the entries
+pub least_same : (set : List Task) (rule : Rule) (g : List Row) (s : State) (j : JobId) → Tracks set rule g s → is_least set rule (high_mode rule g) (map kept_of (waiting set g)) j ≡ least_in s.waiting.entries j
 least_same set rule g s j t =
     let es : List Entry = s.waiting.entries in
     let ws : List Placed = waiting set g in
     let hi : Bool = high_mode rule g in
-    list_any-map (λ i. same_job j i.job && none_below set rule hi (key set rule hi i) (map live_of ws)) live_of
-    (λ x. same_job j x.live.job && list_all (λ (o : Entry). nat_le (key set rule hi x.live) o.0.0) es)
-    (λ x. ap (λ b. same_job j x.live.job && b)
-    (list_all-map (λ i. nat_le (key set rule hi x.live) (key set rule hi i)) live_of ws
-    ∙ sym (same_all es (entry_of set rule g) ws t.waiting (λ (o : Entry). nat_le (key set rule hi x.live) o.0.0)))) ws
+    list_any-map (λ i. same_job j i.job && none_below set rule hi (key set rule hi i) (map kept_of ws)) kept_of
+    (λ x. same_job j x.kept.job && list_all (λ (o : Entry). nat_le (key set rule hi x.kept) o.0.0) es)
+    (λ x. ap (λ b. same_job j x.kept.job && b)
+    (list_all-map (λ i. nat_le (key set rule hi x.kept) (key set rule hi i)) kept_of ws
+    ∙ sym (same_all es (entry_of set rule g) ws t.waiting (λ (o : Entry). nat_le (key set rule hi x.kept) o.0.0)))) ws
     ∙ sym (same_any es (entry_of set rule g) ws t.waiting (λ (e : Entry). is_of j e && list_all (λ (o : Entry). nat_le e.0.0 o.0.0) es))
 
 -- the fault of a tick, by those tests
@@ -114,8 +114,8 @@ found_used set rule g s j k p t h =
     let r : (not (is_of j ((k, j.task.0, j.count), p)) || (p.used == used g j)) ≡ true = found_passes q (is_of j) ((k, j.task.0, j.count), p) s.waiting.entries all h in
     grind (arith, nat_tests)
   where
-    each : (x : Placed) → (not (is_of j (entry_of set rule g x)) || (used g x.live.job == used g j)) ≡ true
-    each x = let same : same_job j x.live.job ≡ true → used g x.live.job ≡ used g j = λ m. ap (used g) (sym (job_eq j x.live.job m)) in grind (arith, nat_tests, same)
+    each : (x : Placed) → (not (is_of j (entry_of set rule g x)) || (used g x.kept.job == used g j)) ≡ true
+    each x = let same : same_job j x.kept.job ≡ true → used g x.kept.job ≡ used g j = λ m. ap (used g) (sym (job_eq j x.kept.job m)) in grind (arith, nat_tests, same)
 
 -- the three faults of a tick
 pub stands_not_pending : (set : List Task) (rule : Rule) (g : List Row) (s : State) (j : JobId) (how : How) → Legal set rule g → Tracks set rule g s → Stands s.waiting.entries j standing.NotPending → Some NotPending ≡ fault set rule (Tick j how) g
@@ -128,7 +128,7 @@ stands_not_least set rule g s j how l t h =
     let b = not_least j h.0 s.waiting.entries (apart set rule g s l t j) h.2 h.1 in
     sym (tick_fault set rule g s j how l t ∙ rw (a, b) refl)
 
--- and of one that is, by how it ended
+-- the fault of a tick of a job that is at the least key, by how the tick ended
 pub stands_least : (set : List Task) (rule : Rule) (g : List Row) (s : State) (j : JobId) (how : How) (p : Pending) → Legal set rule g → Tracks set rule g s → Stands s.waiting.entries j (standing.Least p) →
     fault set rule (Tick j how) g ≡ cond (allows rule s.high_mode (task_at set j.task.0) (p.used + 1) how) None (Some WrongHow)
 stands_least set rule g s j how p l t h =
@@ -138,7 +138,7 @@ stands_least set rule g s j how p l t h =
     tick_fault set rule g s j how l t ∙ rw (a, b, t.mode, found_used set rule g s j h.0 p t h.1) refl
 
 -- something waits
-not_empty_at : (ws : List Placed) → length ws ≢ 0 → is_empty (map live_of ws) ≡ false
+not_empty_at : (ws : List Placed) → length ws ≢ 0 → is_empty (map kept_of ws) ≡ false
 not_empty_at [] h = absurd (h refl)
 not_empty_at (x ∷ ws) h = refl
 
@@ -151,6 +151,6 @@ pub idle_some : (set : List Task) (rule : Rule) (g : List Row) (s : State) → L
 idle_some set rule g s l t h =
     sym (ap (λ now. fault_among set rule now Idle g) (pending_is set rule g l) ∙ rw (not_empty_at (waiting set g) (λ e. h (same_length set rule g s t ∙ e))) refl)
 
--- what an Over that is allowed tells of the rule
+-- what an allowed Over says of the rule
 pub over_virtual : (rule : Rule) (high : Bool) (t : Option Task) (u : ℕ) → allows rule high t u Over ≡ true → is_virtual rule ≡ true
 over_virtual rule high t u h = grind arith

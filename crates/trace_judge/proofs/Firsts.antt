@@ -8,15 +8,15 @@ use Rattle.mc_model.specs.Sums.{total, when}
 use Rattle.mc_model.proofs.Sums.{one}
 use Rattle.trace_judge.specs.Firsts.{edit_first, change_first, remove_first, IsFirstAt}
 
--- behind elements that fail
+-- finding after elements that fail
 
-pub find_behind : {X : Type 0} (p : X → Bool) (xs ys : List X) → list_any p xs ≡ false → find p (xs ++ ys) ≡ find p ys
-find_behind p [] ys h = refl
-find_behind p (x ∷ xs) ys h = grind (arith, find_behind p xs ys)
+pub find_after : {X : Type 0} (p : X → Bool) (xs ys : List X) → list_any p xs ≡ false → find p (xs ++ ys) ≡ find p ys
+find_after p [] ys h = refl
+find_after p (x ∷ xs) ys h = grind (arith, find_after p xs ys)
 
-pub edit_behind : {X : Type 0} (p : X → Bool) (k : X → List X) (xs ys : List X) → list_any p xs ≡ false → edit_first p k (xs ++ ys) ≡ xs ++ edit_first p k ys
-edit_behind p k [] ys h = refl
-edit_behind p k (x ∷ xs) ys h = grind (arith, edit_behind p k xs ys)
+pub edit_after : {X : Type 0} (p : X → Bool) (k : X → List X) (xs ys : List X) → list_any p xs ≡ false → edit_first p k (xs ++ ys) ≡ xs ++ edit_first p k ys
+edit_after p k [] ys h = refl
+edit_after p k (x ∷ xs) ys h = grind (arith, edit_after p k xs ys)
 
 -- where all elements fail
 
@@ -61,12 +61,12 @@ parts xs i d h = sym (set-get_or xs i d) ∙ set_split xs i (get_or xs i d) h
 
 pub find_at : {X : Type 0} (p : X → Bool) (xs : List X) (i : ℕ) (d : X) → IsFirstAt p xs i → find p xs ≡ Some (get_or xs i d)
 find_at p xs i d a =
-    ap (find p) (parts xs i d a.inside) ∙ (find_behind p (take i xs) (get_or xs i d ∷ drop (suc i) xs) a.before ∙ rw (a.here d) refl)
+    ap (find p) (parts xs i d a.inside) ∙ (find_after p (take i xs) (get_or xs i d ∷ drop (suc i) xs) a.before ∙ rw (a.here d) refl)
 
 edit_at : {X : Type 0} (p : X → Bool) (k : X → List X) (xs : List X) (i : ℕ) (d : X) → IsFirstAt p xs i →
     edit_first p k xs ≡ take i xs ++ (k (get_or xs i d) ++ drop (suc i) xs)
 edit_at p k xs i d a =
-    ap (edit_first p k) (parts xs i d a.inside) ∙ (edit_behind p k (take i xs) (get_or xs i d ∷ drop (suc i) xs) a.before ∙ rw (a.here d) refl)
+    ap (edit_first p k) (parts xs i d a.inside) ∙ (edit_after p k (take i xs) (get_or xs i d ∷ drop (suc i) xs) a.before ∙ rw (a.here d) refl)
 
 pub change_at : {X : Type 0} (p : X → Bool) (f : X → X) (xs : List X) (i : ℕ) (d : X) → IsFirstAt p xs i → change_first p f xs ≡ set xs i (f (get_or xs i d))
 change_at p f xs i d a = edit_at p (λ x. f x ∷ []) xs i d a ∙ sym (set_split xs i (f (get_or xs i d)) a.inside)
@@ -80,12 +80,12 @@ pub found_is : {X : Type 0} (p : X → Bool) (x : X) (xs : List X) → find p xs
 found_is p x [] h = cc
 found_is p x (y ∷ xs) h = grind (arith, found_is p x xs)
 
--- and what all elements pass
+-- what is found passes each test that all elements pass
 pub found_passes : {X : Type 0} (q p : X → Bool) (x : X) (xs : List X) → list_all q xs ≡ true → find p xs ≡ Some x → q x ≡ true
 found_passes q p x [] a h = cc
 found_passes q p x (y ∷ xs) a h = grind (arith, found_passes q p x xs, and_parts (q y) (list_all q xs) a)
 
--- then some element passes
+-- if an element is found, some element passes
 pub found_any : {X : Type 0} (p : X → Bool) (x : X) (xs : List X) → find p xs ≡ Some x → list_any p xs ≡ true
 found_any p x [] h = cc
 found_any p x (y ∷ xs) h = grind (arith, found_any p x xs)

@@ -1,4 +1,5 @@
--- What is kept follows a release, a tick that is no overrun, an overrun, and a run: n ticks of a job behind which it goes on, or n idle ticks.
+-- The state follows a release, a tick without an overrun, an overrun, and a run: n ticks of a job that
+-- continues after each, or n idle ticks.
 use Rattle.std.proofs.Common.{inl, inr, ne_eqb, [], ◌≡◌, ℕ, ◌+◌, Bool, true, false, List, ◌∷◌, refl, sym, ap, ◌∙◌, arith, zero, suc, ◌<◌, ◌≢◌, ◌==◌, Some, subst, slice_get, length, ◌-◌, slice_set, length-set, ◌≤◌, not, ◌&&◌, cond, filter, map, nat_le, ◌^◌, min, Option, None, ◌++◌, replicate}
 use Rattle.std.specs.Prelude.{find}
 use Rattle.std.proofs.lemmas.Bool.{cases_eq}
@@ -23,16 +24,16 @@ use Rattle.mc_model.proofs.Booleans.{eqb-refl}
 use Rattle.mc_model.proofs.Lists.{Each, Each-all, filter_none}
 use Rattle.mc_model.proofs.Sums.{one, total-append, total-map, total-filter, total-ext, total-same, total-mono}
 use Rattle.mc_model.proofs.Repeats.{ticks_more, releases_more, next_more, mode_more, used_more, ticks_idle, releases_idle, next_idle, mode_idle, length_copies}
-use Rattle.trace_judge.specs.declared.waiting.Pending.{Pending}
+use Rattle.trace_judge.specs.declared.pending_queues.Pending.{Pending}
 use Rattle.trace_judge.specs.Entries.{Entry, is_of, spent_entry, late_job_of, late_job}
 use Rattle.trace_judge.specs.declared.state.TaskNote.{TaskNote}
 use Rattle.trace_judge.specs.declared.state.State.{State}
 use Rattle.trace_judge.specs.Placed.{new_one, waiting, gone_late, Placed, stays, is_due}
 use Rattle.trace_judge.specs.Steps.{Waits, Releases, Ends, GoesOn, Rests}
 use Rattle.trace_judge.specs.Tracks.{Tracks, entry_of, late_job_in}
-use Rattle.trace_judge.specs.Lates.{CountsLates, noted}
+use Rattle.trace_judge.specs.LateJobs.{CountsLateJobs, noted}
 use Rattle.trace_judge.specs.Rules.{is_due_at}
-use Rattle.trace_judge.specs.declared.lates.LateJob.{LateJob}
+use Rattle.trace_judge.specs.declared.late_jobs.LateJob.{LateJob}
 use Rattle.trace_judge.specs.Switch.{moved, rekeyed, noted_each, Switches, Overruns, is_discarded_late}
 use Rattle.trace_judge.proofs.Placed.{release_count, fresh_used}
 use Rattle.trace_judge.proofs.Firsts.{total_removed, total_found, total_changed}
@@ -82,7 +83,7 @@ notes_after set rule g s j kept task l t at k h =
 
 -- what is kept of a pending job, from its parts
 abbrev pub a_pending : ℕ → ℕ → ℕ → Pending
-a_pending r u p = record { release = r; used = u; place = p }
+a_pending r u p = record { release = r; used = u; rows_before = p }
 
 -- an entry from its parts
 abbrev pub an_entry : ℕ → ℕ → ℕ → Pending → Entry
@@ -93,22 +94,22 @@ pub keeps_release : (set : List Task) (rule : Rule) (g : List Row) (s s' : State
     Releases rule (Some task) j kept s s' → Tracks set rule (Release j kept ∷ g) s'
 keeps_release set rule g s s' j kept task l t at r = record {
   ticks = r.ticks ∙ t.ticks;
-  place = omega (arith, r.place, t.place);
+  rows = omega (arith, r.rows, t.rows);
   mode = r.mode ∙ t.mode;
   count = ap length r.tasks ∙ (length-set s.tasks.items (j.task.0 - 1) (a_note j.count (s.ticks + period_in (Some task))) ∙ t.count);
   tasks = λ k h. ap (λ xs. slice_get xs k) r.tasks ∙ notes_after set rule g s j kept task l t at k h;
   queues = r.queues ∙ t.queues;
   waiting = λ f. added kept l r.waiting f;
-  lates = rw r.lates t.lates;
+  late_jobs = rw r.late_jobs t.late_jobs;
 }
   where
-    added : (b : Bool) → Legal set rule (Release j b ∷ g) → Waits b ((key_of rule s.high_mode (Some task) s.ticks, j.task.0, j.count), a_pending s.ticks 0 s.place) s.waiting.entries s'.waiting.entries →
+    added : (b : Bool) → Legal set rule (Release j b ∷ g) → Waits b ((key_of rule s.high_mode (Some task) s.ticks, j.task.0, j.count), a_pending s.ticks 0 s.rows) s.waiting.entries s'.waiting.entries →
         (f : Entry → ℕ) → total f s'.waiting.entries ≡ total (λ x. f (entry_of set rule (Release j b ∷ g) x)) (waiting set (Release j b ∷ g))
     added false l w f = ap (total f) w ∙ t.waiting f
     added true l w f =
         let u : used g j ≡ 0 = fresh_used set rule g j true l in
-        let e : f (an_entry (key_of rule s.high_mode (Some task) s.ticks) j.task.0 j.count (a_pending s.ticks 0 s.place))
-        ≡ f (entry_of set rule (Release j true ∷ g) (new_one j g)) = rw (t.mode, t.ticks, t.place, at, u) refl in
+        let e : f (an_entry (key_of rule s.high_mode (Some task) s.ticks) j.task.0 j.count (a_pending s.ticks 0 s.rows))
+        ≡ f (entry_of set rule (Release j true ∷ g) (new_one j g)) = rw (t.mode, t.ticks, t.rows, at, u) refl in
         omega (arith, w f, e, t.waiting f)
 
 -- the job's entry with n more ticks, the others as they were
@@ -141,17 +142,17 @@ spent_same f true n u room = let e : min (u + n) (2 ^ 64 - 1) ≡ n + u = omega 
 spent_same f false n u room = let e : 0 + u ≡ u = omega arith in rw e refl
 
 -- what the jobs that are gone late sum up to
-abbrev pub lates_of : List Task → List Row → (LateJob → ℕ) → ℕ
-lates_of set g f = total (λ x. f (late_job_in x)) (gone_late set g)
+abbrev pub late_sum_of : List Task → List Row → (LateJob → ℕ) → ℕ
+late_sum_of set g f = total (λ x. f (late_job_in x)) (gone_late set g)
 
--- it is a sum
-pub sums_of : (set : List Task) (g : List Row) → IsSum (lates_of set g)
+-- the function that adds up the jobs that ended or were discarded late is a sum
+pub sums_of : (set : List Task) (g : List Row) → IsSum (late_sum_of set g)
 sums_of set g = record { list = map late_job_in (gone_late set g); is = λ f. sym (total-map f late_job_in (gone_late set g)) }
 
 -- the late ones after a tick, by what the entries that go weigh
 pub lates_after : (set : List Task) (rule : Rule) (g : List Row) (s : State) (j : JobId) (how : How) (f : LateJob → ℕ) (v : Entry → ℕ) → Tracks set rule g s →
     Each (λ x. v (entry_of set rule g x) ≡ cond (not (stays set j how x) && is_due set (ticks g) x) (f (late_job_in x)) 0) (waiting set g) →
-    total v s.waiting.entries + lates_of set g f ≡ lates_of set (Tick j how ∷ g) f
+    total v s.waiting.entries + late_sum_of set g f ≡ late_sum_of set (Tick j how ∷ g) f
 lates_after set rule g s j how f v t h =
     let gone : Placed → Bool = λ x. not (stays set j how x) && is_due set (ticks g) x in
     let f' : Placed → ℕ = λ x. f (late_job_in x) in
@@ -163,28 +164,28 @@ pub keeps_end : (set : List Task) (rule : Rule) (g : List Row) (s s' : State) (j
     find (is_of j) s.waiting.entries ≡ Some ((k, j.task.0, j.count), p) → Ends (Some task) j p s s' → Tracks set rule (Tick j how ∷ g) s'
 keeps_end set rule g s s' j how k p task l t ends over at found m = record {
   ticks = omega (arith, t.ticks, m.moves.ticks);
-  place = omega (arith, m.moves.place, t.place);
+  rows = omega (arith, m.moves.rows, t.rows);
   mode = m.mode ∙ (t.mode ∙ sym mode_same);
   count = ap length m.moves.tasks ∙ t.count;
   tasks = λ n h. ap (λ xs. slice_get xs n) m.moves.tasks ∙ t.tasks n h;
   queues = m.moves.queues ∙ t.queues;
   waiting = λ f. ap (total f) m.waiting ∙ (total_removed (is_of j) f s.waiting.entries (apart set rule g s l t j) ∙ waits_after set rule g s j how f (taken_at j f) t (Each-all (λ x. each f x) (waiting set g)));
-  lates = subst (λ x. CountsLates x (lates_of set (Tick j how ∷ g))) (sym m.lates) (noted_so (is_due_at (Some task) p.release s.ticks) refl);
+  late_jobs = subst (λ x. CountsLateJobs x (late_sum_of set (Tick j how ∷ g))) (sym m.late_jobs) (noted_so (is_due_at (Some task) p.release s.ticks) refl);
 }
   where
     mode_same : high_mode rule (Tick j how ∷ g) ≡ high_mode rule g
     mode_same = rw (over, and-false (is_virtual rule)) refl
 
-    stays_is : (x : Placed) → stays set j how x ≡ not (same_job j x.live.job)
+    stays_is : (x : Placed) → stays set j how x ≡ not (same_job j x.kept.job)
     stays_is x = rw (ends, over) (grind arith)
 
     each : (f : Entry → ℕ) (x : Placed) → taken_at j f (entry_of set rule g x) ≡ cond (stays set j how x) (f (entry_of set rule (Tick j how ∷ g) x)) 0
-    each f x = rw (stays_is x, mode_same) (by_job (same_job j x.live.job) (used g x.live.job))
+    each f x = rw (stays_is x, mode_same) (by_job (same_job j x.kept.job) (used g x.kept.job))
       where
-        by_job : (mine : Bool) (u : ℕ) → cond mine 0 (f (an_entry (key set rule (high_mode rule g) x.live) x.live.job.task.0 x.live.job.count
-            (a_pending x.live.release u x.place)))
-            ≡ cond (not mine) (f (an_entry (key set rule (high_mode rule g) x.live) x.live.job.task.0 x.live.job.count
-            (a_pending x.live.release (cond mine 1 0 + u) x.place))) 0
+        by_job : (mine : Bool) (u : ℕ) → cond mine 0 (f (an_entry (key set rule (high_mode rule g) x.kept) x.kept.job.task.0 x.kept.job.count
+            (a_pending x.kept.release u x.rows_before)))
+            ≡ cond (not mine) (f (an_entry (key set rule (high_mode rule g) x.kept) x.kept.job.task.0 x.kept.job.count
+            (a_pending x.kept.release (cond mine 1 0 + u) x.rows_before))) 0
         by_job true u = refl
         by_job false u = let e : 0 + u ≡ u = omega arith in rw e refl
 
@@ -194,19 +195,19 @@ keeps_end set rule g s s' j how k p task l t ends over at found m = record {
         ≡ cond (not (stays set j how x) && is_due set (ticks g) x) (f (late_job_in x)) 0
     goes f x = rw (stays_is x) (grind arith)
 
-    adds : (f : LateJob → ℕ) → cond (is_due_at (Some task) p.release s.ticks) (f (late_job j p)) 0 + lates_of set g f ≡ lates_of set (Tick j how ∷ g) f
+    adds : (f : LateJob → ℕ) → cond (is_due_at (Some task) p.release s.ticks) (f (late_job j p)) 0 + late_sum_of set g f ≡ late_sum_of set (Tick j how ∷ g) f
     adds f =
         let v : Entry → ℕ = λ e. cond (nat_le (e.1.release + period_in (task_at set e.0.1)) (ticks g)) (f (late_job_of e)) 0 in
         let c : v ((k, j.task.0, j.count), p) ≡ cond (is_due_at (Some task) p.release s.ticks) (f (late_job j p)) 0 = rw (at, ← t.ticks) refl in
         let found_weight = total_found (is_of j) v ((k, j.task.0, j.count), p) s.waiting.entries (apart set rule g s l t j) found in
         omega (arith, lates_after set rule g s j how f (when (is_of j) v) t (Each-all (λ x. goes f x) (waiting set g)), found_weight, c)
 
-    noted_so : (b : Bool) → is_due_at (Some task) p.release s.ticks ≡ b → CountsLates (cond b (noted s.lates (late_job j p)) s.lates) (lates_of set (Tick j how ∷ g))
+    noted_so : (b : Bool) → is_due_at (Some task) p.release s.ticks ≡ b → CountsLateJobs (cond b (noted s.late_jobs (late_job j p)) s.late_jobs) (late_sum_of set (Tick j how ∷ g))
     noted_so true e =
-        counts_same (noted s.lates (late_job j p)) (λ f. f (late_job j p) + lates_of set g f) (lates_of set (Tick j how ∷ g)) (λ f. rw e at (adds f))
-        (counts_note s.lates (lates_of set g) (late_job j p) (sums_of set g) t.lates)
+        counts_same (noted s.late_jobs (late_job j p)) (λ f. f (late_job j p) + late_sum_of set g f) (late_sum_of set (Tick j how ∷ g)) (λ f. rw e at (adds f))
+        (counts_note s.late_jobs (late_sum_of set g) (late_job j p) (sums_of set g) t.late_jobs)
     noted_so false e =
-        counts_same s.lates (lates_of set g) (lates_of set (Tick j how ∷ g)) (λ f. let none = rw e at (adds f) in omega (arith, none)) t.lates
+        counts_same s.late_jobs (late_sum_of set g) (late_sum_of set (Tick j how ∷ g)) (λ f. let none = rw e at (adds f) in omega (arith, none)) t.late_jobs
 
 -- each job has one entry after a switch, as it had before
 still_apart : (set : List Task) (rule : Rule) (i : JobId) (old new : List Entry) → Switches set rule old new → total (when (is_of i) one) old ≤ 1 → total (when (is_of i) one) new ≤ 1
@@ -222,7 +223,7 @@ pub keeps_over : (set : List Task) (rule : Rule) (g : List Row) (s s' : State) (
     Overruns set rule j s s' → Tracks set rule (Tick j Over ∷ g) s'
 keeps_over set rule g s s' j l t room virtual m = record {
   ticks = omega (arith, t.ticks, m.moves.ticks);
-  place = omega (arith, m.moves.place, t.place);
+  rows = omega (arith, m.moves.rows, t.rows);
   mode = m.mode ∙ sym mode_high;
   count = ap length m.moves.tasks ∙ t.count;
   tasks = λ n h. ap (λ xs. slice_get xs n) m.moves.tasks ∙ t.tasks n h;
@@ -230,50 +231,50 @@ keeps_over set rule g s s' j l t room virtual m = record {
   waiting = λ f. ap (total f) m.waiting
       ∙ (total_changed (is_of j) (spent_entry 1) f m.switched (still_apart set rule j s.waiting.entries m.switched m.switches (apart set rule g s l t j))
       ∙ (m.switches (ticked_at 1 j f) ∙ waits_after set rule g s j Over f (moved set rule (ticked_at 1 j f)) t (Each-all (λ x. each f x) (waiting set g))));
-  lates = subst (λ x. CountsLates x (lates_of set (Tick j Over ∷ g))) (sym m.lates)
-      (counts_same (noted_each (is_discarded_late set s.ticks) s.lates s.waiting.entries) (λ f. total (when (is_discarded_late set s.ticks) (λ e. f (late_job_of e))) s.waiting.entries + lates_of set g f) (lates_of set (Tick j Over ∷ g))
+  late_jobs = subst (λ x. CountsLateJobs x (late_sum_of set (Tick j Over ∷ g))) (sym m.late_jobs)
+      (counts_same (noted_each (is_discarded_late set s.ticks) s.late_jobs s.waiting.entries) (λ f. total (when (is_discarded_late set s.ticks) (λ e. f (late_job_of e))) s.waiting.entries + late_sum_of set g f) (late_sum_of set (Tick j Over ∷ g))
       (λ f. lates_after set rule g s j Over f (when (is_discarded_late set s.ticks) (λ e. f (late_job_of e))) t (Each-all (λ x. gone f x) (waiting set g)))
-      (counts_all (is_discarded_late set s.ticks) s.lates (lates_of set g) s.waiting.entries (sums_of set g) t.lates));
+      (counts_all (is_discarded_late set s.ticks) s.late_jobs (late_sum_of set g) s.waiting.entries (sums_of set g) t.late_jobs));
 }
   where
     mode_high : high_mode rule (Tick j Over ∷ g) ≡ true
     mode_high = rw virtual refl
 
     -- an entry at its new key, with one more tick where it is the job's
-    entry_moved : (f : Entry → ℕ) (n k c r u place : ℕ) (o : Option Task) (h : Bool) → h ≡ true → u + 1 ≤ 2 ^ 64 - 1 →
-        cond (is_high_in o) (ticked_at 1 j f (rekeyed rule o (n, k, c) (a_pending r u place), a_pending r u place)) 0
-        ≡ cond (is_high_in o) (f (an_entry (key_of rule h o r) k c (a_pending r (cond ((j.task.0 == k) && (j.count == c)) 1 0 + u) place))) 0
-    entry_moved f n k c r u place None h high room = refl
-    entry_moved f n k c r u place (Some task) h high room =
+    entry_moved : (f : Entry → ℕ) (n k c r u rows_before : ℕ) (o : Option Task) (h : Bool) → h ≡ true → u + 1 ≤ 2 ^ 64 - 1 →
+        cond (is_high_in o) (ticked_at 1 j f (rekeyed rule o (n, k, c) (a_pending r u rows_before), a_pending r u rows_before)) 0
+        ≡ cond (is_high_in o) (f (an_entry (key_of rule h o r) k c (a_pending r (cond ((j.task.0 == k) && (j.count == c)) 1 0 + u) rows_before))) 0
+    entry_moved f n k c r u rows_before None h high room = refl
+    entry_moved f n k c r u rows_before (Some task) h high room =
         rw high (ap (λ (v : ℕ). cond (is_high_in (Some task)) v 0)
-        (spent_same (λ u. f (an_entry (key_of rule true (Some task) r) k c (a_pending r u place))) ((j.task.0 == k) && (j.count == c)) 1 u room))
+        (spent_same (λ u. f (an_entry (key_of rule true (Some task) r) k c (a_pending r u rows_before))) ((j.task.0 == k) && (j.count == c)) 1 u room))
 
     each : (f : Entry → ℕ) (x : Placed) → moved set rule (ticked_at 1 j f) (entry_of set rule g x) ≡ cond (stays set j Over x) (f (entry_of set rule (Tick j Over ∷ g) x)) 0
     each f x =
-        entry_moved f (key set rule (high_mode rule g) x.live) x.live.job.task.0 x.live.job.count x.live.release (used g x.live.job) x.place
-        (task_at set x.live.job.task.0) (high_mode rule (Tick j Over ∷ g)) mode_high (omega (arith, room, t.ticks, used_le g x.live.job))
+        entry_moved f (key set rule (high_mode rule g) x.kept) x.kept.job.task.0 x.kept.job.count x.kept.release (used g x.kept.job) x.rows_before
+        (task_at set x.kept.job.task.0) (high_mode rule (Tick j Over ∷ g)) mode_high (omega (arith, room, t.ticks, used_le g x.kept.job))
 
     gone : (f : LateJob → ℕ) (x : Placed) → when (is_discarded_late set s.ticks) (λ e. f (late_job_of e)) (entry_of set rule g x) ≡ cond (not (stays set j Over x) && is_due set (ticks g) x) (f (late_job_in x)) 0
     gone f x = rw t.ticks (grind arith)
 
--- a tick behind which its job goes on leaves all that waits
+-- a tick after which its job continues leaves all pending jobs
 pub waiting_more : (set : List Task) (j : JobId) (n : ℕ) (g : List Row) → waiting set (replicate n (Tick j More) ++ g) ≡ waiting set g
 waiting_more set j zero g = refl
 waiting_more set j (suc n) g = filter_true (waiting set (replicate n (Tick j More) ++ g)) ∙ waiting_more set j n g
 
--- and none that is late by it
+-- a tick after which its job continues adds no late job
 pub gone_more : (set : List Task) (j : JobId) (n : ℕ) (g : List Row) → gone_late set (replicate n (Tick j More) ++ g) ≡ gone_late set g
 gone_more set j zero g = refl
 gone_more set j (suc n) g =
     ap (λ xs. xs ++ gone_late set (replicate n (Tick j More) ++ g)) (filter_none (λ x. false) (waiting set (replicate n (Tick j More) ++ g)) (Each-all (λ x. refl) _))
     ∙ gone_more set j n g
 
--- what is kept follows n ticks behind which their job goes on
+-- the state follows n ticks after which their job continues
 pub keeps_more : (set : List Task) (rule : Rule) (g : List Row) (s s' : State) (j : JobId) (n : ℕ) → Legal set rule g → Tracks set rule g s → s.ticks + n ≤ 2 ^ 64 - 1 →
     GoesOn n j s s' → Tracks set rule (replicate n (Tick j More) ++ g) s'
 keeps_more set rule g s s' j n l t room m = record {
   ticks = omega (arith, t.ticks, m.moves.ticks, ticks_more j n g);
-  place = omega (arith, m.moves.place, t.place, length_copies (Tick j More) n g);
+  rows = omega (arith, m.moves.rows, t.rows, length_copies (Tick j More) n g);
   mode = m.mode ∙ (t.mode ∙ sym (mode_more rule j n g));
   count = ap length m.moves.tasks ∙ t.count;
   tasks = λ i h. ap (λ xs. slice_get xs i) m.moves.tasks ∙ (t.tasks i h ∙ note_eq _ _ _ _ (sym (releases_more j n g (i + 1))) (sym (next_more set j n g (i + 1))));
@@ -281,14 +282,14 @@ keeps_more set rule g s s' j n l t room m = record {
   waiting = λ f. ap (total f) m.waiting ∙ (total_changed (is_of j) (spent_entry n) f s.waiting.entries (apart set rule g s l t j)
       ∙ (t.waiting (ticked_at n j f) ∙ (total-same _ _ (λ x. each f x) (waiting set g)
       ∙ ap (total (λ x. f (entry_of set rule (replicate n (Tick j More) ++ g) x))) (sym (waiting_more set j n g)))));
-  lates = rw (m.lates, gone_more set j n g) t.lates;
+  late_jobs = rw (m.late_jobs, gone_more set j n g) t.late_jobs;
 }
   where
     each : (f : Entry → ℕ) (x : Placed) → ticked_at n j f (entry_of set rule g x) ≡ f (entry_of set rule (replicate n (Tick j More) ++ g) x)
     each f x =
-        rw (used_more j n g x.live.job, mode_more rule j n g)
-        (spent_same (λ u. f (an_entry (key set rule (high_mode rule g) x.live) x.live.job.task.0 x.live.job.count (a_pending x.live.release u x.place)))
-        (same_job j x.live.job) n (used g x.live.job) (omega (arith, t.ticks, used_le g x.live.job, room)))
+        rw (used_more j n g x.kept.job, mode_more rule j n g)
+        (spent_same (λ u. f (an_entry (key set rule (high_mode rule g) x.kept) x.kept.job.task.0 x.kept.job.count (a_pending x.kept.release u x.rows_before)))
+        (same_job j x.kept.job) n (used g x.kept.job) (omega (arith, t.ticks, used_le g x.kept.job, room)))
 
 -- idle ticks leave what waits, and what was late
 
@@ -304,11 +305,11 @@ gone_idle set (suc n) g = gone_idle set n g
 pub keeps_rest : (set : List Task) (rule : Rule) (g : List Row) (s s' : State) (n : ℕ) → 1 ≤ n → waiting set g ≡ [] → Tracks set rule g s → Rests n s s' → Tracks set rule (replicate n Idle ++ g) s'
 keeps_rest set rule g s s' n some none t m = record {
   ticks = omega (arith, t.ticks, m.moves.ticks, ticks_idle n g);
-  place = omega (arith, m.moves.place, t.place, length_copies Idle n g);
+  rows = omega (arith, m.moves.rows, t.rows, length_copies Idle n g);
   mode = m.mode ∙ sym (mode_idle rule n g some);
   count = ap length m.moves.tasks ∙ t.count;
   tasks = λ i h. ap (λ xs. slice_get xs i) m.moves.tasks ∙ (t.tasks i h ∙ note_eq _ _ _ _ (sym (releases_idle n g (i + 1))) (sym (next_idle set n g (i + 1))));
   queues = m.moves.queues ∙ t.queues;
   waiting = λ f. ap (total f) m.waiting ∙ (t.waiting f ∙ (ap (total (λ x. f (entry_of set rule g x))) none ∙ sym (ap (total (λ x. f (entry_of set rule (replicate n Idle ++ g) x))) (waiting_idle set n g ∙ none))));
-  lates = rw (m.lates, gone_idle set n g) t.lates;
+  late_jobs = rw (m.late_jobs, gone_idle set n g) t.late_jobs;
 }

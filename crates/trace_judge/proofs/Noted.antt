@@ -7,49 +7,49 @@ use Rattle.mc_model.proofs.Lists.{Each-all}
 use Rattle.mc_model.proofs.Sums.{total-mono}
 use Rattle.mc_model.specs.Sums.{total, when}
 use Rattle.trace_judge.specs.Entries.{Entry, late_job_of}
-use Rattle.trace_judge.specs.declared.lates.LateJob.{LateJob}
-use Rattle.trace_judge.specs.declared.lates.Lates.{Lates}
+use Rattle.trace_judge.specs.declared.late_jobs.LateJob.{LateJob}
+use Rattle.trace_judge.specs.declared.late_jobs.LateJobs.{LateJobs}
 use Rattle.trace_judge.specs.Switch.{noted_each}
-use Rattle.trace_judge.specs.Lates.{earlier, noted, same_late, IsEarliest, CountsLates}
+use Rattle.trace_judge.specs.LateJobs.{earlier, noted, same_late, IsEarliest, CountsLateJobs}
 
 -- a weighing adds up what single elements weigh
 pub record IsSum (weigh : (LateJob → ℕ) → ℕ) : Type 0 where
   pub list : List LateJob
   pub is : (f : LateJob → ℕ) → weigh f ≡ total f list
 
--- the sum alone tells how many and which first
-pub counts_same : (s : Lates) (v w : (LateJob → ℕ) → ℕ) → ((f : LateJob → ℕ) → v f ≡ w f) → CountsLates s v → CountsLates s w
+-- the sum alone decides how many late jobs there are and which is first
+pub counts_same : (s : LateJobs) (v w : (LateJob → ℕ) → ℕ) → ((f : LateJob → ℕ) → v f ≡ w f) → CountsLateJobs s v → CountsLateJobs s w
 counts_same s v w h c = record { count = c.count ∙ ap (λ n. min n (2 ^ 64 - 1)) (h (λ x. 1)); first = earliest s.first c.first }
   where
     earliest : (o : Option LateJob) → IsEarliest o v → IsEarliest o w
     earliest None e = sym (h (λ x. 1)) ∙ e
-    earliest (Some m) e = (subst (λ n. 1 ≤ n) (h (λ x. cond (same_late m x) 1 0)) e.0, sym (h (λ x. cond (nat_lt x.place m.place) 1 0)) ∙ e.1)
+    earliest (Some m) e = (subst (λ n. 1 ≤ n) (h (λ x. cond (same_late m x) 1 0)) e.0, sym (h (λ x. cond (nat_lt x.rows_before m.rows_before) 1 0)) ∙ e.1)
 
 -- one more is noted
-pub counts_note : (s : Lates) (w : (LateJob → ℕ) → ℕ) (m : LateJob) → IsSum w → CountsLates s w → CountsLates (noted s m) (λ f. f m + w f)
+pub counts_note : (s : LateJobs) (w : (LateJob → ℕ) → ℕ) (m : LateJob) → IsSum w → CountsLateJobs s w → CountsLateJobs (noted s m) (λ f. f m + w f)
 counts_note s w m sums c = record { count = omega (arith, c.count); first = step s.first c.first }
   where
     le_weigh : (f g : LateJob → ℕ) → ((x : LateJob) → f x ≤ g x) → w f ≤ w g
     le_weigh f g h = omega (arith, sums.is f, sums.is g, total-mono g f sums.list (Each-all h sums.list))
 
-    -- it is the first where none is before it
-    first_is : w (λ x. cond (nat_lt x.place m.place) 1 0) ≡ 0 → IsEarliest (Some m) (λ f. f m + w f)
+    -- the late job that is noted is the first if none is before it
+    first_is : w (λ x. cond (nat_lt x.rows_before m.rows_before) 1 0) ≡ 0 → IsEarliest (Some m) (λ f. f m + w f)
     first_is e =
-        let mine : ◌≡◌ {A = ℕ} (cond (same_late m m) 1 0) 1 = rw (eqb-refl m.place, same_job-refl m.job) refl in
-        let none : ◌≡◌ {A = ℕ} (cond (nat_lt m.place m.place) 1 0) 0 = grind (arith, nat_tests) in
+        let mine : ◌≡◌ {A = ℕ} (cond (same_late m m) 1 0) 1 = rw (eqb-refl m.rows_before, same_job-refl m.job) refl in
+        let none : ◌≡◌ {A = ℕ} (cond (nat_lt m.rows_before m.rows_before) 1 0) 0 = grind (arith, nat_tests) in
         (omega (arith, mine), omega (arith, none, e))
 
     step : (o : Option LateJob) → IsEarliest o w → IsEarliest (earlier o m) (λ f. f m + w f)
-    step None e = first_is (omega (arith, le_weigh (λ x. cond (nat_lt x.place m.place) 1 0) (λ x. 1) (λ x. grind arith), e))
-    step (Some first) e = choose (nat_lt m.place first.place) refl
+    step None e = first_is (omega (arith, le_weigh (λ x. cond (nat_lt x.rows_before m.rows_before) 1 0) (λ x. 1) (λ x. grind arith), e))
+    step (Some first) e = choose (nat_lt m.rows_before first.rows_before) refl
       where
-        choose : (b : Bool) → nat_lt m.place first.place ≡ b → IsEarliest (cond b (Some m) (Some first)) (λ f. f m + w f)
+        choose : (b : Bool) → nat_lt m.rows_before first.rows_before ≡ b → IsEarliest (cond b (Some m) (Some first)) (λ f. f m + w f)
         choose true h =
-            let less : m.place ≤ first.place = grind (arith, nat_tests) in
-            let fewer = le_weigh (λ x. cond (nat_lt x.place m.place) 1 0) (λ x. cond (nat_lt x.place first.place) 1 0) (λ x. grind (arith, nat_tests)) in
+            let less : m.rows_before ≤ first.rows_before = grind (arith, nat_tests) in
+            let fewer = le_weigh (λ x. cond (nat_lt x.rows_before m.rows_before) 1 0) (λ x. cond (nat_lt x.rows_before first.rows_before) 1 0) (λ x. grind (arith, nat_tests)) in
             first_is (omega (arith, fewer, e.1))
         choose false h =
-            let none : ◌≡◌ {A = ℕ} (cond (nat_lt m.place first.place) 1 0) 0 = rw h refl in
+            let none : ◌≡◌ {A = ℕ} (cond (nat_lt m.rows_before first.rows_before) 1 0) 0 = rw h refl in
             (omega (arith, e.0), omega (arith, none, e.1))
 
 -- one more is summed up
@@ -57,10 +57,10 @@ sum_more : (w : (LateJob → ℕ) → ℕ) (m : LateJob) → IsSum w → IsSum (
 sum_more w m s = record { list = m ∷ s.list; is = λ f. ap (λ n. f m + n) (s.is f) }
 
 -- those of the entries that are meant are noted
-pub counts_all : (p : Entry → Bool) (s : Lates) (w : (LateJob → ℕ) → ℕ) (es : List Entry) → IsSum w → CountsLates s w → CountsLates (noted_each p s es) (λ f. total (when p (λ e. f (late_job_of e))) es + w f)
+pub counts_all : (p : Entry → Bool) (s : LateJobs) (w : (LateJob → ℕ) → ℕ) (es : List Entry) → IsSum w → CountsLateJobs s w → CountsLateJobs (noted_each p s es) (λ f. total (when p (λ e. f (late_job_of e))) es + w f)
 counts_all p s w [] sums c = counts_same s w (λ f. 0 + w f) (λ f. omega arith) c
 counts_all p s w (e ∷ es) sums c =
-    elim (p e) as (λ b. CountsLates (noted_each p (cond b (noted s (late_job_of e)) s) es)
+    elim (p e) as (λ b. CountsLateJobs (noted_each p (cond b (noted s (late_job_of e)) s) es)
     (λ f. (cond b (f (late_job_of e)) 0 + total (when p (λ e. f (late_job_of e))) es) + w f)) [
       | true ↦
           counts_same _ (λ f. total (when p (λ e. f (late_job_of e))) es + (f (late_job_of e) + w f)) _ (λ f. omega arith)

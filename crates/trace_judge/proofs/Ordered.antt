@@ -8,13 +8,13 @@ use Rattle.std.proofs.lemmas.List.{take-append-drop}
 use Rattle.trace_judge.specs.declared.queue.Queued.{Queued}
 use Rattle.trace_judge.specs.Heads.{no_key}
 use Rattle.trace_judge.specs.Firsts.{edit_first, change_first, remove_first}
-use Rattle.trace_judge.specs.Queues.{spent_job, head_key, IsQueue, IsPlaceFor}
+use Rattle.trace_judge.specs.Queues.{spent_job, head_key, IsQueue, IsPositionFor}
 
 -- each has at least this key
 abbrev pub AllFrom : ℕ → List Queued → Type 0
 AllFrom key qs = AllByRecursion (λ (r : Queued). key ≤ r.key) qs
 
--- and so at least a lesser one
+-- keys that are at least a key are at least each lesser one
 pub all_lower : (a b : ℕ) → a ≤ b → (qs : List Queued) → AllFrom b qs → AllFrom a qs
 all_lower a b le = Each-map {P = λ (q : Queued). b ≤ q.key} (λ q h. omega (arith, le, h))
 
@@ -30,18 +30,18 @@ all_insert key qs zero job a h = (h, a)
 all_insert key [] (suc i) job a h = (h, tt)
 all_insert key (q ∷ qs) (suc i) job a h = (a.0, all_insert key qs i job a.1 h)
 
--- a job put in at its place
-pub ordered_insert : (qs : List Queued) (i : ℕ) (job : Queued) → IsQueue qs → job.key < no_key → IsPlaceFor qs job.key i → IsQueue (take i qs ++ job ∷ drop i qs)
+-- a job inserted at its position
+pub ordered_insert : (qs : List Queued) (i : ℕ) (job : Queued) → IsQueue qs → job.key < no_key → IsPositionFor qs job.key i → IsQueue (take i qs ++ job ∷ drop i qs)
 ordered_insert qs zero job q k p = (k, Each-map {P = λ (r : Queued). job.key < r.key} (λ r h. omega (arith, h)) qs p.before, q)
 ordered_insert [] (suc i) job q k p = absurd (let h = p.inside in omega (arith, h))
 ordered_insert (x ∷ qs) (suc i) job q k p =
     let there = each_at (λ (r : Queued). x.key ≤ r.key) (x ∷ qs) (suc i - 1) x (omega (arith, p.inside)) (omega arith, q.1) in
-    let least : x.key ≤ job.key = omega (arith, there, p.behind x (omega arith)) in
-    let behind : (d : Queued) → 1 ≤ i → (get_or qs (i - 1) d).key ≤ job.key =
-    λ d h. (let e : suc i - 1 ≡ suc (i - 1) = omega (arith, h) in rw e at (p.behind d (omega arith))) in
-    (q.0, all_insert x.key qs i job q.1 least, ordered_insert qs i job q.2 k (record { inside = omega (arith, p.inside); behind = behind; before = p.before }))
+    let least : x.key ≤ job.key = omega (arith, there, p.after x (omega arith)) in
+    let after : (d : Queued) → 1 ≤ i → (get_or qs (i - 1) d).key ≤ job.key =
+    λ d h. (let e : suc i - 1 ≡ suc (i - 1) = omega (arith, h) in rw e at (p.after d (omega arith))) in
+    (q.0, all_insert x.key qs i job q.1 least, ordered_insert qs i job q.2 k (record { inside = omega (arith, p.inside); after = after; before = p.before }))
 
--- it is one more
+-- an inserted job adds its own number to the total
 pub total_insert : (f : Queued → ℕ) (qs : List Queued) (i : ℕ) (job : Queued) → total f (take i qs ++ job ∷ drop i qs) ≡ f job + total f qs
 total_insert f qs i job =
     omega (arith, total-append f (take i qs) (job ∷ drop i qs), total-append f (take i qs) (drop i qs), ap (total f) (take-append-drop i qs))
@@ -69,7 +69,7 @@ ordered_remove p = ordered_edit p (λ x. []) (λ key x qs a. a.1) (λ x qs q. q.
 pub ordered_spent : (n : ℕ) (p : Queued → Bool) (qs : List Queued) → IsQueue qs → IsQueue (change_first p (spent_job n) qs)
 ordered_spent n p = ordered_edit p (λ x. spent_job n x ∷ []) (λ key x qs a. a) (λ x qs q. q)
 
--- nor that at the head
+-- more ticks leave the key at the head
 pub spent_head : (n : ℕ) (p : Queued → Bool) (qs : List Queued) → head_key (change_first p (spent_job n) qs) ≡ head_key qs
 spent_head n p [] = refl
 spent_head n p (q ∷ qs) = grind arith

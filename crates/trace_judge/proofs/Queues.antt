@@ -13,9 +13,9 @@ use Rattle.mc_model.proofs.Sums.{total-append, total-map}
 use Rattle.trace_judge.specs.declared.queue.Queued.{Queued}
 use Rattle.trace_judge.specs.Heads.{no_key}
 use Rattle.trace_judge.specs.Firsts.{edit_first}
-use Rattle.trace_judge.specs.Entries.{Entry, Held, HasQueue, IsMore, is_of}
-use Rattle.trace_judge.specs.Queues.{has_count, head_key, IsQueue, AreQueues, entry_in, entries_from, held, rest_of}
-use Rattle.trace_judge.proofs.Firsts.{find_behind, find_front, find-map, none-map, edit_behind, edit_front, edit-map}
+use Rattle.trace_judge.specs.Entries.{Entry, PendingEntries, HasQueue, IsMore, is_of}
+use Rattle.trace_judge.specs.Queues.{has_count, head_key, IsQueue, AreQueues, entry_in, entries_from, pending_entries, remaining_of}
+use Rattle.trace_judge.proofs.Firsts.{find_after, find_front, find-map, none-map, edit_after, edit_front, edit-map}
 use Rattle.trace_judge.proofs.Ordered.{AllFrom, all_lower, head_least}
 
 -- the queues of other tasks have no job of this one
@@ -33,32 +33,32 @@ later_queues j k (q ∷ qs) h =
 -- the entries with a queue in place of that at index i, of task number n, which alone has entries of its jobs
 record IsAround (n k : ℕ) (qs : List (List Queued)) (i : ℕ) : Type 0 where
   pub before : List Entry
-  pub behind : List Entry
-  pub whole : (r : List Queued) → entries_from k (set qs i r) ≡ before ++ (map (entry_in n) r ++ behind)
+  pub after : List Entry
+  pub whole : (r : List Queued) → entries_from k (set qs i r) ≡ before ++ (map (entry_in n) r ++ after)
   pub none_before : (j : JobId) → j.task.0 ≡ n → list_any (is_of j) before ≡ false
-  pub none_behind : (j : JobId) → j.task.0 ≡ n → list_any (is_of j) behind ≡ false
+  pub none_after : (j : JobId) → j.task.0 ≡ n → list_any (is_of j) after ≡ false
 
 around : (n k : ℕ) (qs : List (List Queued)) (i : ℕ) → n ≡ k + i → i < length qs → IsAround n k qs i
 around n k [] i e h = absurd (omega arith)
 around n k (q ∷ qs) zero e h =
     let same : k ≡ n = omega arith in record {
       before = [];
-      behind = entries_from (k + 1) qs;
+      after = entries_from (k + 1) qs;
       whole = λ r. ap (λ m. map (entry_in m) r ++ entries_from (k + 1) qs) same;
       none_before = λ j m. refl;
-      none_behind = λ j m. later_queues j (k + 1) qs (omega (arith, m));
+      none_after = λ j m. later_queues j (k + 1) qs (omega (arith, m));
     }
 around n k (q ∷ qs) (suc i) e h =
     let a = around n (k + 1) qs i (omega arith) (omega arith) in record {
       before = map (entry_in k) q ++ a.before;
-      behind = a.behind;
-      whole = λ r. rw (a.whole r, append_assoc (map (entry_in k) q) a.before (map (entry_in n) r ++ a.behind)) refl;
+      after = a.after;
+      whole = λ r. rw (a.whole r, append_assoc (map (entry_in k) q) a.before (map (entry_in n) r ++ a.after)) refl;
       none_before = λ j m. rw (list_any-append (is_of j) (map (entry_in k) q) a.before, other_queue j k q (λ z. omega (arith, m, z)), a.none_before j m) refl;
-      none_behind = a.none_behind;
+      none_after = a.none_after;
     }
 
 -- and with the queue that is there
-now : (n : ℕ) (qs : List (List Queued)) (i : ℕ) (d : List Queued) (a : IsAround n 1 qs i) → entries_from 1 qs ≡ a.before ++ (map (entry_in n) (get_or qs i d) ++ a.behind)
+now : (n : ℕ) (qs : List (List Queued)) (i : ℕ) (d : List Queued) (a : IsAround n 1 qs i) → entries_from 1 qs ≡ a.before ++ (map (entry_in n) (get_or qs i d) ++ a.after)
 now n qs i d a = sym (ap (entries_from 1) (set-get_or qs i d)) ∙ a.whole (get_or qs i d)
 
 -- in the queue of its task the job is found by its count
@@ -80,8 +80,8 @@ pub found_own : (j : JobId) (qs : List (List Queued)) (i : ℕ) (d : List Queued
 found_own j qs i d q e h f =
     let a = around j.task.0 1 qs i e h in
     let mine = map (entry_in j.task.0) (get_or qs i d) in
-    rw (now j.task.0 qs i d a, find_behind (is_of j) a.before (mine ++ a.behind) (a.none_before j refl))
-    (find_front (is_of j) mine a.behind (entry_in j.task.0 q) (find-map (has_count j.count) (is_of j) (entry_in j.task.0) (own j) (get_or qs i d) q f))
+    rw (now j.task.0 qs i d a, find_after (is_of j) a.before (mine ++ a.after) (a.none_before j refl))
+    (find_front (is_of j) mine a.after (entry_in j.task.0 q) (find-map (has_count j.count) (is_of j) (entry_in j.task.0) (own j) (get_or qs i d) q f))
 
 -- or it has no entry
 pub none_own : (j : JobId) (qs : List (List Queued)) (i : ℕ) (d : List Queued) → j.task.0 ≡ 1 + i → i < length qs → find (has_count j.count) (get_or qs i d) ≡ None →
@@ -89,9 +89,9 @@ pub none_own : (j : JobId) (qs : List (List Queued)) (i : ℕ) (d : List Queued)
 none_own j qs i d e h f =
     let a = around j.task.0 1 qs i e h in
     let none = none-map (has_count j.count) (is_of j) (entry_in j.task.0) (own j) (get_or qs i d) f in
-    rw (now j.task.0 qs i d a, list_any-append (is_of j), a.none_before j refl, list_any-append (is_of j), none, a.none_behind j refl) refl
+    rw (now j.task.0 qs i d a, list_any-append (is_of j), a.none_before j refl, list_any-append (is_of j), none, a.none_after j refl) refl
 
--- its first entry is edited there
+-- the first entry of a job is edited in its own queue
 pub edited_own : (j : JobId) (k : Queued → List Queued) (l : Entry → List Entry) → ((x : Queued) → map (entry_in j.task.0) (k x) ≡ l (entry_in j.task.0 x)) →
     (qs : List (List Queued)) (i : ℕ) (d : List Queued) → j.task.0 ≡ 1 + i → i < length qs →
     entries_from 1 (set qs i (edit_first (has_count j.count) k (get_or qs i d))) ≡ edit_first (is_of j) l (entries_from 1 qs)
@@ -99,10 +99,10 @@ edited_own j k l same qs i d e h =
     let a = around j.task.0 1 qs i e h in
     let mine = map (entry_in j.task.0) (get_or qs i d) in
     a.whole (edit_first (has_count j.count) k (get_or qs i d))
-    ∙ (ap (λ es. a.before ++ (es ++ a.behind)) (edit-map (has_count j.count) (is_of j) (entry_in j.task.0) k l (own j) same (get_or qs i d))
+    ∙ (ap (λ es. a.before ++ (es ++ a.after)) (edit-map (has_count j.count) (is_of j) (entry_in j.task.0) k l (own j) same (get_or qs i d))
     ∙ sym (ap (edit_first (is_of j) l) (now j.task.0 qs i d a)
-    ∙ (edit_behind (is_of j) l a.before (mine ++ a.behind) (a.none_before j refl)
-    ∙ ap (λ es. a.before ++ es) (edit_front (is_of j) l mine a.behind (a.none_behind j refl)))))
+    ∙ (edit_after (is_of j) l a.before (mine ++ a.after) (a.none_before j refl)
+    ∙ ap (λ es. a.before ++ es) (edit_front (is_of j) l mine a.after (a.none_after j refl)))))
 
 -- what is below the keys of the heads is below all keys
 
@@ -178,9 +178,9 @@ found_key p x [] o h = cc
 found_key p x (y ∷ q) o h = grind (arith, o.0, found_key p x q o.2)
 
 -- the queue of a task that is held is among the queues
-pub place_inside : (h : Held) (qs : List (List Queued)) (k : ℕ) → held qs ≡ h → HasQueue h k → k - 1 < length qs
+pub place_inside : (h : PendingEntries) (qs : List (List Queued)) (k : ℕ) → pending_entries qs ≡ h → HasQueue h k → k - 1 < length qs
 place_inside h qs k view has =
-    let tasks : length qs ≡ h.tasks = ap (λ (x : Held). x.tasks) view in
+    let tasks : length qs ≡ h.tasks = ap (λ (x : PendingEntries). x.tasks) view in
     omega (arith, has.0, has.1, tasks)
 
 -- the entries that are left, from a job of the first queue on
@@ -199,17 +199,17 @@ from_queue : (qs : List (List Queued)) (next : ℕ) (q : List Queued) → next <
 from_queue qs next q h e = ap (entries_from (next + 1)) (drop_more qs next q h ∙ ap (λ (r : List Queued). r ∷ drop (next + 1) qs) (sym e))
 
 pub take_one : (qs : List (List Queued)) (next at : ℕ) (q : List Queued) (job : Queued) → next < length qs → q ≡ get_or qs next q → at < length q → job ≡ get_or q at job →
-    rest_of qs next at ≡ entry_in (next + 1) job ∷ rest_of qs next (at + 1)
+    remaining_of qs next at ≡ entry_in (next + 1) job ∷ remaining_of qs next (at + 1)
 take_one qs next at q job h e i j =
     ap (drop at) (from_queue qs next q h e)
     ∙ (in_queue (next + 1) q (entries_from (next + 1 + 1) (drop (next + 1) qs)) at job i j
     ∙ sym (ap (λ (es : List Entry). entry_in (next + 1) job ∷ drop (at + 1) es) (from_queue qs next q h e)))
 
-pub next_queue : (qs : List (List Queued)) (next at : ℕ) (q : List Queued) → next < length qs → q ≡ get_or qs next q → at ≡ length q → rest_of qs next at ≡ rest_of qs (next + 1) 0
+pub next_queue : (qs : List (List Queued)) (next at : ℕ) (q : List Queued) → next < length qs → q ≡ get_or qs next q → at ≡ length q → remaining_of qs next at ≡ remaining_of qs (next + 1) 0
 next_queue qs next at q h e i = ap (drop at) (from_queue qs next q h e) ∙ past_queue (next + 1) q (entries_from (next + 1 + 1) (drop (next + 1) qs)) at i
 
 -- after the last queue there are no entries
-pub none_left : (qs : List (List Queued)) (next at : ℕ) → length qs ≤ next → at ≤ 0 → rest_of qs next at ≡ []
+pub none_left : (qs : List (List Queued)) (next at : ℕ) → length qs ≤ next → at ≤ 0 → remaining_of qs next at ≡ []
 none_left qs next at h i =
     let first : at ≡ 0 = omega (arith, i) in
     rw first (ap (entries_from (next + 1)) (drop_all next qs h))

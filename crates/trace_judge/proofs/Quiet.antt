@@ -47,7 +47,7 @@ ticks_wait set p j how (suc n) h all = list_all-filter p _ (waiting set (replica
 
 -- the stretch of time after a run of ticks is that before it
 pub quiet_ticks : (set : List Task) (j : JobId) (how : How) (n : ℕ) (h : List Row) (q : Quiet) → IsQuiet set h q → IsQuiet set (rows_of (run.Ticks j how n) ++ h) q
-quiet_ticks set j how n h q all = ticks_wait set (λ (x : Placed). is_outside q.after q.until (deadline set x.live)) j how n h all
+quiet_ticks set j how n h q all = ticks_wait set (λ (x : Placed). is_outside q.after q.until (deadline set x.kept)) j how n h all
 
 -- the stretch of time after idle ticks is that before them
 pub quiet_idles : (set : List Task) (n : ℕ) (h : List Row) (q : Quiet) → IsQuiet set h q → IsQuiet set (rows_of (run.Idles n) ++ h) q
@@ -57,14 +57,14 @@ quiet_idles set n h q all = rw (waiting_idle set n h) all
 pub quiet_release : (set : List Task) (j : JobId) (h : List Row) (q : Quiet) (deadline : ℕ) → deadline ≤ ticks h + period_in (task_at set j.task.0) → IsQuiet set h q →
     IsQuiet set (rows_of (run.Release j true) ++ h) (record { after = q.after; until = min q.until deadline })
 quiet_release set j h q d e all =
-    let more = list_all-weaker (λ (x : Placed). is_outside q.after q.until (deadline set x.live)) (λ (x : Placed). is_outside q.after (min q.until d) (deadline set x.live))
-    (λ x. outside_sooner q.after q.until (min q.until d) (deadline set x.live) (omega arith)) (waiting set h) all in
+    let more = list_all-weaker (λ (x : Placed). is_outside q.after q.until (deadline set x.kept)) (λ (x : Placed). is_outside q.after (min q.until d) (deadline set x.kept))
+    (λ x. outside_sooner q.after q.until (min q.until d) (deadline set x.kept) (omega arith)) (waiting set h) all in
     let here : is_outside q.after (min q.until d) (ticks h + period_in (task_at set j.task.0)) ≡ true = grind (arith, nat_tests, e) in
     rw (here, more) refl
 
 -- what is kept of the pending jobs has no deadline where they have none
 pub quiet_same : (set : List Task) (rule : Rule) (h : List Row) (s : State) (q : Quiet) → Tracks set rule h s →
-    are_quiet set q.after q.until s.waiting.entries ≡ list_all (λ (x : Placed). is_outside q.after q.until (deadline set x.live)) (waiting set h)
+    are_quiet set q.after q.until s.waiting.entries ≡ list_all (λ (x : Placed). is_outside q.after q.until (deadline set x.kept)) (waiting set h)
 quiet_same set rule h s q t = same_all s.waiting.entries (entry_of set rule h) (waiting set h) t.waiting (λ e. is_outside q.after q.until (deadline_at set e))
 
 -- in such a stretch of time no job turns late

@@ -20,7 +20,7 @@ rows_split runs i d h =
 pub few_rows : (runs : List Run) → AreRuns runs → length (reverse (expand runs)) ≤ 102000000
 few_rows runs v = omega (arith, v.few, v.short, length-expand-le runs, length-reverse (expand runs))
 
--- and those that were read have room for the next run
+-- after the runs that were read there is capacity for the next run
 pub room_for : (runs : List Run) (i n : ℕ) (r : Run) → AreRuns runs → i < length runs → r ≡ get_or runs i r → n ≤ length (read runs i) → n + size r ≤ 2 ^ 62
 room_for runs i n r v h e le =
     let whole : length (reverse (expand runs)) ≡ length (reverse (expand (drop (i + 1) runs)) ++ (rows_of r ++ read runs i)) = ap length (rows_split runs i r h ∙ ap (λ x. reverse (expand (drop (i + 1) runs)) ++ (rows_of x ++ read runs i)) (sym e)) in

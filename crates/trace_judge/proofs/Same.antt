@@ -39,10 +39,10 @@ filter-map p f (x ∷ xs) = grind (arith, filter-map p f xs)
 abbrev pub SameAs : {X Y : Type 0} → List X → (Y → X) → List Y → Type 0
 SameAs {X} {Y} xs f ys = (w : X → ℕ) → total w xs ≡ total (λ y. w (f y)) ys
 
--- so a test passes at some of them alike
+-- a test passes some element of xs exactly if it passes some element that f gives of ys
 pub same_any : {X Y : Type 0} (xs : List X) (f : Y → X) (ys : List Y) → SameAs xs f ys → (p : X → Bool) → list_any p xs ≡ list_any (λ y. p (f y)) ys
 same_any xs f ys same p = any_total p xs ∙ (ap (nat_lt 0) (same (when p one)) ∙ sym (any_total (λ y. p (f y)) ys))
 
--- and at each of them alike
+-- a test passes all elements of xs exactly if it passes all that f gives of ys
 pub same_all : {X Y : Type 0} (xs : List X) (f : Y → X) (ys : List Y) → SameAs xs f ys → (p : X → Bool) → list_all p xs ≡ list_all (λ y. p (f y)) ys
 same_all xs f ys same p = all_total p xs ∙ (ap (λ n. n == 0) (same (when (other p) one)) ∙ sym (all_total (λ y. p (f y)) ys))

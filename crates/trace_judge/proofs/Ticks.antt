@@ -33,7 +33,7 @@ use Rattle.mc_model.proofs.Tasks.{known}
 use Rattle.trace_judge.specs.declared.step.Misfit.{Misfit}
 use Rattle.trace_judge.specs.Rules.{budget, allows, fitting}
 use Rattle.trace_judge.specs.Tracks.{StopsAt, Tracks}
-use Rattle.trace_judge.specs.declared.waiting.Pending.{Pending}
+use Rattle.trace_judge.specs.declared.pending_queues.Pending.{Pending}
 use Rattle.trace_judge.specs.Entries.{Entry, is_of}
 use Rattle.trace_judge.specs.declared.state.State.{State}
 use Rattle.trace_judge.specs.Steps.{GoesOn, Ends}
@@ -59,7 +59,7 @@ more_fault set rule j n g p l =
     let u : used (replicate n (Tick j More) ++ g) j ≡ used g j + n = used_more j n g j ∙ rw (same_job-refl j) (omega arith) in
     rw (pending_more set j n g, mode_more rule j n g, u, p, l) refl
 
--- so many of them fit as stay below the budget
+-- as many of the ticks fit as stay below the budget
 pub more_legal : (set : List Task) (rule : Rule) (j : JobId) (n : ℕ) (g : List Row) → low_in (task_at set j.task.0) ≤ own_in (task_at set j.task.0) → IsIn set j.task.0 → Legal set rule g →
     is_pending (pending set g) j ≡ true → is_least set rule (high_mode rule g) (pending set g) j ≡ true → used g j + n + 1 ≤ budget rule (high_mode rule g) (task_at set j.task.0) → Legal set rule (replicate n (Tick j More) ++ g)
 more_legal set rule j zero g o i v p l h = v
@@ -67,7 +67,7 @@ more_legal set rule j (suc n) g o i v p l h =
     let f = goes_on (is_high_in (task_at set j.task.0) && is_virtual rule && not (high_mode rule g)) (used g j + n + 1) (low_in (task_at set j.task.0)) (own_in (task_at set j.task.0)) o (omega (arith, h)) in
     (i, more_fault set rule j n g p l ∙ rw f refl, more_legal set rule j n g o i v p l (omega (arith, h)))
 
--- and the one that reaches it does not
+-- the tick that reaches the budget does not fit
 pub more_stops : (set : List Task) (rule : Rule) (j : JobId) (n : ℕ) (g : List Row) → is_pending (pending set g) j ≡ true → is_least set rule (high_mode rule g) (pending set g) j ≡ true →
     used g j + n + 1 ≡ budget rule (high_mode rule g) (task_at set j.task.0) → fault set rule (Tick j More) (replicate n (Tick j More) ++ g) ≡ Some WrongHow
 more_stops set rule j n g p l h =
@@ -118,13 +118,13 @@ is_first set rule g s j how n k p task i =
     ap (λ xs. is_least set rule (high_mode rule g) xs j) (pending_is set rule g i.legal)
     ∙ (least_same set rule g s j i.tracks ∙ found_least j ((k, j.task.0, j.count), p) s.waiting.entries i.least.1 i.least.0)
 
--- its budget, and that it has a tick of it left
+-- the budget of the ticking job, and that it has a tick of it left
 budget_is : (set : List Task) (rule : Rule) (g : List Row) (s : State) (j : JobId) (how : How) (n k : ℕ) (p : Pending) (task : Task) → IsTicking set rule g s j how n k p task →
     (budget rule s.high_mode (Some task) ≡ budget rule (high_mode rule g) (task_at set j.task.0)) × (p.used ≡ used g j) × (used g j + 1 ≤ budget rule (high_mode rule g) (task_at set j.task.0))
 budget_is set rule g s j how n k p task i =
     (rw (i.at, i.tracks.mode) refl, found_used set rule g s j k p i.tracks i.least.0, pending_budget set rule g j i.each i.legal (is_there set rule g s j how n k p task i))
 
--- so many of the run's ticks behind which the job goes on fit
+-- that many of the run's ticks, after which the job continues, fit
 more_fit : (set : List Task) (rule : Rule) (g : List Row) (s : State) (j : JobId) (n k : ℕ) (p : Pending) (task : Task) → IsTicking set rule g s j More n k p task →
     (m : ℕ) → m ≤ budget rule s.high_mode (Some task) - p.used - 1 → Legal set rule (replicate m (Tick j More) ++ g)
 more_fit set rule g s j n k p task i m h =
@@ -132,7 +132,7 @@ more_fit set rule g s j n k p task i m h =
     more_legal set rule j m g (known set j.task.0 i.each i.inside).order i.inside i.legal (is_there set rule g s j More n k p task i)
     (is_first set rule g s j More n k p task i) (omega (arith, h, b.0, b.1, b.2))
 
--- it fits where it is allowed
+-- the last tick of a run fits if its outcome is allowed
 one_fault : (set : List Task) (rule : Rule) (g : List Row) (s : State) (j : JobId) (how : How) (n k : ℕ) (p : Pending) (task : Task) → IsTicking set rule g s j how n k p task →
     fault set rule (Tick j how) g ≡ cond (allows rule s.high_mode (Some task) (p.used + 1) how) None (Some WrongHow)
 one_fault set rule g s j how n k p task i = stands_least set rule g s j how p i.legal i.tracks (k, i.least.0, i.least.1) ∙ rw i.at refl

@@ -5,14 +5,14 @@ use Rattle.std.proofs.lemmas.Bool.{cases_lt}
 use Rattle.std.proofs.lemmas.List.{get_or-drop, length-drop, length-replicate, get_or-replicate, drop-replicate, get_or_default}
 use Rattle.trace_judge.specs.Heads.{no_key, IsLesser, IsTree, leaves, AreNodes}
 
--- no place has less than the one above it
+-- no node has a lesser key than its parent
 above : (nodes : List ℕ) → IsTree nodes → (j : ℕ) → 2 ≤ j → 2 * (j / 2) + 1 < length nodes → slice_index nodes (j / 2) ≤ slice_index nodes j
 above nodes tree j two within =
     let lesser : IsLesser nodes (j / 2) = tree (j / 2) (omega arith) within in
     let parity : (j ≡ 2 * (j / 2)) ⊎ (j ≡ 2 * (j / 2) + 1) = grind arith in
     elim parity [ inl e ↦ omega (arith, lesser, ap (λ k. slice_index nodes k) e) | inr e ↦ omega (arith, lesser, ap (λ k. slice_index nodes k) e) ]
 
--- nor than the root, by induction on a bound of its number
+-- no node has a lesser key than the root, by induction on a bound of the node's number
 under_root : (nodes : List ℕ) (p : ℕ) → length nodes ≡ 2 * p → IsTree nodes → (n j : ℕ) → j ≤ n → 1 ≤ j → j < 2 * p → slice_index nodes 1 ≤ slice_index nodes j
 under_root nodes p len tree zero j b positive within = absurd (omega arith)
 under_root nodes p len tree (suc n) j b positive within =
@@ -21,14 +21,14 @@ under_root nodes p len tree (suc n) j b positive within =
       | inr two ↦ omega (arith, under_root nodes p len tree n (j / 2) (omega arith) (omega arith) (omega arith), above nodes tree j two (omega arith))
     ]
 
--- a leaf that has the key of place i
+-- a leaf that has the key of node i
 record Leaf (nodes : List ℕ) (p i : ℕ) : Type 0 where
   pub at : ℕ
   pub low : p ≤ at
   pub high : at < 2 * p
   pub same : slice_index nodes at ≡ slice_index nodes i
 
--- there is one, by induction on how many places stand behind i
+-- some leaf has the key of node i, by induction on the number of nodes after i
 a_leaf : (nodes : List ℕ) (p : ℕ) → length nodes ≡ 2 * p → IsTree nodes → (n i : ℕ) → 2 * p ≤ i + n → 1 ≤ i → i < 2 * p → Leaf nodes p i
 a_leaf nodes p len tree zero i b positive within = absurd (omega arith)
 a_leaf nodes p len tree (suc n) i b positive within =
@@ -75,7 +75,7 @@ same_keys n some = record {
       omega (arith, same k (omega (arith, within, len)), same (2 * k) (omega (arith, within, len)), same (2 * k + 1) (omega (arith, within, len)));
 }
 
--- and its leaves
+-- the leaves of a tree of equal keys
 pub same_leaves : (n : ℕ) → leaves (replicate (2 * n) no_key) ≡ replicate n no_key
 same_leaves n =
     let len : length (replicate (2 * n) no_key) ≡ 2 * n = length-replicate (2 * n) no_key in

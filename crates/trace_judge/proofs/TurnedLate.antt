@@ -65,24 +65,24 @@ rest_legal set rule (x ∷ xs) h l = rest_legal set rule xs h l.2
 since_then : (d t u n : ℕ) → t ≤ u → ◌≡◌ {A = ℕ} (cond (nat_le d u) n 0) (cond (nat_le d t) n 0 + cond (nat_le d u && not (nat_le d t)) n 0)
 since_then d t u n h = grind (arith, nat_tests)
 
--- so where the same jobs wait
+-- the sums over deadlines that have come split in the same way if the same jobs are pending
 same_waiting : (set : List Task) (t u : ℕ) → t ≤ u → (f : Placed → ℕ) (ws : List Placed) →
-    total (when (is_due set u) f) ws ≡ total (when (is_due set t) f) ws + total (when (λ x. is_turned set t u x.live) f) ws
+    total (when (is_due set u) f) ws ≡ total (when (is_due set t) f) ws + total (when (λ x. is_turned set t u x.kept) f) ws
 same_waiting set t u h f ws =
-    total-same (when (is_due set u) f) (λ x. when (is_due set t) f x + when (λ x. is_turned set t u x.live) f x) (λ x. since_then _ t u (f x) h) ws
-    ∙ total-add (when (is_due set t) f) (when (λ x. is_turned set t u x.live) f) ws
+    total-same (when (is_due set u) f) (λ x. when (is_due set t) f x + when (λ x. is_turned set t u x.kept) f x) (λ x. since_then _ t u (f x) h) ws
+    ∙ total-add (when (is_due set t) f) (when (λ x. is_turned set t u x.kept) f) ws
 
 -- none turns late at once
-none_turned : (set : List Task) (t : ℕ) (f : Placed → ℕ) (ws : List Placed) → total (when (λ x. is_turned set t t x.live) f) ws ≡ 0
-none_turned set t f ws = total-same (when (λ x. is_turned set t t x.live) f) (λ x. 0) (λ x. grind arith) ws ∙ total-zero ws
+none_turned : (set : List Task) (t : ℕ) (f : Placed → ℕ) (ws : List Placed) → total (when (λ x. is_turned set t t x.kept) f) ws ≡ 0
+none_turned set t f ws = total-same (when (λ x. is_turned set t t x.kept) f) (λ x. 0) (λ x. grind arith) ws ∙ total-zero ws
 
 -- where some of them stay, and the others are gone late where their deadlines had come
 some_stay : (set : List Task) (t u : ℕ) → t ≤ u → (st : Placed → Bool) (f : Placed → ℕ) (ws : List Placed) →
     total f (filter (λ x. not (st x) && is_due set t x) ws) + total (when (is_due set u) f) (filter st ws)
-    ≡ total (when (is_due set t) f) ws + total (when (λ x. is_turned set t u x.live) f) (filter st ws)
+    ≡ total (when (is_due set t) f) ws + total (when (λ x. is_turned set t u x.kept) f) (filter st ws)
 some_stay set t u h st f ws =
     let gone : Placed → Bool = λ x. not (st x) && is_due set t x in
-    let turned : Placed → Bool = λ x. is_turned set t u x.live in
+    let turned : Placed → Bool = λ x. is_turned set t u x.kept in
     let each = total-same (λ x. when gone f x + when st (when (is_due set u) f) x) (λ x. when (is_due set t) f x + when st (when turned f) x) (λ x. one_stays (st x) _ t u (f x) h) ws in
     rw (total-filter f gone ws, total-filter (when (is_due set u) f) st ws, total-filter (when turned f) st ws)
     (sym (total-add (when gone f) (when st (when (is_due set u) f)) ws) ∙ (each ∙ total-add (when (is_due set t) f) (when st (when turned f)) ws))
@@ -99,14 +99,14 @@ new_in_time set j g f h = grind (arith, nat_tests, h)
 -- the late jobs after one tick that ends its job or overruns
 one_tick : (set : List Task) (j : JobId) (how : How) (h : List Row) (f : Placed → ℕ) →
     total f (gone_late set (Tick j how ∷ h)) + total (when (is_due set (ticks h + 1)) f) (waiting set (Tick j how ∷ h))
-    ≡ (total f (gone_late set h) + total (when (is_due set (ticks h)) f) (waiting set h)) + total (when (λ x. is_turned set (ticks h) (ticks h + 1) x.live) f) (waiting set (Tick j how ∷ h))
+    ≡ (total f (gone_late set h) + total (when (is_due set (ticks h)) f) (waiting set h)) + total (when (λ x. is_turned set (ticks h) (ticks h + 1) x.kept) f) (waiting set (Tick j how ∷ h))
 one_tick set j how h f =
     omega (arith, total-append f (filter (λ x. not (stays set j how x) && is_due set (ticks h) x) (waiting set h)) (gone_late set h), some_stay set (ticks h) (ticks h + 1) (omega arith) (stays set j how) f (waiting set h))
 
 -- the late jobs after a run, by those before it
 run_late : (set : List Task) (rule : Rule) (r : Run) (h : List Row) → IsRun r → Legal set rule (rows_of r ++ h) → AllByRecursion IsTask set → (f : Placed → ℕ) →
     total f (gone_late set (rows_of r ++ h)) + total (when (is_due set (ticks (rows_of r ++ h))) f) (waiting set (rows_of r ++ h))
-    ≡ (total f (gone_late set h) + total (when (is_due set (ticks h)) f) (waiting set h)) + total (when (λ x. is_turned set (ticks h) (ticks (rows_of r ++ h)) x.live) f) (waiting set (rows_of r ++ h))
+    ≡ (total f (gone_late set h) + total (when (is_due set (ticks h)) f) (waiting set h)) + total (when (λ x. is_turned set (ticks h) (ticks (rows_of r ++ h)) x.kept) f) (waiting set (rows_of r ++ h))
 run_late set rule (run.Release j true) h i l each f =
     omega (arith, new_in_time set j h f (known set j.task.0 each l.0).period, none_turned set (ticks h) f (new_one j h ∷ waiting set h))
 run_late set rule (run.Release j false) h i l each f = omega (arith, none_turned set (ticks h) f (waiting set h))
@@ -118,34 +118,34 @@ run_late set rule (run.Ticks j More n) h i l each f =
     (omega (arith, same_waiting set (ticks h) (ticks (replicate n (Tick j More) ++ h)) (omega (arith, ticks_more j n h)) f (waiting set h)))
 run_late set rule (run.Ticks j how n) h i l each f =
     subst (λ (m : ℕ). total f (gone_late set (replicate m (Tick j how) ++ h)) + total (when (is_due set (ticks (replicate m (Tick j how) ++ h))) f) (waiting set (replicate m (Tick j how) ++ h))
-    ≡ (total f (gone_late set h) + total (when (is_due set (ticks h)) f) (waiting set h)) + total (when (λ x. is_turned set (ticks h) (ticks (replicate m (Tick j how) ++ h)) x.live) f) (waiting set (replicate m (Tick j how) ++ h)))
+    ≡ (total f (gone_late set h) + total (when (is_due set (ticks h)) f) (waiting set h)) + total (when (λ x. is_turned set (ticks h) (ticks (replicate m (Tick j how) ++ h)) x.kept) f) (waiting set (replicate m (Tick j how) ++ h)))
     (sym (alone j how n i (λ e. cc))) (one_tick set j how h f)
 
 -- what the late jobs of legal rows sum up to
 late_sum : (set : List Task) (rule : Rule) (h : List Row) → Legal set rule h → (f : JobId → ℕ) →
-    total f (late set h) ≡ total (λ (x : Placed). f x.live.job) (gone_late set h) + total (when (is_due set (ticks h)) (λ (x : Placed). f x.live.job)) (waiting set h)
+    total f (late set h) ≡ total (λ (x : Placed). f x.kept.job) (gone_late set h) + total (when (is_due set (ticks h)) (λ (x : Placed). f x.kept.job)) (waiting set h)
 late_sum set rule h l f =
     ap (total f) (late_is set h)
-    ∙ (total-reverse f (map (λ (x : Placed). x.live.job) (filter (λ x. is_late set h x.live) (placed h)))
-    ∙ (total-map f (λ (x : Placed). x.live.job) (filter (λ x. is_late set h x.live) (placed h))
-    ∙ (total-filter (λ (x : Placed). f x.live.job) (λ x. is_late set h x.live) (placed h)
-    ∙ late_total set rule h l (λ (x : Placed). f x.live.job))))
+    ∙ (total-reverse f (map (λ (x : Placed). x.kept.job) (filter (λ x. is_late set h x.kept) (placed h)))
+    ∙ (total-map f (λ (x : Placed). x.kept.job) (filter (λ x. is_late set h x.kept) (placed h))
+    ∙ (total-filter (λ (x : Placed). f x.kept.job) (λ x. is_late set h x.kept) (placed h)
+    ∙ late_total set rule h l (λ (x : Placed). f x.kept.job))))
 
 -- what the entries whose jobs turned late sum up to
 turned_sum : (set : List Task) (rule : Rule) (h : List Row) (s : State) (since : ℕ) → Tracks set rule h s → (f : Turned → ℕ) →
-    total f (turned_of set since s.ticks s.waiting.entries) ≡ total (when (λ x. is_turned set since (ticks h) x.live) (λ x. f (turned_job set x))) (waiting set h)
+    total f (turned_of set since s.ticks s.waiting.entries) ≡ total (when (λ x. is_turned set since (ticks h) x.kept) (λ x. f (turned_job set x))) (waiting set h)
 turned_sum set rule h s since t f =
     let p : Entry → Bool = is_turned_entry set since s.ticks in
     total-map f (turned_entry set) (filter p s.waiting.entries)
     ∙ (total-filter (λ e. f (turned_entry set e)) p s.waiting.entries
     ∙ (t.waiting (when p (λ e. f (turned_entry set e)))
-    ∙ total-same (λ x. when p (λ e. f (turned_entry set e)) (entry_of set rule h x)) (when (λ x. is_turned set since (ticks h) x.live) (λ x. f (turned_job set x))) (λ x. rw t.ticks refl) (waiting set h)))
+    ∙ total-same (λ x. when p (λ e. f (turned_entry set e)) (entry_of set rule h x)) (when (λ x. is_turned set since (ticks h) x.kept) (λ x. f (turned_job set x))) (λ x. rw t.ticks refl) (waiting set h)))
 
 -- jobs with the sums of those entries are the pending ones whose deadlines have come since
 pub are_turned : (set : List Task) (rule : Rule) (h : List Row) (s : State) (since : ℕ) (ts : List Turned) → Legal set rule h → Tracks set rule h s →
     ((f : Turned → ℕ) → total f ts ≡ total f (turned_of set since s.ticks s.waiting.entries)) → AreTurned set h since ts
 are_turned set rule h s since ts l t same f =
-    let q : Placed → Bool = λ x. is_turned set since (ticks h) x.live in
+    let q : Placed → Bool = λ x. is_turned set since (ticks h) x.kept in
     let g : Placed → ℕ = λ x. f (turned_job set x) in
     let listed = total-map f (turned_job set) (filter q (pending_placed set h))
     ∙ (total-filter g q (pending_placed set h)
@@ -156,8 +156,8 @@ are_turned set rule h s since ts l t same f =
 pub add_late : (set : List Task) (rule : Rule) (r : Run) (h : List Row) (s : State) (since : ℕ) (ts : List Turned) → IsRun r → AllByRecursion IsTask set → since ≡ ticks h → Legal set rule (rows_of r ++ h) → Tracks set rule (rows_of r ++ h) s →
     ((f : Turned → ℕ) → total f ts ≡ total f (turned_of set since s.ticks s.waiting.entries)) → AddLate set r h ts
 add_late set rule r h s since ts i each e l t same f =
-    let now : total (λ (x : Turned). f x.job) ts ≡ total (when (λ x. is_turned set (ticks h) (ticks (rows_of r ++ h)) x.live) (λ (x : Placed). f x.live.job)) (waiting set (rows_of r ++ h)) =
+    let now : total (λ (x : Turned). f x.job) ts ≡ total (when (λ x. is_turned set (ticks h) (ticks (rows_of r ++ h)) x.kept) (λ (x : Placed). f x.kept.job)) (waiting set (rows_of r ++ h)) =
     same (λ x. f x.job)
     ∙ (turned_sum set rule (rows_of r ++ h) s since t (λ x. f x.job)
-    ∙ ap (λ (n : ℕ). total (when (λ x. is_turned set n (ticks (rows_of r ++ h)) x.live) (λ (x : Placed). f x.live.job)) (waiting set (rows_of r ++ h))) e) in
-    omega (arith, late_sum set rule (rows_of r ++ h) l f, late_sum set rule h (rest_legal set rule (rows_of r) h l) f, run_late set rule r h i l each (λ (x : Placed). f x.live.job), now)
+    ∙ ap (λ (n : ℕ). total (when (λ x. is_turned set n (ticks (rows_of r ++ h)) x.kept) (λ (x : Placed). f x.kept.job)) (waiting set (rows_of r ++ h))) e) in
+    omega (arith, late_sum set rule (rows_of r ++ h) l f, late_sum set rule h (rest_legal set rule (rows_of r) h l) f, run_late set rule r h i l each (λ (x : Placed). f x.kept.job), now)

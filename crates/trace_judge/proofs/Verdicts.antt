@@ -25,41 +25,41 @@ use Rattle.mc_model.proofs.Sums.{total-filter, total-same, less_filtered, total-
 use Rattle.demand_law.proofs.Laws.{none_late}
 use Rattle.trace_judge.specs.Placed.{Placed, placed, waiting, is_due}
 use Rattle.trace_judge.specs.Tracks.{late_job_in, Tracks, entry_of}
-use Rattle.trace_judge.specs.declared.lates.LateJob.{LateJob}
-use Rattle.trace_judge.specs.Lates.{IsEarliest, CountsLates}
+use Rattle.trace_judge.specs.declared.late_jobs.LateJob.{LateJob}
+use Rattle.trace_judge.specs.LateJobs.{IsEarliest, CountsLateJobs}
 use Rattle.trace_judge.specs.Entries.{late_job_of}
 use Rattle.trace_judge.specs.declared.state.State.{State}
-use Rattle.trace_judge.specs.declared.lates.Lates.{Lates}
+use Rattle.trace_judge.specs.declared.late_jobs.LateJobs.{LateJobs}
 use Rattle.trace_judge.specs.Switch.{noted_each, is_due_entry}
 use Rattle.trace_judge.proofs.Same.{filter-map}
-use Rattle.trace_judge.proofs.Placed.{released_is, live_of, placed_le}
+use Rattle.trace_judge.proofs.Placed.{released_is, kept_of, placed_le}
 use Rattle.trace_judge.proofs.Noted.{counts_same, counts_all}
 use Rattle.trace_judge.proofs.LateTotal.{late_total}
-use Rattle.trace_judge.proofs.Keeps.{lates_of, sums_of}
+use Rattle.trace_judge.proofs.Keeps.{late_sum_of, sums_of}
 
--- places fall from the newest on
+-- row numbers fall from the newest on
 abbrev pub Descends : List Placed → Type 0
 Descends [] = Unit {0}
-Descends (x ∷ xs) = Each (λ y. y.place < x.place) xs × Descends xs
+Descends (x ∷ xs) = Each (λ y. y.rows_before < x.rows_before) xs × Descends xs
 
--- each place is below the number of rows
-below_length : (h : List Row) → Each (λ x. x.place < length h) (placed h)
+-- each kept release has fewer rows before it than there are rows
+below_length : (h : List Row) → Each (λ x. x.rows_before < length h) (placed h)
 below_length [] = tt
-below_length (Release j true ∷ g) = (omega arith, Each-map {P = λ (x : Placed). x.place < length g} (λ x k. omega arith) (placed g) (below_length g))
-below_length (row ∷ g) = Each-map {P = λ (x : Placed). x.place < length g} (λ x k. omega arith) (placed g) (below_length g)
+below_length (Release j true ∷ g) = (omega arith, Each-map {P = λ (x : Placed). x.rows_before < length g} (λ x k. omega arith) (placed g) (below_length g))
+below_length (row ∷ g) = Each-map {P = λ (x : Placed). x.rows_before < length g} (λ x k. omega arith) (placed g) (below_length g)
 
--- the places of kept releases fall
+-- the row numbers of kept releases fall
 pub placed_descends : (h : List Row) → Descends (placed h)
 placed_descends [] = tt
 placed_descends (Release j true ∷ g) = (below_length g, placed_descends g)
 placed_descends (row ∷ g) = placed_descends g
 
--- so do those of a part
+-- the row numbers of a part of the kept releases fall
 pub filter_descends : (p : Placed → Bool) → (xs : List Placed) → Descends xs → Descends (filter p xs)
 filter_descends p [] h = tt
 filter_descends p (x ∷ xs) h =
     elim (p x) as (λ b. Descends (cond b (x ∷ filter p xs) (filter p xs)))
-    [ true ↦ (Each-filter (λ y. y.place < x.place) p xs h.0, filter_descends p xs h.1) | false ↦ filter_descends p xs h.1 ]
+    [ true ↦ (Each-filter (λ y. y.rows_before < x.rows_before) p xs h.0, filter_descends p xs h.1) | false ↦ filter_descends p xs h.1 ]
 
 -- the last element
 abbrev pub last : {X : Type 0} → List X → Option X
@@ -76,18 +76,18 @@ pub first-reverse : {X : Type 0} (xs : List X) → slice_get (reverse xs) 0 ≡ 
 first-reverse [] = refl
 first-reverse (x ∷ xs) = ap (λ ys. slice_get ys 0) (reverse-append (x ∷ []) xs) ∙ (first_push (reverse xs) x ∙ ap (λ o. option_or o (Some x)) (first-reverse xs))
 
--- what stands first of late jobs whose places fall is the last of them
-pub last_is : (o : Option LateJob) (xs : List Placed) → Descends xs → IsEarliest o (λ f. total (λ x. f (late_job_in x)) xs) → option_map (λ (m : LateJob). m.job) o ≡ last (map (λ (x : Placed). x.live.job) xs)
+-- the earliest of late jobs whose row numbers fall is the last of them
+pub last_is : (o : Option LateJob) (xs : List Placed) → Descends xs → IsEarliest o (λ f. total (λ x. f (late_job_in x)) xs) → option_map (λ (m : LateJob). m.job) o ≡ last (map (λ (x : Placed). x.kept.job) xs)
 last_is None [] d e = refl
 last_is None (x ∷ xs) d e = absurd (omega (arith, e))
 last_is (Some m) [] d e = absurd (omega (arith, e.0))
-last_is (Some m) (x ∷ []) d e = let same : same_job x.live.job m.job ≡ true = grind (arith, e.0) in ap Some (sym (job_eq x.live.job m.job same))
+last_is (Some m) (x ∷ []) d e = let same : same_job x.kept.job m.job ≡ true = grind (arith, e.0) in ap Some (sym (job_eq x.kept.job m.job same))
 last_is (Some m) (x ∷ y ∷ ys) d e =
-    let other : (x.place == m.place) ≡ false = grind (arith, nat_tests, e.1, d.0.0) in
+    let other : (x.rows_before == m.rows_before) ≡ false = grind (arith, nat_tests, e.1, d.0.0) in
     let some = rw other at e.0 in
-    last_is (Some m) (y ∷ ys) d.1 (omega (arith, some), omega (arith, e.1)) ∙ keep (last (map (λ (z : Placed). z.live.job) ys))
+    last_is (Some m) (y ∷ ys) d.1 (omega (arith, some), omega (arith, e.1)) ∙ keep (last (map (λ (z : Placed). z.kept.job) ys))
   where
-    keep : (o : Option JobId) → option_or o (Some y.live.job) ≡ option_or (option_or o (Some y.live.job)) (Some x.live.job)
+    keep : (o : Option JobId) → option_or o (Some y.kept.job) ≡ option_or (option_or o (Some y.kept.job)) (Some x.kept.job)
     keep o = grind arith
 
 -- a reversed list, mapped
@@ -97,43 +97,43 @@ map-reverse f (x ∷ xs) =
     ap (map f) (reverse-append (x ∷ []) xs) ∙ (map-append f (reverse xs) (x ∷ [])
     ∙ (ap (λ ys. ys ++ f x ∷ []) (map-reverse f xs) ∙ sym (reverse-append (f x ∷ []) (map f xs))))
 
--- the jobs of kept releases, without their places
-jobs_of : (xs : List Placed) → map (λ (i : KeptRelease). i.job) (map live_of xs) ≡ map (λ (x : Placed). x.live.job) xs
+-- the jobs of kept releases, without their row numbers
+jobs_of : (xs : List Placed) → map (λ (i : KeptRelease). i.job) (map kept_of xs) ≡ map (λ (x : Placed). x.kept.job) xs
 jobs_of [] = refl
-jobs_of (x ∷ xs) = ap (λ ys. x.live.job ∷ ys) (jobs_of xs)
+jobs_of (x ∷ xs) = ap (λ ys. x.kept.job ∷ ys) (jobs_of xs)
 
 -- the late jobs are these
-pub late_is : (set : List Task) (h : List Row) → late set h ≡ reverse (map (λ (x : Placed). x.live.job) (filter (λ x. is_late set h x.live) (placed h)))
+pub late_is : (set : List Task) (h : List Row) → late set h ≡ reverse (map (λ (x : Placed). x.kept.job) (filter (λ x. is_late set h x.kept) (placed h)))
 late_is set h =
     map-reverse (λ (i : KeptRelease). i.job) (filter (is_late set h) (released h))
-    ∙ ap reverse (ap (map (λ (i : KeptRelease). i.job)) (ap (filter (is_late set h)) (released_is h) ∙ filter-map (is_late set h) live_of (placed h))
-    ∙ jobs_of (filter (λ x. is_late set h x.live) (placed h)))
+    ∙ ap reverse (ap (map (λ (i : KeptRelease). i.job)) (ap (filter (is_late set h)) (released_is h) ∙ filter-map (is_late set h) kept_of (placed h))
+    ∙ jobs_of (filter (λ x. is_late set h x.kept) (placed h)))
 
 -- what is noted at the end are the late jobs
 pub noted_at_end : (set : List Task) (rule : Rule) (h : List Row) (s : State) → Legal set rule h → Tracks set rule h s →
-    CountsLates (noted_each (is_due_entry set s.ticks) s.lates s.waiting.entries) (λ f. total (λ x. f (late_job_in x)) (filter (λ x. is_late set h x.live) (placed h)))
+    CountsLateJobs (noted_each (is_due_entry set s.ticks) s.late_jobs s.waiting.entries) (λ f. total (λ x. f (late_job_in x)) (filter (λ x. is_late set h x.kept) (placed h)))
 noted_at_end set rule h s l t =
-    counts_same (noted_each (is_due_entry set s.ticks) s.lates s.waiting.entries) (λ f. total (when (is_due_entry set s.ticks) (λ e. f (late_job_of e))) s.waiting.entries + lates_of set h f) (λ f. total (λ x. f (late_job_in x)) (filter (λ x. is_late set h x.live) (placed h)))
+    counts_same (noted_each (is_due_entry set s.ticks) s.late_jobs s.waiting.entries) (λ f. total (when (is_due_entry set s.ticks) (λ e. f (late_job_of e))) s.waiting.entries + late_sum_of set h f) (λ f. total (λ x. f (late_job_in x)) (filter (λ x. is_late set h x.kept) (placed h)))
     (λ f. let due : total (λ x. when (is_due_entry set s.ticks) (λ e. f (late_job_of e)) (entry_of set rule h x)) (waiting set h)
     ≡ total (when (is_due set (ticks h)) (λ x. f (late_job_in x))) (waiting set h) = total-same _ _ (λ x. rw t.ticks refl) (waiting set h) in
     let noted = t.waiting (when (is_due_entry set s.ticks) (λ e. f (late_job_of e))) in
-    omega (arith, noted, due, late_total set rule h l (λ x. f (late_job_in x)), total-filter (λ x. f (late_job_in x)) (λ x. is_late set h x.live) (placed h)))
-    (counts_all (is_due_entry set s.ticks) s.lates (lates_of set h) s.waiting.entries (sums_of set h) t.lates)
+    omega (arith, noted, due, late_total set rule h l (λ x. f (late_job_in x)), total-filter (λ x. f (late_job_in x)) (λ x. is_late set h x.kept) (placed h)))
+    (counts_all (is_due_entry set s.ticks) s.late_jobs (late_sum_of set h) s.waiting.entries (sums_of set h) t.late_jobs)
 
 -- how many are late
-pub legal_count : (set : List Task) (h : List Row) (s : Lates) → length h < 2 ^ 64 → CountsLates s (λ f. total (λ x. f (late_job_in x)) (filter (λ x. is_late set h x.live) (placed h))) → s.count ≡ length (late set h)
+pub legal_count : (set : List Task) (h : List Row) (s : LateJobs) → length h < 2 ^ 64 → CountsLateJobs s (λ f. total (λ x. f (late_job_in x)) (filter (λ x. is_late set h x.kept) (placed h))) → s.count ≡ length (late set h)
 legal_count set h s room c =
-    let ps : List Placed = filter (λ x. is_late set h x.live) (placed h) in
+    let ps : List Placed = filter (λ x. is_late set h x.kept) (placed h) in
     let many : length (late set h) ≡ length ps = ap length (late_is set h)
-    ∙ (length-reverse (map (λ (x : Placed). x.live.job) ps) ∙ length-map ps (λ (x : Placed). x.live.job)) in
-    omega (arith, c.count, many, total-one ps, less_filtered (λ (x : Placed). 1) (λ x. is_late set h x.live) (placed h), total-one (placed h), placed_le h)
+    ∙ (length-reverse (map (λ (x : Placed). x.kept.job) ps) ∙ length-map ps (λ (x : Placed). x.kept.job)) in
+    omega (arith, c.count, many, total-one ps, less_filtered (λ (x : Placed). 1) (λ x. is_late set h x.kept) (placed h), total-one (placed h), placed_le h)
 
--- and which is the first
-pub legal_first : (set : List Task) (h : List Row) (s : Lates) → CountsLates s (λ f. total (λ x. f (late_job_in x)) (filter (λ x. is_late set h x.live) (placed h))) → option_map (λ (m : LateJob). m.job) s.first ≡ slice_get (late set h) 0
+-- which job of the late ones is the first
+pub legal_first : (set : List Task) (h : List Row) (s : LateJobs) → CountsLateJobs s (λ f. total (λ x. f (late_job_in x)) (filter (λ x. is_late set h x.kept) (placed h))) → option_map (λ (m : LateJob). m.job) s.first ≡ slice_get (late set h) 0
 legal_first set h s c =
-    let ps : List Placed = filter (λ x. is_late set h x.live) (placed h) in
-    last_is s.first ps (filter_descends (λ x. is_late set h x.live) (placed h) (placed_descends h)) c.first
-    ∙ sym (ap (λ xs. slice_get xs 0) (late_is set h) ∙ first-reverse (map (λ (x : Placed). x.live.job) ps))
+    let ps : List Placed = filter (λ x. is_late set h x.kept) (placed h) in
+    last_is s.first ps (filter_descends (λ x. is_late set h x.kept) (placed h) (placed_descends h)) c.first
+    ∙ sym (ap (λ xs. slice_get xs 0) (late_is set h) ∙ first-reverse (map (λ (x : Placed). x.kept.job) ps))
 
 -- a fault stays the first
 pub fault_stays : (set : List Task) (rule : Rule) (p : RowFault) (xs h : List Row) → first_unfit set rule h ≡ Some p → first_unfit set rule (xs ++ h) ≡ Some p
@@ -141,12 +141,12 @@ fault_stays set rule p [] h e = e
 fault_stays set rule p (x ∷ xs) h e = rw (fault_stays set rule p xs h e) refl
 
 -- the verdict on a legal trace
-pub legal_verdict : (set : List Task) (rule : Rule) (h : List Row) (s : State) → Legal set rule h → Tracks set rule h s → length h < 2 ^ 64 → (lates : Lates) → lates ≡ noted_each (is_due_entry set s.ticks) s.lates s.waiting.entries →
-    verdicts.Legal lates.count (option_map (λ (m : LateJob). m.job) lates.first) ≡ verdict set rule h
-legal_verdict set rule h s l t room lates is =
-    let c = subst (λ (x : Lates). CountsLates x (λ f. total (λ x. f (late_job_in x)) (filter (λ x. is_late set h x.live) (placed h)))) (sym is) (noted_at_end set rule h s l t) in
-    rw (legal_count set h lates room c, legal_first set h lates c, no_fault set rule h l) refl
+pub legal_verdict : (set : List Task) (rule : Rule) (h : List Row) (s : State) → Legal set rule h → Tracks set rule h s → length h < 2 ^ 64 → (late_jobs : LateJobs) → late_jobs ≡ noted_each (is_due_entry set s.ticks) s.late_jobs s.waiting.entries →
+    verdicts.Legal late_jobs.count (option_map (λ (m : LateJob). m.job) late_jobs.first) ≡ verdict set rule h
+legal_verdict set rule h s l t room late_jobs is =
+    let c = subst (λ (x : LateJobs). CountsLateJobs x (λ f. total (λ x. f (late_job_in x)) (filter (λ x. is_late set h x.kept) (placed h)))) (sym is) (noted_at_end set rule h s l t) in
+    rw (legal_count set h late_jobs room c, legal_first set h late_jobs c, no_fault set rule h l) refl
 
--- under a rule that holds, no job of a legal trace is told as late
+-- under a rule that holds, no job of a legal trace is reported as late
 pub no_late : (set : List Task) (rule : Rule) (h : List Row) → AllByRecursion IsTask set → Holds set rule → Legal set rule h → HasNoLate (verdict set rule h)
 no_late set rule h each holds l = rw (no_fault set rule h l, none_late set rule h each holds l) (refl, refl)

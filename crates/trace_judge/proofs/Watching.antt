@@ -17,17 +17,17 @@ use Rattle.mc_model.specs.Verdict.{RowFault, first_unfit, verdict, verdict_of}
 use Rattle.mc_model.proofs.Verdicts.{no_fault}
 use Rattle.trace_judge.specs.declared.step.Misfit.{Misfit}
 use Rattle.trace_judge.specs.declared.unfit.Unfit.{Unfit}
-use Rattle.mc_model.specs.Pending.{is_live, pending}
+use Rattle.mc_model.specs.Pending.{is_still_pending, pending}
 use Rattle.mc_model.specs.Sums.{total}
 use Rattle.mc_model.proofs.Sums.{one, total-one, less_filtered}
 use Rattle.trace_judge.specs.Placed.{placed, waiting}
-use Rattle.trace_judge.proofs.Placed.{live_of, pending_is, waiting_is, placed_le}
+use Rattle.trace_judge.proofs.Placed.{kept_of, pending_is, waiting_is, placed_le}
 use Rattle.trace_judge.proofs.Faults.{same_length}
-use Rattle.trace_judge.specs.declared.lates.LateJob.{LateJob}
+use Rattle.trace_judge.specs.declared.late_jobs.LateJob.{LateJob}
 use Rattle.trace_judge.specs.declared.state.TaskNote.{TaskNote}
 use Rattle.trace_judge.specs.declared.state.State.{State}
-use Rattle.trace_judge.specs.Entries.{Held}
-use Rattle.trace_judge.specs.Lates.{IsEarliest}
+use Rattle.trace_judge.specs.Entries.{PendingEntries}
+use Rattle.trace_judge.specs.LateJobs.{IsEarliest}
 use Rattle.trace_judge.specs.Steps.{IsNew}
 use Rattle.trace_judge.specs.Tracks.{Tracks, StopsAt}
 use Rattle.trace_judge.specs.Watched.{Watched, Watches, TracksOrUnfit, unfit_in, is_none}
@@ -57,13 +57,13 @@ known_unfit : (set : List Task) (rule : Rule) (h : List Row) (u : Unfit) (o : Op
 known_unfit set rule h u None e k = cc
 known_unfit set rule h u (Some p) e k = grind (arith, e, k)
 
--- it stays the first
+-- the first row that does not fit stays the first after more rows
 pub unfit_stays : (set : List Task) (rule : Rule) (u : Unfit) (xs h : List Row) → unfit_in set rule h ≡ Some u → unfit_in set rule (xs ++ h) ≡ Some u
 unfit_stays set rule u xs h e =
     ap (option_map (λ (x : RowFault). an_unfit x.place x.why))
     (fault_stays set rule (record { place = u.place; why = u.why }) xs h (known_unfit set rule h u (first_unfit set rule h) refl e))
 
--- and gives the verdict
+-- the first row that does not fit gives the verdict
 pub unfit_verdict : (set : List Task) (rule : Rule) (u : Unfit) (h : List Row) → unfit_in set rule h ≡ Some u → Illegal u.place u.why ≡ verdict set rule h
 unfit_verdict set rule u h e = sym (ap (λ o. verdict_of o (late set h)) (known_unfit set rule h u (first_unfit set rule h) refl e))
 
@@ -75,13 +75,13 @@ none_unfit set rule h l = sym (ap (option_map (λ (x : RowFault). an_unfit x.pla
 pub tracks_none : (set : List Task) (rule : Rule) (n : ℕ) (s : State) → n ≡ length set → IsNew n s → Tracks set rule [] s
 tracks_none set rule n s e i = record {
   ticks = i.ticks;
-  place = i.place;
+  rows = i.rows;
   mode = i.mode;
   count = ap length i.tasks ∙ (length-replicate n none_yet ∙ e);
   tasks = λ k h. ap (λ (xs : List TaskNote). slice_get xs k) i.tasks ∙ no_note k (omega (arith, h, e));
-  queues = ap (λ (h : Held). h.tasks) i.waiting ∙ e;
-  waiting = λ f. ap (λ (h : Held). total f h.entries) i.waiting;
-  lates = record { count = i.count_zero; first = subst (λ (o : Option LateJob). IsEarliest o (λ f. 0)) (sym i.first) refl };
+  queues = ap (λ (h : PendingEntries). h.tasks) i.waiting ∙ e;
+  waiting = λ f. ap (λ (h : PendingEntries). total f h.entries) i.waiting;
+  late_jobs = record { count = i.count_zero; first = subst (λ (o : Option LateJob). IsEarliest o (λ f. 0)) (sym i.first) refl };
 }
   where
     none_yet : TaskNote
@@ -90,7 +90,7 @@ tracks_none set rule n s e i = record {
     no_note : (k : ℕ) → k < n → slice_get (replicate n none_yet) k ≡ Some none_yet
     no_note k h = slice_get-get_or (replicate n none_yet) k none_yet (omega (arith, h, length-replicate n none_yet)) ∙ ap (λ (x : TaskNote). Some x) (get_or-replicate n k none_yet none_yet h)
 
--- so the verdict stays
+-- the verdict stays the same after more rows, if a row does not fit
 pub verdict_stays : (set : List Task) (rule : Rule) (u : Unfit) (xs h : List Row) → unfit_in set rule h ≡ Some u → verdict set rule h ≡ verdict set rule (xs ++ h)
 verdict_stays set rule u xs h e = sym (unfit_verdict set rule u h e) ∙ unfit_verdict set rule u (xs ++ h) (unfit_stays set rule u xs h e)
 
@@ -102,16 +102,16 @@ a_monitor set rule s u = record { set = set; rule = rule; state = s; unfit = u }
 pub tracked : (h : List Row) (m : Watched) → m.unfit ≡ None → Watches h m → Legal m.set.tasks m.rule h × Tracks m.set.tasks m.rule h m.state
 tracked h m e w = subst (λ (o : Option Unfit). TracksOrUnfit h m.set.tasks m.rule m.state o) e w
 
--- it has found none where each row has fitted
+-- a monitor has found no row that does not fit if each row has fitted
 pub none_found : (o : Option Unfit) → is_none o ≡ true → o ≡ None
 none_found None e = refl
 none_found (Some u) e = cc
 
--- and of one that has found one, it stays the first
+-- if a monitor has found a row that does not fit, that row stays the first
 pub stays_found : (xs h : List Row) (m : Watched) (u : Unfit) → m.unfit ≡ Some u → Watches h m → unfit_in m.set.tasks m.rule (xs ++ h) ≡ Some u
 stays_found xs h m u e w = unfit_stays m.set.tasks m.rule u xs h (subst (λ (o : Option Unfit). TracksOrUnfit h m.set.tasks m.rule m.state o) e w)
 
--- so it has seen the later rows
+-- a monitor that has found a row that does not fit has seen the later rows, too
 pub still_watches : (xs h : List Row) (m : Watched) (u : Unfit) → m.unfit ≡ Some u → Watches h m → Watches (xs ++ h) m
 still_watches xs h m u e w = subst (λ (o : Option Unfit). TracksOrUnfit (xs ++ h) m.set.tasks m.rule m.state o) (sym e) (stays_found xs h m u e w)
 
@@ -121,8 +121,8 @@ pub said_of : (h : List Row) (m : Watched) (v : Verdict) → Watches h m → ((k
 said_of h m v w says set rule s r = says h w ∙ (ap (λ (tasks : List Task). verdict tasks m.rule h) s ∙ ap (λ (x : Rule). verdict set x h) r)
 
 -- there are as many entries as pending jobs
-pub pending_count : (set : List Task) (rule : Rule) (h : List Row) (s : State) → Legal set rule h → Tracks set rule h s → s.place < 2 ^ 64 → min (length s.waiting.entries) (2 ^ 64 - 1) ≡ length (pending set h)
+pub pending_count : (set : List Task) (rule : Rule) (h : List Row) (s : State) → Legal set rule h → Tracks set rule h s → s.rows < 2 ^ 64 → min (length s.waiting.entries) (2 ^ 64 - 1) ≡ length (pending set h)
 pending_count set rule h s l t room =
-    let many : length (pending set h) ≡ length (waiting set h) = ap length (pending_is set rule h l) ∙ length-map (waiting set h) live_of in
-    let same : length (filter (λ x. is_live set h x.live) (placed h)) ≡ length (waiting set h) = ap length (waiting_is set rule h l) in
-    omega (arith, many, same, same_length set rule h s t, total-one (filter (λ x. is_live set h x.live) (placed h)), less_filtered one (λ x. is_live set h x.live) (placed h), total-one (placed h), placed_le h, t.place, room)
+    let many : length (pending set h) ≡ length (waiting set h) = ap length (pending_is set rule h l) ∙ length-map (waiting set h) kept_of in
+    let same : length (filter (λ x. is_still_pending set h x.kept) (placed h)) ≡ length (waiting set h) = ap length (waiting_is set rule h l) in
+    omega (arith, many, same, same_length set rule h s t, total-one (filter (λ x. is_still_pending set h x.kept) (placed h)), less_filtered one (λ x. is_still_pending set h x.kept) (placed h), total-one (placed h), placed_le h, t.rows, room)

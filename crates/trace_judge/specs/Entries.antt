@@ -4,10 +4,10 @@ use Rattle.std.specs.List.{list_any, list_all}
 use Rattle.mc_task.specs.declared.task.JobId.{JobId}
 use Rattle.mc_task.specs.declared.task.Task.{Task}
 use Rattle.mc_model.specs.Sums.{total}
-use Rattle.trace_judge.specs.declared.lates.LateJob.{LateJob}
-use Rattle.trace_judge.specs.declared.waiting.Pending.{Pending}
-use Rattle.trace_judge.specs.declared.waiting.Standing.{Standing}
-use Rattle.trace_judge.specs.declared.waiting.Standing.TheVariants.{NotPending, NotLeast, Least}
+use Rattle.trace_judge.specs.declared.late_jobs.LateJob.{LateJob}
+use Rattle.trace_judge.specs.declared.pending_queues.Pending.{Pending}
+use Rattle.trace_judge.specs.declared.pending_queues.Standing.{Standing}
+use Rattle.trace_judge.specs.declared.pending_queues.Standing.TheVariants.{NotPending, NotLeast, Least}
 
 -- a key, a task's number and a job's count
 abbrev pub Rank : Type 0
@@ -18,16 +18,16 @@ abbrev pub Entry : Type 0
 Entry = Rank × Pending
 
 -- the entries that are kept, and of how many tasks there may be some
-pub record Held : Type 0 where
+pub record PendingEntries : Type 0 where
   pub tasks : ℕ
   pub entries : List Entry
 
 -- there may be entries of task number k
-abbrev pub HasQueue : Held → ℕ → Type 0
+abbrev pub HasQueue : PendingEntries → ℕ → Type 0
 HasQueue h k = (1 ≤ k) × (k ≤ h.tasks)
 
 -- there may be entries of each task of the set, and of no other
-abbrev pub HasQueues : Held → List Task → Type 0
+abbrev pub HasQueues : PendingEntries → List Task → Type 0
 HasQueues h set = h.tasks ≡ length set
 
 -- the entry is the job's
@@ -40,7 +40,7 @@ IsMore more e es = (f : Entry → ℕ) → total f more ≡ f e + total f es
 
 -- the job, as a late one
 abbrev pub late_job : JobId → Pending → LateJob
-late_job j p = record { place = p.place; job = j }
+late_job j p = record { rows_before = p.rows_before; job = j }
 
 -- the job of the entry, as a late one
 abbrev pub late_job_of : Entry → LateJob
@@ -48,7 +48,7 @@ late_job_of e = late_job (record { task = record { 0 = e.0.1 }; count = e.0.2 })
 
 -- a pending job with n more ticks used, at most 2^64 - 1 of them
 abbrev pub ticked : ℕ → Pending → Pending
-ticked n p = record { release = p.release; used = min (p.used + n) (2 ^ 64 - 1); place = p.place }
+ticked n p = record { release = p.release; used = min (p.used + n) (2 ^ 64 - 1); rows_before = p.rows_before }
 
 -- the entry whose job has n more ticks used
 abbrev pub spent_entry : ℕ → Entry → Entry

@@ -1,5 +1,5 @@
 pub mod Rules
-pub mod Lates
+pub mod LateJobs
 pub mod Firsts
 pub mod Entries
 pub mod Heads

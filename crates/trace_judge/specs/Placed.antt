@@ -1,4 +1,4 @@
--- The pending jobs and the late ones with their places in the trace. The newest row stands first.
+-- The pending jobs and the late ones with their row numbers in the trace. The newest row stands first.
 use Rattle.std.specs.Prelude.{ℕ, Bool, not, ◌&&◌, ◌||◌, List, [], ◌∷◌, ◌++◌, length, cond, nat_le, filter}
 use Rattle.mc_task.specs.declared.task.Task.{Task}
 use Rattle.mc_task.specs.declared.task.JobId.{JobId}
@@ -14,12 +14,12 @@ use Rattle.mc_model.specs.Late.{deadline}
 
 -- a kept release, and the number of rows before it
 pub record Placed : Type 0 where
-  pub live : KeptRelease
-  pub place : ℕ
+  pub kept : KeptRelease
+  pub rows_before : ℕ
 
 -- a release of the job after these rows
 abbrev pub new_one : JobId → List Row → Placed
-new_one j g = record { live = record { job = j; release = ticks g }; place = length g }
+new_one j g = record { kept = record { job = j; release = ticks g }; rows_before = length g }
 
 -- the kept releases, the newest first
 abbrev pub placed : List Row → List Placed
@@ -29,8 +29,8 @@ placed (row ∷ g) = placed g
 
 -- what a tick with this outcome leaves pending: an end takes its job out, an overrun the low jobs
 abbrev pub stays : List Task → JobId → How → Placed → Bool
-stays set j how x = not (is_end how && same_job j x.live.job)
-    && (not (is_over how) || is_high_in (task_at set x.live.job.task.0))
+stays set j how x = not (is_end how && same_job j x.kept.job)
+    && (not (is_over how) || is_high_in (task_at set x.kept.job.task.0))
 
 -- the pending jobs, the newest release first
 abbrev pub waiting : List Task → List Row → List Placed
@@ -41,7 +41,7 @@ waiting set (Idle ∷ g) = waiting set g
 
 -- the deadline of the kept release has come at boundary now
 abbrev pub is_due : List Task → ℕ → Placed → Bool
-is_due set now x = nat_le (deadline set x.live) now
+is_due set now x = nat_le (deadline set x.kept) now
 
 -- the jobs that ended or were discarded at a tick after their deadlines
 abbrev pub gone_late : List Task → List Row → List Placed

@@ -3,7 +3,7 @@ use Rattle.std.specs.Prelude.{◌≡◌, ℕ, ◌+◌, ◌-◌, ◌^◌, ◌<◌
 use Rattle.std.specs.List.{AllByRecursion}
 use Rattle.trace_judge.specs.declared.queue.Queued.{Queued}
 use Rattle.trace_judge.specs.Heads.{no_key}
-use Rattle.trace_judge.specs.Entries.{Entry, Held, ticked}
+use Rattle.trace_judge.specs.Entries.{Entry, PendingEntries, ticked}
 
 -- the job has this count
 abbrev pub has_count : ℕ → Queued → Bool
@@ -24,10 +24,10 @@ IsQueue [] = Unit {0}
 IsQueue (q ∷ qs) = (q.key < no_key) × AllByRecursion (λ r. q.key ≤ r.key) qs × IsQueue qs
 
 -- the index after the jobs whose keys are not greater
-pub record IsPlaceFor (qs : List Queued) (key place : ℕ) : Type 0 where
-  pub inside : place ≤ length qs
-  pub behind : (d : Queued) → 1 ≤ place → (slice_index_or qs (place - 1) d).key ≤ key
-  pub before : AllByRecursion (λ q. key < q.key) (drop place qs)
+pub record IsPositionFor (qs : List Queued) (key position : ℕ) : Type 0 where
+  pub inside : position ≤ length qs
+  pub after : (d : Queued) → 1 ≤ position → (slice_index_or qs (position - 1) d).key ≤ key
+  pub before : AllByRecursion (λ q. key < q.key) (drop position qs)
 
 -- the entry of a job in the queue of task number k
 abbrev pub entry_in : ℕ → Queued → Entry
@@ -39,15 +39,15 @@ entries_from k [] = []
 entries_from k (q ∷ qs) = map (entry_in k) q ++ entries_from (k + 1) qs
 
 -- what a contract sees of the queues
-abbrev pub held : List (List Queued) → Held
-held queues = record { tasks = length queues; entries = entries_from 1 queues }
+abbrev pub pending_entries : List (List Queued) → PendingEntries
+pending_entries queues = record { tasks = length queues; entries = entries_from 1 queues }
 
 -- the entries of the queues from this index on, without the first `at` of them
-abbrev pub rest_of : List (List Queued) → ℕ → ℕ → List Entry
-rest_of queues next at = drop at (entries_from (next + 1) (drop next queues))
+abbrev pub remaining_of : List (List Queued) → ℕ → ℕ → List Entry
+remaining_of queues next at = drop at (entries_from (next + 1) (drop next queues))
 
--- a place among the queues: the queue at index `next` has at least `at` entries
-pub record IsRest (queues : List (List Queued)) (next at : ℕ) : Type 0 where
+-- a position among the queues: the queue at index `next` has at least `at` entries
+pub record IsRemaining (queues : List (List Queued)) (next at : ℕ) : Type 0 where
   pub few : length queues < 2 ^ 32
   pub inside : at ≤ length (slice_index_or queues next [])
 

@@ -24,4 +24,4 @@ are_quiet set after until es = list_all (λ e. is_outside after until (deadline_
 
 -- no job that is pending after these rows has its deadline in the stretch of time
 abbrev pub IsQuiet : List Task → List Row → Quiet → Type 0
-IsQuiet set h q = list_all (λ (x : Placed). is_outside q.after q.until (deadline set x.live)) (waiting set h) ≡ true
+IsQuiet set h q = list_all (λ (x : Placed). is_outside q.after q.until (deadline set x.kept)) (waiting set h) ≡ true

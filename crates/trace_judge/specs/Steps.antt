@@ -9,10 +9,10 @@ use Rattle.mc_model.specs.declared.verdict.Why.TheVariants.{TooSoon, WrongCount,
 use Rattle.mc_model.specs.TaskNumbers.{period_in, is_high_in}
 use Rattle.mc_model.specs.Key.{key_of}
 use Rattle.mc_model.specs.Legal.{first_of_parts}
-use Rattle.trace_judge.specs.declared.waiting.Pending.{Pending}
+use Rattle.trace_judge.specs.declared.pending_queues.Pending.{Pending}
 use Rattle.trace_judge.specs.declared.state.TaskNote.{TaskNote}
 use Rattle.trace_judge.specs.declared.state.State.{State}
-use Rattle.trace_judge.specs.Lates.{noted}
+use Rattle.trace_judge.specs.LateJobs.{noted}
 use Rattle.trace_judge.specs.Firsts.{change_first, remove_first}
 use Rattle.trace_judge.specs.Entries.{Entry, IsMore, is_of, spent_entry, late_job}
 use Rattle.trace_judge.specs.Rules.{is_due_at}
@@ -34,12 +34,12 @@ release_why now high note t j kept =
 -- the state before any row, for a set of n tasks
 pub record IsNew (count : ℕ) (s : State) : Type 0 where
   pub ticks : s.ticks ≡ 0
-  pub place : s.place ≡ 0
+  pub rows : s.rows ≡ 0
   pub mode : s.high_mode ≡ false
   pub tasks : s.tasks.items ≡ replicate count (record { releases = 0; next = 0 })
   pub waiting : s.waiting ≡ record { tasks = count; entries = [] }
-  pub count_zero : s.lates.count ≡ 0
-  pub first : s.lates.first ≡ None
+  pub count_zero : s.late_jobs.count ≡ 0
+  pub first : s.late_jobs.first ≡ None
 
 -- the job of this entry is added to the entries if it is kept
 abbrev pub Waits : Bool → Entry → List Entry → List Entry → Type 0
@@ -49,20 +49,20 @@ Waits false e old new = new ≡ old
 -- a release of a job of task t: the task's note is renewed, and the job is added to the pending ones if it is kept
 pub record Releases (rule : Rule) (t : Option Task) (j : JobId) (kept : Bool) (old new : State) : Type 0 where
   pub ticks : new.ticks ≡ old.ticks
-  pub place : new.place ≡ old.place + 1
+  pub rows : new.rows ≡ old.rows + 1
   pub mode : new.high_mode ≡ old.high_mode
   pub tasks : new.tasks.items ≡ slice_set old.tasks.items (j.task.0 - 1)
       (record { releases = j.count; next = old.ticks + period_in t })
   pub queues : new.waiting.tasks ≡ old.waiting.tasks
   pub waiting : Waits kept
-      ((key_of rule old.high_mode t old.ticks, j.task.0, j.count), record { release = old.ticks; used = 0; place = old.place })
+      ((key_of rule old.high_mode t old.ticks, j.task.0, j.count), record { release = old.ticks; used = 0; rows_before = old.rows })
       old.waiting.entries new.waiting.entries
-  pub lates : new.lates ≡ old.lates
+  pub late_jobs : new.late_jobs ≡ old.late_jobs
 
 -- n more ticks and n more rows
 pub record Moves (n : ℕ) (old new : State) : Type 0 where
   pub ticks : new.ticks ≡ old.ticks + n
-  pub place : new.place ≡ old.place + n
+  pub rows : new.rows ≡ old.rows + n
   pub tasks : new.tasks.items ≡ old.tasks.items
   pub queues : new.waiting.tasks ≡ old.waiting.tasks
 
@@ -71,18 +71,18 @@ pub record GoesOn (n : ℕ) (j : JobId) (old new : State) : Type 0 where
   pub moves : Moves n old new
   pub mode : new.high_mode ≡ old.high_mode
   pub waiting : new.waiting.entries ≡ change_first (is_of j) (spent_entry n) old.waiting.entries
-  pub lates : new.lates ≡ old.lates
+  pub late_jobs : new.late_jobs ≡ old.late_jobs
 
 -- the last tick of the job of task t: the job is taken out, and is late if its deadline came before this tick
 pub record Ends (t : Option Task) (j : JobId) (p : Pending) (old new : State) : Type 0 where
   pub moves : Moves 1 old new
   pub mode : new.high_mode ≡ old.high_mode
   pub waiting : new.waiting.entries ≡ remove_first (is_of j) old.waiting.entries
-  pub lates : new.lates ≡ cond (is_due_at t p.release old.ticks) (noted old.lates (late_job j p)) old.lates
+  pub late_jobs : new.late_jobs ≡ cond (is_due_at t p.release old.ticks) (noted old.late_jobs (late_job j p)) old.late_jobs
 
 -- n idle ticks
 pub record Rests (n : ℕ) (old new : State) : Type 0 where
   pub moves : Moves n old new
   pub mode : new.high_mode ≡ false
   pub waiting : new.waiting.entries ≡ old.waiting.entries
-  pub lates : new.lates ≡ old.lates
+  pub late_jobs : new.late_jobs ≡ old.late_jobs

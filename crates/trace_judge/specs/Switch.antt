@@ -6,10 +6,10 @@ use Rattle.mc_task.specs.declared.task.Task.{Task}
 use Rattle.mc_task.specs.TaskSet.{task_at}
 use Rattle.mc_model.specs.TaskNumbers.{is_high_in}
 use Rattle.mc_model.specs.Key.{key_of}
-use Rattle.trace_judge.specs.declared.waiting.Pending.{Pending}
-use Rattle.trace_judge.specs.declared.lates.Lates.{Lates}
+use Rattle.trace_judge.specs.declared.pending_queues.Pending.{Pending}
+use Rattle.trace_judge.specs.declared.late_jobs.LateJobs.{LateJobs}
 use Rattle.trace_judge.specs.declared.state.State.{State}
-use Rattle.trace_judge.specs.Lates.{noted}
+use Rattle.trace_judge.specs.LateJobs.{noted}
 use Rattle.mc_model.specs.Sums.{total}
 use Rattle.trace_judge.specs.Firsts.{change_first}
 use Rattle.trace_judge.specs.Entries.{Rank, Entry, is_of, spent_entry, late_job_of}
@@ -25,7 +25,7 @@ abbrev pub is_discarded_late : List Task → ℕ → Entry → Bool
 is_discarded_late set now e = not (is_high_in (task_at set e.0.1)) && is_due_entry set now e
 
 -- the late jobs, to which each entry that passes the test is added, one after the other
-abbrev pub noted_each : (Entry → Bool) → Lates → List Entry → Lates
+abbrev pub noted_each : (Entry → Bool) → LateJobs → List Entry → LateJobs
 noted_each p s [] = s
 noted_each p s (e ∷ es) = noted_each p (cond (p e) (noted s (late_job_of e)) s) es
 
@@ -50,4 +50,4 @@ pub record Overruns (set : List Task) (rule : Rule) (j : JobId) (old new : State
   pub switched : List Entry
   pub switches : Switches set rule old.waiting.entries switched
   pub waiting : new.waiting.entries ≡ change_first (is_of j) (spent_entry 1) switched
-  pub lates : new.lates ≡ noted_each (is_discarded_late set old.ticks) old.lates old.waiting.entries
+  pub late_jobs : new.late_jobs ≡ noted_each (is_discarded_late set old.ticks) old.late_jobs old.waiting.entries

@@ -10,28 +10,28 @@ use Rattle.mc_model.specs.Key.{key}
 use Rattle.mc_model.specs.Legal.{Legal, fault}
 use Rattle.mc_model.specs.Runs.{row_of, size, rows_of}
 use Rattle.trace_judge.specs.declared.step.Misfit.{Misfit}
-use Rattle.trace_judge.specs.declared.lates.LateJob.{LateJob}
+use Rattle.trace_judge.specs.declared.late_jobs.LateJob.{LateJob}
 use Rattle.trace_judge.specs.declared.state.State.{State}
 use Rattle.mc_model.specs.Sums.{total}
 use Rattle.trace_judge.specs.Placed.{Placed, waiting, gone_late}
-use Rattle.trace_judge.specs.Lates.{CountsLates}
+use Rattle.trace_judge.specs.LateJobs.{CountsLateJobs}
 use Rattle.trace_judge.specs.Entries.{Entry, HasQueues}
 
 -- the entry of a pending job after these rows
 abbrev pub entry_of : List Task → Rule → List Row → Placed → Entry
 entry_of set rule g x = (
-  (key set rule (high_mode rule g) x.live, x.live.job.task.0, x.live.job.count),
-  record { release = x.live.release; used = used g x.live.job; place = x.place },
+  (key set rule (high_mode rule g) x.kept, x.kept.job.task.0, x.kept.job.count),
+  record { release = x.kept.release; used = used g x.kept.job; rows_before = x.rows_before },
 )
 
 -- the kept release as a late job
 abbrev pub late_job_in : Placed → LateJob
-late_job_in x = record { place = x.place; job = x.live.job }
+late_job_in x = record { rows_before = x.rows_before; job = x.kept.job }
 
 -- the state agrees with the definitions on these rows
 pub record Tracks (set : List Task) (rule : Rule) (g : List Row) (s : State) : Type 0 where
   pub ticks : s.ticks ≡ ticks g
-  pub place : s.place ≡ length g
+  pub rows : s.rows ≡ length g
   pub mode : s.high_mode ≡ high_mode rule g
   pub count : length s.tasks.items ≡ length set
   pub tasks : (k : ℕ) → k < length set
@@ -39,7 +39,7 @@ pub record Tracks (set : List Task) (rule : Rule) (g : List Row) (s : State) : T
   pub queues : HasQueues s.waiting set
   pub waiting : (f : Entry → ℕ)
       → total f s.waiting.entries ≡ total (λ x. f (entry_of set rule g x)) (waiting set g)
-  pub lates : CountsLates s.lates (λ f. total (λ x. f (late_job_in x)) (gone_late set g))
+  pub late_jobs : CountsLateJobs s.late_jobs (λ f. total (λ x. f (late_job_in x)) (gone_late set g))
 
 -- the misfit is the first row of the run that does not fit, and the part of it that fails
 pub record StopsAt (set : List Task) (rule : Rule) (run : Run) (g : List Row) (misfit : Misfit) : Type 0 where

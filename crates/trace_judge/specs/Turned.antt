@@ -7,7 +7,7 @@ use Rattle.mc_model.specs.declared.row.Row.{Row}
 use Rattle.mc_model.specs.declared.run.Run.{Run}
 use Rattle.mc_model.specs.Rows.{ticks}
 use Rattle.mc_model.specs.Runs.{rows_of}
-use Rattle.mc_model.specs.Pending.{KeptRelease, is_live}
+use Rattle.mc_model.specs.Pending.{KeptRelease, is_still_pending}
 use Rattle.mc_model.specs.Late.{deadline, late}
 use Rattle.mc_model.specs.Sums.{total}
 use Rattle.trace_judge.specs.declared.turned.Turned.{Turned}
@@ -22,17 +22,17 @@ is_turned set since now i = nat_le (deadline set i) now && not (nat_le (deadline
 
 -- the pending jobs, each with the number of rows before its release
 abbrev pub pending_placed : List Task → List Row → List Placed
-pending_placed set h = filter (λ x. is_live set h x.live) (placed h)
+pending_placed set h = filter (λ x. is_still_pending set h x.kept) (placed h)
 
 -- the pending job with its deadline
 abbrev pub turned_job : List Task → Placed → Turned
-turned_job set x = record { job = x.live.job; deadline = deadline set x.live; rows_before = x.place }
+turned_job set x = record { job = x.kept.job; deadline = deadline set x.kept; rows_before = x.rows_before }
 
 -- the list has the pending jobs whose deadlines have come since that boundary, each of them once, with its deadline and the
 -- number of rows before its release: every sum of weights over the list is the sum over these jobs
 abbrev pub AreTurned : List Task → List Row → ℕ → List Turned → Type 0
 AreTurned set h since ts = (f : Turned → ℕ) → total f ts
-    ≡ total f (map (turned_job set) (filter (λ x. is_turned set since (ticks h) x.live) (pending_placed set h)))
+    ≡ total f (map (turned_job set) (filter (λ x. is_turned set since (ticks h) x.kept) (pending_placed set h)))
 
 -- job a has the earlier deadline of the two, or both have one deadline and a was released first
 abbrev pub comes_first : Turned → Turned → Bool
@@ -57,7 +57,7 @@ abbrev pub turned_entry : List Task → Entry → Turned
 turned_entry set e = record {
   job = record { task = record { 0 = e.0.1 }; count = e.0.2 };
   deadline = deadline_at set e;
-  rows_before = e.1.place;
+  rows_before = e.1.rows_before;
 }
 
 -- the jobs of those entries whose deadlines have come since that boundary

@@ -48,7 +48,7 @@ is_none (Some u) = false
 
 -- the number of rows that the monitor has seen and that fit
 abbrev pub seen : Watched → ℕ
-seen m = m.state.place
+seen m = m.state.rows
 
 -- whether each row so far fits
 abbrev pub fits_so_far : Watched → Bool

@@ -1,6 +1,6 @@
 //! The keys at the heads of the tasks' queues, in a tree in one array, as a winner tree (Knuth, The Art of Computer
-//! Programming, volume 3, section 5.4.1): the last half are the leaves, and place k holds the lesser of the keys at the
-//! places 2k and 2k + 1. Place 0 is not used.
+//! Programming, volume 3, section 5.4.1): the last half are the leaves, and node k has the lesser of the keys of the
+//! nodes 2k and 2k + 1. Node 0 is not used.
 ghost use Rattle.std.specs.Prelude.{◌≡◌, ◌+◌, ◌*◌, ◌/◌, ◌^◌, ◌<◌, ◌≤◌, ℕ, All, Contains, IfOk, length, drop, slice_index, slice_set, replicate};
 ghost use Rattle.trace_judge.specs.Heads.{no_key, IsTree, IsTreeBut, IsLowered};
 
@@ -73,7 +73,7 @@ fn no_keys(alloc: Global, count: usize) -> Result<Vec<u128>, AllocError>
     vec![in alloc; NO_KEY; 2 * count]
 }
 
-// Puts a key at a leaf, and mends the places above it.
+// Puts a key at a leaf, and updates the nodes above it.
 fn put(nodes: &mut [u128], leaf: usize, key: u128)
     requires even { length nodes.old ≡ 2 * (length nodes.old / 2) }
     requires leaf { leaf < length nodes.old / 2 }
@@ -82,12 +82,12 @@ fn put(nodes: &mut [u128], leaf: usize, key: u128)
     ensures tree { IsTree nodes.new }
     ensures leaves { drop (length nodes.old / 2) nodes.new ≡ slice_set (drop (length nodes.old / 2) nodes.old) leaf key }
 {
-    let place = nodes.len() / 2 + leaf;
-    nodes[place] = key;
-    climb(nodes, place);
+    let node = nodes.len() / 2 + leaf;
+    nodes[node] = key;
+    climb(nodes, node);
 }
 
-// Mends the places between a place that was changed and the root, as far up as a key changes.
+// Updates the nodes between a changed node and the root, as far up as a key changes.
 fn climb(nodes: &mut [u128], from: usize)
     requires pair { 2 * (from / 2) + 1 < length nodes.old }
     requires tree { IsTreeBut (from / 2) nodes.old }
@@ -106,7 +106,7 @@ fn climb(nodes: &mut [u128], from: usize)
     }
 }
 
-// Puts a key that is not greater than the present one at a leaf, and lowers the places above it.
+// Puts a key that is not greater than the present one at a leaf, and lowers the nodes above it.
 fn put_lesser(nodes: &mut [u128], leaf: usize, key: u128)
     requires even { length nodes.old ≡ 2 * (length nodes.old / 2) }
     requires leaf { leaf < length nodes.old / 2 }
@@ -116,13 +116,13 @@ fn put_lesser(nodes: &mut [u128], leaf: usize, key: u128)
     ensures tree { IsTree nodes.new }
     ensures leaves { drop (length nodes.old / 2) nodes.new ≡ slice_set (drop (length nodes.old / 2) nodes.old) leaf key }
 {
-    let place = nodes.len() / 2 + leaf;
-    nodes[place] = key;
-    lower_above(nodes, place, key);
+    let node = nodes.len() / 2 + leaf;
+    nodes[node] = key;
+    lower_above(nodes, node, key);
 }
 
-// Lowers the places between a place that was lowered to this key and the root, as far up as they hold a greater key. The
-// places beside them need not be read.
+// Lowers the nodes between a node that was lowered to this key and the root, as far up as they have a greater key.
+// Their siblings need not be read.
 fn lower_above(nodes: &mut [u128], from: usize, key: u128)
     requires pair { 2 * (from / 2) + 1 < length nodes.old }
     requires tree { IsTreeBut (from / 2) nodes.old }

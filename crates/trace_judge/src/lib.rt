@@ -2,8 +2,9 @@
 #![tactic(auto)]
 
 mod heads;
-mod lates;
+mod late_jobs;
 mod monitor;
+mod pending_queues;
 mod queue;
 mod rules;
 mod state;
@@ -11,7 +12,6 @@ mod step;
 mod turned;
 mod unfit;
 mod verdict;
-mod waiting;
 
 pub use monitor::{Monitor, ObserveFault};
 pub use turned::Turned;

@@ -13,7 +13,7 @@ ghost use Rattle.trace_judge.specs.Watched.{Watches, unfit_in, seen, fits_so_far
 ghost use Rattle.trace_judge.specs.Turned.{AreTurned, IsInOrder, AddLate};
 ghost use Rattle.trace_judge.specs.declared.monitor.ObserveFault.TheVariants as faults;
 
-use crate::lates::Lates;
+use crate::late_jobs::LateJobs;
 use crate::state::State;
 use crate::step::{Misfit, look, step};
 use crate::turned::{Quiet, Turned, turned_late};
@@ -107,8 +107,8 @@ impl Monitor {
         }
     }
 
-    /// Takes a valid run of the set for which there is room, and returns the first row so far that does not fit. Without
-    /// memory the monitor stays as it was.
+    /// Takes a valid run of the set, if there is capacity for its rows, and returns the first row so far that does not
+    /// fit. If memory runs out, the monitor is unchanged.
     pub fn follow(&mut self, alloc: Global, run: Run) -> Result<Option<Unfit>, Memory>
         requires task { IsRunOfSet self.old.set.tasks run }
         requires is_run { IsRun run }
@@ -123,7 +123,7 @@ impl Monitor {
         if let Some(unfit) = self.unfit {
             return Ok(Some(unfit));
         }
-        let before = self.state.place;
+        let before = self.state.rows;
         let now = self.state.ticks;
         match step(&mut self.state, alloc, &self.set, self.rule, run)? {
             None => {
@@ -154,7 +154,7 @@ impl Monitor {
         }
         match look(&self.state, &self.set, self.rule, run) {
             None => Ok(None),
-            Some(misfit) => Ok(Some(unfit_after(self.state.place, misfit))),
+            Some(misfit) => Ok(Some(unfit_after(self.state.rows, misfit))),
         }
     }
 
@@ -180,18 +180,18 @@ impl Monitor {
         Ok(())
     }
 
-    /// Whether there is room for the rows of the run.
+    /// Whether there is capacity for the rows of the run.
     pub fn has_room(&self, run: Run) -> bool
         ensures { result ≡ nat_le (seen self.now + size run) (2 ^ 62) }
     {
-        self.state.place <= MOST_ROWS && size_of(run) <= MOST_ROWS - self.state.place
+        self.state.rows <= MOST_ROWS && size_of(run) <= MOST_ROWS - self.state.rows
     }
 
     /// How many rows the monitor has seen that fit.
     pub fn seen(&self) -> u64
         ensures { result ≡ seen self.now }
     {
-        self.state.place
+        self.state.rows
     }
 
     /// Whether each row so far fits.
@@ -222,7 +222,7 @@ impl Monitor {
     pub fn pending(&self) -> u64
         ensures { (h : List Row) → Watches h self.now → fits_so_far self.now ≡ true → result ≡ length (pending self.now.set.tasks h) }
     {
-        let _rows = self.state.place;
+        let _rows = self.state.rows;
         self.state.waiting.count()
     }
 
@@ -255,14 +255,14 @@ impl Monitor {
         // Under a rule that holds for the set no job of a legal schedule is late.
         ensures no_late { (h : List Row) → Watches h self.now → Holds self.now.set.tasks self.now.rule → HasNoLate result }
     {
-        let _rows = self.state.place;
+        let _rows = self.state.rows;
         let _is_set = self.set.len();
         match self.unfit {
             Some(unfit) => Verdict::Illegal {
                 place: unfit.place,
                 why: unfit.why,
             },
-            None => legal(self.state.all_lates(&self.set)),
+            None => legal(self.state.all_late_jobs(&self.set)),
         }
     }
 }
@@ -279,15 +279,15 @@ pub fn unfit_after(before: u64, misfit: Misfit) -> Unfit
 }
 
 /// The verdict on rows that all fit.
-pub fn legal(lates: Lates) -> Verdict
-    ensures { result ≡ Legal lates.count (option_map (λ late. late.job) lates.first) }
+pub fn legal(late_jobs: LateJobs) -> Verdict
+    ensures { result ≡ Legal late_jobs.count (option_map (λ late. late.job) late_jobs.first) }
 {
-    let first = match lates.first {
+    let first = match late_jobs.first {
         None => None,
         Some(late) => Some(late.job),
     };
     Verdict::Legal {
-        late: lates.count,
+        late: late_jobs.count,
         first,
     }
 }

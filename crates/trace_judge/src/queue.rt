@@ -4,11 +4,11 @@ ghost use Rattle.std.specs.Prelude.{◌≡◌, ◌+◌, ◌<◌, ◌≤◌, ℕ,
 ghost use Rattle.std.specs.List.{list_any, insert, remove};
 ghost use Rattle.mc_model.specs.Sums.{total};
 ghost use Rattle.trace_judge.specs.Heads.{no_key};
-ghost use Rattle.trace_judge.specs.Queues.{has_count, head_key, spent_job, IsQueue, IsPlaceFor};
+ghost use Rattle.trace_judge.specs.Queues.{has_count, head_key, spent_job, IsQueue, IsPositionFor};
 ghost use Rattle.trace_judge.specs.Firsts.{change_first, remove_first, IsFirstAt};
 
 use crate::heads::NO_KEY;
-use crate::waiting::Pending;
+use crate::pending_queues::Pending;
 use mc_task::Memory;
 use std::alloc::{AllocError, Global};
 use std::collections::VecDeque;
@@ -61,9 +61,9 @@ impl Queue {
         ensures ordered { OnOk result (IsQueue self.new) }
         ensures unchanged { OnErr result (self.new ≡ self.old) }
     {
-        let place = place_for(&self.jobs, job.key);
-        put_at(&mut self.jobs, place, job)?;
-        Ok(place == 0)
+        let position = position_for(&self.jobs, job.key);
+        put_at(&mut self.jobs, position, job)?;
+        Ok(position == 0)
     }
 
     /// The key of the first job, which is the least.
@@ -80,8 +80,8 @@ impl Queue {
     pub fn find(&self, count: u32) -> Option<Queued>
         ensures { result ≡ find (has_count count) self.now }
     {
-        let place = place_of(&self.jobs, count)?;
-        Some(self.jobs[place])
+        let position = position_of(&self.jobs, count)?;
+        Some(self.jobs[position])
     }
 
     /// Counts `ticks` more ticks of the first job of this count.
@@ -89,9 +89,9 @@ impl Queue {
         ensures jobs { self.new ≡ change_first (has_count count) (spent_job ticks) self.old }
         ensures ordered { IsQueue self.new }
     {
-        if let Some(place) = place_of(&self.jobs, count) {
-            let used = self.jobs[place].pending.used;
-            self.jobs[place].pending.used = used.saturating_add(u64::from(ticks));
+        if let Some(position) = position_of(&self.jobs, count) {
+            let used = self.jobs[position].pending.used;
+            self.jobs[position].pending.used = used.saturating_add(u64::from(ticks));
         }
     }
 
@@ -101,8 +101,8 @@ impl Queue {
         ensures jobs { self.new ≡ remove_first (has_count count) self.old }
         ensures ordered { IsQueue self.new }
     {
-        if let Some(place) = place_of(&self.jobs, count) {
-            take_at(&mut self.jobs, place);
+        if let Some(position) = position_of(&self.jobs, count) {
+            take_at(&mut self.jobs, position);
         }
     }
 
@@ -124,29 +124,29 @@ impl Queue {
 
 // The index after the jobs whose keys are not greater. A task mostly has no other job, so that case is tried first.
 #[inline(always)]
-fn place_for(jobs: &VecDeque<Queued>, key: u128) -> usize
+fn position_for(jobs: &VecDeque<Queued>, key: u128) -> usize
     requires { IsQueue jobs.now.items }
-    ensures { IsPlaceFor jobs.now.items key result }
+    ensures { IsPositionFor jobs.now.items key result }
 {
     if jobs.is_empty() {
         return 0;
     }
-    let mut place = jobs.len();
-    while place > 0 && key < jobs[place - 1].key {
-        place -= 1;
+    let mut position = jobs.len();
+    while position > 0 && key < jobs[position - 1].key {
+        position -= 1;
     }
-    place
+    position
 }
 
 // Puts a job at this index, which is the last one for a job that was released after all others.
 #[inline(always)]
-fn put_at(jobs: &mut VecDeque<Queued>, place: usize, job: Queued) -> Result<(), AllocError>
-    requires { place ≤ length jobs.old.items }
-    ensures items { OnOk result (jobs.new.items ≡ insert jobs.old.items place job) }
+fn put_at(jobs: &mut VecDeque<Queued>, position: usize, job: Queued) -> Result<(), AllocError>
+    requires { position ≤ length jobs.old.items }
+    ensures items { OnOk result (jobs.new.items ≡ insert jobs.old.items position job) }
     ensures unchanged { OnErr result (jobs.new.items ≡ jobs.old.items) }
 {
-    if place < jobs.len() {
-        jobs.insert(place, job)?;
+    if position < jobs.len() {
+        jobs.insert(position, job)?;
     } else {
         jobs.push_back(job)?;
     }
@@ -155,12 +155,12 @@ fn put_at(jobs: &mut VecDeque<Queued>, place: usize, job: Queued) -> Result<(), 
 
 // Takes out the job at this index, which is the first one for a job that runs.
 #[inline(always)]
-fn take_at(jobs: &mut VecDeque<Queued>, place: usize)
-    requires { place < length jobs.old.items }
-    ensures { jobs.new.items ≡ remove jobs.old.items place }
+fn take_at(jobs: &mut VecDeque<Queued>, position: usize)
+    requires { position < length jobs.old.items }
+    ensures { jobs.new.items ≡ remove jobs.old.items position }
 {
-    if place > 0 {
-        let _ = jobs.remove(place);
+    if position > 0 {
+        let _ = jobs.remove(position);
         return;
     }
     let _ = jobs.pop_front();
@@ -168,16 +168,16 @@ fn take_at(jobs: &mut VecDeque<Queued>, place: usize)
 
 // The index of the first job of this count. Mostly it is the job that runs, so the front is tried first.
 #[inline(always)]
-fn place_of(jobs: &VecDeque<Queued>, count: u32) -> Option<usize>
+fn position_of(jobs: &VecDeque<Queued>, count: u32) -> Option<usize>
     ensures first { IfSome result (IsFirstAt (has_count count) jobs.now.items) }
     ensures none { IfNone result (list_any (has_count count) jobs.now.items ≡ false) }
 {
     if !jobs.is_empty() && count == jobs[0].count {
         return Some(0);
     }
-    for place in 0..jobs.len() {
-        if count == jobs[place].count {
-            return Some(place);
+    for position in 0..jobs.len() {
+        if count == jobs[position].count {
+            return Some(position);
         }
     }
     None

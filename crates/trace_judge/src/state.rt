@@ -9,9 +9,9 @@ ghost use Rattle.trace_judge.specs.Entries.{HasQueue, HasQueues, late_job};
 ghost use Rattle.trace_judge.specs.Steps.{IsNew, note_at, release_why, Releases, GoesOn, Ends, Rests};
 ghost use Rattle.trace_judge.specs.Switch.{rekeyed, Switches, Overruns, noted_each, is_due_entry, is_discarded_late};
 
-use crate::lates::{LateJob, Lates};
+use crate::late_jobs::{LateJob, LateJobs};
+use crate::pending_queues::{Pending, PendingQueues, Rank};
 use crate::rules::{is_due, key_at};
-use crate::waiting::{Pending, Rank, Waiting};
 use mc_model::Why;
 use mc_task::{JobId, Memory, Rule, Task, TaskNo, TaskSet};
 use std::alloc::Global;
@@ -28,11 +28,11 @@ pub struct TaskNote {
 #[derive(Drop)]
 pub struct State {
     pub ticks: u64,
-    pub place: u64,
+    pub rows: u64,
     pub high_mode: bool,
     pub tasks: Vec<TaskNote>,
-    pub waiting: Waiting,
-    pub lates: Lates,
+    pub waiting: PendingQueues,
+    pub late_jobs: LateJobs,
 }
 
 impl State {
@@ -48,11 +48,11 @@ impl State {
         let tasks = vec![in alloc; no_release; count as usize]?;
         Ok(State {
             ticks: 0,
-            place: 0,
+            rows: 0,
             high_mode: false,
             tasks,
-            waiting: Waiting::new(alloc, count)?,
-            lates: Lates {
+            waiting: PendingQueues::new(alloc, count)?,
+            late_jobs: LateJobs {
                 count: 0,
                 first: None,
             },
@@ -84,7 +84,7 @@ impl State {
         requires first { 1 ≤ job.task.0 }
         requires last { job.task.0 ≤ length self.old.tasks.items }
         requires queue { HasQueue self.old.waiting job.task.0 }
-        requires room { self.old.place < 2 ^ 62 }
+        requires room { self.old.rows < 2 ^ 62 }
         requires time { self.old.ticks < 2 ^ 62 }
         ensures follows { OnOk result (Releases rule (Some task.now) job kept self.old self.new) }
         ensures unchanged { OnErr result (self.new ≡ self.old) }
@@ -94,7 +94,7 @@ impl State {
             let pending = Pending {
                 release: self.ticks,
                 used: 0,
-                place: self.place,
+                rows_before: self.rows,
             };
             self.waiting.put((key, job.task.0, job.count), pending)?;
         }
@@ -102,31 +102,31 @@ impl State {
             releases: job.count,
             next: self.ticks + u64::from(task.period),
         };
-        self.place += 1;
+        self.rows += 1;
         Ok(())
     }
 
     /// Follows `length` idle ticks.
     pub fn rest(&mut self, length: u32)
-        requires room { self.old.place + length ≤ 2 ^ 62 }
+        requires room { self.old.rows + length ≤ 2 ^ 62 }
         requires time { self.old.ticks + length ≤ 2 ^ 62 }
         ensures { Rests length self.old self.new }
     {
         self.ticks += u64::from(length);
-        self.place += u64::from(length);
+        self.rows += u64::from(length);
         self.high_mode = false;
     }
 
     /// Follows `length` ticks after which the job goes on. No job ends or is discarded at these ticks, so none is noted as late.
     pub fn go_on(&mut self, job: JobId, length: u32)
         requires queue { HasQueue self.old.waiting job.task.0 }
-        requires room { self.old.place + length ≤ 2 ^ 62 }
+        requires room { self.old.rows + length ≤ 2 ^ 62 }
         requires time { self.old.ticks + length ≤ 2 ^ 62 }
         ensures { GoesOn length job self.old self.new }
     {
         self.waiting.spend(job, length);
         self.ticks += u64::from(length);
-        self.place += u64::from(length);
+        self.rows += u64::from(length);
     }
 
     /// Follows the last tick of a job, which is late if its deadline came before this tick.
@@ -134,16 +134,16 @@ impl State {
     #[inline(always)]
     pub fn end(&mut self, task: &Task, job: JobId, pending: Pending)
         requires queue { HasQueue self.old.waiting job.task.0 }
-        requires room { self.old.place < 2 ^ 62 }
+        requires room { self.old.rows < 2 ^ 62 }
         requires time { self.old.ticks < 2 ^ 62 }
         ensures { Ends (Some task.now) job pending self.old self.new }
     {
         self.waiting.take_out(job);
         if is_due(task, pending.release, self.ticks) {
-            self.lates.note(late_job(job, pending));
+            self.late_jobs.note(late_job(job, pending));
         }
         self.ticks += 1;
-        self.place += 1;
+        self.rows += 1;
     }
 
     /// Follows an overrun.
@@ -157,57 +157,62 @@ impl State {
         requires fits { Fits rule }
         requires task { IsIn set.now.tasks job.task.0 }
         requires queues { HasQueues self.old.waiting set.now.tasks }
-        requires room { self.old.place < 2 ^ 62 }
+        requires room { self.old.rows < 2 ^ 62 }
         requires time { self.old.ticks < 2 ^ 62 }
         ensures follows { OnOk result (Overruns set.now.tasks rule job self.old self.new) }
         ensures unchanged { OnErr result (self.new ≡ self.old) }
     {
-        let (waiting, lates) = self.switched(alloc, set, rule)?;
+        let (waiting, late_jobs) = self.switched(alloc, set, rule)?;
         self.waiting = waiting;
-        self.lates = lates;
+        self.late_jobs = late_jobs;
         self.waiting.spend(job, 1);
         self.high_mode = true;
         self.ticks += 1;
-        self.place += 1;
+        self.rows += 1;
         Ok(())
     }
 
     // The pending jobs and the late ones after an overrun at this tick. High jobs get their keys of high mode. Low jobs are
     // discarded, and one whose deadline came before this tick is late.
-    fn switched(&self, alloc: Global, set: &TaskSet, rule: Rule) -> Result<(Waiting, Lates), Memory>
+    fn switched(
+        &self,
+        alloc: Global,
+        set: &TaskSet,
+        rule: Rule,
+    ) -> Result<(PendingQueues, LateJobs), Memory>
         requires { Fits rule }
         ensures queues { IfOk result (λ r. HasQueues r.0 set.now.tasks) }
         ensures waiting { IfOk result (λ r. Switches set.now.tasks rule self.now.waiting.entries r.0.entries) }
-        ensures lates { IfOk result (λ r. r.1 ≡ noted_each (is_discarded_late set.now.tasks self.now.ticks) self.now.lates self.now.waiting.entries) }
+        ensures late_jobs { IfOk result (λ r. r.1 ≡ noted_each (is_discarded_late set.now.tasks self.now.ticks) self.now.late_jobs self.now.waiting.entries) }
     {
-        let mut waiting = Waiting::new(alloc, set.len())?;
-        let mut lates = self.lates;
-        let mut rest = self.waiting.rest();
-        while let Some((at, pending)) = rest.pop() {
+        let mut waiting = PendingQueues::new(alloc, set.len())?;
+        let mut late_jobs = self.late_jobs;
+        let mut remaining = self.waiting.remaining();
+        while let Some((at, pending)) = remaining.pop() {
             let task = set.get(TaskNo(at.1));
             if is_high_task(&task) {
                 let at = rekeyed(rule, &task, at, pending);
                 waiting.put(at, pending)?;
             } else if is_due_task(&task, pending.release, self.ticks) {
-                lates.note(late_job(job_at(at), pending));
+                late_jobs.note(late_job(job_at(at), pending));
             }
         }
-        Ok((waiting, lates))
+        Ok((waiting, late_jobs))
     }
 
     /// The late jobs so far: those that ended or were discarded late, and the pending ones whose deadlines have come.
-    pub fn all_lates(&self, set: &TaskSet) -> Lates
-        ensures { result ≡ noted_each (is_due_entry set.now.tasks self.now.ticks) self.now.lates self.now.waiting.entries }
+    pub fn all_late_jobs(&self, set: &TaskSet) -> LateJobs
+        ensures { result ≡ noted_each (is_due_entry set.now.tasks self.now.ticks) self.now.late_jobs self.now.waiting.entries }
     {
-        let mut lates = self.lates;
-        let mut rest = self.waiting.rest();
-        while let Some((at, pending)) = rest.pop() {
+        let mut late_jobs = self.late_jobs;
+        let mut remaining = self.waiting.remaining();
+        while let Some((at, pending)) = remaining.pop() {
             let task = set.get(TaskNo(at.1));
             if is_due_task(&task, pending.release, self.ticks) {
-                lates.note(late_job(job_at(at), pending));
+                late_jobs.note(late_job(job_at(at), pending));
             }
         }
-        lates
+        late_jobs
     }
 }
 
@@ -226,7 +231,7 @@ fn late_job(job: JobId, pending: Pending) -> LateJob
     ensures { result ≡ late_job job pending }
 {
     LateJob {
-        place: pending.place,
+        rows_before: pending.rows_before,
         job,
     }
 }

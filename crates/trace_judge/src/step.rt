@@ -9,11 +9,11 @@ ghost use Rattle.mc_model.specs.declared.run.Run.TheVariants as run;
 ghost use Rattle.trace_judge.specs.Entries.{HasQueues, Stands};
 ghost use Rattle.trace_judge.specs.Rules.{fitting};
 ghost use Rattle.trace_judge.specs.Tracks.{IsStep, Looks};
-ghost use Rattle.trace_judge.specs.declared.waiting.Standing.TheVariants as standing;
+ghost use Rattle.trace_judge.specs.declared.pending_queues.Standing.TheVariants as standing;
 
+use crate::pending_queues::{Pending, Standing};
 use crate::rules::fitting;
 use crate::state::State;
-use crate::waiting::{Pending, Standing};
 use mc_model::{How, Run, Why};
 use mc_task::{JobId, Memory, Rule, Task, TaskNo, TaskSet};
 use std::alloc::Global;
@@ -55,7 +55,7 @@ pub fn step(
     requires is_run { IsRun run }
     requires count { length state.old.tasks.items ≡ length set.now.tasks }
     requires queues { HasQueues state.old.waiting set.now.tasks }
-    requires room { state.old.place + size run ≤ 2 ^ 62 }
+    requires room { state.old.rows + size run ≤ 2 ^ 62 }
     requires time { state.old.ticks + size run ≤ 2 ^ 62 }
     ensures step { IfOk result (λ misfit. IsStep set.now.tasks rule run state.old misfit state.new) }
     ensures misfit { IfOk result (λ misfit. IsSome misfit → state.new ≡ state.old) }
@@ -104,7 +104,7 @@ fn release(
     requires task { IsRunOfSet set.now.tasks (run.Release job kept) }
     requires count { length state.old.tasks.items ≡ length set.now.tasks }
     requires queues { HasQueues state.old.waiting set.now.tasks }
-    requires room { state.old.place + 1 ≤ 2 ^ 62 }
+    requires room { state.old.rows + 1 ≤ 2 ^ 62 }
     requires time { state.old.ticks + 1 ≤ 2 ^ 62 }
     ensures step { IfOk result (λ misfit. IsStep set.now.tasks rule (run.Release job kept) state.old misfit state.new) }
     ensures misfit { IfOk result (λ misfit. IsSome misfit → state.new ≡ state.old) }
@@ -143,7 +143,7 @@ fn tick(
     requires task { IsRunOfSet set.now.tasks (run.Ticks ticks.job ticks.how ticks.length) }
     requires is_run { IsRun (run.Ticks ticks.job ticks.how ticks.length) }
     requires queues { HasQueues state.old.waiting set.now.tasks }
-    requires room { state.old.place + ticks.length ≤ 2 ^ 62 }
+    requires room { state.old.rows + ticks.length ≤ 2 ^ 62 }
     requires time { state.old.ticks + ticks.length ≤ 2 ^ 62 }
     ensures step { IfOk result (λ misfit. IsStep set.now.tasks rule (run.Ticks ticks.job ticks.how ticks.length) state.old misfit state.new) }
     ensures misfit { IfOk result (λ misfit. IsSome misfit → state.new ≡ state.old) }
@@ -211,7 +211,7 @@ fn follow_ticks(
     requires at { task_at set.now.tasks ticks.job.task.0 ≡ Some task.now }
     requires is_run { IsRun (run.Ticks ticks.job ticks.how ticks.length) }
     requires queues { HasQueues state.old.waiting set.now.tasks }
-    requires room { state.old.place + ticks.length ≤ 2 ^ 62 }
+    requires room { state.old.rows + ticks.length ≤ 2 ^ 62 }
     requires time { state.old.ticks + ticks.length ≤ 2 ^ 62 }
     requires least { Stands state.old.waiting.entries ticks.job (standing.Least pending) }
     requires fitting { ticks.length ≤ fitting rule state.old.high_mode (Some task.now) pending.used ticks.how ticks.length }
@@ -231,7 +231,7 @@ fn follow_ticks(
 // Follows idle ticks, if they fit. They all fit if the first of them does.
 fn idle(state: &mut State, set: &TaskSet, rule: Rule, length: u32) -> Option<Misfit>
     requires is_run { IsRun (run.Idles length) }
-    requires room { state.old.place + length ≤ 2 ^ 62 }
+    requires room { state.old.rows + length ≤ 2 ^ 62 }
     requires time { state.old.ticks + length ≤ 2 ^ 62 }
     ensures step { IsStep set.now.tasks rule (run.Idles length) state.old result state.new }
     ensures misfit { IsSome result → state.new ≡ state.old }

@@ -97,8 +97,8 @@ fn gathered(
 {
     let mut turned = Vec::new(alloc);
     let mut until = u64::MAX;
-    let mut rest = state.waiting.rest();
-    while let Some((at, pending)) = rest.pop() {
+    let mut remaining = state.waiting.remaining();
+    while let Some((at, pending)) = remaining.pop() {
         let task = set.get(TaskNo(at.1));
         let deadline = deadline_of(&task, pending.release);
         if !is_due_task(&task, pending.release, state.ticks) {
@@ -107,7 +107,7 @@ fn gathered(
             turned.push(Turned {
                 job: job_at(at),
                 deadline,
-                rows_before: pending.place,
+                rows_before: pending.rows_before,
             })?;
         }
     }

@@ -29,12 +29,12 @@ pub fn judge(alloc: Global, set: &TaskSet, rule: Rule, runs: &[Run]) -> Result<V
 {
     let mut state = State::new(alloc, set.len())?;
     for run in runs {
-        let before = state.place;
+        let before = state.rows;
         if let Some(misfit) = step(&mut state, alloc, set, rule, *run)? {
             return Ok(illegal(unfit_after(before, misfit)));
         }
     }
-    Ok(legal(state.all_lates(set)))
+    Ok(legal(state.all_late_jobs(set)))
 }
 
 // The verdict where this row is the first that does not fit.

@@ -262,7 +262,7 @@ const FIRST_MISFITS: [(&str, Verdict); 15] = [
 ];
 
 #[test]
-fn the_first_row_that_does_not_fit_is_told(rt: HostRuntime) -> Result<(), Fail> {
+fn the_first_row_that_does_not_fit_is_reported(rt: HostRuntime) -> Result<(), Fail> {
     assert_eq!(rt;
         first_wrong(rt.alloc(), &CONTROL, SCALED, &FIRST_MISFITS)?,
         None
@@ -417,7 +417,7 @@ const WITHIN_RUNS: [(&str, Verdict); 11] = [
 ];
 
 #[test]
-fn the_row_within_a_run_is_told(rt: HostRuntime) -> Result<(), Fail> {
+fn the_row_within_a_run_is_reported(rt: HostRuntime) -> Result<(), Fail> {
     assert_eq!(rt;
         first_wrong(rt.alloc(), &CONTROL, SCALED, &WITHIN_RUNS)?,
         None
@@ -469,7 +469,7 @@ const BACK_IN_LOW_MODE: [(&str, Verdict); 3] = [
 ];
 
 #[test]
-fn the_mode_is_low_behind_an_idle_run(rt: HostRuntime) -> Result<(), Fail> {
+fn the_mode_is_low_after_an_idle_run(rt: HostRuntime) -> Result<(), Fail> {
     assert_eq!(rt;
         first_wrong(rt.alloc(), &CONTROL, SCALED, &BACK_IN_LOW_MODE)?,
         None

@@ -65,7 +65,7 @@ ticks 4 idle 1 switches 1
 
 // A job that needs 5 ticks and is stopped, and then a job that is done at once.
 #[test]
-fn the_greatest_response_is_told(rt: HostRuntime) -> Result<(), Fail> {
+fn the_greatest_response_is_reported(rt: HostRuntime) -> Result<(), Fail> {
     let alloc = rt.alloc();
     let set = set_of(alloc, &LONG_NAME)?;
     let runs = [

@@ -19,24 +19,24 @@ module _ {S E F : Type 0} where
 module _ {S E F : Type 0} {kept : Ghosts S E F} where
   -- the number of a seat
   abbrev pub number : Seat S E F kept → ℕ
-  number s = s.place.me.0.number
+  number s = s.table_seat.me.0.number
 
   -- the history that the seat saw, up to the end of its last turn
   abbrev pub seen : Seat S E F kept → List E
-  seen s = s.place.me.0.seen
+  seen s = s.table_seat.me.0.seen
 
   -- the entries that the seat made, in order
   abbrev pub mine : Seat S E F kept → List E
-  mine s = s.place.me.0.mine
+  mine s = s.table_seat.me.0.mine
 
   -- the seat is one of this turnstile
   abbrev pub IsOf : Turnstile S E F → Seat S E F kept → Type 0
-  IsOf t s = (s.place.table_id ≡ t.board.shared.table_id)
-      × (s.place.me.0.fixed ≡ Some (fixed_part kept.fixed t))
+  IsOf t s = (s.table_seat.table_id ≡ t.board.shared.table_id)
+      × (s.table_seat.me.0.fixed ≡ Some (fixed_part kept.fixed t))
 
   -- the history that the state stood for when the turn began
   abbrev pub history : Turn S E F kept → List E
-  history t = t.claim.place.me.0.seen
+  history t = t.claim.table_seat.me.0.seen
 
   -- the state at this moment of the turn
   abbrev pub state_of : Turn S E F kept → S
@@ -44,16 +44,16 @@ module _ {S E F : Type 0} {kept : Ghosts S E F} where
 
   -- the number of the seat that has the turn
   abbrev pub turn_number : Turn S E F kept → ℕ
-  turn_number t = t.claim.place.me.0.number
+  turn_number t = t.claim.table_seat.me.0.number
 
   -- the entries that the seat of the turn made before
   abbrev pub turn_mine : Turn S E F kept → List E
-  turn_mine t = t.claim.place.me.0.mine
+  turn_mine t = t.claim.table_seat.me.0.mine
 
   -- the turn is one at this turnstile
   abbrev pub IsTurnOf : Turnstile S E F → Turn S E F kept → Type 0
-  IsTurnOf t turn = (turn.claim.place.table_id ≡ t.board.shared.table_id)
-      × (turn.claim.place.me.0.fixed ≡ Some (fixed_part kept.fixed t))
+  IsTurnOf t turn = (turn.claim.table_seat.table_id ≡ t.board.shared.table_id)
+      × (turn.claim.table_seat.me.0.fixed ≡ Some (fixed_part kept.fixed t))
 
   -- a seat with this number that has taken no turn
   abbrev pub IsFresh : ℕ → Seat S E F kept → Type 0

@@ -1,14 +1,14 @@
 -- What a seat learns from a step that it makes on a word.
 use Rattle.std.specs.Prelude.{◌≡◌, ◌≢◌, ℕ, ◌%◌, ◌^◌, List, [], ◌∷◌, Option, Some, None, true, false}
 use Rattle.atomic_table.specs.Table.{Me, Step}
-use Rattle.turnstile.specs.declared.board.View.{View}
+use Rattle.turnstile.specs.declared.board.SeatView.{SeatView}
 use Rattle.turnstile.specs.declared.kept.Kept.{Ghosts}
 use Rattle.turnstile.specs.History.{StartsWith, made_by}
 use Rattle.turnstile.specs.Views.{drawn_view, served_view, left_view}
 
 -- a seat's view, and the slots that it has taken
 abbrev pub Standing : Type 0 → Type 0 → Type 0 → Type 0
-Standing S E F = Me (Option S) (View E F)
+Standing S E F = Me (Option S) (SeatView E F)
 
 module _ {S E F : Type 0} where
   -- a seat between two turns

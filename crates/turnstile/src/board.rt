@@ -15,7 +15,7 @@ pub struct Report<E> {
 }
 
 /// What a seat knows. No value of this type is ever made.
-pub struct View<E, F> {
+pub struct SeatView<E, F> {
     /// The seat's number.
     pub number: u64,
     /// Whether the seat was not joined into another.
@@ -50,11 +50,11 @@ pub struct Opening<S> {
 }
 
 /// The rule that each step keeps.
-pub struct Rules<S> {
+pub struct TicketRule<S> {
     marker: PhantomData<S>,
 }
 
-impl<S: Kept> TableRule<Option<S>, View<S::Entry, S::Fixed>, Opening<S>> for Rules<S> {
+impl<S: Kept> TableRule<Option<S>, SeatView<S::Entry, S::Fixed>, Opening<S>> for TicketRule<S> {
     ghost use Rattle.turnstile.specs.Rule.{Orderly};
     ghost use Rattle.turnstile.specs.Views.{newest_view};
 
@@ -64,13 +64,16 @@ impl<S: Kept> TableRule<Option<S>, View<S::Entry, S::Fixed>, Opening<S>> for Rul
 }
 
 /// The table of a turnstile.
-pub type Board<S> = Table<
+pub type TicketTable<S> = Table<
     Option<S>,
-    View<<S as Kept>::Entry, <S as Kept>::Fixed>,
+    SeatView<<S as Kept>::Entry, <S as Kept>::Fixed>,
     Opening<S>,
-    Rules<S>,
+    TicketRule<S>,
     Global,
 >;
 
 /// A seat at the table, with which a thread makes steps.
-pub type Place<S> = atomic_table::Seat<Option<S>, View<<S as Kept>::Entry, <S as Kept>::Fixed>>;
+pub type TableSeat<S> = atomic_table::Seat<
+    Option<S>,
+    SeatView<<S as Kept>::Entry, <S as Kept>::Fixed>,
+>;

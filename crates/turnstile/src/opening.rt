@@ -4,9 +4,9 @@ ghost use Rattle.turnstile.specs.Views.{newest_view};
 ghost use Rattle.turnstile.specs.Seats.{IsOf, seats_of, fixed_part, AreFresh};
 ghost use Rattle.turnstile.specs.declared.opening.NewFault.TheVariants.{Memory};
 
-use crate::board::{Opening, Place};
+use crate::board::{Opening, TableSeat};
 use crate::kept::Kept;
-use crate::plays::OneMore;
+use crate::plays::SplitSeat;
 use crate::tokens::Seat;
 use crate::turns::Turnstile;
 use atomic_table::{Refused, Table};
@@ -43,17 +43,21 @@ impl<S: Kept> Turnstile<S> {
         let Ok(mut list) = Vec::with_capacity(alloc, seats as usize) else {
             return Err(NewFault::Memory(state));
         };
-        let (turnstile, place) = Turnstile::set_up(alloc, state, seats)?;
-        turnstile.seat_all(place, seats, &mut list);
+        let (turnstile, table_seat) = Turnstile::set_up(alloc, state, seats)?;
+        turnstile.seat_all(table_seat, seats, &mut list);
         Ok((turnstile, list))
     }
 
     // The turnstile, and the table's seat of its first seat.
-    fn set_up(alloc: Global, state: S, seats: u32) -> Result<(Turnstile<S>, Place<S>), NewFault<S>>
+    fn set_up(
+        alloc: Global,
+        state: S,
+        seats: u32,
+    ) -> Result<(Turnstile<S>, TableSeat<S>), NewFault<S>>
         requires seats { (0 < seats) × (seats ≤ 128) }
         requires stands { S.stands 0 [] state }
         ensures turnstile { IfOk result (λ r. (fixed_part S.fixed r.0 ≡ S.fixed state) × (seats_of r.0 ≡ seats)) }
-        ensures place { IfOk result (λ r. (r.1.table_id ≡ r.0.board.shared.table_id) × (r.1.me ≡ (newest_view (S.fixed state) seats 0, []))) }
+        ensures table_seat { IfOk result (λ r. (r.1.table_id ≡ r.0.board.shared.table_id) × (r.1.me ≡ (newest_view (S.fixed state) seats 0, []))) }
         ensures memory { IfErr result (λ e. e ≡ Memory state) }
     {
         let Ok(mut slots) = Vec::with_capacity(alloc, 1) else {
@@ -65,33 +69,33 @@ impl<S: Kept> Turnstile<S> {
         };
         slots.push_reserved(Some(state));
         match Table::new(alloc, &[0, 0], slots, &about) {
-            Ok((board, place)) => Ok((
+            Ok((board, table_seat)) => Ok((
                 Turnstile {
                     board,
                     parkers: array::from_fn(|_| Parker::new()),
                     resting: AtomicU64::new(0),
                 },
-                place,
+                table_seat,
             )),
             Err(Refused { slots }) => Err(NewFault::Memory(given_back(slots))),
         }
     }
 
     // Makes a seat of each number, each by splitting the one before it.
-    fn seat_all(&self, place: Place<S>, seats: u32, list: &mut Vec<Seat<S>>)
-        requires table { place.table_id ≡ self.now.board.shared.table_id }
-        requires place { place.me ≡ (newest_view (fixed_part S.fixed self.now) seats 0, []) }
+    fn seat_all(&self, table_seat: TableSeat<S>, seats: u32, list: &mut Vec<Seat<S>>)
+        requires table { table_seat.table_id ≡ self.now.board.shared.table_id }
+        requires table_seat { table_seat.me ≡ (newest_view (fixed_part S.fixed self.now) seats 0, []) }
         requires room { (list.old.items ≡ []) × (seats ≤ vec_capacity list.old) × (0 < seats) }
         ensures seats { (vec_len list.new ≡ seats) × AreFresh list.new.items × All (λ s. IsOf self.now s) list.new.items }
         ensures room { vec_capacity list.new ≡ vec_capacity list.old }
     {
-        let mut place = place;
+        let mut table_seat = table_seat;
         for i in 1..seats {
-            let next = self.board.shared.split_seat::<OneMore>(&mut place);
-            list.push_reserved(Seat::of(place));
-            place = next;
+            let next = self.board.shared.split_seat::<SplitSeat>(&mut table_seat);
+            list.push_reserved(Seat::of(table_seat));
+            table_seat = next;
         }
-        list.push_reserved(Seat::of(place));
+        list.push_reserved(Seat::of(table_seat));
     }
 }
 

@@ -2,7 +2,7 @@
 ghost use Rattle.std.specs.Prelude.{◌≡◌};
 ghost use Rattle.turnstile.specs.Steps.{IsIdle, IsServed};
 
-use crate::board::Place;
+use crate::board::TableSeat;
 use crate::kept::Kept;
 use crate::turns::Turnstile;
 use std::marker::PhantomData;
@@ -11,14 +11,14 @@ use std::marker::PhantomData;
 /// of the history, and `mine`, the entries that this seat made. It has no bytes. If a seat is dropped, its turnstile
 /// cannot be closed.
 pub struct Seat<S: Kept> {
-    pub(crate) place: Place<S>,
-    ghost idle: { IsIdle place.me },
+    pub(crate) table_seat: TableSeat<S>,
+    ghost idle: { IsIdle table_seat.me },
 }
 
 // A seat that has the turn. It is separate from the state, so that the state can be lent without it.
 pub(crate) struct Claim<S: Kept> {
-    pub(crate) place: Place<S>,
-    ghost served: { IsServed place.me },
+    pub(crate) table_seat: TableSeat<S>,
+    ghost served: { IsServed table_seat.me },
 }
 
 /// A turn: the state, taken out of its turnstile, and the seat. Only `Turnstile::leave` ends it.
@@ -30,23 +30,23 @@ pub struct Turn<'a, S: Kept> {
 
 impl<S: Kept> Drop for Seat<S> {
     fn drop(self) {
-        let Seat { place: _ } = self;
+        let Seat { table_seat: _ } = self;
     }
 }
 
 impl<S: Kept> Seat<S> {
-    pub(crate) fn of(place: Place<S>) -> Seat<S>
-        requires { IsIdle place.me }
-        ensures { result.place ≡ place }
+    pub(crate) fn of(table_seat: TableSeat<S>) -> Seat<S>
+        requires { IsIdle table_seat.me }
+        ensures { result.table_seat ≡ table_seat }
     {
-        Seat { place }
+        Seat { table_seat }
     }
 
-    pub(crate) fn into_place(self) -> Place<S>
-        ensures { (result ≡ self.place) × IsIdle result.me }
+    pub(crate) fn into_table_seat(self) -> TableSeat<S>
+        ensures { (result ≡ self.table_seat) × IsIdle result.me }
     {
-        let Seat { place } = self;
-        place
+        let Seat { table_seat } = self;
+        table_seat
     }
 }
 

@@ -4,9 +4,9 @@ ghost use Rattle.turnstile.specs.History.{StartsWith, made_by};
 ghost use Rattle.turnstile.specs.Views.{drawn_view};
 ghost use Rattle.turnstile.specs.Steps.{IsIdle, IsWaiting, Serves};
 
-use crate::board::{Board, Place};
+use crate::board::{TableSeat, TicketTable};
 use crate::kept::{Added, Kept};
-use crate::plays::{Draw, Look, PassOn};
+use crate::plays::{Draw, LookAtServing, PassOn};
 use crate::tokens::{Claim, Seat, Turn};
 use crossbeam_utils::Backoff;
 use std::marker::PhantomData;
@@ -30,7 +30,7 @@ const SPINS: u32 = 10;
 
 /// A state that threads take in ticket order. Only `close` ends it.
 pub struct Turnstile<S: Kept> {
-    pub(crate) board: Board<S>,
+    pub(crate) board: TicketTable<S>,
     // Threads whose tickets are not served rest here, each at the parker of its ticket. A late wake-up costs only time.
     pub(crate) parkers: [Parker; PLACES],
     // How many threads rest, or are about to.
@@ -58,18 +58,18 @@ impl<S: Kept> Turnstile<S> {
         ensures stands { S.stands 0 (history result) (state_of result) }
         ensures fixed { S.fixed (state_of result) ≡ fixed_part S.fixed self.now }
     {
-        let mut place = seat.into_place();
-        let ticket = self.draw(&mut place);
+        let mut table_seat = seat.into_table_seat();
+        let ticket = self.draw(&mut table_seat);
         let backoff = Backoff::new();
         let mut spun = 0;
         let mut rests = false;
         for _ in rt.forever() {
-            if let Some(state) = self.look(&mut place, ticket) {
+            if let Some(state) = self.look(&mut table_seat, ticket) {
                 if rests {
                     self.resting.fetch_sub(1, SeqCst);
                 }
                 return Turn {
-                    claim: Claim { place },
+                    claim: Claim { table_seat },
                     state,
                     of: PhantomData,
                 };
@@ -106,39 +106,39 @@ impl<S: Kept> Turnstile<S> {
             state,
             of: _,
         } = turn;
-        let Claim { mut place } = claim;
+        let Claim { mut table_seat } = claim;
         let shared = &self.board.shared;
-        let empty = shared.exchange(&mut place, 0, Some(state));
+        let empty = shared.exchange(&mut table_seat, 0, Some(state));
         let None = empty else { unreachable!() };
-        let served = shared.fetch_add::<PassOn<E>>(&mut place, SERVING, 1);
+        let served = shared.fetch_add::<PassOn<E>>(&mut table_seat, SERVING, 1);
         self.wake(served.wrapping_add(1));
-        Seat::of(place)
+        Seat::of(table_seat)
     }
 
     // Draws a ticket.
-    fn draw(&self, place: &mut Place<S>) -> u64
-        requires table { place.old.table_id ≡ self.now.board.shared.table_id }
-        requires idle { IsIdle place.old.me }
-        ensures table { place.new.table_id ≡ place.old.table_id }
-        ensures waits { IsWaiting place.new.me }
-        ensures drawn { place.new.me ≡ (drawn_view place.old.me.0 place.new.me.0.ticket, []) }
-        ensures ticket { place.new.me.0.ticket % 2 ^ 64 ≡ result }
+    fn draw(&self, table_seat: &mut TableSeat<S>) -> u64
+        requires table { table_seat.old.table_id ≡ self.now.board.shared.table_id }
+        requires idle { IsIdle table_seat.old.me }
+        ensures table { table_seat.new.table_id ≡ table_seat.old.table_id }
+        ensures waits { IsWaiting table_seat.new.me }
+        ensures drawn { table_seat.new.me ≡ (drawn_view table_seat.old.me.0 table_seat.new.me.0.ticket, []) }
+        ensures ticket { table_seat.new.me.0.ticket % 2 ^ 64 ≡ result }
     {
-        self.board.shared.fetch_add::<Draw>(place, NEXT, 1)
+        self.board.shared.fetch_add::<Draw>(table_seat, NEXT, 1)
     }
 
     // Takes the state, if the ticket is served.
-    fn look(&self, place: &mut Place<S>, ticket: u64) -> Option<S>
-        requires table { place.old.table_id ≡ self.now.board.shared.table_id }
-        requires waits { IsWaiting place.old.me }
-        requires ticket { place.old.me.0.ticket % 2 ^ 64 ≡ ticket }
-        ensures table { place.new.table_id ≡ place.old.table_id }
-        ensures none { IfNone result (place.new.me ≡ place.old.me) }
-        ensures some { IfSome result (λ x. Serves S.Kept None place.old.me x place.new.me) }
+    fn look(&self, table_seat: &mut TableSeat<S>, ticket: u64) -> Option<S>
+        requires table { table_seat.old.table_id ≡ self.now.board.shared.table_id }
+        requires waits { IsWaiting table_seat.old.me }
+        requires ticket { table_seat.old.me.0.ticket % 2 ^ 64 ≡ ticket }
+        ensures table { table_seat.new.table_id ≡ table_seat.old.table_id }
+        ensures none { IfNone result (table_seat.new.me ≡ table_seat.old.me) }
+        ensures some { IfSome result (λ x. Serves S.Kept None table_seat.old.me x table_seat.new.me) }
     {
         let shared = &self.board.shared;
-        if shared.load::<Look>(place, SERVING) == ticket {
-            Some(shared.exchange(place, 0, None).unwrap())
+        if shared.load::<LookAtServing>(table_seat, SERVING) == ticket {
+            Some(shared.exchange(table_seat, 0, None).unwrap())
         } else {
             None
         }

@@ -50,9 +50,9 @@ record_row set before fields =
     else if length fields == 3 then in_time set before (row_of set fields) else Err BadRecord
 
 -- what the records after this one mean, if it is the header
-abbrev pub behind_header : List Task → List (List ℕ) → Option (Means WorkRow WorkCause)
-behind_header set fields = if is_header fields then Some (record_row set) else None
+abbrev pub after_header : List Task → List (List ℕ) → Option (Means WorkRow WorkCause)
+after_header set fields = if is_header fields then Some (record_row set) else None
 
 -- the rows that a file of these bytes says, or the first refusal
 abbrev pub work_in : List Task → List ℕ → Result (List WorkRow) (Fault WorkCause)
-work_in set bytes = rows_in (behind_header set) Header bytes
+work_in set bytes = rows_in (after_header set) Header bytes

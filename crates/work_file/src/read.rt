@@ -1,6 +1,6 @@
 //! Work files, read.
 ghost use Rattle.std.specs.Prelude.{◌≤◌, IfOk, length};
-ghost use Rattle.csv_records.specs.Gives.{Gives};
+ghost use Rattle.csv_records.specs.Reads.{Reads};
 ghost use Rattle.mc_model.specs.Work.{IsWork};
 ghost use Rattle.work_file.specs.WorkFile.{work_in};
 
@@ -8,7 +8,7 @@ use crate::next::NextReleases;
 use crate::record::{is_header, record_row};
 use crate::{Work, WorkCause, WorkFault};
 use csv::ByteRecord;
-use csv_records::{Meaning, read_rows};
+use csv_records::{RowReader, read_rows};
 use mc_model::WorkRow;
 use mc_task::TaskSet;
 use std::alloc::Global;
@@ -21,7 +21,7 @@ use std::alloc::Global;
 /// each record in turn `TooMany`, the 1,000,001st row; `BadRecord`; `UnknownTask`; `BadNumber`; `ZeroNeed`; `Unsorted`;
 /// `TooSoon`.
 pub fn read_work(alloc: Global, set: &TaskSet, bytes: &[u8]) -> Result<Work, WorkFault>
-    ensures file { Gives (λ work. work) result (work_in set.now.tasks bytes.now) }
+    ensures file { Reads (λ work. work) result (work_in set.now.tasks bytes.now) }
     ensures work { IfOk result (λ work. IsWork set.now.tasks work) }
     ensures few { IfOk result (λ work. length work ≤ 1000000) }
 {
@@ -36,24 +36,24 @@ struct WorkRecords<'a> {
     set: &'a TaskSet,
 }
 
-impl<'a> Meaning for WorkRecords<'a> {
+impl<'a> RowReader for WorkRecords<'a> {
     ghost use Rattle.std.proofs.Common.{arith};
     ghost use Rattle.std.proofs.lemmas.Bool.Decides.{nat_tests};
     ghost use Rattle.csv_records.proofs.WordLemmas.{words_length};
     ghost use Rattle.work_file.specs.Reading.{AreRead};
-    ghost use Rattle.work_file.specs.WorkFile.{behind_header, record_row};
+    ghost use Rattle.work_file.specs.WorkFile.{after_header, record_row};
 
     type Row = WorkRow;
 
     type Cause = WorkCause;
 
-    type Kept = NextReleases;
+    type State = NextReleases;
 
-    ghost header = { λ file. behind_header file.set.now.tasks };
+    ghost header = { λ file. after_header file.set.now.tasks };
 
     ghost means = { λ file next. record_row file.set.now.tasks };
 
-    ghost keeps = { λ file next rows. AreRead file.set.now.tasks rows next };
+    ghost is_state_of = { λ file next rows. AreRead file.set.now.tasks rows next };
 
     fn header(&self, fields: &ByteRecord) -> Option<NextReleases> {
         if is_header(fields) {

@@ -15,7 +15,7 @@ use mc_task::{TaskNo, TaskSet};
 use numeral::number;
 
 // Whether the record is `task,release,need`.
-#[tactic(auto, using(csv_records::proofs::WordLemmas::words_by_place))]
+#[tactic(auto, using(csv_records::proofs::WordLemmas::words_by_column))]
 pub fn is_header(fields: &ByteRecord) -> bool
     ensures { result ≡ file.is_header (fields_of fields.now) }
 {

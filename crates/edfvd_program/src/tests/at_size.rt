@@ -103,7 +103,7 @@ const CASES: &[LongCase] = &[
 ];
 
 #[test]
-fn a_set_of_128_tasks_is_tested_run_and_told(rt: HostRuntime) {
+fn a_set_of_128_tasks_is_tested_run_and_reported(rt: HostRuntime) {
     assert_eq!(rt; first_long_wrong(&rt, rt.alloc(), CASES), None);
 }
 

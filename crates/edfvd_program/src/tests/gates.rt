@@ -52,7 +52,7 @@ pub struct TracedJob {
     pub ticks: u32,
 }
 
-// How often the gate was told of the release of a job, and of each of its ticks.
+// How often the gate was called for the release of a job, and for each of its ticks.
 #[derive(Drop)]
 struct Line {
     job: TracedJob,
@@ -60,7 +60,7 @@ struct Line {
     steps: Vec<AtomicU64>,
 }
 
-/// Counts how often it is told of each release and each tick of a trace's jobs, and of anything else.
+/// Counts its calls for each release and each tick of a trace's jobs, and for anything else.
 #[derive(Drop)]
 pub struct CountingGate {
     lines: Vec<Line>,
@@ -87,8 +87,8 @@ impl CountingGate {
         })
     }
 
-    /// Whether it was told of each once, and of nothing else.
-    pub fn was_told_each_once(&self) -> bool {
+    /// Whether it was called once for each, and for nothing else.
+    pub fn was_called_once_for_each(&self) -> bool {
         let once = |times: &AtomicU64| times.load(SeqCst) == 1;
         let each = self
             .lines

@@ -108,7 +108,7 @@ pub fn calm_status<R: Threads + Wait + Sync>(
     status_of(rt, alloc, words, &mut shelf, &mut sink, &QuietGate)
 }
 
-/// The status of these words and what they write, or nothing if memory runs out. The gate is told of the threads.
+/// The status of these words and what they write, or nothing if memory runs out. The threads call the gate.
 pub fn ended<R: Threads + Wait + Sync, G: Gate + Sync>(
     rt: &R,
     alloc: Global,
@@ -147,7 +147,7 @@ pub type Case = (
     &'static str,
 );
 
-/// Whether the case ends as it says. The gate is told of the threads.
+/// Whether the case ends as it says. The threads call the gate.
 pub fn ends_as<R: Threads + Wait + Sync, G: Gate + Sync>(
     rt: &R,
     alloc: Global,

@@ -58,7 +58,7 @@ pub type LongCase = (
     &'static [Part],
 );
 
-/// Whether the case ends as it says. The gate is told of the threads.
+/// Whether the case ends as it says. The threads call the gate.
 pub fn long_ends_as<R: Threads + Wait + Sync, G: Gate + Sync>(
     rt: &R,
     alloc: Global,

@@ -152,11 +152,11 @@ const PLANT_JOBS: &[TracedJob] = &[
 ];
 
 #[test]
-fn each_release_and_each_step_is_told_by_the_number_in_the_whole_set(
+fn each_release_and_each_step_calls_the_gate_by_the_number_in_the_whole_set(
     rt: HostRuntime,
 ) -> Result<(), Fail> {
     let gate = CountingGate::new(rt.alloc(), PLANT_JOBS)?;
-    assert!(rt; ends_as(&rt, rt.alloc(), &PLANT_RUN, &gate) && gate.was_told_each_once());
+    assert!(rt; ends_as(&rt, rt.alloc(), &PLANT_RUN, &gate) && gate.was_called_once_for_each());
     Ok(())
 }
 

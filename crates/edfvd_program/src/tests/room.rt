@@ -1,4 +1,4 @@
-//! How much room sets have.
+//! By how much the high budgets of sets could grow.
 use super::outside::{Case, Outside, ended, first_wrong};
 use super::{CONTROL, STRETCH, TAP_AND_ARM};
 use executive::QuietGate;

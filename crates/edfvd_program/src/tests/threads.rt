@@ -46,11 +46,11 @@ const OVERRUN_JOBS: &[TracedJob] = &[
 const DROPPED_JOBS: &[TracedJob] = &[traced!(1, 1, 1, 4), traced!(2, 2, 1, 0)];
 
 #[test]
-fn each_release_and_each_step_is_told_once(rt: HostRuntime) -> Result<(), Fail> {
+fn each_release_and_each_step_calls_the_gate_once(rt: HostRuntime) -> Result<(), Fail> {
     let alloc = rt.alloc();
     for (case, jobs) in [(OVERRUN, OVERRUN_JOBS), (DROPPED_RUN, DROPPED_JOBS)] {
         let gate = CountingGate::new(alloc, jobs)?;
-        assert!(rt; ends_as(&rt, alloc, &case, &gate) && gate.was_told_each_once());
+        assert!(rt; ends_as(&rt, alloc, &case, &gate) && gate.was_called_once_for_each());
     }
     Ok(())
 }

@@ -52,7 +52,7 @@ fn trace_of<R: Threads + Wait + Sync>(
 }
 
 // Whether the words have the status 0 and write this text, of the tasks and the trace.
-fn tells<R: Threads + Wait + Sync>(
+fn writes<R: Threads + Wait + Sync>(
     rt: &R,
     alloc: Global,
     words: &[&str],
@@ -72,24 +72,24 @@ fn tells<R: Threads + Wait + Sync>(
 }
 
 // Whether the trace of the avionics set has 40 lines, is legal, and is counted up.
-fn avionics_are_told<R: Threads + Wait + Sync>(rt: &R, alloc: Global) -> Option<bool> {
+fn avionics_are_reported<R: Threads + Wait + Sync>(rt: &R, alloc: Global) -> Option<bool> {
     let trace = trace_of(rt, alloc, RUN, AVIONICS, AVIONICS_WORK)?;
     Some(
         trace.as_str().lines().count() == 40
-            && tells(rt, alloc, JUDGE, AVIONICS, &trace, "legal late 0\n")
-            && tells(rt, alloc, REPORT, AVIONICS, &trace, AVIONICS_REPORT),
+            && writes(rt, alloc, JUDGE, AVIONICS, &trace, "legal late 0\n")
+            && writes(rt, alloc, REPORT, AVIONICS, &trace, AVIONICS_REPORT),
     )
 }
 
 #[test]
 fn the_trace_of_an_avionics_set_is_legal_and_counted_up(rt: HostRuntime) {
-    assert!(rt; avionics_are_told(&rt, rt.alloc()) == Some(true));
+    assert!(rt; avionics_are_reported(&rt, rt.alloc()) == Some(true));
 }
 
 fn live_run_is_legal<R: Threads + Wait + Sync>(rt: &R, alloc: Global) -> Option<bool> {
     let words = ["live", "tasks.toml", "1000"];
     let trace = trace_of(rt, alloc, &words, CONTROL, "")?;
-    Some(tells(rt, alloc, JUDGE, CONTROL, &trace, "legal late 0\n"))
+    Some(writes(rt, alloc, JUDGE, CONTROL, &trace, "legal late 0\n"))
 }
 
 #[test]

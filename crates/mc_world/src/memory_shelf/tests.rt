@@ -75,7 +75,7 @@ fn serves(shelf: &mut MemoryShelf, alloc: Global, case: &Case) -> bool {
     shelf.faults == case.faults && shelf.fetches.len() == case.fetches.len()
 }
 
-fn tells_two_files_apart(alloc: Global) -> bool {
+fn keeps_two_files_apart(alloc: Global) -> bool {
     match two_files(alloc) {
         Ok(mut shelf) => {
             gives(&mut shelf, alloc, "w", 4, Ok("work"))
@@ -86,9 +86,9 @@ fn tells_two_files_apart(alloc: Global) -> bool {
 }
 
 #[test]
-fn fails_where_it_is_told_to_and_at_an_absent_name(rt: HostRuntime) {
+fn fails_where_listed_and_at_an_absent_name(rt: HostRuntime) {
     for case in &CASES {
         assert!(rt; is_met(rt.alloc(), case), "{}", case.shows);
     }
-    assert!(rt; tells_two_files_apart(rt.alloc()));
+    assert!(rt; keeps_two_files_apart(rt.alloc()));
 }

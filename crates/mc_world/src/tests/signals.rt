@@ -67,7 +67,7 @@ fn is_read(
     alloc: Global,
     fails: u64,
     limit: usize,
-    wanted: Result<(), FetchFault>,
+    expected: Result<(), FetchFault>,
     read: u64,
 ) -> bool {
     let signals = Signals { calls: 0, fails };
@@ -77,8 +77,8 @@ fn is_read(
     let answer = read_whole(alloc, &mut reader, limit.min(8), &mut bytes_read);
     bytes_read == read
         && match answer {
-            Ok(bytes) => wanted.is_ok() && bytes.as_slice() == TEXT.as_bytes(),
-            Err(fault) => wanted == Err(fault),
+            Ok(bytes) => expected.is_ok() && bytes.as_slice() == TEXT.as_bytes(),
+            Err(fault) => expected == Err(fault),
         }
 }
 
@@ -92,8 +92,8 @@ fn an_interrupted_read_is_tried_again(rt: HostRuntime) {
         // The read that would show the end of the text.
         (8, 8, Err(FetchFault::Failed), 8),
     ];
-    for (fails, limit, wanted, read) in cases {
-        assert!(rt; is_read(rt.alloc(), fails, limit, wanted, read));
+    for (fails, limit, expected, read) in cases {
+        assert!(rt; is_read(rt.alloc(), fails, limit, expected, read));
     }
 }
 
@@ -101,7 +101,7 @@ fn an_interrupted_read_is_tried_again(rt: HostRuntime) {
 fn is_written(
     alloc: Global,
     fails: u64,
-    wanted: [Result<usize, SinkFault>; 2],
+    expected: [Result<usize, SinkFault>; 2],
     taken: &str,
 ) -> bool {
     let mut bytes = Vec::new(alloc);
@@ -112,7 +112,7 @@ fn is_written(
     });
     let first = write_piece(&mut out, b"tasks");
     let second = write_piece(&mut out, b"k");
-    [first, second] == wanted && bytes.as_slice() == taken.as_bytes()
+    [first, second] == expected && bytes.as_slice() == taken.as_bytes()
 }
 
 #[test]
@@ -125,7 +125,7 @@ fn an_interrupted_write_or_flush_is_tried_again(rt: HostRuntime) {
         (6, [Ok(3), Err(SinkFault)], "tas"),
         (8, [Ok(3), Err(SinkFault)], "task"),
     ];
-    for (fails, wanted, taken) in cases {
-        assert!(rt; is_written(rt.alloc(), fails, wanted, taken));
+    for (fails, expected, taken) in cases {
+        assert!(rt; is_written(rt.alloc(), fails, expected, taken));
     }
 }

@@ -1,4 +1,4 @@
-//! Releases: written at once, or held while a tick is out.
+//! Releases: written at once, or held while a tick is granted.
 ghost use Rattle.std.specs.Prelude.{◌≡◌, ◌∷◌, cond, IsSome, None};
 ghost use Rattle.mc_task.specs.TaskSet.{IsIn};
 ghost use Rattle.mc_model.specs.Core.{begun, next, next_job, release_row, released_so_far};
@@ -17,9 +17,9 @@ impl<R: Recorder> Core<R> {
 
     /// Releases the task's next job. The release time is the number of ticks that were begun.
     ///
-    /// With a tick out it is held until the outcome. Otherwise its row is written: dropped where the task is low and the
-    /// mode is high, and kept in the other cases. A refusal changes nothing. `Full` comes where each place is used, or each of
-    /// the 2^32 - 1 numbers that the task's jobs may have.
+    /// If a tick is granted, the release is held until the outcome. Otherwise its row is written: dropped if the task
+    /// is low and the mode is high, and kept in the other cases. A refusal changes nothing. `Full` comes if the whole
+    /// capacity is used, or each of the 2^32 - 1 numbers that the task's jobs may have.
     pub fn release(&mut self, task: TaskNo) -> Result<Released, ReleaseFault>
         requires in_set { IsIn self.old.set task.0 }
         ensures answer { result ≡ release_answer self.old task.0 }
@@ -84,7 +84,7 @@ impl<R: Recorder> Core<R> {
         }
     }
 
-    // Keeps the release until the tick that is out has its outcome.
+    // Holds the release until the granted tick has its outcome.
     fn hold(&mut self, task: TaskNo) -> Released
         requires in_set { IsIn self.old.set task.0 }
         requires none { release_refusal self.old task.0 ≡ None }
@@ -93,7 +93,7 @@ impl<R: Recorder> Core<R> {
         ensures state { self.new ≡ record self.old { held = next_job self.old task.0 ∷ self.old.held } }
         ensures sound { IsSoundUpTo R.most self.new }
     {
-        let at = self.book.ticks() + 1;
+        let at = self.log.ticks() + 1;
         let job = note_release(&mut self.arrivals, task, at);
         self.held.push_reserved(job);
         Released::Held { job, at }
@@ -110,10 +110,10 @@ impl<R: Recorder> Core<R> {
         } }
         ensures sound { IsSoundUpTo R.most self.new }
     {
-        let at = self.book.ticks();
+        let at = self.log.ticks();
         let job = note_release(&mut self.arrivals, task, at);
-        let kept = keeps(&self.book, task);
-        self.book.push_release(job, kept);
+        let kept = keeps(&self.log, task);
+        self.log.push_release(job, kept);
         kept_or_dropped(kept, job, at)
     }
 }

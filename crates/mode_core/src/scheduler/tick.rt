@@ -17,7 +17,7 @@ impl<R: Recorder> Core<R> {
     ghost use Rattle.mode_core.specs.Shape.{IsSoundUpTo};
     ghost use Rattle.mode_core.specs.Timely.{IsTimely};
 
-    /// Puts the tick of the chosen job out, which has to be of this task, and keeps a place for its row.
+    /// Grants a tick to the chosen job, which must be of this task, and reserves capacity for its row.
     ///
     /// A refusal changes nothing.
     pub fn grant(&mut self, task: TaskNo) -> Result<Granted, GrantFault>
@@ -58,11 +58,11 @@ impl<R: Recorder> Core<R> {
         ensures state { self.new ≡ record self.old { out = chosen_now self.old } }
         ensures sound { IsSoundUpTo R.most self.new }
     {
-        match self.book.first() {
+        match self.log.first() {
             Some(x) => {
                 let job = x.job;
                 let before = x.used;
-                let at = self.book.ticks();
+                let at = self.log.ticks();
                 self.out = Some(job);
                 Granted { job, at, before }
             }
@@ -70,10 +70,10 @@ impl<R: Recorder> Core<R> {
         }
     }
 
-    /// Writes the row of the tick that is out, and then the held releases in the order in which they were taken.
+    /// Writes the row of the granted tick, and then the held releases in the order in which they were taken.
     ///
-    /// The answer is `Done` where `done`; otherwise `Stop` at the job's own budget, `Over` where a high task passes its low
-    /// budget in low mode under `Virtual`, and `More` in the other cases. A refusal changes nothing.
+    /// Returns `Done` if `done`; otherwise `Stop` at the job's own budget, `Over` if a high task passes its low budget in
+    /// low mode under `Virtual`, and `More` in the other cases. A refusal changes nothing.
     #[inline(always)]
     pub fn outcome(&mut self, job: JobId, done: bool) -> Result<How, NotOut>
         ensures answer { result ≡ outcome_answer self.old job done }
@@ -106,6 +106,7 @@ impl<R: Recorder> Core<R> {
     }
 
     // An outcome that is not refused.
+    #[inline(always)]
     fn end_tick(&mut self, job: JobId, done: bool) -> How
         requires none { outcome_refusal self.old job ≡ None }
         ensures answer { result ≡ outcome_of self.old.set self.old.rule self.old.rows job done }
@@ -113,13 +114,13 @@ impl<R: Recorder> Core<R> {
         ensures sound { IsSoundUpTo R.most self.new }
     {
         self.out = None;
-        let how = self.book.push_tick(job, done);
-        write_held(&mut self.book, &self.held);
+        let how = self.log.push_tick(job, done);
+        write_held(&mut self.log, &self.held);
         self.held.clear();
         how
     }
 
-    /// Writes an idle tick and answers its number. The mode is low behind it. A refusal changes nothing.
+    /// Writes an idle tick and returns its number. The mode is low after it. A refusal changes nothing.
     pub fn idle(&mut self) -> Result<u64, IdleFault>
         ensures answer { result ≡ idle_answer self.old }
         ensures state { self.new ≡ after_idle self.old }
@@ -156,8 +157,8 @@ impl<R: Recorder> Core<R> {
         ensures state { self.new ≡ record self.old { rows = row.Idle ∷ self.old.rows } }
         ensures sound { IsSoundUpTo R.most self.new }
     {
-        let tick = self.book.ticks();
-        self.book.push_idle();
+        let tick = self.log.ticks();
+        self.log.push_idle();
         tick
     }
 }

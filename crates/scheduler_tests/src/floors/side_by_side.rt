@@ -122,7 +122,7 @@ fn ask_plain(core: &mut PlainCore, call: Call) -> Option<Seen> {
 
 // A set of 128 tasks: every second one is high, with the low budget 1 and this high budget; the others have the budget
 // 1 or 2.
-fn made_set(alloc: Global, high: u32, numbers: &mut Numbers) -> Result<TaskSet, Fail> {
+fn generated_set(alloc: Global, high: u32, numbers: &mut Numbers) -> Result<TaskSet, Fail> {
     let mut tasks = Vec::new(alloc);
     for k in 0..TASKS {
         let budget = 1 + numbers.below(2);
@@ -153,8 +153,8 @@ fn step(
 ) -> Result<(Call, Seen, Seen), Fail> {
     let call = next_call(numbers, plain);
     let seen = ask(core, call).ok_or("a task")?;
-    let wanted = ask_plain(plain, call).ok_or("memory")?;
-    Ok((call, seen, wanted))
+    let expected = ask_plain(plain, call).ok_or("memory")?;
+    Ok((call, seen, expected))
 }
 
 // Whether both wrote the same rows and used up their capacity, with an overrun if one is expected.
@@ -170,10 +170,10 @@ fn the_core_answers_as_a_plain_one(rt: HostRuntime) -> Result<(), Fail> {
     // Only the first set runs without a switch.
     for (seed, high) in [(1, 1), (2, 3), (3, 3)] {
         let mut numbers = Numbers { last: seed };
-        let (mut core, mut plain) = both(alloc, made_set(alloc, high, &mut numbers)?)?;
+        let (mut core, mut plain) = both(alloc, generated_set(alloc, high, &mut numbers)?)?;
         for k in 0..CALLS {
-            let (call, seen, wanted) = step(&mut numbers, &mut core, &mut plain)?;
-            assert_eq!(rt; seen, wanted, "call {k} from {seed}: {call:?}");
+            let (call, seen, expected) = step(&mut numbers, &mut core, &mut plain)?;
+            assert_eq!(rt; seen, expected, "call {k} from {seed}: {call:?}");
         }
         assert!(rt; ended_alike(&core, &plain, high > 1));
     }

@@ -10,9 +10,9 @@ ghost use Rattle.task_threads.specs.LivePasses.{IsRunner};
 use super::floors::{LIVE_ROWS, floor, free};
 use crate::live::{give_passes, make_runners, needs_of_each};
 use crate::live_round::Runner;
-use crate::places::Places;
+use crate::parking_spots::ParkingSpots;
 use crate::refused::serve_refused;
-use crate::starts::{Start, in_threads, join_all, kept_here};
+use crate::starts::{SpawnResult, in_threads, join_all, kept_here};
 use crate::worker::{Serving, Worker, work};
 use executive::{Executive, QuietGate, TaskPass};
 use mc_task::Level::{High, Low};
@@ -31,7 +31,7 @@ use worked_sets::{CONTROL, Line, OVERRUN_ROWS, OVERRUN_WORK};
 fn quietly<'a, R: Wait>(
     rt: &'a R,
     executive: &'a Executive,
-    places: &'a Places,
+    spots: &'a ParkingSpots,
 ) -> Serving<'a, R, QuietGate>
     ensures { result.executive.now ≡ executive.now }
 {
@@ -39,7 +39,7 @@ fn quietly<'a, R: Wait>(
         rt,
         executive,
         gate: &QuietGate,
-        places,
+        spots,
     }
 }
 
@@ -48,8 +48,8 @@ fn served_apart<R: Threads + Wait + Sync + Abort>(
     rt: &R,
     alloc: Global,
     floor: Floor,
-    here: &Places,
-    there: &Places,
+    here: &ParkingSpots,
+    there: &ParkingSpots,
 ) -> Result<Floor, Fail>
     requires { (floor.core.rows ≡ []) × (floor.core.out ≡ None) }
 {
@@ -83,8 +83,8 @@ fn served_apart<R: Threads + Wait + Sync + Abort>(
 
 #[test]
 fn a_wake_up_that_never_comes_costs_time_alone(rt: HostRuntime) -> Result<(), Fail> {
-    let here = Places::new(rt.alloc(), 2)?;
-    let there = Places::new(rt.alloc(), 2)?;
+    let here = ParkingSpots::new(rt.alloc(), 2)?;
+    let there = ParkingSpots::new(rt.alloc(), 2)?;
     let floor = floor(rt.alloc(), &CONTROL, &OVERRUN_WORK, 12)?;
     let floor = served_apart(&rt, rt.alloc(), floor, &here, &there)?;
     assert!(rt; floor.core().rows() == OVERRUN_ROWS.as_slice());
@@ -94,8 +94,8 @@ fn a_wake_up_that_never_comes_costs_time_alone(rt: HostRuntime) -> Result<(), Fa
 // Where two tasks wait, and lists with capacity for their threads and their passes.
 #[derive(Drop)]
 struct Rooms {
-    places: Places,
-    starts: Vec<Start<Runner>>,
+    spots: ParkingSpots,
+    starts: Vec<SpawnResult<Runner>>,
     back: Vec<TaskPass>,
 }
 
@@ -103,11 +103,11 @@ fn make_rooms(alloc: Global) -> Result<Rooms, Fail>
     ensures starts { IfOk result (λ r. (r.starts.items ≡ []) × (2 ≤ vec_capacity r.starts)) }
     ensures back { IfOk result (λ r. (r.back.items ≡ []) × (2 ≤ vec_capacity r.back)) }
 {
-    let places = Places::new(alloc, 2)?;
+    let spots = ParkingSpots::new(alloc, 2)?;
     let starts = Vec::with_capacity(alloc, 2)?;
     let back = Vec::with_capacity(alloc, 2)?;
     Ok(Rooms {
-        places,
+        spots,
         starts,
         back,
     })
@@ -118,13 +118,13 @@ fn a_live_run_whose_threads_could_not_be_started_gives_the_worked_rows(
     rt: HostRuntime,
 ) -> Result<(), Fail> {
     let Rooms {
-        places,
+        spots,
         mut starts,
         back,
     } = make_rooms(rt.alloc())?;
-    let (executive, mut runners, _watcher) = opened(&rt, rt.alloc(), &places, &CONTROL, 10)?;
-    all_kept_here(&executive, &places, &mut runners, &mut starts);
-    serve_refused(&quietly(&rt, &executive, &places), &mut starts);
+    let (executive, mut runners, _watcher) = opened(&rt, rt.alloc(), &spots, &CONTROL, 10)?;
+    all_kept_here(&executive, &spots, &mut runners, &mut starts);
+    serve_refused(&quietly(&rt, &executive, &spots), &mut starts);
     join_all(&rt, &executive, &mut starts, &mut runners);
     let floor = closed(&rt, executive, runners, back);
     assert!(rt; floor.core().rows().starts_with(&LIVE_ROWS));
@@ -138,12 +138,12 @@ fn a_watcher_beside_a_live_run_sees_ticks_that_never_fall_and_the_last(
     rt: HostRuntime,
 ) -> Result<(), Fail> {
     let Rooms {
-        places,
+        spots,
         starts,
         back,
     } = make_rooms(rt.alloc())?;
-    let (executive, runners, watcher) = opened(&rt, rt.alloc(), &places, &SLOW, 100_000)?;
-    let (runners, is_steady) = beside(&rt, &executive, &places, runners, starts, watcher);
+    let (executive, runners, watcher) = opened(&rt, rt.alloc(), &spots, &SLOW, 100_000)?;
+    let (runners, is_steady) = beside(&rt, &executive, &spots, runners, starts, watcher);
     let floor = closed(&rt, executive, runners, back);
     let ticks = floor.core().ticks();
     assert!(rt; is_steady && ticks >= 100_000);
@@ -155,9 +155,9 @@ fn a_watcher_beside_a_live_run_sees_ticks_that_never_fall_and_the_last(
 fn beside<'s, R: Threads + Wait + Sync>(
     rt: &'s R,
     executive: &'s Executive,
-    places: &'s Places,
+    spots: &'s ParkingSpots,
     runners: Vec<Runner>,
-    starts: Vec<Start<Runner>>,
+    starts: Vec<SpawnResult<Runner>>,
     watcher: Watcher,
 ) -> (Vec<Runner>, bool)
     requires runners { AreInOrder IsRunner executive.now runners.items × (vec_len runners ≡ 2) }
@@ -177,7 +177,7 @@ fn beside<'s, R: Threads + Wait + Sync>(
             { watched_to(rt, executive, watcher, 100_000) };
             match scope.spawn(watch) {
                 Ok(handle) => {
-                    let serving = quietly(rt, executive, places);
+                    let serving = quietly(rt, executive, spots);
                     let runners = in_threads(&serving, runners, starts);
                     (runners, handle.join(rt))
                 }
@@ -192,7 +192,7 @@ fn beside<'s, R: Threads + Wait + Sync>(
 fn opened<R: Wait>(
     rt: &R,
     alloc: Global,
-    places: &Places,
+    spots: &ParkingSpots,
     lines: &[Line],
     ticks: u64,
 ) -> Result<(Executive, Vec<Runner>, Watcher), Fail>
@@ -212,7 +212,7 @@ fn opened<R: Wait>(
         return Err("memory".into());
     };
     let watcher = watchers.pop().unwrap();
-    let serving = quietly(rt, &executive, places);
+    let serving = quietly(rt, &executive, spots);
     make_runners(
         &serving,
         needs.as_slice(),
@@ -246,9 +246,9 @@ fn closed<R: Wait + Abort>(
 // Workers as if no thread could be started for any of them.
 fn all_kept_here<T: Worker + Drop>(
     executive: &Executive,
-    places: &Places,
+    spots: &ParkingSpots,
     workers: &mut Vec<T>,
-    starts: &mut Vec<Start<T>>,
+    starts: &mut Vec<SpawnResult<T>>,
 )
     requires workers { AreInOrder T.is_of executive.now workers.old.items × (vec_len workers.old ≤ 128) }
     requires starts { (starts.old.items ≡ []) × (vec_len workers.old ≤ vec_capacity starts.old) }
@@ -257,7 +257,7 @@ fn all_kept_here<T: Worker + Drop>(
 {
     let _ = executive;
     while let Some(worker) = workers.pop() {
-        places.refuse(TaskNo(workers.len() as u32 + 1));
+        spots.refuse(TaskNo(workers.len() as u32 + 1));
         starts.push_reserved(kept_here(worker));
     }
 }

@@ -2,9 +2,9 @@
 ghost use Rattle.std.specs.Prelude.{◌≡◌, ◌≤◌, [], true, None, IfOk};
 ghost use Rattle.timetable.specs.Floor.{is_planned};
 ghost use Rattle.timetable.specs.declared.plan.Plan.TheVariants.{Free};
-ghost use Rattle.task_threads.specs.LivePasses.{live_places};
+ghost use Rattle.task_threads.specs.LivePasses.{live_capacity};
 
-use crate::live_places;
+use crate::live_capacity;
 use admission::admit;
 use load_sum::sum_loads;
 use mc_model::How::{Done, More};
@@ -96,10 +96,10 @@ fn planned(alloc: Global, set: TaskSet, rows: Vec<WorkRow>, ticks: u32) -> Resul
 /// A floor without a plan, for a live run of this many ticks.
 pub fn free(alloc: Global, lines: &[Line], ticks: u64) -> Result<Floor, Fail>
     requires { ticks ≤ 100_000 }
-    ensures { IfOk result (λ f. (f.plan ≡ Free) × (f.core.rows ≡ []) × (f.core.out ≡ None) × (f.core.places ≡ live_places f.core.set ticks)) }
+    ensures { IfOk result (λ f. (f.plan ≡ Free) × (f.core.rows ≡ []) × (f.core.out ≡ None) × (f.core.places ≡ live_capacity f.core.set ticks)) }
 {
     let set = set_of(alloc, lines)?;
     let rule = admit(&sum_loads(&set)?).ok_or("not admitted")?;
-    let places = live_places(&set, ticks) as usize;
+    let places = live_capacity(&set, ticks) as usize;
     Ok(Floor::new(Core::new(alloc, set, rule, places)?, Plan::Free))
 }

@@ -111,13 +111,13 @@ fn rows_that_fit(alloc: Global, lines: &[Line], rule: Rule) -> Result<Option<usi
     for _ in 0..1500 {
         seed = next(seed);
         let run = drawn(seed >> 33, first, second);
-        let foretold = monitor.would_fit(run)?;
+        let predicted = monitor.would_fit(run)?;
         rows.push(run)?;
         let verdict = judged(alloc, &set, rule, &rows)?;
-        if !agrees(foretold, verdict) {
+        if !agrees(predicted, verdict) {
             return Ok(None);
         }
-        if foretold.is_some() {
+        if predicted.is_some() {
             rows.pop();
             continue;
         }

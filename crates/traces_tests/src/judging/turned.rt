@@ -116,8 +116,8 @@ fn round(count: u32) -> [Run; 4] {
     ]
 }
 
-// The rows of ten million cannot be looked back at: this test shows that a monitor goes on after them, and how long it
-// takes. How much memory it holds is told by no clause: at most one job is pending here.
+// Ten million rows cannot be read again: this test shows that a monitor goes on after them, and how long it takes. No
+// clause says how much memory it uses: at most one job is pending here.
 #[test]
 fn ten_million_rows_are_judged_as_they_come(rt: HostRuntime) -> Result<(), Fail> {
     let alloc = rt.alloc();

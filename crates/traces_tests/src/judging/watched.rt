@@ -24,17 +24,17 @@ pub fn agrees(unfit: Option<Unfit>, verdict: Verdict) -> bool {
     }
 }
 
-// Whether after each run of the text the monitor has the verdict that the judge has of the runs so far, and has foretold
+// Whether after each run of the text the monitor has the verdict that the judge has of the runs so far, and has predicted
 // whether the run fits.
 fn agree(alloc: Global, lines: &[Line], rule: Rule, text: &str) -> Result<bool, Fail> {
     let set = set_of(alloc, lines)?;
     let runs = runs_of(alloc, &set, text)?;
     let mut monitor = monitor(alloc, lines, rule)?;
     for count in 0..runs.len() {
-        let foretold = monitor.would_fit(runs[count])?;
+        let predicted = monitor.would_fit(runs[count])?;
         let unfit = monitor.observe(alloc, runs[count])?;
         let verdict = judged(alloc, &set, rule, &runs[..=count])?;
-        if foretold != unfit || !agrees(unfit, verdict) || monitor.verdict() != verdict {
+        if predicted != unfit || !agrees(unfit, verdict) || monitor.verdict() != verdict {
             return Ok(false);
         }
     }
@@ -109,7 +109,7 @@ fn a_monitor_refuses_what_is_no_run_of_its_set_and_keeps_a_misfit(
     Ok(())
 }
 
-// What `would_fit` answers where this row is the first that does not fit.
+// What `would_fit` returns if this row is the first that does not fit.
 macro_rules! unfit {
     ($row:expr, $why:expr) => {
         Ok(Some(Unfit {
@@ -119,7 +119,7 @@ macro_rules! unfit {
     };
 }
 
-// A run, and what `would_fit` answers to it.
+// A run, and what `would_fit` returns for it.
 type Asked = (Run, Result<Option<Unfit>, ObserveFault>);
 
 // The next row is the fourth, in low mode; ctl's job has had one tick, and its second one is an overrun or its last.
@@ -165,7 +165,7 @@ const AFTER_A_MISFIT: [Asked; 3] = [
     (Run::Idles { length: 0 }, Err(ObserveFault::NotARun)),
 ];
 
-// Runs of `CONTROL` that a monitor takes one after the other, and what it then answers to runs that it does not take.
+// Runs of `CONTROL` that a monitor takes one after the other, and what it then returns for runs that it does not take.
 const ASKED: [(&str, &[Asked]); 4] = [
     (
         "release log 1 kept, release ctl 1 kept, tick ctl 1 more",

@@ -15,5 +15,5 @@ returns c =
     let back : to_le_bytes w32 m ≡ c.args.bytes = le_bytes_4 c.args.bytes m (search rules) (search rules) refl in
     let back_others : to_le_bytes w32 n ≡ c.args.others = le_bytes_4 c.args.others n (search rules) (search rules) refl in
     let decides : Decides (m == n) (c.args.bytes ≡ c.args.others) =
-    ((λ told. sym back ∙ (ap (to_le_bytes w32) ((Decides-eqb m n).0 told) ∙ back_others)), (λ same. (Decides-eqb m n).1 (ap (from_le_bytes w32) same))) in
+    ((λ equal_numbers. sym back ∙ (ap (to_le_bytes w32) ((Decides-eqb m n).0 equal_numbers) ∙ back_others)), (λ same. (Decides-eqb m n).1 (ap (from_le_bytes w32) same))) in
     rw (c.from_le_bytes.ensures, c.from_le_bytes-2.ensures) (same_from_decides (m == n) (bytes_eq c.args.bytes c.args.others) decides (bytes_eq-Decides c.args.bytes c.args.others))

@@ -14,5 +14,5 @@ returns-then-field-word c =
     let begins = rw c.as_bytes.ensures.value at (starts_is Decides-eqb field c.as_bytes.result.now c.starts_with.result c.starts_with.ensures.value) in
     let same : length field ≡ length word = grind (arith, nat_tests, c.if-field-word.true) in
     let whole : word ++ drop (length word) field ≡ word = rw (drop_all (length word) field (omega (arith, same))) (append-nil word) in
-    let decides : Decides c.starts_with.result (field ≡ word) = ((λ told. begins.0 told ∙ whole), (λ equal. begins.1 [] (equal ∙ sym (append-nil word)))) in
+    let decides : Decides c.starts_with.result (field ≡ word) = ((λ begins_so. begins.0 begins_so ∙ whole), (λ equal. begins.1 [] (equal ∙ sym (append-nil word)))) in
     same_from_decides c.starts_with.result (bytes_eq field word) decides (bytes_eq-Decides field word)

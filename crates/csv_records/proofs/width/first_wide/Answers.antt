@@ -1,6 +1,6 @@
 use Rattle.std.proofs.Common.{◌+◌, arith, refl}
 use Rattle.std.proofs.lemmas.List.{drop_more}
-use Rattle.csv_records.proofs.WidthLemmas.{none_counted, told}
+use Rattle.csv_records.proofs.WidthLemmas.{none_counted, has_too_many}
 use Rattle.csv_records.proofs.width.first_wide.Goals as goal
 
 pub loop-b-init : goal.loop-b-init
@@ -9,4 +9,4 @@ loop-b-init c = record { narrow = omega arith; counts = none_counted c.args.text
 pub returns-then-count-ge-MOST_FIELDS : goal.returns-then-count-ge-MOST_FIELDS
 returns-then-count-ge-MOST_FIELDS c =
     let counts = c.counted-count.ensures c.args.text.now c.loop-b.b-index (drop_more c.args.text.now c.loop-b.b-index 0 c.loop-b-test.true) c.loop-b.invariant.counts in
-    told c.args.text.now (c.loop-b.b-index + 1) c.counted-count.result counts c.if-count-ge-MOST_FIELDS.true
+    has_too_many c.args.text.now (c.loop-b.b-index + 1) c.counted-count.result counts c.if-count-ge-MOST_FIELDS.true

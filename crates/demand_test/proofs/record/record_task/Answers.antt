@@ -9,4 +9,4 @@ pub returns-clause-so_far : goal.returns-clause-so_far
 returns-clause-so_far c =
     let new = named c.args.before.now c.field.result.now c.in_ok-name.name c.in_ok-name.ensures in
     so_far-push c.args.before.now c.in_ok-task.task c.args.multiple.now c.in_ok-next.next c.requires.so_far c.if-before-ge128.false
-    (subst (IsNew c.args.before.now) (sym c.in_ok-task.ensures.name) new) c.in_ok-task.ensures.small c.in_ok-next.ensures
+    (subst (IsNew c.args.before.now) (sym c.in_ok-task.ensures.name) new) c.in_ok-task.ensures.small c.in_ok-next.ensures.value

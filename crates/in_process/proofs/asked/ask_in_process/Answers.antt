@@ -17,7 +17,7 @@ answered : {E : Type 0} (result : Result Reply E) (words given : List (List ℕ)
 answered (Ok reply) words given first second before after same holds calm range short r =
     subst (λ ws. IsAnswered ws first second reply) same
     (let files = two_files first second in
-    let answer = is_answer files 1 (command (form_of words)) before after reply r.is (record { told = holds; calm = never_rose before.faults after.faults calm }) in
+    let answer = is_answer files 1 (command (form_of words)) before after reply r.is (record { exposed = holds; calm = never_rose before.faults after.faults calm }) in
     record { answer = answer; promises = of_reply (form_of words) range short files [] reply answer })
 answered (Err e) words given first second before after same holds calm range short r = tt
 

@@ -3,4 +3,4 @@ use Rattle.mode_core.proofs.steps.write_held.Given as goal
 use Rattle.mc_model.specs.Core.{add_held}
 
 abbrev pub invariant-loop-job : goal.invariant-loop-job
-invariant-loop-job g l = l.book ≡ record l.initial.book { rows = add_held l.initial.book.set l.initial.book.rule (reverse (take l.job-index l.held)) l.initial.book.rows }
+invariant-loop-job g l = l.log ≡ record l.initial.log { rows = add_held l.initial.log.set l.initial.log.rule (reverse (take l.job-index l.held)) l.initial.log.rows }

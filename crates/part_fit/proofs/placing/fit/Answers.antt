@@ -1,8 +1,8 @@
 use Rattle.std.proofs.Common.{◌≡◌, ◌≤◌, ◌+◌, ◌∷◌, [], ◌++◌, ◌∙◌, suc, refl, sym, ap, arith, length, length-append, length-set}
 use Rattle.std.proofs.lemmas.List.{length-replicate}
-use Rattle.part_fit.specs.KeptLoads.{no_loads}
+use Rattle.part_fit.specs.ProcessorLoads.{no_loads}
 use Rattle.part_fit.proofs.Placed.{placed-next, placed-end, first_fit-IsPartition}
-use Rattle.part_fit.proofs.Kept.{none-AreKept, more-AreKept, kept-IsReady}
+use Rattle.part_fit.proofs.ProcessorLoads.{none-AreProcessorLoads, more-AreProcessorLoads, kept-IsReady}
 use Rattle.part_fit.proofs.placing.fit.Goals as goal
 
 pub loop-i-init : goal.loop-i-init
@@ -12,7 +12,7 @@ loop-i-init c = record {
   all = ap length c.in_ok-all.ensures ∙ length-replicate c.args.processors no_loads;
   ready =
       kept-IsReady c.args.set.now.tasks _ _ _ 0 c.as_slice-tasks.ensures.tasks c.as_slice-tasks.ensures.value (ap length c.new-of.ensures.items)
-      (rw (c.new-of.ensures.items, c.in_ok-all.ensures) (none-AreKept c.args.set.now.tasks c.args.processors));
+      (rw (c.new-of.ensures.items, c.in_ok-all.ensures) (none-AreProcessorLoads c.args.set.now.tasks c.args.processors));
 }
 
 pub least_for-requires : goal.least_for-requires
@@ -55,7 +55,7 @@ loop-i-preserved c =
       all = length-set c.loop-i.all.items place c.in-Some.loads ∙ c.loop-i.invariant.all;
       ready =
           kept-IsReady c.args.set.now.tasks _ _ _ (c.loop-i.i + 1) c.as_slice-tasks.ensures.tasks c.as_slice-tasks.ensures.value (omega (arith, long))
-          (rw grown (more-AreKept c.args.set.now.tasks c.loop-i.of.items _ _ place c.in-Some.loads here found.2 found.1 c.in-Some.ensures.small));
+          (rw grown (more-AreProcessorLoads c.args.set.now.tasks c.loop-i.of.items _ _ place c.in-Some.loads here found.2 found.1 c.in-Some.ensures.small));
     }
 
 pub returns-clause-ok : goal.returns-clause-ok

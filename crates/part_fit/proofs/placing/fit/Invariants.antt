@@ -1,6 +1,6 @@
 use Rattle.std.proofs.Common.{◌≡◌, drop, length}
 use Rattle.part_fit.specs.FirstFit.{placed, first_fit}
-use Rattle.part_fit.proofs.Kept.{IsReady}
+use Rattle.part_fit.proofs.ProcessorLoads.{IsReady}
 use Rattle.part_fit.proofs.placing.fit.Given as goal
 
 abbrev pub invariant-loop-i : goal.invariant-loop-i

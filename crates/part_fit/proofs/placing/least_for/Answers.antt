@@ -3,7 +3,7 @@ use borrow.Author.Count.{below_more}
 use Rattle.part_fit.proofs.Placed.{takes}
 use Rattle.part_fit.specs.Parts.{part_of}
 use Rattle.part_fit.proofs.Least.{find-none, find-some}
-use Rattle.part_fit.proofs.Kept.{place-next}
+use Rattle.part_fit.proofs.ProcessorLoads.{place-next}
 use Rattle.part_fit.proofs.placing.least_for.Goals as goal
 
 pub loop-place-init : goal.loop-place-init

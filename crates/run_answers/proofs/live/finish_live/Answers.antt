@@ -4,9 +4,9 @@ use Rattle.mc_model.specs.Core.{State}
 use Rattle.mc_model.specs.TraceText.{trace_text}
 use Rattle.mc_model.proofs.Traces.{rows_of_trace}
 use Rattle.replies.specs.Reply.{reply_of}
-use Rattle.run_answers.proofs.LivePlaces.{few_live_rows}
+use Rattle.run_answers.proofs.LiveCapacity.{few_live_rows}
 use Rattle.run_answers.proofs.LiveRows.{live_of}
-use Rattle.run_answers.proofs.TraceBytes.{told_le}
+use Rattle.run_answers.proofs.TraceBytes.{trace_text_le}
 use Rattle.run_answers.proofs.live.finish_live.Goals as goal
 
 pub trace_text-requires-clause-tasks : goal.trace_text-requires-clause-tasks
@@ -20,11 +20,11 @@ trace_text-requires-clause-tasks g c =
 
 pub trace_text-requires-clause-few : goal.trace_text-requires-clause-few
 trace_text-requires-clause-few g c =
-    let places : c.in-Ok.floor.core.places ≡ c.live_places-places.result = search rules in
-    few_live_rows c.args.job.set.tasks c.args.job.rule c.get-ticks.result c.core-done.result.now c.in-Ok.floor.core c.live_places-places.result c.live_rows.result.now c.len-is_set.ensures.set c.requires.holds c.get-ticks.ensures.most c.core-done.ensures.value places c.live_places-places.ensures.places c.live_rows.ensures.few
+    let places : c.in-Ok.floor.core.places ≡ c.live_capacity-places.result = search rules in
+    few_live_rows c.args.job.set.tasks c.args.job.rule c.get-ticks.result c.core-done.result.now c.in-Ok.floor.core c.live_capacity-places.result c.live_rows.result.now c.len-is_set.ensures.set c.requires.holds c.get-ticks.ensures.most c.core-done.ensures.value places c.live_capacity-places.ensures.capacity c.live_rows.ensures.few
 
-pub returns-clause-lives : goal.returns-clause-lives
-returns-clause-lives g c =
+pub returns-clause-live_reply : goal.returns-clause-live_reply
+returns-clause-live_reply g c =
     let set : c.in-Ok.floor.core.set ≡ c.args.job.set.tasks = search rules in
     let rule : c.in-Ok.floor.core.rule ≡ c.args.job.rule = search rules in
     let rows = c.live_rows.result.now in
@@ -35,11 +35,11 @@ returns-clause-lives g c =
     (reverse rows, rw (c.get-ticks.ensures.value) at live, text ∙ ap (reply_of 0) (is ∙ ap (trace_text c.args.job.set.tasks) (sym (reverse-reverse rows))))
 
 pub returns-clause-short : goal.returns-clause-short
-unfolding returns-clause-lives
+unfolding returns-clause-live_reply
 returns-clause-short g c =
-    let told = returns-clause-lives g c in
-    let places : c.in-Ok.floor.core.places ≡ c.live_places-places.result = search rules in
-    let few = few_live_rows c.args.job.set.tasks c.args.job.rule c.get-ticks.result c.core-done.result.now c.in-Ok.floor.core c.live_places-places.result c.live_rows.result.now c.len-is_set.ensures.set c.requires.holds c.get-ticks.ensures.most c.core-done.ensures.value places c.live_places-places.ensures.places c.live_rows.ensures.few in
+    let found = returns-clause-live_reply g c in
+    let places : c.in-Ok.floor.core.places ≡ c.live_capacity-places.result = search rules in
+    let few = few_live_rows c.args.job.set.tasks c.args.job.rule c.get-ticks.result c.core-done.result.now c.in-Ok.floor.core c.live_capacity-places.result c.live_rows.result.now c.len-is_set.ensures.set c.requires.holds c.get-ticks.ensures.most c.core-done.ensures.value places c.live_capacity-places.ensures.capacity c.live_rows.ensures.few in
     let rows = length-reverse c.live_rows.result.now in
-    let text = told_le c.args.job.set.tasks c.args.job.rule (reverse c.live_rows.result.now) c.new-2.result c.len-is_set.ensures.set told.1.legal (omega (arith, few, rows)) told.2 in
+    let text = trace_text_le c.args.job.set.tasks c.args.job.rule (reverse c.live_rows.result.now) c.new-2.result c.len-is_set.ensures.set found.1.legal (omega (arith, few, rows)) found.2 in
     omega (arith, few, rows, text)

@@ -1,7 +1,7 @@
 use Rattle.std.proofs.Common.{rules, ◌≡◌, ◌∙◌, reverse, ap, arith}
 use Rattle.mc_model.specs.Core.{State}
 use Rattle.replies.specs.Reply.{reply_of}
-use Rattle.run_answers.proofs.TraceBytes.{told_le}
+use Rattle.run_answers.proofs.TraceBytes.{trace_text_le}
 use Rattle.run_answers.proofs.traced.trace_reply.Goals as goal
 
 pub trace_text-requires-clause-tasks : goal.trace_text-requires-clause-tasks
@@ -17,11 +17,11 @@ returns-clause-trace c = λ job ticks planned.
 pub returns-clause-short : goal.returns-clause-short
 unfolding returns-clause-trace
 returns-clause-short c = λ job ticks planned.
-    let told = returns-clause-trace c job ticks planned in
+    let found = returns-clause-trace c job ticks planned in
     let of_set : c.set-set.result.now.tasks ≡ job.set.tasks = c.set-set.ensures ∙ (ap (λ (s : State). s.set) c.core-core.ensures.value ∙ planned.same_set) in
     let h = c.args.floor.now.core.rows in
     let few = planned.few in
     let most = planned.most in
-    let count = told.1.ticks in
-    let text = told_le job.set.tasks job.rule h c.new.result (rw of_set at c.len-is_set.ensures.set) told.1.legal (omega (arith, few, most)) told.2 in
+    let count = found.1.ticks in
+    let text = trace_text_le job.set.tasks job.rule h c.new.result (rw of_set at c.len-is_set.ensures.set) found.1.legal (omega (arith, few, most)) found.2 in
     omega (arith, few, most, count, text)

@@ -1,5 +1,5 @@
 use Rattle.std.proofs.Common.{[]}
-use Rattle.set_gen.specs.MadeWork.{releases_at, releases_below}
+use Rattle.set_gen.specs.GeneratedWork.{releases_at, releases_below}
 use Rattle.set_gen.proofs.Scans.{rows-more, words-more, releases_below-until}
 use Rattle.set_gen.proofs.jobs.jobs_of.Goals as goal
 

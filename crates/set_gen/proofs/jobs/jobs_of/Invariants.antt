@@ -1,6 +1,6 @@
 use Rattle.std.proofs.Common.{◌≡◌, ◌-◌, ◌≤◌, length}
 use Rattle.set_gen.specs.Words.{after}
-use Rattle.set_gen.specs.MadeWork.{releases_below, job_rows}
+use Rattle.set_gen.specs.GeneratedWork.{releases_below, job_rows}
 use Rattle.set_gen.specs.NextReleases.{AreNext}
 use Rattle.set_gen.proofs.jobs.jobs_of.Given as goal
 

@@ -1,13 +1,13 @@
 use Rattle.std.proofs.Common.{◌≡◌, refl, ap, ◌∙◌}
 use Rattle.set_gen.specs.Words.{word, rest}
-use Rattle.set_gen.specs.MadeSet.{period, task_name, made_task, words_taken, made_gap}
+use Rattle.set_gen.specs.GeneratedSet.{period, task_name, generated_task, words_taken, generated_gap}
 use Rattle.set_gen.proofs.Draws.{high_tasks, halves}
-use Rattle.set_gen.proofs.MadeTasks.{odd, even}
+use Rattle.set_gen.proofs.GeneratedTasks.{odd, even}
 use Rattle.set_gen.proofs.tasks.draw_numbers.Goals as goal
 use Rattle.set_gen.proofs.tasks.draw_numbers.Goals.{then-number-eq1, else-number-eq1}
 
 pub returns : goal.returns
-unfolding made_task words_taken made_gap
+unfolding generated_task words_taken generated_gap
 returns c =
     let length : c.period-period.result ≡ period (word c.args.words.now) = c.period-period.ensures.value ∙ ap period c.take.ensures.word in
     elim c.if-number-eq1.branch [

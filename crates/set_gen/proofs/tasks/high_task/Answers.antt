@@ -1,5 +1,5 @@
 use Rattle.std.proofs.Common.{◌*◌, refl, arith}
-use Rattle.set_gen.specs.MadeSet.{high_task}
+use Rattle.set_gen.specs.GeneratedSet.{high_task}
 use Rattle.std.proofs.Math.Nat.{div-le_self}
 use Rattle.set_gen.proofs.Drawn.{low-within}
 use Rattle.set_gen.proofs.tasks.high_task.Goals as goal

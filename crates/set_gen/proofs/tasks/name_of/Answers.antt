@@ -1,7 +1,7 @@
 use Rattle.std.proofs.Common.{◌<◌, ◌^◌, arith}
 use Rattle.std.proofs.lemmas.Bool.{false≢true}
-use Rattle.set_gen.specs.MadeSet.{task_name}
-use Rattle.set_gen.proofs.MadeTasks.{task_name-is_name}
+use Rattle.set_gen.specs.GeneratedSet.{task_name}
+use Rattle.set_gen.proofs.GeneratedTasks.{task_name-is_name}
 use Rattle.set_gen.proofs.tasks.name_of.Goals as goal
 
 pub unreachable-requires : goal.unreachable-requires

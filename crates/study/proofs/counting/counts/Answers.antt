@@ -1,6 +1,6 @@
 use Rattle.std.proofs.Common.{arith}
 use Rattle.std.proofs.lemmas.List.FromFn.{fill_by_all}
-use Rattle.study.specs.Steps.{more_than}
+use Rattle.study.specs.Levels.{more_than}
 use Rattle.study.proofs.counting.counts.Goals as goal
 
 pub returns : goal.returns

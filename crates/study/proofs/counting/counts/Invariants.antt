@@ -1,5 +1,5 @@
 use Rattle.std.proofs.Common.{◌≡◌, ℕ, ◌<◌, length, get_or}
-use Rattle.study.specs.Steps.{more_than}
+use Rattle.study.specs.Levels.{more_than}
 use Rattle.study.proofs.counting.counts.Given as goal
 
 abbrev pub invariant-loop-step : goal.invariant-loop-step

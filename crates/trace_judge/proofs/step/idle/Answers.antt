@@ -3,7 +3,7 @@ use Rattle.std.proofs.lemmas.List.{nil_from_length}
 use Rattle.mc_model.specs.Legal.{is_empty}
 use Rattle.mc_model.proofs.Repeats.{idle_legal}
 use Rattle.trace_judge.specs.Placed.{waiting}
-use Rattle.trace_judge.proofs.Placed.{live_of, pending_is}
+use Rattle.trace_judge.proofs.Placed.{kept_of, pending_is}
 use Rattle.trace_judge.proofs.Ticks.{at_first}
 use Rattle.trace_judge.proofs.Faults.{idle_some, same_length}
 use Rattle.trace_judge.proofs.Keeps.{keeps_rest}
@@ -18,6 +18,6 @@ returns-clause-step c g l t =
     let h : length c.args.state.now.waiting.entries ≡ 0 = search rules in
     let none : waiting c.args.set.now.tasks g ≡ [] = nil_from_length (waiting c.args.set.now.tasks g)
     (sym (same_length c.args.set.now.tasks c.args.rule g c.args.state.now t) ∙ h) in (
-      idle_legal c.args.set.now.tasks c.args.rule c.args.length g l (ap is_empty (pending_is c.args.set.now.tasks c.args.rule g l ∙ ap (map live_of) none)),
+      idle_legal c.args.set.now.tasks c.args.rule c.args.length g l (ap is_empty (pending_is c.args.set.now.tasks c.args.rule g l ∙ ap (map kept_of) none)),
       keeps_rest c.args.set.now.tasks c.args.rule g c.args.state.now _ c.args.length c.requires.is_run none t c.rest.ensures,
     )

@@ -5,8 +5,8 @@ use Rattle.trace_judge.proofs.turned.gathered.Given as goal
 
 abbrev pub invariant-loop-at : goal.invariant-loop-at
 invariant-loop-at l =
-    (l.turned.items ++ turned_of l.set.tasks l.since l.state.ticks l.rest ≡ turned_of l.set.tasks l.since l.state.ticks l.state.waiting.entries)
-    × ((u : ℕ) → u ≤ l.until → are_quiet l.set.tasks l.state.ticks u l.rest ≡ true → are_quiet l.set.tasks l.state.ticks u l.state.waiting.entries ≡ true)
+    (l.turned.items ++ turned_of l.set.tasks l.since l.state.ticks l.remaining ≡ turned_of l.set.tasks l.since l.state.ticks l.state.waiting.entries)
+    × ((u : ℕ) → u ≤ l.until → are_quiet l.set.tasks l.state.ticks u l.remaining ≡ true → are_quiet l.set.tasks l.state.ticks u l.state.waiting.entries ≡ true)
 
 abbrev pub decreases-loop-at : goal.decreases-loop-at
-decreases-loop-at l = length l.rest
+decreases-loop-at l = length l.remaining

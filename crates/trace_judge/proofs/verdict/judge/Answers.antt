@@ -19,8 +19,8 @@ pub step-requires-clause-room : goal.step-requires-clause-room
 step-requires-clause-room c =
     let runs = c.args.runs.now in
     let i = c.loop-run.run-index in
-    let place = c.loop-run.invariant.1.place in
-    room_for runs i _ _ c.requires.runs c.loop-run-test.true (get_or_default runs i _ _ c.loop-run-test.true) (omega (arith, place))
+    let rows = c.loop-run.invariant.1.rows in
+    room_for runs i _ _ c.requires.runs c.loop-run-test.true (get_or_default runs i _ _ c.loop-run-test.true) (omega (arith, rows))
 
 pub step-requires-clause-time : goal.step-requires-clause-time
 step-requires-clause-time c =
@@ -43,8 +43,8 @@ few_read runs i v =
 
 pub unfit_after-requires : goal.unfit_after-requires
 unfit_after-requires c =
-    let place = c.loop-run.invariant.1.place in
-    omega (arith, place, few_read c.args.runs.now c.loop-run.run-index c.requires.runs)
+    let rows = c.loop-run.invariant.1.rows in
+    omega (arith, rows, few_read c.args.runs.now c.loop-run.run-index c.requires.runs)
 
 pub loop-run-preserved : goal.loop-run-preserved
 loop-run-preserved c =
@@ -60,7 +60,7 @@ returns-in-Some-clause-verdict c =
     let runs = c.args.runs.now in
     let i = c.loop-run.run-index in
     let f = rw c.in-Some.is at c.in_ok-misfit.ensures.step in
-    let u = stops_unfit c.args.set.now.tasks c.args.rule _ (read runs i) c.loop-run.state.place c.in-Some.misfit c.loop-run.invariant.1.place (f (read runs i) c.loop-run.invariant.0 c.loop-run.invariant.1)
+    let u = stops_unfit c.args.set.now.tasks c.args.rule _ (read runs i) c.loop-run.state.rows c.in-Some.misfit c.loop-run.invariant.1.rows (f (read runs i) c.loop-run.invariant.0 c.loop-run.invariant.1)
     ∙ ap (λ (x : Unfit). Some x) (sym c.unfit_after.ensures) in
     c.illegal.ensures
     ∙ unfit_verdict c.args.set.now.tasks c.args.rule c.unfit_after.result (reverse (expand runs))
@@ -74,7 +74,7 @@ all_read runs i e = ap (λ (xs : List Run). reverse (expand xs)) (take_all _ _ e
 pub returns-clause-verdict : goal.returns-clause-verdict
 returns-clause-verdict c =
     let all = subst (λ (h : List Row). Legal c.args.set.now.tasks c.args.rule h × Tracks c.args.set.now.tasks c.args.rule h c.loop-run.state) (all_read c.args.runs.now c.loop-run.run-index c.loop-run-test.false) c.loop-run.invariant in
-    c.legal.ensures ∙ legal_verdict c.args.set.now.tasks c.args.rule _ c.loop-run.state all.0 all.1 (omega (arith, few_rows c.args.runs.now c.requires.runs)) c.all_lates.result c.all_lates.ensures
+    c.legal.ensures ∙ legal_verdict c.args.set.now.tasks c.args.rule _ c.loop-run.state all.0 all.1 (omega (arith, few_rows c.args.runs.now c.requires.runs)) c.all_late_jobs.result c.all_late_jobs.ensures
 
 pub returns-clause-no_late : goal.returns-clause-no_late
 returns-clause-no_late c holds =

@@ -7,5 +7,5 @@ use Rattle.executive.proofs.pass.Grant.granted.Goals as goal
 pub returns-clause-out : goal.returns-clause-out
 returns-clause-out c = λ log legal begins same.
     let t = c.args.self.now in
-    let l = lists t.held.seat in
-    (runs_is (after l.opening log).core.out t.held.task.0 t.granted.job (still_out t.held.task.0 l.opening l.seen log begins legal (sym t.held.whole ∙ same) ∙ t.out)).0
+    let l = lists t.counted_seat.seat in
+    (runs_is (after l.opening log).core.out t.counted_seat.task.0 t.granted.job (still_out t.counted_seat.task.0 l.opening l.seen log begins legal (sym t.counted_seat.whole ∙ same) ∙ t.out)).0

@@ -7,6 +7,6 @@ use Rattle.mode_core.proofs.scheduler.Core+Vec+Row.rows.Goals as goal
 
 pub returns-clause-of_set : goal.returns-clause-of_set
 returns-clause-of_set c =
-    let told : c.deref.result.now ≡ reverse c.args.self.now.rows =
+    let shown : c.deref.result.now ≡ reverse c.args.self.now.rows =
     c.deref.ensures.value ∙ sym (reverse-reverse c.recorder.result.now.items) ∙ ap reverse c.recorder.ensures.rows in
-    subst (λ (rows : List Row). All (IsOfSet c.args.self.now.set) rows) (sym told) (rows_of_legal _ _ _ c.recorder.ensures.legal)
+    subst (λ (rows : List Row). All (IsOfSet c.args.self.now.set) rows) (sym shown) (rows_of_legal _ _ _ c.recorder.ensures.legal)

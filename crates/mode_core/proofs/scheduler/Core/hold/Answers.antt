@@ -24,7 +24,7 @@ invariant_of-self g c =
     core_hold c.self.inside _ c.args.task.0 c.note_release-job.result take
     (subst (λ (s : State). IsSome s.out) (sym c.self.view_is) c.requires.out) (job_is c.self.inside c.args.task _ take c.note_release-job.ensures.job)
     refl refl c.push_reserved.ensures.items c.push_reserved.ensures.capacity
-    (notes_after c.self.inside c.note_release-job.new.arrivals c.args.task.0 (c.ticks-at.result + 1) (ticks c.self.inside.book.rows + 1) c.self.invariant c.note_release-job.ensures.notes (ap (λ n. n + 1) c.ticks-at.ensures.value))
+    (notes_after c.self.inside c.note_release-job.new.arrivals c.args.task.0 (c.ticks-at.result + 1) (ticks c.self.inside.log.rows + 1) c.self.invariant c.note_release-job.ensures.notes (ap (λ n. n + 1) c.ticks-at.ensures.value))
 
 pub returns : goal.returns
 returns g c =

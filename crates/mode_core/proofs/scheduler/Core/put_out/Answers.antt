@@ -8,7 +8,7 @@ pub invariant_of-self : goal.invariant_of-self
 invariant_of-self g c =
     core_give c.self.inside _ c.args.task.0 c.self.invariant
     (subst (λ (s : State). grant_refusal s c.args.task.0 ≡ None) (sym c.self.view_is) c.requires.none)
-    refl (first_job c.self.inside.book.rows _ c.in-Some.x c.in-Some.ensures) refl refl refl
+    refl (first_job c.self.inside.log.rows _ c.in-Some.x c.in-Some.ensures) refl refl refl
 
 pub returns-clause-sound : goal.returns-clause-sound
 returns-clause-sound g c = (invariant_of-self g c).sound

@@ -24,14 +24,14 @@ invariant_of-self g c =
     core_write c.self.inside _ c.args.task.0 _ take (ap (λ (s : State). s.out) c.self.view_is ∙ c.requires.out)
     (row_is c.self.inside c.args.task.0 _ _ (job_is c.self.inside c.args.task _ take c.note_release-job.ensures.job) c.keeps-kept.ensures)
     c.push_release.ensures refl refl refl
-    (notes_after c.self.inside c.note_release-job.new.arrivals c.args.task.0 c.ticks-at.result (ticks c.self.inside.book.rows) c.self.invariant c.note_release-job.ensures.notes c.ticks-at.ensures.value)
+    (notes_after c.self.inside c.note_release-job.new.arrivals c.args.task.0 c.ticks-at.result (ticks c.self.inside.log.rows) c.self.invariant c.note_release-job.ensures.notes c.ticks-at.ensures.value)
 
 pub returns : goal.returns
 returns g c =
     let a = c.self.inside in
     let take = takes a _ c.args.task.0 c.self.invariant c.self.view_is c.requires.in_set c.requires.none in
     let job = job_is a c.args.task _ take c.note_release-job.ensures.job in
-    let after = record a { book = c.push_release.new.self; arrivals = c.note_release-job.new.arrivals } in
+    let after = record a { log = c.push_release.new.self; arrivals = c.note_release-job.new.arrivals } in
     let now = c.ticks-at.ensures.value ∙ begun_in (state_of a) (ap (λ (s : State). s.out) c.self.view_is ∙ c.requires.out) in
     record {
       answer =

@@ -1,7 +1,7 @@
 use Rattle.std.proofs.Common.{◌≡◌, ℕ, ◌+◌, ◌-◌, ◌*◌, ◌≤◌, is_some, None, length, subst, ap, sym, ◌∙◌, arith}
 use Rattle.std.proofs.lemmas.List.{get_or_read}
 use Rattle.ready_queue.specs.Items.{Queue, item_of}
-use Rattle.ready_queue.specs.Kept.{items_at}
+use Rattle.ready_queue.specs.Representation.{items_at}
 use Rattle.ready_queue.proofs.Keep.{item_there, item_zero, item_above}
 use Rattle.ready_queue.proofs.queue.ReadyQueue.has.Goals as goal
 use Rattle.ready_queue.proofs.queue.ReadyQueue.has.Goals.{then-number-eq0-via-then-number-eq0, then-number-eq0-via-else-number-eq0+then-number-self}

@@ -2,7 +2,7 @@ use Rattle.std.proofs.Common.{◌≡◌, ◌≤◌, List, Option, None, subst, s
 use Rattle.std.proofs.lemmas.List.{with_items_is}
 use Rattle.ready_queue.specs.declared.item.Item.{Item}
 use Rattle.ready_queue.specs.Items.{Queue, item_of, with_item}
-use Rattle.ready_queue.specs.Kept.{AreNodes, queue_at}
+use Rattle.ready_queue.specs.Representation.{AreNodes, queue_at}
 use Rattle.ready_queue.proofs.Keep.{changed, put_item, kept_insert, items_insert, with_items_of}
 use Rattle.ready_queue.proofs.queue.ReadyQueue.insert.Goals as goal
 

@@ -1,5 +1,5 @@
 use Rattle.std.proofs.Common.{[], subst, sym, ap, ◌∙◌}
-use Rattle.ready_queue.specs.Kept.{AreNodes, items_at}
+use Rattle.ready_queue.specs.Representation.{AreNodes, items_at}
 use Rattle.ready_queue.proofs.Keep.{kept_new, items_new, with_items_of}
 use Rattle.ready_queue.proofs.queue.ReadyQueue.new.Goals as goal
 

@@ -3,7 +3,7 @@ use Rattle.std.proofs.lemmas.List.{with_items_is}
 use Rattle.ready_queue.specs.declared.item.Item.{Item}
 use Rattle.ready_queue.specs.Items.{Queue, by_real}
 use Rattle.ready_queue.specs.Tree.{rekeyed}
-use Rattle.ready_queue.specs.Kept.{AreNodes, queue_at}
+use Rattle.ready_queue.specs.Representation.{AreNodes, queue_at}
 use Rattle.ready_queue.proofs.Keep.{changed, kept_rekey, items_rekey, with_items_of}
 use Rattle.ready_queue.proofs.queue.ReadyQueue.rekey_high.Goals as goal
 

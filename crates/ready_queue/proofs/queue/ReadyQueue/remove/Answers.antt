@@ -2,7 +2,7 @@ use Rattle.std.proofs.Common.{List, Option, subst, sym, ap, ◌∙◌, arith}
 use Rattle.std.proofs.lemmas.List.{with_items_is}
 use Rattle.ready_queue.specs.declared.item.Item.{Item}
 use Rattle.ready_queue.specs.Items.{Queue, without}
-use Rattle.ready_queue.specs.Kept.{AreNodes, queue_at}
+use Rattle.ready_queue.specs.Representation.{AreNodes, queue_at}
 use Rattle.ready_queue.proofs.Keep.{changed, clear_task, kept_remove, items_remove, with_items_of, nothing_out}
 use Rattle.ready_queue.proofs.queue.ReadyQueue.remove.Goals as goal
 

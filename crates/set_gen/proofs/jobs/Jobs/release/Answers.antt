@@ -1,8 +1,8 @@
 use Rattle.std.proofs.Common.{◌≡◌, ℕ, ◌+◌, ◌<◌, ◌≤◌, ◌++◌, ◌∙◌, ap, arith, length, length-set, slice_index}
 use Rattle.set_gen.specs.Words.{after}
-use Rattle.set_gen.specs.MadeWork.{job_rows}
+use Rattle.set_gen.specs.GeneratedWork.{job_rows}
 use Rattle.set_gen.specs.NextReleases.{IsNext, release_of}
-use Rattle.set_gen.proofs.Scans.{released_of, rows-more, words-more, released_of-more, before_more, behind_more, none_between, next-until}
+use Rattle.set_gen.proofs.Scans.{released_of, rows-more, words-more, released_of-more, before_more, after_more, none_between, next-until}
 use Rattle.set_gen.proofs.jobs.Jobs.release.Goals as goal
 
 pub loop-i-preserved : goal.loop-i-preserved
@@ -16,7 +16,7 @@ loop-i-preserved c =
       words = rw more (words-more c.args.self.now.words c.loop-i.self.words c.visit.new.self.words (released_of c.args.gaps.now c.args.at c.loop-i.i) (release_of (slice_index c.args.gaps.now c.loop-i.i) c.args.at (c.loop-i.i + 1)) kept.words visit.words);
       count = ap length visit.next ∙ length-set c.loop-i.self.next.items c.loop-i.i c.in_ok-next.next ∙ kept.count;
       past = before_more (λ k n. IsNext (slice_index c.args.gaps.now k) (c.args.at + 1) n) c.loop-i.self.next.items c.visit.new.self.next.items c.loop-i.i c.in_ok-next.next within visit.next kept.past visit.is;
-      left = behind_more (λ k n. IsNext (slice_index c.args.gaps.now k) c.args.at n) c.loop-i.self.next.items c.visit.new.self.next.items c.loop-i.i c.in_ok-next.next (length c.args.gaps.now) visit.next kept.left;
+      left = after_more (λ k n. IsNext (slice_index c.args.gaps.now k) c.args.at n) c.loop-i.self.next.items c.visit.new.self.next.items c.loop-i.i c.in_ok-next.next (length c.args.gaps.now) visit.next kept.left;
       later = let after_it : c.args.at + 1 ≤ c.in_ok-next.next = visit.is.reached in omega (arith, c.min-least.ensures);
       within = omega (arith, c.min-least.ensures);
       least = before_more (λ k n. c.min-least.result ≤ n) c.loop-i.self.next.items c.visit.new.self.next.items c.loop-i.i c.in_ok-next.next within visit.next (λ k less. let far : c.loop-i.least ≤ slice_index c.loop-i.self.next.items k = kept.least k less in omega (arith, c.min-least.ensures)) (omega (arith, c.min-least.ensures));

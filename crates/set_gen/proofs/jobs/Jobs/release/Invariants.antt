@@ -1,6 +1,6 @@
 use Rattle.std.proofs.Common.{◌≡◌, ℕ, ◌+◌, ◌<◌, ◌≤◌, ◌++◌, length, slice_index}
 use Rattle.set_gen.specs.Words.{after}
-use Rattle.set_gen.specs.MadeWork.{job_rows}
+use Rattle.set_gen.specs.GeneratedWork.{job_rows}
 use Rattle.set_gen.specs.NextReleases.{IsNext}
 use Rattle.set_gen.proofs.Scans.{released_of}
 use Rattle.set_gen.proofs.jobs.Jobs.release.Given as goal

@@ -1,7 +1,7 @@
 use Rattle.std.proofs.Common.{subst}
 use Rattle.timetable.specs.Floor.{FloorState}
 use Rattle.timetable.specs.Plans.{IsOnPlan}
-use Rattle.timetable.proofs.Kept.{on_plan}
+use Rattle.timetable.proofs.KeepsPlan.{on_plan}
 use Rattle.timetable.proofs.floor.Floor.core.Goals as goal
 
 pub returns-clause-on_plan : goal.returns-clause-on_plan

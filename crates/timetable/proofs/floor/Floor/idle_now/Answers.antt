@@ -2,14 +2,14 @@ use Rattle.std.proofs.Common.{◌≡◌, true, None, Err, sym, ap, ◌∙◌, su
 use Rattle.mode_core.specs.Events as core_event
 use Rattle.mode_core.specs.declared.answers.IdleFault.TheVariants as idle_fault
 use Rattle.timetable.specs.Floor.{FloorState, is_planned, tick_refusal}
-use Rattle.timetable.proofs.Kept.{kept_idle, idle_not_full}
+use Rattle.timetable.proofs.KeepsPlan.{stored_idle, idle_not_full}
 use Rattle.timetable.proofs.floor.Floor.idle_now.Goals.{in-Ok, in-Err}
 use Rattle.timetable.proofs.floor.Floor.idle_now.Goals as goal
 
 pub invariant_of-self : goal.invariant_of-self
 invariant_of-self c =
     let none = subst (λ (f : FloorState). tick_refusal f ≡ None) (sym c.self.view_is) c.requires.none in
-    kept_idle c.self.inside.plan c.self.inside.core c.idle.new.self c.self.inside.taken c.self.inside.needs c.self.inside.last c.ticks-sound.ensures.sound c.self.invariant none c.idle.ensures.state
+    stored_idle c.self.inside.plan c.self.inside.core c.idle.new.self c.self.inside.taken c.self.inside.needs c.self.inside.last c.ticks-sound.ensures.sound c.self.invariant none c.idle.ensures.state
 
 pub returns-clause-no_full : goal.returns-clause-no_full
 returns-clause-no_full c planned e =

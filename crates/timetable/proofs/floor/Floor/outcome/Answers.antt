@@ -1,7 +1,7 @@
 use Rattle.std.proofs.Common.{◌≡◌, cond, sym, ap, ◌∙◌, subst}
 use Rattle.mc_model.specs.Core.{State}
 use Rattle.timetable.specs.Floor.{FloorState, is_planned, outcome_answer, after_outcome}
-use Rattle.timetable.proofs.Kept.{same_outcome}
+use Rattle.timetable.proofs.KeepsPlan.{same_outcome}
 use Rattle.timetable.proofs.floor.Floor.outcome.Goals.{then-is_planned, else-is_planned}
 use Rattle.timetable.proofs.floor.Floor.outcome.Goals as goal
 

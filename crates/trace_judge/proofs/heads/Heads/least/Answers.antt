@@ -4,7 +4,7 @@ use Rattle.std.proofs.lemmas.List.{get_or_read}
 use Rattle.trace_judge.proofs.Trees.{root_below, root_there}
 use Rattle.trace_judge.proofs.heads.Heads.least.Goals as goal
 
--- the place that is read is the root
+-- the node that is read is the root
 root : (nodes : List ℕ) (x : ℕ) → 2 ≤ length nodes → x ≡ get_or nodes 1 x → slice_index nodes 1 ≡ x
 root nodes x some read = sym (get_or_read nodes 1 x (omega (arith, some)) read 0)
 

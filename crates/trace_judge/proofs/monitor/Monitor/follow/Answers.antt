@@ -8,8 +8,8 @@ use Rattle.trace_judge.proofs.monitor.Monitor.follow.Goals as goal
 
 pub step-requires-clause-time : goal.step-requires-clause-time
 step-requires-clause-time c =
-    let place : c.args.self.now.state.place ≡ c.self.inside.state.place = ap (λ (m : Watched). m.state.place) (sym c.self.view_is) in
-    omega (arith, c.requires.room, place, c.self.invariant.tracks.place, c.self.invariant.tracks.ticks, ticks-le c.self.invariant.rows)
+    let rows : c.args.self.now.state.rows ≡ c.self.inside.state.rows = ap (λ (m : Watched). m.state.rows) (sym c.self.view_is) in
+    omega (arith, c.requires.room, rows, c.self.invariant.tracks.rows, c.self.invariant.tracks.ticks, ticks-le c.self.invariant.rows)
 
 pub returns-in-Some-clause-answer : goal.returns-in-Some-clause-answer
 returns-in-Some-clause-answer c h w =
@@ -31,7 +31,7 @@ returns-in-Some-2-clause-rows c =
     rw (← c.self.view_is) (λ h w. (
     let f = rw c.in-Some-2.is at c.in_ok-step.ensures.step in
     let k = tracked h (a_monitor c.self.inside.set c.self.inside.rule c.self.inside.state c.self.inside.unfit) c.in_default.is w in
-    stops_unfit c.self.inside.set.tasks c.self.inside.rule c.args.run h c.self.inside.state.place c.in-Some-2.misfit k.1.place (f h k.0 k.1)
+    stops_unfit c.self.inside.set.tasks c.self.inside.rule c.args.run h c.self.inside.state.rows c.in-Some-2.misfit k.1.rows (f h k.0 k.1)
     ∙ ap (λ (u : Unfit). Some u) (sym c.unfit_after-unfit.ensures)))
 
 pub returns-in-Some-2-clause-answer : goal.returns-in-Some-2-clause-answer

@@ -10,8 +10,8 @@ pub returns-in-None-clause-verdict : goal.returns-in-None-clause-verdict
 returns-in-None-clause-verdict c =
     rw (← c.self.view_is) (λ h w. (
     let k = tracked h (a_monitor c.self.inside.set c.self.inside.rule c.self.inside.state c.self.inside.unfit) c.in-None.is w in
-    let place : c.self.inside.state.place < 2 ^ 64 = search rules in
-    c.legal.ensures ∙ legal_verdict c.self.inside.set.tasks c.self.inside.rule h c.self.inside.state k.0 k.1 (omega (arith, k.1.place, place)) c.all_lates.result c.all_lates.ensures))
+    let rows : c.self.inside.state.rows < 2 ^ 64 = search rules in
+    c.legal.ensures ∙ legal_verdict c.self.inside.set.tasks c.self.inside.rule h c.self.inside.state k.0 k.1 (omega (arith, k.1.rows, rows)) c.all_late_jobs.result c.all_late_jobs.ensures))
 
 pub returns-in-None-clause-no_late : goal.returns-in-None-clause-no_late
 returns-in-None-clause-no_late c h w holds =

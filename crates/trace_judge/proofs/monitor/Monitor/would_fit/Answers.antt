@@ -12,8 +12,8 @@ returns-in-Some-clause-answer c h w =
 
 pub look-requires-clause-time : goal.look-requires-clause-time
 look-requires-clause-time c =
-    let place : c.args.self.now.state.place ≡ c.self.inside.state.place = ap (λ (m : Watched). m.state.place) (sym c.self.view_is) in
-    omega (arith, c.in_ok-check_run.ensures.room, place, c.self.invariant.tracks.place, c.self.invariant.tracks.ticks, ticks-le c.self.invariant.rows)
+    let rows : c.args.self.now.state.rows ≡ c.self.inside.state.rows = ap (λ (m : Watched). m.state.rows) (sym c.self.view_is) in
+    omega (arith, c.in_ok-check_run.ensures.room, rows, c.self.invariant.tracks.rows, c.self.invariant.tracks.ticks, ticks-le c.self.invariant.rows)
 
 pub returns-in-None-clause-answer : goal.returns-in-None-clause-answer
 returns-in-None-clause-answer c =
@@ -27,5 +27,5 @@ returns-in-Some-look-clause-answer c =
     rw (← c.self.view_is) (λ h w. (
     let f = rw c.in-Some-look.is at c.look.ensures in
     let k = tracked h (a_monitor c.self.inside.set c.self.inside.rule c.self.inside.state c.self.inside.unfit) c.in_default.is w in
-    sym (stops_unfit c.self.inside.set.tasks c.self.inside.rule c.args.run h c.self.inside.state.place c.in-Some-look.misfit k.1.place (f h k.0 k.1)
+    sym (stops_unfit c.self.inside.set.tasks c.self.inside.rule c.args.run h c.self.inside.state.rows c.in-Some-look.misfit k.1.rows (f h k.0 k.1)
     ∙ ap (λ (u : Unfit). Some u) (sym c.unfit_after.ensures))))

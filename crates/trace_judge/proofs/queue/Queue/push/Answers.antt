@@ -10,11 +10,11 @@ invariant_of-self c = subst IsQueue (sym c.in_err-put_at.ensures.unchanged) c.se
 
 pub invariant_of-self-2 : goal.invariant_of-self-2
 invariant_of-self-2 c =
-    subst IsQueue (sym c.in_ok-put_at.ensures.items) (ordered_insert c.self.inside.jobs.items c.place_for-place.result c.args.job c.self.invariant c.requires c.place_for-place.ensures)
+    subst IsQueue (sym c.in_ok-put_at.ensures.items) (ordered_insert c.self.inside.jobs.items c.position_for-position.result c.args.job c.self.invariant c.requires c.position_for-position.ensures)
 
 pub returns-clause-jobs : goal.returns-clause-jobs
 returns-clause-jobs c f =
-    ap (total f) c.in_ok-put_at.ensures.items ∙ (total_insert f c.self.inside.jobs.items c.place_for-place.result c.args.job ∙ ap (λ (qs : List Queued). f c.args.job + total f qs) c.self.view_is)
+    ap (total f) c.in_ok-put_at.ensures.items ∙ (total_insert f c.self.inside.jobs.items c.position_for-position.result c.args.job ∙ ap (λ (qs : List Queued). f c.args.job + total f qs) c.self.view_is)
 
 pub returns-clause-ordered : goal.returns-clause-ordered
 returns-clause-ordered c = invariant_of-self-2 c

@@ -8,7 +8,7 @@ use Rattle.trace_judge.proofs.queue.Queue.take_out.Goals as goal
 
 pub returns-in-Some-clause-jobs : goal.returns-in-Some-clause-jobs
 returns-in-Some-clause-jobs c =
-    c.take_at.ensures ∙ (sym (remove_at (has_count c.args.count) c.self.inside.jobs.items c.in-Some.place c.in-Some.ensures.first)
+    c.take_at.ensures ∙ (sym (remove_at (has_count c.args.count) c.self.inside.jobs.items c.in-Some.position c.in-Some.ensures.first)
     ∙ ap (remove_first (has_count c.args.count)) c.self.view_is)
 
 pub returns-in-Some-clause-ordered : goal.returns-in-Some-clause-ordered

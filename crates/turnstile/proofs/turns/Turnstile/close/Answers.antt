@@ -27,7 +27,7 @@ covered (s ∷ seats) last more k e = elim (cases_eq (number s) k) [
 
 pub unseat-requires-clause-all : goal.unseat-requires-clause-all
 unseat-requires-clause-all g c k lt =
-    rw (c.gather.ensures.me, c.into_place-place.ensures.0)
+    rw (c.gather.ensures.me, c.into_table_seat-table_seat.ensures.0)
     (covered c.pop.new.self.items c.unwrap-first.result _ k (rw (c.pop.ensures.items, c.unwrap-first.ensures) at (c.requires.each k lt)))
 
 pub returns : goal.returns
@@ -36,14 +36,14 @@ returns g c =
     let by = g.S.Kept.by in
     let seats = c.pop.new.self.items in
     let me = c.gather.ensures.me in
-    let told = subst (λ m. All (HasAllOf by u.log) m.0.joined) me u.told in
-    let own = subst (λ p. HasAllOf by u.log (report_of p.me.0)) c.into_place-place.ensures.0 (subst (λ m. HasAllOf by u.log (report_of m.0)) me u.own) in
+    let known = subst (λ m. All (HasAllOf by u.log) m.0.joined) me u.known in
+    let own = subst (λ p. HasAllOf by u.log (report_of p.me.0)) c.into_table_seat-table_seat.ensures.0 (subst (λ m. HasAllOf by u.log (report_of m.0)) me u.own) in
     let items = c.pop.ensures.items ∙ ap (λ r. seats ++ option_to_list r) c.unwrap-first.ensures in
     record {
       log = u.log;
       stands = u.stands;
       fixed = u.fixed;
       each = All-same (λ s. HasAllOf by u.log (report s)) _ _ items
-          (All-push (λ s. HasAllOf by u.log (report s)) seats c.unwrap-first.result (held_first (HasAllOf by u.log) report seats _ told) own);
+          (All-push (λ s. HasAllOf by u.log (report s)) seats c.unwrap-first.result (held_first (HasAllOf by u.log) report seats _ known) own);
       others = u.others;
     }

@@ -5,8 +5,8 @@ use Rattle.turnstile.proofs.turns.Turnstile.enter.Given as goal
 
 abbrev pub invariant-loop : goal.invariant-loop
 invariant-loop g l = record {
-  table : l.place.table_id ≡ l.self.board.shared.table_id;
-  waits : IsWaiting l.place.me;
-  same : l.place.me ≡ (drawn_view l.fn.seat.place.me.0 l.place.me.0.ticket, []);
-  ticket : l.place.me.0.ticket % 2 ^ 64 ≡ l.ticket;
+  table : l.table_seat.table_id ≡ l.self.board.shared.table_id;
+  waits : IsWaiting l.table_seat.me;
+  same : l.table_seat.me ≡ (drawn_view l.fn.seat.table_seat.me.0 l.table_seat.me.0.ticket, []);
+  ticket : l.table_seat.me.0.ticket % 2 ^ 64 ≡ l.ticket;
 }

@@ -7,11 +7,11 @@ use Rattle.turnstile.proofs.turns.Turnstile.gather.Goals as goal
 pub join_seat-requires : goal.join_seat-requires
 join_seat-requires g c =
     let i = c.loop-seat.invariant.idle in
-    let w = c.into_place.ensures.1 in
+    let w = c.into_table_seat.ensures.1 in
     let items = c.in-Some.ensures.items in
-    let all = All-pop (λ s. s.place.table_id ≡ c.args.self.now.board.shared.table_id) _ c.pop.new.self.items (Some c.in-Some.seat) items c.loop-seat.invariant.of in (
+    let all = All-pop (λ s. s.table_seat.table_id ≡ c.args.self.now.board.shared.table_id) _ c.pop.new.self.items (Some c.in-Some.seat) items c.loop-seat.invariant.of in (
       search rules,
-      ap (λ p. p.table_id) c.into_place.ensures.0 ∙ all.1,
+      ap (λ p. p.table_id) c.into_table_seat.ensures.0 ∙ all.1,
       w.3,
       search rules,
       joins g.S.Kept _ _ _ _ _ _ (i.0, i.1, i.2) (w.0, w.1, w.2),
@@ -27,6 +27,6 @@ loop-seat-preserved g c =
       id = search rules;
       idle = rw me old.idle;
       me = rw (me, old.me) refl;
-      joined = rw (me, c.into_place.ensures.0) (simp (items, map-append, append_assoc) at old.joined);
-      of = (All-pop (λ s. s.place.table_id ≡ c.args.self.now.board.shared.table_id) _ c.pop.new.self.items (Some c.in-Some.seat) items old.of).0;
+      joined = rw (me, c.into_table_seat.ensures.0) (simp (items, map-append, append_assoc) at old.joined);
+      of = (All-pop (λ s. s.table_seat.table_id ≡ c.args.self.now.board.shared.table_id) _ c.pop.new.self.items (Some c.in-Some.seat) items old.of).0;
     }

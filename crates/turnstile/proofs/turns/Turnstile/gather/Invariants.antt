@@ -6,12 +6,12 @@ use Rattle.turnstile.proofs.turns.Turnstile.gather.Given as goal
 
 abbrev pub invariant-loop-seat : goal.invariant-loop-seat
 invariant-loop-seat g l = record {
-  table : (l.place.table_id ≡ l.self.board.shared.table_id);
-  id : l.place.id ≡ l.fn.place.id;
-  idle : IsIdle l.place.me;
-  me : l.place.me ≡ (with_reports l.fn.place.me.0 l.place.me.0.joined, []);
-  joined : map report l.seats.items ++ l.place.me.0.joined ≡ map report l.fn.seats.items ++ l.fn.place.me.0.joined;
-  of : All (λ s. s.place.table_id ≡ l.self.board.shared.table_id) l.seats.items;
+  table : (l.table_seat.table_id ≡ l.self.board.shared.table_id);
+  id : l.table_seat.id ≡ l.fn.table_seat.id;
+  idle : IsIdle l.table_seat.me;
+  me : l.table_seat.me ≡ (with_reports l.fn.table_seat.me.0 l.table_seat.me.0.joined, []);
+  joined : map report l.seats.items ++ l.table_seat.me.0.joined ≡ map report l.fn.seats.items ++ l.fn.table_seat.me.0.joined;
+  of : All (λ s. s.table_seat.table_id ≡ l.self.board.shared.table_id) l.seats.items;
 }
 
 abbrev pub decreases-loop-seat : goal.decreases-loop-seat

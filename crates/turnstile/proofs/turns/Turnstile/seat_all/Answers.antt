@@ -1,6 +1,6 @@
 use Rattle.std.proofs.Common.{rules, arith, ◌≡◌, ◌+◌, ◌∙◌, ◌∷◌, ◌++◌, [], All, length, List, length-append, sym, ap, refl, subst, Some}
 use Rattle.std.proofs.lemmas.List.Elements.{All-push, All-same}
-use Rattle.turnstile.specs.declared.board.View.{View}
+use Rattle.turnstile.specs.declared.board.SeatView.{SeatView}
 use Rattle.turnstile.specs.declared.kept.Kept.{Ghosts}
 use Rattle.turnstile.specs.declared.tokens.Seat.{Seat}
 use Rattle.turnstile.specs.declared.turns.Turnstile.{Turnstile}
@@ -11,8 +11,8 @@ use Rattle.turnstile.proofs.Lists.{each_last}
 use Rattle.turnstile.proofs.turns.Turnstile.seat_all.Goals as goal
 
 -- one more fresh seat of the turnstile at the end of the list
-one_more : {S E F : Type 0} {kept : Ghosts S E F} (t : Turnstile S E F) (seats more : List (Seat S E F kept)) (s : Seat S E F kept) (v : View E F)
-    → more ≡ seats ++ s ∷ [] → AreFresh seats → All (λ s. IsOf t s) seats → s.place.table_id ≡ t.board.shared.table_id → s.place.me.0 ≡ v
+one_more : {S E F : Type 0} {kept : Ghosts S E F} (t : Turnstile S E F) (seats more : List (Seat S E F kept)) (s : Seat S E F kept) (v : SeatView E F)
+    → more ≡ seats ++ s ∷ [] → AreFresh seats → All (λ s. IsOf t s) seats → s.table_seat.table_id ≡ t.board.shared.table_id → s.table_seat.me.0 ≡ v
     → (v.number ≡ length seats) × (v.seen ≡ []) × (v.mine ≡ []) × (v.fixed ≡ Some (fixed_part kept.fixed t)) → AreFresh more × All (λ s. IsOf t s) more
 one_more t seats more s v is fresh all table me new = (
   subst AreFresh (sym is) (each_last IsFresh seats s fresh (ap (λ w. w.number) me ∙ new.0, ap (λ w. w.seen) me ∙ new.1, ap (λ w. w.mine) me ∙ new.2)),
@@ -25,7 +25,7 @@ split_seat-next-requires g c =
     let lt = c.loop-i-test.true in (
       l.table,
       search rules,
-      splits g.S.Kept _ _ c.loop-i.place.id c.loop-i.place.me.0 (rw l.me (refl, refl, refl)) (rw l.me refl) (rw l.me (omega (arith, l.len, lt))),
+      splits g.S.Kept _ _ c.loop-i.table_seat.id c.loop-i.table_seat.me.0 (rw l.me (refl, refl, refl)) (rw l.me refl) (rw l.me (omega (arith, l.len, lt))),
     )
 
 pub loop-i-preserved : goal.loop-i-preserved

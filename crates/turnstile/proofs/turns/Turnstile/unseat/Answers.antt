@@ -16,4 +16,4 @@ returns g c =
     let i = c.requires.idle in
     let e = ends g.S.Kept c.args.self _ _ _ _ (i.0, i.1, i.2) c.requires.all c.close_with-closed.ensures.values.2 in
     let same : e.0 ≡ c.unwrap.result = cc in
-    subst (Unseats g.S.Kept c.args.self c.args.place.me.0) same e.2
+    subst (Unseats g.S.Kept c.args.self c.args.table_seat.me.0) same e.2

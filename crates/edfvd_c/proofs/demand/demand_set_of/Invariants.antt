@@ -1,0 +1,7 @@
+use Rattle.std.proofs.Common.{◌≡◌, map}
+use Rattle.std.specs.Prelude.{take}
+use Rattle.edfvd_c.specs.DemandTested.{numbers_of}
+use Rattle.edfvd_c.proofs.demand.demand_set_of.Given as goal
+
+abbrev pub invariant-loop-place : goal.invariant-loop-place
+invariant-loop-place l = map numbers_of l.tasks.items ≡ take l.place l.given

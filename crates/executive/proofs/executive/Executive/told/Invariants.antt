@@ -1,5 +1,0 @@
-use Rattle.turnstile.specs.Seats.{state_of}
-use Rattle.executive.proofs.executive.Executive.told.Given as goal
-
-abbrev pub ghosts-leave : goal.ghosts-leave
-ghosts-leave g a = record { entry = (state_of a.turn).called.last }

@@ -1,5 +1,0 @@
-use Rattle.std.proofs.Common.{◌≡◌, ◌+◌, ◌≤◌, vec_len, vec_capacity}
-use Rattle.task_threads.proofs.places.Places.new.Given as goal
-
-abbrev pub invariant-loop-task : goal.invariant-loop-task
-invariant-loop-task l = (vec_len l.places + 1 ≡ l.task) × (l.tasks ≤ vec_capacity l.places)

@@ -1,0 +1,35 @@
+use Rattle.std.proofs.Common.{◌≡◌, ◌≢◌, ℕ, ◌≤◌, ◌==◌, Bool, true, List, [], ◌∷◌, length, ap, subst, ◌∙◌, inl, inr, arith}
+use Rattle.std.specs.Prelude.{All, Contains}
+use Rattle.std.specs.List.{list_any}
+use Rattle.std.proofs.lemmas.Bool.{cases_eq}
+use Rattle.std.proofs.lemmas.Bool.Decides.{nat_tests}
+use Rattle.trace_judge.specs.declared.queue.Queued.{Queued}
+use Rattle.trace_judge.specs.Heads.{no_key}
+use Rattle.trace_judge.specs.Entries.{Entry, PendingEntries}
+use Rattle.trace_judge.specs.Queues.{AreQueues, entries_from}
+use Rattle.trace_judge.proofs.Queues.{none_there, head_entry}
+use Rattle.trace_judge.proofs.pending_queues.PendingQueues.is_empty.Goals as goal
+
+-- where an entry passes a test there is one
+some_length : (p : Entry → Bool) (es : List Entry) → list_any p es ≡ true → length es ≢ 0
+some_length p [] h e = cc
+some_length p (x ∷ es) h e = omega (arith, e)
+
+-- by the least key of the heads
+says : (qs : List (List Queued)) (heads : List ℕ) (least : ℕ) → AreQueues qs heads → All (λ (key : ℕ). least ≤ key) heads → Contains heads least → (least == no_key) ≡ (length (entries_from 1 qs) == 0)
+says qs heads least a below there =
+    elim (cases_eq least no_key) [
+      | inl e ↦
+          let none = none_there 1 qs a.each (subst (λ (ks : List ℕ). All (λ (key : ℕ). no_key ≤ key) ks) a.heads_are
+          (subst (λ (k : ℕ). All (λ (key : ℕ). k ≤ key) heads) e below)) in
+          grind (arith, nat_tests, ap length none, e)
+      | inr ne ↦
+          let some = some_length (λ (o : Entry). o.0.0 == least) (entries_from 1 qs)
+          (head_entry least qs ne (subst (λ (ks : List ℕ). Contains ks least) a.heads_are there)) in
+          grind (arith, nat_tests, some, ne)
+    ]
+
+pub returns : goal.returns
+returns c =
+    says c.self.inside.queues.items c.self.inside.heads c.least.result c.self.invariant c.least.ensures.below c.least.ensures.there
+    ∙ ap (λ (h : PendingEntries). length h.entries == 0) c.self.view_is

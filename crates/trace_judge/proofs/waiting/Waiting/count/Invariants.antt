@@ -1,8 +1,0 @@
-use Rattle.std.proofs.Common.{◌≡◌, ◌+◌, ◌-◌, ◌^◌, ◌≤◌, min, length}
-use Rattle.trace_judge.proofs.waiting.Waiting.count.Given as goal
-
-abbrev pub invariant-loop-count : goal.invariant-loop-count
-invariant-loop-count l = (l.count ≤ 2 ^ 64 - 1) × (min (l.count + length l.rest) (2 ^ 64 - 1) ≡ min (length l.self.entries) (2 ^ 64 - 1))
-
-abbrev pub decreases-loop-count : goal.decreases-loop-count
-decreases-loop-count l = length l.rest

@@ -1,0 +1,210 @@
+//! The pending jobs: those of each task in a queue, and the least key of each queue.
+ghost use Rattle.std.specs.Prelude.{◌≡◌, ◌+◌, ◌-◌, ◌<◌, ◌≤◌, ◌==◌, min, [], ◌∷◌, ◌^◌, IfOk, OnOk, OnErr, MatchOption, length, replicate};
+ghost use Rattle.trace_judge.specs.Heads.{no_key};
+ghost use Rattle.trace_judge.specs.Firsts.{change_first, remove_first};
+ghost use Rattle.trace_judge.specs.Entries.{HasQueue, IsMore, Stands, is_of, spent_entry};
+
+use crate::heads::{Heads, NO_KEY};
+use crate::queue::{Queue, Queued};
+use mc_task::{JobId, Memory};
+use std::alloc::{AllocError, Global};
+use std::marker::Model;
+
+/// What is kept of a pending job: its release time, the ticks that it has had, and the number of rows before its release.
+#[derive(Clone, Copy, Debug, PartialEq, Eq)]
+pub struct Pending {
+    pub release: u64,
+    pub used: u64,
+    pub rows_before: u64,
+}
+
+/// A job's key, its task's number and its count.
+pub type Rank = (u128, u32, u32);
+
+/// Where a job stands among the pending ones.
+#[derive(Clone, Copy, Debug, PartialEq, Eq)]
+pub enum Standing {
+    NotPending,
+    /// A pending job has a lesser key.
+    NotLeast,
+    Least { pending: Pending },
+}
+
+/// The pending jobs.
+#[derive(Drop)]
+pub struct PendingQueues {
+    queues: Vec<Queue>,
+    heads: Heads,
+}
+
+impl Model for PendingQueues {
+    ghost use Rattle.trace_judge.specs.Entries.{PendingEntries};
+
+    ghost Value = { PendingEntries };
+
+    ghost use Rattle.trace_judge.specs.Queues.{pending_entries, AreQueues};
+
+    ghost view = { λ a. pending_entries a.queues.items };
+
+    ghost invariant = { λ a. AreQueues a.queues.items a.heads };
+}
+
+impl PendingQueues {
+    /// No pending jobs, of `count` tasks.
+    pub fn new(alloc: Global, count: u32) -> Result<PendingQueues, Memory>
+        requires { 1 ≤ count }
+        ensures { IfOk result (λ waiting. waiting ≡ record { tasks = count; entries = [] }) }
+    {
+        let queues = empty_queues(alloc, count)?;
+        let heads = Heads::new(alloc, count)?;
+        Ok(PendingQueues { queues, heads })
+    }
+
+    /// Whether no job is pending.
+    pub fn is_empty(&self) -> bool
+        ensures { result ≡ (length self.now.entries == 0) }
+    {
+        self.heads.least() == NO_KEY
+    }
+
+    /// The number of pending jobs, at most 2^64 - 1.
+    pub fn count(&self) -> u64
+        ensures { result ≡ min (length self.now.entries) (2 ^ 64 - 1) }
+    {
+        let mut count = 0u64;
+        let mut remaining = self.remaining();
+        while let Some(_) = remaining.pop() {
+            count = count.saturating_add(1);
+        }
+        count
+    }
+
+    /// Where the job stands among the pending ones.
+    pub fn standing_of(&self, job: JobId) -> Standing
+        requires { HasQueue self.now job.task.0 }
+        ensures { Stands self.now.entries job result }
+    {
+        match self.queues[job.task.0 as usize - 1].find(job.count) {
+            None => Standing::NotPending,
+            Some(queued) => {
+                if queued.key == self.heads.least() {
+                    Standing::Least {
+                        pending: queued.pending,
+                    }
+                } else {
+                    Standing::NotLeast
+                }
+            }
+        }
+    }
+
+    /// Adds a pending job.
+    // Inlined: the call would cost about as much as the body.
+    #[inline(always)]
+    pub fn put(&mut self, at: Rank, pending: Pending) -> Result<(), Memory>
+        requires task { HasQueue self.old at.1 }
+        requires key { at.0 < no_key }
+        ensures tasks { OnOk result (self.new.tasks ≡ self.old.tasks) }
+        ensures entries { OnOk result (IsMore self.new.entries (at, pending) self.old.entries) }
+        ensures unchanged { OnErr result (self.new ≡ self.old) }
+    {
+        let index = at.1 as usize - 1;
+        let queue = &mut self.queues[index];
+        let is_first = queue.push(Queued {
+            key: at.0,
+            count: at.2,
+            pending,
+        })?;
+        if !is_first {
+            return Ok(());
+        }
+        self.heads.lower(index, at.0);
+        Ok(())
+    }
+
+    /// Counts `ticks` more ticks of the job.
+    pub fn spend(&mut self, job: JobId, ticks: u32)
+        requires { HasQueue self.old job.task.0 }
+        ensures tasks { self.new.tasks ≡ self.old.tasks }
+        ensures entries { self.new.entries ≡ change_first (is_of job) (spent_entry ticks) self.old.entries }
+    {
+        self.queues[job.task.0 as usize - 1].spend(job.count, ticks);
+    }
+
+    /// Takes the job out.
+    #[inline(always)]
+    pub fn take_out(&mut self, job: JobId)
+        requires { HasQueue self.old job.task.0 }
+        ensures tasks { self.new.tasks ≡ self.old.tasks }
+        ensures entries { self.new.entries ≡ remove_first (is_of job) self.old.entries }
+    {
+        let index = job.task.0 as usize - 1;
+        let queue = &mut self.queues[index];
+        queue.take_out(job.count);
+        self.heads.set(index, queue.head_key());
+    }
+
+    /// All pending jobs, to be gone through.
+    pub fn remaining(&self) -> Remaining<'_>
+        ensures { result ≡ self.now.entries }
+    {
+        Remaining {
+            queues: &self.queues,
+            next: 0,
+            at: 0,
+        }
+    }
+}
+
+// A queue without jobs for each of `count` tasks.
+fn empty_queues(alloc: Global, count: u32) -> Result<Vec<Queue>, AllocError>
+    ensures { IfOk result (λ queues. queues.items ≡ replicate count []) }
+{
+    let mut queues = Vec::new(alloc);
+    for _ in 0..count {
+        queues.push(Queue::new(alloc))?;
+    }
+    Ok(queues)
+}
+
+/// The pending jobs that are still to be gone through, task by task: those of the queues from `next` on, except the first
+/// `at` of them.
+#[derive(Drop)]
+pub struct Remaining<'a> {
+    queues: &'a [Queue],
+    next: usize,
+    at: usize,
+}
+
+impl<'a> Model for Remaining<'a> {
+    ghost use Rattle.std.specs.Prelude.{List};
+    ghost use Rattle.trace_judge.specs.Entries.{Entry};
+
+    ghost Value = { List Entry };
+
+    ghost use Rattle.trace_judge.specs.Queues.{remaining_of, IsRemaining};
+
+    ghost view = { λ a. remaining_of a.queues.now a.next a.at };
+
+    ghost invariant = { λ a. IsRemaining a.queues.now a.next a.at };
+}
+
+impl<'a> Remaining<'a> {
+    /// The next job.
+    pub fn pop(&mut self) -> Option<(Rank, Pending)>
+        ensures { MatchOption result (self.old ≡ []) (λ e. self.old ≡ e ∷ self.new) }
+    {
+        while self.next < self.queues.len() {
+            let queue = &self.queues[self.next];
+            if self.at < queue.len() {
+                let job = queue.at(self.at);
+                let task = self.next as u32 + 1;
+                self.at += 1;
+                return Some(((job.key, task, job.count), job.pending));
+            }
+            self.next += 1;
+            self.at = 0;
+        }
+        None
+    }
+}
