@@ -48,7 +48,7 @@ for file in "$bin/edfvd" "$man/edfvd.1"; do
     [ -d "$file" ] && refuse "$file is a folder"
 done
 
-# put MODE FILE TO: the new file takes the old one's place in one step, also where that one runs
+# put MODE FILE TO: the new file replaces the old one in one step, even if that one is running
 put() {
     new=$3.new.$$
     if ! { cp "$2" "$new" && chmod "$1" "$new" && mv -f "$new" "$3"; }; then

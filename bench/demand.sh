@@ -24,7 +24,7 @@ demands() {
     { echo task,period,deadline,budget; tr ' ' ','; } >"$work/$1.csv"
 }
 
-# 128 tasks whose periods are the divisors of 500,000 from 1,000 up, but for two of them, with deadlines of 9/10 of the periods
+# 128 tasks whose periods are the divisors of 500,000 from 1,000 up, except two of them, with deadlines of 9/10 of the periods
 # and a load of about 1/200 each.
 awk 'BEGIN {
     count = split("1000 1250 2000 2500 3125 4000 5000 6250 10000 12500 15625 20000 25000 31250 50000 62500 100000 500000", periods, " ")

@@ -20,7 +20,7 @@ failed=0
 # 8 tasks that are all released at each 8th tick, each for one: no two ticks are equal.
 awk 'BEGIN { for (i = 1; i <= 8; i++)
     printf "[[task]]\nname = \"t%d\"\nlevel = \"%s\"\nperiod = 8\nlow = 1\n%s\n", i, i % 2 ? "high" : "low", i % 2 ? "high = 1\n" : "" }' >"$work/turns.toml"
-# turns VERSION RECORDS: so many records of their trace, and the header
+# turns VERSION RECORDS: the header and the first RECORDS records of their trace
 turns() {
     awk -v version="$1" -v records="$2" 'BEGIN {
         print version == 1 ? "event,tick,task,job,how" : "event,tick,length,task,job,how"
@@ -31,7 +31,7 @@ turns() {
         }
     }'
 }
-# idles VERSION RECORDS: so many idle ticks
+# idles VERSION RECORDS: the header and RECORDS idle ticks
 idles() {
     awk -v version="$1" -v records="$2" 'BEGIN {
         print version == 1 ? "event,tick,task,job,how" : "event,tick,length,task,job,how"

@@ -26,7 +26,7 @@ awk 'BEGIN { for (i = 1; i <= 128; i++) {
     printf "period = %s\nlow = 10000000\n%s\n", i % 2 ? "1431655765" : "4294967295", i % 2 ? "high = 17000000\n" : ""
 } }' >"$work/tasks.toml"
 
-# measure NAME RUNS COMMAND..: the time of so many runs, and the peak memory of one
+# measure NAME RUNS COMMAND..: the time of RUNS runs, and the peak memory of one
 measure() {
     name=$1
     runs=$2

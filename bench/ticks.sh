@@ -19,7 +19,7 @@ trap 'exit 1' HUP INT TERM
 [ $# -gt 0 ] || ../edfvd check ../examples/control/tasks.toml >"$work/out" || exit 1
 . ./workloads.sh
 
-# instructions NAME TICKS: how many the floor's calls take in so many ticks of the workload, which repeats exactly
+# instructions NAME TICKS: how many instructions the floor's calls take in TICKS ticks of the workload, which repeats exactly
 instructions() {
     valgrind --tool=callgrind --callgrind-out-file=/dev/null --collect-atstart=no '--toggle-collect=timetable::floor::Floor::*' \
         "$program" run "$work/$1.toml" "$work/$1.csv" "$2" 2>&1 >/dev/null | sed -n 's/.*Collected : //p'

@@ -1,9 +1,9 @@
-"""Times commands that take milliseconds: runs them in turn, so that all meet the same neighbours, and prints of each the least
-and the median time, in milliseconds, the start of its process among it, and then how long the host of a virtual machine kept its
-processors from it meanwhile: where that is much, the times say little.
+"""Times commands that take milliseconds. It runs them in turn, so that all run beside the same other processes. For each command
+it prints the least and the median time, in milliseconds, with the start of its process. Then it prints how long the host of a
+virtual machine took the processors away meanwhile: if that is long, the times say little.
 
-usage: times.py RUNS COMMAND.., each command one word with its own words between blanks; where the first of these is `one`, the
-command behind it runs on one processor
+usage: times.py RUNS COMMAND.., each command one word, with its own words between blanks; if the first of these is `one`, the
+rest of the command runs on one processor
 """
 
 import os

@@ -21,7 +21,7 @@
  *
  * Each call stands on a function of the proved libraries in crates/edfvd_c and crates/edfvd_ask_c. edfvd.c and edfvd_ask.c,
  * which are not proved, stand between: they refuse null pointers, a scheduler or monitor that was copied or moved while it was
- * open, and one that another thread is in. docs/C-AND-PYTHON.md says what is proved and what has to be trusted.
+ * open, and one that another thread is in. docs/C-AND-PYTHON.md says what is proved and what must be trusted.
  */
 #ifndef EDFVD_H
 #define EDFVD_H

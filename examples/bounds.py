@@ -21,7 +21,7 @@ PERIODS = [1000, 1250, 2000, 2500, 3125, 4000, 5000, 6250, 10000, 12500, 15625, 
 class Worst(NamedTuple):
     what: str
     words: list
-    plain: Optional[str] = None  # the plain program, which takes the words behind the command, or all of them
+    plain: Optional[str] = None  # the plain program, which takes the words after the command, or all of them
 
 
 # ---- Files ----
@@ -58,7 +58,7 @@ def crowd_work(count, period, end):
 
 
 def turns(records):
-    """So many records, of 128 tasks in turn."""
+    """This number of records, of 128 tasks in turn."""
     lines = []
     for place in range(records):
         turn, step = divmod(place, 256)
@@ -68,7 +68,7 @@ def turns(records):
 
 
 def one_by_one(records):
-    """A trace of one job that has so many ticks, each in a record of its own."""
+    """A trace of one job, with this number of records: its release, and then each tick in a record of its own."""
     return TRACE + 'release,0,,t0,1,kept\n' + ''.join(f'tick,{tick},1,t0,1,more\n' for tick in range(records - 1))
 
 

@@ -358,7 +358,7 @@ expect 4 "$(says 'work file line 1000002: more than 1000000 rows')" run "$work/t
 # Traces: absent, cut, past the limit of bytes; and half a million pending jobs at a time.
 rows='event,tick,task,job,how'
 runs_header='event,tick,length,task,job,how'
-# answers STATUS LINE HEADER RECORDS: a trace of these records behind the header is judged so for the control set
+# answers STATUS LINE HEADER RECORDS: a trace with the header and then these records gets this verdict for the control set
 answers() {
     # shellcheck disable=SC2059
     printf "$3\n$4" >"$work/trace.csv"
@@ -485,7 +485,7 @@ expect 6 "$(says 'legal late 999999 first b 1')" judge "$work/tasks.toml" "$work
 
 # Demand files: absent, a folder, at the limit of bytes and past it, hostile bytes, at the limits of tasks and periods.
 demands='task,period,deadline,budget'
-# meets LENGTH RECORDS: a demand file of these records behind the header meets its deadlines, checked to this length
+# meets LENGTH RECORDS: the tasks of a demand file with the header and then these records meet their deadlines, checked to this length
 meets() {
     # shellcheck disable=SC2059
     printf "$demands\n$2" >"$work/demands.csv"
@@ -593,7 +593,7 @@ table() {
     if [ $# -eq 5 ]; then printf 'high = %s\n' "$5"; fi
     echo
 }
-# An earlier processor is tried again, and the first that takes a task gets it, also where another is fuller. The task that is
+# An earlier processor is tried again, and the first that takes a task gets it, even if another is fuller. The task that is
 # named is the first that none of them takes: `c` still fits, and `d` does not.
 { table a low 10 5; table b low 10 8; table c low 10 2; table d low 10 3; table e low 10 2; } >"$work/first.toml"
 expect 0 "$(says 'processor 1 a c d
@@ -647,7 +647,7 @@ printf '%s\n' "$header" >"$work/none.csv"
 by_part "$work/crowd.toml" "$work/none.csv" 100000 16
 
 # Task files of version 2, with a scale.
-# scaled TOP [TASKS]: a task file of these lines and, behind them, of this file, by default that of the control set
+# scaled TOP [TASKS]: a task file with these lines and then those of this file, by default of the control set
 scaled() {
     printf '%b' "$1" | cat - "${2:-control/tasks.toml}" >"$work/scaled.toml"
 }
@@ -733,7 +733,7 @@ scaled 'version = 2\nscale = [1, 2]\n' refused/periods.toml
 expect 3 refused/periods.txt check "$work/scaled.toml"
 
 # Each refusal of what stands at the top, in their order, and of each two that can come together the first.
-# refuses_top LINE TOP [TASKS]: a task file of these lines, and of this file behind them, is refused with this line
+# refuses_top LINE TOP [TASKS]: a task file with these lines and then those of this file is refused with this line
 refuses_top() {
     scaled "$2" "${3:-control/tasks.toml}"
     expect 3 "$(says "task file: $1")" check "$work/scaled.toml"
@@ -774,7 +774,7 @@ expect 3 "$(says 'task file: task 0: out of range scale')" stretch "$work/scaled
 expect 3 "$(says 'task file: task 0: out of range scale')" live "$work/scaled.toml" 10
 expect 3 "$(says 'task file: task 0: out of range scale')" judge "$work/scaled.toml" "$work/absent.csv" 1 2
 
-# How much room a set has.
+# How far the high budgets of a set may grow.
 expect 7 "$(says 'read fault on file 1')" stretch "$work/absent.toml"
 expect 3 refused/zero_period.txt stretch refused/zero_period.toml
 expect 3 "$(says 'task file: task 2: periods out of range')" stretch "$work/apart.toml"

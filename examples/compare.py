@@ -1,14 +1,15 @@
 """Compares the program with model.py, which was written from the rules alone, on cases that are made by a seed.
 
-A case is a command, its files and its words: sets whose loads lie round 1 or at it, also with periods at the limits;
-random work; legal traces of a few ticks or up to a hundred million, with random choices, such traces cut short or with
-a spoilt row, also by scales that do not hold; made workloads; sets for several processors; sets with a scale of their own,
-which holds or does not; and files that are refused. A trace is of either version, and then mostly given a second time as
-another text, for which the answer has to be the same. The status and the whole
-text have to be the model's, nothing stands on standard error, and no job is late under a rule that holds. Of the many
-texts that `live` may write the model says whether this is one. What came of the cases is counted. A comparison of as
-many cases as by default fails, too, where one of STATUSES or OUTCOMES never came, since it then shows less than it
-says. Files of cases that differ are kept, and named.
+A case is a command, its files and its words. There are sets whose loads are about 1 or exactly 1, also with periods at the
+limits; random work; legal traces of a few ticks or up to a hundred million, with random choices; such traces cut short or
+with a spoilt row, and traces by scales that do not hold; generated workloads; sets for several processors; sets with a scale
+of their own, which holds or does not; and files that are refused. A trace is of either version. Mostly it is given a second
+time as another text, for which the answer must be the same.
+
+The status and the whole text must be the model's, standard error must be empty, and no job may be late under a rule that
+holds. `live` may write many texts, and the model says whether the text is one of them. The script counts what came up in the
+cases. With the default number of cases or more, it also fails if one of STATUSES or OUTCOMES never came up, since it then
+shows less than it says. It keeps the files of cases that differ, and prints their names.
 
 usage: compare.py PROGRAM [CASES [SEED]]
 """
@@ -62,7 +63,7 @@ STEMS = ['t', 't', 'ctl', 'log_', 'A-', 'long-name', 'n' * 29]
 
 
 def budgets(dice, periods, hundredths):
-    """A budget for each period, so that together they load about so many hundredths."""
+    """A budget for each period, so that together they load the processor by about this number of hundredths."""
     weights = [between(dice, 1, 8) for _ in periods]
     return [
         min(MOST, max(1, period * hundredths * weight // (100 * sum(weights))))
@@ -75,7 +76,7 @@ def task(dice, number, level, period, own):
 
 
 def tasks_of(dice, periods, most=110):
-    """Tasks of these periods, with loads of up to so many hundredths."""
+    """Tasks of these periods, with loads of up to `most` hundredths."""
     highs = [period for period in periods if chance(dice, 1, 2)]
     lows = list((collections.Counter(periods) - collections.Counter(highs)).elements())
     high_budgets = budgets(dice, highs, between(dice, 30, most))
@@ -319,7 +320,7 @@ ODD_SCALES = [
 
 def spoilt_scale(dice, tree):
     """The tree of a task file of version 2 with another version, another scale, or both, and now and then with a fault
-    behind these."""
+    after these."""
     tree = dict(tree)
     change = dice.below(4)
     if change == 0:
@@ -369,8 +370,8 @@ MOST_RUNS = 150
 
 
 def wander(dice, tasks, rule, end, stride=1):
-    """A legal trace of about so many ticks or MOST_RUNS runs: releases at will, of equal keys any, jobs that are done
-    at will, and up to so many ticks at once."""
+    """A legal trace of about `end` ticks or MOST_RUNS runs. When tasks release, which of equal keys comes first and when
+    jobs are done is random; at most `stride` ticks come at once."""
     eager, lasting = dice.one_of([(1, 100), (1, 10), (1, 4), (2, 100), (2, 4), (6, 2)])
     trace = Trace()
     while model.ticks(trace) < end and len(trace.runs) < MOST_RUNS:
@@ -383,7 +384,7 @@ def wander(dice, tasks, rule, end, stride=1):
 
 
 def some_ticks(dice, tasks, rule, trace, lasting, most):
-    """Ticks that may come next, no more than so many."""
+    """Ticks that may come next, at most `most`."""
     now = model.ticks(trace)
     waiting = model.keys(tasks, rule, trace, model.pending(tasks, trace))
     if not waiting:
@@ -398,7 +399,7 @@ def some_ticks(dice, tasks, rule, trace, lasting, most):
 
 
 def release_some(dice, tasks, rule, trace, eager):
-    """Releases of the tasks that are allowed one, each once in so many times."""
+    """Releases of the tasks that may release now, each with a chance of one in `eager`."""
     now = model.ticks(trace)
     for number in shuffled(dice, range(1, len(tasks) + 1)):
         earlier = model.releases_of(trace, number)
@@ -421,7 +422,7 @@ def counted_anew(runs):
     return counted
 
 
-# A trace of so many rows at most is also given in version 1.
+# A trace of at most MOST_BY_ROWS rows is also given in version 1.
 MOST_BY_ROWS = 400
 
 
@@ -537,7 +538,7 @@ ROW_CHANGES = 3 * [other_kind, other_pending, past_a_budget] + 2 * [other_count,
 
 
 def spoilt_runs(dice, tasks, runs):
-    """The runs with one of them spoilt, mostly one of a job, in one to three ways, and their ticks counted anew."""
+    """The runs with one of them spoilt, mostly one of a job, in one to three ways, and their ticks counted again."""
     places = [place for place, run in enumerate(runs) if run.kind != IDLE or chance(dice, 1, 8)]
     place = dice.one_of(places or range(len(runs)))
     spoilt = list(runs)
@@ -561,7 +562,7 @@ def some_trace(dice, tasks, rule):
 
 
 def stretched(runs, end):
-    """The runs up to the last idle one, which is made so long that there are so many ticks."""
+    """The runs up to the last idle one, which is made so long that there are `end` ticks."""
     places = [place for place, run in enumerate(runs) if run.kind == IDLE]
     if not places:
         return runs
@@ -698,7 +699,7 @@ def judge_by_scale_case(dice, chosen=without_scale):
 
 
 def with_odd_length(dice, runs):
-    """The runs with another length of one of them, also where it is of one row; those behind it are counted anew."""
+    """The runs with another length of one of them, even if it is one row; the ticks of those after it are counted again."""
     place = dice.below(len(runs))
     run = runs[place]
     to_the_limit = MOST_TICKS - run.tick
@@ -772,7 +773,7 @@ def wide_demands(dice):
 
 
 def with_fault(dice, demands):
-    """The tasks, one of which mostly may not stand behind those before it, for one reason or for several."""
+    """The tasks, one of which mostly may not come after those before it, for one reason or for several."""
     place = dice.below(len(demands))
     task = demands[place]
     for _ in range(between(dice, 1, 3)):
@@ -1025,7 +1026,7 @@ def rule_of(case):
 
 
 def kinds_of_trace(case, runs):
-    """What is told of the traces that were read."""
+    """What comes up in the traces that were read."""
     yield 'traces', 'version 1' if case.second.startswith('event,tick,task') else 'version 2'
     if any(run.length > 1 for run in runs):
         yield 'traces', 'a run of several rows'
@@ -1265,7 +1266,7 @@ class Comparison:
             self.compare_twin(number, case, contents, wanted)
 
     def compare_twin(self, number, case, contents, first_answer):
-        """The same trace as another text: the answer is the same, but for the line of a record that is refused."""
+        """The same trace as another text: the answer is the same, except for the line of a record that is refused."""
         contents = contents[:1] + [case.twin.encode()]
         status, text = wanted = model.answer(case.command, case.tree, case.twin, case.words)
         found = self.runner.run(case.command, contents, case.words)

@@ -24,8 +24,8 @@ def set_of(dice):
     return [Demand('abcd'[k], *numbers) for k, numbers in enumerate(zip(periods, deadlines, budgets))]
 
 
-# A run of so many ticks: each task releases where it may, in any order and with this likelihood; of the pending jobs one
-# of the earliest deadline has the tick, which now and then is its last.
+# A run of `ticks` ticks. Each task that may release does so with one likelihood for the whole run, in any order. Of the pending jobs
+# one with the earliest deadline has the tick, which is sometimes its last.
 def run_of(dice, demands, ticks):
     rows, likelihood = [], dice.choice([0.2, 0.6, 0.95])
     for now in range(ticks):

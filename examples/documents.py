@@ -1,8 +1,8 @@
 """Makes documents of TOML from trees, by a grammar: dotted keys, headers, arrays of tables and inline tables, each kind of
-string, number and date, comments, blank lines and both line ends; and documents that are wrong in one place.
+string, number and date, comments, blank lines and both kinds of line end. It also makes documents that are wrong in one place.
 
-It was written from the text of TOML 1.0, with the forms that 1.1 adds where they are asked for. Python's tomllib, where it is
-there, is a second reader of those in 1.0.
+It was written from the text of TOML 1.0, and on request uses the forms that 1.1 adds. Python's tomllib, if there is one, is a
+second reader of the documents in 1.0.
 """
 
 import datetime
@@ -86,7 +86,7 @@ class Writer:
         parts = self.characters(text, '\t\n' if self.has_newlines else '\t')
         for place in range(len(parts) + 1):
             if self.chance(1, 6):
-                # A backslash at the end of a line takes the white space behind it away, so no raw one may follow there.
+                # A backslash at the end of a line takes the white space after it away, so no raw one may follow there.
                 rest = ''.join(parts[place:])
                 if rest[:1] not in (' ', '\t', '\n'):
                     parts[place:place] = ['\\' + self.blank() + '\n' + self.dice.one_of(['', '  ', '\n\t'])]
@@ -263,7 +263,7 @@ TWICE = [
     'z = 1\nz = 2', 'z = 1\n"z" = 2', "z = 1\n'z' = 2", 'z = 1\n"\\u007a" = 2', 'z = 1\nz.y = 2', 'z.y = 1\nz = 2', 'z.y = 1\nz.y = 2',
     'z.y = 1\nz.y.x = 2', 'z = {}\nz.y = 1', 'z = { y = 1 }\nz.x = 1', 'z = []\nz.y = 1', 'z.y = { x = 1 }\nz.y.w = 2',
     'z.y.x = 1\nz.y = 2']
-# The same of tables, whose first part stands at the top: behind it all statements are in another table.
+# Tables that come twice. The first part of each is at the top, since after it all statements are in another table.
 TWICE_TABLES = [
     '[z]\n[z]', '[z]\n["z"]', '[z.y]\n[z.y]', '[z]\n[[z]]', '[[z]]\n[z]', '[z]\ny = 1\n[z.y]', '[z]\ny = 1\n[z.y.x]', '[z]\ny.x = 1\n[z.y]',
     '[z]\ny = {}\n[z.y]', '[z]\ny = {}\n[z.y.x]', '[z]\ny = []\n[[z.y]]', '[z]\ny = [{}]\n[[z.y]]', '[[z.y]]\n[[z]]', '[z.y]\n[[z]]',

@@ -1,4 +1,4 @@
-# Sourced by each script of this folder that runs the built program: runs it, and compares with what is wanted of it.
+# Sourced by each script of this folder that runs the built program: runs it, and compares what it does with what is expected.
 edfvd=$PWD/../edfvd
 # The built program itself. It is proved and built where it is not there.
 program=${PROGRAM:-$PWD/../crates/edfvd_program/out/edfvd_program}
@@ -19,7 +19,7 @@ bounded() {
     timeout 60 "$@"
 }
 
-# judge WANTED STATUS TEXT WORDS: notes one run, whose output is in $work/out and is to be that of the file TEXT
+# judge WANTED STATUS TEXT WORDS: notes one run, whose output is in $work/out and must be that of the file TEXT
 judge() {
     runs=$((runs + 1))
     if [ "$2" -ne "$1" ] || ! cmp -s "$work/out" "$3"; then
@@ -94,7 +94,7 @@ half_served() {
 }
 
 # refuse SETTINGS WORDS..: runs the words with the library of refusals before the C library's; the status is in $status, the
-# output in $work/out, and what the library tells in $work/err
+# output in $work/out, and what the library reports in $work/err
 refuse() {
     settings=$1
     shift
@@ -103,8 +103,8 @@ refuse() {
     status=$?
 }
 
-# told WORD: the number that the library tells of it
-told() {
+# reported WORD: the number that the library reports for it
+reported() {
     sed -n "s/^$1 //p" "$work/err"
 }
 

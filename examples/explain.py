@@ -1,6 +1,6 @@
-"""The verdict on a trace, and of an illegal one what stands behind it: the line, the mode, the pending jobs, what fits.
+"""The verdict on a trace, and for an illegal one the reasons: the line, the mode, the pending jobs, and what would fit.
 
-It works over walk.py and model.py, the other program that was written from the rules alone, and calls no built one. Its
+It works over walk.py and model.py, which were written from the rules alone, and calls no built program. Its
 first line and its status are those of `judge`.
 
 usage: explain.py TASKS TRACE [P Q]
@@ -84,7 +84,7 @@ def whereabouts(walk, job):
     return f'{name_of(walk, job)} was not released: its task has had {walk.released(job.task)[0]} releases'
 
 
-# All that is told of a row that does not fit.
+# All lines that are written for a row that does not fit.
 def explanation(misfit, header):
     walk, run = misfit.walk, misfit.run
     yield f'line {misfit.placed.line}: {",".join(misfit.placed.record)}{place_in_record(misfit)}'

@@ -105,11 +105,11 @@ is_front() {
     [ "$written" -lt "$(wc -c <"$work/ordinary")" ] && head -c "$written" "$work/ordinary" | cmp -s - "$work/out"
 }
 
-# is_told: the run that failed has the status and the text of what was refused
-is_told() {
-    case $(told refused) in
+# is_reported: the run that failed has the status and the text for what was refused
+is_reported() {
+    case $(reported refused) in
     'open '* | 'read '*)
-        [ "$status" -eq 7 ] && cmp -s "$work/out" "$(says "read fault on file $(told 'refused [a-z]*')")"
+        [ "$status" -eq 7 ] && cmp -s "$work/out" "$(says "read fault on file $(reported 'refused [a-z]*')")"
         ;;
     write) [ "$status" -eq 8 ] && is_front ;;
     *) false ;;
@@ -137,7 +137,7 @@ is_cut_short() {
 
 # is_tried_again: the run ended as the one without interruptions, and each of its calls was interrupted three times
 is_tried_again() {
-    is_as_ever && [ "$(told calls)" -eq "$count" ] && [ "$(told interruptions)" -eq $((3 * count)) ]
+    is_as_ever && [ "$(reported calls)" -eq "$count" ] && [ "$(reported interruptions)" -eq $((3 * count)) ]
 }
 
 # fails NUMBER WORDS..: with this call refused, and if it is a write, with one that takes nothing in its place
@@ -145,15 +145,15 @@ fails() {
     call=$1
     shift
     refuse "MOST=$most_bytes CALL=$call INTERRUPT=$signals" "$@"
-    # `accept` asks for no file: what it opens tells how many processors it may use, and it does without.
-    case $1:$(told refused) in
+    # `accept` asks for no file: what it opens says how many processors it may use, and it does without.
+    case $1:$(reported refused) in
     'accept:open '* | 'accept:read '*)
         wants is_as_ever "$* with call $call refused"
         reads=$((reads + 1))
         return
         ;;
     esac
-    wants is_told "$* with call $call refused"
+    wants is_reported "$* with call $call refused"
     if [ "$status" -eq 7 ]; then
         reads=$((reads + 1))
     else
@@ -171,7 +171,7 @@ calls() {
     ordinary=$?
     refuse "MOST=$most_bytes" "$@"
     judge "$ordinary" "$status" "$work/ordinary" "$*, written in pieces"
-    count=$(told calls)
+    count=$(reported calls)
     refuse "MOST=$most_bytes INTERRUPT=3" "$@"
     wants is_tried_again "$* with each call interrupted three times"
     reads=0
@@ -209,7 +209,7 @@ threads() {
     ordinary=$?
     starts 0 "$@"
     refuse '' "$@"
-    count=$(told starts)
+    count=$(reported starts)
     each "$count" starts "$@"
     echo "edfvd $*: ${count:-no} starts of threads refused, one by one and all"
     [ "${count:-0}" -gt 0 ] || failed=$((failed + 1))

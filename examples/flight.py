@@ -1,7 +1,7 @@
-"""Makes the task file and the work file of twelve tasks of a flight computer, with ten thousand jobs, and tells what comes.
+"""Makes the task file and the work file of twelve tasks of a flight computer, with ten thousand jobs, and says what comes of them.
 
-Ticks are 100 microseconds. Each task releases as often as it may, or up to two ticks later; a job needs from the half of
-its low budget up to all of it, and one in 128 of the high ones its high budget. The numbers are those of model.py's
+Ticks are 100 microseconds. Each task releases as often as it may, or up to two ticks later; a job needs from half of its
+low budget up to all of it, and one in 128 high jobs needs its high budget. The numbers are those of model.py's
 generator, so a seed makes the same files everywhere. What comes is worked out by walk.py, which calls no built program.
 
 usage: flight.py FOLDER [SEED]

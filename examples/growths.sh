@@ -29,7 +29,7 @@ growths() {
     refuse GROWTH=0 "$@"
     ordinary=$status
     cp "$work/out" "$work/ordinary"
-    count=$(told growths)
+    count=$(reported growths)
     wanting=0
     each "$count" grows "$@"
     echo "edfvd $*: ${count:-no} growths; with one refused, $wanting runs want memory, the others do without it"

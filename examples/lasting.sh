@@ -27,7 +27,7 @@ notes() {
     runs=$((runs + 1))
     if ! "$@"; then
         failed=$((failed + 1))
-        echo "edfvd $what: status $status, $(wc -c <"$work/out") bytes written; refused $(told refused)"
+        echo "edfvd $what: status $status, $(wc -c <"$work/out") bytes written; refused $(reported refused)"
     fi
 }
 
@@ -36,7 +36,7 @@ is_as_ever() {
     [ "$status" -eq "$ordinary" ] && cmp -s "$work/out" "$work/ordinary"
 }
 
-# is_out_of_memory: the answer is whole, or memory was wanting and nothing was written
+# is_out_of_memory: the answer is whole, or memory ran out and nothing was written
 is_out_of_memory() {
     is_as_ever || { [ "$status" -eq 9 ] && [ ! -s "$work/out" ]; }
 }
@@ -50,13 +50,13 @@ is_front() {
 # is_fault KIND: the answer is whole, where no such call was left, or that of the first call that failed; where all fail, no
 # line of a read fault is written either
 is_fault() {
-    case $(told refused) in
+    case $(reported refused) in
     nothing) is_as_ever ;;
     write) [ "$status" -eq 8 ] && is_front "$work/ordinary" ;;
     *) if [ "$1" = all ]; then
         [ "$status" -eq 8 ] && [ ! -s "$work/out" ]
     else
-        [ "$status" -eq 7 ] && cmp -s "$work/out" "$(says "read fault on file $(told 'refused [a-z]*')")"
+        [ "$status" -eq 7 ] && cmp -s "$work/out" "$(says "read fault on file $(reported 'refused [a-z]*')")"
     fi ;;
     esac
 }
@@ -127,11 +127,11 @@ lasts() {
     bounded "$program" "$@" >"$work/ordinary"
     ordinary=$?
     refuse NO_MAPS=1 "$@"
-    filters=$(told filters)
+    filters=$(reported filters)
     refuse MOST=50 "$@"
-    calls=$(told calls)
-    growths=$(told growths)
-    starts=$(told starts)
+    calls=$(reported calls)
+    growths=$(reported growths)
+    starts=$(reported starts)
     nines=0
     before=$runs
     memory "$@"

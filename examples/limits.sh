@@ -26,7 +26,7 @@ wrote_nothing() {
     [ ! -s "$work/out" ]
 }
 
-# is_bounded: the answer is whole, or memory was wanting, or the program was not loaded: its loader or the system said so
+# is_bounded: the answer is whole, or memory ran out, or the program was not loaded: its loader or the system said so
 is_bounded() {
     is_as_ever && return
     wrote_nothing && case $status in
@@ -78,7 +78,7 @@ printf 'event,tick,length,task,job,how\nidle,0,2000000,,,\n' >"$work/long.csv"
 limits chart overrun/tasks.toml "$work/long.csv"
 [ "$nines" -gt 0 ] || failed=$((failed + 1))
 
-# A file that may have so many blocks of 512 bytes: a signal ends the run, after as many bytes as there may be; where the signal is
+# A limit on the blocks of 512 bytes that the output file may have: a signal ends the run when the limit is reached. If the signal is
 # ignored, the write fails, and the status is 8.
 printf 'event,tick,length,task,job,how\nidle,0,20000,,,\n' >"$work/idle.csv"
 bounded "$program" chart overrun/tasks.toml "$work/idle.csv" >"$work/ordinary"

@@ -60,12 +60,12 @@ checks() {
     # Short reads, so that a buffer that is read into grows several times. The growth is another eighth of them each time.
     pieces='MOST=1000 MOST_READ=20'
     refuse "$pieces" "$@"
-    growth=$(($(told growths) * (turn % 7 + 1) / 8 + 1))
+    growth=$(($(reported growths) * (turn % 7 + 1) / 8 + 1))
     case $((turn % 4)) in
     0) fault="GROWTH=$growth" ;;
     1) fault="GROWTHS_FROM=$growth" ;;
     2) fault="ONE_IN=9 SEED=$turn" ;;
-    3) fault="CALL=$((($(told calls) + 1) / 2))" ;;
+    3) fault="CALL=$((($(reported calls) + 1) / 2))" ;;
     esac
     turn=$((turn + 1))
     # The library's own malloc stays before the one of the C library, which alone is valgrind's. What starts the program is not meant.

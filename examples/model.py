@@ -1,11 +1,11 @@
 """EDF-VD and the program's answers, written from the rules alone: plain, slow, and without a line of the program.
 
-Each definition looks through a whole list: that of the tasks, of the work, or of a trace's rows, where equal ticks one
-behind the other stand together. Numbers are whole numbers and fractions of them, so nothing is rounded. The rules are
+Each definition looks through a whole list: that of the tasks, of the work, or of a trace's rows, in which
+consecutive equal ticks are one entry. Numbers are whole numbers and fractions of them, so nothing is rounded. The rules are
 those of docs/RULES.md, docs/FORMATS.md and docs/COMMANDS.md.
 
 Left out are TOML as text (a task file is the tree that the text stands for), records with quotes, carriage returns or a
-byte order mark, files that are too long or cannot be read, and want of memory.
+byte order mark, files that are too long or cannot be read, and running out of memory.
 
 usage: model.py
        works out the examples at the end of this file and compares them with what is written there
@@ -72,9 +72,9 @@ IDLE = 'idle'
 EVENTS = {KEPT: 'release', DROPPED: 'release', MORE: 'tick', DONE: 'tick', STOP: 'tick', OVER: 'tick', IDLE: 'idle'}
 
 
-# A row of a trace, or several equal ones, one behind the other: their kind, how many ticks, idle ones among them, stand
-# before the first of them, their job, which is none of an idle row, and how many they are. Several are idle ticks, or
-# ticks of a job with more to do.
+# A row of a trace, or several equal rows one after the other: their kind, the number of ticks (idle ones too) before the
+# first of them, their job (None for idle rows), and how many they are. Several are idle ticks, or ticks of a job with more
+# to do.
 class Run(NamedTuple):
     kind: str
     tick: int
@@ -82,7 +82,7 @@ class Run(NamedTuple):
     length: int = 1
 
 
-# Whether two that stand one behind the other are the same rows, of which there may be several.
+# Whether two consecutive runs have equal rows, of a kind that may be joined.
 def joins(first, second):
     return (first.kind, first.job) == (second.kind, second.job) and first.kind in (MORE, IDLE)
 
@@ -366,7 +366,7 @@ def need(work, job):
     return [row for row in work if row.task == job.task][job.count - 1].need
 
 
-# The rows of so many ticks, one after the other: at each boundary the releases, in the order of the work; then a tick
+# The rows of `count` ticks, one after the other: at each boundary the releases, in the order of the work; then a tick
 # of the least key, and of equal keys of the lowest task number; or an idle tick where nothing is pending.
 def follow(tasks, rule, work, count):
     trace = Trace()
@@ -524,7 +524,7 @@ def summary_text(tasks, runs):
         f'ticks {spent} idle {trace.count(IDLE)} switches {trace.count(OVER)}'])
 
 
-# ---- Made workloads ----
+# ---- Random workloads ----
 
 # The 32-bit words of PCG's generator XSH RR of 64 bits of state, for a seed and a stream.
 def pcg_words(seed, stream):
@@ -567,7 +567,7 @@ def made_need(task, word):
     return task.high if task.level == HIGH and word % 64 == 0 else 1 + word % task.low
 
 
-# The line of the call, the rule, the sums of the trace that follows the made work, and the verdict on it.
+# The line of the call, the rule, the sums of the trace that follows the generated work, and the verdict on it.
 def soak_text(seed, count, end):
     tasks, work = make(seed, count, end)
     rule = published(tasks)
@@ -627,19 +627,19 @@ def hyperperiod(demands):
     return math.lcm(*[task.period for task in demands])
 
 
-# What is asked for in so many ticks: the budgets of all jobs with release and deadline in them, where each task releases
-# at once and then as often as it may.
+# The demand of `length` ticks: the budgets of all jobs with release and deadline in them, if each task releases at once and
+# then as often as it may.
 def demand(demands, length):
     return sum(
         ((length - task.deadline) // task.period + 1) * task.budget for task in demands if task.deadline <= length)
 
 
-# The least length, up to the least common multiple of the periods, in which more is asked for than there is, or None.
+# The least length, up to the hyperperiod, in which jobs need more ticks than it has, or None.
 def first_past(demands):
     return next((length for length in range(1, hyperperiod(demands) + 1) if demand(demands, length) > length), None)
 
 
-# A row of a run under plain EDF: a release, a tick of a job, which is marked where it is to be the job's last, or an
+# A row of a run under plain EDF: a release, a tick of a job, which is marked if it must be the job's last, or an
 # idle tick.
 class EdfRow(NamedTuple):
     event: str
@@ -683,7 +683,7 @@ def edf_pending(demands, rows):
     return waiting
 
 
-# Why a row may not stand behind these in an EDF run, or None.
+# Why a row may not come after these in an EDF run, or None.
 def edf_misfit(demands, before, row):
     waiting = edf_pending(demands, before)
     if row.event == 'idle':
@@ -723,7 +723,7 @@ def edf_late(demands, rows):
     return late_ones
 
 
-# The run of so many ticks in which each task releases at every multiple of its period, the tasks of one boundary in
+# The run of `length` ticks in which each task releases at every multiple of its period, the tasks of one boundary in
 # their order, every job uses its whole budget, and of equal deadlines the lowest task number has the tick.
 def counterexample(demands, length):
     rows = []
@@ -747,7 +747,7 @@ def counterexample_lines(demands, rows):
     yield f'late {demands[job.task - 1].name} {job.count}'
 
 
-# What is told of a demand file.
+# What the command `demand` writes for a demand file.
 def demand_text(text):
     demands = read_demands(text)
     length = first_past(demands)
@@ -791,7 +791,7 @@ def partition_text(tasks, count):
         for number in range(1, count + 1))
 
 
-# The work of a processor's tasks, which have the numbers of their places there.
+# The work of a processor's tasks, with the numbers that the tasks have there.
 def part_work(processors, number, work):
     own = [task for task, processor in enumerate(processors, 1) if processor == number]
     return [row._replace(task=own.index(row.task) + 1) for row in work if row.task in own]
@@ -810,12 +810,12 @@ def runall_text(tasks, text, end, count):
     return told
 
 
-# ---- How much room a set has ----
+# ---- How far the high budgets may grow ----
 
 MOST_PERCENT = 1000
 
 
-# The tasks with their high budgets at so many hundredths of what they are, rounded down: no more than a number may be, and
+# The tasks with their high budgets at `percent` percent, rounded down: no more than a number may be, and
 # no less than the low budget.
 def at_percent(tasks, percent):
     return [
@@ -840,7 +840,7 @@ def stretch_text(tasks):
 ACCEPTED_AT = range(100, 201, 10)
 
 
-# For each of eleven percentages how many of the sets made from so many numbers have that stretch or a greater one.
+# For each of eleven percentages how many of `sets` random sets, from `seed` on, have that stretch or a greater one.
 def accept_text(seed, sets, count):
     stretches = [stretch(make(number, count, 0)[0]) for number in range(seed, seed + sets)]
     return lines(
@@ -865,7 +865,7 @@ class Refusal(Exception):
         self.line = line
 
 
-# The value of so many digits at most, or None where it is none or above the most.
+# The value of a text of at most `digits` digits, or None if it is no number or above `most`.
 def number_of(text, digits=10, most=MOST):
     if not 1 <= len(text) <= digits or not set(text) <= DIGITS or int(text) > most:
         return None
@@ -938,7 +938,7 @@ def six_fields(record):
     return record[:2] + ['' if record[0] == 'release' else '1'] + record[2:]
 
 
-# What is wrong with a record after so many ticks, or None.
+# What is wrong with a record after `due` ticks, or None.
 def trace_fault(tasks, header, due, record):
     if len(record) != len(header):
         return f'not {"five" if header == TRACE_HEADERS[1] else "six"} fields'
@@ -961,8 +961,7 @@ def trace_fault(tasks, header, due, record):
     return f'more than {MOST_TICKS} ticks' if due + number_of(length) > MOST_TICKS else None
 
 
-# Whether no ticks stand in one record with this length: none at all, or several behind one of which the job does not
-# go on.
+# Whether no record may have this length: it is 0, or more than 1 although the job does not go on after the first tick.
 def length_fault(length, how):
     return length == 0 or length > 1 and how not in (MORE, '')
 
@@ -1011,7 +1010,7 @@ def demand_fault(before, record):
 TASK_KEYS = ['name', 'level', 'period', 'low', 'high']
 
 
-# A key as it is told: the first 32 bytes, with `?` for each that is no visible ASCII character.
+# A key as an error message shows it: the first 32 bytes, with `?` for each that is no visible ASCII character.
 def shown(key_text):
     return ''.join(chr(byte) if 0x21 <= byte <= 0x7e else '?' for byte in key_text.encode()[:32])
 
@@ -1152,7 +1151,7 @@ COUNT_OF_WORDS = {
     'demand': [0], 'partition': [1], 'runall': [2], 'stretch': [0], 'accept': [3]}
 
 
-# The numbers behind the files, each within its range.
+# The numbers after the files, each within its range.
 def read_words(command, words):
     numbers = [number_of(word, 20, 2 ** 64 - 1) for word in words]
     if len(words) not in COUNT_OF_WORDS[command] or None in numbers:
@@ -1188,7 +1187,7 @@ def admitted(task_set):
     return rule
 
 
-# The text of a command, for the tree of its task file, the text of its second file, and the words behind them; None
+# The text of a command, for the tree of its task file, the text of its second file, and the words after them; None
 # where it is one of many, as `live_fault` says. The one file of `demand` is given as the second.
 def text_of(command, tree, second, words):
     numbers = read_words(command, words)
@@ -1610,7 +1609,7 @@ SCALED_EXAMPLES = {
 }
 
 # Task files, as what is at their top besides or in place of the tasks of the control set, with the refusal. Where a tree
-# has two faults, the first in the order of the format is told.
+# has two faults, the first in the order of the format is reported.
 NO_TABLE = {'task': {}}
 WIDE = 2 ** 63
 REFUSED_TOPS = {
@@ -1647,7 +1646,7 @@ REFUSED_TOPS = {
         {'version': 2, 'scale': [1, 2], 'task': 2 * [low('a', 2, 1)]}, 'tasks 1 and 2 have one name'),
 }
 
-# Records behind the header of version 2, and the refusal of the file, whose number of the line and cause are those of
+# Records after the header of version 2, and the refusal of the file, whose number of the line and cause are those of
 # the first record with a fault, and of its faults the first in the order of the format.
 REFUSED_TRACES = {
     'a_record_of_version_1': (['idle,0,,,'], '2: not six fields'),
@@ -1702,7 +1701,7 @@ VERDICTS = {
 LIVE_CONTROL = [
     'release,0,,ctl,1,kept', 'release,0,,log,1,kept', 'tick,0,1,ctl,1,more', 'tick,1,1,ctl,1,done',
     'tick,2,4,log,1,more', 'tick,6,1,log,1,done', 'idle,7,3,,,']
-# The jobs of ctl alone, each with its low budget but for the fourth, which passes it and has its high one.
+# The jobs of ctl alone, each with its low budget except the fourth, which passes it and has its high one.
 FOUR_JOBS = [
     line for count, at in enumerate([0, 10, 20, 30], 1) for line in [f'release,{at},,ctl,{count},kept'] + (
         [f'tick,{at},1,ctl,{count},more', f'tick,{at + 1},1,ctl,{count},done', f'idle,{at + 2},8,,,'] if count < 4 else
@@ -1735,7 +1734,7 @@ LIVE_TEXTS = {
     'live_against_its_scale': (with_scale(PLAIN_PAIR, 1, 2), 3, trace_file(*LO_BEFORE_HI), 'illegal row 3 not_least'),
 }
 
-# Demand files, by their records behind the header, with the status and what is told of each. The sets named buttazzo are
+# Demand files, by their records after the header, with the status and the output for each. The sets named buttazzo are
 # those of Buttazzo, Hard Real-Time Computing Systems, on EDF with deadlines below periods, and one with a tick more;
 # those named burns are those of Burns and Wellings, Real-Time Systems and Programming Languages, on deadline-monotonic
 # priorities, with ever more for the last task. What lengths ask for was added up by hand.

@@ -24,7 +24,7 @@ BYTES_OF_SEVERAL = 4 * BYTES
 
 TRACE_HEADER = 'event,tick,length,task,job,how'
 
-# Each command, its files, and the words behind them.
+# Each command, its files, and the words after them.
 TASK_FILES = sorted(glob.glob('*/tasks.toml') + glob.glob('refused/*.toml') + glob.glob('certified/*grown.toml'))
 EXAMPLES = [('check', [name], []) for name in TASK_FILES] + 2 * [('check', ['certified/outgrown.toml'], [])] + [
     ('run', ['overrun/tasks.toml', 'overrun/work.csv'], ['12']),
@@ -178,7 +178,7 @@ def has_processors_in_order(text):
 
 
 def has_each_tick(text):
-    """Whether the ticks of a counterexample are numbered one by one, up to the length that its first line tells."""
+    """Whether the ticks of a counterexample are numbered one by one, up to the length in its first line."""
     ticks = [int(line.split()[1]) for line in text.splitlines() if line.split()[0] in (b'tick', b'idle')]
     return ticks == list(range(int(text.splitlines()[0].split()[-1])))
 
@@ -297,7 +297,7 @@ def drop_records(records, dice):
 
 @on_records
 def other_rows(records, dice):
-    """Other records of a trace, whose ticks are counted anew."""
+    """Other records of a trace, whose ticks are counted again."""
     for _ in range(1 + dice.below(3)):
         dice.one_of([drop_one, double_one, swap_two, other_how])(records, dice)
     due = 0

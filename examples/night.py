@@ -26,7 +26,7 @@ from found import Call
 from usage import WrongWords, ends, whole_number
 
 CASES_OF_A_ROUND = 40
-# A case that fails is run so many times at most, and for so many seconds, while it is made smaller.
+# A case that fails is made smaller. For this it is run at most MOST_TRIES times, and for at most MOST_SECONDS seconds.
 MOST_TRIES = 1500
 MOST_SECONDS = 100
 NOT_TOML = (3, b'task file: not TOML\n')

@@ -1,6 +1,6 @@
 #!/bin/sh
 # Makes a repository of one's own in a new folder by the commands of docs/CALLING.md, and runs its program
-# by `rt try`, which proves nothing, so no crate is proved anew. With the word prove `rt ci first` proves it there too: that
+# by `rt try`, which proves nothing, so no crate is proved again. With the word prove `rt ci first` proves it there too: that
 # takes of the crates below what `rt ci` here has kept, and stops where one of them would have to be proved again.
 # usage: outside.sh [prove]
 . "$(dirname -- "$0")/usage.sh"

@@ -1,15 +1,15 @@
-"""Checks that pages of docs keep up with what they speak of. No built program is needed.
+"""Checks that the pages of docs agree with the files that they describe. It needs no built program.
 
 - MISTAKES.md names each message of crates/replies/specs.
 - FORMATS.md shows the files that it names as they are.
-- EVIDENCE.md names each clause and definition by its line, and tells the totals of definitions.py.
-- README.md tells the total of the headline.
+- EVIDENCE.md names each clause and definition by its line, and has the totals of definitions.py.
+- README.md has the total of the headline.
 - DEFINITIONS.md leads to each definition that the headline reaches, before its part on all others.
 - overrun.svg is what svg.py draws of the overrun.
 - CITATION.cff has the newest version of CHANGELOG.md.
 
 usage: pages.py [mend]
-       with the word, writes the lines and totals of EVIDENCE.md and README.md anew
+       with the word, writes the right line numbers and totals into EVIDENCE.md and README.md, and draws overrun.svg again
 """
 
 import pathlib
@@ -42,7 +42,7 @@ def messages_not_named():
     return [f'MISTAKES.md does not name: {words}' for words in messages() if words not in page]
 
 
-# The blocks of FORMATS.md behind the name of a file that are not that file.
+# The blocks of FORMATS.md after the name of a file that are not that file.
 def samples_that_differ():
     page = (ROOT / 'docs/FORMATS.md').read_text(encoding='utf-8')
     samples = re.findall(r'`(examples/[\w/.]+)`:\n\n```\w*\n(.*?)```', page, re.DOTALL)

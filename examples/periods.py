@@ -16,7 +16,7 @@ def log_uniform(dice, least, most):
     return int(math.exp(dice.uniform(math.log(least), math.log(most))))
 
 
-# How many of so many sets are out of range, where each of so many periods comes from this call.
+# How many of `sets` sets are out of range. Each set has `count` periods, each from a call of `period`.
 def past(sets, count, period):
     return sum(math.lcm(*[period() for _ in range(count)]) > MOST for _ in range(sets))
 

@@ -63,7 +63,7 @@ def rows_of(lines):
 
 
 def counted(records):
-    """The records with their ticks counted anew."""
+    """The records with their ticks counted again."""
     due = 0
     for record in records:
         record[1] = str(due)
@@ -73,7 +73,7 @@ def counted(records):
 
 
 def spoilt(lines, dice):
-    """The lines with one to three changes in one place, and mostly with their ticks counted anew."""
+    """The lines with one to three changes in one place, and mostly with their ticks counted again."""
     first = dice.below(len(lines))
     records = [line.split(',') for line in lines]
     for _ in range(dice.one_of([1, 1, 2, 3])):

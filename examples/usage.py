@@ -10,7 +10,7 @@ from errno import EBADF
 
 
 class WrongWords(Exception):
-    """Words that are none of the forms, and what else is to be said of them."""
+    """Words that are none of the forms, and what else to say about them."""
 
 
 def whole_number(word):

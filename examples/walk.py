@@ -61,7 +61,7 @@ class Left(NamedTuple):
     line: int
 
 
-# What is known behind the rows so far, which all fit.
+# What is known after the rows so far, which all fit.
 class Walk:
     def __init__(self, tasks, rule):
         self.tasks, self.rule = tasks, rule
@@ -175,7 +175,7 @@ class Misfit(NamedTuple):
     why: str
 
 
-# Goes through a whole trace, and answers what is known behind it, or the first row that does not fit.
+# Takes the walk through a whole trace. Returns the first row that does not fit, or None if all fit.
 def go_through(walk, trace) -> Optional[Misfit]:
     for placed in trace:
         for piece in walk.pieces(placed.run):
@@ -188,7 +188,7 @@ def go_through(walk, trace) -> Optional[Misfit]:
 
 # ---- The one trace of a list of work ----
 
-# The runs of so many ticks that follow the work, which is in the order of its releases; the walk is at its beginning.
+# The runs of `end` ticks that follow the work. The work is in the order of its releases, and the walk is at its beginning.
 def follow(walk, work, end):
     runs, needs, place = [], {}, 0
     while walk.ticks < end:

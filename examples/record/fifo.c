@@ -1,10 +1,10 @@
 /* Serves the jobs of a work file by EDF-VD with real threads: one for each task, under SCHED_FIFO on one processor. A ticker
- * thread wakes at each boundary, closes the tick behind it, releases, and ranks the threads by the keys of their jobs; in
+ * thread wakes at each boundary, closes the tick before it, releases, and ranks the threads by the keys of their jobs; in
  * between the kernel serves the first that has work. Each release, dropped release and end is written to trace_marker, for
  * sched.py. Where no job is pending a thread of the least rank keeps the processor, so that the recording has no others.
  * ../../docs/RECORDING.md says how it is recorded.
  *
- * A job works until its thread has had its ticks but for a tenth of one, which is left for the ticker and for interrupts.
+ * A job works until its thread has had its ticks except a tenth of one, which is left for the ticker and for interrupts.
  *
  * usage: fifo TASKS WORK TICKS MICROSECONDS CPU [plain|keep]
  *        plain has deadlines for keys in low mode too, and keep goes on with low jobs after an overrun: both break the rules.

@@ -1,15 +1,18 @@
 """Turns a recording of one processor into a trace of a task file, and says how far each event was moved. A recording is the
 text of `trace-cmd report`, or a CSV file of one's own.
 
-Of the text it reads the events sched_switch and sched_waking and the user markers `release TASK`, `drop TASK`, `end TASK` and
-`finish`, which a program writes to trace_marker. A CSV file has the header `time,event,task`, times in microseconds, and the
-events `run` (from then on the task has the processor), `release`, `drop`, `end` and `finish`. Where no marker releases, each sched_waking of a task's thread is a release. Boundary 0
-is the first release, and nothing after `finish` counts; a release goes to the nearest boundary, and a tick to the thread that
-has most of it. A job's last tick before its end is `done`. What the program itself thinks of budgets and modes is not recorded:
-`stop`, `over` and the mode are what the budgets of the file say. THREAD=- is a thread whose time is overhead, and THREAD=. one
-whose time is idleness; so are `-` and `.` in the place of a task that runs, in a CSV file. What has time of a tick and is in no
-map is refused by its line, as is a task's thread elsewhere. A recording without a whole tick is refused, and one in which a
-task is released and never has a tick.
+From the text it reads the events sched_switch and sched_waking, and the user markers `release TASK`, `drop TASK`, `end TASK`
+and `finish`, which a program writes to trace_marker. If no marker releases a job, each sched_waking of a task's thread is a
+release. A CSV file has the header `time,event,task`, times in microseconds, and the events `run` (from then on the task has
+the processor), `release`, `drop`, `end` and `finish`.
+
+Boundary 0 is the first release, and nothing after `finish` counts. A release goes to the nearest boundary, and a tick to the
+thread that has most of it. A job's last tick before its end is `done`. What the recorded program knows of budgets and modes is
+not in the recording, so `stop`, `over` and the mode come from the budgets of the file. THREAD=- is a thread whose time is
+overhead, and THREAD=. one whose time is idleness. In a CSV file, `-` and `.` in place of a task mean the same.
+
+A recording is refused, by the line, if a thread that is in no map has time of a tick, or if a task's thread runs on another
+processor. It is also refused if it has no whole tick, or if a task is released and never has a tick.
 
 usage: sched.py [--unserved] TASKS REPORT TICK CPU THREAD=TASK..
        sched.py [--unserved] TASKS CSV TICK
@@ -30,9 +33,9 @@ import model
 from usage import WrongWords, ends
 from walk import read_task_file
 
-# The processor stands in brackets, with the columns of flags behind it or without, or before them, as `report -l` has it.
+# The processor is in brackets, with or without columns of flags after it; or it is before the flags, as `report -l` writes it.
 EVENT = re.compile(r'^\s*\S.*?-\d+\s+(?:\[(\d+)\]\s+(?:\S{4,6}\s+)?|(\d+)[.a-zA-Z]\S{3,5}\s+)(\d+\.\d+):\s+(\S+):\s*(.*)$')
-# The number of the thread before, and name, number and priority of the one behind.
+# The number of the thread that ran before, and name, number and priority of the one that runs next.
 SWITCHES = [
     re.compile(r'^.+:(\d+) \[-?\d+\] \S+ ==> (.+):(\d+) \[(-?\d+)\]'),
     re.compile(r'^prev_comm=.* prev_pid=(\d+) prev_prio=.* next_comm=(.+) next_pid=(\d+) next_prio=(-?\d+)')]
@@ -89,7 +92,7 @@ def first_match(forms, line, event, text):
     raise Refused(f'line {line}: {event} has a form that is not known')
 
 
-# Refuses a line that tells no event as known, though it speaks of one, or of events that were lost.
+# Refuses a line that mentions an event but not in a known form, or that says that events were lost.
 def refuse_if_it_counts(line, text):
     if LOST.search(text):
         raise Refused(f'line {line}: events were lost')

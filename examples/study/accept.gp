@@ -1,7 +1,7 @@
-# Draws acceptance against stretch, from tables of `edfvd accept`, of a study's sum or of finer.py, each of sets of so many tasks:
+# Draws acceptance against stretch, from tables of `edfvd accept`, of a study's sum or of finer.py, each of sets with one number of tasks:
 #   gnuplot -e "tables = '4.txt 8.txt 32.txt'; tasks = '4 8 32'; picture = 'accept.png'" examples/study/accept.gp
-# The picture is SVG where its name ends so, and PNG otherwise. Of each table the greatest count stands for all sets: made sets are
-# all admitted as they are. The axis ends at the least stretch that no set has, and at the tables' last where there is none.
+# The picture is SVG where its name ends so, and PNG otherwise. Of each table the greatest count stands for all sets: generated sets
+# are all admitted as they are. The axis ends at the least stretch that no set has, and at the tables' last where there is none.
 array sets[words(tables)]
 last = 100
 do for [i = 1:words(tables)] {

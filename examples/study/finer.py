@@ -1,9 +1,9 @@
 """Counts sets by their stretch at each whole percentage, where `edfvd accept` does at every tenth one.
 
 The sets are those of `edfvd accept NUMBER SETS TASKCOUNT`, made by model.py, and the stretch of each is what `edfvd stretch` says of
-it. The lines are `S COUNT`, for S from 100 on, up to the first S that no set has or to 1000: so many sets have a stretch of at
-least S. They have the form of accept's lines, and where S is one of accept's, its count has to be the same: otherwise there is no
-table, and the status is 1.
+it. The lines are `S COUNT`, for S from 100 on, up to the first S that no set has or to 1000: COUNT sets have a stretch of at
+least S. They have the form of accept's lines. If S is one of accept's numbers, its count must be that of accept: otherwise there is
+no table, and the status is 1.
 
 usage: finer.py NUMBER SETS TASKCOUNT
        as of `edfvd accept`; the program is the one that the environment variable EDFVD names, by default `edfvd`

@@ -1,12 +1,13 @@
 """A study of more sets than one call of `edfvd accept` takes: cut into parts, resumed, and added up.
 
-A study is a folder. `new` writes down of which sets it is, and in parts of how many. `left` tells the numbers of the parts,
-from 0, that are not worked out yet. `part` works some out, by calls of at most 10,000 sets each, and `share` those of one of
-several jobs: each JOBS-th part from JOB on that is left. `sum` adds all parts up and writes the table that one call for all sets
-would write, and `table` keeps it as FOLDER/table.txt; where a set is in no part or in two they tell which, and there is no table.
+A study is a folder. `new` writes down which sets are in it, and how many sets each part has. `left` prints the numbers of the
+parts, from 0, that are not worked out yet. `part` works out some parts, by calls of at most 10,000 sets each. `share` works out
+the parts of one of several jobs: of those that are left, each JOBS-th from JOB on. `sum` adds up all parts and writes the table
+that one call for all sets would write, and `table` keeps it as FOLDER/table.txt. If a set is in no part or in two, both say which
+set this is, and there is no table.
 
-A part's file has the part's call in its first line, and takes its name in one step when it is whole, so that a job that is killed
-leaves none. A part that was worked out twice has one file. Files from other machines are copied to `parts`.
+A part's file has the part's call in its first line. It gets its name in one step when it is whole, so that a job that is killed
+leaves no file. A part that was worked out twice has one file. Files from other machines are copied to `parts`.
 
 usage: study.py new FOLDER NUMBER SETS TASKCOUNT SIZE
        study.py left FOLDER
@@ -40,7 +41,7 @@ class Fault(Exception):
     pass
 
 
-# Some sets made from one number after the other, each of so many tasks.
+# `count` sets of `tasks` tasks each, generated from consecutive numbers, of which `number` is the first.
 class Sets(NamedTuple):
     number: int
     count: int
@@ -52,12 +53,12 @@ class Sets(NamedTuple):
     def end(self):
         return self.number + self.count
 
-    # The same sets in pieces of at most so many.
+    # These sets in pieces of at most `size`.
     def pieces(self, size):
         return [Sets(number, min(size, self.end() - number), self.tasks) for number in range(self.number, self.end(), size)]
 
 
-# The number that a word is, which has to be one of these.
+# The number that a word is, which must be one of these.
 def number_of(word, numbers):
     if not re.fullmatch('[0-9]{1,20}', word) or int(word) not in numbers:
         raise Fault(f'{word} is not from {numbers[0]} to {numbers[-1]}')
@@ -151,7 +152,7 @@ def left(folder):
 
 # ---- Working a part out ----
 
-# The name of the program, which has to be there.
+# The name of the program, which must be there.
 def program_name():
     name = os.environ.get('EDFVD') or 'edfvd'
     if shutil.which(name) is None:

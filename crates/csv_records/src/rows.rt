@@ -34,8 +34,7 @@ pub fn read_rows<M: RowReader>(
 }
 
 /// Reads the rows of a text and hands over one after another, or reports the text's first refusal. The first record is
-/// the header; if it is absent or is not a header, line 1 is refused for the cause `no_header`. After a refusal or out of
-/// memory the rows before it were handed over.
+/// the header; if it is absent or is not a header, line 1 is refused for the cause `no_header`.
 pub fn take_rows<T: TakesRows>(
     alloc: Global,
     text: &[u8],

@@ -47,7 +47,8 @@ over_since (Idle ∷ g) j = over_since g j
 
 -- whether the job has not ended, and is of a high task or has seen no overrun since its release
 abbrev pub is_still_pending : List Task → List Row → KeptRelease → Bool
-is_still_pending set h i = not (ended h i.job) && (is_high_in (task_at set i.job.task.0) || not (over_since h i.job))
+is_still_pending set h i =
+    not (ended h i.job) && (is_high_in (task_at set i.job.task.0) || not (over_since h i.job))
 
 -- the pending jobs, newest release first
 abbrev pub pending : List Task → List Row → List KeptRelease

@@ -137,6 +137,7 @@ impl<R: Recorder> ScheduleLog<R> {
     }
 
     /// Writes a tick of the job, and returns how it ends.
+    #[inline(always)]
     pub fn push_tick(&mut self, job: JobId, done: bool) -> How
         requires legal { Legal self.old.set self.old.rule
             (row.Tick job (outcome_of self.old.set self.old.rule self.old.rows job done) ∷ self.old.rows) }

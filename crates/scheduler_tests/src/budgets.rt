@@ -3,32 +3,17 @@ ghost use Rattle.std.specs.Prelude.{◌≡◌, length, map};
 ghost use Rattle.budget_ledger.specs.Ledger.{budget};
 
 use budget_ledger::{Spent, Used};
-use mc_task::{Level, Name, Task, TaskNo, TaskSet};
-use std::alloc::Global;
+use mc_task::Level::{High, Low};
+use mc_task::{TaskNo, TaskSet};
 use std::test::Fail;
+use worked_sets::{Line, set_of};
 
 // A high task with budgets 2 and 4, a low one with budget 2, and a high one with 2 and 2.
-fn three_tasks(alloc: Global) -> Option<TaskSet> {
-    let wide = Task {
-        name: Name::new(b"wide")?,
-        level: Level::High,
-        period: 10,
-        low: 2,
-        high: 4,
-    };
-    let low = Task {
-        name: Name::new(b"low")?,
-        level: Level::Low,
-        high: 2,
-        ..wide
-    };
-    let even = Task {
-        name: Name::new(b"even")?,
-        high: 2,
-        ..wide
-    };
-    TaskSet::new(vec![in alloc; wide, low, even].ok()?).ok()
-}
+const THREE_TASKS: [Line; 3] = [
+    ("wide", High, 10, 2, 4),
+    ("low", Low, 10, 2, 2),
+    ("even", High, 10, 2, 2),
+];
 
 // The result of one more tick of the task, if the task is in the set and its ticks are below its own budget.
 fn spend(used: &mut Used, set: &TaskSet, task: u32) -> Option<Spent>
@@ -81,7 +66,7 @@ const AT_OWN: Option<Spent> = Some(Spent::AtOwn);
 
 #[test]
 fn a_job_comes_to_its_low_budget_and_then_to_its_own(rt: HostRuntime) -> Result<(), Fail> {
-    let set = three_tasks(rt.alloc()).ok_or("a set")?;
+    let set = set_of(rt.alloc(), &THREE_TASKS)?;
     let mut used = Used::new(rt.alloc(), &set)?;
     let wide = five_ticks(&mut used, &set, 1);
     let low = five_ticks(&mut used, &set, 2);

@@ -1,8 +1,8 @@
 //! Cores that keep no rows, beside cores that do.
-ghost use Rattle.std.specs.Prelude.{◌^◌, ◌≤◌, map};
-ghost use Rattle.worked_sets.specs.Lines.{task_of};
+ghost use Rattle.std.specs.Prelude.{◌^◌, ◌≤◌};
 ghost use Rattle.mc_model.specs.Holds.{Fits, Holds};
 
+use crate::rules::set_under;
 use mc_model::{How, Row};
 use mc_task::{Rule, TaskNo, TaskSet};
 use mode_core::{Core, GrantFault, Granted, IdleFault, ReleaseFault};
@@ -11,7 +11,7 @@ use std::alloc::Global;
 use std::test::Fail;
 use worked_sets::{
     CONTROL, Line, OVERRUN_ROWS, PLAIN_PAIR, PLAIN_PAIR_ROWS, QUARTER_SCALE, QUARTER_SCALE_ROWS,
-    TAP_AND_ARM, TAP_AND_ARM_ROWS, job, set_of,
+    TAP_AND_ARM, TAP_AND_ARM_ROWS, job,
 };
 
 // The largest capacity that a core may have.
@@ -94,26 +94,46 @@ fn follow<R: Recorder>(core: &mut Core<R>, rows: &[Row]) -> bool {
     true
 }
 
-// Whether a core that keeps no rows makes exactly these rows of the set of these lines.
-fn makes(alloc: Global, lines: &[Line], rule: Rule, rows: &[Row]) -> Result<bool, Fail>
-    requires fits { Fits rule }
-    requires holds { Holds (map task_of lines.now) rule }
-{
-    let mut core = expecting(alloc, set_of(alloc, lines)?, rule, rows)?;
+// A set, the rule of the test for it, and rows that its scheduler makes.
+type Made = (&'static [Line], Rule, &'static [Row]);
+
+const MADE: [Made; 4] = [
+    (&CONTROL, Rule::Virtual { p: 2, q: 5 }, &OVERRUN_ROWS),
+    (&PLAIN_PAIR, Rule::Plain, &PLAIN_PAIR_ROWS),
+    (
+        &QUARTER_SCALE,
+        Rule::Virtual { p: 1, q: 4 },
+        &QUARTER_SCALE_ROWS,
+    ),
+    (
+        &TAP_AND_ARM,
+        Rule::Virtual { p: 1, q: 2 },
+        &TAP_AND_ARM_ROWS,
+    ),
+];
+
+// Whether a core that keeps no rows makes exactly these rows of the set.
+fn makes(alloc: Global, made: &Made) -> Result<bool, Fail> {
+    let (lines, rule, rows) = *made;
+    let mut core = expecting(alloc, set_under(alloc, lines, rule)?, rule, rows)?;
     Ok(follow(&mut core, rows) && took(&core, rows))
+}
+
+// The index of the first set whose rows are not made.
+fn first_not_made(alloc: Global) -> Result<Option<usize>, Fail> {
+    for (index, made) in MADE.iter().enumerate() {
+        if !makes(alloc, made)? {
+            return Ok(Some(index));
+        }
+    }
+    Ok(None)
 }
 
 #[test]
 fn a_core_that_keeps_no_rows_makes_the_rows_that_were_worked_by_hand(
     rt: HostRuntime,
 ) -> Result<(), Fail> {
-    let alloc = rt.alloc();
-    let (half, quarter) = (Rule::Virtual { p: 1, q: 2 }, Rule::Virtual { p: 1, q: 4 });
-    let two_fifths = Rule::Virtual { p: 2, q: 5 };
-    assert!(rt; makes(alloc, &CONTROL, two_fifths, &OVERRUN_ROWS)?);
-    assert!(rt; makes(alloc, &PLAIN_PAIR, Rule::Plain, &PLAIN_PAIR_ROWS)?);
-    assert!(rt; makes(alloc, &QUARTER_SCALE, quarter, &QUARTER_SCALE_ROWS)?);
-    assert!(rt; makes(alloc, &TAP_AND_ARM, half, &TAP_AND_ARM_ROWS)?);
+    assert_eq!(rt; first_not_made(rt.alloc())?, None);
     Ok(())
 }
 
@@ -147,9 +167,9 @@ fn run<R: Recorder>(core: &mut Core<R>, ticks: u32) {
 // Whether a core that keeps no rows makes in 5,000 ticks the rows of a core with a list.
 fn makes_the_rows_of_a_list(alloc: Global) -> Result<bool, Fail> {
     let rule = Rule::Virtual { p: 2, q: 5 };
-    let mut core = Core::new(alloc, set_of(alloc, &CONTROL)?, rule, 20_000)?;
+    let mut core = Core::new(alloc, set_under(alloc, &CONTROL, rule)?, rule, 20_000)?;
     run(&mut core, 5_000);
-    let mut endless = expecting(alloc, set_of(alloc, &CONTROL)?, rule, core.rows())?;
+    let mut endless = expecting(alloc, set_under(alloc, &CONTROL, rule)?, rule, core.rows())?;
     run(&mut endless, 5_000);
     Ok(took(&endless, core.rows()) && endless.ticks() == 5_000 && endless.places() == MOST)
 }
@@ -166,8 +186,8 @@ fn a_core_that_keeps_no_rows_makes_those_of_a_core_with_a_list(
 fn counting(alloc: Global, places: usize) -> Result<Core<RowCount>, Fail>
     requires { places ≤ 2 ^ 62 }
 {
-    let control = set_of(alloc, &CONTROL)?;
     let rule = Rule::Virtual { p: 2, q: 5 };
+    let control = set_under(alloc, &CONTROL, rule)?;
     Ok(Core::with_recorder(alloc, control, rule, places, row_count(alloc)?)?)
 }
 

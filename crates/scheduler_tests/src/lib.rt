@@ -17,3 +17,5 @@ mod laws;
 mod queues;
 #[cfg(test)]
 mod releases;
+#[cfg(test)]
+mod rules;

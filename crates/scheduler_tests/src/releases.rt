@@ -1,32 +1,26 @@
 //! Tests of release times.
-ghost use Rattle.std.specs.Prelude.{◌≡◌, ◌+◌, ◌-◌, ◌<◌, ◌≤◌, ◌^◌, ℕ, IfSome, length};
+ghost use Rattle.std.specs.Prelude.{◌≡◌, ◌+◌, ◌-◌, ◌<◌, ◌≤◌, ◌^◌, ℕ, IfOk, length};
 ghost use Rattle.arrivals.specs.Arrived.{count_of};
 
 use arrivals::{Arrivals, TooSoon};
-use mc_task::{Level, Name, Task, TaskNo, TaskSet};
+use mc_task::Level::Low;
+use mc_task::TaskNo;
 use std::alloc::Global;
 use std::test::Fail;
+use worked_sets::{Line, set_of};
 
-// The arrivals of two tasks, with periods 10 and 4294967295.
-fn two_tasks(alloc: Global) -> Option<Arrivals>
-    ensures two { IfSome result (λ a. length a ≡ 2) }
-    ensures fresh { IfSome result (λ a. (j : ℕ) → count_of a j ≡ 0) }
+const TWO_TASKS: [Line; 2] = [("a", Low, 10, 1, 1), ("b", Low, u32::MAX, 1, 1)];
+
+// The arrivals of the two tasks.
+fn two_tasks(alloc: Global) -> Result<Arrivals, Fail>
+    ensures two { IfOk result (λ a. length a ≡ 2) }
+    ensures fresh { IfOk result (λ a. (j : ℕ) → count_of a j ≡ 0) }
 {
-    let task = Task {
-        name: Name::new(b"a")?,
-        level: Level::Low,
-        period: 10,
-        low: 1,
-        high: 1,
-    };
-    let long = Task {
-        name: Name::new(b"b")?,
-        period: 4294967295,
-        ..task
-    };
-    let set = TaskSet::new(vec![in alloc; task, long].ok()?).ok()?;
-    let arrivals = Arrivals::new(alloc, &set).ok()?;
-    if set.len() == 2 { Some(arrivals) } else { None }
+    let set = set_of(alloc, &TWO_TASKS)?;
+    if set.len() != 2 {
+        return Err("two tasks".into());
+    }
+    Ok(Arrivals::new(alloc, &set)?)
 }
 
 // Notes a release; `left` more may come.
@@ -45,7 +39,7 @@ fn note(arrivals: &mut Arrivals, left: u32, task: u32, at: u64) -> Result<u32, T
 
 #[test]
 fn two_releases_are_a_period_apart(rt: HostRuntime) -> Result<(), Fail> {
-    let mut arrivals = two_tasks(rt.alloc()).ok_or("two tasks")?;
+    let mut arrivals = two_tasks(rt.alloc())?;
     assert_eq!(rt; arrivals.next_allowed(TaskNo(1)), 0);
     assert_eq!(rt; note(&mut arrivals, 9, 1, 3), Ok(1));
     assert_eq!(rt; arrivals.next_allowed(TaskNo(1)), 13);

@@ -24,8 +24,8 @@ Replies-weaker Q (Err Memory) then is = tt
 -- after a value is read, the reply to the rest is the reply to the command
 pub serves_need : {A B : Type 0} (k : ℕ) (Is : A → B → Type 0) (read : Result A Refusal) (given : B) (next : A → Command) (before after : ShelfState) (result : Result Reply Stop)
     → ReadsOrRefuses Is read (Ok given) → ((x : A) → Is x given → Serves k (next x) before after result) → Serves k (read_or_refuse read next) before after result
-serves_need k Is (Ok x) given next before after result gives then = then x gives
-serves_need k Is (Err refusal) given next before after result gives then = absurd gives
+serves_need k Is (Ok x) given next before after result reads then = then x reads
+serves_need k Is (Err refusal) given next before after result reads then = absurd reads
 
 -- after a file is fetched, the reply to the rest is the reply to the command
 pub serves_fetch : (k : ℕ) (name : List ℕ) (limit : ℕ) (next : List ℕ → Command) (bytes : List ℕ) (before mid after : ShelfState) (result : Result Reply Stop)
@@ -54,10 +54,10 @@ serves_text k Is shelf reply text same is =
 -- the refusal of a value is the reply to the command that needs it
 pub serves_refused : {A B : Type 0} (k : ℕ) (Is : A → B → Type 0) (read : Result A Refusal) (next : A → Command) (shelf : ShelfState) (stop : Stop)
     → ReadsOrRefuses Is read (Err stop) → StopsBy IsOwn stop → Serves k (read_or_refuse read next) shelf shelf (Err stop)
-serves_refused k Is (Err refusal) next shelf (Refused reply) gives own = record { reply = (((refl, gives.0, own.0.faultless), own.0.other), gives.1); memory_faults = (refl, gives.1); asked = refl }
-serves_refused k Is (Err refusal) next shelf Memory gives own = record { reply = tt; memory_faults = tt; asked = refl }
-serves_refused k Is (Ok x) next shelf (Refused reply) gives own = absurd cc
-serves_refused k Is (Ok x) next shelf Memory gives own = record { reply = tt; memory_faults = tt; asked = asked-none (next x) shelf shelf refl }
+serves_refused k Is (Err refusal) next shelf (Refused reply) refuses own = record { reply = (((refl, refuses.0, own.0.faultless), own.0.other), refuses.1); memory_faults = (refl, refuses.1); asked = refl }
+serves_refused k Is (Err refusal) next shelf Memory refuses own = record { reply = tt; memory_faults = tt; asked = refl }
+serves_refused k Is (Ok x) next shelf (Refused reply) refuses own = absurd cc
+serves_refused k Is (Ok x) next shelf Memory refuses own = record { reply = tt; memory_faults = tt; asked = asked-none (next x) shelf shelf refl }
 
 -- after a file is fetched, the job that the rest gives is the one that the command gives
 pub prepares_fetch : {A : Type 0} (k : ℕ) (name : List ℕ) (limit : ℕ) (next : List ℕ → Command) (IsJob : A → Type 0) (RepliesTo : A → Reply → Type 0) (bytes : List ℕ) (before mid after : ShelfState) (result : Result A Stop)

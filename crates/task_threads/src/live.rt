@@ -79,15 +79,15 @@ pub fn run_live<R: Threads + Wait + Sync, G: Gate + Sync>(
 
 // The spots where the tasks wait, and lists with capacity for each task of a live run.
 #[derive(Drop)]
-struct Rooms {
-    spots: ParkingSpots,
-    starts: Vec<SpawnResult<Runner>>,
-    needs: Vec<LiveNeeds>,
-    runners: Vec<Runner>,
-    back: Vec<TaskPass>,
+pub struct Rooms {
+    pub spots: ParkingSpots,
+    pub starts: Vec<SpawnResult<Runner>>,
+    pub needs: Vec<LiveNeeds>,
+    pub runners: Vec<Runner>,
+    pub back: Vec<TaskPass>,
 }
 
-fn make_rooms(alloc: Global, tasks: u32) -> Result<Rooms, Memory>
+pub fn make_rooms(alloc: Global, tasks: u32) -> Result<Rooms, Memory>
     ensures starts { IfOk result (λ r. (r.starts.items ≡ []) × (tasks ≤ vec_capacity r.starts)) }
     ensures needs { IfOk result (λ r. (r.needs.items ≡ []) × (tasks ≤ vec_capacity r.needs)) }
     ensures runners { IfOk result (λ r. (r.runners.items ≡ []) × (tasks ≤ vec_capacity r.runners)) }

@@ -1,5 +1,5 @@
 //! The verdict on the trace in a text, which is judged while it is read.
-ghost use Rattle.std.specs.Prelude.{◌≡◌, [], IfOk, reverse};
+ghost use Rattle.std.specs.Prelude.{◌≡◌, true, [], IfOk, reverse};
 ghost use Rattle.csv_records.specs.Reads.{Takes};
 ghost use Rattle.mc_model.specs.Holds.{Fits};
 ghost use Rattle.mc_model.specs.Runs.{expand};
@@ -13,29 +13,38 @@ use std::alloc::{AllocError, Global};
 use trace_format::{TakesRuns, TraceFault, read_runs};
 use trace_judge::Monitor;
 
-/// The verdict on the trace in a text, or the trace's first refusal, which comes before any verdict. Each run is judged
-/// as soon as it is read, and no run is stored: apart from the text, memory grows with the pending jobs alone.
+/// The most runs that are stored before they are judged, if the runs are not kept.
+const BATCH: usize = 4096;
+
+/// The verdict on the trace in a text, with the trace's runs if they are kept; or the trace's first refusal, which comes
+/// before any verdict. If no run is kept, memory grows with the pending jobs alone, apart from the text.
+// Not inlined, so that the loop over the records need not share registers with the code of its caller.
+#[inline(never)]
 pub fn judge_text(
     alloc: Global,
     set: &TaskSet,
     rule: Rule,
     bytes: &[u8],
-) -> Result<Verdict, TraceFault>
+    keeps_runs: bool,
+) -> Result<(Verdict, Vec<Run>), TraceFault>
     requires { Fits rule }
-    ensures { Takes (λ given runs. given ≡ verdict set.now.tasks rule (reverse (expand runs))) result (trace_file set.now.tasks bytes.now) }
+    ensures { Takes (λ read runs. (read.0 ≡ verdict set.now.tasks rule (reverse (expand runs))) × (keeps_runs ≡ true → read.1.items ≡ runs)) result (trace_file set.now.tasks bytes.now) }
 {
-    let Ok(mut monitor) = monitor_for(alloc, set, rule) else {
+    let Ok(monitor) = monitor_for(alloc, set, rule) else {
         return Err(TraceFault::Memory);
     };
-    match read_runs(
+    let runs = Vec::new(alloc);
+    let mut judging = Judging { monitor, runs };
+    let taker = JudgingTaker {
         alloc,
-        set,
-        bytes,
-        &MonitorTaker { alloc, rule },
-        &mut monitor,
-    ) {
-        Ok(()) => Ok(monitor.verdict()),
-        Err(fault) => Err(fault),
+        rule,
+        keeps_runs,
+    };
+    read_runs(alloc, set, bytes, &taker, &mut judging)?;
+    let Judging { mut monitor, runs } = judging;
+    match monitor.follow_all(alloc, &runs) {
+        Ok(()) => Ok((monitor.verdict(), runs)),
+        Err(Memory) => Err(TraceFault::Memory),
     }
 }
 
@@ -48,29 +57,40 @@ fn monitor_for(alloc: Global, set: &TaskSet, rule: Rule) -> Result<Monitor, Memo
     Monitor::new(alloc, set, rule)
 }
 
-// Hands each run to a monitor under this rule.
+// A trace that is being read: a monitor that has seen its first runs, and the runs after those.
 #[derive(Drop)]
-struct MonitorTaker {
-    alloc: Global,
-    rule: Rule,
+struct Judging {
+    monitor: Monitor,
+    runs: Vec<Run>,
 }
 
-impl TakesRuns for MonitorTaker {
-    ghost use Rattle.trace_answers.specs.JudgedText.{IsMonitorOf};
+// Stores each run, and hands the stored ones to a monitor under this rule when they are many, unless they are kept. To
+// judge many runs in one call costs less than a call for each.
+#[derive(Drop)]
+struct JudgingTaker {
+    alloc: Global,
+    rule: Rule,
+    keeps_runs: bool,
+}
 
-    type Runs = Monitor;
+impl TakesRuns for JudgingTaker {
+    ghost use Rattle.trace_answers.specs.JudgedText.{HasRead};
 
-    ghost took = { λ taker monitor tasks runs. IsMonitorOf tasks taker.rule runs monitor };
+    type Runs = Judging;
 
-    // After a row that does not fit, no later run changes the verdict.
-    fn take(&self, monitor: &mut Monitor, run: Run) -> Result<(), AllocError> {
-        if monitor.is_legal() {
-            match monitor.follow(self.alloc, run) {
-                Ok(_) => Ok(()),
-                Err(Memory) => Err(AllocError),
+    ghost took = { λ taker judging tasks runs. HasRead taker.keeps_runs taker.rule tasks runs judging };
+
+    fn take(&self, judging: &mut Judging, run: Run) -> Result<(), AllocError> {
+        judging.runs.push(run)?;
+        if self.keeps_runs || judging.runs.len() < BATCH {
+            return Ok(());
+        }
+        match judging.monitor.follow_all(self.alloc, &judging.runs) {
+            Ok(()) => {
+                judging.runs.clear();
+                Ok(())
             }
-        } else {
-            Ok(())
+            Err(Memory) => Err(AllocError),
         }
     }
 }

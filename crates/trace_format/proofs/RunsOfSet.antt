@@ -77,10 +77,11 @@ of_record set v before fields q h =
     (grind (arith, nat_tests, few.0), subst (MayStandAfter set (total length_of before)) same fits)
 
 -- the runs are valid, and of the set
-abbrev AreOf : List Task → List Run → Type 0
+abbrev pub AreOf : List Task → List Run → Type 0
 AreOf set runs = AreRuns runs × AllByRecursion (IsRunOfSet set) runs
 
-one_more : (set : List Task) (before : List Run) (r : Run) → AreOf set before → (length before < 2000000) × MayStandAfter set (total length_of before) r
+-- valid runs of the set, with one more that may come next
+pub one_more : (set : List Task) (before : List Run) (r : Run) → AreOf set before → (length before < 2000000) × MayStandAfter set (total length_of before) r
     → AreOf set (before ++ r ∷ [])
 one_more set before r a f = (
   record {

@@ -35,8 +35,7 @@ pub fn read_trace(alloc: Global, set: &TaskSet, bytes: &[u8]) -> Result<Vec<Run>
     }
 }
 
-/// Reads a trace as `read_trace` does, and hands over one run after another: of a trace that is read to its end all
-/// runs, otherwise those before the first refusal or before memory ran out.
+/// Reads a trace as `read_trace` does, and hands over one run after another.
 pub fn read_runs<T: TakesRuns>(
     alloc: Global,
     set: &TaskSet,

@@ -1,5 +1,5 @@
 -- When no pending job has its deadline in a stretch of time, and that none turns late in it.
-use Rattle.std.proofs.Common.{[], ◌≡◌, ℕ, zero, suc, ◌+◌, ◌-◌, ◌^◌, ◌<◌, ◌≤◌, Bool, true, ◌||◌, List, ◌∷◌, ◌++◌, filter, min, nat_le, replicate, refl, sym, ap, ◌∙◌, subst, arith}
+use Rattle.std.proofs.Common.{[], ◌≡◌, ℕ, zero, suc, ◌+◌, ◌<◌, ◌≤◌, Bool, true, List, ◌∷◌, ◌++◌, filter, min, replicate, refl, arith}
 use Rattle.std.specs.List.{list_all}
 use Rattle.std.proofs.lemmas.Bool.Decides.{nat_tests}
 use Rattle.mc_task.specs.declared.task.JobId.{JobId}
@@ -8,15 +8,13 @@ use Rattle.mc_task.specs.declared.task.Task.{Task}
 use Rattle.mc_task.specs.TaskSet.{task_at}
 use Rattle.mc_model.specs.declared.row.How.{How}
 use Rattle.mc_model.specs.declared.row.Row.{Row}
-use Rattle.mc_model.specs.declared.row.Row.TheVariants.{Tick, Idle}
-use Rattle.mc_model.specs.declared.run.Run.{Run}
+use Rattle.mc_model.specs.declared.row.Row.TheVariants.{Tick}
 use Rattle.mc_model.specs.declared.run.Run.TheVariants as run
 use Rattle.mc_model.specs.TaskNumbers.{period_in}
 use Rattle.mc_model.specs.Rows.{ticks}
 use Rattle.mc_model.specs.Runs.{rows_of}
 use Rattle.mc_model.specs.Late.{deadline}
 use Rattle.trace_judge.specs.declared.turned.Quiet.{Quiet}
-use Rattle.trace_judge.specs.declared.turned.Turned.{Turned}
 use Rattle.trace_judge.specs.declared.state.State.{State}
 use Rattle.trace_judge.specs.Entries.{Entry}
 use Rattle.trace_judge.specs.Placed.{Placed, waiting}
@@ -71,3 +69,11 @@ quiet_same set rule h s q t = same_all s.waiting.entries (entry_of set rule h) (
 pub none_turned : (set : List Task) (after until since now : ℕ) → after ≤ since → now < until → (es : List Entry) → are_quiet set after until es ≡ true → turned_of set since now es ≡ []
 none_turned set after until since now a b [] h = refl
 none_turned set after until since now a b (e ∷ es) h = grind (arith, nat_tests, none_turned set after until since now a b es)
+
+-- no deadline is in an empty stretch of time
+pub quiet_empty : (set : List Task) (h : List Row) → IsQuiet set h (record { after = 0; until = 0 })
+quiet_empty set h = none (waiting set h)
+  where
+    none : (xs : List Placed) → list_all (λ (x : Placed). is_outside 0 0 (deadline set x.kept)) xs ≡ true
+    none [] = refl
+    none (x ∷ xs) = grind (arith, nat_tests, none xs)

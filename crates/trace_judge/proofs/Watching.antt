@@ -1,5 +1,5 @@
 -- The first row that does not fit, in the middle of a run and after later rows.
-use Rattle.std.proofs.Common.{◌≡◌, ℕ, ◌+◌, ◌-◌, ◌^◌, ◌<◌, min, true, filter, List, [], ◌∷◌, slice_get, ◌++◌, Option, Some, None, length, replicate, option_map, refl, sym, ap, ◌∙◌, subst, arith, append_assoc}
+use Rattle.std.proofs.Common.{◌≡◌, ℕ, ◌+◌, ◌-◌, ◌^◌, ◌<◌, min, true, false, filter, List, [], ◌∷◌, slice_get, ◌++◌, Option, Some, None, length, replicate, option_map, refl, sym, ap, ◌∙◌, subst, arith, append_assoc}
 use Rattle.std.proofs.lemmas.List.{length-append, length-map, length-replicate, get_or-replicate}
 use Rattle.std.proofs.lemmas.Option.{slice_get-get_or}
 use Rattle.mc_task.specs.declared.task.Rule.{Rule}
@@ -106,6 +106,11 @@ tracked h m e w = subst (λ (o : Option Unfit). TracksOrUnfit h m.set.tasks m.ru
 pub none_found : (o : Option Unfit) → is_none o ≡ true → o ≡ None
 none_found None e = refl
 none_found (Some u) e = cc
+
+-- a row that does not fit is known
+pub found_one : (o : Option Unfit) → is_none o ≡ false → (u : Unfit) × (o ≡ Some u)
+found_one None e = absurd (cc)
+found_one (Some u) e = (u, refl)
 
 -- if a monitor has found a row that does not fit, that row stays the first
 pub stays_found : (xs h : List Row) (m : Watched) (u : Unfit) → m.unfit ≡ Some u → Watches h m → unfit_in m.set.tasks m.rule (xs ++ h) ≡ Some u

@@ -7,6 +7,7 @@ mod monitor;
 mod pending_queues;
 mod queue;
 mod rules;
+mod runs;
 mod state;
 mod step;
 mod turned;

@@ -1,9 +1,9 @@
 //! A schedule that is judged while it happens.
-ghost use Rattle.std.specs.Prelude.{◌≡◌, ◌≢◌, ◌+◌, ◌++◌, ◌^◌, ◌<◌, ◌≤◌, nat_le, true, false, [], None, IsSome, IfOk, OnOk, OnErr, IfErr, List, length, option_map};
+ghost use Rattle.std.specs.Prelude.{◌≡◌, ◌≢◌, ◌+◌, ◌++◌, ◌^◌, ◌<◌, ◌≤◌, nat_le, true, false, [], None, IsSome, IfOk, OnOk, OnErr, IfErr, All, List, length, option_map, reverse};
 ghost use Rattle.mc_model.specs.declared.row.Row.{Row};
 ghost use Rattle.mc_model.specs.declared.verdict.Verdict.TheVariants.{Legal};
 ghost use Rattle.mc_model.specs.Holds.{Fits, Holds};
-ghost use Rattle.mc_model.specs.Runs.{size, rows_of, IsRun, IsRunOfSet};
+ghost use Rattle.mc_model.specs.Runs.{size, rows_of, expand, AreRuns, IsRun, IsRunOfSet};
 ghost use Rattle.mc_model.specs.Verdict.{verdict, HasNoLate};
 ghost use Rattle.mc_model.specs.Rows.{ticks};
 ghost use Rattle.mc_model.specs.Mode.{high_mode};
@@ -14,10 +14,11 @@ ghost use Rattle.trace_judge.specs.Turned.{AreTurned, IsInOrder, AddLate};
 ghost use Rattle.trace_judge.specs.declared.monitor.ObserveFault.TheVariants as faults;
 
 use crate::late_jobs::LateJobs;
+use crate::runs::follow_runs;
 use crate::state::State;
-use crate::step::{Misfit, look, step};
+use crate::step::{look, step};
 use crate::turned::{Quiet, Turned, turned_late};
-use crate::unfit::Unfit;
+use crate::unfit::{Unfit, unfit_after};
 use mc_model::{How, Run, Verdict};
 use mc_task::{Memory, Rule, TaskSet};
 use std::alloc::Global;
@@ -136,6 +137,24 @@ impl Monitor {
                 Ok(Some(unfit))
             }
         }
+    }
+
+    /// Takes valid runs of the set one after another, if there is capacity for all their rows or one so far does not fit.
+    /// This costs less than a call for each run, but the next `turned_late` reads the pending jobs. If memory runs out, the
+    /// monitor has seen some of the runs, and no clause says how many.
+    pub fn follow_all(&mut self, alloc: Global, runs: &[Run]) -> Result<(), Memory>
+        requires runs { AreRuns runs.now }
+        requires tasks { All (IsRunOfSet self.old.set.tasks) runs.now }
+        requires room { fits_so_far self.old ≡ true → seen self.old + length (expand runs.now) ≤ 2 ^ 62 }
+        ensures rows { OnOk result ((h : List Row) → Watches h self.old → Watches (reverse (expand runs.now) ++ h) self.new) }
+        ensures set { self.new.set ≡ self.old.set }
+        ensures rule { self.new.rule ≡ self.old.rule }
+    {
+        if self.is_legal() {
+            self.quiet = Quiet::empty();
+            self.unfit = follow_runs(&mut self.state, alloc, &self.set, self.rule, runs)?;
+        }
+        Ok(())
     }
 
     /// What `observe` would return for the run: the first row so far that does not fit. The monitor does not take the run, so
@@ -264,17 +283,6 @@ impl Monitor {
             },
             None => legal(self.state.all_late_jobs(&self.set)),
         }
-    }
-}
-
-/// The first row that does not fit, in a run before which `before` rows stand.
-pub fn unfit_after(before: u64, misfit: Misfit) -> Unfit
-    requires { before ≤ 2 ^ 62 }
-    ensures { result ≡ record { place = before + misfit.after + 1; why = misfit.why } }
-{
-    Unfit {
-        place: before + u64::from(misfit.after) + 1,
-        why: misfit.why,
     }
 }
 

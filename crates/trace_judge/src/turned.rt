@@ -42,6 +42,13 @@ impl Quiet {
         }
     }
 
+    /// No time: nothing is known of the deadlines of the pending jobs.
+    pub fn empty() -> Quiet
+        ensures { result ≡ record { after = 0; until = 0 } }
+    {
+        Quiet { after: 0, until: 0 }
+    }
+
     /// The stretch after a run that began at boundary `now`. Only a kept release adds a deadline.
     pub fn after_run(self, set: &TaskSet, now: u64, run: Run) -> Quiet
         ensures { (h : List Row) → now ≡ ticks h → IsQuiet set.now.tasks h self → IsQuiet set.now.tasks (rows_of run ++ h) result }

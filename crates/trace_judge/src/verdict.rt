@@ -5,9 +5,9 @@ ghost use Rattle.mc_model.specs.Runs.{expand, AreRuns, IsRunOfSet};
 ghost use Rattle.mc_model.specs.declared.verdict.Verdict.TheVariants.{Illegal};
 ghost use Rattle.mc_model.specs.Verdict.{verdict, HasNoLate};
 
-use crate::monitor::{legal, unfit_after};
+use crate::monitor::legal;
+use crate::runs::follow_runs;
 use crate::state::State;
-use crate::step::step;
 use crate::unfit::Unfit;
 use mc_model::{Run, Verdict};
 use mc_task::{Memory, Rule, TaskSet};
@@ -28,13 +28,10 @@ pub fn judge(alloc: Global, set: &TaskSet, rule: Rule, runs: &[Run]) -> Result<V
     ensures no_late { IfOk result (λ v. Holds set.now.tasks rule → HasNoLate v) }
 {
     let mut state = State::new(alloc, set.len())?;
-    for run in runs {
-        let before = state.rows;
-        if let Some(misfit) = step(&mut state, alloc, set, rule, *run)? {
-            return Ok(illegal(unfit_after(before, misfit)));
-        }
+    match follow_runs(&mut state, alloc, set, rule, runs)? {
+        None => Ok(legal(state.all_late_jobs(set))),
+        Some(unfit) => Ok(illegal(unfit)),
     }
-    Ok(legal(state.all_late_jobs(set)))
 }
 
 // The verdict where this row is the first that does not fit.

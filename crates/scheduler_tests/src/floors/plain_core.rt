@@ -8,7 +8,7 @@ use mode_core::{GrantFault, Granted, IdleFault, NotOut, ReleaseFault, Released};
 use std::alloc::{AllocError, Global};
 
 // A pending job: its release time, and the ticks that it has had.
-#[derive(Clone, Copy, Debug, PartialEq, Eq)]
+#[derive(Clone, Copy)]
 struct Pending {
     job: JobId,
     release: u64,
@@ -16,14 +16,14 @@ struct Pending {
 }
 
 // What is stored of a task: how many releases there were, and from when the next one is allowed.
-#[derive(Clone, Copy, Debug, PartialEq, Eq)]
+#[derive(Clone, Copy)]
 struct Slot {
     count: u32,
     next: u64,
 }
 
 /// A schedule that grows by one event a call.
-#[derive(Debug, Drop)]
+#[derive(Drop)]
 pub struct PlainCore {
     set: TaskSet,
     rule: Rule,

@@ -1,6 +1,7 @@
 //! Threads that nobody wakes, threads that could not be started, and a watcher beside a live run.
-ghost use Rattle.std.specs.Prelude.{◌≡◌, ◌+◌, ◌≤◌, [], None, IfOk, length, vec_len, vec_capacity};
-ghost use Rattle.executive.specs.Passes.{floor_of};
+ghost use Rattle.std.specs.Prelude.{◌≡◌, ◌+◌, ◌≤◌, [], None, IfOk, All, length, vec_len, vec_capacity};
+ghost use Rattle.executive.specs.Passes.{IsPassOf, floor_of};
+ghost use Rattle.executive.specs.Opening.{AreFresh};
 ghost use Rattle.executive.specs.Watching.{IsWatcherOf};
 ghost use Rattle.task_threads.specs.Passes.{IsPassFor};
 ghost use Rattle.task_threads.specs.Workers.{AreInOrder};
@@ -8,7 +9,7 @@ ghost use Rattle.task_threads.specs.Starts.{GoDown};
 ghost use Rattle.task_threads.specs.LivePasses.{IsRunner};
 
 use super::floors::{LIVE_ROWS, floor, free};
-use crate::live::{give_passes, make_runners, needs_of_each};
+use crate::live::{Rooms, give_passes, make_rooms, make_runners, needs_of_each};
 use crate::live_round::Runner;
 use crate::parking_spots::ParkingSpots;
 use crate::refused::serve_refused;
@@ -43,8 +44,21 @@ fn quietly<'a, R: Wait>(
     }
 }
 
-// The floor once its two tasks were served by threads with spots of their own, so that neither wakes the other.
-fn served_apart<R: Threads + Wait + Sync + Abort>(
+// The floor once the tasks of its plan, of which there are two, were served by threads with spots of their own, so that
+// neither wakes the other.
+fn served_apart<R: Threads + Wait + Sync + Abort>(rt: &R, alloc: Global) -> Result<Floor, Fail> {
+    let (here, there) = spots_apart(alloc)?;
+    let floor = floor(alloc, &CONTROL, &OVERRUN_WORK, 12)?;
+    serve_apart(rt, alloc, floor, &here, &there)
+}
+
+fn spots_apart(alloc: Global) -> Result<(ParkingSpots, ParkingSpots), Fail> {
+    let here = ParkingSpots::new(alloc, 2)?;
+    let there = ParkingSpots::new(alloc, 2)?;
+    Ok((here, there))
+}
+
+fn serve_apart<R: Threads + Wait + Sync + Abort>(
     rt: &R,
     alloc: Global,
     floor: Floor,
@@ -53,100 +67,196 @@ fn served_apart<R: Threads + Wait + Sync + Abort>(
 ) -> Result<Floor, Fail>
     requires { (floor.core.rows ≡ []) × (floor.core.out ≡ None) }
 {
+    if floor.core().set().len() != 2 {
+        return Err("two tasks".into());
+    }
     let Ok((executive, mut passes)) = Executive::new(rt, alloc, floor) else {
         return Err("memory".into());
     };
-    assert!(rt; passes.len() == 2);
-    let second = passes.pop().unwrap();
-    let first = passes.pop().unwrap();
-    let (first, second) = {
-        let executive = &executive;
-        join(
-            rt,
-            move || -> TaskPass
-                requires { IsPassFor executive.now 1 first }
-                ensures { IsPassFor executive.entry.now 1 result }
-            { work(&quietly(rt, executive, here), first, TaskNo(1)) },
-            move || -> TaskPass
-                requires { IsPassFor executive.now 2 second }
-                ensures { IsPassFor executive.entry.now 2 result }
-            { work(&quietly(rt, executive, there), second, TaskNo(2)) },
-        )
-    };
-    passes.push_reserved(first);
-    passes.push_reserved(second);
+    serve_both(rt, &executive, &mut passes, here, there);
     match executive.close(rt, passes) {
         Ok(floor) => Ok(floor),
         Err(_unclosed) => panic!(rt; "a pass is missing"),
     }
 }
 
+// Serves the two tasks in a thread each.
+fn serve_both<R: Threads + Wait + Sync>(
+    rt: &R,
+    executive: &Executive,
+    passes: &mut Vec<TaskPass>,
+    here: &ParkingSpots,
+    there: &ParkingSpots,
+)
+    requires { (vec_len passes.old ≡ 2) × AreFresh executive.now passes.old.items }
+    ensures { (vec_len passes.new ≡ 2) × All (λ p. IsPassOf executive.now p) passes.new.items }
+{
+    let second = passes.pop().unwrap();
+    let first = passes.pop().unwrap();
+    let (first, second) = join(
+        rt,
+        move || -> TaskPass
+            requires { IsPassFor executive.now 1 first }
+            ensures { IsPassFor executive.entry.now 1 result }
+        { work(&quietly(rt, executive, here), first, TaskNo(1)) },
+        move || -> TaskPass
+            requires { IsPassFor executive.now 2 second }
+            ensures { IsPassFor executive.entry.now 2 result }
+        { work(&quietly(rt, executive, there), second, TaskNo(2)) },
+    );
+    passes.push_reserved(first);
+    passes.push_reserved(second);
+}
+
 #[test]
 fn a_wake_up_that_never_comes_costs_time_alone(rt: HostRuntime) -> Result<(), Fail> {
-    let here = ParkingSpots::new(rt.alloc(), 2)?;
-    let there = ParkingSpots::new(rt.alloc(), 2)?;
-    let floor = floor(rt.alloc(), &CONTROL, &OVERRUN_WORK, 12)?;
-    let floor = served_apart(&rt, rt.alloc(), floor, &here, &there)?;
+    let floor = served_apart(&rt, rt.alloc())?;
     assert!(rt; floor.core().rows() == OVERRUN_ROWS.as_slice());
     Ok(())
 }
 
-// Where two tasks wait, and lists with capacity for their threads and their passes.
-#[derive(Drop)]
-struct Rooms {
+// An executive of two tasks, each released once, for a live run, with their runners, one more watcher, and what a live
+// run has capacity for.
+struct LiveRun {
+    executive: Executive,
     spots: ParkingSpots,
+    runners: Vec<Runner>,
+    watcher: Watcher,
     starts: Vec<SpawnResult<Runner>>,
     back: Vec<TaskPass>,
 }
 
-fn make_rooms(alloc: Global) -> Result<Rooms, Fail>
-    ensures starts { IfOk result (λ r. (r.starts.items ≡ []) × (2 ≤ vec_capacity r.starts)) }
-    ensures back { IfOk result (λ r. (r.back.items ≡ []) × (2 ≤ vec_capacity r.back)) }
+// Opens a live run of this many ticks.
+fn opened<R: Wait>(rt: &R, alloc: Global, lines: &[Line], ticks: u64) -> Result<LiveRun, Fail>
+    requires { (1 ≤ ticks) × (ticks ≤ 100_000) }
+    ensures runners { IfOk result (λ o. AreInOrder IsRunner o.executive o.runners.items × (vec_len o.runners ≡ 2) × (2 ≤ vec_capacity o.runners)) }
+    ensures set { IfOk result (λ o. length (floor_of o.executive).core.set ≡ 2) }
+    ensures watcher { IfOk result (λ o. IsWatcherOf o.executive o.watcher) }
+    ensures starts { IfOk result (λ o. (o.starts.items ≡ []) × (2 ≤ vec_capacity o.starts)) }
+    ensures back { IfOk result (λ o. (o.back.items ≡ []) × (2 ≤ vec_capacity o.back)) }
 {
-    let spots = ParkingSpots::new(alloc, 2)?;
-    let starts = Vec::with_capacity(alloc, 2)?;
-    let back = Vec::with_capacity(alloc, 2)?;
-    Ok(Rooms {
+    let floor = free(alloc, lines, ticks)?;
+    if floor.core().set().len() != 2 {
+        return Err("two tasks".into());
+    }
+    let Rooms {
         spots,
+        starts,
+        mut needs,
+        mut runners,
+        back,
+    } = make_rooms(alloc, 2)?;
+    needs_of_each(floor.core().set(), &mut needs);
+    let Ok((executive, passes, mut watchers)) = Executive::with_watchers(rt, alloc, floor, 3) else {
+        return Err("memory".into());
+    };
+    let watcher = watchers.pop().unwrap();
+    let serving = quietly(rt, &executive, &spots);
+    make_runners(
+        &serving,
+        needs.as_slice(),
+        ticks,
+        passes,
+        watchers,
+        &mut runners,
+    );
+    Ok(LiveRun {
+        executive,
+        spots,
+        runners,
+        watcher,
         starts,
         back,
     })
+}
+
+// Closes the executive and returns the floor that is left.
+fn closed<R: Wait + Abort>(
+    rt: &R,
+    executive: Executive,
+    runners: Vec<Runner>,
+    passes: Vec<TaskPass>,
+) -> Floor
+    requires runners { AreInOrder IsRunner executive runners.items × (vec_len runners ≡ 2) }
+    requires set { length (floor_of executive).core.set ≡ 2 }
+    requires room { (passes.items ≡ []) × (2 ≤ vec_capacity passes) }
+{
+    let mut passes = passes;
+    give_passes(&executive, runners, &mut passes);
+    match executive.close(rt, passes) {
+        Ok(floor) => floor,
+        Err(_unclosed) => panic!(rt; "a pass is missing"),
+    }
+}
+
+// The floor after a live run of the control set none of whose threads could be started.
+fn lived_here<R: Threads + Wait + Sync + Abort>(rt: &R, alloc: Global) -> Result<Floor, Fail> {
+    let LiveRun {
+        executive,
+        spots,
+        runners,
+        watcher: _,
+        starts,
+        back,
+    } = opened(rt, alloc, &CONTROL, 10)?;
+    let runners = served_here(rt, &executive, &spots, runners, starts);
+    Ok(closed(rt, executive, runners, back))
+}
+
+// Serves the runners as if no thread could be started for any of them.
+fn served_here<R: Threads + Wait>(
+    rt: &R,
+    executive: &Executive,
+    spots: &ParkingSpots,
+    runners: Vec<Runner>,
+    starts: Vec<SpawnResult<Runner>>,
+) -> Vec<Runner>
+    requires runners { AreInOrder IsRunner executive.now runners.items × (vec_len runners ≡ 2) × (2 ≤ vec_capacity runners) }
+    requires starts { (starts.items ≡ []) × (2 ≤ vec_capacity starts) }
+    ensures { AreInOrder IsRunner executive.now result.items × (vec_len result ≡ 2) }
+{
+    let mut runners = runners;
+    let mut starts = starts;
+    all_kept_here(executive, spots, &mut runners, &mut starts);
+    serve_refused(&quietly(rt, executive, spots), &mut starts);
+    join_all(rt, executive, &mut starts, &mut runners);
+    runners
 }
 
 #[test]
 fn a_live_run_whose_threads_could_not_be_started_gives_the_worked_rows(
     rt: HostRuntime,
 ) -> Result<(), Fail> {
-    let Rooms {
-        spots,
-        mut starts,
-        back,
-    } = make_rooms(rt.alloc())?;
-    let (executive, mut runners, _watcher) = opened(&rt, rt.alloc(), &spots, &CONTROL, 10)?;
-    all_kept_here(&executive, &spots, &mut runners, &mut starts);
-    serve_refused(&quietly(&rt, &executive, &spots), &mut starts);
-    join_all(&rt, &executive, &mut starts, &mut runners);
-    let floor = closed(&rt, executive, runners, back);
+    let floor = lived_here(&rt, rt.alloc())?;
     assert!(rt; floor.core().rows().starts_with(&LIVE_ROWS));
     Ok(())
 }
 
 const SLOW: [Line; 2] = [("ctl", High, 1000, 200, 600), ("log", Low, 1000, 400, 400)];
 
+// The floor after a live run beside a watcher, and whether the ticks that it saw never fell.
+fn lived_beside<R: Threads + Wait + Sync + Abort>(
+    rt: &R,
+    alloc: Global,
+) -> Result<(Floor, bool), Fail> {
+    let LiveRun {
+        executive,
+        spots,
+        runners,
+        watcher,
+        starts,
+        back,
+    } = opened(rt, alloc, &SLOW, 100_000)?;
+    let (runners, is_steady) = beside(rt, &executive, &spots, runners, starts, watcher);
+    Ok((closed(rt, executive, runners, back), is_steady))
+}
+
 #[test]
 fn a_watcher_beside_a_live_run_sees_ticks_that_never_fall_and_the_last(
     rt: HostRuntime,
 ) -> Result<(), Fail> {
-    let Rooms {
-        spots,
-        starts,
-        back,
-    } = make_rooms(rt.alloc())?;
-    let (executive, runners, watcher) = opened(&rt, rt.alloc(), &spots, &SLOW, 100_000)?;
-    let (runners, is_steady) = beside(&rt, &executive, &spots, runners, starts, watcher);
-    let floor = closed(&rt, executive, runners, back);
-    let ticks = floor.core().ticks();
-    assert!(rt; is_steady && ticks >= 100_000);
+    let (floor, is_steady) = lived_beside(&rt, rt.alloc())?;
+    assert!(rt; is_steady && floor.core().ticks() >= 100_000);
     Ok(())
 }
 
@@ -185,62 +295,6 @@ fn beside<'s, R: Threads + Wait + Sync>(
             }
         },
     )
-}
-
-// An executive of two tasks, each released once, for a live run of this many ticks, with their runners and one more
-// watcher.
-fn opened<R: Wait>(
-    rt: &R,
-    alloc: Global,
-    spots: &ParkingSpots,
-    lines: &[Line],
-    ticks: u64,
-) -> Result<(Executive, Vec<Runner>, Watcher), Fail>
-    requires { (1 ≤ ticks) × (ticks ≤ 100_000) }
-    ensures runners { IfOk result (λ r. AreInOrder IsRunner r.0 r.1.items × (vec_len r.1 ≡ 2) × (2 ≤ vec_capacity r.1)) }
-    ensures set { IfOk result (λ r. length (floor_of r.0).core.set ≡ 2) }
-    ensures watcher { IfOk result (λ r. IsWatcherOf r.0 r.2) }
-{
-    let floor = free(alloc, lines, ticks)?;
-    if floor.core().set().len() != 2 {
-        return Err("two tasks".into());
-    }
-    let mut needs = Vec::with_capacity(alloc, 2)?;
-    let mut runners = Vec::with_capacity(alloc, 2)?;
-    needs_of_each(floor.core().set(), &mut needs);
-    let Ok((executive, passes, mut watchers)) = Executive::with_watchers(rt, alloc, floor, 3) else {
-        return Err("memory".into());
-    };
-    let watcher = watchers.pop().unwrap();
-    let serving = quietly(rt, &executive, spots);
-    make_runners(
-        &serving,
-        needs.as_slice(),
-        ticks,
-        passes,
-        watchers,
-        &mut runners,
-    );
-    Ok((executive, runners, watcher))
-}
-
-// Closes the executive and returns the floor that is left.
-fn closed<R: Wait + Abort>(
-    rt: &R,
-    executive: Executive,
-    runners: Vec<Runner>,
-    passes: Vec<TaskPass>,
-) -> Floor
-    requires runners { AreInOrder IsRunner executive runners.items × (vec_len runners ≡ 2) }
-    requires set { length (floor_of executive).core.set ≡ 2 }
-    requires room { (passes.items ≡ []) × (2 ≤ vec_capacity passes) }
-{
-    let mut passes = passes;
-    give_passes(&executive, runners, &mut passes);
-    match executive.close(rt, passes) {
-        Ok(floor) => floor,
-        Err(_unclosed) => panic!(rt; "a pass is missing"),
-    }
 }
 
 // Workers as if no thread could be started for any of them.

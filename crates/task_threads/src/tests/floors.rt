@@ -1,5 +1,5 @@
 //! Floors with a plan, and rows that were worked by hand.
-ghost use Rattle.std.specs.Prelude.{◌≡◌, ◌≤◌, [], true, None, IfOk};
+ghost use Rattle.std.specs.Prelude.{◌≡◌, ◌≤◌, ◌<◌, ◌^◌, [], true, None, IfOk};
 ghost use Rattle.timetable.specs.Floor.{is_planned};
 ghost use Rattle.timetable.specs.declared.plan.Plan.TheVariants.{Free};
 ghost use Rattle.task_threads.specs.LivePasses.{live_capacity};
@@ -10,13 +10,13 @@ use load_sum::sum_loads;
 use mc_model::How::{Done, More};
 use mc_model::{Row, WorkRow};
 use mc_task::Level::{High, Low};
-use mc_task::TaskSet;
+use mc_task::{Name, Task, TaskSet};
 use mode_core::Core;
 use std::alloc::Global;
 use std::test::Fail;
 use timetable::{Floor, Plan};
 use work_file::Work;
-use worked_sets::{Job, Line, kept, set_of, task, tick, work_row, work_rows};
+use worked_sets::{Job, Line, kept, set_of, tick, work_row, work_rows};
 
 /// The rows of ten ticks of a live run of the control set.
 pub const LIVE_ROWS: [Row; 12] = [
@@ -52,13 +52,25 @@ pub fn crowd(alloc: Global, periods: u32, ticks: u32) -> Result<Floor, Fail>
 
 // Tasks 1 to 20 are low, and 21 to 32 are high.
 fn crowd_set(alloc: Global) -> Result<TaskSet, Fail> {
-    let mut tasks = Vec::new(alloc);
-    for number in 0..32u32 {
-        let name = format!(in alloc; "t{number:02}")?;
-        let (level, high) = if number < 20 { (Low, 1) } else { (High, 4) };
-        tasks.push(task(name.as_str(), level, 64, 1, high).ok_or("a name")?)?;
+    let mut tasks = Vec::with_capacity(alloc, 32)?;
+    for number in 0..32 {
+        tasks.push(crowd_task(number).ok_or("a name")?)?;
     }
     Ok(TaskSet::new(tasks)?)
+}
+
+fn crowd_task(number: u8) -> Option<Task>
+    requires { number < 32 }
+{
+    let name = [b't', b'0' + number / 10, b'0' + number % 10];
+    let (level, high) = if number < 20 { (Low, 1) } else { (High, 4) };
+    Some(Task {
+        name: Name::new(&name)?,
+        level,
+        period: 64,
+        low: 1,
+        high,
+    })
 }
 
 // A release of each task in each period.
@@ -82,15 +94,20 @@ fn planned(alloc: Global, set: TaskSet, rows: Vec<WorkRow>, ticks: u32) -> Resul
     if ticks == 0 || ticks > 1_000_000 {
         return Err("ticks".into());
     }
-    let rule = admit(&sum_loads(&set)?).ok_or("not admitted")?;
     let work = Work::new(&set, rows)?;
     let places = ticks as usize + work.rows().len();
-    let core = Core::new(alloc, set, rule, places)?;
-    let plan = Plan::Rows {
-        work,
-        ticks: u64::from(ticks),
-    };
-    Ok(Floor::new(core, plan))
+    let core = admitted(alloc, set, places)?;
+    let ticks = u64::from(ticks);
+    Ok(Floor::new(core, Plan::Rows { work, ticks }))
+}
+
+// A core with no rows and this capacity, of a set that is admitted.
+fn admitted(alloc: Global, set: TaskSet, places: usize) -> Result<Core, Fail>
+    requires { places < 2 ^ 32 }
+    ensures { IfOk result (λ c. (c.rows ≡ []) × (c.out ≡ None) × (c.set ≡ set.tasks) × (c.places ≡ places)) }
+{
+    let rule = admit(&sum_loads(&set)?).ok_or("not admitted")?;
+    Ok(Core::new(alloc, set, rule, places)?)
 }
 
 /// A floor without a plan, for a live run of this many ticks.
@@ -99,7 +116,6 @@ pub fn free(alloc: Global, lines: &[Line], ticks: u64) -> Result<Floor, Fail>
     ensures { IfOk result (λ f. (f.plan ≡ Free) × (f.core.rows ≡ []) × (f.core.out ≡ None) × (f.core.places ≡ live_capacity f.core.set ticks)) }
 {
     let set = set_of(alloc, lines)?;
-    let rule = admit(&sum_loads(&set)?).ok_or("not admitted")?;
     let places = live_capacity(&set, ticks) as usize;
-    Ok(Floor::new(Core::new(alloc, set, rule, places)?, Plan::Free))
+    Ok(Floor::new(admitted(alloc, set, places)?, Plan::Free))
 }

@@ -1,5 +1,10 @@
 //! Tests of the monitor.
-use super::{OVERLOAD, SCALED, SHORT_LOW, TWO_OF_TEN, UNSCALED, fits, judged, runs_of};
+ghost use Rattle.std.specs.Prelude.{◌≡◌, All};
+ghost use Rattle.mc_model.specs.Runs.{IsRunOfSet};
+
+use super::{
+    OVERLOAD, SCALED, SHORT_LOW, TWO_OF_TEN, UNSCALED, are_of_set, are_runs, fits, judged, runs_of,
+};
 use mc_model::{How, Run, Verdict, Why};
 use mc_task::{Rule, TaskSet};
 use std::alloc::Global;
@@ -68,6 +73,77 @@ const WATCHED: [(&[Line], Rule, &str); 5] = [
         "release long 1 kept, release b 1 kept, tick long 1 more 9, tick long 1 more, tick long 1 more 39, tick long 1 stop, tick b 1 done",
     ),
 ];
+
+// Gives the monitor runs of its set in one call.
+fn follow(alloc: Global, monitor: &mut Monitor, runs: &[Run]) -> Result<(), Fail>
+    requires { All (IsRunOfSet monitor.old.set.tasks) runs.now }
+    ensures { monitor.new.set ≡ monitor.old.set }
+{
+    if !are_runs(runs) || monitor.seen() > 1 << 61 {
+        return Err(Fail::from("few runs"));
+    }
+    Ok(monitor.follow_all(alloc, runs)?)
+}
+
+// The verdict of a monitor that is given the runs before this one in one call, and the others in another; and how many
+// pending jobs it then finds late.
+fn in_two(
+    alloc: Global,
+    set: &TaskSet,
+    rule: Rule,
+    runs: &[Run],
+    count: usize,
+) -> Result<(Verdict, usize), Fail> {
+    if count > runs.len() || !fits(rule) || !are_of_set(set, runs) {
+        return Err(Fail::from("runs of the set"));
+    }
+    let mut monitor = Monitor::new(alloc, set.copy(alloc)?, rule)?;
+    follow(alloc, &mut monitor, &runs[..count])?;
+    follow(alloc, &mut monitor, &runs[count..])?;
+    let late = monitor.turned_late(alloc, 0)?.len();
+    Ok((monitor.verdict(), late))
+}
+
+// The verdict of a monitor that is given the runs one by one, and how many pending jobs it then finds late.
+fn one_by_one(
+    alloc: Global,
+    set: &TaskSet,
+    rule: Rule,
+    runs: &[Run],
+) -> Result<(Verdict, usize), Fail> {
+    if !fits(rule) {
+        return Err(Fail::from("a rule"));
+    }
+    let mut monitor = Monitor::new(alloc, set.copy(alloc)?, rule)?;
+    for run in runs {
+        monitor.observe(alloc, *run)?;
+    }
+    let late = monitor.turned_late(alloc, 0)?.len();
+    Ok((monitor.verdict(), late))
+}
+
+// Whether the runs of the text may be given in two calls, cut anywhere.
+fn agree_in_two(alloc: Global, lines: &[Line], rule: Rule, text: &str) -> Result<bool, Fail> {
+    let set = set_of(alloc, lines)?;
+    let runs = runs_of(alloc, &set, text)?;
+    let expected = one_by_one(alloc, &set, rule, &runs)?;
+    for count in 0..=runs.len() {
+        if in_two(alloc, &set, rule, &runs, count)? != expected {
+            return Ok(false);
+        }
+    }
+    Ok(true)
+}
+
+#[test]
+fn a_monitor_that_is_given_many_runs_says_what_it_says_of_each(
+    rt: HostRuntime,
+) -> Result<(), Fail> {
+    for (lines, rule, text) in WATCHED {
+        assert!(rt; agree_in_two(rt.alloc(), lines, rule, text)?, "{text}");
+    }
+    Ok(())
+}
 
 #[test]
 fn a_monitor_says_what_the_judge_says_of_the_rows_so_far(rt: HostRuntime) -> Result<(), Fail> {

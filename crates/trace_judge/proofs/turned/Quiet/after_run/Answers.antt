@@ -1,5 +1,4 @@
 use Rattle.std.proofs.Common.{◌+◌, ◌≤◌, ◌++◌, inl, inr, ap, subst, sym, arith}
-use Rattle.mc_task.specs.declared.task.Task.{Task}
 use Rattle.mc_task.specs.TaskSet.{task_at}
 use Rattle.mc_model.specs.Rows.{ticks}
 use Rattle.mc_model.specs.Runs.{rows_of}
