@@ -22,7 +22,7 @@ count_at k i [] notes within = absurd (omega arith)
 count_at k zero (t ∷ ts) notes within = ap (count notes) (let e : k ≡ k + 0 = omega arith in e)
 count_at k (suc i) (t ∷ ts) notes within = count_at (k + 1) i ts notes (omega arith) ∙ ap (count notes) (let e : k + 1 + i ≡ k + suc i = omega arith in e)
 
--- how many of its releases were noted
+-- the count that is kept of task number k is the number of its notes
 pub count_of-arrived : (set : List Task) (notes : List Note) (k : ℕ) → IsIn set k → count_of (arrived set notes) k ≡ count notes k
 count_of-arrived set notes k inside =
     let first : 1 ≤ k = inside.0 in

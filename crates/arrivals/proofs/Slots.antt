@@ -15,7 +15,7 @@ note m at = record { task = m; at = at }
 abbrev pub noted : ℕ → Slot → Slot
 noted at s = record { period = s.period; count = s.count + 1; next = at + s.period }
 
--- of a task that is not there
+-- the slot of a task that is not there: all 0
 abbrev pub no_slot : Slot
 no_slot = record { period = 0; count = 0; next = 0 }
 
@@ -23,7 +23,7 @@ no_slot = record { period = 0; count = 0; next = 0 }
 abbrev slot : ℕ → ℕ → ℕ → Slot
 slot period count next = record { period = period; count = count; next = next }
 
--- tasks of higher numbers are kept as they were
+-- a note of a task leaves what is kept of tasks with higher numbers as it is
 higher : (m at k : ℕ) (ts : List Task) (notes : List Note) → m < k → arrived_from k ts (note m at ∷ notes) ≡ arrived_from k ts notes
 higher m at k [] notes low = refl
 higher m at k (t ∷ ts) notes low =
@@ -32,7 +32,7 @@ higher m at k (t ∷ ts) notes low =
     ap (λ (n : ℕ). slot t.period n (next_after t.period notes k)) (let e : 0 + count notes k ≡ count notes k = omega arith in e) in
     rw test (ap (λ (s : Slot). s ∷ arrived_from (k + 1) ts (note m at ∷ notes)) here ∙ ap (λ (ss : List Slot). slot_after notes k t ∷ ss) (higher m at (k + 1) ts notes (omega arith)))
 
--- after one more note, the slot of its task alone is another
+-- one more note changes only the slot of its task
 pub arrived_more : (m at k i : ℕ) (ts : List Task) (notes : List Note) → m ≡ k + i → set (arrived_from k ts notes) i (noted at (get_or (arrived_from k ts notes) i no_slot)) ≡ arrived_from k ts (note m at ∷ notes)
 arrived_more m at k i [] notes e = refl
 arrived_more m at k zero (t ∷ ts) notes e =
@@ -46,7 +46,7 @@ arrived_more m at k (suc i) (t ∷ ts) notes e =
     ap (λ (n : ℕ). slot t.period n (next_after t.period notes k)) (let e : count notes k ≡ 0 + count notes k = omega arith in e) in
     rw test (ap (λ (ss : List Slot). slot_after notes k t ∷ ss) (arrived_more m at (k + 1) i ts notes (omega arith)) ∙ ap (λ (s : Slot). s ∷ arrived_from (k + 1) ts (note m at ∷ notes)) here)
 
--- before any note
+-- before any note each task has the slot of a task with no release
 pub arrived_none : (k : ℕ) (ts : List Task) → map fresh_slot ts ≡ arrived_from k ts []
 arrived_none k [] = refl
 arrived_none k (t ∷ ts) = ap (λ (ss : List Slot). fresh_slot t ∷ ss) (arrived_none (k + 1) ts)
@@ -59,7 +59,7 @@ next_at k (suc i) (t ∷ ts) notes =
     let e : k + 1 + i ≡ k + suc i = omega arith in
     next_at (k + 1) i ts notes ∙ ap (λ (n : ℕ). unwrap_or (option_map (λ (t : Task). next_after t.period notes n) (slice_get ts i)) 0) e
 
--- from when task number k may be released
+-- the boundary from which task number k may be released is the same by its slot and by the notes
 pub next_of-arrived : (set : List Task) (notes : List Note) (k : ℕ) → 1 ≤ k → next_of (arrived set notes) k ≡ next set notes k
 next_of-arrived set notes k some =
     let number : 1 + (k - 1) ≡ k = omega arith in

@@ -10,7 +10,7 @@ ticks_of-this ledger k n there =
     let last : k ≤ length ledger.ticks = there.1 in
     get_or-set_same ledger.ticks (k - 1) n 0 (omega arith)
 
--- all other tasks keep their ticks
+-- setting the ticks of a task leaves the ticks of all other tasks as they are
 pub ticks_of-other : (ledger : Ledger) (k n j : ℕ) → 1 ≤ k → 1 ≤ j → j ≢ k → ticks_of (with_ticks ledger k n) j ≡ ticks_of ledger j
 ticks_of-other ledger k n j first some other = get_or-set_other ledger.ticks (k - 1) (j - 1) n 0 (omega (arith, other))
 

@@ -17,7 +17,7 @@ use Rattle.calling_examples.specs.declared.live.Live.TheInside.{Inside}
 use Rattle.calling_examples.specs.Live.{row_line, rows_text, with_line, LiveRows, IsLegalTrace}
 use Rattle.calling_examples.specs.Handed.{rows_of_live, IsLive}
 
--- what holds whether or not a call succeeds
+-- what holds in any case holds if a call succeeds
 pub either_way : {T E P : Type 0} (r : Result T E) → P → OnOk r P
 either_way (Ok x) p = p
 either_way (Err e) p = tt
@@ -28,7 +28,7 @@ no_error (Ok x) e is p none = p
 no_error (Err d) None is p none = cc
 no_error (Err d) (Some y) is p none = cc
 
--- the written bytes with one line more
+-- with one line more, the written bytes, if they are known, are the bytes before and the line
 pub text_more : (old new : Option (List ℕ)) (p t : List ℕ) → IfSome old (λ bytes. bytes ≡ p) → new ≡ with_line old t → IfSome new (λ bytes. bytes ≡ p ++ t)
 text_more None new p t h e = rw e tt
 text_more (Some b) new p t h e = rw e (ap (λ x. x ++ t) h)

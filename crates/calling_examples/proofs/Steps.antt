@@ -15,7 +15,7 @@ use Rattle.mode_core.proofs.CallerLemmas.{no_held}
 use Rattle.timetable.proofs.Calls.{not_full, given_before, given}
 use Rattle.calling_examples.specs.Loop.{AddsTick}
 
--- a row of a tick
+-- a core to which the row of a tick is added has one tick more, and nothing else has changed
 tick_adds : (s t : State) (row : Row) → ticks (row ∷ s.rows) ≡ ticks s.rows + 1 → t ≡ record s { rows = row ∷ s.rows } → AddsTick s t
 tick_adds s t row one e = subst (AddsTick s) (sym e) (record { stays = refl; one_tick = one; one_row = omega arith })
 

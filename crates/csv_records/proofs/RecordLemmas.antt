@@ -53,12 +53,13 @@ shorter s fields at (c ∷ rest) r h =
           ]
     ]
 
--- enough reads from a state give all the records
+-- any number of reads at the end of a text gives all the records that are left: none
 none_at_end : (n : ℕ) → AreRecords default_config st.StartRecord [] (records_from default_config n st.StartRecord [])
 unfolding Reached records_from next_record
 none_at_end zero = (st.StartRecord, [], (refl, refl), refl)
 none_at_end (suc n) = (st.StartRecord, [], (refl, refl), refl)
 
+-- enough reads from a state give all the records
 enough_reads : (n : ℕ) (s : State) (xs : List ℕ) → length xs < n → AreRecords default_config s xs (records_from default_config n s xs)
 unfolding Reached records_from
 enough_reads zero s xs h = absurd (omega arith)

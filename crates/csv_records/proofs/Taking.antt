@@ -15,11 +15,11 @@ pub record IsReading {Row Cause : Type 0} (took : List Row → Type 0) (means : 
   pub number : line ≡ length rows + 2
   pub rest : rows_from means left rows ≡ says
 
--- before the first row
+-- reading begins before the first row, at line 2
 pub reading_begins : {Row Cause : Type 0} (took : List Row → Type 0) (means : Means Row Cause) (records : List (List (List ℕ))) → took [] → IsReading took means records 2 (rows_from means records [])
 reading_begins took means records none = record { rows = []; taken = none; number = refl; rest = refl }
 
--- after one row more
+-- reading goes on after one more row is taken
 pub reading_goes_on : {Row Cause : Type 0} (took new : List Row → Type 0) (means after : Means Row Cause) (all left : List (List (List ℕ))) (fields : List (List ℕ)) (line : ℕ) (says : Result (List Row) (Fault Cause))
     → all ≡ fields ∷ left → IsReading took means all line says → ((before : List Row) → took before → IsTaken new before None (means before fields)) → after ≡ means → IsReading new after left (line + 1) says
 reading_goes_on {Row = Row} {Cause = Cause} took new means after all left fields line says is r step same =
@@ -33,18 +33,18 @@ reading_goes_on {Row = Row} {Cause = Cause} took new means after all left fields
       rest = ap (rows_with r.rows (rows_from means left)) (sym t.1) ∙ (ap (λ records. rows_from means records r.rows) (sym is) ∙ r.rest);
     })
 
--- a record that is refused
+-- if the next record is refused, its refusal is what the records say
 pub reading_refused : {Row Cause : Type 0} (took new : List Row → Type 0) (means : Means Row Cause) (all left : List (List (List ℕ))) (fields : List (List ℕ)) (line : ℕ) (says : Result (List Row) (Fault Cause)) (cause : Cause)
     → all ≡ fields ∷ left → IsReading took means all line says → ((before : List Row) → took before → IsTaken new before (Some cause) (means before fields)) → says ≡ Err (At line cause)
 reading_refused took new means all left fields line says cause is r step =
     sym r.rest ∙ (ap (λ records. rows_from means records r.rows) is ∙ (ap (rows_with r.rows (rows_from means left)) (step r.rows r.taken) ∙ ap (λ (n : ℕ). Err (At n cause)) (sym r.number)))
 
--- the end of the records
+-- at the end of the records, the rows that were taken are what the records say
 pub reading_ends : {Row Cause : Type 0} (took : List Row → Type 0) (means : Means Row Cause) (left : List (List (List ℕ))) (line : ℕ) (says : Result (List Row) (Fault Cause)) → left ≡ [] → IsReading took means left line says
     → (rows : List Row) × (says ≡ Ok rows) × took rows
 reading_ends took means left line says none r = (r.rows, sym r.rest ∙ ap (λ records. rows_from means records r.rows) none, r.taken)
 
--- a record with too many fields
+-- if the next record has too many fields, its refusal is what the records say
 pub reading_wide : {Row Cause : Type 0} (took : List Row → Type 0) (means : Means Row Cause) (left : List (List (List ℕ))) (line : ℕ) (says : Result (List Row) (Fault Cause)) (cause : Cause) → StartsWide left → IsReading took means left line says
     → ((before : List Row) (fields : List (List ℕ)) → took before → most_fields < length fields → means before fields ≡ Err cause) → says ≡ Err (At line cause)
 reading_wide took means [] line says cause wide r refuses = absurd wide
@@ -55,7 +55,7 @@ pub takes_fails : {X Y Row Cause : Type 0} (took : X → List Row → Type 0) (o
 takes_fails took other Memory says t = tt
 takes_fails took other (At line cause) says t = t
 
--- and however it would have been seen
+-- a fault is the same one, however the rows would have been seen
 pub gives_fails : {X Y Row Cause : Type 0} (took : X → List Row → Type 0) (view : Y → List Row) (fault : Fault Cause) (says : Result (List Row) (Fault Cause)) → Takes took (Err fault) says → Reads view (Err fault) says
 gives_fails took view Memory says t = tt
 gives_fails took view (At line cause) says t = t

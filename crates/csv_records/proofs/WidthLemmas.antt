@@ -88,7 +88,7 @@ field_inside csv_state.InQuoted b = field_is_inside (step default_config csv_sta
 field_inside csv_state.AfterQuote b = field_is_inside (step default_config csv_state.AfterQuote b) (stays csv_state.AfterQuote b refl)
 field_inside csv_state.InEscape b = field_is_inside (step default_config csv_state.InEscape b) (stays csv_state.InEscape b refl)
 
--- a text ends the record that the machine is inside of
+-- the end of a text ends the record that the machine is inside of
 inside_ends : (s : State) → is_inside s ≡ true → ends_at_end s ≡ true
 inside_ends csv_state.StartRecord h = cc
 inside_ends csv_state.AfterCr h = cc

@@ -74,7 +74,7 @@ tick_less set rule kappa j how g ok fits low busy =
     (Each-map {P = IsLiveOk set rule g} (λ x o t. let m = least_low set rule false kappa j (pending set g) x busy t in spends set rule kappa j how g x low o m.1 m.0) (pending set g) ok)
     (rw low at fits.least)
 
--- if no job with a key of at most kappa is pending, the bound starts again
+-- if no job with a key of at most kappa is pending, the bound on the ticks that were spent starts again
 fresh : (set : List Task) (rule : Rule) (kappa : ℕ) (h : List Row) → none_below set rule false (kappa + 1) (pending set h) ≡ true → LowDemand set rule kappa h
 fresh set rule kappa h e =
     let z = no_weight set rule kappa h (pending set h) e in
@@ -86,7 +86,7 @@ fresh set rule kappa h e =
       each = λ k. record { next = omega arith; reach = omega arith };
     }
 
--- the bound after a tick while a job with a key of at most kappa is pending
+-- the bound on the ticks that were spent, after a tick while a job with a key of at most kappa is pending
 ticked : (set : List Task) (rule : Rule) (kappa : ℕ) (j : JobId) (how : How) (g : List Row) →
     Each (IsLiveOk set rule g) (pending set g) → TickFits set rule j how g → high_mode rule g ≡ false →
     none_below set rule false (kappa + 1) (pending set g) ≡ false → LowDemand set rule kappa g → LowDemand set rule kappa (Tick j how ∷ g)
@@ -106,7 +106,7 @@ demand_same set rule kappa j kept g t k d soon h =
     let n : next_release set g k ≤ next_release set (Release j kept ∷ g) k = next_release-grows set j kept g k soon in
     record { next = le_trans h.next (mul-le-mul_left _ (omega (arith, n))); reach = h.reach }
 
--- a release that counts adds its budget
+-- a release that counts adds its job's budget to what the task asked for
 demand_more : (set : List Task) (rule : Rule) (kappa : ℕ) (j : JobId) (g : List Row) (t k d : ℕ) → ((t : Option Task) → low_offset rule t ≤ scale rule * period_in t) → t ≤ ticks g → next_release set g j.task.0 ≤ ticks g →
     scale rule * ticks g + low_offset rule (task_at set j.task.0) ≤ kappa → IsDemand set rule kappa g t k d → (b : Bool) → (j.task.0 == k) ≡ b → IsDemand set rule kappa (Release j true ∷ g) t k (cond b (d + low_budget rule (task_at set j.task.0)) d)
 demand_more set rule kappa j g t k d slack early soon near h true m =
@@ -124,7 +124,7 @@ demand_more set rule kappa j g t k d slack early soon near h true m =
         omega (arith, x, near)
 demand_more set rule kappa j g t k d slack early soon near h false m = demand_same set rule kappa j true g t k d soon h
 
--- the bound after a release that is kept
+-- the bound on the ticks that were spent, after a release that is kept
 released_in : (set : List Task) (rule : Rule) (kappa : ℕ) (j : JobId) (g : List Row) → ((t : Option Task) → low_offset rule t ≤ scale rule * period_in t) → IsIn set j.task.0 →
     ReleaseFits set rule j true g → LowDemand set rule kappa g → LowDemand set rule kappa (Release j true ∷ g)
 released_in set rule kappa j g slack inside fits c = go (nat_le (key set rule false (record { job = j; release = ticks g })) kappa) refl
@@ -152,7 +152,7 @@ released_in set rule kappa j g slack inside fits c = go (nat_le (key set rule fa
           each = λ k. demand_same set rule kappa j true g c.start k (c.demand k) fits.soon (c.each k);
         }
 
--- the bound after a release that is dropped
+-- the bound on the ticks that were spent, after a release that is dropped
 released_out : (set : List Task) (rule : Rule) (kappa : ℕ) (j : JobId) (g : List Row) → ReleaseFits set rule j false g → LowDemand set rule kappa g → LowDemand set rule kappa (Release j false ∷ g)
 released_out set rule kappa j g fits c = record {
   start = c.start;
@@ -162,7 +162,7 @@ released_out set rule kappa j g fits c = record {
   each = λ k. demand_same set rule kappa j false g c.start k (c.demand k) fits.soon (c.each k);
 }
 
--- each legal trace in low mode has such a bound
+-- each legal trace in low mode has a bound on the ticks that were spent
 pub low_demand : (set : List Task) (rule : Rule) (kappa : ℕ) → ((t : Option Task) → low_offset rule t ≤ scale rule * period_in t) → AllByRecursion IsTask set → (h : List Row) → Legal set rule h → high_mode rule h ≡ false → LowDemand set rule kappa h
 low_demand set rule kappa slack s [] l m = fresh set rule kappa [] refl
 low_demand set rule kappa slack s (Release j true ∷ g) l m = released_in set rule kappa j g slack l.0 (release_fits set rule j true g l.1) (low_demand set rule kappa slack s g l.2 m)

@@ -89,7 +89,7 @@ low_tick set p q e x j how g mark ok fits low (inr w) c = go (none_below set (Vi
         let f = total-filter_less (owes set p q e x.release g) (owes set p q e x.release (Tick j how ∷ g)) (stays set j how) (pending set g) (Each-all (λ y. weight_falls _ _ _ _) (pending set g)) in
         ledger_less set p q e x.release (Tick j how ∷ g) (owed set p q e x.release (Tick j how ∷ g)) 0 (omega (arith, z, f)) (ledger_fresh set p q e x.release (Tick j how ∷ g) w)
 
--- a release that counts does so in one of the three ways
+-- a release that counts does so in one of the three ways of `Counts`
 counted : (set : List Task) (p q e a : ℕ) (j : JobId) (r : ℕ) → counts set p q e a (record { job = j; release = r }) ≡ true → Counts set p q e a r j.task.0 (budget set a (record { job = j; release = r }))
 counted set p q e a j r h = go (is_high_in (task_at set j.task.0)) refl (nat_lt r a) refl
   where

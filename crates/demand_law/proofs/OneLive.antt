@@ -63,7 +63,7 @@ virtual_time set p q high h (x ∷ xs) pq f = (above_scaled q (ticks h) _ (omega
     below false true = mul-le-mul_right _ pq
     below false false = le_refl _
 
--- by the law of its mode, no deadline of a pending job has come
+-- by the law of the trace's mode, no deadline of a pending job has come
 pub in_time : (set : List Task) (rule : Rule) (h : List Row) → AllByRecursion IsTask set → Holds set rule → Legal set rule h → Each (InTime set h) (pending set h)
 in_time set Plain h s holds l = plain_time set h (pending set h) (low_law set Plain h s holds l (plain_mode h))
 in_time set (Virtual p q) h s holds l = go (high_mode (Virtual p q) h) refl

@@ -27,7 +27,7 @@ use Rattle.mc_model.proofs.Fold
 not_yet : (n t r : ℕ) → t + 1 ≤ n → r ≡ 0 → cond (t == n) 1 0 + r ≡ 0
 not_yet n t r k e = let other : (t == n) ≡ false = grind (arith, nat_tests) in rw other (omega arith)
 
--- after the last tick no row stands at a number
+-- no row stands at number n if the trace has at most n ticks
 none_at : (n : ℕ) (h : List Row) → ticks h ≤ n → rows_at n h ≡ 0
 none_at n [] k = refl
 none_at n (Release j kept ∷ g) k = none_at n g k

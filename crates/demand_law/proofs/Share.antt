@@ -31,7 +31,7 @@ grant_all low own t a y h o =
     let z : low * (y - a) ≤ own * (y - a) = mul-le-mul_right (y - a) o in
     omega (arith, x, z)
 
--- what was asked for by a release before a is by the low budget alone
+-- if the next release n is before a, what was asked for is within the low budget alone
 old_plain : (d low own n t a r p : ℕ) → d * p ≤ grant low own t a n → n ≤ r → r + 1 ≤ a → d * p ≤ low * (n - t)
 old_plain d low own n t a r p h u v =
     let x : min n a ≡ n = omega arith in
@@ -54,7 +54,7 @@ old_reach d low own n t a e r p ps q h u v w o s near =
     let y : low * (ps * (e - a)) ≤ own * (ps * (e - a)) = mul-le-mul_right (ps * (e - a)) o in
     omega (arith, x, y)
 
--- one more release from a on adds to what is past a
+-- one more release from a on adds its own budget to what was asked for
 new_plain : (d low own n t a r p : ℕ) → d * p ≤ grant low own t a n → n ≤ r → a ≤ r → (d + own) * p ≤ low * (a - t) + own * ((r + p) - a)
 new_plain d low own n t a r p h u v =
     let x : grant low own t a n ≤ grant low own t a r = grant-mono low own t a n r u in
@@ -83,8 +83,8 @@ low_reach d b n t a e r p ps q h u v w near =
     let z : q * (a - t) + q * t ≡ q * a = times_sub q a t w in
     more_reach d b n t r p (q * p) (q * (a - t) + ps * (e - a)) q h u v (le_refl _) (omega (arith, z, near))
 
--- task number k asked for d ticks since t, where p / q is the scale: within its budgets by its next release,
--- and by e
+-- the d ticks that task number k asked for since t are within its budgets by the time to its next release, and by
+-- the time to e; p / q is the scale
 pub record IsShare (set : List Task) (p q e : ℕ) (h : List Row) (t a k d : ℕ) : Type 0 where
   pub low_next : is_high_in (task_at set k) ≡ false → d * period_in (task_at set k) ≤ low_in (task_at set k) * (next_release set h k - t)
   pub low_reach : is_high_in (task_at set k) ≡ false → d * (q * period_in (task_at set k)) ≤ low_in (task_at set k) * (q * (a - t) + p * (e - a))
@@ -116,7 +116,7 @@ pub data Counts (set : List Task) (p q e a r k : ℕ) : ℕ → Type 0 where
 clash : (b : Bool) → b ≡ false → b ≡ true → ⊥
 clash b h k = cc
 
--- a release that counts adds its budget
+-- a release that counts leaves its task within its share, with the budget by which the release counts
 share_own : (set : List Task) (p q e : ℕ) (j : JobId) (kept : Bool) (g : List Row) (t a d b : ℕ) → p ≤ q → t ≤ ticks g → t ≤ a → low_in (task_at set j.task.0) ≤ own_in (task_at set j.task.0) → next_release set g j.task.0 ≤ ticks g →
     Counts set p q e a (ticks g) j.task.0 b → IsShare set p q e g t a j.task.0 d → IsShare set p q e (Release j kept ∷ g) t a j.task.0 (d + b)
 share_own set p q e j kept g t a d b pq tg ta order soon (low_task m near) h = record {

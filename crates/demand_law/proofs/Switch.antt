@@ -41,7 +41,7 @@ use Rattle.mc_task.specs.declared.task.Level.TheVariants.{Low, High}
 use Rattle.std.proofs.lemmas.Bool.{and_parts}
 use Rattle.std.proofs.Math.Bool.{beq}
 
--- of the jobs with keys of at most n, one that was released first
+-- a job that was released first among the jobs with keys of at most n
 pub record LeastDue (set : List Task) (p q n : ℕ) (xs : List KeptRelease) : Type 0 where
   pub first : KeptRelease
   pub inside : is_in xs first ≡ true

@@ -12,7 +12,7 @@ use Rattle.demand_test.specs.Refusals.{◌>>=◌, refuse_if}
 use Rattle.demand_test.specs.SoFar.{IsSoFar}
 use Rattle.demand_test.proofs.ReadTasks.{IsNew, so_far-push}
 
--- the tasks so far with one more, if it may stand after them
+-- the tasks so far are a set with one more task, if it may stand after them
 pub so_far_after : (before : List Demand) (t : Demand) (multiple : ℕ) (r : Result ℕ DemandCause) → IsSoFar before multiple → length before < 128 → IsNew before t.name →
     OnOk r ((t.period < 2 ^ 32) × (t.deadline < 2 ^ 32) × (t.budget < 2 ^ 32)) → r ≡ multiple_with before t → IfOk r (λ next. IsSoFar (before ++ t ∷ []) next)
 so_far_after before t multiple (Err cause) so few new small e = tt
@@ -34,7 +34,7 @@ record_step before t fields is = rw (is.count, is.name, is.form, is.period, is.d
     by false true n = refl
     by false false n = refl
 
--- these tasks, or their refusal
+-- the tasks, or the refusal if there is one
 abbrev listed : List Demand → Option RefusedTask → Result (List Demand) RefusedTask
 listed tasks None = Ok tasks
 listed tasks (Some e) = Err e

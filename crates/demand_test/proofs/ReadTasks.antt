@@ -53,7 +53,7 @@ order_of before t multiple e =
     let p = given ((t.period == 0 || t.deadline == 0) || t.budget == 0) (nat_lt t.period t.deadline) (nat_lt most_lcm (hyperperiod (before ++ t ∷ []))) (hyperperiod (before ++ t ∷ [])) multiple e in
     grind (arith, nat_tests)
 
--- what is known of a name that is taken
+-- a name that the next task may have: it has the form of a name, and no task before has it
 pub record IsNew (before : List Demand) (name : List ℕ) : Type 0 where
   pub form : IsTrue (is_name name)
   pub new : has_name name before ≡ false
@@ -76,7 +76,7 @@ other_names name (t ∷ ts) e =
     let p = or_parts (bytes_eq t.name name) (has_name name ts) e in
     ((λ same. false≢true (sym p.0 ∙ (bytes_eq-Decides t.name name).1 same)), other_names name ts p.1)
 
--- the tasks so far with one more
+-- the tasks so far are a set with one more task, if its name and numbers may stand after them
 pub so_far-push : (before : List Demand) (t : Demand) (multiple next : ℕ) → IsSoFar before multiple → length before < 128 → IsNew before t.name → (t.period < 2 ^ 32) × (t.deadline < 2 ^ 32) × (t.budget < 2 ^ 32) →
     Ok next ≡ multiple_with before t → IsSoFar (before ++ t ∷ []) next
 so_far-push before t multiple next s few new small order =
@@ -90,7 +90,7 @@ so_far-push before t multiple next s few new small order =
       range = o.4;
     }
 
--- before the first task
+-- before the first task there are no tasks, and their hyperperiod is 1
 pub so_far-none : IsSoFar [] 1
 unfolding lcm_from
 so_far-none = record { few = omega arith; each = tt; names = tt; value = refl; range = omega arith }

@@ -21,7 +21,7 @@ use Rattle.demand_test.proofs.Tasks.{period_of, some_at, demand_at-in}
 use Rattle.demand_test.proofs.Membership.{in_map, in_filter, each_map}
 use Rattle.demand_test.proofs.Played.{Leads, spent_one, has_ticks, spent, placed_more, tick_step, idle_step}
 
--- the ticks after a boundary at which no task releases
+-- at a boundary at which no task releases, all tasks had their turn
 quiet : (set : List Demand) (b c : ℕ) (h : List EdfRow) (js : List Job) → b < c → ((k : ℕ) → IsIn set k → c ≤ releases h k * period_of set k) → Between set b 0 h js → Between set b (length set) h js
 quiet set b c h js l away w = record {
   run = w.run;
@@ -37,7 +37,7 @@ quiet set b c h js l away w = record {
   left = w.left;
 }
 
--- the rows at a later boundary
+-- rows that have come to boundary b are on the way to c, if no task releases before c
 pub later : (set : List Demand) (b c : ℕ) (h : List EdfRow) (js : List Job) → b ≤ c → ((k : ℕ) → IsIn set k → c ≤ releases h k * period_of set k) → Between set b 0 h js → OnTheWay set b c h js
 later set b c h js l away w = record {
   within = l;
@@ -45,12 +45,12 @@ later set b c h js l away w = record {
   come = λ e. w;
 }
 
--- a row after others of its kind
+-- a row after n rows equal to it may as well stand before them
 replicate-between : (n : ℕ) (row : EdfRow) (h : List EdfRow) → replicate n row ++ (row ∷ h) ≡ row ∷ (replicate n row ++ h)
 replicate-between zero row h = refl
 replicate-between (suc n) row h = ap (λ (r : List EdfRow). row ∷ r) (replicate-between n row h)
 
--- idle ticks
+-- n + 1 idle ticks, while no job is pending, lead on the way to c
 pub idle_span :
     (set : List Demand) (n b c : ℕ) (h : List EdfRow) (js : List Job) → js ≡ [] → b + suc n ≤ c → Awaits set b c h js → OnTheWay set (b + suc n) c (replicate (suc n) Idle ++ h) js
 idle_span set zero b c h js none l w =
@@ -70,7 +70,7 @@ gone : (m : Bool) (l n : ℕ) → nat_lt 0 (cond m (l - 1) l) ≡ false → nat_
 gone true l n e = grind (arith, nat_tests)
 gone false l n e = e
 
--- one tick and n more are 1 + n
+-- one tick of a job and n more are 1 + n ticks of it
 spent_more : (n : ℕ) (id : JobId) (js : List Job) → spent n id (spent 1 id js) ≡ spent (suc n) id js
 spent_more n id [] = refl
 spent_more n id (p ∷ ps) =
@@ -101,11 +101,11 @@ left_enough : (m : Bool) (l n : ℕ) → suc (suc n) ≤ l → suc n ≤ cond m 
 left_enough true l n e = omega arith
 left_enough false l n e = omega arith
 
--- a tick of the first job, after which no task releases
+-- a tick of the first job leads on the way to c, if no task releases before c
 tick_on : (set : List Demand) (b c : ℕ) (h : List EdfRow) (js : List Job) (p : Job) → Leads js p → b + 1 ≤ c → Awaits set b c h js → OnTheWay set (b + 1) c (Tick p.id false ∷ h) (spent 1 p.id js)
 tick_on set b c h js p f l w = later set (b + 1) c (Tick p.id false ∷ h) (spent 1 p.id js) l w.away (tick_step set b h js p f w.so)
 
--- one tick of the first job, and n more
+-- one tick of a job and n more of it lead as far as n + 1 ticks
 tick_then :
     (set : List Demand) (n b c : ℕ) (h : List EdfRow) (js : List Job) (id : JobId) →
     OnTheWay set (b + 1 + n) c (replicate n (Tick id false) ++ (Tick id false ∷ h)) (spent n id (spent 1 id js)) →
@@ -116,7 +116,7 @@ tick_then set n b c h js id w =
     let rows = subst (λ (r : List EdfRow). OnTheWay set (b + 1 + n) c r (spent (suc n) id js)) (replicate-between n (Tick id false) h) jobs in
     subst (λ (m : ℕ). OnTheWay set m c (replicate (suc n) (Tick id false) ++ h) (spent (suc n) id js)) e rows
 
--- ticks of the first job, up to its last one
+-- n + 1 ticks of the first job, which has them left, lead on the way to c
 pub tick_span :
     (set : List Demand) (n b c : ℕ) (h : List EdfRow) (js : List Job) (p : Job) → Leads js p → suc n ≤ p.left → b + suc n ≤ c → Awaits set b c h js →
     OnTheWay set (b + suc n) c (replicate (suc n) (Tick p.id false) ++ h) (spent (suc n) p.id js)
@@ -127,7 +127,7 @@ tick_span set (suc n) b c h js p f some l w =
     (left_enough (same_job p.id p.id) p.left n some) (omega (arith, l)) next in
     tick_then set (suc n) b c h js p.id rest
 
--- a positive number of idle ticks
+-- a positive number of idle ticks, while no job is pending, leads on the way to c
 pub idle_ticks :
     (set : List Demand) (n b c : ℕ) (h : List EdfRow) (js : List Job) → js ≡ [] → 1 ≤ n → b + n ≤ c → Awaits set b c h js → OnTheWay set (b + n) c (replicate n Idle ++ h) js
 idle_ticks set zero b c h js none some l w = absurd (omega arith)

@@ -46,14 +46,14 @@ named_at (q ∷ qs) (suc i) p at = omega (arith, named_at qs i p at)
 has_more : (l n : ℕ) → nat_lt 0 (l - n) ≡ nat_lt n l
 has_more l n = grind (arith, nat_tests)
 
--- if no other job has its name, ticks of the first job change that one alone
+-- ticks of the first job change that job alone, if no other job has its name
 spent_head : (n : ℕ) (p : Job) (ps : List Job) → named p.id (p ∷ ps) ≤ 1 → Each (λ q. 1 ≤ q.left) ps → spent n p.id (p ∷ ps) ≡ cond (nat_lt n p.left) (with_left p (p.left - n) ∷ ps) ps
 spent_head n p ps once some =
     let mine : same_job p.id p.id ≡ true = same_job-refl p.id in
     let none : named p.id ps ≡ 0 = let o = rw mine at once in omega (arith, o) in
     rw (mine, untouched n p.id ps none some, has_more p.left n) refl
 
--- the same for the job at an index
+-- ticks of the job at an index change that job alone, if no other job has its name
 spent_here :
     (n : ℕ) (js : List Job) (i : ℕ) (p : Job) → slice_get js i ≡ Some p → named p.id js ≤ 1 → Each (λ q. 1 ≤ q.left) js → spent n p.id js ≡ cond (nat_lt n p.left) (slice_set js i (with_left p (p.left - n))) (remove js i)
 spent_here n [] i p at once some = cc
@@ -99,7 +99,7 @@ pub place_left : (set : List Demand) (b i : ℕ) (h : List EdfRow) (js : List Jo
 place_left set b i h js place f w =
     (each_of (λ p. (1 ≤ p.left) × (p.left + used h p.id ≡ budget_in (demand_at set p.id.task.0))) place.job js w.left (in_place js place.index place.job f.here)).0
 
--- ticks of the first job, up to its last one
+-- n ticks of the first job, which has them left, lead on the way to c
 pub place_ticks :
     (set : List Demand) (n b c : ℕ) (h : List EdfRow) (js : List Job) (place : Place) → IsFirst js place → 1 ≤ n → n ≤ place.job.left → b + n ≤ c → Awaits set b c h js →
     OnTheWay set (b + n) c (replicate n (Tick place.job.id false) ++ h) (spent_at n place js)

@@ -54,7 +54,7 @@ next_soon set (Release j ∷ g) k b m pos r a l p =
       | inr ne ↦ rw (ne_eqb j.task.0 k ne) (omega arith)
     ]
 
--- a task that releases at b in one list of rows does so in the other
+-- a task that releases at boundary b in one of two lists of rows releases at b in the other too
 not_missing :
     (set : List Demand) (b i : ℕ) (j : JobId) (g h : List EdfRow) (m : ℕ) → AllByRecursion IsDemand set → IsPart set b i (Release j ∷ g) → IsPart set b i h →
     m < j.task.0 → Each (IsPlaced b m) (released h) → ⊥
@@ -199,7 +199,7 @@ same_row set b i Idle (Tick j l) g is e e' w w' = absurd (subst (In w'.run.0.x) 
 same_row set b i Idle Idle g is e e' w w' = refl
 same_row set b i row row' g is e e' w w' = absurd (omega arith)
 
--- the other list has no release of a later task than the last one of this list
+-- of two lists of rows that have come to the same turn, neither ends with the release of a later task
 top_most :
     (set : List Demand) (b i : ℕ) (j j' : JobId) (g g' : List EdfRow) → AllByRecursion IsDemand set → IsPart set b i (Release j ∷ g) → IsPart set b i (Release j' ∷ g') →
     j'.task.0 ≤ j.task.0

@@ -51,7 +51,7 @@ pub record IsCounter (set : List Demand) (n : ℕ) (h : List EdfRow) : Type 0 wh
   pub whole : (i : JobId) → is_marked h i ≡ false
   pub lowest : LowestFirst set h
 
--- law: there is exactly one such schedule
+-- law: a set has at most one counterexample of n ticks
 abbrev pub OneCounter : List Demand → ℕ → Type 0
 OneCounter set n = (h g : List EdfRow) → IsCounter set n h → IsCounter set n g → h ≡ g
 

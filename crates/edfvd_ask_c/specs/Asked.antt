@@ -28,9 +28,9 @@ pub record Asks (words : List (List ℕ)) (first second : List ℕ) (status ende
     (out : List ℕ) : Type 0 where
   pub replied : status ≡ 0 → IsReplied words first second ended len out
   pub room : status ≡ 44 → IsTooLong words first second len (length out)
-  -- 45 comes only for a command that starts threads, and such a command gets no reply
+  -- status 45 comes only for a command that starts threads, and such a command gets no reply
   pub threads : status ≡ 45 → AskForThreads words
   pub alone : status ≡ 0 → ¬ AskForThreads words
   pub not_text : status ≡ 43 → ¬ (All IsUtf8 words)
-  -- no other status is returned; 9 is out of memory
+  -- only these statuses are returned; 9 is out of memory
   pub only : (status ≡ 0) ⊎ (status ≡ 9) ⊎ (status ≡ 43) ⊎ (status ≡ 44) ⊎ (status ≡ 45)

@@ -9,7 +9,7 @@ use Rattle.edfvd_c.specs.declared.latest.Lookup.TheVariants.{Here, Gone, NotYet}
 use Rattle.edfvd_c.specs.Latest.{lookup, row_returns, IsRowStatus}
 use Rattle.edfvd_c.specs.Slots.{IsInSlots}
 
--- an element of a longer list
+-- an element keeps its index when one more is added at the end of its list
 slice_get_left : (xs : List Row) (row : Row) (n : ℕ) → n < length xs → slice_get (xs ++ row ∷ []) n ≡ slice_get xs n
 slice_get_left [] row n h = absurd (omega arith)
 slice_get_left (x ∷ xs) row zero h = refl
@@ -62,7 +62,7 @@ data IsFound (first : ℕ) (rows : List Row) (place : ℕ) : Type 0 where
   not_yet : first ≤ place → length rows ≤ place → lookup first rows place ≡ NotYet → IsFound first rows place
   here : (row : Row) → first ≤ place → place < length rows → slice_get rows place ≡ Some row → lookup first rows place ≡ Here row → IsFound first rows place
 
--- each lookup is one of the three
+-- each lookup is gone, not there yet, or the row
 is_found : (first : ℕ) (rows : List Row) (place : ℕ) → IsFound first rows place
 is_found first rows place = elim (cases_lt place first) [
   | inl before ↦ gone before (rw (lt-ltb place first before) refl)
@@ -72,7 +72,7 @@ is_found first rows place = elim (cases_lt place first) [
   ]
 ]
 
--- the status of a lookup says which of the three it is
+-- the status of a lookup says whether the row is gone, not there yet, or kept
 pub row_status : (first : ℕ) (rows : List Row) (place : ℕ) → first ≤ length rows → IsRowStatus first (length rows) place (row_returns (lookup first rows place)).0
 row_status first rows place few = elim (is_found first rows place) [
   | gone before is ↦ rw is (record {

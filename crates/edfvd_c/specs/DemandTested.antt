@@ -59,6 +59,6 @@ pub record IsRefused (given : List GivenDemand) (status task : ℕ) : Type 0 whe
   pub first : first_refusal tasks ≡ Some (refused task cause)
   pub number : status ≡ status_of cause
 
--- nothing but the task of a refusal
+-- a result with the task of a refusal, and no other number
 abbrev pub refused_at : ℕ → DemandTested
 refused_at task = record { past = 0; task = task; length = 0; demand = 0 }

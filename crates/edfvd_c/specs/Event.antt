@@ -23,19 +23,19 @@ use Rattle.edfvd_c.specs.declared.event.Answer.{Answer}
 abbrev pub Returned : Type 0
 Returned = ℕ × Answer
 
--- the job, and what came of it at a tick
+-- an answer with a job, and what came of it at a tick
 abbrev pub of_job : ℕ → JobId → ℕ → ℕ → Answer
 of_job what j before at = record { what = what; task = j.task.0; count = j.count; before = before; at = at }
 
--- nothing but a tick
+-- an answer without a job: what came of an event at a tick
 abbrev pub at_tick : ℕ → ℕ → Answer
 at_tick what at = record { what = what; task = 0; count = 0; before = 0; at = at }
 
--- no job, and no tick
+-- an answer with no job and no tick
 abbrev pub nothing : Answer
 nothing = at_tick 0 0
 
--- the job, if there is one
+-- an answer with the job, if there is one
 abbrev pub of_some : Option JobId → Answer
 of_some None = nothing
 of_some (Some j) = of_job 0 j 0 0

@@ -31,13 +31,13 @@ handle_owns alloc at (Some x) = box_owns (ghosts.dealloc_token alloc) the_row at
 abbrev pub held_coded : Coded (Option Held)
 held_coded = coded_option the_row.coded
 
--- the scheduler that is held, if it is one
+-- the scheduler that a handle holds, if it holds one
 abbrev pub core_of : Option Held → Option State
 core_of (Some (held.Core s)) = Some s
 core_of (Some (held.Endless s)) = Some s
 core_of other = None
 
--- whether a scheduler without an end is held
+-- whether a handle holds a scheduler without an end
 abbrev pub is_endless : Option Held → Bool
 is_endless (Some (held.Endless s)) = true
 is_endless other = false
@@ -47,7 +47,7 @@ abbrev pub kept_from : Option Held → ℕ
 kept_from (Some (held.Endless s)) = latest_from s.rows
 kept_from other = 0
 
--- the monitor that is held, if it is one
+-- the monitor that a handle holds, if it holds one
 abbrev pub monitor_of : Option Held → Option Watched
 monitor_of (Some (held.Monitor w)) = Some w
 monitor_of other = None
@@ -60,11 +60,11 @@ open_mark = 7306077154177934129
 abbrev pub monitor_mark : ℕ
 monitor_mark = 7306077154177936689
 
--- with this mark a scheduler is held, and with any other nothing
+-- with the mark of an open scheduler a scheduler is held, and with any other mark nothing
 abbrev pub IsMarked : ℕ → Option Held → Type 0
 IsMarked mark h = (mark ≡ open_mark → IsSome (core_of h)) × (mark ≢ open_mark → h ≡ None)
 
--- with this mark a monitor is held, and with any other nothing
+-- with the mark of an open monitor a monitor is held, and with any other mark nothing
 abbrev pub IsMonitorMarked : ℕ → Option Held → Type 0
 IsMonitorMarked mark h = (mark ≡ monitor_mark → IsSome (monitor_of h)) × (mark ≢ monitor_mark → h ≡ None)
 

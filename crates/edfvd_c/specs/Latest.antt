@@ -10,7 +10,7 @@ use Rattle.edfvd_c.specs.Seen.{seen_row}
 abbrev pub latest_from : List Row → ℕ
 latest_from h = length h - 256
 
--- the row, if the schedule has come that far
+-- a lookup of a row that is not gone: the row, or that the schedule has not come that far
 abbrev pub here_or_not_yet : Option Row → Lookup
 here_or_not_yet None = NotYet
 here_or_not_yet (Some row) = Here row

@@ -28,7 +28,7 @@ abbrev pub IsMonitorOpening : List GivenTask → ℕ → ℕ → Option Watched 
 IsMonitorOpening given p q m = MatchOption m ⊥
     (λ w. AreOf given w.set.tasks × IsRule p q w.set.tasks w.rule × Watches [] w)
 
--- this many of the row as a run; a release stands alone
+-- n rows equal to this one as a run, if they are one; a release is a run alone
 abbrev pub run_of : ℕ → Row → Option Run
 run_of n (Release j kept) = if n == 1 then Some (run.Release j kept) else None
 run_of n (Tick j how) = Some (run.Ticks j how n)
@@ -55,21 +55,21 @@ pub record Takes (run : Run) (before after : Watched) (unfit : UnfitRow) : Type 
 abbrev pub IsNoRun : SeenRow → ℕ → Type 0
 IsNoRun row n = MatchOption (run_in row n) ⊤ (λ run. ¬ IsRun run)
 
--- why a monitor does not take this many of a row
+-- why a monitor does not take n equal rows
 pub record HasReason (row : SeenRow) (n : ℕ) (w : Watched) (status : ℕ) : Type 0 where
   pub no_run : status ≡ 43 → IsNoRun row n
   pub no_task : status ≡ 10 → IfSome (run_in row n) (λ run. ¬ IsRunOfSet w.set.tasks run)
   pub full : status ≡ 22 → IfSome (run_in row n) (λ run. 2 ^ 62 < seen w + size run)
-  -- no other status is returned; 9 is out of memory
+  -- only these statuses are returned; 9 is out of memory
   pub only : (status ≡ 0) ⊎ (status ≡ 9) ⊎ (status ≡ 10) ⊎ (status ≡ 22) ⊎ (status ≡ 43)
 
--- what an open monitor does with this many of a row
+-- what an open monitor does with n equal rows
 pub record Observed (row : SeenRow) (n : ℕ) (before : Watched) (new : Option Watched) (status : ℕ)
     (found : UnfitRow) : Type 0 where
-  -- with status 0 it has seen the run
+  -- with status 0 the monitor has seen the run that the numbers stand for
   pub taken : status ≡ 0 → (run : Run) × (after : Watched)
       × (run_in row n ≡ Some run) × (new ≡ Some after) × Takes run before after found
-  -- with any other status it has not
+  -- with any status but 0 the monitor is as it was before
   pub refused : status ≢ 0 → new ≡ Some before
   pub reason : HasReason row n before status
 
@@ -79,7 +79,7 @@ Observes row n old new status found =
     MatchOption old ((new ≡ None) × (status ≡ 12) × (found ≡ unfit_row None))
     (λ before. Observed row n before new status found)
 
--- what an open monitor would find if this many of a row came next
+-- what an open monitor would find if n equal rows came next
 pub record WouldFind (row : SeenRow) (n : ℕ) (w : Watched) (status : ℕ) (unfit : UnfitRow) : Type 0 where
   pub found : status ≡ 0 → (run : Run) × (run_in row n ≡ Some run) × ((h : List Row) → Watches h w
       → unfit ≡ unfit_row (unfit_in w.set.tasks w.rule (rows_of run ++ h)))
@@ -100,16 +100,16 @@ pub record TurnedLate (w : Watched) (since : ℕ) (ts : List Turned) : Type 0 wh
 
 -- what is stored of the jobs that turned late
 pub record StoresLate (w : Watched) (since status many : ℕ) (jobs : List LateJob) : Type 0 where
-  -- with status 0 the array begins with them, and this is their number
+  -- with status 0 the array begins with the jobs that turned late, and their number is returned
   pub stored : status ≡ 0 → (ts : List Turned)
       × TurnedLate w since ts × (many ≡ length ts) × (take many jobs ≡ map late_job ts)
-  -- with status 44 this is their number, and the array has fewer elements
+  -- with status 44 the number of jobs that turned late is returned, and the array has fewer elements
   pub room : status ≡ 44 → (ts : List Turned)
       × TurnedLate w since ts × (many ≡ length ts) × (length jobs < many)
-  -- no other status is returned; 9 is out of memory
+  -- only these statuses are returned; 9 is out of memory
   pub only : (status ≡ 0) ⊎ (status ≡ 9) ⊎ (status ≡ 44)
 
--- this is the verdict on the rows that the monitor has seen
+-- the numbers are the verdict on the rows that the monitor has seen
 abbrev pub IsVerdict : Watched → Judged → Type 0
 IsVerdict w found = (h : List Row) → Watches h w → found ≡ judged (verdict w.set.tasks w.rule h)
 

@@ -49,7 +49,7 @@ stays : (o : FloorState) (k : ℕ) (before : List Entry) (old : Lists) → Found
 stays o k before old t =
     still_out k o old.seen before t.begins t.legal (sym t.whole ∙ t.still) ∙ ap (λ (f : FloorState). running (after f old.seen).core.out k) (sym t.opens)
 
--- a call that the task was allowed to make before is allowed now
+-- a call that the task may make after what its seat saw is allowed in its turn
 pub may_there : (o : FloorState) (k : ℕ) (c : Call) (before : List Entry) (old : Lists)
     → Found o k before old → MayCall (floor_seen old) k c → MayCall (after o before) k c
 may_there o k c before old t may = may_still (floor_seen old) (after o before) k c (stays o k before old t) may

@@ -138,7 +138,7 @@ pub after_more : (f : FloorState) (log more : List Entry) → after f (log ++ mo
 after_more f [] more = refl
 after_more f (e ∷ es) more = after_more (after_call f e.task.0 e.call) es more
 
--- one legal entry more
+-- a legal history with one more legal entry is legal
 pub legal_more : (f : FloorState) (log : List Entry) (e : Entry) → IsLegal f log → IsLegalEntry (after f log) e → IsLegal f (log ++ e ∷ [])
 legal_more f [] e h l = (l, tt)
 legal_more f (x ∷ xs) e h l = (h.0, legal_more (after_call f x.task.0 x.call) xs e h.1 l)

@@ -1,5 +1,7 @@
-//! Tests of an executive, on one thread and on several.
+//! Tests of an executive and of a turnstile, on one thread and on several.
 #![tactic(auto)]
 
 #[cfg(test)]
 mod executives;
+#[cfg(test)]
+mod turns;

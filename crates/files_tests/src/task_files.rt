@@ -196,16 +196,16 @@ fn push_task(alloc: Global, text: &mut String, k: u32) -> Result<(), AllocError>
     text.push_str(task.as_str())
 }
 
+// Whether reading a file of this number of tasks gives this result.
+fn are_answered(alloc: Global, count: u32, expected: &str) -> Result<bool, AllocError> {
+    let text = many_tasks(alloc, "", count)?;
+    is_answered(alloc, text.as_bytes(), expected)
+}
+
 #[test]
 fn a_file_has_at_most_128_tasks(rt: HostRuntime) -> Result<(), Fail> {
-    let alloc = rt.alloc();
-    for (count, expected) in [(128, "ok"), (129, "TooMany { count: 129 }")] {
-        let text = many_tasks(alloc, "", count)?;
-        assert!(rt;
-            is_answered(alloc, text.as_bytes(), expected)?,
-            "{count} tasks"
-        );
-    }
+    assert!(rt; are_answered(rt.alloc(), 128, "ok")?);
+    assert!(rt; are_answered(rt.alloc(), 129, "TooMany { count: 129 }")?);
     Ok(())
 }
 
@@ -226,11 +226,15 @@ name = \"log\"
 period = 10
 ";
 
-// The set's file, and the set that is read from it.
-fn printed(alloc: Global, set: &TaskSet) -> Result<(Vec<u8>, TaskSet), Fail> {
+// Whether this is the set's file.
+fn is_printed(alloc: Global, set: &TaskSet, expected: &str) -> Result<bool, Fail> {
+    Ok(print_tasks(alloc, set)?.as_slice() == expected.as_bytes())
+}
+
+// The set that is read from the set's file.
+fn read_back(alloc: Global, set: &TaskSet) -> Result<TaskSet, Fail> {
     let text = print_tasks(alloc, set)?;
-    let back = read_tasks(alloc, &text)?;
-    Ok((text, back))
+    Ok(read_tasks(alloc, &text)?)
 }
 
 fn task(name: &str, level: Level, period: u32, low: u32, high: u32) -> Option<Task> {
@@ -255,23 +259,38 @@ fn is_control(set: &TaskSet) -> bool {
 fn a_printed_set_is_read_back(rt: HostRuntime) -> Result<(), Fail> {
     let alloc = rt.alloc();
     let set = read_tasks(alloc, CONTROL.as_bytes())?;
-    let (text, back) = printed(alloc, &set)?;
-    assert!(rt; text.as_slice() == PRINTED.as_bytes());
-    assert!(rt; is_control(&set) && is_control(&back));
+    assert!(rt; is_printed(alloc, &set, PRINTED)?);
+    assert!(rt; is_control(&set));
+    assert!(rt; is_control(&read_back(alloc, &set)?));
     Ok(())
 }
 
 const HALF: Option<Scale> = Some(Scale { p: 1, q: 2 });
 
+// Whether the set has this number of tasks and the scale one half.
+fn is_half(set: &TaskSet, len: u32) -> bool {
+    set.len() == len && set.scale() == HALF
+}
+
+// The set of `CONTROL` with a scale.
+fn scaled(alloc: Global) -> Result<TaskSet, Fail> {
+    let text = format!(in alloc; "version = 2\nscale = [2, 4]\n{CONTROL}")?;
+    Ok(read_tasks(alloc, text.as_bytes())?)
+}
+
+// Whether the set's file is that of `CONTROL` with the scale one half.
+fn is_scale_printed(alloc: Global, set: &TaskSet) -> Result<bool, Fail> {
+    let expected = format!(in alloc; "scale = [1, 2]\n{PRINTED}")?;
+    is_printed(alloc, set, expected.as_str())
+}
+
 #[test]
 fn a_printed_scale_is_read_back(rt: HostRuntime) -> Result<(), Fail> {
     let alloc = rt.alloc();
-    let text = format!(in alloc; "version = 2\nscale = [2, 4]\n{CONTROL}")?;
-    let expected = format!(in alloc; "scale = [1, 2]\n{PRINTED}")?;
-    let set = read_tasks(alloc, text.as_bytes())?;
-    let (text, back) = printed(alloc, &set)?;
-    assert!(rt; text.as_slice() == expected.as_bytes());
-    assert!(rt; (set.scale(), back.scale(), back.len()) == (HALF, HALF, 2));
+    let set = scaled(alloc)?;
+    assert!(rt; is_scale_printed(alloc, &set)?);
+    assert!(rt; is_half(&set, 2));
+    assert!(rt; is_half(&read_back(alloc, &set)?, 2));
     Ok(())
 }
 
@@ -281,14 +300,28 @@ fn has_task(alloc: Global, set: &TaskSet, number: u32, k: u32) -> Result<bool, A
     Ok(set.get(TaskNo(number)) == task(name.as_str(), Level::Low, 10, 1, 1))
 }
 
+// The number of the set's first tasks that are those of `many_tasks`, up to 128.
+fn right_tasks(alloc: Global, set: &TaskSet) -> Result<u32, AllocError> {
+    for k in 0..128u32 {
+        if !has_task(alloc, set, k + 1, k)? {
+            return Ok(k);
+        }
+    }
+    Ok(128)
+}
+
+// The set of 128 tasks and a scale that is read from its file.
+fn many_read_back(alloc: Global) -> Result<TaskSet, Fail> {
+    let text = many_tasks(alloc, "version = 2\nscale = [2, 4]\n", 128)?;
+    let set = read_tasks(alloc, text.as_bytes())?;
+    read_back(alloc, &set)
+}
+
 #[test]
 fn a_printed_set_of_128_tasks_is_read_back(rt: HostRuntime) -> Result<(), Fail> {
     let alloc = rt.alloc();
-    let text = many_tasks(alloc, "version = 2\nscale = [2, 4]\n", 128)?;
-    let (_, set) = printed(alloc, &read_tasks(alloc, text.as_bytes())?)?;
-    assert!(rt; (set.scale(), set.len()) == (HALF, 128));
-    for k in 0..128u32 {
-        assert!(rt; has_task(alloc, &set, k + 1, k)?, "task {k}");
-    }
+    let set = many_read_back(alloc)?;
+    assert!(rt; is_half(&set, 128));
+    assert_eq!(rt; right_tasks(alloc, &set)?, 128);
     Ok(())
 }

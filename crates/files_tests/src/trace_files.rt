@@ -45,18 +45,22 @@ release,10,,log,2,kept
 tick,10,2,log,2,more
 ";
 
-// The runs of a trace, one for each record, and the runs merged.
-fn read_and_merged(alloc: Global, set: &TaskSet, text: &str) -> Result<(Vec<Run>, Vec<Run>), Fail> {
-    let runs = read_trace(alloc, set, text.as_bytes())?;
-    let merged = merge(alloc, &runs)?;
-    Ok((runs, merged))
+// The runs of a trace, one for each record.
+fn read(alloc: Global, text: &str) -> Result<Vec<Run>, Fail> {
+    let set = set_of(alloc, &CONTROL)?;
+    Ok(read_trace(alloc, &set, text.as_bytes())?)
 }
 
-// The runs of a trace, and the trace that is written of them.
-fn read_and_written(alloc: Global, set: &TaskSet, text: &str) -> Result<(Vec<Run>, Vec<u8>), Fail> {
+// Whether the runs of the trace, merged, are these.
+fn is_merged(alloc: Global, set: &TaskSet, text: &str, expected: &[Run]) -> Result<bool, Fail> {
     let runs = read_trace(alloc, set, text.as_bytes())?;
-    let written = write_trace(alloc, set, &runs)?;
-    Ok((runs, written))
+    Ok(merge(alloc, &runs)?.as_slice() == expected)
+}
+
+// Whether the trace that is written of the trace's runs is the same text.
+fn is_written(alloc: Global, set: &TaskSet, text: &str) -> Result<bool, Fail> {
+    let runs = read_trace(alloc, set, text.as_bytes())?;
+    Ok(write_trace(alloc, set, &runs)?.as_slice() == text.as_bytes())
 }
 
 // Whether there are `len` runs, with this run at index `place`.
@@ -64,29 +68,28 @@ fn has(runs: &[Run], len: usize, place: usize, run: Run) -> bool {
     runs.len() == len && runs.get(place) == Some(&run)
 }
 
+// Whether the runs have the release, the overrun and the idle tick of `OVERRUN` at their places.
+fn has_overrun(runs: &[Run]) -> bool {
+    has(runs, 15, 1, release!(2, 1, true))
+        && has(runs, 15, 3, ticks!(1, 1, Over, 1))
+        && has(runs, 15, 11, Run::Idles { length: 1 })
+}
+
 #[test]
 fn an_overrun_is_read_and_merged(rt: HostRuntime) -> Result<(), Fail> {
     let alloc = rt.alloc();
+    assert!(rt; has_overrun(&read(alloc, OVERRUN)?));
     let set = set_of(alloc, &CONTROL)?;
-    let (runs, merged) = read_and_merged(alloc, &set, OVERRUN)?;
-    for (place, run) in [
-        (1, release!(2, 1, true)),
-        (3, ticks!(1, 1, Over, 1)),
-        (11, Run::Idles { length: 1 }),
-    ] {
-        assert!(rt; has(&runs, 15, place, run));
-    }
-    assert!(rt; merged.as_slice() == OVERRUN_RUNS.as_slice());
+    assert!(rt; is_merged(alloc, &set, OVERRUN, &OVERRUN_RUNS)?);
     Ok(())
 }
 
 #[test]
 fn merged_runs_are_written_in_version_2(rt: HostRuntime) -> Result<(), Fail> {
     let alloc = rt.alloc();
+    assert!(rt; read(alloc, PACKED)?.as_slice() == OVERRUN_RUNS.as_slice());
     let set = set_of(alloc, &CONTROL)?;
-    let (runs, written) = read_and_written(alloc, &set, PACKED)?;
-    assert!(rt; runs.as_slice() == OVERRUN_RUNS.as_slice());
-    assert!(rt; written.as_slice() == PACKED.as_bytes());
+    assert!(rt; is_written(alloc, &set, PACKED)?);
     Ok(())
 }
 
@@ -128,29 +131,20 @@ fn outcome(alloc: Global, set: &TaskSet, text: &str) -> Result<String, AllocErro
     }
 }
 
-fn is_answered(
-    alloc: Global,
-    set: &TaskSet,
-    text: &str,
-    expected: &str,
-) -> Result<bool, AllocError> {
-    Ok(outcome(alloc, set, text)?.as_str() == expected)
+fn is_answered(alloc: Global, text: &str, expected: &str) -> Result<bool, Fail> {
+    let set = set_of(alloc, &CONTROL)?;
+    Ok(outcome(alloc, &set, text)?.as_str() == expected)
 }
 
 // Whether reading records after this header gives the result at the end of their line, in which the records are
 // separated by spaces.
-fn is_line_answered(
-    alloc: Global,
-    set: &TaskSet,
-    header: &str,
-    line: &str,
-) -> Result<bool, AllocError> {
+fn is_line_answered(alloc: Global, header: &str, line: &str) -> Result<bool, Fail> {
     let Some((records, expected)) = line.split_once(" => ") else {
         return Ok(false);
     };
     let lines = records.replace(alloc, " ", "\n")?;
     let text = format!(in alloc; "{header}{lines}\n")?;
-    is_answered(alloc, set, text.as_str(), expected)
+    is_answered(alloc, text.as_str(), expected)
 }
 
 // Texts without a header, or with a wrong one, each with the expected result.
@@ -203,20 +197,16 @@ tick,00000000000,ctl,1,more => line 2: BadNumber
 
 #[test]
 fn another_header_is_refused(rt: HostRuntime) -> Result<(), Fail> {
-    let alloc = rt.alloc();
-    let set = set_of(alloc, &CONTROL)?;
     for (text, expected) in &HEADERS {
-        assert!(rt; is_answered(alloc, &set, text, expected)?, "{text}");
+        assert!(rt; is_answered(rt.alloc(), text, expected)?, "{text}");
     }
     Ok(())
 }
 
 #[test]
 fn the_first_refusal_of_the_records_is_the_answer(rt: HostRuntime) -> Result<(), Fail> {
-    let alloc = rt.alloc();
-    let set = set_of(alloc, &CONTROL)?;
     for line in RECORDS.lines() {
-        assert!(rt; is_line_answered(alloc, &set, HEADER, line)?, "{line}");
+        assert!(rt; is_line_answered(rt.alloc(), HEADER, line)?, "{line}");
     }
     Ok(())
 }
@@ -268,11 +258,9 @@ release,0,,ctl,1,kept tick,0,1,ctl,1,done => 2 runs
 
 #[test]
 fn the_first_refusal_of_version_2_is_the_answer(rt: HostRuntime) -> Result<(), Fail> {
-    let alloc = rt.alloc();
-    let set = set_of(alloc, &CONTROL)?;
     for line in SECOND.lines() {
         assert!(rt;
-            is_line_answered(alloc, &set, SECOND_HEADER, line)?,
+            is_line_answered(rt.alloc(), SECOND_HEADER, line)?,
             "{line}"
         );
     }
@@ -282,8 +270,10 @@ fn the_first_refusal_of_version_2_is_the_answer(rt: HostRuntime) -> Result<(), F
 // A record of version 2 with quotes.
 const QUOTED: &str = "\"release\",0,,\"ctl\",\"1\",kept\n";
 
-// Long texts: a header, a text that is repeated this many times after it, the last text, and the expected result.
-const LONG_TEXTS: [(&str, u32, &str, &str, &str); 9] = [
+// A header, a text that is repeated this many times after it, the last text, and the expected result.
+type LongText = (&'static str, u32, &'static str, &'static str, &'static str);
+
+const LONG_TEXTS: [LongText; 9] = [
     ("", 200_000, ",", "\n", "line 1: Header"),
     (HEADER, 200_000, ",", "", "line 2: BadRecord"),
     (SECOND_HEADER, 200_000, ",", "", "line 2: NotSix"),
@@ -332,16 +322,17 @@ fn long_text(
     Ok(text)
 }
 
+// Whether reading the long text gives its result.
+fn is_long_answered(alloc: Global, case: &LongText) -> Result<bool, Fail> {
+    let (header, count, first, last, expected) = *case;
+    let text = long_text(alloc, header, count, first, last)?;
+    is_answered(alloc, text.as_str(), expected)
+}
+
 #[test]
 fn a_wide_record_of_a_long_text_is_refused_by_its_width(rt: HostRuntime) -> Result<(), Fail> {
-    let alloc = rt.alloc();
-    let set = set_of(alloc, &CONTROL)?;
-    for (header, count, first, last, expected) in LONG_TEXTS {
-        let text = long_text(alloc, header, count, first, last)?;
-        assert!(rt;
-            is_answered(alloc, &set, text.as_str(), expected)?,
-            "{first} {last}"
-        );
+    for (place, case) in LONG_TEXTS.iter().enumerate() {
+        assert!(rt; is_long_answered(rt.alloc(), case)?, "{place}");
     }
     Ok(())
 }
@@ -360,13 +351,23 @@ fn push_tick(alloc: Global, text: &mut String, k: u32) -> Result<(), AllocError>
     text.push_str(row.as_str())
 }
 
-#[test]
-fn a_text_of_many_runs_is_read_and_written(rt: HostRuntime) -> Result<(), Fail> {
-    let alloc = rt.alloc();
+// Whether the trace of 50,000 jobs is read as its runs.
+fn are_many_read(alloc: Global) -> Result<bool, Fail> {
+    let text = many_jobs(alloc, 50_000)?;
+    let runs = read(alloc, text.as_str())?;
+    Ok(has(&runs, 50_000, 49_999, ticks!(1, 50_000, Done, 1)))
+}
+
+// Whether the trace of 50,000 jobs is written as it was read.
+fn are_many_written(alloc: Global) -> Result<bool, Fail> {
     let set = set_of(alloc, &CONTROL)?;
     let text = many_jobs(alloc, 50_000)?;
-    let (runs, written) = read_and_written(alloc, &set, text.as_str())?;
-    assert!(rt; has(&runs, 50_000, 49_999, ticks!(1, 50_000, Done, 1)));
-    assert!(rt; written.as_slice() == text.as_bytes());
+    is_written(alloc, &set, text.as_str())
+}
+
+#[test]
+fn a_text_of_many_runs_is_read_and_written(rt: HostRuntime) -> Result<(), Fail> {
+    assert!(rt; are_many_read(rt.alloc())?);
+    assert!(rt; are_many_written(rt.alloc())?);
     Ok(())
 }

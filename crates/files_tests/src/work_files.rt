@@ -20,32 +20,27 @@ fn push_row(alloc: Global, text: &mut String, row: WorkRow) -> Result<(), AllocE
     text.push_str(row.as_str())
 }
 
+// The rows of the file, or its refusal.
+fn answer(alloc: Global, set: &TaskSet, bytes: &[u8]) -> Result<String, AllocError> {
+    match read_work(alloc, set, bytes) {
+        Ok(work) => rows_text(alloc, work.rows()),
+        Err(fault) => format!(in alloc; "{fault}"),
+    }
+}
+
 // Whether reading the file gives these rows, or this refusal.
-fn is_answered(
-    alloc: Global,
-    set: &TaskSet,
-    bytes: &[u8],
-    expected: &str,
-) -> Result<bool, AllocError> {
-    let got = match read_work(alloc, set, bytes) {
-        Ok(work) => rows_text(alloc, work.rows())?,
-        Err(fault) => format!(in alloc; "{fault}")?,
-    };
-    Ok(got.as_str() == expected)
+fn is_answered(alloc: Global, bytes: &[u8], expected: &str) -> Result<bool, Fail> {
+    let set = set_of(alloc, &CONTROL)?;
+    Ok(answer(alloc, &set, bytes)?.as_str() == expected)
 }
 
 const HEADER: &str = "task,release,need\n";
 
 // Whether reading these records after the header, separated by spaces, gives this result.
-fn are_answered(
-    alloc: Global,
-    set: &TaskSet,
-    records: &str,
-    expected: &str,
-) -> Result<bool, AllocError> {
+fn are_answered(alloc: Global, records: &str, expected: &str) -> Result<bool, Fail> {
     let lines = records.replace(alloc, " ", "\n")?;
     let text = format!(in alloc; "{HEADER}{lines}\n")?;
-    is_answered(alloc, set, text.as_bytes(), expected)
+    is_answered(alloc, text.as_bytes(), expected)
 }
 
 // Files, each with its rows or its first refusal.
@@ -123,15 +118,11 @@ const RECORDS: [(&str, &str); 27] = [
 #[test]
 fn a_file_gives_its_rows_or_its_first_refusal(rt: HostRuntime) -> Result<(), Fail> {
     let alloc = rt.alloc();
-    let set = set_of(alloc, &CONTROL)?;
     for (text, expected) in &FILES {
-        assert!(rt;
-            is_answered(alloc, &set, text.as_bytes(), expected)?,
-            "{text}"
-        );
+        assert!(rt; is_answered(alloc, text.as_bytes(), expected)?, "{text}");
     }
     for (records, expected) in &RECORDS {
-        assert!(rt; are_answered(alloc, &set, records, expected)?, "{records}");
+        assert!(rt; are_answered(alloc, records, expected)?, "{records}");
     }
     Ok(())
 }
@@ -160,27 +151,33 @@ const LISTS: [(&[Job], Option<(usize, WorkCause)>); 11] = [
     (&[(1, u32::MAX, u32::MAX)], None),
 ];
 
+// Whether these are the rows of the list.
+fn are_rows(rows: &[WorkRow], list: &[Job]) -> bool {
+    for (place, (task, release, need)) in list.iter().enumerate() {
+        if rows.get(place) != Some(&work_row(*task, *release, *need)) {
+            return false;
+        }
+    }
+    rows.len() == list.len()
+}
+
 // Whether the list is a list of work with these rows, or has this first bad row.
 fn is_judged(
     alloc: Global,
-    set: &TaskSet,
     list: &[Job],
     expected: Option<(usize, WorkCause)>,
-) -> Result<bool, AllocError> {
-    let rows = work_rows(alloc, list)?;
-    let copy = work_rows(alloc, list)?;
-    match Work::new(set, rows) {
-        Ok(work) => Ok(expected.is_none() && work.rows() == copy.as_slice()),
+) -> Result<bool, Fail> {
+    let set = set_of(alloc, &CONTROL)?;
+    match Work::new(&set, work_rows(alloc, list)?) {
+        Ok(work) => Ok(expected.is_none() && are_rows(work.rows(), list)),
         Err(bad) => Ok(expected == Some((bad.index, bad.cause))),
     }
 }
 
 #[test]
 fn a_list_is_work_or_has_a_first_bad_row(rt: HostRuntime) -> Result<(), Fail> {
-    let alloc = rt.alloc();
-    let set = set_of(alloc, &CONTROL)?;
-    for (list, expected) in LISTS {
-        assert!(rt; is_judged(alloc, &set, list, expected)?, "{list:?}");
+    for (place, (list, expected)) in LISTS.iter().enumerate() {
+        assert!(rt; is_judged(rt.alloc(), list, *expected)?, "{place}");
     }
     Ok(())
 }
@@ -216,44 +213,56 @@ fn has_rows(alloc: Global, set: &TaskSet, text: &str, rows: &[WorkRow]) -> bool 
     }
 }
 
+// Whether the file of a million rows is read as these rows.
+fn are_a_million_read(alloc: Global, set: &TaskSet) -> Result<bool, AllocError> {
+    let rows = million_rows(alloc)?;
+    let text = million_records(alloc)?;
+    Ok(has_rows(alloc, set, text.as_str(), &rows))
+}
+
+// The refusal of the file with one more record.
+fn fault_of_more_records(alloc: Global, set: &TaskSet) -> Result<Option<WorkFault>, AllocError> {
+    let mut text = million_records(alloc)?;
+    text.push_str("none")?;
+    Ok(read_work(alloc, set, text.as_bytes()).err())
+}
+
+// Whether the list with one more row is refused at this row.
+fn is_one_more_refused(alloc: Global, set: &TaskSet) -> Result<bool, AllocError> {
+    let mut rows = million_rows(alloc)?;
+    rows.push(work_row(2, 0, 0))?;
+    match Work::new(set, rows) {
+        Ok(_) => Ok(false),
+        Err(bad) => Ok(bad.index == 1_000_000 && bad.cause == WorkCause::TooMany),
+    }
+}
+
 #[test]
 fn there_are_at_most_a_million_rows(rt: HostRuntime) -> Result<(), Fail> {
     let alloc = rt.alloc();
     let set = set_of(alloc, &[("a", Level::Low, 1, 1, 1)])?;
-    let mut rows = million_rows(alloc)?;
-    let mut text = million_records(alloc)?;
-    assert!(rt; has_rows(alloc, &set, text.as_str(), &rows));
-    text.push_str("none")?;
-    rows.push(work_row(2, 0, 0))?;
     let too_many = WorkFault::At {
         line: 1_000_002,
         cause: WorkCause::TooMany,
     };
-    assert!(rt; read_work(alloc, &set, text.as_bytes()).err() == Some(too_many));
-    let bad = Work::new(&set, rows).err();
-    assert!(rt; bad.map(|bad| (bad.index, bad.cause)) == Some((1_000_000, WorkCause::TooMany)));
+    assert!(rt; are_a_million_read(alloc, &set)?);
+    assert!(rt; fault_of_more_records(alloc, &set)? == Some(too_many));
+    assert!(rt; is_one_more_refused(alloc, &set)?);
     Ok(())
 }
 
 // Whether reading a record of 200,000 commas after this text gives this result.
-fn is_wide_answered(
-    alloc: Global,
-    set: &TaskSet,
-    before: &str,
-    expected: &str,
-) -> Result<bool, AllocError> {
+fn is_wide_answered(alloc: Global, before: &str, expected: &str) -> Result<bool, Fail> {
     let mut file = Vec::new(alloc);
     file.extend_from_slice(before.as_bytes())?;
     for _ in 0..200_000u32 {
         file.push(b',')?;
     }
-    is_answered(alloc, set, &file, expected)
+    is_answered(alloc, &file, expected)
 }
 
 #[test]
 fn a_wide_record_of_a_long_file_is_refused_by_its_width(rt: HostRuntime) -> Result<(), Fail> {
-    let alloc = rt.alloc();
-    let set = set_of(alloc, &CONTROL)?;
     let cases = [
         ("", "line 1: Header"),
         (HEADER, "line 2: BadRecord"),
@@ -263,10 +272,7 @@ fn a_wide_record_of_a_long_file_is_refused_by_its_width(rt: HostRuntime) -> Resu
         ),
     ];
     for (before, expected) in cases {
-        assert!(rt;
-            is_wide_answered(alloc, &set, before, expected)?,
-            "{before}"
-        );
+        assert!(rt; is_wide_answered(rt.alloc(), before, expected)?, "{before}");
     }
     Ok(())
 }

@@ -5,7 +5,7 @@ use Rattle.in_process.specs.declared.reply.NoReply.{NoReply}
 use Rattle.in_process.specs.declared.reply.NoReply.TheVariants.{Memory, Threads, NotText}
 use Rattle.in_process.specs.Asked.{few_words, HasCause}
 
--- one word that is UTF-8
+-- a list of one word that is UTF-8 has only words that are UTF-8
 alone : (word : List ℕ) → IsUtf8 word → All IsUtf8 (word ∷ [])
 alone word is zero d below = is
 alone word is (suc k) d below = absurd (omega (arith, below))

@@ -39,7 +39,7 @@ pub shrinks : (b : Bool) (m n : ℕ) → cond b 1 0 + n < m → n < m
 shrinks true m n h = omega arith
 shrinks false m n h = omega arith
 
--- the next count is the number of releases after it
+-- the number of a task's next job is at most the number of the task's releases once the job is released
 pub one_more : (k c n : ℕ) → c ≡ n + 1 → c ≤ cond (k == k) 1 0 + n
 one_more k c n h = grind (arith, nat_tests)
 

@@ -23,7 +23,7 @@ job_eq i j h =
     let p = same_job_is i j h in
     ap₂ {C = JobId} (λ (t c : ℕ). record { task = record { 0 = t }; count = c }) p.0 p.1
 
--- the same job with the same release time
+-- whether two pending jobs are the same job with the same release time
 abbrev pub same_live : KeptRelease → KeptRelease → Bool
 same_live i j = same_job i.job j.job && (i.release == j.release)
 
@@ -42,7 +42,7 @@ live_eq i j h =
     let p = and_parts (same_job i.job j.job) (i.release == j.release) h in
     ap₂ {C = KeptRelease} (λ (a : JobId) (r : ℕ). record { job = a; release = r }) (job_eq i.job j.job p.0) (eqb-true _ _ p.1)
 
--- a property of each pending job of a list is one of each that is in it
+-- a property of each pending job of a list is one of a pending job that is in the list
 pub each_in : (P : KeptRelease → Type 0) (x : KeptRelease) (xs : List KeptRelease) → is_in xs x ≡ true → Each P xs → P x
 each_in P x [] e h = cc
 each_in P x (y ∷ ys) e h = go (λ r. each_in P x ys r h.1) (same_live x y) refl
@@ -51,7 +51,7 @@ each_in P x (y ∷ ys) e h = go (λ r. each_in P x ys r h.1) (same_live x y) ref
     go ih true m = subst P (sym (live_eq x y m)) h.0
     go ih false m = ih (rw m at e)
 
--- a list with one that passes a test has one that passes it
+-- if a pending job of a list passes a test, the test of any job of the list is true
 pub any_in : (p : KeptRelease → Bool) (x : KeptRelease) (xs : List KeptRelease) → is_in xs x ≡ true → p x ≡ true → list_any p xs ≡ true
 any_in p x [] e k = cc
 any_in p x (y ∷ ys) e k = go (λ r. any_in p x ys r k) (same_live x y) refl
@@ -60,7 +60,7 @@ any_in p x (y ∷ ys) e k = go (λ r. any_in p x ys r k) (same_live x y) refl
     go ih true m = let q : p y ≡ true = subst (λ (z : KeptRelease). p z ≡ true) (live_eq x y m) k in rw q refl
     go ih false m = or_true _ _ (ih (rw m at e))
 
--- a filter keeps one that passes its test
+-- a filter keeps a pending job that passes its test
 pub kept_in : (p : KeptRelease → Bool) (x : KeptRelease) (xs : List KeptRelease) → is_in xs x ≡ true → p x ≡ true → is_in (filter p xs) x ≡ true
 kept_in p x [] e k = e
 kept_in p x (y ∷ ys) e k = go (λ r. kept_in p x ys r k) (same_live x y) refl

@@ -45,7 +45,7 @@ record IsAfter (rule : Rule) (g : List Row) (how : How) (t : Option Task) (n : �
   own : n + 1 + 1 ≤ own_in t
   low : high_mode rule g ≡ false → (is_virtual rule && is_over how) ≡ false → n + 1 + 1 ≤ low_budget rule t
 
--- a tick in low mode that is neither the last nor an overrun leaves a tick
+-- a tick in low mode that is neither the last nor an overrun leaves a tick of the budget
 more_low : (rule : Rule) (t : Option Task) (n : ℕ) (m : Bool) → IsKnown t → n + 1 ≤ low_budget rule t → n + 1 ≢ own_in t → (is_virtual rule ≡ true → m ≡ false → is_high_in t ≡ true → n + 1 ≢ low_in t) → m ≡ false → n + 1 + 1 ≤ low_budget rule t
 more_low Plain t n m k h a f e = omega arith
 more_low (Virtual p q) t n m k h a f e = go (is_high_in t) refl

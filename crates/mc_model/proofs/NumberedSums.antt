@@ -24,7 +24,7 @@ sum-added_le (t ∷ ts) d k c i =
     let here : d i ≤ added d k c i = added-le d k c i in
     omega (arith, here, ih)
 
--- the sum of `added` is c more, if number k is among the numbers
+-- the sum of `added` is c more than that of d, if number k is among the numbers
 pub sum-added : {X : Type 0} (ts : List X) (d : ℕ → ℕ) (k c i : ℕ) → i ≤ k → k < i + length ts → sum_numbered ts d i + c ≤ sum_numbered ts (added d k c) i
 sum-added [] d k c i a b = absurd (omega arith)
 sum-added (t ∷ ts) d k c i a b = go (λ e. sum-added ts d k c (i + 1) e (omega arith)) (k == i) refl

@@ -162,7 +162,7 @@ pub length-pack-le : (h : List Row) → length (pack h) ≤ length h
 length-pack-le [] = omega arith
 length-pack-le (row ∷ h) = let one = put_le row (pack h) in let rest : length (pack h) ≤ length h = length-pack-le h in omega (arith, one, rest)
 
--- a row that its own run can take adds no run there
+-- a second equal row adds no run if the run of the row can take it
 own_again : (row : Row) → joins (run_of row) (run_of row) ≡ true → (rs : List Run) → length (put_before row (put_before row rs)) ≡ length (put_before row rs)
 own_again row h [] = rw h refl
 own_again row h (r ∷ rs) = go (joins (run_of row) r) refl

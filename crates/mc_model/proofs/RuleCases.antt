@@ -30,7 +30,7 @@ pub rule_of-virtual : (n a b c : ℕ) → OnlyVirtualFits n a b c → rule_of n 
 unfolding rule_of
 rule_of-virtual n a b c h = grind (arith, leb_tells (a + c) n, leb_tells (suc a) n, leb_tells (a * b + c * (n - a)) (n * (n - a)), h.over, h.low, h.scaled)
 
--- the test gives no other rules than EDF and EDF-VD with that scale
+-- the test gives no other rules than EDF and EDF-VD with the scale b / (n - a)
 pub rule_of-cases : (n a b c : ℕ) (rule : Rule) → rule_of n a b c ≡ Some rule
     → ((rule ≡ Plain) × (a + c ≤ n)) ⊎ ((rule ≡ virtual_rule (lowest b (n - a))) × OnlyVirtualFits n a b c)
 unfolding rule_of

@@ -31,7 +31,7 @@ two_high_tasks = high_task (codes "ctl") 10 2 6 ∷ high_task (codes "fix") 10 1
 abbrev pub plain_pair : List Task
 plain_pair = high_task (codes "hi") 4 1 2 ∷ low_task (codes "lo") 4 2 ∷ []
 
--- EDF fits, and the jobs of both have the same key if they are released together
+-- EDF fits, and the jobs of both tasks have the same key if they are released together
 abbrev pub low_pair : List Task
 low_pair = low_task (codes "tap") 4 2 ∷ low_task (codes "log") 4 1 ∷ []
 

@@ -6,7 +6,7 @@ use Rattle.mc_world.specs.Count.{one_more}
 pub record MemorySinkState : Type 0 where
   -- the bytes written
   pub written : List ℕ
-  -- the most bytes that it takes altogether
+  -- the most bytes that the sink takes altogether
   pub room : ℕ
   -- the most bytes that one write takes
   pub most : ℕ

@@ -93,7 +93,7 @@ fn held<'a>(files: &'a [(String, Vec<u8>)], name: &str) -> &'a [u8]
 #[cfg(test)]
 mod tests {
     use super::*;
-    use crate::tests::gives;
+    use crate::tests::fetch_returns;
     use std::alloc::AllocError;
 
     fn shelf_with(alloc: Global, bytes: &[u8]) -> Result<CalmShelf, AllocError> {
@@ -112,7 +112,7 @@ mod tests {
             ("s.toml", 3, Err(FetchFault::TooLong)),
         ];
         for (name, limit, answer) in fetches {
-            if !gives(&mut shelf, alloc, name, limit, answer) {
+            if !fetch_returns(&mut shelf, alloc, name, limit, answer) {
                 return None;
             }
         }

@@ -25,7 +25,7 @@ fn fetch_from<S: Shelf>(
 }
 
 // Whether the fetch returns this text, or is refused for this reason.
-pub fn gives<S: Shelf>(
+pub fn fetch_returns<S: Shelf>(
     shelf: &mut S,
     alloc: Global,
     name: &str,

@@ -35,7 +35,7 @@ record Past (set : List Task) (h : List Row) (y : KeptRelease) : Type 0 where
   time : y.release + period_in (task_at set y.job.task.0) ≤ next_release set h y.job.task.0
   period : 1 ≤ period_in (task_at set y.job.task.0)
 
--- a release leaves a bound by the next release
+-- a release keeps the bound that a task's next release gives
 time_grows : (set : List Task) (j : JobId) (kept : Bool) (g : List Row) (r k : ℕ) → next_release set g j.task.0 ≤ ticks g → r + period_in (task_at set k) ≤ next_release set g k → r + period_in (task_at set k) ≤ next_release set (Release j kept ∷ g) k
 time_grows set j kept g r k soon f = elim (cases_eq j.task.0 k) [
   | inl m ↦ rw (eq-eqb _ _ m) (omega (arith, f, subst (λ i. next_release set g i ≤ ticks g) m soon))
@@ -80,7 +80,7 @@ released_apart set rule (Release j true ∷ g) s l =
     (Each-map {P = Past set g} (older set j g fits.count fits.soon) (released g) (past set rule g s l.2), released_apart set rule g s l.2)
 released_apart set rule (row ∷ g) s l = released_apart set rule g s l.2
 
--- a filter keeps that
+-- kept releases that are apart stay apart under a filter
 Apart-filter : (p : KeptRelease → Bool) (xs : List KeptRelease) → Apart xs → Apart (filter p xs)
 Apart-filter p [] h = tt
 Apart-filter p (x ∷ xs) h =
@@ -91,11 +91,11 @@ Apart-filter p (x ∷ xs) h =
 pub pending_apart : (set : List Task) (rule : Rule) (h : List Row) → AllByRecursion IsTask set → Legal set rule h → Apart (pending set h)
 pending_apart set rule h s l = Apart-filter (is_still_pending set h) (released h) (released_apart set rule h s l)
 
--- x is the only one with its job
+-- x is the only one of the list with its job
 abbrev pub Only : KeptRelease → List KeptRelease → Type 0
 Only x xs = Each (λ i. same_job x.job i.job ≡ true → i ≡ x) xs
 
--- one of a list that is apart is the only one with its job
+-- each element of a list that is apart is the only one with its job
 pub only : (x : KeptRelease) (xs : List KeptRelease) → Apart xs → is_in xs x ≡ true → Only x xs
 only x [] a e = tt
 only x (y ∷ ys) a e = elim (cases_Bool (same_live x y)) [

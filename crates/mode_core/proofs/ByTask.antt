@@ -11,12 +11,12 @@ use Rattle.mc_model.proofs.Jobs.{same_live, is_in, head_in, live_eq, job_eq}
 use Rattle.demand_law.specs.OneLive.{pending_of}
 use Rattle.mode_core.specs.Representation.{job_of}
 
--- the job that is found is of the task
+-- the job that is found for task number k is of that task
 pub job_of-task : (k : ℕ) (xs : List KeptRelease) (x : KeptRelease) → job_of k xs ≡ Some x → x.job.task.0 ≡ k
 job_of-task k [] x e = cc
 job_of-task k (y ∷ ys) x e = elim (cases_eq y.job.task.0 k) [ inl m ↦ let q = rw (eq-eqb _ _ m) at e in cc | inr n ↦ job_of-task k ys x (rw (ne_eqb _ _ n) at e) ]
 
--- the job that is found is one of the list
+-- the job that is found in a list is one of the list
 pub job_of-in : (k : ℕ) (xs : List KeptRelease) (x : KeptRelease) → job_of k xs ≡ Some x → is_in xs x ≡ true
 job_of-in k [] x e = cc
 job_of-in k (y ∷ ys) x e = elim (cases_eq y.job.task.0 k) [
@@ -24,7 +24,7 @@ job_of-in k (y ∷ ys) x e = elim (cases_eq y.job.task.0 k) [
   | inr n ↦ or_true _ _ (job_of-in k ys x (rw (ne_eqb _ _ n) at e))
 ]
 
--- none is found where none is of the task
+-- no job is found if no job of the list is of the task
 pub job_of-none : (k : ℕ) (xs : List KeptRelease) → pending_of k xs ≡ 0 → job_of k xs ≡ None
 job_of-none k [] e = refl
 job_of-none k (y ∷ ys) e = elim (cases_eq y.job.task.0 k) [
@@ -32,7 +32,7 @@ job_of-none k (y ∷ ys) e = elim (cases_eq y.job.task.0 k) [
   | inr n ↦ rw (ne_eqb _ _ n) (job_of-none k ys (omega (arith, rw (ne_eqb _ _ n) at e)))
 ]
 
--- a job of the list is one of its task's
+-- a job of the list is counted among the jobs of its task
 counted_in : (x : KeptRelease) (xs : List KeptRelease) → is_in xs x ≡ true → 1 ≤ pending_of x.job.task.0 xs
 counted_in x [] e = cc
 counted_in x (y ∷ ys) e = elim (cases_Bool (same_live x y)) [
@@ -74,7 +74,7 @@ pub record IsThere (xs : List KeptRelease) (j : JobId) : Type 0 where
   pub inside : is_in xs kept ≡ true
   pub job : kept.job ≡ j
 
--- a job that passes the test for pending jobs is there by the list
+-- a job that passes the test for pending jobs is in the list
 pub pending_there : (xs : List KeptRelease) (j : JobId) → is_pending xs j ≡ true → IsThere xs j
 pending_there [] j e = cc
 pending_there (y ∷ ys) j e = elim (cases_Bool (same_job j y.job)) [

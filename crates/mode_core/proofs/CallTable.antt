@@ -29,7 +29,7 @@ job k c = record { task = record { 0 = k }; count = c }
 idle_first : idle_answer (fresh 4) ≡ Ok 0
 idle_first = refl
 
--- after it
+-- the core after an idle tick
 abbrev s1 : State
 s1 = after_idle (fresh 4)
 
@@ -37,15 +37,15 @@ s1 = after_idle (fresh 4)
 kept : release_answer s1 1 ≡ Ok (Kept (job 1 1) 1)
 kept = refl
 
--- after it
+-- the core after the idle tick and a release of task 1
 abbrev s2 : State
 s2 = after_release s1 1
 
--- the next is too soon
+-- the next release of task 1 is too soon before boundary 11
 too_soon : release_answer s2 1 ≡ Err (release_fault.TooSoon 11)
 too_soon = refl
 
--- the other task gets no tick
+-- task 2 gets no tick while the chosen job is of task 1
 not_chosen : grant_answer s2 2 ≡ Err (grant_fault.NotChosen (Some (job 1 1)))
 not_chosen = refl
 
@@ -53,15 +53,15 @@ not_chosen = refl
 not_out : outcome_answer s2 (job 1 1) true ≡ Err (record { given = job 1 1; out = None })
 not_out = refl
 
--- the task gets its tick
+-- task 1 gets a tick, since the chosen job is its job
 given : grant_answer s2 1 ≡ Ok (record { job = job 1 1; at = 1; before = 0 })
 given = refl
 
--- with it out
+-- the core with a granted tick of task 1
 abbrev s3 : State
 s3 = after_grant s2 1
 
--- no second tick is put out
+-- no second tick is granted while the first has no outcome
 tick_out : grant_answer s3 1 ≡ Err (grant_fault.TickOut (job 1 1))
 tick_out = refl
 
@@ -69,23 +69,23 @@ tick_out = refl
 idle_out : idle_answer s3 ≡ Err (idle_fault.TickOut (job 1 1))
 idle_out = refl
 
--- the task is not released again
+-- task 1 is not released again while its tick has no outcome
 is_running : release_answer s3 1 ≡ Err (release_fault.Running (job 1 1))
 is_running = refl
 
--- a release of the other is held
+-- a release of task 2 is held while a tick of task 1 is granted
 held : release_answer s3 2 ≡ Ok (Held (job 2 1) 2)
 held = refl
 
--- with it held
+-- the core with a granted tick of task 1 and a held release of task 2
 abbrev s4 : State
 s4 = after_release s3 2
 
--- the tick ends with more to do
+-- the granted tick ends with the outcome More
 more : outcome_answer s4 (job 1 1) false ≡ Ok More
 more = refl
 
--- after its outcome
+-- the core after the outcome, which adds the row of the tick and the row of the held release
 abbrev s5 : State
 s5 = after_outcome s4 (job 1 1) false
 
@@ -101,26 +101,26 @@ full = refl
 one_place : (release_answer (after_idle (fresh 1)) 1 ≡ Err release_fault.Full) × (idle_answer (after_idle (fresh 1)) ≡ Err idle_fault.Full)
 one_place = (refl, refl)
 
--- a release before and after the outcome that makes the mode high
+-- a core with capacity for nine rows after a release of task 1
 abbrev a2 : State
 a2 = after_release (fresh 9) 1
 
--- after the first tick of its job
+-- the core after the first tick of the job of task 1
 abbrev a3 : State
 a3 = after_outcome (after_grant a2 1) (job 1 1) false
 
--- with the second out
+-- the core with a granted second tick of the job of task 1
 abbrev a4 : State
 a4 = after_grant a3 1
 
--- the release before the outcome is held
+-- a release of task 2 before the outcome Over is held
 early : (release_answer a4 2 ≡ Ok (Held (job 2 1) 2)) × (outcome_answer (after_release a4 2) (job 1 1) false ≡ Ok Over)
 early = (refl, refl)
 
--- the release after it is dropped
+-- a release of task 2 after the outcome Over is dropped
 late : release_answer (after_outcome a4 (job 1 1) false) 2 ≡ Ok (Dropped (job 2 1) 2)
 late = refl
 
--- the rows are the same
+-- a release of task 2 before the outcome Over leaves the same rows as a release after it
 same_rows : (after_outcome (after_release a4 2) (job 1 1) false).rows ≡ (after_release (after_outcome a4 (job 1 1) false) 2).rows
 same_rows = refl

@@ -12,7 +12,7 @@ use Rattle.mode_core.specs.declared.pending_jobs.ReleasedJob.{ReleasedJob}
 use Rattle.mode_core.specs.Slots.{Slots, job_at, ticks_at, as_pending, ChangesOnly, GoesHigh}
 use Rattle.mode_core.proofs.Options.{map-cond, same-cond}
 
--- a job begins
+-- a job that begins changes only its task's slot
 pub begun :
     (s : Slots) (j : JobId) (r : ℕ) → IsIn s.set j.task.0 → length s.jobs ≡ length s.set → length s.ticks ≡ length s.set →
     ChangesOnly s (record s { jobs = slice_set s.jobs (j.task.0 - 1) (Some (record { count = j.count; release = r })); ticks = slice_set s.ticks (j.task.0 - 1) 0 }) j.task.0 (Some (record { job = j; release = r; used = 0 }))
@@ -30,7 +30,7 @@ begun s j r inside rooms lines = record {
       ap₂ (λ (o : Option ReleasedJob) (n : ℕ). option_map (as_pending i n) o) slot line;
 }
 
--- a job ends
+-- a job that ends changes only its task's slot
 pub ended : (s : Slots) (k : ℕ) → IsIn s.set k → length s.jobs ≡ length s.set → ChangesOnly s (record s { jobs = slice_set s.jobs (k - 1) None }) k None
 ended s k inside rooms = record {
   same_set = refl;
@@ -40,7 +40,7 @@ ended s k inside rooms = record {
   other_tasks = λ i there other. ap (option_map (as_pending i (ticks_at s i))) (get_or-set_other s.jobs (k - 1) (i - 1) None None (omega (arith, inside.0, there.0, other)));
 }
 
--- the mode becomes high
+-- setting the mode high and clearing the slots of the low tasks is the change to high mode
 pub switched : (s : Slots) (after : List (Option ReleasedJob)) → ((k : ℕ) → 1 ≤ k → job_at after k ≡ cond (is_high_in (task_at s.set k)) (job_at s.jobs k) None) → GoesHigh s (record s { high = true; jobs = after })
 switched s after cleared = record {
   same_set = refl;
@@ -51,15 +51,15 @@ switched s after cleared = record {
 
 -- the slots of low tasks, cleared one by one
 
--- slot i, where those below n were cleared
+-- the job in slot i once the slots of low tasks below slot n are cleared
 abbrev pub cleared : List Task → List (Option ReleasedJob) → ℕ → ℕ → Option ReleasedJob
 cleared ts jobs n i = cond (nat_lt i n) (cond (is_high_in (task_at ts (i + 1))) (get_or jobs i None) None) (get_or jobs i None)
 
--- none yet
+-- before the first step no slot is cleared
 pub cleared_start : (ts : List Task) (jobs : List (Option ReleasedJob)) (i : ℕ) → get_or jobs i None ≡ cleared ts jobs 0 i
 cleared_start ts jobs i = let none : nat_lt i 0 ≡ false = grind (arith, nat_tests) in rw none refl
 
--- one more
+-- one more step clears slot n if its task is low
 pub cleared_more :
     (ts : List Task) (jobs now : List (Option ReleasedJob)) (n : ℕ) (o : Option ReleasedJob) → n < length now → ((i : ℕ) → get_or now i None ≡ cleared ts jobs n i) →
     o ≡ cond (is_high_in (task_at ts (n + 1))) (get_or now n None) None → (i : ℕ) → get_or (slice_set now n o) i None ≡ cleared ts jobs (n + 1) i
@@ -73,7 +73,7 @@ cleared_more ts jobs now n o within before e i = elim (cases_eq i n) [
       rw same (get_or-set_other now n i o None d ∙ before i)
 ]
 
--- all
+-- after the last step the slots of all low tasks are cleared
 pub cleared_all :
     (ts : List Task) (jobs now : List (Option ReleasedJob)) → length now ≡ length jobs → ((i : ℕ) → get_or now i None ≡ cleared ts jobs (length jobs) i) →
     (k : ℕ) → 1 ≤ k → job_at now k ≡ cond (is_high_in (task_at ts k)) (job_at jobs k) None

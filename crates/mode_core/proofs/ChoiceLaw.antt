@@ -19,7 +19,7 @@ use Rattle.mode_core.proofs.Chosen.{is_first, Choice, choice, none_pending}
 may_wait : (set : List Task) (rule : Rule) (high : Bool) (x y : KeptRelease) → runs_before set rule high y x ≡ false → MayWait set rule high x y
 may_wait set rule high x y r = record { order = grind (arith, nat_tests); tie = λ e. grind (arith, nat_tests) }
 
--- what the test finds is an element
+-- a pending job that `is_in` finds in a list is an element of the list
 contained : (x : KeptRelease) (xs : List KeptRelease) → is_in xs x ≡ true → Contains xs x
 contained x [] e = cc
 contained x (y ∷ ys) e = elim (cases_Bool (same_live x y)) [

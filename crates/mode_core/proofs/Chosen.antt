@@ -23,16 +23,16 @@ use Rattle.mode_core.proofs.Options.{mapped, no_map}
 runs-self : (set : List Task) (rule : Rule) (high : Bool) (x : KeptRelease) → runs_before set rule high x x ≡ false
 runs-self set rule high x = grind (arith, nat_tests)
 
--- of two only one runs before the other
+-- of two jobs at most one runs before the other
 runs-back : (set : List Task) (rule : Rule) (high : Bool) (x y : KeptRelease) → runs_before set rule high x y ≡ true → runs_before set rule high y x ≡ false
 runs-back set rule high x y h = grind (arith, nat_tests)
 
--- what does not run before the earlier does not run before the later
+-- if z does not run before y, and y does not run before x, then z does not run before x
 runs-trans : (set : List Task) (rule : Rule) (high : Bool) (x y z : KeptRelease) →
     runs_before set rule high z y ≡ false → runs_before set rule high y x ≡ false → runs_before set rule high z x ≡ false
 runs-trans set rule high x y z h k = grind (arith, nat_tests)
 
--- what does not run before x has no lesser key, by the test
+-- a job that does not run before x has no lesser key than x, by the test
 not_less : (set : List Task) (rule : Rule) (high : Bool) (x y : KeptRelease) →
     runs_before set rule high y x ≡ false → nat_le (key set rule high x) (key set rule high y) ≡ true
 not_less set rule high x y h = grind (arith, nat_tests)
@@ -60,7 +60,7 @@ is_first set rule high (i ∷ k ∷ ks) x e =
       })
     ]
 
--- a test that each passes
+-- if each job passes a test, the test of all jobs is true
 pub all_from : (p : KeptRelease → Bool) (xs : List KeptRelease) → Each (λ x. p x ≡ true) xs → list_all p xs ≡ true
 all_from p [] h = refl
 all_from p (x ∷ xs) h = let a = h.0 in rw a (all_from p xs h.1)
@@ -89,11 +89,11 @@ choice set rule h j e =
     let m = mapped (λ (i : KeptRelease). i.job) (first_to_run set rule (high_mode rule h) (pending set h)) j e in
     record { kept = m.0; first = m.1; job = m.2 }
 
--- where none runs first there is none
+-- if no job of the list runs first, the list is empty
 pub none_runs : (set : List Task) (rule : Rule) (high : Bool) (xs : List KeptRelease) → first_to_run set rule high xs ≡ None → xs ≡ []
 none_runs set rule high [] e = refl
 none_runs set rule high (x ∷ xs) e = cc
 
--- where none is chosen nothing is pending
+-- if no job is chosen, no job is pending
 pub none_pending : (set : List Task) (rule : Rule) (h : List Row) → chosen set rule h ≡ None → pending set h ≡ []
 none_pending set rule h e = none_runs set rule (high_mode rule h) (pending set h) (no_map (λ (i : KeptRelease). i.job) _ e)

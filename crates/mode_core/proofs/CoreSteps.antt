@@ -25,7 +25,7 @@ made_of w o js = record { set = w.set; rule = w.rule; places = w.places; rows = 
 pub same_state : {K : Type 0} (b : Inside K) (w : Written) (o : Option JobId) (js : List JobId) → b.log ≡ w → b.out ≡ o → reverse b.held.items ≡ js → state_of b ≡ made_of w o js
 same_state b w o js p q r = rw (p, q, r) refl
 
--- a core whose state is sound
+-- the fields are a core if the state is sound, its releases are noted, and there is capacity for held releases
 pub core_from : {K : Type 0} {n : ℕ} (b : Inside K) (t : State) → state_of b ≡ t → IsSoundUpTo n t → b.arrivals ≡ arrived t.set (notes_of t) → length t.set ≤ vec_capacity b.held → IsCore n b
 core_from {n = n} b t e sound notes room = record {
   sound = subst (IsSoundUpTo n) (sym e) sound;
@@ -33,14 +33,14 @@ core_from {n = n} b t e sound notes room = record {
   held_room = subst (λ (x : State). length x.set ≤ vec_capacity b.held) (sym e) room;
 }
 
--- a core in which a tick is put out
+-- the fields are a core after a tick is granted
 pub core_give : {K : Type 0} {n : ℕ} (a b : Inside K) (k : ℕ) → IsCore n a → grant_refusal (state_of a) k ≡ None → b.log ≡ a.log → b.out ≡ chosen_now (state_of a) → b.held.items ≡ a.held.items → vec_capacity b.held ≡ vec_capacity a.held → b.arrivals ≡ a.arrivals → IsCore n b
 core_give a b k core r eb eo eh ec en =
     let s : State = state_of a in
     let e = same_state b a.log (chosen_now s) (reverse a.held.items) eb eo (ap reverse eh) in
     core_from b (giving s) e (sound_grant s core.sound (may_grant s k core.sound r)) (en ∙ core.notes_are) (omega (arith, core.held_room, ec))
 
--- a core in which a tick has its outcome
+-- the fields are a core after a tick has its outcome
 pub core_end : {K : Type 0} {n : ℕ} (a b : Inside K) (done : Bool) → IsCore n a → b.log ≡ record a.log { rows = settle (state_of a) done } → b.out ≡ None → b.held.items ≡ [] → vec_capacity b.held ≡ vec_capacity a.held → b.arrivals ≡ a.arrivals → IsCore n b
 core_end a b done core eb eo eh ec en =
     let s : State = state_of a in
@@ -53,7 +53,7 @@ pub first_job : (h : List Row) (o : Option KeptRelease) (x : Pending) → Some x
 first_job h None x e = cc
 first_job h (Some i) x e = let d : x ≡ entry h i = cc in ap (λ (p : Pending). Some p.job) d
 
--- no job where no entry runs first
+-- if no entry runs first, no job runs first
 pub no_job_first : (h : List Row) (o : Option KeptRelease) → None ≡ option_map (entry h) o → None ≡ option_map (λ (i : KeptRelease). i.job) o
 no_job_first h o e = rw (no_map (entry h) o (sym e)) refl
 
@@ -67,6 +67,6 @@ pub held_legal : {K : Type 0} {n : ℕ} (a : Inside K) (j : JobId) (done : Bool)
 held_legal a j done w hs core t ew es =
     subst (λ (v : Written). Legal v.set v.rule v.rows) (sym (end_log a j done w (record w { rows = add_held w.set w.rule (reverse hs) w.rows }) hs t ew es refl)) (core.sound.good.settled done)
 
--- the state is then that of the event
+-- a core with the settled rows, no granted tick and no held release has the state after the outcome
 pub end_state : {K : Type 0} (a b : Inside K) (done : Bool) → b.log ≡ record a.log { rows = settle (state_of a) done } → b.out ≡ None → b.held.items ≡ [] → state_of b ≡ ended (state_of a) done
 end_state a b done eb eo eh = same_state b (record a.log { rows = settle (state_of a) done }) None [] eb eo (ap reverse eh)

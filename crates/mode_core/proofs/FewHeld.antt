@@ -22,17 +22,17 @@ abbrev of_first : ℕ → List JobId → ℕ
 of_first zero js = 0
 of_first (suc n) js = jobs_of (suc n) js + of_first n js
 
--- of no jobs none
+-- an empty list has no job of the tasks 1 to n
 of_none : (n : ℕ) → of_first n [] ≡ 0
 of_none zero = refl
 of_none (suc n) = omega (arith, of_none n)
 
--- a job of a later task is not counted
+-- a job of a task above n is not counted
 of_beyond : (n : ℕ) (j : JobId) (js : List JobId) → n < j.task.0 → of_first n (j ∷ js) ≡ of_first n js
 of_beyond zero j js h = refl
 of_beyond (suc n) j js h = rw (ne_eqb j.task.0 (suc n) (omega arith), of_beyond n j js (omega arith)) (omega arith)
 
--- a job of one of these tasks is
+-- a job of one of the tasks 1 to n is counted
 of_within : (n : ℕ) (j : JobId) (js : List JobId) → 1 ≤ j.task.0 → j.task.0 ≤ n → of_first n (j ∷ js) ≡ 1 + of_first n js
 of_within zero j js a b = absurd (omega arith)
 of_within (suc n) j js a b = elim (cases_eq j.task.0 (suc n)) [
@@ -50,7 +50,7 @@ one_each : (n : ℕ) (js : List JobId) → ((k : ℕ) → jobs_of k js ≤ 1) �
 one_each zero js h = omega arith
 one_each (suc n) js h = omega (arith, one_each n js h, h (suc n))
 
--- a task with a release that is held may not be released again at that boundary
+-- a task with a held release may not be released again at the same boundary
 waits : (set : List Task) (rule : Rule) (js : List JobId) (g : List Row) (k : ℕ) → 1 ≤ period_in (task_at set k) → 1 ≤ jobs_of k js → ticks g < next_release set (add_held set rule js g) k
 waits set rule [] g k p h = absurd (omega (arith, h))
 waits set rule (j ∷ js) g k p h = elim (cases_eq j.task.0 k) [

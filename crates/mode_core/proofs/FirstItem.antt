@@ -17,7 +17,7 @@ use Rattle.mode_core.specs.Slots.{Slots, job_at, ticks_at, as_pending, RunsFirst
 use Rattle.mode_core.specs.Representation.{AreQueued}
 use Rattle.mode_core.proofs.Options.{mapped}
 
--- what is so of each item is so of a task's
+-- a property of all items is one of each task's item
 item_has : (P : Item → Type 0) (items : List Item) (k : ℕ) (x : Item) → AllByRecursion P items → item_of items k ≡ Some x → P x
 item_has P [] k x all e = cc
 item_has P (i ∷ items) k x all e = elim (cases_eq i.task.0 k) [
@@ -40,7 +40,7 @@ pub record OfItem (s : Slots) (k : ℕ) (x : Item) : Type 0 where
   pub there : job_at s.jobs k ≡ Some job
   pub made : x ≡ item s.set s.rule s.high k job.release
 
--- the first item has one
+-- the first item has a pending job
 pub of_first :
     (s : Slots) (places : ℕ) (items : List Item) (x : Item) → places ≡ length s.set → AreItems places items → AreQueued s.set s.rule s.high s.jobs items →
     least items ≡ Some x → OfItem s x.task.0 x
@@ -81,7 +81,7 @@ first_runs s items k x queued e o = record {
       (subst (λ (y : Item). before other y ≡ false) o.made after);
 }
 
--- the job in the task's slot, as it was read
+-- what is read at the index of task number k is what stands in the task's slot
 pub read_job : (s : Slots) (k : ℕ) (x : Item) (o : Option ReleasedJob) → length s.jobs ≡ length s.set → OfItem s k x → o ≡ get_or s.jobs (k - 1) o → o ≡ job_at s.jobs k
 read_job s k x o rooms i e = let first = i.inside.0 in let last = i.inside.1 in get_or_read s.jobs (k - 1) o (omega (arith, first, last, rooms)) e None
 
@@ -92,6 +92,6 @@ read_runs s items k n j queued f e t =
     let same : f.of_item.job ≡ j = same_Some f.of_item.job j (sym f.of_item.there ∙ sym e) in
     subst (λ (m : ℕ). RunsFirst s (as_pending k m j)) (sym t) (subst (λ (i : ReleasedJob). RunsFirst s (as_pending k (ticks_at s k) i)) same (first_runs s items k f.item queued f.least_one f.of_item))
 
--- the slot is not free
+-- the slot of the first item's task is not free
 pub not_free : (s : Slots) (items : List Item) (k : ℕ) → FirstOf s items k → None ≡ job_at s.jobs k → ⊥
 not_free s items k f e = none-some f.of_item.job (e ∙ f.of_item.there)

@@ -27,7 +27,7 @@ use Rattle.mc_model.proofs.Steps.{release_fits}
 use Rattle.mc_model.proofs.Live.{IsLiveOk, live_ok}
 use Rattle.mc_model.proofs.Bridge.{IsBridged, bridge}
 
--- the converse of `soon_enough`
+-- a release at the boundary from which it is allowed, or later, is not too soon
 pub not_too_soon : (set : List Task) (rule : Rule) (now k : ℕ) (g : List Row) → Legal set rule g → next_release set g k ≤ now → is_too_soon set now g k ≡ false
 not_too_soon set rule now k [] l n = refl
 not_too_soon set rule now k (Release j kept ∷ g) l n = elim (cases_eq j.task.0 k) [
@@ -38,26 +38,26 @@ not_too_soon set rule now k (Release j kept ∷ g) l n = elim (cases_eq j.task.0
 ]
 not_too_soon set rule now k (row ∷ g) l n = not_too_soon set rule now k g l.2 n
 
--- three parts that all hold
+-- if three parts of a row hold, none of the parts fails
 three : (a b c : Bool) (u v w : Why) → a ≡ true → b ≡ true → c ≡ true → first_of_parts ((a, u) ∷ (b, v) ∷ (c, w) ∷ []) ≡ None
 three a b c u v w p q r = rw (p, q, r) refl
 
--- each test is itself
+-- a truth value equals itself by the test
 pub same_bool-refl : (b : Bool) → beq b b ≡ true
 same_bool-refl true = refl
 same_bool-refl false = refl
 
--- the row of a release that is not too soon
+-- the row of a release that is not too soon is legal
 pub release_legal : (set : List Task) (rule : Rule) (j : JobId) (g : List Row) → Legal set rule g → IsIn set j.task.0 → next_release set g j.task.0 ≤ ticks g → j.count ≡ releases g j.task.0 + 1 → Legal set rule (release_row set rule j g ∷ g)
 release_legal set rule j g l i n c =
     let soon = not_from_false _ (not_too_soon set rule (ticks g) j.task.0 g l n) in
     (i, three _ _ _ TooSoon WrongCount WrongKept soon (eq-eqb _ _ c) (same_bool-refl (keeps set rule g j.task.0)), l)
 
--- an idle row where nothing is pending
+-- an idle row is legal if no job is pending
 pub idle_legal : (set : List Task) (rule : Rule) (g : List Row) → Legal set rule g → pending set g ≡ [] → Legal set rule (Idle ∷ g)
 idle_legal set rule g l e = (tt, subst (λ xs. fault_among set rule xs Idle g ≡ None) (sym e) refl, l)
 
--- each outcome is itself
+-- an outcome is the same as itself
 same_how-refl : (h : How) → same_how h h ≡ true
 same_how-refl h = elim h as (λ (i : How). same_how i i ≡ true) [ More ↦ refl | Done ↦ refl | Stop ↦ refl | Over ↦ refl ]
 
@@ -66,7 +66,7 @@ allowed : (set : List Task) (rule : Rule) (g : List Row) (j : JobId) (done : Boo
 allowed set rule g j true u = let t = le-leb _ _ u in rw t refl
 allowed set rule g j false u = or_true _ _ (same_how-refl (how_of set rule g j (used g j + 1)))
 
--- what is so of each pending job
+-- each pending job is of the set, was released by now, and has a tick of its budget left
 pub each_ok : (set : List Task) (rule : Rule) (h : List Row) → AllByRecursion IsTask set → Legal set rule h → Each (IsLiveOk set rule h) (pending set h)
 each_ok set rule h s l = let b : IsBridged set rule h = bridge set rule h l in subst (Each (IsLiveOk set rule h)) (sym b.same) (live_ok set rule h s b.legal)
 
@@ -90,7 +90,7 @@ chooses set rule g j s l e =
       soonest = least set rule (high_mode rule g) (pending set g) c.kept f;
     })
 
--- the row of a tick of the chosen job
+-- the row of a tick of the chosen job is legal
 pub tick_legal : (set : List Task) (rule : Rule) (j : JobId) (g : List Row) (done : Bool) → AllByRecursion IsTask set → Legal set rule g → chosen set rule g ≡ Some j → Legal set rule (Tick j (outcome_of set rule g j done) ∷ g)
 tick_legal set rule j g done s l e =
     let c : Chooses set rule g j = chooses set rule g j s l e in

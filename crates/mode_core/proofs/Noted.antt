@@ -44,7 +44,7 @@ count-held at k (j ∷ js) h = omega (arith, count-held at k js h)
 pub count_noted : (s : State) (k : ℕ) → count (notes_of s) k ≡ released_so_far s k
 count_noted s k = count-held (ticks s.rows + 1) k s.held s.rows
 
--- by the notes of these rows the next release is allowed from the same boundary
+-- by the notes of the rows the next release is allowed from the same boundary as by the rows
 next-rows : (set : List Task) (h : List Row) (k : ℕ) → Notes.next_after (period_in (task_at set k)) (notes_of_rows h) k ≡ next_release set h k
 next-rows set [] k = refl
 next-rows set (Release j kept ∷ g) k = ap (λ (n : ℕ). cond (j.task.0 == k) (ticks g + period_in (task_at set k)) n) (next-rows set g k)
@@ -55,11 +55,11 @@ next-held : (set : List Task) (rows : List Row) (js : List JobId) (k : ℕ) → 
 next-held set rows [] k = next-rows set rows k
 next-held set rows (j ∷ js) k = ap (λ (n : ℕ). cond (j.task.0 == k) (ticks rows + 1 + period_in (task_at set k)) n) (next-held set rows js k)
 
--- of a task that is there
+-- the boundary of the next release of a task that is there, by its period and the notes
 next_known : (o : Option Task) (notes : List Note) (k : ℕ) → 1 ≤ period_in o → unwrap_or (option_map (λ (t : Task). Notes.next_after t.period notes k) o) 0 ≡ Notes.next_after (period_in o) notes k
 next_known None notes k p = absurd (omega (arith, p))
 next_known (Some t) notes k p = refl
 
--- by a state's notes a task of the set may be released from the same boundary
+-- by a state's notes a task of the set may be released from the same boundary as by the state
 pub next_noted : (s : State) (k : ℕ) → AreTasks s.set → IsIn s.set k → next s.set (notes_of s) k ≡ Core.next s k
 next_noted s k tasks inside = next_known (task_at s.set k) (notes_of s) k (known s.set k tasks.each inside).period ∙ next-held s.set s.rows s.held k

@@ -29,7 +29,7 @@ module _ {K : Type 0} (h : List Row) (a : Inside K) where
     pub room_for_one : (w : Written) → written h a ≡ w → length w.rows < w.places → length h < n
     room_for_one w e r = omega (arith, opened_room w e r, k.room)
 
--- the same set, rule and capacity, and one more row
+-- the set, the rule and the capacity are the same, and there is one more row
 pub record OneMore {K : Type 0} (h g : List Row) (a b : Inside K) (row : Row) : Type 0 where
   pub set : b.pending_jobs.set ≡ a.pending_jobs.set
   pub rule : b.pending_jobs.rule ≡ a.pending_jobs.rule
@@ -40,7 +40,7 @@ pub record OneMore {K : Type 0} (h g : List Row) (a b : Inside K) (row : Row) : 
 pub one_more_seen : {K : Type 0} (h g : List Row) (a b : Inside K) (row : Row) → OneMore h g a b row → written g b ≡ record (written h a) { rows = row ∷ h }
 one_more_seen h g a b row m = rw (m.set, m.rule, m.places, m.rows) refl
 
--- the fields are a schedule log after one more row, if its tally is that of the rows
+-- the fields are a schedule log after one more row, if the clock, the mode and the slots agree with the rows
 pub one_more_kept :
     {K : Type 0} (h g : List Row) (a b : Inside K) (row : Row) (n m : ℕ) (old_for new_for : List Task → Rule → Type 0) → IsScheduleLog h n old_for a → length h < a.places → OneMore h g a b row → m ≡ n →
     ((set : List Task) (rule : Rule) → old_for set rule → new_for set rule) → IsTally a.pending_jobs.set a.pending_jobs.rule (row ∷ h) b.ticks b.pending_jobs.high (waiting b.pending_jobs) → IsScheduleLog g m new_for b

@@ -14,22 +14,22 @@ pub no_map : {D E : Type 0} → (f : D → E) (o : Option D) → option_map f o 
 no_map f None h = refl
 no_map f (Some x) h = cc
 
--- the choice between it and none is made before the map or after it
+-- a map of a choice between an option and none is the choice between the mapped option and none
 pub map-cond : {D E : Type 0} → (f : D → E) (b : Bool) (o : Option D) → option_map f (cond b o None) ≡ cond b (option_map f o) None
 map-cond f true o = refl
 map-cond f false o = refl
 
--- of two that are the same either is chosen
+-- a choice between two equal values is that value
 pub same-cond : {D : Type 0} → (b : Bool) (d : D) → cond b d d ≡ d
 same-cond true d = refl
 same-cond false d = refl
 
--- neither refusal applies
+-- if one refusal or else another gives none, neither refusal applies
 pub neither : {E : Type 0} → (a b : Option E) → option_or a b ≡ None → (a ≡ None) × (b ≡ None)
 neither None None h = (refl, refl)
 neither a b h = cc
 
--- the test of a refusal does not hold
+-- if a refusal does not apply, its test is false
 pub not_if : {E : Type 0} → (b : Bool) (e : E) → refused_if b e ≡ None → b ≡ false
 not_if true e h = cc
 not_if false e h = refl

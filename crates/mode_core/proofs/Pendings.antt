@@ -13,19 +13,19 @@ use Rattle.mc_model.proofs.Bridge.{bridge}
 use Rattle.mc_model.proofs.Steps.{release_fits}
 use Rattle.mc_model.proofs.Counts.{counted as counted_so}
 
--- after a push the newest stands first
+-- after a push the new element stands first in the reversed list
 pub pushed : {X : Type 0} → (x : X) (xs ys : List X) → ys ≡ xs ++ x ∷ [] → reverse ys ≡ x ∷ reverse xs
 pushed x xs ys e = ap reverse e ∙ reverse-append xs (x ∷ [])
 
--- a kept release adds its job
+-- a kept release adds its job to the pending jobs
 pub pending-kept : (set : List Task) (rule : Rule) (j : JobId) (g : List Row) → Legal set rule (Release j true ∷ g) → pending set (Release j true ∷ g) ≡ record { job = j; release = ticks g } ∷ pending set g
 pending-kept set rule j g l = (bridge set rule (Release j true ∷ g) l).same ∙ ap (λ xs. record { job = j; release = ticks g } ∷ xs) (sym (bridge set rule g l.2).same)
 
--- a dropped one adds none
+-- a dropped release adds no pending job
 pub pending-dropped : (set : List Task) (rule : Rule) (j : JobId) (g : List Row) → Legal set rule (Release j false ∷ g) → pending set (Release j false ∷ g) ≡ pending set g
 pending-dropped set rule j g l = (bridge set rule (Release j false ∷ g) l).same ∙ sym (bridge set rule g l.2).same
 
--- an idle tick leaves all
+-- an idle tick leaves the pending jobs as they are
 pub pending-idle : (set : List Task) (rule : Rule) (g : List Row) → Legal set rule (Idle ∷ g) → pending set (Idle ∷ g) ≡ pending set g
 pending-idle set rule g l = (bridge set rule (Idle ∷ g) l).same ∙ sym (bridge set rule g l.2).same
 

@@ -1,4 +1,4 @@
--- The slots, the ledger and the queue after a change of one task's, or of all.
+-- The queue has the pending jobs after one task's slot changed, and after the change to high mode.
 use Rattle.std.proofs.Common.{◌≡◌, ℕ, ◌-◌, ◌≤◌, Bool, true, ◌==◌, cond, List, Option, Some, None, option_map, map, filter, length, refl, sym, ap, subst, ◌∙◌, arith, eq-eqb, ne_eqb, inl, inr}
 use Rattle.std.specs.Prelude.{slice_set}
 use Rattle.std.proofs.lemmas.Bool.{cases_eq}
@@ -21,7 +21,7 @@ use Rattle.mode_core.proofs.Options.{map-cond, same-cond}
 abbrev item_for : List Task → Rule → Bool → ℕ → Option ReleasedJob → Option Item
 item_for ts rule high k o = option_map (λ (x : ReleasedJob). item ts rule high k x.release) o
 
--- a task's slot is written, and its item
+-- the queue has the pending jobs after a task's slot is written and the task's item changed to match
 queued_set :
     (ts : List Task) (rule : Rule) (high : Bool) (jobs : List (Option ReleasedJob)) (items after : List Item) (k : ℕ) (o : Option ReleasedJob) →
     AreQueued ts rule high jobs items → IsIn ts k → k ≤ length jobs →
@@ -37,7 +37,7 @@ queued_set ts rule high jobs items after k o queued inside room found i there = 
       found i ∙ rw (ne_eqb _ _ d) (queued i there ∙ ap (item_for ts rule high i) (sym other))
 ]
 
--- a job begins
+-- the queue has the pending jobs after a job begins
 pub queued_begin :
     (ts : List Task) (rule : Rule) (high : Bool) (jobs : List (Option ReleasedJob)) (items : List Item) (k : ℕ) (j : ReleasedJob) → AreQueued ts rule high jobs items →
     IsIn ts k → k ≤ length jobs → job_at jobs k ≡ None → AreQueued ts rule high (slice_set jobs (k - 1) (Some j)) (with_item (item ts rule high k j.release) items)
@@ -45,13 +45,13 @@ queued_begin ts rule high jobs items k j queued inside room free =
     let none : item_of items k ≡ None = queued k inside ∙ ap (item_for ts rule high k) free in
     queued_set ts rule high jobs items _ k (Some j) queued inside room (λ i. item_of-with_item (item ts rule high k j.release) items i none)
 
--- a job ends
+-- the queue has the pending jobs after a job ends
 pub queued_end :
     (ts : List Task) (rule : Rule) (high : Bool) (jobs : List (Option ReleasedJob)) (items : List Item) (k : ℕ) → AreQueued ts rule high jobs items →
     IsIn ts k → k ≤ length jobs → AreQueued ts rule high (slice_set jobs (k - 1) None) (without k items)
 queued_end ts rule high jobs items k queued inside room = queued_set ts rule high jobs items _ k None queued inside room (item_of-without k items)
 
--- the mode becomes high
+-- the queue has the pending jobs after the mode becomes high
 pub queued_high :
     (ts : List Task) (rule : Rule) (high : Bool) (jobs after : List (Option ReleasedJob)) (items : List Item) → OnePerTask items → AreQueued ts rule high jobs items →
     ((k : ℕ) → 1 ≤ k → job_at after k ≡ cond (is_high_in (task_at ts k)) (job_at jobs k) None) →

@@ -40,7 +40,7 @@ takes a s k core same inside none = record {
   none = subst (λ (t : State). release_refusal t k ≡ None) (sym same) none;
 }
 
--- what is there
+-- the value of an option that has one
 some_of : (o : Option JobId) → IsSome o → (i : JobId) × (o ≡ Some i)
 some_of (Some i) h = (i, refl)
 some_of None h = cc
@@ -69,7 +69,7 @@ pub not_spent : (s : State) (k : ℕ) → s.places < 2 ^ 32 → places_used s < 
 not_spent s k small room =
     or_from _ _ (ne_eqb (places_used s) s.places (omega arith)) (lt-leb _ _ (omega (arith, small, room, releases-few s.rows k, jobs-few k s.held)))
 
--- the release may be noted
+-- a release that a core takes may be noted
 pub may_note : {K : Type 0} {n : ℕ} (a : Inside K) (k at : ℕ) → Takes n a k → at ≡ begun (state_of a) → MayNote a.arrivals k at
 may_note a k at take e =
     let s : State = state_of a in
@@ -102,11 +102,11 @@ hold_room a k take out =
     let sound = sound_hold (state_of a) k i.0 take.core.sound i.1 take.inside take.none in
     omega (arith, held_few (holding (state_of a) (next_job (state_of a) k)) sound.tasks sound.good, take.core.held_room, length-reverse a.held.items)
 
--- the state after it
+-- the state after a release that is held
 pub hold_state : {K : Type 0} (a b : Inside K) (k : ℕ) (j : JobId) → j ≡ next_job (state_of a) k → b.log ≡ a.log → b.out ≡ a.out → b.held.items ≡ a.held.items ++ j ∷ [] → state_of b ≡ holding (state_of a) (next_job (state_of a) k)
 hold_state a b k j ej eb eo eh = same_state b a.log a.out (j ∷ reverse a.held.items) eb eo (pushed j a.held.items b.held.items eh) ∙ ap (holding (state_of a)) ej
 
--- the core after it
+-- the fields are a core after a release that is held
 pub core_hold : {K : Type 0} {n : ℕ} (a b : Inside K) (k : ℕ) (j : JobId) → Takes n a k → IsSome a.out → j ≡ next_job (state_of a) k → b.log ≡ a.log → b.out ≡ a.out → b.held.items ≡ a.held.items ++ j ∷ [] →
     vec_capacity b.held ≡ vec_capacity a.held → b.arrivals ≡ arrived a.log.set (note k (ticks a.log.rows + 1) ∷ notes_of (state_of a)) → IsCore n b
 core_hold a b k j take out ej eb eo eh ec en =
@@ -121,23 +121,23 @@ core_hold a b k j take out ej eb eo eh ec en =
 abbrev row_of : State → ℕ → Row
 row_of s k = release_row s.set s.rule (next_job s k) s.rows
 
--- which is that of its job, kept where the mode keeps it
+-- the row of a release that is written is that of the task's next job, kept where the mode keeps it
 pub row_is : {K : Type 0} (a : Inside K) (k : ℕ) (j : JobId) (kept : Bool) → j ≡ next_job (state_of a) k → kept ≡ keeps a.log.set a.log.rule a.log.rows k → Release j kept ≡ row_of (state_of a) k
 row_is a k j kept ej e = ap₂ (λ (i : JobId) (b : Bool). Release i b) ej e
 
--- the row fits
+-- the row of a release that is written fits
 pub write_legal : {K : Type 0} {n : ℕ} (a : Inside K) (k : ℕ) (row : Row) → Takes n a k → a.out ≡ None → row ≡ row_of (state_of a) k → Legal a.log.set a.log.rule (row ∷ a.log.rows)
 write_legal a k row take out e =
     subst (λ (r : Row). Legal a.log.set a.log.rule (r ∷ a.log.rows)) (sym e)
     (sound_write (state_of a) k take.core.sound out take.inside take.none).good.legal
 
--- the answer
+-- the answer to a release that is written: its job and boundary, kept or dropped
 pub write_answer : {K : Type 0} (a : Inside K) (k : ℕ) (j : JobId) (kept : Bool) (at : ℕ) → j ≡ next_job (state_of a) k → kept ≡ keeps a.log.set a.log.rule a.log.rows k → at ≡ begun (state_of a) → cond kept (Kept j at) (Dropped j at) ≡ taken (state_of a) None k
 write_answer a k j kept at ej e now =
     ap (λ (b : Bool). cond b (Kept j at) (Dropped j at)) e
     ∙ ap₂ (λ (i : JobId) (t : ℕ). cond (keeps a.log.set a.log.rule a.log.rows k) (Kept i t) (Dropped i t)) ej now
 
--- the state after it
+-- the state after a release that is written
 pub write_state : {K : Type 0} (a b : Inside K) (k : ℕ) (row : Row) → row ≡ row_of (state_of a) k → b.log ≡ record a.log { rows = row ∷ a.log.rows } → b.out ≡ a.out → b.held.items ≡ a.held.items → state_of b ≡ writing (state_of a) (next_job (state_of a) k)
 write_state a b k row er eb eo eh =
     same_state b (record a.log { rows = row ∷ a.log.rows }) a.out (reverse a.held.items) eb eo (ap reverse eh)
@@ -147,7 +147,7 @@ write_state a b k row er eb eo eh =
 notes_written : (s : State) (j : JobId) → s.held ≡ [] → notes_of (writing s j) ≡ note_at (ticks s.rows) j ∷ notes_of s
 notes_written s j h = rw h refl
 
--- the core after it
+-- the fields are a core after a release that is written
 pub core_write : {K : Type 0} {n : ℕ} (a b : Inside K) (k : ℕ) (row : Row) → Takes n a k → a.out ≡ None → row ≡ row_of (state_of a) k → b.log ≡ record a.log { rows = row ∷ a.log.rows } → b.out ≡ a.out → b.held.items ≡ a.held.items →
     vec_capacity b.held ≡ vec_capacity a.held → b.arrivals ≡ arrived a.log.set (note k (ticks a.log.rows) ∷ notes_of (state_of a)) → IsCore n b
 core_write a b k row take out er eb eo eh ec en =

@@ -22,7 +22,7 @@ use Rattle.mc_model.proofs.Jobs.{job_eq}
 pub room_left : {n : ℕ} (s : State) → IsSoundUpTo n s → is_full s ≡ false → places_used s < s.places
 room_left s k f = omega (arith, eqb-false _ _ f, k.room)
 
--- what no refusal of a release says
+-- a release may be taken: it is not too soon, and capacity and a job number are left
 pub record MayRelease (s : State) (k : ℕ) : Type 0 where
   pub soon : next s k ≤ begun s
   pub room : places_used s < s.places
@@ -35,12 +35,12 @@ may_release s k sound e =
     let left = or_parts _ _ (not_if _ _ p.1) in
     record { soon = ltb-false _ _ (not_if _ _ p.0); room = room_left s sound left.0; few = leb-false _ _ left.1 }
 
--- a sound state with other rows, another granted tick or other held releases
+-- a sound state stays sound with other rows, granted tick and held releases that are good and within the capacity
 sound_with : {n : ℕ} (s : State) (rows : List Row) (out : Option JobId) (held : List JobId) → IsSoundUpTo n s → Good (record s { rows = rows; out = out; held = held }) →
     length rows + length held + tick_out out ≤ s.places → IsSoundUpTo n (record s { rows = rows; out = out; held = held })
 sound_with s rows out held sound good room = record { tasks = sound.tasks; fits = sound.fits; holds = sound.holds; good = good; range = sound.range; small = sound.small; room = room }
 
--- a release that is held
+-- the state with one more held release
 abbrev pub holding : State → JobId → State
 holding s j = record s { held = j ∷ s.held }
 
@@ -50,7 +50,7 @@ sound_hold s k i sound o inside e =
     let may = may_release s k sound e in
     sound_with s s.rows s.out (next_job s k ∷ s.held) sound (good_release s (Some i) k o sound.good inside may.soon) (omega (arith, may.room))
 
--- a release that is written
+-- the state with the row of a release
 abbrev pub writing : State → JobId → State
 writing s j = record s { rows = release_row s.set s.rule j s.rows ∷ s.rows }
 
@@ -61,11 +61,11 @@ sound_write s k sound o inside e =
     let row = release_row s.set s.rule (next_job s k) s.rows in
     sound_with s (row ∷ s.rows) s.out s.held sound (good_release s None k o sound.good inside may.soon) (omega (arith, may.room))
 
--- a tick that is put out
+-- the state with a granted tick of the chosen job
 abbrev pub giving : State → State
 giving s = record s { out = chosen_now s }
 
--- what no refusal of a grant says
+-- a tick may be granted: a job is chosen, no tick is granted yet, and capacity is left
 pub record MayGrant (s : State) : Type 0 where
   pub job : JobId
   pub chosen : chosen_now s ≡ Some job

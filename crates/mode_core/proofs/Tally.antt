@@ -34,7 +34,7 @@ use Rattle.mode_core.proofs.ByTask.{job_of-task, job_of-none, job_of-one, left, 
 use Rattle.mode_core.proofs.Fits.{each_ok}
 use Rattle.mode_core.proofs.Pendings.{pending-kept, pending-dropped, pending-idle, unused}
 
--- after a release that is dropped
+-- the clock, the mode and the slots agree with the rows after a release that is dropped
 pub tally_dropped : (set : List Task) (rule : Rule) (h : List Row) (t : ℕ) (m : Bool) (slots : ℕ → Option Pending) (j : JobId) → Legal set rule (Release j false ∷ h) → IsTally set rule h t m slots → IsTally set rule (Release j false ∷ h) t m slots
 tally_dropped set rule h t m slots j l y = record {
   legal = l;
@@ -53,7 +53,7 @@ slot_free set rule h t m slots j kept s holds l y =
     let soon = (release_fits set rule j kept h l.1).soon in
     y.slots_are j.task.0 l.0 ∙ ap (option_map (entry h)) (job_of-none j.task.0 (pending set h) (none_at_release set rule h s holds l.2 j.task.0 soon))
 
--- the slots after a release that is kept, where its job has its task's slot
+-- the clock, the mode and the slots agree with the rows after a kept release, once its job is in its task's slot
 pub began :
     (s new : Slots) (h : List Row) (t : ℕ) (j : JobId) → Legal s.set s.rule (Release j true ∷ h) → ChangesOnly s new j.task.0 (Some (record { job = j; release = t; used = 0 })) →
     IsTally s.set s.rule h t s.high (waiting s) → IsTally s.set s.rule (Release j true ∷ h) t new.high (waiting new)
@@ -82,7 +82,7 @@ quiet set rule h t m slots l y k i =
     let none : pending set h ≡ [] = (bridge set rule h l.2).same ∙ idle_fits set rule h (bridge set rule (Idle ∷ h) l).legal.1 in
     y.slots_are k i ∙ ap (λ xs. option_map (entry h) (job_of k xs)) none
 
--- after an idle tick
+-- the clock, the mode and the slots agree with the rows after an idle tick
 pub tally_idle : (set : List Task) (rule : Rule) (h : List Row) (t : ℕ) (m : Bool) (slots : ℕ → Option Pending) → Legal set rule (Idle ∷ h) → IsTally set rule h t m slots → IsTally set rule (Idle ∷ h) (t + 1) false slots
 tally_idle set rule h t m slots l y = record {
   legal = l;
@@ -113,13 +113,13 @@ ticking_own set rule h j how s holds l =
     let ok : IsLiveOk set rule h t.kept = each_in (IsLiveOk set rule h) t.kept (pending set h) t.inside (each_ok set rule h s l.2) in
     subst (λ (i : JobId). used h i + 1 ≤ own_in (task_at set i.task.0)) t.job ok.own
 
--- the slots have counted its ticks
+-- the slots have counted the ticks of the pending job that ticks
 pub ticking_line : (s : Slots) (h : List Row) (t : ℕ) (m : Bool) (j : JobId) (how : How) → AllByRecursion IsTask s.set → Holds s.set s.rule → Legal s.set s.rule (Tick j how ∷ h) → IsTally s.set s.rule h t m (waiting s) → used h j ≡ ticks_at s j.task.0
 ticking_line s h t m j how tasks holds l y =
     let k : Ticks s.set h j = ticking_job s.set s.rule h j how tasks holds l in
     ap (used h) (sym k.job) ∙ pending_ticks s j.task.0 (entry h k.kept) (y.slots_are j.task.0 l.0 ∙ ap (option_map (entry h)) k.there)
 
--- a task's job is the one that ticks exactly where the task is its task
+-- the job of task number k is the job that ticks exactly if k is the task of the job that ticks
 is_it : (set : List Task) (h : List Row) (j : JobId) (k : ℕ) (x : KeptRelease) → Ticks set h j → job_of k (pending set h) ≡ Some x → same_job j x.job ≡ (j.task.0 == k)
 is_it set h j k x t e = elim (cases_eq j.task.0 k) [
   | inl m ↦ let a : t.kept ≡ x = same_Some t.kept x (sym t.there ∙ (ap (λ n. job_of n (pending set h)) m ∙ e)) in
@@ -129,19 +129,19 @@ is_it set h j k x t e = elim (cases_eq j.task.0 k) [
       rw (n, ne_eqb _ _ m) refl
 ]
 
--- an overrun is one of EDF-VD
+-- a tick that fits is an overrun only under EDF-VD
 virtual_over : (set : List Task) (rule : Rule) (h : List Row) (j : JobId) (how : How) → Hows set rule h j how → (is_virtual rule && is_over how) ≡ is_over how
 virtual_over set rule h j More (more a f) = and-false (is_virtual rule)
 virtual_over set rule h j Done (done a) = and-false (is_virtual rule)
 virtual_over set rule h j Stop (stop a) = and-false (is_virtual rule)
 virtual_over set rule h j Over (over v m y e a) = rw v refl
 
--- what stays of a task's job is what is left of its slot
+-- a tick leaves a task's job pending exactly if it leaves the task's slot as it is
 stays_left : (set : List Task) (h : List Row) (j : JobId) (how : How) (k : ℕ) (x : KeptRelease) → Ticks set h j → job_of k (pending set h) ≡ Some x → stays set j how x ≡ is_left set j.task.0 how k
 stays_left set h j how k x t e =
     ap₂ (λ (b : Bool) (n : ℕ). not (is_end how && b) && (not (is_over how) || is_high_in (task_at set n))) (is_it set h j k x t e) (job_of-task k (pending set h) x e)
 
--- one more tick of the job that ticks
+-- a tick adds one tick to the entry of its job, and none to other entries
 one_more_tick : (h : List Row) (j : JobId) (how : How) (x : KeptRelease) (b : Bool) → same_job j x.job ≡ b → cond b (one_more (entry h x)) (entry h x) ≡ entry (Tick j how ∷ h) x
 one_more_tick h j how x true m = rw m (ap (λ (u : ℕ). record { job = x.job; release = x.release; used = u }) (omega arith))
 one_more_tick h j how x false m = rw m (ap (λ (u : ℕ). record { job = x.job; release = x.release; used = u }) (omega arith))

@@ -9,17 +9,17 @@ use Rattle.mc_model.specs.Legal.{Legal}
 use Rattle.mode_core.proofs.Held.{length-held}
 use Rattle.mc_model.specs.Core.{add_held, release_row}
 
--- the releases of two lists, one after the other
+-- the held releases of two joined lists are written list by list
 held-append : (set : List Task) (rule : Rule) (xs ys : List JobId) (g : List Row) → add_held set rule (xs ++ ys) g ≡ add_held set rule xs (add_held set rule ys g)
 held-append set rule [] ys g = refl
 held-append set rule (x ∷ xs) ys g = ap (λ h. release_row set rule x h ∷ h) (held-append set rule xs ys g)
 
--- what stands before legal rows is legal
+-- if the rows with the held releases are legal, the rows before the held releases are legal
 legal-before : (set : List Task) (rule : Rule) (xs : List JobId) (g : List Row) → Legal set rule (add_held set rule xs g) → Legal set rule g
 legal-before set rule [] g l = l
 legal-before set rule (x ∷ xs) g l = legal-before set rule xs g l.2
 
--- one more, with the newest first
+-- the first i + 1 jobs in reverse order are job i, then the first i jobs in reverse order
 reverse-more : (js : List JobId) (i : ℕ) (d : JobId) → i < length js → reverse (take (i + 1) js) ≡ get_or js i d ∷ reverse (take i js)
 reverse-more js i d h = ap reverse (take_more js i d h) ∙ reverse-append (take i js) (get_or js i d ∷ [])
 

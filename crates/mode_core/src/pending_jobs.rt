@@ -102,6 +102,8 @@ impl PendingJobs {
 
     /// Clears the slots that a tick of the task with this outcome clears: at an end the task's own, and at an overrun
     /// those of low tasks, since the mode is high then.
+    // Inlined, since it does nothing at most ticks.
+    #[inline(always)]
     pub fn clear_after(&mut self, task: TaskNo, how: How)
         requires { IsIn self.old.set task.0 }
         ensures { IsLeft self.old self.new task.0 how }

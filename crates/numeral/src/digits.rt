@@ -1,5 +1,5 @@
 //! The values of decimal digits.
-ghost use Rattle.std.specs.Prelude.{◌≡◌, ◌≤◌, ◌-◌, length, if◌then◌else◌, nat_le, nat_lt, ◌^◌, true, Some, None};
+ghost use Rattle.std.specs.Prelude.{◌≡◌, ◌<◌, ◌≤◌, ◌-◌, IfSome, length, if◌then◌else◌, nat_le, nat_lt, ◌^◌, true, Some, None};
 ghost use Rattle.std.specs.List.{list_all};
 ghost use Rattle.numeral.specs.Numeral as text;
 
@@ -24,14 +24,15 @@ pub fn number(bytes: &[u8]) -> Option<u32>
 {
     match short_numeral(bytes) {
         None => None,
-        Some(value) => in_range(value),
+        Some(value) => in_range(bytes.len(), value),
     }
 }
 
 // The value of 1 to 10 digits, which fits in 64 bits.
 #[tactic(auto, unfolding(crate::specs::Numeral::numeral))]
 fn short_numeral(bytes: &[u8]) -> Option<u64>
-    ensures { result ≡ text.numeral 10 bytes.now }
+    ensures value { result ≡ text.numeral 10 bytes.now }
+    ensures short { length bytes.now ≤ 9 → IfSome result (λ value. value < 2 ^ 32) }
 {
     if bytes.len() < 1 || bytes.len() > 10 {
         return None;
@@ -39,10 +40,17 @@ fn short_numeral(bytes: &[u8]) -> Option<u64>
     short_value_of(bytes)
 }
 
-fn in_range(value: u64) -> Option<u32>
+// The value of this number of digits, if it is below 2^32. Nine digits always are, so that mostly only their number is
+// compared.
+fn in_range(digits: usize, value: u64) -> Option<u32>
+    requires { digits ≤ 9 → value < 2 ^ 32 }
     ensures { result ≡ if nat_lt value (2 ^ 32) then Some value else None }
 {
-    u32::try_from(value).ok()
+    if digits <= 9 || value < 1 << 32 {
+        Some(value as u32)
+    } else {
+        None
+    }
 }
 
 fn is_digit(b: u8) -> bool
@@ -77,7 +85,8 @@ fn digit_of(b: u8) -> u64
 // The value of at most 10 digits, in 64 bits, or `None` exactly if a byte is not a digit.
 fn short_value_of(bytes: &[u8]) -> Option<u64>
     requires { length bytes.now ≤ 10 }
-    ensures { result ≡ if list_all text.is_digit bytes.now then Some (text.value bytes.now) else None }
+    ensures value { result ≡ if list_all text.is_digit bytes.now then Some (text.value bytes.now) else None }
+    ensures short { length bytes.now ≤ 9 → IfSome result (λ value. value < 2 ^ 32) }
 {
     let mut value = 0u64;
     for b in bytes {

@@ -8,7 +8,7 @@ use Rattle.mc_model.proofs.Walk.{drop_at}
 use Rattle.part_fit.specs.PartWork.{is_on}
 use Rattle.part_answers.specs.Partition.{spaced_names}
 
--- one name more, after a space
+-- after a space and the name of the task at an index, the names of the tasks after it are left to write
 pub names-more : (tasks : List Task) (i : ℕ) (t : Task) (line spaced more whole : List ℕ) → slice_get tasks i ≡ Some t → line ++ spaced_names (drop i tasks) ≡ whole → spaced ≡ line ++ codes " "
     → more ≡ spaced ++ t.name → more ++ spaced_names (drop (i + 1) tasks) ≡ whole
 names-more tasks i t line spaced more whole task inv space name =

@@ -16,20 +16,20 @@ use Rattle.part_answers.specs.Parted.{Parted, tasks_on}
 use Rattle.part_answers.specs.RunAll.{IsTraceOn, trace_lines}
 use Rattle.part_answers.specs.Runs.{IsFresh, IsRunOf}
 use Rattle.part_answers.specs.Planned.{IsPlannedOn}
-use Rattle.part_answers.specs.Traced.{HasFewPlaces, floor_lines}
+use Rattle.part_answers.specs.Traced.{HasSmallCapacity, floor_lines}
 
 -- the rows of floors
 abbrev pub rows_of : List FloorState → List (List Row)
 rows_of floors = map (λ f. f.core.rows) floors
 
--- what each pair gives of its second is so of all of these
+-- what follows of the second element of each pair holds of all elements of the second list
 every : {A B : Type 0} (R : A → B → Type 0) (P : B → Type 0) (xs : List A) (ys : List B) → ((x : A) (y : B) → R x y → P y) → AllZip R xs ys → All P ys
 every R P [] [] gives h = All-nil P
 every R P [] (y ∷ ys) gives h = absurd h
 every R P (x ∷ xs) [] gives h = absurd h
 every R P (x ∷ xs) (y ∷ ys) gives h = All-cons P y ys (gives x y h.0) (every R P xs ys gives h.1)
 
--- floors that wait for their plans are fresh
+-- floors that are planned for their processors are fresh
 pub all-fresh : (ticks : ℕ) (parted : Parted) (work : List WorkRow) (ns : List ℕ) (floors : List FloorState) → AllZip (IsPlannedOn ticks parted work) ns floors
     → All IsFresh floors
 all-fresh ticks parted work ns floors h = every (IsPlannedOn ticks parted work) IsFresh ns floors (λ n floor is. is.fresh) h
@@ -38,7 +38,7 @@ all-fresh ticks parted work ns floors h = every (IsPlannedOn ticks parted work) 
 pub record IsEnded (ticks : ℕ) (parted : Parted) (work : List WorkRow) (n : ℕ) (done : FloorState) : Type 0 where
   pub set_is : done.core.set ≡ tasks_on parted n
   pub trace : IsTraceOn ticks parted work n done.core.rows
-  pub few : HasFewPlaces done
+  pub few : HasSmallCapacity done
 
 ended : (ticks : ℕ) (parted : Parted) (work : List WorkRow) (n : ℕ) (floor done : FloorState) → IsPlannedOn ticks parted work n floor → IsRunOf floor done
     → IsEnded ticks parted work n done
@@ -68,12 +68,13 @@ all-ended ticks parted work (n ∷ ns) [] ds h runs = absurd h
 all-ended ticks parted work (n ∷ ns) (f ∷ fs) [] h runs = absurd runs
 all-ended ticks parted work (n ∷ ns) (f ∷ fs) (d ∷ ds) h runs = (ended ticks parted work n f d h.0 runs.0, all-ended ticks parted work ns fs ds h.1 runs.1)
 
--- each part's core has a small capacity
+-- each floor at the end of its plan has a small capacity
 pub all-few : (ticks : ℕ) (parted : Parted) (work : List WorkRow) (ns : List ℕ) (done : List FloorState) → AllZip (IsEnded ticks parted work) ns done
-    → All HasFewPlaces done
-all-few ticks parted work ns done h = every (IsEnded ticks parted work) HasFewPlaces ns done (λ n floor is. is.few) h
+    → All HasSmallCapacity done
+all-few ticks parted work ns done h = every (IsEnded ticks parted work) HasSmallCapacity ns done (λ n floor is. is.few) h
 
--- which is the one that follows on its processor, and their text is that of the traces
+-- each floor at the end of its plan has the trace that follows on its processor, and the text of the floors is
+-- that of the traces
 pub all-follow : (ticks : ℕ) (parted : Parted) (work : List WorkRow) (ns : List ℕ) (done : List FloorState) → AllZip (IsEnded ticks parted work) ns done
     → AllZip (IsTraceOn ticks parted work) ns (rows_of done) × (flat_map floor_lines (zip ns done) ≡ flat_map (trace_lines parted) (zip ns (rows_of done)))
 all-follow ticks parted work [] [] h = (tt, refl)

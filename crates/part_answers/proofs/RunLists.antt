@@ -8,20 +8,20 @@ use Rattle.task_threads.specs.declared.threads.Memory.{Memory}
 use Rattle.part_answers.specs.declared.side_by_side.Side.{Side}
 use Rattle.part_answers.specs.Runs.{IsFresh, IsFreshSide, IsRunOf, RunsEach, floors_of, results_of}
 
--- where each result is that of its side, each floor is the run of its floor
+-- where each result is that of its side, each floor that came back is the run of its side's floor
 pub runs-AllZip : (sides : List Side) (done : List FloorState) → length (results_of done) ≡ length sides → RunsEach sides (results_of done) → AllZip IsRunOf (floors_of sides) done
 runs-AllZip [] [] long each = tt
 runs-AllZip [] (d ∷ ds) long each = absurd (omega arith)
 runs-AllZip (j ∷ js) [] long each = absurd (omega arith)
 runs-AllZip (j ∷ js) (d ∷ ds) long each = (each 0 j (Ok d) (omega arith), runs-AllZip js ds (omega arith) (λ i side r lt. each (suc i) side r (omega arith)))
 
--- sides of fresh floors
+-- the sides of fresh floors are fresh
 pub fresh-sides : (sides : List Side) (floors : List FloorState) → floors_of sides ≡ floors → All IsFresh floors → All IsFreshSide sides
 fresh-sides sides floors is fresh = λ k d lt.
     let long : length floors ≡ length sides = ap length (sym is) ∙ length-map sides (λ side. side.floor) in
     subst (λ f. IsFresh f) (ap (λ l. get_or l k d.floor) (sym is) ∙ get_or-map (λ side. side.floor) sides k d d.floor lt) (fresh k d.floor (omega (arith, long, lt)))
 
--- the floors that come back
+-- the floors that come back are the runs of the floors that were given
 pub runs-finished : (sides : List Side) (floors : List FloorState) (results : List (Result FloorState Memory)) (r : Result (Vec FloorState Global) Memory) → floors_of sides ≡ floors
     → length results ≡ length sides → RunsEach sides results → IfOk r (λ v. results_of v.items ≡ results) → IfOk r (λ v. AllZip IsRunOf floors v.items)
 runs-finished sides floors results (Ok v) is long each h =

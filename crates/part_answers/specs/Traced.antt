@@ -4,8 +4,8 @@ use Rattle.mc_model.specs.TraceText.{trace_text}
 use Rattle.timetable.specs.Floor.{FloorState}
 
 -- the floor's capacity is at most 2,000,000 rows
-abbrev pub HasFewPlaces : FloorState → Type 0
-HasFewPlaces floor = floor.core.places ≤ 2000000
+abbrev pub HasSmallCapacity : FloorState → Type 0
+HasSmallCapacity floor = floor.core.places ≤ 2000000
 
 -- what is written of a processor and its floor: a line with the processor's number, and then the text of the
 -- floor's trace

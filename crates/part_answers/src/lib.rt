@@ -13,6 +13,3 @@ pub use parted::{Parted, Processors};
 pub use partition::PartitionCommand;
 pub use run_parts::{RunAllCommand, RunAllJob, finish_run_all};
 pub use side_by_side::run_all;
-
-#[cfg(test)]
-mod tests;

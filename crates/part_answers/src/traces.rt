@@ -1,6 +1,6 @@
 //! The text of several traces.
 ghost use Rattle.std.specs.Prelude.{◌≡◌, IfOk, length, flat_map, zip, All};
-ghost use Rattle.part_answers.specs.Traced.{HasFewPlaces, floor_lines};
+ghost use Rattle.part_answers.specs.Traced.{HasSmallCapacity, floor_lines};
 
 use mc_task::Memory;
 use run_answers::trace_text;
@@ -10,7 +10,7 @@ use timetable::Floor;
 /// The traces of these processors' floors, each after a line with its processor.
 pub fn traces_text(alloc: Global, processors: &[u32], floors: &[Floor]) -> Result<Vec<u8>, Memory>
     requires long { length processors.now ≡ length floors.now }
-    requires few { All HasFewPlaces floors.now }
+    requires few { All HasSmallCapacity floors.now }
     ensures { IfOk result (λ text. text.items ≡ flat_map floor_lines (zip processors.now floors.now)) }
 {
     let mut text = Vec::new(alloc);
@@ -22,7 +22,7 @@ pub fn traces_text(alloc: Global, processors: &[u32], floors: &[Floor]) -> Resul
 
 // The processor, and the trace of its floor.
 fn floor_lines(alloc: Global, processor: u32, floor: &Floor) -> Result<Vec<u8>, Memory>
-    requires { HasFewPlaces floor.now }
+    requires { HasSmallCapacity floor.now }
     ensures { IfOk result (λ lines. lines.items ≡ floor_lines (processor, floor.now)) }
 {
     let core = floor.core();

@@ -30,7 +30,7 @@ load-append : (budget : Task → ℕ) (n : ℕ) (ts : List Task) (t : Task) → 
 load-append budget n [] t = omega arith
 load-append budget n (u ∷ ts) t = omega (arith, load-append budget n ts t)
 
--- a load over n, taken over a multiple m of n, with one more task
+-- a load over n, taken over a multiple m of n and with the load of one more task, is the load with that task
 sum-more : (budget : Task → ℕ) (n m : ℕ) (ts : List Task) (t : Task) (sum : ℕ) → AllByRecursion (λ u. u.period ∣ n) ts → n ∣ m → sum ≡ load budget n ts
     → load_over n m sum (budget t) t.period ≡ load budget m (ts ++ t ∷ [])
 sum-more budget n m ts t sum h divides is =
@@ -50,7 +50,7 @@ with_task-AreLoadsOf tasks loads t have =
       high_high = sum-more high_high loads.lcm more tasks t loads.high_high each divides have.high_high;
     }
 
--- the loads of a processor with one more task, within range
+-- the loads of a processor with those of one more task are the loads with that task, if they are within range
 pub next-BelongTo : {tasks : List Task} {loads more : Loads} {t : Task} → IsNext tasks loads t → more ≡ with_task loads t → more.lcm ≤ most_lcm
     → BelongTo (tasks ++ t ∷ []) more × AreLoadsOf (tasks ++ t ∷ []) more
 next-BelongTo {tasks} {loads} {more} {t} next is within =
@@ -59,7 +59,7 @@ next-BelongTo {tasks} {loads} {more} {t} next is within =
     let above : 0 < more.lcm = omega (arith, have.lcm, lcm_from-pos 1 (tasks ++ t ∷ []) (omega arith) set.each) in
     (BelongTo-from_sums (tasks ++ t ∷ []) more set have.lcm above within have.low_low have.high_low have.high_high, have)
 
--- the tasks of a processor with one more task, out of range
+-- the tasks of a processor do not fit with one more task that takes them out of range
 pub next-past : {tasks : List Task} {loads : Loads} {t : Task} → IsNext tasks loads t → most_lcm < lcm loads.lcm t.period → fits (tasks ++ t ∷ []) ≡ false
 unfolding fits
 next-past {tasks} {loads} {t} next past =

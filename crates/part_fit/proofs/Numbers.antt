@@ -72,7 +72,7 @@ number-injective n of zero k a b same = absurd (false≢true a)
 number-injective n of (suc i) zero a b same = absurd (false≢true b)
 number-injective n of (suc i) (suc j) a b same = ap suc (number_on-alone n of i j a b (omega (arith, number_on-next n of i a, number_on-next n of j b)))
 
--- the table of numbers with one more
+-- the table of numbers for i + 1 tasks is the table for i tasks with one more entry
 pub numbers-next : (n : ℕ) (of : List ℕ) (i : ℕ) → i < length of
     → numbers_there n of (i + 1) ≡ numbers_there n of i ++ cond (get_or of i 0 == n) (Some (number_on n of i + 1)) None ∷ []
 numbers-next n of i inside =

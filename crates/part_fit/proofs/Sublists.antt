@@ -17,14 +17,14 @@ both : (b d : Bool) (u t : Task) (ys : List Task)
 both true true u t ys = refl
 both b d u t ys = refl
 
--- the tasks of a processor with one more task placed, on processor p
+-- one more task that is placed on processor p comes after the tasks of p, and changes no other processor's
 pub part_of-more : (ts : List Task) (of : List ℕ) (n p : ℕ) (t : Task) → slice_get ts (length of) ≡ Some t
     → part_of ts (of ++ p ∷ []) n ≡ cond (p == n) (part_of ts of n ++ t ∷ []) (part_of ts of n)
 part_of-more [] of n p t h = absurd (cc h)
 part_of-more (u ∷ ts) [] n p t h = rw (part_of-none ts n, same_Some u t h) refl
 part_of-more (u ∷ ts) (q ∷ of) n p t h = rw (part_of-more ts of n p t h) (both (q == n) (p == n) u t (part_of ts of n))
 
--- the tasks of a processor, with the next task whose processor is known
+-- a processor's tasks among the first i + 1 are those among the first i, and the task at index i if it is there
 pub part_of-next : (ts : List Task) (of : List ℕ) (n i : ℕ) (t : Task) → slice_get ts i ≡ Some t → i < length of
     → part_of ts (take (i + 1) of) n ≡ cond (get_or of i 0 == n) (part_of ts (take i of) n ++ t ∷ []) (part_of ts (take i of) n)
 part_of-next ts of n i t task inside =

@@ -87,7 +87,7 @@ pub by_reader : {A E : Type 0} (f : E → Refusal) (read : Result A E) (P : A �
 by_reader f (Ok x) P reply other h = (x, refl, h)
 by_reader f (Err e) P reply other h = absurd (other e (ap (λ r. r.status) h))
 
--- both of a file
+-- the file is within its limit and something is read of it, if the status is none of its refusals
 pub of_file : {A E : Type 0} (k limit : ℕ) (bytes : List ℕ) (f : E → Refusal) (read : Result A E) (P : A → Type 0) (reply : Reply) → reply.status ≢ 7
     → ((e : E) → reply.status ≢ status_of (f e))
     → OfFile k limit bytes (refused_as f read) P reply → (x : A) × ((length bytes ≤ limit) × (read ≡ Ok x)) × P x

@@ -25,7 +25,7 @@ room_before set before fields w h = go (nat_le 1000000 (length before)) refl h
     go true e h = absurd (cc)
     go false e h = grind (arith, nat_tests, e)
 
--- one row more is within 1,000,000
+-- with one more row that a record means there are at most 1,000,000 rows
 one_more : (set : List Task) (first : List (List ℕ)) (means : Means WorkRow WorkCause) → after_header set first ≡ Some means
     → (before : List WorkRow) (fields : List (List ℕ)) (w : WorkRow) → length before ≤ 1000000 → means before fields ≡ Ok w → length (before ++ w ∷ []) ≤ 1000000
 one_more set first means is before fields w few read = go (is_header first) is

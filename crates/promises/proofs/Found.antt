@@ -42,7 +42,7 @@ use Rattle.promises.proofs.Promised.{Keeps, Comes, holds_for, timely, only_ruled
 abbrev RepliesNext : TraceAction → List ℕ → Reply → SetWithRule → Type 0
 RepliesNext action more reply ruled = OfFile 2 (2 ^ 27) more (rows_in ruled.set.tasks more) (λ h. reply ≡ reply_by (judged action ruled h)) reply
 
--- the answer of a command that asks for one
+-- the answer of a command that asks for a trace file refuses the file, or is the reply to the rows in it
 by_trace : (action : TraceAction) (files : Files) (trace : List ℕ) (reply : Reply) (ruled : SetWithRule)
     → IsAnswer files 2 (fetch trace (2 ^ 27) (λ more. answer (λ reply. reply ≡ reply_by (output_for action ruled more)))) reply
     → RepliesNext action (bytes_of files trace) reply ruled
@@ -124,7 +124,7 @@ again action ruled more runs text old new is said legal t w = tt
 good_of : (bytes : List ℕ) (set : Set) (rule : Rule) (h : List Row) → IsAdmitted bytes set rule → Legal set.tasks rule h → is_good (verdict set.tasks rule h) ≡ true
 good_of bytes set rule h a l = let s = holds_for bytes set rule a in ap is_good (verdict-good set.tasks rule h l (none_late set.tasks rule h s.0.each s.1 l))
 
--- under the test's rule
+-- what a command on a trace promises under the test's rule
 finds : (action : TraceAction) (tasks trace : List ℕ) (files : Files) (old : List ℕ) (reply : Reply)
     → IsAnswer files 1 (fetch tasks (2 ^ 24) (λ bytes. read_or_refuse (admitted bytes)
     (λ ruled. fetch trace (2 ^ 27) (λ more. answer (λ reply. reply ≡ reply_by (output_for action ruled more)))))) reply
@@ -201,7 +201,7 @@ finds action tasks trace files old reply h = (
           | says text good is w ↦ absurd (omega (arith, ap (λ (r : Reply). r.status) w))
         ]
 
--- under a scale that the words give
+-- what `judge` promises under a scale that the words give
 finds_by : (p q : ℕ) (tasks trace : List ℕ) (files : Files) (old : List ℕ) (reply : Reply) → IsAnswer files 1 (on_trace (JudgeBy p q) tasks trace) reply
     → Unit {0} × Unit {0} × FindsBy (Virtual p q) (bytes_of files tasks) (bytes_of files trace) reply.status × Unit {0}
 finds_by p q tasks trace files old reply h = (

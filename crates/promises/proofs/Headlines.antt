@@ -26,7 +26,7 @@ gave_up_on : (action : TraceAction) (bytes more old : List ℕ) (new : Option (L
 gave_up_on (JudgeBy p q) bytes more old new = search (arith, inl, inr)
 gave_up_on action bytes more old new = search (arith, inl, inr)
 
--- a call that gave up because memory ran out
+-- a call that gave up because memory ran out keeps all that the program promises
 pub gave_up : (form : Option Form) (files : Files) (old : List ℕ) (new : Option (List ℕ)) → Promises form files old 9 new
 gave_up None files old new = (tt, tt, tt, tt)
 gave_up (Some (form.Check c)) files old new = search (arith, inl, inr)

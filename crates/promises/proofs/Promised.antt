@@ -77,7 +77,7 @@ in_range set P reply not_3 h = go (range_fault set) refl h
     go None e k = (within_from 1 1 set (omega arith) e, k)
     go (Some task) e k = absurd (not_3 (ap (λ r. r.status) k))
 
--- the test gives no rule, with status 1, or this is so of the one that it gives
+-- the test gives no rule, with status 1, or this is so of the set under the rule that it gives
 by_test : (set : Set) (Then : SetWithRule → Type 0) (reply : Reply) → reply.status ≢ 3 → By (tested set) Then reply
     → IsWithinRange set.tasks × (((test set ≡ None) × (reply.status ≡ 1)) ⊎ ((rule : Rule) × (test set ≡ Some rule) × Then (with_rule rule set)))
 by_test set Then reply not_3 h =
@@ -100,7 +100,7 @@ only_ruled bytes Then reply not_7 not_3 not_1 h =
       | inr r ↦ (set, r.0, record { says = says; range = range; test = r.1 }, r.2)
     ]
 
--- of an admitted set this is so
+-- if the set is admitted, this is so of the set under its rule
 pub next_of : (bytes : List ℕ) (Then : SetWithRule → Type 0) (reply : Reply) (set : Set) (rule : Rule) → IsAdmitted bytes set rule → Comes bytes Then reply
     → Then (with_rule rule set)
 next_of bytes Then reply set rule a h =

@@ -39,7 +39,7 @@ use Rattle.promises.proofs.Written.{says_timely}
 abbrev pub OfWork : List Task → List ℕ → (List WorkRow → Type 0) → Reply → Type 0
 OfWork set more P reply = OfFile 2 (2 ^ 24) more (work_of set more) P reply
 
--- the answer of a command that asks for one
+-- the answer of a command that asks for a work file, by that of the command that goes on with its work
 pub by_work : (files : Files) (set : List Task) (work : List ℕ) (next : List WorkRow → Command) (P : List WorkRow → Type 0) (reply : Reply)
     → ((rows : List WorkRow) → IsAnswer files 3 (next rows) reply → P rows)
     → IsAnswer files 2 (fetch work (2 ^ 24) (λ more. read_or_refuse (work_of set more) next)) reply → OfWork set (bytes_of files work) P reply
@@ -47,7 +47,7 @@ by_work files set work next P reply then h =
     held files 2 (2 ^ 24) work (λ more. read_or_refuse (work_of set more) next) (λ more. By (work_of set more) P reply) reply
     (λ more k. by_need files 3 (work_of set more) next P reply then k) h
 
--- some work is read, if the status is none of its refusals
+-- some work is read, if the status is none of the work file's refusals
 pub of_work : (set : List Task) (more : List ℕ) (P : List WorkRow → Type 0) (reply : Reply) → reply.status ≢ 7 → reply.status ≢ 4 → OfWork set more P reply
     → (rows : List WorkRow) × SaysWork more set rows × P rows
 of_work set more P reply not_7 not_4 h = of_file 2 (2 ^ 24) more WorkFile (work_in set more) P reply not_7 (λ fault. not_4) h

@@ -67,21 +67,21 @@ spreads_exactly m bytes Then reply other h = record { refused = only; refuses = 
         let refuses : fitted m set.tasks ≡ Err (NoRoom (name_in (task_at set.tasks task)) m) = rw none refl in
         inl (ap (λ r. r.status) (decided bytes (λ set. fitted m set.tasks) (Err (NoRoom (name_in (task_at set.tasks task)) m)) Then reply set says refuses h))
 
--- of an answer with status 0 this is so
+-- with status 0 first fit puts the set's tasks on processors, and this is so of the set on these
 only_spread : (m : ℕ) (bytes : List ℕ) (Then : Parted → Type 0) (reply : Reply) → Spreads m bytes Then reply → reply.status ≡ 0
     → (set : Set) × (of : List ℕ) × IsSpread m bytes set of × Then (spread set.tasks of)
 only_spread m bytes Then reply h e =
     let (set, says, k) = of_set bytes (λ set. By (fitted m set.tasks) Then reply) reply (λ z. absurd (omega arith)) (λ z. absurd (omega arith)) h in
     elim (by_fit m set Then reply k) [ inl none ↦ absurd (omega (arith, none.2)) | inr r ↦ (set, r.0, (says, r.1), r.2) ]
 
--- an answer with status 0 says this of each set that is spread
+-- if first fit puts the set's tasks on processors, this is so of the set on these
 next_spread : (m : ℕ) (bytes : List ℕ) (Then : Parted → Type 0) (reply : Reply) (set : Set) (of : List ℕ) → IsSpread m bytes set of → Spreads m bytes Then reply
     → Then (spread set.tasks of)
 next_spread m bytes Then reply set of is h =
     let fits : fitted m set.tasks ≡ Ok (spread set.tasks of) = rw is.1 refl in
     decided bytes (λ set. fitted m set.tasks) (Ok (spread set.tasks of)) Then reply set is.0 fits h
 
--- each task is on one processor, and the tasks of each are admitted
+-- first fit puts each task on one processor, and the tasks of each processor are admitted
 parts_of : (m : ℕ) (bytes : List ℕ) (set : Set) (of : List ℕ) → IsSpread m bytes set of → IsPartition set.tasks of m
 parts_of m bytes set of is = first_fit-IsPartition set.tasks m of (says_set bytes set is.0.1).tasks is.1
 
@@ -140,14 +140,14 @@ all_timely ticks parted work (n ∷ ns) [] short rows used admitted h = absurd h
 all_timely ticks parted work (n ∷ ns) (t ∷ ts) short rows used admitted h =
     (timely_on ticks parted work n t short rows used.0 (admitted n) h.0, all_timely ticks parted work ns ts short rows used.1 admitted h.1)
 
--- what is written of all processors are the lines of these texts
+-- what is written of all processors is the lines of the texts of their traces
 lines_of_texts : (parted : Parted) (ns : List ℕ) (traces : List (List Row))
     → flat_map (trace_lines parted) (zip ns traces) ≡ flat_map lines_of (zip ns (texts_of parted ns traces))
 lines_of_texts parted [] traces = refl
 lines_of_texts parted (n ∷ ns) [] = refl
 lines_of_texts parted (n ∷ ns) (t ∷ ts) = ap (λ more. trace_lines parted (n, t) ++ more) (lines_of_texts parted ns ts)
 
--- the processors that have tasks pass the test for it
+-- each processor that is listed among the used ones has tasks
 used_each : (m : ℕ) (parted : Parted) → AllByRecursion (λ n. is_used parted n ≡ true) (used m parted)
 used_each m parted =
     Each-filter_if (λ n. is_used parted n ≡ true) (is_used parted) (range_with_len 1 m)

@@ -43,24 +43,24 @@ pub record Partitions (m : ℕ) (bytes old : List ℕ) (ended : ℕ) (new : Opti
   pub writes : ended ≡ 0 → (set : Set) × (of : List ℕ)
       × IsSpread m bytes set of × IsPartition set.tasks of m
       × (new ≡ Some (old ++ partition_text m (spread set.tasks of)))
-  -- it succeeds for each set whose tasks first fit puts on processors 1 to m
+  -- `partition` succeeds for each set whose tasks first fit puts on processors 1 to m
   pub complete : (set : Set) (of : List ℕ) → IsSpread m bytes set of → Succeeds ended
 
 -- what `stretch` promises of the set in the task file
 pub record Measures (bytes old : List ℕ) (ended : ℕ) (new : Option (List ℕ)) : Type 0 where
-  -- with status 0 it has written the greatest percentage up to 1000 at which the published test admits the
-  -- set, or that there is none
+  -- with status 0 `stretch` has written the greatest percentage up to 1000 at which the published test admits
+  -- the set, or that there is none
   pub writes : ended ≡ 0 → (set : Set) × (s : Option ℕ) × SaysSet bytes set × IsWithinRange set.tasks
       × IsStretch set.tasks s × (new ≡ Some (old ++ stretch_text set.tasks s))
-  -- it succeeds for each set within range
+  -- `stretch` succeeds for each set within range
   pub complete : (set : Set) → SaysSet bytes set → IsWithinRange set.tasks → Succeeds ended
 
 -- what `accept` promises of the random sets of this many tasks that are generated from the numbers from this
 -- one on
 pub record Tabulates (number sets tasks : ℕ) (old : List ℕ) (ended : ℕ) (new : Option (List ℕ)) : Type 0 where
-  -- with status 0 it has written how many of the sets have at least each stretch of the table
+  -- with status 0 `accept` has written how many of the sets have at least each stretch of the table
   pub writes : ended ≡ 0 → new ≡ Some (old ++ table_text (accept_table number sets tasks))
-  -- it succeeds, unless memory runs out (status 9)
+  -- `accept` succeeds, unless memory runs out (status 9)
   pub complete : Succeeds ended
 
 -- the promise of each command that tests a set and schedules none: by the files, the bytes that were written

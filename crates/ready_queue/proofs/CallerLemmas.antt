@@ -92,7 +92,7 @@ item_of-rekeyed (j ∷ items) k one = go (item_of-rekeyed items k one.1) j.high 
     go ih false true e f = rw e (ih ∙ ap rekeyed (gone f))
     go ih false false e f = ih
 
--- the item of a task in the list does not come before the first
+-- the item of a task in the list does not come before the first item x
 not_earlier : (items : List Item) (x : Item) (k : ℕ) → AllByRecursion (λ j. before j x ≡ false) items → beats (item_of items k) (Some x) ≡ false
 not_earlier [] x k others = refl
 not_earlier (j ∷ items) x k others = elim (j.task.0 == k) as (λ (b : Bool). beats (cond b (Some j) (item_of items k)) (Some x) ≡ false) [ true ↦ others.0 | false ↦ not_earlier items x k others.1 ]

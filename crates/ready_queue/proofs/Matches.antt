@@ -14,7 +14,7 @@ earlier a s b t = nat_lt a b || ((a == b) && nat_lt s t)
 pub earlier-self : (a s : ℕ) → earlier a s a s ≡ false
 earlier-self a s = grind (arith, nat_tests)
 
--- if one of two comes before the other, the other does not come before it
+-- if one of two items comes before the other, the other does not come before it
 pub earlier-back : (a s b t : ℕ) → earlier a s b t ≡ true → earlier b t a s ≡ false
 earlier-back a s b t h = grind (arith, nat_tests)
 
@@ -22,7 +22,7 @@ earlier-back a s b t h = grind (arith, nat_tests)
 pub earlier-trans : (a s b t c u : ℕ) → earlier b t a s ≡ false → earlier c u b t ≡ false → earlier c u a s ≡ false
 earlier-trans a s b t c u h k = grind (arith, nat_tests)
 
--- if neither of two comes before the other, they have the same number
+-- if neither of two items comes before the other, they have the same task number
 earlier-tie : (a s b t : ℕ) → earlier a s b t ≡ false → earlier b t a s ≡ false → s ≡ t
 earlier-tie a s b t h k = grind (arith, nat_tests)
 

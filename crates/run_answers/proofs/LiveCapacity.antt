@@ -22,20 +22,20 @@ use Rattle.demand_law.proofs.Sums.{Divides, divides}
 use Rattle.task_threads.specs.LivePasses.{live_capacity}
 use Rattle.task_threads.proofs.LiveRoom.{rows-le}
 
--- the periods of the tasks that are over by n, together
+-- how many whole periods all tasks together have in n ticks
 abbrev periods_in : ℕ → List Task → ℕ
 periods_in n ts = total (λ t. n / t.period) ts
 
--- a task has a budget that counts
+-- by its level a task counts with its low or its high budget, which is at least 1
 some_budget : (level : Level) (low high : ℕ) → 1 ≤ low → 1 ≤ high → 1 ≤ by_level level low 0 + by_level level 0 high
 some_budget Low low high l h = omega (arith, l)
 some_budget High low high l h = omega (arith, h)
 
--- each period counts, since the task has a budget
+-- q is at most a * q and b * q together, if a or b is at least 1
 one_load : (a b q : ℕ) → 1 ≤ a + b → q ≤ a * q + b * q
 one_load a b q some = let m : q * 1 ≤ q * (a + b) = mul-le-mul_left q some in omega (arith, m)
 
--- the loads of the low tasks and of the high tasks are at least the periods
+-- the loads of the low tasks and of the high tasks are together at least the number of whole periods
 periods_load : (n : ℕ) (ts : List Task) → AllByRecursion IsTask ts → periods_in n ts ≤ load low_low n ts + load high_high n ts
 periods_load n [] s = omega arith
 periods_load n (t ∷ ts) s =
@@ -43,7 +43,7 @@ periods_load n (t ∷ ts) s =
     let rest = periods_load n ts s.1 in
     omega (arith, here, rest)
 
--- both are at most n where a rule holds
+-- U_LL = a/n and U_HH = c/n are at most 1 where a rule holds
 loads_hold : (n a b c : ℕ) (rule : Rule) → HoldsOver n a b c rule → (a ≤ n) × (c ≤ n)
 loads_hold n a b c Plain h = (omega (arith, h), omega (arith, h))
 loads_hold n a b c (Virtual p q) h =
@@ -69,7 +69,7 @@ shares n p (t ∷ ts) d =
     let rest = shares n p ts d.1 in
     omega (arith, here, rest)
 
--- at most two whole periods a tick
+-- all tasks together have at most two whole periods a tick, if a rule holds for the set
 few_periods : (set : List Task) (rule : Rule) (n : ℕ) → AllByRecursion IsTask set → Holds set rule → periods_in n set ≤ 2 * n
 few_periods set rule n tasks holds =
     let loads = loads_hold (product set) (load_ll set) _ (load_hh set) rule holds in
@@ -80,7 +80,7 @@ few_periods set rule n tasks holds =
     let more : product set * periods_in n set ≤ product set * (2 * n) = omega (arith, share, scaled) in
     le_of_mul-le-mul_left more (product-pos set tasks)
 
--- one more of each task
+-- one release more for each task adds the number of tasks
 one_more : (n : ℕ) (ts : List Task) → total (λ t. n / t.period + 1) ts ≡ periods_in n ts + length ts
 one_more n [] = omega arith
 one_more n (t ∷ ts) = let rest = one_more n ts in omega (arith, rest)

@@ -15,7 +15,7 @@ use Rattle.mc_model.proofs.Ticks.{ticks-append}
 use Rattle.mode_core.specs.Shape.{IsSound}
 use Rattle.task_threads.specs.LiveLeft.{HasLiveTrace}
 
--- a row that ends with a tick is one, whatever stands before it
+-- a row that is a tick adds one tick to whatever rows stand before it
 is_tick : (row : Row) (g h : List Row) → ends_in_tick (row ∷ g) ≡ true → (ends_in_tick (row ∷ h) ≡ true) × (ticks (row ∷ h) ≡ ticks h + 1)
 is_tick (Release j kept) g h last = absurd (cc)
 is_tick row g h last = (last, omega arith)
@@ -59,7 +59,7 @@ live_part s n i d live inside tick before =
     let same : reverse (take (i + 1) (reverse s.rows)) ≡ live.h = same_part (reverse (drop (i + 1) (reverse s.rows))) live.later (reverse (take (i + 1) (reverse s.rows))) live.h whole (count ∙ (before ∙ sym live.live.ticks)) last live.live.last in
     subst (λ h. LiveTrace s.set s.rule n h) (sym same) live.live
 
--- in the code's words: the row at this index is a tick, and it is the last tick that is left
+-- the rows up to an index are the live trace, if the row there is the last tick that is left
 pub live_front : (s : State) (n i left : ℕ) (rows part : List Row) (d : Row) → HasLiveTrace s n → rows ≡ reverse s.rows → part ≡ take (i + 1) rows → i < length rows
     → ((j : JobId) × (how : How) × (get_or rows i d ≡ Tick j how)) ⊎ (get_or rows i d ≡ Idle) → 1 ≤ left → left - 1 ≡ 0 → ticks (reverse (take i rows)) + left ≡ n
     → LiveTrace s.set s.rule n (reverse part)
@@ -86,7 +86,7 @@ some_place s n i left rows live is end some sum =
     let whole : ticks (reverse (take i rows)) ≡ ticks s.rows = ap (λ xs. ticks (reverse xs)) (take_all i rows end ∙ is) ∙ ap ticks (reverse-reverse s.rows) in
     absurd (omega (arith, all, count, whole, some, sum))
 
--- of the core's set and rule, which are those of another state
+-- a live trace of a core's set and rule is one of the set and the rule that an equal state has
 pub live_of : (s t : State) (set : List Task) (rule : Rule) (n : ℕ) (h : List Row) → s ≡ t → t.set ≡ set → t.rule ≡ rule → LiveTrace s.set s.rule n h → LiveTrace set rule n h
 live_of s t set rule n h same of_set of_rule live =
     subst (λ r. LiveTrace set r n h) of_rule (subst (λ x. LiveTrace x t.rule n h) of_set (subst (λ (u : State). LiveTrace u.set u.rule n h) same live))

@@ -20,7 +20,7 @@ is_soaked number tasks ticks set rule work h s w t f = record {
   follows = subst (λ x. Follows x rule (generated_work (words_of number) tasks ticks) ticks h) s (subst (λ x. Follows set rule x ticks h) w f);
 }
 
--- the text, piece by piece, with the rows as they stand in the code
+-- what `soak` writes, piece by piece, with the rows as they stand in the code
 pub soak_text-pieces : (number tasks ticks : ℕ) (set : List Task) (rule : Rule) (h rows : List Row) (front text : List ℕ) → set ≡ workload_set number tasks → rows ≡ h → front ≡ call_line number tasks ticks ++ rule_line rule
     → text ≡ front ++ (summary_text set rows ++ verdict_line set (verdict set rule rows)) → text ≡ soak_text number tasks ticks (workload_set number tasks) rule h
 unfolding soak_text

@@ -62,7 +62,7 @@ name_of_task set k is = elim (k == 0) as (λ b. length (name_in (if b then None 
 line_length : (event tick len task job how : List ℕ) → length (line_of event tick len task job how) ≡ length event + length tick + length len + length task + length job + length how + 6
 line_length event tick len task job how = simp length-append (omega arith)
 
--- the words of a release and of a tick
+-- the word for whether a release was kept has at most 7 bytes
 kept_length : (kept : Bool) → length (kept_word kept) ≤ 7
 kept_length true = omega arith
 kept_length false = omega arith

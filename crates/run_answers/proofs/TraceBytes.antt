@@ -60,6 +60,6 @@ trace_le set rule h is legal few =
     let text = text_le set (reverse h) is.each counts (omega (arith, few, rows)) in
     omega (arith, same, rows, text)
 
--- the text of a reply that is such a text has no more bytes
+-- the text of a reply with a legal trace has at most 31 bytes, and 66 for each row, less 5 for each tick
 pub trace_text_le : (set : List Task) (rule : Rule) (h : List Row) (reply : Reply) → AreTasks set → Legal set rule h → length h < 10000000 → reply ≡ traced set h → length reply.text + 5 * ticks h ≤ 31 + 66 * length h
 trace_text_le set rule h reply is legal few same = subst (λ (r : Reply). length r.text + 5 * ticks h ≤ 31 + 66 * length h) (sym same) (trace_le set rule h is legal few)

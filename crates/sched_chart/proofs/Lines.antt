@@ -18,7 +18,7 @@ name_fits [] i d inside = absurd (omega arith)
 name_fits (t ∷ ts) zero d inside = omega arith
 name_fits (t ∷ ts) (suc i) d inside = omega (arith, name_fits ts i d (omega arith))
 
--- the width with one more task
+-- the width of names with one more task
 pub name_width-more : (ts : List Task) (t : Task) → name_width (ts ++ t ∷ []) ≡ max (name_width ts) (length t.name)
 name_width-more [] t = omega arith
 name_width-more (u ∷ us) t = omega (arith, name_width-more us t)

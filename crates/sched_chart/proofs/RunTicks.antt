@@ -27,7 +27,7 @@ reversed runs = ticks-reverse (expand runs)
 pub whole : (runs : List Run) (i t : ℕ) → length runs ≤ i → ticks (reverse (expand (take i runs))) ≡ t → t ≡ ticks (reverse (expand runs))
 whole runs i t past was = sym was ∙ ap (λ (rs : List Run). ticks (reverse (expand rs))) (take_all i runs past)
 
--- the first runs have no more ticks than all
+-- the first runs have no more ticks than all runs
 pub first : (runs : List Run) (i : ℕ) → ticks (reverse (expand (take i runs))) ≤ ticks (reverse (expand runs))
 first runs i =
     let parts : ticks (expand runs) ≡ ticks (expand (take i runs)) + ticks (expand (drop i runs)) =

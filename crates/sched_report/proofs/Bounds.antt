@@ -49,7 +49,7 @@ releases-le [] k = omega arith
 releases-le (Release j kept ∷ g) k = omega (arith, releases-le g k, one-le (j.task.0 == k))
 releases-le (row ∷ g) k = omega (arith, releases-le g k)
 
--- a test that only such rows pass counts at most as many rows
+-- a test that only rows alone in their runs pass counts at most as many rows as are alone in their runs
 few_events : (p : Row → Bool) → ((row : Row) → one (p row) ≤ event row) → (h : List Row) → how_many p h ≤ events h
 few_events p le [] = omega arith
 few_events p le (row ∷ g) = omega (arith, le row, few_events p le g, how_many-cons p row g)
@@ -126,7 +126,7 @@ ticks-idle (Release j kept ∷ g) = ticks-idle g
 ticks-idle (Tick j how ∷ g) = omega (arith, ticks-idle g, how_many-cons is_tick (Tick j how) g)
 ticks-idle (Idle ∷ g) = omega (arith, ticks-idle g, how_many-cons is_idle Idle g)
 
--- the done and the stopped jobs of one task
+-- at most 2,000,000 ticks of one task have a given outcome other than More
 pub few_ended : (h : List Row) (k : ℕ) (how : How) → same_how More how ≡ false → AreFew h → how_many (is_how_of k how) h ≤ 2000000
 few_ended h k how other few = omega (arith, few.events, few_events (is_how_of k how) (how-le k how other) h)
 
@@ -152,7 +152,7 @@ all_small tasks h s is few =
     subst (All IsSmall) (sym is)
     (All-from_recursion IsSmall (numbered (tally_of tasks h) 1 tasks) (each_numbered IsSmall (tally_of tasks h) 1 tasks (λ m. small tasks h m few)))
 
--- the tally of a trace that is few enough can count on
+-- the tally of rows that are few enough has capacity for one more run
 pub has_room : (tasks : List Task) (h : List Row) (s : Tally) → Tallies tasks h s → AreFew h → HasRoom s
 has_room tasks h s t few = record {
   tasks = all_small tasks h s.tasks.items t.tasks few;

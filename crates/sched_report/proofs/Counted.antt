@@ -54,7 +54,7 @@ release-mine set rule j kept g k l o =
     (omega (arith, ap one o)) (omega (arith, kept-release j kept g k, kept_is)) (omega (arith, how_many-cons (is_drop_of k) (Release j kept) g, dropped_is))
     (discarded-release set rule j kept g k l) refl refl refl (ap greatest (responses-release set rule j kept g k l))
 
--- what a release of another task adds: nothing
+-- a release of another task adds nothing to the tally of a task
 pub release-other : (set : List Task) (rule : Rule) (j : JobId) (kept : Bool) (g : List Row) (k : ℕ) → Legal set rule (Release j kept ∷ g) → (j.task.0 == k) ≡ false
     → tally_of set (Release j kept ∷ g) k ≡ tally_of set g k
 release-other set rule j kept g k l o =
@@ -63,7 +63,7 @@ release-other set rule j kept g k l o =
     (omega (arith, ap one o)) (omega (arith, kept-release j kept g k, none kept)) (omega (arith, how_many-cons (is_drop_of k) (Release j kept) g, none (not kept)))
     (discarded-release set rule j kept g k l) refl refl refl (ap greatest (responses-release set rule j kept g k l))
 
--- the ticks of a task after one more, and those with this outcome
+-- the ticks of a task after one more tick
 ticks-tick : (j : JobId) (how : How) (g : List Row) (k : ℕ) → how_many (is_tick_of k) (Tick j how ∷ g) ≡ one (j.task.0 == k) + how_many (is_tick_of k) g
 ticks-tick j how g k = how_many-cons (is_tick_of k) (Tick j how) g
 
@@ -73,7 +73,7 @@ ended-mine j how kind g k o = let e = ended-tick j how kind g k in let f : one (
 ended-other : (j : JobId) (how kind : How) (g : List Row) (k : ℕ) → (j.task.0 == k) ≡ false → how_many (is_how_of k kind) (Tick j how ∷ g) ≡ how_many (is_how_of k kind) g
 ended-other j how kind g k o = let e = ended-tick j how kind g k in let f : one ((j.task.0 == k) && same_how how kind) ≡ 0 = rw o refl in omega (arith, e, f)
 
--- what a tick of the task adds if its job has more to do
+-- what a tick of the task adds to its tally if the job has more to do
 pub more-mine : (set : List Task) (j : JobId) (g : List Row) (k : ℕ) → (j.task.0 == k) ≡ true → tally_of set (Tick j More ∷ g) k ≡ with_tick More (tally_of set g k)
 more-mine set j g k o =
     tally_eq (tally_of set (Tick j More ∷ g) k) (with_tick More (tally_of set g k)) refl refl refl refl (discarded-tick set j More g k refl)
@@ -86,7 +86,7 @@ end-mine set rule j how g k e v l o =
     tally_eq (tally_of set (Tick j how ∷ g) k) (with_response (ticks g + 1 - release_of g j) (with_tick how (tally_of set g k))) refl refl refl refl (discarded-tick set j how g k v)
     (ended-mine j how Done g k o) (ended-mine j how Stop g k o) (omega (arith, ticks-tick j how g k, ap one o)) (responses-end set rule j how g k e o l)
 
--- what a tick of another task adds if it is not an overrun: nothing
+-- a tick of another task that is not an overrun adds nothing to the tally of a task
 pub tick-other : (set : List Task) (j : JobId) (how : How) (g : List Row) (k : ℕ) → is_over how ≡ false → (j.task.0 == k) ≡ false → tally_of set (Tick j how ∷ g) k ≡ tally_of set g k
 tick-other set j how g k v o =
     tally_eq (tally_of set (Tick j how ∷ g) k) (tally_of set g k) refl refl refl refl (discarded-tick set j how g k v)
@@ -157,7 +157,7 @@ pub more_run-mine : (set : List Task) (j : JobId) (n : ℕ) (g : List Row) (k : 
 more_run-mine set j zero g k o = tally_eq (tally_of set g k) (with_more 0 (tally_of set g k)) refl refl refl refl refl refl refl (omega arith) refl
 more_run-mine set j (suc n) g k o = more-mine set j (replicate n (Tick j More) ++ g) k o ∙ (ap (with_tick More) (more_run-mine set j n g k o) ∙ more_next n (tally_of set g k))
 
--- n ticks of another task add nothing
+-- n ticks of another task after which its job has more to do add nothing to the tally of a task
 pub more_run-other : (set : List Task) (j : JobId) (n : ℕ) (g : List Row) (k : ℕ) → (j.task.0 == k) ≡ false → tally_of set (replicate n (Tick j More) ++ g) k ≡ tally_of set g k
 more_run-other set j zero g k o = refl
 more_run-other set j (suc n) g k o = tick-other set j More (replicate n (Tick j More) ++ g) k refl o ∙ more_run-other set j n g k o

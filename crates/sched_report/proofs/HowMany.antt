@@ -40,7 +40,7 @@ pub how_many-le : {X : Type 0} (p : X → Bool) → (xs : List X) → how_many p
 how_many-le p [] = omega arith
 how_many-le p (x ∷ xs) = omega (arith, how_many-le p xs, one-le (p x), how_many-cons p x xs)
 
--- no more elements pass of those that another test keeps
+-- of the elements that another test keeps no more pass than of all elements
 pub how_many-kept : {X : Type 0} (p q : X → Bool) → (xs : List X) → how_many p (filter q xs) ≤ how_many p xs
 how_many-kept p q [] = omega arith
 how_many-kept p q (x ∷ xs) = elim (q x) as (λ b. how_many p (cond b (x ∷ filter q xs) (filter q xs)) ≤ how_many p (x ∷ xs)) [

@@ -79,7 +79,7 @@ small_counts t c is s = record {
   stopped = let e = ap (λ (x : JobCounts). x.stopped) is in omega (arith, e, s.stopped);
 }
 
--- a sum with small counts grows by at most as much
+-- a sum grows by at most 2^24 when counts of at most 2^24 are added
 pub sum_grows : (i : ℕ) (a b c : mine.Counts) → counts_in c ≡ plus (counts_in a) (counts_in b) → AreAtMost (i * 2 ^ 24) a → AreAtMost (2 ^ 24) b → AreAtMost ((i + 1) * 2 ^ 24) c
 sum_grows i a b c is s t = record {
   released = let e = ap (λ (x : JobCounts). x.released) is in omega (arith, e, s.released, t.released);

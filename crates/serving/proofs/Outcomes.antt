@@ -9,15 +9,15 @@ use Rattle.replies.specs.Refusal.{ReadFault, Longer, refuse}
 use Rattle.serving.specs.Command.{Command, answer, fetch}
 use Rattle.serving.specs.Outcome.{HasBytes, IsReply, Exposes, IsAnswer}
 
--- bytes past a limit
+-- of bytes past a limit, the statement for longer bytes holds
 past : (P Q : Type 0) (limit : ℕ) (bytes : List ℕ) → limit < length bytes → P → MatchBool (nat_lt limit (length bytes)) P Q
 past P Q limit bytes long h = subst (λ b. MatchBool b P Q) (sym (le-leb _ _ long)) h
 
--- bytes within a limit
+-- of bytes within a limit, the statement for bytes that are not longer holds
 within : (P Q : Type 0) (limit : ℕ) (bytes : List ℕ) → length bytes ≤ limit → Q → MatchBool (nat_lt limit (length bytes)) P Q
 within P Q limit bytes short h = subst (λ b. MatchBool b P Q) (sym (lt-leb _ _ (omega arith))) h
 
--- where the file is longer than its limit, that is the answer
+-- of a file that is longer than its limit, the statement for longer bytes holds
 long_answer : (P Q : List ℕ → Type 0) (limit : ℕ) (file : Option (List ℕ)) → IsSomeAnd file (λ bytes. limit < length bytes) → ((bytes : List ℕ) → P bytes)
     → IsSomeAnd file (λ bytes. MatchBool (nat_lt limit (length bytes)) (P bytes) (Q bytes))
 long_answer P Q limit None long h = absurd long

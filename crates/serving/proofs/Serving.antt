@@ -10,7 +10,7 @@ use Rattle.serving.specs.Command.{Command, answer, fetch, read_or_refuse}
 use Rattle.serving.specs.Outcome.{HasBytes, IsOwnReply, AskedInOrder}
 use Rattle.serving.specs.Serves.{Serves, IsOwn, Prepares}
 
--- no file was asked for
+-- if no fetch was added, no file was asked for out of order
 asked-none : (command : Command) (before after : ShelfState) → after.fetches ≡ before.fetches → AskedInOrder command before after
 asked-none (answer Is) before after same = same
 asked-none (fetch name limit next) before after same = inl (inl same)

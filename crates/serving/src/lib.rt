@@ -11,6 +11,3 @@ pub use delivery::deliver;
 pub use fetching::fetch;
 pub use file_name::FileName;
 pub use within::{TaskCount, Within};
-
-#[cfg(test)]
-mod tests;

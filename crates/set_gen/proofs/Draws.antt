@@ -1,4 +1,4 @@
--- The generated tasks, with one more.
+-- How the generated tasks, and the words that are left, change with one more task.
 use Rattle.std.proofs.Common.{◌≡◌, ℕ, suc, ◌+◌, ◌-◌, ◌/◌, List, [], ◌∷◌, ◌++◌, map, ap, sym, ◌∙◌, arith}
 use Rattle.std.specs.List.{range_with_len}
 use Rattle.std.specs.Int.{div_ceil}
@@ -24,7 +24,7 @@ low_tasks n = n / 2
 pub halves : (n : ℕ) → div_ceil n 2 ≡ high_tasks n
 halves n = grind arith
 
--- one more element, generated from the words that those before it leave
+-- a generated list stays one with one more element, made from the words that the elements before it leave
 pub generated_more : {X : Type 0} (make : Lcg → ℕ → X) (words left : Lcg) (i : ℕ) (xs more : List X) (x : X)
     → xs ≡ map (λ k. make (words_for words k) k) (range_with_len 1 i) → left ≡ after (words_before i) words → x ≡ make left (i + 1) → more ≡ xs ++ x ∷ []
     → more ≡ map (λ k. make (words_for words k) k) (range_with_len 1 (i + 1))

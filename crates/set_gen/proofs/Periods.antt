@@ -25,7 +25,7 @@ at [] i h lt = absurd (omega arith)
 at (p ∷ ps) zero h lt = is_period p (and_parts (test p) (list_all test ps) h).0
 at (p ∷ ps) (suc i) h lt = at ps i (and_parts (test p) (list_all test ps) h).1 (omega arith)
 
--- each word picks such a period
+-- each word picks a period of 200 to 10000 ticks that divides 20000
 pub period-IsPeriod : (w : ℕ) → IsPeriod (period w)
 unfolding period
 period-IsPeriod w = at periods (w % 12) (unfold periods in refl) (let twelve : length periods ≡ 12 = unfold periods in refl in omega arith)

@@ -26,7 +26,7 @@ kept : (r k : ℕ) (b : Bool) → map (release r) (cond b (k ∷ []) []) ≡ con
 kept r k true = refl
 kept r k false = refl
 
--- the releases at boundary r of one more task
+-- the releases at boundary r of the first i + 1 tasks are those of the first i, and then that of task number i + 1
 pub released_of-more : (gaps : List ℕ) (r i : ℕ) → released_of gaps r (i + 1) ≡ released_of gaps r i ++ release_of (slice_index gaps i) r (i + 1)
 unfolding is_released
 released_of-more gaps r i =
@@ -37,7 +37,7 @@ released_of-more gaps r i =
     ∙ map-append one (filter (is_released gaps r) (range_with_len 1 i)) (filter (is_released gaps r) ((i + 1) ∷ []))
     ∙ ap (λ l. released_of gaps r i ++ l) (kept r (i + 1) (r % slice_index gaps ((i + 1) - 1) == 0) ∙ ap (λ k. release_of (slice_index gaps k) r (i + 1)) place)
 
--- jobs of more releases, added with the words that those before left
+-- the jobs of some releases, and of more releases with the words that are then left, are the jobs of all
 pub rows-more : (set : List Task) (words : Lcg) (start rows more : List WorkRow) (left : Lcg) (xs ys : List Arrival)
     → rows ≡ start ++ job_rows words set xs → left ≡ after (length xs) words → more ≡ rows ++ job_rows left set ys → more ≡ start ++ job_rows words set (xs ++ ys)
 rows-more set words start rows more left xs ys first taken then =
@@ -108,7 +108,7 @@ before_more P old new i v within same before here k less =
       | inr t ↦ rw (same, get_or-set_other old i k v 0 (t.1)) (before k (let other : k ≢ i = t.1 in omega arith))
     ]
 
--- what holds of the values after index i stays true when that value changes
+-- what holds of the values after index i stays true when the value at i changes
 pub after_more : (P : ℕ → ℕ → Type 0) (old new : List ℕ) (i v n : ℕ) → new ≡ slice_set old i v → ((k : ℕ) → i ≤ k → k < n → P k (slice_index old k)) → (k : ℕ) → i + 1 ≤ k → k < n → P k (slice_index new k)
 after_more P old new i v n same later_part k first last =
     let other : k ≢ i = λ e. (omega arith) in

@@ -28,7 +28,7 @@ their_jobs : generated_work (words_of 1) 2 300 ≡ job 1 0 5 ∷ job 2 0 257 ∷
 unfolding word rest periods period is_odd task_name high_task low_task generated_task words_taken generated_gap generated_set generated_gaps is_released need_in job_row generated_work
 their_jobs = refl
 
--- the last of these jobs needs its high budget
+-- the last job of this workload needs its high budget
 a_rare_need : generated_work (words_of 2) 3 430
     ≡ job 1 0 12 ∷ job 2 0 712 ∷ job 3 0 22 ∷ job 1 204 17 ∷ job 3 213 17 ∷ job 1 408 8 ∷ job 3 426 75 ∷ []
 unfolding word rest periods period is_odd task_name high_task low_task generated_task words_taken generated_gap generated_set generated_gaps is_released need_in job_row generated_work

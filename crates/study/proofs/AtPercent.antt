@@ -91,7 +91,7 @@ load_hh-grows r s ts h = rw (product-at r ts, product-at s ts) (load_high-grows 
 over : {p q a b : ℕ} (x l : ℕ) → q ≡ p → b ≡ a → x * p ≡ a * l → x * q ≡ b * l
 over x l same equal h = ap (λ z. x * z) same ∙ h ∙ ap (λ z. z * l) (sym equal)
 
--- with its numerator of U_HH the loads belong to the set at s percent
+-- the loads with the numerator of U_HH at s percent belong to the set at s percent
 pub at_percent-BelongTo : (set : List Task) (loads : Loads) (s c : ℕ) → BelongTo set loads → c ≡ load high_high loads.lcm (at_percent set s)
     → BelongTo (at_percent set s) (with_high loads c)
 at_percent-BelongTo set loads s c b is =

@@ -10,7 +10,7 @@ use Rattle.study.specs.Shares.{pieces_of, sets_at, piece_counts, added}
 use Rattle.study.specs.Levels.{IsReached}
 use Rattle.study.proofs.Counts.{map-range-same, parts-add}
 
--- one more set, with how many of the percentages it reaches
+-- a list of how many percentages each set reaches stays one with the number for the next set
 pub reached-more : (f : ℕ → Option ℕ) (i k : ℕ) (ks more : List ℕ) → AllZip (λ j m. IsReached (f j) m) (range_with_len 0 i) ks → IsReached (f i) k → more ≡ ks ++ k ∷ []
     → AllZip (λ j m. IsReached (f j) m) (range_with_len 0 (i + 1)) more
 reached-more f i k ks more so_far here is =
@@ -19,7 +19,7 @@ reached-more f i k ks more so_far here is =
     (subst (λ (is : List ℕ). AllZip (λ j m. IsReached (f j) m) is (ks ++ k ∷ [])) (run-append 0 i 1)
     (AllZip-push (λ j m. IsReached (f j) m) (range_with_len 0 i) ks (0 + i) k so_far at))
 
--- no sets count nothing
+-- the table of no sets has a count of 0 for each percentage
 pub table-none : (number n : ℕ) → 0 ∷ 0 ∷ 0 ∷ 0 ∷ 0 ∷ 0 ∷ 0 ∷ 0 ∷ 0 ∷ 0 ∷ 0 ∷ [] ≡ accept_table number 0 n
 unfolding accept_table percentages accepted
 table-none number n = refl
@@ -50,7 +50,7 @@ tables-add number first second n =
     map-range-same (λ k. accepted number first n (100 + 10 * k) + accepted (number + first) second n (100 + 10 * k)) (λ k. accepted number (first + second) n (100 + 10 * k)) 0 11
     (λ k lt. sym (parts-add number first second n (100 + 10 * k)))
 
--- the counts of the pieces before a number, added to those of that piece
+-- the counts of the pieces before one piece, added to its own, are the counts of the pieces up to it
 pub pieces-more : (number sets n index : ℕ) (before piece after : List ℕ) → index < pieces_of sets → before ≡ accept_table number (min sets (128 * index)) n
     → piece ≡ piece_counts number sets n index → after ≡ added before piece → after ≡ accept_table number (min sets (128 * (index + 1))) n
 pieces-more number sets n index before piece after lt b p is =

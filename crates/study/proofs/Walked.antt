@@ -32,7 +32,7 @@ made-here words left n i lt is =
     slice_get-map-range (λ j. generated_task (words_for words j) n j) 1 n i lt ∙ ap (λ j. Some (generated_task (words_for words j) n j)) place
     ∙ ap (λ j. Some (generated_task (after (words_before j) words) n (i + 1))) before ∙ ap (λ w. Some (generated_task w n (i + 1))) (sym is)
 
--- a sum with the task at an index
+-- the sum so far with the task at an index, and the load of the tasks after it, are the load of all
 pub load-step : (budget : Task → ℕ) (n : ℕ) (ts : List Task) (i : ℕ) (t : Task) (done all new b p : ℕ) → slice_get ts i ≡ Some t → done + load budget n (drop i ts) ≡ all
     → budget t ≡ b → p ≡ t.period → new ≡ done + b * (n / p) → new + load budget n (drop (i + 1) ts) ≡ all
 load-step budget n ts i t done all new b p at inv asks period is =
@@ -71,7 +71,7 @@ high-budget s t d task of is small least most =
     ap (λ x. by_level x 0 (by_level x t.high (percent t.low t.high s))) level ∙ percent-plain t.low t.high s order (omega (arith, of.high, small)) least most
     ∙ ap (λ h. h * s / 100) (sym of.high)
 
--- the high tasks with one more
+-- one more high task adds what it asks for to what the high tasks ask for
 pub asks-more : (s : ℕ) (old new : List High) (h : High) → new ≡ old ++ h ∷ [] → total (asks_at s) new ≡ total (asks_at s) old + asks_at s h
 asks-more s old new h is =
     omega (arith, ap (total (asks_at s)) is, total-append (asks_at s) old (h ∷ []))

@@ -21,7 +21,7 @@ pub record IsPieceOf (number sets n : ℕ) (piece : Piece) : Type 0 where
   pub index : piece.index < pieces_of sets
   pub counts : piece.counts ≡ piece_counts number sets n piece.index
 
--- threads have taken such pieces; which pieces, and whether one was taken twice, is left open
+-- threads have taken pieces of these sets; which pieces, and whether one was taken twice, is left open
 abbrev pub ArePiecesOf : ℕ → ℕ → ℕ → List Piece → Type 0
 ArePiecesOf number sets n pieces = All (IsPieceOf number sets n) pieces
 

@@ -4,7 +4,7 @@ use Rattle.std.proofs.lemmas.List.{drop_all, append_assoc, append-nil}
 use Rattle.study.specs.Acceptance.{percentages, accept_table}
 use Rattle.study_answers.specs.Accept.{lines_from}
 
--- the next line is written
+-- after the line of a count, the lines of the counts after it are left to write
 pub lines-more : (counts : List ℕ) (i s count : ℕ) (text line more all : List ℕ) → drop i counts ≡ count ∷ drop (i + 1) counts
     → line ≡ decimal s ++ (codes " " ++ (decimal count ++ codes "\n")) → more ≡ text ++ line → text ++ lines_from s (drop i counts) ≡ all
     → more ++ lines_from (s + 10) (drop (i + 1) counts) ≡ all
@@ -13,7 +13,7 @@ lines-more counts i s count text line more all here is longer inv =
     ∙ append_assoc text (decimal s ++ (codes " " ++ (decimal count ++ codes "\n"))) (lines_from (s + 10) (drop (i + 1) counts))
     ∙ ap (λ l. text ++ lines_from s l) (sym here) ∙ inv
 
--- all lines are written
+-- after the line of the last count all lines are written
 pub lines-end : (counts : List ℕ) (i s : ℕ) (text all : List ℕ) → length counts ≤ i → text ++ lines_from s (drop i counts) ≡ all → text ≡ all
 lines-end counts i s text all past inv = sym (append-nil text) ∙ ap (λ l. text ++ lines_from s l) (sym (drop_all i counts past)) ∙ inv
 

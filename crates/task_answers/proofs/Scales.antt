@@ -16,7 +16,7 @@ line-unheld tasks scale x is fails = rw is (by (scale_holds tasks x) refl)
     by true found = absurd (fails ((scale_holds-Decides tasks x).0 found))
     by false found = refl
 
--- no line of one that holds, nor where there is none
+-- there is no line for a scale that holds, nor where there is no scale
 pub line-held : (tasks : List Task) (scale : Option Scale) → ((x : Scale) → scale ≡ Some x → Holds tasks (Virtual x.p x.q)) → [] ≡ unheld_text tasks scale
 line-held tasks None holds = refl
 line-held tasks (Some x) holds = rw ((scale_holds-Decides tasks x).1 (holds x refl)) refl

@@ -17,7 +17,7 @@ use Rattle.task_file.specs.Refusals.{◌>>=◌, or_refuse}
 use Rattle.task_file.specs.ScaleArray.{numbers_of, lowest_scale, scale_of, scale_in}
 use Rattle.task_file.specs.Printed.{scale_array}
 
--- a scale of two such numbers, put in lowest terms, is valid
+-- a scale p/q with 1 ≤ p ≤ q < 2^32, put in lowest terms, is valid
 pub lowest-IsScale : (p q : ℕ) → 1 ≤ p → p ≤ q → q < 2 ^ 32 → IsScale (lowest_scale p q)
 lowest-IsScale p q some order small =
     let g : ℕ = gcd p q in

@@ -27,7 +27,7 @@ common_members t =
     (member (key_bytes key.Name) (string t.name)
     (member (key_bytes key.Period) (integer (pos t.period)) no_members)))
 
--- members, in a high task after its high budget
+-- the members, after the high budget if the task is high
 abbrev pub after_high : Level → ℕ → Members → Members
 after_high Low high ms = ms
 after_high High high ms = member (key_bytes key.High) (integer (pos high)) ms
@@ -49,7 +49,7 @@ abbrev pub tasks_and_version : List Task → Members
 tasks_and_version ts = member (key_bytes key.Task) (array (items_of (task_tables ts)))
     (member (key_bytes key.Version) (integer (pos 2)) no_members)
 
--- members after the scale, if there is one
+-- the members, after the scale if there is one
 abbrev pub after_scale : Option Scale → Members → Members
 after_scale None ms = ms
 after_scale (Some x) ms = member (key_bytes key.Scale) (scale_array x) ms

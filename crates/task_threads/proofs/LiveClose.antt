@@ -18,7 +18,7 @@ use Rattle.task_threads.specs.LiveLeft.{IsLiveFloor}
 use Rattle.task_threads.proofs.InOrder.{first_of}
 use Rattle.task_threads.proofs.LiveLaw.{live_rows}
 
--- a pass that made no call
+-- the jobs of a pass that made no call end by their needs
 pub fresh_live : (e : Executive) (k : ℕ) (p : TaskPass) → IsFresh e k p → IsLivePass e k p
 fresh_live e k p fresh = ((fresh.of, fresh.task), subst (AreByNeed (live_need (task_at (floor_of e).core.set k)) None) (sym fresh.mine) tt)
 

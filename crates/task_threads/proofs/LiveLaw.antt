@@ -100,7 +100,7 @@ rows_by_need tasks f (e ∷ es) lasts same free legal knows calls h =
     (ends_then tasks f k e.call lasts free legal.0.may knows by h)
 
 -- if the calls of each task end its jobs by their needs, a history from an opening floor without a plan
--- leaves such rows
+-- leaves rows that end jobs by their needs
 pub live_rows : (o : FloorState) (log : List Entry) → o.plan ≡ Free → o.core.rows ≡ [] → o.core.out ≡ None → IsLegal o log
     → ((k : ℕ) → IsIn o.core.set k → AreByNeed (live_need (task_at o.core.set k)) None (calls_of k log)) → EndByNeed o.core.set (after o log).core.rows
 live_rows o log free rows out legal calls =

@@ -27,7 +27,7 @@ use Rattle.mc_model.specs.LiveTrace.{live_need, EndByNeed, LiveTrace}
 use Rattle.task_threads.specs.LiveLeft.{IsLiveFloor, Moves, HasLiveTrace}
 use Rattle.task_threads.proofs.LiveLaw.{settled_ends, claimed_by_plan}
 
--- a release, taken or not
+-- a release, taken or not, moves the floor by no tick
 pub release_moves : (f : FloorState) (k : ℕ) → IsLiveFloor f → Moves f (after_release f k) 0
 release_moves f k h = go (way f k Release)
   where
@@ -65,7 +65,7 @@ grants_left f k j h chosen task room =
       state = ap (λ o. floor_unless o (record f { core = Events.after_grant f.core k }) f) plan ∙ (ap (λ o. let g : FloorState = record f { core = Events.unless o (record f.core { out = chosen_now f.core }) f.core } in g) core ∙ ap (λ (o : Option JobId). let g : FloorState = record f { core = record f.core { out = o } } in g) chosen);
     }
 
--- the outcome of that grant moves the floor by one tick
+-- the outcome of a granted tick moves the floor by one tick
 pub outcome_moves : (f : FloorState) (j : JobId) (done : Bool) → IsLiveFloor f → done ≡ (used f.core.rows j + 1 == live_need (task_at f.core.set j.task.0) j.count)
     → Moves f (after_outcome (record f { core = record f.core { out = Some j } }) j done) 1
 outcome_moves f j done h by =

@@ -25,7 +25,7 @@ call_live set k c a p q h calls by =
 pub pass_live : (e : Executive) (k : ℕ) (c : Call) (a : Answer) (p q : TaskPass) → IsPassOf e q → Calls c a (of_pass p) (of_pass q) → ((last : Option Granted) → IsByNeed (live_need (task_at (floor_of e).core.set k)) last c) → IsLivePass e k p → IsLivePass e k q
 pass_live e k c a p q of calls by h = ((of, calls.task ∙ h.0.1), call_live (floor_of e).core.set k c a (of_pass p) (of_pass q) h.1 calls (by _))
 
--- a tick that was taken and ended by its job's need leaves such a pass
+-- a tick that was taken and ended by its job's need leaves a pass whose jobs end by their needs
 pub ticked_live : (set : List Task) (k : ℕ) (g : Granted) (done : Bool) (how : How) (p q r : PassState) → EndsByNeed set k p → Calls Take (Taken (Ok g)) p q → Calls (Outcome done) (Settled (Ok how)) q r
     → done ≡ (g.before + 1 == live_need (task_at set k) g.job.count) → EndsByNeed set k r
 ticked_live set k g done how p q r h takes ends by =

@@ -95,7 +95,7 @@ has_room s n sound out places more =
     let no_tick : tick_out s.out ≡ 0 = ap tick_out out in
     ne_eqb (places_used s) s.places (λ e. absurd (omega (arith, e, rows, held, no_tick, places, more)))
 
--- the capacity, task by task
+-- the capacity of a live run, added up task by task
 
 pub capacity_more : (set : List Task) (i n m p : ℕ) (t : Task) → task_at set (i + 1) ≡ Some t → m + total (λ t. n / t.period + 1) (drop i set) ≡ p → m + (n / t.period + 1) + total (λ t. n / t.period + 1) (drop (i + 1) set) ≡ p
 capacity_more set i n m p t at sum =

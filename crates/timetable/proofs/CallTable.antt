@@ -40,7 +40,7 @@ work_row k r n = record { task = no k; release = r; need = n }
 abbrev fresh : Plan → FloorState
 fresh plan = opening (empty_state (task (codes "ctl") High 10 2 6 ∷ task (codes "log") Low 10 5 5 ∷ []) (Virtual 2 5) 9) plan
 
--- at the start: the first job is due at 0 and needs 6 ticks; the other is due at 2
+-- the floor at the start: the first job is due at 0 and needs 6 ticks; the other is due at 2
 abbrev f0 : FloorState
 f0 = fresh (Rows (work_row 1 0 6 ∷ work_row 2 2 5 ∷ []) 4)
 
@@ -57,7 +57,7 @@ no_other = refl
 kept : release_answer f0 1 ≡ Ok (Kept (job 1 1) 0)
 kept = refl
 
--- after the first release
+-- the floor after the first release
 abbrev f1 : FloorState
 f1 = after_release f0 1
 
@@ -65,7 +65,7 @@ f1 = after_release f0 1
 first_grant : (next_act f1 ≡ act.Grant (no 1)) × (release_answer f1 2 ≡ Err (act_fault.Plan plan_fault.NotPlanned))
 first_grant = (refl, refl)
 
--- with the second tick of task 1 granted; that the caller says the job is done is ignored
+-- the floor with the second tick of task 1 granted; that the caller says the job is done is ignored
 abbrev f2 : FloorState
 f2 = after_grant (after_outcome (after_grant f1 1) (job 1 1) true) 1
 
@@ -73,7 +73,7 @@ f2 = after_grant (after_outcome (after_grant f1 1) (job 1 1) true) 1
 second_release : (next_act f2 ≡ act.Release (no 2)) × (grant_answer f2 2 ≡ Err (act_fault.Plan (plan_fault.Due (no 2))))
 second_release = (refl, refl)
 
--- after the release of task 2, which is held
+-- the floor after the release of task 2, which is held
 abbrev f3 : FloorState
 f3 = after_release f2 2
 
@@ -84,7 +84,7 @@ held = (refl, refl)
 over : outcome_answer f3 (job 1 1) true ≡ Ok Over
 over = refl
 
--- after the floor's next act; a job with a granted tick gets an outcome
+-- the floor after an act; a job with a granted tick gets an outcome
 abbrev act_on : Act → FloorState → FloorState
 act_on (act.Release k) f = after_release f k.0
 act_on (act.Grant k) f = after_grant f k.0
@@ -95,18 +95,18 @@ act_on act.Finished f = f
 abbrev once : FloorState → FloorState
 once f = act_on (next_act f) f
 
--- after that outcome, and two more ticks with their outcomes
+-- the floor after the outcome of the second tick, and two more ticks with their outcomes
 abbrev f4 : FloorState
 f4 = once (once (once (once (once f3))))
 
--- the plan is finished
+-- the plan is finished after its four ticks
 finished : (next_act f4 ≡ act.Finished) × (idle_answer f4 ≡ Err (act_fault.Plan plan_fault.Finished)) × (grant_answer f4 1 ≡ Err (act_fault.Plan plan_fault.Finished))
 finished = (refl, refl, refl)
 
 rows : f4.core.rows ≡ Tick (job 1 1) More ∷ Tick (job 1 1) More ∷ Release (job 2 1) false ∷ Tick (job 1 1) Over ∷ Tick (job 1 1) More ∷ Release (job 1 1) true ∷ []
 rows = refl
 
--- a release that is due waits while its task has a granted tick: the core's result, and the next act
+-- a floor on which a due release waits while its task has a granted tick: the core's result, and the next act
 abbrev g0 : FloorState
 g0 = after_grant (after_release (fresh (Rows (work_row 1 0 6 ∷ work_row 1 1 1 ∷ []) 4)) 1) 1
 

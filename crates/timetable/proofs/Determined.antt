@@ -39,12 +39,12 @@ pub Later-less : (t u : ℕ) (xs : List Arrival) → t ≤ u → Later u xs → 
 Later-less t u [] h l = tt
 Later-less t u (a ∷ xs) h l = (omega (arith, h, l.0), Later-less t u xs h l.1)
 
--- the entry after the first list is the next one
+-- the entry of two joined lists at the length of the first list is the head of the second
 get_at : (xs : List Arrival) (a : Arrival) (ys : List Arrival) → slice_get (xs ++ a ∷ ys) (length xs) ≡ Some a
 get_at [] a ys = refl
 get_at (x ∷ xs) a ys = get_at xs a ys
 
--- there is no entry at the end
+-- a list has no entry at the index that is its length
 get_past : (xs : List Arrival) → slice_get xs (length xs) ≡ None
 get_past [] = refl
 get_past (x ∷ xs) = get_past xs

@@ -103,14 +103,14 @@ length-rows [] = refl
 length-rows (Release j kept ∷ g) = omega (arith, length-rows g)
 length-rows (row ∷ g) = omega (arith, length-rows g)
 
--- no more is planned than the work has rows
+-- no more releases are planned than the work has rows
 pub planned-few : (work : List WorkRow) (n : ℕ) → length (planned work n) ≤ length work
 planned-few [] n = omega arith
 planned-few (w ∷ ws) n =
     let few : length (planned ws n) ≤ length ws = planned-few ws n in
     planned_either (λ xs. length xs ≤ length (w ∷ ws)) w ws n (λ h. omega arith) (omega arith)
 
--- no more was taken than the work has rows
+-- no more releases were taken than the work has rows
 pub taken-few : (set : List Task) (rule : Rule) (work : List WorkRow) (n : ℕ) (h : List Row) → IsWork set work → Runs set rule work n h → length (arrivals h) ≤ length work
 taken-few set rule work n h w r =
     let x : Rest work n h = rest_of set rule work n h w r in

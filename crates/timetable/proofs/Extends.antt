@@ -25,7 +25,7 @@ use Rattle.timetable.proofs.RunsFollow.{runs_follow}
 use Rattle.timetable.proofs.Due.{due_allowed, need_at, length-rows, taken-few}
 use Rattle.timetable.proofs.Latest.{OfTask, of_task}
 
--- the rows that follow are the only ones that do
+-- rows that the plan adds, n ticks long, follow, and no other rows follow
 pub only_trace : (set : List Task) (rule : Rule) (work : List WorkRow) (n : ℕ) (h : List Row) → AllByRecursion IsTask set → Fits rule → IsWork set work → 1 ≤ n → Legal set rule h → Runs set rule work n h → n ≤ ticks h → IsTheTrace set rule work n h
 only_trace set rule work n h s f w p l r e =
     let follows : Follows set rule work n h = runs_follow set rule work n h s w p l r e in

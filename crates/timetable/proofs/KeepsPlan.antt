@@ -81,7 +81,7 @@ due_of work n taken t k e = go (due_at (Rows work n) taken t) refl e
 may_of : (s : State) (work : List WorkRow) (n taken k : ℕ) → IsSound s → KeepsToWork s work n taken → IsDueOf work n taken (begun s) k → MayTake s work n taken k
 may_of s work n taken k sound r d = subst (MayTake s work n taken) d.task (may_take s work n taken d.row sound r d.due)
 
--- a release leaves it as it was whether the granted tick is its job's last
+-- a release does not change whether the granted tick is its job's last
 flag_release : (work : List WorkRow) (s : State) (o : Option JobId) (i : JobId) (last : Bool) → s.out ≡ o → FlagsLast work s.rows s.out last → FlagsLast work (with_release s o i).rows (with_release s o i).out last
 flag_release work s None i last e t = subst (λ (x : Option JobId). FlagsLast work (with_release s None i).rows x last) (sym e) tt
 flag_release work s (Some j) i last e t = t

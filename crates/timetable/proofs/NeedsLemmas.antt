@@ -15,7 +15,7 @@ get-replicate zero i x h = absurd (omega (arith, h))
 get-replicate (suc n) zero x h = refl
 get-replicate (suc n) (suc i) x h = get-replicate n i x (omega (arith, h))
 
--- among no rows a task has none
+-- a task has no row among the first 0 rows of the work
 pub rows-none : (work : List WorkRow) (k : ℕ) → rows_of k (take 0 work) ≡ 0
 rows-none [] k = refl
 rows-none (w ∷ ws) k = refl

@@ -80,7 +80,7 @@ key-inj rule high set x y f t e =
     cancel : (a b c d : ℕ) → a + c ≡ b + d → c ≡ d → a ≡ b
     cancel a b c d h k = omega arith
 
--- if neither key is below the other, and neither number, both are equal
+-- if neither of two keys is below the other, nor one of the two numbers, the keys and the numbers are equal
 order : (kx ki tx ti : ℕ) → nat_le ki kx ≡ true → (nat_lt ki kx || ((ki == kx) && nat_lt ti tx)) ≡ false → not ((kx == ki) && nat_lt tx ti) ≡ true → (kx ≡ ki) × (tx ≡ ti)
 order kx ki tx ti a b c = (grind (arith, nat_tests), grind (arith, nat_tests))
 
@@ -110,7 +110,7 @@ chosen_is set rule h j s f l least lowest = go (first_to_run set rule high xs) r
     of_k : (same_job j k.kept.job ≡ true) × (none_lower set rule high k.kept xs ≡ true)
     of_k = and_parts (same_job j k.kept.job) (none_lower set rule high k.kept xs) k.passes
 
-    -- both are the same pending job
+    -- k and i have the same pending job
     one : k.kept ≡ i.kept
     one =
         each_in (λ (z : KeptRelease). same_job i.kept.job z.job ≡ true → z ≡ i.kept) k.kept xs k.inside (only i.kept xs (pending_apart set rule h s l) i.inside)

@@ -21,7 +21,8 @@ use Rattle.timetable.specs.Plans.{IsSchedule, settled_by}
 abbrev pub first_job : List Row → ℕ → JobId
 first_job g k = record { task = record { 0 = k }; count = releases g k + 1 }
 
--- the release, if there is one and it is due; otherwise a tick of the chosen job, or an idle one
+-- the row of the given release, if there is one and it is due; otherwise of a tick of the chosen job, or of
+-- an idle tick
 abbrev pub row_now : List Task → Rule → List WorkRow → List Row → Option Arrival → Row
 row_now set rule work g None = tick_row set rule work g (chosen set rule g)
 row_now set rule work g (Some a) =

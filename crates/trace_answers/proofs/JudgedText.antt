@@ -17,7 +17,7 @@ use Rattle.trace_judge.proofs.Watching.{none_found, tracked}
 use Rattle.trace_answers.specs.declared.judged_text.Judging.{Judging}
 use Rattle.trace_answers.specs.JudgedText.{IsMonitorOf, HasRead}
 
--- a monitor that has seen the rows of more runs
+-- a monitor that has seen the rows of more runs is a monitor of all these runs
 pub seen_more : (tasks : List Task) (rule : Rule) (before more : List Run) (m new : Watched) → IsMonitorOf tasks rule before m → new.set ≡ m.set → new.rule ≡ m.rule
     → ((h : List Row) → Watches h m → Watches (reverse (expand more) ++ h) new) → IsMonitorOf tasks rule (before ++ more) new
 seen_more tasks rule before more m new is set same watches = record {
@@ -35,11 +35,11 @@ room_left tasks rule before more m is few short fits =
     let all : length (expand (before ++ more)) ≡ length (expand before) + length (expand more) = ap length (expand-append before more) ∙ length-append (expand before) (expand more) in
     omega (arith, rows, few, short, all, length-reverse (expand before), length-expand-le (before ++ more))
 
--- no run is valid
+-- a list of no runs is valid
 pub no_runs : AreRuns []
 no_runs = record { each = All-nil IsRun; few = omega arith; short = omega arith }
 
--- before the first run
+-- before the first run no run was read: the monitor has seen none, and none is stored
 pub none_read : (keeps_runs : Bool) (rule : Rule) (tasks : List Task) (judging : Judging) → IsMonitorOf tasks rule [] judging.monitor → judging.runs.items ≡ [] → HasRead keeps_runs rule tasks [] judging
 none_read keeps_runs rule tasks judging is none = record {
   first = [];
@@ -51,18 +51,18 @@ none_read keeps_runs rule tasks judging is none = record {
   room = λ fits. rw none (room_left tasks rule [] [] judging.monitor is (omega arith) (omega arith) fits);
 }
 
--- the runs that were read, with one more
+-- a run added to all runs is a run added to the stored ones
 pub with_next : (before first items : List Run) (run : Run) → before ≡ first ++ items → before ++ run ∷ [] ≡ first ++ (items ++ run ∷ [])
 with_next before first items run split = ap (λ xs. xs ++ run ∷ []) split ∙ append_assoc first items (run ∷ [])
 
--- there are few of them, and they are short
+-- with a run that may come next there are at most 2,000,000 runs, of at most 100,000,000 ticks
 pub few_next : (tasks : List Task) (before : List Run) (run : Run) → MayComeNext tasks before run → (length (before ++ run ∷ []) ≤ 2000000) × (total length_of (before ++ run ∷ []) ≤ 100000000)
 few_next tasks before run next =
     let few = next.0 in
     let short = next.1.short in
     (omega (arith, few, length-append before (run ∷ [])), omega (arith, short, total-append length_of before (run ∷ [])))
 
--- one more run is stored
+-- if a run that may come next is stored, the runs with that one were read
 pub one_stored : (keeps_runs : Bool) (rule : Rule) (tasks : List Task) (before : List Run) (run : Run) (old new : Judging) → HasRead keeps_runs rule tasks before old
     → (tasks' : List Task) (before' : List Run) → HasRead keeps_runs rule tasks' before' old → MayComeNext tasks' before' run
     → new.monitor ≡ old.monitor → new.runs.items ≡ old.runs.items ++ run ∷ [] → HasRead keeps_runs rule tasks (before ++ run ∷ []) new
@@ -89,7 +89,7 @@ one_stored keeps_runs rule tasks before run old new has tasks' before' had next 
       room = rw (same, more) room;
     }
 
--- the stored runs and one more are judged, and none is stored
+-- if the stored runs and one more are judged, and none is stored, the runs with that one were read
 pub stored_judged : (keeps_runs : Bool) (rule : Rule) (tasks : List Task) (before : List Run) (run : Run) (old new : Judging) → HasRead keeps_runs rule tasks before old
     → (tasks' : List Task) (before' : List Run) → HasRead keeps_runs rule tasks' before' old → MayComeNext tasks' before' run
     → keeps_runs ≡ false → new.monitor.set ≡ old.monitor.set → new.monitor.rule ≡ old.monitor.rule

@@ -82,7 +82,7 @@ impl TakesRuns for JudgingTaker {
 
     fn take(&self, judging: &mut Judging, run: Run) -> Result<(), AllocError> {
         judging.runs.push(run)?;
-        if self.keeps_runs || judging.runs.len() < BATCH {
+        if judging.runs.len() < BATCH || self.keeps_runs {
             return Ok(());
         }
         match judging.monitor.follow_all(self.alloc, &judging.runs) {

@@ -11,7 +11,7 @@ use Rattle.trace_format.specs.TraceFile.{record_run}
 use Rattle.trace_format.proofs.TickLemmas.{total-one}
 use Rattle.trace_format.proofs.RunsOfSet.{of_record}
 
--- what the reader keeps of the runs with one more
+-- what the reader keeps of the runs, after one more run is read
 pub read_more : (set : List Task) (v : Version) (before : List Run) (fields : List (List ℕ)) (q : Run) (reading new : Reading) → AreRead before reading → record_run set v before fields ≡ Ok q
     → new.count ≡ reading.count + 1 → new.due ≡ reading.due + length_of q → AreRead (before ++ q ∷ []) new
 read_more set v before fields q reading new read is count due =

@@ -8,7 +8,7 @@ use Rattle.mc_model.specs.TraceText.{run_line, lines_from}
 use Rattle.mc_model.specs.declared.run.Run.{Run}
 use Rattle.mc_model.proofs.Sums.{total-append}
 
--- the ticks of runs with one more run are theirs and its length
+-- one more run adds its length to the ticks of the runs
 pub total-one : (before : List Run) (r : Run) → total length_of (before ++ r ∷ []) ≡ total length_of before + length_of r
 total-one before r = let more = total-append length_of before (r ∷ []) in omega (arith, more)
 
@@ -19,7 +19,7 @@ ticks-more runs i t s d inside was more =
     let next = ap (total length_of) (take_more runs i d inside) ∙ total-one (take i runs) (get_or runs i d) in
     omega (arith, was, more, next)
 
--- the ticks up to and with the next run are at most all
+-- the ticks up to and with the next run are at most 100,000,000
 pub ticks-fit : (runs : List Run) (i t : ℕ) (d : Run) → i < length runs → AreRuns runs → t ≡ total length_of (take i runs) → t + length_of (get_or runs i d) ≤ 100000000
 ticks-fit runs i t d inside v was =
     let short = v.short in

@@ -245,10 +245,7 @@ fn is_length(event: Event, length: u32) -> bool
 {
     match event {
         Event::Release { .. } => true,
-        Event::Tick { how } => match how {
-            How::More => length >= 1,
-            How::Done | How::Stop | How::Over => length == 1,
-        },
+        Event::Tick { how } => length == 1 || (length > 1 && matches!(how, How::More)),
         Event::Idle => length >= 1,
     }
 }

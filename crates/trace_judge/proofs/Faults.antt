@@ -52,7 +52,7 @@ too_soon_is set now [] k = grind (arith, nat_tests)
 too_soon_is set now (Release j kept ∷ g) k = grind (arith, nat_tests, too_soon_is set now g k, next_le set g k)
 too_soon_is set now (row ∷ g) k = too_soon_is set now g k
 
--- before the first release
+-- the note of a task before its first release
 abbrev none_yet : TaskNote
 none_yet = record { releases = 0; next = 0 }
 
@@ -99,7 +99,7 @@ least_same set rule g s j t =
     ∙ sym (same_all es (entry_of set rule g) ws t.waiting (λ (o : Entry). nat_le (key set rule hi x.kept) o.0.0)))) ws
     ∙ sym (same_any es (entry_of set rule g) ws t.waiting (λ (e : Entry). is_of j e && list_all (λ (o : Entry). nat_le e.0.0 o.0.0) es))
 
--- the fault of a tick, by those tests
+-- the fault of a tick, by the tests among the entries
 pub tick_fault : (set : List Task) (rule : Rule) (g : List Row) (s : State) (j : JobId) (how : How) → Legal set rule g → Tracks set rule g s →
     fault set rule (Tick j how) g ≡ first_of_parts ((pending_in s.waiting.entries j, NotPending) ∷ (least_in s.waiting.entries j, NotLeast) ∷ (allows rule (high_mode rule g) (task_at set j.task.0) (used g j + 1) how, WrongHow) ∷ [])
 tick_fault set rule g s j how l t =
@@ -117,11 +117,11 @@ found_used set rule g s j k p t h =
     each : (x : Placed) → (not (is_of j (entry_of set rule g x)) || (used g x.kept.job == used g j)) ≡ true
     each x = let same : same_job j x.kept.job ≡ true → used g x.kept.job ≡ used g j = λ m. ap (used g) (sym (job_eq j x.kept.job m)) in grind (arith, nat_tests, same)
 
--- the three faults of a tick
+-- the fault of a tick of a job that is not pending
 pub stands_not_pending : (set : List Task) (rule : Rule) (g : List Row) (s : State) (j : JobId) (how : How) → Legal set rule g → Tracks set rule g s → Stands s.waiting.entries j standing.NotPending → Some NotPending ≡ fault set rule (Tick j how) g
 stands_not_pending set rule g s j how l t h = sym (tick_fault set rule g s j how l t ∙ rw h refl)
 
--- of a job that is not at the least key
+-- the fault of a tick of a job that is not at the least key
 pub stands_not_least : (set : List Task) (rule : Rule) (g : List Row) (s : State) (j : JobId) (how : How) → Legal set rule g → Tracks set rule g s → Stands s.waiting.entries j standing.NotLeast → Some NotLeast ≡ fault set rule (Tick j how) g
 stands_not_least set rule g s j how l t h =
     let a = found_any (is_of j) h.0 s.waiting.entries h.1 in
@@ -137,20 +137,20 @@ stands_least set rule g s j how p l t h =
     let b = found_least j e s.waiting.entries h.2 h.1 in
     tick_fault set rule g s j how l t ∙ rw (a, b, t.mode, found_used set rule g s j h.0 p t h.1) refl
 
--- something waits
+-- if some job waits, the list of pending jobs is not empty
 not_empty_at : (ws : List Placed) → length ws ≢ 0 → is_empty (map kept_of ws) ≡ false
 not_empty_at [] h = absurd (h refl)
 not_empty_at (x ∷ ws) h = refl
 
--- as many entries as wait
+-- there are as many entries as jobs that wait
 pub same_length : (set : List Task) (rule : Rule) (g : List Row) (s : State) → Tracks set rule g s → length s.waiting.entries ≡ length (waiting set g)
 same_length set rule g s t = sym (total-one s.waiting.entries) ∙ (t.waiting one ∙ total-one (waiting set g))
 
--- an idle row that does not fit
+-- an idle row does not fit while there are entries
 pub idle_some : (set : List Task) (rule : Rule) (g : List Row) (s : State) → Legal set rule g → Tracks set rule g s → length s.waiting.entries ≢ 0 → Some IdlePending ≡ fault set rule Idle g
 idle_some set rule g s l t h =
     sym (ap (λ now. fault_among set rule now Idle g) (pending_is set rule g l) ∙ rw (not_empty_at (waiting set g) (λ e. h (same_length set rule g s t ∙ e))) refl)
 
--- what an allowed Over says of the rule
+-- an Over is allowed only under EDF-VD
 pub over_virtual : (rule : Rule) (high : Bool) (t : Option Task) (u : ℕ) → allows rule high t u Over ≡ true → is_virtual rule ≡ true
 over_virtual rule high t u h = grind arith

@@ -8,7 +8,7 @@ use Rattle.mc_model.specs.Sums.{total, when}
 use Rattle.mc_model.proofs.Sums.{one}
 use Rattle.trace_judge.specs.Firsts.{edit_first, change_first, remove_first, IsFirstAt}
 
--- finding after elements that fail
+-- `find` and `edit_first` pass over elements that fail
 
 pub find_after : {X : Type 0} (p : X → Bool) (xs ys : List X) → list_any p xs ≡ false → find p (xs ++ ys) ≡ find p ys
 find_after p [] ys h = refl
@@ -18,7 +18,7 @@ pub edit_after : {X : Type 0} (p : X → Bool) (k : X → List X) (xs ys : List 
 edit_after p k [] ys h = refl
 edit_after p k (x ∷ xs) ys h = grind (arith, edit_after p k xs ys)
 
--- where all elements fail
+-- if all elements fail, `find` finds none and `edit_first` leaves the list as it is
 
 pub find_none : {X : Type 0} (p : X → Bool) (xs : List X) → list_any p xs ≡ false → find p xs ≡ None
 find_none p [] h = refl
@@ -28,7 +28,7 @@ pub edit_none : {X : Type 0} (p : X → Bool) (k : X → List X) (xs : List X) �
 edit_none p k [] h = refl
 edit_none p k (x ∷ xs) h = grind (arith, edit_none p k xs)
 
--- before others
+-- `find` and `edit_first` on two joined lists, where only the first one matters
 
 pub find_front : {X : Type 0} (p : X → Bool) (xs ys : List X) (x : X) → find p xs ≡ Some x → find p (xs ++ ys) ≡ Some x
 find_front p [] ys x h = cc
@@ -38,7 +38,7 @@ pub edit_front : {X : Type 0} (p : X → Bool) (k : X → List X) (xs ys : List 
 edit_front p k [] ys h = edit_none p k ys h
 edit_front p k (x ∷ xs) ys h = grind (arith, edit_front p k xs ys, append_assoc (k x) xs ys)
 
--- of a mapped list, by a test that agrees
+-- `find` and `edit_first` on a mapped list, by a test that agrees
 
 pub find-map : {X Y : Type 0} (p : X → Bool) (q : Y → Bool) (f : X → Y) → ((x : X) → q (f x) ≡ p x) → (xs : List X) (x : X) → find p xs ≡ Some x →
     find q (map f xs) ≡ Some (f x)
@@ -54,7 +54,7 @@ pub edit-map : {X Y : Type 0} (p : X → Bool) (q : Y → Bool) (f : X → Y) (k
 edit-map p q f k l same e [] = refl
 edit-map p q f k l same e (x ∷ xs) = grind (arith, same x, edit-map p q f k l same e xs, e x, map-append f (k x) xs)
 
--- by the index of the first that passes
+-- `find` and `edit_first`, by the index of the first element that passes
 
 parts : {X : Type 0} (xs : List X) (i : ℕ) (d : X) → i < length xs → xs ≡ take i xs ++ get_or xs i d ∷ drop (suc i) xs
 parts xs i d h = sym (set-get_or xs i d) ∙ set_split xs i (get_or xs i d) h
@@ -90,34 +90,34 @@ pub found_any : {X : Type 0} (p : X → Bool) (x : X) (xs : List X) → find p x
 found_any p x [] h = cc
 found_any p x (y ∷ xs) h = grind (arith, found_any p x xs)
 
--- one that is found and passes another test passes both
+-- if the element that is found passes another test, some element passes both tests
 pub found_both : {X : Type 0} (p q : X → Bool) (x : X) (xs : List X) → q x ≡ true → find p xs ≡ Some x → list_any (λ y. p y && q y) xs ≡ true
 found_both p q x [] a h = cc
 found_both p q x (y ∷ xs) a h = grind (arith, found_both p q x xs)
 
--- where no element passes a test none passes both
+-- if no element passes the first of two tests, none passes both
 none_both : {X : Type 0} (p q : X → Bool) (xs : List X) → total (when p one) xs ≡ 0 → list_any (λ y. p y && q y) xs ≡ false
 none_both p q [] h = refl
 none_both p q (x ∷ xs) h = grind (arith, none_both p q xs)
 
--- where the only one that passes a test is found, and fails the other, none passes both
+-- if the only element that passes a test is found, and fails another test, no element passes both
 pub one_fails : {X : Type 0} (p q : X → Bool) (x : X) (xs : List X) → total (when p one) xs ≤ 1 → q x ≡ false → find p xs ≡ Some x → list_any (λ y. p y && q y) xs ≡ false
 one_fails p q x [] u f h = cc
 one_fails p q x (y ∷ xs) u f h = grind (arith, one_fails p q x xs, none_both p q xs)
 
 -- sums over a list in which at most one element passes, after an edit of that element
 
--- a weight that differs at elements alone that pass is the same where none does
+-- if no element passes the test, another weight for elements that pass leaves the sum as it is
 unchanged : {X : Type 0} (p : X → Bool) (w v : X → ℕ) → (xs : List X) → total (when p one) xs ≡ 0 → total w xs ≡ total (λ x. cond (p x) (v x) (w x)) xs
 unchanged p w v [] h = refl
 unchanged p w v (x ∷ xs) h = grind (arith, unchanged p w v xs)
 
--- the element is changed
+-- the sum over a list after the only element that passes is changed
 pub total_changed : {X : Type 0} (p : X → Bool) (g : X → X) (w : X → ℕ) (xs : List X) → total (when p one) xs ≤ 1 → total w (change_first p g xs) ≡ total (λ x. cond (p x) (w (g x)) (w x)) xs
 total_changed p g w [] u = refl
 total_changed p g w (x ∷ xs) u = grind (arith, total_changed p g w xs, unchanged p w (λ x. w (g x)) xs)
 
--- the element is taken out
+-- the sum over a list after the only element that passes is taken out
 pub total_removed : {X : Type 0} (p : X → Bool) (w : X → ℕ) (xs : List X) → total (when p one) xs ≤ 1 → total w (remove_first p xs) ≡ total (λ x. cond (p x) 0 (w x)) xs
 total_removed p w [] u = refl
 total_removed p w (x ∷ xs) u = grind (arith, total_removed p w xs, unchanged p w (λ x. 0) xs)
@@ -127,7 +127,7 @@ none_weigh : {X : Type 0} (p : X → Bool) (w : X → ℕ) (xs : List X) → tot
 none_weigh p w [] h = refl
 none_weigh p w (x ∷ xs) h = grind (arith, none_weigh p w xs)
 
--- what the one that passes is found to weigh is what all of them weigh
+-- if at most one element passes, those that pass weigh as much as the one that is found
 pub total_found : {X : Type 0} (p : X → Bool) (w : X → ℕ) (y : X) (xs : List X) → total (when p one) xs ≤ 1 → find p xs ≡ Some y → total (when p w) xs ≡ w y
 total_found p w y [] u h = cc
 total_found p w y (x ∷ xs) u h = grind (arith, total_found p w y xs, none_weigh p w xs)

@@ -47,7 +47,7 @@ set_here [] i v h = absurd (omega arith)
 set_here (x ∷ xs) zero v h = refl
 set_here (x ∷ xs) (suc i) v h = set_here xs i v (omega arith)
 
--- the other elements stay
+-- a write at one index leaves the elements at other indices as they were
 set_other : {X : Type 0} (xs : List X) (i k : ℕ) (v : X) → k ≢ i → slice_get (slice_set xs i v) k ≡ slice_get xs k
 set_other [] i k v h = refl
 set_other (x ∷ xs) zero zero v h = absurd (h refl)
@@ -112,11 +112,11 @@ keeps_release set rule g s s' j kept task l t at r = record {
         ≡ f (entry_of set rule (Release j true ∷ g) (new_one j g)) = rw (t.mode, t.ticks, t.rows, at, u) refl in
         omega (arith, w f, e, t.waiting f)
 
--- the job's entry with n more ticks, the others as they were
+-- the weight of an entry, with n more ticks if the entry is the job's
 abbrev pub ticked_at : ℕ → JobId → (Entry → ℕ) → Entry → ℕ
 ticked_at n j w e = cond (is_of j e) (w (spent_entry n e)) (w e)
 
--- the job's entry counts nothing, the others as they were
+-- the weight of an entry, or 0 if the entry is the job's
 abbrev pub taken_at : JobId → (Entry → ℕ) → Entry → ℕ
 taken_at j w e = cond (is_of j e) 0 (w e)
 
@@ -127,7 +127,8 @@ used_le (Release j kept ∷ g) i = used_le g i
 used_le (Idle ∷ g) i = omega (arith, used_le g i)
 used_le (Tick j how ∷ g) i = grind (arith, used_le g i)
 
--- what waits after a tick, by what a weight of the entries comes to
+-- if each entry weighs v, which is f after the tick for a job that stays pending and 0 for the others, the
+-- entries weigh as much as f over the jobs pending after the tick
 pub waits_after : (set : List Task) (rule : Rule) (g : List Row) (s : State) (j : JobId) (how : How) (f v : Entry → ℕ) → Tracks set rule g s →
     Each (λ x. v (entry_of set rule g x) ≡ cond (stays set j how x) (f (entry_of set rule (Tick j how ∷ g) x)) 0) (waiting set g) →
     total v s.waiting.entries ≡ total (λ x. f (entry_of set rule (Tick j how ∷ g) x)) (waiting set (Tick j how ∷ g))
@@ -136,7 +137,7 @@ waits_after set rule g s j how f v t h =
     ∙ (total-ext (λ x. v (entry_of set rule g x)) (when (stays set j how) (λ x. f (entry_of set rule (Tick j how ∷ g) x))) (waiting set g) h
     ∙ sym (total-filter (λ x. f (entry_of set rule (Tick j how ∷ g) x)) (stays set j how) (waiting set g)))
 
--- a count of ticks, where it is not at its end, with n more of the job's own
+-- the limit of 2^64 - 1 leaves a count of ticks as it is, if the count with n more ticks is not above the limit
 spent_same : (f : ℕ → ℕ) (mine : Bool) (n u : ℕ) → u + n ≤ 2 ^ 64 - 1 → cond mine (f (min (u + n) (2 ^ 64 - 1))) (f u) ≡ f (cond mine n 0 + u)
 spent_same f true n u room = let e : min (u + n) (2 ^ 64 - 1) ≡ n + u = omega arith in rw e refl
 spent_same f false n u room = let e : 0 + u ≡ u = omega arith in rw e refl
@@ -149,7 +150,7 @@ late_sum_of set g f = total (λ x. f (late_job_in x)) (gone_late set g)
 pub sums_of : (set : List Task) (g : List Row) → IsSum (late_sum_of set g)
 sums_of set g = record { list = map late_job_in (gone_late set g); is = λ f. sym (total-map f late_job_in (gone_late set g)) }
 
--- the late ones after a tick, by what the entries that go weigh
+-- a tick adds the entries of the jobs that it takes out late to the jobs that ended or were discarded late
 pub lates_after : (set : List Task) (rule : Rule) (g : List Row) (s : State) (j : JobId) (how : How) (f : LateJob → ℕ) (v : Entry → ℕ) → Tracks set rule g s →
     Each (λ x. v (entry_of set rule g x) ≡ cond (not (stays set j how x) && is_due set (ticks g) x) (f (late_job_in x)) 0) (waiting set g) →
     total v s.waiting.entries + late_sum_of set g f ≡ late_sum_of set (Tick j how ∷ g) f
@@ -189,7 +190,7 @@ keeps_end set rule g s s' j how k p task l t ends over at found m = record {
         by_job true u = refl
         by_job false u = let e : 0 + u ≡ u = omega arith in rw e refl
 
-    -- what the job's entry weighs, if it is late
+    -- no entry but the job's has a weight, and that only if the job's deadline has come
     goes : (f : LateJob → ℕ) (x : Placed) →
         when (is_of j) (λ e. cond (nat_le (e.1.release + period_in (task_at set e.0.1)) (ticks g)) (f (late_job_of e)) 0) (entry_of set rule g x)
         ≡ cond (not (stays set j how x) && is_due set (ticks g) x) (f (late_job_in x)) 0
@@ -240,7 +241,7 @@ keeps_over set rule g s s' j l t room virtual m = record {
     mode_high : high_mode rule (Tick j Over ∷ g) ≡ true
     mode_high = rw virtual refl
 
-    -- an entry at its new key, with one more tick where it is the job's
+    -- the weight of an entry at its new key, with one more tick if the entry is the job's
     entry_moved : (f : Entry → ℕ) (n k c r u rows_before : ℕ) (o : Option Task) (h : Bool) → h ≡ true → u + 1 ≤ 2 ^ 64 - 1 →
         cond (is_high_in o) (ticked_at 1 j f (rekeyed rule o (n, k, c) (a_pending r u rows_before), a_pending r u rows_before)) 0
         ≡ cond (is_high_in o) (f (an_entry (key_of rule h o r) k c (a_pending r (cond ((j.task.0 == k) && (j.count == c)) 1 0 + u) rows_before))) 0
@@ -291,7 +292,7 @@ keeps_more set rule g s s' j n l t room m = record {
         (spent_same (λ u. f (an_entry (key set rule (high_mode rule g) x.kept) x.kept.job.task.0 x.kept.job.count (a_pending x.kept.release u x.rows_before)))
         (same_job j x.kept.job) n (used g x.kept.job) (omega (arith, t.ticks, used_le g x.kept.job, room)))
 
--- idle ticks leave what waits, and what was late
+-- idle ticks change neither the pending jobs nor those that ended or were discarded late
 
 pub waiting_idle : (set : List Task) (n : ℕ) (g : List Row) → waiting set (replicate n Idle ++ g) ≡ waiting set g
 waiting_idle set zero g = refl

@@ -16,7 +16,7 @@ use Rattle.trace_judge.specs.Placed.{Placed, new_one, placed, waiting, stays, is
 use Rattle.mc_model.proofs.Sums.{total-append, total-filter, total-ext, total-same, total-add}
 use Rattle.trace_judge.proofs.Placed.{others_live, new_live, waiting_is}
 
--- all of the rows are up to their last tick
+-- the rows up to the last tick are all rows
 all_up_to : (g : List Row) → up_to (ticks g) g ≡ g
 all_up_to [] = refl
 all_up_to (row ∷ g) = let e : nat_le (ticks (row ∷ g)) (ticks (row ∷ g)) ≡ true = grind (arith, nat_tests) in rw e refl
@@ -27,7 +27,8 @@ late_after : (set : List Task) (row : Row) (g : List Row) (i : KeptRelease) →
     (is_still_pending set (up_to (deadline set i) g) i))
 late_after set row g i = grind arith
 
--- where it is one more tick
+-- a job is late after one more tick if it was late before, or if its deadline comes with the tick and it is
+-- still pending
 tick_late : (set : List Task) (row : Row) (g : List Row) (i : KeptRelease) → ticks (row ∷ g) ≡ ticks g + 1 →
     is_late set (row ∷ g) i ≡ (is_late set g i || ((deadline set i == ticks g + 1) && is_still_pending set (row ∷ g) i))
 tick_late set row g i e = late_after set row g i ∙ rw e (tests (deadline set i) (ticks g) (is_still_pending set (row ∷ g) i) (is_still_pending set (up_to (deadline set i) g) i))
@@ -35,7 +36,7 @@ tick_late set row g i e = late_after set row g i ∙ rw e (tests (deadline set i
     tests : (d t : ℕ) (x y : Bool) → (nat_le d (t + 1) && cond (nat_le (t + 1) d) x y) ≡ ((nat_le d t && y) || ((d == t + 1) && x))
     tests d t x y = grind (arith, nat_tests)
 
--- a release leaves it open whether another job is late
+-- if a release does not change whether a job is pending, it does not change whether the job is late
 others_late : (set : List Task) (j : JobId) (kept : Bool) (g : List Row) (i : KeptRelease) → is_still_pending set (Release j kept ∷ g) i ≡ is_still_pending set g i → is_late set (Release j kept ∷ g) i ≡ is_late set g i
 others_late set j kept g i same =
     late_after set (Release j kept) g i ∙ tests (deadline set i) (ticks g) _ _
@@ -44,7 +45,7 @@ others_late set j kept g i same =
     tests : (d t : ℕ) (x y : Bool) → (d ≡ t → x ≡ y) → (nat_le d t && cond (nat_le t d) x y) ≡ (nat_le d t && y)
     tests d t x y h = grind (arith, nat_tests)
 
--- what a step adds to the late ones
+-- what a step adds to the sum over the late jobs
 pub late_step :
     (f : Placed → ℕ) (late late' due due' new lives st : Placed → Bool) (n : ℕ) (ps ws : List Placed) →
     ((x : Placed) → late' x ≡ (late x || (new x && lives x))) → ((x : Placed) → new x ≡ true → late x ≡ false) →
@@ -60,12 +61,12 @@ late_step f late late' due due' new lives st n ps ws a b c d e ih =
     rw (total-filter f gone ws, total-filter (when due' f) st ws)
     (omega (arith, late_before, both, total-add (when gone f) (when st (when due' f)) ws, total-add (when due f) (when st f') ws, due_before, ih))
 
--- a filter that all pass
+-- a filter that all elements pass leaves the list as it is
 pub filter_true : {X : Type 0} → (xs : List X) → filter (λ x. true) xs ≡ xs
 filter_true [] = refl
 filter_true (x ∷ xs) = ap (λ ys. x ∷ ys) (filter_true xs)
 
--- the late jobs that a tick adds, if these jobs stay pending after it
+-- the late jobs that a tick adds, if the pending jobs that pass st stay pending after the tick
 late_after_tick : (set : List Task) (row : Row) (g : List Row) (st : Placed → Bool) (f : Placed → ℕ) → ticks (row ∷ g) ≡ ticks g + 1 →
     filter (λ x. is_still_pending set (row ∷ g) x.kept) (placed g) ≡ filter st (waiting set g) →
     total (when (λ x. is_late set g x.kept) f) (placed g) ≡ total f (gone_late set g) + total (when (is_due set (ticks g)) f) (waiting set g) →
@@ -77,7 +78,7 @@ late_after_tick set row g st f one kept ih =
     (λ x. deadline set x.kept == ticks g + 1) (λ x. is_still_pending set (row ∷ g) x.kept) st (total f (gone_late set g)) (placed g) (waiting set g)
     (λ x. tick_late set row g x.kept one) (λ x e. grind (arith, nat_tests)) (λ x. grind (arith, nat_tests)) (λ x e. grind (arith, nat_tests)) kept ih
 
--- a release leaves the other late jobs as they are
+-- a release does not change which of the jobs released before are late
 kept_late : (set : List Task) (rule : Rule) (j : JobId) (kept : Bool) (g : List Row) → Legal set rule (Release j kept ∷ g) → (f : Placed → ℕ) →
     total (when (λ x. is_late set (Release j kept ∷ g) x.kept) f) (placed g) ≡ total (when (λ x. is_late set g x.kept) f) (placed g)
 kept_late set rule j kept g l f =

@@ -25,7 +25,7 @@ counts_same s v w h c = record { count = c.count ∙ ap (λ n. min n (2 ^ 64 - 1
     earliest None e = sym (h (λ x. 1)) ∙ e
     earliest (Some m) e = (subst (λ n. 1 ≤ n) (h (λ x. cond (same_late m x) 1 0)) e.0, sym (h (λ x. cond (nat_lt x.rows_before m.rows_before) 1 0)) ∙ e.1)
 
--- one more is noted
+-- the count and the first of the late jobs stay right when one more late job is noted
 pub counts_note : (s : LateJobs) (w : (LateJob → ℕ) → ℕ) (m : LateJob) → IsSum w → CountsLateJobs s w → CountsLateJobs (noted s m) (λ f. f m + w f)
 counts_note s w m sums c = record { count = omega (arith, c.count); first = step s.first c.first }
   where
@@ -52,11 +52,11 @@ counts_note s w m sums c = record { count = omega (arith, c.count); first = step
             let none : ◌≡◌ {A = ℕ} (cond (nat_lt m.rows_before first.rows_before) 1 0) 0 = rw h refl in
             (omega (arith, e.0), omega (arith, none, e.1))
 
--- one more is summed up
+-- a sum over late jobs with one more late job is a sum
 sum_more : (w : (LateJob → ℕ) → ℕ) (m : LateJob) → IsSum w → IsSum (λ f. f m + w f)
 sum_more w m s = record { list = m ∷ s.list; is = λ f. ap (λ n. f m + n) (s.is f) }
 
--- those of the entries that are meant are noted
+-- the count and the first of the late jobs stay right when each entry that passes a test is noted
 pub counts_all : (p : Entry → Bool) (s : LateJobs) (w : (LateJob → ℕ) → ℕ) (es : List Entry) → IsSum w → CountsLateJobs s w → CountsLateJobs (noted_each p s es) (λ f. total (when p (λ e. f (late_job_of e))) es + w f)
 counts_all p s w [] sums c = counts_same s w (λ f. 0 + w f) (λ f. omega arith) c
 counts_all p s w (e ∷ es) sums c =

@@ -10,7 +10,7 @@ use Rattle.trace_judge.specs.Heads.{no_key}
 use Rattle.trace_judge.specs.Firsts.{edit_first, change_first, remove_first}
 use Rattle.trace_judge.specs.Queues.{spent_job, head_key, IsQueue, IsPositionFor}
 
--- each has at least this key
+-- each job has at least this key
 abbrev pub AllFrom : ℕ → List Queued → Type 0
 AllFrom key qs = AllByRecursion (λ (r : Queued). key ≤ r.key) qs
 
@@ -24,13 +24,13 @@ each_at P [] i d h a = absurd (omega arith)
 each_at P (x ∷ xs) zero d h a = a.0
 each_at P (x ∷ xs) (suc i) d h a = each_at P xs i d (omega arith) a.1
 
--- with one more
+-- each job has at least this key, with one more such job inserted
 all_insert : (key : ℕ) (qs : List Queued) (i : ℕ) (job : Queued) → AllFrom key qs → key ≤ job.key → AllFrom key (take i qs ++ job ∷ drop i qs)
 all_insert key qs zero job a h = (h, a)
 all_insert key [] (suc i) job a h = (h, tt)
 all_insert key (q ∷ qs) (suc i) job a h = (a.0, all_insert key qs i job a.1 h)
 
--- a job inserted at its position
+-- a queue with a job inserted at its position is a queue
 pub ordered_insert : (qs : List Queued) (i : ℕ) (job : Queued) → IsQueue qs → job.key < no_key → IsPositionFor qs job.key i → IsQueue (take i qs ++ job ∷ drop i qs)
 ordered_insert qs zero job q k p = (k, Each-map {P = λ (r : Queued). job.key < r.key} (λ r h. omega (arith, h)) qs p.before, q)
 ordered_insert [] (suc i) job q k p = absurd (let h = p.inside in omega (arith, h))
@@ -46,7 +46,8 @@ pub total_insert : (f : Queued → ℕ) (qs : List Queued) (i : ℕ) (job : Queu
 total_insert f qs i job =
     omega (arith, total-append f (take i qs) (job ∷ drop i qs), total-append f (take i qs) (drop i qs), ap (total f) (take-append-drop i qs))
 
--- an edit of the first that passes, as one of these keeps to keys that are no less, and to their order
+-- an edit of the first job that passes a test keeps a lower bound of the keys, and their order, if the edit
+-- does where that job is the head
 
 all_edit : (p : Queued → Bool) (k : Queued → List Queued) → ((key : ℕ) (x : Queued) (qs : List Queued) → AllFrom key (x ∷ qs) → AllFrom key (k x ++ qs)) →
     (key : ℕ) (qs : List Queued) → AllFrom key qs → AllFrom key (edit_first p k qs)
@@ -61,7 +62,7 @@ ordered_edit p k keeps order (x ∷ qs) q =
     elim (p x) as (λ b. IsQueue (cond b (k x ++ qs) (x ∷ edit_first p k qs)))
     [ true ↦ order x qs q | false ↦ (q.0, all_edit p k keeps x.key qs q.1, ordered_edit p k keeps order qs q.2) ]
 
--- without it
+-- a queue without the first job that passes a test is a queue
 pub ordered_remove : (p : Queued → Bool) (qs : List Queued) → IsQueue qs → IsQueue (remove_first p qs)
 ordered_remove p = ordered_edit p (λ x. []) (λ key x qs a. a.1) (λ x qs q. q.2)
 

@@ -70,7 +70,7 @@ waiting_is set rule (Release j true ∷ g) l =
 abbrev pub kept_of : Placed → KeptRelease
 kept_of x = x.kept
 
--- pending is what waits
+-- the kept releases are those with row numbers, without the numbers
 pub released_is : (h : List Row) → released h ≡ map (λ (x : Placed). x.kept) (placed h)
 released_is [] = refl
 released_is (Release j true ∷ g) = ap (λ xs. record { job = j; release = ticks g } ∷ xs) (released_is g)

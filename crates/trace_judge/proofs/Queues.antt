@@ -18,7 +18,7 @@ use Rattle.trace_judge.specs.Queues.{has_count, head_key, IsQueue, AreQueues, en
 use Rattle.trace_judge.proofs.Firsts.{find_after, find_front, find-map, none-map, edit_after, edit_front, edit-map}
 use Rattle.trace_judge.proofs.Ordered.{AllFrom, all_lower, head_least}
 
--- the queues of other tasks have no job of this one
+-- a job has no entry in the queues of other tasks
 
 other_queue : (j : JobId) (k : ℕ) (q : List Queued) → j.task.0 ≢ k → list_any (is_of j) (map (entry_in k) q) ≡ false
 other_queue j k [] ne = refl
@@ -30,7 +30,7 @@ later_queues j k (q ∷ qs) h =
     let here = other_queue j k q (λ e. omega (arith, h, e)) in
     rw (list_any-append (is_of j) (map (entry_in k) q) (entries_from (k + 1) qs), here, later_queues j (k + 1) qs (omega (arith, h))) refl
 
--- the entries with a queue in place of that at index i, of task number n, which alone has entries of its jobs
+-- the entries before and after the queue at index i, of task number n: none of them is of a job of the task
 record IsAround (n k : ℕ) (qs : List (List Queued)) (i : ℕ) : Type 0 where
   pub before : List Entry
   pub after : List Entry
@@ -57,7 +57,7 @@ around n k (q ∷ qs) (suc i) e h =
       none_after = a.none_after;
     }
 
--- and with the queue that is there
+-- the entries are those of the queue at index i, with the entries before and after that queue
 now : (n : ℕ) (qs : List (List Queued)) (i : ℕ) (d : List Queued) (a : IsAround n 1 qs i) → entries_from 1 qs ≡ a.before ++ (map (entry_in n) (get_or qs i d) ++ a.after)
 now n qs i d a = sym (ap (entries_from 1) (set-get_or qs i d)) ∙ a.whole (get_or qs i d)
 
@@ -65,7 +65,7 @@ now n qs i d a = sym (ap (entries_from 1) (set-get_or qs i d)) ∙ a.whole (get_
 own : (j : JobId) (x : Queued) → is_of j (entry_in j.task.0 x) ≡ has_count j.count x
 own j x = rw (eqb-refl j.task.0) refl
 
--- a queue with one job more
+-- one more job in the queue at index i adds the job's entry to the entries
 pub more_set : (n : ℕ) (qs : List (List Queued)) (i : ℕ) (r d : List Queued) (job : Queued) → n ≡ 1 + i → i < length qs →
     ((f : Queued → ℕ) → total f r ≡ f job + total f (get_or qs i d)) →
     IsMore (entries_from 1 (set qs i r)) (entry_in n job) (entries_from 1 qs)
@@ -73,7 +73,7 @@ more_set n qs i r d job e h more f =
     let a = around n 1 qs i e h in
     rw (a.whole r, now n qs i d a) (simp (total-append, total-map) (omega (arith, more (λ x. f (entry_in n x)))))
 
--- the job is found in the queue of its task
+-- a job that is found in the queue of its task is found among the entries
 pub found_own : (j : JobId) (qs : List (List Queued)) (i : ℕ) (d : List Queued) (q : Queued) → j.task.0 ≡ 1 + i → i < length qs →
     find (has_count j.count) (get_or qs i d) ≡ Some q →
     find (is_of j) (entries_from 1 qs) ≡ Some (entry_in j.task.0 q)
@@ -83,7 +83,7 @@ found_own j qs i d q e h f =
     rw (now j.task.0 qs i d a, find_after (is_of j) a.before (mine ++ a.after) (a.none_before j refl))
     (find_front (is_of j) mine a.after (entry_in j.task.0 q) (find-map (has_count j.count) (is_of j) (entry_in j.task.0) (own j) (get_or qs i d) q f))
 
--- or it has no entry
+-- a job that is not found in the queue of its task has no entry
 pub none_own : (j : JobId) (qs : List (List Queued)) (i : ℕ) (d : List Queued) → j.task.0 ≡ 1 + i → i < length qs → find (has_count j.count) (get_or qs i d) ≡ None →
     list_any (is_of j) (entries_from 1 qs) ≡ false
 none_own j qs i d e h f =
@@ -91,7 +91,7 @@ none_own j qs i d e h f =
     let none = none-map (has_count j.count) (is_of j) (entry_in j.task.0) (own j) (get_or qs i d) f in
     rw (now j.task.0 qs i d a, list_any-append (is_of j), a.none_before j refl, list_any-append (is_of j), none, a.none_after j refl) refl
 
--- the first entry of a job is edited in its own queue
+-- an edit of a job in the queue of its task is an edit of the job's first entry
 pub edited_own : (j : JobId) (k : Queued → List Queued) (l : Entry → List Entry) → ((x : Queued) → map (entry_in j.task.0) (k x) ≡ l (entry_in j.task.0 x)) →
     (qs : List (List Queued)) (i : ℕ) (d : List Queued) → j.task.0 ≡ 1 + i → i < length qs →
     entries_from 1 (set qs i (edit_first (has_count j.count) k (get_or qs i d))) ≡ edit_first (is_of j) l (entries_from 1 qs)
@@ -149,13 +149,13 @@ pub none_queues : (n : ℕ) → AllByRecursion IsQueue (replicate n [])
 none_queues zero = tt
 none_queues (suc n) = (tt, none_queues n)
 
--- one queue in place of another
+-- lists that are queues stay queues with one queue in place of another
 pub each_set : (qs : List (List Queued)) (i : ℕ) (r : List Queued) → AllByRecursion IsQueue qs → IsQueue r → AllByRecursion IsQueue (set qs i r)
 each_set [] i r each q = tt
 each_set (x ∷ qs) zero r each q = (q, each.1)
 each_set (x ∷ qs) (suc i) r each q = (each.0, each_set qs i r each.1 q)
 
--- the queues with another in place of one, and the key of its head
+-- the queues stay valid with another queue in place of one, if the key of its head is written too
 pub queues_set : (qs : List (List Queued)) (heads new : List ℕ) (i key : ℕ) (r : List Queued) → AreQueues qs heads → IsQueue r → new ≡ set heads i key →
     key ≡ head_key r → AreQueues (set qs i r) new
 queues_set qs heads new i key r a q is at = record {
@@ -165,14 +165,14 @@ queues_set qs heads new i key r a q is at = record {
   heads_are = is ∙ (ap (λ k. set heads i k) at ∙ (ap (λ ks. set ks i (head_key r)) a.heads_are ∙ sym (map-set head_key qs i r)));
 }
 
--- where that key is the same, those of the heads are
+-- the queues stay valid with another queue in place of one, if it has the same key at its head
 pub queues_same : (qs : List (List Queued)) (heads : List ℕ) (i : ℕ) (r d : List Queued) → AreQueues qs heads → IsQueue r → head_key r ≡ head_key (get_or qs i d) →
     AreQueues (set qs i r) heads
 queues_same qs heads i r d a q e =
     let at : head_key r ≡ get_or heads i (head_key d) = e ∙ (sym (get_or-map head_key qs i d) ∙ sym (ap (λ ks. get_or ks i (head_key d)) a.heads_are)) in
     queues_set qs heads heads i (get_or heads i (head_key d)) r a q (sym (set-get_or heads i (head_key d))) (sym at)
 
--- a job that is found in a queue has a key
+-- the key of a job that is found in a queue is less than that of an empty queue
 pub found_key : (p : Queued → Bool) (x : Queued) (q : List Queued) → IsQueue q → find p q ≡ Some x → x.key < no_key
 found_key p x [] o h = cc
 found_key p x (y ∷ q) o h = grind (arith, o.0, found_key p x q o.2)
@@ -183,7 +183,7 @@ place_inside h qs k view has =
     let tasks : length qs ≡ h.tasks = ap (λ (x : PendingEntries). x.tasks) view in
     omega (arith, has.0, has.1, tasks)
 
--- the entries that are left, from a job of the first queue on
+-- the entries from a job of the first queue on are the job's entry and those after it
 in_queue : (k : ℕ) (q : List Queued) (es : List Entry) (at : ℕ) (job : Queued) → at < length q → job ≡ get_or q at job → drop at (map (entry_in k) q ++ es) ≡ entry_in k job ∷ drop (at + 1) (map (entry_in k) q ++ es)
 in_queue k [] es at job h e = absurd (omega arith)
 in_queue k (x ∷ q) es zero job h e = ap (λ (y : Queued). entry_in k y ∷ (map (entry_in k) q ++ es)) (sym e)
@@ -194,7 +194,7 @@ past_queue : (k : ℕ) (q : List Queued) (es : List Entry) (at : ℕ) → at ≡
 past_queue k [] es at e = rw e refl
 past_queue k (x ∷ q) es at e = rw e (past_queue k q es (length q) refl)
 
--- the queues from one on
+-- the entries of the queues from an index on are those of the queue there and of the queues after it
 from_queue : (qs : List (List Queued)) (next : ℕ) (q : List Queued) → next < length qs → q ≡ get_or qs next q → entries_from (next + 1) (drop next qs) ≡ map (entry_in (next + 1)) q ++ entries_from (next + 1 + 1) (drop (next + 1) qs)
 from_queue qs next q h e = ap (entries_from (next + 1)) (drop_more qs next q h ∙ ap (λ (r : List Queued). r ∷ drop (next + 1) qs) (sym e))
 

@@ -29,12 +29,12 @@ list_all-filter : {X : Type 0} (p q : X → Bool) → (xs : List X) → list_all
 list_all-filter p q [] h = refl
 list_all-filter p q (x ∷ xs) h = grind (arith, list_all-filter p q xs)
 
--- a test that is weaker passes too
+-- elements that all pass a test all pass a weaker one
 list_all-weaker : {X : Type 0} (p q : X → Bool) → ((x : X) → p x ≡ true → q x ≡ true) → (xs : List X) → list_all p xs ≡ true → list_all q xs ≡ true
 list_all-weaker p q w [] h = refl
 list_all-weaker p q w (x ∷ xs) h = grind (arith, w x, list_all-weaker p q w xs)
 
--- a stretch of time that ends sooner
+-- a deadline outside a stretch of time is outside one that ends sooner
 outside_sooner : (after until until' d : ℕ) → until' ≤ until → is_outside after until d ≡ true → is_outside after until' d ≡ true
 outside_sooner after until until' d s h = grind (arith, nat_tests)
 
@@ -60,12 +60,12 @@ quiet_release set j h q d e all =
     let here : is_outside q.after (min q.until d) (ticks h + period_in (task_at set j.task.0)) ≡ true = grind (arith, nat_tests, e) in
     rw (here, more) refl
 
--- what is kept of the pending jobs has no deadline where they have none
+-- the entries have no deadline in a stretch of time exactly if the pending jobs have none
 pub quiet_same : (set : List Task) (rule : Rule) (h : List Row) (s : State) (q : Quiet) → Tracks set rule h s →
     are_quiet set q.after q.until s.waiting.entries ≡ list_all (λ (x : Placed). is_outside q.after q.until (deadline set x.kept)) (waiting set h)
 quiet_same set rule h s q t = same_all s.waiting.entries (entry_of set rule h) (waiting set h) t.waiting (λ e. is_outside q.after q.until (deadline_at set e))
 
--- in such a stretch of time no job turns late
+-- in a stretch of time in which no entry has its deadline no job turns late
 pub none_turned : (set : List Task) (after until since now : ℕ) → after ≤ since → now < until → (es : List Entry) → are_quiet set after until es ≡ true → turned_of set since now es ≡ []
 none_turned set after until since now a b [] h = refl
 none_turned set after until since now a b (e ∷ es) h = grind (arith, nat_tests, none_turned set after until since now a b es)

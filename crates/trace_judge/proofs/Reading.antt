@@ -10,7 +10,7 @@ use Rattle.mc_model.proofs.Runs.{expand-append, rows_more, reverse-copies, lengt
 abbrev pub read : List Run → ℕ → List Row
 read runs i = reverse (expand (take i runs))
 
--- the rows from the newest on, in the midst of the runs
+-- all rows are those of later runs, those of the run at index i, and those of the runs read before
 pub rows_split : (runs : List Run) (i : ℕ) (d : Run) → i < length runs → reverse (expand runs) ≡ reverse (expand (drop (i + 1) runs)) ++ (rows_of (get_or runs i d) ++ read runs i)
 rows_split runs i d h =
     let a : take i runs ++ get_or runs i d ∷ drop (i + 1) runs ≡ runs = ap (λ xs. take i runs ++ xs) (sym (drop_more runs i d h)) ∙ take-append-drop i runs in
@@ -57,6 +57,6 @@ around_run_after runs i r h l e =
     let later : List Row = reverse (expand (drop (i + 1) runs)) in
     ap (λ xs. xs ++ h) (around_run runs i r l e) ∙ (append_assoc later (rows_of r ++ read runs i) h ∙ ap (λ xs. later ++ xs) (append_assoc (rows_of r) (read runs i) h))
 
--- once all runs are read
+-- once all runs are read, the rows that were read are all rows
 pub all_read : (runs : List Run) (i : ℕ) → length runs ≤ i → read runs i ≡ reverse (expand runs)
 all_read runs i e = ap (λ (xs : List Run). reverse (expand xs)) (take_all _ _ e)

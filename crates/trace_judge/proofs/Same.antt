@@ -15,7 +15,7 @@ pub all_total : {X : Type 0} (p : X → Bool) → (xs : List X) → list_all p x
 all_total p [] = grind (arith, nat_tests)
 all_total p (x ∷ xs) = grind (arith, nat_tests, all_total p xs)
 
--- a test that all values pass
+-- each element of a list passes a test that all values pass
 pub list_all-true : {X : Type 0} (p : X → Bool) → ((x : X) → p x ≡ true) → (xs : List X) → list_all p xs ≡ true
 list_all-true p h [] = refl
 list_all-true p h (x ∷ xs) = rw (h x, list_all-true p h xs) refl
@@ -30,7 +30,7 @@ pub list_all-map : {X Y : Type 0} (p : Y → Bool) (f : X → Y) → (xs : List 
 list_all-map p f [] = refl
 list_all-map p f (x ∷ xs) = ap (λ b. p (f x) && b) (list_all-map p f xs)
 
--- a part of a mapped list
+-- the part of a mapped list that passes a test
 pub filter-map : {X Y : Type 0} (p : Y → Bool) (f : X → Y) → (xs : List X) → filter p (map f xs) ≡ map f (filter (λ x. p (f x)) xs)
 filter-map p f [] = refl
 filter-map p f (x ∷ xs) = grind (arith, filter-map p f xs)

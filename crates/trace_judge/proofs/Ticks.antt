@@ -43,11 +43,11 @@ use Rattle.trace_judge.proofs.Placed.{pending_is}
 use Rattle.trace_judge.proofs.Faults.{found_least, pending_same, least_same, found_used, stands_least, over_virtual}
 use Rattle.trace_judge.proofs.Keeps.{keeps_end, keeps_over, keeps_more}
 
--- before it a tick may be one after which the job goes on
+-- a tick that does not reach the budget may be one after which the job goes on
 goes_on : (c : Bool) (u low own : ℕ) → low ≤ own → u + 1 ≤ cond c low own → same_how More (cond (u == own) Stop (cond (c && (u == low)) Over More)) ≡ true
 goes_on c u low own o h = grind (arith, nat_tests)
 
--- at it no tick is
+-- a tick that reaches the budget is not one after which the job goes on
 ends_there : (c : Bool) (u low own : ℕ) → u ≡ cond c low own → same_how More (cond (u == own) Stop (cond (c && (u == low)) Over More)) ≡ false
 ends_there c u low own h = grind (arith, nat_tests)
 
@@ -59,7 +59,7 @@ more_fault set rule j n g p l =
     let u : used (replicate n (Tick j More) ++ g) j ≡ used g j + n = used_more j n g j ∙ rw (same_job-refl j) (omega arith) in
     rw (pending_more set j n g, mode_more rule j n g, u, p, l) refl
 
--- as many of the ticks fit as stay below the budget
+-- n ticks after which the job goes on fit if they stay below the budget
 pub more_legal : (set : List Task) (rule : Rule) (j : JobId) (n : ℕ) (g : List Row) → low_in (task_at set j.task.0) ≤ own_in (task_at set j.task.0) → IsIn set j.task.0 → Legal set rule g →
     is_pending (pending set g) j ≡ true → is_least set rule (high_mode rule g) (pending set g) j ≡ true → used g j + n + 1 ≤ budget rule (high_mode rule g) (task_at set j.task.0) → Legal set rule (replicate n (Tick j More) ++ g)
 more_legal set rule j zero g o i v p l h = v
@@ -106,25 +106,25 @@ pub record IsTicking (set : List Task) (rule : Rule) (g : List Row) (s : State) 
   pub is_run : IsRun (run.Ticks j how n)
   pub each : AllByRecursion IsTask set
 
--- the job is pending
+-- the job of a run of ticks is pending
 is_there : (set : List Task) (rule : Rule) (g : List Row) (s : State) (j : JobId) (how : How) (n k : ℕ) (p : Pending) (task : Task) → IsTicking set rule g s j how n k p task → is_pending (pending set g) j ≡ true
 is_there set rule g s j how n k p task i =
     ap (λ xs. is_pending xs j) (pending_is set rule g i.legal)
     ∙ (pending_same set rule g s j i.tracks ∙ found_any (is_of j) ((k, j.task.0, j.count), p) s.waiting.entries i.least.0)
 
--- at a least key
+-- the job of a run of ticks is at a least key
 is_first : (set : List Task) (rule : Rule) (g : List Row) (s : State) (j : JobId) (how : How) (n k : ℕ) (p : Pending) (task : Task) → IsTicking set rule g s j how n k p task → is_least set rule (high_mode rule g) (pending set g) j ≡ true
 is_first set rule g s j how n k p task i =
     ap (λ xs. is_least set rule (high_mode rule g) xs j) (pending_is set rule g i.legal)
     ∙ (least_same set rule g s j i.tracks ∙ found_least j ((k, j.task.0, j.count), p) s.waiting.entries i.least.1 i.least.0)
 
--- the budget of the ticking job, and that it has a tick of it left
+-- the budget of the job of a run of ticks, of which at least one tick is left
 budget_is : (set : List Task) (rule : Rule) (g : List Row) (s : State) (j : JobId) (how : How) (n k : ℕ) (p : Pending) (task : Task) → IsTicking set rule g s j how n k p task →
     (budget rule s.high_mode (Some task) ≡ budget rule (high_mode rule g) (task_at set j.task.0)) × (p.used ≡ used g j) × (used g j + 1 ≤ budget rule (high_mode rule g) (task_at set j.task.0))
 budget_is set rule g s j how n k p task i =
     (rw (i.at, i.tracks.mode) refl, found_used set rule g s j k p i.tracks i.least.0, pending_budget set rule g j i.each i.legal (is_there set rule g s j how n k p task i))
 
--- that many of the run's ticks, after which the job continues, fit
+-- m of the run's ticks, after which the job continues, fit if they stay below the budget
 more_fit : (set : List Task) (rule : Rule) (g : List Row) (s : State) (j : JobId) (n k : ℕ) (p : Pending) (task : Task) → IsTicking set rule g s j More n k p task →
     (m : ℕ) → m ≤ budget rule s.high_mode (Some task) - p.used - 1 → Legal set rule (replicate m (Tick j More) ++ g)
 more_fit set rule g s j n k p task i m h =
@@ -163,7 +163,7 @@ stops set rule g s j More n k p task i fit e h =
     }
 stops set rule g s j how n k p task i fit e h = one_stops set rule g s j how n k p task i fit e h
 
--- where all fit, the rows with them are legal
+-- if all ticks of the run fit, the rows with them are legal
 pub fits : (set : List Task) (rule : Rule) (g : List Row) (s : State) (j : JobId) (how : How) (n k : ℕ) (p : Pending) (task : Task) → IsTicking set rule g s j how n k p task →
     n ≤ fitting rule s.high_mode (Some task) p.used how n → Legal set rule (replicate n (Tick j how) ++ g)
 fits set rule g s j More n k p task i h = more_fit set rule g s j n k p task i n (omega (arith, h))
@@ -177,7 +177,7 @@ Ticks set rule t j p More n old new = GoesOn n j old new
 Ticks set rule t j p Over n old new = Overruns set rule j old new
 Ticks set rule t j p how n old new = Ends t j p old new
 
--- where all fit, what is kept follows them
+-- if all ticks of the run fit, what is kept follows them
 pub goes :
     (set : List Task) (rule : Rule) (g : List Row) (s s' : State) (j : JobId) (how : How) (n k : ℕ) (p : Pending) (task : Task) → IsTicking set rule g s j how n k p task →
     n ≤ fitting rule s.high_mode (Some task) p.used how n → Ticks set rule (Some task) j p how n s s' → Legal set rule (replicate n (Tick j how) ++ g) × Tracks set rule (replicate n (Tick j how) ++ g) s'

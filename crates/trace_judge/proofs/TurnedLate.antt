@@ -72,11 +72,12 @@ same_waiting set t u h f ws =
     total-same (when (is_due set u) f) (λ x. when (is_due set t) f x + when (λ x. is_turned set t u x.kept) f x) (λ x. since_then _ t u (f x) h) ws
     ∙ total-add (when (is_due set t) f) (when (λ x. is_turned set t u x.kept) f) ws
 
--- none turns late at once
+-- no job turns late from a boundary to the same boundary
 none_turned : (set : List Task) (t : ℕ) (f : Placed → ℕ) (ws : List Placed) → total (when (λ x. is_turned set t t x.kept) f) ws ≡ 0
 none_turned set t f ws = total-same (when (λ x. is_turned set t t x.kept) f) (λ x. 0) (λ x. grind arith) ws ∙ total-zero ws
 
--- where some of them stay, and the others are gone late where their deadlines had come
+-- if some pending jobs stay, and the others are gone late where their deadlines had come, only those that
+-- stay turn late
 some_stay : (set : List Task) (t u : ℕ) → t ≤ u → (st : Placed → Bool) (f : Placed → ℕ) (ws : List Placed) →
     total f (filter (λ x. not (st x) && is_due set t x) ws) + total (when (is_due set u) f) (filter st ws)
     ≡ total (when (is_due set t) f) ws + total (when (λ x. is_turned set t u x.kept) f) (filter st ws)
@@ -141,7 +142,7 @@ turned_sum set rule h s since t f =
     ∙ (t.waiting (when p (λ e. f (turned_entry set e)))
     ∙ total-same (λ x. when p (λ e. f (turned_entry set e)) (entry_of set rule h x)) (when (λ x. is_turned set since (ticks h) x.kept) (λ x. f (turned_job set x))) (λ x. rw t.ticks refl) (waiting set h)))
 
--- jobs with the sums of those entries are the pending ones whose deadlines have come since
+-- jobs with the sums of the entries that turned late are the pending ones whose deadlines have come since
 pub are_turned : (set : List Task) (rule : Rule) (h : List Row) (s : State) (since : ℕ) (ts : List Turned) → Legal set rule h → Tracks set rule h s →
     ((f : Turned → ℕ) → total f ts ≡ total f (turned_of set since s.ticks s.waiting.entries)) → AreTurned set h since ts
 are_turned set rule h s since ts l t same f =
@@ -152,7 +153,7 @@ are_turned set rule h s since ts l t same f =
     ∙ ap (total (when q g)) (waiting_is set rule h l)) in
     same f ∙ (turned_sum set rule h s since t f ∙ sym listed)
 
--- jobs with the sums of those entries are the ones that became late by the run
+-- jobs with the sums of the entries that turned late are the ones that became late by the run
 pub add_late : (set : List Task) (rule : Rule) (r : Run) (h : List Row) (s : State) (since : ℕ) (ts : List Turned) → IsRun r → AllByRecursion IsTask set → since ≡ ticks h → Legal set rule (rows_of r ++ h) → Tracks set rule (rows_of r ++ h) s →
     ((f : Turned → ℕ) → total f ts ≡ total f (turned_of set since s.ticks s.waiting.entries)) → AddLate set r h ts
 add_late set rule r h s since ts i each e l t same f =

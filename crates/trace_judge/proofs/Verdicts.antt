@@ -66,7 +66,7 @@ abbrev pub last : {X : Type 0} → List X → Option X
 last [] = None
 last (x ∷ xs) = option_or (last xs) (Some x)
 
--- the first, with one more at the end
+-- the first element of a list with one more at the end
 first_push : {X : Type 0} (xs : List X) (x : X) → slice_get (xs ++ x ∷ []) 0 ≡ option_or (slice_get xs 0) (Some x)
 first_push [] x = refl
 first_push (y ∷ ys) x = refl
@@ -102,7 +102,7 @@ jobs_of : (xs : List Placed) → map (λ (i : KeptRelease). i.job) (map kept_of 
 jobs_of [] = refl
 jobs_of (x ∷ xs) = ap (λ ys. x.kept.job ∷ ys) (jobs_of xs)
 
--- the late jobs are these
+-- the late jobs are those of the late kept releases, the oldest first
 pub late_is : (set : List Task) (h : List Row) → late set h ≡ reverse (map (λ (x : Placed). x.kept.job) (filter (λ x. is_late set h x.kept) (placed h)))
 late_is set h =
     map-reverse (λ (i : KeptRelease). i.job) (filter (is_late set h) (released h))
@@ -120,7 +120,7 @@ noted_at_end set rule h s l t =
     omega (arith, noted, due, late_total set rule h l (λ x. f (late_job_in x)), total-filter (λ x. f (late_job_in x)) (λ x. is_late set h x.kept) (placed h)))
     (counts_all (is_due_entry set s.ticks) s.late_jobs (late_sum_of set h) s.waiting.entries (sums_of set h) t.late_jobs)
 
--- how many are late
+-- the count that is noted is the number of late jobs
 pub legal_count : (set : List Task) (h : List Row) (s : LateJobs) → length h < 2 ^ 64 → CountsLateJobs s (λ f. total (λ x. f (late_job_in x)) (filter (λ x. is_late set h x.kept) (placed h))) → s.count ≡ length (late set h)
 legal_count set h s room c =
     let ps : List Placed = filter (λ x. is_late set h x.kept) (placed h) in
@@ -135,7 +135,7 @@ legal_first set h s c =
     last_is s.first ps (filter_descends (λ x. is_late set h x.kept) (placed h) (placed_descends h)) c.first
     ∙ sym (ap (λ xs. slice_get xs 0) (late_is set h) ∙ first-reverse (map (λ (x : Placed). x.kept.job) ps))
 
--- a fault stays the first
+-- the first fault stays the first after more rows
 pub fault_stays : (set : List Task) (rule : Rule) (p : RowFault) (xs h : List Row) → first_unfit set rule h ≡ Some p → first_unfit set rule (xs ++ h) ≡ Some p
 fault_stays set rule p [] h e = e
 fault_stays set rule p (x ∷ xs) h e = rw (fault_stays set rule p xs h e) refl

@@ -52,7 +52,7 @@ stops_unfit set rule r g n m l s =
     ∙ (ap (option_map (λ (x : RowFault). an_unfit x.place x.why)) (fault_stays set rule f more (row ∷ k) here)
     ∙ ap (λ (p : ℕ). Some (an_unfit p m.why)) place)
 
--- of a fault that is known
+-- the first fault of the rows has the number and the cause of the row that does not fit
 known_unfit : (set : List Task) (rule : Rule) (h : List Row) (u : Unfit) (o : Option RowFault) → first_unfit set rule h ≡ o → option_map (λ (x : RowFault). an_unfit x.place x.why) o ≡ Some u → first_unfit set rule h ≡ Some (record { place = u.place; why = u.why })
 known_unfit set rule h u None e k = cc
 known_unfit set rule h u (Some p) e k = grind (arith, e, k)
@@ -71,7 +71,7 @@ unfit_verdict set rule u h e = sym (ap (λ o. verdict_of o (late set h)) (known_
 pub none_unfit : (set : List Task) (rule : Rule) (h : List Row) → Legal set rule h → None ≡ unfit_in set rule h
 none_unfit set rule h l = sym (ap (option_map (λ (x : RowFault). an_unfit x.place x.why)) (no_fault set rule h l))
 
--- what is kept before the first row
+-- what a new state keeps is right before the first row
 pub tracks_none : (set : List Task) (rule : Rule) (n : ℕ) (s : State) → n ≡ length set → IsNew n s → Tracks set rule [] s
 tracks_none set rule n s e i = record {
   ticks = i.ticks;
@@ -107,7 +107,7 @@ pub none_found : (o : Option Unfit) → is_none o ≡ true → o ≡ None
 none_found None e = refl
 none_found (Some u) e = cc
 
--- a row that does not fit is known
+-- if not each row has fitted, a monitor has found a row that does not fit
 pub found_one : (o : Option Unfit) → is_none o ≡ false → (u : Unfit) × (o ≡ Some u)
 found_one None e = absurd (cc)
 found_one (Some u) e = (u, refl)

@@ -60,6 +60,6 @@ turned_entry set e = record {
   rows_before = e.1.rows_before;
 }
 
--- the jobs of those entries whose deadlines have come since that boundary
+-- the jobs of the entries whose deadlines have come since a boundary
 abbrev pub turned_of : List Task → ℕ → ℕ → List Entry → List Turned
 turned_of set since now es = map (turned_entry set) (filter (is_turned_entry set since now) es)

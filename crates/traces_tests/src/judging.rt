@@ -1,8 +1,11 @@
 //! Tests of the judge.
-ghost use Rattle.std.specs.Prelude.{◌≡◌, ◌<◌, ◌≤◌, ◌^◌, IsTrue, All};
+ghost use Rattle.std.specs.Prelude.{◌≡◌, ◌<◌, ◌≤◌, ◌^◌, IsTrue, IfOk, All, None, Option, List, reverse};
+ghost use Rattle.mc_task.specs.declared.task.JobId.{JobId};
 ghost use Rattle.mc_model.specs.Holds.{Fits};
 ghost use Rattle.mc_model.specs.Sums.{total};
-ghost use Rattle.mc_model.specs.Runs.{length_of, IsRun, AreRuns, IsRunOfSet};
+ghost use Rattle.mc_model.specs.Runs.{length_of, expand, IsRun, AreRuns, IsRunOfSet};
+ghost use Rattle.mc_model.specs.Traces.{IsTraceOf};
+ghost use Rattle.mc_model.specs.Verdict.{RowFault, verdict_of};
 
 // Macros that write verdicts in a few words. They are macros, since a constant's value cannot call a function.
 macro_rules! illegal {
@@ -37,7 +40,7 @@ use trace_judge::judge;
 use worked_sets::{CONTROL, Line, PLAIN_PAIR, job, set_of};
 
 // The rule of the test for `CONTROL`.
-const SCALED: Rule = Rule::Virtual { p: 2, q: 5 };
+pub const SCALED: Rule = Rule::Virtual { p: 2, q: 5 };
 
 const UNSCALED: Rule = Rule::Virtual { p: 1, q: 1 };
 
@@ -147,23 +150,25 @@ fn length_of(run: &Run) -> u64
     }
 }
 
-fn has_few_ticks(runs: &[Run]) -> bool
-    ensures { IsTrue result → total length_of runs.now ≤ 100000000 }
+// Whether the runs have at most this number of ticks.
+pub fn has_at_most(most: u64, runs: &[Run]) -> bool
+    requires { most ≤ 100000000 }
+    ensures { IsTrue result → total length_of runs.now ≤ most }
 {
     let mut ticks = 0;
     for run in runs {
-        if ticks > 100_000_000 {
+        if ticks > most {
             return false;
         }
         ticks += length_of(run);
     }
-    ticks <= 100_000_000
+    ticks <= most
 }
 
 fn are_runs(runs: &[Run]) -> bool
     ensures { IsTrue result → AreRuns runs.now }
 {
-    runs.len() <= 2_000_000 && runs.iter().all(is_run) && has_few_ticks(runs)
+    runs.len() <= 2_000_000 && runs.iter().all(is_run) && has_at_most(100_000_000, runs)
 }
 
 fn fits(rule: Rule) -> bool
@@ -183,24 +188,42 @@ fn judged(alloc: Global, set: &TaskSet, rule: Rule, runs: &[Run]) -> Result<Verd
     Ok(judge(alloc, set, rule, runs)?)
 }
 
+fn is_legal(verdict: Verdict) -> bool
+    ensures { IsTrue result → (f : Option RowFault) (late : List JobId) → verdict ≡ verdict_of f late → f ≡ None }
+{
+    match verdict {
+        Verdict::Legal { .. } => true,
+        Verdict::Illegal { .. } => false,
+    }
+}
+
+// Whether the judge finds the runs legal under the rule.
+pub fn is_trace(alloc: Global, set: &TaskSet, rule: Rule, runs: &[Run]) -> Result<bool, Fail>
+    ensures runs { IfOk result (λ yes. IsTrue yes → AreRuns runs.now) }
+    ensures trace { IfOk result (λ yes. IsTrue yes → IsTraceOf set.now.tasks (reverse (expand runs.now))) }
+{
+    if !fits(rule) || !are_of_set(set, runs) || !are_runs(runs) {
+        return Ok(false);
+    }
+    Ok(is_legal(judge(alloc, set, rule, runs)?))
+}
+
 // The verdict on the runs of a text.
 fn verdict(alloc: Global, set: &TaskSet, rule: Rule, text: &str) -> Result<Verdict, Fail> {
     let runs = runs_of(alloc, set, text)?;
     judged(alloc, set, rule, &runs)
 }
 
-// The first of the texts whose verdict differs from the one beside it, and its verdict.
+// The first of the texts whose verdict differs from the one beside it.
 fn first_wrong<'a>(
     alloc: Global,
-    lines: &[Line],
+    set: &TaskSet,
     rule: Rule,
     table: &[(&'a str, Verdict)],
-) -> Result<Option<(&'a str, Verdict)>, Fail> {
-    let set = set_of(alloc, lines)?;
+) -> Result<Option<&'a str>, Fail> {
     for (text, expected) in table {
-        let got = verdict(alloc, &set, rule, text)?;
-        if got != *expected {
-            return Ok(Some((*text, got)));
+        if verdict(alloc, set, rule, text)? != *expected {
+            return Ok(Some(*text));
         }
     }
     Ok(None)
@@ -211,6 +234,7 @@ const IN_TIME: Verdict = Verdict::Legal {
     first: None,
 };
 
+// The first row that does not fit is reported.
 const FIRST_MISFITS: [(&str, Verdict); 15] = [
     (
         "release log 1 kept, tick log 1 done, release log 2 kept",
@@ -262,15 +286,6 @@ const FIRST_MISFITS: [(&str, Verdict); 15] = [
 ];
 
 #[test]
-fn the_first_row_that_does_not_fit_is_reported(rt: HostRuntime) -> Result<(), Fail> {
-    assert_eq!(rt;
-        first_wrong(rt.alloc(), &CONTROL, SCALED, &FIRST_MISFITS)?,
-        None
-    );
-    Ok(())
-}
-
-#[test]
 fn no_runs_are_legal(rt: HostRuntime) -> Result<(), Fail> {
     let alloc = rt.alloc();
     let set = set_of(alloc, &CONTROL)?;
@@ -286,17 +301,12 @@ const LOG_FIRST: &str =
 const LOG_EARLY: &str =
     "release ctl 1 kept, release log 1 kept, tick log 1 more, tick log 1 more, tick log 1 more, tick log 1 done, tick ctl 1 more, tick ctl 1 over, tick ctl 1 more, tick ctl 1 more, tick ctl 1 more, tick ctl 1 done";
 
+// A job is late by a tick.
 const BY_A_TICK: [(&str, Verdict); 2] = [(LOG_FIRST, late!(1, 1, 1)), (LOG_EARLY, IN_TIME)];
 
-#[test]
-fn a_job_is_late_by_a_tick(rt: HostRuntime) -> Result<(), Fail> {
-    let alloc = rt.alloc();
-    let log_waits = [(LOG_FIRST, illegal!(3, Why::NotLeast))];
-    assert_eq!(rt; first_wrong(alloc, &CONTROL, UNSCALED, &BY_A_TICK)?, None);
-    assert_eq!(rt; first_wrong(alloc, &CONTROL, SCALED, &log_waits)?, None);
-    Ok(())
-}
+const LOG_WAITS: [(&str, Verdict); 1] = [(LOG_FIRST, illegal!(3, Why::NotLeast))];
 
+// Several jobs of a task are pending.
 const SEVERAL_PENDING: [(&str, Verdict); 4] = [
     (
         "release a 1 kept, release b 1 kept, tick a 1 done",
@@ -316,15 +326,7 @@ const SEVERAL_PENDING: [(&str, Verdict); 4] = [
     ),
 ];
 
-#[test]
-fn several_jobs_of_a_task_are_pending(rt: HostRuntime) -> Result<(), Fail> {
-    assert_eq!(rt;
-        first_wrong(rt.alloc(), &OVERLOAD, UNSCALED, &SEVERAL_PENDING)?,
-        None
-    );
-    Ok(())
-}
-
+// A discarded job is late where its deadline came first.
 const DISCARDED: [(&str, Verdict); 2] = [
     (
         "release log 1 kept, release ctl 1 kept, tick ctl 1 done, release fix 1 kept, tick fix 1 more, tick fix 1 over",
@@ -336,20 +338,7 @@ const DISCARDED: [(&str, Verdict); 2] = [
     ),
 ];
 
-#[test]
-fn a_discarded_job_is_late_where_its_deadline_came_first(rt: HostRuntime) -> Result<(), Fail> {
-    assert_eq!(rt;
-        first_wrong(
-            rt.alloc(),
-            &SHORT_LOW,
-            Rule::Virtual { p: 1, q: 10 },
-            &DISCARDED
-        )?,
-        None
-    );
-    Ok(())
-}
-
+// Plain EDF never switches.
 const PLAIN: [(&str, Verdict); 2] = [
     (
         "release hi 1 kept, release lo 1 kept, tick hi 1 more, tick hi 1 done, tick lo 1 more, tick lo 1 done",
@@ -361,18 +350,10 @@ const PLAIN: [(&str, Verdict); 2] = [
     ),
 ];
 
-#[test]
-fn plain_edf_never_switches(rt: HostRuntime) -> Result<(), Fail> {
-    assert_eq!(rt;
-        first_wrong(rt.alloc(), &PLAIN_PAIR, Rule::Plain, &PLAIN)?,
-        None
-    );
-    Ok(())
-}
-
 // Two tasks, each with a deadline of 10 ticks; one of them may take 50.
 const TWO_OF_TEN: [Line; 2] = [("long", Low, 10, 50, 50), ("b", Low, 10, 1, 1)];
 
+// The row within a run is reported.
 const WITHIN_RUNS: [(&str, Verdict); 11] = [
     (
         "release log 1 kept, tick log 1 more 5",
@@ -416,15 +397,7 @@ const WITHIN_RUNS: [(&str, Verdict); 11] = [
     ),
 ];
 
-#[test]
-fn the_row_within_a_run_is_reported(rt: HostRuntime) -> Result<(), Fail> {
-    assert_eq!(rt;
-        first_wrong(rt.alloc(), &CONTROL, SCALED, &WITHIN_RUNS)?,
-        None
-    );
-    Ok(())
-}
-
+// Deadlines pass within a run.
 const PASSED_WITHIN_RUNS: [(&str, Verdict); 4] = [
     (
         "release long 1 kept, release b 1 kept, tick long 1 more 9",
@@ -444,15 +417,7 @@ const PASSED_WITHIN_RUNS: [(&str, Verdict); 4] = [
     ),
 ];
 
-#[test]
-fn deadlines_pass_within_a_run(rt: HostRuntime) -> Result<(), Fail> {
-    assert_eq!(rt;
-        first_wrong(rt.alloc(), &TWO_OF_TEN, Rule::Plain, &PASSED_WITHIN_RUNS)?,
-        None
-    );
-    Ok(())
-}
-
+// The mode is low after an idle run.
 const BACK_IN_LOW_MODE: [(&str, Verdict); 3] = [
     (
         "release ctl 1 kept, tick ctl 1 more, tick ctl 1 over, tick ctl 1 done, idle 1, release log 1 kept",
@@ -468,15 +433,7 @@ const BACK_IN_LOW_MODE: [(&str, Verdict); 3] = [
     ),
 ];
 
-#[test]
-fn the_mode_is_low_after_an_idle_run(rt: HostRuntime) -> Result<(), Fail> {
-    assert_eq!(rt;
-        first_wrong(rt.alloc(), &CONTROL, SCALED, &BACK_IN_LOW_MODE)?,
-        None
-    );
-    Ok(())
-}
-
+// A run of 100 million ticks is one step.
 const LONG_RUNS: [(&str, Verdict); 2] = [
     ("idle 100000000", IN_TIME),
     (
@@ -485,11 +442,25 @@ const LONG_RUNS: [(&str, Verdict); 2] = [
     ),
 ];
 
+// Runs of these lines, and the verdicts on them under this rule.
+const VERDICTS: [(&[Line], Rule, &[(&str, Verdict)]); 10] = [
+    (&CONTROL, SCALED, &FIRST_MISFITS),
+    (&CONTROL, UNSCALED, &BY_A_TICK),
+    (&CONTROL, SCALED, &LOG_WAITS),
+    (&OVERLOAD, UNSCALED, &SEVERAL_PENDING),
+    (&SHORT_LOW, Rule::Virtual { p: 1, q: 10 }, &DISCARDED),
+    (&PLAIN_PAIR, Rule::Plain, &PLAIN),
+    (&CONTROL, SCALED, &WITHIN_RUNS),
+    (&TWO_OF_TEN, Rule::Plain, &PASSED_WITHIN_RUNS),
+    (&CONTROL, SCALED, &BACK_IN_LOW_MODE),
+    (&CONTROL, SCALED, &LONG_RUNS),
+];
+
 #[test]
-fn a_run_of_100_million_ticks_is_one_step(rt: HostRuntime) -> Result<(), Fail> {
-    assert_eq!(rt;
-        first_wrong(rt.alloc(), &CONTROL, SCALED, &LONG_RUNS)?,
-        None
-    );
+fn each_trace_has_its_verdict(rt: HostRuntime) -> Result<(), Fail> {
+    for (lines, rule, table) in VERDICTS {
+        let set = set_of(rt.alloc(), lines)?;
+        assert_eq!(rt; first_wrong(rt.alloc(), &set, rule, table)?, None);
+    }
     Ok(())
 }

@@ -73,8 +73,8 @@ module _ {S E F : Type 0} (kept : Ghosts S E F) (fixed : F) (seats : ℕ) where
         absurd (cc)
   ]
 
-  -- a seat that looks at the served ticket keeps the rule; if it is its own, the seat takes the state out of
-  -- the slot
+  -- a seat that looks at the served ticket keeps the rule; if the ticket is its own, the seat takes the
+  -- state out of the slot
   pub looks : (n id : ℕ) (m : Standing S E F) → IsWaiting m → Allows (Rule kept fixed seats) n id m 1 (λ k. k) (Looks kept (step n 1 0 0 maybe.none) m)
   looks n id m is s r wide at lt =
       let v : SeatView E F = m.0 in

@@ -5,4 +5,3 @@ pub mod Steps
 pub mod Seats
 pub mod Joined
 pub mod Lending
-pub mod Counting

@@ -7,8 +7,6 @@ mod closing;
 mod kept;
 mod opening;
 mod plays;
-#[cfg(test)]
-mod tests;
 mod tokens;
 mod turns;
 

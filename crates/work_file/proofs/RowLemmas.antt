@@ -47,7 +47,7 @@ follow-last : (set : List Task) (v u : WorkRow) (us : List WorkRow) → AllFollo
 follow-last set v u [] h = h.0.order
 follow-last set v u (x ∷ xs) h = follow-last set v x xs (h.1)
 
--- the last row of the same task is released at least a period later
+-- the last row of the same task is released at least a period after row v, which is before all of them
 follow-last_of : (set : List Task) (v : WorkRow) (us : List WorkRow) (x : WorkRow) → AllFollow set v us → last_of v.task.0 us ≡ Some x
     → v.release + period_in (task_at set v.task.0) ≤ x.release
 follow-last_of set v [] x h e = absurd (cc)

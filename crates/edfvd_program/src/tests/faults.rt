@@ -1,10 +1,12 @@
 //! Files that cannot be read, and writes that fail.
-use super::outside::{Faults, NO_FAULTS, Outside, calm_status, ends};
+use super::outside::{Faults, NO_FAULTS, Outside, calm_status, ends, status_of};
 use super::{
     CHECK, CONTROL, CONTROL_TEXT, HEADER, JUDGE, LONG_PERIODS, LOW_FIRST, OVERLOADED, OVERRUN_WORK,
     PLANT, PLANT_WORK, RUN_ALL, UNDER_HALF, UNDER_ONE,
 };
 use executive::QuietGate;
+use mc_world::{CalmSink, FetchFault, Shelf};
+use std::alloc::Global;
 
 const RUN: &[&str] = &["run", "tasks.toml", "second.csv", "12"];
 
@@ -253,4 +255,26 @@ fn nothing_fails_over_a_calm_shelf_and_a_calm_sink(rt: HostRuntime) {
     for (words, status) in CALM_CASES {
         assert!(rt; calm_status(&rt, rt.alloc(), words, &outside) == Some(*status));
     }
+}
+
+// A shelf on which each fetch runs out of memory.
+#[derive(Drop)]
+struct NoMemory;
+
+impl Shelf for NoMemory {
+    ghost use Rattle.std.specs.Prelude.{None, ◌^◌, ◌-◌};
+
+    // Its count of such fetches is the greatest of its type.
+    ghost state = { λ s. record { holds = None; fetches = None; faults = 0; memory_faults = 2 ^ 64 - 1; bytes_read = 0 } };
+
+    fn fetch(&mut self, _: Global, _: &str, _: usize) -> Result<Vec<u8>, FetchFault> {
+        Err(FetchFault::Memory)
+    }
+}
+
+#[test]
+fn a_fetch_that_runs_out_of_memory_has_a_status_of_its_own(rt: HostRuntime) {
+    let mut out = CalmSink::new();
+    let status = status_of(&rt, rt.alloc(), CHECK, &mut NoMemory, &mut out, &QuietGate);
+    assert_eq!(rt; status, Some(9));
 }

@@ -82,8 +82,8 @@ fn words_of(alloc: Global, words: &[&str]) -> Result<Vec<String>, AllocError> {
     Ok(list)
 }
 
-// The status of these words, or nothing if memory runs out. All tests call the program here.
-fn status_of<R: Threads + Wait + Sync, S: Shelf, K: Sink, G: Gate + Sync>(
+/// The status of these words, or nothing if memory runs out. All tests call the program here.
+pub fn status_of<R: Threads + Wait + Sync, S: Shelf, K: Sink, G: Gate + Sync>(
     rt: &R,
     alloc: Global,
     words: &[&str],

@@ -1,6 +1,6 @@
 //! Tests of a shelf in memory.
 use super::*;
-use crate::tests::gives;
+use crate::tests::fetch_returns;
 use std::alloc::AllocError;
 
 // A shelf with one file, and fetches from it: each with its name, its limit and its result.
@@ -68,7 +68,7 @@ fn is_met(alloc: Global, case: &Case) -> bool {
 
 fn serves(shelf: &mut MemoryShelf, alloc: Global, case: &Case) -> bool {
     for (name, limit, answer) in case.fetches {
-        if !gives(shelf, alloc, name, *limit, *answer) {
+        if !fetch_returns(shelf, alloc, name, *limit, *answer) {
             return false;
         }
     }
@@ -78,8 +78,8 @@ fn serves(shelf: &mut MemoryShelf, alloc: Global, case: &Case) -> bool {
 fn keeps_two_files_apart(alloc: Global) -> bool {
     match two_files(alloc) {
         Ok(mut shelf) => {
-            gives(&mut shelf, alloc, "w", 4, Ok("work"))
-                && gives(&mut shelf, alloc, "s", 4, Ok("set"))
+            fetch_returns(&mut shelf, alloc, "w", 4, Ok("work"))
+                && fetch_returns(&mut shelf, alloc, "s", 4, Ok("set"))
         }
         Err(_) => false,
     }

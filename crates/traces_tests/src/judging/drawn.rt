@@ -1,10 +1,12 @@
 //! Rows that are drawn at random, judged one by one by a monitor, and each time from the first on by the judge.
+use super::turned::turned;
 use super::watched::{agrees, monitor};
-use super::{OVERLOAD, SCALED, TWO_OF_TEN, UNSCALED, judged};
+use super::{OVERLOAD, SCALED, TWO_OF_TEN, UNSCALED, is_legal, judged};
 use mc_model::{How, Run, Verdict};
-use mc_task::{JobId, Rule, TaskNo};
+use mc_task::{JobId, Rule, TaskNo, TaskSet};
 use std::alloc::Global;
 use std::test::Fail;
+use trace_judge::Monitor;
 use worked_sets::{CONTROL, Line, set_of};
 
 // The next number of a linear congruential generator (Knuth's MMIX).
@@ -97,41 +99,67 @@ fn late_of(verdict: Verdict) -> u64 {
     }
 }
 
-// Draws rows, of which a monitor takes those that fit. Returns how many these are, if the judge says of each of the drawn
-// rows what the monitor says, and after each row that fits has the monitor's verdict and the number of jobs that it has
-// reported late.
-fn rows_that_fit(alloc: Global, lines: &[Line], rule: Rule) -> Result<Option<usize>, Fail> {
-    let set = set_of(alloc, lines)?;
-    let mut monitor = monitor(alloc, lines, rule)?;
-    let mut rows = Vec::new(alloc);
+// The judge's verdict on these rows, if the monitor, which has seen all except the last one, predicts it.
+fn predicted(
+    alloc: Global,
+    set: &TaskSet,
+    rule: Rule,
+    monitor: &Monitor,
+    rows: &[Run],
+    last: Run,
+) -> Result<Option<Verdict>, Fail> {
+    let unfit = monitor.would_fit(last)?;
+    let verdict = judged(alloc, set, rule, rows)?;
+    Ok(if agrees(unfit, verdict) {
+        Some(verdict)
+    } else {
+        None
+    })
+}
+
+// Draws rows, of which the monitor takes those that fit, and leaves these in `rows`. Returns whether the judge says of each
+// of the drawn rows what the monitor says, and after each row that fits has the monitor's verdict and the number of jobs
+// that it has reported late.
+fn agree_on_drawn(
+    alloc: Global,
+    set: &TaskSet,
+    rule: Rule,
+    monitor: &mut Monitor,
+    rows: &mut Vec<Run>,
+) -> Result<bool, Fail> {
     let mut first = NONE_YET;
     let mut second = NONE_YET;
     let mut reported = 0u64;
     let mut seed = 1;
     for _ in 0..1500 {
         seed = next(seed);
-        let run = drawn(seed >> 33, first, second);
-        let predicted = monitor.would_fit(run)?;
-        rows.push(run)?;
-        let verdict = judged(alloc, &set, rule, &rows)?;
-        if !agrees(predicted, verdict) {
-            return Ok(None);
-        }
-        if predicted.is_some() {
+        let row = drawn(seed >> 33, first, second);
+        rows.push(row)?;
+        let Some(verdict) = predicted(alloc, set, rule, monitor, rows, row)? else {
+            return Ok(false);
+        };
+        if !is_legal(verdict) {
             rows.pop();
             continue;
         }
-        let since = monitor.ticks();
-        monitor.observe(alloc, run)?;
-        first = jobs_after(1, first, run);
-        second = jobs_after(2, second, run);
-        let late = monitor.turned_late(alloc, since)?;
-        reported = reported.saturating_add(late.len() as u64);
+        let late = turned(alloc, monitor, row)?.len();
+        reported = reported.saturating_add(late as u64);
         if monitor.verdict() != verdict || late_of(verdict) != reported {
-            return Ok(None);
+            return Ok(false);
         }
+        first = jobs_after(1, first, row);
+        second = jobs_after(2, second, row);
     }
-    Ok(Some(rows.len()))
+    Ok(true)
+}
+
+// How many of the drawn rows fit, or 0 if the monitor and the judge do not agree.
+fn rows_that_fit(alloc: Global, lines: &[Line], rule: Rule) -> Result<usize, Fail> {
+    let set = set_of(alloc, lines)?;
+    let mut monitor = monitor(alloc, lines, rule)?;
+    let mut rows = Vec::new(alloc);
+    let agree = agree_on_drawn(alloc, &set, rule, &mut monitor, &mut rows)?;
+    Ok(if agree { rows.len() } else { 0 })
 }
 
 const DRAWN: [(&[Line], Rule); 4] = [
@@ -143,9 +171,9 @@ const DRAWN: [(&[Line], Rule); 4] = [
 
 #[test]
 fn a_monitor_agrees_with_the_judge_at_each_row(rt: HostRuntime) -> Result<(), Fail> {
-    for (lines, rule) in DRAWN {
-        let rows = rows_that_fit(rt.alloc(), lines, rule)?;
-        assert!(rt; rows.unwrap_or(0) > 200, "{lines:?} {rule:?}: {rows:?}");
+    for (place, (lines, rule)) in DRAWN.iter().enumerate() {
+        let rows = rows_that_fit(rt.alloc(), lines, *rule)?;
+        assert!(rt; rows > 200, "{place}: {rows}");
     }
     Ok(())
 }

@@ -22,18 +22,17 @@ fn verdict_with(
     judged(alloc, set, rule, &all)
 }
 
-// The first of the runs after which the verdict differs from the one beside it, and that verdict.
+// The first of the runs after which the verdict differs from the one beside it.
 fn first_wrong(
     alloc: Global,
     set: &TaskSet,
     rule: Rule,
     runs: &Vec<Run>,
     table: &[(Run, Verdict)],
-) -> Result<Option<(Run, Verdict)>, Fail> {
+) -> Result<Option<Run>, Fail> {
     for (last, expected) in table {
-        let got = verdict_with(alloc, set, rule, runs, *last)?;
-        if got != *expected {
-            return Ok(Some((*last, got)));
+        if verdict_with(alloc, set, rule, runs, *last)? != *expected {
+            return Ok(Some(*last));
         }
     }
     Ok(None)

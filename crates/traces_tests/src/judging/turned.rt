@@ -20,7 +20,7 @@ macro_rules! turned {
 }
 
 // The jobs that become late with this run.
-fn turned(alloc: Global, monitor: &mut Monitor, run: Run) -> Result<Vec<Turned>, Fail> {
+pub fn turned(alloc: Global, monitor: &mut Monitor, run: Run) -> Result<Vec<Turned>, Fail> {
     let since = monitor.ticks();
     monitor.observe(alloc, run)?;
     Ok(monitor.turned_late(alloc, since)?)
@@ -41,19 +41,33 @@ const BY_A_TICK: [(Run, &[Turned]); 7] = [
     (ticks!(1, 1, How::More, 30), &[]),
 ];
 
+// The first of the runs that does not turn those jobs late that stand beside it, by its place from 0.
+fn first_wrong(
+    alloc: Global,
+    monitor: &mut Monitor,
+    table: &[(Run, &[Turned])],
+) -> Result<Option<usize>, Fail> {
+    for (place, (run, expected)) in table.iter().enumerate() {
+        if turned(alloc, monitor, *run)?.as_slice() != *expected {
+            return Ok(Some(place));
+        }
+    }
+    Ok(None)
+}
+
+// Whether the monitor has seen so many ticks and rows, and has this verdict on them.
+fn has_come_to(monitor: &Monitor, ticks: u64, rows: u64, verdict: Verdict) -> bool {
+    monitor.ticks() == ticks && monitor.seen() == rows && monitor.verdict() == verdict
+}
+
 #[test]
 fn a_job_is_reported_late_once_at_the_boundary_of_its_deadline(
     rt: HostRuntime,
 ) -> Result<(), Fail> {
-    let alloc = rt.alloc();
-    let mut monitor = monitor(alloc, &TWO_OF_TEN, Rule::Plain)?;
-    for (run, expected) in BY_A_TICK {
-        assert!(rt;
-            turned(alloc, &mut monitor, run)?.as_slice() == expected,
-            "{run:?}"
-        );
-    }
-    assert!(rt; (monitor.ticks(), monitor.seen(), monitor.verdict()) == (41, 43, late!(2, 1, 1)));
+    let mut monitor = monitor(rt.alloc(), &TWO_OF_TEN, Rule::Plain)?;
+    let wrong = first_wrong(rt.alloc(), &mut monitor, &BY_A_TICK)?;
+    let agrees = has_come_to(&monitor, 41, 43, late!(2, 1, 1));
+    assert!(rt; wrong.is_none() && agrees, "{wrong:?}");
     Ok(())
 }
 
@@ -66,13 +80,13 @@ const SEVERAL: [Line; 4] = [
 ];
 
 // Runs of `SEVERAL`. Four deadlines come with the last one, two of them at one boundary.
-const AT_ONCE: [Run; 6] = [
-    release!(1, 1, true),
-    release!(3, 1, true),
-    release!(4, 1, true),
-    ticks!(4, 1, How::More, 1),
-    release!(2, 1, true),
-    ticks!(4, 1, How::More, 30),
+const AT_ONCE: [(Run, &[Turned]); 6] = [
+    (release!(1, 1, true), &[]),
+    (release!(3, 1, true), &[]),
+    (release!(4, 1, true), &[]),
+    (ticks!(4, 1, How::More, 1), &[]),
+    (release!(2, 1, true), &[]),
+    (ticks!(4, 1, How::More, 30), &IN_ORDER),
 ];
 
 // The late jobs of `AT_ONCE`: neither in the order of their releases nor in that of their tasks.
@@ -86,20 +100,22 @@ const IN_ORDER: [Turned; 4] = [
 // Numbers of ticks, and how many of those jobs have deadlines at or before them.
 const SINCE: [(u64, usize); 7] = [(1, 0), (5, 0), (6, 1), (8, 1), (9, 3), (19, 3), (20, 4)];
 
+// The first of the numbers of ticks since which the late jobs are not the expected ones.
+fn first_wrong_since(alloc: Global, monitor: &mut Monitor) -> Result<Option<u64>, Fail> {
+    for (since, skipped) in SINCE {
+        if monitor.turned_late(alloc, since)?.as_slice() != &IN_ORDER[skipped..] {
+            return Ok(Some(since));
+        }
+    }
+    Ok(None)
+}
+
 #[test]
 fn late_jobs_come_in_the_order_of_their_deadlines(rt: HostRuntime) -> Result<(), Fail> {
-    let alloc = rt.alloc();
-    let mut monitor = monitor(alloc, &SEVERAL, Rule::Plain)?;
-    for run in &AT_ONCE[..5] {
-        assert!(rt; turned(alloc, &mut monitor, *run)?.is_empty(), "{run:?}");
-    }
-    assert!(rt; turned(alloc, &mut monitor, AT_ONCE[5])?.as_slice() == IN_ORDER.as_slice());
-    for (since, skipped) in SINCE {
-        assert!(rt;
-            monitor.turned_late(alloc, since)?.as_slice() == &IN_ORDER[skipped..],
-            "since {since}"
-        );
-    }
+    let mut monitor = monitor(rt.alloc(), &SEVERAL, Rule::Plain)?;
+    let wrong = first_wrong(rt.alloc(), &mut monitor, &AT_ONCE)?;
+    let since = first_wrong_since(rt.alloc(), &mut monitor)?;
+    assert!(rt; wrong.is_none() && since.is_none(), "{wrong:?} {since:?}");
     Ok(())
 }
 
@@ -116,22 +132,25 @@ fn round(count: u32) -> [Run; 4] {
     ]
 }
 
+// How many jobs are reported late in 500,000 rounds.
+fn late_in_rounds(alloc: Global, monitor: &mut Monitor) -> Result<u64, Fail> {
+    let mut reported = 0u64;
+    for before in 0..500_000u32 {
+        for run in round(before + 1) {
+            let late = turned(alloc, monitor, run)?.len();
+            reported = reported.saturating_add(late as u64);
+        }
+    }
+    Ok(reported)
+}
+
 // Ten million rows cannot be read again: this test shows that a monitor goes on after them, and how long it takes. No
 // clause says how much memory it uses: at most one job is pending here.
 #[test]
 fn ten_million_rows_are_judged_as_they_come(rt: HostRuntime) -> Result<(), Fail> {
-    let alloc = rt.alloc();
-    let mut monitor = monitor(alloc, &SLOW, Rule::Plain)?;
-    let mut reported = 0u64;
-    for before in 0..500_000u32 {
-        for run in round(before + 1) {
-            let late = turned(alloc, &mut monitor, run)?;
-            reported = reported.saturating_add(late.len() as u64);
-        }
-    }
-    assert!(rt;
-        (monitor.seen(), monitor.ticks(), monitor.pending()) == (10_500_000, 10_000_000, 0)
-    );
-    assert!(rt; (reported, monitor.verdict()) == (500_000, late!(500_000, 1, 1)));
+    let mut monitor = monitor(rt.alloc(), &SLOW, Rule::Plain)?;
+    let reported = late_in_rounds(rt.alloc(), &mut monitor)?;
+    let agrees = has_come_to(&monitor, 10_000_000, 10_500_000, late!(500_000, 1, 1));
+    assert!(rt; agrees && reported == 500_000 && monitor.pending() == 0);
     Ok(())
 }

@@ -34,11 +34,20 @@ pub fn agrees(unfit: Option<Unfit>, verdict: Verdict) -> bool {
 fn agree(alloc: Global, lines: &[Line], rule: Rule, text: &str) -> Result<bool, Fail> {
     let set = set_of(alloc, lines)?;
     let runs = runs_of(alloc, &set, text)?;
-    let mut monitor = monitor(alloc, lines, rule)?;
+    agree_on(alloc, &set, rule, &runs, &mut monitor(alloc, lines, rule)?)
+}
+
+fn agree_on(
+    alloc: Global,
+    set: &TaskSet,
+    rule: Rule,
+    runs: &[Run],
+    monitor: &mut Monitor,
+) -> Result<bool, Fail> {
     for count in 0..runs.len() {
         let predicted = monitor.would_fit(runs[count])?;
         let unfit = monitor.observe(alloc, runs[count])?;
-        let verdict = judged(alloc, &set, rule, &runs[..=count])?;
+        let verdict = judged(alloc, set, rule, &runs[..=count])?;
         if predicted != unfit || !agrees(unfit, verdict) || monitor.verdict() != verdict {
             return Ok(false);
         }
@@ -172,16 +181,24 @@ const OBSERVED: [(Run, Result<Option<Unfit>, ObserveFault>); 10] = [
     (ticks!(1, 1, How::Done, 1), Ok(Some(MISFIT))),
 ];
 
+// The first of the runs whose result differs from the one beside it.
+fn first_wrong_result(alloc: Global, monitor: &mut Monitor) -> Option<Run> {
+    for (run, expected) in OBSERVED {
+        if monitor.observe(alloc, run) != expected {
+            return Some(run);
+        }
+    }
+    None
+}
+
 #[test]
 fn a_monitor_refuses_what_is_no_run_of_its_set_and_keeps_a_misfit(
     rt: HostRuntime,
 ) -> Result<(), Fail> {
-    let alloc = rt.alloc();
-    let mut monitor = monitor(alloc, &CONTROL, SCALED)?;
-    for (run, expected) in OBSERVED {
-        assert_eq!(rt; monitor.observe(alloc, run), expected, "{run:?}");
-    }
-    assert!(rt; (monitor.pending(), monitor.is_legal(), monitor.high_mode()) == (1, false, false));
+    let mut monitor = monitor(rt.alloc(), &CONTROL, SCALED)?;
+    let wrong = first_wrong_result(rt.alloc(), &mut monitor);
+    let is_at_rest = monitor.pending() == 1 && !monitor.is_legal() && !monitor.high_mode();
+    assert!(rt; wrong.is_none() && is_at_rest, "{wrong:?}");
     Ok(())
 }
 
@@ -252,18 +269,33 @@ const ASKED: [(&str, &[Asked]); 4] = [
     ("tick ctl 1 done", &AFTER_A_MISFIT),
 ];
 
+// Gives the monitor the runs of the text.
+fn take(alloc: Global, set: &TaskSet, monitor: &mut Monitor, text: &str) -> Result<(), Fail> {
+    for run in runs_of(alloc, set, text)? {
+        monitor.observe(alloc, run)?;
+    }
+    Ok(())
+}
+
+// The first of the runs for which `would_fit` returns something else than what stands beside it.
+fn first_misjudged(monitor: &Monitor, asked: &[Asked]) -> Option<Run> {
+    for (run, expected) in asked {
+        if monitor.would_fit(*run) != *expected {
+            return Some(*run);
+        }
+    }
+    None
+}
+
 #[test]
 fn a_monitor_says_whether_a_run_would_fit(rt: HostRuntime) -> Result<(), Fail> {
     let alloc = rt.alloc();
     let set = set_of(alloc, &CONTROL)?;
     let mut monitor = monitor(alloc, &CONTROL, SCALED)?;
     for (text, asked) in ASKED {
-        for run in runs_of(alloc, &set, text)? {
-            monitor.observe(alloc, run)?;
-        }
-        for (run, expected) in asked {
-            assert_eq!(rt; monitor.would_fit(*run), *expected, "after {text}: {run:?}");
-        }
+        take(alloc, &set, &mut monitor, text)?;
+        let wrong = first_misjudged(&monitor, asked);
+        assert!(rt; wrong.is_none(), "after {text}: {wrong:?}");
     }
     Ok(())
 }

@@ -5,7 +5,7 @@ use Rattle.std.proofs.lemmas.Slice.Zip.{AllZip-long}
 use Rattle.replies.specs.Reply.{reply_of}
 use Rattle.part_answers.specs.RunAll.{IsTraceOn, trace_lines}
 use Rattle.part_answers.specs.Planned.{parted_of}
-use Rattle.part_answers.specs.Traced.{HasFewPlaces, floor_lines}
+use Rattle.part_answers.specs.Traced.{HasSmallCapacity, floor_lines}
 use Rattle.part_answers.proofs.PartTraces.{rows_of, all-fresh, IsEnded, all-ended, all-few, all-follow}
 use Rattle.part_answers.proofs.run_parts.finish_run_all.Goals as goal
 
@@ -24,7 +24,7 @@ pub traces_text-requires-clause-few : goal.traces_text-requires-clause-few
 traces_text-requires-clause-few g c =
     let parts = c.in_ok-used.field-0 in
     let ended = all-ended c.args.ticks.now (parted_of c.args.job.parted) c.args.job.work parts.used.items parts.floors.items c.in-Ok.done.items c.in_ok-used.ensures.planned.each c.in-Ok.ensures in
-    subst (λ ds. All HasFewPlaces ds) (sym c.deref-2.ensures.value) (all-few c.args.ticks.now (parted_of c.args.job.parted) c.args.job.work parts.used.items c.in-Ok.done.items ended)
+    subst (λ ds. All HasSmallCapacity ds) (sym c.deref-2.ensures.value) (all-few c.args.ticks.now (parted_of c.args.job.parted) c.args.job.work parts.used.items c.in-Ok.done.items ended)
 
 pub returns-clause-traces : goal.returns-clause-traces
 returns-clause-traces g c =

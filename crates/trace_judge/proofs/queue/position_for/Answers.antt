@@ -4,7 +4,7 @@ use Rattle.std.proofs.lemmas.List.{drop_more}
 use Rattle.trace_judge.specs.declared.queue.Queued.{Queued}
 use Rattle.trace_judge.proofs.queue.position_for.Goals as goal
 
--- one more with a greater key
+-- the jobs from one position earlier on have greater keys, if the job there has one
 one_more : (key : ℕ) (qs : List Queued) (position : ℕ) (q : Queued) → 1 ≤ position → position ≤ length qs → q ≡ get_or qs (position - 1) q → key < q.key →
     AllByRecursion (λ (r : Queued). key < r.key) (drop position qs) → AllByRecursion (λ (r : Queued). key < r.key) (drop (position - 1) qs)
 one_more key qs position q some inside read greater h =

@@ -9,7 +9,7 @@ use Rattle.mc_model.specs.Key.{key_of}
 use Rattle.trace_judge.specs.Heads.{no_key}
 use Rattle.trace_judge.proofs.rules.key_at.Goals as goal
 
--- of a scaled release and a scaled period
+-- the sum of a scaled release and a scaled period is less than the key of an empty queue
 scaled : (q r s t : ℕ) → q ≤ 2 ^ 60 → r < 2 ^ 64 → s ≤ 2 ^ 60 → t < 2 ^ 32 → q * r + s * t < no_key
 scaled q r s t a b c d =
     omega (arith, mul-le q r (2 ^ 60) (2 ^ 64) a (omega (arith, b)), mul-le s t (2 ^ 60) (2 ^ 32) c (omega (arith, d)))

@@ -2,8 +2,8 @@ use Rattle.std.proofs.Common.{refl}
 use Rattle.trace_answers.proofs.JudgedText.{one_stored, stored_judged}
 use Rattle.trace_answers.proofs.judged_text.JudgingTakerTakesRuns.take.Goals as goal
 
-pub returns-then-self : goal.returns-then-self
-returns-then-self c tasks before has =
+pub returns-then-len-lt-BATCH : goal.returns-then-len-lt-BATCH
+returns-then-len-lt-BATCH c tasks before has =
     one_stored c.args.self.now.keeps_runs c.args.self.now.rule tasks before c.args.run c.args.judging.now _ has c.requires.0 c.requires.1 c.requires.2 c.requires.3 refl c.in_ok-push.ensures.items
 
 pub follow_all-requires-clause-runs : goal.follow_all-requires-clause-runs

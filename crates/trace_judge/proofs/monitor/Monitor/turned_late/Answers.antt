@@ -15,7 +15,7 @@ use Rattle.trace_judge.proofs.monitor.Monitor.turned_late.Goals as goal
 of_view : (m n : Watched) → m ≡ n → (since : ℕ) (f : Turned → ℕ) → total f (turned_of m.set.tasks since m.state.ticks m.state.waiting.entries) ≡ total f (turned_of n.set.tasks since n.state.ticks n.state.waiting.entries)
 of_view m n e since f = ap (λ (x : Watched). total f (turned_of x.set.tasks since x.state.ticks x.state.waiting.entries)) e
 
--- in the quiet stretch there are none
+-- in the quiet stretch of time no entry's job turned late
 none_there : (c : goal.After-new) → (f : Turned → ℕ) → total f c.new.result.items ≡ total f (turned_of c.args.self.now.set.tasks c.args.since c.args.self.now.state.ticks c.args.self.now.state.waiting.entries)
 none_there c f =
     let quiet = quiet_same c.self.inside.set.tasks c.self.inside.rule c.self.invariant.rows c.self.inside.state c.self.inside.quiet c.self.invariant.tracks ∙ c.self.invariant.quiet in

@@ -10,12 +10,12 @@ use Rattle.trace_judge.specs.Queues.{AreQueues, entries_from}
 use Rattle.trace_judge.proofs.Queues.{none_there, head_entry}
 use Rattle.trace_judge.proofs.pending_queues.PendingQueues.is_empty.Goals as goal
 
--- where an entry passes a test there is one
+-- if an entry passes a test, there is an entry
 some_length : (p : Entry → Bool) (es : List Entry) → list_any p es ≡ true → length es ≢ 0
 some_length p [] h e = cc
 some_length p (x ∷ es) h e = omega (arith, e)
 
--- by the least key of the heads
+-- the least key of the heads is that of an empty queue exactly if there is no entry
 says : (qs : List (List Queued)) (heads : List ℕ) (least : ℕ) → AreQueues qs heads → All (λ (key : ℕ). least ≤ key) heads → Contains heads least → (least == no_key) ≡ (length (entries_from 1 qs) == 0)
 says qs heads least a below there =
     elim (cases_eq least no_key) [

@@ -6,7 +6,7 @@ use Rattle.trace_judge.specs.Queues.{AreQueues}
 use Rattle.trace_judge.proofs.Queues.{none_entries, none_heads, none_queues}
 use Rattle.trace_judge.proofs.pending_queues.PendingQueues.new.Goals as goal
 
--- queues without jobs
+-- lists without jobs are queues
 new_queues : (n : ℕ) → 1 ≤ n → n < 2 ^ 32 → AreQueues (replicate n []) (replicate n no_key)
 new_queues n some few = record {
   some = omega (arith, some, length-replicate {A = List Queued} n []);

@@ -46,13 +46,13 @@ all_above : (qs : List (List Queued)) (heads : List ℕ) (j : JobId) (queue : Li
     list_all (λ (o : Entry). nat_le least o.0.0) (entries_from 1 qs) ≡ true
 all_above qs heads j queue least l = below_all least 1 qs l.queues.each (subst (λ (ks : List ℕ). All (λ (key : ℕ). least ≤ key) ks) l.queues.heads_are l.below)
 
--- the job is found at the least key
+-- if the job is found at the least key, no entry has a lesser key than the job's
 stands_first : (qs : List (List Queued)) (heads : List ℕ) (j : JobId) (queue : List Queued) (least : ℕ) (q : Queued) → IsLooked qs heads j queue least →
     find (has_count j.count) queue ≡ Some q →
     q.key ≡ least → Stands (entries_from 1 qs) j (Least q.pending)
 stands_first qs heads j queue least q l h e = (q.key, found_entry qs heads j queue least q l h, rw e (all_above qs heads j queue least l))
 
--- or at another
+-- if the job is found at another key than the least one, some entry has a lesser key than the job's
 stands_after : (qs : List (List Queued)) (heads : List ℕ) (j : JobId) (queue : List Queued) (least : ℕ) (q : Queued) → IsLooked qs heads j queue least →
     find (has_count j.count) queue ≡ Some q →
     q.key ≢ least → Stands (entries_from 1 qs) j NotLeast

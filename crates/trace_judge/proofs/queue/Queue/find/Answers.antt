@@ -11,5 +11,5 @@ returns-in_err-position c =
 
 pub returns : goal.returns
 returns c =
-    ap (λ (q : Queued). Some q) c.index.ensures
-    ∙ (sym (find_at (has_count c.args.count) c.self.inside.jobs.items c.in_ok-position.position c.index.result.now c.in_ok-position.ensures.first) ∙ ap (find (has_count c.args.count)) c.self.view_is)
+    ap (λ (q : Queued). Some q) c.index-2.ensures
+    ∙ (sym (find_at (has_count c.args.count) c.self.inside.jobs.items c.in_ok-position.position c.index-2.result.now c.in_ok-position.ensures.first) ∙ ap (find (has_count c.args.count)) c.self.view_is)
