@@ -1,53 +1,21 @@
 //! Tests of an executive over two tasks, on one thread.
 ghost use Rattle.std.specs.Prelude.{◌≡◌, ◌≤◌, ◌+◌, [], true, None, All, IfOk, length, vec_len, vec_capacity};
-ghost use Rattle.timetable.specs.Floor.{is_planned};
 ghost use Rattle.executive.specs.Passes.{IsPassOf, floor_of};
 ghost use Rattle.executive.specs.Opening.{AreFresh};
 ghost use Rattle.executive.specs.Watching.{IsWatcherOf};
 
-use admission::admit;
+use crate::floors::{floor, free};
 use executive::{Answer, Count, Executive, Taken, TaskPass, Unclosed};
-use load_sum::sum_loads;
 use mc_model::How;
 use mc_task::TaskNo;
-use mode_core::{Core, GrantFault, Granted, IdleFault, ReleaseFault, Released};
+use mode_core::{GrantFault, Granted, IdleFault, ReleaseFault, Released};
 use status_board::{Shown, Watcher};
 use std::alloc::Global;
 use std::process::Abort;
 use std::sync::Wait;
 use std::test::Fail;
-use timetable::{Act, ActFault, Floor, Plan, PlanFault};
-use work_file::Work;
-use worked_sets::{
-    CONTROL, HELD_RELEASE_WORK, Job, OVERRUN_ROWS, OVERRUN_WORK, job, kept, set_of, tick, work_rows,
-};
-
-// A floor whose plan is these jobs.
-fn planned(alloc: Global, jobs: &[Job], ticks: u32) -> Result<Floor, Fail>
-    ensures rows { IfOk result (λ f. (f.core.rows ≡ []) × (f.core.out ≡ None)) }
-    ensures plan { IfOk result (λ f. is_planned f.plan ≡ true) }
-{
-    if ticks == 0 || ticks > 1000 {
-        return Err("ticks".into());
-    }
-    let set = set_of(alloc, &CONTROL)?;
-    let rule = admit(&sum_loads(&set)?).ok_or("not admitted")?;
-    let work = Work::new(&set, work_rows(alloc, jobs)?)?;
-    let places = ticks as usize + work.rows().len();
-    let core = Core::new(alloc, set, rule, places)?;
-    let ticks = u64::from(ticks);
-    Ok(Floor::new(core, Plan::Rows { work, ticks }))
-}
-
-// A floor without a plan, with a capacity of four rows.
-fn free(alloc: Global) -> Result<Floor, Fail>
-    ensures { IfOk result (λ f. (f.core.rows ≡ []) × (f.core.out ≡ None)) }
-{
-    let set = set_of(alloc, &CONTROL)?;
-    let rule = admit(&sum_loads(&set)?).ok_or("not admitted")?;
-    let core = Core::new(alloc, set, rule, 4)?;
-    Ok(Floor::new(core, Plan::Free))
-}
+use timetable::{Act, ActFault, Floor, PlanFault};
+use worked_sets::{CONTROL, HELD_RELEASE_WORK, OVERRUN_ROWS, OVERRUN_WORK, job, kept, tick};
 
 fn count(releases: u64, ticks: u64, ends: u64, idles: u64) -> Count {
     Count {
@@ -221,7 +189,7 @@ fn is_new(pass: &TaskPass, task: TaskNo) -> bool {
 
 #[test]
 fn close_wants_a_pass_of_each_task(rt: HostRuntime) -> Result<(), Fail> {
-    let floor = planned(rt.alloc(), &HELD_RELEASE_WORK, 4)?;
+    let floor = floor(rt.alloc(), &CONTROL, &HELD_RELEASE_WORK, 4)?;
     let (executive, passes, first, second) = opened(&rt, rt.alloc(), floor)?;
     let are_new = is_new(&first, TaskNo(1)) && is_new(&second, TaskNo(2));
     let (second, fault) = ticked(&rt, &executive, second);
@@ -286,7 +254,7 @@ fn a_planned_tick<R: Wait>(
 
 #[test]
 fn a_planned_tick_is_taken_and_ended(rt: HostRuntime) -> Result<(), Fail> {
-    let floor = planned(rt.alloc(), &HELD_RELEASE_WORK, 4)?;
+    let floor = floor(rt.alloc(), &CONTROL, &HELD_RELEASE_WORK, 4)?;
     let (executive, passes, first, second) = opened(&rt, rt.alloc(), floor)?;
     let (first, second, seen) = a_planned_tick(&rt, &executive, first, second);
     let counts = (first.count(), second.count());
@@ -378,7 +346,7 @@ fn finished(floor: &mut Floor) -> bool {
 
 #[test]
 fn a_plan_whose_executive_was_closed_is_finished(rt: HostRuntime) -> Result<(), Fail> {
-    let floor = planned(rt.alloc(), &OVERRUN_WORK, 12)?;
+    let floor = floor(rt.alloc(), &CONTROL, &OVERRUN_WORK, 12)?;
     let (executive, passes, mut first, mut second) = opened(&rt, rt.alloc(), floor)?;
     let first_is_released = executive.release(&rt, &mut first).is_ok();
     let second_is_released = executive.release(&rt, &mut second).is_ok();

@@ -1,7 +1,11 @@
-//! Tests of an executive and of a turnstile, on one thread and on several.
+//! Tests of an executive, of a turnstile and of plans in threads, on one thread and on several.
 #![tactic(auto)]
 
 #[cfg(test)]
 mod executives;
+#[cfg(test)]
+mod floors;
+#[cfg(test)]
+mod plans;
 #[cfg(test)]
 mod turns;

@@ -1,5 +1,5 @@
 -- Lists of workers and of starts, in the order of their tasks.
-use Rattle.std.proofs.Common.{arith, ◌++◌, ℕ, ◌≡◌, ◌<◌, ◌+◌, ◌-◌, ◌==◌, ◌∙◌, List, [], ◌∷◌, Bool, true, length, sym, subst}
+use Rattle.std.proofs.Common.{arith, ◌++◌, ℕ, ◌≡◌, ◌<◌, ◌+◌, ◌-◌, ◌==◌, ◌∙◌, List, [], ◌∷◌, true, length, sym, subst}
 use Rattle.std.specs.List.{slice_index_or, slice_set}
 use Rattle.std.proofs.lemmas.Bool.{eq-eqb}
 use Rattle.std.proofs.lemmas.List.Folds.{list_any_at}

@@ -1,9 +1,9 @@
 -- The least keys of the queues, in a tree in one array.
-use Rattle.std.specs.Prelude.{◌≡◌, ◌≢◌, ℕ, ◌+◌, ◌-◌, ◌*◌, ◌/◌, ◌^◌, ◌<◌, ◌≤◌, min, List, length, drop, slice_index}
+use Rattle.std.specs.Prelude.{◌≡◌, ◌≢◌, ℕ, ◌+◌, ◌*◌, ◌/◌, ◌^◌, ◌<◌, ◌≤◌, min, List, length, drop, slice_index}
 
 -- the key at the head of a queue without a job: no job has so great a key
 abbrev pub no_key : ℕ
-no_key = 2 ^ 128 - 1
+no_key = 2 ^ 127
 
 -- node k has the lesser key of its two children
 abbrev pub IsLesser : List ℕ → ℕ → Type 0

@@ -124,7 +124,6 @@ impl Monitor {
         if let Some(unfit) = self.unfit {
             return Ok(Some(unfit));
         }
-        let before = self.state.rows;
         let now = self.state.ticks;
         match step(&mut self.state, alloc, &self.set, self.rule, run)? {
             None => {
@@ -132,7 +131,7 @@ impl Monitor {
                 Ok(None)
             }
             Some(misfit) => {
-                let unfit = unfit_after(before, misfit);
+                let unfit = unfit_after(self.state.rows, misfit);
                 self.unfit = Some(unfit);
                 Ok(Some(unfit))
             }

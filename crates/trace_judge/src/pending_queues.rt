@@ -64,7 +64,7 @@ impl PendingQueues {
     pub fn is_empty(&self) -> bool
         ensures { result ≡ (length self.now.entries == 0) }
     {
-        self.heads.least() == NO_KEY
+        self.heads.least() >= NO_KEY
     }
 
     /// The number of pending jobs, at most 2^64 - 1.

@@ -32,9 +32,9 @@ pub fn follow_runs(
     ensures tracks { (h : List Row) × (Legal set.now.tasks rule h × Tracks set.now.tasks rule h state.new) }
 {
     for run in runs {
-        let before = state.rows;
         if let Some(misfit) = step(state, alloc, set, rule, *run)? {
-            return Ok(Some(unfit_after(before, misfit)));
+            // The state is as it was before the run, which does not fit.
+            return Ok(Some(unfit_after(state.rows, misfit)));
         }
     }
     Ok(None)

@@ -23,13 +23,15 @@ pub struct TaskNote {
     pub next: u64,
 }
 
-/// What is kept of the rows so far: their ticks, their number, the mode, a note of each task, the pending jobs, and
+/// What is kept of the rows so far: their ticks, the mode, the number of rows, a note of each task, the pending jobs, and
 /// the jobs that ended or were discarded late.
+// The mode stands between the two numbers: the compiler would add to neighbours as to one vector, with more
+// instructions.
 #[derive(Drop)]
 pub struct State {
     pub ticks: u64,
-    pub rows: u64,
     pub high_mode: bool,
+    pub rows: u64,
     pub tasks: Vec<TaskNote>,
     pub waiting: PendingQueues,
     pub late_jobs: LateJobs,
@@ -48,8 +50,8 @@ impl State {
         let tasks = vec![in alloc; no_release; count as usize]?;
         Ok(State {
             ticks: 0,
-            rows: 0,
             high_mode: false,
+            rows: 0,
             tasks,
             waiting: PendingQueues::new(alloc, count)?,
             late_jobs: LateJobs {

@@ -1,4 +1,4 @@
-//! Floors with a plan, and rows that were worked by hand.
+//! Floors with a plan and without one, and rows that were worked by hand.
 ghost use Rattle.std.specs.Prelude.{◌≡◌, ◌≤◌, ◌<◌, ◌^◌, [], true, None, IfOk};
 ghost use Rattle.timetable.specs.Floor.{is_planned};
 ghost use Rattle.timetable.specs.declared.plan.Plan.TheVariants.{Free};
@@ -8,15 +8,14 @@ use crate::live_capacity;
 use admission::admit;
 use load_sum::sum_loads;
 use mc_model::How::{Done, More};
-use mc_model::{Row, WorkRow};
-use mc_task::Level::{High, Low};
-use mc_task::{Name, Task, TaskSet};
+use mc_model::Row;
+use mc_task::TaskSet;
 use mode_core::Core;
 use std::alloc::Global;
 use std::test::Fail;
 use timetable::{Floor, Plan};
 use work_file::Work;
-use worked_sets::{Job, Line, kept, set_of, tick, work_row, work_rows};
+use worked_sets::{Job, Line, kept, set_of, tick, work_rows};
 
 /// The rows of ten ticks of a live run of the control set.
 pub const LIVE_ROWS: [Row; 12] = [
@@ -38,63 +37,11 @@ pub const LIVE_ROWS: [Row; 12] = [
 pub fn floor(alloc: Global, lines: &[Line], jobs: &[Job], ticks: u32) -> Result<Floor, Fail>
     ensures { IfOk result (λ f. (is_planned f.plan ≡ true) × (f.core.rows ≡ []) × (f.core.out ≡ None)) }
 {
-    planned(alloc, set_of(alloc, lines)?, work_rows(alloc, jobs)?, ticks)
-}
-
-/// A floor with no rows for this many periods: twenty low tasks, and twelve high ones that overrun in every second
-/// period, the first among them.
-pub fn crowd(alloc: Global, periods: u32, ticks: u32) -> Result<Floor, Fail>
-    requires { periods ≤ 1000 }
-    ensures { IfOk result (λ f. (is_planned f.plan ≡ true) × (f.core.rows ≡ []) × (f.core.out ≡ None)) }
-{
-    planned(alloc, crowd_set(alloc)?, crowd_rows(alloc, periods)?, ticks)
-}
-
-// Tasks 1 to 20 are low, and 21 to 32 are high.
-fn crowd_set(alloc: Global) -> Result<TaskSet, Fail> {
-    let mut tasks = Vec::with_capacity(alloc, 32)?;
-    for number in 0..32 {
-        tasks.push(crowd_task(number).ok_or("a name")?)?;
-    }
-    Ok(TaskSet::new(tasks)?)
-}
-
-fn crowd_task(number: u8) -> Option<Task>
-    requires { number < 32 }
-{
-    let name = [b't', b'0' + number / 10, b'0' + number % 10];
-    let (level, high) = if number < 20 { (Low, 1) } else { (High, 4) };
-    Some(Task {
-        name: Name::new(&name)?,
-        level,
-        period: 64,
-        low: 1,
-        high,
-    })
-}
-
-// A release of each task in each period.
-fn crowd_rows(alloc: Global, periods: u32) -> Result<Vec<WorkRow>, Fail>
-    requires { periods ≤ 1000 }
-{
-    let mut rows = Vec::new(alloc);
-    for period in 0..periods {
-        for number in 1..=32u32 {
-            let need = if period % 2 == 0 && number > 20 { 4 } else { 1 };
-            rows.push(work_row(number, 64 * period, need))?;
-        }
-    }
-    Ok(rows)
-}
-
-// A floor with no rows, of a set that is admitted.
-fn planned(alloc: Global, set: TaskSet, rows: Vec<WorkRow>, ticks: u32) -> Result<Floor, Fail>
-    ensures { IfOk result (λ f. (is_planned f.plan ≡ true) × (f.core.rows ≡ []) × (f.core.out ≡ None)) }
-{
-    if ticks == 0 || ticks > 1_000_000 {
+    if ticks == 0 || ticks > 1000 {
         return Err("ticks".into());
     }
-    let work = Work::new(&set, rows)?;
+    let set = set_of(alloc, lines)?;
+    let work = Work::new(&set, work_rows(alloc, jobs)?)?;
     let places = ticks as usize + work.rows().len();
     let core = admitted(alloc, set, places)?;
     let ticks = u64::from(ticks);

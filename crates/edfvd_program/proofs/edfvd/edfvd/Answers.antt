@@ -1,3 +1,4 @@
+use Rattle.std.proofs.Common.{rules}
 use Rattle.command_line.specs.Form.{form_in}
 use Rattle.edfvd_program.proofs.Outcomes.{answers, kept, calm_outcome}
 use Rattle.promises.proofs.Headlines.{gave_up}
@@ -40,3 +41,6 @@ returns-in-Err-clause-complete g c files old exposes written calm =
 pub returns-in-Err-clause-tested : goal.returns-in-Err-clause-tested
 returns-in-Err-clause-tested g c files old exposes written calm =
     (gave_up (form_in c.args.words.now) files old (g.K.Sink.state c.args.out.now).written).3
+
+pub returns-in-Ok-clause-outcome : goal.returns-in-Ok-clause-outcome
+returns-in-Ok-clause-outcome g c = search rules

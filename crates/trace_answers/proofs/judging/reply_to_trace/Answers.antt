@@ -1,4 +1,4 @@
-use Rattle.std.proofs.Common.{sym, ap, ◌∙◌}
+use Rattle.std.proofs.Common.{sym, ap, ◌∙◌, rules}
 use Rattle.trace_answers.specs.JudgedText.{needs_runs}
 use Rattle.trace_answers.proofs.GoodTrace.{kept_valid, kept_of_set, kept_trace}
 use Rattle.trace_answers.proofs.judging.reply_to_trace.Goals as goal
@@ -26,3 +26,6 @@ merged_text-requires-clause-runs c =
 pub merged_text-requires-clause-tasks : goal.merged_text-requires-clause-tasks
 merged_text-requires-clause-tasks c =
     kept_of_set c.args.ruled.now.set.tasks c.args.bytes.now c.in-Ok.ensures.0 _ c.in-Ok.ensures.1 (c.deref-in-Migrate.ensures.value ∙ c.in-Ok.ensures.2.1 (c.needs_runs-keeps_runs.ensures ∙ ap needs_runs c.in-Migrate.is))
+
+pub returns-then-not-is_good-clause-reply : goal.returns-then-not-is_good-clause-reply
+returns-then-not-is_good-clause-reply c = search rules

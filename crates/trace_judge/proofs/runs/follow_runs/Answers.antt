@@ -1,4 +1,4 @@
-use Rattle.std.proofs.Common.{◌≡◌, ℕ, ◌+◌, ◌++◌, ◌^◌, ◌<◌, ◌≤◌, List, get_or, drop, length, reverse, Some, ap, ◌∙◌, sym, subst, arith}
+use Rattle.std.proofs.Common.{◌≡◌, ℕ, ◌+◌, ◌++◌, ◌^◌, ◌<◌, ◌≤◌, List, get_or, drop, length, reverse, Some, refl, ap, ◌∙◌, sym, subst, arith}
 use Rattle.std.proofs.lemmas.List.{get_or_default, length-append}
 use Rattle.mc_task.specs.declared.task.Rule.{Rule}
 use Rattle.mc_task.specs.declared.task.Task.{Task}
@@ -57,7 +57,8 @@ unfit_after-requires c =
     let t = c.loop-run.invariant h c.requires.tracks.1.0 c.requires.tracks.1.1 in
     let was = c.requires.tracks.1.1.rows in
     let rows = t.1.rows in
-    omega (arith, was, rows, c.requires.room, length-append (read c.args.runs.now c.loop-run.run-index) h, read_few c.args.runs.now c.loop-run.run-index)
+    let same = rw c.in-Some.is at c.in_ok-misfit.ensures.misfit in
+    omega (arith, was, rows, ap (λ (s : State). s.rows) (same refl), c.requires.room, length-append (read c.args.runs.now c.loop-run.run-index) h, read_few c.args.runs.now c.loop-run.run-index)
 
 pub loop-run-preserved : goal.loop-run-preserved
 loop-run-preserved c h l t =
@@ -74,8 +75,9 @@ returns-in-Some-clause-answer c h l t =
     let runs = c.args.runs.now in
     let i = c.loop-run.run-index in
     let f = rw c.in-Some.is at c.in_ok-misfit.ensures.step in
+    let same = rw c.in-Some.is at c.in_ok-misfit.ensures.misfit in
     let k = c.loop-run.invariant h l t in
-    let u = stops_unfit c.args.set.now.tasks c.args.rule _ (read runs i ++ h) c.loop-run.state.rows c.in-Some.misfit k.1.rows (f (read runs i ++ h) k.0 k.1)
+    let u = stops_unfit c.args.set.now.tasks c.args.rule _ (read runs i ++ h) c.step.new.state.rows c.in-Some.misfit (ap (λ (s : State). s.rows) (same refl) ∙ k.1.rows) (f (read runs i ++ h) k.0 k.1)
     ∙ ap (λ (x : Unfit). Some x) (sym c.unfit_after.ensures) in
     ap (unfit_in c.args.set.now.tasks c.args.rule) (around_run_after runs i _ h c.loop-run-test.true (get_or_default runs i _ _ c.loop-run-test.true))
     ∙ unfit_stays c.args.set.now.tasks c.args.rule c.unfit_after.result (reverse (expand (drop (i + 1) runs))) _ u

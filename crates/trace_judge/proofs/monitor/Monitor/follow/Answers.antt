@@ -1,7 +1,8 @@
-use Rattle.std.proofs.Common.{◌≡◌, ◌++◌, Some, ap, sym, ◌∙◌, arith}
+use Rattle.std.proofs.Common.{◌≡◌, ◌++◌, Some, refl, ap, sym, ◌∙◌, arith}
 use Rattle.mc_model.specs.Runs.{rows_of}
 use Rattle.mc_model.proofs.Ticks.{ticks-le}
 use Rattle.trace_judge.specs.Watched.{Watched, unfit_in}
+use Rattle.trace_judge.specs.declared.state.State.{State}
 use Rattle.trace_judge.specs.declared.unfit.Unfit.{Unfit}
 use Rattle.trace_judge.proofs.Watching.{stops_unfit, none_unfit, a_monitor, tracked, stays_found, still_watches}
 use Rattle.trace_judge.proofs.monitor.Monitor.follow.Goals as goal
@@ -30,8 +31,9 @@ pub returns-in-Some-2-clause-rows : goal.returns-in-Some-2-clause-rows
 returns-in-Some-2-clause-rows c =
     rw (← c.self.view_is) (λ h w. (
     let f = rw c.in-Some-2.is at c.in_ok-step.ensures.step in
+    let same = rw c.in-Some-2.is at c.in_ok-step.ensures.misfit in
     let k = tracked h (a_monitor c.self.inside.set c.self.inside.rule c.self.inside.state c.self.inside.unfit) c.in_default.is w in
-    stops_unfit c.self.inside.set.tasks c.self.inside.rule c.args.run h c.self.inside.state.rows c.in-Some-2.misfit k.1.rows (f h k.0 k.1)
+    stops_unfit c.self.inside.set.tasks c.self.inside.rule c.args.run h c.step.new.state.rows c.in-Some-2.misfit (ap (λ (s : State). s.rows) (same refl) ∙ k.1.rows) (f h k.0 k.1)
     ∙ ap (λ (u : Unfit). Some u) (sym c.unfit_after-unfit.ensures)))
 
 pub returns-in-Some-2-clause-answer : goal.returns-in-Some-2-clause-answer

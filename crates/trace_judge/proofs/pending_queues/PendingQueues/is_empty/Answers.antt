@@ -1,8 +1,7 @@
 use Rattle.std.proofs.Common.{◌≡◌, ◌≢◌, ℕ, ◌≤◌, ◌==◌, Bool, true, List, [], ◌∷◌, length, ap, subst, ◌∙◌, inl, inr, arith}
-use Rattle.std.specs.Prelude.{All, Contains}
+use Rattle.std.specs.Prelude.{All, Contains, nat_le}
 use Rattle.std.specs.List.{list_any}
-use Rattle.std.proofs.lemmas.Bool.{cases_eq}
-use Rattle.std.proofs.lemmas.Bool.Decides.{nat_tests}
+use Rattle.std.proofs.lemmas.Bool.Decides.{leb_tells, nat_tests}
 use Rattle.trace_judge.specs.declared.queue.Queued.{Queued}
 use Rattle.trace_judge.specs.Heads.{no_key}
 use Rattle.trace_judge.specs.Entries.{Entry, PendingEntries}
@@ -15,18 +14,18 @@ some_length : (p : Entry → Bool) (es : List Entry) → list_any p es ≡ true 
 some_length p [] h e = cc
 some_length p (x ∷ es) h e = omega (arith, e)
 
--- the least key of the heads is that of an empty queue exactly if there is no entry
-says : (qs : List (List Queued)) (heads : List ℕ) (least : ℕ) → AreQueues qs heads → All (λ (key : ℕ). least ≤ key) heads → Contains heads least → (least == no_key) ≡ (length (entries_from 1 qs) == 0)
+-- the least key of the heads is as great as that of an empty queue exactly if there is no entry
+says : (qs : List (List Queued)) (heads : List ℕ) (least : ℕ) → AreQueues qs heads → All (λ (key : ℕ). least ≤ key) heads → Contains heads least → nat_le no_key least ≡ (length (entries_from 1 qs) == 0)
 says qs heads least a below there =
-    elim (cases_eq least no_key) [
-      | inl e ↦
-          let none = none_there 1 qs a.each (subst (λ (ks : List ℕ). All (λ (key : ℕ). no_key ≤ key) ks) a.heads_are
-          (subst (λ (k : ℕ). All (λ (key : ℕ). k ≤ key) heads) e below)) in
-          grind (arith, nat_tests, ap length none, e)
-      | inr ne ↦
+    elim (leb_tells no_key least) [
+      | inl great ↦
+          let all : All (λ (key : ℕ). no_key ≤ key) heads = λ i key l. (omega (arith, great.1, below i key l)) in
+          let none = none_there 1 qs a.each (subst (λ (ks : List ℕ). All (λ (key : ℕ). no_key ≤ key) ks) a.heads_are all) in
+          grind (arith, nat_tests, ap length none, great.1)
+      | inr small ↦
           let some = some_length (λ (o : Entry). o.0.0 == least) (entries_from 1 qs)
-          (head_entry least qs ne (subst (λ (ks : List ℕ). Contains ks least) a.heads_are there)) in
-          grind (arith, nat_tests, some, ne)
+          (head_entry least qs (λ e. (omega (arith, e, small.1))) (subst (λ (ks : List ℕ). Contains ks least) a.heads_are there)) in
+          grind (arith, nat_tests, some, small.1)
     ]
 
 pub returns : goal.returns
