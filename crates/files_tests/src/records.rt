@@ -31,8 +31,11 @@ fn records_are_given_in_order(rt: HostRuntime) {
     let mut records = Records::new(alloc, text);
     let mut fields = ByteRecord::new(alloc);
     let expected: [&[&[u8]]; 3] = [&[b"a", b"b"], &[b"c,\"d", b""], &[b"e"]];
-    for record in expected {
-        assert!(rt; is_next(&mut records, &mut fields, record.len(), record));
+    for (line, record) in expected.into_iter().enumerate() {
+        assert!(rt;
+            is_next(&mut records, &mut fields, record.len(), record),
+            "{line}"
+        );
     }
     assert!(rt; records.next(&mut fields) == Ok(Next::End));
 }

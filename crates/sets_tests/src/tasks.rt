@@ -69,8 +69,8 @@ const LISTS: [(&[Line], SetFault); 5] = [
 
 #[test]
 fn the_first_fault_of_a_list_is_reported(rt: HostRuntime) -> Result<(), Fail> {
-    for (lines, fault) in LISTS {
-        assert_eq!(rt; refusal(rt.alloc(), lines)?, Some(fault));
+    for (number, (lines, fault)) in LISTS.into_iter().enumerate() {
+        assert_eq!(rt; refusal(rt.alloc(), lines)?, Some(fault), "list {number}");
     }
     Ok(())
 }

@@ -137,10 +137,11 @@ fn chart(alloc: Global) -> Result<String, AllocError> {
 fn a_trace_of_128_tasks_is_drawn(rt: HostRuntime) -> Result<(), Fail> {
     let alloc = rt.alloc();
     let (tasks, chart) = (text_of(alloc, TASKS)?, chart(alloc)?);
-    for parts in [TRACE, ROWS] {
+    for (version, parts) in [(2, TRACE), (1, ROWS)] {
         let trace = text_of(alloc, parts)?;
         let outside = Outside::new(&tasks, &trace);
-        assert!(rt; ends(&rt, alloc, CHART, &outside, &QuietGate, 0, &chart));
+        let is_drawn = ends(&rt, alloc, CHART, &outside, &QuietGate, 0, &chart);
+        assert!(rt; is_drawn, "version {version}");
     }
     Ok(())
 }

@@ -253,7 +253,8 @@ const CALM_CASES: &[(&[&str], u8)] = &[
 fn nothing_fails_over_a_calm_shelf_and_a_calm_sink(rt: HostRuntime) {
     let outside = Outside::new(CONTROL, OVERRUN_WORK);
     for (words, status) in CALM_CASES {
-        assert!(rt; calm_status(&rt, rt.alloc(), words, &outside) == Some(*status));
+        let ended = calm_status(&rt, rt.alloc(), words, &outside);
+        assert!(rt; ended == Some(*status), "{words:?}");
     }
 }
 

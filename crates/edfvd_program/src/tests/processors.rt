@@ -138,7 +138,8 @@ fn the_parts_are_run_at_once(rt: HostRuntime) {
     // Tasks 1 and 2 are on the first processor and task 3 on the second, by their numbers in the whole set.
     for first in [1, 2] {
         let gate = MeetingGate::of(first, 3);
-        assert!(rt; ends_as(&rt, rt.alloc(), &PLANT_RUN, &gate) && gate.is_kept());
+        let is_same = ends_as(&rt, rt.alloc(), &PLANT_RUN, &gate);
+        assert!(rt; is_same && gate.is_kept(), "task {first}");
     }
 }
 

@@ -48,9 +48,14 @@ const DROPPED_JOBS: &[TracedJob] = &[traced!(1, 1, 1, 4), traced!(2, 2, 1, 0)];
 #[test]
 fn each_release_and_each_step_calls_the_gate_once(rt: HostRuntime) -> Result<(), Fail> {
     let alloc = rt.alloc();
-    for (case, jobs) in [(OVERRUN, OVERRUN_JOBS), (DROPPED_RUN, DROPPED_JOBS)] {
+    let cases = [
+        ("overrun", OVERRUN, OVERRUN_JOBS),
+        ("dropped", DROPPED_RUN, DROPPED_JOBS),
+    ];
+    for (shows, case, jobs) in cases {
         let gate = CountingGate::new(alloc, jobs)?;
-        assert!(rt; ends_as(&rt, alloc, &case, &gate) && gate.was_called_once_for_each());
+        let is_same = ends_as(&rt, alloc, &case, &gate);
+        assert!(rt; is_same && gate.was_called_once_for_each(), "{shows}");
     }
     Ok(())
 }

@@ -93,7 +93,10 @@ fn an_interrupted_read_is_tried_again(rt: HostRuntime) {
         (8, 8, Err(FetchFault::Failed), 8),
     ];
     for (fails, limit, expected, read) in cases {
-        assert!(rt; is_read(rt.alloc(), fails, limit, expected, read));
+        assert!(rt;
+            is_read(rt.alloc(), fails, limit, expected, read),
+            "{fails} {limit}"
+        );
     }
 }
 
@@ -126,6 +129,6 @@ fn an_interrupted_write_or_flush_is_tried_again(rt: HostRuntime) {
         (8, [Ok(3), Err(SinkFault)], "task"),
     ];
     for (fails, expected, taken) in cases {
-        assert!(rt; is_written(rt.alloc(), fails, expected, taken));
+        assert!(rt; is_written(rt.alloc(), fails, expected, taken), "{fails}");
     }
 }
