@@ -7,6 +7,7 @@
 takes 0 1 "$@"
 [ "${1-slurm}" = slurm ] || wrong_words
 cd "$(dirname -- "$0")" || exit 1
+here=$PWD
 if ! python3 -c 'import sys; sys.exit(sys.version_info < (3, 9))' 2>/dev/null; then
     echo "studies: skipped, there is no python3 of version 3.9 or later"
     exit 0
@@ -124,8 +125,32 @@ wants 0 "$(says 4713)" '' env PATH="$work/tools:$PATH" study/slurm.sh "$STUDY" 3
 sed -n 's/.*\(--array=[^ ]*\|--dependency=[^ ]*\).*/\1/p' "$work/handed.txt" >"$work/out"
 judge 0 0 "$(says '--array=0-2
 --dependency=afterany:4713')" 'what slurm.sh hands in'
+# Slurm is given the folder's name so that no sign of it is read as a field.
+mkdir "$work/100%A" && cp -R "$STUDY" "$work/100%A/a b" && : >"$work/handed.txt"
+wants 0 "$(says 4713)" '' env PATH="$work/tools:$PATH" study/slurm.sh "$work/100%A/a b" 3
+sed -n 's|.*--output='"$work"'/\([^-]*txt\) .*|\1|p' "$work/handed.txt" >"$work/out"
+judge 0 0 "$(says '100%%A/a b/jobs/%A_%a.txt
+100%%A/a b/jobs/%A.txt')" 'the names that slurm.sh hands in'
+cp -R "$STUDY" "$work/back\\slash"
+wants 1 "$work/empty" 'Slurm takes no backslash' env PATH="$work/tools:$PATH" study/slurm.sh "$work/back\\slash" 3
 wants 1 "$work/empty" 'has another study' python3 -B study/study.py new "$STUDY" 1 "$sets" 8 1
 wants 1 "$work/empty" 'are 2^64 or more together' python3 -B study/study.py new "$work/none" 18446744073709551615 1 8 1
+
+# any_name NAME: a study in a folder of this name is worked out there, and the name runs nothing
+any_name() {
+    mkdir "$work/$1" && cd "$work/$1" || exit 1
+    bounded "$program" accept 1 4 8 >"$work/four.txt"
+    python3 -B "$here/study/study.py" new "$1" 1 4 8 1
+    EDFVD=$program "$here/study/parallel.sh" "$1" 2 >"$work/out" 2>"$work/err"
+    judge 0 $? "$work/four.txt" "parallel.sh of a study in the folder $1"
+    printf '%s\n' jobs.txt parts study.txt table.txt >"$work/wanted.txt"
+    ls "$1" >"$work/out"
+    judge 0 0 "$work/wanted.txt" "what parallel.sh writes to the folder $1"
+    says "$1" >/dev/null
+    ls >"$work/out"
+    judge 0 0 "$work/line" "what parallel.sh writes beside the folder $1"
+    cd "$here" || exit 1
+}
 
 if command -v parallel >/dev/null 2>&1; then
     begins parallel
@@ -139,6 +164,9 @@ if command -v parallel >/dev/null 2>&1; then
     rm "$STUDY/table.txt"
     study/parallel.sh "$STUDY" >"$work/out" 2>/dev/null
     judge 0 $? "$work/uncut.txt" 'parallel.sh, with nothing left'
+    for name in ';touch touched;#' '{} {.} {#}' '{= open(F, ">touched") =}' '`touch touched`$(touch touched)' "'\" a"; do
+        any_name "$name"
+    done
 else
     echo 'studies: parallel.sh is skipped, there is no GNU parallel'
 fi
@@ -210,6 +238,25 @@ END
     wants 0 "$work/own.txt" '' env PATH="$work/bin:$PATH" PYTHONPATH="$PWD" python3 -B "$work/own.py"
     grep -q '^100   0 |$' "$work/own.txt" || failed=$((failed + 1))
 }
+# The picture of acceptance.py gets a name that gnuplot would read as its own language. A stand-in for the package admits every set.
+picture_of_any_name() {
+    mkdir "$work/stand-in" "$work/pictures"
+    printf 'class Task:\n    def __init__(self, *words): pass\n\ndef check(tasks):\n    check.rule = 1\n    return check\n' >"$work/stand-in/edfvd.py"
+    printf 'raise ImportError\n' >"$work/stand-in/matplotlib.py"
+    cd "$work/pictures" || exit 1
+    for picture in 'a"; system "touch touched"; "b.svg' 'a`touch touched`.svg' "a'@b.svg" 'a
+b.svg'; do
+        PYTHONPATH=$work/stand-in python3 -B "$here/../python/examples/acceptance.py" 10 "$picture" >/dev/null 2>"$work/err"
+        status=$?
+        ls -N >"$work/out"
+        judge 0 "$status" "$(says "$picture")" "acceptance.py with the picture $picture"
+        grep -q '</svg>' "$picture" || failed=$((failed + 1))
+        rm -f ./*
+    done
+    cd "$here" || exit 1
+}
+if command -v gnuplot >/dev/null 2>&1 && python3 -c 'import sys; sys.exit(sys.version_info < (3, 11))'; then picture_of_any_name; fi
+
 if python3 -c 'import tomllib' 2>/dev/null; then
     finer_and_own
 else

@@ -15,6 +15,15 @@ if [ -z "$left" ]; then
     echo "slurm.sh: nothing is left, so nothing is handed in; the table is $folder/table.txt" >&2
     exec python3 -B "$here/study.py" table "$folder"
 fi
+# Slurm reads a percent sign in the name of an output as the start of a field, and two as one sign. After a backslash
+# it reads neither.
+case $folder in
+*\\*)
+    echo "slurm.sh: Slurm takes no backslash in the name of a folder, as in $folder" >&2
+    exit 1
+    ;;
+esac
 mkdir -p "$folder/jobs" || exit 1
-array=$(sbatch --parsable --array="0-$(($2 - 1))" --output="$folder/jobs/%A_%a.txt" "$here/share.sbatch" "$here" "$folder") || exit 1
-sbatch --parsable --dependency="afterany:$array" --output="$folder/jobs/%A.txt" "$here/sum.sbatch" "$here" "$folder"
+jobs=$(printf '%s\n' "$folder/jobs" | sed 's/%/%%/g')
+array=$(sbatch --parsable --array="0-$(($2 - 1))" --output="$jobs/%A_%a.txt" "$here/share.sbatch" "$here" "$folder") || exit 1
+sbatch --parsable --dependency="afterany:$array" --output="$jobs/%A.txt" "$here/sum.sbatch" "$here" "$folder"

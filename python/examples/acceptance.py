@@ -49,9 +49,11 @@ def draw(table: List[Tuple[float, float]], picture: str) -> None:
         if shutil.which("gnuplot") is None:
             sys.exit("acceptance.py: the picture needs matplotlib or gnuplot")
         points = "".join(f"{load} {share}\n" for load, share in table)
-        script = f'set terminal {picture.rsplit(".", 1)[1]}; set output "{picture}"; set yrange [0:1]; set key off; ' \
+        script = f'set terminal {picture.rsplit(".", 1)[1]}; set yrange [0:1]; set key off; ' \
                  'set xlabel "load of the low budgets"; set ylabel "share admitted"; plot "-" with linespoints'
-        subprocess.run(["gnuplot", "-e", script], input=points, text=True, check=True)
+        # gnuplot writes to its standard output, so that it never reads the picture's name as a part of its language.
+        drawn = subprocess.run(["gnuplot", "-e", script], input=points.encode(), stdout=subprocess.PIPE, check=True)
+        Path(picture).write_bytes(drawn.stdout)
         return
     pyplot.plot(*zip(*table), "o-")
     pyplot.xlabel("load of the low budgets")
