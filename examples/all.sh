@@ -25,10 +25,11 @@ explain.sh
 lasting.sh
 growths.sh
 studies.sh
-getting.sh
+wrapper.sh
 limits.sh
 suite.sh
 records.sh
+licences.sh
 calm.sh
 LIST
 
