@@ -1,10 +1,15 @@
 #!/bin/sh
-# Makes an archive FOLDER/edfvd-VERSION-MACHINE-linux.tar.gz of what install.sh installs: the proved program, its page, README.md, the
-# licences, RELEASE with version, commit, kit and the sha256 of each file, and, if c/build.sh has made them, the C libraries with their
-# header. Unpacked over a prefix it installs all that there. The same program, libraries and commit make the same bytes. It writes the
-# archive's sha256.
+# Makes an archive FOLDER/edfvd-VERSION-MACHINE-linux.tar.gz of what install.sh installs: the proved program, its manual page, the
+# pages, the licences, RELEASE with version, commit, kit and the sha256 of each file, and, if c/build.sh has made them, the C
+# libraries with their header. It writes the archive's sha256. The same program, libraries and commit make the same bytes, whatever
+# the umask.
+# The archive has one folder, edfvd-VERSION-MACHINE-linux, from which the program can be run as it is. It is unpacked over a prefix by
+#     tar -xzf edfvd-VERSION-MACHINE-linux.tar.gz --strip-components=1 -C PREFIX
+# and the program needs glibc 2.34 or later there.
 # usage: dist.sh FOLDER
 set -u
+unset CDPATH TAR_OPTIONS GZIP
+umask 022
 here=$(dirname -- "$(readlink -f -- "$0")")
 . "$here/examples/usage.sh"
 takes 1 1 "$@"
@@ -15,9 +20,17 @@ refuse() {
     exit 1
 }
 
+# clean: nothing is left but the archive
+clean() {
+    trap '' HUP INT TERM
+    rm -rf "$work"
+    if [ -n "$new" ]; then rm -f "$new"; fi
+}
+
 [ -d "$1" ] || refuse "$1 is no folder"
+new=
 work=$(mktemp -d) || exit 1
-trap 'rm -rf "$work"' EXIT
+trap clean EXIT
 trap 'exit 1' HUP INT TERM
 "$here/install.sh" "$work/edfvd" >/dev/null || exit 1
 [ -e "$work/edfvd/include/edfvd.h" ] || echo "dist.sh: the archive has no C libraries, since $here/c/build.sh has not made them" >&2
@@ -26,10 +39,15 @@ name=edfvd-$(awk 'NR == 1 { print $3 }' "$work/edfvd/share/doc/edfvd/RELEASE")-$
 mv "$work/edfvd" "$work/$name" || exit 1
 seconds=0
 [ ! -e "$here/.git" ] || seconds=$(git -C "$here" log -1 --format=%ct) || exit 1
-tar --sort=name --owner=0 --group=0 --numeric-owner --mode=go-w --mtime="@$seconds" -C "$work" -cf "$work/archive" "$name" &&
-    gzip -n "$work/archive" || refuse 'the archive was not made'
-if ! { cp "$work/archive.gz" "$1/$name.tar.gz.$$" && mv -f "$1/$name.tar.gz.$$" "$1/$name.tar.gz"; }; then
-    rm -f "$1/$name.tar.gz.$$"
+if ! { tar --sort=name --format=gnu --owner=0 --group=0 --numeric-owner --mode='u=rwX,go=rX' --mtime="@$seconds" -C "$work" \
+    -cf "$work/archive" "$name" && gzip -n "$work/archive"; }; then
+    refuse 'the archive was not made'
+fi
+# Written beside its place under a name that nobody could know, and renamed in one step.
+if [ -d "$1/$name.tar.gz" ]; then refuse "$1/$name.tar.gz is a folder"; fi
+new=$(mktemp "$1/.edfvd.XXXXXX" 2>/dev/null) || refuse "$1 cannot be written"
+if ! { cat "$work/archive.gz" >"$new" && chmod 644 "$new" && mv -f "$new" "$1/$name.tar.gz"; }; then
     refuse "$1/$name.tar.gz cannot be written"
 fi
-cd "$1" && sha256sum "$name.tar.gz"
+new=
+cd -- "$1" && sha256sum "$name.tar.gz"

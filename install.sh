@@ -1,17 +1,233 @@
 #!/bin/sh
-# Puts the proved program to PREFIX/bin/edfvd and its page to PREFIX/share/man/man1/edfvd.1. What is installed needs the C library
-# alone: neither this folder, nor the wrapper, nor the command rt. If c/build.sh has made the C libraries, they go to PREFIX/lib and
-# PREFIX/include, with a file for pkg-config.
+# Puts the proved program to PREFIX/bin/edfvd, its manual page to PREFIX/share/man/man1/edfvd.1, and the pages and licences to
+# PREFIX/share/doc/edfvd. What is installed needs glibc 2.34 or later, and neither this folder, nor the wrapper, nor the command rt.
+# If c/build.sh has made the C libraries, they go to PREFIX/lib and PREFIX/include, with a file for pkg-config.
+# Either everything is installed or nothing is: each file is written beside its place first, and renamed when all of them are there.
+# After a fault or a signal everything is as it was before the call. The modes are 755 and 644, whatever the umask is.
 # usage: install.sh PREFIX
 #        as in install.sh ~/.local
 set -u
+unset CDPATH
+umask 022
 here=$(dirname -- "$(readlink -f -- "$0")")
 . "$here/examples/usage.sh"
+program=$here/crates/edfvd_program/out/edfvd_program
+# The name of the folders in which files are written beside their places, and the folders that this call made, the innermost first.
+own=
+made=
+state=nothing
 
-# refuse WHY: ends with nothing installed
+# refuse WHY [STATUS]: ends with nothing installed
 refuse() {
-    echo "install.sh: $1" >&2
+    echo "install.sh: nothing was installed: $1" >&2
     exit "${2:-1}"
+}
+
+# check_build: program and libraries are there, and not older than their sources
+check_build() {
+    if ! [ -x "$program" ]; then
+        refuse "the program is not built: run $here/edfvd check $here/examples/control/tasks.toml first"
+    fi
+    "$here/edfvd" check "$here/examples/control/tasks.toml" >/dev/null || refuse 'the program was not proved or not built'
+    [ -e "$here/c/out/libedfvd.a" ] || return 0
+    newer=$(find "$here/c/edfvd.h" "$here"/c/*.c "$here/crates" \( -name '*.[hc]' -o -name '*.rt' \) \
+        -newer "$here/c/out/libedfvd.a" -print -quit)
+    [ -z "$newer" ] || refuse "the C libraries are older than their sources: run $here/c/build.sh first"
+}
+
+# add FILE NAME: the file is part of what is installed, under this name below the prefix
+add() {
+    if ! { { [ -d "$tree/${2%/*}" ] || mkdir -p "$tree/${2%/*}"; } && cp "$1" "$tree/$2"; }; then
+        refuse "$1 cannot be copied to $tree/$2"
+    fi
+}
+
+# page_text FOLDER PAGES: copies a page of this folder from standard input to standard output. A link to a file that is not one of the
+# pages would lead nowhere, so only its words are kept.
+page_text() {
+    awk -v folder="$1" -v pages="$2" '
+        function place(target, parts, count, kept, depth, i) {
+            count = split((folder == "." ? "" : folder "/") target, parts, "/")
+            depth = 0
+            for (i = 1; i <= count; i++)
+                if (parts[i] == "..") depth--
+                else if (parts[i] != ".") parts[++depth] = parts[i]
+            kept = parts[1]
+            for (i = 2; i <= depth; i++) kept = kept "/" parts[i]
+            return depth > 0 ? kept : "outside"
+        }
+        function leads_out(target) {
+            sub(/#.*/, "", target)
+            return target != "" && target !~ /[: ]/ && index(" " pages " ", " " place(target) " ") == 0
+        }
+        # The text up to a link, without the bracket that the words of the link begin with.
+        function opened(text, at, depth) {
+            for (at = length(text); at > 0; at--) {
+                if (substr(text, at, 1) == "]") depth++
+                if (substr(text, at, 1) == "[" && depth-- == 0) return substr(text, 1, at - 1) substr(text, at + 1)
+            }
+            return text
+        }
+        function write_text(before, rest, end, target) {
+            while ((end = index(text, "](")) > 0) {
+                before = substr(text, 1, end - 1)
+                rest = substr(text, end + 2)
+                end = index(rest, ")")
+                target = substr(rest, 1, end - 1)
+                text = substr(rest, end + 1)
+                printf "%s", leads_out(target) ? opened(before) : before "](" target ")"
+            }
+            printf "%s", text
+            text = ""
+        }
+        /^```/ { write_text(); code = !code; print; next }
+        code { print; next }
+        { text = text $0 "\n" }
+        END { write_text() }
+    '
+}
+
+# add_pages: adds README, CHANGELOG, SECURITY and docs, whose links lead to one another
+add_pages() {
+    pages=
+    for page in "$here/README.md" "$here/CHANGELOG.md" "$here/SECURITY.md" "$here"/docs/*.md "$here"/docs/*.svg; do
+        name=${page#"$here/"}
+        # No page has a blank in its name; a file that has one is somebody's own.
+        case $name in *' '*) continue ;; esac
+        if [ -e "$page" ]; then pages="$pages $name"; fi
+    done
+    for page in $pages; do
+        case $page in
+        *.svg) cp "$here/$page" "$work/page" ;;
+        */*) page_text "${page%/*}" "$pages" <"$here/$page" >"$work/page" ;;
+        *) page_text . "$pages" <"$here/$page" >"$work/page" ;;
+        esac || refuse "$here/$page cannot be copied"
+        add "$work/page" "share/doc/edfvd/$page"
+    done
+}
+
+# add_libraries: adds the C libraries, their header, and a file for pkg-config that names their folders relative to its own, so that
+# the whole prefix may be moved
+add_libraries() {
+    add "$here/c/edfvd.h" include/edfvd.h
+    for file in libedfvd.a libedfvd_core.a libedfvd.so; do
+        add "$here/c/out/$file" "lib/$file"
+    done
+    # shellcheck disable=SC2016
+    sed -e 's|^libdir=.*|libdir=${pcfiledir}/..|' -e 's|^includedir=.*|includedir=${pcfiledir}/../../include|' \
+        "$here/c/out/edfvd.pc" >"$work/pc" || refuse "$here/c/out/edfvd.pc cannot be copied"
+    add "$work/pc" lib/pkgconfig/edfvd.pc
+}
+
+# release: the text of RELEASE: version, commit, kit, what the program needs, and the sha256 of each file. A version that
+# CHANGELOG.md has changes after is marked so. `sha256sum -c share/doc/edfvd/RELEASE` in the prefix compares the sums.
+release() {
+    awk '/^version: / { version = $2 } /^## Since / { changes = "+changes" } END { print "# edfvd " version changes }' \
+        "$here/CITATION.cff" "$here/CHANGELOG.md" || return
+    commit=unknown
+    if [ -e "$here/.git" ] && commit=$(git -C "$here" rev-parse HEAD); then
+        [ -z "$(git -C "$here" status --porcelain)" ] || commit="$commit, and changes that are not committed"
+    fi
+    echo "# commit $commit"
+    echo "# kit $(cat "$here/KIT")"
+    echo "# needs Linux on $(uname -m), with glibc 2.34 or later"
+    (cd "$tree" && find . -type f | sed 's|^\./||' | LC_ALL=C sort | xargs sha256sum)
+}
+
+# make_tree: puts what is installed into a temporary folder, and lists its files and folders
+make_tree() {
+    add "$program" bin/edfvd
+    add "$here/man/edfvd.1" share/man/man1/edfvd.1
+    for file in LICENSE-APACHE LICENSE-MIT THIRD-PARTY-LICENSES; do
+        add "$here/$file" "share/doc/edfvd/$file"
+    done
+    add_pages
+    if [ -e "$here/c/out/libedfvd.a" ]; then add_libraries; fi
+    if ! { find "$tree" -type f -exec chmod 644 {} + && chmod 755 "$tree/bin/edfvd"; }; then refuse "$tree cannot be written"; fi
+    release >"$work/release" || refuse 'the text of RELEASE cannot be made'
+    add "$work/release" share/doc/edfvd/RELEASE
+    chmod 644 "$tree/share/doc/edfvd/RELEASE" || refuse "$tree cannot be written"
+    (cd "$tree" && find . -type f | sed 's|^\./||' | LC_ALL=C sort) >"$work/files"
+    sed 's|/[^/]*$||' "$work/files" | LC_ALL=C sort -u >"$work/folders"
+}
+
+# make_folder FOLDER: makes it, and what is missing above it
+make_folder() {
+    [ -d "$1" ] && return
+    case $1 in
+    */*) [ -z "${1%/*}" ] || make_folder "${1%/*}" ;;
+    esac
+    mkdir "$1" 2>/dev/null || refuse "the folder $1 cannot be made"
+    made="$1
+$made"
+}
+
+# paths NAME: sets $target to the file's place, $new to the file before it is renamed, and $old to what stood at its place before
+paths() {
+    target=$prefix/$1
+    new=${target%/*}/$own/new/${target##*/}
+    old=${target%/*}/$own/old/${target##*/}
+}
+
+# write_beside: writes each file beside its place, into new folders whose names cannot be guessed
+write_beside() {
+    make_folder "$prefix"
+    prefix=$(cd -- "$prefix" && pwd) || refuse "$prefix cannot be entered"
+    own=$(mktemp -d "$prefix/.edfvd.XXXXXX" 2>/dev/null) || refuse "$prefix cannot be written"
+    own=${own##*/}
+    while read -r folder; do
+        make_folder "$prefix/$folder"
+        mkdir -m 700 "$prefix/$folder/$own" 2>/dev/null || refuse "$prefix/$folder cannot be written"
+        mkdir "$prefix/$folder/$own/new" "$prefix/$folder/$own/old" || refuse "$prefix/$folder cannot be written"
+    done <"$work/folders"
+    while read -r name; do
+        paths "$name"
+        [ ! -d "$target" ] || refuse "$target is a folder"
+        cp "$tree/$name" "$new" || refuse "$target cannot be written"
+    done <"$work/files"
+}
+
+# rename_all: renames each file to its place in one step, which works even if the old file is a running program
+rename_all() {
+    state=renaming
+    while read -r name; do
+        paths "$name"
+        if [ -e "$target" ] || [ -L "$target" ]; then
+            ln "$target" "$old" 2>/dev/null || cp -pP "$target" "$old" || refuse "$target cannot be kept"
+        fi
+        mv -f "$new" "$target" || refuse "$target cannot be replaced"
+    done <"$work/files"
+    state=installed
+}
+
+# undo: for each file that was renamed, puts back what stood at its place before
+undo() {
+    while read -r name; do
+        paths "$name"
+        if [ -e "$new" ]; then
+            continue
+        elif [ -e "$old" ] || [ -L "$old" ]; then
+            mv -f "$old" "$target"
+        else
+            rm -f "$target"
+        fi
+    done <"$work/files"
+}
+
+# clean: removes what this call made, except what is installed if it succeeded
+clean() {
+    trap '' HUP INT TERM
+    trap - EXIT
+    [ "$state" != renaming ] || undo
+    if [ -n "$own" ]; then
+        while read -r folder; do rm -rf "${prefix:?}/$folder/$own"; done <"$work/folders"
+        rm -rf "${prefix:?}/$own"
+    fi
+    rm -rf "$work"
+    [ "$state" != installed ] || return 0
+    echo "$made" | while IFS= read -r folder; do
+        if [ -n "$folder" ]; then rmdir "$folder" 2>/dev/null; fi
+    done
 }
 
 takes 1 1 "$@"
@@ -20,87 +236,20 @@ prefix=$1
 if [ -e "$prefix" ] && ! [ -d "$prefix" ]; then
     refuse "$prefix is no folder"
 fi
+check_build
+work=$(mktemp -d) || refuse 'there is no folder for temporary files'
+tree=$work/tree
+trap clean EXIT
+trap 'refuse "it was interrupted"' HUP INT TERM
+make_tree
+write_beside
+rename_all
+clean
 
-program=$here/crates/edfvd_program/out/edfvd_program
-page=$here/man/edfvd.1
-if ! [ -x "$program" ]; then
-    refuse "the program is not built: run $here/edfvd check $here/examples/control/tasks.toml first"
-fi
-# So that it is not older than its sources.
-"$here/edfvd" check "$here/examples/control/tasks.toml" >/dev/null || refuse 'the program was not proved or not built'
-
-bin=$prefix/bin
-man=$prefix/share/man/man1
-doc=$prefix/share/doc/edfvd
-mkdir -p "$bin" "$man" "$doc" || refuse "$bin, $man and $doc cannot be made"
-libraries=
-if [ -e "$here/c/out/libedfvd.a" ]; then
-    newer=$(find "$here/c/edfvd.h" "$here"/c/*.c "$here/crates" \( -name '*.[hc]' -o -name '*.rt' \) \
-        -newer "$here/c/out/libedfvd.a" -print -quit)
-    [ -z "$newer" ] || refuse "the C libraries are older than their sources: run $here/c/build.sh first"
-    libraries='include/edfvd.h lib/libedfvd.a lib/libedfvd_core.a lib/libedfvd.so lib/pkgconfig/edfvd.pc'
-    mkdir -p "$prefix/include" "$prefix/lib/pkgconfig" || refuse "$prefix/include and $prefix/lib/pkgconfig cannot be made"
-fi
-for folder in "$bin" "$man" "$doc"; do
-    [ -w "$folder" ] || refuse "$folder cannot be written"
-done
-for file in "$bin/edfvd" "$man/edfvd.1"; do
-    [ -d "$file" ] && refuse "$file is a folder"
-done
-
-# put MODE FILE TO: the new file replaces the old one in one step, even if that one is running
-put() {
-    new=$3.new.$$
-    if ! { cp "$2" "$new" && chmod "$1" "$new" && mv -f "$new" "$3"; }; then
-        rm -f "$new"
-        refuse "$3 cannot be written"
-    fi
-}
-
-# release: the text of RELEASE, which says version, commit, kit and the sha256 of each installed file. A version that CHANGELOG.md has changes after is marked so. The sums are compared by
-# `sha256sum -c share/doc/edfvd/RELEASE` in the prefix.
-release() {
-    awk '/^version: / { version = $2 } /^## Since / { changes = "+changes" } END { print "# edfvd " version changes }' \
-        "$here/CITATION.cff" "$here/CHANGELOG.md"
-    commit=unknown
-    if [ -e "$here/.git" ] && commit=$(git -C "$here" rev-parse HEAD); then
-        [ -z "$(git -C "$here" status --porcelain)" ] || commit="$commit, and changes that are not committed"
-    fi
-    echo "# commit $commit"
-    echo "# kit $(cat "$here/KIT")"
-    # shellcheck disable=SC2086
-    (cd "$prefix" && sha256sum bin/edfvd share/man/man1/edfvd.1 share/doc/edfvd/README.md share/doc/edfvd/LICENSE-* $libraries)
-}
-
-put 755 "$program" "$bin/edfvd"
-put 644 "$page" "$man/edfvd.1"
-for file in README.md LICENSE-APACHE LICENSE-MIT; do
-    put 644 "$here/$file" "$doc/$file"
-done
-if [ -n "$libraries" ]; then
-    put 644 "$here/c/edfvd.h" "$prefix/include/edfvd.h"
-    for file in libedfvd.a libedfvd_core.a libedfvd.so; do
-        put 644 "$here/c/out/$file" "$prefix/lib/$file"
-    done
-    pc=$doc/.pc.$$
-    # The folders are found from where the file is, so that all may be moved.
-    # shellcheck disable=SC2016
-    sed -e 's|^libdir=.*|libdir=${pcfiledir}/..|' -e 's|^includedir=.*|includedir=${pcfiledir}/../../include|' \
-        "$here/c/out/edfvd.pc" >"$pc" || refuse "$doc cannot be written"
-    put 644 "$pc" "$prefix/lib/pkgconfig/edfvd.pc"
-    rm -f "$pc"
-fi
-text=$doc/.release.$$
-if ! release >"$text"; then
-    rm -f "$text"
-    refuse "$doc/RELEASE cannot be written"
-fi
-put 644 "$text" "$doc/RELEASE"
-rm -f "$text"
-echo "installed $bin/edfvd and $man/edfvd.1"
-if [ -n "$libraries" ]; then echo "installed $prefix/include/edfvd.h, and the libraries in $prefix/lib"; fi
-echo "version, commit, kit and checksums are in $doc/RELEASE"
+echo "installed $prefix/bin/edfvd and $prefix/share/man/man1/edfvd.1"
+if [ -e "$here/c/out/libedfvd.a" ]; then echo "installed $prefix/include/edfvd.h, and the libraries in $prefix/lib"; fi
+echo "version, commit, kit and checksums are in $prefix/share/doc/edfvd/RELEASE"
 case :$PATH: in
-    *":$bin:"*) ;;
-    *) echo "$bin is not on the PATH" ;;
+    *":$prefix/bin:"*) ;;
+    *) echo "$prefix/bin is not on the PATH" ;;
 esac

@@ -25,7 +25,9 @@ explain.sh
 lasting.sh
 growths.sh
 studies.sh
+archive.sh
 wrapper.sh
+installing.sh
 limits.sh
 suite.sh
 records.sh
