@@ -119,10 +119,15 @@ edfvd_status edfvd_demand(const edfvd_demand_task *tasks, size_t count, edfvd_de
     return (edfvd_status)edfvd_raw_demand(count == 0 ? none : tasks, count, test);
 }
 
+/* What the library is given for p. It takes p = 0 as the rule of the published test, whatever q is. For a caller that rule is 0
+   and 0, and 0/q with any other q is no scale: then the greatest p is passed, which the library refuses with every q. */
+static uint64_t numerator(uint64_t p, uint64_t q) { return p == 0 && q != 0 ? UINT64_MAX : p; }
+
 edfvd_status edfvd_judge(const edfvd_task *tasks, size_t count, const edfvd_row *rows, size_t length, uint64_t p, uint64_t q,
                          edfvd_verdict *verdict) {
     if (verdict == NULL || (tasks == NULL && count != 0) || (rows == NULL && length != 0)) return EDFVD_NULL;
-    return (edfvd_status)edfvd_raw_judge(some(tasks, count), count, length == 0 ? no_rows : rows, length, p, q, verdict);
+    return (edfvd_status)edfvd_raw_judge(some(tasks, count), count, length == 0 ? no_rows : rows, length, numerator(p, q), q,
+                                         verdict);
 }
 
 edfvd_status edfvd_open(edfvd_scheduler *s, const edfvd_task *tasks, size_t count, uint32_t places, uint32_t *task) {
@@ -149,7 +154,7 @@ edfvd_status edfvd_close(edfvd_scheduler *s) {
     edfvd_status entered = enter(s);
     if (entered != EDFVD_OK) return entered;
     uint32_t status = edfvd_raw_close(raw(s));
-    s->self = NULL;
+    if (status == EDFVD_OK) s->self = NULL;
     return leave(s, status);
 }
 
@@ -201,7 +206,8 @@ edfvd_status edfvd_monitor_open(edfvd_monitor *m, const edfvd_task *tasks, size_
     if (tasks == NULL && count != 0) return EDFVD_NULL;
     edfvd_status entered = enter_monitor(m);
     if (entered != EDFVD_OK) return entered;
-    uint32_t status = edfvd_raw_monitor_open(raw_of(m), some(tasks, count), count, p, q, task == NULL ? &unread : task);
+    uint32_t status = edfvd_raw_monitor_open(raw_of(m), some(tasks, count), count, numerator(p, q), q,
+                                             task == NULL ? &unread : task);
     if (status == EDFVD_OK) m->self = m;
     return leave_monitor(m, status);
 }
@@ -210,7 +216,7 @@ edfvd_status edfvd_monitor_close(edfvd_monitor *m) {
     edfvd_status entered = enter_monitor(m);
     if (entered != EDFVD_OK) return entered;
     uint32_t status = edfvd_raw_monitor_close(raw_of(m));
-    m->self = NULL;
+    if (status == EDFVD_OK) m->self = NULL;
     return leave_monitor(m, status);
 }
 

@@ -114,8 +114,9 @@ edfvd_status edfvd_check(const edfvd_task *tasks, size_t count, edfvd_test *test
 
 /*
  * Stores the greatest percentage, up to 1000, at which the test admits the set if the high budgets of the high tasks are taken
- * at that percentage, rounded down to whole ticks but at least their low budgets. With any other status than EDFVD_OK
- * `percent` gets 0. `task` gets the task of a refusal, or 0, and may be null.
+ * at that percentage, rounded down to whole ticks but at least their low budgets. EDFVD_OK with 0 percent means that the test
+ * admits the set if each high budget is the low one, and at 1 percent no longer. With any other status `percent` gets 0, too.
+ * `task` gets the task of a refusal, or 0, and may be null.
  *
  * Statuses: EDFVD_NO_ROOM if there is no such percentage, the refusals of a set, EDFVD_PERIODS, EDFVD_MEMORY.
  */
@@ -226,7 +227,9 @@ typedef struct edfvd_row {
 /*
  * Opens a scheduler of the set under the rule that the published test gives it. It keeps all its rows. A place is used by each
  * row, each held release and the tick in progress; after `places` of them events are EDFVD_FULL. All memory is taken here,
- * some 16 bytes a place, and no event takes more. `task` gets the task of a refusal, or 0, and may be null.
+ * some 16 bytes a place, and no event takes more. A system may promise memory that it does not have, as Linux does: EDFVD_OK
+ * then means that malloc promised all places, and a process that uses more than there is may be ended by the system. `task`
+ * gets the task of a refusal, or 0, and may be null.
  *
  * Statuses: EDFVD_OPEN, the refusals of a set, EDFVD_PERIODS, EDFVD_NOT_ADMITTED, EDFVD_MEMORY.
  */
@@ -280,7 +283,7 @@ edfvd_status edfvd_outcome(edfvd_scheduler *s, uint32_t task, uint32_t count, bo
  */
 edfvd_status edfvd_idle(edfvd_scheduler *s, edfvd_answer *answer);
 
-/* Stores the scheduler's clock, mode and jobs; after a refusal zeros. No further statuses. */
+/* Stores the scheduler's clock, mode and jobs; after EDFVD_CLOSED zeros. No further statuses. */
 edfvd_status edfvd_peek(edfvd_scheduler *s, edfvd_look *look);
 
 /*
@@ -312,13 +315,13 @@ typedef struct edfvd_verdict {
 } edfvd_verdict;
 
 /*
- * Judges `length` rows, the oldest first, at most 2000000; `rows` may be null if that is 0. If p is 0, the rule is that of the
- * published test, which must admit the set; otherwise it is EDF-VD with the scale p/q, 1 <= p <= q <= 2^60, whether or not the
- * test holds with it. With any other status than EDFVD_OK `verdict` holds zeros and the task of a refusal.
+ * Judges `length` rows, the oldest first, at most 2000000; `rows` may be null if that is 0. If p and q are 0, the rule is that
+ * of the published test, which must admit the set; otherwise it is EDF-VD with the scale p/q, 1 <= p <= q <= 2^60, whether or
+ * not the test holds with it. With any other status than EDFVD_OK `verdict` holds zeros and the task of a refusal.
  *
- * Statuses: EDFVD_ARGUMENT for another scale, or a row that is none of edfvd_row's kinds; EDFVD_FULL for more rows;
- * EDFVD_NO_TASK for a row of a task that the set does not have; the refusals of a set, EDFVD_MEMORY; if p is 0,
- * EDFVD_PERIODS and EDFVD_NOT_ADMITTED.
+ * Statuses: EDFVD_ARGUMENT for another p and q, such as 0 and 1, or a row that is none of edfvd_row's kinds; EDFVD_FULL for
+ * more rows; EDFVD_NO_TASK for a row of a task that the set does not have; the refusals of a set, EDFVD_MEMORY; if p and q are
+ * 0, EDFVD_PERIODS and EDFVD_NOT_ADMITTED.
  */
 edfvd_status edfvd_judge(const edfvd_task *tasks, size_t count, const edfvd_row *rows, size_t length, uint64_t p, uint64_t q,
                          edfvd_verdict *verdict);
@@ -346,7 +349,7 @@ typedef struct edfvd_unfit {
 
 /* What a monitor has seen. After a row that does not fit, ticks, pending and high_mode mean nothing. */
 typedef struct edfvd_watch {
-    uint64_t rows;      /* how many rows have fitted */
+    uint64_t rows;      /* how many rows have fitted; of several that one call gave, none if one of them does not fit */
     uint64_t ticks;     /* how many ticks have ended */
     uint64_t pending;   /* how many jobs are pending */
     uint32_t legal;     /* 1 if each row has fitted, otherwise 0 */
@@ -363,8 +366,8 @@ typedef struct edfvd_late {
  * Opens a monitor of the set, under the rule that edfvd_judge takes for p and q. `task` gets the task of a refusal, or 0, and
  * may be null.
  *
- * Statuses: EDFVD_OPEN, EDFVD_ARGUMENT for another scale, the refusals of a set, EDFVD_MEMORY; if p is 0, EDFVD_PERIODS and
- * EDFVD_NOT_ADMITTED.
+ * Statuses: EDFVD_OPEN, EDFVD_ARGUMENT for p and q that edfvd_judge refuses, the refusals of a set, EDFVD_MEMORY; if p and q
+ * are 0, EDFVD_PERIODS and EDFVD_NOT_ADMITTED.
  */
 edfvd_status edfvd_monitor_open(edfvd_monitor *m, const edfvd_task *tasks, size_t count, uint64_t p, uint64_t q,
                                 uint32_t *task);
@@ -396,14 +399,14 @@ edfvd_status edfvd_monitor_would_fit(edfvd_monitor *m, const edfvd_row *row, uin
  * `room` elements, and may be null if that is 0. Nothing is said after a row that does not fit.
  *
  * Statuses: EDFVD_ROOM if there are more jobs than `room`, with their number alone: ask again with a longer array;
- * EDFVD_MEMORY.
+ * EDFVD_MEMORY. With EDFVD_MEMORY and EDFVD_CLOSED the number is 0.
  */
 edfvd_status edfvd_monitor_late(edfvd_monitor *m, uint64_t since, edfvd_late *jobs, size_t room, uint64_t *count);
 
-/* Stores the verdict on all rows so far, as edfvd_judge finds it. No further statuses. */
+/* Stores the verdict on all rows so far, as edfvd_judge finds it; after EDFVD_CLOSED zeros. No further statuses. */
 edfvd_status edfvd_monitor_verdict(edfvd_monitor *m, edfvd_verdict *verdict);
 
-/* Stores the monitor's clock, mode and counts. No further statuses. */
+/* Stores the monitor's clock, mode and counts; after EDFVD_CLOSED zeros. No further statuses. */
 edfvd_status edfvd_monitor_peek(edfvd_monitor *m, edfvd_watch *watch);
 
 /* ---- Any command (not in libedfvd_core.a) ---- */
@@ -413,11 +416,16 @@ edfvd_status edfvd_monitor_peek(edfvd_monitor *m, edfvd_watch *watch);
  * name "1" and "2"; any other name is an empty file. Words end with a 0 byte, and more than five words are no command (exit
  * status 2). The reply's text is stored in `out`, which has `room` bytes, without a 0 byte at its end; its length in bytes in
  * `length`, and the status that the program would exit with in `exit_status`; so a refused task file is EDFVD_OK with exit
- * status 3. `run` and `accept` work on this thread, with the program's reply. The call needs some 100 KB of stack. `words`,
- * `first`, `second` and `out` may be null if their lengths are 0.
+ * status 3. `run` and `accept` work on this thread, with the program's reply. `words`, `first`, `second` and `out` may be null
+ * if their lengths are 0.
+ *
+ * Call it with 256 KiB of stack or more. The reader of task files calls itself once for each level of a file's tables, up to
+ * its limit of 80: a file of 163 bytes uses 143 KiB of stack, and no file needs more levels. The main thread of a process and
+ * the threads of most C libraries have megabytes; those of musl have 128 KiB unless you ask for more.
  *
  * Statuses: EDFVD_ROOM if `out` is too small, with the length alone: ask again with a longer buffer; EDFVD_ARGUMENT for a word
- * that is not UTF-8; EDFVD_THREADS for soak, live and runall; EDFVD_MEMORY.
+ * that is not UTF-8; EDFVD_THREADS for soak, live and runall; EDFVD_MEMORY. With each of them `out` is not written,
+ * `exit_status` gets 0, and so does `length`, except with EDFVD_ROOM.
  */
 edfvd_status edfvd_ask(size_t count, const char *const *words, const void *first, size_t first_length, const void *second,
                        size_t second_length, void *out, size_t room, size_t *length, uint32_t *exit_status);
