@@ -7,12 +7,16 @@
 #     libedfvd.so       every call, shared
 #     edfvd.pc          for pkg-config, with these folders; install.sh writes one with its own
 #
-# With FOLDER, only the static libraries are built, and into that folder.
+# With FOLDER, only the static libraries are built, and into that folder. A file takes its name once it is whole, and by renaming,
+# so a program that has the old one open goes on with that. Each has the mode 644. A run that is ended early leaves no file behind
+# that it had begun.
 # Nothing is built that is not proved. After ./edfvd or the gate the crates below are proved, and only edfvd_c, edfvd_ask_c and what
 # else the program does not have are proved here, which takes some minutes; with no change since, it takes seconds. CC, CFLAGS, LD,
 # AR and OBJCOPY may name other tools.
 # usage: build.sh [FOLDER]
 set -eu
+unset CDPATH
+umask 022
 here=$(cd "$(dirname -- "$0")" && pwd)
 . "$here/../examples/usage.sh"
 takes 0 1 "$@"
@@ -24,9 +28,20 @@ kit=$(dirname "$(dirname "$(readlink -f "$(command -v rt)")")")
 crates=$(cd "$here/../crates" && pwd)
 out=${1:-$here/out}
 mkdir -p "$out"
-parts=$(mktemp -d) || exit 1
-trap 'rm -rf "$parts"' EXIT
+parts=
+beside=
+trap 'rm -rf ${parts:+"$parts"} ${beside:+"$beside"}' EXIT
 trap 'exit 1' HUP INT TERM
+parts=$(mktemp -d) || exit 1
+
+# put MADE NAME: the file that was made takes this name, with the mode 644
+put() {
+    beside=$(mktemp "$2.XXXXXX")
+    cat "$1" >"$beside"
+    chmod 644 "$beside"
+    mv -f "$beside" "$2"
+    beside=
+}
 
 # below CRATE: the crates of this repository that it stands on
 below() {
@@ -76,7 +91,8 @@ library() {
             set -- "$@" --extern "$name=$rlib"
         done
         (cd "$crates/$crate" && "$kit/bin/rattle" build --crate-name "$crate" --crate-type staticlib src/lib.rt --links "$crate=" "$@" \
-            --jobs 2 --toolchain "$kit/toolchain" --backend llvm -o "$made" >&2)
+            --jobs 2 --toolchain "$kit/toolchain" --backend llvm -o "$parts/lib$crate.a" >&2)
+        put "$parts/lib$crate.a" "$made"
     fi
 }
 
@@ -94,22 +110,25 @@ one() {
 sed -n 's/^\(edfvd_status \|const char \*\)\(edfvd_[a-z_]*\)(.*$/\2/p' "$here/edfvd.h" >"$parts/calls"
 one edfvd_c edfvd.c
 one edfvd_ask_c edfvd_ask.c
-rm -f "$out/libedfvd.a" "$out/libedfvd_core.a"
-"$AR" rcs "$out/libedfvd_core.a" "$parts/edfvd_c.o"
-"$AR" rcs "$out/libedfvd.a" "$parts/edfvd_c.o" "$parts/edfvd_ask_c.o"
+"$AR" rcs "$parts/libedfvd_core.a" "$parts/edfvd_c.o"
+"$AR" rcs "$parts/libedfvd.a" "$parts/edfvd_c.o" "$parts/edfvd_ask_c.o"
+put "$parts/libedfvd_core.a" "$out/libedfvd_core.a"
+put "$parts/libedfvd.a" "$out/libedfvd.a"
 if [ $# -eq 1 ]; then exit; fi
-"$CC" -shared -o "$out/libedfvd.so" "$parts/edfvd_c.o" "$parts/edfvd_ask_c.o" \
+"$CC" -shared -o "$parts/libedfvd.so" "$parts/edfvd_c.o" "$parts/edfvd_ask_c.o" \
     -Wl,-z,defs,-z,now,-z,relro -Wl,-soname,libedfvd.so
-cp "$out/libedfvd.so" "$here/../python/edfvd/libedfvd.so"
+put "$parts/libedfvd.so" "$out/libedfvd.so"
+put "$parts/libedfvd.so" "$here/../python/edfvd/libedfvd.so"
 version=$(sed -n 's/^version: //p' "$here/../CITATION.cff")
-cat >"$out/edfvd.pc" <<END
+cat >"$parts/edfvd.pc" <<END
 libdir=$out
 includedir=$here
 
 Name: edfvd
 Description: EDF-VD task sets tested, traces judged, and a scheduler driven event by event
 Version: $version
-Libs: -L\${libdir} -ledfvd
-Cflags: -I\${includedir}
+Libs: -L"\${libdir}" -ledfvd
+Cflags: -I"\${includedir}"
 END
+put "$parts/edfvd.pc" "$out/edfvd.pc"
 echo "built $out/libedfvd.a, libedfvd_core.a and libedfvd.so"
