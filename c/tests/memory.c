@@ -1,5 +1,5 @@
-/* Each allocation of each call fails in turn: the call returns EDFVD_MEMORY or does without that memory, and leaves nothing
-   allocated. Link with -Wl,--wrap=malloc,--wrap=realloc,--wrap=free. */
+/* Each allocation of each call fails in turn, alone and with all that come after it: the call returns EDFVD_MEMORY or does without
+   that memory, leaves nothing allocated, and succeeds when it is made again. Link with -Wl,--wrap=malloc,--wrap=realloc,--wrap=free. */
 #include "edfvd.h"
 #include <stdio.h>
 #include <string.h>
@@ -11,9 +11,20 @@ void *__wrap_malloc(size_t size);
 void *__wrap_realloc(void *at, size_t size);
 void __wrap_free(void *at);
 
-static long left = -1, live;
+/* How many allocations succeed before one fails, which then has failed; below 0 none fails. Whether those after it fail, too. */
+static long left = -1;
+static bool has_failed, for_good;
 
-static bool fails(void) { return left >= 0 && left-- == 0; }
+/* How many blocks are allocated. */
+static long live;
+
+static bool fails(void) {
+    if (left < 0) return false;
+    if (left-- > 0) return false;
+    left = for_good ? 0 : -1;
+    has_failed = true;
+    return true;
+}
 
 void *__wrap_malloc(size_t size) {
     void *at = fails() ? NULL : __real_malloc(size);
@@ -61,10 +72,13 @@ static edfvd_status try_open_endless(void) {
     edfvd_status status = edfvd_open_endless(&s, tasks, 2, NULL);
     if (status != EDFVD_OK) return status;
     long before = left;
-    left = 0; /* and less than 0 once an allocation was tried, which no event does */
+    bool had_failed = has_failed;
+    has_failed = false;
+    left = 0; /* an event that tried an allocation would fail */
     for (int tick = 0; tick < 1000 && status == EDFVD_OK; tick++) status = edfvd_idle(&s, NULL);
-    bool tried = left != 0;
+    bool tried = has_failed;
     left = before;
+    has_failed = had_failed;
     edfvd_status closed = edfvd_close(&s);
     return tried ? EDFVD_FULL : status == EDFVD_OK ? closed : status;
 }
@@ -106,28 +120,50 @@ static edfvd_status ask_partition(void) { return ask(3, (const char *const[]){"p
 static edfvd_status ask_demand(void) { return ask(2, (const char *const[]){"demand", "2"}, demands); }
 static edfvd_status ask_accept(void) { return ask(4, (const char *const[]){"accept", "1", "20", "4"}, ""); }
 
+typedef edfvd_status call(void);
+
+/* Whether the call is as it must be while its allocation of this number fails. */
+static bool is_good(const char *name, call *made, long number) {
+    long before = live;
+    has_failed = false;
+    left = number;
+    edfvd_status status = made();
+    left = -1;
+    if (live != before) return printf("%s: a leak at allocation %ld\n", name, number), false;
+    /* A vector that gets no memory for more than it needs asks again for less, so a call may still succeed. */
+    if (status != EDFVD_OK && status != EDFVD_MEMORY)
+        return printf("%s: %s at allocation %ld\n", name, edfvd_word(status), number), false;
+    bool did_fail = has_failed;
+    status = made();
+    if (status != EDFVD_OK) return printf("%s: %s after allocation %ld\n", name, edfvd_word(status), number), false;
+    has_failed = did_fail;
+    return true;
+}
+
+/* Whether the call is as it must be with each of its allocations. */
+static bool is_good_with_each(const char *name, call *made) {
+    long number = 0;
+    do {
+        if (!is_good(name, made, number++)) return false;
+    } while (has_failed);
+    if (number == 1) return printf("%s: no allocation was seen\n", name), false;
+    return true;
+}
+
 int main(void) {
     static const struct {
         const char *name;
-        edfvd_status (*call)(void);
+        call *made;
     } calls[] = {{"check", try_check},       {"stretch", try_stretch},   {"partition", try_partition},
                  {"demand", try_demand},     {"open", try_open},         {"open_endless", try_open_endless},
                  {"judge", try_judge},       {"monitor", try_monitor},   {"ask check", ask_check},
                  {"ask run", ask_run},       {"ask report", ask_report}, {"ask partition", ask_partition},
                  {"ask demand", ask_demand}, {"ask accept", ask_accept}};
     for (size_t place = 0; place < sizeof calls / sizeof *calls; place++) {
-        long failed = 0;
-        for (;; failed++) {
-            left = failed;
-            long before = live;
-            edfvd_status status = calls[place].call();
-            if (live != before) return printf("%s: a leak at allocation %ld\n", calls[place].name, failed), 1;
-            if (left >= 0) break; /* the call made fewer allocations than that */
-            /* A vector that gets no memory for more than it needs asks again for less, so a call may still succeed. */
-            if (status != EDFVD_OK && status != EDFVD_MEMORY)
-                return printf("%s: %s at allocation %ld\n", calls[place].name, edfvd_word(status), failed), 1;
-        }
-        if (failed == 0) return printf("%s: no allocation was seen\n", calls[place].name), 1;
+        for_good = false;
+        if (!is_good_with_each(calls[place].name, calls[place].made)) return 1;
+        for_good = true;
+        if (!is_good_with_each(calls[place].name, calls[place].made)) return 1;
         printf("%s: each allocation failed in turn\n", calls[place].name);
     }
     return 0;

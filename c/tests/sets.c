@@ -1,0 +1,372 @@
+/* The calls about task sets: what each stores, every refusal with its task, and the ends of each range. */
+#include "tests.h"
+
+tally tests;
+
+/* The control set: U_LL = 5/10, U_HL = 2/10, U_HH = 6/10, so x = 2/10 / (1 - 5/10) = 2/5. */
+static const edfvd_task control[] = {{EDFVD_HIGH, 10, 2, 6}, {EDFVD_LOW, 10, 5, 5}};
+
+/* Sets that are none: the status of each and the task that it is about. */
+static const struct {
+    edfvd_task tasks[3];
+    edfvd_status status;
+    uint32_t task;
+} refused[] = {
+    {{{EDFVD_HIGH, 10, 2, 6}, {EDFVD_LOW, 0, 5, 5}, {EDFVD_LOW, 10, 1, 1}}, EDFVD_ZERO_NUMBER, 2},
+    {{{EDFVD_HIGH, 10, 2, 6}, {EDFVD_LOW, 10, 1, 1}, {EDFVD_LOW, 10, 0, 0}}, EDFVD_ZERO_NUMBER, 3},
+    {{{EDFVD_HIGH, 10, 0, 6}, {EDFVD_LOW, 10, 1, 1}, {EDFVD_LOW, 10, 1, 1}}, EDFVD_ZERO_NUMBER, 1},
+    {{{EDFVD_LOW, 10, 1, 1}, {EDFVD_HIGH, 10, 7, 6}, {EDFVD_LOW, 10, 1, 1}}, EDFVD_BUDGET_ORDER, 2},
+    {{{EDFVD_LOW, 10, 1, 1}, {EDFVD_LOW, 10, 1, 1}, {EDFVD_LOW, 10, 1, 2}}, EDFVD_BUDGET_ORDER, 3},
+    {{{2, 10, 1, 1}, {EDFVD_LOW, 10, 1, 1}, {EDFVD_LOW, 10, 1, 1}}, EDFVD_LEVEL, 1},
+    {{{EDFVD_LOW, 10, 1, 1}, {EDFVD_LOW, 10, 1, 1}, {UINT32_MAX, 10, 1, 1}}, EDFVD_LEVEL, 3},
+};
+
+/* 2^31 times 2^29 - 1 is below 2^60, and three times that is above it. */
+static const edfvd_task long_periods[] = {{EDFVD_LOW, 2147483648u, 1, 1}, {EDFVD_LOW, 536870911u, 1, 1}, {EDFVD_LOW, 3, 1, 1}};
+
+static void check_stores_the_test(void) {
+    edfvd_test test;
+    PAINTED(test);
+    RETURNS(EDFVD_OK, edfvd_check(control, 2, &test));
+    IS(2, test.rule);
+    IS(0, test.task);
+    IS(2, test.p);
+    IS(5, test.q);
+    IS(10, test.lcm);
+    IS(0, test.low_low_top);
+    IS(5, test.low_low);
+    IS(0, test.high_low_top);
+    IS(2, test.high_low);
+    IS(0, test.high_high_top);
+    IS(6, test.high_high);
+
+    /* One low task whose budget is its period: U_LL = 1 and plain EDF. */
+    edfvd_task whole = {EDFVD_LOW, 7, 7, 7};
+    PAINTED(test);
+    RETURNS(EDFVD_OK, edfvd_check(&whole, 1, &test));
+    IS(1, test.rule);
+    IS(0, test.p);
+    IS(0, test.q);
+    IS(7, test.lcm);
+    IS(7, test.low_low);
+    IS(0, test.high_low);
+    IS(0, test.high_high);
+
+    edfvd_task above = {EDFVD_LOW, 7, 8, 8};
+    PAINTED(test);
+    RETURNS(EDFVD_OK, edfvd_check(&above, 1, &test));
+    IS(0, test.rule);
+    IS(0, test.p);
+    IS(0, test.q);
+    IS(8, test.low_low);
+}
+
+/* Periods 2^31 and 2^29 - 1: lcm = 2^60 - 2^31. The first task asks for 2^32 - 1 ticks in each of its lcm/2^31 = 2^29 - 1
+   periods, low ones or high ones; the second, for 2^32 - 1 in each of 2^31. A load is a numerator with two halves. */
+static void check_stores_both_halves_of_a_load(void) {
+    edfvd_task tasks[] = {{EDFVD_LOW, 2147483648u, UINT32_MAX, UINT32_MAX}, {EDFVD_HIGH, 536870911u, UINT32_MAX, UINT32_MAX}};
+    edfvd_test test;
+    RETURNS(EDFVD_OK, edfvd_check(tasks, 2, &test));
+    IS(0, test.rule);
+    IS((UINT64_C(1) << 60) - (UINT64_C(1) << 31), test.lcm);
+    IS(0, test.low_low_top); /* (2^32 - 1)(2^29 - 1) is below 2^64 */
+    IS(UINT64_C(4294967295) * 536870911u, test.low_low);
+    IS(0, test.high_low_top); /* (2^32 - 1) 2^31 is below 2^64 */
+    IS(UINT64_C(4294967295) << 31, test.high_high);
+
+    /* Ten tasks of period 2^31 with budgets of 2^32 - 1, and one of period 2^29 - 1: 10 (2^32 - 1)(2^29 - 1) =
+       10 * 2^61 - 10 * 2^32 - 10 * 2^29 + 10, which is 2^64 and 2^62 - 10 * 2^32 - 10 * 2^29 + 10. */
+    edfvd_task many[31];
+    for (int place = 0; place < 10; place++) {
+        many[place] = (edfvd_task){EDFVD_LOW, 2147483648u, UINT32_MAX, UINT32_MAX};
+        many[10 + place] = (edfvd_task){EDFVD_HIGH, 2147483648u, UINT32_MAX, UINT32_MAX};
+    }
+    many[20] = (edfvd_task){EDFVD_LOW, 536870911u, 1, 1};
+    RETURNS(EDFVD_OK, edfvd_check(many, 21, &test));
+    uint64_t rest = (UINT64_C(1) << 62) - 10 * (UINT64_C(1) << 32) - 10 * (UINT64_C(1) << 29) + 10;
+    IS(1, test.low_low_top);
+    IS(rest + (UINT64_C(1) << 31), test.low_low); /* with 1 in each of 2^31 periods of the last task */
+    IS(1, test.high_low_top);
+    IS(rest, test.high_low);
+    IS(1, test.high_high_top);
+    IS(rest, test.high_high);
+}
+
+static void check_refuses(void) {
+    edfvd_test test;
+    edfvd_task many[129];
+    for (size_t place = 0; place < 129; place++) many[place] = (edfvd_task){EDFVD_LOW, 1000, 1, 1};
+    RETURNS(EDFVD_OK, edfvd_check(many, 128, &test));
+    IS(128, test.low_low);
+    PAINTED(test);
+    RETURNS(EDFVD_TOO_MANY, edfvd_check(many, 129, &test));
+    IS_ZEROS(test);
+    PAINTED(test);
+    RETURNS(EDFVD_EMPTY, edfvd_check(many, 0, &test));
+    IS_ZEROS(test);
+    PAINTED(test);
+    RETURNS(EDFVD_EMPTY, edfvd_check(NULL, 0, &test));
+    IS_ZEROS(test);
+    for (size_t place = 0; place < sizeof refused / sizeof *refused; place++) {
+        PAINTED(test);
+        RETURNS(refused[place].status, edfvd_check(refused[place].tasks, 3, &test));
+        IS(refused[place].task, test.task);
+        test.task = 0;
+        IS_ZEROS(test);
+    }
+    RETURNS(EDFVD_OK, edfvd_check(long_periods, 2, &test));
+    PAINTED(test);
+    RETURNS(EDFVD_PERIODS, edfvd_check(long_periods, 3, &test));
+    IS(3, test.task);
+    test.task = 0;
+    IS_ZEROS(test);
+    PAINTED(test);
+    RETURNS(EDFVD_NULL, edfvd_check(NULL, 1, &test));
+    IS_PAINTED(test);
+    RETURNS(EDFVD_NULL, edfvd_check(control, 2, NULL));
+    RETURNS(EDFVD_NULL, edfvd_check(NULL, 0, NULL));
+}
+
+static void stretch_stores(const edfvd_task *tasks, size_t count, uint32_t wanted) {
+    uint32_t percent, task;
+    PAINTED(percent);
+    PAINTED(task);
+    RETURNS(EDFVD_OK, edfvd_stretch(tasks, count, &percent, &task));
+    IS(wanted, percent);
+    IS(0, task);
+    PAINTED(percent);
+    RETURNS(EDFVD_OK, edfvd_stretch(tasks, count, &percent, NULL));
+    IS(wanted, percent);
+}
+
+/*
+ * By hand. Control: with x = 2/5, x U_LL = 1/5, so U_HH may be 4/5, a high budget of 8. 6 * 149 / 100 is 8.94, which is 8, and
+ * 6 * 150 / 100 is 9.
+ *
+ * 0 percent: U_LL is 199/200 and U_HL 1/200, which is 1 together, so the test admits the set while the high budget is 1. At 0
+ * percent it is: max(0, 1). At 1 percent the high budget is 200/100 = 2 and U_HH 2/200. Plain EDF fails, since 199/200 + 2/200
+ * is above 1, and x = (1/200) / (1/200) = 1, by which 199/200 + 2/200 is above 1, too.
+ *
+ * 1000 percent is the end of the range: a low task alone, whose high budget does not count, and a high one of 1/100.
+ */
+static void stretch_stores_the_percentage(void) {
+    static const edfvd_task none_left[] = {{EDFVD_HIGH, 200, 1, 200}, {EDFVD_LOW, 200, 199, 199}};
+    static const edfvd_task low[] = {{EDFVD_LOW, 10, 10, 10}};
+    static const edfvd_task small[] = {{EDFVD_HIGH, 100, 1, 1}};
+    stretch_stores(control, 2, 149);
+    stretch_stores(none_left, 2, 0);
+    stretch_stores(low, 1, 1000);
+    stretch_stores(small, 1, 1000);
+    edfvd_test test;
+    RETURNS(EDFVD_OK, edfvd_check(none_left, 2, &test));
+    IS(0, test.rule);
+}
+
+static void stretch_refuses(void) {
+    static const edfvd_task never[] = {{EDFVD_LOW, 10, 11, 11}, {EDFVD_HIGH, 10, 1, 1}};
+    uint32_t percent, task;
+    for (size_t place = 0; place < sizeof refused / sizeof *refused; place++) {
+        PAINTED(percent);
+        PAINTED(task);
+        RETURNS(refused[place].status, edfvd_stretch(refused[place].tasks, 3, &percent, &task));
+        IS(0, percent);
+        IS(refused[place].task, task);
+    }
+    PAINTED(percent);
+    PAINTED(task);
+    RETURNS(EDFVD_NO_ROOM, edfvd_stretch(never, 2, &percent, &task));
+    IS(0, percent);
+    IS(0, task);
+    PAINTED(percent);
+    PAINTED(task);
+    RETURNS(EDFVD_PERIODS, edfvd_stretch(long_periods, 3, &percent, &task));
+    IS(0, percent);
+    IS(3, task);
+    PAINTED(percent);
+    RETURNS(EDFVD_EMPTY, edfvd_stretch(NULL, 0, &percent, &task));
+    IS(0, percent);
+    IS(0, task);
+    PAINTED(percent);
+    RETURNS(EDFVD_TOO_MANY, edfvd_stretch((const edfvd_task[129]){{EDFVD_LOW, 1, 1, 1}}, 129, &percent, NULL));
+    IS(0, percent);
+    PAINTED(percent);
+    PAINTED(task);
+    RETURNS(EDFVD_NULL, edfvd_stretch(NULL, 2, &percent, &task));
+    RETURNS(EDFVD_NULL, edfvd_stretch(control, 2, NULL, &task));
+    IS_PAINTED(percent);
+    IS_PAINTED(task);
+}
+
+/* First fit by hand: task 1 has a load of 6/10 and goes to processor 1. Task 2 has 5/10, which does not fit beside it; task 3
+   has 4/10 and fills processor 1; task 4 has 5/10 and fills processor 2. A fifth task of 1/10 fits on neither of two. */
+static void partition_stores_the_processors(void) {
+    static const edfvd_task tasks[] = {
+        {EDFVD_LOW, 10, 6, 6}, {EDFVD_LOW, 10, 5, 5}, {EDFVD_LOW, 10, 4, 4}, {EDFVD_LOW, 10, 5, 5}, {EDFVD_LOW, 10, 1, 1}};
+    uint32_t on[5], task;
+    PAINTED(on);
+    PAINTED(task);
+    RETURNS(EDFVD_OK, edfvd_partition(tasks, 4, 2, on, &task));
+    IS(1, on[0]);
+    IS(2, on[1]);
+    IS(1, on[2]);
+    IS(2, on[3]);
+    IS_PAINTED(on[4]);
+    IS(0, task);
+    RETURNS(EDFVD_OK, edfvd_partition(tasks, 5, 16, on, NULL));
+    IS(3, on[4]);
+    RETURNS(EDFVD_OK, edfvd_partition(tasks, 1, 1, on, &task));
+    IS(1, on[0]);
+}
+
+static void partition_refuses(void) {
+    static const edfvd_task three[] = {{EDFVD_LOW, 10, 6, 6}, {EDFVD_LOW, 10, 5, 5}, {EDFVD_LOW, 10, 6, 6}};
+    uint32_t on[3], task;
+    PAINTED(on);
+    PAINTED(task);
+    RETURNS(EDFVD_NO_PROCESSOR, edfvd_partition(three, 3, 2, on, &task));
+    IS(3, task);
+    RETURNS(EDFVD_NO_PROCESSOR, edfvd_partition(three, 3, 1, on, &task));
+    IS(2, task);
+    RETURNS(EDFVD_ARGUMENT, edfvd_partition(three, 3, 0, on, &task));
+    IS(0, task);
+    PAINTED(task);
+    RETURNS(EDFVD_ARGUMENT, edfvd_partition(three, 3, 17, on, &task));
+    IS(0, task);
+    RETURNS(EDFVD_ARGUMENT, edfvd_partition(three, 3, UINT32_MAX, on, NULL));
+    PAINTED(task);
+    RETURNS(EDFVD_EMPTY, edfvd_partition(NULL, 0, 1, NULL, &task));
+    IS(0, task);
+    for (size_t place = 0; place < sizeof refused / sizeof *refused; place++) {
+        PAINTED(task);
+        RETURNS(refused[place].status, edfvd_partition(refused[place].tasks, 3, 2, on, &task));
+        IS(refused[place].task, task);
+    }
+    PAINTED(task);
+    RETURNS(EDFVD_NULL, edfvd_partition(NULL, 3, 2, on, &task));
+    RETURNS(EDFVD_NULL, edfvd_partition(three, 3, 2, NULL, &task));
+    RETURNS(EDFVD_NULL, edfvd_partition(three, 1, 2, NULL, NULL));
+    IS_PAINTED(task);
+    IS_PAINTED(on);
+}
+
+/* Sets 7, 8 and 9 are those of 7 and those of 8 and 9. By the 3/4 law each generated set has a stretch of at least 100. */
+static void accept_counts(void) {
+    uint32_t all[11], first[11], others[11];
+    RETURNS(EDFVD_OK, edfvd_accept(7, 3, 8, all));
+    RETURNS(EDFVD_OK, edfvd_accept(7, 1, 8, first));
+    RETURNS(EDFVD_OK, edfvd_accept(8, 2, 8, others));
+    IS(3, all[0]);
+    for (int place = 0; place < 11; place++) IS(first[place] + others[place], all[place]);
+    for (int place = 1; place < 11; place++) IS(1, all[place] <= all[place - 1]);
+    RETURNS(EDFVD_OK, edfvd_accept(1, 1, 2, all));
+    RETURNS(EDFVD_OK, edfvd_accept(1, 1, 32, all));
+    RETURNS(EDFVD_OK, edfvd_accept(1, 10000, 2, all));
+    IS(10000, all[0]);
+    RETURNS(EDFVD_OK, edfvd_accept(UINT64_MAX - 1, 1, 2, all)); /* the sum is 2^64 - 1 */
+}
+
+static void accept_refuses(void) {
+    uint32_t counts[11];
+    PAINTED(counts);
+    RETURNS(EDFVD_ARGUMENT, edfvd_accept(1, 0, 8, counts));
+    RETURNS(EDFVD_ARGUMENT, edfvd_accept(1, 10001, 8, counts));
+    RETURNS(EDFVD_ARGUMENT, edfvd_accept(1, 1, 1, counts));
+    RETURNS(EDFVD_ARGUMENT, edfvd_accept(1, 1, 33, counts));
+    RETURNS(EDFVD_ARGUMENT, edfvd_accept(UINT64_MAX, 1, 8, counts));
+    RETURNS(EDFVD_ARGUMENT, edfvd_accept(UINT64_MAX - 1, 2, 8, counts));
+    IS_PAINTED(counts);
+    RETURNS(EDFVD_NULL, edfvd_accept(1, 1, 8, NULL));
+    RETURNS(EDFVD_NULL, edfvd_accept(1, 0, 8, NULL));
+}
+
+/* Demands by hand. Periods 4 and 6, deadlines 2 and 3, budgets 2 and 2: in 2 ticks 2 are asked for, in 3 ticks 2 + 2 = 4. With
+   a budget of 1 for the first there are 1 in 2 ticks, 3 in 3, 4 in 6, 6 in 9, 7 in 10: never more ticks than there are. */
+static void demand_stores_the_test(void) {
+    static const edfvd_demand_task past[] = {{4, 2, 2}, {6, 3, 2}};
+    static const edfvd_demand_task within[] = {{4, 2, 1}, {6, 3, 2}};
+    edfvd_demand_test test;
+    PAINTED(test);
+    RETURNS(EDFVD_OK, edfvd_demand(past, 2, &test));
+    IS(1, test.past);
+    IS(0, test.task);
+    IS(3, test.length);
+    IS(4, test.demand);
+    PAINTED(test);
+    RETURNS(EDFVD_OK, edfvd_demand(within, 2, &test));
+    IS(0, test.past);
+    IS(0, test.task);
+    IS(12, test.length);
+    IS(0, test.demand);
+    static const edfvd_demand_task longest[] = {{500000, 500000, 500000}};
+    RETURNS(EDFVD_OK, edfvd_demand(longest, 1, &test));
+    IS(0, test.past);
+    IS(500000, test.length);
+}
+
+static void demand_refuses(void) {
+    static const struct {
+        edfvd_demand_task tasks[2];
+        edfvd_status status;
+        uint32_t task;
+    } bad[] = {
+        {{{4, 2, 1}, {0, 1, 1}}, EDFVD_ZERO_NUMBER, 2},         {{{4, 0, 1}, {4, 1, 1}}, EDFVD_ZERO_NUMBER, 1},
+        {{{4, 2, 1}, {4, 1, 0}}, EDFVD_ZERO_NUMBER, 2},         {{{4, 5, 1}, {0, 1, 1}}, EDFVD_DEADLINE_ORDER, 1},
+        {{{500001, 1, 1}, {0, 1, 1}}, EDFVD_PERIODS, 1},        {{{500000, 1, 1}, {3, 1, 1}}, EDFVD_PERIODS, 2},
+        {{{500000, 1, 1}, {3, 4, 1}}, EDFVD_DEADLINE_ORDER, 2},
+    };
+    edfvd_demand_test test;
+    for (size_t place = 0; place < sizeof bad / sizeof *bad; place++) {
+        PAINTED(test);
+        RETURNS(bad[place].status, edfvd_demand(bad[place].tasks, 2, &test));
+        IS(bad[place].task, test.task);
+        test.task = 0;
+        IS_ZEROS(test);
+    }
+    edfvd_demand_task many[129] = {{0, 0, 0}}; /* too many comes before what is wrong with the first task */
+    PAINTED(test);
+    RETURNS(EDFVD_TOO_MANY, edfvd_demand(many, 129, &test));
+    IS_ZEROS(test);
+    PAINTED(test);
+    RETURNS(EDFVD_EMPTY, edfvd_demand(NULL, 0, &test));
+    IS_ZEROS(test);
+    for (size_t place = 0; place < 128; place++) many[place] = (edfvd_demand_task){200, 200, 1};
+    RETURNS(EDFVD_OK, edfvd_demand(many, 128, &test));
+    PAINTED(test);
+    RETURNS(EDFVD_NULL, edfvd_demand(NULL, 1, &test));
+    IS_PAINTED(test);
+    RETURNS(EDFVD_NULL, edfvd_demand(many, 1, NULL));
+}
+
+/* Each status has words of its own, and every other number has those of an unknown one. */
+static void words_of_statuses(void) {
+    static const int known[] = {0,  1,  2,  3,  4,  5,  6,  7,  8,  9,  10, 11, 12, 13, 20, 21,
+                                22, 23, 24, 25, 26, 27, 28, 29, 30, 40, 41, 42, 43, 44, 45};
+    const char *unknown = edfvd_word((edfvd_status)14);
+    IS(0, strcmp(unknown, "an unknown status"));
+    enum { KNOWN = sizeof known / sizeof *known };
+    for (size_t place = 0; place < KNOWN; place++) {
+        const char *word = edfvd_word((edfvd_status)known[place]);
+        IS(1, strlen(word) > 0 && strcmp(word, unknown) != 0);
+        for (size_t other = 0; other < place; other++) IS(1, strcmp(word, edfvd_word((edfvd_status)known[other])) != 0);
+    }
+    IS(0, strcmp(edfvd_word(EDFVD_TOO_SOON), "too soon"));
+    static const unsigned others[] = {14, 19, 31, 39, 46, 255, 0x7fffffff};
+    for (size_t place = 0; place < sizeof others / sizeof *others; place++)
+        IS(0, strcmp(edfvd_word((edfvd_status)others[place]), unknown));
+}
+
+int main(void) {
+    check_stores_the_test();
+    check_stores_both_halves_of_a_load();
+    check_refuses();
+    stretch_stores_the_percentage();
+    stretch_refuses();
+    partition_stores_the_processors();
+    partition_refuses();
+    accept_counts();
+    accept_refuses();
+    demand_stores_the_test();
+    demand_refuses();
+    words_of_statuses();
+    return ends("sets");
+}
