@@ -1,8 +1,9 @@
 #!/bin/sh
-# Builds the C libraries of the proved code and tries them: the declarations beside the exports, the examples in C with warnings as
-# errors, under the compiler's sanitizers and under memcheck, wrong calls of each kind, each allocation failing in turn, the file for
-# pkg-config, the commands of README.md, the Python package with its types, its tests and its examples, and at least 2,000 replies
-# beside the program's. What a missing tool makes impossible is left out, with a line that says so.
+# Builds the C libraries of the proved code and tries them: the build script, the declarations beside the exports, the examples and
+# tests in C with warnings as errors, under the compiler's sanitizers and under memcheck, each allocation failing in turn, random calls
+# beside the definitions, the file for pkg-config, the commands of README.md, the Python package with its types, its tests and its
+# examples, and at least 2,000 replies beside the program's. What a missing tool makes impossible is left out, with a line that says
+# so.
 # The first run after the gate proves edfvd_c and edfvd_ask_c for the libraries, which takes some minutes; all else takes less than
 # three on two processors.
 # usage: library.sh
@@ -15,6 +16,8 @@ python=$PWD/../python
 strict='-Wall -Wextra -Werror -Wpedantic -Wconversion -Wshadow'
 CC=${CC:-cc}
 limit=300
+# The seed of the random calls: another one tries other calls.
+seed=1
 
 # has TOOL WITHOUT: whether the tool is there; if not, says what is left out
 has() {
@@ -35,25 +38,78 @@ passes() {
     fi
 }
 
-# tries WHAT EXAMPLE COMMAND..: notes one run of an example, which must end with status 0 and write what is expected
+# tries WHAT PROGRAM COMMAND..: notes one run of an example or test, which must end with status 0 and write what is expected, where
+# there is a text for it
 tries() {
     what=$1
-    text=$c/expected/$2.txt
+    text=$c/expected/${2##*/}.txt
     shift 2
+    if [ ! -e "$text" ]; then
+        passes "$what" "$@"
+        return
+    fi
     # shellcheck disable=SC2016
     passes "$what" sh -c 'text=$1; shift; "$@" | cmp - "$text"' sh "$text" "$@"
 }
 
-# compiled EXAMPLE TO FLAGS..: whether the example is compiled, without a warning
+# compiled SOURCE TO FLAGS..: whether the example or test, a path below c, is compiled, without a warning
 compiled() {
-    example=$1
+    source=$1
     to=$2
     shift 2
-    links=
-    [ "$example" != memory ] || links=-Wl,--wrap=malloc,--wrap=realloc,--wrap=free
+    case $source in
+    tests/fuzz) set -- "$c/tests/fuzz/"*.c "$@" ;;
+    tests/memory | tests/busy) set -- "$c/$source.c" "$@" -Wl,--wrap=malloc,--wrap=realloc,--wrap=free ;;
+    *) set -- "$c/$source.c" "$@" ;;
+    esac
     # shellcheck disable=SC2086
-    passes "compiling $example.c with $*" "$CC" -std=c11 $strict -I"$c" "$c/examples/$example.c" "$@" $links -pthread -o "$to"
+    passes "compiling $source" "$CC" -std=c11 $strict -I"$c" "$@" -pthread -o "$to"
     [ -x "$to" ]
+}
+
+# ground SOURCE NAME: a run under memcheck, of a size that does not take long there
+ground() {
+    memcheck='valgrind -q --leak-check=full --error-exitcode=9'
+    # shellcheck disable=SC2086
+    case $1 in
+    tests/threads | tests/stack) ;;
+    examples/endless) passes "$1 under memcheck" $memcheck "$work/$2" 2000 ;;
+    tests/fuzz) passes "$1 under memcheck" $memcheck "$work/$2" "$seed" 400 ;;
+    *) tries "$1 under memcheck" "$2" $memcheck "$work/$2" ;;
+    esac
+}
+
+# tried_in_c: each example and test: as it is, with the sanitizers and under memcheck. Those with threads and with 256 KiB of stack
+# are not for memcheck, and where memory fails on purpose the sanitizers' own allocations are in the way.
+tried_in_c() {
+    for source in examples/control examples/deadlines examples/dispatcher examples/monitor examples/endless examples/ask \
+        tests/sets tests/events tests/handles tests/judging tests/asking tests/stack tests/busy tests/threads tests/wrong tests/memory \
+        tests/fuzz; do
+        name=${source##*/}
+        library=$c/out/libedfvd_core.a
+        case $name in ask | asking | stack | memory | fuzz) library=$c/out/libedfvd.a ;; esac
+        words=
+        [ "$name" != fuzz ] || words="$seed 20000"
+        compiled "$source" "$work/$name" -O2 "$library" || continue
+        # shellcheck disable=SC2086
+        tries "$source" "$name" "$work/$name" $words
+        # shellcheck disable=SC2086
+        if [ -n "$sane" ] && [ "$name" != memory ] && compiled "$source" "$work/$name.sane" $sane "$work/sane/libedfvd.a"; then
+            tries "$source with sanitizers" "$name" "$work/$name.sane" $words
+        fi
+        ! command -v valgrind >/dev/null 2>&1 || ground "$source" "$name"
+    done
+    has valgrind 'memcheck is'
+    # The thread sanitizer sees the guards and the test: a call that did not see what the call before it has written would be a race.
+    racing='-O1 -g -fsanitize=thread'
+    # shellcheck disable=SC2086
+    if [ -n "$sane" ] && echo 'int main(void) { return 0; }' | "$CC" -xc $racing - -o "$work/none" 2>/dev/null && "$work/none"; then
+        passes 'the libraries with the thread sanitizer' env CFLAGS="$racing" "$c/build.sh" "$work/racing"
+        compiled tests/threads "$work/threads.racing" $racing "$work/racing/libedfvd.a" &&
+            passes 'tests/threads with the thread sanitizer' "$work/threads.racing" 2000
+    else
+        echo "library: the thread sanitizer is left out: $CC has none that runs here"
+    fi
 }
 
 # accepted: the table of 10,000 random sets, and its picture
@@ -92,6 +148,7 @@ if has "$CC" 'the libraries are' && has rt 'the libraries are' && has objcopy 't
     limit=3600
     passes 'c/build.sh' "$c/build.sh"
     limit=300
+    passes 'tests/building.sh' "$c/tests/building.sh"
     if has python3 'the comparison of declarations is'; then
         passes 'declared.py' python3 "$c/declared.py"
         python3 "$c/declared.py" offsets >"$work/offsets.c"
@@ -130,25 +187,7 @@ END
         sane=
         echo "library: the sanitizers are left out: $CC has none"
     fi
-    for example in control deadlines dispatcher monitor endless wrong threads ask memory; do
-        library=$c/out/libedfvd_core.a
-        case $example in ask | memory) library=$c/out/libedfvd.a ;; esac
-        compiled "$example" "$work/$example" -O2 "$library" || continue
-        tries "$example" "$example" "$work/$example"
-        [ "$example" != memory ] || continue
-        # shellcheck disable=SC2086
-        if [ -n "$sane" ] && compiled "$example" "$work/$example.sane" $sane "$work/sane/libedfvd.a"; then
-            tries "$example with sanitizers" "$example" "$work/$example.sane"
-        fi
-        command -v valgrind >/dev/null 2>&1 || continue
-        # Under memcheck threads takes long, and so do three million ticks.
-        case $example in
-        threads) ;;
-        endless) passes 'endless under memcheck' valgrind -q --leak-check=full --error-exitcode=9 "$work/endless" 2000 ;;
-        *) tries "$example under memcheck" "$example" valgrind -q --leak-check=full --error-exitcode=9 "$work/$example" ;;
-        esac
-    done
-    has valgrind 'memcheck is'
+    tried_in_c
     if has python3 'the Python package is'; then
         unset EDFVD_LIBRARY
         export PYTHONPATH="$python" PYTHONDONTWRITEBYTECODE=1
