@@ -420,8 +420,8 @@ edfvd_status edfvd_monitor_peek(edfvd_monitor *m, edfvd_watch *watch);
  * if their lengths are 0.
  *
  * Call it with 256 KiB of stack or more. The reader of task files calls itself once for each level of a file's tables, up to
- * its limit of 80: a file of 163 bytes uses 143 KiB of stack, and no file needs more levels. The main thread of a process and
- * the threads of most C libraries have megabytes; those of musl have 128 KiB unless you ask for more.
+ * its limit of 80: a file of 163 bytes uses some 150,000 bytes of stack, and no file needs more levels. The main thread of a
+ * process and the threads of most C libraries have megabytes; those of musl have 128 KiB unless you ask for more.
  *
  * Statuses: EDFVD_ROOM if `out` is too small, with the length alone: ask again with a longer buffer; EDFVD_ARGUMENT for a word
  * that is not UTF-8; EDFVD_THREADS for soak, live and runall; EDFVD_MEMORY. With each of them `out` is not written,

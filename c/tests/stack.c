@@ -67,7 +67,7 @@ static void nested(unsigned char *stack, const char *name, const char *begin, co
         IS(3, exit_status);
     }
     printf("%s: at most %zu bytes of stack\n", name, most);
-    IS(1, most <= STACK);
+    IS(1, most <= STACK / 4 * 3); /* so that other compilers and later versions have room */
 }
 
 /* The largest set, by each command that reads nothing but a set. */
