@@ -13,10 +13,9 @@ usage: divisors.py TASKS [NUMBER] > NEW.toml
 import bisect
 import sys
 
-from model import HIGH, Refusal
-from reading import number_between, or_refused
+from reading import Refusal, number_between, or_refused, set_in
+from rules import task_table
 from usage import WrongWords, ends
-from walk import read_task_file
 
 DENSE = 897_612_484_786_617_600
 MOST = 2 ** 60
@@ -31,7 +30,7 @@ def prime_powers(number):
         if times:
             yield prime, times
     if number > 1:
-        raise Refusal(1, 'divisors.py: the number has a prime factor above 1000: take a product of small primes\n')
+        raise Refusal(1, 'divisors.py: the number has a prime factor above 1000: take a product of small primes')
 
 
 def divisors(number):
@@ -58,21 +57,15 @@ def head_text(scale):
     return f'version = 2\nscale = [{scale.p}, {scale.q}]\n\n' if scale else ''
 
 
-def table_text(task):
-    """The table of a task in a task file; its numbers are ticks."""
-    high = f'high = {task.high}\n' if task.level == HIGH else ''
-    return f'[[task]]\nname = "{task.name}"\nlevel = "{task.level}"\nperiod = {task.period}\nlow = {task.low}\n{high}'
-
-
 def main(words):
     if len(words) not in (1, 2):
         raise WrongWords
     steps = divisors(number_between(words[1], 1, MOST) if words[1:] else DENSE)
-    old = read_task_file(words[0])
+    old = set_in(words[0])
     tasks = [task._replace(period=rounded_down(task.period, steps)) for task in old.tasks]
     for task, new in zip(old.tasks, tasks):
         print(loss_line(task, new.period), file=sys.stderr)
-    print(head_text(old.scale) + '\n'.join(map(table_text, tasks)), end='')
+    print(head_text(old.scale) + '\n'.join(map(task_table, tasks)), end='')
     return 0
 
 

@@ -1,17 +1,19 @@
 """The verdict on a trace, and for an illegal one the reasons: the line, the mode, the pending jobs, and what would fit.
 
-It works over walk.py and model.py, which were written from the rules alone, and calls no built program. Its
-first line and its status are those of `judge`.
+It works over walk.py and rules.py, which were written from the rules alone, and calls no built program. Its
+first line and its status are those of `judge`. A task file may have at most 1 MiB, and a record of the trace 131,072 characters.
 
 usage: explain.py TASKS TRACE [P Q]
 """
 
+import collections
 from fractions import Fraction
 
-import model
-from model import EVENTS, IDLE
+from reading import MOST_TRACE_BYTES, Refusal, lines_of, number_between, set_in, text_file, trace_in
+from rules import (
+    EVENTS, IDLE, LOW, MOST, PLAIN, ROWS_HEADER, Job, Run, fields_of, first_out_of_range, loads, named, rule_of, virtual)
 from usage import WrongWords, ends
-from walk import Walk, go_through, read_task_file, read_trace_file
+from walk import Walk, go_through
 
 # The words of `judge`, each as a sentence on the row.
 SENTENCES = {
@@ -27,7 +29,7 @@ SENTENCES = {
 
 # A job by its task's name.
 def name_of(walk, job):
-    return f'{walk.task_of(job).name} {job.count}'
+    return named(walk.task_of(job), job)
 
 
 # The number of a record's row in it, where it has more than one.
@@ -42,7 +44,7 @@ def place_in_record(misfit):
 def pending_lines(walk):
     for job in sorted(walk.waiting, key=lambda job: (walk.key(job), job.task)):
         task, waiting = walk.task_of(job), walk.waiting[job]
-        budgets = f'{task.low}' if task.level == model.LOW else f'{task.low} and {task.high}'
+        budgets = f'{task.low}' if task.level == LOW else f'{task.low} and {task.high}'
         yield (f'  {name_of(walk, job)}, {task.level}: released at {waiting.release}, '
                f'key {Fraction(walk.key(job), walk.rule.q)}, deadline {waiting.release + task.period}, '
                f'has had {waiting.used} of {budgets}')
@@ -50,8 +52,8 @@ def pending_lines(walk):
 
 # A record of one row, in the form of the file.
 def record_of(walk, header, kind, job=None):
-    fields = model.run_fields(walk.tasks, model.Run(kind, walk.ticks, job))
-    if header == model.TRACE_HEADERS[1]:
+    fields = fields_of(walk.tasks, Run(kind, walk.ticks, job))
+    if header == ROWS_HEADER:
         del fields[2]
     return ','.join(fields)
 
@@ -73,7 +75,7 @@ def fitting_release(walk, header, number):
     if walk.ticks < earliest:
         return f'{walk.tasks[number - 1].name} may be released again from {earliest} on'
     kind = 'dropped' if walk.drops(number) else 'kept'
-    return record_of(walk, header, kind, model.Job(number, count + 1))
+    return record_of(walk, header, kind, Job(number, count + 1))
 
 
 # Why a job that has the tick is not pending.
@@ -102,19 +104,32 @@ def explanation(misfit, header):
 
 
 def rule_words(rule):
-    return 'plain' if rule == model.PLAIN else f'virtual {rule.p}/{rule.q}'
+    return 'plain' if rule == PLAIN else f'virtual {rule.p}/{rule.q}'
 
 
-# The rule of the words after the files, or that of the set's test. A set without one is refused before its trace is read.
-def rule_of(task_set, words):
-    scale = model.read_words('judge', words)
-    return model.virtual(*scale) if scale else model.admitted(task_set)
+# The rule of the scale that the words after the files are, or that of the set's test. A set without one is refused.
+def rule_for(task_set, words):
+    if words:
+        p, q = (number_between(word, 1, MOST) for word in words)
+        if p > q:
+            raise WrongWords
+        return virtual(p, q)
+    number = first_out_of_range(task_set.tasks)
+    if number is not None:
+        raise Refusal(3, f'task file: task {number}: periods out of range')
+    rule = rule_of(task_set)
+    if rule is None:
+        shares = zip(['U_LL', 'U_HL', 'U_HH'], loads(task_set.tasks))
+        raise Refusal(1, 'not admitted: ' + ' '.join(f'{name} {load.numerator}/{load.denominator}' for name, load in shares))
+    return rule
 
 
-# The status, and the lines, for the header of a trace and its runs in their places.
+# The status, and the lines, for the header of a trace and its runs in their places. They are read to the end also after a row
+# that does not fit, since a record that is none is refused before.
 def explain(tasks, rule, header, trace):
     walk = Walk(tasks, rule)
     misfit = go_through(walk, trace)
+    collections.deque(trace, maxlen=0)
     if misfit is not None:
         return 6, [f'illegal row {walk.rows + 1} {misfit.why}', *explanation(misfit, header)]
     late = walk.late()
@@ -127,13 +142,12 @@ def main(words):
     if len(words) not in (2, 4):
         raise WrongWords
     try:
-        task_set = read_task_file(words[0])
-        rule = rule_of(task_set, words[2:])
-        status, told = explain(task_set.tasks, rule, *read_trace_file(task_set.tasks, words[1]))
-    except model.Refusal as refusal:
-        if refusal.line == model.USAGE:
-            raise WrongWords from None
-        status, told = refusal.status, [refusal.line[:-1]]
+        task_set = set_in(words[0])
+        rule = rule_for(task_set, words[2:])
+        with text_file(words[1], MOST_TRACE_BYTES) as file:
+            status, told = explain(task_set.tasks, rule, *trace_in(task_set.tasks, lines_of(file)))
+    except Refusal as refusal:
+        status, told = refusal.status, [refusal.line]
     print('\n'.join(told))
     return status
 

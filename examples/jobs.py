@@ -7,10 +7,10 @@ usage: jobs.py TASKS TICKS [--seed SEED] [--overruns EVERY] > WORK.csv
        TASKS is a task file, TICKS from 1 to 1,000,000, SEED below 2^64 (default 1), EVERY 0 for no overruns (default 16)
 """
 
-import model
-from model import HIGH, MOST_JOBS, Refusal, Work
-from reading import number_between, or_refused, tasks_in
+from reading import Refusal, number_between, or_refused, tasks_in
+from rules import HIGH, MOST, MOST_JOBS, Work
 from usage import WrongWords, ends
+from workloads import pcg_words
 
 MOST_TICKS, MOST_BYTES = 1_000_000, 16_777_216
 DEFAULTS = {'--seed': '1', '--overruns': '16'}
@@ -25,7 +25,7 @@ def need(task, count, every, words):
 
 def jobs_of(number, task, ticks, seed, every):
     """The jobs of the task with this number, in the order of their releases, below `ticks`."""
-    words = model.pcg_words(seed, number)
+    words = pcg_words(seed, number)
     return [Work(number, release, need(task, count, every, words))
             for count, release in enumerate(range(0, ticks, task.period), 1)]
 
@@ -33,7 +33,7 @@ def jobs_of(number, task, ticks, seed, every):
 def refuse_many(count, most, what):
     """Refuses more of something than a work file may have."""
     if count > most:
-        raise Refusal(1, f'jobs.py: {count} {what}, a work file has at most {most}: take fewer ticks\n')
+        raise Refusal(1, f'jobs.py: {count} {what}, a work file has at most {most}: take fewer ticks')
 
 
 def work_lines(tasks, ticks, seed, every):
@@ -63,7 +63,7 @@ def main(words):
         raise WrongWords
     ticks = number_between(words[1], 1, MOST_TICKS)
     seed = number_between(options['--seed'], 0, 2 ** 64 - 1)
-    every = number_between(options['--overruns'], 0, model.MOST)
+    every = number_between(options['--overruns'], 0, MOST)
     for line in work_lines(tasks_in(words[0]), ticks, seed, every):
         print(line)
     return 0

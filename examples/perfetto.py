@@ -9,10 +9,9 @@ usage: perfetto.py TASKS TRACE > FILE.json
 import json
 import sys
 
-import model
-from model import DONE, EVENTS, IDLE, OVER, RELEASES, STOP
+from reading import or_refused, runs_in, tasks_in
+from rules import DONE, EVENTS, IDLE, OVER, RELEASES, STOP, named, task_of
 from usage import WrongWords, ends
-from walk import read_task_file, read_trace_file
 
 
 # The lanes' names, in the order of the tasks.
@@ -64,7 +63,7 @@ def events(tasks, runs):
     yield from lanes(tasks)
     yield mode(False, 0)
     for job, tick, length in stretches(runs):
-        name = f'{model.task_of(tasks, job).name} {job.count}'
+        name = named(task_of(tasks, job), job)
         yield {'ph': 'X', 'pid': 1, 'tid': job.task, 'ts': tick, 'dur': length, 'name': name}
     high_mode = False
     for run in runs:
@@ -75,17 +74,15 @@ def events(tasks, runs):
 def main(words):
     if len(words) != 2:
         raise WrongWords
-    try:
-        tasks = read_task_file(words[0]).tasks
-        runs = [placed.run for placed in read_trace_file(tasks, words[1])[1]]
-    except model.Refusal as refusal:
-        print(refusal.line, end='', file=sys.stderr)
-        return refusal.status
-    json.dump({'traceEvents': list(events(tasks, runs)), 'displayTimeUnit': 'ns'}, sys.stdout, indent=0)
-    print()
+    tasks = tasks_in(words[0])
+    runs = runs_in(tasks, words[1])
+    for number, event in enumerate(events(tasks, runs)):
+        print('{\n"traceEvents": [' if number == 0 else ',')
+        print(json.dumps(event, indent=0), end='')
+    print('\n],\n"displayTimeUnit": "ns"\n}')
     print('open the file at https://ui.perfetto.dev, by "Open trace file"', file=sys.stderr)
     return 0
 
 
 if __name__ == '__main__':
-    ends(main, __doc__)
+    ends(or_refused(main), __doc__)

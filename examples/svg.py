@@ -11,9 +11,8 @@ usage: svg.py TASKS TRACE FROM TO > FILE.svg
 
 from typing import NamedTuple
 
-import model
-from model import DONE, DROPPED, EVENTS, HIGH, IDLE, KEPT, MOST_TICKS, OVER, RELEASES, STOP
 from reading import number_between, or_refused, runs_in, tasks_in
+from rules import DONE, DROPPED, EVENTS, IDLE, KEPT, MOST_TICKS, OVER, RELEASES, STOP, is_low, named, task_of
 from usage import WrongWords, ends
 
 # In pixels.
@@ -48,8 +47,8 @@ class Mark(NamedTuple):
 
 def release_marks(tasks, run):
     """The marks of a release: the release and its deadline, or that it was dropped."""
-    task = model.task_of(tasks, run.job)
-    name, deadline = f'{task.name} {run.job.count}', run.tick + task.period
+    task = task_of(tasks, run.job)
+    name, deadline = named(task, run.job), run.tick + task.period
     if run.kind == DROPPED:
         return [Mark(RELEASE, run.tick, run.tick, run.job.task, f'{name}, released at {run.tick}'),
                 Mark(DROPPED, run.tick, run.tick, run.job.task, f'{name}, dropped at {run.tick}')]
@@ -59,9 +58,9 @@ def release_marks(tasks, run):
 
 def tick_marks(tasks, run):
     """The marks of ticks of a job: a box for them, and a bar where the job ends."""
-    task, end = model.task_of(tasks, run.job), run.tick + run.length
+    task, end = task_of(tasks, run.job), run.tick + run.length
     last = '' if run.length == 1 else f' to {end - 1}'
-    words = f'{task.name} {run.job.count}, tick {run.tick}{last}, {run.kind}'
+    words = f'{named(task, run.job)}, tick {run.tick}{last}, {run.kind}'
     yield Mark(OVER if run.kind == OVER else task.level, run.tick, end, run.job.task, words)
     if run.kind in (DONE, STOP):
         yield Mark(run.kind, end, end, run.job.task, words)
@@ -71,14 +70,14 @@ def discards(tasks, runs):
     """A mark for each low job that an overrun discards: those that were kept and had not ended."""
     waiting = {}
     for run in runs:
-        if run.kind == KEPT and model.is_low(tasks, run.job):
+        if run.kind == KEPT and is_low(tasks, run.job):
             waiting[run.job] = run.tick
         elif run.kind in (DONE, STOP):
             waiting.pop(run.job, None)
         elif run.kind == OVER:
             at = run.tick + 1
             for job in waiting:
-                yield Mark(DISCARDED, at, at, job.task, f'{model.task_of(tasks, job).name} {job.count}, discarded at {at}')
+                yield Mark(DISCARDED, at, at, job.task, f'{named(task_of(tasks, job), job)}, discarded at {at}')
             waiting = {}
 
 
@@ -95,9 +94,15 @@ def high_modes(runs, end):
         yield Mark(MODE, begin, end, 0, f'high mode, ticks {begin} to {end - 1}')
 
 
+def ticks_of(runs):
+    """How many ticks a trace has, idle ones among them."""
+    last = runs[-1] if runs else None
+    return 0 if last is None else last.tick + (0 if last.kind in RELEASES else last.length)
+
+
 def marks(tasks, runs):
     """All marks of a trace, those first that others are drawn upon."""
-    yield from high_modes(runs, model.ticks(model.Trace(runs[-1:])))
+    yield from high_modes(runs, ticks_of(runs))
     for run in runs:
         if EVENTS[run.kind] == 'tick':
             yield from tick_marks(tasks, run)

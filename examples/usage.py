@@ -1,6 +1,6 @@
 """How each script here answers its words: `--help` by its usage, with status 0, and words that are none of its forms by its
-usage on standard error, with status 2. A file that fails ends it with one line and status 7, and a standard output that takes
-no more, as a closed pipe or a full disk, with one line and status 8.
+usage on standard error, with status 2. A file that fails ends it with one line and status 7, a standard output that takes
+no more, as a closed pipe or a full disk, with one line and status 8, and too little memory with one line and status 9.
 """
 
 import os
@@ -27,6 +27,11 @@ def numbers(words, *defaults):
     return [whole_number(word) for word in words] + list(defaults[len(words):])
 
 
+def shown_name(name):
+    """The name of a file as part of a line."""
+    return ''.join(one if one.isprintable() else '?' for one in str(name))
+
+
 def ends(main, page):
     """Ends the process with the status that main returns for the words; the usage stands at the end of the script's page."""
     usage, words = page[page.index('usage: '):].strip(), sys.argv[1:]
@@ -35,8 +40,13 @@ def ends(main, page):
     except WrongWords as wrong:
         print(usage, *wrong.args, sep='\n', file=sys.stderr)
         status = 2
+    except (MemoryError, RecursionError):
+        print(f'{os.path.basename(sys.argv[0])}: out of memory', file=sys.stderr)
+        status = 9
+    except KeyboardInterrupt:
+        status = 130
     except OSError as error:
-        what = 'standard output' if error.filename is None else error.filename
+        what = 'standard output' if error.filename is None else shown_name(error.filename)
         print(f'{os.path.basename(sys.argv[0])}: {what}: {error.strerror}', file=sys.stderr)
         status = 8 if error.filename is None else 7
         # What is not written yet would be tried again at the end.

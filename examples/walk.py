@@ -1,49 +1,15 @@
 """A trace gone through once, row by row, with what a scheduler would know at each row.
 
 The rules are those of model.py, which looks through the whole trace for each row; here what it would find is kept from row
-to row, so that the time is in proportion to the records, and at each to the pending jobs. explain_check.py compares the two.
+to row, so that the time is in proportion to the records, whatever is pending. explain_check.py compares the two.
 """
 
-import csv
-import tomllib
+import heapq
 from typing import NamedTuple, Optional
 
-import model
-from model import DONE, DROPPED, HIGH, IDLE, KEPT, LOW, MORE, OVER, PLAIN, RELEASES, STOP
-
-
-# ---- Files ----
-
-# The set of a task file.
-def read_task_file(name):
-    with open(name, 'rb') as file:
-        # A wrong text and wrong bytes are errors of values, and so is a number of thousands of digits.
-        try:
-            return model.read_set(tomllib.load(file))
-        except ValueError:
-            raise model.Refusal(3, 'task file: not TOML\n') from None
-
-
-# The header of a trace of either version, and its runs, each with its record and the number of its line. Empty lines are
-# passed over.
-def read_trace_file(tasks, name):
-    with open(name, encoding='utf-8-sig', errors='replace', newline='') as file:
-        return placed_in(tasks, file)
-
-
-# The same of a text's lines.
-def placed_in(tasks, text_lines):
-    reader = csv.reader(text_lines)
-    records = [(reader.line_num, record) for record in reader if record]
-    runs = model.read_trace(tasks, model.lines(','.join(record) for _, record in records))
-    return records[0][1], [Placed(run, line, record) for run, (line, record) in zip(runs, records[1:])]
-
-
-# A run of a trace's file, with the line that it stands in.
-class Placed(NamedTuple):
-    run: model.Run
-    line: int
-    record: list
+import rules
+from reading import Placed
+from rules import DONE, DROPPED, HIGH, IDLE, KEPT, LOW, MORE, OVER, PLAIN, RELEASES, STOP, Job, Run
 
 
 # ---- Going through ----
@@ -69,11 +35,13 @@ class Walk:
         self.high_mode = False
         self.releases = {}
         self.waiting = {}
+        self.waiting_low = {}  # those of low tasks, which an overrun discards
+        self.keys = {False: [], True: []}  # by whether the mode is high: a heap of the jobs by their keys, also of jobs that left
         self.kept = []
         self.left = {}
 
     def task_of(self, job):
-        return model.task_of(self.tasks, job)
+        return rules.task_of(self.tasks, job)
 
     # How often a task was released, and from which boundary on it may be released again.
     def released(self, number):
@@ -86,11 +54,18 @@ class Walk:
 
     # The key of a pending job, in parts of a tick, of which the rule's q make one.
     def key(self, job):
-        return model.key(self.rule, self.high_mode, self.task_of(job), self.waiting[job].release)
+        return rules.key(self.rule, self.high_mode, self.task_of(job), self.waiting[job].release)
+
+    # The pending job of the least key, and of equal keys of the lowest task number. Some job is pending.
+    def first(self):
+        heap = self.keys[self.high_mode]
+        while heap[0][1] not in self.waiting:
+            heapq.heappop(heap)
+        return heap[0][1]
 
     # The least key of the pending jobs, of which there are some.
     def least(self):
-        return min(map(self.key, self.waiting))
+        return self.key(self.first())
 
     # How a pending job's next tick ends where the job is not done with it.
     def how_of(self, job):
@@ -138,8 +113,7 @@ class Walk:
         if run.kind in RELEASES:
             self.releases[run.job.task] = run.job.count, self.ticks
             if run.kind == KEPT:
-                self.waiting[run.job] = Waiting(self.ticks, 0)
-                self.kept.append((run.job, self.ticks))
+                self.enter(run.job)
             else:
                 self.left[run.job] = Left(self.ticks, 'dropped', line)
             return
@@ -152,11 +126,20 @@ class Walk:
             self.leave(run.job, 'done' if run.kind == DONE else 'stopped', line)
         if run.kind == OVER:
             self.high_mode = True
-            for job in [job for job in self.waiting if model.is_low(self.tasks, job)]:
+            for job in list(self.waiting_low):
                 self.leave(job, 'discarded', line)
+
+    def enter(self, job):
+        self.waiting[job] = Waiting(self.ticks, 0)
+        self.kept.append((job, self.ticks))
+        if rules.is_low(self.tasks, job):
+            self.waiting_low[job] = True
+        for high_mode, heap in self.keys.items():
+            heapq.heappush(heap, (rules.key(self.rule, high_mode, self.task_of(job), self.ticks), job))
 
     def leave(self, job, why, line):
         del self.waiting[job]
+        self.waiting_low.pop(job, None)
         self.left[job] = Left(self.ticks, why, line)
 
     # The late jobs, in the order of their releases: their deadline has come, and they had not left by it.
@@ -170,7 +153,7 @@ class Walk:
 # fails.
 class Misfit(NamedTuple):
     walk: Walk
-    run: model.Run
+    run: Run
     placed: Placed
     why: str
 
@@ -194,9 +177,9 @@ def follow(walk, work, end):
     while walk.ticks < end:
         while place < len(work) and work[place].release == walk.ticks:
             row, place = work[place], place + 1
-            job = model.Job(row.task, walk.released(row.task)[0] + 1)
+            job = Job(row.task, walk.released(row.task)[0] + 1)
             needs[job] = row.need
-            runs.append(model.Run(DROPPED if walk.drops(row.task) else KEPT, walk.ticks, job))
+            runs.append(Run(DROPPED if walk.drops(row.task) else KEPT, walk.ticks, job))
             walk.go_past(runs[-1], 0)
         until = min([end] + [row.release for row in work[place:place + 1]])
         runs.append(next_run(walk, needs, until))
@@ -207,10 +190,10 @@ def follow(walk, work, end):
 # The equal ticks that come next, none of them from this boundary on.
 def next_run(walk, needs, until):
     if not walk.waiting:
-        return model.Run(IDLE, walk.ticks, None, until - walk.ticks)
-    job = min(walk.waiting, key=lambda job: (walk.key(job), job.task))
+        return Run(IDLE, walk.ticks, None, until - walk.ticks)
+    job = walk.first()
     task, used = walk.task_of(job), walk.waiting[job].used
     more = min(budget for budget in (needs[job], task.low, task.high) if budget > used) - used - 1
     if more > 0:
-        return model.Run(MORE, walk.ticks, job, min(more, until - walk.ticks))
-    return model.Run(DONE if needs[job] == used + 1 else walk.how_of(job), walk.ticks, job)
+        return Run(MORE, walk.ticks, job, min(more, until - walk.ticks))
+    return Run(DONE if needs[job] == used + 1 else walk.how_of(job), walk.ticks, job)

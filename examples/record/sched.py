@@ -30,8 +30,8 @@ from typing import NamedTuple
 
 sys.path.insert(0, str(pathlib.Path(__file__).resolve().parent.parent))
 import model
+from reading import Refusal, set_in
 from usage import WrongWords, ends
-from walk import read_task_file
 
 # The processor is in brackets, with or without columns of flags after it; or it is before the flags, as `report -l` writes it.
 EVENT = re.compile(r'^\s*\S.*?-\d+\s+(?:\[(\d+)\]\s+(?:\S{4,6}\s+)?|(\d+)[.a-zA-Z]\S{3,5}\s+)(\d+\.\d+):\s+(\S+):\s*(.*)$')
@@ -367,11 +367,11 @@ def main(words):
     if tick == 0:
         raise WrongWords
     try:
-        task_set = read_task_file(words[0])
+        task_set = set_in(words[0])
         events = in_order(events_of(words[1], task_set.tasks, words[3:]))
         recording = Recording(task_set, events, tick, takes_unserved)
         text = model.trace_text(task_set.tasks, list(recording.rows()))
-    except (Refused, model.Refusal) as refused:
+    except (Refused, Refusal) as refused:
         print(f'sched: {getattr(refused, "line", refused)}'.rstrip('\n'), file=sys.stderr)
         return 1
     sys.stdout.write(text)

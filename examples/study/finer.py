@@ -1,6 +1,6 @@
 """Counts sets by their stretch at each whole percentage, where `edfvd accept` does at every tenth one.
 
-The sets are those of `edfvd accept NUMBER SETS TASKCOUNT`, made by model.py, and the stretch of each is what `edfvd stretch` says of
+The sets are those of `edfvd accept NUMBER SETS TASKCOUNT`, made by workloads.py, and the stretch of each is what `edfvd stretch` says of
 it. The lines are `S COUNT`, for S from 100 on, up to the first S that no set has or to 1000: COUNT sets have a stretch of at
 least S. They have the form of accept's lines. If S is one of accept's numbers, its count must be that of accept: otherwise there is
 no table, and the status is 1.
@@ -17,10 +17,10 @@ import sys
 from concurrent.futures import ThreadPoolExecutor
 
 sys.path.insert(0, str(pathlib.Path(__file__).resolve().parent.parent))
-import model
-from divisors import table_text
-from reading import number_between, or_refused
+from reading import Refusal, number_between, or_refused
+from rules import task_table
 from usage import WrongWords, ends
+from workloads import soak_tasks
 
 LEAST, MOST = 100, 1000  # percentages of the high budgets
 
@@ -30,13 +30,13 @@ def answer_of(words, text=''):
     program = os.environ.get('EDFVD', 'edfvd')
     ended = subprocess.run([program] + words, input=text, capture_output=True, text=True)
     if ended.returncode != 0:
-        raise model.Refusal(1, f'finer.py: {program} {" ".join(words)}: status {ended.returncode} {ended.stdout.strip()}\n')
+        raise Refusal(1, f'finer.py: {program} {" ".join(words)}: status {ended.returncode} {ended.stdout.strip()}')
     return ended.stdout
 
 
 def stretch_of(tasks):
     """The stretch of a set in per cent, or -1 where it has none."""
-    words = answer_of(['stretch', '/dev/stdin'], '\n'.join(map(table_text, tasks))).split()
+    words = answer_of(['stretch', '/dev/stdin'], '\n'.join(map(task_table, tasks))).split()
     return -1 if words[1] == 'none' else int(words[1])
 
 
@@ -55,7 +55,7 @@ def refuse_others(counts, table):
     for percent, count in re.findall(r'(\d+) (\d+)\n', table):
         found = counts.get(int(percent), 0)
         if found != int(count):
-            raise model.Refusal(1, f'finer.py: {found} sets at {percent}, accept counts {count}\n')
+            raise Refusal(1, f'finer.py: {found} sets at {percent}, accept counts {count}')
 
 
 def main(words):
@@ -63,7 +63,7 @@ def main(words):
         raise WrongWords
     count, tasks = number_between(words[1], 1, 10000), number_between(words[2], 2, 32)
     number = number_between(words[0], 0, 2 ** 64 - 1 - count)
-    sets = [model.make(made, tasks, 0)[0] for made in range(number, number + count)]
+    sets = [soak_tasks(made, tasks) for made in range(number, number + count)]
     with ThreadPoolExecutor(os.cpu_count()) as pool:
         counts = counts_of(list(pool.map(stretch_of, sets)))
     refuse_others(counts, answer_of(['accept'] + words))
