@@ -46,7 +46,7 @@ wants 6 explained/outgrown.txt explain.py certified/outgrown.toml certified/run.
 wants 0 runs/perfetto.json perfetto.py runs/tasks.toml runs/runs.csv
 wants 0 runs/perfetto.json perfetto.py runs/tasks.toml runs/rows.csv
 for name in by_hand by_hand_late_loop; do
-    wants 0 "record/$name.csv" record/sched.py control/tasks.toml "record/$name.txt" 1000 0 ctl=ctl log=log ticker=-
+    wants 0 "record/$name.csv" record/sched.py -v control/tasks.toml "record/$name.txt" 1000 0 ctl=ctl log=log ticker=-
     cmp "record/$name.moves" "$work/err" || failed=$((failed + 1))
 done
 wants 0 judged/legal.txt explain.py control/tasks.toml record/by_hand.csv
@@ -85,7 +85,7 @@ sed 's/log,1,kept/log,1,dropped/' "$work/unserved.csv" >"$work/dropped.csv"
 wants 0 "$work/dropped.csv" record/sched.py control/tasks.toml "$work/dropped.txt" 1000 0 ctl=ctl log=- ticker=-
 
 # The same events as a CSV file, whose lines have the numbers of those of the text.
-wants 0 record/by_hand.csv record/sched.py control/tasks.toml record/by_hand_events.csv 1000
+wants 0 record/by_hand.csv record/sched.py -v control/tasks.toml record/by_hand_events.csv 1000
 cmp record/by_hand.moves "$work/err" || failed=$((failed + 1))
 # refused_events WORDS LINE: that file spoilt by these words of sed is refused with this line
 refused_events() {
@@ -107,7 +107,7 @@ refuses 'line 3: thread ticker-70 is in no map' control/tasks.toml "$work/made.t
 
 # of_fifo STATUS TRACE REPORT: sched.py on a recording of fifo
 of_fifo() {
-    wants "$1" "$2" record/sched.py record/tasks.toml "$3" 10000 1 ctl=ctl nav=nav log=log ticker=- migration/1=- rest=.
+    wants "$1" "$2" record/sched.py -v record/tasks.toml "$3" 10000 1 ctl=ctl nav=nav log=log ticker=- migration/1=- rest=.
 }
 
 # refused_with WORDS LINE: fifo's recording spoilt by these words of sed is refused with this line
