@@ -3,6 +3,7 @@
 cd "$(dirname -- "$0")/.." || exit 1
 work=$(mktemp -d) || exit 1
 trap 'rm -rf "$work"' EXIT
+trap 'exit 1' HUP INT TERM
 git init -q "$work" || exit 1
 mkdir -p "$work/crates/turn_bench/src" "$work/crates/executive_tests/src" "$work/crates/executive_tests/proofs"
 cp -r crates/turnstile "$work/crates/" && cp HANDLES "$work/" || exit 1

@@ -12,6 +12,7 @@ if ! python3 -c 'import tomllib' 2>/dev/null; then
 fi
 work=$(mktemp -d) || exit 1
 trap 'rm -rf "$work"' EXIT
+trap 'exit 1' HUP INT TERM
 failed=0
 
 # wants STATUS TEXT SCRIPT WORDS..: the script gives this status, and the text of this file

@@ -11,7 +11,10 @@ from typing import NamedTuple, Optional
 
 import mutate
 from cases import Runner
-from usage import WrongWords, ends
+from reading import Refusal, bytes_in, or_refused
+from usage import WrongWords, ends, shown_name
+
+MOST_BYTES = 2 ** 28  # of a kept case, in which each byte of its files may take six
 
 
 class Call(NamedTuple):
@@ -31,10 +34,26 @@ def save(path, call, found, how):
 
 
 def load(path):
-    with open(path, encoding='ascii') as file:
-        case = json.load(file)
-    wanted = case['wanted'] and (case['wanted'][0], case['wanted'][1].encode('latin-1'))
-    return Call(case['command'], [content.encode('latin-1') for content in case['files']], case['words'], wanted)
+    """The call of a case that `save` wrote."""
+    try:
+        case = json.loads(bytes_in(path, MOST_BYTES))
+        command, words, files, wanted = (case[key] for key in ('command', 'words', 'files', 'wanted'))
+        if not (are_texts([command]) and are_texts(words) and '\0' not in command + ''.join(words) and are_texts(files) and (wanted is None or is_answer(wanted))):
+            raise ValueError
+        contents = [content.encode('latin-1') for content in files]
+        return Call(command, contents, words, wanted and (wanted[0], wanted[1].encode('latin-1')))
+    except (ValueError, KeyError, TypeError, RecursionError):
+        raise Refusal(1, f'found: {shown_name(path)} is no kept case') from None
+
+
+def are_texts(values):
+    """Whether these are a list of texts."""
+    return isinstance(values, list) and all(isinstance(value, str) for value in values)
+
+
+def is_answer(wanted):
+    """Whether this is a status and a text."""
+    return isinstance(wanted, list) and len(wanted) == 2 and isinstance(wanted[0], int) and are_texts(wanted[1:])
 
 
 def fault_of(runner, call):
@@ -63,4 +82,4 @@ def main(words):
 
 
 if __name__ == '__main__':
-    ends(main, __doc__)
+    ends(or_refused(main), __doc__)

@@ -104,7 +104,8 @@ class Compared:
             fault = self.fault_of(twin, seed)
             if fault is not None:
                 small = self.smaller(twin, seed)
-                raise Fault(Call(small.command, compare.contents_of(Dice(seed), small), small.words, wanted_of(small)), fault)
+                call = Call(small.command, compare.contents_of(Dice(seed), small), small.words, wanted_of(small))
+                raise Fault(call, self.fault_of(small, seed) or fault)
 
     def fault_of(self, case, seed):
         wanted = model.answer(case.command, case.tree, case.second, case.words)
@@ -263,7 +264,8 @@ class Documents:
             data = Shrinker().shrunk_bytes(data, self.differs)
             wanted = says(second_reading(data)[0])
         answer = self.runner.run('check', [data], [])
-        raise Fault(Call('check', [data], [], wanted), compare.told(answer) + (f', with {line!r}' if line else ''))
+        has_line = line is not None and line.encode() in data
+        raise Fault(Call('check', [data], [], wanted), compare.told(answer) + (f', with {line!r}' if has_line else ''))
 
     def differs(self, data):
         """Whether the program reads something else than tomllib does."""

@@ -2,7 +2,7 @@
 # Tries new cases on the built program for some minutes: cases beside the model, spoilt files, documents of a TOML grammar, and
 # what explain.py says. The seed is that of the day where none is given, and is printed first; the same seed makes the same
 # cases. A case that fails is made smaller and written to a file, with the call that repeats it; put into found/, it is tried by
-# every run. FOLDER=NAME has these files elsewhere than in a new folder below /tmp.
+# every run. FOLDER=NAME has these files elsewhere than in a new folder below /tmp, which is there afterwards only if it has some.
 # usage: night.sh MINUTES [SEED]
 . "$(dirname -- "$0")/usage.sh"
 takes 1 2 "$@"
@@ -16,5 +16,15 @@ if ! python3 -c 'import sys; sys.exit(sys.version_info < (3, 9))' 2>/dev/null; t
 fi
 python3 -c 'import tomllib' 2>/dev/null || echo 'night: no second reader of TOML, since this python3 has no tomllib'
 [ -n "${PROGRAM:-}" ] || ../edfvd >/dev/null
-exec python3 -B night.py "${PROGRAM:-../crates/edfvd_program/out/edfvd_program}" "$1" "$seed" \
-    "${FOLDER:-${TMPDIR:-/tmp}/edfvd-night-$seed}"
+folder=${FOLDER:-}
+[ -n "$folder" ] || folder=$(mktemp -d "${TMPDIR:-/tmp}/edfvd-night-$seed-XXXXXX") || exit 1
+night=
+# An empty folder that was made here goes again.
+trap '[ -z "$night" ] || kill "$night" 2>/dev/null; [ -n "${FOLDER:-}" ] || rmdir "$folder" 2>/dev/null' EXIT
+trap 'exit 1' HUP INT TERM
+python3 -B night.py "${PROGRAM:-../crates/edfvd_program/out/edfvd_program}" "$1" "$seed" "$folder" &
+night=$!
+wait "$night"
+status=$?
+night=
+exit "$status"

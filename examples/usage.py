@@ -5,6 +5,7 @@ no more, as a closed pipe or a full disk, with one line and status 8, and too li
 
 import os
 import re
+import signal
 import sys
 from errno import EBADF
 
@@ -32,9 +33,17 @@ def shown_name(name):
     return ''.join(one if one.isprintable() else '?' for one in str(name))
 
 
+def leaves_nothing_on_signals():
+    """Ends the process on SIGHUP and SIGTERM as at its end, so that its folders go, where these signals are not ignored."""
+    for number in (signal.SIGHUP, signal.SIGTERM):
+        if signal.getsignal(number) == signal.SIG_DFL:
+            signal.signal(number, lambda number, _: sys.exit(128 + number))
+
+
 def ends(main, page):
     """Ends the process with the status that main returns for the words; the usage stands at the end of the script's page."""
     usage, words = page[page.index('usage: '):].strip(), sys.argv[1:]
+    leaves_nothing_on_signals()
     try:
         status = answer(main, usage, words)
     except WrongWords as wrong:

@@ -8,7 +8,8 @@
  *
  * usage: fifo TASKS WORK TICKS MICROSECONDS CPU [plain|keep]
  *        plain has deadlines for keys in low mode too, and keep goes on with low jobs after an overrun: both break the rules.
- *        A task file has one key in a line, and a task has one pending job at a time. */
+ *        TICKS from 1 to 1,000,000, MICROSECONDS to 1,000,000. A task file has one key in a line, its numbers are at most
+ *        1,000,000, and a task has one pending job at a time. */
 #define _GNU_SOURCE
 #include <errno.h>
 #include <fcntl.h>
@@ -23,12 +24,16 @@
 #include <string.h>
 #include <sys/mman.h>
 #include <sys/prctl.h>
+#include <sys/stat.h>
 #include <time.h>
 #include <unistd.h>
 
-enum { MOST_TASKS = 16, MOST_JOBS = 4096, STACK = 1 << 18 };
+enum { MOST_TASKS = 16, MOST_JOBS = 4096, MOST_NUMBER = 1000000, STACK = 1 << 18 };
 /* The ranks, as priorities of SCHED_FIFO: a thread without a pending job is aside. */
 enum { TICKER = 60, FIRST_JOB = 50, ASIDE = 2, REST = 1 };
+
+/* Keys and loads: of numbers of at most 2^60 their products are in range. */
+__extension__ typedef __int128 wide;
 
 struct task {
     char name[33];
@@ -55,7 +60,7 @@ static struct task tasks[MOST_TASKS];
 static int task_count;
 static struct work jobs[MOST_JOBS];
 static int job_count;
-static long long scale_p = 1, scale_q = 1;
+static wide scale_p = 1, scale_q = 1;
 static bool is_virtual, high_mode, keys_are_plain, low_jobs_go_on;
 static long long tick_length; /* nanoseconds */
 static int marker = -1;
@@ -81,71 +86,129 @@ static void must(int error, const char *what)
 
 /* ---- Files ---- */
 
+/* Opens a regular file: another one, as a pipe, might never open. */
 static FILE *open_file(const char *name)
 {
-    FILE *file = fopen(name, "r");
-    if (file == NULL)
+    int descriptor = open(name, O_RDONLY | O_NONBLOCK);
+    struct stat status;
+    FILE *file = descriptor < 0 ? NULL : fdopen(descriptor, "r");
+    if (file == NULL || fstat(descriptor, &status) != 0)
         fail("%s: %s", name, strerror(errno));
+    if (!S_ISREG(status.st_mode))
+        fail("%s: not a regular file", name);
     return file;
+}
+
+/* Reads the next line without its end, or answers that there is none. A line that is too long or has a NUL is refused. */
+static bool next_line(FILE *file, const char *name, int number, char *line, int size)
+{
+    if (fgets(line, size, file) == NULL) {
+        if (ferror(file))
+            fail("%s: %s", name, strerror(errno));
+        return false;
+    }
+    size_t length = strlen(line);
+    if (length > 0 && line[length - 1] == '\n')
+        line[length - 1] = '\0';
+    else if (!feof(file))
+        fail("%s: line %d is not read here", name, number);
+    return true;
+}
+
+/* Takes the number that a text begins with, and answers what comes after it, or NULL where it is none from LEAST on. */
+static const char *take_number(const char *text, long least, long *number)
+{
+    *number = 0;
+    const char *digit = text;
+    for (; *digit >= '0' && *digit <= '9' && *number <= MOST_NUMBER; digit++)
+        *number = 10 * *number + (*digit - '0');
+    return digit == text || *number < least || *number > MOST_NUMBER ? NULL : digit;
+}
+
+/* Whether a line is KEY = NUMBER; then it takes the number. */
+static bool take_key(const char *line, const char *key, long *number)
+{
+    size_t length = strlen(key);
+    if (strncmp(line, key, length) != 0 || strncmp(line + length, " = ", 3) != 0)
+        return false;
+    const char *rest = take_number(line + length + 3, 1, number);
+    return rest != NULL && *rest == '\0';
 }
 
 /* Takes one line of a task file. */
 static bool take_task_line(const char *line)
 {
-    struct task *task = &tasks[task_count - 1];
     char first, text[33];
+    int end = 0;
     if (sscanf(line, " %c", &first) != 1 || first == '#')
         return true;
-    if (strncmp(line, "[[task]]", 8) == 0)
-        return task_count++ < MOST_TASKS;
+    if (strcmp(line, "[[task]]") == 0)
+        return task_count < MOST_TASKS && ++task_count > 0;
     if (task_count == 0)
         return false;
-    if (sscanf(line, "level = \"%32[a-z]\"", text) == 1) {
+    struct task *task = &tasks[task_count - 1];
+    if (sscanf(line, "level = \"%32[a-z]\"%n", text, &end) == 1 && end > 0 && line[end] == '\0') {
         task->is_high = strcmp(text, "high") == 0;
-        return true;
+        return task->is_high || strcmp(text, "low") == 0;
     }
-    return sscanf(line, "name = \"%32[A-Za-z0-9_-]\"", task->name) == 1 || sscanf(line, "period = %ld", &task->period) == 1
-        || sscanf(line, "low = %ld", &task->low) == 1 || sscanf(line, "high = %ld", &task->high) == 1;
+    if (sscanf(line, "name = \"%32[A-Za-z0-9_-]\"%n", task->name, &end) == 1)
+        return end > 0 && line[end] == '\0';
+    return take_key(line, "period", &task->period) || take_key(line, "low", &task->low) || take_key(line, "high", &task->high);
 }
 
 static void read_tasks(const char *name)
 {
     FILE *file = open_file(name);
     char line[256];
-    for (int number = 1; fgets(line, sizeof line, file) != NULL; number++)
+    for (int number = 1; next_line(file, name, number, line, sizeof line); number++)
         if (!take_task_line(line))
             fail("%s: line %d is not read here", name, number);
     fclose(file);
+    if (task_count == 0)
+        fail("%s: no tasks", name);
     for (struct task *task = tasks; task < tasks + task_count; task++) {
         if (!task->is_high)
             task->high = task->low;
-        if (task->period < 1 || task->low < 1 || task->high < task->low)
-            fail("%s: task %s has no such budgets", name, task->name);
+        if (task->name[0] == '\0' || task->period < 1 || task->low < 1 || task->high < task->low)
+            fail("%s: task %d has no name, no period or no such budgets", name, (int)(task - tasks) + 1);
     }
+}
+
+/* Takes one line of a work file. */
+static bool take_work_line(const char *line)
+{
+    if (job_count == MOST_JOBS)
+        return false;
+    struct work *job = &jobs[job_count];
+    size_t length = strcspn(line, ",");
+    for (job->task = 0; job->task < task_count; job->task++)
+        if (strlen(tasks[job->task].name) == length && strncmp(tasks[job->task].name, line, length) == 0)
+            break;
+    const char *rest = line[length] == ',' ? take_number(line + length + 1, 0, &job->release) : NULL;
+    rest = rest != NULL && *rest == ',' ? take_number(rest + 1, 1, &job->need) : NULL;
+    bool is_in_order = job_count == 0 || jobs[job_count - 1].release <= job->release;
+    if (job->task == task_count || rest == NULL || *rest != '\0' || !is_in_order)
+        return false;
+    job_count++;
+    return true;
 }
 
 static void read_work(const char *name)
 {
     FILE *file = open_file(name);
-    char line[256], task[33];
-    for (int number = 1; fgets(line, sizeof line, file) != NULL; number++) {
-        struct work *job = &jobs[job_count];
-        if (number == 1)
-            continue;
-        if (job_count == MOST_JOBS || sscanf(line, "%32[^,],%ld,%ld", task, &job->release, &job->need) != 3)
+    char line[256];
+    int number = 1;
+    for (; next_line(file, name, number, line, sizeof line); number++)
+        if (number == 1 ? strcmp(line, "task,release,need") != 0 : !take_work_line(line))
             fail("%s: line %d is not read here", name, number);
-        for (job->task = 0; job->task < task_count && strcmp(tasks[job->task].name, task) != 0;)
-            job->task++;
-        if (job->task == task_count)
-            fail("%s: line %d: no task has the name", name, number);
-        job_count++;
-    }
     fclose(file);
+    if (number == 1)
+        fail("%s: line 1 is not read here", name);
 }
 
 /* ---- The rule ---- */
 
-static long long greatest_divisor(long long a, long long b)
+static wide greatest_divisor(wide a, wide b)
 {
     return b == 0 ? a : greatest_divisor(b, a % b);
 }
@@ -153,9 +216,12 @@ static long long greatest_divisor(long long a, long long b)
 /* The rule of the published test; the loads are counted in parts of which `all` make one. */
 static void find_rule(void)
 {
-    long long all = 1, low_low = 0, high_low = 0, high_high = 0;
-    for (struct task *task = tasks; task < tasks + task_count; task++)
+    wide all = 1, low_low = 0, high_low = 0, high_high = 0;
+    for (struct task *task = tasks; task < tasks + task_count; task++) {
         all = all / greatest_divisor(all, task->period) * task->period;
+        if (all > (wide)1 << 60)
+            fail("the periods are out of range");
+    }
     for (struct task *task = tasks; task < tasks + task_count; task++) {
         *(task->is_high ? &high_low : &low_low) += task->low * (all / task->period);
         high_high += task->is_high ? task->high * (all / task->period) : 0;
@@ -165,11 +231,11 @@ static void find_rule(void)
         return;
     scale_p = high_low;
     scale_q = all - low_low;
-    if (low_low >= all || scale_p * low_low + scale_q * high_high > scale_q * all)
+    if (low_low >= all || high_high > all || high_low > all || scale_p * low_low + scale_q * high_high > scale_q * all)
         fail("the tasks are not admitted");
 }
 
-static long long key(const struct task *task)
+static wide key(const struct task *task)
 {
     bool by_scale = is_virtual && !high_mode && task->is_high && !keys_are_plain;
     return scale_q * task->release + (by_scale ? scale_p : scale_q) * task->period;
@@ -338,7 +404,7 @@ static long long tick_through(long ticks)
 }
 
 /* Puts the whole program on one processor, in memory and under SCHED_FIFO, with this thread as the ticker. */
-static void settle(int processor)
+static void settle(size_t processor)
 {
     struct sched_param priority = {.sched_priority = TICKER};
     cpu_set_t set;
@@ -353,12 +419,21 @@ static void settle(int processor)
         fail("trace_marker: %s", strerror(errno));
 }
 
-/* Takes the words of the call, or answers that they are none. */
-static bool take_words(int count, char **words)
+/* Whether a word is a number from LEAST on; then it takes the number. */
+static bool take_word(const char *word, long least, long *number)
 {
-    if (count < 6 || count > 7 || atol(words[3]) < 1 || atol(words[4]) < 1)
+    const char *rest = take_number(word, least, number);
+    return rest != NULL && *rest == '\0';
+}
+
+/* Takes the words of the call, or answers that they are none. */
+static bool take_words(int count, char **words, long *ticks, long *processor)
+{
+    long microseconds;
+    if (count < 6 || count > 7 || !take_word(words[3], 1, ticks) || !take_word(words[4], 1, &microseconds)
+        || !take_word(words[5], 0, processor) || *processor >= CPU_SETSIZE)
         return false;
-    tick_length = atoll(words[4]) * 1000;
+    tick_length = microseconds * 1000LL;
     keys_are_plain = count == 7 && strcmp(words[6], "plain") == 0;
     low_jobs_go_on = count == 7 && strcmp(words[6], "keep") == 0;
     return count == 6 || keys_are_plain || low_jobs_go_on;
@@ -366,21 +441,22 @@ static bool take_words(int count, char **words)
 
 int main(int count, char **words)
 {
-    if (!take_words(count, words)) {
+    long ticks, processor;
+    if (!take_words(count, words, &ticks, &processor)) {
         fputs("usage: fifo TASKS WORK TICKS MICROSECONDS CPU [plain|keep]\n", stderr);
         return 2;
     }
     read_tasks(words[1]);
     read_work(words[2]);
     find_rule();
-    settle(atoi(words[5]));
+    settle((size_t)processor);
     for (struct task *task = tasks; task < tasks + task_count; task++) {
         sem_init(&task->wake, 0, 0);
         task->rank = ASIDE;
         task->thread = start(serve, task, ASIDE);
     }
     pthread_t rest_thread = start(rest, NULL, REST);
-    long long latest = tick_through(atol(words[3]));
+    long long latest = tick_through(ticks);
     atomic_store(&finished, true);
     for (struct task *task = tasks; task < tasks + task_count; task++) {
         leave(task);

@@ -17,7 +17,7 @@ import sys
 from concurrent.futures import ThreadPoolExecutor
 
 sys.path.insert(0, str(pathlib.Path(__file__).resolve().parent.parent))
-from reading import Refusal, number_between, or_refused
+from reading import Refusal, excerpt, number_between, or_refused
 from rules import task_table
 from usage import WrongWords, ends
 from workloads import soak_tasks
@@ -30,14 +30,17 @@ def answer_of(words, text=''):
     program = os.environ.get('EDFVD', 'edfvd')
     ended = subprocess.run([program] + words, input=text, capture_output=True, text=True)
     if ended.returncode != 0:
-        raise Refusal(1, f'finer.py: {program} {" ".join(words)}: status {ended.returncode} {ended.stdout.strip()}')
+        raise Refusal(1, f'finer.py: {program} {" ".join(words)}: status {ended.returncode} {excerpt(ended.stdout.strip())}')
     return ended.stdout
 
 
 def stretch_of(tasks):
     """The stretch of a set in per cent, or -1 where it has none."""
-    words = answer_of(['stretch', '/dev/stdin'], '\n'.join(map(task_table, tasks))).split()
-    return -1 if words[1] == 'none' else int(words[1])
+    text = answer_of(['stretch', '/dev/stdin'], '\n'.join(map(task_table, tasks)))
+    match = re.match('stretch (none|[0-9]{1,4})\n', text)
+    if match is None:
+        raise Refusal(1, f'finer.py: stretch says no stretch: {excerpt(text)}')
+    return -1 if match[1] == 'none' else int(match[1])
 
 
 def counts_of(stretches):

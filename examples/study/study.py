@@ -7,7 +7,8 @@ that one call for all sets would write, and `table` keeps it as FOLDER/table.txt
 set this is, and there is no table.
 
 A part's file has the part's call in its first line. It gets its name in one step when it is whole, so that a job that is killed
-leaves no file. A part that was worked out twice has one file. Files from other machines are copied to `parts`.
+leaves no file. A part that was worked out twice has one file. Files from other machines are copied to `parts`. A study has at most
+1,000,000 parts, of at most 1,000,000 sets each.
 
 usage: study.py new FOLDER NUMBER SETS TASKCOUNT SIZE
        study.py left FOLDER
@@ -29,10 +30,14 @@ import tempfile
 from typing import NamedTuple
 
 sys.path.insert(0, str(pathlib.Path(__file__).resolve().parent.parent))
-from usage import WrongWords, ends
+from reading import bytes_in, excerpt
+from usage import WrongWords, ends, shown_name
 
-MOST_SETS = 10000
+MOST_SETS = 10000  # of a call of the program
+MOST_PARTS = MOST_IN_PART = 1_000_000
+MOST_BYTES = 65536  # of a file in a study's folder, which has some twenty short lines at most
 PERCENTS = range(100, 201, 10)
+TASKS = range(2, 33)
 NUMBERS = 2 ** 64
 
 
@@ -53,6 +58,10 @@ class Sets(NamedTuple):
     def end(self):
         return self.number + self.count
 
+    # How many parts of this size they make.
+    def parts(self, size):
+        return -(-self.count // size)
+
     # These sets in pieces of at most `size`.
     def pieces(self, size):
         return [Sets(number, min(size, self.end() - number), self.tasks) for number in range(self.number, self.end(), size)]
@@ -61,14 +70,15 @@ class Sets(NamedTuple):
 # The number that a word is, which must be one of these.
 def number_of(word, numbers):
     if not re.fullmatch('[0-9]{1,20}', word) or int(word) not in numbers:
-        raise Fault(f'{word} is not from {numbers[0]} to {numbers[-1]}')
+        raise Fault(f'{excerpt(word)} is not from {numbers[0]} to {numbers[-1]}')
     return int(word)
 
 
 # The sets of a call that is written down.
 def sets_of(line):
-    match = re.fullmatch('accept ([0-9]+) ([0-9]+) ([0-9]+)', line)
-    return Sets(*map(int, match.groups())) if match else None
+    match = re.fullmatch('accept ([0-9]{1,20}) ([0-9]{1,20}) ([0-9]{1,2})', line)
+    sets = Sets(*map(int, match.groups())) if match else None
+    return sets if sets and sets.count > 0 and sets.end() < NUMBERS and sets.tasks in TASKS else None
 
 
 # The eleven counts of a table of some sets, or None where the text is none: each has its percentage, and none rises.
@@ -76,7 +86,7 @@ def counts_of(text, sets):
     lines = [line.split(' ') for line in text.split('\n')]
     if lines.pop() != [''] or [line[0] for line in lines] != [str(percent) for percent in PERCENTS]:
         return None
-    if any(len(line) != 2 or not re.fullmatch('0|[1-9][0-9]*', line[1]) for line in lines):
+    if any(len(line) != 2 or not re.fullmatch('0|[1-9][0-9]{0,19}', line[1]) for line in lines):
         return None
     counts = [int(line[1]) for line in lines]
     return counts if sorted([sets.count] + counts, reverse=True) == [sets.count] + counts else None
@@ -88,28 +98,36 @@ def table_of(counts):
 
 # ---- The folder ----
 
+# The text of a file of a study, where what is no UTF-8 is replaced.
+def text_in(place):
+    return bytes_in(place, MOST_BYTES).decode(errors='replace')
+
+
 # The sets of a study and how many a part has.
 def read(folder):
     try:
-        first, second = (folder / 'study.txt').read_text().split('\n')[:2]
+        first, second = text_in(folder / 'study.txt').split('\n')[:2]
     except (OSError, ValueError):
-        raise Fault(f'{folder} has no study') from None
-    sets, size = sets_of(first), re.fullmatch('in parts of ([1-9][0-9]*)', second)
-    if sets is None or size is None:
-        raise Fault(f'{folder}/study.txt has no study')
+        raise Fault(f'{shown_name(folder)} has no study') from None
+    sets, size = sets_of(first), re.fullmatch('in parts of ([1-9][0-9]{0,6})', second)
+    if sets is None or size is None or int(size[1]) > MOST_IN_PART or sets.parts(int(size[1])) > MOST_PARTS:
+        raise Fault(f'{shown_name(folder)}/study.txt has no study')
     return sets, int(size[1])
 
 
 def new(folder, *words):
     number, count, tasks = (
-        number_of(word, numbers) for word, numbers in zip(words, [range(NUMBERS), range(1, NUMBERS), range(2, 33)]))
-    size = number_of(words[3], range(1, NUMBERS))
+        number_of(word, numbers) for word, numbers in zip(words, [range(NUMBERS), range(1, NUMBERS), TASKS]))
+    size = number_of(words[3], range(1, MOST_IN_PART + 1))
     if number + count >= NUMBERS:
         raise Fault(f'{number} and {count} are 2^64 or more together')
+    parts = Sets(number, count, tasks).parts(size)
+    if parts > MOST_PARTS:
+        raise Fault(f'{parts} parts, a study has at most {MOST_PARTS}: take fewer sets, or more in a part')
     text = f'{Sets(number, count, tasks).call()}\nin parts of {size}\n'
     place = folder / 'study.txt'
-    if place.exists() and place.read_text() != text:
-        raise Fault(f'{folder} has another study')
+    if place.exists() and text_in(place) != text:
+        raise Fault(f'{shown_name(folder)} has another study')
     (folder / 'parts').mkdir(parents=True, exist_ok=True)
     put(place, text)
 
@@ -135,11 +153,11 @@ def place_of(folder, part):
 
 # The sets of a part's file and their counts.
 def read_part(place):
-    call, _, table = place.read_text(errors='replace').partition('\n')
+    call, _, table = text_in(place).partition('\n')
     sets = sets_of(call)
     counts = sets and counts_of(table, sets)
     if not counts:
-        raise Fault(f'{place} is no part')
+        raise Fault(f'{shown_name(place)} is no part')
     return sets, counts
 
 
@@ -147,7 +165,7 @@ def read_part(place):
 def left(folder):
     sets, size = read(folder)
     there = set(os.listdir(folder / 'parts'))
-    return [part for part in range(-(-sets.count // size)) if place_of(folder, part).name not in there]
+    return [part for part in range(sets.parts(size)) if place_of(folder, part).name not in there]
 
 
 # ---- Working a part out ----
@@ -221,8 +239,7 @@ def answer(words):
         return ''.join(f'{part}\n' for part in left(folder))
     elif command == 'part' and words:
         sets, size = read(folder)
-        parts = range(-(-sets.count // size))
-        work_out(folder, [number_of(word, parts) for word in words])
+        work_out(folder, [number_of(word, range(sets.parts(size))) for word in words])
     elif command == 'share' and len(words) == 2:
         jobs = number_of(words[1], range(1, NUMBERS))
         job = number_of(words[0], range(jobs))
