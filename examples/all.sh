@@ -14,6 +14,7 @@ cat >"$work/list" <<'LIST'
 night.sh 2
 compare.sh
 memcheck.sh
+hostile.sh
 usages.sh
 library.sh
 check.sh

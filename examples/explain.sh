@@ -1,7 +1,8 @@
 #!/bin/sh
-# Compares what explain.py says of the judged examples with the texts in explained/, and what walk.py finds with model.py on
-# 100 cases made by a fixed seed, or as many as are asked for. Then perfetto.py, record/sched.py on the kept recordings (nothing
-# is recorded), flight.py, pages of docs beside what they speak of, and definitions.py's limits. No built program is needed.
+# Compares what explain.py says of the judged examples with the texts in explained/, and what it finds with model.py on 100 cases
+# made by a fixed seed, or as many as are asked for. Then perfetto.py, record/sched.py on the kept recordings (nothing is
+# recorded), flight.py, the tests of tools_check.py, pages of docs beside what they speak of, and definitions.py's limits. No built
+# program is needed.
 # usage: explain.sh [CASES [SEED]]
 . "$(dirname -- "$0")/usage.sh"
 takes_numbers "$@"
@@ -148,6 +149,7 @@ fi
 # Ten thousand jobs of twelve tasks: the digests of the files that are made, and of the trace that follows.
 wants 0 flight/expected.txt flight.py "$work"
 
+python3 -B tools_check.py || failed=$((failed + 1))
 python3 -B explain_check.py "${1:-100}" "${2:-1}" || failed=$((failed + 1))
 python3 -B pages.py || failed=$((failed + 1))
 # Each wrong body that the gate leaves out still applies to its source.

@@ -64,7 +64,7 @@ class BoundedFile(io.FileIO):
     """A file that is opened without waiting, and of which at most `most` bytes can be read."""
 
     def __init__(self, name, most):
-        super().__init__(name, opener=open_at_once)
+        super().__init__(os.fspath(name), opener=open_at_once)
         self.most = self.left = most
 
     def readinto(self, buffer):
@@ -82,7 +82,7 @@ def open_at_once(name, flags):
     """The descriptor of a file, which must be a regular one or open already."""
     descriptor = os.open(name, flags | os.O_NONBLOCK)
     is_regular = stat.S_ISREG(os.fstat(descriptor).st_mode)
-    if not is_regular and not re.fullmatch('/dev/(stdin|fd/[0-9]+)', os.fspath(name)):
+    if not is_regular and not re.fullmatch('/dev/(stdin|fd/[0-9]+)', name):
         os.close(descriptor)
         raise OSError(errno.EINVAL, 'not a regular file', name)
     os.set_blocking(descriptor, True)

@@ -180,7 +180,8 @@ def csv_events(lines, names):
     """The events of the records, up to the first that finishes."""
     records, line = records_in(lines), 0
     try:
-        if next(records, (1, None))[1] != CSV_HEADER:
+        line, header = next(records, (1, None))
+        if header != CSV_HEADER:
             raise Refused(f'line 1: the header is not {",".join(CSV_HEADER)}')
         for line, record in records:
             event = event_of_record(line, record, names)
