@@ -1,7 +1,7 @@
 #!/bin/sh
 # Calls each script of this folder and of those below it: `--help` writes its usage, with status 0, and words that are none of its
 # forms get its usage on standard error, with status 2; none do where it needs some. Each answers at once: no program is built,
-# tried or recorded. A closed pipe and a full disk end it with one line.
+# tried or recorded. A closed pipe and a full disk end it with one line. A script that is ended in the middle leaves no folder.
 # usage: usages.sh
 . "$(dirname -- "$0")/usage.sh"
 takes 0 0 "$@"
@@ -135,5 +135,43 @@ if grep -q 'py$' "$work/scripts"; then
     takes_nothing record/sched.py control/tasks.toml record/by_hand_events.csv 1000
     takes_nothing study/study.py left "$work/study"
 fi
+
+# In place of python3 and git comes a tool that ends the script which calls it, after the script has made its folder.
+mkdir "$work/tools" "$work/tmp"
+cat >"$work/tools/python3" <<'END'
+#!/bin/sh
+[ "$1" = -c ] || kill -TERM "$PPID"
+END
+cp "$work/tools/python3" "$work/tools/git"
+chmod +x "$work/tools/python3" "$work/tools/git"
+
+# is_empty: the folder for folders is empty, and the script ended with status 1
+is_empty() {
+    [ "$(cat "$work/status")" -eq 1 ] && [ -z "$(ls -A "$work/tmp")" ]
+}
+
+# leaves_nothing SCRIPT WORDS..: the script is ended in the middle
+leaves_nothing() {
+    TMPDIR=$work/tmp PATH=$work/tools:$PATH call "$@" >"$work/out"
+    notes "$*, ended in the middle" is_empty
+}
+leaves_nothing ./explain.sh
+leaves_nothing ../bench/turns.sh
+leaves_nothing ./night.sh 1 1
+
+# Two nights of one seed have a folder each.
+cat >"$work/tools/python3" <<'END'
+#!/bin/sh
+[ "$1" != -c ] || exit 0
+for folder; do :; done
+mkdir -p "$folder" && : >"$folder/$$"
+END
+have_two() {
+    [ "$(find "$work/tmp" -mindepth 1 -maxdepth 1 | wc -l)" -eq 2 ]
+}
+for _ in 1 2; do
+    TMPDIR=$work/tmp PATH=$work/tools:$PATH call ./night.sh 1 1 >"$work/out"
+done
+notes 'night.sh, twice' have_two
 echo "usages: $(wc -l <"$work/scripts") scripts, $calls calls, $failed failed"
 [ "$failed" -eq 0 ]
