@@ -1,5 +1,5 @@
 """Gives hostile files to each script that reads files, and to record/fifo.c. Each run must end with the status and the one line
-that the tables here say, with nothing else on either stream, within a minute and within 1 GiB of memory. So must runs on long
+that the tables here say, with nothing else on either stream, within 30 seconds of a processor and within 1 GiB of memory. So must runs on long
 files that are right, for which time by the square of their length would be too much.
 
 usage: hostile.py
@@ -20,9 +20,11 @@ from typing import NamedTuple
 from usage import WrongWords, ends
 
 HERE = pathlib.Path(__file__).resolve().parent
-SECONDS, BYTES = 60, 2 ** 30
+SECONDS, BYTES = 30, 2 ** 30  # of a processor, and of memory
+PATIENCE = 300  # seconds until a run that waits counts as one that never ends
 LONG = 10 ** 8  # bytes of a line
 DIGITS = '1' * 5000
+SETTINGS = {'PYTHONIOENCODING': 'utf-8', 'PYTHONDONTWRITEBYTECODE': ''}
 
 
 class Run(NamedTuple):
@@ -87,18 +89,20 @@ TASK = '[[task]]\nname = "a"\nlevel = "low"\nperiod = {}\nlow = 1\n'
 PERIODS = {
     '0': 'task 1: out of range period', '-1': 'task 1: out of range period', '4294967296': 'task 1: out of range period',
     DIGITS: 'not TOML', '-' + DIGITS: 'not TOML', '0x' + DIGITS: 'not TOML', '9223372036854775808': 'not TOML',
-    'nan': 'task 1: wrong kind of period', '-inf': 'task 1: wrong kind of period', '1e400': 'not TOML', '1e4': 'task 1: wrong kind of period',
-    '1.' + DIGITS: 'task 1: wrong kind of period', '[' * 80 + ']' * 80: 'task 1: wrong kind of period', '[' * 81 + ']' * 81: 'not TOML',
-    '[' * 100000: 'not TOML', '[' * 100000 + ']' * 100000: 'not TOML', '{a=' * 100000 + '1' + '}' * 100000: 'not TOML',
-    '"' * 100000: 'not TOML', '"""' + '\\"""' * 100000: 'not TOML', "'''" * 100001: 'not TOML', '"a': 'not TOML'}
+    'nan': 'task 1: wrong kind of period', '-inf': 'task 1: wrong kind of period', '1e400': 'not TOML',
+    '1e4': 'task 1: wrong kind of period', '1.' + DIGITS: 'task 1: wrong kind of period',
+    '[' * 80 + ']' * 80: 'task 1: wrong kind of period', '[' * 81 + ']' * 81: 'not TOML', '[' * 100000: 'not TOML',
+    '[' * 100000 + ']' * 100000: 'not TOML', '{a=' * 100000 + '1' + '}' * 100000: 'not TOML', '"' * 100000: 'not TOML',
+    '"""' + '\\"""' * 100000: 'not TOML', "'''" * 100001: 'not TOML', '"a': 'not TOML'}
 EIGHTY = 'a' + '.a' * 79
 # Whole documents, and what is said of them.
 DOCUMENTS = {
-    '': 'no tasks', '\ufeff': 'no tasks', '\0': 'not TOML', 'task = 1': 'task 0: wrong kind of task', 'a' + '.a' * 80 + ' = 1': 'not TOML',
-    EIGHTY + ' = 1': 'unknown key a', 'a' + '.a' * 200000 + ' = 1': 'not TOML', '[a' + '.a' * 200000 + ']': 'not TOML',
+    '': 'no tasks', '\ufeff': 'no tasks', '\0': 'not TOML', 'task = 1': 'task 0: wrong kind of task',
+    'a' + '.a' * 80 + ' = 1': 'not TOML', EIGHTY + ' = 1': 'unknown key a', 'a' + '.a' * 200000 + ' = 1': 'not TOML',
+    '[a' + '.a' * 200000 + ']': 'not TOML',
     '"a"' + " . 'a'" * 100000 + ' = 1': 'not TOML', (EIGHTY + ' = {') * 80 + '}' * 80: 'unknown key a',
     ''.join(f'k{number}=1\n' for number in range(50000)): 'unknown key k0', '[[task]]\n' * 30000: 'task 1: missing key name',
-    'x' * 1000000 + ' = 1': 'unknown key ' + 'x' * 32, '"\x7f\\u00e9\\n" = 1': 'not TOML', '"\\u007f\\u00e9\\n" = 1': 'unknown key ????',
+    'x' * 1000000 + ' = 1': 'unknown key ' + 'x' * 32, '"\x7f" = 1': 'not TOML', '"\\u007f\\u00e9\\n" = 1': 'unknown key ????',
     # Dots and brackets in words and comments are none of the document.
     '# ' + '.' * 1000 + '[' * 1000 + '\nname = "' + 'a.' * 100 + '[' * 100 + '"': 'unknown key name'}
 
@@ -125,7 +129,8 @@ RECORDS = {
     'idle,0,1,,,' + 'x' * 200000: f'line 2: {LONG_RECORD}', 'idle,0,1,,,\n"' + 'x' * 200000 + '"': f'line 3: {LONG_RECORD}',
     '"' + 'x\n' * 200000: f'line 2: {LONG_RECORD}', '"\n",' * 200000: f'line 2: {LONG_RECORD}', ',' * 100000: 'line 2: not six fields',
     ',' * 200000: f'line 2: {LONG_RECORD}', 'release,0,,\0,1,kept': 'line 2: unknown task', '\0': 'line 2: not six fields',
-    '"a': 'line 2: not six fields', '\n' * 200000 + 'idle,1,1,,,': 'line 2: wrong tick', 'idle,0,1,,,\r\n\ridle,0,1,,,': 'line 3: wrong tick'}
+    '"a': 'line 2: not six fields', '\n' * 200000 + 'idle,1,1,,,': 'line 2: wrong tick',
+    'idle,0,1,,,\r\n\ridle,0,1,,,': 'line 3: wrong tick'}
 
 
 def traces(files):
@@ -148,12 +153,14 @@ LINE = ' {}-1 [000] {}: sched_switch: a:1 [120] S ==> {}:2 [98]\n'
 # The records of a CSV file after its header, in ticks of a millisecond, and what is said of them.
 EVENT_RECORDS = {
     f'{DIGITS},run,a': f'line 2: {"1" * 64} is no time', '1e20,run,a': 'line 2: 1e20 is no time',
-    '1' + '0' * 20 + ',run,a': 'line 2: 1' + '0' * 20 + ' is no time', '-1,run,a': 'line 2: -1 is no time', 'nan,run,a': 'line 2: nan is no time',
+    '1' + '0' * 20 + ',run,a': 'line 2: 1' + '0' * 20 + ' is no time', '-1,run,a': 'line 2: -1 is no time',
+    'nan,run,a': 'line 2: nan is no time',
     '\u0661,run,a': 'line 2: \u0661 is no time', '"0\n0",run,a': 'line 3: 0?0 is no time', '0,run,\0': 'line 2: run of ?, which is no task',
     '0,' + 'x' * 1000 + ',a': 'line 2: ' + 'x' * 64 + ' is no event', '0,run,a\n0,release,a\n1000000000000,run,.': (
         '1000000000 ticks of 1000 us are recorded, at most 10000000 make a trace'),
     '0,run,a\n5,release,a\n4,finish,': 'line 4: its time is before that of line 3', '0,finish,': 'no release is recorded',
-    '0,end,a\n0,release,a\n0,finish,': 'no whole tick of 1000 us is recorded on this processor', '0,run,' + 'x' * 200000: f'line 2: {LONG_RECORD}',
+    '0,end,a\n0,release,a\n0,finish,': 'no whole tick of 1000 us is recorded on this processor',
+    '0,run,' + 'x' * 200000: f'line 2: {LONG_RECORD}',
     '"': 'line 2: not three fields', ',' * 10000: 'line 2: not three fields'}
 # A report, and what is said of it.
 REPORTS = {
@@ -164,7 +171,8 @@ REPORTS = {
     LINE.format('a', '0.0', 'a').replace('[98]', f'[{DIGITS}]'): 'line 1: sched_switch has a form that is not known',
     LINE.format('a', '0.0', 'a').replace('[000]', f'[{DIGITS}]'): 'line 1: an event has a form that is not known',
     # For this a search without bounds would take time by the cube of its length.
-    ' a-1 [000] 0.0: sched_switch: prev_comm=' + ' prev_pid=1 prev_prio=1 next_comm=a' * 3000: 'line 1: sched_switch has a form that is not known',
+    ' a-1 [000] 0.0: sched_switch: prev_comm=' + ' prev_pid=1 prev_prio=1 next_comm=a' * 3000: (
+        'line 1: sched_switch has a form that is not known'),
     ' a' + '-1 ' * 40000 + ': sched_switch: ': 'line 1: an event has a form that is not known'}
 
 
@@ -192,21 +200,22 @@ NO_STUDIES = [
     'accept 0 18446744073709551615 8\nin parts of 1\n', 'accept 0 18446744073709551615 8\nin parts of 18446744073709551615\n',
     'accept 0 1000001 8\nin parts of 1\n', '\0' * 100, b'\xff\xff', 'x' * 100000]
 # What stands in a part's file, and makes it none.
-NO_PARTS = [
-    '', '\0', b'\xff', 'accept 1 5 8\n', 'accept 1 5 8\n' + TABLE.replace(' 0', ' ' + DIGITS), 'accept 1 5 8\n' + TABLE.replace(' 0', ' -1'),
-    'accept 1 5 8\n' + TABLE.replace(' 0', ' nan'), 'accept 1 5 8\n' + TABLE.replace(' 0', ' 6'), f'accept {DIGITS} 5 8\n' + TABLE,
-    'accept 1 18446744073709551615 8\n' + TABLE]
+NO_PARTS = ['', '\0', b'\xff', 'accept 1 5 8\n', f'accept {DIGITS} 5 8\n{TABLE}', f'accept 1 18446744073709551615 8\n{TABLE}'] + [
+    'accept 1 5 8\n' + TABLE.replace(' 0', f' {count}') for count in (DIGITS, '-1', 'nan', '6')]
+MANY = 'parts, a study has at most 1000000: take fewer sets, or more in a part'
+MOST = str(2 ** 64 - 1)
 NEW_STUDIES = {
-    ('0', '18446744073709551615', '8', '1'): '18446744073709551615 parts, a study has at most 1000000: take fewer sets, or more in a part',
-    ('0', '18446744073709551615', '8', '18446744073709551615'): '18446744073709551615 is not from 1 to 1000000',
-    ('0', '1000001', '8', '1'): '1000001 parts, a study has at most 1000000: take fewer sets, or more in a part',
-    ('0', DIGITS, '8', '1'): f'{"1" * 64} is not from 1 to 18446744073709551615', ('-1', '1', '8', '1'): '-1 is not from 0 to 18446744073709551615',
-    ('1\n', '1', '8', '1'): '1? is not from 0 to 18446744073709551615', ('1', '1', 'nan', '1'): 'nan is not from 2 to 32'}
+    ('0', MOST, '8', '1'): f'{MOST} {MANY}', ('0', '1000001', '8', '1'): f'1000001 {MANY}',
+    ('0', MOST, '8', MOST): f'{MOST} is not from 1 to 1000000', ('0', DIGITS, '8', '1'): f'{"1" * 64} is not from 1 to {MOST}',
+    ('-1', '1', '8', '1'): f'-1 is not from 0 to {MOST}', ('1\n', '1', '8', '1'): f'1? is not from 0 to {MOST}',
+    ('1', '1', 'nan', '1'): 'nan is not from 2 to 32'}
 NO_CASES = [
     '', '\0', b'\xff', '[]', '1', 'nan', DIGITS, '"a"', '{}', '[' * 100000, '[' * 100000 + ']' * 100000, '{"a":' * 100000,
     '{"command": 1, "words": [], "files": [], "wanted": null}', '{"command": "check", "words": [1], "files": [], "wanted": null}',
-    '{"command": "check", "words": [], "files": ["\\u0100"], "wanted": null}', '{"command": "check", "words": [], "files": [], "wanted": [0]}',
-    '{"command": "check", "words": ["\\u0000"], "files": [], "wanted": null}', '{"command": "check", "words": "a", "files": [], "wanted": null}']
+    '{"command": "check", "words": [], "files": ["\\u0100"], "wanted": null}',
+    '{"command": "check", "words": [], "files": [], "wanted": [0]}',
+    '{"command": "check", "words": ["\\u0000"], "files": [], "wanted": null}',
+    '{"command": "check", "words": "a", "files": [], "wanted": null}']
 
 
 def study_in(files, text, part=None):
@@ -265,11 +274,11 @@ def a_job_in_each_tick(ticks):
 def long_runs(files, tasks):
     # All jobs but the first one are late: two are released at each boundary, and one is served.
     two = files.of(TASK.format(1) + TASK.format(1).replace('"a"', '"b"'))
-    yield Run(['explain.py', two, '{}', '1', '1'], files.of(half_served(20000)), 6, text='legal late 39999 first b 1\n')
-    events, trace = a_job_in_each_tick(60000)
+    yield Run(['explain.py', two, '{}', '1', '1'], files.of(half_served(10000)), 6, text='legal late 19999 first b 1\n')
+    events, trace = a_job_in_each_tick(40000)
     yield Run(['record/sched.py', tasks, '{}', '1000'], files.of(events), 0, text=trace, line=(
-        'a tick is 1000 us, of one 0 us lost at most; moved: 60000 of 120001 events, by 100 us at most, the first in line 4; '
-        'moved back: 0 of 60000 ends'))
+        'a tick is 1000 us, of one 0 us lost at most; moved: 40000 of 80001 events, by 100 us at most, the first in line 4; '
+        'moved back: 0 of 40000 ends'))
 
 
 # ---- All runs ----
@@ -315,31 +324,46 @@ def of_no_files(files, tasks, trace):
     yield Run(['flight.py', str(files.folder / 'absent')], '', 7, f'flight.py: {absent}: No such file or directory')
 
 
+# Lines of a task file for fifo.c after `[[task]]`, and of a work file after its header, that are none.
+NO_KEYS = [
+    'period = 0', 'period = -5', f'period = {DIGITS}', 'period = 1000001', 'period = nan', 'name = ""', 'name = "' + 'a' * 33 + '"',
+    'level = "other"', '\0']
+NO_WORK = [
+    'a,0,-5', 'a,0,0', 'a,-1,1', f'a,0,{DIGITS}', 'a,0,1.5', 'a,0', 'a', 'a,0,1,', 'b,0,1', ',0,1', 'a,0,1000001', '\0', 'x' * 300]
+# Numbers of ticks and of microseconds, and a processor, of which one is none.
+NO_NUMBERS = ['-1 1 0', 'x 1 0', '0 1 0', '1 0 0', f'1 {DIGITS} 0', '1 1 -1', '1 1 1024', '1x 1 0']
+NUMBERS = ['40', '1000', '1023']  # there is no such processor, so that a call with right files ends, too
+
+
 def of_fifo(program, files, tasks, work):
     """Runs of record/fifo.c's program: a task file and a work file of each kind, and numbers that are none."""
-    for name, fault in (str(files.folder / 'absent'), 'No such file or directory'), (files.pipe(), 'not a regular file'), (
-            str(files.folder), 'not a regular file'), ('/dev/zero', 'not a regular file'):
+    header = 'task,release,need\n'
+
+    def of_tasks(text, line, work=work):
+        name = files.of(text)
+        return Run([program, '{}', work, *NUMBERS], name, 1, f'fifo: {name}: {line}')
+
+    def of_work(text, number):
+        name = files.of(text)
+        return Run([program, tasks, '{}', *NUMBERS], name, 1, f'fifo: {name}: line {number} is not read here')
+    for name, fault in (str(files.folder / 'absent'), 'No such file or directory'), *(
+            (name, 'not a regular file') for name in (files.pipe(), str(files.folder), '/dev/zero')):
         for words in (['{}', work], [tasks, '{}']):
-            yield Run([program, *words, '40', '1000', '1023'], name, 1, f'fifo: {name}: {fault}')
-    lines = ['period = 0', 'period = -5', f'period = {DIGITS}', 'period = nan', 'name = ""', 'name = "' + 'a' * 33 + '"', 'level = "other"', '\0']
-    for line in lines:
-        yield Run([program, '{}', work, '40', '1000', '1023'], (name := files.of(f'[[task]]\n{line}\n')), 1, f'fifo: {name}: line 2 is not read here')
-    yield Run([program, '{}', work, '40', '1000', '1023'], (name := files.of('period = 5\n')), 1, f'fifo: {name}: line 1 is not read here')
-    yield Run([program, '{}', work, '40', '1000', '1023'], (name := files.of('')), 1, f'fifo: {name}: no tasks')
-    yield Run([program, '{}', work, '40', '1000', '1023'], (name := files.of('[[task]]\n' * 17)), 1, f'fifo: {name}: line 17 is not read here')
+            yield Run([program, *words, *NUMBERS], name, 1, f'fifo: {name}: {fault}')
+    yield from (of_tasks(f'[[task]]\n{line}\n', 'line 2 is not read here') for line in NO_KEYS)
+    yield of_tasks('period = 5\n', 'line 1 is not read here')
+    yield of_tasks('', 'no tasks')
+    yield of_tasks('[[task]]\n', 'task 1 has no name, no period or no such budgets')
+    yield of_tasks('[[task]]\n' * 17, 'line 17 is not read here')
     # Four periods with a least common multiple of some 10^24.
     many = ''.join(TASK.format(period).replace('"a"', f'"a{period}"') for period in (999983, 999979, 999961, 999959))
-    empty = files.of('task,release,need\n')
-    yield Run([program, '{}', empty, '40', '1000', '1023'], files.of(many), 1, 'fifo: the periods are out of range')
-    for record in ('a,0,-5', 'a,0,0', 'a,-1,1', f'a,0,{DIGITS}', 'a,0,1.5', 'a,0', 'a', 'a,0,1,', 'b,0,1', ',0,1', 'a,0,1000001', '\0', 'x' * 300):
-        text = f'task,release,need\n{record}\n'
-        yield Run([program, tasks, '{}', '40', '1000', '1023'], (name := files.of(text)), 1, f'fifo: {name}: line 2 is not read here')
-    yield Run([program, tasks, '{}', '40', '1000', '1023'], (name := files.of('task,release,need\na,5,1\na,4,1\n')), 1, (
-        f'fifo: {name}: line 3 is not read here'))
-    # Files that are right, and a processor that is not there.
-    yield Run([program, tasks, '{}', '40', '1000', '1023'], work, 1, 'fifo: one processor, memory and SCHED_FIFO: Invalid argument')
-    for words in (['-1', '1', '0'], ['x', '1', '0'], ['1', '0', '0'], ['1', DIGITS, '0'], ['1', '1', '-1'], ['1', '1', '1024'], ['1x', '1', '0']):
-        yield Run([program, tasks, '{}', *words], work, 2, 'usage: fifo TASKS WORK TICKS MICROSECONDS CPU [plain|keep]')
+    yield Run([program, '{}', files.of(header), *NUMBERS], files.of(many), 1, 'fifo: the periods are out of range')
+    yield from (of_work(f'{header}{record}\n', 2) for record in NO_WORK)
+    yield of_work(f'{header}a,5,1\na,4,1\n', 3)
+    yield of_work('', 1)
+    yield Run([program, tasks, '{}', *NUMBERS], work, 1, 'fifo: one processor, memory and SCHED_FIFO: Invalid argument')
+    for numbers in NO_NUMBERS:
+        yield Run([program, tasks, '{}', *numbers.split()], work, 2, 'usage: fifo TASKS WORK TICKS MICROSECONDS CPU [plain|keep]')
 
 
 def fifo_program(files):
@@ -368,32 +392,36 @@ def all_runs(files):
         yield from of_fifo(program, files, tasks, files.of('task,release,need\na,0,1\n'))
 
 
-def limit():
-    resource.setrlimit(resource.RLIMIT_AS, (BYTES, BYTES))
+def limit(with_memory):
+    resource.setrlimit(resource.RLIMIT_CPU, (SECONDS, SECONDS))
+    if with_memory:
+        resource.setrlimit(resource.RLIMIT_AS, (BYTES, BYTES))
 
 
-def fault_of(run):
-    """What is wrong with a run, or None."""
+def fault_of(run, cache):
+    """What is wrong with a run, or None. Compiled scripts are kept in the folder `cache`."""
     words = [run.name if word == '{}' else word for word in run.words]
     is_script = words[0].endswith('.py')
     with open('/dev/zero', 'rb') as zeros:
         try:
             ended = subprocess.run(
-                ([sys.executable, '-B'] if is_script else []) + words, cwd=HERE, stdin=zeros, capture_output=True, timeout=SECONDS,
-                preexec_fn=limit if is_script else None, env={**os.environ, **run.settings, 'PYTHONIOENCODING': 'utf-8'})
+                ([sys.executable] if is_script else []) + words, cwd=HERE, stdin=zeros, capture_output=True, timeout=PATIENCE,
+                preexec_fn=lambda: limit(is_script), env={**os.environ, **run.settings, **SETTINGS, 'PYTHONPYCACHEPREFIX': cache})
         except subprocess.TimeoutExpired:
             return 'no end'
     wanted = run.status, run.text, run.line and f'{run.line}\n'
     found = ended.returncode, ended.stdout.decode(errors='replace'), ended.stderr.decode(errors='replace')
-    return None if found == wanted else ' and '.join(f'{mine!r:.300}, wanted {other!r:.300}' for mine, other in zip(found, wanted) if mine != other)
+    others = (f'{mine!r:.300}, wanted {other!r:.300}' for mine, other in zip(found, wanted) if mine != other)
+    return ' and '.join(others) or None
 
 
 def main(words):
     if words:
         raise WrongWords
-    runs = list(all_runs(Files()))
+    files = Files()
+    runs = list(all_runs(files))
     with concurrent.futures.ThreadPoolExecutor(os.cpu_count()) as pool:
-        faults = list(pool.map(fault_of, runs))
+        faults = list(pool.map(lambda run: fault_of(run, str(files.folder / 'cache')), runs))
     for run, fault in zip(runs, faults):
         if fault is not None:
             print(f'{" ".join(run.words)[:100]} of {run.name}: {fault}')

@@ -42,7 +42,8 @@ class Explanations(unittest.TestCase):
         return lines
 
     def test_a_release_at_its_boundary_fits(self):
-        lines = self.lines('release,0,ctl,1,kept', 'tick,0,ctl,1,done', *(f'idle,{tick},,,' for tick in range(1, 10)), 'release,10,ctl,3,kept')
+        idle = [f'idle,{tick},,,' for tick in range(1, 10)]
+        lines = self.lines('release,0,ctl,1,kept', 'tick,0,ctl,1,done', *idle, 'release,10,ctl,3,kept')
         self.assertEqual(lines, [
             'illegal row 12 wrong_count', 'line 13: release,10,ctl,3,kept',
             "wrong_count: its number is not one more than its task's releases so far", 'before it: 10 ticks, mode low, rule virtual 2/5',
@@ -152,8 +153,8 @@ class Pictures(unittest.TestCase):
 
     def test_boxes_that_touch_the_window(self):
         window = svg.Window(3, 5, 0, 0)
-        shown = {(0, 3): False, (5, 6): False, (0, 4): True, (4, 9): True, (3, 5): True, (0, 9): True, (3, 3): True, (5, 5): True, (2, 2): False,
-                 (6, 6): False}
+        shown = {(0, 3): False, (5, 6): False, (0, 4): True, (4, 9): True, (3, 5): True, (0, 9): True, (3, 3): True, (5, 5): True,
+                 (2, 2): False, (6, 6): False}
         for (begin, end), is_shown in shown.items():
             self.assertEqual(window.shows(svg.Mark('low', begin, end)), is_shown, (begin, end))
 
@@ -179,8 +180,9 @@ class Recordings(unittest.TestCase):
     def trace(self, text, tasks=CONTROL, unserved=False):
         lines = ['time,event,task\n']
         for event in text.split(', '):
-            words = event.split(' ')
-            lines.append(','.join(words if len(words) == 3 else [words[0], 'run', words[1]] if words[1] != 'finish' else [*words, '']) + '\n')
+            time, *rest = event.split(' ')
+            rest = [*rest, ''] if rest == ['finish'] else rest if len(rest) == 2 else ['run', *rest]
+            lines.append(','.join([time, *rest]) + '\n')
         events = recorded.Events(recorded.csv_events(lines, {task.name for task in tasks}))
         self.recording = sched.Recording(TaskSet(tasks), events, 1_000_000, unserved)
         return list(rules.trace_lines(tasks, self.recording.runs()))[1:]
