@@ -7,11 +7,13 @@ Fraction(2, 5)
 149
 
 Time is counted in ticks, and task sets, jobs and rows are plain values. A call that the library refuses raises
-:class:`Refused`, one that a command of the program refuses raises :class:`CommandRefused`, and a wrong type or a number out of
-range raises ``TypeError`` or ``ValueError`` before any call. docs/C-AND-PYTHON.md in the repository says what is proved.
+:class:`Refused`, and one that a command of the program refuses raises :class:`CommandRefused`. Before any call, a value of a
+wrong type raises ``TypeError``, and one that cannot be meant raises ``ValueError``: a number out of range, a name that files do
+not allow, or a high task without its high budget. docs/C-AND-PYTHON.md in the repository says what is proved.
 """
 
-from ._calls import accept, ask, check, demand, judge, partition, run, stretch
+from ._calls import accept, check, demand, judge, partition, stretch
+from ._commands import ask, run
 from ._errors import CommandRefused, EdfvdError, Refused, Status
 from ._monitor import Monitor
 from ._scheduler import Scheduler

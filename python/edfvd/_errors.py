@@ -3,7 +3,7 @@
 from __future__ import annotations
 
 import enum
-from typing import Optional
+from typing import Any, Dict, Optional, Tuple, Type
 
 from ._library import library
 
@@ -68,6 +68,10 @@ class Refused(EdfvdError):
         word = library.edfvd_word(status).decode()
         super().__init__(word if task is None else f"task {task}: {word}")
 
+    def __reduce__(self) -> Tuple[Type[Refused], Tuple[Status, Optional[str], int], Dict[str, Any]]:
+        """How the exception is copied and pickled, so that it comes back from another process."""
+        return type(self), (self.status, self.task, self.at), vars(self)
+
 
 class CommandRefused(EdfvdError):
     """A command of the program refused its files or words: its exit status, and its text as the message.
@@ -83,3 +87,7 @@ class CommandRefused(EdfvdError):
     def __init__(self, exit_status: int, text: str) -> None:
         self.exit_status = exit_status
         super().__init__(text)
+
+    def __reduce__(self) -> Tuple[Type[CommandRefused], Tuple[int, str], Dict[str, Any]]:
+        """How the exception is copied and pickled, so that it comes back from another process."""
+        return type(self), (self.exit_status, str(self)), vars(self)

@@ -123,10 +123,13 @@ def _load() -> ctypes.CDLL:
         loaded = ctypes.CDLL(path)
     except OSError as error:
         raise ImportError(f"the library of edfvd cannot be loaded; c/build.sh makes it: {error}") from error
-    for name, arguments in CALLS.items():
-        call = getattr(loaded, name)
-        call.argtypes, call.restype = arguments, ctypes.c_int
-    loaded.edfvd_word.argtypes, loaded.edfvd_word.restype = [ctypes.c_int], ctypes.c_char_p
+    try:
+        for name, arguments in CALLS.items():
+            call = getattr(loaded, name)
+            call.argtypes, call.restype = arguments, ctypes.c_int
+        loaded.edfvd_word.argtypes, loaded.edfvd_word.restype = [ctypes.c_int], ctypes.c_char_p
+    except AttributeError as error:
+        raise ImportError(f"{path} is not the library of this package: {error}") from error
     return loaded
 
 

@@ -3,16 +3,17 @@
 from __future__ import annotations
 
 from fractions import Fraction
-from types import TracebackType
-from typing import Callable, List, Optional, Sequence, Type
+from typing import Callable, Iterable, List, Optional
 
-from ._calls import c_tasks, fill_row, name_of, number, parts_of, verdict_of
+from ._calls import verdict_of
 from ._errors import Refused, Status
-from ._library import CLate, CMonitor, CRow, CUnfit, CVerdict, CWatch, library, u32, u64
+from ._given import MOST_32, MOST_64, given_tasks, number, parts_of, row_fields
+from ._handle import Handle
+from ._library import CLate, CMonitor, CRow, CUnfit, CVerdict, CWatch, library, u64
 from ._values import Late, Row, Task, Unfit, Verdict, Watch, Why
 
 
-class Monitor:
+class Monitor(Handle):
     """A monitor of a schedule, row by row, under the rule that :func:`judge` takes. As a context manager it closes itself.
 
     It keeps no rows, so it can watch for ever. One monitor serves one thread at a time: another one gets ``Status.BUSY``.
@@ -24,37 +25,16 @@ class Monitor:
     Unfit(why=<Why.IDLE_PENDING: 7>, place=2)
     """
 
-    def __init__(self, tasks: Sequence[Task], scale: Optional[Fraction] = None) -> None:
-        self._tasks = tuple(tasks)
-        self._numbers = {task.name: place for place, task in enumerate(self._tasks, 1)}
-        self._held = CMonitor()
-        task = u32()
-        status = library.edfvd_monitor_open(
-            self._held, c_tasks(self._tasks), len(self._tasks), *parts_of(scale), task
-        )
-        if status:
-            raise Refused(Status(status), name_of(self._tasks, task.value))
+    _struct = CMonitor
+    _free = library.edfvd_monitor_close
 
-    def __enter__(self) -> Monitor:
-        return self
-
-    def __exit__(
-        self, kind: Optional[Type[BaseException]], error: Optional[BaseException], trace: Optional[TracebackType]
-    ) -> None:
-        self.close()
-
-    def __del__(self) -> None:
-        if hasattr(self, "_held"):
-            self.close()
-
-    def close(self) -> None:
-        """Free the memory. Later calls are refused with ``Status.CLOSED``; a second close does nothing."""
-        library.edfvd_monitor_close(self._held)
+    def __init__(self, tasks: Iterable[Task], scale: Optional[Fraction] = None) -> None:
+        array, names = given_tasks(tasks)
+        self._open(names, library.edfvd_monitor_open, array, len(array), *parts_of(scale))
 
     def _found(self, call: Callable[..., int], row: Row, times: int) -> Optional[Unfit]:
-        given, unfit = CRow(), CUnfit()
-        fill_row(given, row, self._numbers)
-        status = call(self._held, given, number(times, 2**32 - 1, "times"), unfit)
+        given, unfit = CRow(*row_fields(row, self._names)), CUnfit()
+        status = call(self._held, given, number(times, MOST_32, "times"), unfit)
         if status:
             raise Refused(Status(status))
         return Unfit(Why(unfit.why), unfit.place) if unfit.why else None
@@ -90,16 +70,16 @@ class Monitor:
         ...     monitor.late(since=3)
         [Late(task='b', count=1, deadline=4)]
         """
-        count, room = u64(), 8
+        ticks, count, room = number(since, MOST_64, "since"), u64(), 8
         while True:
             jobs = (CLate * room)()
-            status = library.edfvd_monitor_late(self._held, number(since, 2**64 - 1, "since"), jobs, room, count)
+            status = library.edfvd_monitor_late(self._held, ticks, jobs, room, count)
             if status != Status.ROOM:
                 break
             room = count.value
         if status:
             raise Refused(Status(status))
-        return [Late(self._tasks[job.task - 1].name, job.count, job.deadline) for job in jobs[: count.value]]
+        return [Late(self._names.in_order[job.task - 1], job.count, job.deadline) for job in jobs[: count.value]]
 
     def verdict(self) -> Verdict:
         """The verdict on all rows so far."""
@@ -107,7 +87,7 @@ class Monitor:
         status = library.edfvd_monitor_verdict(self._held, verdict)
         if status:
             raise Refused(Status(status))
-        return verdict_of(self._tasks, verdict)
+        return verdict_of(self._names, verdict)
 
     def look(self) -> Watch:
         """The clock, the mode and how many jobs are pending."""

@@ -2,16 +2,16 @@
 
 from __future__ import annotations
 
-from types import TracebackType
-from typing import Iterator, Optional, Sequence, Type
+from typing import Iterable, Iterator, Optional
 
-from ._calls import c_tasks, job_of, name_of, number
 from ._errors import Refused, Status
-from ._library import CAnswer, CLook, CRow, CScheduler, library, u32
+from ._given import MOST_32, MOST_64, given_tasks, number
+from ._handle import Handle
+from ._library import CAnswer, CLook, CRow, CScheduler, library
 from ._values import Answer, Event, Look, Row, Task
 
 
-class Scheduler:
+class Scheduler(Handle):
     """A scheduler of a set under the rule that the published test gives it. As a context manager it closes itself.
 
     ``places`` is how many rows it can record, with held releases and the tick in progress among them; with None it is one
@@ -25,20 +25,19 @@ class Scheduler:
     <Event.DONE: 6>
     """
 
-    def __init__(self, tasks: Sequence[Task], places: Optional[int]) -> None:
-        self._tasks = tuple(tasks)
-        self._numbers = {task.name: place for place, task in enumerate(self._tasks, 1)}
-        self._held = CScheduler()
-        given, count, task = c_tasks(self._tasks), len(self._tasks), u32()
+    _struct = CScheduler
+    _free = library.edfvd_close
+
+    def __init__(self, tasks: Iterable[Task], places: Optional[int]) -> None:
+        array, names = given_tasks(tasks)
         if places is None:
-            status = library.edfvd_open_endless(self._held, given, count, task)
+            self._open(names, library.edfvd_open_endless, array, len(array))
         else:
-            status = library.edfvd_open(self._held, given, count, number(places, 2**32 - 1, "places"), task)
-        if status:
-            raise Refused(Status(status), name_of(self._tasks, task.value))
+            capacity = number(places, MOST_32, "places")
+            self._open(names, library.edfvd_open, array, len(array), capacity)
 
     @classmethod
-    def endless(cls, tasks: Sequence[Task]) -> Scheduler:
+    def endless(cls, tasks: Iterable[Task]) -> Scheduler:
         """A scheduler without an end, which keeps the latest 256 rows alone.
 
         An event makes at most one row more than there are tasks. So if you read the rows after each event, from the last one
@@ -57,50 +56,31 @@ class Scheduler:
         """
         return cls(tasks, None)
 
-    def __enter__(self) -> Scheduler:
-        return self
-
-    def __exit__(
-        self, kind: Optional[Type[BaseException]], error: Optional[BaseException], trace: Optional[TracebackType]
-    ) -> None:
-        self.close()
-
-    def __del__(self) -> None:
-        if hasattr(self, "_held"):
-            self.close()
-
-    def close(self) -> None:
-        """Free the memory. Later events are refused with ``Status.CLOSED``; a second close does nothing."""
-        library.edfvd_close(self._held)
-
-    def _number(self, task: str) -> int:
-        if task not in self._numbers:
-            raise ValueError(f"task {task} is not in the set")
-        return self._numbers[task]
-
     def _answer(self, status: int, answer: CAnswer) -> Answer:
         if status:
-            raise Refused(Status(status), name_of(self._tasks, answer.task), answer.at)
+            raise self._names.refused(status, answer.task, answer.at)
         return Answer(
-            event=Event(answer.what), task=name_of(self._tasks, answer.task), count=answer.count, before=answer.before,
+            event=Event(answer.what), task=self._names.name(answer.task), count=answer.count, before=answer.before,
             at=answer.at,
         )
 
     def release(self, task: str) -> Answer:
         """Release the task's next job: ``KEPT``, ``DROPPED``, or ``HELD`` while a tick is in progress."""
         answer = CAnswer()
-        return self._answer(library.edfvd_release(self._held, self._number(task), answer), answer)
+        return self._answer(library.edfvd_release(self._held, self._names.number(task), answer), answer)
 
     def grant(self, task: str) -> Answer:
         """Grant the next tick to the task, whose job must be the chosen one."""
         answer = CAnswer()
-        return self._answer(library.edfvd_grant(self._held, self._number(task), answer), answer)
+        return self._answer(library.edfvd_grant(self._held, self._names.number(task), answer), answer)
 
     def outcome(self, task: str, count: int, *, done: bool) -> Answer:
         """Report whether the job is done with the tick in progress: ``DONE``, ``STOP``, ``OVER`` or ``MORE``."""
-        answer = CAnswer()
-        count = number(count, 2**32 - 1, "the count")
-        return self._answer(library.edfvd_outcome(self._held, self._number(task), count, done, answer), answer)
+        if not isinstance(done, bool):
+            raise TypeError(f"done must be a bool, not {type(done).__name__}")
+        answer, number_of_job = CAnswer(), number(count, MOST_32, "the count")
+        status = library.edfvd_outcome(self._held, self._names.number(task), number_of_job, done, answer)
+        return self._answer(status, answer)
 
     def idle(self) -> Answer:
         """Report that the next tick is idle, which it may be only if no job is pending."""
@@ -121,8 +101,8 @@ class Scheduler:
             raise Refused(Status(status))
         return Look(
             ticks=look.ticks, rows=look.rows, high_mode=bool(look.high_mode),
-            out=job_of(self._tasks, look.out_task, look.out_count),
-            chosen=job_of(self._tasks, look.chosen_task, look.chosen_count),
+            out=self._names.job(look.out_task, look.out_count),
+            chosen=self._names.job(look.chosen_task, look.chosen_count),
         )
 
     def rows(self, since: int = 0) -> Iterator[Row]:
@@ -135,9 +115,12 @@ class Scheduler:
         ...     list(scheduler.rows(since=1))
         [Row(event=<Event.KEPT: 1>, task='a', count=1)]
         """
+        return self._rows(number(since, MOST_64, "since"), self.look().rows)
+
+    def _rows(self, since: int, end: int) -> Iterator[Row]:
         row = CRow()
-        for place in range(number(since, 2**64 - 1, "since"), self.look().rows):
+        for place in range(since, end):
             status = library.edfvd_row_at(self._held, place, row)
             if status:
                 raise Refused(Status(status))
-            yield Row(Event(row.event), name_of(self._tasks, row.task), row.count)
+            yield Row(Event(row.event), self._names.name(row.task), row.count)

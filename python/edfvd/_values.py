@@ -43,7 +43,11 @@ class Why(enum.IntEnum):
 
 @dataclass(frozen=True)
 class Task:
-    """A task: its level, ``"low"`` or ``"high"``, its period and its budgets in ticks. A low task has one budget, ``low``."""
+    """A task: its level, ``"low"`` or ``"high"``, its period and its budgets in ticks.
+
+    A high task needs both budgets. A low task has one, ``low``; if ``high`` is given too, it must be equal. The name has the
+    form that files allow: 1 to 32 ASCII letters, digits, ``_`` or ``-``. Fields are checked by the calls that take the task.
+    """
 
     name: str
     level: str

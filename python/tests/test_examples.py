@@ -6,14 +6,14 @@ import unittest
 from pathlib import Path
 
 import edfvd
-from edfvd import _calls, _errors, _monitor, _scheduler
+from edfvd import _calls, _commands, _errors, _monitor, _scheduler
 
 PAGE = Path(__file__).resolve().parents[2] / "docs" / "C-AND-PYTHON.md"
 
 
 def load_tests(loader: unittest.TestLoader, tests: unittest.TestSuite, pattern: object) -> unittest.TestSuite:
     """Adds a test for each docstring with an example, and one for the page."""
-    for module in (edfvd, _calls, _errors, _monitor, _scheduler):
+    for module in (edfvd, _calls, _commands, _errors, _monitor, _scheduler):
         tests.addTests(doctest.DocTestSuite(module))
     if PAGE.exists():
         text = re.sub(r"^```.*$", "", PAGE.read_text(), flags=re.M)

@@ -1,0 +1,59 @@
+"""The library with its lengths measured: a call that says more elements than its memory has is caught before it is made.
+
+Nothing else sees such a call: the proved code takes the caller's length for true, and reads or writes past the memory.
+"""
+
+import contextlib
+import ctypes
+from typing import Any, Callable, Dict, Iterator, List, Tuple
+
+from edfvd import _library
+
+# Which parameters are memory, and which one says how many elements it has. An array of 11 counts comes without a number.
+LENGTHS: Dict[str, List[Tuple[int, int]]] = {
+    "edfvd_check": [(0, 1)],
+    "edfvd_stretch": [(0, 1)],
+    "edfvd_partition": [(0, 1), (3, 1)],
+    "edfvd_demand": [(0, 1)],
+    "edfvd_judge": [(0, 1), (2, 3)],
+    "edfvd_ask": [(1, 0), (2, 3), (4, 5), (6, 7)],
+    "edfvd_open": [(1, 2)],
+    "edfvd_open_endless": [(1, 2)],
+    "edfvd_monitor_open": [(1, 2)],
+    "edfvd_monitor_late": [(2, 3)],
+}
+
+
+def elements(memory: Any, kind: Any) -> int:
+    """How many elements of the parameter's type the memory has."""
+    if isinstance(memory, bytes):
+        return len(memory)
+    element = 1 if kind is ctypes.c_char_p else ctypes.sizeof(kind._type_)
+    return ctypes.sizeof(memory) // element
+
+
+def _watched(name: str, call: Callable[..., int]) -> Callable[..., int]:
+    """The call, which asserts that its lengths are true."""
+    kinds = _library.CALLS[name]
+
+    def watched(*given: Any) -> int:
+        for memory, length in LENGTHS[name]:
+            there = elements(given[memory], kinds[memory])
+            if given[length] > there:
+                raise AssertionError(f"{name}: parameter {memory} has {there} elements, and {given[length]} are said")
+        return call(*given)
+
+    return watched
+
+
+@contextlib.contextmanager
+def measured() -> Iterator[None]:
+    """Each call of the library is watched while this lasts."""
+    calls = {name: getattr(_library.library, name) for name in LENGTHS}
+    for name, call in calls.items():
+        setattr(_library.library, name, _watched(name, call))
+    try:
+        yield
+    finally:
+        for name, call in calls.items():
+            setattr(_library.library, name, call)

@@ -1,0 +1,100 @@
+"""The package's declarations beside those of ``edfvd.h``, and what is said of a file that is no library of edfvd."""
+
+import ctypes
+import os
+import re
+import subprocess
+import sys
+import tempfile
+import unittest
+from pathlib import Path
+
+from edfvd import Event, Status, Why, _library
+
+HEADER = Path(__file__).resolve().parents[2] / "c" / "edfvd.h"
+
+
+@unittest.skipUnless(HEADER.exists(), "edfvd.h is not beside the package")
+class Declarations(unittest.TestCase):
+    def setUp(self) -> None:
+        self.header = re.sub(r"/\*.*?\*/", "", HEADER.read_text(), flags=re.S)
+
+    def test_structs(self) -> None:
+        kinds = {"uint32_t": ctypes.c_uint32, "uint64_t": ctypes.c_uint64}
+        compared = set()
+        for body, name in re.findall(r"typedef struct \w+ \{(.*?)\n\} (\w+);", self.header, re.S):
+            if name in _library.STRUCTS:
+                fields = [
+                    (field.strip(), kinds[kind]) for kind, names in re.findall(r"(\w+_t) ([\w, ]+);", body)
+                    for field in names.split(",")
+                ]
+                self.assertEqual(fields, _library.STRUCTS[name]._fields_, name)
+                compared.add(name)
+        self.assertEqual(compared, set(_library.STRUCTS))
+
+    def test_handles(self) -> None:
+        """A scheduler and a monitor are a mark, a pointer, where they are, and whether a call is in them."""
+        for name in ("scheduler", "monitor"):
+            body = re.search(rf"typedef struct edfvd_{name} \{{(.*?)\n\}} edfvd_{name};", self.header, re.S)
+            assert body is not None
+            fields = re.findall(r"(\w+_t|void \*|const void \*)\s*(\w+);", body[1])
+            self.assertEqual(
+                fields, [("uint64_t", "mark"), ("void *", "at"), ("const void *", "self"), ("uint32_t", "busy")], name
+            )
+        for struct in (_library.CScheduler, _library.CMonitor):
+            self.assertEqual([name for name, *_ in struct._fields_], ["held", "self", "busy"])
+            self.assertEqual((struct.busy.offset, struct.busy.size, ctypes.sizeof(struct)), (24, 4, 32))
+
+    def test_calls(self) -> None:
+        kinds = {
+            "size_t": "c_ulong", "uint32_t": "c_uint", "uint64_t": "c_ulong", "bool": "c_bool", "void *": "c_char_p",
+            "char *const *": "LP_c_char_p", "uint32_t *": "LP_c_uint", "uint64_t *": "LP_c_ulong", "size_t *": "LP_c_ulong",
+        }
+        kinds.update({f"{name} *": f"LP_{struct.__name__}" for name, struct in _library.STRUCTS.items()})
+        kinds.update({"edfvd_scheduler *": "LP_CScheduler", "edfvd_monitor *": "LP_CMonitor"})
+        calls = dict(re.findall(r"^edfvd_status (edfvd_\w+)\((.*?)\);", self.header, re.S | re.M))
+        self.assertEqual(set(calls), set(_library.CALLS))
+        for name, parameters in calls.items():
+            declared = []
+            for parameter in re.sub(r"(\w+)\[\d+\]", r"*\1", parameters).split(","):
+                kind = re.sub(r"\w+$", "", " ".join(parameter.split())).replace("const ", "", 1).strip()
+                declared.append(kinds[kind])
+            self.assertEqual(declared, [kind.__name__ for kind in _library.CALLS[name]], name)
+
+    def test_numbers(self) -> None:
+        numbers = {name: int(number) for name, number in re.findall(r"\bEDFVD_(\w+) = (\d+)", self.header)}
+        for kind, prefix in ((Status, ""), (Event, ""), (Why, "WHY_")):
+            for member in kind:
+                self.assertEqual(numbers[prefix + member.name], member.value)
+        self.assertEqual(len(numbers), len(Status) + len(Event) + len(Why) + 2)  # and EDFVD_OK, EDFVD_FITS
+
+
+class OtherLibraries(unittest.TestCase):
+    def imported(self, library: str) -> str:
+        """The last line on standard error of a process that imports the package with this library."""
+        done = subprocess.run(
+            [sys.executable, "-c", "import edfvd"], env={**os.environ, "EDFVD_LIBRARY": library}, capture_output=True,
+            text=True, check=False, timeout=60,
+        )
+        self.assertEqual(done.returncode, 0 if library == _library.library._name else 1)
+        return done.stderr.strip().split("\n")[-1]
+
+    def test_named_by_the_environment(self) -> None:
+        self.assertEqual(self.imported(_library.library._name), "")
+
+    def test_no_library(self) -> None:
+        with tempfile.TemporaryDirectory() as folder:
+            text = Path(folder, "libedfvd.so")
+            text.write_text("no library")
+            for path in (folder, str(text), f"{folder}/absent.so"):
+                line = self.imported(path)
+                self.assertTrue(line.startswith("ImportError: the library of edfvd cannot be loaded"), line)
+
+    def test_a_library_of_something_else(self) -> None:
+        line = self.imported("libc.so.6")
+        self.assertTrue(line.startswith("ImportError: libc.so.6 is not the library of this package: "), line)
+        self.assertTrue(line.endswith("undefined symbol: edfvd_check"), line)
+
+
+if __name__ == "__main__":
+    unittest.main()
