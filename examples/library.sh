@@ -1,9 +1,9 @@
 #!/bin/sh
 # Builds the C libraries of the proved code and tries them: the build script, the declarations beside the exports, the examples and
 # tests in C with warnings as errors, under the compiler's sanitizers and under memcheck, each allocation failing in turn, random calls
-# beside the definitions, the file for pkg-config, the commands of README.md, the Python package with its types, its tests and its
-# examples, and at least 2,000 replies beside the program's. What a missing tool makes impossible is left out, with a line that says
-# so.
+# beside the definitions, the file for pkg-config, the commands of the pages, the Python package with its types, its tests, its examples
+# and random calls, and at least 2,000 replies beside the program's. What a missing tool makes impossible is left out, with a line that
+# says so.
 # The first run after the gate proves edfvd_c and edfvd_ask_c for the libraries, which takes some minutes; all else takes less than
 # three on two processors.
 # usage: library.sh
@@ -132,16 +132,57 @@ accepted() {
     [ -z "$picture" ] || passes 'the picture of acceptance.py' grep '</svg>' "$picture"
 }
 
-# readme: the commands of README.md for C and Python, with a folder of its own for the package
-readme() {
-    sed -n '/^c\/build\.sh/,/^```$/{ /^```$/!p; }' "$c/../README.md" >"$work/readme.sh"
+# commands PAGE FIRST: the commands of a page from the line that begins with FIRST to the end of its block
+commands() {
+    awk -v first="$2" 'index($0, first) == 1 { shown = 1 } /^```/ { shown = 0 } shown' "$c/../$1"
+}
+
+# shown WHAT TEXT..: runs the commands of a page in $work/shown.sh from the repository's folder, which must print these texts. They
+# begin with the user's own environment, in which pip installs only into a virtual environment, as it is on Debian.
+shown() {
+    whose=$1
+    shift
     # shellcheck disable=SC2016
-    passes 'the commands of README.md' env PIP_TARGET="$work/site" PIP_NO_INDEX=1 PYTHONPATH="$work/site" \
-        sh -ec 'cd "$1"; . "$2"' sh "$c/.." "$work/readme.sh"
-    cp "$work/out" "$work/readme.txt"
-    for scale in 'x 2/5' 'Fraction(2, 5)'; do
-        passes "$scale from the commands of README.md" grep -F "$scale" "$work/readme.txt"
-    done
+    passes "$whose" env -u PYTHONPATH HOME="$work/home" PIP_REQUIRE_VIRTUALENV=1 PIP_NO_INDEX=1 PIP_DISABLE_PIP_VERSION_CHECK=1 \
+        sh -ec 'cd "$1"; . "$2"' sh "$c/.." "$work/shown.sh"
+    cp "$work/out" "$work/shown.txt"
+    for text; do passes "$text from $whose" grep -F "$text" "$work/shown.txt"; done
+}
+
+# pages: the commands that the pages show for C and Python
+pages() {
+    mkdir "$work/home"
+    commands README.md c/build.sh >"$work/shown.sh"
+    shown 'the commands of README.md' 'x 2/5' 'Fraction(2, 5)'
+    {
+        commands docs/C-AND-PYTHON.md 'export PYTHONPATH'
+        if python3 -c 'import venv, ensurepip' 2>/dev/null; then
+            commands docs/C-AND-PYTHON.md 'python3 -m venv'
+        else
+            echo 'library: installing the package is left out: python3 has no venv' >&2
+            echo 'echo 50'
+        fi
+    } >"$work/shown.sh"
+    shown 'the commands of C-AND-PYTHON.md for Python' 2/5 50
+}
+
+# fuzzed: random calls of the package, with the library as it is and with the guards under the address sanitizer, say the same
+fuzzed() {
+    passes 'python_fuzz.py' python3 -B python_fuzz.py 3000 1
+    cp "$work/out" "$work/fuzz"
+    cat "$work/fuzz"
+    asan=$("$CC" -print-file-name=libasan.so)
+    if [ -z "$sane" ] || [ "$asan" = libasan.so ]; then
+        echo "library: python_fuzz.py under the sanitizers is left out: $CC has no libasan.so"
+        return
+    fi
+    # shellcheck disable=SC2086
+    passes 'the shared library with sanitizers' "$CC" -shared $sane -Wl,--whole-archive "$work/sane/libedfvd.a" \
+        -Wl,--no-whole-archive -o "$work/sane/libedfvd.so"
+    passes 'python_fuzz.py under the sanitizers' env LD_PRELOAD="$asan" ASAN_OPTIONS=detect_leaks=0 PYTHONMALLOC=malloc \
+        EDFVD_LIBRARY="$work/sane/libedfvd.so" python3 -B python_fuzz.py 3000 1
+    cp "$work/out" "$work/sane/fuzz"
+    passes 'the two outputs of python_fuzz.py' cmp "$work/fuzz" "$work/sane/fuzz"
 }
 
 if has "$CC" 'the libraries are' && has rt 'the libraries are' && has objcopy 'the libraries are'; then
@@ -195,11 +236,16 @@ END
         passes 'the replies beside the program' python3 "$python/tests/against_program.py" "$program" 2000
         tail -n 1 "$work/out"
         accepted
+        if python3 -c 'import tomllib' 2>/dev/null; then
+            fuzzed
+        else
+            echo 'library: python_fuzz.py is left out, there is no python3 of version 3.11 or later'
+        fi
         if has mypy 'the check of types is'; then
             passes 'mypy' env MYPYPATH="$python" mypy --config-file "$python/pyproject.toml" --cache-dir="$work/mypy" \
                 "$python/edfvd" "$python/tests" "$python/examples" "$python/backend.py" "$c/declared.py"
         fi
-        if has pip 'the commands of README.md are'; then readme; fi
+        pages
     fi
 fi
 ends library
