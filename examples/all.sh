@@ -31,6 +31,7 @@ wrapper.sh
 installing.sh
 limits.sh
 suite.sh
+shown.sh
 records.sh
 licences.sh
 calm.sh
