@@ -1,6 +1,16 @@
 #!/bin/sh
 # Runs the program on the examples and on files at the limits, and the page for callers beside the code that it quotes,
-# and compares each status and text with what is written here or beside the example.
+# and compares each status and text with what is written here or beside the example. In it are
+# - the verdict vectors in both versions, each error at the top level of a file, and which of two errors comes first;
+# - traces of a hundred million ticks and of two million records, half a million pending jobs at a time, demand files with each error, of
+#   128 tasks at the greatest length and with a counterexample of 500,000 ticks; an absent file and a folder;
+# - traces of recordings of real threads and the run that they should follow; sets with a scale that holds or does not, under each command,
+#   and a certified one kept while its set grows;
+# - 1 to 16 processors, with empty ones, of 128 tasks, out of range together; `runall` beside `run` of each processor's tasks; stretches
+#   at 0, 99, 1000 and with capped budgets; tables of random sets, split and on one processor; a hundred live runs, each text judged;
+# - 134,217,728 commas as a trace and 16,777,216 as a work or demand file, with and without a good header, quotes and line feeds between
+#   them, refused with their message in 200 and in 64 MiB; a task file of 16 MiB that describes a set, answered in 32 MiB, one of 32,000
+#   tables, refused in 64 MiB, and one of 8,160,000, which gets status 9 there.
 # usage: check.sh
 . "$(dirname -- "$0")/usage.sh"
 takes 0 0 "$@"

@@ -4,7 +4,8 @@ A case is a command, its files and its words. There are sets whose loads are abo
 limits; random work; legal traces of a few ticks or up to a hundred million, with random choices; such traces cut short or
 with a spoilt row, and traces by scales that do not hold; generated workloads; sets for several processors; sets with a scale
 of their own, which holds or does not; and files that are refused. A trace is of either version. Mostly it is given a second
-time as another text, for which the answer must be the same.
+time as another text: in the other version, in the fewest runs, or in runs cut at random. The answer must be the same. The model
+judges a whole run at once, and its verdict is compared with the one that it finds row by row.
 
 The status and the whole text must be the model's, standard error must be empty, and no job may be late under a rule that
 holds. `live` may write many texts, and the model says whether the text is one of them. The script counts what came up in the
@@ -13,6 +14,51 @@ shows less than it says. It keeps the files of cases that differ, and prints the
 
 usage: compare.py PROGRAM [CASES [SEED]]
 """
+
+# Can the comparison find a fault? By hand, the model was made wrong in one way at a time, and compared with the right model on the default
+# cases, up to the first one that differs. Each of 120 ways was found; these are some, each with that case:
+# - virtual deadlines rounded up to whole ticks, or down: 364, 62
+# - virtual keys kept after a switch: 47
+# - a switch one tick late; low jobs kept after it; low releases kept in high mode; the mode kept high after an idle tick: 19
+# - `<` for `<=` in the test of EDF; the test in floating point: 10, 8
+# - periods up to 2^61: 242
+# - ties of keys to the highest number: 26
+# - `<` for `<=` at the last deadline that counts: 65
+# - a low job that is discarded in the tick of its deadline: 1066
+# - the job's number checked before the separation: 158
+# - a response one tick less: 82
+# - a run judged by its first row only; a budget checked only at a run's last tick: 66
+# - row numbers counted in runs: 52
+# - a run that counts as one tick of its job: 19
+# - low mode that returns at the end of an idle run: 71
+# - idle neighbours not written as one: 19
+# - exactly 100,000,000 ticks refused: 144
+# - a length of 0 accepted; `done` with a length above 1 accepted: 387, 1493
+# - the length checked before the tick: 489
+# - a demand without the jobs due at the end of the length; with one job of each task less; with one more: 3816, 3816, 3803
+# - a length that is asked for in full taken as too short: 3809
+# - demand checked from length 2 on; up to one length before the last: 3816, 3822
+# - a counterexample whose ties go to the highest number; whose later releases come a tick late: 3816, 3822
+# - best fit, next fit, the last that fits; parts by EDF alone; parts out of range accepted: 4024, 4007, 4001; 4002; 4010
+# - the whole set checked for the range, or by the test: 4022, 4002
+# - the task that is named is the first that fits on no processor alone; the one before: 4041, 4002
+# - a part's work under the numbers of the whole set; with the rows of another; in another order: 4008
+# - traces under the rule of the first processor; under plain EDF; processors the other way round: 4008
+# - the work file read before first fit is tried: 4111
+# - a stretch rounded up; without the greatest number, or without the low budget as a bound; low tasks stretched, too: 4014; 4036, 4017;
+#   4014
+# - stretches up to 999 or 1001; from 1; one less; by EDF alone: 4015; 4098; 4014; 4014
+# - `>` for "at least" in the table; the first or the last set left out; from NUMBER + 1; one set twice: 4040; 4020; 4040; 4020
+# - a set's scale ignored; tried after the published test, or after plain EDF: 4418
+# - a scale that does not hold used; the set refused for it: 4403; 4406
+# - `<` for `<=` in the low mode of a scale, or in the high mode; one of the two not checked: 4405, 4485; 4403, 4414
+# - a scale upside down; kept as it stands in the file: 4405; 4414
+# - no line of a scale that does not hold; one of each scale; none with plain EDF: 4414; 4405; 4426
+# - a scale of version 1 accepted; three numbers accepted; 4,294,967,296, a 0, or a scale above 1 accepted; 1/1 refused: 4421; 4576;
+#   4454, 4411, 4493; 4402
+# - the version checked before the keys; the tasks before the scale; its range before its kind: 4404; 4625; 4466
+# - one of `run`, `judge` and the commands that draw by the published test alone; `judge` with `P Q` or `runall` by the set's scale:
+#   4492, 4462, 4559; 4413, 4450
 
 import collections
 import json

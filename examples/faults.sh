@@ -3,6 +3,17 @@
 # refuses each open, each read, each write and each start of a thread of a few runs in turn, and has a signal interrupt each open,
 # read and write. Each run ends, with its own status, and what was written is a front of the text. No run may take longer than a
 # minute.
+# - Real faults. Outputs: a full device, a closed output, a pipe without a reader (status 8 and no death by a signal), a pipe whose reader
+#   leaves after 100 bytes (8, and the reader has these), a slow reader (everything). Files: a folder, one that may not be read (skipped
+#   as root), an endless and an empty device, one that is cut while it is read (the answer to the bytes that were read), and named pipes,
+#   with the bytes in one piece, in two, with no byte and without an end. For a named pipe that nobody opens, the program waits.
+# - Refused calls (refusals.c): an open or a read that fails gives 7 and the line of its file; a write that fails or takes nothing gives
+#   8. A write takes 8 bytes at most, in some runs 1 or 1000. Calls on /sys go through, where `accept` counts the processors. The script
+#   prints how many calls of each run were refused.
+# - Interruptions: each open, read and write three times before it goes through; status, text and the calls that go through stay the
+#   same, and a call that fails after two still fails. The library sends no signal. What comes after 2^64 - 1 of them is proved.
+# - Threads: in five calls each start fails in turn, and then all of them; status and output stay the same. So of a live run of eight
+#   tasks over 20,000 ticks, each of whose texts is judged.
 # usage: faults.sh
 . "$(dirname -- "$0")/usage.sh"
 takes 0 0 "$@"

@@ -1,6 +1,8 @@
 #!/bin/sh
-# Refuses each growth of memory of a run of each command in turn: each run then ends with status 9 and writes nothing,
-# or does without that growth and ends as ever.
+# Refuses each growth of memory of a run of each command in turn, by a library that stands before the C library's malloc and realloc
+# (refusals.c): each run then ends within a minute with status 9 and writes nothing, or does without that growth and ends as ever.
+# It prints the number of growths of each run, and how many of them give status 9 when they fail. Most do. Two kinds do not: the list
+# of the words at its exact size, which then grows word by word, and the start of a thread, whose caller then serves its task.
 # usage: growths.sh
 . "$(dirname -- "$0")/usage.sh"
 takes 0 0 "$@"

@@ -1,8 +1,12 @@
 #!/bin/sh
 # Runs the built program under faults that stay, or come again and again: all growths of memory from the k-th on refused, and each
 # one with a chance of one in n by a seed; each open, each read, each write, or all of them failing from the k-th on; the mmaps
-# and the clones of the whole process refused by the system from then on; short reads, a disk that is full after some bytes. Each
-# run gives the whole answer, or a status of its own for what was refused, with nothing written or a front of the text.
+# and the clones of the whole process refused by the system from then on (by a filter, seccomp); reads of 1, 7 or 4096 bytes, a disk
+# that is full after some bytes. n is 2, 5, 20 and 100. Each k up to 8 is tried, then each about an eighth greater, and the last one.
+# A run of each command, with good and with wrong files, gives
+# - under faults of memory the whole answer, or status 9 and nothing written; if clones are refused, the whole answer;
+# - if opens or reads fail, the whole answer, or status 7 and the line of its file; if writes fail, status 8 and a front of the text;
+# - if all of them fail, status 8 and a front of the text, which is empty if a read failed.
 # usage: lasting.sh [SEEDS]
 . "$(dirname -- "$0")/usage.sh"
 takes 0 1 "$@"

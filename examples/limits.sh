@@ -1,7 +1,10 @@
 #!/bin/sh
 # Runs the built program under limits of the system, each in steps: of the address space, of the stack, of the size of a file and of
 # the number of threads. Each run gives the whole answer, or has status 9 and writes nothing, or is ended by the system in a way that
-# docs/COMMANDS.md names: it is not loaded, has too small a stack, or has written as much as a file may have.
+# docs/COMMANDS.md names: it is not loaded, has too small a stack, or has written as much as a file may have. There are 14 sizes of
+# address space from 1 MiB to 64 MiB, 8 of stack from 16 KiB to 8 MiB, and the size of a file that `chart` writes. Commands with threads
+# also run where the user may have 1 to 16 threads in all: the answer is whole, since the caller does the work of a thread that cannot
+# start. Root has no such limit, so root runs them as another user, who has no process.
 # usage: limits.sh
 . "$(dirname -- "$0")/usage.sh"
 takes 0 0 "$@"

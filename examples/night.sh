@@ -3,6 +3,9 @@
 # what explain.py says. The seed is that of the day where none is given, and is printed first; the same seed makes the same
 # cases. A case that fails is made smaller and written to a file, with the call that repeats it; put into found/, it is tried by
 # every run. FOLDER=NAME has these files elsewhere than in a new folder below /tmp, which is there afterwards only if it has some.
+# A round has forty cases. A third of the documents may have forms of TOML 1.1 and a byte order mark. Half of them get one more statement
+# that is wrong in TOML (of 214 kinds), and must be `not TOML`. Python's tomllib reads each document of 1.0 too and must find the same tree;
+# a quarter of these are then damaged byte by byte, and tomllib decides where 1.0 and 1.1 agree on the reading.
 # usage: night.sh MINUTES [SEED]
 . "$(dirname -- "$0")/usage.sh"
 takes 1 2 "$@"

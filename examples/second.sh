@@ -1,7 +1,8 @@
 #!/bin/sh
 # Compares the built program with a second one, bench/plain.rs in plain Rust, on large traces: of 128 tasks over 100,000 ticks with
-# overruns, of a million records, of 100,000,000 ticks, in both versions, and 20 spoilt ones by a fixed seed or as many as are asked
-# for: status and whole text of `judge`, `report` and `migrate`.
+# overruns, stops and drops, of 128 tasks that have the ticks in turn, of a million records of 8 tasks, of idle runs at the limit of
+# 100,000,000 ticks, in both versions, and 20 spoilt ones by a fixed seed or as many as are asked for: status and whole text of `judge`,
+# `report` and `migrate`. `run` writes the first of these traces, so that a wrong one is found: the second program finds it illegal.
 # usage: second.sh [CASES [SEED]]
 . "$(dirname -- "$0")/usage.sh"
 takes_numbers "$@"

@@ -2,6 +2,14 @@
 # Tries the scripts of study/: a study is cut, worked out and added up, a job is killed in the middle of a part, what is left is
 # resumed, and the sum is what one call for all sets writes, byte for byte; a lost part and a doubled one are noticed. By study.py
 # alone, and by GNU parallel where it is there. With the word slurm by Slurm, too, on this machine alone, which only root can.
+# - The study is the sets of 8 tasks from 1 to 10,000 in ten parts. One part is made to wait, and its job is killed with SIGKILL. Then the
+#   sum is refused with the missing numbers, no part is half written, and the same call again computes exactly what is left.
+# - By study.py in two shares: also a part that is there twice, one of another number of tasks, a table cut short, a part that is gone, a
+#   program that fails and none at all: each is refused and named.
+# - By slurm.sh with a stand-in for sbatch: with nothing left it submits nothing, and a sum that fails leaves the folder as it was.
+# - With real Slurm engine.sh starts munged, slurmctld and slurmd in a folder and with a key of their own. In an array of three jobs
+#   `scancel --signal=KILL` kills the one that waits: the job that adds up is FAILED, and after the same call again COMPLETED. So tried on
+#   Debian 12 with GNU parallel 20221122, Slurm 22.05.8 and gnuplot 5.4.4, with a look at the picture of tables of 4 to 32 tasks.
 # usage: studies.sh [slurm]
 . "$(dirname -- "$0")/usage.sh"
 takes 0 1 "$@"

@@ -2,6 +2,9 @@
 # Gives the built program each document of the TOML test suite: a valid one is never `not TOML`, an invalid one is, except the forms
 # of TOML 1.1 that the suite, which is one of 1.0, has among the invalid ones. Where there is a python3 with tomllib, the answer to a
 # valid one is the model's to what tomllib reads. The suite is looked for where Debian's golang-github-burntsushi-toml-dev has it.
+# Of version 1.2.0 none of the 100 valid ones is `not TOML`, and for all but one, with the escape `\e`, tomllib reads the tree. Of the 234
+# invalid ones 227 are `not TOML`. The other seven are forms of TOML 1.1, which the toolchain's crate `toml` reads: datetime/no-secs,
+# inline-table/linebreak-1 to -4, inline-table/trailing-comma and string/basic-byte-escapes.
 # usage: suite.sh [FOLDER]
 . "$(dirname -- "$0")/usage.sh"
 takes 0 1 "$@"
