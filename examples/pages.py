@@ -2,14 +2,16 @@
 
 - MISTAKES.md names each message of crates/replies/specs.
 - FORMATS.md shows the files that it names as they are.
-- EVIDENCE.md names each clause and definition by its line, and has the totals of definitions.py.
+- PROMISES.md names clauses that the calls of the named files have.
+- DEFINITIONS.md names definitions by their lines, has the totals of definitions.py, and leads to each definition that the
+  headline reaches, before its part on all others; those have a comment in the file that it names.
 - README.md has the total of the headline.
-- DEFINITIONS.md leads to each definition that the headline reaches, before its part on all others.
+- The links of all pages lead to a file, and to a heading of it where they name one.
 - overrun.svg is what svg.py draws of the overrun.
 - CITATION.cff has the newest version of CHANGELOG.md.
 
 usage: pages.py [mend]
-       with the word, writes the right line numbers and totals into EVIDENCE.md and README.md, and draws overrun.svg again
+       with the word, writes the right line numbers and totals into DEFINITIONS.md and README.md, and draws overrun.svg again
 """
 
 import pathlib
@@ -50,7 +52,7 @@ def samples_that_differ():
         encoding='utf-8') != text] + ([] if samples else ['FORMATS.md shows no files'])
 
 
-# A link of EVIDENCE.md to a clause, as `call: clause`, or to a definition, by its line.
+# A link of DEFINITIONS.md to a clause, as `call: clause`, or to a definition, by its line.
 LINK = re.compile(r'\[`(\w+)(?:: (\w+))?`\]\(\.\./(crates/[^#)]+)#L(\d+)\)')
 TOTALS = re.compile(r'(examples/definitions\.py` follows.*?```\n)(.*?)(\n```)', re.DOTALL)
 
@@ -72,7 +74,7 @@ def line_of(name, clause, path):
 
 
 # The page with the lines and totals that are right.
-def evidence_mended(page):
+def lines_mended(page):
     def link(match):
         name, clause, path, _ = match.groups()
         return re.sub(r'#L\d+', f'#L{line_of(name, clause, path)}', match[0])
@@ -81,12 +83,100 @@ def evidence_mended(page):
     return TOTALS.sub(lambda match: match[1] + '\n'.join(told) + match[3], LINK.sub(link, page))
 
 
-def evidence_faults():
-    page = (ROOT / 'docs/EVIDENCE.md').read_text(encoding='utf-8')
-    pairs = zip(page.split('\n'), evidence_mended(page).split('\n'))
-    faults = [f'EVIDENCE.md has {old!r}, and it should be {new!r}' for old, new in pairs if old != new]
+def line_faults():
+    page = (ROOT / 'docs/DEFINITIONS.md').read_text(encoding='utf-8')
+    if not LINK.search(page) or not TOTALS.search(page):
+        return ['DEFINITIONS.md has no links to lines, or no totals']
+    pairs = zip(page.split('\n'), lines_mended(page).split('\n'))
+    faults = [f'DEFINITIONS.md has {old!r}, and it should be {new!r}' for old, new in pairs if old != new]
     lost = [match[0] for match in LINK.finditer(page) if line_of(*match.groups()[:3]) is None]
-    return faults + [f'EVIDENCE.md: {link} is not there' for link in lost]
+    return faults + [f'DEFINITIONS.md: {link} is not there' for link in lost]
+
+
+# The columns of a claim in PROMISES.md: what is claimed, its clauses, and the files of the calls.
+CLAIM = re.compile(r'^\| (.+) \| (.+) \| (.+) \|$', re.MULTILINE)
+COMMANDS = 'the crates of the commands'
+
+
+# The sources that the last column of a claim names. A name without a folder is of the folder before it.
+def sources(column):
+    folder, found = ROOT, []
+    for name in re.split('[;,] ', column):
+        if name == COMMANDS:
+            found += (ROOT / 'crates').glob('*_answers/src/**/*.rt')
+            continue
+        place = (ROOT / 'crates' / name) if '/' in name else folder / name
+        folder = place.parent
+        found += place.rglob('*.rt') if place.is_dir() else [place]
+    return found
+
+
+# The clauses of each function of some sources, by the function's name.
+def clauses_of(paths):
+    found, function = {}, None
+    for line in (line for path in paths for line in path.read_text(encoding='utf-8').split('\n')):
+        head = re.match(r'\s*(?:pub(?:\(crate\))? )?fn (\w+)', line)
+        function = head[1] if head else function
+        labels = found.setdefault(function, set())
+        labels.update(re.findall(r'^\s*ensures (\w+) \{', line))
+    return found
+
+
+# What the clauses of a claim name and its files do not have.
+def lost_clauses(named, paths):
+    functions, text = clauses_of(paths), '\n'.join(path.read_text(encoding='utf-8') for path in paths)
+    labels = set().union(*functions.values())
+    for words in re.findall('`([^`]+)`', re.sub(r'\([^)]*\)', '', named)):
+        call, _, rest = words.partition(': ')
+        name = call.split('::')[-1]
+        is_type = re.search(rf'^\s*(?:pub )?(?:struct|enum|trait|impl)\b.*\b{name}\b', text, re.MULTILINE)
+        if name not in functions and not is_type and (rest or name not in labels):
+            yield call
+        yield from (f'{call}: {label}' for label in rest.split(', ') if rest and label not in functions.get(name, set()))
+
+
+def promise_faults():
+    page = (ROOT / 'docs/PROMISES.md').read_text(encoding='utf-8')
+    files, count = '', 0
+    for _, named, column in CLAIM.findall(page):
+        if named == 'clause' or '`' not in named:
+            continue
+        files, count = (files if column == '"' else column), count + 1
+        absent = [path for path in sources(files) if not path.is_file()]
+        if absent or not files:
+            yield f'PROMISES.md: {named} is of {files}, which is no source'
+            continue
+        yield from (f'PROMISES.md: {lost} is not in {files}' for lost in lost_clauses(named, sources(files)))
+    if count == 0:
+        yield 'PROMISES.md has no claims'
+
+
+# ---- Links ----
+
+PAGES = ['*.md', 'docs/*.md', 'crates/*/README.md', 'bench/*.md', 'examples/**/README.md', 'tools/**/README.md', 'checks/README.md']
+
+
+# A page without the blocks that are set as they stand.
+def without_blocks(text):
+    return re.sub(r'^```.*?^```', '', text, flags=re.DOTALL | re.MULTILINE)
+
+
+# The anchors of a page: its headings in small letters, with a hyphen for each blank, and without other signs.
+def anchors(page):
+    text = without_blocks(page.read_text(encoding='utf-8'))
+    heads = re.findall('^#+ (.*)$', text, re.MULTILINE)
+    return {re.sub(r'[^\w -]', '', head.lower()).replace(' ', '-') for head in heads}
+
+
+def link_faults():
+    for page in (page for pattern in PAGES for page in sorted(ROOT.glob(pattern))):
+        text = without_blocks(page.read_text(encoding='utf-8'))
+        for target in re.findall(r'\]\(([^)\s]+)\)', text):
+            name, _, anchor = target.partition('#')
+            place = page.parent / name if name else page
+            is_lost = anchor and place.suffix == '.md' and anchor not in anchors(place) if place.exists() else True
+            if '://' not in target and is_lost:
+                yield f'{page.relative_to(ROOT)}: {target} leads nowhere'
 
 
 HEADLINE = re.compile(r'[\d,]+ lines of definitions and [\d,]+ of types')
@@ -107,10 +197,29 @@ def readme_faults():
 
 # The definitions that the headline reaches and the parts in reading order do not name.
 def definitions_faults():
-    page = (ROOT / 'docs/DEFINITIONS.md').read_text(encoding='utf-8').split('## 4.')[0]
+    page = without_blocks((ROOT / 'docs/DEFINITIONS.md').read_text(encoding='utf-8').split('## 4.')[0])
     named = set(re.findall(r'`([^`]+)`', page))
     return [f'DEFINITIONS.md does not lead to {name} of {path.relative_to(definitions.CRATES)}'
             for path, name in definitions.read(['headline']).reached if name not in named]
+
+
+# The rows of the table of all other definitions: a crate, and the names by the file.
+OTHERS = re.compile(r'^\|[^|]*\| (\w+) \| (.+) \|$', re.MULTILINE)
+
+
+# The definitions of that table which their files do not have, or have without a comment above.
+def others_faults():
+    rows = OTHERS.findall((ROOT / 'docs/DEFINITIONS.md').read_text(encoding='utf-8').split('## 4.')[1])
+    if len(rows) < 2:
+        yield 'DEFINITIONS.md has no table of other definitions'
+    for crate, cell in (row for row in rows if row[0] != 'crate'):
+        for file, names in (part.split(': ') for part in cell.split('; ')):
+            place = ROOT / 'crates' / crate / (file if file.endswith('.rt') else f'specs/{file}.antt')
+            lines = place.read_text(encoding='utf-8').split('\n') if place.is_file() else []
+            explained = {head[1] for above, line in zip(lines, lines[1:]) if re.match(r'\s*(--|///?) ', above)
+                         for head in [re.match(r'\s*(?:(?:abbrev|unfoldable|pub|record|data|ghost) )+([\w-]+)', line)] if head}
+            yield from (f'DEFINITIONS.md: {name} of {place.relative_to(ROOT)} is not there, or has no comment'
+                        for name in re.findall('`([^`]+)`', names) if name not in explained)
 
 
 def overrun_drawn(_page):
@@ -132,8 +241,9 @@ def citation_faults():
     return [] if cited == newest else [f'CITATION.cff has version {cited}, and CHANGELOG.md {newest}']
 
 
-CHECKS = [messages_not_named, samples_that_differ, evidence_faults, readme_faults, definitions_faults, picture_faults, citation_faults]
-MENDED = [('docs/EVIDENCE.md', evidence_mended), ('README.md', readme_mended), ('docs/overrun.svg', overrun_drawn)]
+CHECKS = [messages_not_named, samples_that_differ, promise_faults, line_faults, readme_faults, definitions_faults, others_faults, link_faults, picture_faults,
+          citation_faults]
+MENDED = [('docs/DEFINITIONS.md', lines_mended), ('README.md', readme_mended), ('docs/overrun.svg', overrun_drawn)]
 
 
 def main(words):
