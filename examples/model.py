@@ -2,7 +2,7 @@
 
 Each definition looks through a whole list: that of the tasks, of the work, or of a trace's rows, in which
 consecutive equal ticks are one entry. Numbers are whole numbers and fractions of them, so nothing is rounded. The rules are
-those of docs/RULES.md, docs/FORMATS.md and docs/COMMANDS.md.
+those of docs/RULES.md, FORMATS.md, MISTAKES.md and COMMANDS.md.
 
 Left out are TOML as text (a task file is the tree that the text stands for), records with quotes, carriage returns or a
 byte order mark, files that are too long or cannot be read, and running out of memory.

@@ -3,7 +3,7 @@
 A case is a command on its example files, of which one or more were spoilt: cut at a place, with bytes flipped, put in or
 taken out, with records doubled, dropped or swapped, with numbers, words and values replaced, with quotes, other line ends
 or a byte order mark. Each case is run twice, and ends both times within SECONDS of processor time and BYTES of memory,
-with the same status and text: one of those that docs/FORMATS.md and docs/COMMANDS.md name for the command, and nothing
+with the same status and text: one of those that docs/MISTAKES.md and docs/COMMANDS.md name for the command, and nothing
 on standard error. Status 9 is not allowed, since there is enough memory. Of `live` the text may be another one. A trace that
 is written is judged legal. Files with another answer are kept, and named. A third of the cases are files that are cut short,
 at each place if there are enough cases; the others have one to four changes. Rows of a trace are replaced by others, with their
