@@ -1,20 +1,22 @@
-"""Measures the program on the worst input that was found for each command, and writes a table: the least time out of some runs, the
-most memory, and the time beside the plain programs that PLAIN, a folder, has: plain, demand and accept.
+"""Measures the program on the worst inputs that were found for each command, and writes a table: the least time and the least time of
+processors out of some runs, the most memory, and the time of processors beside the plain programs that PLAIN, a folder, has: plain,
+demand and accept. It needs GNU time (Debian's package time).
 
 usage: bounds.py PROGRAM PLAIN [RUNS]
 """
 
 import os
+import re
 import shutil
 import subprocess
+import sys
 import tempfile
-import time
 from typing import NamedTuple, Optional
 
 from usage import WrongWords, ends, numbers
 
 TRACE = 'event,tick,length,task,job,how\n'
-MOST_BYTES = 16777216
+MOST_BYTES, MOST_TRACE_BYTES = 16777216, 134217728
 PERIODS = [1000, 1250, 2000, 2500, 3125, 4000, 5000, 6250, 10000, 12500, 15625, 20000, 25000, 31250, 50000, 62500, 100000, 500000]
 
 
@@ -41,11 +43,20 @@ def with_zeros(text):
     return text.replace('low = 1\n', f'low = 0x{"0" * (MOST_BYTES - len(text) - 3)}1\n', 1)
 
 
+def long_name(place):
+    return f'task_with_a_long_name_of_32_b{place:03}'
+
+
 def large():
     """128 tasks with long names and large periods."""
     return ''.join(
-        task(f'task_with_a_long_name_of_32_b{place:03}', 'high' if place % 2 else 'low',
+        task(long_name(place), 'high' if place % 2 else 'low',
              1431655765 if place % 2 else 4294967295, 10000000, 17000000 if place % 2 else None) for place in range(128))
+
+
+def with_long_names(text):
+    """A task file or a trace whose tasks are t0 to t127, with the longest names."""
+    return re.sub(r'\bt(\d+)\b', lambda match: long_name(int(match[1])), text)
 
 
 def crowd(count, period):
@@ -72,21 +83,46 @@ def one_by_one(records):
     return TRACE + 'release,0,,t0,1,kept\n' + ''.join(f'tick,{tick},1,t0,1,more\n' for tick in range(records - 1))
 
 
-def half_served():
-    """A trace in which two tasks of period 1 release at each of 500,000 ticks: half a million jobs are pending at its end."""
-    lines = []
-    for tick in range(500000):
-        name = 'ab'[tick % 2]
-        lines += [f'release,{tick},,a,{tick + 1},kept', f'release,{tick},,b,{tick + 1},kept', f'tick,{tick},1,{name},{tick // 2 + 1},done']
-    return TRACE + '\n'.join(lines) + '\n'
+def filled(text):
+    """A trace, filled with empty lines to its last byte."""
+    return text + '\n' * (MOST_TRACE_BYTES - len(text))
 
 
-def pairs(count, end):
-    """Two tasks for each processor, of which no two pairs fit on one, and their work."""
-    tasks = ''.join(task(f'high{place}', 'high', 200, 60, 110) + task(f'low{place}', 'low', 200, 80) for place in range(count))
-    work = 'task,release,need\n' + ''.join(
-        f'high{place},{tick},60\nlow{place},{tick},80\n' for tick in range(0, end, 200) for place in range(count))
-    return tasks, work
+def quoted(text):
+    """A trace with each of its fields in quotes."""
+    return '"' + text[:-1].replace(',', '","').replace('\n', '"\n"') + '"\n'
+
+
+# 2,000,000 records: at each tick 128 releases and a record of the tick. One record is left for the overrun.
+PENDING_TICKS = 15503
+
+
+def all_pending():
+    """A trace in which 128 tasks of period 1 release at each tick, and the first job has all ticks: its jobs and those of all others are
+    pending when it overruns at the end. Before that they all are late."""
+    names = [f't{place}' for place in range(128)]
+    ticks = [''.join(f'release,{tick},,{name},{tick + 1},kept\n' for name in names) + f'tick,{tick},1,t0,1,more\n'
+             for tick in range(PENDING_TICKS)]
+    return TRACE + ''.join(ticks) + f'tick,{PENDING_TICKS},1,t0,1,over\n'
+
+
+def all_late():
+    """High tasks of period 1, of which the first overruns in that trace."""
+    return ''.join(task(f't{place}', 'high', 1, PENDING_TICKS + 1, 4000000000) for place in range(128))
+
+
+def spaced(per, count, end):
+    """Tasks for some processors, so many on each as load it, and jobs one after the other on each: released, served for two ticks, idle."""
+    period, names = 128, [f't{place:06}' for place in range(per * count)]
+    tasks = ''.join(task(name, 'low', period, period // per) for name in names)
+    lines, size = ['task,release,need\n'], 18
+    for start in range(0, end, period // per):
+        for line in (f'{name},{start},2\n' for name in names[start * per // period % per::per]):
+            size += len(line)
+            if size > MOST_BYTES or len(lines) > 1000000:
+                return tasks, ''.join(lines)
+            lines.append(line)
+    return tasks, ''.join(lines)
 
 
 def demands(lines):
@@ -106,71 +142,91 @@ class Files:
         return path
 
 
-def worst_inputs(files):
-    """Some inputs for each command, of which the table has the one that takes longest and the one that takes most memory."""
+def worst_on_tables(files):
+    """Inputs for the commands that read a task file, and perhaps a work file."""
     comments, zeros = files.file('comments', with_comments(large())), files.file('zeros', with_zeros(crowd(1, 128)))
-    tasks, wide = files.file('crowd', crowd(128, 128)), files.file('large', large())
-    work, full = files.file('work', crowd_work(128, 128, 1000000)), files.file('full', turns(2000000))
+    tasks, work = files.file('crowd', crowd(128, 128)), files.file('work', crowd_work(128, 128, 1000000))
     shared = files.file('shared', crowd(128, 128).replace('low = 1\n', 'low = 16\n'))
-    idle = files.file('idle', TRACE + 'idle,0,100000000,,,\n')
-    wide_tasks = files.file('wide', crowd(128, 4294967295).replace('low = 1\n', 'low = 3000000\n'))
-    drawn = files.file('drawn', one_by_one(2000000))
-    two, half = files.file('two', crowd(2, 1).replace('t0', 'a').replace('t1', 'b')), files.file('half', half_served())
-    several, several_work = (files.file(f'pairs{place}', text) for place, text in enumerate(pairs(16, 1000000)))
-    dense = files.file('dense', demands([(f't{place}', 160, 33 + place, 1) for place in range(127)] + [('long', 500000, 250000, 50000)]))
-    past = files.file('past', demands([(f't{place}', 500000, 500000, 3906) for place in range(127)] + [('t128', 500000, 500000, 3939)]))
-    spread = files.file('spread', demands([
-        (f't{place}', PERIODS[place % 18], PERIODS[place % 18] * 9 // 10, PERIODS[place % 18] // 200) for place in range(128)]))
-    yield Worst('128 tasks, filled to 16 MiB with comments', ['check', comments])
-    yield Worst('a number of 16 MiB', ['check', zeros])
+    apart, apart_work = (files.file(f'apart{place}', text) for place, text in enumerate(spaced(8, 16, 1000000)))
+    names = files.file('names', with_long_names(crowd(128, 128)))
+    for words in (['check'], ['stretch'], ['partition', '16']):
+        yield Worst('128 tasks, filled to 16 MiB with comments', [words[0], comments] + words[1:])
+        yield Worst('a number of 16 MiB', [words[0], zeros] + words[1:])
     yield Worst('128 tasks in turn for 1,000,000 ticks', ['run', tasks, work, '1000000'])
+    yield Worst('128 tasks in turn on 16 for 1,000,000 ticks', ['runall', shared, work, '1000000', '16'])
+    yield Worst('993,431 jobs of two ticks, one after the other on each of 16', ['runall', apart, apart_work, '1000000', '16'])
+    yield Worst('32 tasks for 1,000,000 ticks', ['soak', '2', '32', '1000000'])
+    yield Worst('128 tasks of long names in turn for 100,000 ticks', ['live', names, '100000'])
+    yield Worst('10,000 sets of 32 tasks', ['accept', '1', '10000', '32'], 'accept')
+
+
+def worst_on_traces(files):
+    """Inputs for the commands that read a trace."""
+    tasks, in_turn = files.file('turn_tasks', crowd(128, 128)), turns(2000000)
+    names = files.file('turn_names', with_long_names(crowd(128, 128)))
+    full, quotes = files.file('full', in_turn), files.file('quoted', filled(quoted(in_turn)))
+    long_full = files.file('long', filled(with_long_names(in_turn)))
+    letters, marks = files.file('letters', 'a' * MOST_TRACE_BYTES), files.file('marks', '"' * MOST_TRACE_BYTES)
+    late, pending = files.file('late', all_late()), files.file('pending', filled(all_pending()))
+    served = files.file('served', all_pending().rpartition('tick')[0])
+    wide = files.file('wide', with_long_names(crowd(128, 4294967295).replace('low = 1\n', 'low = 3000000\n')))
+    drawn = files.file('drawn', filled(with_long_names(one_by_one(2000000))))
+    yield Worst('1,984,384 late jobs, under the scale 1/1', ['judge', late, served, '1', '1'])
+    yield Worst('1,984,384 pending jobs at an overrun, filled to 128 MiB', ['judge', late, pending, '1', '1'])
     for command in ('judge', 'report', 'migrate'):
         yield Worst('2,000,000 records of 128 tasks in turn', [command, tasks, full], 'plain')
-        if command == 'judge':
-            yield Worst('half a million pending jobs, under the scale 1/1', [command, two, half, '1', '1'])
-        yield Worst('one idle run of 100,000,000 ticks', [command, tasks, idle], 'plain')
-    yield Worst('128 tasks, of which one has 1,999,999 ticks in a record each', ['chart', wide_tasks, drawn])
-    yield Worst('32 tasks for 1,000,000 ticks', ['soak', '7', '32', '1000000'])
-    yield Worst('128 tasks in turn for 100,000 ticks', ['live', tasks, '100000'])
+        yield Worst('2,000,000 records of long names, filled to 128 MiB', [command, names, long_full])
+        yield Worst('2,000,000 records in quotes, filled to 128 MiB', [command, tasks, quotes])
+        yield Worst('128 MiB of quotes', [command, tasks, marks])
+        yield Worst('128 MiB of one letter', [command, tasks, letters])
+    yield Worst('128 tasks of long names, of which one has 1,999,999 ticks in a record each', ['chart', wide, drawn])
+    yield Worst('128 MiB of one letter', ['chart', wide, letters])
+
+
+def worst_on_demands(files):
+    """Inputs for `demand`."""
+    dense = files.file('dense', demands([(f't{place}', 160, 33 + place, 1) for place in range(127)] + [('long', 500000, 250000, 50000)]))
+    past = files.file('past', demands([(long_name(0), 1, 1, 1)] + [(long_name(place), 500000, 500000, 1) for place in range(1, 128)]))
+    spread = files.file('spread', demands([
+        (f't{place}', PERIODS[place % 18], PERIODS[place % 18] * 9 // 10, PERIODS[place % 18] // 200) for place in range(128)]))
     yield Worst('396,876 jobs in 500,000 ticks', ['demand', dense], 'demand')
-    yield Worst('a counterexample of 500,000 ticks', ['demand', past], 'demand')
+    yield Worst('a counterexample of 500,000 ticks, with 127 pending jobs and a release at each', ['demand', past], 'demand')
     yield Worst('128 tasks of 18 periods', ['demand', spread], 'demand')
-    yield Worst('128 tasks, filled to 16 MiB with comments, on 16', ['partition', comments, '16'])
-    yield Worst('128 tasks in turn on 16 for 1,000,000 ticks', ['runall', shared, work, '1000000', '16'])
-    yield Worst('16 pairs of tasks on 16 for 1,000,000 ticks', ['runall', several, several_work, '1000000', '16'])
-    yield Worst('128 tasks, filled to 16 MiB with comments', ['stretch', comments])
-    yield Worst('128 tasks of large periods', ['stretch', wide])
-    yield Worst('10,000 sets of 32 tasks', ['accept', '1', '10000', '32'], 'accept')
 
 
 # ---- Measures ----
 
-# Measures the memory of a command. Started from here, the system would count this process's own memory as the command's.
+# Measures a command. Started from here, the system would count this process's own memory as the command's.
 METER = '/usr/bin/time'
 
 
+class Measure(NamedTuple):
+    """The least seconds, and seconds of processors, of some runs of a command, its most MiB, and its status."""
+    seconds: float
+    busy: float
+    memory: float
+    status: int
+
+
 def measured(words, runs):
-    """The least seconds and the status of a command, whose output is thrown away, and its most MiB as a word."""
-    times = []
+    """Measures a command, whose output is thrown away."""
+    found = []
     for _ in range(runs):
-        start = time.perf_counter()
-        status = subprocess.run(words, stdout=subprocess.DEVNULL).returncode
-        times.append(time.perf_counter() - start)
-    memory = ''
-    if os.access(METER, os.X_OK):
-        meter = subprocess.run([METER, '-f', '%M'] + words, stdout=subprocess.DEVNULL, stderr=subprocess.PIPE)
-        memory = f'{int(meter.stderr.split()[-1]) / 1024:.0f} MiB'
-    return min(times), memory, status
+        ended = subprocess.run([METER, '-q', '-f', '%e %U %S %M'] + words, stdout=subprocess.DEVNULL, stderr=subprocess.PIPE, text=True)
+        seconds, user, system, memory = map(float, ended.stderr.split()[-4:])
+        found.append((seconds, user + system, memory / 1024))
+    times, busy, memory = zip(*found)
+    return Measure(min(times), min(busy), max(memory), ended.returncode)
 
 
-def beside(worst, plain, runs, seconds):
+def beside(worst, plain, runs, busy):
     """How much longer than the plain program, as a word."""
     if worst.plain is None or plain == 'none':
         return ''
     own = worst.words if worst.plain == 'plain' else worst.words[1:]
-    least = measured([os.path.join(plain, worst.plain)] + own, runs)[0]
+    least = measured([os.path.join(plain, worst.plain)] + own, runs).busy
     # Below this a ratio is one of starts of processes.
-    return f'{seconds / least:.2f}' if least > 0.02 else ''
+    return f'{busy / least:.2f}' if least > 0.02 else ''
 
 
 def main(words):
@@ -178,15 +234,20 @@ def main(words):
         raise WrongWords
     program, plain = os.path.abspath(words[0]), words[1]
     runs, = numbers(words[2:], 3)
-    folder = tempfile.mkdtemp()
-    print('| command | input | status | time | memory | times plain Rust |\n|---|---|---|---|---|---|')
-    try:
-        for worst in worst_inputs(Files(folder)):
-            seconds, memory, status = measured([program] + worst.words, runs)
-            ratio = beside(worst, plain, runs, seconds)
-            print(f'| `{worst.words[0]}` | {worst.what} | {status} | {seconds:.2f} s | {memory} | {ratio} |', flush=True)
-    finally:
-        shutil.rmtree(folder, ignore_errors=True)
+    if not os.access(METER, os.X_OK):
+        print(f'bounds: there is no {METER}', file=sys.stderr)
+        return 1
+    print('| command | input | status | time | of processors | memory | times plain Rust |\n|---|---|---|---|---|---|---|')
+    for worst_inputs in (worst_on_tables, worst_on_traces, worst_on_demands):
+        folder = tempfile.mkdtemp()
+        try:
+            for worst in worst_inputs(Files(folder)):
+                found = measured([program] + worst.words, runs)
+                ratio = beside(worst, plain, runs, found.busy)
+                print(f'| `{worst.words[0]}` | {worst.what} | {found.status} | {found.seconds:.2f} s | {found.busy:.2f} s '
+                      f'| {found.memory:.0f} MiB | {ratio} |', flush=True)
+        finally:
+            shutil.rmtree(folder, ignore_errors=True)
     return 0
 
 
