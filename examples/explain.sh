@@ -1,8 +1,9 @@
 #!/bin/sh
-# Compares what explain.py says of the judged examples with the texts in explained/, and what it finds with model.py on 100 cases
-# made by a fixed seed, or as many as are asked for. Then perfetto.py, record/sched.py on the kept recordings (nothing is
-# recorded), flight.py, the tests of tools_check.py, pages of docs beside what they speak of, and definitions.py's limits. No built
-# program is needed.
+# Compares what explain.py says of the judged examples with the texts in explained/, and what the tools find with model.py on
+# 100 cases made by a fixed seed, or as many as are asked for. Then perfetto.py, record/sched.py on the kept recordings (nothing
+# is recorded; whole, in other forms, damaged, of another processor, without switches, with a tick too long, with a task that never
+# has one), that fifo.c compiles, the digests of flight.py's ten thousand jobs, the tests of tools_check.py, pages of docs beside what
+# they speak of, and definitions.py's limits. No built program is needed.
 # usage: explain.sh [CASES [SEED]]
 . "$(dirname -- "$0")/usage.sh"
 takes_numbers "$@"

@@ -1,7 +1,7 @@
 #!/bin/sh
 # Tries record/record.sh and the recipe of docs/RECORDING.md with a stand-in for trace-cmd, and files of a new folder in the place
 # of the kernel's: the text is the one that trace-cmd reports, and what was set is put back, even if the script is ended in the
-# middle. No built program is needed, and nothing is recorded.
+# middle. The C of the page compiles. No built program is needed, and nothing is recorded.
 # usage: records.sh
 . "$(dirname -- "$0")/usage.sh"
 takes 0 0 "$@"
