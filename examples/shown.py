@@ -74,8 +74,8 @@ def shown_in(number, lines):
 
 def is_as_shown(shown, written):
     """Whether the lines written are those shown, where `...` is any number of lines."""
-    pattern = '\n'.join('(?:.*\n)*.*' if line == '...' else re.escape(line) for line in shown)
-    return re.fullmatch(pattern, '\n'.join(written)) is not None
+    pattern = ''.join('(?:.*\n)*' if line == '...' else re.escape(line + '\n') for line in shown)
+    return re.fullmatch(pattern, ''.join(line + '\n' for line in written)) is not None
 
 
 # ---- Runs ----
