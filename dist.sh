@@ -11,7 +11,7 @@ set -u
 unset CDPATH TAR_OPTIONS GZIP
 umask 022
 here=$(dirname -- "$(readlink -f -- "$0")")
-. "$here/examples/usage.sh"
+. "$here/tools/usage.sh"
 takes 1 1 "$@"
 
 # refuse WHY: ends without an archive

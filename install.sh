@@ -10,7 +10,7 @@ set -u
 unset CDPATH
 umask 022
 here=$(dirname -- "$(readlink -f -- "$0")")
-. "$here/examples/usage.sh"
+. "$here/tools/usage.sh"
 program=$here/crates/edfvd_program/out/edfvd_program
 # The name of the folders in which files are written beside their places, and the folders that this call made, the innermost first.
 own=

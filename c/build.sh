@@ -18,7 +18,7 @@ set -eu
 unset CDPATH
 umask 022
 here=$(cd "$(dirname -- "$0")" && pwd)
-. "$here/../examples/usage.sh"
+. "$here/../tools/usage.sh"
 takes 0 1 "$@"
 for tool in rt "${CC:=cc}" "${LD:=ld}" "${AR:=ar}" "${OBJCOPY:=objcopy}"; do
     command -v "$tool" >/dev/null || { echo "build.sh: $tool is not on the PATH" >&2; exit 127; }

@@ -3,7 +3,7 @@
 # that are in use while they are built again, and runs that a signal ends. It builds in a folder of its own, in which all
 # that is only read is a link. The crates are proved already: run c/build.sh first.
 # usage: building.sh
-. "$(dirname -- "$0")/../../examples/usage.sh"
+. "$(dirname -- "$0")/../../tools/usage.sh"
 takes 0 0 "$@"
 unset CDPATH
 root=$(cd "$(dirname -- "$0")/../.." && pwd) || exit 1

@@ -1,7 +1,7 @@
 """The share of random task sets that the published test of EDF-VD admits, by the load of their low budgets.
 
 Loads come from UUniFast (Bini and Buttazzo, Real-Time Systems 2005). Periods are spread evenly over the orders of magnitude
-from 10 to 10,000 ticks, and rounded down to divisors of one number, as examples/divisors.py does it, so that the hyperperiod
+from 10 to 10,000 ticks, and rounded down to divisors of one number, as tools/divisors.py does it, so that the hyperperiod
 stays below 2^60. Half of the tasks are high, with twice the budget in high mode. The table goes to standard output, a line for
 each load; with matplotlib, or else gnuplot, a picture goes to the file PICTURE.
 

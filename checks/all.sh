@@ -1,0 +1,61 @@
+#!/bin/sh
+# Runs each script that tries the built program, as many at once as there are processors; those that limit the time of a run follow
+# alone. What a script printed is shown when it has ended. The status is that of the first of the list below that failed, or 0.
+# usage: all.sh
+. "$(dirname -- "$0")/../tools/usage.sh"
+takes 0 0 "$@"
+cd "$(dirname -- "$0")" || exit 1
+work=$(mktemp -d) || exit 1
+trap 'rm -rf "$work"' EXIT
+trap 'exit 1' HUP INT TERM
+
+# The longest first, so that none of them is left alone at the end; then the one that must not share the processors.
+cat >"$work/list" <<'LIST'
+night.sh 2
+compare.sh
+memcheck.sh
+hostile.sh
+usages.sh
+library.sh
+check.sh
+mutate.sh
+faults.sh
+second.sh
+outside.sh
+explain.sh
+lasting.sh
+growths.sh
+studies.sh
+archive.sh
+wrapper.sh
+installing.sh
+limits.sh
+suite.sh
+shown.sh
+records.sh
+licences.sh
+calm.sh
+LIST
+
+# Built once, before the scripts ask for it side by side.
+[ -n "${PROGRAM:-}" ] || ../edfvd >/dev/null
+
+# run JOBS: runs the scripts whose lines come in, this many at once
+run() {
+    # shellcheck disable=SC2016
+    tr '\n' '\0' | xargs -0 -P "$1" -n 1 sh -c '
+        ./$2 >"$1/${2%%.*}.text" 2>&1
+        echo $? >"$1/${2%%.*}.status"
+        cat "$1/${2%%.*}.text"
+    ' sh "$work"
+}
+sed '$d' "$work/list" | run "$(nproc)"
+tail -n 1 "$work/list" | run 1
+
+while read -r script _; do
+    status=$(cat "$work/${script%.sh}.status" 2>/dev/null) || status=1
+    if [ "$status" -ne 0 ]; then
+        echo "all: $script failed with status $status"
+        exit "$status"
+    fi
+done <"$work/list"

@@ -1,0 +1,272 @@
+#!/bin/sh
+# Tries install.sh in a copy of the tree: which files it installs, and their modes under three umasks; that a call which fails or is
+# interrupted leaves everything as it was; that it never writes through a link; and that the links of installed pages lead to installed
+# files.
+# usage: installing.sh
+. "$(dirname -- "$0")/../tools/usage.sh"
+takes 0 0 "$@"
+cd "$(dirname -- "$0")/../examples" || exit 1
+. ../checks/copied_tree.sh
+released=share/doc/edfvd/RELEASE
+
+# files FOLDER: the files and folders in it with their modes and sums, without the folder's own name
+files() {
+    (cd "$1" && find . -printf '%m %y %p\n' | sort -k 3 && find . -type f -exec sha256sum {} + | sort -k 2)
+}
+
+# fails SAYS TOOLS COMMAND..: the command, which calls install.sh, ends with status 1 and this line on standard error
+fails() {
+    says=$1
+    tools=$2
+    shift 2
+    tries 1 "$work/empty" "install.sh: nothing was installed: $says" "$tools" "$@"
+    holds 'one line says so' [ "$(wc -l <"$work/err")" -eq 1 ]
+}
+
+refused() {
+    fails 'the program is not built: run' "$alone" "$tree/install.sh" "$work/prefix"
+    put_program
+    tries 2 "$work/empty" 'usage: install.sh PREFIX' "$alone" "$tree/install.sh"
+    tries 2 "$work/empty" 'the prefix is empty' "$alone" "$tree/install.sh" ''
+    fails "$tasks is no folder" "$alone" "$tree/install.sh" "$tasks"
+}
+
+# What is installed under each umask is the same, in folders of mode 755.
+installed() {
+    printf '%s\n' "installed $work/prefix/bin/edfvd and $work/prefix/share/man/man1/edfvd.1" \
+        "version, commit, kit and checksums are in $work/prefix/$released" "$work/prefix/bin is not on the PATH" >"$work/installed"
+    for mask in 077 027 022; do
+        rm -rf "$work/prefix"
+        umask "$mask"
+        tries 0 "$work/installed" '' "$alone" "$tree/install.sh" "$work/prefix"
+        umask 022
+        files "$work/prefix" >"$work/files_$mask"
+        find "$work/prefix" -type d ! -perm 755 -o -type f ! -path '*/bin/edfvd' ! -perm 644 -o -path '*/bin/edfvd' ! -perm 755 >"$work/out"
+        judge 0 0 "$work/empty" "the modes under umask $mask"
+    done
+    holds 'umask 077 and 022' cmp "$work/files_077" "$work/files_022"
+    holds 'umask 027 and 022' cmp "$work/files_027" "$work/files_022"
+    holds 'the page' cmp ../man/edfvd.1 "$work/prefix/share/man/man1/edfvd.1"
+    for file in LICENSE-MIT LICENSE-APACHE THIRD-PARTY-LICENSES; do
+        holds 'the licences' cmp "../$file" "$work/prefix/share/doc/edfvd/$file"
+    done
+    tries 0 control/check.txt '' "$alone" "$work/prefix/bin/edfvd" check "$tasks"
+    # On a PATH with the folder nothing says that it is not there.
+    sed '$d' "$work/installed" >"$work/on_path"
+    tries 0 "$work/on_path" '' "$alone:$work/prefix/bin" "$tree/install.sh" "$work/prefix/../prefix/"
+}
+
+# RELEASE has the version of the newest heading of CHANGELOG.md, the kit and what the program needs, and the sum of each file.
+release() {
+    sed -n '/^## /{ s/^## Since \(.*\)/# edfvd \1+changes/; s/^## \([0-9.]*\).*/# edfvd \1/; p; q; }' ../CHANGELOG.md >"$work/head"
+    printf '# commit unknown\n# kit %s\n# needs Linux on %s, with glibc 2.34 or later\n' "$(cat ../KIT)" "$(uname -m)" >>"$work/head"
+    grep '^#' "$work/prefix/$released" >"$work/out"
+    judge 0 0 "$work/head" 'RELEASE'
+    (cd "$work/prefix" && find . -type f ! -name RELEASE | sed 's|^\./||' | LC_ALL=C sort) >"$work/names"
+    sed -n 's/^[0-9a-f]\{64\}  //p' "$work/prefix/$released" >"$work/out"
+    judge 0 0 "$work/names" 'the files that RELEASE names'
+    holds 'the checksums' sums_hold "$work/prefix" "$released"
+    cp -R "$work/prefix" "$work/changed"
+    echo >>"$work/changed/share/man/man1/edfvd.1"
+    if sums_hold "$work/changed" "$released" 2>/dev/null; then failed=$((failed + 1)); echo 'a changed file is not found'; fi
+    # The glibc that RELEASE names is the newest that the program and the libraries ask for.
+    if ! command -v objdump >/dev/null 2>&1 || ! objdump -T "$program" >"$work/symbols" 2>/dev/null; then
+        echo 'installing: the version of glibc is not compared, there is no objdump or no program for it'
+        return
+    fi
+    objdump -T ../c/out/libedfvd.so >>"$work/symbols" 2>/dev/null
+    sed -n 's/.*GLIBC_\([0-9.]*\).*/\1/p' "$work/symbols" | sort -t . -k 1,1n -k 2,2n | tail -n 1 >"$work/out"
+    judge 0 0 "$(says 2.34)" 'the newest glibc that is asked for'
+}
+
+# links PAGE: the files that the links of a page lead to, and the names of pages in its text
+links() {
+    grep -oE '\]\([^)]*\)|(src|href)="[^"]*"' "$1" | sed 's/^[^("]*[("]//; s/[)"].*//; s/#.*//' | grep -v '^$\|^[a-z]*:'
+}
+
+# Each link of an installed page leads to an installed file, and each page that the manual page names is installed.
+pages() {
+    doc=$work/prefix/share/doc/edfvd
+    find "$doc" -name '*.md' >"$work/pages"
+    while read -r page; do
+        links "$page" | while read -r target; do
+            [ -e "${page%/*}/$target" ] || echo "$page leads to $target"
+        done
+    done <"$work/pages" >"$work/out"
+    judge 0 0 "$work/empty" 'the links of the installed pages'
+    holds 'there are links' [ "$(links "$doc/README.md" | wc -l)" -ge 5 ]
+    sed -n '/SEE ALSO/,$p' ../man/edfvd.1 | grep -o '[A-Z-]*\.md' >"$work/names"
+    holds 'the manual page names pages' [ -s "$work/names" ]
+    while read -r page; do holds "the manual page names $page" [ -e "$doc/docs/$page" ]; done <"$work/names"
+}
+
+# Links that lead out lose their brackets alone; links to pages, to places in a page and to the web stay, and so does code.
+links_that_lead_out() {
+    cat >"$tree/docs/MORE.md" <<'END'
+# More [here](MORE.md) and [there](../README.md#part), [in](#it)
+
+A [clause, `a[1]`](../crates/mc_task/src/set.rt#L3), [words that
+go on](../examples/control/) and [outside](../../x.md); [web](https://example.org/a.md).
+Code as `a[1](2.5)` is read as a link. ![A picture](overrun.svg) [1](./COMMANDS.md)
+
+```
+a[b](../crates/c.rt)
+```
+[the last](../crates.txt)
+END
+    cat >"$work/more" <<'END'
+# More [here](MORE.md) and [there](../README.md#part), [in](#it)
+
+A clause, `a[1]`, words that
+go on and outside; [web](https://example.org/a.md).
+Code as `a1` is read as a link. ![A picture](overrun.svg) [1](./COMMANDS.md)
+
+```
+a[b](../crates/c.rt)
+```
+the last
+END
+    : >"$tree/docs/my own.md"
+    tries 0 "$work/installed" '' "$alone" "$tree/install.sh" "$work/prefix"
+    holds "a file of one's own is not installed" [ -z "$(find "$work/prefix" -name '*own*')" ]
+    cp "$work/prefix/share/doc/edfvd/docs/MORE.md" "$work/out"
+    judge 0 0 "$work/more" 'a page with links that lead out'
+    rm "$tree/docs/MORE.md" "$tree/docs/my own.md" "$work/prefix/share/doc/edfvd/docs/MORE.md"
+}
+
+# The C libraries are installed if they are there, and none that is older than its sources.
+libraries() {
+    put_libraries
+    sed "1a installed $work/prefix/include/edfvd.h, and the libraries in $work/prefix/lib" "$work/installed" >"$work/wanted"
+    tries 0 "$work/wanted" '' "$alone" "$tree/install.sh" "$work/prefix"
+    holds 'the header' cmp "$work/prefix/include/edfvd.h" ../c/edfvd.h
+    for file in libedfvd.a libedfvd_core.a libedfvd.so; do
+        holds "$file" [ "$(cat "$work/prefix/lib/$file")" = "$file" ]
+    done
+    # shellcheck disable=SC2016
+    printf 'libdir=${pcfiledir}/..\nincludedir=${pcfiledir}/../../include\n' >"$work/wanted"
+    cp "$work/prefix/lib/pkgconfig/edfvd.pc" "$work/out"
+    judge 0 0 "$work/wanted" 'edfvd.pc'
+    find "$work/prefix" -name '.edfvd*' >"$work/out"
+    judge 0 0 "$work/empty" 'files that are left'
+    touch "$tree/c/edfvd.h"
+    fails 'the C libraries are older than their sources: run' "$alone" "$tree/install.sh" "$work/older"
+    touch "$tree/c/out/libedfvd.a"
+}
+
+# A relative prefix is one of the caller's folder, whatever CDPATH says, and a name may have blanks.
+names() {
+    mkdir -p "$work/caller's folder" "$work/elsewhere/a prefix/b"
+    for name in 'a prefix/b' plain; do
+        (cd "$work/caller's folder" && CDPATH=$work/elsewhere bounded env PATH="$alone" "$tree/install.sh" "$name") >"$work/text" 2>"$work/err"
+        head -n 1 "$work/text" >"$work/out"
+        where=$work/"caller's folder"/$name
+        judge 0 0 "$(says "installed $where/bin/edfvd and $where/share/man/man1/edfvd.1")" "install.sh $name"
+        files "$where" >"$work/out"
+        files "$work/prefix" >"$work/wanted"
+        judge 0 0 "$work/wanted" "what is installed in $name"
+    done
+    find "$work/elsewhere" -type f >"$work/out"
+    judge 0 0 "$work/empty" 'what is installed where CDPATH leads'
+}
+
+# Links that stand at names which a call could be guessed to write, before it is called, lead nowhere.
+planted() {
+    cp -R "$work/prefix" "$work/planted"
+    echo untouched >"$work/victim"
+    # shellcheck disable=SC2016
+    bounded env PATH="$alone" prefix="$work/planted" victim="$work/victim" install="$tree/install.sh" sh -c '
+        for name in bin/edfvd share/man/man1/edfvd.1 share/doc/edfvd/README.md share/doc/edfvd/RELEASE lib/libedfvd.so; do
+            ln -s "$victim" "$prefix/$name.new.$$"
+        done
+        ln -s "$victim" "$prefix/share/doc/edfvd/.pc.$$"
+        ln -s "$victim" "$prefix/share/doc/edfvd/.release.$$"
+        rm "$prefix/bin/edfvd"
+        ln -s "$victim" "$prefix/bin/edfvd"
+        exec "$install" "$prefix"
+    ' >/dev/null 2>"$work/err"
+    judge 0 $? "$work/out" 'install.sh beside planted links'
+    holds 'what the links lead to' cmp "$work/victim" "$(says untouched)"
+    holds 'a link in the place of the program is replaced' cmp "$work/planted/bin/edfvd" "$program"
+    find "$work/planted" -type l -exec rm {} +
+    files "$work/planted" >"$work/out"
+    judge 0 0 "$work/files_all" 'what is installed beside planted links'
+}
+
+# stopped SAYS: the call with the tool of $work/stopped fails with these words, and nothing changes: neither where nothing stood nor
+# where other files stood
+stopped() {
+    : >"$work/calls"
+    fails "$1" "$work/stopped:$alone" "$tree/install.sh" "$work/new/prefix"
+    holds "nothing is new where nothing stood, $2" [ ! -e "$work/new" ]
+    : >"$work/calls"
+    fails "$1" "$work/stopped:$alone" "$tree/install.sh" "$work/old"
+    files "$work/old" >"$work/out"
+    judge 0 0 "$work/files_old" "what stood there before, $2"
+}
+
+# A call is interrupted or fails while it copies to the temporary folder, while it writes beside the places, and while it renames: at
+# the first file, at the last one, and between.
+interrupted() {
+    cp -R "$work/prefix" "$work/old"
+    find "$work/old" -type f -exec sh -c 'echo old >>"$1"' sh {} \;
+    rm "$work/old/share/doc/edfvd/RELEASE"
+    echo mine >"$work/old/bin/mine"
+    files "$work/old" >"$work/files_old"
+    count=$(find "$work/prefix" -type f | wc -l)
+    # Each line is a tool, the number of its call at which the signal comes, and the signal.
+    while read -r tool number signal; do
+        stand_in "$tool" "$number" "$signal"
+        stopped 'it was interrupted' "$signal at call $number of $tool"
+    done <<END
+cp 1 INT
+cp $((count + 1)) INT
+cp $((2 * count)) TERM
+mv 1 INT
+mv 2 TERM
+mv $count INT
+END
+    for tool in cp mv; do
+        stand_in "$tool" $((count - 1)) 0
+        stopped '' "$tool fails at call $((count - 1))"
+    done
+}
+
+# A folder stands at the place of a file, or a file at that of a folder.
+in_the_way() {
+    for name in bin/edfvd share/doc/edfvd/RELEASE share/man/man1/edfvd.1; do
+        rm -rf "$work/way"
+        mkdir -p "$work/way/$name"
+        files "$work/way" >"$work/files_way"
+        fails "$work/way/$name is a folder" "$alone" "$tree/install.sh" "$work/way"
+        files "$work/way" >"$work/out"
+        judge 0 0 "$work/files_way" "what stood beside the folder $name"
+    done
+    for name in bin share/doc/edfvd/docs; do
+        rm -rf "$work/way"
+        mkdir -p "$work/way/$name"
+        rmdir "$work/way/$name"
+        : >"$work/way/$name"
+        files "$work/way" >"$work/files_way"
+        fails "the folder $work/way/$name cannot be made" "$alone" "$tree/install.sh" "$work/way"
+        files "$work/way" >"$work/out"
+        judge 0 0 "$work/files_way" "what stood beside the file $name"
+    done
+}
+
+refused
+installed
+release
+pages
+links_that_lead_out
+libraries
+files "$work/prefix" >"$work/files_all"
+names
+planted
+interrupted
+in_the_way
+# It needs nothing of the tree.
+rm -rf "$tree"
+cp -R control "$work/control"
+tries 0 control/check.txt '' "$alone" "$work/prefix/bin/edfvd" check "$work/control/tasks.toml"
+ends installing
