@@ -33,9 +33,12 @@ judge 0 $? control/check.txt 'check, from another folder'
 # A file that is standard input.
 "$program" check /dev/stdin <control/tasks.toml >"$work/out"
 judge 0 $? control/check.txt 'check, of standard input'
-for file in refused/*.toml; do
-    expect "$(cat "${file%.toml}.status")" "${file%.toml}.txt" check "$file"
-done
+while read -r status name; do
+    expect "$status" "refused/$name.txt" check "refused/$name.toml"
+done <refused/statuses.txt
+# Each file has its line.
+set -- refused/*.toml
+[ $# -eq "$(wc -l <refused/statuses.txt)" ] || failed=$((failed + 1))
 
 expect 0 overrun/run.txt run overrun/tasks.toml overrun/work.csv 12
 expect 0 overrun/run.txt run overrun/tasks.toml overrun/work.csv 00000000000000000012

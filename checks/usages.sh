@@ -2,6 +2,7 @@
 # Calls each script of tools/ and checks/, and bounds of bench/: `--help` writes its usage, with status 0, and words that are none of its
 # forms get its usage on standard error, with status 2; none do where it needs some. Each answers at once: no program is built,
 # tried or recorded. A closed pipe and a full disk end it with one line. A script that is ended in the middle leaves no folder.
+# tools/README.md names each tool, and examples/README.md each folder of inputs.
 # usage: usages.sh
 . "$(dirname -- "$0")/../tools/usage.sh"
 takes 0 0 "$@"
@@ -67,6 +68,14 @@ takes_nothing() {
     notes "$*, to a closed pipe" has_line
 }
 
+# named PAGE WORDS: the page has to have these words
+named() {
+    if ! grep -qF -e "$2" "$1"; then
+        failed=$((failed + 1))
+        echo "usages: $1 does not name $2"
+    fi
+}
+
 # scripts: those that can be called
 scripts() {
     find ../tools ../checks ../bench/bounds.sh -name '*.sh' -perm -u+x | sort
@@ -92,7 +101,13 @@ while read -r script; do
     *) refuses "$script" ;;
     esac
     takes_nothing "$script" --help
+    case $script in
+    ../tools/*) named ../tools/README.md "\`${script#../tools/}\`" ;;
+    esac
 done <"$work/scripts"
+for folder in */; do
+    named README.md "[${folder%/}](${folder%/})"
+done
 
 refuses ../bench/bounds.sh x
 refuses ../checks/compare.sh x
