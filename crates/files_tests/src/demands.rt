@@ -25,7 +25,7 @@ macro_rules! past {
 }
 
 // Sets of tasks with a name, a period, a deadline and a budget. The expected lengths, and what is asked for in them,
-// were added up by hand and by examples/model.py.
+// were added up by hand and by model.py.
 const SETS: [(&str, Fit); 18] = [
     ("a,4,2,1\nb,6,3,2\n", Within { length: 12 }),
     ("a,4,2,1\nb,6,3,3\n", past!(3, 4)),
