@@ -174,10 +174,7 @@ def given_demands(tasks: Iterable[Demand]) -> Tuple[ctypes.Array[CDemandTask], N
 
 def _event(value: object) -> Event:
     """An event that is given as a plain number."""
-    event = number(value, MOST_32, "a row's event")
-    if not Event.KEPT <= event <= Event.IDLE:
-        raise ValueError(f"a row's event is {event}, which is no Event")
-    return Event(event)
+    return Event(number(value, MOST_32, "a row's event"))
 
 
 def row_fields(row: Row, names: Names) -> Tuple[int, int, int]:

@@ -57,6 +57,7 @@ class Closing(Case):
             with handle as inside:
                 self.assertIs(inside, handle)
                 change(handle)
+            self.assertIs(self.refused(lambda: change(handle)).status, Status.CLOSED)
             handle.close()
             calls: List[Callable[[], object]] = [lambda: change(handle), lambda: handle.look()]
             for call in calls:

@@ -48,6 +48,10 @@ class Events(Case):
             self.assertEqual(scheduler.look(), Look(6, 8, True, None, None))
             self.assertEqual(scheduler.idle(), Answer(Event.IDLE, None, 0, 0, 6))
             self.assertEqual(scheduler.look(), Look(7, 9, False, None, None))
+            for _ in range(3):
+                scheduler.idle()
+            self.assertEqual(scheduler.release("log"), Answer(Event.KEPT, "log", 2, 0, 10))
+            self.assertEqual(scheduler.look(), Look(10, 13, False, None, ("log", 2)))
 
     def test_held_and_dropped(self) -> None:
         with Scheduler(CONTROL, places=100) as scheduler:

@@ -101,6 +101,7 @@ class DemandTest(Case):
     def test_schedulable(self) -> None:
         fits = demand([Demand("sense", 5, 2, 1), Demand("ctl", 10, 6, 3), Demand("log", 20, 10, 5)])
         self.assertEqual(fits, DemandVerdict(True, 20, None, ()))
+        self.assertEqual(demand(iter([Demand("a", 4, 2, 1)])), DemandVerdict(True, 4, None, ()))
 
     def test_not_schedulable(self) -> None:
         """In 3 ticks both jobs have their deadlines, and need 4 ticks: a has the first two, and b is late."""
