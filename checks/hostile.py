@@ -1,6 +1,6 @@
-"""Gives hostile files to each script that reads files, and to record/fifo.c. Each run must end with the status and the one line
-that the tables here say, with nothing else on either stream, within 30 seconds of a processor and within 1 GiB of memory. So must runs on long
-files that are right, for which time by the square of their length would be too much.
+"""Gives hostile files to each script of tools/ that reads files, to found.py and flight.py, and to tools/record/fifo.c. Each run must
+end with the status and the one line that the tables here say, with nothing else on either stream, within 30 seconds of a processor
+and within 1 GiB of memory. So must runs on long files that are right, for which time by the square of their length would be too much.
 
 usage: hostile.py
 """
@@ -20,7 +20,7 @@ from typing import NamedTuple
 import with_tools
 from usage import WrongWords, ends
 
-HERE = pathlib.Path(__file__).resolve().parent
+TOOLS = pathlib.Path(__file__).resolve().parent.parent / 'tools'
 SECONDS, BYTES = 30, 2 ** 30  # of a processor, and of memory
 PATIENCE = 300  # seconds until a run that waits counts as one that never ends
 LONG = 10 ** 8  # bytes of a line
@@ -308,7 +308,7 @@ def of_no_files(files, tasks, trace):
                   ['divisors.py', '{}'], ['record/sched.py', '{}', trace, '1000']],
         2 ** 27: [['explain.py', tasks, '{}'], ['perfetto.py', tasks, '{}'], ['svg.py', tasks, '{}', '0', '1']],
         2 ** 31: [['record/sched.py', tasks, '{}', '1000'], ['record/sched.py', tasks, '{}', '1000', '0', 'a=a']],
-        2 ** 28: [['found.py', *case]]}
+        2 ** 28: [['../checks/found.py', *case]]}
     for most, group in groups.items():
         for words in group:
             for name, fault in files.without_text(most):
@@ -322,7 +322,7 @@ def of_no_files(files, tasks, trace):
     long_file = files.of(b'a' * LONG)
     yield Run(['divisors.py', '{}'], long_file, 7, f'divisors.py: {long_file}: longer than 1048576 bytes')
     absent = str(files.folder / 'absent' / 'tasks.toml')
-    yield Run(['flight.py', str(files.folder / 'absent')], '', 7, f'flight.py: {absent}: No such file or directory')
+    yield Run(['../checks/flight.py', str(files.folder / 'absent')], '', 7, f'flight.py: {absent}: No such file or directory')
 
 
 # Lines of a task file for fifo.c after `[[task]]`, and of a work file after its header, that are none.
@@ -372,7 +372,7 @@ def fifo_program(files):
     program = str(files.new())
     made = subprocess.run(
         [os.environ.get('CC', 'cc'), '-O1', '-fsanitize=address,undefined', '-fno-sanitize-recover=all', '-pthread', '-o', program,
-         'record/fifo.c'], cwd=HERE, capture_output=True) if shutil.which(os.environ.get('CC', 'cc')) else None
+         'record/fifo.c'], cwd=TOOLS, capture_output=True) if shutil.which(os.environ.get('CC', 'cc')) else None
     return program if made and made.returncode == 0 else None
 
 
@@ -385,7 +385,7 @@ def all_runs(files):
     yield from long_runs(files, tasks)
     yield from studies(files)
     for case in NO_CASES:
-        yield Run(['found.py', sys.executable, '{}'], (name := files.of(case)), 1, f'found: {name} is no kept case')
+        yield Run(['../checks/found.py', sys.executable, '{}'], (name := files.of(case)), 1, f'found: {name} is no kept case')
     program = fifo_program(files) if sys.platform == 'linux' else None
     if program is None:
         print('hostile: fifo.c is left out, since it cannot be compiled with sanitizers here')
@@ -406,7 +406,7 @@ def fault_of(run, cache):
     with open('/dev/zero', 'rb') as zeros:
         try:
             ended = subprocess.run(
-                ([sys.executable] if is_script else []) + words, cwd=HERE, stdin=zeros, capture_output=True, timeout=PATIENCE,
+                ([sys.executable] if is_script else []) + words, cwd=TOOLS, stdin=zeros, capture_output=True, timeout=PATIENCE,
                 preexec_fn=lambda: limit(is_script), env={**os.environ, **run.settings, **SETTINGS, 'PYTHONPYCACHEPREFIX': cache})
         except subprocess.TimeoutExpired:
             return 'no end'

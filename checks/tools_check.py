@@ -12,8 +12,7 @@ import sys
 import tempfile
 import unittest
 
-HERE = pathlib.Path(__file__).resolve().parent
-sys.path.insert(0, str(HERE / 'record'))
+sys.path.insert(0, str(pathlib.Path(__file__).resolve().parent.parent / 'tools' / 'record'))
 import with_tools
 import divisors
 import explain

@@ -1,6 +1,9 @@
 # Sourced by a script before it does anything: the usage is what its heading says from `# usage: ` on. `--help` writes
 # it, with status 0, and words that are none of the forms get it on standard error, with status 2.
 
+# Else a relative `cd` of a script may lead elsewhere, and prints where.
+unset CDPATH
+
 # usage: the lines of the heading
 usage() {
     sed -n '/^# usage: /,/^[^#]/s/^# //p' "$0"
