@@ -152,7 +152,7 @@ shown() {
 # pages: the commands that the pages show for C and Python
 pages() {
     mkdir "$work/home"
-    commands README.md c/build.sh >"$work/shown.sh"
+    commands README.md 'mkdir -p c/out' >"$work/shown.sh"
     shown 'the commands of README.md' 'x 2/5' 'Fraction(2, 5)'
     {
         commands docs/C-AND-PYTHON.md 'export PYTHONPATH'
