@@ -16,17 +16,21 @@
 # usage: build.sh [FOLDER]
 set -eu
 unset CDPATH
+# The order of the objects in a library must not depend on the caller's language.
+export LC_ALL=C
 umask 022
-here=$(cd "$(dirname -- "$0")" && pwd)
-. "$here/../tools/usage.sh"
+here=$(cd "$(dirname -- "$0")/.." && pwd)
+c=$here/c
+. "$here/tools/usage.sh"
+. "$here/sources.sh"
 takes 0 1 "$@"
 for tool in rt "${CC:=cc}" "${LD:=ld}" "${AR:=ar}" "${OBJCOPY:=objcopy}"; do
     command -v "$tool" >/dev/null || { echo "build.sh: $tool is not on the PATH" >&2; exit 127; }
 done
 strict='-std=c11 -Wall -Wextra -Werror -Wpedantic -Wconversion -Wshadow'
 kit=$(dirname "$(dirname "$(readlink -f "$(command -v rt)")")")
-crates=$(cd "$here/../crates" && pwd)
-out=${1:-$here/out}
+crates=$here/crates
+out=${1:-$c/out}
 mkdir -p "$out"
 parts=
 beside=
@@ -45,15 +49,7 @@ put() {
 
 # below CRATE: the crates of this repository that it stands on
 below() {
-    awk -F: -v top="$1" '
-        function go(name, of, count, i) {
-            count = split(uses[name], of, " ")
-            for (i = 1; i <= count; i++) if (of[i] in uses && !(of[i] in seen)) { seen[of[i]] = 1; print of[i]; go(of[i]) }
-        }
-        { sub(/#.*/, "") }
-        NF { sub(/ .*/, "", $1); uses[$1] = $2 }
-        END { go(top) }
-    ' "$here/../crates.txt"
+    crate_lines "$1" | sed "s/:.*//; /^$1\$/d"
 }
 
 # changed PATH CRATE..: a source of these crates that is newer than the path, if there is one
@@ -85,7 +81,7 @@ library() {
         mkdir -p "$crates/$crate/out"
         set -- --antt-project "$kit/rattle/logic/antt-project.json" --logic-built "$kit/logic_built" -L "dependency=$kit/rlibs"
         for name in $(below "$crate"); do set -- "$@" -L "dependency=$crates/$name/out/rlib"; done
-        for name in std $(sed -n "s/^$crate staticlib: //p" "$here/../crates.txt"); do
+        for name in std $(sed -n "s/^$crate staticlib: //p" "$here/crates.txt"); do
             rlib=$crates/$name/out/rlib/$name.rlib
             [ -d "$rlib" ] || rlib=$kit/rlibs/$name.rlib
             set -- "$@" --extern "$name=$rlib"
@@ -102,12 +98,13 @@ one() {
     library "$1"
     mkdir "$parts/$1"
     # shellcheck disable=SC2086
-    "$CC" $strict ${CFLAGS:--O2} -fPIC -c "$here/$2" -o "$parts/$1/guard.o"
+    "$CC" $strict ${CFLAGS:--O2} -fPIC -c "$c/$2" -o "$parts/$1/guard.o"
     (cd "$parts/$1" && "$AR" x "$crates/$1/out/lib$1.a" && "$AR" x "$kit/c/liblibc_c.a")
     "$LD" -r -o "$parts/$1.o" "$parts/$1"/*.o
     "$OBJCOPY" --keep-global-symbols="$parts/calls" "$parts/$1.o"
 }
-sed -n 's/^\(edfvd_status \|const char \*\)\(edfvd_[a-z_]*\)(.*$/\2/p' "$here/edfvd.h" >"$parts/calls"
+digest=$(digest_of libedfvd.so)
+sed -n 's/^\(edfvd_status \|const char \*\)\(edfvd_[a-z_]*\)(.*$/\2/p' "$c/edfvd.h" >"$parts/calls"
 one edfvd_c edfvd.c
 one edfvd_ask_c edfvd_ask.c
 "$AR" rcs "$parts/libedfvd_core.a" "$parts/edfvd_c.o"
@@ -118,11 +115,16 @@ if [ $# -eq 1 ]; then exit; fi
 "$CC" -shared -o "$parts/libedfvd.so" "$parts/edfvd_c.o" "$parts/edfvd_ask_c.o" \
     -Wl,-z,defs,-z,now,-z,relro -Wl,-soname,libedfvd.so
 put "$parts/libedfvd.so" "$out/libedfvd.so"
-put "$parts/libedfvd.so" "$here/../python/edfvd/libedfvd.so"
-version=$(sed -n 's/^version: //p' "$here/../CITATION.cff")
+# Sources that were changed meanwhile may be in the library or not, so then no digest is noted.
+rm -f "$out/libedfvd.so.sources"
+if [ "$(digest_of libedfvd.so)" = "$digest" ]; then
+    note_sources "$built_library" "$digest"
+fi
+put "$parts/libedfvd.so" "$here/python/edfvd/libedfvd.so"
+version=$(sed -n 's/^version: //p' "$here/CITATION.cff")
 cat >"$parts/edfvd.pc" <<END
 libdir=$out
-includedir=$here
+includedir=$c
 
 Name: edfvd
 Description: EDF-VD task sets tested, traces judged, and a scheduler driven event by event

@@ -1,0 +1,19 @@
+# shellcheck shell=sh disable=SC2154
+# Sourced by scripts that say which version this is. They set $here to the repository's folder.
+
+# about: the version, the commit, the kit and what the program needs, a line each. A version that CHANGELOG.md has changes after is
+# marked so.
+about() {
+    version=$(awk '/^version: / { version = $2 } /^## Since / { changes = "+changes" } END { print "edfvd " version changes }' \
+        "$here/CITATION.cff" "$here/CHANGELOG.md") || return
+    commit=unknown
+    if [ -e "$here/.git" ] && commit=$(git -C "$here" rev-parse HEAD); then
+        [ -z "$(git -C "$here" status --porcelain)" ] || commit="$commit, and changes that are not committed"
+    fi
+    cat <<END
+$version
+commit $commit
+kit $(cat "$here/KIT")
+needs Linux on $(uname -m), with glibc 2.34 or later
+END
+}

@@ -1,0 +1,49 @@
+#!/bin/sh
+# Writes what was built here to the folder prebuilt: the program, the shared library, the licences of what is linked into them, the
+# digests of their sources (SOURCES) and the sums of all these files (SHA256SUMS). The program must be built from the sources that are
+# here, by the toolchain of KIT; c/build.sh is called, which proves and builds the library if it is not current.
+# usage: refresh.sh
+set -u
+unset CDPATH
+umask 022
+here=$(cd "$(dirname -- "$0")/.." && pwd) || exit 1
+. "$here/examples/usage.sh"
+takes 0 0 "$@"
+. "$here/sources.sh"
+. "$here/prebuilt/tools.sh"
+
+# refuse WHY: ends with nothing written
+refuse() {
+    echo "refresh.sh: nothing was written: $1" >&2
+    exit 1
+}
+
+# is_built: whether the program that was built here is of the sources that are here
+is_built() {
+    [ -x "$here/$built_program" ] && { [ -z "$(newer_source "$built_program" edfvd_program)" ] || is_current; }
+}
+
+# fill FOLDER: writes the files to the folder
+fill() {
+    cp "$here/$built_program" "$1/edfvd" && chmod 755 "$1/edfvd" && cp "$here/$built_library" "$1" &&
+        (cd "$here" && cp LICENSE-APACHE LICENSE-MIT THIRD-PARTY-LICENSES "$1") || return
+    {
+        echo "kit $(cat "$here/KIT")"
+        echo "machine $(uname -m)"
+        compilers
+        for name in edfvd libedfvd.so; do
+            echo "$name $(digest_of "$name") $(sha256sum <"$1/$name" | sed 's/ .*//')"
+        done
+    } >"$1/SOURCES" && (cd "$1" && sha256sum $files >SHA256SUMS)
+}
+
+[ "$(rt version 2>/dev/null)" = "$(cat "$here/KIT")" ] || refuse 'the toolchain of KIT is not on the PATH'
+is_built || refuse "the program is not built from the sources that are here: run $here/edfvd, or rt ci, first"
+"$here/c/build.sh" >&2 || refuse 'the library was not built'
+work=$(mktemp -d "$here/prebuilt/.new.XXXXXX") || refuse "$here/prebuilt cannot be written"
+trap 'rm -rf "$work"' EXIT
+trap 'exit 1' HUP INT TERM
+fill "$work" || refuse "$work cannot be written"
+# shellcheck disable=SC2086
+(cd "$work" && mv -f $files SHA256SUMS ..) || exit 1
+exec "$here/prebuilt/compare.sh"
