@@ -1,6 +1,8 @@
 #!/bin/sh
-# Puts the proved program to PREFIX/bin/edfvd, its manual page to PREFIX/share/man/man1/edfvd.1, and the pages and licences to
-# PREFIX/share/doc/edfvd. What is installed needs glibc 2.34 or later, and neither this folder, nor the wrapper, nor the command rt.
+# Puts the command edfvd to PREFIX/bin, the proved program that it runs to PREFIX/libexec/edfvd, its manual page to
+# PREFIX/share/man/man1/edfvd.1, its completion for bash to PREFIX/share/bash-completion/completions, and the pages and licences to
+# PREFIX/share/doc/edfvd. The program is the one that was built here, or else the one in the folder prebuilt, as for ./edfvd. What is
+# installed needs glibc 2.34 or later, and neither this folder, nor the wrapper, nor the command rt. The prefix may be moved as a whole.
 # If c/build.sh has made the C libraries, they go to PREFIX/lib and PREFIX/include, with a file for pkg-config.
 # Either everything is installed or nothing is: each file is written beside its place first, and renamed when all of them are there.
 # After a fault or a signal everything is as it was before the call. The modes are 755 and 644, whatever the umask is.
@@ -11,7 +13,8 @@ unset CDPATH
 umask 022
 here=$(dirname -- "$(readlink -f -- "$0")")
 . "$here/tools/usage.sh"
-program=$here/crates/edfvd_program/out/edfvd_program
+. "$here/sources.sh"
+. "$here/about.sh"
 # The name of the folders in which files are written beside their places, and the folders that this call made, the innermost first.
 own=
 made=
@@ -23,12 +26,14 @@ refuse() {
     exit "${2:-1}"
 }
 
-# check_build: program and libraries are there, and not older than their sources
+# check_build: program and libraries are there, and not older than their sources. A program that was built here before is built again.
 check_build() {
-    if ! [ -x "$program" ]; then
+    if ! choose && ! [ -x "$here/$built_program" ]; then
         refuse "the program is not built: run $here/edfvd check $here/examples/control/tasks.toml first"
     fi
-    "$here/edfvd" check "$here/examples/control/tasks.toml" >/dev/null || refuse 'the program was not proved or not built'
+    if ! "$here/edfvd" check "$here/examples/control/tasks.toml" >/dev/null || ! choose; then
+        refuse 'the program was not proved or not built'
+    fi
     [ -e "$here/c/out/libedfvd.a" ] || return 0
     newer=$(find "$here/c/edfvd.h" "$here"/c/*.c "$here/crates" \( -name '*.[hc]' -o -name '*.rt' \) \
         -newer "$here/c/out/libedfvd.a" -print -quit)
@@ -119,31 +124,29 @@ add_libraries() {
     add "$work/pc" lib/pkgconfig/edfvd.pc
 }
 
-# release: the text of RELEASE: version, commit, kit, what the program needs, and the sha256 of each file. A version that
-# CHANGELOG.md has changes after is marked so. `sha256sum -c share/doc/edfvd/RELEASE` in the prefix compares the sums.
+# release: the text of RELEASE: what about says, and the sha256 of each file. `sha256sum -c share/doc/edfvd/RELEASE` in the prefix
+# compares the sums.
 release() {
-    awk '/^version: / { version = $2 } /^## Since / { changes = "+changes" } END { print "# edfvd " version changes }' \
-        "$here/CITATION.cff" "$here/CHANGELOG.md" || return
-    commit=unknown
-    if [ -e "$here/.git" ] && commit=$(git -C "$here" rev-parse HEAD); then
-        [ -z "$(git -C "$here" status --porcelain)" ] || commit="$commit, and changes that are not committed"
-    fi
-    echo "# commit $commit"
-    echo "# kit $(cat "$here/KIT")"
-    echo "# needs Linux on $(uname -m), with glibc 2.34 or later"
-    (cd "$tree" && find . -type f | sed 's|^\./||' | LC_ALL=C sort | xargs sha256sum)
+    sed 's/^/# /' "$tree/libexec/edfvd/version.txt" && (cd "$tree" && find . -type f | sed 's|^\./||' | LC_ALL=C sort | xargs sha256sum)
 }
 
 # make_tree: puts what is installed into a temporary folder, and lists its files and folders
 make_tree() {
-    add "$program" bin/edfvd
+    add "$here/man/edfvd.sh" bin/edfvd
+    add "$chosen" libexec/edfvd/edfvd
+    add "$here/man/help.txt" libexec/edfvd/help.txt
+    about >"$work/version" || refuse 'the text of the version cannot be made'
+    add "$work/version" libexec/edfvd/version.txt
     add "$here/man/edfvd.1" share/man/man1/edfvd.1
+    add "$here/man/edfvd.bash" share/bash-completion/completions/edfvd
     for file in LICENSE-APACHE LICENSE-MIT THIRD-PARTY-LICENSES; do
         add "$here/$file" "share/doc/edfvd/$file"
     done
     add_pages
     if [ -e "$here/c/out/libedfvd.a" ]; then add_libraries; fi
-    if ! { find "$tree" -type f -exec chmod 644 {} + && chmod 755 "$tree/bin/edfvd"; }; then refuse "$tree cannot be written"; fi
+    if ! { find "$tree" -type f -exec chmod 644 {} + && chmod 755 "$tree/bin/edfvd" "$tree/libexec/edfvd/edfvd"; }; then
+        refuse "$tree cannot be written"
+    fi
     release >"$work/release" || refuse 'the text of RELEASE cannot be made'
     add "$work/release" share/doc/edfvd/RELEASE
     chmod 644 "$tree/share/doc/edfvd/RELEASE" || refuse "$tree cannot be written"

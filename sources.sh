@@ -150,6 +150,7 @@ is_same() (
 
 # choose: sets $chosen to the program of the sources that are here: the one that was built here, or else the prebuilt one. If neither
 # is of these sources, $why says why.
+# shellcheck disable=SC2034
 choose() {
     chosen=$here/$built_program
     [ -x "$chosen" ] && [ -z "$(newer_source "$built_program" edfvd_program)" ] && return

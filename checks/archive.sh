@@ -55,7 +55,7 @@ same_bytes() {
 # The modes in the archive are 755 and 644, its owner is 0, and its files are those that are installed.
 content() {
     tar --numeric-owner -tvzf "$work/022/$name.tar.gz" >"$work/list"
-    awk '{ wanted = $1 ~ /^d/ || $6 ~ /\/bin\/edfvd$/ ? "rwxr-xr-x" : "rw-r--r--" }
+    awk '{ wanted = $1 ~ /^d/ || $6 ~ /\/(bin|libexec\/edfvd)\/edfvd$/ ? "rwxr-xr-x" : "rw-r--r--" }
         substr($1, 2) != wanted || $2 != "0/0" || $6 !~ /^edfvd-[^\/]*-linux\// { print }' "$work/list" >"$work/out"
     judge 0 0 "$work/empty" 'modes, owners and names in the archive'
     bounded env PATH="$alone" "$tree/install.sh" "$work/prefix" >/dev/null

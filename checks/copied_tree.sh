@@ -8,7 +8,7 @@ out=$tree/crates/edfvd_program/out
 built=$out/edfvd_program
 tasks=$tree/examples/control/tasks.toml
 mkdir -p "$tree/examples" "$tree/tools" "$work/tools" "$work/rt"
-for file in edfvd sources.sh install.sh dist.sh crates.txt man docs LICENSE-APACHE LICENSE-MIT THIRD-PARTY-LICENSES CITATION.cff KIT; do
+for file in edfvd sources.sh about.sh install.sh dist.sh crates.txt man docs LICENSE-APACHE LICENSE-MIT THIRD-PARTY-LICENSES CITATION.cff KIT; do
     cp -R "../$file" "$tree" || exit 1
 done
 for file in ../*.md; do cp "$file" "$tree"; done
@@ -21,7 +21,8 @@ for crate in ../crates/*; do
 done
 
 # What the scripts call, without rt.
-for tool in sh find awk sed sort tr wc sleep dirname readlink touch mkdir rmdir chmod cp ln mv rm cat sha256sum xargs mktemp tar gzip uname; do
+for tool in sh find awk sed sort tr wc sleep dirname readlink touch mkdir rmdir chmod cp ln mv rm cat sha256sum xargs mktemp tar gzip uname \
+    grep ls; do
     ln -s "$(command -v "$tool")" "$work/tools/$tool" || exit 1
 done
 alone=$work/tools

@@ -41,7 +41,8 @@ installed() {
         tries 0 "$work/installed" '' "$alone" "$tree/install.sh" "$work/prefix"
         umask 022
         files "$work/prefix" >"$work/files_$mask"
-        find "$work/prefix" -type d ! -perm 755 -o -type f ! -path '*/bin/edfvd' ! -perm 644 -o -path '*/bin/edfvd' ! -perm 755 >"$work/out"
+        find "$work/prefix" -type d ! -perm 755 -o -type f \( -path '*/bin/edfvd' -o -path '*/edfvd/edfvd' \) ! -perm 755 -o \
+            -type f ! -path '*/bin/edfvd' ! -path '*/edfvd/edfvd' ! -perm 644 >"$work/out"
         judge 0 0 "$work/empty" "the modes under umask $mask"
     done
     holds 'umask 077 and 022' cmp "$work/files_077" "$work/files_022"
@@ -187,7 +188,7 @@ planted() {
     ' >/dev/null 2>"$work/err"
     judge 0 $? "$work/out" 'install.sh beside planted links'
     holds 'what the links lead to' cmp "$work/victim" "$(says untouched)"
-    holds 'a link in the place of the program is replaced' cmp "$work/planted/bin/edfvd" "$program"
+    holds 'a link in the place of the program is replaced' cmp "$work/planted/bin/edfvd" ../man/edfvd.sh
     find "$work/planted" -type l -exec rm {} +
     files "$work/planted" >"$work/out"
     judge 0 0 "$work/files_all" 'what is installed beside planted links'

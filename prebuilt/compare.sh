@@ -33,6 +33,7 @@ sums() {
 
 # is_small: all files together are no larger than the limit
 is_small() {
+    # shellcheck disable=SC2086
     [ "$(cd "$here/prebuilt" && cat README.md SHA256SUMS ./*.sh $files | wc -c)" -le "$limit" ]
 }
 

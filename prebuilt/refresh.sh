@@ -34,7 +34,9 @@ fill() {
         for name in edfvd libedfvd.so; do
             echo "$name $(digest_of "$name") $(sha256sum <"$1/$name" | sed 's/ .*//')"
         done
-    } >"$1/SOURCES" && (cd "$1" && sha256sum $files >SHA256SUMS)
+    } >"$1/SOURCES" || return
+    # shellcheck disable=SC2086
+    (cd "$1" && sha256sum $files >SHA256SUMS)
 }
 
 [ "$(rt version 2>/dev/null)" = "$(cat "$here/KIT")" ] || refuse 'the toolchain of KIT is not on the PATH'
