@@ -8,6 +8,7 @@ import base64
 import hashlib
 import re
 import stat
+import subprocess
 import sysconfig
 import zipfile
 from pathlib import Path
@@ -16,9 +17,10 @@ from typing import Dict, List
 HERE = Path(__file__).resolve().parent
 ROOT = HERE.parent
 
+LIBRARY = "libedfvd.so"
 PACKAGE = [
     "__init__.py", "_calls.py", "_commands.py", "_errors.py", "_given.py", "_handle.py", "_library.py", "_monitor.py",
-    "_scheduler.py", "_values.py", "py.typed", "libedfvd.so",
+    "_scheduler.py", "_values.py", "py.typed",
 ]
 LICENCES = ["LICENSE-APACHE", "LICENSE-MIT"]
 # The licences of what is linked into the library, in a repository that has them.
@@ -46,6 +48,17 @@ def _licences() -> Dict[str, bytes]:
     remedy = "the licences stand beside this folder in the repository; a pip before 21.3 does not look there"
     names = LICENCES + [LINKED] if (ROOT / LINKED).exists() else LICENCES
     return {name: _bytes_of(ROOT / name, remedy) for name in names}
+
+
+def _library() -> Path:
+    """The shared library: in the repository the one of its sources, built or prebuilt; elsewhere the one in the package's folder."""
+    asked = ROOT / "prebuilt" / "library.sh"
+    if not asked.exists():
+        return HERE / "edfvd" / LIBRARY
+    done = subprocess.run([str(asked)], check=False, stdout=subprocess.PIPE, stderr=subprocess.PIPE, text=True)
+    if done.returncode != 0:
+        raise SystemExit(done.stderr.rstrip())
+    return Path(done.stdout.rstrip("\n"))
 
 
 def _metadata(licences: List[str]) -> str:
@@ -85,7 +98,8 @@ def build_wheel(wheel_directory: str, config_settings: object = None, metadata_d
     machine = re.sub(r"[-.]", "_", sysconfig.get_platform())
     tag, info = f"py3-none-{machine}", f"edfvd-{_version()}.dist-info"
     licences = _licences()
-    files = {f"edfvd/{name}": _bytes_of(HERE / "edfvd" / name, "c/build.sh makes the library") for name in PACKAGE}
+    files = {f"edfvd/{name}": _bytes_of(HERE / "edfvd" / name, "it is part of the repository") for name in PACKAGE}
+    files[f"edfvd/{LIBRARY}"] = _bytes_of(_library(), "c/build.sh makes the library")
     files.update({f"{info}/licenses/{name}": text for name, text in licences.items()})
     files[f"{info}/METADATA"] = _metadata(list(licences)).encode()
     files[f"{info}/WHEEL"] = f"Wheel-Version: 1.0\nGenerator: backend.py\nRoot-Is-Purelib: false\nTag: {tag}\n".encode()

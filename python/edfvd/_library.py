@@ -4,6 +4,7 @@ from __future__ import annotations
 
 import ctypes
 import os
+import subprocess
 from pathlib import Path
 from typing import Any, Dict, List
 
@@ -116,9 +117,26 @@ CALLS: Dict[str, List[Any]] = {
 }
 
 
+def _path() -> str:
+    """The library named by ``EDFVD_LIBRARY``, or the one beside this file, or, in a repository without it, the prebuilt one."""
+    named = os.environ.get("EDFVD_LIBRARY")
+    if named:
+        return named
+    here = Path(__file__).resolve()
+    beside, asked = here.with_name("libedfvd.so"), here.parents[2] / "prebuilt" / "library.sh"
+    if beside.exists() or not asked.exists():
+        return str(beside)
+    try:
+        return subprocess.run([str(asked)], check=True, stdout=subprocess.PIPE, stderr=subprocess.PIPE, text=True).stdout.rstrip("\n")
+    except subprocess.CalledProcessError as error:
+        raise ImportError(f"there is no library of edfvd: {error.stderr.rstrip()}") from error
+    except OSError as error:
+        raise ImportError(f"there is no library of edfvd; c/build.sh makes it: {error}") from error
+
+
 def _load() -> ctypes.CDLL:
-    """The library named by ``EDFVD_LIBRARY``, or the one beside this file."""
-    path = os.environ.get("EDFVD_LIBRARY") or str(Path(__file__).with_name("libedfvd.so"))
+    """The library, with the types of its calls."""
+    path = _path()
     try:
         loaded = ctypes.CDLL(path)
     except OSError as error:
