@@ -105,12 +105,12 @@ digest_of() {
 
 # is_prebuilt NAME: whether prebuilt/SOURCES says of this very file in prebuilt that it was built from the sources that are here, with
 # the toolchain of KIT and for this machine
-is_prebuilt() {
+is_prebuilt() (
     notes=$here/prebuilt/SOURCES
     line="$1 $(digest_of "$1") $(sha256sum <"$here/prebuilt/$1" | sed 's/ .*//')"
     [ "${#line}" -eq $((${#1} + 130)) ] && grep -qxF "$line" "$notes" && grep -qxF "kit $(cat "$here/KIT")" "$notes" &&
         grep -qxF "machine $(uname -m)" "$notes"
-} 2>/dev/null
+) 2>/dev/null
 
 # was_same NAME: whether nothing changed since prebuilt/NAME was last found to be of the sources that are here. The file
 # prebuilt/out/NAME.same has the paths that decide, and was written before they were read. Of these paths, and of what is in the folders
