@@ -108,7 +108,7 @@ digest_of() {
 is_prebuilt() (
     notes=$here/prebuilt/SOURCES
     line="$1 $(digest_of "$1") $(sha256sum <"$here/prebuilt/$1" | sed 's/ .*//')"
-    [ "${#line}" -eq $((${#1} + 130)) ] && grep -qxF "$line" "$notes" && grep -qxF "kit $(cat "$here/KIT")" "$notes" &&
+    [ "${#line}" -eq $((${#1} + 130)) ] && grep -qxF "$line" "$notes" && [ "$(sed -n 's/^kit //p' "$notes")" = "$(cat "$here/KIT")" ] &&
         grep -qxF "machine $(uname -m)" "$notes"
 ) 2>/dev/null
 

@@ -48,4 +48,4 @@ trap 'exit 1' HUP INT TERM
 fill "$work" || refuse "$work cannot be written"
 # shellcheck disable=SC2086
 (cd "$work" && mv -f $files SHA256SUMS ..) || exit 1
-exec "$here/prebuilt/compare.sh"
+"$here/prebuilt/compare.sh"

@@ -1,0 +1,215 @@
+#!/bin/sh
+# Compares the folder prebuilt with the sources and with what the gate built, and tries its scripts and reproduce.sh in a copy of the tree
+# with stand-ins for the toolchain: what refresh.sh writes and when it refuses, and that compare.sh finds each thing that differs.
+# c/build.sh must have built the library: library.sh does.
+# usage: prebuilt.sh
+. "$(dirname -- "$0")/usage.sh"
+takes 0 0 "$@"
+cd "$(dirname -- "$0")" || exit 1
+. ./copied_tree.sh
+kit=$(cat ../KIT)
+
+# build_tree: the copy gets what the scripts need: the folder without the files that refresh.sh writes, and the files in c. The library is
+# a text, which the stand-in for nm writes. The stand-in for c/build.sh makes it.
+build_tree() {
+    mkdir -p "$tree/prebuilt" "$tree/c"
+    cp ../prebuilt/*.sh ../prebuilt/README.md "$tree/prebuilt"
+    cp ../reproduce.sh ../about.sh "$tree"
+    cp ../c/*.c ../c/*.h "$tree/c"
+    cat >"$tree/c/build.sh" <<'END'
+#!/bin/sh
+cd "$(dirname -- "$0")" || exit
+[ ! -e fails ] || exit 1
+mkdir -p out
+printf '0 T edfvd_ask\n0 T edfvd_check\n' >out/libedfvd.so
+END
+    chmod +x "$tree/c/build.sh"
+    cat >"$work/rt/rt" <<END
+#!/bin/sh
+case \$1 in
+version) echo "$kit" ;;
+*) cp "$work/made" out/edfvd_program ;;
+esac
+END
+    cp "$program" "$work/made"
+    for tool in cc ld; do printf '#!/bin/sh\necho "%s of the test, 1.0"\necho more\n' "$tool" >"$work/rt/$tool"; done
+    # shellcheck disable=SC2016
+    printf '#!/bin/sh\ncat "$3"\n' >"$work/rt/nm"
+    chmod +x "$work/rt"/*
+    for tool in cmp tail head diff; do ln -s "$(command -v "$tool")" "$work/tools/$tool"; done
+}
+
+# files: the files in prebuilt with their modes and sums
+files() {
+    (cd "$tree/prebuilt" && find . -type f -printf '%m %p\n' | sort -k 2 && find . -type f -exec sha256sum {} + | sort -k 2)
+}
+
+# fails SAYS TOOLS COMMAND..: the command has status 1, says this, and changes nothing in prebuilt
+fails() {
+    says=$1
+    tools=$2
+    shift 2
+    files >"$work/files"
+    bounded env PATH="$tools" "$@" >"$work/text" 2>&1
+    status=$?
+    holds "$1: $says" [ "$status" -eq 1 ]
+    holds "$1 says: $says" grep -qF -e "$says" "$work/text"
+    files >"$work/out"
+    judge 0 0 "$work/files" "the files after: $says"
+}
+
+# passes COMMAND..: the command has status 0, and says this at the end
+passes() {
+    says=$1
+    shift
+    bounded env PATH="$with" "$@" >"$work/text" 2>"$work/err"
+    status=$?
+    tail -n 1 "$work/text" >"$work/out"
+    judge 0 "$status" "$(says "$says")" "$*"
+}
+
+refused() {
+    refresh=$tree/prebuilt/refresh.sh
+    fails 'the toolchain of KIT is not on the PATH' "$alone" "$refresh"
+    fails 'the program is not built from the sources that are here' "$with" "$refresh"
+    put_program
+    echo 'rattle-kit-0 logic 0' >"$tree/KIT"
+    fails 'the toolchain of KIT is not on the PATH' "$with" "$refresh"
+    cp ../KIT "$tree/KIT"
+    touch -d '1 hour ago' "$built"
+    fails 'the program is not built from the sources that are here' "$with" "$refresh"
+    put_program
+    : >"$tree/c/fails"
+    fails 'the library was not built' "$with" "$refresh"
+    rm "$tree/c/fails"
+}
+
+# sum FILE: its sha256
+sum() {
+    sha256sum <"$1" | sed 's/ .*//'
+}
+
+# written: the files, their modes and what SOURCES says; and the same bytes again
+written() {
+    passes 'prebuilt: 9 compared, 0 failed' "$tree/prebuilt/refresh.sh"
+    find "$tree/prebuilt" -mindepth 1 -printf '%m %P\n' | sort -k 2 >"$work/out"
+    for name in LICENSE-APACHE LICENSE-MIT README.md SHA256SUMS SOURCES THIRD-PARTY-LICENSES compare.sh edfvd libedfvd.so library.sh \
+        refresh.sh tools.sh; do
+        case $name in
+        edfvd | compare.sh | library.sh | refresh.sh) echo "755 $name" ;;
+        *) echo "644 $name" ;;
+        esac
+    done | sort -k 2 >"$work/wanted"
+    judge 0 0 "$work/wanted" 'the files that refresh.sh writes'
+    cut -d ' ' -f 1 "$tree/prebuilt/SOURCES" | tr '\n' ' ' >"$work/out"
+    printf 'kit machine cc ld edfvd libedfvd.so ' >"$work/wanted"
+    judge 0 0 "$work/wanted" 'the first words of SOURCES'
+    grep -v '^edfvd\|^libedfvd' "$tree/prebuilt/SOURCES" >"$work/out"
+    printf 'kit %s\nmachine %s\ncc cc of the test, 1.0\nld ld of the test, 1.0\n' "$kit" "$(uname -m)" >"$work/wanted"
+    judge 0 0 "$work/wanted" 'the tools in SOURCES'
+    holds 'the sum of the program' grep -q "^edfvd [0-9a-f]\{64\} $(sum "$program")\$" "$tree/prebuilt/SOURCES"
+    holds 'the sum of the library' grep -q "^libedfvd.so [0-9a-f]\{64\} $(sum "$tree/c/out/libedfvd.so")\$" "$tree/prebuilt/SOURCES"
+    (cd "$tree/prebuilt" && for name in LICENSE-APACHE LICENSE-MIT SOURCES THIRD-PARTY-LICENSES edfvd libedfvd.so; do
+        printf '%s  %s\n' "$(sum "$name")" "$name"
+    done) >"$work/wanted"
+    holds 'SHA256SUMS' cmp "$tree/prebuilt/SHA256SUMS" "$work/wanted"
+    files >"$work/first"
+    umask 077
+    passes 'prebuilt: 9 compared, 0 failed' "$tree/prebuilt/refresh.sh"
+    umask 022
+    files >"$work/out"
+    judge 0 0 "$work/first" 'the files that refresh.sh writes under umask 077'
+}
+
+# finds SAYS FILE: compare.sh says this after a line more in the file, which is then put back
+finds() {
+    cp -p "$tree/$2" "$work/kept"
+    echo '// more' >>"$tree/$2"
+    fails "$1" "$with" "$tree/prebuilt/compare.sh"
+    cp -p "$work/kept" "$tree/$2"
+}
+
+# found: each thing that may differ
+found() {
+    passes 'prebuilt: 9 compared, 0 failed' "$tree/prebuilt/compare.sh"
+    finds 'SHA256SUMS is wrong' prebuilt/SOURCES
+    finds 'SHA256SUMS is wrong' prebuilt/SHA256SUMS
+    finds 'edfvd is not the program that was built' prebuilt/edfvd
+    finds 'libedfvd.so is not the one that was built' prebuilt/libedfvd.so
+    finds 'edfvd is not the program that was built' crates/edfvd_program/out/edfvd_program
+    finds 'libedfvd.so is not the one that was built' c/out/libedfvd.so
+    finds 'LICENSE-MIT is not the one of the repository' LICENSE-MIT
+    finds 'THIRD-PARTY-LICENSES is not the one of the repository' THIRD-PARTY-LICENSES
+    finds 'edfvd is not of the sources that are here' crates/edfvd_program/src/main.rt
+    finds 'edfvd is not of the sources that are here' KIT
+    finds 'libedfvd.so is not of the sources that are here' crates/edfvd_c/src/lib.rt
+    finds 'libedfvd.so is not of the sources that are here' c/edfvd.c
+    finds 'libedfvd.so is not of the sources that are here' c/edfvd.h
+    finds 'libedfvd.so is not of the sources that are here' c/build.sh
+    # A source of the library alone is none of the program.
+    echo '// more' >>"$tree/c/edfvd_ask.c"
+    fails 'libedfvd.so is not of' "$with" "$tree/prebuilt/compare.sh"
+    holds 'the program is of its sources' [ "$(grep -c 'edfvd is not of' "$work/text")" -eq 0 ]
+    cp ../c/edfvd_ask.c "$tree/c"
+    mv "$tree/c/out/libedfvd.so" "$work/kept"
+    fails "$tree/c/out/libedfvd.so is not built" "$with" "$tree/prebuilt/compare.sh"
+    mv "$work/kept" "$tree/c/out/libedfvd.so"
+    mv "$built" "$work/kept"
+    fails 'edfvd_program is not built' "$with" "$tree/prebuilt/compare.sh"
+    mv "$work/kept" "$built"
+    cp "$tree/prebuilt/libedfvd.so" "$work/kept"
+    head -c 3145728 /dev/zero >>"$tree/prebuilt/libedfvd.so"
+    fails 'more than 3145728 bytes' "$with" "$tree/prebuilt/compare.sh"
+    cp "$work/kept" "$tree/prebuilt/libedfvd.so"
+}
+
+# another_compiler: the bytes of the library are not compared then, and its calls are
+another_compiler() {
+    only='prebuilt: of libedfvd.so the names of the calls are compared, and not the bytes: cc or ld is not that of prebuilt/SOURCES'
+    for tool in cc ld; do
+        printf '#!/bin/sh\necho another\n' >"$work/rt/$tool"
+        printf '9 T edfvd_check\n8 T edfvd_ask\n' >"$tree/c/out/libedfvd.so"
+        passes 'prebuilt: 9 compared, 0 failed' "$tree/prebuilt/compare.sh"
+        holds 'a line says so' grep -qxF "$only" "$work/text"
+        printf '9 T edfvd_check\n' >"$tree/c/out/libedfvd.so"
+        fails 'libedfvd.so has not the calls of the one that was built' "$with" "$tree/prebuilt/compare.sh"
+        printf '#!/bin/sh\necho "%s of the test, 1.0"\n' "$tool" >"$work/rt/$tool"
+        "$tree/c/build.sh"
+    done
+}
+
+# reproduced: from nothing, in another folder
+reproduced() {
+    reproduce=$tree/reproduce.sh
+    passes 'prebuilt: 9 compared, 0 failed' "$reproduce" "$work/again"
+    holds 'the copy stays' cmp "$program" "$work/again/crates/edfvd_program/out/edfvd_program"
+    holds 'what is prebuilt is not copied' [ ! -e "$work/again/prebuilt/edfvd" ]
+    mkdir "$work/temporary"
+    passes 'prebuilt: 9 compared, 0 failed' TMPDIR="$work/temporary" CC=none CFLAGS=-none "$reproduce"
+    holds 'no other copy stays' [ -z "$(ls -A "$work/temporary")" ]
+    fails 'is not empty' "$with" "$reproduce" "$work/again"
+    fails 'is no folder' "$with" "$reproduce" "$work/made"
+    fails 'the command rt, which proves and builds, is not on the PATH' "$alone" "$reproduce"
+    echo more >>"$work/made"
+    fails 'edfvd is not the program that was built' "$with" "$reproduce"
+    : >"$tree/c/fails"
+    fails 'the library was not built' "$with" "$reproduce"
+    rm "$tree/c/fails" "$work/made"
+    fails 'the program was not built' "$with" "$reproduce"
+}
+
+bounded ../prebuilt/compare.sh >"$work/text" 2>&1
+holds 'prebuilt is what is built here' [ $? -eq 0 ]
+cat "$work/text"
+if [ -e ../.git ]; then
+    printf 'prebuilt/%s: binary: set\n' edfvd libedfvd.so >"$work/wanted"
+    (cd .. && git check-attr binary prebuilt/edfvd prebuilt/libedfvd.so) >"$work/out"
+    judge 0 $? "$work/wanted" 'the attributes of the binary files'
+fi
+build_tree
+refused
+written
+found
+another_compiler
+reproduced
+ends prebuilt
