@@ -168,6 +168,19 @@ changed_meanwhile() {
     builds 1 'a source that is changed meanwhile'
 }
 
+# A prover that fails at once ends each call, also where there is no flock.
+fails_at_once() {
+    mkdir "$work/failing"
+    printf '#!/bin/sh\nexit 1\n' >"$work/failing/rt"
+    chmod +x "$work/failing/rt"
+    rm -rf "$out"
+    for _ in 1 2 3 4 5 6 7 8 9 10 11 12 13 14 15 16; do
+        timeout 10 env PATH="$work/failing:$alone" "$tree/edfvd" check "$tasks" >"$work/out" 2>"$work/err"
+        judge 127 $? "$work/empty" 'a prover that fails at once'
+    done
+    holds 'a line says so' grep -qF 'the program was not proved or not built; see' "$work/err"
+}
+
 # begin: starts a call in the background that builds from nothing, and goes on building
 begin() {
     rm -rf "$out"
@@ -231,5 +244,6 @@ same_sources
 other_sources
 other_program
 changed_meanwhile
+fails_at_once
 locks
 ends wrapper
