@@ -18,8 +18,8 @@ idles() {
 }
 trap 'idles; rm -rf "$work"' EXIT
 trap 'exit 1' HUP INT TERM
-program=${PROGRAM:-../crates/edfvd_program/out/edfvd_program}
 [ -n "${PROGRAM:-}" ] || ../edfvd check ../examples/control/tasks.toml >"$work/out" || exit 1
+program=${PROGRAM:-$(../prebuilt/program.sh)} || exit 1
 . ./workloads.sh
 
 # 32 tasks that are all released at each 64th tick: 20 low ones, and 12 high ones of which each fourth job overruns.

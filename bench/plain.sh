@@ -12,8 +12,8 @@ done
 work=$(mktemp -d) || exit 1
 trap 'rm -rf "$work"' EXIT
 trap 'exit 1' HUP INT TERM
-program=${PROGRAM:-../crates/edfvd_program/out/edfvd_program}
 [ -n "${PROGRAM:-}" ] || ../edfvd check ../examples/control/tasks.toml >"$work/out" || exit 1
+program=${PROGRAM:-$(../prebuilt/program.sh)} || exit 1
 rustc -O --edition 2021 -o "$work/plain" plain.rs || exit 1
 failed=0
 

@@ -9,8 +9,8 @@ fi
 work=$(mktemp -d) || exit 1
 trap 'rm -rf "$work"' EXIT
 trap 'exit 1' HUP INT TERM
-program=../crates/edfvd_program/out/edfvd_program
 ../edfvd check ../examples/control/tasks.toml >"$work/out" || exit 1
+program=$(../prebuilt/program.sh) || exit 1
 
 # The control set, padded with comment lines to 16,777,216 bytes.
 length=$(wc -c <../examples/control/tasks.toml)

@@ -1,6 +1,7 @@
 #!/bin/sh
-# Runs each script that tries the built program, as many at once as there are processors; those that limit the time of a run follow
-# alone. What a script printed is shown when it has ended. The status is that of the first of the list below that failed, or 0.
+# Runs each script that tries the built program, as many at once as there are processors; the one that limits the time of a run follows
+# alone, and so does the one that needs the library which library.sh builds. What a script printed is shown when it has ended. The
+# status is that of the first of the list below that failed, or 0.
 # usage: all.sh
 . "$(dirname -- "$0")/../tools/usage.sh"
 takes 0 0 "$@"
@@ -9,8 +10,8 @@ work=$(mktemp -d) || exit 1
 trap 'rm -rf "$work"' EXIT
 trap 'exit 1' HUP INT TERM
 
-# The longest first, so that none of them is left alone at the end; then the one that must not share the processors.
-cat >"$work/list" <<'LIST'
+# The longest first, so that none of them is left alone at the end.
+cat >"$work/together" <<'LIST'
 night.sh 2
 compare.sh
 memcheck.sh
@@ -27,6 +28,7 @@ lasting.sh
 growths.sh
 studies.sh
 archive.sh
+getting.sh
 wrapper.sh
 installing.sh
 limits.sh
@@ -34,8 +36,12 @@ suite.sh
 shown.sh
 records.sh
 licences.sh
-calm.sh
 LIST
+cat >"$work/alone" <<'LIST'
+calm.sh
+prebuilt.sh
+LIST
+cat "$work/together" "$work/alone" >"$work/list"
 
 # Built once, before the scripts ask for it side by side.
 [ -n "${PROGRAM:-}" ] || ../edfvd >/dev/null
@@ -49,8 +55,8 @@ run() {
         cat "$1/${2%%.*}.text"
     ' sh "$work"
 }
-sed '$d' "$work/list" | run "$(nproc)"
-tail -n 1 "$work/list" | run 1
+run "$(nproc)" <"$work/together"
+run 1 <"$work/alone"
 
 while read -r script _; do
     status=$(cat "$work/${script%.sh}.status" 2>/dev/null) || status=1

@@ -9,6 +9,9 @@ if ! python3 -c 'import sys; sys.exit(sys.version_info < (3, 9))' 2>/dev/null; t
     echo "compare: skipped, there is no python3 of version 3.9 or later"
     exit 0
 fi
-[ -n "${PROGRAM:-}" ] || ../edfvd >/dev/null
+if [ -z "${PROGRAM:-}" ]; then
+    ../edfvd >/dev/null
+    PROGRAM=$(../prebuilt/program.sh) || exit 1
+fi
 python3 -B ../checks/model.py || exit 1
-exec python3 -B ../checks/compare.py "${PROGRAM:-../crates/edfvd_program/out/edfvd_program}" "$@"
+exec python3 -B ../checks/compare.py "$PROGRAM" "$@"

@@ -1,8 +1,8 @@
 # Sourced in examples/ by each script that runs the built program: runs it, and compares what it does with what is expected.
 edfvd=$PWD/../edfvd
-# The built program itself. It is proved and built where it is not there.
-program=${PROGRAM:-$PWD/../crates/edfvd_program/out/edfvd_program}
+# The program itself. It is proved and built where neither the built nor the prebuilt one is of the sources that are here.
 [ -n "${PROGRAM:-}" ] || "$edfvd" >/dev/null
+program=${PROGRAM:-$("$PWD/../prebuilt/program.sh")}
 if ! [ -x "$program" ]; then
     echo "there is no program $program" >&2
     exit 1

@@ -9,5 +9,8 @@ if ! command -v python3 >/dev/null 2>&1; then
     echo "mutate: skipped, there is no python3"
     exit 0
 fi
-[ -n "${PROGRAM:-}" ] || ../edfvd >/dev/null
-exec python3 -B ../checks/mutate.py "${PROGRAM:-../crates/edfvd_program/out/edfvd_program}" "$@"
+if [ -z "${PROGRAM:-}" ]; then
+    ../edfvd >/dev/null
+    PROGRAM=$(../prebuilt/program.sh) || exit 1
+fi
+exec python3 -B ../checks/mutate.py "$PROGRAM" "$@"

@@ -18,14 +18,17 @@ if ! python3 -c 'import sys; sys.exit(sys.version_info < (3, 9))' 2>/dev/null; t
     exit 0
 fi
 python3 -c 'import tomllib' 2>/dev/null || echo 'night: no second reader of TOML, since this python3 has no tomllib'
-[ -n "${PROGRAM:-}" ] || ../edfvd >/dev/null
+if [ -z "${PROGRAM:-}" ]; then
+    ../edfvd >/dev/null
+    PROGRAM=$(../prebuilt/program.sh) || exit 1
+fi
 folder=${FOLDER:-}
 [ -n "$folder" ] || folder=$(mktemp -d "${TMPDIR:-/tmp}/edfvd-night-$seed-XXXXXX") || exit 1
 night=
 # An empty folder that was made here goes again.
 trap '[ -z "$night" ] || kill "$night" 2>/dev/null; [ -n "${FOLDER:-}" ] || rmdir "$folder" 2>/dev/null' EXIT
 trap 'exit 1' HUP INT TERM
-python3 -B ../checks/night.py "${PROGRAM:-../crates/edfvd_program/out/edfvd_program}" "$1" "$seed" "$folder" &
+python3 -B ../checks/night.py "$PROGRAM" "$1" "$seed" "$folder" &
 night=$!
 wait "$night"
 status=$?

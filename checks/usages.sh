@@ -122,6 +122,10 @@ refuses ../checks/studies.sh slurms
 refuses ../tools/record/record.sh text plan
 refuses ../tools/study/slurm.sh study 0
 refuses ../install.sh
+for script in ../reproduce.sh ../prebuilt/compare.sh ../prebuilt/refresh.sh ../prebuilt/program.sh ../prebuilt/library.sh; do
+    refuses "$script" 1 2
+    refuses "$script" --wrong
+done
 if grep -q 'py$' "$work/scripts"; then
     refuses ../bench/bounds.py program plain x
     refuses ../checks/compare.py program x

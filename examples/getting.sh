@@ -144,8 +144,13 @@ built_here() {
     printf '#!/bin/sh\necho built here\n' >"$here_built"
     chmod +x "$here_built"
     tries 0 "$(says 'built here')" '' "$alone" "$clone/edfvd" check control/tasks.toml
+    tries 0 "$(says "$here_built")" '' "$alone" "$clone/prebuilt/program.sh"
     touch -d '1 hour ago' "$here_built"
     calls 0 ''
+    tries 0 "$(says "$clone/prebuilt/edfvd")" '' "$alone" "$clone/prebuilt/program.sh"
+    : >"$clone/prebuilt/edfvd"
+    tries 1 "$work/empty" 'the program is older than its sources, and prebuilt has none of these sources' "$alone" "$clone/prebuilt/program.sh"
+    put_back
     printf '#!/bin/sh\necho called >>"%s"\n' "$work/called" >"$work/rt/rt"
     chmod +x "$work/rt/rt"
     calls 0 '' "$with"

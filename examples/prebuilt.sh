@@ -94,9 +94,9 @@ written() {
     passes 'prebuilt: 9 compared, 0 failed' "$tree/prebuilt/refresh.sh"
     find "$tree/prebuilt" -mindepth 1 -printf '%m %P\n' | sort -k 2 >"$work/out"
     for name in LICENSE-APACHE LICENSE-MIT README.md SHA256SUMS SOURCES THIRD-PARTY-LICENSES compare.sh edfvd libedfvd.so library.sh \
-        refresh.sh tools.sh; do
+        program.sh refresh.sh tools.sh; do
         case $name in
-        edfvd | compare.sh | library.sh | refresh.sh) echo "755 $name" ;;
+        edfvd | compare.sh | library.sh | program.sh | refresh.sh) echo "755 $name" ;;
         *) echo "644 $name" ;;
         esac
     done | sort -k 2 >"$work/wanted"
