@@ -7,8 +7,9 @@ about() {
     version=$(awk '/^version: / { version = $2 } /^## Since / { changes = "+changes" } END { print "edfvd " version changes }' \
         "$here/CITATION.cff" "$here/CHANGELOG.md") || return
     commit=unknown
-    if [ -e "$here/.git" ] && commit=$(git -C "$here" rev-parse HEAD); then
-        [ -z "$(git -C "$here" status --porcelain)" ] || commit="$commit, and changes that are not committed"
+    if [ -e "$here/.git" ]; then
+        commit=$(git -C "$here" rev-parse HEAD 2>/dev/null) || commit=unknown
+        [ -z "$(git -C "$here" status --porcelain 2>/dev/null)" ] || commit="$commit, and changes that are not committed"
     fi
     cat <<END
 $version

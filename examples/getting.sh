@@ -282,6 +282,10 @@ built_here
 rm -rf "$clone"
 copies
 answers 'the wrapper' "$clone/edfvd"
+# A folder .git without git, or that is no repository.
+mkdir "$clone/.git"
+answers 'the wrapper without git' "$clone/edfvd"
+rmdir "$clone/.git"
 installs
 python
 ends getting

@@ -59,7 +59,7 @@ whole_files() {
     for file in $made; do
         [ "$(mode_of "$clone/$file")" = -rw-r--r-- ] || return 1
     done
-    are_only "$clone/c/out" edfvd.pc libedfvd.a libedfvd.so libedfvd_core.a && are_only "$clone/python/edfvd" libedfvd.so
+    are_only "$clone/c/out" edfvd.pc libedfvd.a libedfvd.so libedfvd.so.sources libedfvd_core.a && are_only "$clone/python/edfvd" libedfvd.so
 }
 
 # under UMASK WORDS..: builds from the folder above, by a relative name, with an exported CDPATH in which c is another folder
@@ -101,6 +101,22 @@ ended() {
     return "$clean"
 }
 
+# is_noted: the note beside the library has the sum of the library, and a digest of its sources before that
+is_noted() {
+    grep -qx "[0-9a-f]\{64\} $(sha256sum <"$clone/c/out/libedfvd.so" | sed 's/ .*//')" "$clone/c/out/libedfvd.so.sources"
+}
+
+# is_not_noted: a build in which a source changes leaves no note, since the library may have the old source or the new one
+is_not_noted() {
+    objcopy=${OBJCOPY:-objcopy}
+    printf '#!/bin/sh\necho "// more" >>"%s/c/edfvd.c"\nexec %s "$@"\n' "$clone" "$(command -v "$objcopy")" >"$tools/changing"
+    chmod 755 "$tools/changing"
+    OBJCOPY=$tools/changing under 022 && [ -e "$clone/c/out/libedfvd.so" ] && ! [ -e "$clone/c/out/libedfvd.so.sources" ]
+    status=$?
+    cp "$root/c/edfvd.c" "$clone/c"
+    return "$status"
+}
+
 mkdir -p "$clone/c" "$clone/python/edfvd" "$work/decoy/c" "$tools" "$TMPDIR"
 for path in "$root"/*; do
     case ${path##*/} in
@@ -116,6 +132,10 @@ for mask in 077 027 022; do
     notes "the files with the umask $mask" whole_files
     notes "the folder with the umask $mask" [ "$(mode_of "$clone/c/out")" = drwxr-xr-x ]
 done
+notes 'the note beside the library' is_noted
+notes 'a source that changes during the build' is_not_noted
+notes 'again, with the source as it was' under 022
+notes 'the note that is there again' is_noted
 notes 'into a folder' under 077 "$work/static ones"
 notes 'the files of a folder' are_only "$work/static ones" libedfvd.a libedfvd_core.a
 notes 'again, while the files are in use' stay
