@@ -114,12 +114,14 @@ is_prebuilt() (
 
 # was_same NAME: whether nothing changed since prebuilt/NAME was last found to be of the sources that are here. The file
 # prebuilt/out/NAME.same has the paths that decide, and was written before they were read. Of these paths, and of what is in the folders
-# among them, none may have been written, renamed, made or removed since, whatever time a file says that it has.
+# among them, none may have been written, renamed, made or removed since, whatever time a file says that it has. It begins with the
+# number of the inode of prebuilt/NAME, which is another one in a copy of the tree: there the times of copied files say nothing.
 was_same() {
     (
-        cd "$here" && read -r paths <"prebuilt/out/$1.same" || exit
+        cd "$here" && read -r inode paths <"prebuilt/out/$1.same" || exit
         # shellcheck disable=SC2086
-        changed=$(find $paths \( -path 'crates/*/*' -o -prune \) -cnewer "prebuilt/out/$1.same" -print -quit) && [ -z "$changed" ]
+        changed=$(find $paths \( -path 'crates/*/*' -o -prune \) \
+            \( -cnewer "prebuilt/out/$1.same" -o -path "prebuilt/$1" ! -inum "$inode" \) -print -quit) && [ -z "$changed" ]
     ) 2>/dev/null
 }
 
@@ -136,7 +138,7 @@ is_same() (
     {
         mkdir -p "${note%/*}"
         # shellcheck disable=SC2046
-        echo crates.txt KIT sources.sh "prebuilt/$name" prebuilt/SOURCES c $(guards "$name") \
+        echo "$(find "$here/prebuilt/$name" -printf %i)" crates.txt KIT sources.sh "prebuilt/$name" prebuilt/SOURCES c $(guards "$name") \
             $(crate_lines "$@" | sed 's|:.*||; s|^|crates/|') $(source_folders "$@") >"$note.$$" && noted=yes
     } 2>/dev/null
     is_prebuilt "$name" || exit

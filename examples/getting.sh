@@ -66,6 +66,20 @@ compared_once() {
     tries 0 control/check.txt '' "$alone" "$work/link" check control/tasks.toml
 }
 
+# copied: in a copy with the times of the files, the note of a comparison says nothing, even if its time is to come
+copied() {
+    cp -pR "$clone" "$work/copy"
+    touch -d '1 day' "$work/copy/prebuilt/out/edfvd.same"
+    tries 0 control/check.txt '' "$alone" "$work/copy/edfvd" check control/tasks.toml
+    touch -d '1 day' "$clone/prebuilt/out/edfvd.same"
+    rm -r "$work/copy"
+    cp -pR "$clone" "$work/copy"
+    rm "$clone/prebuilt/out/edfvd.same"
+    echo '// more' >>"$work/copy/crates/mc_task/src/task.rt"
+    tries 127 "$work/empty" "$line" "$alone" "$work/copy/edfvd" check control/tasks.toml
+    rm -r "$work/copy"
+}
+
 # put_back: puts back what a change has spoilt
 put_back() {
     for path in crates/mc_task prebuilt KIT crates.txt; do
@@ -92,6 +106,7 @@ has_old_time() {
 append() { echo '// more' >>"$source"; }
 append_unseen() { append && has_old_time "$source"; }
 insert() { echo >"$clone/crates/mc_task/src/more.rt" && has_old_time "$clone/crates/mc_task/src/more.rt"; }
+remove() { rm "$source"; }
 rename() { mv "$source" "$clone/crates/mc_task/src/other.rt"; }
 without_specs() { rm -r "$clone/crates/mc_task/specs"; }
 without_crate() { rm -r "$clone/crates/mc_task"; }
@@ -118,6 +133,7 @@ only_these() {
     spoils 'a source with more' append
     spoils 'a source with more and an old time' append_unseen
     spoils 'a source that is new' insert
+    spoils 'a source less' remove
     spoils 'a source with another name' rename
     spoils 'a crate without definitions' without_specs
     spoils 'a crate less' without_crate
@@ -277,6 +293,7 @@ the_help
 completion
 first_command
 compared_once
+copied
 only_these
 built_here
 rm -rf "$clone"
