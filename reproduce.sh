@@ -6,7 +6,7 @@
 set -u
 unset CDPATH TAR_OPTIONS CC CFLAGS LD AR OBJCOPY
 here=$(cd "$(dirname -- "$0")" && pwd) || exit 1
-. "$here/examples/usage.sh"
+. "$here/tools/usage.sh"
 takes 0 1 "$@"
 
 # refuse WHY: ends the script

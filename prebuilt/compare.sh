@@ -6,7 +6,7 @@
 set -u
 unset CDPATH
 here=$(cd "$(dirname -- "$0")/.." && pwd) || exit 1
-. "$here/examples/usage.sh"
+. "$here/tools/usage.sh"
 takes 0 1 "$@"
 . "$here/sources.sh"
 . "$here/prebuilt/tools.sh"

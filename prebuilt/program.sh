@@ -5,7 +5,7 @@
 set -u
 unset CDPATH
 here=$(cd "$(dirname -- "$0")/.." && pwd) || exit 1
-. "$here/examples/usage.sh"
+. "$here/tools/usage.sh"
 takes 0 0 "$@"
 . "$here/sources.sh"
 if ! choose; then

@@ -7,7 +7,7 @@ set -u
 unset CDPATH
 umask 022
 here=$(cd "$(dirname -- "$0")/.." && pwd) || exit 1
-. "$here/examples/usage.sh"
+. "$here/tools/usage.sh"
 takes 0 0 "$@"
 . "$here/sources.sh"
 . "$here/prebuilt/tools.sh"

@@ -3,12 +3,12 @@
 # Python package, each in a fresh copy of the tree with its prebuilt program and library; that these are used only for the sources
 # that they were built from; the words --help and --version; and the completion for bash. It needs no built program.
 # usage: getting.sh
-. "$(dirname -- "$0")/usage.sh"
+. "$(dirname -- "$0")/../tools/usage.sh"
 takes 0 0 "$@"
-cd "$(dirname -- "$0")" || exit 1
+cd "$(dirname -- "$0")/../examples" || exit 1
 # shellcheck disable=SC2034
 PROGRAM=$PWD/../prebuilt/edfvd
-. ./copied_tree.sh
+. ../checks/copied_tree.sh
 clone="$work/a clone"
 line='the program is not built, the one in prebuilt is not of these sources or does not run here, and the command rt'
 source=$clone/crates/mc_task/src/task.rt

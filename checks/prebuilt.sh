@@ -3,10 +3,10 @@
 # with stand-ins for the toolchain: what refresh.sh writes and when it refuses, and that compare.sh finds each thing that differs.
 # c/build.sh must have built the library: library.sh does.
 # usage: prebuilt.sh
-. "$(dirname -- "$0")/usage.sh"
+. "$(dirname -- "$0")/../tools/usage.sh"
 takes 0 0 "$@"
-cd "$(dirname -- "$0")" || exit 1
-. ./copied_tree.sh
+cd "$(dirname -- "$0")/../examples" || exit 1
+. ../checks/copied_tree.sh
 kit=$(cat ../KIT)
 
 # build_tree: the copy gets what the scripts need: the folder without the files that refresh.sh writes, and the files in c. The library is
@@ -18,7 +18,7 @@ build_tree() {
     cp ../c/*.c ../c/*.h "$tree/c"
     cat >"$tree/c/build.sh" <<'END'
 #!/bin/sh
-cd "$(dirname -- "$0")" || exit
+cd "$(dirname -- "$0")/../examples" || exit
 [ ! -e fails ] || exit 1
 mkdir -p out
 printf '0 T edfvd_ask\n0 T edfvd_check\n' >out/libedfvd.so
@@ -93,10 +93,10 @@ sum() {
 written() {
     passes 'prebuilt: 9 compared, 0 failed' "$tree/prebuilt/refresh.sh"
     find "$tree/prebuilt" -mindepth 1 -printf '%m %P\n' | sort -k 2 >"$work/out"
-    for name in LICENSE-APACHE LICENSE-MIT README.md SHA256SUMS SOURCES THIRD-PARTY-LICENSES compare.sh edfvd libedfvd.so library.sh \
+    for name in LICENSE-APACHE LICENSE-MIT README.md SHA256SUMS SOURCES THIRD-PARTY-LICENSES ../checks/compare.sh edfvd libedfvd.so ../checks/library.sh \
         program.sh refresh.sh tools.sh; do
         case $name in
-        edfvd | compare.sh | library.sh | program.sh | refresh.sh) echo "755 $name" ;;
+        edfvd | ../checks/compare.sh | ../checks/library.sh | program.sh | refresh.sh) echo "755 $name" ;;
         *) echo "644 $name" ;;
         esac
     done | sort -k 2 >"$work/wanted"
