@@ -148,8 +148,8 @@ wants 1 "$work/empty" 'are 2^64 or more together' python3 -B ../tools/study/stud
 any_name() {
     mkdir "$work/$1" && cd "$work/$1" || exit 1
     bounded "$program" accept 1 4 8 >"$work/four.txt"
-    python3 -B "$here/study/study.py" new "$1" 1 4 8 1
-    EDFVD=$program "$here/study/parallel.sh" "$1" 2 >"$work/out" 2>"$work/err"
+    python3 -B "$here/../tools/study/study.py" new "$1" 1 4 8 1
+    EDFVD=$program "$here/../tools/study/parallel.sh" "$1" 2 >"$work/out" 2>"$work/err"
     judge 0 $? "$work/four.txt" "parallel.sh of a study in the folder $1"
     printf '%s\n' jobs.txt parts study.txt table.txt >"$work/wanted.txt"
     ls "$1" >"$work/out"

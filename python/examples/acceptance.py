@@ -18,7 +18,7 @@ from typing import List, Tuple
 
 from edfvd import Task, check
 
-sys.path.append(str(Path(__file__).resolve().parents[2] / "examples"))
+sys.path.append(str(Path(__file__).resolve().parents[2] / "tools"))
 from divisors import DENSE, divisors, rounded_down
 
 LOADS = [percent / 100 for percent in range(50, 100, 5)]
