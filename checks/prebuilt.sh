@@ -18,7 +18,7 @@ build_tree() {
     cp ../c/*.c ../c/*.h "$tree/c"
     cat >"$tree/c/build.sh" <<'END'
 #!/bin/sh
-cd "$(dirname -- "$0")/../examples" || exit
+cd "${0%/*}" || exit
 [ ! -e fails ] || exit 1
 mkdir -p out
 printf '0 T edfvd_ask\n0 T edfvd_check\n' >out/libedfvd.so
@@ -93,13 +93,11 @@ sum() {
 written() {
     passes 'prebuilt: 9 compared, 0 failed' "$tree/prebuilt/refresh.sh"
     find "$tree/prebuilt" -mindepth 1 -printf '%m %P\n' | sort -k 2 >"$work/out"
-    for name in LICENSE-APACHE LICENSE-MIT README.md SHA256SUMS SOURCES THIRD-PARTY-LICENSES ../checks/compare.sh edfvd libedfvd.so ../checks/library.sh \
-        program.sh refresh.sh tools.sh; do
-        case $name in
-        edfvd | ../checks/compare.sh | ../checks/library.sh | program.sh | refresh.sh) echo "755 $name" ;;
-        *) echo "644 $name" ;;
-        esac
-    done | sort -k 2 >"$work/wanted"
+    {
+        printf '755 %s.sh\n' compare library program refresh
+        echo '755 edfvd'
+        printf '644 %s\n' LICENSE-APACHE LICENSE-MIT README.md SHA256SUMS SOURCES THIRD-PARTY-LICENSES libedfvd.so tools.sh
+    } | sort -k 2 >"$work/wanted"
     judge 0 0 "$work/wanted" 'the files that refresh.sh writes'
     cut -d ' ' -f 1 "$tree/prebuilt/SOURCES" | tr '\n' ' ' >"$work/out"
     printf 'kit machine cc ld edfvd libedfvd.so ' >"$work/wanted"
