@@ -1,0 +1,4 @@
+pub mod Between
+pub mod Budgets
+pub mod Changes
+pub mod Admitted

@@ -1,0 +1,3 @@
+pub mod Budgets
+pub mod Changes
+pub mod Scales

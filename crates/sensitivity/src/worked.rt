@@ -1,0 +1,149 @@
+//! Tests of worked sets. Expected values are worked out by hand.
+use crate::{GreatestBudgets, greatest_budgets, greatest_high, greatest_low, scales};
+use load_sum::sum_loads;
+use mc_task::Level::{High, Low};
+use mc_task::TaskNo;
+use std::test::Fail;
+use worked_sets::{CONTROL, Line, PLAIN_PAIR, TAP_AND_ARM, TWO_HIGH_TASKS, set_of};
+
+const MOST: u32 = u32::MAX;
+
+/// A set; the greatest low budget of each task; the greatest high budget of each task, `None` for a low task; and the
+/// least and the greatest scale.
+type Worked = (
+    &'static str,
+    &'static [Line],
+    &'static [Option<u32>],
+    &'static [Option<u32>],
+    Option<((u128, u128), (u128, u128))>,
+);
+
+const SETS: [Worked; 11] = [
+    (
+        "control",
+        &CONTROL,
+        &[Some(4), Some(6)],
+        &[Some(8), None],
+        Some(((2, 5), (4, 5))),
+    ),
+    (
+        "one scale alone holds",
+        &TAP_AND_ARM,
+        &[Some(1), Some(1)],
+        &[None, Some(3)],
+        Some(((1, 2), (1, 2))),
+    ),
+    (
+        "a low budget is at most its high budget",
+        &TWO_HIGH_TASKS,
+        &[Some(3), Some(1), Some(5)],
+        &[Some(7), Some(2), None],
+        Some(((1, 2), (3, 4))),
+    ),
+    (
+        "EDF fits with a load of exactly 1",
+        &PLAIN_PAIR,
+        &[Some(2), Some(2)],
+        &[Some(3), None],
+        Some(((1, 2), (1, 1))),
+    ),
+    (
+        "low tasks take all time",
+        &[("tap", Low, 2, 2, 2), ("arm", High, 4, 1, 1)],
+        &[Some(1), None],
+        &[None, None],
+        None,
+    ),
+    (
+        "low tasks take all time and there are no others",
+        &[("tap", Low, 2, 2, 2)],
+        &[Some(2)],
+        &[None],
+        Some(((0, 1), (1, 1))),
+    ),
+    (
+        "low tasks ask for too much",
+        &[("tap", Low, 2, 3, 3)],
+        &[Some(2)],
+        &[None],
+        None,
+    ),
+    (
+        "the least scale is above the greatest",
+        &[("ctl", High, 10, 4, 8), ("log", Low, 10, 5, 5)],
+        &[Some(2), Some(3)],
+        &[Some(6), None],
+        None,
+    ),
+    (
+        "both loads are 1",
+        &[("ctl", High, 3, 1, 3), ("log", Low, 3, 2, 2)],
+        &[None, None],
+        &[Some(1), None],
+        None,
+    ),
+    (
+        "a budget that ends at the greatest number",
+        &[("big", High, MOST, 1, MOST)],
+        &[Some(MOST)],
+        &[Some(MOST)],
+        Some(((1, 4294967295), (1, 1))),
+    ),
+    (
+        "a low budget that ends at the greatest number",
+        &[("big", Low, MOST, 1, 1)],
+        &[Some(MOST)],
+        &[None],
+        Some(((0, 1), (1, 1))),
+    ),
+];
+
+#[test]
+fn the_greatest_budgets_of_worked_sets(rt: HostRuntime) -> Result<(), Fail> {
+    for (name, lines, lows, highs, _) in SETS {
+        let set = set_of(rt.alloc(), lines)?;
+        let loads = sum_loads(&set)?;
+        let all = greatest_budgets(rt.alloc(), &set, &loads)?;
+        for (i, (low, high)) in lows.iter().zip(highs).enumerate() {
+            let expected = GreatestBudgets {
+                low: *low,
+                high: *high,
+            };
+            assert!(rt; all.get(i) == Some(&expected), "{name}, task {i}");
+        }
+        assert!(rt; all.len() == lows.len(), "{name}");
+    }
+    Ok(())
+}
+
+#[test]
+fn the_greatest_budgets_of_one_task(rt: HostRuntime) -> Result<(), Fail> {
+    let set = set_of(rt.alloc(), &CONTROL)?;
+    let loads = sum_loads(&set)?;
+    match set.get(TaskNo(1)) {
+        Some(first) if first.is_high() => {
+            assert!(rt; greatest_low(&set, &loads, TaskNo(1)) == Some(4));
+            assert!(rt; greatest_high(&set, &loads, TaskNo(1)) == Some(8));
+        }
+        _ => assert!(rt; false, "the first task is high"),
+    }
+    Ok(())
+}
+
+#[test]
+fn the_scales_of_worked_sets(rt: HostRuntime) -> Result<(), Fail> {
+    for (name, lines, _, _, expected) in SETS {
+        let set = set_of(rt.alloc(), lines)?;
+        let found = scales(&sum_loads(&set)?);
+        match (found, expected) {
+            (None, None) => {}
+            (Some(range), Some((least, greatest))) => {
+                let least_is = (range.least.num(), range.least.den()) == least;
+                let greatest_is = (range.greatest.num(), range.greatest.den()) == greatest;
+                assert!(rt; least_is && greatest_is, "{name}");
+            }
+            _ => assert!(rt; false, "{name}"),
+        }
+    }
+    Ok(())
+}
