@@ -1,3 +1,4 @@
 pub mod Budgets
 pub mod Changes
 pub mod Scales
+pub mod Speeds

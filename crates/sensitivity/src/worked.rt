@@ -1,5 +1,5 @@
 //! Tests of worked sets. Expected values are worked out by hand.
-use crate::{GreatestBudgets, greatest_budgets, greatest_high, greatest_low, scales};
+use crate::{GreatestBudgets, greatest_budgets, greatest_high, greatest_low, least_speed, scales};
 use load_sum::sum_loads;
 use mc_task::Level::{High, Low};
 use mc_task::TaskNo;
@@ -8,14 +8,15 @@ use worked_sets::{CONTROL, Line, PLAIN_PAIR, TAP_AND_ARM, TWO_HIGH_TASKS, set_of
 
 const MOST: u32 = u32::MAX;
 
-/// A set; the greatest low budget of each task; the greatest high budget of each task, `None` for a low task; and the
-/// least and the greatest scale.
+/// A set; the greatest low budget of each task; the greatest high budget of each task, `None` for a low task; the least and
+/// the greatest scale; and the least speed in millionths.
 type Worked = (
     &'static str,
     &'static [Line],
     &'static [Option<u32>],
     &'static [Option<u32>],
     Option<((u128, u128), (u128, u128))>,
+    u64,
 );
 
 const SETS: [Worked; 11] = [
@@ -25,6 +26,7 @@ const SETS: [Worked; 11] = [
         &[Some(4), Some(6)],
         &[Some(8), None],
         Some(((2, 5), (4, 5))),
+        870157,
     ),
     (
         "one scale alone holds",
@@ -32,6 +34,7 @@ const SETS: [Worked; 11] = [
         &[Some(1), Some(1)],
         &[None, Some(3)],
         Some(((1, 2), (1, 2))),
+        1000000,
     ),
     (
         "a low budget is at most its high budget",
@@ -39,6 +42,7 @@ const SETS: [Worked; 11] = [
         &[Some(3), Some(1), Some(5)],
         &[Some(7), Some(2), None],
         Some(((1, 2), (3, 4))),
+        927492,
     ),
     (
         "EDF fits with a load of exactly 1",
@@ -46,6 +50,7 @@ const SETS: [Worked; 11] = [
         &[Some(2), Some(2)],
         &[Some(3), None],
         Some(((1, 2), (1, 1))),
+        853554,
     ),
     (
         "low tasks take all time",
@@ -53,6 +58,7 @@ const SETS: [Worked; 11] = [
         &[Some(1), None],
         &[None, None],
         None,
+        1250000,
     ),
     (
         "low tasks take all time and there are no others",
@@ -60,6 +66,7 @@ const SETS: [Worked; 11] = [
         &[Some(2)],
         &[None],
         Some(((0, 1), (1, 1))),
+        1000000,
     ),
     (
         "low tasks ask for too much",
@@ -67,6 +74,7 @@ const SETS: [Worked; 11] = [
         &[Some(2)],
         &[None],
         None,
+        1500000,
     ),
     (
         "the least scale is above the greatest",
@@ -74,6 +82,7 @@ const SETS: [Worked; 11] = [
         &[Some(2), Some(3)],
         &[Some(6), None],
         None,
+        1121700,
     ),
     (
         "both loads are 1",
@@ -81,6 +90,7 @@ const SETS: [Worked; 11] = [
         &[None, None],
         &[Some(1), None],
         None,
+        1333334,
     ),
     (
         "a budget that ends at the greatest number",
@@ -88,6 +98,7 @@ const SETS: [Worked; 11] = [
         &[Some(MOST)],
         &[Some(MOST)],
         Some(((1, 4294967295), (1, 1))),
+        1000000,
     ),
     (
         "a low budget that ends at the greatest number",
@@ -95,12 +106,13 @@ const SETS: [Worked; 11] = [
         &[Some(MOST)],
         &[None],
         Some(((0, 1), (1, 1))),
+        1,
     ),
 ];
 
 #[test]
 fn the_greatest_budgets_of_worked_sets(rt: HostRuntime) -> Result<(), Fail> {
-    for (name, lines, lows, highs, _) in SETS {
+    for (name, lines, lows, highs, _, _) in SETS {
         let set = set_of(rt.alloc(), lines)?;
         let loads = sum_loads(&set)?;
         let all = greatest_budgets(rt.alloc(), &set, &loads)?;
@@ -132,7 +144,7 @@ fn the_greatest_budgets_of_one_task(rt: HostRuntime) -> Result<(), Fail> {
 
 #[test]
 fn the_scales_of_worked_sets(rt: HostRuntime) -> Result<(), Fail> {
-    for (name, lines, _, _, expected) in SETS {
+    for (name, lines, _, _, expected, _) in SETS {
         let set = set_of(rt.alloc(), lines)?;
         let found = scales(&sum_loads(&set)?);
         match (found, expected) {
@@ -144,6 +156,15 @@ fn the_scales_of_worked_sets(rt: HostRuntime) -> Result<(), Fail> {
             }
             _ => assert!(rt; false, "{name}"),
         }
+    }
+    Ok(())
+}
+
+#[test]
+fn the_least_speeds_of_worked_sets(rt: HostRuntime) -> Result<(), Fail> {
+    for (name, lines, _, _, _, expected) in SETS {
+        let set = set_of(rt.alloc(), lines)?;
+        assert!(rt; least_speed(&sum_loads(&set)?) == expected, "{name}");
     }
     Ok(())
 }
