@@ -22,7 +22,7 @@ STRUCTS = {
     "GivenTask": "edfvd_task", "Tested": "edfvd_test", "GivenDemand": "edfvd_demand_task",
     "DemandTested": "edfvd_demand_test", "Answer": "edfvd_answer", "Seen": "edfvd_look",
     "SeenRow": "edfvd_row", "Judged": "edfvd_verdict", "UnfitRow": "edfvd_unfit", "Watching": "edfvd_watch",
-    "LateJob": "edfvd_late",
+    "LateJob": "edfvd_late", "Budgets": "edfvd_budgets", "Scales": "edfvd_scale_range",
 }
 # The structs that C holds and never writes: a mark and a pointer, which edfvd.c and edfvd.h declare again.
 HANDLES = {"Scheduler": ("raw_scheduler", "edfvd_scheduler"), "MonitorHandle": ("raw_monitor", "edfvd_monitor")}

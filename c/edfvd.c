@@ -14,6 +14,10 @@ typedef struct raw_monitor {
 
 extern uint32_t edfvd_raw_check(const edfvd_task *tasks, size_t count, edfvd_test *test);
 extern uint32_t edfvd_raw_stretch(const edfvd_task *tasks, size_t count, uint32_t *percent, uint32_t *task);
+extern uint32_t edfvd_raw_sensitivity(const edfvd_task *tasks, size_t count, edfvd_budgets *budgets, size_t length,
+                                      uint32_t *task);
+extern uint32_t edfvd_raw_scales(const edfvd_task *tasks, size_t count, edfvd_scale_range *scales, uint32_t *task);
+extern uint32_t edfvd_raw_speed(const edfvd_task *tasks, size_t count, uint64_t *millionths, uint32_t *task);
 extern uint32_t edfvd_raw_accept(uint64_t number, uint32_t sets, uint32_t tasks, uint32_t *counts);
 extern uint32_t edfvd_raw_judge(const edfvd_task *tasks, size_t count, const edfvd_row *rows, size_t length, uint64_t p,
                                 uint64_t q, edfvd_verdict *verdict);
@@ -40,6 +44,8 @@ extern uint32_t edfvd_raw_monitor_look(raw_monitor *m, edfvd_watch *watch);
 
 _Static_assert(sizeof(edfvd_task) == 16, "edfvd_task");
 _Static_assert(sizeof(edfvd_test) == 80, "edfvd_test");
+_Static_assert(sizeof(edfvd_budgets) == 8, "edfvd_budgets");
+_Static_assert(sizeof(edfvd_scale_range) == 32, "edfvd_scale_range");
 _Static_assert(sizeof(edfvd_demand_task) == 12, "edfvd_demand_task");
 _Static_assert(sizeof(edfvd_demand_test) == 24, "edfvd_demand_test");
 _Static_assert(sizeof(edfvd_answer) == 24, "edfvd_answer");
@@ -111,6 +117,26 @@ edfvd_status edfvd_partition(const edfvd_task *tasks, size_t count, uint32_t pro
 edfvd_status edfvd_accept(uint64_t number, uint32_t sets, uint32_t tasks, uint32_t counts[11]) {
     if (counts == NULL) return EDFVD_NULL;
     return (edfvd_status)edfvd_raw_accept(number, sets, tasks, counts);
+}
+
+edfvd_status edfvd_sensitivity(const edfvd_task *tasks, size_t count, edfvd_budgets *budgets, uint32_t *task) {
+    static edfvd_budgets none[1];
+    uint32_t unread;
+    if ((tasks == NULL || budgets == NULL) && count != 0) return EDFVD_NULL;
+    return (edfvd_status)edfvd_raw_sensitivity(some(tasks, count), count, count == 0 ? none : budgets, count,
+                                               task == NULL ? &unread : task);
+}
+
+edfvd_status edfvd_scales(const edfvd_task *tasks, size_t count, edfvd_scale_range *scales, uint32_t *task) {
+    uint32_t unread;
+    if (scales == NULL || (tasks == NULL && count != 0)) return EDFVD_NULL;
+    return (edfvd_status)edfvd_raw_scales(some(tasks, count), count, scales, task == NULL ? &unread : task);
+}
+
+edfvd_status edfvd_speed(const edfvd_task *tasks, size_t count, uint64_t *millionths, uint32_t *task) {
+    uint32_t unread;
+    if (millionths == NULL || (tasks == NULL && count != 0)) return EDFVD_NULL;
+    return (edfvd_status)edfvd_raw_speed(some(tasks, count), count, millionths, task == NULL ? &unread : task);
 }
 
 edfvd_status edfvd_demand(const edfvd_demand_task *tasks, size_t count, edfvd_demand_test *test) {

@@ -142,6 +142,55 @@ edfvd_status edfvd_partition(const edfvd_task *tasks, size_t count, uint32_t pro
 edfvd_status edfvd_accept(uint64_t number, uint32_t sets, uint32_t tasks, uint32_t counts[11]);
 
 /*
+ * ---- What may change in a set ----
+ *
+ * How far a set is from what the published test admits: by one budget, by the scale, or by the speed of the processor. A set
+ * that is not admitted is EDFVD_OK for the budgets and the speed, which then say what would do.
+ */
+
+/* The greatest budgets of a task with which the test admits the set, if one of them changes and all else stays. */
+typedef struct edfvd_budgets {
+    uint32_t low;  /* ticks: the greatest low budget, which a low task has in both modes; 0 if the set is admitted with none */
+    uint32_t high; /* ticks: a high task's greatest high budget; 0 if the set is admitted with none, and for a low task */
+} edfvd_budgets;
+
+/* The scales with which EDF-VD holds: p/q does exactly if it is from the least to the greatest. Both are in lowest terms. */
+typedef struct edfvd_scale_range {
+    uint64_t least_p, least_q;       /* 0/1, which is no scale itself, if no task is high; then each scale p/q holds */
+    uint64_t greatest_p, greatest_q; /* at most 1/1, and a scale that holds */
+} edfvd_scale_range;
+
+/*
+ * Stores the greatest budgets of each task in order: `budgets` has `count` elements, and is written only with EDFVD_OK. The test
+ * admits the set with the stored budget, and with each lower one that the task may have, and refuses it with each greater one. A
+ * low budget is at least 1, and that of a high task at most its high budget; a high budget is at least the task's low budget.
+ * `task` gets the task of a refusal, or 0, and may be null.
+ *
+ * Statuses: the refusals of a set, EDFVD_PERIODS, EDFVD_MEMORY.
+ */
+edfvd_status edfvd_sensitivity(const edfvd_task *tasks, size_t count, edfvd_budgets *budgets, uint32_t *task);
+
+/*
+ * Stores the least and the greatest scale with which EDF-VD holds for the set, even if plain EDF does too. If the published test
+ * gives a scale, it is the least one. With any other status than EDFVD_OK `scales` holds zeros. `task` gets the task of a
+ * refusal, or 0, and may be null.
+ *
+ * Statuses: EDFVD_NOT_ADMITTED if no scale holds, which is so exactly if the test gives the set no rule; the refusals of a set,
+ * EDFVD_PERIODS, EDFVD_MEMORY.
+ */
+edfvd_status edfvd_scales(const edfvd_task *tasks, size_t count, edfvd_scale_range *scales, uint32_t *task);
+
+/*
+ * Stores the least speed of the processor, in millionths of the speed for which the budgets are given, at which the test admits
+ * the set: at a millionth less it does not. At speed s a job takes its ticks divided by s, and so each load is divided by s; no
+ * budget is rounded. If U_LL + U_HL and U_HH are at most 1, the speed is at most 1333334 (4/3, rounded up). With any other status
+ * than EDFVD_OK `millionths` gets 0. `task` gets the task of a refusal, or 0, and may be null.
+ *
+ * Statuses: the refusals of a set, EDFVD_PERIODS, EDFVD_MEMORY.
+ */
+edfvd_status edfvd_speed(const edfvd_task *tasks, size_t count, uint64_t *millionths, uint32_t *task);
+
+/*
  * ---- Deadlines below periods ----
  *
  * Tasks of one level under plain EDF, whose deadlines may be shorter than their periods: an array of 1 to 128 elements, of which

@@ -82,7 +82,7 @@ ground() {
 # tried_in_c: each example and test: as it is, with the sanitizers and under memcheck. Those with threads and with 256 KiB of stack
 # are not for memcheck, and where memory fails on purpose the sanitizers' own allocations are in the way.
 tried_in_c() {
-    for source in examples/control examples/deadlines examples/dispatcher examples/monitor examples/endless examples/ask \
+    for source in examples/control examples/deadlines examples/margins examples/dispatcher examples/monitor examples/endless examples/ask \
         tests/sets tests/events tests/handles tests/judging tests/asking tests/stack tests/busy tests/threads tests/wrong tests/memory \
         tests/fuzz; do
         name=${source##*/}

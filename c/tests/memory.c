@@ -61,6 +61,15 @@ static edfvd_status try_partition(void) {
     return edfvd_partition(tasks, 2, 2, on, NULL);
 }
 
+static edfvd_status try_margins(void) {
+    edfvd_budgets budgets[2];
+    edfvd_scale_range scales;
+    uint64_t millionths;
+    edfvd_status status = edfvd_sensitivity(tasks, 2, budgets, NULL);
+    if (status == EDFVD_OK) status = edfvd_scales(tasks, 2, &scales, NULL);
+    return status == EDFVD_OK ? edfvd_speed(tasks, 2, &millionths, NULL) : status;
+}
+
 static edfvd_status try_open(void) {
     edfvd_scheduler s = EDFVD_NONE;
     edfvd_status status = edfvd_open(&s, tasks, 2, 100, NULL);
@@ -158,7 +167,7 @@ int main(void) {
                  {"demand", try_demand},     {"open", try_open},         {"open_endless", try_open_endless},
                  {"judge", try_judge},       {"monitor", try_monitor},   {"ask check", ask_check},
                  {"ask run", ask_run},       {"ask report", ask_report}, {"ask partition", ask_partition},
-                 {"ask demand", ask_demand}, {"ask accept", ask_accept}};
+                 {"ask demand", ask_demand}, {"ask accept", ask_accept}, {"margins", try_margins}};
     for (size_t place = 0; place < sizeof calls / sizeof *calls; place++) {
         for_good = false;
         if (!is_good_with_each(calls[place].name, calls[place].made)) return 1;

@@ -25,6 +25,14 @@ class CTest(ctypes.Structure):
     ]
 
 
+class CBudgets(ctypes.Structure):
+    _fields_ = [("low", u32), ("high", u32)]
+
+
+class CScaleRange(ctypes.Structure):
+    _fields_ = [("least_p", u64), ("least_q", u64), ("greatest_p", u64), ("greatest_q", u64)]
+
+
 class CDemandTask(ctypes.Structure):
     _fields_ = [("period", u32), ("deadline", u32), ("budget", u32)]
 
@@ -80,6 +88,7 @@ STRUCTS = {
     "edfvd_task": CTask, "edfvd_test": CTest, "edfvd_demand_task": CDemandTask, "edfvd_demand_test": CDemandTest,
     "edfvd_answer": CAnswer, "edfvd_look": CLook, "edfvd_row": CRow,
     "edfvd_verdict": CVerdict, "edfvd_unfit": CUnfit, "edfvd_watch": CWatch, "edfvd_late": CLate,
+    "edfvd_budgets": CBudgets, "edfvd_scale_range": CScaleRange,
 }
 
 _pointer = ctypes.POINTER
@@ -90,6 +99,9 @@ _monitor = _pointer(CMonitor)
 CALLS: Dict[str, List[Any]] = {
     "edfvd_check": [*_tasks, _pointer(CTest)],
     "edfvd_stretch": [*_tasks, _pointer(u32), _pointer(u32)],
+    "edfvd_sensitivity": [*_tasks, _pointer(CBudgets), _pointer(u32)],
+    "edfvd_scales": [*_tasks, _pointer(CScaleRange), _pointer(u32)],
+    "edfvd_speed": [*_tasks, _pointer(u64), _pointer(u32)],
     "edfvd_partition": [*_tasks, u32, _pointer(u32), _pointer(u32)],
     "edfvd_accept": [u64, u32, u32, _pointer(u32)],
     "edfvd_demand": [_pointer(CDemandTask), size, _pointer(CDemandTest)],

@@ -2,3 +2,6 @@ pub mod AsBox
 pub mod HeldRows
 pub mod Lookups
 pub mod Names
+pub mod Levels
+pub mod Greatest
+pub mod Scaled

@@ -10,3 +10,5 @@ pub mod Slots
 pub mod Handle
 pub mod Judged
 pub mod Monitor
+pub mod Refused
+pub mod Margins

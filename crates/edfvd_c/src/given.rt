@@ -1,6 +1,7 @@
 //! A task set from numbers in memory.
-ghost use Rattle.std.specs.Prelude.{◌≡◌, ◌≢◌, ◌<◌, ◌≤◌, IfOk, IfErr, IfSome};
+ghost use Rattle.std.specs.Prelude.{◌≡◌, ◌≢◌, ◌<◌, ◌≤◌, IfOk, IfErr, IfSome, IfNone, length};
 ghost use Rattle.edfvd_c.specs.Given.{AreOf, numbers_of};
+ghost use Rattle.edfvd_c.specs.Refused.{IsRefused, fault_status, fault_task};
 
 use crate::status;
 use mc_task::{Level, Name, SetFault, Task, TaskSet};
@@ -25,8 +26,12 @@ pub struct NoSet {
 
 /// The set of the tasks, which are named by their numbers.
 pub fn set_of(alloc: Global, given: &[GivenTask]) -> Result<TaskSet, NoSet>
-    ensures status { IfErr result (λ no. (no.status ≢ 0) × (no.status ≢ 28) × (no.status ≢ 29)) }
+    ensures status { IfErr result (λ no. (no.status ≢ 0) × (no.status ≢ 8) × (no.status ≢ 28) × (no.status ≢ 29) × (no.status ≢ 43)) }
     ensures tasks { IfOk result (λ set. AreOf given.now set.tasks) }
+    ensures few { IfOk result (λ set. length given.now ≤ 128) }
+    ensures many { IfErr result (λ no. 128 < length given.now → (no.status ≡ 2) × (no.task ≡ 0)) }
+    ensures refused { IfErr result (λ no. length given.now ≤ 128 → no.status ≢ 9 → IsRefused given.now no.status no.task) }
+    ensures memory { IfErr result (λ no. no.status ≡ 9 → no.task ≡ 0) }
 {
     if given.len() > 128 {
         return Err(NoSet {
@@ -37,11 +42,14 @@ pub fn set_of(alloc: Global, given: &[GivenTask]) -> Result<TaskSet, NoSet>
     let mut tasks = Vec::new(alloc);
     for place in 0..given.len() {
         let number = place as u32 + 1;
-        let Some(task) = task_of(given[place], number) else {
-            return Err(NoSet {
-                status: status::LEVEL,
-                task: number,
-            });
+        let task = match task_of(given[place], number) {
+            Some(task) => task,
+            None => {
+                return Err(NoSet {
+                    status: status::LEVEL,
+                    task: number,
+                });
+            }
         };
         if tasks.push(task).is_err() {
             return Err(NoSet {
@@ -57,7 +65,8 @@ pub fn set_of(alloc: Global, given: &[GivenTask]) -> Result<TaskSet, NoSet>
 }
 
 fn no_set(fault: SetFault) -> NoSet
-    ensures { (result.status ≢ 0) × (result.status ≢ 28) × (result.status ≢ 29) }
+    ensures status { (result.status ≡ fault_status fault) × (1 ≤ result.status) × (result.status ≤ 5) }
+    ensures task { result.task ≡ fault_task fault }
 {
     match fault {
         SetFault::Empty => NoSet {
@@ -85,7 +94,8 @@ fn no_set(fault: SetFault) -> NoSet
 
 fn task_of(given: GivenTask, number: u32) -> Option<Task>
     requires { number < 1000 }
-    ensures { IfSome result (λ task. numbers_of task ≡ given) }
+    ensures some { IfSome result (λ task. numbers_of task ≡ given) }
+    ensures none { IfNone result (1 < given.level) }
 {
     let level = match given.level {
         0 => Level::Low,

@@ -9,6 +9,7 @@ mod handle;
 mod held;
 mod judged;
 mod latest;
+mod margins;
 mod monitor;
 mod parted;
 mod parts;

@@ -1,0 +1,37 @@
+use Rattle.std.proofs.Common.{◌+◌, ◌<◌, ◌≤◌, ◌∙◌, length, refl, arith}
+use Rattle.std.proofs.lemmas.Grind.{common_steps}
+use Rattle.std.proofs.lemmas.List.{take_all}
+use Rattle.std.proofs.lemmas.Option.{slice_get-get_or}
+use Rattle.edfvd_c.specs.Given.{AreOf}
+use Rattle.edfvd_c.specs.Refused.{Level, NoSet}
+use Rattle.edfvd_c.proofs.Levels.{first-of-no-level, levels_more, numbers-level}
+use Rattle.edfvd_c.proofs.given.set_of.Goals as goal
+
+pub returns-in-None-clause-refused : goal.returns-in-None-clause-refused
+returns-in-None-clause-refused c = λ few other.
+    let inside : c.loop-place.place < length c.args.given.now = omega arith in
+    record {
+      cause = Level (c.loop-place.place + 1);
+      has = first-of-no-level c.args.given.now c.loop-place.place _ inside c.in-None.ensures.none c.loop-place.invariant.levels;
+      status_is = refl;
+      task_is = refl;
+    }
+
+pub loop-place-preserved : goal.loop-place-preserved
+loop-place-preserved c =
+    let inside : c.loop-place.place < length c.args.given.now = omega arith in
+    record {
+      numbers = grind (arith, common_steps);
+      levels = levels_more c.args.given.now c.loop-place.place _ (slice_get-get_or c.args.given.now c.loop-place.place _ inside) (numbers-level c.in-Some.task _ c.in-Some.ensures.some) c.loop-place.invariant.levels;
+    }
+
+pub returns-in-Err-clause-refused : goal.returns-in-Err-clause-refused
+returns-in-Err-clause-refused c = λ few other.
+    let past : length c.args.given.now ≤ c.loop-place.place = omega arith in
+    let numbers : AreOf c.args.given.now c.loop-place.tasks.items = c.loop-place.invariant.numbers ∙ take_all c.loop-place.place c.args.given.now past in
+    record {
+      cause = NoSet c.in-Err.fault;
+      has = (c.loop-place.tasks.items, numbers, c.in-Err.ensures.fault);
+      status_is = c.no_set.ensures.status.0;
+      task_is = c.no_set.ensures.task;
+    }

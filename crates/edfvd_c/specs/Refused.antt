@@ -1,0 +1,63 @@
+-- Why given tasks are refused before they are tested, with the status and the task of each cause.
+use Rattle.std.specs.Prelude.{◌≡◌, ℕ, ◌-◌, ◌<◌, ◌≤◌, List, Some, slice_get}
+use Rattle.mc_task.specs.declared.task.Task.{Task}
+use Rattle.mc_task.specs.declared.set.SetFault.{SetFault}
+use Rattle.mc_task.specs.declared.set.SetFault.TheVariants.{Empty, TooMany, ZeroNumber, BudgetOrder, SameName}
+use Rattle.mc_task.specs.TaskSet.{AreTasks}
+use Rattle.mc_task.specs.Faults.{first_fault}
+use Rattle.mc_model.specs.Loads.{range_fault}
+use Rattle.edfvd_c.specs.declared.given.GivenTask.{GivenTask}
+use Rattle.edfvd_c.specs.Given.{AreOf}
+
+-- the causes: a task of neither level; a fault of the set; a task whose period takes the hyperperiod past 2^60
+pub data Cause : Type 0 where
+  Level : (task : ℕ) → Cause
+  NoSet : SetFault → Cause
+  Periods : (task : ℕ) → Cause
+
+-- the status of a fault of a set
+abbrev pub fault_status : SetFault → ℕ
+fault_status Empty = 1
+fault_status (TooMany count) = 2
+fault_status (ZeroNumber task) = 3
+fault_status (BudgetOrder task) = 4
+fault_status (SameName first second) = 5
+
+-- the task of a fault of a set, or 0
+abbrev pub fault_task : SetFault → ℕ
+fault_task Empty = 0
+fault_task (TooMany count) = 0
+fault_task (ZeroNumber task) = task.0
+fault_task (BudgetOrder task) = task.0
+fault_task (SameName first second) = second.0
+
+-- the status of a cause
+abbrev pub status_of : Cause → ℕ
+status_of (Level task) = 6
+status_of (NoSet fault) = fault_status fault
+status_of (Periods task) = 7
+
+-- the task of a cause, or 0
+abbrev pub task_of : Cause → ℕ
+task_of (Level task) = task
+task_of (NoSet fault) = fault_task fault
+task_of (Periods task) = task
+
+-- task number k is the first whose level is neither 0 for low nor 1 for high
+pub record IsFirstOfNoLevel (given : List GivenTask) (k : ℕ) : Type 0 where
+  pub some : 1 ≤ k
+  pub here : (t : GivenTask) × (slice_get given (k - 1) ≡ Some t) × (1 < t.level)
+  pub before : (i : ℕ) (t : GivenTask) → i < k - 1 → slice_get given i ≡ Some t → t.level ≤ 1
+
+-- the given tasks have this cause: a task has no level, or the tasks with these numbers have a fault or are out of range
+abbrev pub HasCause : List GivenTask → Cause → Type 0
+HasCause given (Level task) = IsFirstOfNoLevel given task
+HasCause given (NoSet fault) = (tasks : List Task) × AreOf given tasks × (first_fault tasks ≡ Some fault)
+HasCause given (Periods task) = (tasks : List Task) × AreOf given tasks × AreTasks tasks × (range_fault tasks ≡ Some task)
+
+-- the given tasks are refused with this status, which is about this task
+pub record IsRefused (given : List GivenTask) (status task : ℕ) : Type 0 where
+  pub cause : Cause
+  pub has : HasCause given cause
+  pub status_is : status ≡ status_of cause
+  pub task_is : task ≡ task_of cause

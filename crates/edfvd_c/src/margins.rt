@@ -1,0 +1,205 @@
+//! What may change in a set with the published test still admitting it: the budgets, the scale, and the speed of the processor.
+ghost use Rattle.std.specs.Prelude.{◌≡◌, ◌≢◌, ◌<◌, ◌≤◌, ◌^◌, IfOk, IfErr, length};
+ghost use Rattle.tick_frac.specs.Fraction.{IsLowest};
+ghost use Rattle.load_sum.specs.Belong.{BelongTo, fault_task};
+ghost use Rattle.edfvd_c.specs.Given.{AreOf};
+ghost use Rattle.edfvd_c.specs.Margins as spec;
+ghost use Rattle.edfvd_c.specs.Refused.{IsRefused};
+
+use crate::given::{GivenTask, NoSet, set_of};
+use crate::status;
+use load_sum::{LoadFault, Loads, sum_loads};
+use mc_task::{TaskNo, TaskSet};
+use sensitivity::{GreatestBudgets, ScaleRange, greatest_of, least_speed, scales};
+use std::alloc::Global;
+
+/// The greatest budgets of a task with which the test admits the set, if one of them changes; 0 if there is none.
+#[repr(C)]
+#[derive(Clone, Copy)]
+pub struct Budgets {
+    pub low: u32,
+    pub high: u32,
+}
+
+/// The scales that hold: from `least_p/least_q`, which is 0/1 if no task is high, to `greatest_p/greatest_q`.
+#[repr(C)]
+#[derive(Clone, Copy)]
+pub struct Scales {
+    pub least_p: u64,
+    pub least_q: u64,
+    pub greatest_p: u64,
+    pub greatest_q: u64,
+}
+
+const NO_SCALES: Scales = Scales {
+    least_p: 0,
+    least_q: 0,
+    greatest_p: 0,
+    greatest_q: 0,
+};
+
+/// Stores the greatest budgets of each task in order, in `budgets`, which has as many elements as there are tasks.
+#[unsafe(no_mangle)]
+pub extern "C" fn edfvd_raw_sensitivity(
+    alloc: Global,
+    given: &[GivenTask],
+    budgets: &mut [Budgets],
+    task: &mut u32,
+) -> u32
+    ensures greatest { result ≡ 0 → spec.AreGreatest given.now budgets.new }
+    ensures many { 128 < length given.now → (result ≡ 2) × (task.new ≡ 0) }
+    ensures refused { length given.now ≤ 128 → result ≢ 0 → result ≢ 9 → result ≢ 43 → IsRefused given.now result task.new }
+    ensures argument { result ≡ 43 → length budgets.old ≢ length given.now }
+    ensures untouched { result ≢ 0 → budgets.new ≡ budgets.old }
+    ensures memory { result ≡ 9 → task.new ≡ 0 }
+{
+    *task = 0;
+    match set_and_loads(alloc, given) {
+        Ok(loaded) => store_greatest(&loaded, given, budgets),
+        Err(no) => {
+            *task = no.task;
+            no.status
+        }
+    }
+}
+
+fn store_greatest(loaded: &SetAndLoads, given: &[GivenTask], budgets: &mut [Budgets]) -> u32
+    requires numbers { AreOf given.now loaded.now.set.tasks }
+    requires loads { BelongTo loaded.now.set.tasks loaded.now.loads }
+    ensures greatest { result ≡ 0 → spec.AreGreatest given.now budgets.new }
+    ensures argument { result ≢ 0 → (result ≡ 43) × (length budgets.old ≢ length given.now) × (budgets.new ≡ budgets.old) }
+{
+    if budgets.len() != given.len() {
+        return status::ARGUMENT;
+    }
+    let count = loaded.set.len();
+    for i in 0..count {
+        budgets[i as usize] = budgets_in_numbers(greatest_of(
+            &loaded.set,
+            &loaded.loads,
+            TaskNo(i + 1),
+        ));
+    }
+    status::OK
+}
+
+fn budgets_in_numbers(greatest: GreatestBudgets) -> Budgets
+    ensures { result ≡ spec.budgets_of greatest }
+{
+    Budgets {
+        low: greatest.low.unwrap_or(0),
+        high: greatest.high.unwrap_or(0),
+    }
+}
+
+/// Stores the least and the greatest scale that hold. Status 8 if none holds, which is so exactly if the published test does not
+/// admit the set. With any other status than 0, zeros are stored.
+#[unsafe(no_mangle)]
+pub extern "C" fn edfvd_raw_scales(
+    alloc: Global,
+    given: &[GivenTask],
+    stored: &mut Scales,
+    task: &mut u32,
+) -> u32
+    ensures scales { result ≡ 0 → spec.AreScales given.now stored.new }
+    ensures none { result ≡ 8 → spec.HaveNoScale given.now × (task.new ≡ 0) }
+    ensures many { 128 < length given.now → (result ≡ 2) × (task.new ≡ 0) }
+    ensures refused { length given.now ≤ 128 → result ≢ 0 → result ≢ 8 → result ≢ 9 → IsRefused given.now result task.new }
+    ensures zeros { result ≢ 0 → stored.new ≡ spec.zeros }
+    ensures memory { result ≡ 9 → task.new ≡ 0 }
+{
+    *task = 0;
+    *stored = NO_SCALES;
+    match set_and_loads(alloc, given) {
+        Ok(loaded) => match scales(&loaded.loads) {
+            Some(range) => {
+                *stored = scales_in_numbers(range);
+                status::OK
+            }
+            None => status::NOT_ADMITTED,
+        },
+        Err(no) => {
+            *task = no.task;
+            no.status
+        }
+    }
+}
+
+fn scales_in_numbers(range: ScaleRange) -> Scales
+    requires least { (range.least.num ≤ range.least.den) × (range.least.den ≤ 2 ^ 60) }
+    requires greatest { (range.greatest.num ≤ range.greatest.den) × (range.greatest.den ≤ 2 ^ 60) }
+    ensures least { spec.least_of result ≡ range.least }
+    ensures greatest { spec.greatest_of result ≡ range.greatest }
+    ensures lowest { IsLowest range.least × IsLowest range.greatest }
+{
+    Scales {
+        least_p: range.least.num() as u64,
+        least_q: range.least.den() as u64,
+        greatest_p: range.greatest.num() as u64,
+        greatest_q: range.greatest.den() as u64,
+    }
+}
+
+/// Stores the least speed of the processor, in millionths, at which the published test admits the set. With any other status than
+/// 0, 0 is stored.
+#[unsafe(no_mangle)]
+pub extern "C" fn edfvd_raw_speed(
+    alloc: Global,
+    given: &[GivenTask],
+    millionths: &mut u64,
+    task: &mut u32,
+) -> u32
+    ensures least { result ≡ 0 → spec.IsSpeed given.now millionths.new }
+    ensures many { 128 < length given.now → (result ≡ 2) × (task.new ≡ 0) }
+    ensures refused { length given.now ≤ 128 → result ≢ 0 → result ≢ 9 → IsRefused given.now result task.new }
+    ensures zero { result ≢ 0 → millionths.new ≡ 0 }
+    ensures memory { result ≡ 9 → task.new ≡ 0 }
+{
+    *task = 0;
+    *millionths = 0;
+    match set_and_loads(alloc, given) {
+        Ok(loaded) => {
+            *millionths = least_speed(&loaded.loads);
+            status::OK
+        }
+        Err(no) => {
+            *task = no.task;
+            no.status
+        }
+    }
+}
+
+// A set and its loads.
+#[derive(Drop)]
+struct SetAndLoads {
+    set: TaskSet,
+    loads: Loads,
+}
+
+fn set_and_loads(alloc: Global, given: &[GivenTask]) -> Result<SetAndLoads, NoSet>
+    ensures numbers { IfOk result (λ loaded. AreOf given.now loaded.set.tasks) }
+    ensures loads { IfOk result (λ loaded. BelongTo loaded.set.tasks loaded.loads) }
+    ensures few { IfOk result (λ loaded. length given.now ≤ 128) }
+    ensures many { IfErr result (λ no. 128 < length given.now → (no.status ≡ 2) × (no.task ≡ 0)) }
+    ensures refused { IfErr result (λ no. length given.now ≤ 128 → no.status ≢ 9 → IsRefused given.now no.status no.task) }
+    ensures status { IfErr result (λ no. (no.status ≢ 0) × (no.status ≢ 8) × (no.status ≢ 43)) }
+    ensures memory { IfErr result (λ no. no.status ≡ 9 → no.task ≡ 0) }
+{
+    let set = set_of(alloc, given)?;
+    let _is_set = set.len();
+    match sum_loads(&set) {
+        Ok(loads) => Ok(SetAndLoads { set, loads }),
+        Err(fault) => Err(NoSet {
+            status: status::PERIODS,
+            task: task_at_fault(fault),
+        }),
+    }
+}
+
+fn task_at_fault(fault: LoadFault) -> u32
+    ensures { result ≡ fault_task fault }
+{
+    match fault {
+        LoadFault::Range { task } => task.0,
+    }
+}
