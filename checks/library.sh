@@ -233,6 +233,7 @@ END
         unset EDFVD_LIBRARY
         export PYTHONPATH="$python" PYTHONDONTWRITEBYTECODE=1
         passes 'the tests and examples in Python' python3 -m unittest discover -q -s "$python/tests"
+        passes 'what may change in 300 random sets, beside brute force' python3 -B ../checks/sensitivity.py 300 1
         passes 'the replies beside the program' python3 "$python/tests/against_program.py" "$program" 2000
         tail -n 1 "$work/out"
         accepted

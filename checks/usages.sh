@@ -141,6 +141,7 @@ if grep -q 'py$' "$work/scripts"; then
     refuses ../tools/record/sched.py control/tasks.toml record/by_hand_events.csv 0
     refuses ../tools/record/sched.py control/tasks.toml record/by_hand.txt 1000 0 ctl
     refuses ../checks/second.py program plain x
+    refuses ../checks/sensitivity.py 1 x
     refuses ../tools/study/study.py sum
 
     python3 -B ../tools/study/study.py new "$work/study" 1 10 8 5

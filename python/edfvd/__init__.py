@@ -17,12 +17,13 @@ from ._commands import ask, run
 from ._errors import CommandRefused, EdfvdError, Refused, Status
 from ._monitor import Monitor
 from ._scheduler import Scheduler
+from ._sensitivity import GreatestBudgets, ScaleRange, scales, sensitivity, speed
 from ._values import (
     Answer, Demand, DemandVerdict, Event, Job, Late, Look, Row, Rule, Task, Test, Unfit, Verdict, Watch, Why,
 )
 
 __all__ = [
-    "Answer", "CommandRefused", "Demand", "DemandVerdict", "EdfvdError", "Event", "Job", "Late", "Look", "Monitor", "Refused",
-    "Row", "Rule", "Scheduler", "Status", "Task", "Test", "Unfit", "Verdict", "Watch", "Why",
-    "accept", "ask", "check", "demand", "judge", "partition", "run", "stretch",
+    "Answer", "CommandRefused", "Demand", "DemandVerdict", "EdfvdError", "Event", "GreatestBudgets", "Job", "Late", "Look",
+    "Monitor", "Refused", "Row", "Rule", "ScaleRange", "Scheduler", "Status", "Task", "Test", "Unfit", "Verdict", "Watch", "Why",
+    "accept", "ask", "check", "demand", "judge", "partition", "run", "scales", "sensitivity", "speed", "stretch",
 ]

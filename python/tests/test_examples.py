@@ -1,4 +1,4 @@
-"""The examples in the docstrings of the package, and those of the page docs/C-AND-PYTHON.md."""
+"""The examples in the docstrings of the package, and those of the pages docs/C-AND-PYTHON.md and docs/SENSITIVITY.md."""
 
 import doctest
 import re
@@ -6,18 +6,19 @@ import unittest
 from pathlib import Path
 
 import edfvd
-from edfvd import _calls, _commands, _errors, _monitor, _scheduler
+from edfvd import _calls, _commands, _errors, _monitor, _scheduler, _sensitivity
 
-PAGE = Path(__file__).resolve().parents[2] / "docs" / "C-AND-PYTHON.md"
+DOCS = Path(__file__).resolve().parents[2] / "docs"
+PAGES = [DOCS / "C-AND-PYTHON.md", DOCS / "SENSITIVITY.md"]
 
 
 def load_tests(loader: unittest.TestLoader, tests: unittest.TestSuite, pattern: object) -> unittest.TestSuite:
-    """Adds a test for each docstring with an example, and one for the page."""
-    for module in (edfvd, _calls, _commands, _errors, _monitor, _scheduler):
+    """Adds a test for each docstring with an example, and one for each page."""
+    for module in (edfvd, _calls, _commands, _errors, _monitor, _scheduler, _sensitivity):
         tests.addTests(doctest.DocTestSuite(module))
-    if PAGE.exists():
-        text = re.sub(r"^```.*$", "", PAGE.read_text(), flags=re.M)
-        example = doctest.DocTestParser().get_doctest(text, {}, PAGE.name, str(PAGE), 0)
+    for page in filter(Path.exists, PAGES):
+        text = re.sub(r"^```.*$", "", page.read_text(), flags=re.M)
+        example = doctest.DocTestParser().get_doctest(text, {}, page.name, str(page), 0)
         tests.addTest(doctest.DocTestCase(example))
     return tests
 

@@ -1,0 +1,121 @@
+"""What may change in a set, and by how much, as a table: the set is a task file of the program.
+
+usage: python3 -m edfvd sensitivity TASKS
+"""
+
+from __future__ import annotations
+
+import errno
+import os
+import sys
+from fractions import Fraction
+from typing import Any, Dict, List, Optional, Sequence, Tuple
+
+from . import Refused, Rule, Task, ask, check, scales, sensitivity, speed
+
+_MOST_BYTES = 16_777_216
+
+
+class _Ends(Exception):
+    """The end of the command: a line and an exit status, which is the program's for the same fault."""
+
+    def __init__(self, status: int, line: str) -> None:
+        super().__init__(line)
+        self.status = status
+
+
+def read_tasks(path: str) -> Tuple[List[Task], Optional[Fraction]]:
+    """The tasks of a task file, and its scale if it has one. A file that the program refuses is refused with the program's line."""
+    try:
+        with open(path, "rb") as file:
+            given = file.read(_MOST_BYTES + 1)
+    except OSError as error:
+        raise _Ends(7, f"{path}: {error.strerror}") from error
+    ended, text = ask(["check", "1"], given)
+    if ended not in (0, 1):
+        raise _Ends(ended, text.decode().rstrip("\n"))
+    try:
+        import tomllib
+    except ImportError as error:
+        raise _Ends(3, "task files need Python 3.11 or newer") from error
+    try:
+        document: Dict[str, Any] = tomllib.loads(given.decode("utf-8-sig"))
+    except tomllib.TOMLDecodeError as error:
+        raise _Ends(3, f"task file: written in a form of TOML that Python's tomllib does not read: {error}") from error
+    tasks = [
+        Task(table["name"], table["level"], table["period"], table["low"], table.get("high")) for table in document["task"]
+    ]
+    return tasks, Fraction(*document["scale"]) if "scale" in document else None
+
+
+def _shown(fraction: Fraction) -> str:
+    return f"{fraction.numerator}/{fraction.denominator}"
+
+
+def _column(values: Sequence[Optional[object]], heading: str, left: bool) -> List[str]:
+    words = [heading, *("none" if value is None else str(value) for value in values)]
+    width = max(map(len, words))
+    return [word.ljust(width) if left else word.rjust(width) for word in words]
+
+
+def table(tasks: Sequence[Task], own: Optional[Fraction] = None) -> str:
+    """The text for a set, which may have a scale of its own: the rule of the published test, the scales that hold, the least
+    speed, and the greatest budgets."""
+    rule, held, millionths = check(tasks), scales(tasks), speed(tasks) * 1_000_000
+    how = "not admitted"
+    if rule.rule == Rule.PLAIN:
+        how = "plain EDF"
+    elif rule.scale is not None:
+        how = f"EDF-VD with the scale {_shown(rule.scale)}"
+    between = "none" if held is None else f"{_shown(held.least)} to {_shown(held.greatest)}"
+    whole, part = divmod(int(millionths), 1_000_000)
+    lines = [f"published test: {how}", f"scales that hold: {between}"]
+    if own is not None:
+        does = "holds" if held is not None and own in held else "does not hold"
+        lines.append(f"the set's own scale: {_shown(own)}, which {does}")
+    lines += [f"least speed: {whole}.{part:06}", ""]
+    greatest = sensitivity(tasks)
+    columns = [
+        _column([task.name for task in tasks], "task", True),
+        _column([task.level for task in tasks], "level", True),
+        _column([task.period for task in tasks], "period", False),
+        _column([task.low for task in tasks], "low", False),
+        _column([most.low for most in greatest], "at most", False),
+        _column(["-" if task.level == "low" else task.high for task in tasks], "high", False),
+        _column(["-" if task.level == "low" else most.high for task, most in zip(tasks, greatest)], "at most", False),
+    ]
+    lines += ["  ".join(row).rstrip() for row in zip(*columns)]
+    return "\n".join(lines) + "\n"
+
+
+def main(words: Sequence[str]) -> int:
+    """Answers the words, and returns the exit status."""
+    usage = (__doc__ or "").strip().splitlines()[-1]
+    if "--help" in words:
+        sys.stdout.write(usage + "\n")
+        return 0
+    if len(words) != 2 or words[0] != "sensitivity":
+        sys.stderr.write(usage + "\n")
+        return 2
+    try:
+        text = table(*read_tasks(words[1]))
+    except (_Ends, Refused) as ends:
+        sys.stderr.write(f"{ends}\n")
+        return ends.status
+    sys.stdout.write(text)
+    sys.stdout.flush()
+    return 0
+
+
+if __name__ == "__main__":
+    try:
+        if sys.stdout is None:
+            raise OSError(errno.EBADF, os.strerror(errno.EBADF))
+        status = main(sys.argv[1:])
+        sys.stdout.flush()
+    except OSError as error:
+        sys.stderr.write(f"standard output: {error.strerror}\n")
+        # What is not written yet would be tried again at the end.
+        os.dup2(os.open(os.devnull, os.O_WRONLY), 1)
+        status = 8
+    sys.exit(status)
