@@ -18,6 +18,7 @@ from pathlib import Path
 
 sys.path.insert(0, str(Path(__file__).resolve().parent.parent / 'python'))
 
+import with_tools
 from usage import WrongWords, ends, numbers
 
 MOST = 2**32 - 1
