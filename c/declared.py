@@ -35,6 +35,8 @@ def passed(kind: str) -> list[str]:
     """How C passes a parameter of this type: a slice as a pointer and a length, the allocator not at all."""
     if kind == "Global":
         return []
+    if kind == "&[&[u8]]":
+        return ["const raw_word *", "size_t"]
     if found := re.fullmatch(r"&(mut )?\[(\w+)\]", kind):
         return [f"{'' if found[1] else 'const '}{C_TYPES[found[2]]} *", "size_t"]
     if found := re.fullmatch(r"&mut \[(\w+); \d+\]", kind):

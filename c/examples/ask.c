@@ -37,10 +37,13 @@ int main(void) {
     (void)ask(4, (const char *const[]){"run", "1", "2", "8"}, "task,release,need\nctl,0,3\nlog,0,1\n");
     (void)ask(3, (const char *const[]){"judge", "1", "2"},
               "event,tick,task,job,how\nrelease,0,ctl,1,kept\nrelease,0,log,1,kept\ntick,0,log,1,more\n");
+    (void)ask(5, (const char *const[]){"judge", "1", "2", "1", "2"}, "event,tick,task,job,how\nrelease,0,ctl,1,kept\n");
     (void)ask(3, (const char *const[]){"partition", "1", "2"}, NULL);
     (void)ask(4, (const char *const[]){"accept", "1", "50", "8"}, NULL);
     (void)ask(2, (const char *const[]){"check", "2"}, "task = [");
+    (void)ask(0, NULL, NULL);
     (void)ask(1, (const char *const[]){"nonsense"}, NULL);
+    (void)ask(6, (const char *const[]){"judge", "1", "2", "1", "2", "3"}, NULL);
     (void)ask(7, (const char *const[]){"a", "b", "c", "d", "e", "f", "g"}, NULL);
     (void)ask(4, (const char *const[]){"soak", "1", "8", "100"}, NULL);
     (void)ask(2, (const char *const[]){"check", "\xff"}, NULL);

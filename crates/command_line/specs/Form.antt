@@ -1,7 +1,7 @@
 -- The command line: which form the words have, and which command a form is.
-use Rattle.std.specs.Prelude.{◌≡◌, ℕ, ◌+◌, ◌≤◌, ◌<◌, ◌-◌, ◌^◌, nat_le, nat_lt, List, [], ◌∷◌, if◌then◌else◌, Option, Some, None, option_map, option_and_then, codes, map, String, string_bytes}
+use Rattle.std.specs.Prelude.{◌≡◌, ℕ, ◌+◌, ◌≤◌, ◌<◌, ◌-◌, ◌^◌, nat_le, nat_lt, List, [], ◌∷◌, if◌then◌else◌, Option, Some, None, option_map, option_and_then, codes, map}
+use Rattle.std.specs.Borrow.{Bor}
 use Rattle.std.specs.Str.{bytes_eq}
-use Rattle.std.specs.declared.alloc.Global.{Global}
 use Rattle.numeral.specs.Numeral.{numeral}
 use Rattle.replies.specs.Reply.{Reply, reply_of}
 use Rattle.serving.specs.Command.{Command, answer}
@@ -18,6 +18,7 @@ use Rattle.part_answers.specs.Partition.{partition}
 use Rattle.part_answers.specs.RunAll.{run_all}
 use Rattle.study_answers.specs.Stretch.{stretch}
 use Rattle.study_answers.specs.Accept.{accept}
+use Rattle.study_answers.specs.declared.accept.AcceptCommand.{AcceptCommand}
 use Rattle.command_line.specs.declared.form.Form.{Form}
 use Rattle.command_line.specs.declared.form.Form.TheVariants as form
 
@@ -34,20 +35,17 @@ command_of (form.RunAll c) = run_all c.tasks c.work c.ticks c.processors
 command_of (form.Stretch c) = stretch c.tasks
 command_of (form.Accept c) = accept c.number c.sets c.tasks
 
--- a form's numbers are within bounds that its command needs: a scale is at most 1, a workload has 2 to 32
--- tasks, and the numbers of a study's sets are below 2^64
+-- a form's numbers are within bounds that its command needs: `run` and `runall` have at most 1,000,000 ticks,
+-- and `live` at most 100,000; a scale is at most 1, a workload has 2 to 32 tasks, and the numbers of a study's
+-- sets are below 2^64
 abbrev pub IsInRange : Form → Type 0
+IsInRange (form.Run c) = c.ticks ≤ 1000000
 IsInRange (form.OnTrace c) = IsScale c.action
 IsInRange (form.Soak c) = (2 ≤ c.tasks) × (c.tasks ≤ 32)
+IsInRange (form.Live c) = c.ticks ≤ 100000
+IsInRange (form.RunAll c) = c.ticks ≤ 1000000
 IsInRange (form.Accept c) = c.number + c.sets < 2 ^ 64
 IsInRange c = Unit {0}
-
--- `run` and `runall` have at most 1,000,000 ticks, and `live` at most 100,000
-abbrev pub HasFewTicks : Form → Type 0
-HasFewTicks (form.Run c) = c.ticks ≤ 1000000
-HasFewTicks (form.Live c) = c.ticks ≤ 100000
-HasFewTicks (form.RunAll c) = c.ticks ≤ 1000000
-HasFewTicks c = Unit {0}
 
 -- the command runs each task of a set in a thread of its own, and has no reply on the caller's thread
 abbrev pub StartsThreads : Form → Type 0
@@ -75,9 +73,9 @@ workload (Some k) (Some n) (Some ticks) = Some (form.Soak (record { number = k; 
 workload number tasks ticks = None
 
 -- a study of n sets of m tasks with the numbers from k on, which are below 2^64
-abbrev pub study : Option ℕ → Option ℕ → Option ℕ → Option Form
+abbrev pub study : Option ℕ → Option ℕ → Option ℕ → Option AcceptCommand
 study (Some k) (Some n) (Some m) =
-    if nat_lt (k + n) (2 ^ 64) then Some (form.Accept (record { number = k; sets = n; tasks = m })) else None
+    if nat_lt (k + n) (2 ^ 64) then Some (record { number = k; sets = n; tasks = m }) else None
 study number sets tasks = None
 
 -- `runall` of a set and its work, for a number of ticks, on a number of processors
@@ -86,63 +84,41 @@ parts_run tasks work (Some ticks) (Some processors) =
     Some (form.RunAll (record { tasks = tasks; work = work; ticks = ticks; processors = processors }))
 parts_run tasks work ticks processors = None
 
--- the command on a trace that the word names
-abbrev pub action_of : List ℕ → Option TraceAction
-action_of word =
-    if bytes_eq word (codes "judge") then Some Judge
-    else if bytes_eq word (codes "chart") then Some Chart
-    else if bytes_eq word (codes "report") then Some Report
-    else if bytes_eq word (codes "migrate") then Some Migrate else None
-
 -- the form of a command on a trace
 abbrev pub trace_form : List ℕ → List ℕ → TraceAction → Form
 trace_form tasks trace action = form.OnTrace (record { action = action; tasks = tasks; trace = trace })
 
--- the form of a command with one more word
-abbrev pub with_one : List ℕ → List ℕ → Option Form
-with_one word a =
+-- the form that the words have, if any
+abbrev pub form_of : List (List ℕ) → Option Form
+form_of (word ∷ a ∷ []) =
     if bytes_eq word (codes "check") then Some (form.Check (record { tasks = a }))
     else if bytes_eq word (codes "demand") then Some (form.Demand (record { demands = a }))
     else if bytes_eq word (codes "stretch") then Some (form.Stretch (record { tasks = a })) else None
-
--- the form of a command with two more words
-abbrev pub with_two : List ℕ → List ℕ → List ℕ → Option Form
-with_two word a b =
-    if bytes_eq word (codes "live")
+form_of (word ∷ a ∷ b ∷ []) =
+    if bytes_eq word (codes "judge") then Some (trace_form a b Judge)
+    else if bytes_eq word (codes "chart") then Some (trace_form a b Chart)
+    else if bytes_eq word (codes "report") then Some (trace_form a b Report)
+    else if bytes_eq word (codes "migrate") then Some (trace_form a b Migrate)
+    else if bytes_eq word (codes "live")
     then option_map (λ ticks. form.Live (record { tasks = a; ticks = ticks })) (number 1 100000 b)
     else if bytes_eq word (codes "partition")
-    then option_map (λ m. form.Partition (record { tasks = a; processors = m })) (number 1 16 b)
-    else option_map (trace_form a b) (action_of word)
-
--- the form of a command with three more words
-abbrev pub with_three : List ℕ → List ℕ → List ℕ → List ℕ → Option Form
-with_three word a b c =
+    then option_map (λ m. form.Partition (record { tasks = a; processors = m })) (number 1 16 b) else None
+form_of (word ∷ a ∷ b ∷ c ∷ []) =
     if bytes_eq word (codes "run")
     then option_map (λ ticks. form.Run (record { tasks = a; work = b; ticks = ticks })) (number 1 1000000 c)
     else if bytes_eq word (codes "soak")
     then workload (number 0 (2 ^ 64 - 1) a) (number 2 32 b) (number 1 1000000 c)
     else if bytes_eq word (codes "accept")
-    then study (number 0 (2 ^ 64 - 1) a) (number 1 10000 b) (number 2 32 c)
-    else None
-
--- the form of a command with four more words
-abbrev pub with_four : List ℕ → List ℕ → List ℕ → List ℕ → List ℕ → Option Form
-with_four word a b p q =
+    then option_map form.Accept (study (number 0 (2 ^ 64 - 1) a) (number 1 10000 b) (number 2 32 c)) else None
+form_of (word ∷ a ∷ b ∷ c ∷ d ∷ []) =
     if bytes_eq word (codes "judge")
-    then option_map (trace_form a b) (judge_by (number 1 (2 ^ 32 - 1) p) (number 1 (2 ^ 32 - 1) q))
-    else if bytes_eq word (codes "runall") then parts_run a b (number 1 1000000 p) (number 1 16 q) else None
-
--- the form that the words have, if any
-abbrev pub form_of : List (List ℕ) → Option Form
-form_of (word ∷ a ∷ []) = with_one word a
-form_of (word ∷ a ∷ b ∷ []) = with_two word a b
-form_of (word ∷ a ∷ b ∷ c ∷ []) = with_three word a b c
-form_of (word ∷ a ∷ b ∷ c ∷ d ∷ []) = with_four word a b c d
+    then option_map (trace_form a b) (judge_by (number 1 (2 ^ 32 - 1) c) (number 1 (2 ^ 32 - 1) d))
+    else if bytes_eq word (codes "runall") then parts_run a b (number 1 1000000 c) (number 1 16 d) else None
 form_of words = None
 
 -- the form that the words after the program's name have, if any
-abbrev pub form_in : List (String Global) → Option Form
-form_in words = form_of (map (λ w. string_bytes w) words)
+abbrev pub form_in : List (Bor (List ℕ)) → Option Form
+form_in words = form_of (map (λ w. w.now) words)
 
 -- the reply to words that have none of the forms: the usage line, with status 2
 abbrev pub usage : Reply

@@ -1,5 +1,5 @@
 //! The forms of the command line: which words ask for which command.
-ghost use Rattle.std.specs.Prelude.{◌≡◌, IfOk, IfSome, IfNone, OnSome};
+ghost use Rattle.std.specs.Prelude.{◌≡◌, ◌+◌, ◌<◌, ◌≤◌, ◌^◌, IfOk, IfSome, IfNone, OnSome};
 ghost use Rattle.serving.specs.Serves.{Serves};
 ghost use Rattle.trace_answers.specs.OnTrace.{IsScale};
 ghost use Rattle.command_line.specs.Form as spec;
@@ -10,8 +10,8 @@ use mc_world::Shelf;
 use numeral::numeral;
 use part_answers::{PartitionCommand, RunAllCommand};
 use replies::{Reply, Stop};
-use run_answers::{LiveCommand, LiveTicks, RunCommand, SoakCommand, Ticks};
-use serving::{FileName, TaskCount, Within};
+use run_answers::{LiveCommand, RunCommand, SoakCommand};
+use serving::{FileName, Within};
 use std::alloc::{AllocError, Global};
 use std::sync::Wait;
 use std::thread::Threads;
@@ -88,24 +88,53 @@ impl<'a> Form<'a> {
 }
 
 /// The form that the words have, if any.
-pub fn form_of(words: &[String]) -> Option<Form<'_>>
+pub fn form_of<'a>(words: &[&'a str]) -> Option<Form<'a>>
     ensures form { result ≡ spec.form_in words.now }
     ensures range { IfSome result spec.IsInRange }
-    ensures ticks { IfSome result spec.HasFewTicks }
 {
-    match words {
-        [word, a] => with_one(word.as_str(), a.as_str()),
-        [word, a, b] => with_two(word.as_str(), a.as_str(), b.as_str()),
-        [word, a, b, c] => with_three(word.as_str(), a.as_str(), b.as_str(), c.as_str()),
-        [word, a, b, c, d] => {
-            with_four(
-                word.as_str(),
-                a.as_str(),
-                b.as_str(),
-                c.as_str(),
-                d.as_str(),
-            )
+    match *words {
+        ["check", tasks] => Some(Form::Check(CheckCommand {
+            tasks: FileName::new(tasks),
+        })),
+        ["run", tasks, work, ticks] => Some(Form::Run(RunCommand {
+            tasks: FileName::new(tasks),
+            work: FileName::new(work),
+            ticks: bounded(ticks)?,
+        })),
+        ["judge", tasks, trace] => Some(on_trace(TraceAction::Judge, tasks, trace)),
+        ["judge", tasks, trace, p, q] => Some(on_trace(judge_by(p, q)?, tasks, trace)),
+        ["chart", tasks, trace] => Some(on_trace(TraceAction::Chart, tasks, trace)),
+        ["report", tasks, trace] => Some(on_trace(TraceAction::Report, tasks, trace)),
+        ["soak", number, tasks, ticks] => {
+            let number: SetNumber = bounded(number)?;
+            Some(Form::Soak(SoakCommand {
+                number: number.get(),
+                tasks: bounded(tasks)?,
+                ticks: bounded(ticks)?,
+            }))
         }
+        ["migrate", tasks, trace] => Some(on_trace(TraceAction::Migrate, tasks, trace)),
+        ["live", tasks, ticks] => Some(Form::Live(LiveCommand {
+            tasks: FileName::new(tasks),
+            ticks: bounded(ticks)?,
+        })),
+        ["demand", demands] => Some(Form::Demand(DemandCommand {
+            demands: FileName::new(demands),
+        })),
+        ["partition", tasks, processors] => Some(Form::Partition(PartitionCommand {
+            tasks: FileName::new(tasks),
+            processors: bounded(processors)?,
+        })),
+        ["runall", tasks, work, ticks, processors] => Some(Form::RunAll(RunAllCommand {
+            tasks: FileName::new(tasks),
+            work: FileName::new(work),
+            ticks: bounded(ticks)?,
+            processors: bounded(processors)?,
+        })),
+        ["stretch", tasks] => Some(Form::Stretch(StretchCommand {
+            tasks: FileName::new(tasks),
+        })),
+        ["accept", number, sets, tasks] => Some(Form::Accept(study(number, sets, tasks)?)),
         _ => None,
     }
 }
@@ -119,93 +148,6 @@ pub fn usage_line(alloc: Global) -> Result<Vec<u8>, AllocError>
         .to_vec(alloc)
 }
 
-fn with_one<'a>(word: &str, file: &'a str) -> Option<Form<'a>>
-    ensures form { result ≡ spec.with_one word.now file.now }
-    ensures range { IfSome result spec.IsInRange }
-    ensures ticks { IfSome result spec.HasFewTicks }
-{
-    let file = FileName::new(file);
-    match word {
-        "check" => Some(Form::Check(CheckCommand { tasks: file })),
-        "demand" => Some(Form::Demand(DemandCommand { demands: file })),
-        "stretch" => Some(Form::Stretch(StretchCommand { tasks: file })),
-        _ => None,
-    }
-}
-
-fn with_two<'a>(word: &str, tasks: &'a str, second: &'a str) -> Option<Form<'a>>
-    ensures form { result ≡ spec.with_two word.now tasks.now second.now }
-    ensures range { IfSome result spec.IsInRange }
-    ensures ticks { IfSome result spec.HasFewTicks }
-{
-    match word {
-        "live" => {
-            let tasks = FileName::new(tasks);
-            let ticks: LiveTicks = bounded(second)?;
-            // The ticks are within their bounds.
-            let _count = ticks.get();
-            Some(Form::Live(LiveCommand { tasks, ticks }))
-        }
-        "partition" => {
-            let tasks = FileName::new(tasks);
-            let processors = bounded(second)?;
-            Some(Form::Partition(PartitionCommand { tasks, processors }))
-        }
-        _ => Some(on_trace(action_of(word)?, tasks, second)),
-    }
-}
-
-fn with_three<'a>(word: &str, first: &'a str, second: &'a str, third: &str) -> Option<Form<'a>>
-    ensures form { result ≡ spec.with_three word.now first.now second.now third.now }
-    ensures range { IfSome result spec.IsInRange }
-    ensures ticks { IfSome result spec.HasFewTicks }
-{
-    match word {
-        "run" => {
-            let tasks = FileName::new(first);
-            let work = FileName::new(second);
-            let ticks: Ticks = bounded(third)?;
-            // The ticks are within their bounds.
-            let _count = ticks.get();
-            Some(Form::Run(RunCommand { tasks, work, ticks }))
-        }
-        "soak" => workload(first, second, third),
-        "accept" => study(first, second, third),
-        _ => None,
-    }
-}
-
-fn with_four<'a>(
-    word: &str,
-    tasks: &'a str,
-    second: &'a str,
-    third: &str,
-    fourth: &str,
-) -> Option<Form<'a>>
-    ensures form { result ≡ spec.with_four word.now tasks.now second.now third.now fourth.now }
-    ensures range { IfSome result spec.IsInRange }
-    ensures ticks { IfSome result spec.HasFewTicks }
-{
-    match word {
-        "judge" => Some(on_trace(judge_by(third, fourth)?, tasks, second)),
-        "runall" => {
-            let tasks = FileName::new(tasks);
-            let work = FileName::new(second);
-            let ticks: Ticks = bounded(third)?;
-            // The ticks are within their bounds.
-            let _count = ticks.get();
-            let processors = bounded(fourth)?;
-            Some(Form::RunAll(RunAllCommand {
-                tasks,
-                work,
-                ticks,
-                processors,
-            }))
-        }
-        _ => None,
-    }
-}
-
 fn on_trace<'a>(action: TraceAction, tasks: &'a str, trace: &'a str) -> Form<'a>
     ensures { result ≡ spec.trace_form tasks.now trace.now action }
 {
@@ -216,19 +158,6 @@ fn on_trace<'a>(action: TraceAction, tasks: &'a str, trace: &'a str) -> Form<'a>
         tasks,
         trace,
     })
-}
-
-fn action_of(word: &str) -> Option<TraceAction>
-    ensures form { result ≡ spec.action_of word.now }
-    ensures scale { IfSome result IsScale }
-{
-    match word {
-        "judge" => Some(TraceAction::Judge),
-        "chart" => Some(TraceAction::Chart),
-        "report" => Some(TraceAction::Report),
-        "migrate" => Some(TraceAction::Migrate),
-        _ => None,
-    }
 }
 
 fn judge_by(p: &str, q: &str) -> Option<TraceAction>
@@ -245,29 +174,10 @@ fn judge_by(p: &str, q: &str) -> Option<TraceAction>
     }
 }
 
-fn workload<'a>(seed: &str, tasks: &str, ticks: &str) -> Option<Form<'a>>
-    ensures form { result
-        ≡ spec.workload (spec.number 0 18446744073709551615 seed.now) (spec.number 2 32 tasks.now) (spec.number 1 1000000 ticks.now) }
-    ensures range { IfSome result spec.IsInRange }
-    ensures ticks { IfSome result spec.HasFewTicks }
-{
-    let seed: SetNumber = bounded(seed)?;
-    let tasks: TaskCount = bounded(tasks)?;
-    let ticks = bounded(ticks)?;
-    // The tasks are within their bounds.
-    let _count = tasks.get();
-    Some(Form::Soak(SoakCommand {
-        number: seed.get(),
-        tasks,
-        ticks,
-    }))
-}
-
-fn study<'a>(first: &str, sets: &str, tasks: &str) -> Option<Form<'a>>
+fn study(first: &str, sets: &str, tasks: &str) -> Option<AcceptCommand>
     ensures form { result
         ≡ spec.study (spec.number 0 18446744073709551615 first.now) (spec.number 1 10000 sets.now) (spec.number 2 32 tasks.now) }
-    ensures range { IfSome result spec.IsInRange }
-    ensures ticks { IfSome result spec.HasFewTicks }
+    ensures range { IfSome result (λ c. c.number + c.sets < 2 ^ 64) }
 {
     let first: SetNumber = bounded(first)?;
     let number = first.get();
@@ -276,16 +186,17 @@ fn study<'a>(first: &str, sets: &str, tasks: &str) -> Option<Form<'a>>
     if sets.get() > u64::MAX - number {
         return None;
     }
-    Some(Form::Accept(AcceptCommand {
+    Some(AcceptCommand {
         number,
         sets,
         tasks,
-    }))
+    })
 }
 
 // A number within the bounds of its type.
 fn bounded<const LEAST: u64, const MOST: u64>(word: &str) -> Option<Within<LEAST, MOST>>
-    ensures { result ≡ spec.number LEAST MOST word.now }
+    ensures number { result ≡ spec.number LEAST MOST word.now }
+    ensures range { IfSome result (λ n. (LEAST ≤ n) × (n ≤ MOST)) }
 {
     Within::new(numeral(word.as_bytes(), 20)?)
 }

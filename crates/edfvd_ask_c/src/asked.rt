@@ -1,42 +1,28 @@
 //! The program's commands, asked in process.
-ghost use Rattle.std.specs.Prelude.{◌≡◌};
-ghost use Rattle.in_process.specs.Asked.{few_words};
+ghost use Rattle.std.specs.Prelude.{◌≡◌, map};
 ghost use Rattle.edfvd_ask_c.specs.Asked.{Asks, no_reply_status};
 
 use crate::status;
-use in_process::{NoReply, Words, ask_in_process};
+use in_process::{NoReply, ask_in_process};
 use std::alloc::Global;
 
-/// Asks what up to five words ask of the program, over the bytes of two files that the words name `1` and `2`, and writes the
+/// Asks what the words ask of the program, over the bytes of two files that the words name `1` and `2`, and writes the
 /// text of the reply into the buffer. `ended` is the status that the program would end with. If the buffer is too short, the
 /// call returns status 44, and `len` is the length that the text needs.
 #[unsafe(no_mangle)]
 pub extern "C" fn edfvd_raw_ask(
     alloc: Global,
-    count: u32,
-    a: &[u8],
-    b: &[u8],
-    c: &[u8],
-    d: &[u8],
-    e: &[u8],
+    words: &[&[u8]],
     first: &[u8],
     second: &[u8],
     out: &mut [u8],
     len: &mut usize,
     ended: &mut u32,
 ) -> u32
-    ensures asked { Asks (few_words count a.now b.now c.now d.now e.now) first.now second.now result ended.new len.new out.new }
+    ensures asked { Asks (map (λ w. w.now) words.now) first.now second.now result ended.new len.new out.new }
 {
     *len = 0;
     *ended = 0;
-    let words = Words {
-        count,
-        first: a,
-        second: b,
-        third: c,
-        fourth: d,
-        fifth: e,
-    };
     let reply = match ask_in_process(alloc, words, first, second) {
         Ok(reply) => reply,
         Err(no_reply) => return status_of(no_reply),

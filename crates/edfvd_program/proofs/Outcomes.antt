@@ -1,17 +1,18 @@
 -- What a call leaves, by its reply and how much of it was written.
-use Rattle.std.proofs.Common.{◌≡◌, ◌⊎◌, inl, inr, ℕ, List, Option, Some, IfSome, sym, subst}
+use Rattle.std.proofs.Common.{◌≡◌, ◌≢◌, ◌⊎◌, inl, inr, ℕ, List, Option, Some, IfSome, sym, subst}
 use Rattle.mc_world.specs.Count.{Rose}
 use Rattle.mc_world.specs.Shelf.{Files, ShelfState}
 use Rattle.mc_world.specs.Sink.{SinkState}
 use Rattle.replies.specs.Reply.{Reply}
+use Rattle.replies.specs.Refusal.{ReadFault, refuse}
 use Rattle.command_line.specs.declared.form.Form.{Form}
-use Rattle.command_line.specs.Form.{IsInRange, HasFewTicks, command}
+use Rattle.command_line.specs.Form.{IsInRange, command}
 use Rattle.serving.specs.Written.{IsWritten, IsCutShort}
 use Rattle.serving.specs.Outcome.{Exposes}
 use Rattle.serving.proofs.Outcomes.{is_answer, reports_no_fault}
 use Rattle.serving.proofs.Written.{wrote_whole, one_more-rose}
 use Rattle.promises.specs.Reply.{IsReply}
-use Rattle.edfvd_program.specs.Outcome.{WritesAnswer, CalmOutcome}
+use Rattle.edfvd_program.specs.Outcome.{Ends, WritesAnswer}
 use Rattle.promises.specs.Promises.{Promises}
 use Rattle.promises.proofs.Headlines.{of_reply, gave_up}
 
@@ -29,26 +30,28 @@ answers {form} {before} {after} {sink_before} {sink_after} {reply} r written fil
     ]
 
 -- the promises hold of what a call leaves, whether it wrote an answer or ran out of memory
-promises : (form : Option Form) → IfSome form IsInRange → IfSome form HasFewTicks → (files : Files) (old : List ℕ) (ended : ℕ) (new : Option (List ℕ)) → WritesAnswer form files old ended new
+promises : (form : Option Form) → IfSome form IsInRange → (files : Files) (old : List ℕ) (ended : ℕ) (new : Option (List ℕ)) → WritesAnswer form files old ended new
     → Promises form files old ended new
-promises form range short files old ended new h =
+promises form range files old ended new h =
     elim h [
       | inl none ↦ subst (λ n. Promises form files old n new) (sym none.0) (gave_up form files old new)
       | inr r ↦
           subst (λ n. Promises form files old n new) (sym r.2)
-          (subst (λ o. Promises form files old r.0.status o) (sym r.3) (of_reply form range short files old r.0 r.1))
+          (subst (λ o. Promises form files old r.0.status o) (sym r.3) (of_reply form range files old r.0 r.1))
     ]
 
 -- a call whose reply was written keeps all that the program promises
-pub kept : {form : Option Form} {before after : ShelfState} {sink_before sink_after : SinkState} {reply : Reply} {ended : ℕ} → IfSome form IsInRange → IfSome form HasFewTicks
+pub kept : {form : Option Form} {before after : ShelfState} {sink_before sink_after : SinkState} {reply : Reply} {ended : ℕ} → IfSome form IsInRange
     → IsReply form before after reply
     → IsWritten reply ended sink_before sink_after ⊎ IsCutShort reply ended sink_before sink_after
     → (files : Files) (old : List ℕ) → Exposes files before after → sink_before.written ≡ Some old → (Rose sink_before.faults sink_after.faults → ⊥)
     → Promises form files old ended sink_after.written
-kept {form} {sink_after} {ended} range short r written files old exposes sink_written calm =
-    promises form range short files old ended sink_after.written (answers r written files old exposes sink_written calm)
+kept {form} {sink_after} {ended} range r written files old exposes sink_written calm =
+    promises form range files old ended sink_after.written (answers r written files old exposes sink_written calm)
 
+-- a call in which no fetch failed reports no read fault
 pub calm_outcome : {form : Option Form} {before after : ShelfState} {sink_before sink_after : SinkState} {reply : Reply} {ended : ℕ} → IsReply form before after reply
     → IsWritten reply ended sink_before sink_after ⊎ IsCutShort reply ended sink_before sink_after
-    → after.faults ≡ 0 → CalmOutcome form before after sink_before sink_after ended
+    → after.faults ≡ 0
+    → Ends (λ reply. IsReply form before after reply × ((k : ℕ) → reply ≢ refuse (ReadFault k))) sink_before sink_after ended
 calm_outcome {form} {before} {after} {reply} r written zero = inr (reply, (r, reports_no_fault 1 (command form) before after reply r.is zero), written)

@@ -1,26 +1,13 @@
 -- What is asked in process: a few words, and two files named `1` and `2`.
-use Rattle.std.specs.Prelude.{ℕ, List, [], ◌∷◌, take, Some, None, codes, nat_le, if◌then◌else◌, All, IsUtf8, MatchOption, ◌≡◌}
+use Rattle.std.specs.Prelude.{ℕ, List, [], ◌∷◌, Some, codes, All, IsUtf8, MatchOption}
 use Rattle.mc_world.specs.Shelf.{Files}
 use Rattle.mc_world.specs.CalmShelfState.{calm_files}
 use Rattle.replies.specs.Reply.{Reply}
 use Rattle.command_line.specs.Form.{form_of, command, StartsThreads}
 use Rattle.serving.specs.Outcome.{IsAnswer}
 use Rattle.promises.specs.Promises.{Promises}
-use Rattle.in_process.specs.declared.asked.Words.{Words}
 use Rattle.in_process.specs.declared.reply.NoReply.{NoReply}
 use Rattle.in_process.specs.declared.reply.NoReply.TheVariants.{Memory, Threads, NotText}
-
--- the first n of five words; no words where n is greater
-abbrev pub few_words : ℕ → List ℕ → List ℕ → List ℕ → List ℕ → List ℕ → List (List ℕ)
-few_words n a b c d e = if nat_le n 5 then take n (a ∷ b ∷ c ∷ d ∷ e ∷ []) else []
-
--- the five words that a call takes at most
-abbrev pub five_of : Words → List (List ℕ)
-five_of w = w.first.now ∷ w.second.now ∷ w.third.now ∷ w.fourth.now ∷ w.fifth.now ∷ []
-
--- the words of a call
-abbrev pub words_of : Words → List (List ℕ)
-words_of w = few_words w.count w.first.now w.second.now w.third.now w.fourth.now w.fifth.now
 
 -- the files `1` and `2`, each with its bytes
 abbrev pub pair : List ℕ → List ℕ → List (List ℕ × List ℕ)

@@ -4,5 +4,5 @@
 mod asked;
 mod reply;
 
-pub use asked::{Words, ask_in_process};
+pub use asked::ask_in_process;
 pub use reply::{NoReply, reply_alone};

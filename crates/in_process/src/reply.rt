@@ -1,6 +1,6 @@
 //! The reply to each command that starts no threads.
-ghost use Rattle.std.specs.Prelude.{◌≡◌, IfOk, IfErr, IfSome, OnOk, map, string_bytes};
-ghost use Rattle.command_line.specs.Form.{form_in, IsInRange, HasFewTicks};
+ghost use Rattle.std.specs.Prelude.{◌≡◌, IfOk, IfErr, IfSome, OnOk, map};
+ghost use Rattle.command_line.specs.Form.{form_in, IsInRange};
 ghost use Rattle.promises.specs.Reply.{IsReply};
 ghost use Rattle.in_process.specs.declared.reply.NoReply.TheVariants as no_reply;
 ghost use Rattle.in_process.specs.Asked.{AskForThreads, HasCause};
@@ -31,16 +31,11 @@ impl From<AllocError> for NoReply {
 
 /// What the program replies to the words after its name, over a shelf. `run` and `accept` work on the caller's thread, with the
 /// program's reply.
-pub fn reply_alone<S: Shelf>(
-    alloc: Global,
-    words: &[String],
-    shelf: &mut S,
-) -> Result<Reply, NoReply>
+pub fn reply_alone<S: Shelf>(alloc: Global, words: &[&str], shelf: &mut S) -> Result<Reply, NoReply>
     ensures reply { IfOk result (IsReply (form_in words.now) (S.state shelf.old) (S.state shelf.new)) }
-    ensures cause { IfErr result (HasCause (map (λ w. string_bytes w) words.now)) }
-    ensures alone { OnOk result (¬ AskForThreads (map (λ w. string_bytes w) words.now)) }
+    ensures cause { IfErr result (HasCause (map (λ w. w.now) words.now)) }
+    ensures alone { OnOk result (¬ AskForThreads (map (λ w. w.now) words.now)) }
     ensures range { IfSome (form_in words.now) IsInRange }
-    ensures ticks { IfSome (form_in words.now) HasFewTicks }
 {
     let Some(form) = form_of(words) else {
         return Ok(Reply::new(2, usage_line(alloc)?));

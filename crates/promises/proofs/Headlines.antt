@@ -3,7 +3,7 @@ use Rattle.std.proofs.Common.{inl, inr, ℕ, List, ◌++◌, Option, Some, None,
 use Rattle.mc_world.specs.Shelf.{Files}
 use Rattle.command_line.specs.declared.form.Form.{Form}
 use Rattle.command_line.specs.declared.form.Form.TheVariants as form
-use Rattle.command_line.specs.Form.{IsInRange, HasFewTicks, command}
+use Rattle.command_line.specs.Form.{IsInRange, command}
 use Rattle.replies.specs.Reply.{Reply}
 use Rattle.serving.specs.Outcome.{IsAnswer}
 use Rattle.trace_answers.specs.declared.action.TraceAction.{TraceAction}
@@ -15,10 +15,10 @@ use Rattle.promises.specs.Promises.{Promises}
 use Rattle.promises.proofs.Tested.{of_form}
 
 -- each answer to words keeps what the program promises, whether the words have a form or none
-pub of_reply : (form : Option Form) → IfSome form IsInRange → IfSome form HasFewTicks → (files : Files) (old : List ℕ) (reply : Reply) → IsAnswer files 1 (command form) reply
+pub of_reply : (form : Option Form) → IfSome form IsInRange → (files : Files) (old : List ℕ) (reply : Reply) → IsAnswer files 1 (command form) reply
     → Promises form files old reply.status (Some (old ++ reply.text))
-of_reply None range short files old reply h = (tt, tt, tt, tt)
-of_reply (Some form) range short files old reply h = of_form form range short files old reply h
+of_reply None range files old reply h = (tt, tt, tt, tt)
+of_reply (Some form) range files old reply h = of_form form range files old reply h
 
 -- a command on a trace that ran out of memory promises nothing
 gave_up_on : (action : TraceAction) (bytes more old : List ℕ) (new : Option (List ℕ))

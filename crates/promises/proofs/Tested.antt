@@ -6,7 +6,7 @@ use Rattle.study.specs.Stretch as room
 use Rattle.study.proofs.Percentages.{stretch-greatest}
 use Rattle.command_line.specs.declared.form.Form.{Form}
 use Rattle.command_line.specs.declared.form.Form.TheVariants as form
-use Rattle.command_line.specs.Form.{IsInRange, HasFewTicks}
+use Rattle.command_line.specs.Form.{IsInRange}
 use Rattle.study_answers.specs.declared.stretch.StretchCommand.{StretchCommand}
 use Rattle.study_answers.specs.declared.accept.AcceptCommand.{AcceptCommand}
 use Rattle.replies.specs.Reply.{Reply, reply_of}
@@ -112,14 +112,14 @@ accept_keeps command files old reply h =
     (tt, tt, tt, record { writes = λ e. ap (λ (r : Reply). Some (old ++ r.text)) h; complete = inl (ap (λ (r : Reply). r.status) h) })
 
 -- each command's answers keep what is promised of it
-pub of_form : (command : Form) → IsInRange command → HasFewTicks command → Keeps command
-of_form (form.Check c) range short = check_keeps c
-of_form (form.Run c) range short = run_keeps c short
-of_form (form.Live c) range short = live_keeps c short
-of_form (form.Soak c) range short = soak_keeps c range
-of_form (form.Demand c) range short = demand_keeps c
-of_form (form.Partition c) range short = partition_keeps c
-of_form (form.RunAll c) range short = run_all_keeps c short
-of_form (form.Stretch c) range short = stretch_keeps c
-of_form (form.Accept c) range short = accept_keeps c
-of_form (form.OnTrace c) range short = trace_keeps c
+pub of_form : (command : Form) → IsInRange command → Keeps command
+of_form (form.Check c) range = check_keeps c
+of_form (form.Run c) range = run_keeps c range
+of_form (form.Live c) range = live_keeps c range
+of_form (form.Soak c) range = soak_keeps c range
+of_form (form.Demand c) range = demand_keeps c
+of_form (form.Partition c) range = partition_keeps c
+of_form (form.RunAll c) range = run_all_keeps c range
+of_form (form.Stretch c) range = stretch_keeps c
+of_form (form.Accept c) range = accept_keeps c
+of_form (form.OnTrace c) range = trace_keeps c

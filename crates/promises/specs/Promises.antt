@@ -4,7 +4,7 @@ use Rattle.mc_world.specs.Shelf.{Files}
 use Rattle.replies.specs.Reply.{Reply}
 use Rattle.serving.specs.Outcome.{IsAnswer}
 use Rattle.command_line.specs.declared.form.Form.{Form}
-use Rattle.command_line.specs.Form.{IsInRange, HasFewTicks, command}
+use Rattle.command_line.specs.Form.{IsInRange, command}
 use Rattle.promises.specs.Headline.{Headline}
 use Rattle.promises.specs.RightText.{RightText}
 use Rattle.promises.specs.Complete.{Complete}
@@ -20,5 +20,5 @@ Promises form files old ended new =
 -- each answer to a command, written whole, keeps all that the program promises of the command
 abbrev pub AnswersKeepPromises : Type 0
 AnswersKeepPromises = (form : Option Form) (files : Files) (old : List ℕ) (reply : Reply)
-    → IfSome form IsInRange → IfSome form HasFewTicks → IsAnswer files 1 (command form) reply
+    → IfSome form IsInRange → IsAnswer files 1 (command form) reply
     → Promises form files old reply.status (Some (old ++ reply.text))

@@ -1,9 +1,10 @@
 //! Files that cannot be read, and writes that fail.
-use super::outside::{Faults, NO_FAULTS, Outside, calm_status, ends, status_of};
+use super::outside::{Faults, NO_FAULTS, Outside, calm_status, ends};
 use super::{
     CHECK, CONTROL, CONTROL_TEXT, HEADER, JUDGE, LONG_PERIODS, LOW_FIRST, OVERLOADED, OVERRUN_WORK,
     PLANT, PLANT_WORK, RUN_ALL, UNDER_HALF, UNDER_ONE,
 };
+use crate::edfvd::{Call, edfvd};
 use executive::QuietGate;
 use mc_world::{CalmSink, FetchFault, Shelf};
 use std::alloc::Global;
@@ -275,7 +276,10 @@ impl Shelf for NoMemory {
 
 #[test]
 fn a_fetch_that_runs_out_of_memory_has_a_status_of_its_own(rt: HostRuntime) {
-    let mut out = CalmSink::new();
-    let status = status_of(&rt, rt.alloc(), CHECK, &mut NoMemory, &mut out, &QuietGate);
-    assert_eq!(rt; status, Some(9));
+    let mut call = Call {
+        words: CHECK,
+        shelf: NoMemory,
+        out: CalmSink::new(),
+    };
+    assert_eq!(rt; edfvd(&rt, rt.alloc(), &mut call, &QuietGate), 9);
 }

@@ -3,10 +3,10 @@ ghost use Rattle.std.specs.Prelude.{IfOk};
 ghost use Rattle.mc_world.specs.Shelf.{NamesDiffer};
 ghost use Rattle.mc_world.specs.MemoryShelfState.{files_of};
 
-use crate::edfvd::edfvd;
+use crate::edfvd::{Call, edfvd};
 use command_line::form_of;
 use executive::{Gate, QuietGate};
-use mc_world::{CalmShelf, CalmSink, MemoryShelf, MemorySink, Shelf, Sink};
+use mc_world::{CalmShelf, CalmSink, MemoryShelf, MemorySink};
 use replies::Stop;
 use std::alloc::{AllocError, Global};
 use std::sync::Wait;
@@ -74,27 +74,6 @@ fn files(alloc: Global, tasks: &str, second: &str) -> Result<Vec<(String, Vec<u8
     Ok(files)
 }
 
-fn words_of(alloc: Global, words: &[&str]) -> Result<Vec<String>, AllocError> {
-    let mut list = Vec::new(alloc);
-    for word in words {
-        list.push(String::from_str(alloc, word)?)?;
-    }
-    Ok(list)
-}
-
-/// The status of these words, or nothing if memory runs out. All tests call the program here.
-pub fn status_of<R: Threads + Wait + Sync, S: Shelf, K: Sink, G: Gate + Sync>(
-    rt: &R,
-    alloc: Global,
-    words: &[&str],
-    shelf: &mut S,
-    out: &mut K,
-    gate: &G,
-) -> Option<u8> {
-    let words = words_of(alloc, words).ok()?;
-    Some(edfvd(rt, alloc, &words, shelf, out, gate))
-}
-
 /// The status of these words over a shelf and a sink that never fail.
 pub fn calm_status<R: Threads + Wait + Sync>(
     rt: &R,
@@ -103,9 +82,12 @@ pub fn calm_status<R: Threads + Wait + Sync>(
     outside: &Outside<'_>,
 ) -> Option<u8> {
     let files = files(alloc, outside.tasks, outside.second).ok()?;
-    let mut shelf = CalmShelf::new(alloc, files);
-    let mut sink = CalmSink::new();
-    status_of(rt, alloc, words, &mut shelf, &mut sink, &QuietGate)
+    let mut call = Call {
+        words,
+        shelf: CalmShelf::new(alloc, files),
+        out: CalmSink::new(),
+    };
+    Some(edfvd(rt, alloc, &mut call, &QuietGate))
 }
 
 /// The status of these words and what they write, or nothing if memory runs out. The threads call the gate.
@@ -116,10 +98,13 @@ pub fn ended<R: Threads + Wait + Sync, G: Gate + Sync>(
     outside: &Outside<'_>,
     gate: &G,
 ) -> Option<(u8, Vec<u8>)> {
-    let mut shelf = outside.shelf(alloc).ok()?;
-    let mut sink = outside.sink(alloc)?;
-    let status = status_of(rt, alloc, words, &mut shelf, &mut sink, gate)?;
-    Some((status, sink.written().to_vec(alloc).ok()?))
+    let mut call = Call {
+        words,
+        shelf: outside.shelf(alloc).ok()?,
+        out: outside.sink(alloc)?,
+    };
+    let status = edfvd(rt, alloc, &mut call, gate);
+    Some((status, call.out.written().to_vec(alloc).ok()?))
 }
 
 /// Whether these words have this status and write this text.
@@ -182,9 +167,8 @@ pub fn first_wrong<R: Threads + Wait + Sync>(
 
 // The status and the text of the reply to these words on the caller's thread. There is none if their command starts threads.
 fn alone(alloc: Global, words: &[&str], outside: &Outside<'_>) -> Option<(u8, Vec<u8>)> {
-    let words = words_of(alloc, words).ok()?;
     let mut shelf = outside.shelf(alloc).ok()?;
-    let form = form_of(&words)?;
+    let form = form_of(words)?;
     match form.reply_alone(alloc, &mut shelf)? {
         Ok(reply) | Err(Stop::Refused(reply)) => {
             Some((reply.status(), reply.text().to_vec(alloc).ok()?))

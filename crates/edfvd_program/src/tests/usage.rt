@@ -1,10 +1,11 @@
 //! Words of no command.
 use super::CONTROL;
-use super::outside::{Faults, NO_FAULTS, Outside, ends};
+use super::outside::{Faults, NO_FAULTS, Outside, ended};
+use command_line::usage_line;
 use executive::QuietGate;
-
-const USAGE: &str =
-    "usage: check TASKS | run TASKS WORK TICKS | judge TASKS TRACE [P Q] | chart TASKS TRACE | report TASKS TRACE | soak NUMBER TASKCOUNT TICKS | migrate TASKS TRACE | live TASKS TICKS | demand DEMANDS | partition TASKS M | runall TASKS WORK TICKS M | stretch TASKS | accept NUMBER SETS TASKCOUNT\n";
+use std::alloc::Global;
+use std::sync::Wait;
+use std::thread::Threads;
 
 const CASES: &[&[&str]] = &[
     &[],
@@ -52,8 +53,8 @@ const CASES: &[&[&str]] = &[
     &["accept", "1", "50", "33"],
 ];
 
-#[test]
-fn words_of_no_form_get_the_usage_line(rt: HostRuntime) {
+// Whether the words get status 2 and the usage line, where the first fetch would fail.
+fn get_the_usage_line<R: Threads + Wait + Sync>(rt: &R, alloc: Global, words: &[&str]) -> bool {
     let outside = Outside {
         faults: Faults {
             fetches: &[1],
@@ -61,10 +62,18 @@ fn words_of_no_form_get_the_usage_line(rt: HostRuntime) {
         },
         ..Outside::new(CONTROL, "")
     };
+    let Ok(line) = usage_line(alloc) else {
+        return false;
+    };
+    match ended(rt, alloc, words, &outside, &QuietGate) {
+        Some((status, written)) => status == 2 && written.as_slice() == line.as_slice(),
+        None => false,
+    }
+}
+
+#[test]
+fn words_of_no_form_get_the_usage_line(rt: HostRuntime) {
     for (index, words) in CASES.iter().enumerate() {
-        assert!(rt;
-            ends(&rt, rt.alloc(), words, &outside, &QuietGate, 2, USAGE),
-            "{index}"
-        );
+        assert!(rt; get_the_usage_line(&rt, rt.alloc(), words), "{index}");
     }
 }

@@ -1,0 +1,43 @@
+-- Words read as texts, one after the other, and why a call in process has no reply.
+use Rattle.std.proofs.Common.{◌≡◌, ℕ, zero, suc, ◌+◌, ◌<◌, List, [], ◌∷◌, ◌++◌, length, slice_index_or, take, map, Bor, ap, sym, ◌∙◌, subst, arith}
+use Rattle.std.proofs.Math.ListN.{get_or-map}
+use Rattle.std.proofs.lemmas.List.{map-append, take_more, length-map}
+use Rattle.std.specs.Prelude.{IsUtf8}
+use Rattle.in_process.specs.declared.reply.NoReply.{NoReply}
+use Rattle.in_process.specs.declared.reply.NoReply.TheVariants.{Memory, Threads, NotText}
+use Rattle.in_process.specs.Asked.{HasCause}
+
+abbrev Words : Type 0
+Words = List (Bor (List ℕ))
+
+abbrev bytes_of : Words → List (List ℕ)
+bytes_of words = map (λ w. w.now) words
+
+-- the bytes of word i
+abbrev word : Words → ℕ → List ℕ
+word words i = (slice_index_or words i (record { ref_ptr = (0, 0); now = [] })).now
+
+within : (words : Words) (i : ℕ) → i < length words → i < length (bytes_of words)
+within words i below = omega (arith, below, length-map words (λ (w : Bor (List ℕ)). w.now))
+
+-- one more word is read
+pub one_more : (texts words : Words) (i : ℕ) (text : Bor (List ℕ)) → i < length words → bytes_of texts ≡ take i (bytes_of words)
+    → text.now ≡ word words i → bytes_of (texts ++ text ∷ []) ≡ take (i + 1) (bytes_of words)
+one_more texts words i text below same is =
+    map-append (λ w. w.now) texts (text ∷ [])
+    ∙ (ap (λ xs. xs ++ text.now ∷ []) same
+    ∙ (ap (λ x. take i (bytes_of words) ++ x ∷ []) (is ∙ sym (get_or-map (λ w. w.now) words i (record { ref_ptr = (0, 0); now = [] })))
+    ∙ sym (take_more (bytes_of words) i [] (within words i below))))
+
+-- in a list of one word
+at : {word : List ℕ} (k : ℕ) (d : List ℕ) → k < length (word ∷ []) → IsUtf8 word → IsUtf8 (slice_index_or (word ∷ []) k d)
+at zero d first is = is
+at (suc k) d first is = absurd (omega (arith, first))
+
+-- a reason that lies in one of the words is one for all of them
+pub cause_of : (no_reply : NoReply) (words : Words) (i : ℕ) → i < length words → HasCause (word words i ∷ []) no_reply
+    → HasCause (bytes_of words) no_reply
+cause_of Memory words i below cause = tt
+cause_of Threads words i below cause = absurd cause
+cause_of NotText words i below cause =
+    λ all. cause (λ k d first. at k d first (subst IsUtf8 (get_or-map (λ w. w.now) words i (record { ref_ptr = (0, 0); now = [] })) (all i [] (within words i below))))
