@@ -274,8 +274,8 @@ while [ "$times" -lt 100 ]; do
 done
 lives live/tasks.toml 100000
 
-# Words that are none of the forms.
-usage='usage: check TASKS | run TASKS WORK TICKS | judge TASKS TRACE [P Q] | chart TASKS TRACE | report TASKS TRACE | soak NUMBER TASKCOUNT TICKS | migrate TASKS TRACE | live TASKS TICKS | demand DEMANDS | partition TASKS M | runall TASKS WORK TICKS M | stretch TASKS | accept NUMBER SETS TASKCOUNT'
+# Words that are none of the forms. The usage line is written out in the definition that the program's contract cites.
+usage=$(sed -n 's/^usage_line = codes "\(.*\)\\n"$/\1/p' ../crates/command_line/specs/Form.antt)
 expect 2 "$(says "$usage")"
 expect 2 "$(says "$usage")" check
 expect 2 "$(says "$usage")" check control/tasks.toml again
