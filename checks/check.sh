@@ -280,6 +280,9 @@ expect 2 "$(says "$usage")"
 expect 2 "$(says "$usage")" check
 expect 2 "$(says "$usage")" check control/tasks.toml again
 expect 2 "$(says "$usage")" --help
+# The first five words are a command, and one or two words too many.
+expect 2 "$(says "$usage")" judge judged/tasks.toml judged/legal.csv 1 1 1
+expect 2 "$(says "$usage")" judge judged/tasks.toml judged/legal.csv 1 1 1 1
 expect 2 "$(says "$usage")" Check control/tasks.toml
 expect 2 "$(says "$usage")" check "$(printf '\377')"
 for ticks in '' 0 -1 +1 1.0 1000001 18446744073709551617 000000000000000000012; do
