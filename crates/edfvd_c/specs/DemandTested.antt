@@ -1,5 +1,5 @@
 -- What the processor-demand test says of given tasks, in numbers.
-use Rattle.std.specs.Prelude.{◌≡◌, ℕ, List, Some, map}
+use Rattle.std.specs.Prelude.{◌≡◌, ℕ, List, length, Some, map}
 use Rattle.demand_test.specs.declared.demand.Demand.{Demand}
 use Rattle.demand_test.specs.declared.fault.DemandCause.{DemandCause}
 use Rattle.demand_test.specs.declared.fault.DemandCause.TheVariants.{Header, Empty, TooMany, BadRecord, BadName, SameName, BadNumber, ZeroNumber, DeadlineOrder, Range}
@@ -9,6 +9,7 @@ use Rattle.demand_test.specs.DemandSet.{IsDemandSet}
 use Rattle.demand_test.specs.DemandBound.{IsFit}
 use Rattle.demand_test.specs.DemandList.{first_refusal, refused}
 use Rattle.demand_test.specs.Deadlines.{NoneLateIfWithin, LateIfPast}
+use Rattle.edfvd_c.specs.Named.{names_of}
 use Rattle.edfvd_c.specs.declared.demand.GivenDemand.{GivenDemand}
 use Rattle.edfvd_c.specs.declared.demand.DemandTested.{DemandTested}
 
@@ -51,10 +52,11 @@ status_of BadRecord = 43
 status_of BadName = 43
 status_of BadNumber = 43
 
--- tasks of these numbers are refused with this status, first at the task of this number
+-- tasks of these numbers, named by their places, are refused with this status, first at the task of this number
 pub record IsRefused (given : List GivenDemand) (status task : ℕ) : Type 0 where
   pub tasks : List Demand
   pub numbers : AreOf given tasks
+  pub names : map (λ (t : Demand). t.name) tasks ≡ names_of (length tasks)
   pub cause : DemandCause
   pub first : first_refusal tasks ≡ Some (refused task cause)
   pub number : status ≡ status_of cause

@@ -1,4 +1,5 @@
 pub mod Given
+pub mod Named
 pub mod Tested
 pub mod DemandTested
 pub mod Room

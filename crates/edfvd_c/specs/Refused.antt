@@ -1,5 +1,5 @@
 -- Why given tasks are refused before they are tested, with the status and the task of each cause.
-use Rattle.std.specs.Prelude.{◌≡◌, ℕ, ◌-◌, ◌<◌, ◌≤◌, List, Some, slice_get}
+use Rattle.std.specs.Prelude.{◌≡◌, ℕ, ◌-◌, ◌<◌, ◌≤◌, List, map, length, Some, slice_get}
 use Rattle.mc_task.specs.declared.task.Task.{Task}
 use Rattle.mc_task.specs.declared.set.SetFault.{SetFault}
 use Rattle.mc_task.specs.declared.set.SetFault.TheVariants.{Empty, TooMany, ZeroNumber, BudgetOrder, SameName}
@@ -8,6 +8,7 @@ use Rattle.mc_task.specs.Faults.{first_fault}
 use Rattle.mc_model.specs.Loads.{range_fault}
 use Rattle.edfvd_c.specs.declared.given.GivenTask.{GivenTask}
 use Rattle.edfvd_c.specs.Given.{AreOf}
+use Rattle.edfvd_c.specs.Named.{names_of}
 
 -- the causes: a task of neither level; a fault of the set; a task whose period takes the hyperperiod past 2^60
 pub data Cause : Type 0 where
@@ -49,10 +50,14 @@ pub record IsFirstOfNoLevel (given : List GivenTask) (k : ℕ) : Type 0 where
   pub here : (t : GivenTask) × (slice_get given (k - 1) ≡ Some t) × (1 < t.level)
   pub before : (i : ℕ) (t : GivenTask) → i < k - 1 → slice_get given i ≡ Some t → t.level ≤ 1
 
+-- the tasks have the given numbers, and are named by their places
+abbrev pub AreNamed : List GivenTask → List Task → Type 0
+AreNamed given tasks = AreOf given tasks × (map (λ (t : Task). t.name) tasks ≡ names_of (length tasks))
+
 -- the given tasks have this cause: a task has no level, or the tasks with these numbers have a fault or are out of range
 abbrev pub HasCause : List GivenTask → Cause → Type 0
 HasCause given (Level task) = IsFirstOfNoLevel given task
-HasCause given (NoSet fault) = (tasks : List Task) × AreOf given tasks × (first_fault tasks ≡ Some fault)
+HasCause given (NoSet fault) = (tasks : List Task) × AreNamed given tasks × (first_fault tasks ≡ Some fault)
 HasCause given (Periods task) = (tasks : List Task) × AreOf given tasks × AreTasks tasks × (range_fault tasks ≡ Some task)
 
 -- the given tasks are refused with this status, which is about this task

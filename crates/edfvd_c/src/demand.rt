@@ -1,6 +1,7 @@
 //! Tasks with deadlines of at most their periods, tested under plain EDF.
 ghost use Rattle.std.specs.Prelude.{◌≡◌, ◌≢◌, ◌<◌, ◌≤◌, IfOk, IfErr, length};
 ghost use Rattle.edfvd_c.specs.DemandTested as spec;
+ghost use Rattle.edfvd_c.specs.Named as named;
 
 use crate::given::{NoSet, name_of};
 use crate::status;
@@ -126,7 +127,8 @@ fn demand_set_of(alloc: Global, given: &[GivenDemand]) -> Result<DemandSet, NoSe
 
 fn demand_of(given: GivenDemand, number: u32) -> Demand
     requires { number < 1000 }
-    ensures { spec.numbers_of result ≡ given }
+    ensures numbers { spec.numbers_of result ≡ given }
+    ensures name { result.name ≡ named.name_of number }
 {
     Demand {
         name: name_of(number),

@@ -1,6 +1,7 @@
 //! A task set from numbers in memory.
-ghost use Rattle.std.specs.Prelude.{◌≡◌, ◌≢◌, ◌<◌, ◌≤◌, IfOk, IfErr, IfSome, IfNone, length};
+ghost use Rattle.std.specs.Prelude.{◌≡◌, ◌≢◌, ◌<◌, ◌≤◌, ◌+◌, ◌%◌, IfOk, IfErr, IfSome, IfNone, length};
 ghost use Rattle.edfvd_c.specs.Given.{AreOf, numbers_of};
+ghost use Rattle.edfvd_c.specs.Named as named;
 ghost use Rattle.edfvd_c.specs.Refused.{IsRefused, fault_status, fault_task};
 
 use crate::status;
@@ -95,6 +96,7 @@ fn no_set(fault: SetFault) -> NoSet
 fn task_of(given: GivenTask, number: u32) -> Option<Task>
     requires { number < 1000 }
     ensures some { IfSome result (λ task. numbers_of task ≡ given) }
+    ensures name { IfSome result (λ task. task.name ≡ named.name_of number) }
     ensures none { IfNone result (1 < given.level) }
 {
     let level = match given.level {
@@ -115,6 +117,7 @@ fn task_of(given: GivenTask, number: u32) -> Option<Task>
 #[tactic(auto, using(crate::proofs::Names::is_named))]
 pub fn name_of(number: u32) -> Name
     requires { number < 1000 }
+    ensures { result ≡ named.name_of number }
 {
     let bytes = [b't', digit(number / 100), digit(number / 10), digit(number)];
     let Some(name) = Name::new(&bytes) else {
@@ -124,7 +127,8 @@ pub fn name_of(number: u32) -> Name
 }
 
 fn digit(number: u32) -> u8
-    ensures { (48 ≤ result) × (result ≤ 57) }
+    ensures range { (48 ≤ result) × (result ≤ 57) }
+    ensures value { result ≡ 48 + number % 10 }
 {
     b'0' + (number % 10) as u8
 }

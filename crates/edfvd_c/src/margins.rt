@@ -49,9 +49,10 @@ pub extern "C" fn edfvd_raw_sensitivity(
     ensures greatest { result ≡ 0 → spec.AreGreatest given.now budgets.new }
     ensures many { 128 < length given.now → (result ≡ 2) × (task.new ≡ 0) }
     ensures refused { length given.now ≤ 128 → result ≢ 0 → result ≢ 9 → result ≢ 43 → IsRefused given.now result task.new }
-    ensures argument { result ≡ 43 → length budgets.old ≢ length given.now }
+    ensures argument { result ≡ 43 → (length budgets.old ≢ length given.now) × (task.new ≡ 0) }
     ensures untouched { result ≢ 0 → budgets.new ≡ budgets.old }
     ensures memory { result ≡ 9 → task.new ≡ 0 }
+    ensures accepted { result ≡ 0 → task.new ≡ 0 }
 {
     *task = 0;
     match set_and_loads(alloc, given) {
@@ -107,6 +108,7 @@ pub extern "C" fn edfvd_raw_scales(
     ensures refused { length given.now ≤ 128 → result ≢ 0 → result ≢ 8 → result ≢ 9 → IsRefused given.now result task.new }
     ensures zeros { result ≢ 0 → stored.new ≡ spec.zeros }
     ensures memory { result ≡ 9 → task.new ≡ 0 }
+    ensures accepted { result ≡ 0 → task.new ≡ 0 }
 {
     *task = 0;
     *stored = NO_SCALES;
@@ -154,6 +156,7 @@ pub extern "C" fn edfvd_raw_speed(
     ensures refused { length given.now ≤ 128 → result ≢ 0 → result ≢ 9 → IsRefused given.now result task.new }
     ensures zero { result ≢ 0 → millionths.new ≡ 0 }
     ensures memory { result ≡ 9 → task.new ≡ 0 }
+    ensures accepted { result ≡ 0 → task.new ≡ 0 }
 {
     *task = 0;
     *millionths = 0;

@@ -1,9 +1,12 @@
-use Rattle.std.proofs.Common.{◌+◌, ◌<◌, ◌≤◌, ◌∙◌, length, refl, arith}
+use Rattle.std.proofs.Common.{◌≡◌, ◌+◌, ◌<◌, ◌≤◌, ◌∙◌, map, length, refl, arith}
 use Rattle.std.proofs.lemmas.Grind.{common_steps}
 use Rattle.std.proofs.lemmas.List.{take_all}
 use Rattle.std.proofs.lemmas.Option.{slice_get-get_or}
+use Rattle.mc_task.specs.declared.task.Task.{Task}
 use Rattle.edfvd_c.specs.Given.{AreOf}
+use Rattle.edfvd_c.specs.Named.{names_of}
 use Rattle.edfvd_c.specs.Refused.{Level, NoSet}
+use Rattle.edfvd_c.proofs.Numbered.{names_more, names_none}
 use Rattle.edfvd_c.proofs.Levels.{first-of-no-level, levels_more, numbers-level}
 use Rattle.edfvd_c.proofs.given.set_of.Goals as goal
 
@@ -17,11 +20,19 @@ returns-in-None-clause-refused c = λ few other.
       task_is = refl;
     }
 
+pub loop-place-init : goal.loop-place-init
+loop-place-init c = record {
+  numbers = grind (arith, common_steps);
+  names = grind (arith, common_steps, names_none);
+  levels = λ i t below at. omega (arith, below);
+}
+
 pub loop-place-preserved : goal.loop-place-preserved
 loop-place-preserved c =
     let inside : c.loop-place.place < length c.args.given.now = omega arith in
     record {
       numbers = grind (arith, common_steps);
+      names = grind (arith, common_steps, names_more c.loop-place.place);
       levels = levels_more c.args.given.now c.loop-place.place _ (slice_get-get_or c.args.given.now c.loop-place.place _ inside) (numbers-level c.in-Some.task _ c.in-Some.ensures.some) c.loop-place.invariant.levels;
     }
 
@@ -29,9 +40,10 @@ pub returns-in-Err-clause-refused : goal.returns-in-Err-clause-refused
 returns-in-Err-clause-refused c = λ few other.
     let past : length c.args.given.now ≤ c.loop-place.place = omega arith in
     let numbers : AreOf c.args.given.now c.loop-place.tasks.items = c.loop-place.invariant.numbers ∙ take_all c.loop-place.place c.args.given.now past in
+    let named : map (λ (t : Task). t.name) c.loop-place.tasks.items ≡ names_of (length c.loop-place.tasks.items) = grind (arith, common_steps, c.loop-place.invariant.names, numbers) in
     record {
       cause = NoSet c.in-Err.fault;
-      has = (c.loop-place.tasks.items, numbers, c.in-Err.ensures.fault);
+      has = (c.loop-place.tasks.items, (numbers, named), c.in-Err.ensures.fault);
       status_is = c.no_set.ensures.status.0;
       task_is = c.no_set.ensures.task;
     }
