@@ -42,6 +42,7 @@ newer_source() (
     file=$1
     shift
     cd "$here" || exit
+    here=.
     # shellcheck disable=SC2046
     find crates.txt $(source_folders "$@") \( -name '*.rt' -o -name '*.antt' -o -name crates.txt \) -newer "$file" -print -quit
 )
@@ -50,6 +51,7 @@ newer_source() (
 sources_digest() {
     (
         cd "$here" || exit
+        here=.
         crate_lines "$@"
         # shellcheck disable=SC2046
         find $(source_folders "$@") \( -name '*.rt' -o -name '*.antt' \) -exec sha256sum {} + | LC_ALL=C sort

@@ -8,7 +8,8 @@
  *
  * Each call returns a status. EDFVD_OK means that it did what its comment says. With any other status no scheduler and no
  * monitor has changed; what is stored through the other pointers is stated at the call. Each call lists the other statuses
- * that it may return. These are not listed, because many calls share them:
+ * that it may return. These are not listed, because many calls share them, and no sentence on other statuses is about the first
+ * three:
  *
  *     EDFVD_NULL                 a pointer is null, and the call does not say that it may be; nothing is stored
  *     EDFVD_MOVED, EDFVD_BUSY    any call with a scheduler or monitor; nothing is stored
@@ -161,9 +162,10 @@ typedef struct edfvd_scale_range {
 } edfvd_scale_range;
 
 /*
- * Stores the greatest budgets of each task in order: `budgets` has `count` elements, and is written only with EDFVD_OK. The test
- * admits the set with the stored budget, and with each lower one that the task may have, and refuses it with each greater one. A
- * low budget is at least 1, and that of a high task at most its high budget; a high budget is at least the task's low budget.
+ * Stores the greatest budgets of each task in order: `budgets` has `count` elements, is written only with EDFVD_OK, and may be null
+ * if `count` is 0. The test admits the set with the stored budget, and with each lower one that the task may have, and refuses it
+ * with each greater one. A low budget is at least 1, and that of a high task at most its high budget; a high budget is at least
+ * the task's low budget.
  * `task` gets the task of a refusal, or 0, and may be null.
  *
  * Statuses: the refusals of a set, EDFVD_PERIODS, EDFVD_MEMORY.

@@ -7,6 +7,8 @@ typedef struct raw_word {
     const uint8_t *bytes;
     size_t length;
 } raw_word;
+_Static_assert(sizeof(raw_word) == 2 * sizeof(size_t) && offsetof(raw_word, bytes) == 0 && offsetof(raw_word, length) == sizeof(size_t),
+               "a word is a pointer, and then a length");
 
 /* The export of crates/edfvd_ask_c. No compiler compares these lines with its sources; declared.py does. */
 extern uint32_t edfvd_raw_ask(const raw_word *words, size_t count, const uint8_t *first, size_t first_length,

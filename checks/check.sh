@@ -17,6 +17,7 @@ takes 0 0 "$@"
 cd "$(dirname -- "$0")/../examples" || exit 1
 . ../checks/expect.sh
 # By the words that a user writes.
+itself=$program
 program=$edfvd
 
 # The program's stored run is that of the overrun.
@@ -279,7 +280,11 @@ usage=$(sed -n 's/^usage_line = codes "\(.*\)\\n"$/\1/p' ../crates/command_line/
 expect 2 "$(says "$usage")"
 expect 2 "$(says "$usage")" check
 expect 2 "$(says "$usage")" check control/tasks.toml again
+# The wrapper answers these two words; the program has neither.
+program=$itself
 expect 2 "$(says "$usage")" --help
+expect 2 "$(says "$usage")" --version
+program=$edfvd
 # The first five words are a command, and one or two words too many.
 expect 2 "$(says "$usage")" judge judged/tasks.toml judged/legal.csv 1 1 1
 expect 2 "$(says "$usage")" judge judged/tasks.toml judged/legal.csv 1 1 1 1

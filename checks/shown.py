@@ -1,7 +1,7 @@
 """Runs the commands that the pages show after `$ `, and compares what they write with what the page shows below them.
 
-The commands of a page run one after the other in one shell, in a folder that has copies of the repository's files and a link to the
-program, so that a file of one command is there for the next. A block of Python is the file own.py. Standard error counts too, and in
+The commands of a page run one after the other in one shell, in a folder that has copies of the repository's files and links to the
+program and to the Python package, so that a file of one command is there for the next. A block of Python is the file own.py. Standard error counts too, and in
 what a page shows `...` stands for any number of lines. A command whose tool is not installed, or that would start jobs on a cluster, is
 left out, and named.
 
@@ -94,6 +94,8 @@ def make_folder(folder, program):
     for name in COPIED:
         if (ROOT / name).is_dir():
             shutil.copytree(ROOT / name, folder / name)
+    # Its real place says which library the package takes.
+    (folder / 'python').symlink_to(ROOT / 'python')
     (folder / 'bin').mkdir()
     for link in ('edfvd', 'bin/edfvd'):
         (folder / link).symlink_to(program)
@@ -104,7 +106,7 @@ def outputs(commands, folder):
     script = ''.join(f'{command}\nlast=$?; echo; echo "{MARK}"; (exit $last)\n' for command in commands)
     paths = os.pathsep.join([str(folder / 'bin'), os.environ['PATH']])
     ended = subprocess.run(['timeout', str(MOST_SECONDS), 'sh', '-c', 'exec 2>&1\n' + script], cwd=folder,
-                           env=dict(os.environ, PATH=paths), stdin=subprocess.DEVNULL, stdout=subprocess.PIPE)
+                           env=dict(os.environ, PATH=paths, PYTHONDONTWRITEBYTECODE='1'), stdin=subprocess.DEVNULL, stdout=subprocess.PIPE)
     texts = ended.stdout.decode('utf-8', 'replace').split(f'\n{MARK}\n')[:-1]
     return [text.removesuffix('\n').split('\n') if text.strip('\n') else [] for text in texts]
 

@@ -75,6 +75,9 @@ not_built() {
     call_alone 0 ''
     ln -s "$tree/edfvd" "$work/link"
     tries 0 control/check.txt '' "$alone" "$work/link" check "$tasks"
+    # By a relative name from a folder below.
+    # shellcheck disable=SC2016
+    tries 0 control/check.txt '' "$alone" sh -c 'cd "$1/examples" && exec ../edfvd check control/tasks.toml' sh "$tree"
 }
 
 # A program older than its sources is accepted if it was built from them, and is then newer than they are.
