@@ -104,7 +104,7 @@ def sources(column):
     folder, found = ROOT, []
     for name in re.split('[;,] ', column):
         if name == COMMANDS:
-            found += (ROOT / 'crates').glob('*_answers/src/**/*.rt')
+            found += (ROOT / 'crates').glob('*_commands/src/**/*.rt')
             continue
         place = (ROOT / 'crates' / name) if '/' in name else folder / name
         folder = place.parent

@@ -4,21 +4,21 @@ use Rattle.std.specs.Borrow.{Bor}
 use Rattle.std.specs.Str.{bytes_eq}
 use Rattle.numeral.specs.Numeral.{numeral}
 use Rattle.replies.specs.Reply.{Reply, reply_of}
-use Rattle.serving.specs.Command.{Command, answer}
-use Rattle.serving.specs.Within.{within}
-use Rattle.task_answers.specs.Check.{check}
-use Rattle.trace_answers.specs.OnTrace.{on_trace, IsScale}
-use Rattle.trace_answers.specs.declared.action.TraceAction.{TraceAction}
-use Rattle.trace_answers.specs.declared.action.TraceAction.TheVariants.{Judge, JudgeBy, Chart, Report, Migrate}
-use Rattle.run_answers.specs.Run.{run}
-use Rattle.run_answers.specs.Soak.{soak}
-use Rattle.run_answers.specs.Live.{live}
-use Rattle.demand_answers.specs.Demand.{demand}
-use Rattle.part_answers.specs.Partition.{partition}
-use Rattle.part_answers.specs.RunAll.{run_all}
-use Rattle.study_answers.specs.Stretch.{stretch}
-use Rattle.study_answers.specs.Accept.{accept}
-use Rattle.study_answers.specs.declared.accept.AcceptCommand.{AcceptCommand}
+use Rattle.command.specs.Command.{Command, answer}
+use Rattle.command.specs.Within.{within}
+use Rattle.task_commands.specs.Check.{check}
+use Rattle.trace_commands.specs.OnTrace.{on_trace, IsScale}
+use Rattle.trace_commands.specs.declared.action.TraceAction.{TraceAction}
+use Rattle.trace_commands.specs.declared.action.TraceAction.TheVariants.{Judge, JudgeBy, Chart, Report, Migrate}
+use Rattle.run_commands.specs.Run.{run}
+use Rattle.run_commands.specs.Soak.{soak}
+use Rattle.run_commands.specs.Live.{live}
+use Rattle.demand_commands.specs.Demand.{demand}
+use Rattle.part_commands.specs.Partition.{partition}
+use Rattle.part_commands.specs.RunAll.{run_all}
+use Rattle.study_commands.specs.Stretch.{stretch}
+use Rattle.study_commands.specs.Accept.{accept}
+use Rattle.study_commands.specs.declared.accept.AcceptCommand.{AcceptCommand}
 use Rattle.command_line.specs.declared.form.Form.{Form}
 use Rattle.command_line.specs.declared.form.Form.TheVariants as form
 

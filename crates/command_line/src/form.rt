@@ -1,23 +1,23 @@
 //! The forms of the command line: which words ask for which command.
 ghost use Rattle.std.specs.Prelude.{◌≡◌, ◌+◌, ◌<◌, ◌≤◌, ◌^◌, IfOk, IfSome, IfNone, OnSome};
-ghost use Rattle.serving.specs.Serves.{Serves};
-ghost use Rattle.trace_answers.specs.OnTrace.{IsScale};
+ghost use Rattle.command.specs.Serves.{Serves};
+ghost use Rattle.trace_commands.specs.OnTrace.{IsScale};
 ghost use Rattle.command_line.specs.Form as spec;
 
-use demand_answers::DemandCommand;
+use command::{FileName, Within};
+use demand_commands::DemandCommand;
 use executive::Gate;
 use mc_world::Shelf;
 use numeral::numeral;
-use part_answers::{PartitionCommand, RunAllCommand};
+use part_commands::{PartitionCommand, RunAllCommand};
 use replies::{Reply, Stop};
-use run_answers::{LiveCommand, RunCommand, SoakCommand};
-use serving::{FileName, Within};
+use run_commands::{LiveCommand, RunCommand, SoakCommand};
 use std::alloc::{AllocError, Global};
 use std::sync::Wait;
 use std::thread::Threads;
-use study_answers::{AcceptCommand, SetCount, StretchCommand};
-use task_answers::CheckCommand;
-use trace_answers::{TraceAction, TraceCommand};
+use study_commands::{AcceptCommand, SetCount, StretchCommand};
+use task_commands::CheckCommand;
+use trace_commands::{TraceAction, TraceCommand};
 
 // A number of a scale `p/q`.
 type ScalePart = Within<1, 4_294_967_295>;

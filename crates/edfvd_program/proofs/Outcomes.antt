@@ -7,10 +7,10 @@ use Rattle.replies.specs.Reply.{Reply}
 use Rattle.replies.specs.Refusal.{ReadFault, refuse}
 use Rattle.command_line.specs.declared.form.Form.{Form}
 use Rattle.command_line.specs.Form.{IsInRange, command}
-use Rattle.serving.specs.Written.{IsWritten, IsCutShort}
-use Rattle.serving.specs.Outcome.{Exposes}
-use Rattle.serving.proofs.Outcomes.{is_answer, reports_no_fault}
-use Rattle.serving.proofs.Written.{wrote_whole, one_more-rose}
+use Rattle.command.specs.Written.{IsWritten, IsCutShort}
+use Rattle.command.specs.Outcome.{Exposes}
+use Rattle.command.proofs.Outcomes.{is_answer, reports_no_fault}
+use Rattle.command.proofs.Written.{wrote_whole, one_more-rose}
 use Rattle.promises.specs.Reply.{IsReply}
 use Rattle.edfvd_program.specs.Outcome.{Ends, WritesAnswer}
 use Rattle.promises.specs.Promises.{Promises}

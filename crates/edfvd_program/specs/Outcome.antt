@@ -7,8 +7,8 @@ use Rattle.mc_world.specs.Sink.{SinkState}
 use Rattle.replies.specs.Reply.{Reply}
 use Rattle.replies.specs.Refusal.{ReadFault, refuse}
 use Rattle.command_line.specs.declared.form.Form.{Form}
-use Rattle.serving.specs.Outcome.{IsAnswer, Exposes}
-use Rattle.serving.specs.Written.{IsWritten, IsCutShort}
+use Rattle.command.specs.Outcome.{IsAnswer, Exposes}
+use Rattle.command.specs.Written.{IsWritten, IsCutShort}
 use Rattle.command_line.specs.Form.{form_in, command}
 use Rattle.promises.specs.Reply.{IsReply}
 use Rattle.edfvd_program.specs.declared.edfvd.Call.{Call}

@@ -1,7 +1,7 @@
 //! The top call.
 ghost use Rattle.std.specs.Prelude.{◌≡◌, ◌≢◌, ◌<◌, IfOk, OnOk, IfSome};
 ghost use Rattle.mc_world.specs.Count.{Rose};
-ghost use Rattle.serving.specs.Outcome.{AskedInOrder};
+ghost use Rattle.command.specs.Outcome.{AskedInOrder};
 ghost use Rattle.command_line.specs.Form.{form_in, command, IsInRange};
 ghost use Rattle.promises.specs.Headline.{Headline};
 ghost use Rattle.promises.specs.RightText.{RightText};
@@ -10,11 +10,11 @@ ghost use Rattle.promises.specs.Tested.{Tested};
 ghost use Rattle.promises.specs.Reply.{IsReply};
 ghost use Rattle.edfvd_program.specs.Outcome.{Outcome, CalmOutcome, WritesAnswer, WhereReported};
 
+use command::deliver;
 use command_line::{form_of, usage_line};
 use executive::Gate;
 use mc_world::{Shelf, Sink};
 use replies::{Reply, Stop};
-use serving::deliver;
 use std::alloc::{AllocError, Global};
 use std::sync::Wait;
 use std::thread::Threads;

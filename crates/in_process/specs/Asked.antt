@@ -4,7 +4,7 @@ use Rattle.mc_world.specs.Shelf.{Files}
 use Rattle.mc_world.specs.CalmShelfState.{calm_files}
 use Rattle.replies.specs.Reply.{Reply}
 use Rattle.command_line.specs.Form.{form_of, command, StartsThreads}
-use Rattle.serving.specs.Outcome.{IsAnswer}
+use Rattle.command.specs.Outcome.{IsAnswer}
 use Rattle.promises.specs.Promises.{Promises}
 use Rattle.in_process.specs.declared.reply.NoReply.{NoReply}
 use Rattle.in_process.specs.declared.reply.NoReply.TheVariants.{Memory, Threads, NotText}

@@ -7,9 +7,9 @@ use Rattle.task_file.specs.TaskFile.{task_file}
 use Rattle.replies.specs.Reply.{Reply}
 use Rattle.replies.specs.Refusal.{Refusal, TaskFile, Longer, status_of, refuse}
 use Rattle.replies.specs.Reading.{◌>>=◌, refused_as, reply_by}
-use Rattle.serving.specs.Command.{Command, fetch, read_or_refuse}
-use Rattle.serving.specs.Outcome.{IsAnswer}
-use Rattle.task_answers.specs.Admitted.{set_in}
+use Rattle.command.specs.Command.{Command, fetch, read_or_refuse}
+use Rattle.command.specs.Outcome.{IsAnswer}
+use Rattle.task_commands.specs.Admitted.{set_in}
 use Rattle.promises.specs.Headline.{bytes_of, SaysSet}
 
 -- the reply reports that file k is longer than its limit; otherwise this holds

@@ -18,19 +18,19 @@ use Rattle.demand_law.proofs.Laws.{none_late}
 use Rattle.sched_chart.specs.ChartText.{chart_text}
 use Rattle.trace_format.specs.TraceFile.{trace_file}
 use Rattle.trace_format.proofs.RunsOfSet.{runs_of_set}
-use Rattle.trace_answers.specs.declared.action.TraceAction.{TraceAction}
-use Rattle.trace_answers.specs.declared.action.TraceAction.TheVariants.{JudgeBy, Chart, Migrate}
+use Rattle.trace_commands.specs.declared.action.TraceAction.{TraceAction}
+use Rattle.trace_commands.specs.declared.action.TraceAction.TheVariants.{JudgeBy, Chart, Migrate}
 use Rattle.command_line.specs.declared.form.Form.TheVariants as form
-use Rattle.trace_answers.specs.declared.on_trace.TraceCommand.{TraceCommand}
+use Rattle.trace_commands.specs.declared.on_trace.TraceCommand.{TraceCommand}
 use Rattle.replies.specs.Reply.{Reply, reply_of}
 use Rattle.replies.specs.Refusal.{Refusal, Trace, BadTrace, LongChart, status_of}
 use Rattle.replies.specs.Reading.{◌>>=◌, refused_as, reply_by}
-use Rattle.serving.specs.Command.{answer, fetch, read_or_refuse}
-use Rattle.serving.specs.Outcome.{IsAnswer}
-use Rattle.task_answers.specs.Admitted.{with_rule, tested, admitted}
-use Rattle.task_answers.specs.declared.set_with_rule.SetWithRule.{SetWithRule}
-use Rattle.trace_answers.specs.OnTrace.{is_good, rows_in, good_text, judged, output_for, on_trace}
-use Rattle.trace_answers.proofs.GoodTrace.{no_fault_in, rows_of_runs}
+use Rattle.command.specs.Command.{answer, fetch, read_or_refuse}
+use Rattle.command.specs.Outcome.{IsAnswer}
+use Rattle.task_commands.specs.Admitted.{with_rule, tested, admitted}
+use Rattle.task_commands.specs.declared.set_with_rule.SetWithRule.{SetWithRule}
+use Rattle.trace_commands.specs.OnTrace.{is_good, rows_in, good_text, judged, output_for, on_trace}
+use Rattle.trace_commands.proofs.GoodTrace.{no_fault_in, rows_of_runs}
 use Rattle.promises.specs.Headline.{bytes_of, IsAdmitted, SchedulesExactly, trace_of, SaysTrace, WritesAgain, Finds, FindsUnder}
 use Rattle.promises.specs.RightText.{WritesAbout, WritesAboutUnder}
 use Rattle.promises.specs.Complete.{IsShortEnough, FindsEach, FindsBy, FindsAll}

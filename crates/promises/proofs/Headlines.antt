@@ -5,9 +5,9 @@ use Rattle.command_line.specs.declared.form.Form.{Form}
 use Rattle.command_line.specs.declared.form.Form.TheVariants as form
 use Rattle.command_line.specs.Form.{IsInRange, command}
 use Rattle.replies.specs.Reply.{Reply}
-use Rattle.serving.specs.Outcome.{IsAnswer}
-use Rattle.trace_answers.specs.declared.action.TraceAction.{TraceAction}
-use Rattle.trace_answers.specs.declared.action.TraceAction.TheVariants.{JudgeBy}
+use Rattle.command.specs.Outcome.{IsAnswer}
+use Rattle.trace_commands.specs.declared.action.TraceAction.{TraceAction}
+use Rattle.trace_commands.specs.declared.action.TraceAction.TheVariants.{JudgeBy}
 use Rattle.promises.specs.Headline.{bytes_of, FindsUnder}
 use Rattle.promises.specs.RightText.{WritesAboutUnder}
 use Rattle.promises.specs.Complete.{FindsAll}

@@ -21,9 +21,9 @@ use Rattle.replies.specs.Reply.{Reply}
 use Rattle.replies.specs.Refusal.{OutOfRange, NotAdmitted}
 use Rattle.replies.specs.Reading.{◌>>=◌, none_or}
 use Rattle.command_line.specs.declared.form.Form.{Form}
-use Rattle.serving.specs.Outcome.{IsAnswer}
-use Rattle.task_answers.specs.Admitted.{with_rule, tested}
-use Rattle.task_answers.specs.declared.set_with_rule.SetWithRule.{SetWithRule}
+use Rattle.command.specs.Outcome.{IsAnswer}
+use Rattle.task_commands.specs.Admitted.{with_rule, tested}
+use Rattle.task_commands.specs.declared.set_with_rule.SetWithRule.{SetWithRule}
 use Rattle.command_line.specs.Form.{command}
 use Rattle.promises.specs.Headline.{SaysSet, IsAdmitted, IsTimely, SchedulesExactly}
 use Rattle.promises.specs.Promises.{Promises}

@@ -11,22 +11,22 @@ use Rattle.set_gen.specs.Words.{words_of}
 use Rattle.set_gen.proofs.Admitted.{generated_sets-admitted}
 use Rattle.work_file.specs.WorkFile.{work_in}
 use Rattle.command_line.specs.declared.form.Form.TheVariants as form
-use Rattle.task_answers.specs.declared.check.CheckCommand.{CheckCommand}
-use Rattle.run_answers.specs.declared.run.RunCommand.{RunCommand}
-use Rattle.run_answers.specs.declared.live.LiveCommand.{LiveCommand}
-use Rattle.run_answers.specs.declared.soak.SoakCommand.{SoakCommand}
+use Rattle.task_commands.specs.declared.check.CheckCommand.{CheckCommand}
+use Rattle.run_commands.specs.declared.run.RunCommand.{RunCommand}
+use Rattle.run_commands.specs.declared.live.LiveCommand.{LiveCommand}
+use Rattle.run_commands.specs.declared.soak.SoakCommand.{SoakCommand}
 use Rattle.replies.specs.Reply.{Reply, reply_of}
 use Rattle.replies.specs.Refusal.{WorkFile}
 use Rattle.replies.specs.Reading.{refused_as, reply_by}
-use Rattle.serving.specs.Command.{Command, answer, fetch, read_or_refuse}
-use Rattle.serving.specs.Outcome.{IsAnswer}
-use Rattle.task_answers.specs.Admitted.{set_in, tested, admitted}
-use Rattle.task_answers.specs.declared.set_with_rule.SetWithRule.{SetWithRule}
-use Rattle.task_answers.specs.Check.{checked}
-use Rattle.run_answers.specs.Run.{IsTraceReply, work_of}
-use Rattle.run_answers.specs.Live.{IsLiveReply}
-use Rattle.run_answers.proofs.LiveCapacity.{few_rows}
-use Rattle.run_answers.specs.Soak.{workload_set}
+use Rattle.command.specs.Command.{Command, answer, fetch, read_or_refuse}
+use Rattle.command.specs.Outcome.{IsAnswer}
+use Rattle.task_commands.specs.Admitted.{set_in, tested, admitted}
+use Rattle.task_commands.specs.declared.set_with_rule.SetWithRule.{SetWithRule}
+use Rattle.task_commands.specs.Check.{checked}
+use Rattle.run_commands.specs.Run.{IsTraceReply, work_of}
+use Rattle.run_commands.specs.Live.{IsLiveReply}
+use Rattle.run_commands.proofs.LiveCapacity.{few_rows}
+use Rattle.run_commands.specs.Soak.{workload_set}
 use Rattle.promises.specs.Headline.{bytes_of}
 use Rattle.promises.specs.RightText.{WritesRun, WritesLive}
 use Rattle.promises.specs.Complete.{SaysWork, ServesWork}

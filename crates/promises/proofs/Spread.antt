@@ -16,17 +16,17 @@ use Rattle.part_fit.specs.PartWork.{part_rows}
 use Rattle.part_fit.proofs.Placed.{first_fit-IsPartition}
 use Rattle.part_fit.proofs.WorkRows.{part_rows-length}
 use Rattle.command_line.specs.declared.form.Form.TheVariants as form
-use Rattle.part_answers.specs.declared.partition.PartitionCommand.{PartitionCommand}
-use Rattle.part_answers.specs.declared.run_parts.RunAllCommand.{RunAllCommand}
+use Rattle.part_commands.specs.declared.partition.PartitionCommand.{PartitionCommand}
+use Rattle.part_commands.specs.declared.run_parts.RunAllCommand.{RunAllCommand}
 use Rattle.replies.specs.Reply.{Reply, reply_of}
 use Rattle.replies.specs.Refusal.{NoRoom, WorkFile}
 use Rattle.replies.specs.Reading.{◌>>=◌, refused_as, reply_by}
-use Rattle.serving.specs.Command.{answer}
-use Rattle.task_answers.specs.Admitted.{set_in}
-use Rattle.run_answers.specs.Run.{work_of}
-use Rattle.part_answers.specs.Parted.{Parted, tasks_on, spread, fitted, parted}
-use Rattle.part_answers.specs.Partition.{partition_text, placed}
-use Rattle.part_answers.specs.RunAll.{is_used, used, IsTraceOn, IsTracesReply, trace_lines}
+use Rattle.command.specs.Command.{answer}
+use Rattle.task_commands.specs.Admitted.{set_in}
+use Rattle.run_commands.specs.Run.{work_of}
+use Rattle.part_commands.specs.Parted.{Parted, tasks_on, spread, fitted, parted}
+use Rattle.part_commands.specs.Partition.{partition_text, placed}
+use Rattle.part_commands.specs.RunAll.{is_used, used, IsTraceOn, IsTracesReply, trace_lines}
 use Rattle.promises.specs.Headline.{bytes_of, SaysSet, IsSpread, SpreadsExactly, IsTimelyOn, lines_of}
 use Rattle.promises.specs.RightText.{WritesParts}
 use Rattle.promises.specs.Complete.{ServesSpread}

@@ -7,14 +7,14 @@ use Rattle.study.proofs.Percentages.{stretch-greatest}
 use Rattle.command_line.specs.declared.form.Form.{Form}
 use Rattle.command_line.specs.declared.form.Form.TheVariants as form
 use Rattle.command_line.specs.Form.{IsInRange}
-use Rattle.study_answers.specs.declared.stretch.StretchCommand.{StretchCommand}
-use Rattle.study_answers.specs.declared.accept.AcceptCommand.{AcceptCommand}
+use Rattle.study_commands.specs.declared.stretch.StretchCommand.{StretchCommand}
+use Rattle.study_commands.specs.declared.accept.AcceptCommand.{AcceptCommand}
 use Rattle.replies.specs.Reply.{Reply, reply_of}
 use Rattle.replies.specs.Refusal.{TaskFile, OutOfRange, DemandFile}
 use Rattle.replies.specs.Reading.{none_or, refused_as, reply_by}
-use Rattle.serving.specs.Command.{answer, read_or_refuse}
-use Rattle.task_answers.specs.Admitted.{set_in}
-use Rattle.study_answers.specs.Stretch.{stretch_text, measured, stretched}
+use Rattle.command.specs.Command.{answer, read_or_refuse}
+use Rattle.task_commands.specs.Admitted.{set_in}
+use Rattle.study_commands.specs.Stretch.{stretch_text, measured, stretched}
 use Rattle.promises.specs.Headline.{bytes_of, SaysSet}
 use Rattle.promises.specs.Complete.{Succeeds}
 use Rattle.promises.proofs.Cases.{By, OfSet, held, by_text, of_set, for_file, OfFile, by_need, of_file}
@@ -33,8 +33,8 @@ use Rattle.demand_test.specs.EdfRuns.{IsEdfSchedule, NoneLate}
 use Rattle.demand_test.specs.Counter.{SomeLate}
 use Rattle.demand_test.proofs.Laws.{none_late_if_within}
 use Rattle.demand_test.proofs.Exists.{late_if_past}
-use Rattle.demand_answers.specs.declared.demand.DemandCommand.{DemandCommand}
-use Rattle.demand_answers.specs.Demand.{IsFitReply, IsDemandReply}
+use Rattle.demand_commands.specs.declared.demand.DemandCommand.{DemandCommand}
+use Rattle.demand_commands.specs.Demand.{IsFitReply, IsDemandReply}
 use Rattle.promises.specs.Tested.{SaysDemands}
 
 -- the answer that the reply reports, by its status

@@ -15,16 +15,16 @@ use Rattle.mc_model.specs.Test.{published, test}
 use Rattle.mc_model.specs.Legal.{Legal}
 use Rattle.mc_model.specs.Runs.{expand}
 use Rattle.mc_model.specs.Promise.{KeepsDeadlines}
-use Rattle.trace_answers.specs.declared.action.TraceAction.{TraceAction}
-use Rattle.trace_answers.specs.declared.action.TraceAction.TheVariants.{JudgeBy, Migrate}
+use Rattle.trace_commands.specs.declared.action.TraceAction.{TraceAction}
+use Rattle.trace_commands.specs.declared.action.TraceAction.TheVariants.{JudgeBy, Migrate}
 use Rattle.command_line.specs.declared.form.Form.{Form}
 use Rattle.command_line.specs.declared.form.Form.TheVariants as form
 use Rattle.task_file.specs.TaskFile.{task_file}
 use Rattle.trace_format.specs.TraceFile.{trace_file}
 use Rattle.part_fit.specs.FirstFit.{first_fit}
-use Rattle.run_answers.specs.Soak.{workload_set, IsSoaked}
-use Rattle.part_answers.specs.Parted.{Parted, tasks_on, spread}
-use Rattle.part_answers.specs.RunAll.{used}
+use Rattle.run_commands.specs.Soak.{workload_set, IsSoaked}
+use Rattle.part_commands.specs.Parted.{Parted, tasks_on, spread}
+use Rattle.part_commands.specs.RunAll.{used}
 
 -- the bytes of the file of this name; no bytes where there is no such file
 abbrev pub bytes_of : Files → List ℕ → List ℕ

@@ -2,7 +2,7 @@
 use Rattle.std.specs.Prelude.{ℕ, List, ◌++◌, Option, Some, IfSome}
 use Rattle.mc_world.specs.Shelf.{Files}
 use Rattle.replies.specs.Reply.{Reply}
-use Rattle.serving.specs.Outcome.{IsAnswer}
+use Rattle.command.specs.Outcome.{IsAnswer}
 use Rattle.command_line.specs.declared.form.Form.{Form}
 use Rattle.command_line.specs.Form.{IsInRange, command}
 use Rattle.promises.specs.Headline.{Headline}

@@ -12,15 +12,15 @@ use Rattle.mc_model.specs.declared.work.WorkRow.{WorkRow}
 use Rattle.mc_model.specs.Follows.{Follows}
 use Rattle.mc_model.specs.LiveTrace.{LiveTrace}
 use Rattle.mc_model.specs.TraceText.{trace_text}
-use Rattle.trace_answers.specs.declared.action.TraceAction.{TraceAction}
-use Rattle.trace_answers.specs.declared.action.TraceAction.TheVariants.{JudgeBy}
+use Rattle.trace_commands.specs.declared.action.TraceAction.{TraceAction}
+use Rattle.trace_commands.specs.declared.action.TraceAction.TheVariants.{JudgeBy}
 use Rattle.command_line.specs.declared.form.Form.{Form}
 use Rattle.command_line.specs.declared.form.Form.TheVariants as form
-use Rattle.task_answers.specs.Admitted.{with_rule}
-use Rattle.trace_answers.specs.OnTrace.{good_text}
-use Rattle.run_answers.specs.Soak.{workload_set, soak_text, IsSoaked}
-use Rattle.part_answers.specs.Parted.{Parted, spread}
-use Rattle.part_answers.specs.RunAll.{used, IsTraceOn, trace_lines}
+use Rattle.task_commands.specs.Admitted.{with_rule}
+use Rattle.trace_commands.specs.OnTrace.{good_text}
+use Rattle.run_commands.specs.Soak.{workload_set, soak_text, IsSoaked}
+use Rattle.part_commands.specs.Parted.{Parted, spread}
+use Rattle.part_commands.specs.RunAll.{used, IsTraceOn, trace_lines}
 use Rattle.promises.specs.Headline.{bytes_of, IsAdmitted, trace_of, SaysTrace, IsSpread}
 use Rattle.promises.specs.Complete.{SaysWork}
 

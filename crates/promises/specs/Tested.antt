@@ -12,12 +12,12 @@ use Rattle.demand_test.specs.EdfRuns.{IsEdfSchedule, NoneLate}
 use Rattle.demand_test.specs.Counter.{SomeLate}
 use Rattle.demand_test.specs.DemandFile.{demands_in}
 use Rattle.part_fit.specs.Partition.{IsPartition}
-use Rattle.part_answers.specs.Parted.{spread}
-use Rattle.part_answers.specs.Partition.{partition_text}
+use Rattle.part_commands.specs.Parted.{spread}
+use Rattle.part_commands.specs.Partition.{partition_text}
 use Rattle.study.specs.Stretch.{IsStretch}
 use Rattle.study.specs.Acceptance.{accept_table}
-use Rattle.study_answers.specs.Stretch.{stretch_text}
-use Rattle.study_answers.specs.Accept.{table_text}
+use Rattle.study_commands.specs.Stretch.{stretch_text}
+use Rattle.study_commands.specs.Accept.{table_text}
 use Rattle.promises.specs.Headline.{bytes_of, SaysSet, IsSpread, SpreadsExactly}
 use Rattle.promises.specs.Complete.{Succeeds}
 

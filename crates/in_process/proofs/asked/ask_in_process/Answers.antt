@@ -3,7 +3,7 @@ use Rattle.replies.specs.Reply.{Reply}
 use Rattle.mc_world.specs.Shelf.{ShelfState}
 use Rattle.mc_world.specs.CalmShelfState.{CalmShelfState, calm_files}
 use Rattle.command_line.specs.Form.{IsInRange, form_of, command}
-use Rattle.serving.proofs.Outcomes.{is_answer, never_rose}
+use Rattle.command.proofs.Outcomes.{is_answer, never_rose}
 use Rattle.promises.specs.Reply.{IsReply}
 use Rattle.promises.proofs.Headlines.{of_reply}
 use Rattle.in_process.specs.Asked.{two_files, IsAnswered, AskForThreads, HasCause}

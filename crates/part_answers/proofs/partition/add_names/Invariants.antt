@@ -1,6 +1,0 @@
-use Rattle.std.proofs.Common.{◌≡◌, ◌++◌, drop}
-use Rattle.part_answers.specs.Partition.{spaced_names}
-use Rattle.part_answers.proofs.partition.add_names.Given as goal
-
-abbrev pub invariant-loop-task : goal.invariant-loop-task
-invariant-loop-task l = l.line.items ++ spaced_names (drop l.task-index l.tasks) ≡ l.fn.line.items ++ spaced_names l.tasks

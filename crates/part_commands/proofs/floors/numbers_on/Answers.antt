@@ -1,0 +1,24 @@
+use Rattle.std.proofs.Common.{◌≡◌, ℕ, ◌+◌, ◌∷◌, [], ◌++◌, ◌∙◌, List, cond, filter, length, map, sym, ap, arith, eq-eqb, ne_eqb}
+use Rattle.std.proofs.lemmas.List.{map-append, append-nil}
+use Rattle.mc_task.specs.declared.task.TaskNo.{TaskNo}
+use Rattle.part_fit.specs.PartWork.{is_on}
+use Rattle.part_commands.proofs.Names.{on-place}
+use Rattle.part_commands.proofs.Processors.{made-more, filter-one}
+use Rattle.part_commands.proofs.floors.numbers_on.Goals as goal
+use Rattle.part_commands.proofs.floors.numbers_on.Goals.{then-of-i+in_ok-push, else-of-i}
+
+pub loop-i-preserved : goal.loop-i-preserved
+loop-i-preserved c =
+    let on = is_on c.args.processor c.args.of.now in
+    let i = c.loop-i.i in
+    let some = map (λ (k : TaskNo). k.0) c.loop-i.numbers.items in
+    let here = on-place c.args.processor c.args.of.now i c.loop-i-test.true in
+    let more = λ (next : List ℕ) (grows : next ≡ some ++ filter on ((i + 1) ∷ [])).
+    made-more (filter on) (λ k. filter on (k ∷ [])) (i + 1) (length c.args.of.now) some next _ (filter-one on) (let t = c.loop-i-test.true in omega (arith, t)) c.loop-i.invariant grows in
+    elim c.if-of-i.branch [
+      | then-of-i+in_ok-push w ↦
+          more _ (ap (λ v. map (λ (k : TaskNo). k.0) v.items) w.numbers-is ∙ ap (λ l. map (λ (k : TaskNo). k.0) l) w.in_ok-push.ensures.items ∙ map-append (λ (k : TaskNo). k.0) c.loop-i.numbers.items _
+          ∙ sym (ap (λ b. some ++ cond b ((i + 1) ∷ []) []) (here ∙ eq-eqb _ _ w.if-of-i.true)))
+      | else-of-i w ↦
+          more _ (ap (λ v. map (λ (k : TaskNo). k.0) v.items) w.numbers-is ∙ sym (append-nil some) ∙ sym (ap (λ b. some ++ cond b ((i + 1) ∷ []) []) (here ∙ ne_eqb _ _ w.if-of-i.false)))
+    ]

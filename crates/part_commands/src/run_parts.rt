@@ -1,0 +1,103 @@
+//! The command `runall`.
+ghost use Rattle.replies.specs.Stop.{Replies};
+ghost use Rattle.command.specs.Serves.{Serves, IsOwn, Prepares};
+ghost use Rattle.part_commands.specs.RunAll.{run_all, run_all_on};
+ghost use Rattle.part_commands.specs.Planned.{IsRunAllJob, RepliesToRunAll};
+
+use crate::floors::{PartFloors, floors_of};
+use crate::parted::{Parted, Processors, read_parted};
+use crate::side_by_side::run_all;
+use crate::traces::traces_text;
+use command::{FileName, fetch};
+use executive::Gate;
+use mc_world::Shelf;
+use replies::{Reply, Stop};
+use run_commands::{Ticks, read_work_of};
+use std::alloc::Global;
+use std::sync::Wait;
+use std::thread::Threads;
+use task_commands::MOST_TABLE_BYTES;
+use work_file::Work;
+
+/// `runall TASKS WORK TICKS M`.
+#[derive(Drop)]
+pub struct RunAllCommand<'a> {
+    pub tasks: FileName<'a>,
+    pub work: FileName<'a>,
+    pub ticks: Ticks,
+    pub processors: Processors,
+}
+
+/// A set on several processors, and its work to run.
+#[derive(Drop)]
+pub struct RunAllJob {
+    pub parted: Parted,
+    pub work: Work,
+}
+
+impl<'a> RunAllCommand<'a> {
+    /// The reply. The files are read first; then each processor with tasks has an executive and each task a thread, and the gate
+    /// is called at its steps by the number that the task has in the whole set. This may wait.
+    pub fn reply<R: Threads + Wait + Sync, S: Shelf, G: Gate + Sync>(
+        &self,
+        rt: &R,
+        alloc: Global,
+        shelf: &mut S,
+        gate: &G,
+    ) -> Result<Reply, Stop>
+        ensures { Serves 1 (run_all self.now.tasks self.now.work self.now.ticks self.now.processors) (S.state shelf.old) (S.state shelf.new) result }
+    {
+        let job = self.job(alloc, shelf)?;
+        finish_run_all(rt, alloc, job, &self.ticks, &self.processors, gate)
+    }
+
+    /// The job to run, by both files. Without a runtime this cannot wait.
+    pub fn job<S: Shelf>(&self, alloc: Global, shelf: &mut S) -> Result<RunAllJob, Stop>
+        ensures { Prepares 1 (run_all self.now.tasks self.now.work self.now.ticks self.now.processors)
+            (IsRunAllJob self.now.processors) (RepliesToRunAll self.now.ticks self.now.processors) (S.state shelf.old) (S.state shelf.new) result }
+    {
+        let bytes = fetch(alloc, shelf, 1, &self.tasks, MOST_TABLE_BYTES)?;
+        self.job_on(alloc, shelf, &bytes)
+    }
+
+    // The job to run, by the bytes of the task file and by the work file.
+    fn job_on<S: Shelf>(
+        &self,
+        alloc: Global,
+        shelf: &mut S,
+        bytes: &[u8],
+    ) -> Result<RunAllJob, Stop>
+        ensures { Prepares 2 (run_all_on self.now.work self.now.ticks self.now.processors bytes.now)
+            (IsRunAllJob self.now.processors) (RepliesToRunAll self.now.ticks self.now.processors) (S.state shelf.old) (S.state shelf.new) result }
+    {
+        let parted = read_parted(alloc, bytes, &self.processors)?;
+        let bytes = fetch(alloc, shelf, 2, &self.work, MOST_TABLE_BYTES)?;
+        let work = read_work_of(alloc, &parted.set, &bytes)?;
+        Ok(RunAllJob { parted, work })
+    }
+}
+
+/// The reply of a `runall` of this many ticks on this many processors, as [`RunAllCommand::reply`] gives it once the files are read.
+pub fn finish_run_all<R: Threads + Wait + Sync, G: Gate + Sync>(
+    rt: &R,
+    alloc: Global,
+    job: RunAllJob,
+    ticks: &Ticks,
+    processors: &Processors,
+    gate: &G,
+) -> Result<Reply, Stop>
+    requires { IsRunAllJob processors.now job }
+    ensures traces { Replies (RepliesToRunAll ticks.now processors.now job) result }
+    ensures own { Replies IsOwn result }
+{
+    let PartFloors {
+        used,
+        floors,
+        numbers,
+    } = floors_of(alloc, &job, ticks, processors)?;
+    let Ok(done) = run_all(rt, alloc, floors, numbers, gate) else {
+        return Err(Stop::Memory);
+    };
+    let text = traces_text(alloc, &used, &done)?;
+    Ok(Reply::new(0, text))
+}

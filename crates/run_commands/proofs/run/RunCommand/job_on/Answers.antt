@@ -1,0 +1,31 @@
+use Rattle.std.proofs.Common.{Err, rules}
+use Rattle.std.proofs.lemmas.Result.{err_from_is_err_and}
+use Rattle.command.proofs.Serving.{serves_need, serves_fetch, serves_answer, serves_refused}
+use Rattle.task_commands.specs.Admitted.{admitted}
+use Rattle.task_commands.specs.Given.{IsGivenAs}
+use Rattle.run_commands.specs.Run.{IsTraceReply, work_of}
+use Rattle.run_commands.specs.Jobs.{IsWorkOf}
+use Rattle.run_commands.proofs.run.RunCommand.job_on.Goals as goal
+
+pub returns-in_err-work : goal.returns-in_err-work
+returns-in_err-work g c =
+    let bytes = c.in_ok-bytes.bytes.items in
+    let given = c.in_err-work.field-0.0 in
+    let (stop, is_err, same) = err_from_is_err_and c.from_residual-in_err-work.result c.from_residual-in_err-work.ensures.1 in
+    rw (is_err, same)
+    (serves_need 2 IsGivenAs (admitted c.args.bytes.now) c.in_ok-set.field-0 _ _ _ (Err given) c.in_ok-set.ensures (λ read is.
+    serves_fetch 2 _ _ _ bytes _ _ _ (Err given) c.in_ok-bytes.ensures.bytes c.in_ok-bytes.ensures.memory_faults
+    (serves_refused 3 (IsWorkOf read.set.tasks) (work_of read.set.tasks bytes) _ _ given
+    (rw (c.deref.ensures.value, is.set) at c.in_err-work.ensures.work) c.in_err-work.ensures.own)))
+
+pub returns : goal.returns
+returns g c =
+    let bytes = c.in_ok-bytes.bytes.items in (
+      search rules,
+      λ reply says own.
+          serves_need 2 IsGivenAs (admitted c.args.bytes.now) c.in_ok-set.field-0 _ _ _ reply c.in_ok-set.ensures (λ read is.
+          serves_fetch 2 _ _ _ bytes _ _ _ reply c.in_ok-bytes.ensures.bytes c.in_ok-bytes.ensures.memory_faults
+          (serves_need 3 (IsWorkOf read.set.tasks) (work_of read.set.tasks bytes) c.in_ok-work.work _ _ _ reply
+          (rw (c.deref.ensures.value, is.set) at c.in_ok-work.ensures.work) (λ rows is_work.
+          serves_answer 3 (IsTraceReply c.args.self.now.ticks read.set.tasks read.rule rows) _ reply (rw (is.set, is.rule, is_work.same) at says) own))),
+    )
