@@ -23,6 +23,7 @@ PERIODS = [1000, 1250, 2000, 2500, 3125, 4000, 5000, 6250, 10000, 12500, 15625, 
 
 
 class Worst(NamedTuple):
+    """An input of a command: what it is, in the words of COMMANDS.md if its table has it, and the words of the call."""
     what: str
     words: list
     plain: Optional[str] = None  # the plain program, which takes the words after the command, or all of them
@@ -153,36 +154,40 @@ def worst_on_tables(files):
     names = files.file('names', with_long_names(crowd(128, 128)))
     for words in (['check'], ['stretch'], ['partition', '16']):
         yield Worst('128 tasks, filled to 16 MiB with comments', [words[0], comments] + words[1:])
-        yield Worst('a number of 16 MiB', [words[0], zeros] + words[1:])
-    yield Worst('128 tasks in turn for 1,000,000 ticks', ['run', tasks, work, '1000000'])
-    yield Worst('128 tasks in turn on 16 for 1,000,000 ticks', ['runall', shared, work, '1000000', '16'])
-    yield Worst('993,431 jobs of two ticks, one after the other on each of 16', ['runall', apart, apart_work, '1000000', '16'])
-    yield Worst('32 tasks for 1,000,000 ticks', ['soak', '2', '32', '1000000'])
-    yield Worst('128 tasks of long names in turn for 100,000 ticks', ['live', names, '100000'])
+        yield Worst('a task file of 16 MiB, nearly all of it the digits of one number', [words[0], zeros] + words[1:])
+    yield Worst('128 tasks that have the ticks in turn, 1,000,000 ticks', ['run', tasks, work, '1000000'])
+    yield Worst('128 tasks that have the ticks in turn, on 16 processors, 1,000,000 ticks', ['runall', shared, work, '1000000', '16'])
+    yield Worst('993,431 jobs of two ticks, one after the other on each of 16 processors', ['runall', apart, apart_work, '1000000', '16'])
+    yield Worst('32 tasks, 1,000,000 ticks', ['soak', '2', '32', '1000000'])
+    yield Worst('128 tasks of period 128, budget 1 and long names, 100,000 ticks', ['live', names, '100000'])
     yield Worst('10,000 sets of 32 tasks', ['accept', '1', '10000', '32'], 'accept')
 
 
 def worst_on_traces(files):
-    """Inputs for the commands that read a trace."""
-    tasks, in_turn = files.file('turn_tasks', crowd(128, 128)), turns(2000000)
-    names = files.file('turn_names', with_long_names(crowd(128, 128)))
-    full, quotes = files.file('full', in_turn), files.file('quoted', filled(quoted(in_turn)))
-    long_full = files.file('long', filled(with_long_names(in_turn)))
-    letters, marks = files.file('letters', 'a' * MOST_TRACE_BYTES), files.file('marks', '"' * MOST_TRACE_BYTES)
-    late, pending = files.file('late', all_late()), files.file('pending', filled(all_pending()))
-    served = files.file('served', all_pending().rpartition('tick')[0])
-    wide = files.file('wide', with_long_names(crowd(128, 4294967295).replace('low = 1\n', 'low = 3000000\n')))
-    drawn = files.file('drawn', filled(with_long_names(one_by_one(2000000))))
-    yield Worst('1,984,384 late jobs, under the scale 1/1', ['judge', late, served, '1', '1'])
-    yield Worst('1,984,384 pending jobs at an overrun, filled to 128 MiB', ['judge', late, pending, '1', '1'])
+    """Inputs for the commands that read a trace. Each file is made just before it is read, so that runs go on meanwhile."""
+    tasks, letters = files.file('turn_tasks', crowd(128, 128)), files.file('letters', 'a' * MOST_TRACE_BYTES)
+    marks = files.file('marks', '"' * MOST_TRACE_BYTES)
+    for command in ('judge', 'report', 'migrate', 'chart'):
+        yield Worst('128 MiB of `"`, which is no trace', [command, tasks, marks])
+        yield Worst('128 MiB of one letter, which is no trace', [command, tasks, letters])
+    in_turn = turns(2000000)
+    names, full = files.file('turn_names', with_long_names(crowd(128, 128))), files.file('full', in_turn)
     for command in ('judge', 'report', 'migrate'):
         yield Worst('2,000,000 records of 128 tasks in turn', [command, tasks, full], 'plain')
-        yield Worst('2,000,000 records of long names, filled to 128 MiB', [command, names, long_full])
-        yield Worst('2,000,000 records in quotes, filled to 128 MiB', [command, tasks, quotes])
-        yield Worst('128 MiB of quotes', [command, tasks, marks])
-        yield Worst('128 MiB of one letter', [command, tasks, letters])
-    yield Worst('128 tasks of long names, of which one has 1,999,999 ticks in a record each', ['chart', wide, drawn])
-    yield Worst('128 MiB of one letter', ['chart', wide, letters])
+    quotes = files.file('quoted', filled(quoted(in_turn)))
+    for command in ('judge', 'report', 'migrate'):
+        yield Worst('2,000,000 records with each field in quotes, in 128 MiB', [command, tasks, quotes])
+    long_full = files.file('long', filled(with_long_names(in_turn)))
+    for command in ('judge', 'report', 'migrate'):
+        yield Worst('2,000,000 records of tasks with long names, in 128 MiB', [command, names, long_full])
+    late, at_overrun = files.file('late', all_late()), all_pending()
+    served = files.file('served', at_overrun.rpartition('tick')[0])
+    yield Worst('1,984,384 late jobs, under the scale 1/1', ['judge', late, served, '1', '1'])
+    pending = files.file('pending', filled(at_overrun))
+    yield Worst('these jobs pending at an overrun, in a trace of 128 MiB', ['judge', late, pending, '1', '1'])
+    wide = files.file('wide', with_long_names(crowd(128, 4294967295).replace('low = 1\n', 'low = 3000000\n')))
+    drawn = files.file('drawn', filled(with_long_names(one_by_one(2000000))))
+    yield Worst('128 tasks, of which one has 1,999,999 ticks in a record each, in 128 MiB', ['chart', wide, drawn])
 
 
 def worst_on_demands(files):
@@ -192,8 +197,11 @@ def worst_on_demands(files):
     spread = files.file('spread', demands([
         (f't{place}', PERIODS[place % 18], PERIODS[place % 18] * 9 // 10, PERIODS[place % 18] // 200) for place in range(128)]))
     yield Worst('396,876 jobs in 500,000 ticks', ['demand', dense], 'demand')
-    yield Worst('a counterexample of 500,000 ticks, with 127 pending jobs and a release at each', ['demand', past], 'demand')
+    yield Worst('a counterexample of 500,000 ticks, with 127 pending jobs of long names and a release at each tick', ['demand', past], 'demand')
     yield Worst('128 tasks of 18 periods', ['demand', spread], 'demand')
+
+
+WORST = (worst_on_tables, worst_on_traces, worst_on_demands)
 
 
 # ---- Measures ----
@@ -240,7 +248,7 @@ def main(words):
         print(f'bounds: there is no {METER}', file=sys.stderr)
         return 1
     print('| command | input | status | time | of processors | memory | times plain Rust |\n|---|---|---|---|---|---|---|')
-    for worst_inputs in (worst_on_tables, worst_on_traces, worst_on_demands):
+    for worst_inputs in WORST:
         folder = tempfile.mkdtemp()
         try:
             for worst in worst_inputs(Files(folder)):

@@ -1,7 +1,7 @@
 #!/bin/sh
 # Measures the built program on the worst inputs that were found for each command within its limits: the least time out of some runs,
 # that of processors, the most memory, and how much longer it takes than a plain program in Rust, where bench has one and there is a
-# rustc. The table of docs/COMMANDS.md has the worst of each command; nothing is compared with it. It needs 1 GB below /tmp.
+# rustc. The table of docs/COMMANDS.md has the worst of each command; checks/costs.sh compares its memory. It needs 1 GB below /tmp.
 # usage: bounds.sh [RUNS]
 . "$(dirname -- "$0")/../tools/usage.sh"
 takes 0 1 "$@"

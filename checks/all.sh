@@ -13,6 +13,7 @@ trap 'exit 1' HUP INT TERM
 # The longest first, so that none of them is left alone at the end.
 cat >"$work/together" <<'LIST'
 night.sh 2
+costs.sh
 compare.sh
 memcheck.sh
 hostile.sh

@@ -1,5 +1,6 @@
 """Tests of the scripts that users call, with values worked out by hand: what explain.py says fits, the divisors of divisors.py, the
-jobs of jobs.py, what svg.py draws, the traces of record/sched.py, how files are read, and which case night.py keeps.
+jobs of jobs.py, what svg.py draws, the traces of record/sched.py, how files are read, which case night.py keeps, and what costs.py
+finds wrong with a page.
 
 usage: tools_check.py
 """
@@ -14,6 +15,7 @@ import unittest
 
 sys.path.insert(0, str(pathlib.Path(__file__).resolve().parent.parent / 'tools' / 'record'))
 import with_tools
+import costs
 import divisors
 import explain
 import events as recorded
@@ -295,6 +297,47 @@ class Reading(unittest.TestCase):
                 '"a" . ' * 80 + 'a': True, '# ' + 'a.' * 100: False, '"' + 'a.' * 100 + '"': False, "'" + '[' * 100 + "'": False,
                 '"""\n' + 'a.' * 100 + '\n"""': False, '"\\"' + 'a.' * 100 + '"': False}.items():
             self.assertEqual(reading.is_too_deep(text), is_deep, text[:40])
+
+
+class Costs(unittest.TestCase):
+    """A page whose three rows are of three commands, and the memory that their inputs take."""
+
+    PAGE = ('# Words\n\n| `none` | before | 1 s | 9 MiB | |\n\n## Time and memory\n\n'
+            '| command | input | time | memory | |\n|---|---|---|---|---|\n| `check`, `stretch` | long | 0.2 s | 20 MiB | |\n'
+            '| `judge` | late jobs | 1 s | 100 MiB | 0.74 |\n| `judge` | few | 0.1 s | 10 MiB | |\n\n'
+            '## The text\n\n| `none` | x | y | 1 MiB |\n')
+    ROWS = [costs.Row('check', 'long', 20), costs.Row('stretch', 'long', 20), costs.Row('judge', 'late jobs', 100),
+            costs.Row('judge', 'few', 10)]
+    FOUND = {('check', 'long'): 20.0, ('stretch', 'long'): 22.5, ('judge', 'late jobs'): 69.5, ('judge', 'few'): 11.5,
+             ('judge', 'others'): 110.5}
+
+    def faults(self, **changed):
+        found = {**self.FOUND, **{tuple(key.split('__')): memory for key, memory in changed.items()}}
+        return list(costs.faults_of(self.ROWS, {key: memory for key, memory in found.items() if memory is not None}))
+
+    def test_rows_are_those_of_the_table(self):
+        self.assertEqual(list(costs.rows_in(self.PAGE)), self.ROWS)
+
+    def test_rows_that_name_no_memory(self):
+        page = '\n## Time and memory\n\n| `check` | a |\n| `judge` | late jobs | 1 s | some MiB | |\n'
+        self.assertEqual(list(costs.rows_in(page)), [costs.Row('check', 'a', 0), costs.Row('judge', 'late jobs', 0)])
+
+    def test_a_tenth_more_and_seven_tenths_are_right(self):
+        self.assertEqual(self.faults(), [])
+
+    def test_more_and_less(self):
+        self.assertEqual(self.faults(stretch__long=22.6), ['stretch, long: takes 22.6 MiB, and the page says 20'])
+        self.assertEqual(self.faults(check__long=13.4), ['check, long: takes only 13.4 MiB, and the page says 20'])
+
+    def test_a_row_without_an_input(self):
+        self.assertEqual(self.faults(check__long=None), ['check, long: bounds.py has no such input'])
+
+    def test_inputs_without_a_row(self):
+        self.assertEqual(self.faults(judge__others=110.6), ['judge, others: takes 110.6 MiB, and the page has no row of more than 100 MiB'])
+        self.assertEqual(self.faults(run__long=1.0), ['run: the page has no row of it'])
+
+    def test_a_page_without_rows(self):
+        self.assertEqual(list(costs.faults_of([], {})), ['the page has no rows'])
 
 
 class WrongProgram:
