@@ -63,7 +63,7 @@ compiled() {
     *) set -- "$c/$source.c" "$@" ;;
     esac
     # shellcheck disable=SC2086
-    passes "compiling $source" "$CC" -std=c11 $strict -I"$c" "$@" -pthread -o "$to"
+    passes "compiling $source" "$CC" -std=c11 $strict -I"$c" -I"$work" "$@" -pthread -o "$to"
     [ -x "$to" ]
 }
 
@@ -72,19 +72,22 @@ ground() {
     memcheck='valgrind -q --leak-check=full --error-exitcode=9'
     # shellcheck disable=SC2086
     case $1 in
-    tests/threads | tests/stack) ;;
+    tests/threads | tests/stack | tests/places) ;;
     examples/endless) passes "$1 under memcheck" $memcheck "$work/$2" 2000 ;;
     tests/fuzz) passes "$1 under memcheck" $memcheck "$work/$2" "$seed" 400 ;;
     *) tries "$1 under memcheck" "$2" $memcheck "$work/$2" ;;
     esac
 }
 
-# tried_in_c: each example and test: as it is, with the sanitizers and under memcheck. Those with threads and with 256 KiB of stack
-# are not for memcheck, and where memory fails on purpose the sanitizers' own allocations are in the way.
+# tried_in_c: each example and test: as it is, with the sanitizers and under memcheck. Those with threads, with as much stack as the
+# header names and with 10^9 places are not for memcheck, and where memory fails on purpose or is measured the sanitizers' own
+# allocations are in the way.
 tried_in_c() {
+    # shellcheck disable=SC2016
+    passes 'the sentences of edfvd.h that tests try' sh -c '"$1" >"$2"' sh "$c/tests/stated.sh" "$work/stated.h"
     for source in examples/control examples/deadlines examples/margins examples/dispatcher examples/monitor examples/endless examples/ask \
-        tests/sets tests/events tests/handles tests/judging tests/asking tests/stack tests/busy tests/threads tests/wrong tests/memory \
-        tests/fuzz; do
+        tests/sets tests/events tests/handles tests/judging tests/asking tests/stack tests/places tests/busy tests/threads tests/wrong \
+        tests/memory tests/fuzz; do
         name=${source##*/}
         library=$c/out/libedfvd_core.a
         case $name in ask | asking | stack | memory | fuzz) library=$c/out/libedfvd.a ;; esac
@@ -93,8 +96,10 @@ tried_in_c() {
         compiled "$source" "$work/$name" -O2 "$library" || continue
         # shellcheck disable=SC2086
         tries "$source" "$name" "$work/$name" $words
+        flags=$sane
+        case $name in memory | places) flags= ;; esac
         # shellcheck disable=SC2086
-        if [ -n "$sane" ] && [ "$name" != memory ] && compiled "$source" "$work/$name.sane" $sane "$work/sane/libedfvd.a"; then
+        if [ -n "$flags" ] && compiled "$source" "$work/$name.sane" $flags "$work/sane/libedfvd.a"; then
             tries "$source with sanitizers" "$name" "$work/$name.sane" $words
         fi
         ! command -v valgrind >/dev/null 2>&1 || ground "$source" "$name"

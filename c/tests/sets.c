@@ -1,4 +1,6 @@
-/* The calls about task sets: what each stores, every refusal with its task, and the ends of each range. */
+/* The calls about task sets: what each stores, every refusal with its task, and the ends of each range. stated.h has what stated.sh
+   writes. */
+#include "stated.h"
 #include "tests.h"
 
 tally tests;
@@ -154,11 +156,20 @@ static void stretch_stores_the_percentage(void) {
     static const edfvd_task low[] = {{EDFVD_LOW, 10, 10, 10}};
     static const edfvd_task small[] = {{EDFVD_HIGH, 100, 1, 1}};
     stretch_stores(control, 2, 149);
-    stretch_stores(none_left, 2, 0);
+    stretch_stores(none_left, 2, STATED_LEAST_PERCENT);
     stretch_stores(low, 1, 1000);
     stretch_stores(small, 1, 1000);
     edfvd_test test;
     RETURNS(EDFVD_OK, edfvd_check(none_left, 2, &test));
+    IS(0, test.rule);
+    /* What the header says of this percentage: with each high budget the low one plain EDF does, and at the next percentage none. */
+    edfvd_task changed[] = {none_left[0], none_left[1]};
+    changed[0].high = changed[0].low;
+    RETURNS(EDFVD_OK, edfvd_check(changed, 2, &test));
+    IS(1, test.rule);
+    IS(STATED_LEAST_PERCENT + 1, STATED_NEXT_PERCENT);
+    changed[0].high = none_left[0].high * STATED_NEXT_PERCENT / 100;
+    RETURNS(EDFVD_OK, edfvd_check(changed, 2, &test));
     IS(0, test.rule);
 }
 

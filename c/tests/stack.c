@@ -1,9 +1,10 @@
 /*
- * edfvd_ask on a thread with a stack of 256 KiB, as edfvd.h says that it needs, with the files that nest the deepest. The reader
- * of task files takes 80 levels and calls itself for each. The stack is painted before each call and ends at a page that cannot
- * be touched; the bytes that a call has changed are what it used. Link with -pthread.
+ * edfvd_ask on a thread with the stack that edfvd.h says it needs, with the files that nest the deepest. The reader of task files
+ * takes 80 levels and calls itself for each. The stack is painted before each call and ends at a page that cannot be touched; the
+ * bytes that a call has changed are what it used. stated.h has what stated.sh writes. Link with -pthread.
  */
 #define _GNU_SOURCE
+#include "stated.h"
 #include "tests.h"
 #include <pthread.h>
 #include <stdlib.h>
@@ -11,7 +12,7 @@
 
 tally tests;
 
-enum { STACK = 256 * 1024, PAGE = 4096, LEVELS = 80 };
+enum { STACK = STATED_STACK_KIB * 1024, PAGE = 4096, LEVELS = STATED_STACK_LEVELS };
 
 static char file[1 << 16], out[1 << 16];
 static size_t length;
@@ -70,6 +71,18 @@ static void nested(unsigned char *stack, const char *name, const char *begin, co
     IS(1, most <= STACK / 4 * 3); /* so that other compilers and later versions have room */
 }
 
+/* The file that the header means, [[a.a..]] of 80 names without a line's end: its length, and the stack that it uses, up to a tenth. */
+static void named_file(unsigned char *stack) {
+    file[0] = 0;
+    append("[[a", 1);
+    append(".a", LEVELS - 1);
+    append("]]", 1);
+    IS(STATED_STACK_FILE_BYTES, strlen(file));
+    size_t bytes = ask(stack, "check");
+    IS(3, exit_status);
+    IS(1, bytes > STATED_STACK_BYTES / 10 * 9 && bytes < STATED_STACK_BYTES / 10 * 11);
+}
+
 /* The largest set, by each command that reads nothing but a set. */
 static void largest_set(unsigned char *stack) {
     static const char *const commands[] = {"check", "stretch"};
@@ -95,6 +108,7 @@ int main(void) {
     nested(stack, "a = [{a = [..", "a = ", "[{a = ", "1", "}]", "\n");
     nested(stack, "a = {a.a = {..", "a = ", "{a.a = ", "1", "}", "\n");
     nested(stack, "[a] [a.a] ..", "[a]\n[a", ".a", "]\n", "", "b = 1\n");
+    named_file(stack);
     largest_set(stack);
     return ends("stack");
 }
