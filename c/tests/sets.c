@@ -26,72 +26,74 @@ static const struct {
 /* 2^31 times 2^29 - 1 is below 2^60, and three times that is above it. */
 static const edfvd_task long_periods[] = {{EDFVD_LOW, 2147483648u, 1, 1}, {EDFVD_LOW, 536870911u, 1, 1}, {EDFVD_LOW, 3, 1, 1}};
 
-static void check_stores_the_test(void) {
+/* What edfvd_check stores for the set: each field. A set for which one is wrong is named by its first task. */
+static void stores(const edfvd_task *tasks, size_t count, edfvd_test wanted) {
     edfvd_test test;
+    unsigned long failed = tests.failed;
     PAINTED(test);
-    RETURNS(EDFVD_OK, edfvd_check(control, 2, &test));
-    IS(2, test.rule);
-    IS(0, test.task);
-    IS(2, test.p);
-    IS(5, test.q);
-    IS(10, test.lcm);
-    IS(0, test.low_low_top);
-    IS(5, test.low_low);
-    IS(0, test.high_low_top);
-    IS(2, test.high_low);
-    IS(0, test.high_high_top);
-    IS(6, test.high_high);
-
-    /* One low task whose budget is its period: U_LL = 1 and plain EDF. */
-    edfvd_task whole = {EDFVD_LOW, 7, 7, 7};
-    PAINTED(test);
-    RETURNS(EDFVD_OK, edfvd_check(&whole, 1, &test));
-    IS(1, test.rule);
-    IS(0, test.p);
-    IS(0, test.q);
-    IS(7, test.lcm);
-    IS(7, test.low_low);
-    IS(0, test.high_low);
-    IS(0, test.high_high);
-
-    edfvd_task above = {EDFVD_LOW, 7, 8, 8};
-    PAINTED(test);
-    RETURNS(EDFVD_OK, edfvd_check(&above, 1, &test));
-    IS(0, test.rule);
-    IS(0, test.p);
-    IS(0, test.q);
-    IS(8, test.low_low);
+    RETURNS(EDFVD_OK, edfvd_check(tasks, count, &test));
+    IS(wanted.rule, test.rule);
+    IS(wanted.task, test.task);
+    IS(wanted.p, test.p);
+    IS(wanted.q, test.q);
+    IS(wanted.lcm, test.lcm);
+    IS(wanted.low_low_top, test.low_low_top);
+    IS(wanted.low_low, test.low_low);
+    IS(wanted.high_low_top, test.high_low_top);
+    IS(wanted.high_low, test.high_low);
+    IS(wanted.high_high_top, test.high_high_top);
+    IS(wanted.high_high, test.high_high);
+    if (tests.failed != failed) printf("of %zu tasks, the first %" PRIu32 "/%" PRIu32 "\n", count, tasks->low, tasks->period);
 }
 
-/* Periods 2^31 and 2^29 - 1: lcm = 2^60 - 2^31. The first task asks for 2^32 - 1 ticks in each of its lcm/2^31 = 2^29 - 1
-   periods, low ones or high ones; the second, for 2^32 - 1 in each of 2^31. A load is a numerator with two halves. */
-static void check_stores_both_halves_of_a_load(void) {
-    edfvd_task tasks[] = {{EDFVD_LOW, 2147483648u, UINT32_MAX, UINT32_MAX}, {EDFVD_HIGH, 536870911u, UINT32_MAX, UINT32_MAX}};
-    edfvd_test test;
-    RETURNS(EDFVD_OK, edfvd_check(tasks, 2, &test));
-    IS(0, test.rule);
-    IS((UINT64_C(1) << 60) - (UINT64_C(1) << 31), test.lcm);
-    IS(0, test.low_low_top); /* (2^32 - 1)(2^29 - 1) is below 2^64 */
-    IS(UINT64_C(4294967295) * 536870911u, test.low_low);
-    IS(0, test.high_low_top); /* (2^32 - 1) 2^31 is below 2^64 */
-    IS(UINT64_C(4294967295) << 31, test.high_high);
+/*
+ * A low task whose budget is its period has U_LL = 1 and plain EDF, and one tick more is not admitted.
+ *
+ * Periods 2^31 and 2^29 - 1: lcm = 2^60 - 2^31. The first task asks for 2^32 - 1 ticks in each of its lcm/2^31 = 2^29 - 1 periods;
+ * the second, for 2^32 - 1 in each of 2^31, low ones or high ones. Each of these numerators is below 2^64.
+ */
+static void check_stores_the_test(void) {
+    static const struct {
+        edfvd_task tasks[2];
+        size_t count;
+        edfvd_test test;
+    } tested[] = {
+        {{{EDFVD_HIGH, 10, 2, 6}, {EDFVD_LOW, 10, 5, 5}},
+         2,
+         {.rule = 2, .p = 2, .q = 5, .lcm = 10, .low_low = 5, .high_low = 2, .high_high = 6}},
+        {{{EDFVD_LOW, 7, 7, 7}}, 1, {.rule = 1, .lcm = 7, .low_low = 7}},
+        {{{EDFVD_LOW, 7, 8, 8}}, 1, {.rule = 0, .lcm = 7, .low_low = 8}},
+        {{{EDFVD_LOW, 2147483648u, UINT32_MAX, UINT32_MAX}, {EDFVD_HIGH, 536870911u, UINT32_MAX, UINT32_MAX}},
+         2,
+         {.rule = 0,
+          .lcm = (UINT64_C(1) << 60) - (UINT64_C(1) << 31),
+          .low_low = UINT64_C(4294967295) * 536870911u,
+          .high_low = UINT64_C(4294967295) << 31,
+          .high_high = UINT64_C(4294967295) << 31}},
+    };
+    for (size_t place = 0; place < sizeof tested / sizeof *tested; place++)
+        stores(tested[place].tasks, tested[place].count, tested[place].test);
+}
 
-    /* Ten tasks of period 2^31 with budgets of 2^32 - 1, and one of period 2^29 - 1: 10 (2^32 - 1)(2^29 - 1) =
-       10 * 2^61 - 10 * 2^32 - 10 * 2^29 + 10, which is 2^64 and 2^62 - 10 * 2^32 - 10 * 2^29 + 10. */
-    edfvd_task many[31];
+/* A numerator with two halves. Ten tasks of period 2^31 with budgets of 2^32 - 1, beside one of period 2^29 - 1: 10 (2^32 - 1)(2^29 - 1)
+   = 10 * 2^61 - 10 * 2^32 - 10 * 2^29 + 10, which is 2^64 and 2^62 - 10 * 2^32 - 10 * 2^29 + 10. The last task, a low one, adds one
+   tick in each of its 2^31 periods. */
+static void check_stores_both_halves_of_a_load(void) {
+    uint64_t rest = (UINT64_C(1) << 62) - 10 * (UINT64_C(1) << 32) - 10 * (UINT64_C(1) << 29) + 10;
+    edfvd_task many[21];
     for (int place = 0; place < 10; place++) {
         many[place] = (edfvd_task){EDFVD_LOW, 2147483648u, UINT32_MAX, UINT32_MAX};
         many[10 + place] = (edfvd_task){EDFVD_HIGH, 2147483648u, UINT32_MAX, UINT32_MAX};
     }
     many[20] = (edfvd_task){EDFVD_LOW, 536870911u, 1, 1};
-    RETURNS(EDFVD_OK, edfvd_check(many, 21, &test));
-    uint64_t rest = (UINT64_C(1) << 62) - 10 * (UINT64_C(1) << 32) - 10 * (UINT64_C(1) << 29) + 10;
-    IS(1, test.low_low_top);
-    IS(rest + (UINT64_C(1) << 31), test.low_low); /* with 1 in each of 2^31 periods of the last task */
-    IS(1, test.high_low_top);
-    IS(rest, test.high_low);
-    IS(1, test.high_high_top);
-    IS(rest, test.high_high);
+    stores(many, 21, (edfvd_test){.rule = 0,
+                                  .lcm = (UINT64_C(1) << 60) - (UINT64_C(1) << 31),
+                                  .low_low_top = 1,
+                                  .low_low = rest + (UINT64_C(1) << 31),
+                                  .high_low_top = 1,
+                                  .high_low = rest,
+                                  .high_high_top = 1,
+                                  .high_high = rest});
 }
 
 static void check_refuses(void) {
@@ -290,28 +292,28 @@ static void accept_refuses(void) {
     RETURNS(EDFVD_NULL, edfvd_accept(1, 0, 8, NULL));
 }
 
+/* What edfvd_demand stores for the tasks: each field. Tasks for which one is wrong are named by the first. */
+static void demand_stores(const edfvd_demand_task *tasks, size_t count, edfvd_demand_test wanted) {
+    edfvd_demand_test test;
+    unsigned long failed = tests.failed;
+    PAINTED(test);
+    RETURNS(EDFVD_OK, edfvd_demand(tasks, count, &test));
+    IS(wanted.past, test.past);
+    IS(wanted.task, test.task);
+    IS(wanted.length, test.length);
+    IS(wanted.demand, test.demand);
+    if (tests.failed != failed) printf("of %zu tasks, the first %" PRIu32 "/%" PRIu32 "\n", count, tasks->budget, tasks->period);
+}
+
 /* Demands by hand. Periods 4 and 6, deadlines 2 and 3, budgets 2 and 2: in 2 ticks 2 are asked for, in 3 ticks 2 + 2 = 4. With
    a budget of 1 for the first there are 1 in 2 ticks, 3 in 3, 4 in 6, 6 in 9, 7 in 10: never more ticks than there are. */
 static void demand_stores_the_test(void) {
     static const edfvd_demand_task past[] = {{4, 2, 2}, {6, 3, 2}};
     static const edfvd_demand_task within[] = {{4, 2, 1}, {6, 3, 2}};
-    edfvd_demand_test test;
-    PAINTED(test);
-    RETURNS(EDFVD_OK, edfvd_demand(past, 2, &test));
-    IS(1, test.past);
-    IS(0, test.task);
-    IS(3, test.length);
-    IS(4, test.demand);
-    PAINTED(test);
-    RETURNS(EDFVD_OK, edfvd_demand(within, 2, &test));
-    IS(0, test.past);
-    IS(0, test.task);
-    IS(12, test.length);
-    IS(0, test.demand);
+    demand_stores(past, 2, (edfvd_demand_test){.past = 1, .length = 3, .demand = 4});
+    demand_stores(within, 2, (edfvd_demand_test){.length = 12});
     static const edfvd_demand_task longest[] = {{500000, 500000, 500000}};
-    RETURNS(EDFVD_OK, edfvd_demand(longest, 1, &test));
-    IS(0, test.past);
-    IS(500000, test.length);
+    demand_stores(longest, 1, (edfvd_demand_test){.length = 500000});
 }
 
 static void demand_refuses(void) {
