@@ -3,13 +3,8 @@
 # repository's if none is named. The bytes of the library depend on the compiler and the linker in C; where those of SOURCES are not on
 # this machine, the calls that the two libraries offer are compared. A line says what differs, and the status is then 1.
 # usage: compare.sh [TREE]
-set -u
-unset CDPATH
-here=$(cd "$(dirname -- "$0")/.." && pwd) || exit 1
-. "$here/tools/usage.sh"
+. "$(dirname -- "$0")/tools.sh"
 takes 0 1 "$@"
-. "$here/sources.sh"
-. "$here/prebuilt/tools.sh"
 tree=${1:-$here}
 limit=3145728
 failed=0

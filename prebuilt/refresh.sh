@@ -3,14 +3,9 @@
 # digests of their sources (SOURCES) and the sums of all these files (SHA256SUMS). The program must be built from the sources that are
 # here, by the toolchain of KIT; c/build.sh is called, which proves and builds the library if it is not current.
 # usage: refresh.sh
-set -u
-unset CDPATH
-umask 022
-here=$(cd "$(dirname -- "$0")/.." && pwd) || exit 1
-. "$here/tools/usage.sh"
+. "$(dirname -- "$0")/tools.sh"
 takes 0 0 "$@"
-. "$here/sources.sh"
-. "$here/prebuilt/tools.sh"
+umask 022
 
 # refuse WHY: ends with nothing written
 refuse() {

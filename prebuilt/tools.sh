@@ -1,5 +1,10 @@
 # shellcheck shell=sh disable=SC2034
-# Sourced by the scripts of this folder.
+# Sourced by the scripts of this folder, before they do anything: $here is the repository's folder.
+set -u
+unset CDPATH
+here=$(cd "$(dirname -- "$0")/.." && pwd) || exit 1
+. "$here/tools/usage.sh"
+. "$here/sources.sh"
 
 # The files here that are not scripts, without SHA256SUMS, which has their sums.
 files='LICENSE-APACHE LICENSE-MIT SOURCES THIRD-PARTY-LICENSES edfvd libedfvd.so'
