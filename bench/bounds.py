@@ -115,7 +115,8 @@ def all_late():
 
 
 def spaced(per, count, end):
-    """Tasks for some processors, so many on each as load it, and jobs one after the other on each: released, served for two ticks, idle."""
+    """Tasks for COUNT processors, PER on each, which load it, and jobs one after the other on each: released, served for two ticks, idle.
+    """
     period, names = 128, [f't{place:06}' for place in range(per * count)]
     tasks = ''.join(task(name, 'low', period, period // per) for name in names)
     lines, size = ['task,release,need\n'], 18

@@ -341,7 +341,7 @@ class Costs(unittest.TestCase):
 
 
 class WrongProgram:
-    """A runner whose program answers each call by so many bytes of its files, so that each text is another one."""
+    """A runner whose program answers each call by the number of bytes of its files, so that each text is another one."""
 
     def run(self, command, contents, words):
         return 0, str(sum(map(len, contents))).encode(), b''

@@ -90,7 +90,7 @@ def open_at_once(name, flags):
 
 
 def bytes_in(name, most):
-    """The bytes of a file, of which there may be so many."""
+    """The bytes of a file, which may have `most` bytes and no more."""
     with io.BufferedReader(BoundedFile(name, most)) as file:
         return file.read(most + 1)
 
