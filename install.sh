@@ -22,7 +22,7 @@ state=nothing
 
 # refuse WHY [STATUS]: ends with nothing installed
 refuse() {
-    echo "install.sh: nothing was installed: $1" >&2
+    printf 'install.sh: nothing was installed: %s\n' "$1" >&2
     exit "${2:-1}"
 }
 
@@ -97,8 +97,8 @@ add_pages() {
     pages=
     for page in "$here/README.md" "$here/CHANGELOG.md" "$here/SECURITY.md" "$here"/docs/*.md "$here"/docs/*.svg; do
         name=${page#"$here/"}
-        # No page has a blank in its name; a file that has one is somebody's own.
-        case $name in *' '*) continue ;; esac
+        # No page has white space in its name; a file that has some is somebody's own.
+        case $name in *[[:space:]]*) continue ;; esac
         if [ -e "$page" ]; then pages="$pages $name"; fi
     done
     for page in $pages; do
@@ -228,7 +228,7 @@ clean() {
     fi
     rm -rf "$work"
     [ "$state" != installed ] || return 0
-    echo "$made" | while IFS= read -r folder; do
+    printf '%s' "$made" | while IFS= read -r folder; do
         if [ -n "$folder" ]; then rmdir "$folder" 2>/dev/null; fi
     done
 }
@@ -236,6 +236,10 @@ clean() {
 takes 1 1 "$@"
 prefix=$1
 [ -n "$prefix" ] || refuse 'the prefix is empty' 2
+# Folders are listed by lines.
+case $prefix in /*) whole=$prefix ;; *) whole=$PWD/$prefix ;; esac
+case $whole in *"
+"*) refuse 'the name of the prefix has a line break' 2 ;; esac
 if [ -e "$prefix" ] && ! [ -d "$prefix" ]; then
     refuse "$prefix is no folder"
 fi
@@ -249,10 +253,11 @@ write_beside
 rename_all
 clean
 
-echo "installed $prefix/bin/edfvd and $prefix/share/man/man1/edfvd.1"
-if [ -e "$here/c/out/libedfvd.a" ]; then echo "installed $prefix/include/edfvd.h, and the libraries in $prefix/lib"; fi
-echo "version, commit, kit and checksums are in $prefix/share/doc/edfvd/RELEASE"
+# A name may have a backslash, which `echo` of some shells would read.
+printf 'installed %s/bin/edfvd and %s/share/man/man1/edfvd.1\n' "$prefix" "$prefix"
+[ ! -e "$here/c/out/libedfvd.a" ] || printf 'installed %s/include/edfvd.h, and the libraries in %s/lib\n' "$prefix" "$prefix"
+printf 'version, commit, kit and checksums are in %s/share/doc/edfvd/RELEASE\n' "$prefix"
 case :$PATH: in
     *":$prefix/bin:"*) ;;
-    *) echo "$prefix/bin is not on the PATH" ;;
+    *) printf '%s/bin is not on the PATH\n' "$prefix" ;;
 esac

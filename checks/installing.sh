@@ -1,7 +1,7 @@
 #!/bin/sh
 # Tries install.sh in a copy of the tree: which files it installs, and their modes under three umasks; that a call which fails or is
-# interrupted leaves everything as it was; that it never writes through a link; and that the links of installed pages lead to installed
-# files.
+# interrupted leaves everything as it was, with its modes, owners, times and links; that it never writes through a link; and that the
+# links of installed pages lead to installed files. Whose the files are is tried by root alone, who can give them away.
 # usage: installing.sh
 . "$(dirname -- "$0")/../tools/usage.sh"
 takes 0 0 "$@"
@@ -9,9 +9,19 @@ cd "$(dirname -- "$0")/../examples" || exit 1
 . ../checks/copied_tree.sh
 released=share/doc/edfvd/RELEASE
 
-# files FOLDER: the files and folders in it with their modes and sums, without the folder's own name
+# files FOLDER: the files, folders and links in it with their modes, owners, sums and what the links lead to, without the folder's own name
 files() {
-    (cd "$1" && find . -printf '%m %y %p\n' | sort -k 3 && find . -type f -exec sha256sum {} + | sort -k 2)
+    (cd "$1" && find . -printf '%m %y %U:%G %p %l\n' | sort -k 4 && find . -type f -exec sha256sum {} + | sort -k 2)
+}
+
+# kept FOLDER: that, and when each file was written
+kept() {
+    files "$1" && (cd "$1" && find . -type f -printf '%T@ %p\n' | sort -k 2)
+}
+
+# is_root: whether files can be given to another user
+is_root() {
+    [ "$(id -u)" -eq 0 ]
 }
 
 # fails SAYS TOOLS COMMAND..: the command, which calls install.sh, ends with status 1 and this line on standard error
@@ -28,6 +38,14 @@ refused() {
     put_program
     tries 2 "$work/empty" 'usage: install.sh PREFIX' "$alone" "$tree/install.sh"
     tries 2 "$work/empty" 'the prefix is empty' "$alone" "$tree/install.sh" ''
+    two_lines="$work/two
+lines"
+    tries 2 "$work/empty" 'the name of the prefix has a line break' "$alone" "$tree/install.sh" "$two_lines"
+    mkdir "$two_lines"
+    # shellcheck disable=SC2016
+    tries 2 "$work/empty" 'the name of the prefix has a line break' "$alone" \
+        sh -c 'cd "$1" && exec "$2" prefix' sh "$two_lines" "$tree/install.sh"
+    holds 'nothing is made in a folder whose name has a line break' rmdir "$two_lines"
     fails "$tasks is no folder" "$alone" "$tree/install.sh" "$tasks"
 }
 
@@ -128,11 +146,13 @@ a[b](../crates/c.rt)
 the last
 END
     : >"$tree/docs/my own.md"
+    : >"$tree/docs/my
+own.md"
     tries 0 "$work/installed" '' "$alone" "$tree/install.sh" "$work/prefix"
     holds "a file of one's own is not installed" [ -z "$(find "$work/prefix" -name '*own*')" ]
     cp "$work/prefix/share/doc/edfvd/docs/MORE.md" "$work/out"
     judge 0 0 "$work/more" 'a page with links that lead out'
-    rm "$tree/docs/MORE.md" "$tree/docs/my own.md" "$work/prefix/share/doc/edfvd/docs/MORE.md"
+    rm "$tree/docs/MORE.md" "$tree/docs/my"*own.md "$work/prefix/share/doc/edfvd/docs/MORE.md"
 }
 
 # The C libraries are installed if they are there, and none that is older than its sources.
@@ -158,7 +178,7 @@ libraries() {
 # A relative prefix is one of the caller's folder, whatever CDPATH says, and a name may have blanks.
 names() {
     mkdir -p "$work/caller's folder" "$work/elsewhere/a prefix/b"
-    for name in 'a prefix/b' plain; do
+    for name in 'a prefix/b' plain 'a\nb\c'; do
         (cd "$work/caller's folder" && CDPATH=$work/elsewhere bounded env PATH="$alone" "$tree/install.sh" "$name") >"$work/text" 2>"$work/err"
         head -n 1 "$work/text" >"$work/out"
         where=$work/"caller's folder"/$name
@@ -194,6 +214,20 @@ planted() {
     judge 0 0 "$work/files_all" 'what is installed beside planted links'
 }
 
+# What is installed is the caller's, whosever the tree is, and so is what replaces another user's file.
+owned() {
+    is_root || return 0
+    chown -R 60606:60606 "$tree/man" "$tree/docs" "$tree/LICENSE-MIT" "$tree/c" "$built"
+    cp -R "$work/prefix" "$work/owned"
+    chown 60606:60606 "$work/owned/bin/edfvd" "$work/owned/share/doc/edfvd/LICENSE-MIT"
+    for where in owned new_owned; do
+        holds "install.sh from another user's tree to $where" bounded env PATH="$alone" "$tree/install.sh" "$work/$where"
+        find "$work/$where" ! -user root -o ! -group root >"$work/out"
+        judge 0 0 "$work/empty" "what is another user's in $where"
+    done
+    chown -R root:root "$tree"
+}
+
 # stopped SAYS: the call with the tool of $work/stopped fails with these words, and nothing changes: neither where nothing stood nor
 # where other files stood
 stopped() {
@@ -202,18 +236,27 @@ stopped() {
     holds "nothing is new where nothing stood, $2" [ ! -e "$work/new" ]
     : >"$work/calls"
     fails "$1" "$work/stopped:$alone" "$tree/install.sh" "$work/old"
-    files "$work/old" >"$work/out"
+    kept "$work/old" >"$work/out"
     judge 0 0 "$work/files_old" "what stood there before, $2"
+    : >"$work/calls"
+    fails "$1" "$work/stopped:$alone" "$tree/install.sh" "$work/new\nprefix"
+    holds "nothing is new at a name with a backslash, $2" [ ! -e "$work/new\nprefix" ]
 }
 
 # A call is interrupted or fails while it copies to the temporary folder, while it writes beside the places, and while it renames: at
-# the first file, at the last one, and between.
+# the first file, at the last one, and between; the last also where no file can have two names. Among the files that stood there are a
+# link that leads nowhere, one to another file, and one that is another user's.
 interrupted() {
     cp -R "$work/prefix" "$work/old"
     find "$work/old" -type f -exec sh -c 'echo old >>"$1"' sh {} \;
+    find "$work/old" -type f -exec touch -d '2 days ago' {} +
     rm "$work/old/share/doc/edfvd/RELEASE"
     echo mine >"$work/old/bin/mine"
-    files "$work/old" >"$work/files_old"
+    chmod 600 "$work/old/bin/edfvd"
+    ln -sf nowhere "$work/old/share/man/man1/edfvd.1"
+    ln -sf ../../../bin/mine "$work/old/share/doc/edfvd/LICENSE-MIT"
+    if is_root; then chown 60606:60606 "$work/old/share/doc/edfvd/LICENSE-APACHE"; fi
+    kept "$work/old" >"$work/files_old"
     count=$(find "$work/prefix" -type f | wc -l)
     # Each line is a tool, the number of its call at which the signal comes, and the signal.
     while read -r tool number signal; do
@@ -227,10 +270,18 @@ mv 1 INT
 mv 2 TERM
 mv $count INT
 END
-    for tool in cp mv; do
-        stand_in "$tool" $((count - 1)) 0
-        stopped '' "$tool fails at call $((count - 1))"
-    done
+    while read -r tool number; do
+        stand_in "$tool" "$number" 0
+        stopped '' "$tool fails at call $number"
+    done <<END
+cp $((count - 1))
+cp $((2 * count - 1))
+mv $((count - 1))
+mv $count
+END
+    printf '#!/bin/sh\nexit 1\n' >"$work/stopped/ln"
+    chmod +x "$work/stopped/ln"
+    stopped '' "mv fails at call $count, and ln always"
 }
 
 # A folder stands at the place of a file, or a file at that of a folder.
@@ -253,6 +304,15 @@ in_the_way() {
         files "$work/way" >"$work/out"
         judge 0 0 "$work/files_way" "what stood beside the file $name"
     done
+    # A link to a folder is one, too: a file that is renamed to it would go into the folder.
+    rm -rf "$work/way"
+    mkdir -p "$work/way/bin" "$work/elsewhere/folder"
+    ln -s "$work/elsewhere/folder" "$work/way/bin/edfvd"
+    files "$work/way" >"$work/files_way"
+    fails "$work/way/bin/edfvd is a folder" "$alone" "$tree/install.sh" "$work/way"
+    files "$work/way" >"$work/out"
+    judge 0 0 "$work/files_way" 'what stood beside a link to a folder'
+    holds 'nothing is in the folder that it leads to' rmdir "$work/elsewhere/folder"
 }
 
 refused
@@ -264,6 +324,7 @@ libraries
 files "$work/prefix" >"$work/files_all"
 names
 planted
+owned
 interrupted
 in_the_way
 # It needs nothing of the tree.
