@@ -5,7 +5,8 @@
 # installed needs glibc 2.34 or later, and neither this folder, nor the wrapper, nor the command rt. The prefix may be moved as a whole.
 # If c/build.sh has made the C libraries, they go to PREFIX/lib and PREFIX/include, with a file for pkg-config.
 # Either everything is installed or nothing is: each file is written beside its place first, and renamed when all of them are there.
-# After a fault or a signal everything is as it was before the call. The modes are 755 and 644, whatever the umask is.
+# After a fault or a signal everything is as it was before the call; only a call that is killed outright can leave files, whose names
+# begin with .edfvd. The modes are 755 and 644, whatever the umask is, for nothing in it is private.
 # usage: install.sh PREFIX
 #        as in install.sh ~/.local
 set -u

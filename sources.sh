@@ -29,7 +29,8 @@ crate_lines() {
 }
 
 # source_folders CRATE..: the folders with the code and the definitions of these crates and of those below them. Proofs are left out,
-# since a proof that is written in another way makes no other program.
+# since a proof that is written in another way makes no other program; the toolchain's version is left out, since what another
+# toolchain proves is proved too.
 source_folders() {
     crate_lines "$@" | while IFS=: read -r name _; do
         echo "crates/$name/src"
@@ -58,7 +59,8 @@ sources_digest() {
     ) | sha256sum | sed 's/ .*//'
 }
 
-# note_sources FILE DIGEST: notes that the file was built from sources with this digest
+# note_sources FILE DIGEST: notes that the file was built from sources with this digest. Whoever calls it knows the sources before and
+# after the build. A program that rt ci built has no note, and is taken if it is newer than its sources.
 note_sources() (
     cd "$here" || exit
     echo "$2 $(sha256sum <"$1" | sed 's/ .*//')" >"$1.sources.new" && mv -f "$1.sources.new" "$1.sources"
@@ -92,7 +94,8 @@ crates_of() {
     esac
 }
 
-# guards NAME: the files besides crates that the program or the library is made of
+# guards NAME: the files besides crates that the program or the library is made of. A change of c/build.sh is rarely one of the
+# library, but nobody has to decide which.
 guards() (
     [ "$1" = edfvd ] || { cd "$here" && ls c/*.c c/*.h c/build.sh; }
 )
@@ -106,7 +109,7 @@ digest_of() {
 }
 
 # is_prebuilt NAME: whether prebuilt/SOURCES says of this very file in prebuilt that it was built from the sources that are here, with
-# the toolchain of KIT and for this machine
+# the toolchain of KIT, with which anybody must be able to build it again, and for this machine
 is_prebuilt() (
     notes=$here/prebuilt/SOURCES
     line="$1 $(digest_of "$1") $(sha256sum <"$here/prebuilt/$1" | sed 's/ .*//')"
@@ -116,7 +119,8 @@ is_prebuilt() (
 
 # was_same NAME: whether nothing changed since prebuilt/NAME was last found to be of the sources that are here. The file
 # prebuilt/out/NAME.same has the paths that decide, and was written before they were read. Of these paths, and of what is in the folders
-# among them, none may have been written, renamed, made or removed since, whatever time a file says that it has. It begins with the
+# among them, none may have been written, renamed, made or removed since, by the time that the system keeps of changes (ctime), which
+# no copy and no touch sets back. It begins with the
 # number of the inode of prebuilt/NAME, which is another one in a copy of the tree: there the times of copied files say nothing.
 was_same() {
     (
@@ -128,7 +132,8 @@ was_same() {
 }
 
 # is_same NAME: compares the digest of the sources with that of prebuilt/NAME; if they are equal, notes it for was_same. The program
-# must also run on this machine: called without words, it has status 2.
+# must also run on this machine: called without words, it has status 2. One for another machine or a newer C library would otherwise
+# answer with a status that means something else.
 is_same() (
     [ -e "$here/prebuilt/$1" ] || exit
     name=$1
@@ -153,7 +158,7 @@ is_same() (
 )
 
 # choose: sets $chosen to the program of the sources that are here: the one that was built here, or else the prebuilt one. If neither
-# is of these sources, $why says why.
+# is of these sources, $why says why. What was built here comes first: its builder wants to try it.
 # shellcheck disable=SC2034
 choose() {
     chosen=$here/$built_program

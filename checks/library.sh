@@ -106,6 +106,7 @@ tried_in_c() {
     done
     has valgrind 'memcheck is'
     # The thread sanitizer sees the guards and the test: a call that did not see what the call before it has written would be a race.
+    # On x86-64 an exchange without an order compiles to the instruction of one with an order, so a run alone would show nothing.
     racing='-O1 -g -fsanitize=thread'
     # shellcheck disable=SC2086
     if [ -n "$sane" ] && echo 'int main(void) { return 0; }' | "$CC" -xc $racing - -o "$work/none" 2>/dev/null && "$work/none"; then

@@ -1,7 +1,9 @@
 """Reads the files of the tools, in bounded memory, with what each refusal says.
 
 A file is regular, or one that is open already: /dev/stdin or /dev/fd/N. Other names, as that of a pipe nobody writes to, might
-never end. A task file has at most 1 MiB, which is far more than 128 tasks need, and a trace at most as much as `judge` takes.
+never end. A task file has at most 1 MiB, which is far more than 128 tasks need, since tomllib takes some 300 bytes of memory for a
+byte. A trace has at most as much as `judge` takes; a record of it that is too long is refused with a message of its own, since to find
+the one of `judge` the whole record would have to be kept.
 What `judge` says of a file is said here too, with its status: 3 of a task file, 5 of a trace. A file that cannot be read, is no
 regular one or is too long is an OSError, which usage.py ends with status 7.
 """

@@ -9,7 +9,7 @@ from typing import NamedTuple
 from reading import MOST_IN_RECORD, RecordTooLong, excerpt, lines_of, records_in, text_file
 
 MOST_BYTES = 2 ** 31  # of a recording
-MOST_TIME = 2 ** 62  # in nanoseconds
+MOST_TIME = 2 ** 62  # in nanoseconds; two events that are far apart must not fill the memory
 
 # The processor is in brackets, with or without columns of flags after it; or it is before the flags, as `report -l` writes it.
 # A name has at most 64 characters, so that each line is matched in bounded time.

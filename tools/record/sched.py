@@ -34,8 +34,9 @@ from reading import Refusal, set_in
 from rules import DONE, DROPPED, HIGH, IDLE, KEPT, MORE, OVER, PLAIN, STOP, Job, Run, rule_of, trace_lines
 from usage import WrongWords, ends
 
+# Lines for each event come only when asked for: among a million of them the last line, on the moves, would not be seen.
 UNSERVED, EACH = '--unserved', '-v'
-MOST_TICKS = 10_000_000
+MOST_TICKS = 10_000_000  # nearly three hours in ticks of a millisecond
 NO_TASK = 0  # in the place of a task's number
 EQUAL = re.compile(rb'(.)\1*+', re.DOTALL)
 

@@ -34,7 +34,7 @@ from reading import bytes_in, excerpt
 from usage import WrongWords, ends, shown_name
 
 MOST_SETS = 10000  # of a call of the program
-MOST_PARTS = MOST_IN_PART = 1_000_000
+MOST_PARTS = MOST_IN_PART = 1_000_000  # parts are counted and listed one by one
 MOST_BYTES = 65536  # of a file in a study's folder, which has some twenty short lines at most
 PERCENTS = range(100, 201, 10)
 TASKS = range(2, 33)
