@@ -2,8 +2,9 @@
 """Compares what C declares with what the proved libraries export: each call, each struct and each number.
 
 No compiler sees both sides: where they differ, a call does what nobody proved. So this script reads the sources of
-crates/edfvd_c and crates/edfvd_ask_c, and edfvd.h, edfvd.c and edfvd_ask.c, and reports each difference. With the word
-`offsets` it writes C text instead, which a compiler refuses unless each struct of edfvd.h is laid out as the library's.
+crates/edfvd_c and crates/edfvd_ask_c, and edfvd.h, edfvd.c and edfvd_ask.c, and reports each difference. The statuses stand in
+edfvd.h: the proved sources, the words of edfvd_word and Python's Status must have them as they are there. With the word `offsets`
+it writes C text instead, which a compiler refuses unless each struct of edfvd.h is laid out as the library's.
 
 usage: declared.py [offsets]
 """
@@ -17,17 +18,22 @@ from pathlib import Path
 HERE = Path(__file__).resolve().parent
 CRATES = [HERE.parent / "crates" / name / "src" for name in ("edfvd_c", "edfvd_ask_c")]
 
-# The structs that cross, by their names on both sides.
+# The structs that cross. CScaleRange in Rattle is edfvd_scale_range in C.
 STRUCTS = {
-    "GivenTask": "edfvd_task", "Tested": "edfvd_test", "GivenDemand": "edfvd_demand_task",
-    "DemandTested": "edfvd_demand_test", "Answer": "edfvd_answer", "Seen": "edfvd_look",
-    "SeenRow": "edfvd_row", "Judged": "edfvd_verdict", "UnfitRow": "edfvd_unfit", "Watching": "edfvd_watch",
-    "LateJob": "edfvd_late", "Budgets": "edfvd_budgets", "Scales": "edfvd_scale_range",
+    "CTask", "CTest", "CDemandTask", "CDemandTest", "CAnswer", "CLook", "CRow", "CVerdict", "CUnfit", "CWatch", "CLate", "CBudgets",
+    "CScaleRange",
 }
-# The structs that C holds and never writes: a mark and a pointer, which edfvd.c and edfvd.h declare again.
-HANDLES = {"Scheduler": ("raw_scheduler", "edfvd_scheduler"), "MonitorHandle": ("raw_monitor", "edfvd_monitor")}
+
+
+def in_c(name: str) -> str:
+    """The name in C of a struct that crosses."""
+    return "edfvd" + re.sub(r"([A-Z])", r"_\1", name[1:]).lower()
+
+
+# The struct that C holds and never writes: a mark and a pointer, with which edfvd_handle of edfvd.h begins.
+HANDLE, HANDLES = "Handle", ("raw_handle", "edfvd_handle")
 NUMBERS = {"u8": "uint8_t", "u32": "uint32_t", "u64": "uint64_t", "usize": "size_t", "bool": "bool"}
-C_TYPES = {**NUMBERS, **STRUCTS, "Scheduler": "raw_scheduler", "MonitorHandle": "raw_monitor"}
+C_TYPES = {**NUMBERS, **{name: in_c(name) for name in STRUCTS}, HANDLE: "raw_handle"}
 BYTES = {"uint32_t": 4, "uint64_t": 8}
 
 
@@ -70,7 +76,7 @@ def rattle_structs(text: str) -> dict[str, list[tuple[str, str]]]:
     for name, fields in re.findall(r"#\[repr\(C\)\].*?pub struct (\w+) \{(.*?)\n\}", text, re.S):
         if name in STRUCTS:
             pairs = re.findall(r"^\s*pub (\w+): (\w+),", fields, re.M)
-            structs[STRUCTS[name]] = [(field, NUMBERS[kind]) for field, kind in pairs]
+            structs[in_c(name)] = [(field, NUMBERS[kind]) for field, kind in pairs]
     return structs
 
 
@@ -86,11 +92,11 @@ def c_structs(text: str) -> dict[str, list[tuple[str, str]]]:
 
 
 def rattle_handle(text: str, name: str) -> list[tuple[str, str]]:
-    """The fields of a struct that C holds, with those of the handle in it. An allocator has no bytes."""
+    """The fields of the struct that C holds, with those of the block in it. An allocator has no bytes."""
     found = re.search(rf"#\[repr\(C\)\][^{{]*?pub struct {name} \{{(.*?)\n\}}", text, re.S)
     fields = []
     for field, kind in re.findall(r"^\s*(?:pub )?(\w+): ([*\w ]+),", found[1] if found else "", re.M):
-        if kind == "Handle":
+        if kind == "Block":
             fields += rattle_handle(text, kind)
         elif kind != "Global":
             fields.append((field, "void *" if kind == "*mut u8" else NUMBERS[kind]))
@@ -98,19 +104,16 @@ def rattle_handle(text: str, name: str) -> list[tuple[str, str]]:
 
 
 def c_handle(text: str, name: str) -> list[tuple[str, str]]:
-    """The fields as C declares them: those of the struct at the beginning, if there is one."""
-    found = re.search(rf"struct {name} \{{\s*(?:struct \{{)?(.*?)\}}", text, re.S)
+    """The fields of the handle, as C declares them."""
+    found = re.search(rf"struct {name} \{{(.*?)\}}", text, re.S)
     return [(field, kind) for kind, field in re.findall(r"(\w+_t|void \*)\s?(\w+);", found[1] if found else "")]
 
 
 def handle_faults(rattle: str, c_text: str) -> list[str]:
-    """The structs that C holds and that differ on the two sides."""
-    faults = []
-    for name, twins in HANDLES.items():
-        fields = rattle_handle(rattle, name)
-        faults += [f"{twin}: {fields} in Rattle, {c_handle(c_text, twin)} in C" for twin in twins
-                   if not fields or c_handle(c_text, twin) != fields]
-    return faults
+    """The handle, if it does not begin alike on the two sides."""
+    fields = rattle_handle(rattle, HANDLE)
+    return [f"{twin}: {fields} in Rattle, {c_handle(c_text, twin)} in C" for twin in HANDLES
+            if not fields or c_handle(c_text, twin)[: len(fields)] != fields]
 
 
 def offsets(fields: list[tuple[str, str]]) -> tuple[list[tuple[str, int, int]], int]:
@@ -139,6 +142,25 @@ def numbers(text: str) -> dict[str, dict[str, str]]:
     }
 
 
+def status_faults(header: str, guards: str, python: str) -> list[str]:
+    """The statuses of edfvd.h that edfvd_word or Python has not, or has otherwise, and those that edfvd.h has not."""
+    body = re.search(r"typedef enum edfvd_status \{(.*?)\n\} edfvd_status;", header, re.S)
+    statuses = re.findall(r"^    EDFVD_(\w+) = (\d+)", body[1] if body else "", re.M)
+    cases = re.findall(r'case EDFVD_(\w+): return "([^"]+)";', guards)
+    members = re.search(r"class Status\(enum\.IntEnum\):(.*?)\n\n\n", python, re.S)
+    known = re.findall(r"^    (\w+) = (\d+)$", members[1] if members else "", re.M)
+    faults = []
+    if not statuses or len({number for _, number in statuses}) != len(statuses):
+        faults.append("two statuses of edfvd.h have one number, or there is none")
+    for name in sorted({name for name, _ in statuses} ^ {name for name, _ in cases}):
+        faults.append(f"status {name}: edfvd.h and edfvd_word do not both have it")
+    words = [word for _, word in cases]
+    faults += [f"status {name}: another status has its words, {word}" for name, word in cases if words.count(word) > 1]
+    for name, number in sorted({pair for pair in statuses if pair[0] != "OK"} ^ set(known)):
+        faults.append(f"status {name} = {number}: edfvd.h and Status of Python do not both have it")
+    return faults
+
+
 def main() -> int:
     if sys.argv[1:] not in ([], ["offsets"]):
         print(__doc__.rsplit("\n\n", 1)[1], end="", file=sys.stderr)
@@ -161,19 +183,20 @@ def main() -> int:
     ours, theirs = exported(rattle), declared(guards)
     faults += [f"{name}: {ours.get(name)} is exported, {theirs.get(name)} declared"
                for name in sorted(ours.keys() | theirs.keys()) if ours.get(name) != theirs.get(name)]
-    in_c = c_structs(header)
-    faults += [f"{name}: {pairs} in Rattle, {in_c.get(name)} in C" for name, pairs in fields.items() if in_c.get(name) != pairs]
+    of_header = c_structs(header)
+    faults += [f"{name}: {pairs} in Rattle, {of_header.get(name)} in C" for name, pairs in fields.items() if of_header.get(name) != pairs]
     faults += handle_faults(rattle, guards + header)
     words = dict(re.findall(r"\bEDFVD_(\w+) = (\d+)", header))
     known = numbers(rattle)
     faults += [f"{kind} {name}: {number} in Rattle, {words.get(name)} in C"
                for kind, names in known.items() for name, number in names.items() if words.get(name) != number]
+    faults += status_faults(header, guards, (HERE.parent / "python" / "edfvd" / "_errors.py").read_text())
     if not ours or len(fields) != len(STRUCTS) or not all(known.values()):
         faults.append("an export, a struct or a number was not found")
     for fault in faults:
         print(f"declared.py: {fault}", file=sys.stderr)
     count = sum(len(names) for names in known.values())
-    print(f"{len(ours)} calls, {len(fields) + len(HANDLES)} structs and {count} numbers: {len(faults)} differ")
+    print(f"{len(ours)} calls, {len(fields) + 1} structs and {count} numbers: {len(faults)} differ")
     return 1 if faults else 0
 
 

@@ -2,15 +2,10 @@
 #include "edfvd.h"
 
 /* The exports of crates/edfvd_c. No compiler compares these lines with its sources; declared.py does. */
-typedef struct raw_scheduler {
+typedef struct raw_handle {
     uint64_t mark;
     void *at;
-} raw_scheduler;
-
-typedef struct raw_monitor {
-    uint64_t mark;
-    void *at;
-} raw_monitor;
+} raw_handle;
 
 extern uint32_t edfvd_raw_check(const edfvd_task *tasks, size_t count, edfvd_test *test);
 extern uint32_t edfvd_raw_stretch(const edfvd_task *tasks, size_t count, uint32_t *percent, uint32_t *task);
@@ -24,23 +19,25 @@ extern uint32_t edfvd_raw_judge(const edfvd_task *tasks, size_t count, const edf
 extern uint32_t edfvd_raw_demand(const edfvd_demand_task *tasks, size_t count, edfvd_demand_test *test);
 extern uint32_t edfvd_raw_partition(const edfvd_task *tasks, size_t count, uint32_t processors, uint32_t *on, size_t length,
                                     uint32_t *task);
-extern uint32_t edfvd_raw_open(raw_scheduler *s, const edfvd_task *tasks, size_t count, uint32_t places, uint32_t *task);
-extern uint32_t edfvd_raw_open_endless(raw_scheduler *s, const edfvd_task *tasks, size_t count, uint32_t *task);
-extern uint32_t edfvd_raw_close(raw_scheduler *s);
-extern uint32_t edfvd_raw_release(raw_scheduler *s, uint32_t task, edfvd_answer *answer);
-extern uint32_t edfvd_raw_grant(raw_scheduler *s, uint32_t task, edfvd_answer *answer);
-extern uint32_t edfvd_raw_outcome(raw_scheduler *s, uint32_t task, uint32_t count, bool done, edfvd_answer *answer);
-extern uint32_t edfvd_raw_idle(raw_scheduler *s, edfvd_answer *answer);
-extern uint32_t edfvd_raw_look(raw_scheduler *s, edfvd_look *look);
-extern uint32_t edfvd_raw_row(raw_scheduler *s, uint64_t place, edfvd_row *row);
-extern uint32_t edfvd_raw_monitor_open(raw_monitor *m, const edfvd_task *tasks, size_t count, uint64_t p, uint64_t q,
+extern uint32_t edfvd_raw_scheduler_open(raw_handle *scheduler, const edfvd_task *tasks, size_t count, uint32_t places,
+                                         uint32_t *task);
+extern uint32_t edfvd_raw_scheduler_open_endless(raw_handle *scheduler, const edfvd_task *tasks, size_t count, uint32_t *task);
+extern uint32_t edfvd_raw_scheduler_close(raw_handle *scheduler);
+extern uint32_t edfvd_raw_scheduler_release(raw_handle *scheduler, uint32_t task, edfvd_answer *answer);
+extern uint32_t edfvd_raw_scheduler_grant(raw_handle *scheduler, uint32_t task, edfvd_answer *answer);
+extern uint32_t edfvd_raw_scheduler_outcome(raw_handle *scheduler, uint32_t task, uint32_t count, bool done,
+                                            edfvd_answer *answer);
+extern uint32_t edfvd_raw_scheduler_idle(raw_handle *scheduler, edfvd_answer *answer);
+extern uint32_t edfvd_raw_scheduler_look(raw_handle *scheduler, edfvd_look *look);
+extern uint32_t edfvd_raw_scheduler_row(raw_handle *scheduler, uint64_t place, edfvd_row *row);
+extern uint32_t edfvd_raw_monitor_open(raw_handle *monitor, const edfvd_task *tasks, size_t count, uint64_t p, uint64_t q,
                                        uint32_t *task);
-extern uint32_t edfvd_raw_monitor_close(raw_monitor *m);
-extern uint32_t edfvd_raw_monitor_observe(raw_monitor *m, const edfvd_row *row, uint32_t length, edfvd_unfit *unfit);
-extern uint32_t edfvd_raw_monitor_would_fit(raw_monitor *m, const edfvd_row *row, uint32_t length, edfvd_unfit *unfit);
-extern uint32_t edfvd_raw_monitor_late(raw_monitor *m, uint64_t since, edfvd_late *jobs, size_t length, uint64_t *many);
-extern uint32_t edfvd_raw_monitor_verdict(raw_monitor *m, edfvd_verdict *verdict);
-extern uint32_t edfvd_raw_monitor_look(raw_monitor *m, edfvd_watch *watch);
+extern uint32_t edfvd_raw_monitor_close(raw_handle *monitor);
+extern uint32_t edfvd_raw_monitor_observe(raw_handle *monitor, const edfvd_row *row, uint32_t length, edfvd_unfit *unfit);
+extern uint32_t edfvd_raw_monitor_would_fit(raw_handle *monitor, const edfvd_row *row, uint32_t length, edfvd_unfit *unfit);
+extern uint32_t edfvd_raw_monitor_late(raw_handle *monitor, uint64_t since, edfvd_late *jobs, size_t length, uint64_t *many);
+extern uint32_t edfvd_raw_monitor_verdict(raw_handle *monitor, edfvd_verdict *verdict);
+extern uint32_t edfvd_raw_monitor_look(raw_handle *monitor, edfvd_watch *watch);
 
 _Static_assert(sizeof(edfvd_task) == 16, "edfvd_task");
 _Static_assert(sizeof(edfvd_test) == 80, "edfvd_test");
@@ -55,10 +52,10 @@ _Static_assert(sizeof(edfvd_verdict) == 32, "edfvd_verdict");
 _Static_assert(sizeof(edfvd_unfit) == 16, "edfvd_unfit");
 _Static_assert(sizeof(edfvd_watch) == 32, "edfvd_watch");
 _Static_assert(sizeof(edfvd_late) == 16, "edfvd_late");
-_Static_assert(sizeof(raw_scheduler) == sizeof(((edfvd_scheduler *)0)->held), "held");
-_Static_assert(offsetof(edfvd_scheduler, held) == 0 && offsetof(raw_scheduler, at) == 8, "held");
-_Static_assert(sizeof(raw_monitor) == sizeof(((edfvd_monitor *)0)->held), "held");
-_Static_assert(offsetof(edfvd_monitor, held) == 0 && offsetof(raw_monitor, at) == 8, "held");
+_Static_assert(offsetof(edfvd_handle, mark) == offsetof(raw_handle, mark), "mark");
+_Static_assert(offsetof(edfvd_handle, at) == offsetof(raw_handle, at), "at");
+_Static_assert(offsetof(edfvd_handle, self) >= sizeof(raw_handle), "a handle begins with what the library has of it");
+_Static_assert(sizeof(edfvd_scheduler) == sizeof(edfvd_handle) && sizeof(edfvd_monitor) == sizeof(edfvd_handle), "a handle");
 _Static_assert(sizeof(void *) == 8 && sizeof(size_t) == 8, "a machine of 64 bits");
 
 /* What is passed for no elements: a slice of the library is never null, even if it is empty. */
@@ -68,32 +65,40 @@ static const edfvd_row no_rows[1];
 
 static const edfvd_task *some(const edfvd_task *tasks, size_t count) { return count == 0 ? no_tasks : tasks; }
 
-static raw_scheduler *raw(edfvd_scheduler *s) { return (raw_scheduler *)(void *)&s->held; }
+/* The handle of a scheduler and that of a monitor; null of a null pointer. */
+static edfvd_handle *of_scheduler(edfvd_scheduler *s) { return s == NULL ? NULL : &s->handle; }
+
+static edfvd_handle *of_monitor(edfvd_monitor *m) { return m == NULL ? NULL : &m->handle; }
+
+static raw_handle *raw(edfvd_handle *h) { return (raw_handle *)(void *)h; }
 
 /* Enters a call, unless another thread is in one with this scheduler or monitor, or it is not where it was opened. */
-static edfvd_status enter_at(const void *here, const void *const *self, uint32_t *busy) {
-    if (__atomic_exchange_n(busy, 1, __ATOMIC_ACQUIRE) != 0) return EDFVD_BUSY;
-    if (*self != NULL && *self != here) {
-        __atomic_store_n(busy, 0, __ATOMIC_RELEASE);
+static edfvd_status enter(edfvd_handle *h) {
+    if (h == NULL) return EDFVD_NULL;
+    if (__atomic_exchange_n(&h->busy, 1, __ATOMIC_ACQUIRE) != 0) return EDFVD_BUSY;
+    if (h->self != NULL && h->self != h) {
+        __atomic_store_n(&h->busy, 0, __ATOMIC_RELEASE);
         return EDFVD_MOVED;
     }
     return EDFVD_OK;
 }
 
-static edfvd_status leave_at(uint32_t *busy, uint32_t status) {
-    __atomic_store_n(busy, 0, __ATOMIC_RELEASE);
+static edfvd_status leave(edfvd_handle *h, uint32_t status) {
+    __atomic_store_n(&h->busy, 0, __ATOMIC_RELEASE);
     return (edfvd_status)status;
 }
 
-static edfvd_status enter(edfvd_scheduler *s) { return s == NULL ? EDFVD_NULL : enter_at(s, &s->self, &s->busy); }
+/* Leaves the call that opened it: from now on it stays here. */
+static edfvd_status leave_opened(edfvd_handle *h, uint32_t status) {
+    if (status == EDFVD_OK) h->self = h;
+    return leave(h, status);
+}
 
-static edfvd_status leave(edfvd_scheduler *s, uint32_t status) { return leave_at(&s->busy, status); }
-
-static raw_monitor *raw_of(edfvd_monitor *m) { return (raw_monitor *)(void *)&m->held; }
-
-static edfvd_status enter_monitor(edfvd_monitor *m) { return m == NULL ? EDFVD_NULL : enter_at(m, &m->self, &m->busy); }
-
-static edfvd_status leave_monitor(edfvd_monitor *m, uint32_t status) { return leave_at(&m->busy, status); }
+/* Leaves the call that closed it: it may be moved again. */
+static edfvd_status leave_closed(edfvd_handle *h, uint32_t status) {
+    if (status == EDFVD_OK) h->self = NULL;
+    return leave(h, status);
+}
 
 edfvd_status edfvd_check(const edfvd_task *tasks, size_t count, edfvd_test *test) {
     if (test == NULL || (tasks == NULL && count != 0)) return EDFVD_NULL;
@@ -156,131 +161,142 @@ edfvd_status edfvd_judge(const edfvd_task *tasks, size_t count, const edfvd_row 
                                          verdict);
 }
 
-edfvd_status edfvd_open(edfvd_scheduler *s, const edfvd_task *tasks, size_t count, uint32_t places, uint32_t *task) {
+edfvd_status edfvd_scheduler_open(edfvd_scheduler *s, const edfvd_task *tasks, size_t count, uint32_t places, uint32_t *task) {
     uint32_t unread = 0;
     if (tasks == NULL && count != 0) return EDFVD_NULL;
-    edfvd_status entered = enter(s);
+    edfvd_handle *h = of_scheduler(s);
+    edfvd_status entered = enter(h);
     if (entered != EDFVD_OK) return entered;
-    uint32_t status = edfvd_raw_open(raw(s), some(tasks, count), count, places, task == NULL ? &unread : task);
-    if (status == EDFVD_OK) s->self = s;
-    return leave(s, status);
+    uint32_t status = edfvd_raw_scheduler_open(raw(h), some(tasks, count), count, places, task == NULL ? &unread : task);
+    return leave_opened(h, status);
 }
 
-edfvd_status edfvd_open_endless(edfvd_scheduler *s, const edfvd_task *tasks, size_t count, uint32_t *task) {
+edfvd_status edfvd_scheduler_open_endless(edfvd_scheduler *s, const edfvd_task *tasks, size_t count, uint32_t *task) {
     uint32_t unread = 0;
     if (tasks == NULL && count != 0) return EDFVD_NULL;
-    edfvd_status entered = enter(s);
+    edfvd_handle *h = of_scheduler(s);
+    edfvd_status entered = enter(h);
     if (entered != EDFVD_OK) return entered;
-    uint32_t status = edfvd_raw_open_endless(raw(s), some(tasks, count), count, task == NULL ? &unread : task);
-    if (status == EDFVD_OK) s->self = s;
-    return leave(s, status);
+    uint32_t status = edfvd_raw_scheduler_open_endless(raw(h), some(tasks, count), count, task == NULL ? &unread : task);
+    return leave_opened(h, status);
 }
 
-edfvd_status edfvd_close(edfvd_scheduler *s) {
-    edfvd_status entered = enter(s);
+edfvd_status edfvd_scheduler_close(edfvd_scheduler *s) {
+    edfvd_handle *h = of_scheduler(s);
+    edfvd_status entered = enter(h);
     if (entered != EDFVD_OK) return entered;
-    uint32_t status = edfvd_raw_close(raw(s));
-    if (status == EDFVD_OK) s->self = NULL;
-    return leave(s, status);
+    uint32_t status = edfvd_raw_scheduler_close(raw(h));
+    return leave_closed(h, status);
 }
 
-edfvd_status edfvd_release(edfvd_scheduler *s, uint32_t task, edfvd_answer *answer) {
+edfvd_status edfvd_scheduler_release(edfvd_scheduler *s, uint32_t task, edfvd_answer *answer) {
     edfvd_answer unread;
-    edfvd_status entered = enter(s);
+    edfvd_handle *h = of_scheduler(s);
+    edfvd_status entered = enter(h);
     if (entered != EDFVD_OK) return entered;
-    return leave(s, edfvd_raw_release(raw(s), task, answer == NULL ? &unread : answer));
+    return leave(h, edfvd_raw_scheduler_release(raw(h), task, answer == NULL ? &unread : answer));
 }
 
-edfvd_status edfvd_grant(edfvd_scheduler *s, uint32_t task, edfvd_answer *answer) {
+edfvd_status edfvd_scheduler_grant(edfvd_scheduler *s, uint32_t task, edfvd_answer *answer) {
     edfvd_answer unread;
-    edfvd_status entered = enter(s);
+    edfvd_handle *h = of_scheduler(s);
+    edfvd_status entered = enter(h);
     if (entered != EDFVD_OK) return entered;
-    return leave(s, edfvd_raw_grant(raw(s), task, answer == NULL ? &unread : answer));
+    return leave(h, edfvd_raw_scheduler_grant(raw(h), task, answer == NULL ? &unread : answer));
 }
 
-edfvd_status edfvd_outcome(edfvd_scheduler *s, uint32_t task, uint32_t count, bool done, edfvd_answer *answer) {
+edfvd_status edfvd_scheduler_outcome(edfvd_scheduler *s, uint32_t task, uint32_t count, bool done, edfvd_answer *answer) {
     edfvd_answer unread;
-    edfvd_status entered = enter(s);
+    edfvd_handle *h = of_scheduler(s);
+    edfvd_status entered = enter(h);
     if (entered != EDFVD_OK) return entered;
-    return leave(s, edfvd_raw_outcome(raw(s), task, count, done, answer == NULL ? &unread : answer));
+    return leave(h, edfvd_raw_scheduler_outcome(raw(h), task, count, done, answer == NULL ? &unread : answer));
 }
 
-edfvd_status edfvd_idle(edfvd_scheduler *s, edfvd_answer *answer) {
+edfvd_status edfvd_scheduler_idle(edfvd_scheduler *s, edfvd_answer *answer) {
     edfvd_answer unread;
-    edfvd_status entered = enter(s);
+    edfvd_handle *h = of_scheduler(s);
+    edfvd_status entered = enter(h);
     if (entered != EDFVD_OK) return entered;
-    return leave(s, edfvd_raw_idle(raw(s), answer == NULL ? &unread : answer));
+    return leave(h, edfvd_raw_scheduler_idle(raw(h), answer == NULL ? &unread : answer));
 }
 
-edfvd_status edfvd_peek(edfvd_scheduler *s, edfvd_look *look) {
+edfvd_status edfvd_scheduler_look(edfvd_scheduler *s, edfvd_look *look) {
     if (look == NULL) return EDFVD_NULL;
-    edfvd_status entered = enter(s);
+    edfvd_handle *h = of_scheduler(s);
+    edfvd_status entered = enter(h);
     if (entered != EDFVD_OK) return entered;
-    return leave(s, edfvd_raw_look(raw(s), look));
+    return leave(h, edfvd_raw_scheduler_look(raw(h), look));
 }
 
-edfvd_status edfvd_row_at(edfvd_scheduler *s, uint64_t number, edfvd_row *row) {
+edfvd_status edfvd_scheduler_row(edfvd_scheduler *s, uint64_t number, edfvd_row *row) {
     if (row == NULL) return EDFVD_NULL;
-    edfvd_status entered = enter(s);
+    edfvd_handle *h = of_scheduler(s);
+    edfvd_status entered = enter(h);
     if (entered != EDFVD_OK) return entered;
-    return leave(s, edfvd_raw_row(raw(s), number, row));
+    return leave(h, edfvd_raw_scheduler_row(raw(h), number, row));
 }
 
 edfvd_status edfvd_monitor_open(edfvd_monitor *m, const edfvd_task *tasks, size_t count, uint64_t p, uint64_t q,
                                 uint32_t *task) {
     uint32_t unread = 0;
     if (tasks == NULL && count != 0) return EDFVD_NULL;
-    edfvd_status entered = enter_monitor(m);
+    edfvd_handle *h = of_monitor(m);
+    edfvd_status entered = enter(h);
     if (entered != EDFVD_OK) return entered;
-    uint32_t status = edfvd_raw_monitor_open(raw_of(m), some(tasks, count), count, numerator(p, q), q,
+    uint32_t status = edfvd_raw_monitor_open(raw(h), some(tasks, count), count, numerator(p, q), q,
                                              task == NULL ? &unread : task);
-    if (status == EDFVD_OK) m->self = m;
-    return leave_monitor(m, status);
+    return leave_opened(h, status);
 }
 
 edfvd_status edfvd_monitor_close(edfvd_monitor *m) {
-    edfvd_status entered = enter_monitor(m);
+    edfvd_handle *h = of_monitor(m);
+    edfvd_status entered = enter(h);
     if (entered != EDFVD_OK) return entered;
-    uint32_t status = edfvd_raw_monitor_close(raw_of(m));
-    if (status == EDFVD_OK) m->self = NULL;
-    return leave_monitor(m, status);
+    uint32_t status = edfvd_raw_monitor_close(raw(h));
+    return leave_closed(h, status);
 }
 
 edfvd_status edfvd_monitor_observe(edfvd_monitor *m, const edfvd_row *row, uint32_t times, edfvd_unfit *unfit) {
     edfvd_unfit unread;
     if (row == NULL) return EDFVD_NULL;
-    edfvd_status entered = enter_monitor(m);
+    edfvd_handle *h = of_monitor(m);
+    edfvd_status entered = enter(h);
     if (entered != EDFVD_OK) return entered;
-    return leave_monitor(m, edfvd_raw_monitor_observe(raw_of(m), row, times, unfit == NULL ? &unread : unfit));
+    return leave(h, edfvd_raw_monitor_observe(raw(h), row, times, unfit == NULL ? &unread : unfit));
 }
 
 edfvd_status edfvd_monitor_would_fit(edfvd_monitor *m, const edfvd_row *row, uint32_t times, edfvd_unfit *unfit) {
     if (row == NULL || unfit == NULL) return EDFVD_NULL;
-    edfvd_status entered = enter_monitor(m);
+    edfvd_handle *h = of_monitor(m);
+    edfvd_status entered = enter(h);
     if (entered != EDFVD_OK) return entered;
-    return leave_monitor(m, edfvd_raw_monitor_would_fit(raw_of(m), row, times, unfit));
+    return leave(h, edfvd_raw_monitor_would_fit(raw(h), row, times, unfit));
 }
 
-edfvd_status edfvd_monitor_late(edfvd_monitor *m, uint64_t since, edfvd_late *jobs, size_t room, uint64_t *count) {
+edfvd_status edfvd_monitor_late(edfvd_monitor *m, uint64_t since, edfvd_late *jobs, size_t capacity, uint64_t *count) {
     edfvd_late none[1];
-    if (count == NULL || (jobs == NULL && room != 0)) return EDFVD_NULL;
-    edfvd_status entered = enter_monitor(m);
+    if (count == NULL || (jobs == NULL && capacity != 0)) return EDFVD_NULL;
+    edfvd_handle *h = of_monitor(m);
+    edfvd_status entered = enter(h);
     if (entered != EDFVD_OK) return entered;
-    return leave_monitor(m, edfvd_raw_monitor_late(raw_of(m), since, room == 0 ? none : jobs, room, count));
+    return leave(h, edfvd_raw_monitor_late(raw(h), since, capacity == 0 ? none : jobs, capacity, count));
 }
 
 edfvd_status edfvd_monitor_verdict(edfvd_monitor *m, edfvd_verdict *verdict) {
     if (verdict == NULL) return EDFVD_NULL;
-    edfvd_status entered = enter_monitor(m);
+    edfvd_handle *h = of_monitor(m);
+    edfvd_status entered = enter(h);
     if (entered != EDFVD_OK) return entered;
-    return leave_monitor(m, edfvd_raw_monitor_verdict(raw_of(m), verdict));
+    return leave(h, edfvd_raw_monitor_verdict(raw(h), verdict));
 }
 
-edfvd_status edfvd_monitor_peek(edfvd_monitor *m, edfvd_watch *watch) {
+edfvd_status edfvd_monitor_look(edfvd_monitor *m, edfvd_watch *watch) {
     if (watch == NULL) return EDFVD_NULL;
-    edfvd_status entered = enter_monitor(m);
+    edfvd_handle *h = of_monitor(m);
+    edfvd_status entered = enter(h);
     if (entered != EDFVD_OK) return entered;
-    return leave_monitor(m, edfvd_raw_monitor_look(raw_of(m), watch));
+    return leave(h, edfvd_raw_monitor_look(raw(h), watch));
 }
 
 const char *edfvd_word(edfvd_status status) {
@@ -307,14 +323,14 @@ const char *edfvd_word(edfvd_status status) {
     case EDFVD_NOT_OUT: return "no tick of this job is in progress";
     case EDFVD_PENDING: return "a job is pending";
     case EDFVD_NO_ROW: return "no such row";
-    case EDFVD_NO_ROOM: return "admitted at no percentage";
+    case EDFVD_NO_PERCENTAGE: return "admitted at no percentage";
     case EDFVD_NO_PROCESSOR: return "fits on no processor";
     case EDFVD_GONE: return "the row is no longer kept";
     case EDFVD_NULL: return "a null pointer";
     case EDFVD_MOVED: return "copied or moved while open";
     case EDFVD_BUSY: return "another thread is in a call";
     case EDFVD_ARGUMENT: return "a number out of range";
-    case EDFVD_ROOM: return "the buffer is too small";
+    case EDFVD_SHORT_BUFFER: return "the buffer is too small";
     case EDFVD_THREADS: return "the command starts threads";
     }
     return "an unknown status";

@@ -55,20 +55,20 @@ typedef enum edfvd_status {
     EDFVD_OPEN = 13,           /* the scheduler or monitor is open already */
     EDFVD_RUNNING = 20,        /* a tick of the task's job is in progress: its outcome comes first */
     EDFVD_TOO_SOON = 21,       /* answer.at is the first tick at which the task may release again */
-    EDFVD_FULL = 22,           /* there is no room for another row, or no number for another job of the task */
+    EDFVD_FULL = 22,           /* no place is left for another row, or no number for another job of the task */
     EDFVD_TICK_OUT = 23,       /* a tick of the job is in progress: its outcome comes first */
     EDFVD_NOT_CHOSEN = 24,     /* another job is the chosen one; task 0 if none is pending */
     EDFVD_NOT_OUT = 25,        /* no tick of this job is in progress; the job is the one with a tick, or task 0 */
     EDFVD_PENDING = 26,        /* the job is pending, so the tick is not idle */
     EDFVD_NO_ROW = 27,         /* the scheduler has no row of this number yet */
-    EDFVD_NO_ROOM = 28,        /* the published test admits the set at no percentage */
+    EDFVD_NO_PERCENTAGE = 28,  /* the published test admits the set at no percentage */
     EDFVD_NO_PROCESSOR = 29,   /* the task fits on none of the processors */
     EDFVD_GONE = 30,           /* the row is older than those that a scheduler without an end keeps */
     EDFVD_NULL = 40,           /* a pointer is null */
     EDFVD_MOVED = 41,          /* the scheduler or monitor was copied or moved after it was opened */
     EDFVD_BUSY = 42,           /* another thread is in a call with this scheduler or monitor */
     EDFVD_ARGUMENT = 43,       /* a number is outside the range that the call states */
-    EDFVD_ROOM = 44,           /* the buffer or array is too small; the length that it needs is stored */
+    EDFVD_SHORT_BUFFER = 44,   /* the buffer or array is too short; the length that it needs is stored */
     EDFVD_THREADS = 45         /* the command starts threads, which a library does not: soak, live, runall */
 } edfvd_status;
 
@@ -119,7 +119,7 @@ edfvd_status edfvd_check(const edfvd_task *tasks, size_t count, edfvd_test *test
  * admits the set if each high budget is the low one, and at 1 percent no longer. With any other status `percent` gets 0, too.
  * `task` gets the task of a refusal, or 0, and may be null.
  *
- * Statuses: EDFVD_NO_ROOM if there is no such percentage, the refusals of a set, EDFVD_PERIODS, EDFVD_MEMORY.
+ * Statuses: EDFVD_NO_PERCENTAGE if there is no such percentage, the refusals of a set, EDFVD_PERIODS, EDFVD_MEMORY.
  */
 edfvd_status edfvd_stretch(const edfvd_task *tasks, size_t count, uint32_t *percent, uint32_t *task);
 
@@ -225,20 +225,23 @@ edfvd_status edfvd_demand(const edfvd_demand_task *tasks, size_t count, edfvd_de
 
 /* ---- A scheduler ---- */
 
-/*
- * A scheduler, open or closed. Begin with EDFVD_NONE, or all bytes 0, which is a closed one. While it is open it must not be
- * copied, moved or written by you; edfvd_close ends that.
- */
-typedef struct edfvd_scheduler {
-    struct {
-        uint64_t mark;
-        void *at;
-    } held;
+/* What a scheduler and a monitor are made of. You give it zeros before you open it, and neither read nor write it after. */
+typedef struct edfvd_handle {
+    uint64_t mark;
+    void *at;
     const void *self;
     uint32_t busy;
+} edfvd_handle;
+
+/*
+ * A scheduler, open or closed. Begin with EDFVD_NONE, or all bytes 0, which is a closed one. While it is open it must not be
+ * copied, moved or written by you; edfvd_scheduler_close ends that.
+ */
+typedef struct edfvd_scheduler {
+    edfvd_handle handle;
 } edfvd_scheduler;
 
-#define EDFVD_NONE {{0, NULL}, NULL, 0}
+#define EDFVD_NONE {{0, NULL, NULL, 0}}
 
 /* What came of an event, and what a row records. */
 typedef enum edfvd_event {
@@ -284,20 +287,20 @@ typedef struct edfvd_row {
  *
  * Statuses: EDFVD_OPEN, the refusals of a set, EDFVD_PERIODS, EDFVD_NOT_ADMITTED, EDFVD_MEMORY.
  */
-edfvd_status edfvd_open(edfvd_scheduler *s, const edfvd_task *tasks, size_t count, uint32_t places, uint32_t *task);
+edfvd_status edfvd_scheduler_open(edfvd_scheduler *s, const edfvd_task *tasks, size_t count, uint32_t places, uint32_t *task);
 
 /*
- * Opens a scheduler without an end: as edfvd_open, but it keeps the latest 256 rows alone, and its memory depends on the
- * number of tasks alone. An event makes at most one row more than there are tasks, so that is at most 129: if you read the
- * rows after each event, from the `rows` of the edfvd_peek before it on, you get them all. Every other call with it is that
- * of a plain scheduler. Events are EDFVD_FULL after 2^62 rows.
+ * Opens a scheduler without an end: as edfvd_scheduler_open, but it keeps the latest 256 rows alone, and its memory depends on
+ * the number of tasks alone. An event makes at most one row more than there are tasks, so that is at most 129: if you read the
+ * rows after each event, from the `rows` of the edfvd_scheduler_look before it on, you get them all. Every other call with it
+ * is that of a plain scheduler. Events are EDFVD_FULL after 2^62 rows.
  *
- * Statuses: those of edfvd_open.
+ * Statuses: those of edfvd_scheduler_open.
  */
-edfvd_status edfvd_open_endless(edfvd_scheduler *s, const edfvd_task *tasks, size_t count, uint32_t *task);
+edfvd_status edfvd_scheduler_open_endless(edfvd_scheduler *s, const edfvd_task *tasks, size_t count, uint32_t *task);
 
 /* Closes the scheduler and frees its memory. It may be opened again. No further statuses. */
-edfvd_status edfvd_close(edfvd_scheduler *s);
+edfvd_status edfvd_scheduler_close(edfvd_scheduler *s);
 
 /*
  * The four events. `answer` gets what came of the event, or after a refusal the numbers that its comment names and otherwise
@@ -310,14 +313,14 @@ edfvd_status edfvd_close(edfvd_scheduler *s);
  *
  * Statuses: EDFVD_NO_TASK; EDFVD_RUNNING, with the job; EDFVD_TOO_SOON, with `at`; EDFVD_FULL.
  */
-edfvd_status edfvd_release(edfvd_scheduler *s, uint32_t task, edfvd_answer *answer);
+edfvd_status edfvd_scheduler_release(edfvd_scheduler *s, uint32_t task, edfvd_answer *answer);
 
 /*
  * Grants the next tick to the task, whose job must be the chosen one: EDFVD_GIVEN. Its outcome comes next.
  *
  * Statuses: EDFVD_NO_TASK; EDFVD_TICK_OUT, with the job that has the tick; EDFVD_NOT_CHOSEN, with the chosen job; EDFVD_FULL.
  */
-edfvd_status edfvd_grant(edfvd_scheduler *s, uint32_t task, edfvd_answer *answer);
+edfvd_status edfvd_scheduler_grant(edfvd_scheduler *s, uint32_t task, edfvd_answer *answer);
 
 /*
  * Reports how the tick in progress ended for its job, which is done or not: EDFVD_MORE, _DONE, _STOP or _OVER. `task` and
@@ -325,24 +328,24 @@ edfvd_status edfvd_grant(edfvd_scheduler *s, uint32_t task, edfvd_answer *answer
  *
  * Status: EDFVD_NOT_OUT, with the job that has the tick.
  */
-edfvd_status edfvd_outcome(edfvd_scheduler *s, uint32_t task, uint32_t count, bool done, edfvd_answer *answer);
+edfvd_status edfvd_scheduler_outcome(edfvd_scheduler *s, uint32_t task, uint32_t count, bool done, edfvd_answer *answer);
 
 /*
  * Reports that the next tick is idle, which it may be only if no job is pending: EDFVD_IDLE.
  *
  * Statuses: EDFVD_TICK_OUT, with the job that has the tick; EDFVD_PENDING, with the chosen job; EDFVD_FULL.
  */
-edfvd_status edfvd_idle(edfvd_scheduler *s, edfvd_answer *answer);
+edfvd_status edfvd_scheduler_idle(edfvd_scheduler *s, edfvd_answer *answer);
 
 /* Stores the scheduler's clock, mode and jobs; after EDFVD_CLOSED zeros. No further statuses. */
-edfvd_status edfvd_peek(edfvd_scheduler *s, edfvd_look *look);
+edfvd_status edfvd_scheduler_look(edfvd_scheduler *s, edfvd_look *look);
 
 /*
  * Stores row number `number`, from 0: the oldest row is the first. After a refusal the row is zeros.
  *
  * Statuses: EDFVD_NO_ROW; EDFVD_GONE, of a scheduler without an end alone.
  */
-edfvd_status edfvd_row_at(edfvd_scheduler *s, uint64_t number, edfvd_row *row);
+edfvd_status edfvd_scheduler_row(edfvd_scheduler *s, uint64_t number, edfvd_row *row);
 
 /* ---- The judge ---- */
 
@@ -384,12 +387,7 @@ edfvd_status edfvd_judge(const edfvd_task *tasks, size_t count, const edfvd_row 
  * one. While it is open it must not be copied, moved or written by you; edfvd_monitor_close ends that.
  */
 typedef struct edfvd_monitor {
-    struct {
-        uint64_t mark;
-        void *at;
-    } held;
-    const void *self;
-    uint32_t busy;
+    edfvd_handle handle;
 } edfvd_monitor;
 
 /* The first row so far that does not fit. */
@@ -447,26 +445,26 @@ edfvd_status edfvd_monitor_would_fit(edfvd_monitor *m, const edfvd_row *row, uin
 /*
  * Stores the pending jobs whose deadlines came after `since` ticks, in the order of their deadlines, and their number in
  * `count`. After one observed row or run, with the ticks before it, these are the jobs that became late by it. `jobs` has
- * `room` elements, and may be null if that is 0. Nothing is said after a row that does not fit.
+ * `capacity` elements, and may be null if that is 0. Nothing is said after a row that does not fit.
  *
- * Statuses: EDFVD_ROOM if there are more jobs than `room`, with their number alone: ask again with a longer array;
+ * Statuses: EDFVD_SHORT_BUFFER if there are more jobs than `capacity`, with their number alone: ask again with a longer array;
  * EDFVD_MEMORY. With EDFVD_MEMORY and EDFVD_CLOSED the number is 0.
  */
-edfvd_status edfvd_monitor_late(edfvd_monitor *m, uint64_t since, edfvd_late *jobs, size_t room, uint64_t *count);
+edfvd_status edfvd_monitor_late(edfvd_monitor *m, uint64_t since, edfvd_late *jobs, size_t capacity, uint64_t *count);
 
 /* Stores the verdict on all rows so far, as edfvd_judge finds it; after EDFVD_CLOSED zeros. No further statuses. */
 edfvd_status edfvd_monitor_verdict(edfvd_monitor *m, edfvd_verdict *verdict);
 
 /* Stores the monitor's clock, mode and counts; after EDFVD_CLOSED zeros. No further statuses. */
-edfvd_status edfvd_monitor_peek(edfvd_monitor *m, edfvd_watch *watch);
+edfvd_status edfvd_monitor_look(edfvd_monitor *m, edfvd_watch *watch);
 
 /* ---- Any command (not in libedfvd_core.a) ---- */
 
 /*
  * Asks what the words ask of the program, such as {"judge", "1", "2"}, over the bytes of two files in memory, which the words
  * name "1" and "2"; any other name is an empty file. Words end with a 0 byte, and more than five words are no command (exit
- * status 2). The reply's text is stored in `out`, which has `room` bytes, without a 0 byte at its end; its length in bytes in
- * `length`, and the status that the program would exit with in `exit_status`; so a refused task file is EDFVD_OK with exit
+ * status 2). The reply's text is stored in `out`, which has `capacity` bytes, without a 0 byte at its end; its length in bytes
+ * in `length`, and the status that the program would exit with in `exit_status`; so a refused task file is EDFVD_OK with exit
  * status 3. `run` and `accept` work on this thread, with the program's reply. `words`, `first`, `second` and `out` may be null
  * if their lengths are 0.
  *
@@ -474,12 +472,12 @@ edfvd_status edfvd_monitor_peek(edfvd_monitor *m, edfvd_watch *watch);
  * its limit of 80: a file of 163 bytes uses some 150,000 bytes of stack, and no file needs more levels. The main thread of a
  * process and the threads of most C libraries have megabytes; those of musl have 128 KiB unless you ask for more.
  *
- * Statuses: EDFVD_ROOM if `out` is too small, with the length alone: ask again with a longer buffer; EDFVD_ARGUMENT for a word
- * that is not UTF-8; EDFVD_THREADS for soak, live and runall; EDFVD_MEMORY. With each of them `out` is not written,
- * `exit_status` gets 0, and so does `length`, except with EDFVD_ROOM.
+ * Statuses: EDFVD_SHORT_BUFFER if `out` is too small, with the length alone: ask again with a longer buffer; EDFVD_ARGUMENT
+ * for a word that is not UTF-8; EDFVD_THREADS for soak, live and runall; EDFVD_MEMORY. With each of them `out` is not written,
+ * `exit_status` gets 0, and so does `length`, except with EDFVD_SHORT_BUFFER.
  */
 edfvd_status edfvd_ask(size_t count, const char *const *words, const void *first, size_t first_length, const void *second,
-                       size_t second_length, void *out, size_t room, size_t *length, uint32_t *exit_status);
+                       size_t second_length, void *out, size_t capacity, size_t *length, uint32_t *exit_status);
 
 #ifdef __cplusplus
 }

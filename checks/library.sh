@@ -205,7 +205,7 @@ if has "$CC" 'the libraries are' && has rt 'the libraries are' && has objcopy 't
     cat >"$work/header.cc" <<'END'
 #include "edfvd.h"
 static edfvd_scheduler none = EDFVD_NONE;
-int main() { return edfvd_close(&none) == EDFVD_CLOSED ? 0 : 1; }
+int main() { return edfvd_scheduler_close(&none) == EDFVD_CLOSED ? 0 : 1; }
 END
     if has "${CXX:=c++}" 'the header as C++ is'; then
         # shellcheck disable=SC2086

@@ -77,31 +77,31 @@ static void schedule(const edfvd_task *tasks, size_t count, uint32_t period) {
     edfvd_look look;
     edfvd_answer given;
     edfvd_verdict verdict;
-    must(edfvd_open(&s, tasks, count, PLACES, NULL));
+    must(edfvd_scheduler_open(&s, tasks, count, PLACES, NULL));
     begin();
     for (uint32_t tick = 0; tick < TICKS; tick++) {
         if (tick % period == 0)
-            for (uint32_t task = 1; task <= count; task++) must(edfvd_release(&s, task, NULL));
-        must(edfvd_peek(&s, &look));
+            for (uint32_t task = 1; task <= count; task++) must(edfvd_scheduler_release(&s, task, NULL));
+        must(edfvd_scheduler_look(&s, &look));
         if (look.chosen_task == 0) {
-            must(edfvd_idle(&s, NULL));
+            must(edfvd_scheduler_idle(&s, NULL));
         } else {
-            must(edfvd_grant(&s, look.chosen_task, &given));
-            must(edfvd_outcome(&s, given.task, given.count, false, NULL));
+            must(edfvd_scheduler_grant(&s, look.chosen_task, &given));
+            must(edfvd_scheduler_outcome(&s, given.task, given.count, false, NULL));
         }
     }
     end(count == 2 ? "a tick, 2 tasks" : "a tick, 128 tasks", TICKS);
-    must(edfvd_peek(&s, &look));
+    must(edfvd_scheduler_look(&s, &look));
     edfvd_row *rows = malloc((size_t)look.rows * sizeof *rows);
     if (rows == NULL) exit(1);
     begin();
-    for (uint64_t number = 0; number < look.rows; number++) must(edfvd_row_at(&s, number, &rows[number]));
+    for (uint64_t number = 0; number < look.rows; number++) must(edfvd_scheduler_row(&s, number, &rows[number]));
     end("a row read", (double)look.rows);
     begin();
     must(edfvd_judge(tasks, count, rows, (size_t)look.rows, 0, 0, &verdict));
     end("a row judged", (double)look.rows);
     free(rows);
-    must(edfvd_close(&s));
+    must(edfvd_scheduler_close(&s));
 }
 
 static void ask(const char *what, size_t count, const char *const *words, const char *second, long calls) {
@@ -121,8 +121,8 @@ int main(int argc, char **argv) {
     begin();
     for (long call = 0; call < calls; call++) {
         edfvd_scheduler s = EDFVD_NONE;
-        must(edfvd_open(&s, two, 2, 100, NULL));
-        must(edfvd_close(&s));
+        must(edfvd_scheduler_open(&s, two, 2, 100, NULL));
+        must(edfvd_scheduler_close(&s));
     }
     end("open and close", (double)calls);
     schedule(two, 2, 10);

@@ -14,7 +14,7 @@ static int ask(size_t count, const char *const *words, const char *second) {
     uint32_t ended = 0;
     edfvd_status status;
     while ((status = edfvd_ask(count, words, tasks, strlen(tasks), second, second == NULL ? 0 : strlen(second), text, room,
-                               &length, &ended)) == EDFVD_ROOM) {
+                               &length, &ended)) == EDFVD_SHORT_BUFFER) {
         char *more = realloc(text, length);
         if (more == NULL) break;
         text = more;

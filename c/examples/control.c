@@ -24,23 +24,23 @@ int main(void) {
     if (test.rule == 2) printf("rule virtual\nx %" PRIu64 "/%" PRIu64 "\n", test.p, test.q);
 
     edfvd_scheduler s = EDFVD_NONE;
-    status = edfvd_open(&s, tasks, 2, 100, NULL);
+    status = edfvd_scheduler_open(&s, tasks, 2, 100, NULL);
     if (status != EDFVD_OK) return fails("open", status);
     for (int tick = 0; tick < TICKS; tick++) {
-        for (uint32_t task = CTL; task <= LOG; task++) (void)edfvd_release(&s, task, NULL); /* or too soon */
+        for (uint32_t task = CTL; task <= LOG; task++) (void)edfvd_scheduler_release(&s, task, NULL); /* or too soon */
         edfvd_look look;
-        status = edfvd_peek(&s, &look);
-        if (status != EDFVD_OK) return fails("peek", status);
+        status = edfvd_scheduler_look(&s, &look);
+        if (status != EDFVD_OK) return fails("look", status);
         if (look.chosen_task == 0) {
-            status = edfvd_idle(&s, NULL);
+            status = edfvd_scheduler_idle(&s, NULL);
             if (status != EDFVD_OK) return fails("idle", status);
             continue;
         }
         edfvd_answer given, how;
-        status = edfvd_grant(&s, look.chosen_task, &given);
+        status = edfvd_scheduler_grant(&s, look.chosen_task, &given);
         if (status != EDFVD_OK) return fails("grant", status);
         bool done = given.task == LOG && given.before == 2; /* a job of log needs 3 ticks, and one of ctl 6 */
-        status = edfvd_outcome(&s, given.task, given.count, done, &how);
+        status = edfvd_scheduler_outcome(&s, given.task, given.count, done, &how);
         if (status != EDFVD_OK) return fails("outcome", status);
     }
 
@@ -49,7 +49,7 @@ int main(void) {
     edfvd_row row;
     uint64_t tick = 0;
     puts("event,tick,task,job,how");
-    for (uint64_t place = 0; edfvd_row_at(&s, place, &row) == EDFVD_OK; place++) {
+    for (uint64_t place = 0; edfvd_scheduler_row(&s, place, &row) == EDFVD_OK; place++) {
         if (row.event == EDFVD_IDLE) {
             printf("idle,%" PRIu64 ",,,\n", tick++);
         } else {
@@ -59,5 +59,5 @@ int main(void) {
             if (!is_release) tick++;
         }
     }
-    return edfvd_close(&s) == EDFVD_OK ? 0 : 1;
+    return edfvd_scheduler_close(&s) == EDFVD_OK ? 0 : 1;
 }

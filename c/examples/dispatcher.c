@@ -31,14 +31,14 @@ static bool works(const edfvd_answer *job) {
 static bool is_good(void) {
     edfvd_look look;
     edfvd_watch watch;
-    if (edfvd_peek(&scheduler, &look) != EDFVD_OK || edfvd_monitor_peek(&monitor, &watch) != EDFVD_OK) return false;
+    if (edfvd_scheduler_look(&scheduler, &look) != EDFVD_OK || edfvd_monitor_look(&monitor, &watch) != EDFVD_OK) return false;
     for (; seen < look.rows; seen++) {
         edfvd_row row;
         edfvd_unfit unfit;
-        if (edfvd_row_at(&scheduler, seen, &row) != EDFVD_OK) return false;
+        if (edfvd_scheduler_row(&scheduler, seen, &row) != EDFVD_OK) return false;
         if (edfvd_monitor_observe(&monitor, &row, 1, &unfit) != EDFVD_OK || unfit.why != EDFVD_FITS) return false;
     }
-    uint64_t late; /* with no array, the call is EDFVD_ROOM if there is a late job */
+    uint64_t late; /* with no array, the call is EDFVD_SHORT_BUFFER if there is a late job */
     return edfvd_monitor_late(&monitor, watch.ticks, NULL, 0, &late) == EDFVD_OK;
 }
 
@@ -46,22 +46,22 @@ static bool is_good(void) {
 static bool tick(uint64_t now) {
     edfvd_look look;
     if (running.task != 0) {
-        if (edfvd_outcome(&scheduler, running.task, running.count, works(&running), NULL) != EDFVD_OK) return false;
+        if (edfvd_scheduler_outcome(&scheduler, running.task, running.count, works(&running), NULL) != EDFVD_OK) return false;
         running.task = 0;
     }
     for (uint32_t task = 1; task <= TASKS; task++)
-        if (now % tasks[task - 1].period == 0 && edfvd_release(&scheduler, task, NULL) != EDFVD_OK) return false;
+        if (now % tasks[task - 1].period == 0 && edfvd_scheduler_release(&scheduler, task, NULL) != EDFVD_OK) return false;
     if (!is_good()) return false;
-    if (edfvd_peek(&scheduler, &look) != EDFVD_OK) return false;
-    if (look.chosen_task == 0) return edfvd_idle(&scheduler, NULL) == EDFVD_OK;
-    return edfvd_grant(&scheduler, look.chosen_task, &running) == EDFVD_OK;
+    if (edfvd_scheduler_look(&scheduler, &look) != EDFVD_OK) return false;
+    if (look.chosen_task == 0) return edfvd_scheduler_idle(&scheduler, NULL) == EDFVD_OK;
+    return edfvd_scheduler_grant(&scheduler, look.chosen_task, &running) == EDFVD_OK;
 }
 
 int main(void) {
-    if (edfvd_open_endless(&scheduler, tasks, TASKS, NULL) != EDFVD_OK) return 1;
+    if (edfvd_scheduler_open_endless(&scheduler, tasks, TASKS, NULL) != EDFVD_OK) return 1;
     if (edfvd_monitor_open(&monitor, tasks, TASKS, 0, 0, NULL) != EDFVD_OK) return 2;
     for (uint64_t now = 0; now < TICKS; now++)
         if (!tick(now)) return 3;
     if (edfvd_monitor_close(&monitor) != EDFVD_OK) return 4;
-    return edfvd_close(&scheduler) == EDFVD_OK ? 0 : 5;
+    return edfvd_scheduler_close(&scheduler) == EDFVD_OK ? 0 : 5;
 }

@@ -46,11 +46,11 @@ static void must(const char *call, edfvd_status status) {
 /* Gives the monitor each row that is new since the last call. No event makes more rows than the scheduler keeps. */
 static void stream(void) {
     edfvd_look look;
-    must("peek", edfvd_peek(&scheduler, &look));
+    must("look", edfvd_scheduler_look(&scheduler, &look));
     for (; seen < look.rows; seen++) {
         edfvd_row row;
         edfvd_unfit unfit;
-        must("row_at", edfvd_row_at(&scheduler, seen, &row));
+        must("row_at", edfvd_scheduler_row(&scheduler, seen, &row));
         must("observe", edfvd_monitor_observe(&monitor, &row, 1, &unfit));
         if (unfit.why != EDFVD_FITS) {
             fprintf(stderr, "row %" PRIu64 " does not fit\n", unfit.place);
@@ -63,25 +63,25 @@ static void stream(void) {
 
 /* Tick number `place` of a round. */
 static void tick(int place) {
-    if (place == 0) must("release", edfvd_release(&scheduler, CTL, NULL));
+    if (place == 0) must("release", edfvd_scheduler_release(&scheduler, CTL, NULL));
     stream();
     edfvd_look look;
-    must("peek", edfvd_peek(&scheduler, &look));
+    must("look", edfvd_scheduler_look(&scheduler, &look));
     if (look.chosen_task == 0) {
-        must("idle", edfvd_idle(&scheduler, NULL));
+        must("idle", edfvd_scheduler_idle(&scheduler, NULL));
     } else {
         edfvd_answer given;
-        must("grant", edfvd_grant(&scheduler, look.chosen_task, &given));
-        if (place == 1) must("release", edfvd_release(&scheduler, LOG, NULL));
+        must("grant", edfvd_scheduler_grant(&scheduler, look.chosen_task, &given));
+        if (place == 1) must("release", edfvd_scheduler_release(&scheduler, LOG, NULL));
         uint32_t needs = given.task == LOG ? 3 : given.count % 4 == 0 ? 6 : 2;
-        must("outcome", edfvd_outcome(&scheduler, given.task, given.count, given.before + 1 == needs, NULL));
+        must("outcome", edfvd_scheduler_outcome(&scheduler, given.task, given.count, given.before + 1 == needs, NULL));
     }
     stream();
 }
 
 int main(int argc, char **argv) {
     long rounds = argc > 1 ? strtol(argv[1], NULL, 10) : 300000;
-    must("open_endless", edfvd_open_endless(&scheduler, tasks, 2, NULL));
+    must("open_endless", edfvd_scheduler_open_endless(&scheduler, tasks, 2, NULL));
     must("monitor_open", edfvd_monitor_open(&monitor, tasks, 2, 0, 0, NULL));
     for (long round = 0; round < rounds; round++)
         for (int place = 0; place < ROUND; place++) tick(place);
@@ -95,9 +95,9 @@ int main(int argc, char **argv) {
     printf("%s, %" PRIu64 " late\n", verdict.why == EDFVD_FITS ? "legal" : "illegal", verdict.late);
     edfvd_row row;
     uint64_t oldest = 0;
-    while (edfvd_row_at(&scheduler, oldest, &row) == EDFVD_GONE) oldest++;
+    while (edfvd_scheduler_row(&scheduler, oldest, &row) == EDFVD_GONE) oldest++;
     printf("oldest row %" PRIu64 "\n", oldest);
     must("monitor_close", edfvd_monitor_close(&monitor));
-    must("close", edfvd_close(&scheduler));
+    must("close", edfvd_scheduler_close(&scheduler));
     return 0;
 }

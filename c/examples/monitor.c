@@ -35,8 +35,8 @@ int main(void) {
             break;
         }
         edfvd_watch watch;
-        status = edfvd_monitor_peek(&m, &watch);
-        if (status != EDFVD_OK) return fails("peek", status);
+        status = edfvd_monitor_look(&m, &watch);
+        if (status != EDFVD_OK) return fails("look", status);
         uint64_t since = watch.ticks;
         status = edfvd_monitor_observe(&m, &seen[place].row, seen[place].times, NULL);
         if (status != EDFVD_OK) return fails("observe", status);
@@ -44,8 +44,8 @@ int main(void) {
         uint64_t count;
         status = edfvd_monitor_late(&m, since, late, 2, &count);
         if (status != EDFVD_OK) return fails("late", status);
-        status = edfvd_monitor_peek(&m, &watch);
-        if (status != EDFVD_OK) return fails("peek", status);
+        status = edfvd_monitor_look(&m, &watch);
+        if (status != EDFVD_OK) return fails("look", status);
         printf("rows %" PRIu64 " ticks %" PRIu64 " pending %" PRIu64 " late %" PRIu64 " mode %s\n", watch.rows, watch.ticks,
                watch.pending, count, watch.high_mode ? "high" : "low");
     }

@@ -33,7 +33,7 @@ static void refused(edfvd_status wanted, size_t count, const char *const *words,
 /* Each size of the buffer: too small, exactly large enough, and larger. */
 static void buffers(void) {
     static const char *const check[] = {"check", "1"};
-    for (size_t room = 0; room < LONG; room++) refused(EDFVD_ROOM, 2, check, room, LONG);
+    for (size_t room = 0; room < LONG; room++) refused(EDFVD_SHORT_BUFFER, 2, check, room, LONG);
     for (size_t room = LONG; room < LONG + 3; room++) {
         RETURNS(EDFVD_OK, ask(2, check, room));
         IS(LONG, to.length);
@@ -124,7 +124,7 @@ static void nulls(void) {
         RETURNS(EDFVD_NULL, edfvd_ask(5, words, file, size, NULL, 0, to.out, BUFFER, length, ended));
     }
     IS_PAINTED(to);
-    RETURNS(EDFVD_ROOM, edfvd_ask(0, NULL, NULL, 0, NULL, 0, NULL, 0, length, ended));
+    RETURNS(EDFVD_SHORT_BUFFER, edfvd_ask(0, NULL, NULL, 0, NULL, 0, NULL, 0, length, ended));
 }
 
 int main(void) {

@@ -22,7 +22,7 @@ static void answers(const edfvd_answer *answer, uint32_t what, uint32_t task, ui
 static void looks(uint64_t ticks, uint64_t rows, uint32_t high_mode, uint32_t out, uint32_t chosen) {
     edfvd_look look;
     PAINTED(look);
-    RETURNS(EDFVD_OK, edfvd_peek(&s, &look));
+    RETURNS(EDFVD_OK, edfvd_scheduler_look(&s, &look));
     IS(ticks, look.ticks);
     IS(rows, look.rows);
     IS(high_mode, look.high_mode);
@@ -35,7 +35,7 @@ static void looks(uint64_t ticks, uint64_t rows, uint32_t high_mode, uint32_t ou
 static void has_row(uint64_t number, uint32_t event, uint32_t task, uint32_t count) {
     edfvd_row row;
     PAINTED(row);
-    RETURNS(EDFVD_OK, edfvd_row_at(&s, number, &row));
+    RETURNS(EDFVD_OK, edfvd_scheduler_row(&s, number, &row));
     IS(event, row.event);
     IS(task, row.task);
     IS(count, row.count);
@@ -44,14 +44,14 @@ static void has_row(uint64_t number, uint32_t event, uint32_t task, uint32_t cou
 static void has_no_row(uint64_t number, edfvd_status status) {
     edfvd_row row;
     PAINTED(row);
-    RETURNS(status, edfvd_row_at(&s, number, &row));
+    RETURNS(status, edfvd_scheduler_row(&s, number, &row));
     IS_ZEROS(row);
 }
 
 static void opens(uint32_t places) {
     uint32_t task;
     PAINTED(task);
-    RETURNS(EDFVD_OK, edfvd_open(&s, control, 2, places, &task));
+    RETURNS(EDFVD_OK, edfvd_scheduler_open(&s, control, 2, places, &task));
     IS(0, task);
 }
 
@@ -61,30 +61,30 @@ static void each_event(void) {
     edfvd_answer a;
     opens(100);
     looks(0, 0, 0, 0, 0);
-    RETURNS(EDFVD_OK, edfvd_release(&s, CTL, &a));
+    RETURNS(EDFVD_OK, edfvd_scheduler_release(&s, CTL, &a));
     answers(&a, EDFVD_KEPT, CTL, 1, 0, 0);
     looks(0, 1, 0, 0, CTL);
-    RETURNS(EDFVD_OK, edfvd_grant(&s, CTL, &a));
+    RETURNS(EDFVD_OK, edfvd_scheduler_grant(&s, CTL, &a));
     answers(&a, EDFVD_GIVEN, CTL, 1, 0, 0);
     looks(0, 1, 0, CTL, CTL);
-    RETURNS(EDFVD_OK, edfvd_outcome(&s, CTL, 1, false, &a));
+    RETURNS(EDFVD_OK, edfvd_scheduler_outcome(&s, CTL, 1, false, &a));
     answers(&a, EDFVD_MORE, CTL, 1, 0, 0);
-    RETURNS(EDFVD_OK, edfvd_grant(&s, CTL, &a));
+    RETURNS(EDFVD_OK, edfvd_scheduler_grant(&s, CTL, &a));
     answers(&a, EDFVD_GIVEN, CTL, 1, 1, 1);
-    RETURNS(EDFVD_OK, edfvd_release(&s, LOG, &a));
+    RETURNS(EDFVD_OK, edfvd_scheduler_release(&s, LOG, &a));
     answers(&a, EDFVD_HELD, LOG, 1, 0, 2);
     looks(1, 2, 0, CTL, CTL);
-    RETURNS(EDFVD_OK, edfvd_outcome(&s, CTL, 1, false, &a));
+    RETURNS(EDFVD_OK, edfvd_scheduler_outcome(&s, CTL, 1, false, &a));
     answers(&a, EDFVD_OVER, CTL, 1, 0, 0);
     looks(2, 4, 1, 0, CTL);
     for (uint32_t tick = 2; tick < 6; tick++) {
-        RETURNS(EDFVD_OK, edfvd_grant(&s, CTL, &a));
+        RETURNS(EDFVD_OK, edfvd_scheduler_grant(&s, CTL, &a));
         answers(&a, EDFVD_GIVEN, CTL, 1, tick, tick);
-        RETURNS(EDFVD_OK, edfvd_outcome(&s, CTL, 1, false, &a));
+        RETURNS(EDFVD_OK, edfvd_scheduler_outcome(&s, CTL, 1, false, &a));
         answers(&a, tick == 5 ? EDFVD_STOP : EDFVD_MORE, CTL, 1, 0, 0);
     }
     looks(6, 8, 1, 0, 0);
-    RETURNS(EDFVD_OK, edfvd_idle(&s, &a));
+    RETURNS(EDFVD_OK, edfvd_scheduler_idle(&s, &a));
     answers(&a, EDFVD_IDLE, 0, 0, 0, 6);
     looks(7, 9, 0, 0, 0);
     has_row(0, EDFVD_KEPT, CTL, 1);
@@ -95,30 +95,30 @@ static void each_event(void) {
     has_row(7, EDFVD_STOP, CTL, 1);
     has_row(8, EDFVD_IDLE, 0, 0);
     has_no_row(9, EDFVD_NO_ROW);
-    RETURNS(EDFVD_OK, edfvd_close(&s));
+    RETURNS(EDFVD_OK, edfvd_scheduler_close(&s));
 }
 
 /* A low job is dropped in high mode, kept after an idle tick, done before its budget; without an answer to store, all alike. */
 static void dropped_and_done(void) {
     edfvd_answer a;
     opens(100);
-    RETURNS(EDFVD_OK, edfvd_release(&s, CTL, NULL));
+    RETURNS(EDFVD_OK, edfvd_scheduler_release(&s, CTL, NULL));
     for (uint32_t tick = 0; tick < 2; tick++) {
-        RETURNS(EDFVD_OK, edfvd_grant(&s, CTL, NULL));
-        RETURNS(EDFVD_OK, edfvd_outcome(&s, CTL, 1, false, NULL));
+        RETURNS(EDFVD_OK, edfvd_scheduler_grant(&s, CTL, NULL));
+        RETURNS(EDFVD_OK, edfvd_scheduler_outcome(&s, CTL, 1, false, NULL));
     }
-    RETURNS(EDFVD_OK, edfvd_release(&s, LOG, &a));
+    RETURNS(EDFVD_OK, edfvd_scheduler_release(&s, LOG, &a));
     answers(&a, EDFVD_DROPPED, LOG, 1, 0, 2);
-    RETURNS(EDFVD_OK, edfvd_grant(&s, CTL, NULL));
-    RETURNS(EDFVD_OK, edfvd_outcome(&s, CTL, 1, true, NULL));
-    for (uint32_t tick = 3; tick < 12; tick++) RETURNS(EDFVD_OK, edfvd_idle(&s, NULL));
-    RETURNS(EDFVD_OK, edfvd_release(&s, LOG, &a));
+    RETURNS(EDFVD_OK, edfvd_scheduler_grant(&s, CTL, NULL));
+    RETURNS(EDFVD_OK, edfvd_scheduler_outcome(&s, CTL, 1, true, NULL));
+    for (uint32_t tick = 3; tick < 12; tick++) RETURNS(EDFVD_OK, edfvd_scheduler_idle(&s, NULL));
+    RETURNS(EDFVD_OK, edfvd_scheduler_release(&s, LOG, &a));
     answers(&a, EDFVD_KEPT, LOG, 2, 0, 12);
-    RETURNS(EDFVD_OK, edfvd_grant(&s, LOG, &a));
+    RETURNS(EDFVD_OK, edfvd_scheduler_grant(&s, LOG, &a));
     answers(&a, EDFVD_GIVEN, LOG, 2, 0, 12);
-    RETURNS(EDFVD_OK, edfvd_outcome(&s, LOG, 2, true, &a));
+    RETURNS(EDFVD_OK, edfvd_scheduler_outcome(&s, LOG, 2, true, &a));
     answers(&a, EDFVD_DONE, LOG, 2, 0, 0);
-    RETURNS(EDFVD_OK, edfvd_close(&s));
+    RETURNS(EDFVD_OK, edfvd_scheduler_close(&s));
 }
 
 /* Each refusal of an event, after which nothing has changed. */
@@ -128,87 +128,87 @@ static void refusals(void) {
     static const uint32_t strangers[] = {0, 3, UINT32_MAX};
     for (size_t place = 0; place < 3; place++) {
         PAINTED(a);
-        RETURNS(EDFVD_NO_TASK, edfvd_release(&s, strangers[place], &a));
+        RETURNS(EDFVD_NO_TASK, edfvd_scheduler_release(&s, strangers[place], &a));
         IS_ZEROS(a);
         PAINTED(a);
-        RETURNS(EDFVD_NO_TASK, edfvd_grant(&s, strangers[place], &a));
+        RETURNS(EDFVD_NO_TASK, edfvd_scheduler_grant(&s, strangers[place], &a));
         IS_ZEROS(a);
-        RETURNS(EDFVD_NO_TASK, edfvd_release(&s, strangers[place], NULL));
+        RETURNS(EDFVD_NO_TASK, edfvd_scheduler_release(&s, strangers[place], NULL));
     }
     PAINTED(a);
-    RETURNS(EDFVD_NOT_CHOSEN, edfvd_grant(&s, CTL, &a));
+    RETURNS(EDFVD_NOT_CHOSEN, edfvd_scheduler_grant(&s, CTL, &a));
     IS_ZEROS(a);
     PAINTED(a);
-    RETURNS(EDFVD_NOT_OUT, edfvd_outcome(&s, CTL, 1, true, &a));
+    RETURNS(EDFVD_NOT_OUT, edfvd_scheduler_outcome(&s, CTL, 1, true, &a));
     IS_ZEROS(a);
     looks(0, 0, 0, 0, 0);
-    RETURNS(EDFVD_OK, edfvd_idle(&s, NULL));
-    RETURNS(EDFVD_OK, edfvd_release(&s, LOG, NULL));
-    RETURNS(EDFVD_OK, edfvd_release(&s, CTL, NULL));
+    RETURNS(EDFVD_OK, edfvd_scheduler_idle(&s, NULL));
+    RETURNS(EDFVD_OK, edfvd_scheduler_release(&s, LOG, NULL));
+    RETURNS(EDFVD_OK, edfvd_scheduler_release(&s, CTL, NULL));
     PAINTED(a);
-    RETURNS(EDFVD_TOO_SOON, edfvd_release(&s, CTL, &a));
+    RETURNS(EDFVD_TOO_SOON, edfvd_scheduler_release(&s, CTL, &a));
     answers(&a, 0, 0, 0, 0, 11);
     PAINTED(a);
-    RETURNS(EDFVD_NOT_CHOSEN, edfvd_grant(&s, LOG, &a));
+    RETURNS(EDFVD_NOT_CHOSEN, edfvd_scheduler_grant(&s, LOG, &a));
     answers(&a, 0, CTL, 1, 0, 0);
     PAINTED(a);
-    RETURNS(EDFVD_PENDING, edfvd_idle(&s, &a));
+    RETURNS(EDFVD_PENDING, edfvd_scheduler_idle(&s, &a));
     answers(&a, 0, CTL, 1, 0, 0);
-    RETURNS(EDFVD_OK, edfvd_grant(&s, CTL, NULL));
+    RETURNS(EDFVD_OK, edfvd_scheduler_grant(&s, CTL, NULL));
     for (uint32_t task = CTL; task <= LOG; task++) {
         PAINTED(a);
-        RETURNS(EDFVD_TICK_OUT, edfvd_grant(&s, task, &a));
+        RETURNS(EDFVD_TICK_OUT, edfvd_scheduler_grant(&s, task, &a));
         answers(&a, 0, CTL, 1, 0, 0);
     }
     PAINTED(a);
-    RETURNS(EDFVD_TICK_OUT, edfvd_idle(&s, &a));
+    RETURNS(EDFVD_TICK_OUT, edfvd_scheduler_idle(&s, &a));
     answers(&a, 0, CTL, 1, 0, 0);
     PAINTED(a);
-    RETURNS(EDFVD_RUNNING, edfvd_release(&s, CTL, &a));
+    RETURNS(EDFVD_RUNNING, edfvd_scheduler_release(&s, CTL, &a));
     answers(&a, 0, CTL, 1, 0, 0);
     PAINTED(a);
-    RETURNS(EDFVD_NOT_OUT, edfvd_outcome(&s, CTL, 2, true, &a));
+    RETURNS(EDFVD_NOT_OUT, edfvd_scheduler_outcome(&s, CTL, 2, true, &a));
     answers(&a, 0, CTL, 1, 0, 0);
     PAINTED(a);
-    RETURNS(EDFVD_NOT_OUT, edfvd_outcome(&s, LOG, 1, true, &a));
+    RETURNS(EDFVD_NOT_OUT, edfvd_scheduler_outcome(&s, LOG, 1, true, &a));
     answers(&a, 0, CTL, 1, 0, 0);
     looks(1, 3, 0, CTL, CTL);
-    RETURNS(EDFVD_OK, edfvd_close(&s));
+    RETURNS(EDFVD_OK, edfvd_scheduler_close(&s));
 }
 
 /* Two places: one for a release and one for its tick. A held release takes one, too. */
 static void full(void) {
     edfvd_answer a;
     opens(2);
-    RETURNS(EDFVD_OK, edfvd_release(&s, CTL, NULL));
-    RETURNS(EDFVD_OK, edfvd_grant(&s, CTL, NULL));
+    RETURNS(EDFVD_OK, edfvd_scheduler_release(&s, CTL, NULL));
+    RETURNS(EDFVD_OK, edfvd_scheduler_grant(&s, CTL, NULL));
     PAINTED(a);
-    RETURNS(EDFVD_FULL, edfvd_release(&s, LOG, &a));
+    RETURNS(EDFVD_FULL, edfvd_scheduler_release(&s, LOG, &a));
     IS_ZEROS(a);
-    RETURNS(EDFVD_OK, edfvd_outcome(&s, CTL, 1, false, NULL)); /* its place was taken by the grant */
+    RETURNS(EDFVD_OK, edfvd_scheduler_outcome(&s, CTL, 1, false, NULL)); /* its place was taken by the grant */
     PAINTED(a);
-    RETURNS(EDFVD_FULL, edfvd_grant(&s, CTL, &a));
+    RETURNS(EDFVD_FULL, edfvd_scheduler_grant(&s, CTL, &a));
     IS_ZEROS(a);
-    RETURNS(EDFVD_OK, edfvd_close(&s));
+    RETURNS(EDFVD_OK, edfvd_scheduler_close(&s));
     opens(3);
-    RETURNS(EDFVD_OK, edfvd_release(&s, CTL, NULL));
-    RETURNS(EDFVD_OK, edfvd_grant(&s, CTL, NULL));
-    RETURNS(EDFVD_OK, edfvd_release(&s, LOG, &a));
+    RETURNS(EDFVD_OK, edfvd_scheduler_release(&s, CTL, NULL));
+    RETURNS(EDFVD_OK, edfvd_scheduler_grant(&s, CTL, NULL));
+    RETURNS(EDFVD_OK, edfvd_scheduler_release(&s, LOG, &a));
     answers(&a, EDFVD_HELD, LOG, 1, 0, 1);
-    RETURNS(EDFVD_OK, edfvd_outcome(&s, CTL, 1, true, NULL));
+    RETURNS(EDFVD_OK, edfvd_scheduler_outcome(&s, CTL, 1, true, NULL));
     looks(1, 3, 0, 0, LOG);
-    RETURNS(EDFVD_FULL, edfvd_grant(&s, LOG, NULL));
-    RETURNS(EDFVD_OK, edfvd_close(&s));
+    RETURNS(EDFVD_FULL, edfvd_scheduler_grant(&s, LOG, NULL));
+    RETURNS(EDFVD_OK, edfvd_scheduler_close(&s));
     opens(1);
-    RETURNS(EDFVD_OK, edfvd_idle(&s, NULL));
+    RETURNS(EDFVD_OK, edfvd_scheduler_idle(&s, NULL));
     PAINTED(a);
-    RETURNS(EDFVD_FULL, edfvd_idle(&s, &a));
+    RETURNS(EDFVD_FULL, edfvd_scheduler_idle(&s, &a));
     IS_ZEROS(a);
-    RETURNS(EDFVD_OK, edfvd_close(&s));
+    RETURNS(EDFVD_OK, edfvd_scheduler_close(&s));
     opens(0);
-    RETURNS(EDFVD_FULL, edfvd_idle(&s, NULL));
-    RETURNS(EDFVD_FULL, edfvd_release(&s, CTL, NULL));
-    RETURNS(EDFVD_OK, edfvd_close(&s));
+    RETURNS(EDFVD_FULL, edfvd_scheduler_idle(&s, NULL));
+    RETURNS(EDFVD_FULL, edfvd_scheduler_release(&s, CTL, NULL));
+    RETURNS(EDFVD_OK, edfvd_scheduler_close(&s));
 }
 
 /* More places than 16 bits can count. */
@@ -216,13 +216,13 @@ static void many_places(void) {
     enum { MANY = 65536 + 3 };
     uint32_t idles = 0;
     opens(MANY);
-    while (idles < MANY && edfvd_idle(&s, NULL) == EDFVD_OK) idles++;
+    while (idles < MANY && edfvd_scheduler_idle(&s, NULL) == EDFVD_OK) idles++;
     IS(MANY, idles);
-    RETURNS(EDFVD_FULL, edfvd_idle(&s, NULL));
+    RETURNS(EDFVD_FULL, edfvd_scheduler_idle(&s, NULL));
     looks(MANY, MANY, 0, 0, 0);
     has_row(MANY - 1, EDFVD_IDLE, 0, 0);
     has_no_row(MANY, EDFVD_NO_ROW);
-    RETURNS(EDFVD_OK, edfvd_close(&s));
+    RETURNS(EDFVD_OK, edfvd_scheduler_close(&s));
 }
 
 /* A row's number has 64 bits: 2^32 and 2^32 + 1 are not 0 and 1. */
@@ -230,47 +230,47 @@ static void row_numbers(void) {
     static const uint64_t none[] = {2, 3, UINT64_C(1) << 32, (UINT64_C(1) << 32) + 1, UINT64_C(1) << 63, UINT64_MAX};
     for (int endless = 0; endless < 2; endless++) {
         if (endless)
-            RETURNS(EDFVD_OK, edfvd_open_endless(&s, control, 2, NULL));
+            RETURNS(EDFVD_OK, edfvd_scheduler_open_endless(&s, control, 2, NULL));
         else
             opens(10);
-        RETURNS(EDFVD_OK, edfvd_release(&s, LOG, NULL));
+        RETURNS(EDFVD_OK, edfvd_scheduler_release(&s, LOG, NULL));
         has_row(0, EDFVD_KEPT, LOG, 1);
         has_no_row(1, EDFVD_NO_ROW);
-        RETURNS(EDFVD_OK, edfvd_release(&s, CTL, NULL));
+        RETURNS(EDFVD_OK, edfvd_scheduler_release(&s, CTL, NULL));
         has_row(1, EDFVD_KEPT, CTL, 1);
         for (size_t place = 0; place < sizeof none / sizeof *none; place++) has_no_row(none[place], EDFVD_NO_ROW);
-        RETURNS(EDFVD_OK, edfvd_close(&s));
+        RETURNS(EDFVD_OK, edfvd_scheduler_close(&s));
     }
 }
 
 /* A scheduler without an end keeps its latest 256 rows. */
 static void latest_rows(void) {
-    RETURNS(EDFVD_OK, edfvd_open_endless(&s, control, 2, NULL));
-    for (int tick = 0; tick < 256; tick++) RETURNS(EDFVD_OK, edfvd_idle(&s, NULL));
+    RETURNS(EDFVD_OK, edfvd_scheduler_open_endless(&s, control, 2, NULL));
+    for (int tick = 0; tick < 256; tick++) RETURNS(EDFVD_OK, edfvd_scheduler_idle(&s, NULL));
     has_row(0, EDFVD_IDLE, 0, 0);
-    RETURNS(EDFVD_OK, edfvd_release(&s, CTL, NULL));
+    RETURNS(EDFVD_OK, edfvd_scheduler_release(&s, CTL, NULL));
     has_no_row(0, EDFVD_GONE);
     has_row(1, EDFVD_IDLE, 0, 0);
     has_row(255, EDFVD_IDLE, 0, 0);
     has_row(256, EDFVD_KEPT, CTL, 1);
     has_no_row(257, EDFVD_NO_ROW);
-    RETURNS(EDFVD_OK, edfvd_close(&s));
+    RETURNS(EDFVD_OK, edfvd_scheduler_close(&s));
 }
 
 /* One event makes at most one row more than there are tasks: 127 releases held in a tick, and the row of that tick. */
 static void most_rows_of_an_event(void) {
     edfvd_task tasks[128];
     for (size_t place = 0; place < 128; place++) tasks[place] = (edfvd_task){EDFVD_LOW, 1000, 1, 1};
-    RETURNS(EDFVD_OK, edfvd_open_endless(&s, tasks, 128, NULL));
-    RETURNS(EDFVD_OK, edfvd_release(&s, 1, NULL));
-    RETURNS(EDFVD_OK, edfvd_grant(&s, 1, NULL));
-    for (uint32_t task = 2; task <= 128; task++) RETURNS(EDFVD_OK, edfvd_release(&s, task, NULL));
+    RETURNS(EDFVD_OK, edfvd_scheduler_open_endless(&s, tasks, 128, NULL));
+    RETURNS(EDFVD_OK, edfvd_scheduler_release(&s, 1, NULL));
+    RETURNS(EDFVD_OK, edfvd_scheduler_grant(&s, 1, NULL));
+    for (uint32_t task = 2; task <= 128; task++) RETURNS(EDFVD_OK, edfvd_scheduler_release(&s, task, NULL));
     looks(0, 1, 0, 1, 1);
-    RETURNS(EDFVD_OK, edfvd_outcome(&s, 1, 1, true, NULL));
+    RETURNS(EDFVD_OK, edfvd_scheduler_outcome(&s, 1, 1, true, NULL));
     looks(1, 129, 0, 0, 2);
     has_row(1, EDFVD_DONE, 1, 1);
     for (uint32_t task = 2; task <= 128; task++) has_row(task, EDFVD_KEPT, task, 1);
-    RETURNS(EDFVD_OK, edfvd_close(&s));
+    RETURNS(EDFVD_OK, edfvd_scheduler_close(&s));
 }
 
 /* A set that is refused leaves the scheduler closed, whichever way it was to be opened. */
@@ -294,14 +294,14 @@ static void opens_refused(void) {
     for (size_t place = 0; place < sizeof bad / sizeof *bad; place++) {
         uint32_t task;
         PAINTED(task);
-        RETURNS(bad[place].status, edfvd_open(&s, bad[place].tasks, bad[place].count, 10, &task));
+        RETURNS(bad[place].status, edfvd_scheduler_open(&s, bad[place].tasks, bad[place].count, 10, &task));
         IS(bad[place].task, task);
-        RETURNS(bad[place].status, edfvd_open(&s, bad[place].tasks, bad[place].count, 10, NULL));
+        RETURNS(bad[place].status, edfvd_scheduler_open(&s, bad[place].tasks, bad[place].count, 10, NULL));
         PAINTED(task);
-        RETURNS(bad[place].status, edfvd_open_endless(&s, bad[place].tasks, bad[place].count, &task));
+        RETURNS(bad[place].status, edfvd_scheduler_open_endless(&s, bad[place].tasks, bad[place].count, &task));
         IS(bad[place].task, task);
-        RETURNS(bad[place].status, edfvd_open_endless(&s, bad[place].tasks, bad[place].count, NULL));
-        RETURNS(EDFVD_CLOSED, edfvd_close(&s));
+        RETURNS(bad[place].status, edfvd_scheduler_open_endless(&s, bad[place].tasks, bad[place].count, NULL));
+        RETURNS(EDFVD_CLOSED, edfvd_scheduler_close(&s));
     }
 }
 

@@ -22,18 +22,18 @@ static struct stores {
     edfvd_watch watch;
 } to;
 
-static edfvd_status open_plain(edfvd_scheduler *s) { return edfvd_open(s, control, 2, 50, &to.task); }
-static edfvd_status open_endless(edfvd_scheduler *s) { return edfvd_open_endless(s, control, 2, &to.task); }
-static edfvd_status close_it(edfvd_scheduler *s) { return edfvd_close(s); }
-static edfvd_status release(edfvd_scheduler *s) { return edfvd_release(s, 1, &to.answer); }
-static edfvd_status grant(edfvd_scheduler *s) { return edfvd_grant(s, 1, &to.answer); }
-static edfvd_status outcome(edfvd_scheduler *s) { return edfvd_outcome(s, 1, 1, true, &to.answer); }
-static edfvd_status idle(edfvd_scheduler *s) { return edfvd_idle(s, &to.answer); }
-static edfvd_status peek(edfvd_scheduler *s) { return edfvd_peek(s, &to.look); }
-static edfvd_status row_at(edfvd_scheduler *s) { return edfvd_row_at(s, 0, &to.row); }
+static edfvd_status open_plain(edfvd_scheduler *s) { return edfvd_scheduler_open(s, control, 2, 50, &to.task); }
+static edfvd_status open_endless(edfvd_scheduler *s) { return edfvd_scheduler_open_endless(s, control, 2, &to.task); }
+static edfvd_status close_it(edfvd_scheduler *s) { return edfvd_scheduler_close(s); }
+static edfvd_status release(edfvd_scheduler *s) { return edfvd_scheduler_release(s, 1, &to.answer); }
+static edfvd_status grant(edfvd_scheduler *s) { return edfvd_scheduler_grant(s, 1, &to.answer); }
+static edfvd_status outcome(edfvd_scheduler *s) { return edfvd_scheduler_outcome(s, 1, 1, true, &to.answer); }
+static edfvd_status idle(edfvd_scheduler *s) { return edfvd_scheduler_idle(s, &to.answer); }
+static edfvd_status look(edfvd_scheduler *s) { return edfvd_scheduler_look(s, &to.look); }
+static edfvd_status row_at(edfvd_scheduler *s) { return edfvd_scheduler_row(s, 0, &to.row); }
 
 static edfvd_status (*const scheduler_calls[])(edfvd_scheduler *) = {open_plain, open_endless, close_it, release, grant,
-                                                                     outcome,    idle,         peek,     row_at};
+                                                                     outcome,    idle,         look,     row_at};
 enum { OPENERS = 2, SCHEDULER_CALLS = sizeof scheduler_calls / sizeof *scheduler_calls };
 
 static const edfvd_row first_row = {EDFVD_KEPT, 1, 1};
@@ -44,19 +44,15 @@ static edfvd_status observe(edfvd_monitor *m) { return edfvd_monitor_observe(m, 
 static edfvd_status would_fit(edfvd_monitor *m) { return edfvd_monitor_would_fit(m, &first_row, 1, &to.unfit); }
 static edfvd_status late(edfvd_monitor *m) { return edfvd_monitor_late(m, 0, to.late, 2, &to.count); }
 static edfvd_status verdict(edfvd_monitor *m) { return edfvd_monitor_verdict(m, &to.verdict); }
-static edfvd_status monitor_peek(edfvd_monitor *m) { return edfvd_monitor_peek(m, &to.watch); }
+static edfvd_status monitor_look(edfvd_monitor *m) { return edfvd_monitor_look(m, &to.watch); }
 
 static edfvd_status (*const monitor_calls[])(edfvd_monitor *) = {monitor_open, monitor_close, observe,     would_fit,
-                                                                 late,         verdict,       monitor_peek};
+                                                                 late,         verdict,       monitor_look};
 enum { MONITOR_CALLS = sizeof monitor_calls / sizeof *monitor_calls };
 
 /* Whether no field has changed. */
-static bool is_same(const edfvd_scheduler *a, const edfvd_scheduler *b) {
-    return a->held.mark == b->held.mark && a->held.at == b->held.at && a->self == b->self && a->busy == b->busy;
-}
-
-static bool is_same_monitor(const edfvd_monitor *a, const edfvd_monitor *b) {
-    return a->held.mark == b->held.mark && a->held.at == b->held.at && a->self == b->self && a->busy == b->busy;
+static bool is_same(const edfvd_handle *a, const edfvd_handle *b) {
+    return a->mark == b->mark && a->at == b->at && a->self == b->self && a->busy == b->busy;
 }
 
 /* Every call with this scheduler returns the status, stores nothing, and leaves it as it is. */
@@ -67,7 +63,7 @@ static void all_refused(edfvd_scheduler *s, edfvd_status wanted) {
     for (size_t call = 0; call < SCHEDULER_CALLS; call++) {
         RETURNS(wanted, scheduler_calls[call](s));
         IS_PAINTED(to);
-        if (s != NULL) IS(true, is_same(s, &before));
+        if (s != NULL) IS(true, is_same(&s->handle, &before.handle));
     }
 }
 
@@ -78,7 +74,7 @@ static void all_refused_monitor(edfvd_monitor *m, edfvd_status wanted) {
     for (size_t call = 0; call < MONITOR_CALLS; call++) {
         RETURNS(wanted, monitor_calls[call](m));
         IS_PAINTED(to);
-        if (m != NULL) IS(true, is_same_monitor(m, &before));
+        if (m != NULL) IS(true, is_same(&m->handle, &before.handle));
     }
 }
 
@@ -88,7 +84,7 @@ static void all_closed(edfvd_scheduler *s) {
     PAINTED(to);
     for (size_t call = OPENERS; call < SCHEDULER_CALLS; call++) {
         RETURNS(EDFVD_CLOSED, scheduler_calls[call](s));
-        IS(true, is_same(s, &before));
+        IS(true, is_same(&s->handle, &before.handle));
     }
     IS_ZEROS(to.answer);
     look_is_zeros(&to.look);
@@ -100,7 +96,7 @@ static void all_closed_monitor(edfvd_monitor *m) {
     PAINTED(to);
     for (size_t call = 1; call < MONITOR_CALLS; call++) {
         RETURNS(EDFVD_CLOSED, monitor_calls[call](m));
-        IS(true, is_same_monitor(m, &before));
+        IS(true, is_same(&m->handle, &before.handle));
     }
     unfit_is_zeros(&to.unfit);
     IS_ZEROS(to.count);
@@ -126,9 +122,9 @@ static void schedulers(void) {
         all_refused(&other, EDFVD_MOVED);
         s = other;
         RETURNS(EDFVD_OK, grant(&s));
-        s.busy = 1; /* as it is while another thread is in a call */
+        s.handle.busy = 1; /* as it is while another thread is in a call */
         all_refused(&s, EDFVD_BUSY);
-        s.busy = 0;
+        s.handle.busy = 0;
         RETURNS(EDFVD_OK, outcome(&s));
         RETURNS(EDFVD_OK, row_at(&s));
         RETURNS(EDFVD_OK, close_it(&s));
@@ -155,9 +151,9 @@ static void monitors(void) {
     all_refused_monitor(&other, EDFVD_MOVED);
     m = other;
     RETURNS(EDFVD_OK, observe(&m));
-    m.busy = 1;
+    m.handle.busy = 1;
     all_refused_monitor(&m, EDFVD_BUSY);
-    m.busy = 0;
+    m.handle.busy = 0;
     RETURNS(EDFVD_OK, verdict(&m));
     RETURNS(EDFVD_OK, monitor_close(&m));
     all_closed_monitor(&m);
@@ -175,17 +171,17 @@ static void garbage(void) {
     edfvd_monitor m;
     memset(&s, 0x5a, sizeof s);
     memset(&m, 0x5a, sizeof m);
-    s.busy = 0;
-    m.busy = 0;
+    s.handle.busy = 0;
+    m.handle.busy = 0;
     all_refused(&s, EDFVD_MOVED);
     all_refused_monitor(&m, EDFVD_MOVED);
-    s.self = &s;
-    m.self = &m;
+    s.handle.self = &s.handle;
+    m.handle.self = &m.handle;
     all_closed(&s);
     all_closed_monitor(&m);
 }
 
-/* A scheduler is no monitor, although both begin with a mark and a pointer. */
+/* A scheduler is no monitor, although both are a handle: the calls of the other kind can neither use, open nor close it. */
 static void kinds_are_not_mixed(void) {
     edfvd_scheduler s = EDFVD_NONE;
     edfvd_monitor m = EDFVD_NONE;
@@ -193,6 +189,9 @@ static void kinds_are_not_mixed(void) {
     RETURNS(EDFVD_OK, monitor_open(&m));
     all_closed_monitor((edfvd_monitor *)(void *)&s);
     all_closed((edfvd_scheduler *)(void *)&m);
+    RETURNS(EDFVD_OPEN, monitor_open((edfvd_monitor *)(void *)&s));
+    for (size_t opener = 0; opener < OPENERS; opener++)
+        RETURNS(EDFVD_OPEN, scheduler_calls[opener]((edfvd_scheduler *)(void *)&m));
     RETURNS(EDFVD_OK, close_it(&s));
     RETURNS(EDFVD_OK, monitor_close(&m));
 }
@@ -201,12 +200,12 @@ static void kinds_are_not_mixed(void) {
 static void refused_sets(void) {
     edfvd_scheduler s = EDFVD_NONE, none = EDFVD_NONE, other;
     edfvd_monitor m = EDFVD_NONE, nothing = EDFVD_NONE, watch;
-    RETURNS(EDFVD_EMPTY, edfvd_open(&s, NULL, 0, 10, NULL));
-    IS(true, is_same(&s, &none));
-    RETURNS(EDFVD_EMPTY, edfvd_open_endless(&s, NULL, 0, NULL));
-    IS(true, is_same(&s, &none));
+    RETURNS(EDFVD_EMPTY, edfvd_scheduler_open(&s, NULL, 0, 10, NULL));
+    IS(true, is_same(&s.handle, &none.handle));
+    RETURNS(EDFVD_EMPTY, edfvd_scheduler_open_endless(&s, NULL, 0, NULL));
+    IS(true, is_same(&s.handle, &none.handle));
     RETURNS(EDFVD_EMPTY, edfvd_monitor_open(&m, NULL, 0, 1, 1, NULL));
-    IS(true, is_same_monitor(&m, &nothing));
+    IS(true, is_same(&m.handle, &nothing.handle));
     other = s;
     watch = m;
     RETURNS(EDFVD_OK, open_endless(&other));
@@ -220,15 +219,15 @@ static void null_arguments(void) {
     edfvd_scheduler s = EDFVD_NONE;
     edfvd_monitor m = EDFVD_NONE;
     PAINTED(to);
-    RETURNS(EDFVD_NULL, edfvd_open(&s, NULL, 2, 10, &to.task));
-    RETURNS(EDFVD_NULL, edfvd_open_endless(&s, NULL, 2, &to.task));
+    RETURNS(EDFVD_NULL, edfvd_scheduler_open(&s, NULL, 2, 10, &to.task));
+    RETURNS(EDFVD_NULL, edfvd_scheduler_open_endless(&s, NULL, 2, &to.task));
     RETURNS(EDFVD_NULL, edfvd_monitor_open(&m, NULL, 2, 1, 1, &to.task));
     IS_PAINTED(to);
     RETURNS(EDFVD_OK, open_plain(&s));
     RETURNS(EDFVD_OK, monitor_open(&m));
     PAINTED(to);
-    RETURNS(EDFVD_NULL, edfvd_peek(&s, NULL));
-    RETURNS(EDFVD_NULL, edfvd_row_at(&s, 0, NULL));
+    RETURNS(EDFVD_NULL, edfvd_scheduler_look(&s, NULL));
+    RETURNS(EDFVD_NULL, edfvd_scheduler_row(&s, 0, NULL));
     RETURNS(EDFVD_NULL, edfvd_monitor_observe(&m, NULL, 1, &to.unfit));
     RETURNS(EDFVD_NULL, edfvd_monitor_would_fit(&m, NULL, 1, &to.unfit));
     RETURNS(EDFVD_NULL, edfvd_monitor_would_fit(&m, &first_row, 1, NULL));
@@ -236,20 +235,20 @@ static void null_arguments(void) {
     RETURNS(EDFVD_NULL, edfvd_monitor_late(&m, 0, to.late, 2, NULL));
     RETURNS(EDFVD_NULL, edfvd_monitor_late(&m, 0, NULL, 0, NULL));
     RETURNS(EDFVD_NULL, edfvd_monitor_verdict(&m, NULL));
-    RETURNS(EDFVD_NULL, edfvd_monitor_peek(&m, NULL));
+    RETURNS(EDFVD_NULL, edfvd_monitor_look(&m, NULL));
     IS_PAINTED(to);
     /* These may be null. */
-    RETURNS(EDFVD_OK, edfvd_release(&s, 1, NULL));
-    RETURNS(EDFVD_OK, edfvd_grant(&s, 1, NULL));
-    RETURNS(EDFVD_OK, edfvd_outcome(&s, 1, 1, true, NULL));
-    RETURNS(EDFVD_OK, edfvd_idle(&s, NULL));
+    RETURNS(EDFVD_OK, edfvd_scheduler_release(&s, 1, NULL));
+    RETURNS(EDFVD_OK, edfvd_scheduler_grant(&s, 1, NULL));
+    RETURNS(EDFVD_OK, edfvd_scheduler_outcome(&s, 1, 1, true, NULL));
+    RETURNS(EDFVD_OK, edfvd_scheduler_idle(&s, NULL));
     RETURNS(EDFVD_OK, edfvd_monitor_observe(&m, &first_row, 1, NULL));
     RETURNS(EDFVD_OK, edfvd_monitor_late(&m, 0, NULL, 0, &to.count));
     RETURNS(EDFVD_OK, close_it(&s));
     RETURNS(EDFVD_OK, monitor_close(&m));
-    RETURNS(EDFVD_OK, edfvd_open(&s, control, 2, 10, NULL));
+    RETURNS(EDFVD_OK, edfvd_scheduler_open(&s, control, 2, 10, NULL));
     RETURNS(EDFVD_OK, close_it(&s));
-    RETURNS(EDFVD_OK, edfvd_open_endless(&s, control, 2, NULL));
+    RETURNS(EDFVD_OK, edfvd_scheduler_open_endless(&s, control, 2, NULL));
     RETURNS(EDFVD_OK, close_it(&s));
     RETURNS(EDFVD_OK, edfvd_monitor_open(&m, control, 2, 1, 1, NULL));
     RETURNS(EDFVD_OK, monitor_close(&m));

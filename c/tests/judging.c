@@ -165,7 +165,7 @@ static void rows_refused(void) {
         unfit_is_zeros(&unfit);
     }
     edfvd_watch watch;
-    RETURNS(EDFVD_OK, edfvd_monitor_peek(&m, &watch));
+    RETURNS(EDFVD_OK, edfvd_monitor_look(&m, &watch));
     IS(0, watch.rows);
     RETURNS(EDFVD_OK, edfvd_monitor_close(&m));
 }
@@ -191,7 +191,7 @@ static void times(void) {
     RETURNS(EDFVD_ARGUMENT, edfvd_monitor_would_fit(&m, &(edfvd_row){EDFVD_MORE, CTL, 1}, 0, &unfit));
     RETURNS(EDFVD_OK, edfvd_monitor_observe(&m, &idle, UINT32_MAX, &unfit));
     edfvd_watch watch;
-    RETURNS(EDFVD_OK, edfvd_monitor_peek(&m, &watch));
+    RETURNS(EDFVD_OK, edfvd_monitor_look(&m, &watch));
     IS(UINT32_MAX, watch.ticks);
     IS(UINT32_MAX, watch.rows);
     RETURNS(EDFVD_OK, edfvd_monitor_close(&m));
@@ -223,7 +223,7 @@ static void only_asked(void) {
     RETURNS(EDFVD_OK, edfvd_monitor_would_fit(&m, &idle, UINT32_MAX, &unfit));
     IS(EDFVD_WHY_IDLE_PENDING, unfit.why);
     IS(2, unfit.place);
-    RETURNS(EDFVD_OK, edfvd_monitor_peek(&m, &watch));
+    RETURNS(EDFVD_OK, edfvd_monitor_look(&m, &watch));
     IS(1, watch.rows);
     IS(0, watch.ticks);
     IS(1, watch.pending);
@@ -256,7 +256,7 @@ static void watches(void) {
         RETURNS(EDFVD_OK, edfvd_monitor_observe(&m, &steps[place].row, steps[place].times, &unfit));
         unfit_is_zeros(&unfit);
         PAINTED(watch);
-        RETURNS(EDFVD_OK, edfvd_monitor_peek(&m, &watch));
+        RETURNS(EDFVD_OK, edfvd_monitor_look(&m, &watch));
         IS(0, memcmp(&watch, &steps[place].after, sizeof watch));
     }
     edfvd_row more = {EDFVD_MORE, CTL, 2};
@@ -266,7 +266,7 @@ static void watches(void) {
     RETURNS(EDFVD_OK, edfvd_monitor_observe(&m, &more, 5, &unfit));
     IS(EDFVD_WHY_WRONG_HOW, unfit.why);
     IS(15, unfit.place);
-    RETURNS(EDFVD_OK, edfvd_monitor_peek(&m, &watch));
+    RETURNS(EDFVD_OK, edfvd_monitor_look(&m, &watch));
     IS(13, watch.rows); /* of the five that came with one call none is counted, although the first fits */
     IS(0, watch.legal);
     for (int again = 0; again < 2; again++) {
@@ -313,7 +313,7 @@ static void late_jobs(void) {
     for (size_t room = 0; room < 2; room++) {
         PAINTED(late);
         PAINTED(count);
-        RETURNS(EDFVD_ROOM, edfvd_monitor_late(&m, 0, room == 0 ? NULL : late, room, &count));
+        RETURNS(EDFVD_SHORT_BUFFER, edfvd_monitor_late(&m, 0, room == 0 ? NULL : late, room, &count));
         IS(2, count);
         IS_PAINTED(late);
     }

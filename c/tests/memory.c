@@ -72,23 +72,23 @@ static edfvd_status try_margins(void) {
 
 static edfvd_status try_open(void) {
     edfvd_scheduler s = EDFVD_NONE;
-    edfvd_status status = edfvd_open(&s, tasks, 2, 100, NULL);
-    return status == EDFVD_OK ? edfvd_close(&s) : status;
+    edfvd_status status = edfvd_scheduler_open(&s, tasks, 2, 100, NULL);
+    return status == EDFVD_OK ? edfvd_scheduler_close(&s) : status;
 }
 
 static edfvd_status try_open_endless(void) {
     edfvd_scheduler s = EDFVD_NONE;
-    edfvd_status status = edfvd_open_endless(&s, tasks, 2, NULL);
+    edfvd_status status = edfvd_scheduler_open_endless(&s, tasks, 2, NULL);
     if (status != EDFVD_OK) return status;
     long before = left;
     bool had_failed = has_failed;
     has_failed = false;
     left = 0; /* an event that tried an allocation would fail */
-    for (int tick = 0; tick < 1000 && status == EDFVD_OK; tick++) status = edfvd_idle(&s, NULL);
+    for (int tick = 0; tick < 1000 && status == EDFVD_OK; tick++) status = edfvd_scheduler_idle(&s, NULL);
     bool tried = has_failed;
     left = before;
     has_failed = had_failed;
-    edfvd_status closed = edfvd_close(&s);
+    edfvd_status closed = edfvd_scheduler_close(&s);
     return tried ? EDFVD_FULL : status == EDFVD_OK ? closed : status;
 }
 

@@ -187,7 +187,7 @@ static void stretch_refuses(void) {
     }
     PAINTED(percent);
     PAINTED(task);
-    RETURNS(EDFVD_NO_ROOM, edfvd_stretch(never, 2, &percent, &task));
+    RETURNS(EDFVD_NO_PERCENTAGE, edfvd_stretch(never, 2, &percent, &task));
     IS(0, percent);
     IS(0, task);
     PAINTED(percent);

@@ -44,7 +44,7 @@ static void *idle_shared(void *arg) {
     static const edfvd_row idle = {EDFVD_IDLE, 0, 0};
     counts *count = arg;
     for (unsigned call = 0; call < calls; call++) {
-        edfvd_status status = edfvd_idle(&shared, NULL);
+        edfvd_status status = edfvd_scheduler_idle(&shared, NULL);
         count->ticks += status == EDFVD_OK;
         count->wrong += status != EDFVD_OK && status != EDFVD_BUSY;
         status = edfvd_monitor_observe(&watched, &idle, 1, NULL);
@@ -61,18 +61,19 @@ static void *open_and_close(void *arg) {
         edfvd_look look;
         edfvd_watch watch;
         edfvd_status status =
-            call % 2 ? edfvd_open(&shared, control, 2, 4, NULL) : edfvd_open_endless(&shared, control, 2, NULL);
+            call % 2 ? edfvd_scheduler_open(&shared, control, 2, 4, NULL)
+                     : edfvd_scheduler_open_endless(&shared, control, 2, NULL);
         count->opened += status == EDFVD_OK;
         count->wrong += status != EDFVD_OK && status != EDFVD_BUSY && status != EDFVD_OPEN;
-        status = edfvd_peek(&shared, &look);
+        status = edfvd_scheduler_look(&shared, &look);
         count->wrong += status != EDFVD_OK && status != EDFVD_BUSY && status != EDFVD_CLOSED;
-        status = edfvd_close(&shared);
+        status = edfvd_scheduler_close(&shared);
         count->closed += status == EDFVD_OK;
         count->wrong += status != EDFVD_OK && status != EDFVD_BUSY && status != EDFVD_CLOSED;
         status = edfvd_monitor_open(&watched, control, 2, 1, 1, NULL);
         count->opened += status == EDFVD_OK;
         count->wrong += status != EDFVD_OK && status != EDFVD_BUSY && status != EDFVD_OPEN;
-        status = edfvd_monitor_peek(&watched, &watch);
+        status = edfvd_monitor_look(&watched, &watch);
         count->wrong += status != EDFVD_OK && status != EDFVD_BUSY && status != EDFVD_CLOSED;
         status = edfvd_monitor_close(&watched);
         count->closed += status == EDFVD_OK;
@@ -84,19 +85,19 @@ static void *open_and_close(void *arg) {
 /* Ten ticks of the control set: ctl has two of them, log five, which is its budget, and three are idle. */
 static uint64_t round_of(edfvd_scheduler *s) {
     uint64_t done = 0;
-    done += edfvd_release(s, CTL, NULL) == EDFVD_OK;
-    done += edfvd_release(s, LOG, NULL) == EDFVD_OK;
+    done += edfvd_scheduler_release(s, CTL, NULL) == EDFVD_OK;
+    done += edfvd_scheduler_release(s, LOG, NULL) == EDFVD_OK;
     for (int tick = 0; tick < 10; tick++) {
         edfvd_answer given;
         edfvd_look look;
-        done += edfvd_peek(s, &look) == EDFVD_OK;
+        done += edfvd_scheduler_look(s, &look) == EDFVD_OK;
         if (look.chosen_task == 0) {
-            done += edfvd_idle(s, NULL) == EDFVD_OK;
+            done += edfvd_scheduler_idle(s, NULL) == EDFVD_OK;
             continue;
         }
-        done += edfvd_grant(s, look.chosen_task, &given) == EDFVD_OK;
+        done += edfvd_scheduler_grant(s, look.chosen_task, &given) == EDFVD_OK;
         bool is_done = given.task == CTL && given.before == 1;
-        done += edfvd_outcome(s, given.task, given.count, is_done, NULL) == EDFVD_OK;
+        done += edfvd_scheduler_outcome(s, given.task, given.count, is_done, NULL) == EDFVD_OK;
     }
     return done;
 }
@@ -109,21 +110,22 @@ static void *own(void *arg) {
     edfvd_look look = {0};
     edfvd_verdict verdict = {0};
     count->wrong +=
-        edfvd_open_endless(&s, control, 2, NULL) != EDFVD_OK || edfvd_monitor_open(&m, control, 2, 0, 0, NULL) != EDFVD_OK;
+        edfvd_scheduler_open_endless(&s, control, 2, NULL) != EDFVD_OK ||
+        edfvd_monitor_open(&m, control, 2, 0, 0, NULL) != EDFVD_OK;
     uint64_t seen = 0;
     for (unsigned round = 0; round < calls / 40; round++) {
         count->wrong += round_of(&s) != 2 + 10 + 3 + 2 * 7;
-        count->wrong += edfvd_peek(&s, &look) != EDFVD_OK;
+        count->wrong += edfvd_scheduler_look(&s, &look) != EDFVD_OK;
         for (; seen < look.rows; seen++) {
             edfvd_row row;
             edfvd_unfit unfit;
-            count->wrong += edfvd_row_at(&s, seen, &row) != EDFVD_OK;
+            count->wrong += edfvd_scheduler_row(&s, seen, &row) != EDFVD_OK;
             count->wrong += edfvd_monitor_observe(&m, &row, 1, &unfit) != EDFVD_OK || unfit.why != EDFVD_FITS;
         }
     }
     count->ticks = look.ticks;
     count->wrong += edfvd_monitor_verdict(&m, &verdict) != EDFVD_OK || verdict.why != EDFVD_FITS || verdict.late != 0;
-    count->wrong += edfvd_close(&s) != EDFVD_OK || edfvd_monitor_close(&m) != EDFVD_OK;
+    count->wrong += edfvd_scheduler_close(&s) != EDFVD_OK || edfvd_monitor_close(&m) != EDFVD_OK;
     return NULL;
 }
 
@@ -131,24 +133,24 @@ int main(int argc, char **argv) {
     if (argc > 1) calls = (unsigned)strtoul(argv[1], NULL, 10);
     edfvd_look look;
     edfvd_watch watch;
-    RETURNS(EDFVD_OK, edfvd_open_endless(&shared, control, 2, NULL));
+    RETURNS(EDFVD_OK, edfvd_scheduler_open_endless(&shared, control, 2, NULL));
     RETURNS(EDFVD_OK, edfvd_monitor_open(&watched, control, 2, 0, 0, NULL));
     counts all = on_threads(idle_shared);
     IS(0, all.wrong);
-    RETURNS(EDFVD_OK, edfvd_peek(&shared, &look));
+    RETURNS(EDFVD_OK, edfvd_scheduler_look(&shared, &look));
     IS(look.ticks, all.ticks);
-    RETURNS(EDFVD_OK, edfvd_monitor_peek(&watched, &watch));
+    RETURNS(EDFVD_OK, edfvd_monitor_look(&watched, &watch));
     IS(watch.rows, all.rows);
-    RETURNS(EDFVD_OK, edfvd_close(&shared));
+    RETURNS(EDFVD_OK, edfvd_scheduler_close(&shared));
     RETURNS(EDFVD_OK, edfvd_monitor_close(&watched));
 
     all = on_threads(open_and_close);
     IS(0, all.wrong);
-    all.closed += edfvd_close(&shared) == EDFVD_OK;
+    all.closed += edfvd_scheduler_close(&shared) == EDFVD_OK;
     all.closed += edfvd_monitor_close(&watched) == EDFVD_OK;
     IS(all.opened, all.closed);
-    IS(0, shared.busy);
-    IS(0, watched.busy);
+    IS(0, shared.handle.busy);
+    IS(0, watched.handle.busy);
 
     all = on_threads(own);
     IS(0, all.wrong);

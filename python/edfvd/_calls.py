@@ -45,7 +45,7 @@ def stretch(tasks: Iterable[Task]) -> Optional[int]:
     array, names = given_tasks(tasks)
     percent, task = u32(), u32()
     status = library.edfvd_stretch(array, len(array), percent, task)
-    if status == Status.NO_ROOM:
+    if status == Status.NO_PERCENTAGE:
         return None
     if status:
         raise names.refused(status, task.value)

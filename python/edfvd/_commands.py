@@ -26,7 +26,7 @@ def ask(words: Iterable[str], first: bytes = b"", second: bytes = b"") -> Tuple[
     while True:
         out = ctypes.create_string_buffer(room)
         status = library.edfvd_ask(len(encoded), array, one, len(one), two, len(two), out, room, length, ended)
-        if status != Status.ROOM:
+        if status != Status.SHORT_BUFFER:
             break
         room = length.value
     if status:

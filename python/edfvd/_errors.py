@@ -32,14 +32,14 @@ class Status(enum.IntEnum):
     NOT_OUT = 25
     PENDING = 26
     NO_ROW = 27
-    NO_ROOM = 28
+    NO_PERCENTAGE = 28
     NO_PROCESSOR = 29
     GONE = 30
     NULL = 40
     MOVED = 41
     BUSY = 42
     ARGUMENT = 43
-    ROOM = 44
+    SHORT_BUFFER = 44
     THREADS = 45
 
 

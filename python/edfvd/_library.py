@@ -41,16 +41,16 @@ class CDemandTest(ctypes.Structure):
     _fields_ = [("past", u32), ("task", u32), ("length", u64), ("demand", u64)]
 
 
-class CHeld(ctypes.Structure):
-    _fields_ = [("mark", u64), ("at", ctypes.c_void_p)]
+class CHandle(ctypes.Structure):
+    _fields_ = [("mark", u64), ("at", ctypes.c_void_p), ("self", ctypes.c_void_p), ("busy", u32)]
 
 
 class CScheduler(ctypes.Structure):
-    _fields_ = [("held", CHeld), ("self", ctypes.c_void_p), ("busy", u32)]
+    _fields_ = [("handle", CHandle)]
 
 
 class CMonitor(ctypes.Structure):
-    _fields_ = [("held", CHeld), ("self", ctypes.c_void_p), ("busy", u32)]
+    _fields_ = [("handle", CHandle)]
 
 
 class CAnswer(ctypes.Structure):
@@ -110,22 +110,22 @@ CALLS: Dict[str, List[Any]] = {
         size, _pointer(ctypes.c_char_p), ctypes.c_char_p, size, ctypes.c_char_p, size, ctypes.c_char_p, size,
         _pointer(size), _pointer(u32),
     ],
-    "edfvd_open": [_scheduler, *_tasks, u32, _pointer(u32)],
-    "edfvd_open_endless": [_scheduler, *_tasks, _pointer(u32)],
-    "edfvd_close": [_scheduler],
-    "edfvd_release": [_scheduler, u32, _pointer(CAnswer)],
-    "edfvd_grant": [_scheduler, u32, _pointer(CAnswer)],
-    "edfvd_outcome": [_scheduler, u32, u32, ctypes.c_bool, _pointer(CAnswer)],
-    "edfvd_idle": [_scheduler, _pointer(CAnswer)],
-    "edfvd_peek": [_scheduler, _pointer(CLook)],
-    "edfvd_row_at": [_scheduler, u64, _pointer(CRow)],
+    "edfvd_scheduler_open": [_scheduler, *_tasks, u32, _pointer(u32)],
+    "edfvd_scheduler_open_endless": [_scheduler, *_tasks, _pointer(u32)],
+    "edfvd_scheduler_close": [_scheduler],
+    "edfvd_scheduler_release": [_scheduler, u32, _pointer(CAnswer)],
+    "edfvd_scheduler_grant": [_scheduler, u32, _pointer(CAnswer)],
+    "edfvd_scheduler_outcome": [_scheduler, u32, u32, ctypes.c_bool, _pointer(CAnswer)],
+    "edfvd_scheduler_idle": [_scheduler, _pointer(CAnswer)],
+    "edfvd_scheduler_look": [_scheduler, _pointer(CLook)],
+    "edfvd_scheduler_row": [_scheduler, u64, _pointer(CRow)],
     "edfvd_monitor_open": [_monitor, *_tasks, u64, u64, _pointer(u32)],
     "edfvd_monitor_close": [_monitor],
     "edfvd_monitor_observe": [_monitor, _pointer(CRow), u32, _pointer(CUnfit)],
     "edfvd_monitor_would_fit": [_monitor, _pointer(CRow), u32, _pointer(CUnfit)],
     "edfvd_monitor_late": [_monitor, u64, _pointer(CLate), size, _pointer(u64)],
     "edfvd_monitor_verdict": [_monitor, _pointer(CVerdict)],
-    "edfvd_monitor_peek": [_monitor, _pointer(CWatch)],
+    "edfvd_monitor_look": [_monitor, _pointer(CWatch)],
 }
 
 

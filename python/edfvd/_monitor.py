@@ -74,7 +74,7 @@ class Monitor(Handle):
         while True:
             jobs = (CLate * room)()
             status = library.edfvd_monitor_late(self._held, ticks, jobs, room, count)
-            if status != Status.ROOM:
+            if status != Status.SHORT_BUFFER:
                 break
             room = count.value
         if status:
@@ -92,7 +92,7 @@ class Monitor(Handle):
     def look(self) -> Watch:
         """The clock, the mode and how many jobs are pending."""
         watch = CWatch()
-        status = library.edfvd_monitor_peek(self._held, watch)
+        status = library.edfvd_monitor_look(self._held, watch)
         if status:
             raise Refused(Status(status))
         return Watch(

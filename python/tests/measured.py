@@ -20,8 +20,8 @@ LENGTHS: Dict[str, List[Tuple[int, int]]] = {
     "edfvd_speed": [(0, 1)],
     "edfvd_judge": [(0, 1), (2, 3)],
     "edfvd_ask": [(1, 0), (2, 3), (4, 5), (6, 7)],
-    "edfvd_open": [(1, 2)],
-    "edfvd_open_endless": [(1, 2)],
+    "edfvd_scheduler_open": [(1, 2)],
+    "edfvd_scheduler_open_endless": [(1, 2)],
     "edfvd_monitor_open": [(1, 2)],
     "edfvd_monitor_late": [(2, 3)],
 }

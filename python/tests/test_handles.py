@@ -27,7 +27,7 @@ class Counted:
 
     def __enter__(self) -> "Counted":
         gc.collect()
-        steps = {"edfvd_open": 1, "edfvd_open_endless": 1, "edfvd_monitor_open": 1}
+        steps = {"edfvd_scheduler_open": 1, "edfvd_scheduler_open_endless": 1, "edfvd_monitor_open": 1}
         self.patches = [self.patched(_library.library, name, step) for name, step in steps.items()]
         self.patches += [self.patched(kind, "_free", -1) for kind in (Scheduler, Monitor)]
         for patch in self.patches:
@@ -78,10 +78,10 @@ class Closing(Case):
         """It is refused, the handle stays open, and it can be closed when that call is over."""
         for make, change in KINDS:
             handle = make()
-            handle._held.busy = 1
+            handle._held.handle.busy = 1
             self.assertIs(self.refused(handle.close).status, Status.BUSY)
             self.assertIs(self.refused(lambda: change(handle)).status, Status.BUSY)
-            handle._held.busy = 0
+            handle._held.handle.busy = 0
             change(handle)
             handle.close()
             self.assertIs(self.refused(lambda: change(handle)).status, Status.CLOSED)

@@ -33,17 +33,22 @@ class Declarations(unittest.TestCase):
         self.assertEqual(compared, set(_library.STRUCTS))
 
     def test_handles(self) -> None:
-        """A scheduler and a monitor are a mark, a pointer, where they are, and whether a call is in them."""
-        for name in ("scheduler", "monitor"):
+        """A scheduler and a monitor are a handle: a mark, a pointer, where it is, and whether a call is in it."""
+        bodies = {}
+        for name in ("handle", "scheduler", "monitor"):
             body = re.search(rf"typedef struct edfvd_{name} \{{(.*?)\n\}} edfvd_{name};", self.header, re.S)
             assert body is not None
-            fields = re.findall(r"(\w+_t|void \*|const void \*)\s*(\w+);", body[1])
-            self.assertEqual(
-                fields, [("uint64_t", "mark"), ("void *", "at"), ("const void *", "self"), ("uint32_t", "busy")], name
-            )
+            bodies[name] = re.findall(r"(\w+_t|void \*|const void \*|edfvd_handle)\s*(\w+);", body[1])
+        self.assertEqual(
+            bodies["handle"], [("uint64_t", "mark"), ("void *", "at"), ("const void *", "self"), ("uint32_t", "busy")]
+        )
+        self.assertEqual(bodies["scheduler"], [("edfvd_handle", "handle")])
+        self.assertEqual(bodies["monitor"], [("edfvd_handle", "handle")])
+        handle = _library.CHandle
+        self.assertEqual([name for name, *_ in handle._fields_], ["mark", "at", "self", "busy"])
+        self.assertEqual((handle.busy.offset, handle.busy.size, ctypes.sizeof(handle)), (24, 4, 32))
         for struct in (_library.CScheduler, _library.CMonitor):
-            self.assertEqual([name for name, *_ in struct._fields_], ["held", "self", "busy"])
-            self.assertEqual((struct.busy.offset, struct.busy.size, ctypes.sizeof(struct)), (24, 4, 32))
+            self.assertEqual(struct._fields_, [("handle", handle)])
 
     def test_calls(self) -> None:
         kinds = {

@@ -10,7 +10,7 @@ static bool is_endless;
 static void compare_look(void) {
     edfvd_look *look = at_edge(sizeof *look, 1);
     const job *first = chosen(&wanted.so_far);
-    RETURNS(EDFVD_OK, edfvd_peek(&s, look));
+    RETURNS(EDFVD_OK, edfvd_scheduler_look(&s, look));
     IS(wanted.so_far.ticks, look->ticks);
     IS(wanted.so_far.rows, look->rows);
     IS(wanted.so_far.high_mode, look->high_mode);
@@ -35,19 +35,19 @@ static void try_event(void) {
     if (chance < 25) {
         uint32_t task = any_task(0);
         right = release(&wanted, task, &expected);
-        found = edfvd_release(&s, task, answer);
+        found = edfvd_scheduler_release(&s, task, answer);
     } else if (chance < 55) {
         uint32_t task = any_task(first == NULL ? 0 : first->task);
         right = grant(&wanted, task, &expected);
-        found = edfvd_grant(&s, task, answer);
+        found = edfvd_scheduler_grant(&s, task, answer);
     } else if (chance < 88) {
         uint32_t task = any_task(wanted.out.task), count = one_in(15) ? wild32() : wanted.out.count;
         bool done = one_in(4);
         right = outcome(&wanted, task, count, done, &expected);
-        found = edfvd_outcome(&s, task, count, done, answer);
+        found = edfvd_scheduler_outcome(&s, task, count, done, answer);
     } else {
         right = idle(&wanted, &expected);
-        found = edfvd_idle(&s, answer);
+        found = edfvd_scheduler_idle(&s, answer);
     }
     RETURNS(right, found);
     if (answer != NULL) IS(0, memcmp(&expected, answer, sizeof expected));
@@ -60,11 +60,11 @@ static void compare_rows(void) {
         static const edfvd_row none = {0, 0, 0};
         edfvd_row *row = at_edge(sizeof *row, 1);
         bool is_kept = number >= oldest && number < rows;
-        RETURNS(number < oldest ? EDFVD_GONE : is_kept ? EDFVD_OK : EDFVD_NO_ROW, edfvd_row_at(&s, number, row));
+        RETURNS(number < oldest ? EDFVD_GONE : is_kept ? EDFVD_OK : EDFVD_NO_ROW, edfvd_scheduler_row(&s, number, row));
         IS(0, memcmp(is_kept ? &wanted.rows[number] : &none, row, sizeof *row));
     }
     edfvd_row *row = at_edge(sizeof *row, 1);
-    RETURNS(EDFVD_NO_ROW, edfvd_row_at(&s, rows + (UINT64_C(1) << (below(32) + 32)), row));
+    RETURNS(EDFVD_NO_ROW, edfvd_scheduler_row(&s, rows + (UINT64_C(1) << (below(32) + 32)), row));
 }
 
 /* The rows are legal under the published rule, and no job is late. */
@@ -85,8 +85,8 @@ void try_events(void) {
     loads of = loads_of(tasks, count, lcm);
     rule by = published(&of);
     is_endless = one_in(2);
-    edfvd_status status = is_endless ? edfvd_open_endless(&s, given(tasks, count), count, task)
-                                     : edfvd_open(&s, given(tasks, count), count, places, task);
+    edfvd_status status = is_endless ? edfvd_scheduler_open_endless(&s, given(tasks, count), count, task)
+                                     : edfvd_scheduler_open(&s, given(tasks, count), count, places, task);
     RETURNS(by.number == 0 ? EDFVD_NOT_ADMITTED : EDFVD_OK, status);
     IS(0, *task);
     if (status != EDFVD_OK) return;
@@ -100,5 +100,5 @@ void try_events(void) {
     }
     compare_rows();
     judge_rows(tasks, count);
-    RETURNS(EDFVD_OK, edfvd_close(&s));
+    RETURNS(EDFVD_OK, edfvd_scheduler_close(&s));
 }

@@ -77,7 +77,7 @@ static void compare_late(uint64_t since) {
     edfvd_late *late = at_edge(room * sizeof *late, 1);
     uint64_t *count = at_edge(sizeof *count, 2);
     if (number != 0 && one_in(2)) {
-        RETURNS(EDFVD_ROOM, edfvd_monitor_late(&m, since, late, number - 1, count));
+        RETURNS(EDFVD_SHORT_BUFFER, edfvd_monitor_late(&m, since, late, number - 1, count));
         IS(number, *count);
         IS(true, is_painted(late, room * sizeof *late));
     }
@@ -88,7 +88,7 @@ static void compare_late(uint64_t since) {
 
 static void compare_watch(void) {
     edfvd_watch *watch = at_edge(sizeof *watch, 1);
-    RETURNS(EDFVD_OK, edfvd_monitor_peek(&m, watch));
+    RETURNS(EDFVD_OK, edfvd_monitor_look(&m, watch));
     if (wanted.why == EDFVD_FITS) counted = wanted.rows; /* of rows that came with one call, all count or none */
     IS(counted, watch->rows);
     IS(wanted.why == EDFVD_FITS, watch->legal);

@@ -62,7 +62,7 @@ static void try_stretch(const edfvd_task *tasks, size_t count) {
     uint64_t lcm = 0;
     edfvd_status status = edfvd_stretch(given(tasks, count), count, percent, task);
     IS(true, is_refused_rightly(tasks, count, status, *task, &lcm));
-    int wanted = status == EDFVD_OK || status == EDFVD_NO_ROOM ? stretch_of(tasks, count, lcm) : -1;
+    int wanted = status == EDFVD_OK || status == EDFVD_NO_PERCENTAGE ? stretch_of(tasks, count, lcm) : -1;
     IS(wanted >= 0, status == EDFVD_OK);
     IS(wanted >= 0 ? wanted : 0, *percent);
     IS(status, edfvd_stretch(given(tasks, count), count, percent, NULL));

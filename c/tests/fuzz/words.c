@@ -72,7 +72,7 @@ static void try_check(void) {
     IS(exits, *exit_status);
     IS(0, memcmp(reply, out, bytes));
     size_t shorter = below(bytes);
-    RETURNS(EDFVD_ROOM, ask(2, words, file, file_bytes, shorter));
+    RETURNS(EDFVD_SHORT_BUFFER, ask(2, words, file, file_bytes, shorter));
     IS(bytes, *length);
     IS(0, *exit_status);
     IS(true, is_painted(out, shorter));
@@ -146,10 +146,10 @@ static void try_any_words(void) {
     if (count <= 5 && !are_text)
         IS(EDFVD_ARGUMENT, status);
     else
-        IS(true, status == EDFVD_OK || status == EDFVD_ROOM || (status == EDFVD_THREADS && may_thread));
+        IS(true, status == EDFVD_OK || status == EDFVD_SHORT_BUFFER || (status == EDFVD_THREADS && may_thread));
     IS(true, status == EDFVD_OK ? *length <= room && is_painted(out + *length, room - *length) : is_painted(out, room));
     IS(true, status == EDFVD_OK ? *exit_status <= 12 : *exit_status == 0);
-    if (status != EDFVD_OK && status != EDFVD_ROOM) IS(0, *length);
+    if (status != EDFVD_OK && status != EDFVD_SHORT_BUFFER) IS(0, *length);
 }
 
 void try_words(void) {

@@ -20,14 +20,14 @@ IsReplied words first second ended len out =
 
 -- the text of the program's reply has this length, which exceeds the capacity of the buffer
 abbrev pub IsTooLong : List (List ℕ) → List ℕ → List ℕ → ℕ → ℕ → Type 0
-IsTooLong words first second len room =
-    (reply : Reply) × IsAnswered words first second reply × (len ≡ length reply.text) × (room < len)
+IsTooLong words first second len capacity =
+    (reply : Reply) × IsAnswered words first second reply × (len ≡ length reply.text) × (capacity < len)
 
 -- what a call with these words and files means by its status, and what it leaves in the numbers and the buffer
 pub record Asks (words : List (List ℕ)) (first second : List ℕ) (status ended len : ℕ)
     (out : List ℕ) : Type 0 where
   pub replied : status ≡ 0 → IsReplied words first second ended len out
-  pub room : status ≡ 44 → IsTooLong words first second len (length out)
+  pub short : status ≡ 44 → IsTooLong words first second len (length out)
   -- status 45 comes only for a command that starts threads, and such a command gets no reply
   pub threads : status ≡ 45 → AskForThreads words
   pub alone : status ≡ 0 → ¬ AskForThreads words

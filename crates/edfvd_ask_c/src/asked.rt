@@ -30,7 +30,7 @@ pub extern "C" fn edfvd_raw_ask(
     let text = reply.text();
     *len = text.len();
     if out.len() < text.len() {
-        return status::ROOM;
+        return status::SHORT_BUFFER;
     }
     out[..text.len()].copy_from_slice(text);
     *ended = u32::from(reply.status());

@@ -6,6 +6,6 @@ pub const MEMORY: u32 = 9;
 
 pub const ARGUMENT: u32 = 43;
 
-pub const ROOM: u32 = 44;
+pub const SHORT_BUFFER: u32 = 44;
 
 pub const THREADS: u32 = 45;

@@ -1,4 +1,4 @@
--- A handle and its parts own what a box at the same types owns.
+-- A block and its parts own what a box at the same types owns.
 use mir.Syntax.{impl, tnil, dnil}
 use mathlib.Core.List.{[]}
 use denote.Signature.{Slot, plain}
@@ -9,7 +9,7 @@ use Rattle.std_heap.proofs.Global.TheLaws as heap
 use Rattle.edfvd_c.specs.contracts.held.Held as Held
 use Rattle.edfvd_c.proofs.held.Held.TheLaws as held
 use Rattle.edfvd_c.specs.contracts.parts.Parts as Parts
-use Rattle.edfvd_c.specs.contracts.handle.Handle as Handle
+use Rattle.edfvd_c.specs.contracts.block.Block as Block
 
 abbrev pub E : Bx
 E = record { row = Held.the_row; laws = held.the_row_laws; al = record { row = Heap.the_row; laws = heap.the_row_laws; g = ghosts; d = dict; drops = impl [] tnil dnil } }
@@ -17,5 +17,5 @@ E = record { row = Held.the_row; laws = held.the_row_laws; al = record { row = H
 abbrev pub FromParts : Slot 0
 FromParts = plain (λ _. Parts.the_row Held.the_row Heap.the_row ghosts)
 
-abbrev pub FromHandle : Slot 0
-FromHandle = plain (λ _. Handle.the_row)
+abbrev pub FromBlock : Slot 0
+FromBlock = plain (λ _. Block.the_row)

@@ -1,6 +1,5 @@
 pub mod AsBox
-pub mod HeldRows
-pub mod Lookups
+pub mod Slots
 pub mod Names
 pub mod Numbered
 pub mod Levels

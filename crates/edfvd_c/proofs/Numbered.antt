@@ -1,5 +1,5 @@
 -- The names of tasks in order.
-use Rattle.std.proofs.Common.{◌≡◌, ℕ, suc, ◌+◌, List, [], ◌∷◌, ◌++◌, refl, subst, arith}
+use Rattle.std.proofs.Common.{◌≡◌, ℕ, suc, ◌+◌, [], ◌∷◌, ◌++◌, refl, subst, arith}
 use Rattle.edfvd_c.specs.Named.{name_of, names_of}
 
 -- no name

@@ -6,13 +6,13 @@ use Rattle.mc_task.specs.TaskSet.{AreTasks}
 use Rattle.mc_model.specs.Holds.{Holds}
 use Rattle.tick_frac.specs.Fraction.{Fraction, IsLowest}
 use Rattle.sensitivity.specs.Scales.{HoldBetween}
-use Rattle.edfvd_c.specs.declared.given.GivenTask.{GivenTask}
-use Rattle.edfvd_c.specs.declared.margins.Scales.{Scales}
+use Rattle.edfvd_c.specs.declared.given.CTask.{CTask}
+use Rattle.edfvd_c.specs.declared.margins.CScaleRange.{CScaleRange}
 use Rattle.edfvd_c.specs.Given.{AreOf}
 use Rattle.edfvd_c.specs.Margins.{AreScales, least_of, greatest_of}
 
 -- the numbers of two fractions between which the scales hold
-pub AreScales-of : (given : List GivenTask) (tasks : List Task) (s : Scales) (least greatest : Fraction) → least_of s ≡ least → greatest_of s ≡ greatest
+pub AreScales-of : (given : List CTask) (tasks : List Task) (s : CScaleRange) (least greatest : Fraction) → least_of s ≡ least → greatest_of s ≡ greatest
     → AreOf given tasks → AreTasks tasks → HoldBetween least greatest tasks → Holds tasks (Virtual greatest.num greatest.den) → IsLowest least → IsLowest greatest
     → AreScales given s
 AreScales-of given tasks s least greatest l g numbers are between holds low high = record {

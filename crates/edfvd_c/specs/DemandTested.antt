@@ -10,26 +10,26 @@ use Rattle.demand_test.specs.DemandBound.{IsFit}
 use Rattle.demand_test.specs.DemandList.{first_refusal, refused}
 use Rattle.demand_test.specs.Deadlines.{NoneLateIfWithin, LateIfPast}
 use Rattle.edfvd_c.specs.Named.{names_of}
-use Rattle.edfvd_c.specs.declared.demand.GivenDemand.{GivenDemand}
-use Rattle.edfvd_c.specs.declared.demand.DemandTested.{DemandTested}
+use Rattle.edfvd_c.specs.declared.demand.CDemandTask.{CDemandTask}
+use Rattle.edfvd_c.specs.declared.demand.CDemandTest.{CDemandTest}
 
 -- a task's numbers
-abbrev pub numbers_of : Demand → GivenDemand
+abbrev pub numbers_of : Demand → CDemandTask
 numbers_of t = record { period = t.period; deadline = t.deadline; budget = t.budget }
 
 -- the tasks have these numbers, in order
-abbrev pub AreOf : List GivenDemand → List Demand → Type 0
+abbrev pub AreOf : List CDemandTask → List Demand → Type 0
 AreOf given tasks = map numbers_of tasks ≡ given
 
 -- the numbers of a result: `past` 0 with the hyperperiod, or `past` 1 with the least length in which the tasks
 -- ask for more ticks than it has, and what they ask for
-abbrev pub in_numbers : Fit → DemandTested
+abbrev pub in_numbers : Fit → CDemandTest
 in_numbers (Within length) = record { past = 0; task = 0; length = length; demand = 0 }
 in_numbers (Past length demand) = record { past = 1; task = 0; length = length; demand = demand }
 
 -- the tasks have these numbers and are a set, and this is the result of the test: within, and no job is late in
 -- any schedule of them, or past, and a job is late in some
-pub record IsDemandTested (given : List GivenDemand) (t : DemandTested) : Type 0 where
+pub record IsDemandTested (given : List CDemandTask) (t : CDemandTest) : Type 0 where
   pub tasks : List Demand
   pub numbers : AreOf given tasks
   pub set : IsDemandSet tasks
@@ -53,7 +53,7 @@ status_of BadName = 43
 status_of BadNumber = 43
 
 -- tasks of these numbers, named by their places, are refused with this status, first at the task of this number
-pub record IsRefused (given : List GivenDemand) (status task : ℕ) : Type 0 where
+pub record IsRefused (given : List CDemandTask) (status task : ℕ) : Type 0 where
   pub tasks : List Demand
   pub numbers : AreOf given tasks
   pub names : map (λ (t : Demand). t.name) tasks ≡ names_of (length tasks)
@@ -62,5 +62,5 @@ pub record IsRefused (given : List GivenDemand) (status task : ℕ) : Type 0 whe
   pub number : status ≡ status_of cause
 
 -- a result with the task of a refusal, and no other number
-abbrev pub refused_at : ℕ → DemandTested
+abbrev pub refused_at : ℕ → CDemandTest
 refused_at task = record { past = 0; task = task; length = 0; demand = 0 }

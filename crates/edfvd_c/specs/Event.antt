@@ -17,31 +17,31 @@ use Rattle.mode_core.specs.declared.answers.IdleFault.{IdleFault}
 use Rattle.mode_core.specs.declared.answers.IdleFault.TheVariants as idle_fault
 use Rattle.mode_core.specs.Events.{release_answer, grant_answer, outcome_answer, idle_answer}
 use Rattle.mode_core.specs.Events.{after_release, after_grant, after_outcome}
-use Rattle.edfvd_c.specs.declared.event.Answer.{Answer}
+use Rattle.edfvd_c.specs.declared.event.CAnswer.{CAnswer}
 
 -- a status with an answer
 abbrev pub Returned : Type 0
-Returned = ℕ × Answer
+Returned = ℕ × CAnswer
 
 -- an answer with a job, and what came of it at a tick
-abbrev pub of_job : ℕ → JobId → ℕ → ℕ → Answer
+abbrev pub of_job : ℕ → JobId → ℕ → ℕ → CAnswer
 of_job what j before at = record { what = what; task = j.task.0; count = j.count; before = before; at = at }
 
 -- an answer without a job: what came of an event at a tick
-abbrev pub at_tick : ℕ → ℕ → Answer
+abbrev pub at_tick : ℕ → ℕ → CAnswer
 at_tick what at = record { what = what; task = 0; count = 0; before = 0; at = at }
 
 -- an answer with no job and no tick
-abbrev pub nothing : Answer
+abbrev pub nothing : CAnswer
 nothing = at_tick 0 0
 
 -- an answer with the job, if there is one
-abbrev pub of_some : Option JobId → Answer
+abbrev pub of_some : Option JobId → CAnswer
 of_some None = nothing
 of_some (Some j) = of_job 0 j 0 0
 
 -- what came of a release: 1 kept, 2 dropped, 3 held
-abbrev pub of_released : Released → Answer
+abbrev pub of_released : Released → CAnswer
 of_released (released.Kept j at) = of_job 1 j 0 at
 of_released (released.Dropped j at) = of_job 2 j 0 at
 of_released (released.Held j at) = of_job 3 j 0 at

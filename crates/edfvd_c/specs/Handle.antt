@@ -12,20 +12,20 @@ use Rattle.edfvd_c.specs.declared.held.Held.{Held}
 use Rattle.edfvd_c.specs.declared.held.Held.TheVariants as held
 use Rattle.mc_model.specs.Core.{State}
 use Rattle.trace_judge.specs.Watched.{Watched}
-use Rattle.edfvd_c.specs.declared.event.Answer.{Answer}
+use Rattle.edfvd_c.specs.declared.event.CAnswer.{CAnswer}
 use Rattle.mc_task.specs.declared.task.Task.{Task}
 use Rattle.mc_task.specs.declared.task.Rule.{Rule}
 use Rattle.mc_model.specs.Test.{published}
 use Rattle.mode_core.specs.Events.{empty_state}
-use Rattle.edfvd_c.specs.declared.given.GivenTask.{GivenTask}
+use Rattle.edfvd_c.specs.declared.given.CTask.{CTask}
 use Rattle.edfvd_c.specs.Given.{AreOf}
 use Rattle.edfvd_c.specs.Event.{Returned, nothing}
 use Rattle.edfvd_c.specs.Latest.{latest_from}
 
--- what a handle owns: nothing, or the block behind its pointer with what it holds
-abbrev pub handle_owns : Global → Ptr → Option Held → Fml
-handle_owns alloc at None = ftrue
-handle_owns alloc at (Some x) = box_owns (ghosts.dealloc_token alloc) the_row at x
+-- what a handle owns: nothing, or the memory behind its pointer with what it holds
+abbrev pub block_owns : Global → Ptr → Option Held → Fml
+block_owns alloc at None = ftrue
+block_owns alloc at (Some x) = box_owns (ghosts.dealloc_token alloc) the_row at x
 
 -- how what a handle holds is stored in proofs
 abbrev pub held_coded : Coded (Option Held)
@@ -52,32 +52,24 @@ abbrev pub monitor_of : Option Held → Option Watched
 monitor_of (Some (held.Monitor w)) = Some w
 monitor_of other = None
 
--- the number that an open scheduler bears
+-- the number that an open handle bears
 abbrev pub open_mark : ℕ
-open_mark = 7306077154177934129
+open_mark = 7306077154177937264
 
--- the number that an open monitor bears
-abbrev pub monitor_mark : ℕ
-monitor_mark = 7306077154177936689
-
--- with the mark of an open scheduler a scheduler is held, and with any other mark nothing
+-- with the mark of an open handle a scheduler or a monitor is held, and with any other mark nothing
 abbrev pub IsMarked : ℕ → Option Held → Type 0
-IsMarked mark h = (mark ≡ open_mark → IsSome (core_of h)) × (mark ≢ open_mark → h ≡ None)
-
--- with the mark of an open monitor a monitor is held, and with any other mark nothing
-abbrev pub IsMonitorMarked : ℕ → Option Held → Type 0
-IsMonitorMarked mark h = (mark ≡ monitor_mark → IsSome (monitor_of h)) × (mark ≢ monitor_mark → h ≡ None)
+IsMarked mark h = (mark ≡ open_mark → IsSome h) × (mark ≢ open_mark → h ≡ None)
 
 -- an event through a handle: with a closed one the status is 12 and it stays closed; with an open one its state
 -- says what is returned, and which state it has after
-abbrev pub Does : Option State → Option State → ℕ → Answer → (State → Returned) → (State → State) → Type 0
+abbrev pub Does : Option State → Option State → ℕ → CAnswer → (State → Returned) → (State → State) → Type 0
 Does old new status answer returns after =
     MatchOption old ((new ≡ None) × (status ≡ 12) × (answer ≡ nothing))
     (λ s. (new ≡ Some (after s)) × (status ≡ (returns s).0) × (answer ≡ (returns s).1))
 
 -- an opened scheduler: the tasks have the given numbers, the rule is that of the published test, and it has no
 -- rows
-abbrev pub IsOpening : List GivenTask → ℕ → Option State → Type 0
+abbrev pub IsOpening : List CTask → ℕ → Option State → Type 0
 IsOpening given places core =
     (tasks : List Task) × (rule : Rule) × AreOf given tasks × (published tasks ≡ Some rule)
     × (core ≡ Some (empty_state tasks rule places))

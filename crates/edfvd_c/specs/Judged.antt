@@ -10,11 +10,11 @@ use Rattle.mc_model.specs.declared.verdict.Why.TheVariants as why
 use Rattle.mc_model.specs.declared.verdict.Verdict.{Verdict}
 use Rattle.mc_model.specs.declared.verdict.Verdict.TheVariants.{Legal, Illegal}
 use Rattle.mc_model.specs.Verdict.{verdict}
-use Rattle.edfvd_c.specs.declared.given.GivenTask.{GivenTask}
-use Rattle.edfvd_c.specs.declared.seen.SeenRow.{SeenRow}
-use Rattle.edfvd_c.specs.declared.judged.Judged.{Judged}
+use Rattle.edfvd_c.specs.declared.given.CTask.{CTask}
+use Rattle.edfvd_c.specs.declared.look.CRow.{CRow}
+use Rattle.edfvd_c.specs.declared.judged.CVerdict.{CVerdict}
 use Rattle.edfvd_c.specs.Given.{AreOf}
-use Rattle.edfvd_c.specs.Seen.{seen_row, task_number, count_number}
+use Rattle.edfvd_c.specs.Look.{row_numbers, task_number, count_number}
 
 -- which rule a row breaks, from 1
 abbrev pub why_number : Why → ℕ
@@ -27,7 +27,7 @@ why_number why.WrongHow = 6
 why_number why.IdlePending = 7
 
 -- `why` is 0 for a legal trace; `place` is the number, from 1, of the row that does not fit
-abbrev pub judged : Verdict → Judged
+abbrev pub judged : Verdict → CVerdict
 judged (Legal late first) = record {
   why = 0;
   task = task_number first;
@@ -42,8 +42,8 @@ abbrev pub IsRule : ℕ → ℕ → List Task → Rule → Type 0
 IsRule p q tasks rule = MatchBool (p == 0) (published tasks ≡ Some rule) (rule ≡ Virtual p q)
 
 -- tasks and rows are as given, and this is the verdict on them under the rule
-abbrev pub IsJudged : List GivenTask → List SeenRow → ℕ → ℕ → Judged → Type 0
+abbrev pub IsJudged : List CTask → List CRow → ℕ → ℕ → CVerdict → Type 0
 IsJudged given seen p q found =
     (tasks : List Task) × (rule : Rule) × (rows : List Row)
-    × AreOf given tasks × IsRule p q tasks rule × (map seen_row rows ≡ seen)
+    × AreOf given tasks × IsRule p q tasks rule × (map row_numbers rows ≡ seen)
     × (found ≡ judged (verdict tasks rule (reverse rows)))

@@ -3,8 +3,8 @@ use Rattle.std.specs.Prelude.{◌≡◌, ◌↔◌, ◌≤◌, ◌<◌, ◌-◌,
 use Rattle.mc_model.specs.declared.row.Row.{Row}
 use Rattle.edfvd_c.specs.declared.latest.Lookup.{Lookup}
 use Rattle.edfvd_c.specs.declared.latest.Lookup.TheVariants.{Here, Gone, NotYet}
-use Rattle.edfvd_c.specs.declared.seen.SeenRow.{SeenRow}
-use Rattle.edfvd_c.specs.Seen.{seen_row}
+use Rattle.edfvd_c.specs.declared.look.CRow.{CRow}
+use Rattle.edfvd_c.specs.Look.{row_numbers}
 
 -- the number of the oldest of the latest 256 rows, in a schedule whose newest row stands first
 abbrev pub latest_from : List Row → ℕ
@@ -20,12 +20,12 @@ abbrev pub lookup : ℕ → List Row → ℕ → Lookup
 lookup first rows place = if nat_lt place first then Gone else here_or_not_yet (slice_get rows place)
 
 -- the numbers of no row
-abbrev pub no_row : SeenRow
+abbrev pub no_row : CRow
 no_row = record { event = 0; task = 0; count = 0 }
 
 -- what a call returns for a row: status 0 and the row; 27 if it is not there yet, 30 if it is gone
-abbrev pub row_returns : Lookup → ℕ × SeenRow
-row_returns (Here row) = (0, seen_row row)
+abbrev pub row_returns : Lookup → ℕ × CRow
+row_returns (Here row) = (0, row_numbers row)
 row_returns NotYet = (27, no_row)
 row_returns Gone = (30, no_row)
 

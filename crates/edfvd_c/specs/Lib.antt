@@ -2,10 +2,10 @@ pub mod Given
 pub mod Named
 pub mod Tested
 pub mod DemandTested
-pub mod Room
+pub mod Growth
 pub mod Parted
 pub mod Event
-pub mod Seen
+pub mod Look
 pub mod Latest
 pub mod Slots
 pub mod Handle

@@ -10,21 +10,21 @@ use Rattle.sensitivity.specs.Budgets.{AreGreatestOf}
 use Rattle.sensitivity.specs.Scales.{HoldBetween, NoScaleHolds}
 use Rattle.sensitivity.specs.Speeds.{IsLeastSpeed}
 use Rattle.tick_frac.specs.Fraction.{Fraction, IsLowest}
-use Rattle.edfvd_c.specs.declared.given.GivenTask.{GivenTask}
-use Rattle.edfvd_c.specs.declared.margins.Budgets.{Budgets}
-use Rattle.edfvd_c.specs.declared.margins.Scales.{Scales}
+use Rattle.edfvd_c.specs.declared.given.CTask.{CTask}
+use Rattle.edfvd_c.specs.declared.margins.CBudgets.{CBudgets}
+use Rattle.edfvd_c.specs.declared.margins.CScaleRange.{CScaleRange}
 use Rattle.edfvd_c.specs.Given.{AreOf}
 
 -- a task's greatest budgets in numbers: 0 if there is none
-abbrev pub budgets_of : GreatestBudgets → Budgets
+abbrev pub budgets_of : GreatestBudgets → CBudgets
 budgets_of g = record { low = unwrap_or g.low 0; high = unwrap_or g.high 0 }
 
 -- the budgets at index i are the greatest ones of task number i + 1
-abbrev pub IsGreatestAt : List Task → List Budgets → ℕ → Type 0
+abbrev pub IsGreatestAt : List Task → List CBudgets → ℕ → Type 0
 IsGreatestAt tasks budgets i = (g : GreatestBudgets) × AreGreatestOf tasks (i + 1) g × (slice_get budgets i ≡ Some (budgets_of g))
 
 -- the tasks have these numbers and are a set, and these are the greatest budgets of each of them, in order
-pub record AreGreatest (given : List GivenTask) (budgets : List Budgets) : Type 0 where
+pub record AreGreatest (given : List CTask) (budgets : List CBudgets) : Type 0 where
   pub tasks : List Task
   pub numbers : AreOf given tasks
   pub set : AreTasks tasks
@@ -32,16 +32,16 @@ pub record AreGreatest (given : List GivenTask) (budgets : List Budgets) : Type 
   pub each : (i : ℕ) → i < length given → IsGreatestAt tasks budgets i
 
 -- the least scale
-abbrev pub least_of : Scales → Fraction
+abbrev pub least_of : CScaleRange → Fraction
 least_of s = record { num = s.least_p; den = s.least_q }
 
 -- the greatest scale
-abbrev pub greatest_of : Scales → Fraction
+abbrev pub greatest_of : CScaleRange → Fraction
 greatest_of s = record { num = s.greatest_p; den = s.greatest_q }
 
 -- the tasks have these numbers and are a set, exactly the scales between these two hold for them, and the greatest one
 -- is one of them; both are in lowest terms
-pub record AreScales (given : List GivenTask) (s : Scales) : Type 0 where
+pub record AreScales (given : List CTask) (s : CScaleRange) : Type 0 where
   pub tasks : List Task
   pub numbers : AreOf given tasks
   pub set : AreTasks tasks
@@ -51,7 +51,7 @@ pub record AreScales (given : List GivenTask) (s : Scales) : Type 0 where
   pub greatest_lowest : IsLowest (greatest_of s)
 
 -- the tasks have these numbers and are a set, no scale holds for them, and the published test does not admit them
-pub record HaveNoScale (given : List GivenTask) : Type 0 where
+pub record HaveNoScale (given : List CTask) : Type 0 where
   pub tasks : List Task
   pub numbers : AreOf given tasks
   pub set : AreTasks tasks
@@ -59,12 +59,12 @@ pub record HaveNoScale (given : List GivenTask) : Type 0 where
   pub refused : published tasks ≡ None
 
 -- the tasks have these numbers and are a set, and this is their least speed in millionths
-pub record IsSpeed (given : List GivenTask) (millionths : ℕ) : Type 0 where
+pub record IsSpeed (given : List CTask) (millionths : ℕ) : Type 0 where
   pub tasks : List Task
   pub numbers : AreOf given tasks
   pub set : AreTasks tasks
   pub least : IsLeastSpeed millionths 1000000 tasks
 
 -- no scales
-abbrev pub zeros : Scales
+abbrev pub zeros : CScaleRange
 zeros = record { least_p = 0; least_q = 0; greatest_p = 0; greatest_q = 0 }

@@ -13,18 +13,18 @@ use Rattle.trace_judge.specs.declared.unfit.Unfit.{Unfit}
 use Rattle.trace_judge.specs.declared.turned.Turned.{Turned}
 use Rattle.trace_judge.specs.Turned.{AreTurned, IsInOrder, AddLate}
 use Rattle.trace_judge.specs.Watched.{Watched, Watches, unfit_in, seen, fits_so_far}
-use Rattle.edfvd_c.specs.declared.given.GivenTask.{GivenTask}
-use Rattle.edfvd_c.specs.declared.judged.Judged.{Judged}
-use Rattle.edfvd_c.specs.declared.seen.SeenRow.{SeenRow}
-use Rattle.edfvd_c.specs.declared.monitor.UnfitRow.{UnfitRow}
-use Rattle.edfvd_c.specs.declared.monitor.Watching.{Watching}
-use Rattle.edfvd_c.specs.declared.monitor.LateJob.{LateJob}
+use Rattle.edfvd_c.specs.declared.given.CTask.{CTask}
+use Rattle.edfvd_c.specs.declared.judged.CVerdict.{CVerdict}
+use Rattle.edfvd_c.specs.declared.look.CRow.{CRow}
+use Rattle.edfvd_c.specs.declared.monitor.CUnfit.{CUnfit}
+use Rattle.edfvd_c.specs.declared.monitor.CWatch.{CWatch}
+use Rattle.edfvd_c.specs.declared.monitor.CLate.{CLate}
 use Rattle.edfvd_c.specs.Given.{AreOf}
-use Rattle.edfvd_c.specs.Seen.{row_in}
+use Rattle.edfvd_c.specs.Look.{row_in}
 use Rattle.edfvd_c.specs.Judged.{judged, why_number, IsRule}
 
 -- an opened monitor: its tasks have the given numbers, the rule is as for the judge, and it has seen no row
-abbrev pub IsMonitorOpening : List GivenTask → ℕ → ℕ → Option Watched → Type 0
+abbrev pub IsMonitorOpening : List CTask → ℕ → ℕ → Option Watched → Type 0
 IsMonitorOpening given p q m = MatchOption m ⊥
     (λ w. AreOf given w.set.tasks × IsRule p q w.set.tasks w.rule × Watches [] w)
 
@@ -35,16 +35,16 @@ run_of n (Tick j how) = Some (run.Ticks j how n)
 run_of n Idle = Some (run.Idles n)
 
 -- the run that the numbers stand for
-abbrev pub run_in : SeenRow → ℕ → Option Run
+abbrev pub run_in : CRow → ℕ → Option Run
 run_in row n = option_and_then (run_of n) (row_in row)
 
 -- the first row so far that does not fit; zeros if each fits
-abbrev pub unfit_row : Option Unfit → UnfitRow
+abbrev pub unfit_row : Option Unfit → CUnfit
 unfit_row None = record { why = 0; place = 0 }
 unfit_row (Some u) = record { why = why_number u.why; place = u.place }
 
 -- the monitor has seen the run after all rows before, and this is what it found
-pub record Takes (run : Run) (before after : Watched) (unfit : UnfitRow) : Type 0 where
+pub record Takes (run : Run) (before after : Watched) (unfit : CUnfit) : Type 0 where
   pub set : after.set ≡ before.set
   pub rule : after.rule ≡ before.rule
   pub rows : (h : List Row) → Watches h before → Watches (rows_of run ++ h) after
@@ -52,11 +52,11 @@ pub record Takes (run : Run) (before after : Watched) (unfit : UnfitRow) : Type 
       → unfit ≡ unfit_row (unfit_in before.set.tasks before.rule (rows_of run ++ h))
 
 -- the numbers stand for no run, or for one that is not valid
-abbrev pub IsNoRun : SeenRow → ℕ → Type 0
+abbrev pub IsNoRun : CRow → ℕ → Type 0
 IsNoRun row n = MatchOption (run_in row n) ⊤ (λ run. ¬ IsRun run)
 
 -- why a monitor does not take n equal rows
-pub record HasReason (row : SeenRow) (n : ℕ) (w : Watched) (status : ℕ) : Type 0 where
+pub record HasReason (row : CRow) (n : ℕ) (w : Watched) (status : ℕ) : Type 0 where
   pub no_run : status ≡ 43 → IsNoRun row n
   pub no_task : status ≡ 10 → IfSome (run_in row n) (λ run. ¬ IsRunOfSet w.set.tasks run)
   pub full : status ≡ 22 → IfSome (run_in row n) (λ run. 2 ^ 62 < seen w + size run)
@@ -64,8 +64,8 @@ pub record HasReason (row : SeenRow) (n : ℕ) (w : Watched) (status : ℕ) : Ty
   pub only : (status ≡ 0) ⊎ (status ≡ 9) ⊎ (status ≡ 10) ⊎ (status ≡ 22) ⊎ (status ≡ 43)
 
 -- what an open monitor does with n equal rows
-pub record Observed (row : SeenRow) (n : ℕ) (before : Watched) (new : Option Watched) (status : ℕ)
-    (found : UnfitRow) : Type 0 where
+pub record Observed (row : CRow) (n : ℕ) (before : Watched) (new : Option Watched) (status : ℕ)
+    (found : CUnfit) : Type 0 where
   -- with status 0 the monitor has seen the run that the numbers stand for
   pub taken : status ≡ 0 → (run : Run) × (after : Watched)
       × (run_in row n ≡ Some run) × (new ≡ Some after) × Takes run before after found
@@ -74,20 +74,20 @@ pub record Observed (row : SeenRow) (n : ℕ) (before : Watched) (new : Option W
   pub reason : HasReason row n before status
 
 -- what is observed through a monitor: with a closed one the status is 12 and it stays closed
-abbrev pub Observes : SeenRow → ℕ → Option Watched → Option Watched → ℕ → UnfitRow → Type 0
+abbrev pub Observes : CRow → ℕ → Option Watched → Option Watched → ℕ → CUnfit → Type 0
 Observes row n old new status found =
     MatchOption old ((new ≡ None) × (status ≡ 12) × (found ≡ unfit_row None))
     (λ before. Observed row n before new status found)
 
 -- what an open monitor would find if n equal rows came next
-pub record WouldFind (row : SeenRow) (n : ℕ) (w : Watched) (status : ℕ) (unfit : UnfitRow) : Type 0 where
+pub record WouldFind (row : CRow) (n : ℕ) (w : Watched) (status : ℕ) (unfit : CUnfit) : Type 0 where
   pub found : status ≡ 0 → (run : Run) × (run_in row n ≡ Some run) × ((h : List Row) → Watches h w
       → unfit ≡ unfit_row (unfit_in w.set.tasks w.rule (rows_of run ++ h)))
   pub reason : HasReason row n w status
   pub memory : status ≢ 9
 
 -- a job that turned late, in numbers
-abbrev pub late_job : Turned → LateJob
+abbrev pub late_job : Turned → CLate
 late_job t = record { task = t.job.task.0; count = t.job.count; deadline = t.deadline }
 
 -- these are the jobs that turned late after this many ticks, in the order of their deadlines; if one run came
@@ -99,22 +99,22 @@ pub record TurnedLate (w : Watched) (since : ℕ) (ts : List Turned) : Type 0 wh
       → IsRun run → since ≡ ticks h → AddLate w.set.tasks run h ts
 
 -- what is stored of the jobs that turned late
-pub record StoresLate (w : Watched) (since status many : ℕ) (jobs : List LateJob) : Type 0 where
+pub record StoresLate (w : Watched) (since status many : ℕ) (jobs : List CLate) : Type 0 where
   -- with status 0 the array begins with the jobs that turned late, and their number is returned
   pub stored : status ≡ 0 → (ts : List Turned)
       × TurnedLate w since ts × (many ≡ length ts) × (take many jobs ≡ map late_job ts)
   -- with status 44 the number of jobs that turned late is returned, and the array has fewer elements
-  pub room : status ≡ 44 → (ts : List Turned)
+  pub short : status ≡ 44 → (ts : List Turned)
       × TurnedLate w since ts × (many ≡ length ts) × (length jobs < many)
   -- only these statuses are returned; 9 is out of memory
   pub only : (status ≡ 0) ⊎ (status ≡ 9) ⊎ (status ≡ 44)
 
 -- the numbers are the verdict on the rows that the monitor has seen
-abbrev pub IsVerdict : Watched → Judged → Type 0
+abbrev pub IsVerdict : Watched → CVerdict → Type 0
 IsVerdict w found = (h : List Row) → Watches h w → found ≡ judged (verdict w.set.tasks w.rule h)
 
 -- how many rows have fitted, and whether each has; if so, the clock, the mode and the number of pending jobs
-pub record IsWatching (w : Watched) (found : Watching) : Type 0 where
+pub record IsWatch (w : Watched) (found : CWatch) : Type 0 where
   pub rows : found.rows ≡ seen w
   pub legal : found.legal ≡ cond (fits_so_far w) 1 0
   pub ticks : (h : List Row) → Watches h w → fits_so_far w ≡ true → found.ticks ≡ ticks h

@@ -6,7 +6,7 @@ use Rattle.mc_task.specs.declared.set.SetFault.TheVariants.{Empty, TooMany, Zero
 use Rattle.mc_task.specs.TaskSet.{AreTasks}
 use Rattle.mc_task.specs.Faults.{first_fault}
 use Rattle.mc_model.specs.Loads.{range_fault}
-use Rattle.edfvd_c.specs.declared.given.GivenTask.{GivenTask}
+use Rattle.edfvd_c.specs.declared.given.CTask.{CTask}
 use Rattle.edfvd_c.specs.Given.{AreOf}
 use Rattle.edfvd_c.specs.Named.{names_of}
 
@@ -45,23 +45,23 @@ task_of (NoSet fault) = fault_task fault
 task_of (Periods task) = task
 
 -- task number k is the first whose level is neither 0 for low nor 1 for high
-pub record IsFirstOfNoLevel (given : List GivenTask) (k : ℕ) : Type 0 where
+pub record IsFirstOfNoLevel (given : List CTask) (k : ℕ) : Type 0 where
   pub some : 1 ≤ k
-  pub here : (t : GivenTask) × (slice_get given (k - 1) ≡ Some t) × (1 < t.level)
-  pub before : (i : ℕ) (t : GivenTask) → i < k - 1 → slice_get given i ≡ Some t → t.level ≤ 1
+  pub here : (t : CTask) × (slice_get given (k - 1) ≡ Some t) × (1 < t.level)
+  pub before : (i : ℕ) (t : CTask) → i < k - 1 → slice_get given i ≡ Some t → t.level ≤ 1
 
 -- the tasks have the given numbers, and are named by their places
-abbrev pub AreNamed : List GivenTask → List Task → Type 0
+abbrev pub AreNamed : List CTask → List Task → Type 0
 AreNamed given tasks = AreOf given tasks × (map (λ (t : Task). t.name) tasks ≡ names_of (length tasks))
 
 -- the given tasks have this cause: a task has no level, or the tasks with these numbers have a fault or are out of range
-abbrev pub HasCause : List GivenTask → Cause → Type 0
+abbrev pub HasCause : List CTask → Cause → Type 0
 HasCause given (Level task) = IsFirstOfNoLevel given task
 HasCause given (NoSet fault) = (tasks : List Task) × AreNamed given tasks × (first_fault tasks ≡ Some fault)
 HasCause given (Periods task) = (tasks : List Task) × AreOf given tasks × AreTasks tasks × (range_fault tasks ≡ Some task)
 
 -- the given tasks are refused with this status, which is about this task
-pub record IsRefused (given : List GivenTask) (status task : ℕ) : Type 0 where
+pub record IsRefused (given : List CTask) (status task : ℕ) : Type 0 where
   pub cause : Cause
   pub has : HasCause given cause
   pub status_is : status ≡ status_of cause

@@ -18,6 +18,6 @@ IsInSlots all slots =
 
 -- up to 2^62 rows can be counted, and the latest rows are in their slots
 pub record AreLatest (a : Inside) : Type 0 where
-  pub room : vec_capacity a.rows ≡ 2 ^ 62
+  pub capacity : vec_capacity a.rows ≡ 2 ^ 62
   pub slots : length a.slots.items ≡ 256
   pub latest : IsInSlots (all_rows a) a.slots.items

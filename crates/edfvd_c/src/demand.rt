@@ -11,7 +11,7 @@ use std::alloc::Global;
 /// A task's period, deadline and budget, in ticks.
 #[repr(C)]
 #[derive(Clone, Copy)]
-pub struct GivenDemand {
+pub struct CDemandTask {
     pub period: u32,
     pub deadline: u32,
     pub budget: u32,
@@ -22,7 +22,7 @@ pub struct GivenDemand {
 /// for. `task` is the task of a refusal, or 0.
 #[repr(C)]
 #[derive(Clone, Copy)]
-pub struct DemandTested {
+pub struct CDemandTest {
     pub past: u32,
     pub task: u32,
     pub length: u64,
@@ -34,8 +34,8 @@ pub struct DemandTested {
 #[unsafe(no_mangle)]
 pub extern "C" fn edfvd_raw_demand(
     alloc: Global,
-    given: &[GivenDemand],
-    tested: &mut DemandTested,
+    given: &[CDemandTask],
+    tested: &mut CDemandTest,
 ) -> u32
     ensures tested { result ≡ 0 → spec.IsDemandTested given.now tested.new }
     ensures many { 128 < length given.now → (result ≡ 2) × (tested.new ≡ spec.refused_at 0) }
@@ -48,7 +48,7 @@ pub extern "C" fn edfvd_raw_demand(
             status::OK
         }
         Err(no) => {
-            *tested = DemandTested {
+            *tested = CDemandTest {
                 past: 0,
                 task: no.task,
                 length: 0,
@@ -59,7 +59,7 @@ pub extern "C" fn edfvd_raw_demand(
     }
 }
 
-fn test_demand(alloc: Global, given: &[GivenDemand]) -> Result<DemandTested, NoSet>
+fn test_demand(alloc: Global, given: &[CDemandTask]) -> Result<CDemandTest, NoSet>
     ensures tested { IfOk result (spec.IsDemandTested given.now) }
     ensures few { IfOk result (λ tested. length given.now ≤ 128) }
     ensures many { IfErr result (λ no. 128 < length given.now → (no.status ≡ 2) × (no.task ≡ 0)) }
@@ -82,14 +82,14 @@ fn test_demand(alloc: Global, given: &[GivenDemand]) -> Result<DemandTested, NoS
     }
 }
 
-fn in_numbers(fit: Fit) -> DemandTested
+fn in_numbers(fit: Fit) -> CDemandTest
     ensures { result ≡ spec.in_numbers fit }
 {
     let (past, length, demand) = match fit {
         Fit::Within { length } => (0, length, 0),
         Fit::Past { length, demand } => (1, length, demand),
     };
-    DemandTested {
+    CDemandTest {
         past,
         task: 0,
         length,
@@ -98,7 +98,7 @@ fn in_numbers(fit: Fit) -> DemandTested
 }
 
 // The set of the tasks, which are named by their numbers.
-fn demand_set_of(alloc: Global, given: &[GivenDemand]) -> Result<DemandSet, NoSet>
+fn demand_set_of(alloc: Global, given: &[CDemandTask]) -> Result<DemandSet, NoSet>
     requires { length given.now ≤ 128 }
     ensures tasks { IfOk result (λ set. spec.AreOf given.now set) }
     ensures refused { IfErr result (λ no. no.status ≢ 9 → spec.IsRefused given.now no.status no.task) }
@@ -125,7 +125,7 @@ fn demand_set_of(alloc: Global, given: &[GivenDemand]) -> Result<DemandSet, NoSe
     }
 }
 
-fn demand_of(given: GivenDemand, number: u32) -> Demand
+fn demand_of(given: CDemandTask, number: u32) -> Demand
     requires { number < 1000 }
     ensures numbers { spec.numbers_of result ≡ given }
     ensures name { result.name ≡ named.name_of number }

@@ -12,7 +12,7 @@ use row_history::Recorder;
 /// What came of an event, the job and its numbers; each is 0 where there is none.
 #[repr(C)]
 #[derive(Clone, Copy)]
-pub struct Answer {
+pub struct CAnswer {
     pub what: u32,
     pub task: u32,
     pub count: u32,
@@ -20,7 +20,7 @@ pub struct Answer {
     pub at: u64,
 }
 
-pub const NOTHING: Answer = Answer {
+pub const NOTHING: CAnswer = CAnswer {
     what: 0,
     task: 0,
     count: 0,
@@ -47,7 +47,7 @@ const OVER: u32 = 8;
 const IDLE: u32 = 9;
 
 /// A release of the task of this number.
-pub fn release<R: Recorder>(core: &mut Core<R>, task: u32) -> (u32, Answer)
+pub fn release<R: Recorder>(core: &mut Core<R>, task: u32) -> (u32, CAnswer)
     ensures exact { result ≡ spec.release_returns core.old task }
     ensures state { core.new ≡ spec.release_after core.old task }
 {
@@ -62,7 +62,7 @@ pub fn release<R: Recorder>(core: &mut Core<R>, task: u32) -> (u32, Answer)
     }
 }
 
-fn of_released(released: Released) -> Answer
+fn of_released(released: Released) -> CAnswer
     ensures { result ≡ spec.of_released released }
 {
     match released {
@@ -73,7 +73,7 @@ fn of_released(released: Released) -> Answer
 }
 
 /// A grant to the task of this number.
-pub fn grant<R: Recorder>(core: &mut Core<R>, task: u32) -> (u32, Answer)
+pub fn grant<R: Recorder>(core: &mut Core<R>, task: u32) -> (u32, CAnswer)
     ensures exact { result ≡ spec.grant_returns core.old task }
     ensures state { core.new ≡ spec.grant_after core.old task }
 {
@@ -89,7 +89,7 @@ pub fn grant<R: Recorder>(core: &mut Core<R>, task: u32) -> (u32, Answer)
 }
 
 /// The outcome of the tick of this job.
-pub fn outcome<R: Recorder>(core: &mut Core<R>, task: u32, count: u32, done: bool) -> (u32, Answer)
+pub fn outcome<R: Recorder>(core: &mut Core<R>, task: u32, count: u32, done: bool) -> (u32, CAnswer)
     ensures exact { result ≡ spec.outcome_returns core.old task count done }
     ensures state { core.new ≡ spec.outcome_after core.old task count done }
 {
@@ -104,7 +104,7 @@ pub fn outcome<R: Recorder>(core: &mut Core<R>, task: u32, count: u32, done: boo
 }
 
 /// An idle tick.
-pub fn idle<R: Recorder>(core: &mut Core<R>) -> (u32, Answer)
+pub fn idle<R: Recorder>(core: &mut Core<R>) -> (u32, CAnswer)
     ensures exact { result ≡ spec.idle_returns core.old }
     ensures state { core.new ≡ after_idle core.old }
 {
@@ -127,10 +127,10 @@ pub fn how_number(how: How) -> u32
     }
 }
 
-fn of_job(what: u32, job: JobId, before: u32, at: u64) -> Answer
+fn of_job(what: u32, job: JobId, before: u32, at: u64) -> CAnswer
     ensures { result ≡ spec.of_job what job before at }
 {
-    Answer {
+    CAnswer {
         what,
         task: job.task.0,
         count: job.count,
@@ -139,17 +139,17 @@ fn of_job(what: u32, job: JobId, before: u32, at: u64) -> Answer
     }
 }
 
-fn at_tick(what: u32, at: u64) -> Answer
+fn at_tick(what: u32, at: u64) -> CAnswer
     ensures { result ≡ spec.at_tick what at }
 {
-    Answer {
+    CAnswer {
         what,
         at,
         ..NOTHING
     }
 }
 
-fn of_some(job: Option<JobId>) -> Answer
+fn of_some(job: Option<JobId>) -> CAnswer
     ensures { result ≡ spec.of_some job }
 {
     match job {

@@ -11,7 +11,7 @@ use std::alloc::Global;
 /// A task's numbers: level 0 for low and 1 for high, period and budgets in ticks. A low task has one budget, given twice.
 #[repr(C)]
 #[derive(Clone, Copy)]
-pub struct GivenTask {
+pub struct CTask {
     pub level: u32,
     pub period: u32,
     pub low: u32,
@@ -26,7 +26,7 @@ pub struct NoSet {
 }
 
 /// The set of the tasks, which are named by their numbers.
-pub fn set_of(alloc: Global, given: &[GivenTask]) -> Result<TaskSet, NoSet>
+pub fn set_of(alloc: Global, given: &[CTask]) -> Result<TaskSet, NoSet>
     ensures status { IfErr result (λ no. (no.status ≢ 0) × (no.status ≢ 8) × (no.status ≢ 28) × (no.status ≢ 29) × (no.status ≢ 43)) }
     ensures tasks { IfOk result (λ set. AreOf given.now set.tasks) }
     ensures few { IfOk result (λ set. length given.now ≤ 128) }
@@ -93,7 +93,7 @@ fn no_set(fault: SetFault) -> NoSet
     }
 }
 
-fn task_of(given: GivenTask, number: u32) -> Option<Task>
+fn task_of(given: CTask, number: u32) -> Option<Task>
     requires { number < 1000 }
     ensures some { IfSome result (λ task. numbers_of task ≡ given) }
     ensures name { IfSome result (λ task. task.name ≡ named.name_of number) }

@@ -1,54 +1,56 @@
-//! A scheduler or a monitor behind a pointer that C keeps.
-ghost use Rattle.std.specs.Prelude.{◌≡◌, Option, Some, None, IsSome};
-ghost use Rattle.edfvd_c.specs.declared.held.Held.{Held};
-ghost use Rattle.edfvd_c.specs.Handle.{handle_owns, held_coded};
+//! What a caller in C keeps of a scheduler or a monitor.
+ghost use Rattle.std.specs.Prelude.{◌≡◌, Some, None, IfSome, IfNone, is_some};
+ghost use Rattle.edfvd_c.specs.Handle.{IsMarked};
 
+use crate::block::Block;
 use crate::held::Held;
 use crate::parts::Parts;
 use std::alloc::Global;
-use std::marker::Model;
-use std::ptr::null_mut;
+use std::mem::replace;
 
+const OPEN_MARK: u64 = 0x6564_6676_645f_6f70;
+
+/// A scheduler, a monitor, or none: all of it 0 is none. C never writes in it. Clauses read what it holds as `block.held`.
 #[repr(C)]
 #[derive(Drop)]
 pub struct Handle {
-    at: *mut u8,
-    alloc: Global,
-    pub ghost held: { Option Held } by { held_coded },
-}
-
-impl Model for Handle {
-    ghost also_owns = { λ h. handle_owns h.alloc h.at h.held };
+    mark: u64,
+    block: Block,
+    ghost marked: { IsMarked mark block.held },
 }
 
 impl Handle {
-    pub fn closed(alloc: Global) -> Handle
-        ensures { result.held ≡ None }
+    /// Whether it holds a scheduler or a monitor.
+    pub fn is_open(&self) -> bool
+        ensures { result ≡ is_some self.now.block.held }
     {
-        Handle {
-            at: null_mut(),
-            alloc,
-        }
+        self.mark == OPEN_MARK
     }
 
-    pub fn of_parts(parts: Parts<Held, Global>) -> Handle
-        ensures { result.held ≡ Some parts.value }
+    /// Takes out what it holds, and leaves none.
+    pub fn take(&mut self, alloc: Global) -> Option<Box<Held>>
+        ensures some { IfSome result (λ held. self.old.block.held ≡ Some held.value) }
+        ensures none { IfNone result (self.old.block.held ≡ None) }
+        ensures left { self.new.block.held ≡ None }
     {
-        let Parts { ptr, alloc } = parts;
-        Handle {
-            at: ptr as *mut u8,
-            alloc,
+        if self.mark != OPEN_MARK {
+            return None;
         }
+        let none = Handle {
+            mark: 0,
+            block: Block::closed(alloc),
+        };
+        let old = replace(self, none);
+        Some(old.block.into_parts().into_box())
     }
 
-    pub fn into_parts(self) -> Parts<Held, Global>
-        requires { IsSome self.held }
-        ensures { self.held ≡ Some result.value }
+    /// Puts this in.
+    pub fn put(&mut self, held: Box<Held>)
+        ensures { self.new.block.held ≡ Some held.value }
     {
-        let Handle { at, alloc } = self;
-        Parts {
-            ptr: at as *mut Held,
-            alloc,
-        }
+        *self = Handle {
+            mark: OPEN_MARK,
+            block: Block::of_parts(Parts::of(held)),
+        };
     }
 }

@@ -11,3 +11,16 @@ pub enum Held {
     Endless(Core<LatestRows>),
     Monitor(Monitor),
 }
+
+/// What the call gives for the scheduler that is held, whichever rows it keeps, and `$other` if a monitor is held.
+macro_rules! on_scheduler {
+    ($held:expr, $core:ident => $call:expr, $other:expr) => {
+        match $held {
+            Held::Core($core) => $call,
+            Held::Endless($core) => $call,
+            Held::Monitor(_) => $other,
+        }
+    };
+}
+
+pub(crate) use on_scheduler;

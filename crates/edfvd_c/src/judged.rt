@@ -4,10 +4,10 @@ ghost use Rattle.mc_model.specs.Holds.{Fits};
 ghost use Rattle.mc_model.specs.Legal.{IsOfSet};
 ghost use Rattle.mc_model.specs.Verdict.{verdict};
 ghost use Rattle.edfvd_c.specs.Judged as spec;
-ghost use Rattle.edfvd_c.specs.Seen.{row_in, seen_row};
+ghost use Rattle.edfvd_c.specs.Look.{row_in, row_numbers};
 
-use crate::given::{GivenTask, NoSet, set_of};
-use crate::seen::{SeenRow, count_number, task_number};
+use crate::given::{CTask, NoSet, set_of};
+use crate::look::{CRow, count_number, task_number};
 use crate::status;
 use crate::tested::loads_of;
 use admission::admit;
@@ -21,7 +21,7 @@ use trace_judge::judge;
 /// what does not fit of the row with the number `place`, from 1.
 #[repr(C)]
 #[derive(Clone, Copy)]
-pub struct Judged {
+pub struct CVerdict {
     pub why: u32,
     pub task: u32,
     pub count: u32,
@@ -29,7 +29,7 @@ pub struct Judged {
     pub place: u64,
 }
 
-pub const UNJUDGED: Judged = Judged {
+pub const UNJUDGED: CVerdict = CVerdict {
     why: 0,
     task: 0,
     count: 0,
@@ -43,11 +43,11 @@ pub const UNJUDGED: Judged = Judged {
 #[unsafe(no_mangle)]
 pub extern "C" fn edfvd_raw_judge(
     alloc: Global,
-    given: &[GivenTask],
-    rows: &[SeenRow],
+    given: &[CTask],
+    rows: &[CRow],
     p: u64,
     q: u64,
-    judged: &mut Judged,
+    judged: &mut CVerdict,
 ) -> u32
     ensures { result ≡ 0 → spec.IsJudged given.now rows.now p q judged.new }
 {
@@ -57,7 +57,7 @@ pub extern "C" fn edfvd_raw_judge(
             status::OK
         }
         Err(no) => {
-            *judged = Judged {
+            *judged = CVerdict {
                 task: no.task,
                 ..UNJUDGED
             };
@@ -68,11 +68,11 @@ pub extern "C" fn edfvd_raw_judge(
 
 fn judge_given(
     alloc: Global,
-    given: &[GivenTask],
-    rows: &[SeenRow],
+    given: &[CTask],
+    rows: &[CRow],
     p: u64,
     q: u64,
-) -> Result<Judged, NoSet>
+) -> Result<CVerdict, NoSet>
     ensures judged { IfOk result (spec.IsJudged given.now rows.now p q) }
     ensures status { IfErr result (λ no. no.status ≢ 0) }
 {
@@ -104,16 +104,16 @@ pub fn rule_of(set: &TaskSet, p: u64, q: u64) -> Result<Rule, NoSet>
     Ok(Rule::Virtual { p, q })
 }
 
-fn rows_of(alloc: Global, seen: &[SeenRow]) -> Result<Vec<Row>, NoSet>
-    ensures rows { IfOk result (λ rows. map seen_row rows.items ≡ seen.now) }
+fn rows_of(alloc: Global, given: &[CRow]) -> Result<Vec<Row>, NoSet>
+    ensures rows { IfOk result (λ rows. map row_numbers rows.items ≡ given.now) }
     ensures status { IfErr result (λ no. no.status ≢ 0) }
 {
-    if seen.len() > 2_000_000 {
+    if given.len() > 2_000_000 {
         return Err(no(status::FULL));
     }
     let mut rows = Vec::new(alloc);
-    for place in 0..seen.len() {
-        let Some(row) = row_of(seen[place]) else {
+    for place in 0..given.len() {
+        let Some(row) = row_of(given[place]) else {
             return Err(no(status::ARGUMENT));
         };
         if rows.push(row).is_err() {
@@ -123,15 +123,15 @@ fn rows_of(alloc: Global, seen: &[SeenRow]) -> Result<Vec<Row>, NoSet>
     Ok(rows)
 }
 
-pub fn row_of(seen: SeenRow) -> Option<Row>
-    ensures row { result ≡ row_in seen }
-    ensures seen { IfSome result (λ row. seen_row row ≡ seen) }
+pub fn row_of(given: CRow) -> Option<Row>
+    ensures row { result ≡ row_in given }
+    ensures numbers { IfSome result (λ row. row_numbers row ≡ given) }
 {
     let job = JobId {
-        task: TaskNo(seen.task),
-        count: seen.count,
+        task: TaskNo(given.task),
+        count: given.count,
     };
-    match seen.event {
+    match given.event {
         1 => Some(Row::Release { job, kept: true }),
         2 => Some(Row::Release { job, kept: false }),
         5 => Some(Row::Tick {
@@ -150,7 +150,7 @@ pub fn row_of(seen: SeenRow) -> Option<Row>
             job,
             how: How::Over,
         }),
-        9 if seen.task == 0 && seen.count == 0 => Some(Row::Idle),
+        9 if given.task == 0 && given.count == 0 => Some(Row::Idle),
         _ => None,
     }
 }
@@ -192,17 +192,17 @@ fn is_of_set(set: &TaskSet, row: Row) -> bool
     }
 }
 
-pub fn in_numbers(verdict: Verdict) -> Judged
+pub fn in_numbers(verdict: Verdict) -> CVerdict
     ensures { result ≡ spec.judged verdict }
 {
     match verdict {
-        Verdict::Legal { late, first } => Judged {
+        Verdict::Legal { late, first } => CVerdict {
             late,
             task: task_number(first),
             count: count_number(first),
             ..UNJUDGED
         },
-        Verdict::Illegal { place, why } => Judged {
+        Verdict::Illegal { place, why } => CVerdict {
             why: why_number(why),
             place,
             ..UNJUDGED

@@ -1,20 +1,20 @@
 //! Calls for C: task sets tested, traces judged, and a scheduler driven event by event. Numbers alone cross, and no text.
 #![tactic(auto)]
 
+mod block;
 mod demand;
-mod either;
 mod event;
 mod given;
+mod growth;
 mod handle;
 mod held;
 mod judged;
 mod latest;
+mod look;
 mod margins;
 mod monitor;
 mod parted;
 mod parts;
-mod room;
 mod scheduler;
-mod seen;
 mod status;
 mod tested;

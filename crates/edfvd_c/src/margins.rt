@@ -6,7 +6,7 @@ ghost use Rattle.edfvd_c.specs.Given.{AreOf};
 ghost use Rattle.edfvd_c.specs.Margins as spec;
 ghost use Rattle.edfvd_c.specs.Refused.{IsRefused};
 
-use crate::given::{GivenTask, NoSet, set_of};
+use crate::given::{CTask, NoSet, set_of};
 use crate::status;
 use load_sum::{LoadFault, Loads, sum_loads};
 use mc_task::{TaskNo, TaskSet};
@@ -16,7 +16,7 @@ use std::alloc::Global;
 /// The greatest budgets of a task with which the test admits the set, if one of them changes; 0 if there is none.
 #[repr(C)]
 #[derive(Clone, Copy)]
-pub struct Budgets {
+pub struct CBudgets {
     pub low: u32,
     pub high: u32,
 }
@@ -24,14 +24,14 @@ pub struct Budgets {
 /// The scales that hold: from `least_p/least_q`, which is 0/1 if no task is high, to `greatest_p/greatest_q`.
 #[repr(C)]
 #[derive(Clone, Copy)]
-pub struct Scales {
+pub struct CScaleRange {
     pub least_p: u64,
     pub least_q: u64,
     pub greatest_p: u64,
     pub greatest_q: u64,
 }
 
-const NO_SCALES: Scales = Scales {
+const NO_SCALES: CScaleRange = CScaleRange {
     least_p: 0,
     least_q: 0,
     greatest_p: 0,
@@ -42,8 +42,8 @@ const NO_SCALES: Scales = Scales {
 #[unsafe(no_mangle)]
 pub extern "C" fn edfvd_raw_sensitivity(
     alloc: Global,
-    given: &[GivenTask],
-    budgets: &mut [Budgets],
+    given: &[CTask],
+    budgets: &mut [CBudgets],
     task: &mut u32,
 ) -> u32
     ensures greatest { result ≡ 0 → spec.AreGreatest given.now budgets.new }
@@ -64,7 +64,7 @@ pub extern "C" fn edfvd_raw_sensitivity(
     }
 }
 
-fn store_greatest(loaded: &SetAndLoads, given: &[GivenTask], budgets: &mut [Budgets]) -> u32
+fn store_greatest(loaded: &SetAndLoads, given: &[CTask], budgets: &mut [CBudgets]) -> u32
     requires numbers { AreOf given.now loaded.now.set.tasks }
     requires loads { BelongTo loaded.now.set.tasks loaded.now.loads }
     ensures greatest { result ≡ 0 → spec.AreGreatest given.now budgets.new }
@@ -84,10 +84,10 @@ fn store_greatest(loaded: &SetAndLoads, given: &[GivenTask], budgets: &mut [Budg
     status::OK
 }
 
-fn budgets_in_numbers(greatest: GreatestBudgets) -> Budgets
+fn budgets_in_numbers(greatest: GreatestBudgets) -> CBudgets
     ensures { result ≡ spec.budgets_of greatest }
 {
-    Budgets {
+    CBudgets {
         low: greatest.low.unwrap_or(0),
         high: greatest.high.unwrap_or(0),
     }
@@ -98,8 +98,8 @@ fn budgets_in_numbers(greatest: GreatestBudgets) -> Budgets
 #[unsafe(no_mangle)]
 pub extern "C" fn edfvd_raw_scales(
     alloc: Global,
-    given: &[GivenTask],
-    stored: &mut Scales,
+    given: &[CTask],
+    stored: &mut CScaleRange,
     task: &mut u32,
 ) -> u32
     ensures scales { result ≡ 0 → spec.AreScales given.now stored.new }
@@ -127,14 +127,14 @@ pub extern "C" fn edfvd_raw_scales(
     }
 }
 
-fn scales_in_numbers(range: ScaleRange) -> Scales
+fn scales_in_numbers(range: ScaleRange) -> CScaleRange
     requires least { (range.least.num ≤ range.least.den) × (range.least.den ≤ 2 ^ 60) }
     requires greatest { (range.greatest.num ≤ range.greatest.den) × (range.greatest.den ≤ 2 ^ 60) }
     ensures least { spec.least_of result ≡ range.least }
     ensures greatest { spec.greatest_of result ≡ range.greatest }
     ensures lowest { IsLowest range.least × IsLowest range.greatest }
 {
-    Scales {
+    CScaleRange {
         least_p: range.least.num() as u64,
         least_q: range.least.den() as u64,
         greatest_p: range.greatest.num() as u64,
@@ -147,7 +147,7 @@ fn scales_in_numbers(range: ScaleRange) -> Scales
 #[unsafe(no_mangle)]
 pub extern "C" fn edfvd_raw_speed(
     alloc: Global,
-    given: &[GivenTask],
+    given: &[CTask],
     millionths: &mut u64,
     task: &mut u32,
 ) -> u32
@@ -179,7 +179,7 @@ struct SetAndLoads {
     loads: Loads,
 }
 
-fn set_and_loads(alloc: Global, given: &[GivenTask]) -> Result<SetAndLoads, NoSet>
+fn set_and_loads(alloc: Global, given: &[CTask]) -> Result<SetAndLoads, NoSet>
     ensures numbers { IfOk result (λ loaded. AreOf given.now loaded.set.tasks) }
     ensures loads { IfOk result (λ loaded. BelongTo loaded.set.tasks loaded.loads) }
     ensures few { IfOk result (λ loaded. length given.now ≤ 128) }

@@ -1,35 +1,22 @@
 //! A monitor that a caller in C feeds with rows.
-ghost use Rattle.std.specs.Prelude.{◌≡◌, ◌≢◌, IsSome, IfSome, IfNone, IfOk, IfErr, MatchOption};
-ghost use Rattle.edfvd_c.specs.Handle.{monitor_of, IsMonitorMarked};
+ghost use Rattle.std.specs.Prelude.{◌≡◌, ◌≢◌, IsSome, IfOk, IfErr, MatchOption};
+ghost use Rattle.edfvd_c.specs.Handle.{monitor_of};
 ghost use Rattle.edfvd_c.specs.Monitor as spec;
 
-use crate::given::{GivenTask, NoSet, set_of};
+use crate::given::{CTask, NoSet, set_of};
 use crate::handle::Handle;
 use crate::held::Held;
-use crate::judged::{Judged, UNJUDGED, in_numbers, row_of, rule_of, why_number};
-use crate::parts::Parts;
-use crate::seen::SeenRow;
+use crate::judged::{CVerdict, UNJUDGED, in_numbers, row_of, rule_of, why_number};
+use crate::look::CRow;
 use crate::status;
 use mc_model::{Row, Run};
 use std::alloc::Global;
-use std::mem::replace;
 use trace_judge::{Monitor, ObserveFault, Turned, Unfit};
-
-const MONITOR_MARK: u64 = 0x6564_6676_645f_6d31;
-
-/// A monitor, or none: all of it 0 is none. C never writes in it.
-#[repr(C)]
-#[derive(Drop)]
-pub struct MonitorHandle {
-    mark: u64,
-    handle: Handle,
-    ghost marked: { IsMonitorMarked mark handle.held },
-}
 
 /// The first row so far that does not fit: which rule it breaks, and its number, from 1. Both are 0 if each row fits.
 #[repr(C)]
 #[derive(Clone, Copy)]
-pub struct UnfitRow {
+pub struct CUnfit {
     pub why: u32,
     pub place: u64,
 }
@@ -37,7 +24,7 @@ pub struct UnfitRow {
 /// What a monitor has seen: how many rows have fitted, and whether each has; if so, the clock, the mode and the jobs.
 #[repr(C)]
 #[derive(Clone, Copy)]
-pub struct Watching {
+pub struct CWatch {
     pub rows: u64,
     pub ticks: u64,
     pub pending: u64,
@@ -48,13 +35,13 @@ pub struct Watching {
 /// A job that turned late, and its deadline in ticks.
 #[repr(C)]
 #[derive(Clone, Copy)]
-pub struct LateJob {
+pub struct CLate {
     pub task: u32,
     pub count: u32,
     pub deadline: u64,
 }
 
-const NOTHING_WATCHED: Watching = Watching {
+const NO_WATCH: CWatch = CWatch {
     rows: 0,
     ticks: 0,
     pending: 0,
@@ -62,57 +49,28 @@ const NOTHING_WATCHED: Watching = Watching {
     high_mode: 0,
 };
 
-// Takes the monitor out, and leaves none.
-fn take(monitor: &mut MonitorHandle, alloc: Global) -> Option<Box<Held>>
-    ensures was { IfSome result (λ held. monitor_of monitor.old.handle.held ≡ monitor_of (Some held.value)) }
-    ensures some { IfSome result (λ held. IsSome (monitor_of (Some held.value))) }
-    ensures none { IfNone result (monitor_of monitor.old.handle.held ≡ None) }
-    ensures closed { monitor.new.handle.held ≡ None }
-{
-    if monitor.mark != MONITOR_MARK {
-        return None;
-    }
-    let none = MonitorHandle {
-        mark: 0,
-        handle: Handle::closed(alloc),
-    };
-    let old = replace(monitor, none);
-    Some(old.handle.into_parts().into_box())
-}
-
-// Puts a monitor in.
-fn put(monitor: &mut MonitorHandle, held: Box<Held>)
-    requires { IsSome (monitor_of (Some held.value)) }
-    ensures { monitor.new.handle.held ≡ Some held.value }
-{
-    *monitor = MonitorHandle {
-        mark: MONITOR_MARK,
-        handle: Handle::of_parts(Parts::of(held)),
-    };
-}
-
 /// Opens a monitor of the tasks under the rule of the published test where `p` is 0, and otherwise under EDF-VD with the scale
 /// `p/q`, which need not hold.
 #[unsafe(no_mangle)]
 pub extern "C" fn edfvd_raw_monitor_open(
     alloc: Global,
-    monitor: &mut MonitorHandle,
-    given: &[GivenTask],
+    monitor: &mut Handle,
+    given: &[CTask],
     p: u64,
     q: u64,
     task: &mut u32,
 ) -> u32
-    ensures open { result ≡ 0 → monitor_of monitor.old.handle.held ≡ None }
-    ensures made { result ≡ 0 → spec.IsMonitorOpening given.now p q (monitor_of monitor.new.handle.held) }
-    ensures refused { result ≢ 0 → monitor_of monitor.new.handle.held ≡ monitor_of monitor.old.handle.held }
+    ensures open { result ≡ 0 → monitor.old.block.held ≡ None }
+    ensures made { result ≡ 0 → spec.IsMonitorOpening given.now p q (monitor_of monitor.new.block.held) }
+    ensures refused { result ≢ 0 → monitor.new.block.held ≡ monitor.old.block.held }
 {
     *task = 0;
-    if monitor.mark == MONITOR_MARK {
+    if monitor.is_open() {
         return status::OPEN;
     }
     match opened(alloc, given, p, q) {
         Ok(held) => {
-            put(monitor, held);
+            monitor.put(held);
             status::OK
         }
         Err(no) => {
@@ -122,7 +80,7 @@ pub extern "C" fn edfvd_raw_monitor_open(
     }
 }
 
-fn opened(alloc: Global, given: &[GivenTask], p: u64, q: u64) -> Result<Box<Held>, NoSet>
+fn opened(alloc: Global, given: &[CTask], p: u64, q: u64) -> Result<Box<Held>, NoSet>
     ensures made { IfOk result (λ held. spec.IsMonitorOpening given.now p q (monitor_of (Some held.value))) }
     ensures some { IfOk result (λ held. IsSome (monitor_of (Some held.value))) }
     ensures status { IfErr result (λ no. no.status ≢ 0) }
@@ -144,41 +102,47 @@ fn opened(alloc: Global, given: &[GivenTask], p: u64, q: u64) -> Result<Box<Held
 
 /// Closes the monitor, and frees what it took.
 #[unsafe(no_mangle)]
-pub extern "C" fn edfvd_raw_monitor_close(alloc: Global, monitor: &mut MonitorHandle) -> u32
-    ensures closed { monitor_of monitor.new.handle.held ≡ None }
-    ensures status { MatchOption (monitor_of monitor.old.handle.held) (result ≡ 12) (λ w. result ≡ 0) }
+pub extern "C" fn edfvd_raw_monitor_close(alloc: Global, monitor: &mut Handle) -> u32
+    ensures closed { monitor_of monitor.new.block.held ≡ None }
+    ensures other { monitor_of monitor.old.block.held ≡ None → monitor.new.block.held ≡ monitor.old.block.held }
+    ensures status { MatchOption (monitor_of monitor.old.block.held) (result ≡ 12) (λ w. result ≡ 0) }
 {
-    match take(monitor, alloc) {
-        Some(_held) => status::OK,
-        None => status::CLOSED,
+    let Some(held) = monitor.take(alloc) else {
+        return status::CLOSED;
+    };
+    if let Held::Monitor(_) = &*held {
+        return status::OK;
     }
+    monitor.put(held);
+    status::CLOSED
 }
 
 /// Takes this many of the row, and finds the first row so far that does not fit.
 #[unsafe(no_mangle)]
 pub extern "C" fn edfvd_raw_monitor_observe(
     alloc: Global,
-    monitor: &mut MonitorHandle,
-    row: &SeenRow,
+    monitor: &mut Handle,
+    row: &CRow,
     length: u32,
-    unfit: &mut UnfitRow,
+    unfit: &mut CUnfit,
 ) -> u32
-    ensures { spec.Observes row.now length (monitor_of monitor.old.handle.held) (monitor_of monitor.new.handle.held) result unfit.new }
+    ensures observes { spec.Observes row.now length (monitor_of monitor.old.block.held) (monitor_of monitor.new.block.held) result unfit.new }
+    ensures other { monitor_of monitor.old.block.held ≡ None → monitor.new.block.held ≡ monitor.old.block.held }
 {
     *unfit = unfit_row(None);
-    let Some(mut held) = take(monitor, alloc) else {
+    let Some(mut held) = monitor.take(alloc) else {
         return status::CLOSED;
     };
-    let Held::Monitor(watch) = &mut *held else {
-        return status::CLOSED;
+    let (ended, found) = match &mut *held {
+        Held::Monitor(watching) => observed(alloc, watching, *row, length),
+        _ => (status::CLOSED, unfit_row(None)),
     };
-    let (ended, found) = observed(alloc, watch, *row, length);
     *unfit = found;
-    put(monitor, held);
+    monitor.put(held);
     ended
 }
 
-fn observed(alloc: Global, monitor: &mut Monitor, row: SeenRow, length: u32) -> (u32, UnfitRow)
+fn observed(alloc: Global, monitor: &mut Monitor, row: CRow, length: u32) -> (u32, CUnfit)
     ensures { spec.Observed row length monitor.old (Some monitor.new) result.0 result.1 }
 {
     let none = unfit_row(None);
@@ -194,19 +158,19 @@ fn observed(alloc: Global, monitor: &mut Monitor, row: SeenRow, length: u32) -> 
     }
 }
 
-fn unfit_row(unfit: Option<Unfit>) -> UnfitRow
+fn unfit_row(unfit: Option<Unfit>) -> CUnfit
     ensures { result ≡ spec.unfit_row unfit }
 {
     match unfit {
-        Some(unfit) => UnfitRow {
+        Some(unfit) => CUnfit {
             why: why_number(unfit.why),
             place: unfit.place,
         },
-        None => UnfitRow { why: 0, place: 0 },
+        None => CUnfit { why: 0, place: 0 },
     }
 }
 
-fn run_in(row: SeenRow, length: u32) -> Option<Run>
+fn run_in(row: CRow, length: u32) -> Option<Run>
     ensures { result ≡ spec.run_in row length }
 {
     match row_of(row)? {
@@ -221,28 +185,28 @@ fn run_in(row: SeenRow, length: u32) -> Option<Run>
 #[unsafe(no_mangle)]
 pub extern "C" fn edfvd_raw_monitor_would_fit(
     alloc: Global,
-    monitor: &mut MonitorHandle,
-    row: &SeenRow,
+    monitor: &mut Handle,
+    row: &CRow,
     length: u32,
-    unfit: &mut UnfitRow,
+    unfit: &mut CUnfit,
 ) -> u32
-    ensures same { monitor_of monitor.new.handle.held ≡ monitor_of monitor.old.handle.held }
-    ensures found { MatchOption (monitor_of monitor.old.handle.held) (result ≡ 12) (λ w. spec.WouldFind row.now length w result unfit.new) }
+    ensures same { monitor.new.block.held ≡ monitor.old.block.held }
+    ensures found { MatchOption (monitor_of monitor.old.block.held) (result ≡ 12) (λ w. spec.WouldFind row.now length w result unfit.new) }
 {
     *unfit = unfit_row(None);
-    let Some(held) = take(monitor, alloc) else {
+    let Some(held) = monitor.take(alloc) else {
         return status::CLOSED;
     };
-    let Held::Monitor(watch) = &*held else {
-        return status::CLOSED;
+    let (ended, found) = match &*held {
+        Held::Monitor(watching) => would_find(watching, *row, length),
+        _ => (status::CLOSED, unfit_row(None)),
     };
-    let (ended, found) = would_find(watch, *row, length);
     *unfit = found;
-    put(monitor, held);
+    monitor.put(held);
     ended
 }
 
-fn would_find(monitor: &Monitor, row: SeenRow, length: u32) -> (u32, UnfitRow)
+fn would_find(monitor: &Monitor, row: CRow, length: u32) -> (u32, CUnfit)
     ensures { spec.WouldFind row length monitor.now result.0 result.1 }
 {
     let none = unfit_row(None);
@@ -263,28 +227,28 @@ fn would_find(monitor: &Monitor, row: SeenRow, length: u32) -> (u32, UnfitRow)
 #[unsafe(no_mangle)]
 pub extern "C" fn edfvd_raw_monitor_late(
     alloc: Global,
-    monitor: &mut MonitorHandle,
+    monitor: &mut Handle,
     since: u64,
-    jobs: &mut [LateJob],
+    jobs: &mut [CLate],
     many: &mut u64,
 ) -> u32
-    ensures same { monitor_of monitor.new.handle.held ≡ monitor_of monitor.old.handle.held }
-    ensures stored { MatchOption (monitor_of monitor.old.handle.held) (result ≡ 12) (λ w. spec.StoresLate w since result many.new jobs.new) }
+    ensures same { monitor.new.block.held ≡ monitor.old.block.held }
+    ensures stored { MatchOption (monitor_of monitor.old.block.held) (result ≡ 12) (λ w. spec.StoresLate w since result many.new jobs.new) }
 {
     *many = 0;
-    let Some(mut held) = take(monitor, alloc) else {
+    let Some(mut held) = monitor.take(alloc) else {
         return status::CLOSED;
     };
-    let Held::Monitor(watch) = &mut *held else {
-        return status::CLOSED;
+    let (ended, number) = match &mut *held {
+        Held::Monitor(watching) => store_late(alloc, watching, since, jobs),
+        _ => (status::CLOSED, 0),
     };
-    let (ended, number) = store_late(alloc, watch, since, jobs);
     *many = number;
-    put(monitor, held);
+    monitor.put(held);
     ended
 }
 
-fn store_late(alloc: Global, monitor: &mut Monitor, since: u64, jobs: &mut [LateJob]) -> (u32, u64)
+fn store_late(alloc: Global, monitor: &mut Monitor, since: u64, jobs: &mut [CLate]) -> (u32, u64)
     ensures same { monitor.new ≡ monitor.old }
     ensures stored { spec.StoresLate monitor.old since result.0 result.1 jobs.new }
 {
@@ -293,7 +257,7 @@ fn store_late(alloc: Global, monitor: &mut Monitor, since: u64, jobs: &mut [Late
     };
     let many = turned.len() as u64;
     if jobs.len() < turned.len() {
-        return (status::ROOM, many);
+        return (status::SHORT_BUFFER, many);
     }
     for place in 0..turned.len() {
         jobs[place] = late_job(turned[place]);
@@ -301,10 +265,10 @@ fn store_late(alloc: Global, monitor: &mut Monitor, since: u64, jobs: &mut [Late
     (status::OK, many)
 }
 
-fn late_job(turned: Turned) -> LateJob
+fn late_job(turned: Turned) -> CLate
     ensures { result ≡ spec.late_job turned }
 {
-    LateJob {
+    CLate {
         task: turned.job.task.0,
         count: turned.job.count,
         deadline: turned.deadline,
@@ -315,50 +279,52 @@ fn late_job(turned: Turned) -> LateJob
 #[unsafe(no_mangle)]
 pub extern "C" fn edfvd_raw_monitor_verdict(
     alloc: Global,
-    monitor: &mut MonitorHandle,
-    judged: &mut Judged,
+    monitor: &mut Handle,
+    judged: &mut CVerdict,
 ) -> u32
-    ensures same { monitor_of monitor.new.handle.held ≡ monitor_of monitor.old.handle.held }
-    ensures verdict { MatchOption (monitor_of monitor.old.handle.held) (result ≡ 12) (λ w. (result ≡ 0) × spec.IsVerdict w judged.new) }
+    ensures same { monitor.new.block.held ≡ monitor.old.block.held }
+    ensures verdict { MatchOption (monitor_of monitor.old.block.held) (result ≡ 12) (λ w. (result ≡ 0) × spec.IsVerdict w judged.new) }
 {
     *judged = UNJUDGED;
-    let Some(held) = take(monitor, alloc) else {
+    let Some(held) = monitor.take(alloc) else {
         return status::CLOSED;
     };
-    let Held::Monitor(watch) = &*held else {
-        return status::CLOSED;
+    let (ended, found) = match &*held {
+        Held::Monitor(watching) => (status::OK, in_numbers(watching.verdict())),
+        _ => (status::CLOSED, UNJUDGED),
     };
-    *judged = in_numbers(watch.verdict());
-    put(monitor, held);
-    status::OK
+    *judged = found;
+    monitor.put(held);
+    ended
 }
 
 /// Stores the monitor's clock, mode and counts.
 #[unsafe(no_mangle)]
 pub extern "C" fn edfvd_raw_monitor_look(
     alloc: Global,
-    monitor: &mut MonitorHandle,
-    seen: &mut Watching,
+    monitor: &mut Handle,
+    watch: &mut CWatch,
 ) -> u32
-    ensures same { monitor_of monitor.new.handle.held ≡ monitor_of monitor.old.handle.held }
-    ensures seen { MatchOption (monitor_of monitor.old.handle.held) (result ≡ 12) (λ w. (result ≡ 0) × spec.IsWatching w seen.new) }
+    ensures same { monitor.new.block.held ≡ monitor.old.block.held }
+    ensures watch { MatchOption (monitor_of monitor.old.block.held) (result ≡ 12) (λ w. (result ≡ 0) × spec.IsWatch w watch.new) }
 {
-    *seen = NOTHING_WATCHED;
-    let Some(held) = take(monitor, alloc) else {
+    *watch = NO_WATCH;
+    let Some(held) = monitor.take(alloc) else {
         return status::CLOSED;
     };
-    let Held::Monitor(watch) = &*held else {
-        return status::CLOSED;
+    let (ended, found) = match &*held {
+        Held::Monitor(watching) => (status::OK, look(watching)),
+        _ => (status::CLOSED, NO_WATCH),
     };
-    *seen = look(watch);
-    put(monitor, held);
-    status::OK
+    *watch = found;
+    monitor.put(held);
+    ended
 }
 
-fn look(monitor: &Monitor) -> Watching
-    ensures { spec.IsWatching monitor.now result }
+fn look(monitor: &Monitor) -> CWatch
+    ensures { spec.IsWatch monitor.now result }
 {
-    Watching {
+    CWatch {
         rows: monitor.seen(),
         ticks: monitor.ticks(),
         pending: monitor.pending(),

@@ -2,7 +2,7 @@
 ghost use Rattle.std.specs.Prelude.{◌≡◌, ◌≢◌, IfOk, IfErr};
 ghost use Rattle.edfvd_c.specs.Parted as spec;
 
-use crate::given::{GivenTask, NoSet, set_of};
+use crate::given::{CTask, NoSet, set_of};
 use crate::status;
 use part_fit::{FitFault, Parts, fit};
 use std::alloc::Global;
@@ -12,7 +12,7 @@ use std::alloc::Global;
 #[unsafe(no_mangle)]
 pub extern "C" fn edfvd_raw_partition(
     alloc: Global,
-    given: &[GivenTask],
+    given: &[CTask],
     processors: u32,
     on: &mut [u32],
     task: &mut u32,
@@ -36,7 +36,7 @@ pub extern "C" fn edfvd_raw_partition(
     status::OK
 }
 
-fn parted(alloc: Global, given: &[GivenTask], processors: u32) -> Result<Parts, NoSet>
+fn parted(alloc: Global, given: &[CTask], processors: u32) -> Result<Parts, NoSet>
     ensures parted { IfOk result (spec.AreParted given.now processors) }
     ensures no_processor { IfErr result (λ no. no.status ≡ 29 → spec.FitsNowhere given.now processors no.task) }
     ensures status { IfErr result (λ no. no.status ≢ 0) }

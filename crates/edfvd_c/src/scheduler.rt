@@ -1,97 +1,59 @@
 //! A scheduler that a caller in C drives event by event.
-ghost use Rattle.std.specs.Prelude.{◌≡◌, ◌≢◌, ◌<◌, ◌^◌, ℕ, true, false, Some, None, IsSome, IfSome, IfNone, IfOk, IfErr, MatchOption, slice_get, reverse, length, ◌≤◌};
+ghost use Rattle.std.specs.Prelude.{◌≡◌, ◌≢◌, ◌<◌, ◌^◌, ℕ, true, false, Some, None, IsSome, IfSome, IfOk, IfErr, MatchOption, slice_get, reverse, length, ◌≤◌};
 ghost use Rattle.mc_model.specs.Core.{State};
 ghost use Rattle.mc_model.specs.Test.{published};
 ghost use Rattle.mc_model.specs.Holds.{Fits, Holds};
 ghost use Rattle.mode_core.specs.Events.{empty_state, after_idle};
 ghost use Rattle.mode_core.specs.Timely.{IsTimely};
 ghost use Rattle.edfvd_c.specs.Given.{AreOf};
-ghost use Rattle.edfvd_c.specs.Handle.{open_mark, core_of, is_endless, kept_from, IsMarked, Does, IsOpening};
-ghost use Rattle.edfvd_c.specs.Latest.{IsRowStatus, row_returns, no_row};
-ghost use Rattle.edfvd_c.specs.Seen as view;
+ghost use Rattle.edfvd_c.specs.Handle.{core_of, is_endless, kept_from, Does, IsOpening};
+ghost use Rattle.edfvd_c.specs.Latest.{IsRowStatus, lookup, row_returns, no_row};
+ghost use Rattle.edfvd_c.specs.Look as view;
 ghost use Rattle.edfvd_c.specs.Event as spec;
 
-use crate::event::{Answer, NOTHING};
-use crate::given::{GivenTask, NoSet, set_of};
+use crate::event::{self, CAnswer, NOTHING};
+use crate::given::{CTask, NoSet, set_of};
 use crate::handle::Handle;
-use crate::held::Held;
+use crate::held::{Held, on_scheduler};
 use crate::latest::{LatestRows, Lookup};
-use crate::parts::Parts;
-use crate::seen::{NONE_SEEN, Seen, SeenRow, seen_row};
-use crate::{either, status};
+use crate::look::{CLook, CRow, NO_LOOK, look_at, row_numbers};
+use crate::status;
 use admission::admit;
 use load_sum::{LoadFault, sum_loads};
+use mc_model::Row;
 use mc_task::{Rule, TaskSet};
 use mode_core::Core;
 use std::alloc::Global;
-use std::mem::replace;
 
-const OPEN_MARK: u64 = 0x6564_6676_645f_6331;
+// What an event of no scheduler returns.
+const NO_SCHEDULER: (u32, CAnswer) = (status::CLOSED, NOTHING);
 
 const OUT_OF_MEMORY: NoSet = NoSet {
     status: status::MEMORY,
     task: 0,
 };
 
-/// A scheduler, or none: all of it 0 is none. C never writes in it.
-#[repr(C)]
-#[derive(Drop)]
-pub struct Scheduler {
-    mark: u64,
-    handle: Handle,
-    ghost marked: { IsMarked mark handle.held },
-}
-
-// Takes the scheduler out, and leaves none.
-fn take(scheduler: &mut Scheduler, alloc: Global) -> Option<Box<Held>>
-    ensures was { IfSome result (λ held. scheduler.old.handle.held ≡ Some held.value) }
-    ensures some { IfSome result (λ held. IsSome (core_of (Some held.value))) }
-    ensures none { IfNone result (scheduler.old.handle.held ≡ None) }
-    ensures closed { scheduler.new.handle.held ≡ None }
-{
-    if scheduler.mark != OPEN_MARK {
-        return None;
-    }
-    let none = Scheduler {
-        mark: 0,
-        handle: Handle::closed(alloc),
-    };
-    let old = replace(scheduler, none);
-    Some(old.handle.into_parts().into_box())
-}
-
-// Puts a scheduler in.
-fn put(scheduler: &mut Scheduler, held: Box<Held>)
-    requires { IsSome (core_of (Some held.value)) }
-    ensures { scheduler.new.handle.held ≡ Some held.value }
-{
-    *scheduler = Scheduler {
-        mark: OPEN_MARK,
-        handle: Handle::of_parts(Parts::of(held)),
-    };
-}
-
 /// Opens a scheduler of the tasks under the rule of the published test, with this capacity in rows.
 #[unsafe(no_mangle)]
-pub extern "C" fn edfvd_raw_open(
+pub extern "C" fn edfvd_raw_scheduler_open(
     alloc: Global,
-    scheduler: &mut Scheduler,
-    given: &[GivenTask],
+    scheduler: &mut Handle,
+    given: &[CTask],
     places: u32,
     task: &mut u32,
 ) -> u32
-    ensures open { result ≡ 0 → (core_of scheduler.old.handle.held) ≡ None }
-    ensures made { result ≡ 0 → IsOpening given.now places (core_of scheduler.new.handle.held) }
-    ensures kind { result ≡ 0 → is_endless scheduler.new.handle.held ≡ false }
-    ensures refused { result ≢ 0 → scheduler.new.handle.held ≡ scheduler.old.handle.held }
+    ensures open { result ≡ 0 → scheduler.old.block.held ≡ None }
+    ensures made { result ≡ 0 → IsOpening given.now places (core_of scheduler.new.block.held) }
+    ensures kind { result ≡ 0 → is_endless scheduler.new.block.held ≡ false }
+    ensures refused { result ≢ 0 → scheduler.new.block.held ≡ scheduler.old.block.held }
 {
     *task = 0;
-    if scheduler.mark == OPEN_MARK {
+    if scheduler.is_open() {
         return status::OPEN;
     }
     match opened(alloc, given, places) {
         Ok(held) => {
-            put(scheduler, held);
+            scheduler.put(held);
             status::OK
         }
         Err(no) => {
@@ -101,7 +63,7 @@ pub extern "C" fn edfvd_raw_open(
     }
 }
 
-fn opened(alloc: Global, given: &[GivenTask], places: u32) -> Result<Box<Held>, NoSet>
+fn opened(alloc: Global, given: &[CTask], places: u32) -> Result<Box<Held>, NoSet>
     ensures made { IfOk result (λ held. IsOpening given.now places (core_of (Some held.value))) }
     ensures some { IfOk result (λ held. IsSome (core_of (Some held.value))) }
     ensures kind { IfOk result (λ held. is_endless (Some held.value) ≡ false) }
@@ -118,7 +80,7 @@ fn opened(alloc: Global, given: &[GivenTask], places: u32) -> Result<Box<Held>, 
 }
 
 // The set of the tasks, and the rule of the published test.
-fn admitted(alloc: Global, given: &[GivenTask]) -> Result<(TaskSet, Rule), NoSet>
+fn admitted(alloc: Global, given: &[CTask]) -> Result<(TaskSet, Rule), NoSet>
     ensures tasks { IfOk result (λ found. AreOf given.now found.0.tasks) }
     ensures published { IfOk result (λ found. published found.0.tasks ≡ Some found.1) }
     ensures fits { IfOk result (λ found. Fits found.1) }
@@ -147,24 +109,24 @@ fn admitted(alloc: Global, given: &[GivenTask]) -> Result<(TaskSet, Rule), NoSet
 /// Opens a scheduler without an end, of the tasks under the rule of the published test. It has 2^62 places for rows, keeps
 /// the latest 256 rows, and takes no memory after it is open.
 #[unsafe(no_mangle)]
-pub extern "C" fn edfvd_raw_open_endless(
+pub extern "C" fn edfvd_raw_scheduler_open_endless(
     alloc: Global,
-    scheduler: &mut Scheduler,
-    given: &[GivenTask],
+    scheduler: &mut Handle,
+    given: &[CTask],
     task: &mut u32,
 ) -> u32
-    ensures open { result ≡ 0 → (core_of scheduler.old.handle.held) ≡ None }
-    ensures made { result ≡ 0 → IsOpening given.now (2 ^ 62) (core_of scheduler.new.handle.held) }
-    ensures kind { result ≡ 0 → is_endless scheduler.new.handle.held ≡ true }
-    ensures refused { result ≢ 0 → scheduler.new.handle.held ≡ scheduler.old.handle.held }
+    ensures open { result ≡ 0 → scheduler.old.block.held ≡ None }
+    ensures made { result ≡ 0 → IsOpening given.now (2 ^ 62) (core_of scheduler.new.block.held) }
+    ensures kind { result ≡ 0 → is_endless scheduler.new.block.held ≡ true }
+    ensures refused { result ≢ 0 → scheduler.new.block.held ≡ scheduler.old.block.held }
 {
     *task = 0;
-    if scheduler.mark == OPEN_MARK {
+    if scheduler.is_open() {
         return status::OPEN;
     }
     match opened_endless(alloc, given) {
         Ok(held) => {
-            put(scheduler, held);
+            scheduler.put(held);
             status::OK
         }
         Err(no) => {
@@ -174,7 +136,7 @@ pub extern "C" fn edfvd_raw_open_endless(
     }
 }
 
-fn opened_endless(alloc: Global, given: &[GivenTask]) -> Result<Box<Held>, NoSet>
+fn opened_endless(alloc: Global, given: &[CTask]) -> Result<Box<Held>, NoSet>
     ensures made { IfOk result (λ held. IsOpening given.now (2 ^ 62) (core_of (Some held.value))) }
     ensures some { IfOk result (λ held. IsSome (core_of (Some held.value))) }
     ensures kind { IfOk result (λ held. is_endless (Some held.value) ≡ true) }
@@ -195,151 +157,191 @@ fn opened_endless(alloc: Global, given: &[GivenTask]) -> Result<Box<Held>, NoSet
 
 /// Closes the scheduler, and frees what it took.
 #[unsafe(no_mangle)]
-pub extern "C" fn edfvd_raw_close(alloc: Global, scheduler: &mut Scheduler) -> u32
-    ensures closed { (core_of scheduler.new.handle.held) ≡ None }
-    ensures status { MatchOption (core_of scheduler.old.handle.held) (result ≡ 12) (λ s. result ≡ 0) }
+pub extern "C" fn edfvd_raw_scheduler_close(alloc: Global, scheduler: &mut Handle) -> u32
+    ensures closed { core_of scheduler.new.block.held ≡ None }
+    ensures other { core_of scheduler.old.block.held ≡ None → scheduler.new.block.held ≡ scheduler.old.block.held }
+    ensures status { MatchOption (core_of scheduler.old.block.held) (result ≡ 12) (λ s. result ≡ 0) }
 {
-    match take(scheduler, alloc) {
-        Some(_held) => status::OK,
-        None => status::CLOSED,
+    let Some(held) = scheduler.take(alloc) else {
+        return status::CLOSED;
+    };
+    if let Held::Monitor(_) = &*held {
+        scheduler.put(held);
+        return status::CLOSED;
     }
+    status::OK
 }
 
 /// Releases the next job of the task.
 #[unsafe(no_mangle)]
-pub extern "C" fn edfvd_raw_release(
+pub extern "C" fn edfvd_raw_scheduler_release(
     alloc: Global,
-    scheduler: &mut Scheduler,
+    scheduler: &mut Handle,
     task: u32,
-    answer: &mut Answer,
+    answer: &mut CAnswer,
 ) -> u32
-    ensures does { Does (core_of scheduler.old.handle.held) (core_of scheduler.new.handle.held) result answer.new (λ s. spec.release_returns s task) (λ s. spec.release_after s task) }
-    ensures kind { is_endless scheduler.new.handle.held ≡ is_endless scheduler.old.handle.held }
+    ensures does { Does (core_of scheduler.old.block.held) (core_of scheduler.new.block.held) result answer.new (λ s. spec.release_returns s task) (λ s. spec.release_after s task) }
+    ensures kind { is_endless scheduler.new.block.held ≡ is_endless scheduler.old.block.held }
+    ensures other { core_of scheduler.old.block.held ≡ None → scheduler.new.block.held ≡ scheduler.old.block.held }
 {
     *answer = NOTHING;
-    let Some(mut held) = take(scheduler, alloc) else {
+    let Some(mut held) = scheduler.take(alloc) else {
         return status::CLOSED;
     };
-    let (ended, found) = either::release(&mut *held, task);
+    let (ended, found) =
+        on_scheduler!(&mut *held, core => event::release(core, task), NO_SCHEDULER);
     *answer = found;
-    put(scheduler, held);
+    scheduler.put(held);
     ended
 }
 
 /// Grants the next tick to the task, whose job must be the chosen one.
 #[unsafe(no_mangle)]
-pub extern "C" fn edfvd_raw_grant(
+pub extern "C" fn edfvd_raw_scheduler_grant(
     alloc: Global,
-    scheduler: &mut Scheduler,
+    scheduler: &mut Handle,
     task: u32,
-    answer: &mut Answer,
+    answer: &mut CAnswer,
 ) -> u32
-    ensures does { Does (core_of scheduler.old.handle.held) (core_of scheduler.new.handle.held) result answer.new (λ s. spec.grant_returns s task) (λ s. spec.grant_after s task) }
-    ensures kind { is_endless scheduler.new.handle.held ≡ is_endless scheduler.old.handle.held }
+    ensures does { Does (core_of scheduler.old.block.held) (core_of scheduler.new.block.held) result answer.new (λ s. spec.grant_returns s task) (λ s. spec.grant_after s task) }
+    ensures kind { is_endless scheduler.new.block.held ≡ is_endless scheduler.old.block.held }
+    ensures other { core_of scheduler.old.block.held ≡ None → scheduler.new.block.held ≡ scheduler.old.block.held }
 {
     *answer = NOTHING;
-    let Some(mut held) = take(scheduler, alloc) else {
+    let Some(mut held) = scheduler.take(alloc) else {
         return status::CLOSED;
     };
-    let (ended, found) = either::grant(&mut *held, task);
+    let (ended, found) = on_scheduler!(&mut *held, core => event::grant(core, task), NO_SCHEDULER);
     *answer = found;
-    put(scheduler, held);
+    scheduler.put(held);
     ended
 }
 
 /// Reports how the tick in progress ended for its job: whether the job is done.
 #[unsafe(no_mangle)]
-pub extern "C" fn edfvd_raw_outcome(
+pub extern "C" fn edfvd_raw_scheduler_outcome(
     alloc: Global,
-    scheduler: &mut Scheduler,
+    scheduler: &mut Handle,
     task: u32,
     count: u32,
     done: bool,
-    answer: &mut Answer,
+    answer: &mut CAnswer,
 ) -> u32
-    ensures does { Does (core_of scheduler.old.handle.held) (core_of scheduler.new.handle.held) result answer.new (λ s. spec.outcome_returns s task count done) (λ s. spec.outcome_after s task count done) }
-    ensures kind { is_endless scheduler.new.handle.held ≡ is_endless scheduler.old.handle.held }
+    ensures does { Does (core_of scheduler.old.block.held) (core_of scheduler.new.block.held) result answer.new (λ s. spec.outcome_returns s task count done) (λ s. spec.outcome_after s task count done) }
+    ensures kind { is_endless scheduler.new.block.held ≡ is_endless scheduler.old.block.held }
+    ensures other { core_of scheduler.old.block.held ≡ None → scheduler.new.block.held ≡ scheduler.old.block.held }
 {
     *answer = NOTHING;
-    let Some(mut held) = take(scheduler, alloc) else {
+    let Some(mut held) = scheduler.take(alloc) else {
         return status::CLOSED;
     };
-    let (ended, found) = either::outcome(&mut *held, task, count, done);
+    let (ended, found) =
+        on_scheduler!(&mut *held, core => event::outcome(core, task, count, done), NO_SCHEDULER);
     *answer = found;
-    put(scheduler, held);
+    scheduler.put(held);
     ended
 }
 
 /// Reports that the next tick is idle, which it may be only if no job is pending.
 #[unsafe(no_mangle)]
-pub extern "C" fn edfvd_raw_idle(
+pub extern "C" fn edfvd_raw_scheduler_idle(
     alloc: Global,
-    scheduler: &mut Scheduler,
-    answer: &mut Answer,
+    scheduler: &mut Handle,
+    answer: &mut CAnswer,
 ) -> u32
-    ensures does { Does (core_of scheduler.old.handle.held) (core_of scheduler.new.handle.held) result answer.new spec.idle_returns after_idle }
-    ensures kind { is_endless scheduler.new.handle.held ≡ is_endless scheduler.old.handle.held }
+    ensures does { Does (core_of scheduler.old.block.held) (core_of scheduler.new.block.held) result answer.new spec.idle_returns after_idle }
+    ensures kind { is_endless scheduler.new.block.held ≡ is_endless scheduler.old.block.held }
+    ensures other { core_of scheduler.old.block.held ≡ None → scheduler.new.block.held ≡ scheduler.old.block.held }
 {
     *answer = NOTHING;
-    let Some(mut held) = take(scheduler, alloc) else {
+    let Some(mut held) = scheduler.take(alloc) else {
         return status::CLOSED;
     };
-    let (ended, found) = either::idle(&mut *held);
+    let (ended, found) = on_scheduler!(&mut *held, core => event::idle(core), NO_SCHEDULER);
     *answer = found;
-    put(scheduler, held);
+    scheduler.put(held);
     ended
 }
 
 /// Stores the scheduler's clock, mode and jobs.
 #[unsafe(no_mangle)]
-pub extern "C" fn edfvd_raw_look(alloc: Global, scheduler: &mut Scheduler, seen: &mut Seen) -> u32
-    ensures same { scheduler.new.handle.held ≡ scheduler.old.handle.held }
-    ensures seen { MatchOption (core_of scheduler.old.handle.held) (result ≡ 12) (λ s. (result ≡ 0) × (seen.new ≡ view.seen s)) }
+pub extern "C" fn edfvd_raw_scheduler_look(
+    alloc: Global,
+    scheduler: &mut Handle,
+    look: &mut CLook,
+) -> u32
+    ensures same { scheduler.new.block.held ≡ scheduler.old.block.held }
+    ensures look { MatchOption (core_of scheduler.old.block.held) ((result ≡ 12) × (look.new ≡ view.no_look)) (λ s. (result ≡ 0) × (look.new ≡ view.look s)) }
 {
-    *seen = NONE_SEEN;
-    let Some(held) = take(scheduler, alloc) else {
+    *look = NO_LOOK;
+    let Some(held) = scheduler.take(alloc) else {
         return status::CLOSED;
     };
-    *seen = either::look(&*held);
-    put(scheduler, held);
-    status::OK
+    let (ended, found) =
+        on_scheduler!(&*held, core => (status::OK, look_at(core)), (status::CLOSED, NO_LOOK));
+    *look = found;
+    scheduler.put(held);
+    ended
 }
 
 /// Stores the row of this number, the oldest being number 0. Status 27 after the last row, and 30 for a row that a scheduler
 /// without an end no longer keeps, which is any but its latest 256.
 #[unsafe(no_mangle)]
-pub extern "C" fn edfvd_raw_row(
+pub extern "C" fn edfvd_raw_scheduler_row(
     alloc: Global,
-    scheduler: &mut Scheduler,
+    scheduler: &mut Handle,
     place: u64,
-    row: &mut SeenRow,
+    row: &mut CRow,
 ) -> u32
-    ensures same { scheduler.new.handle.held ≡ scheduler.old.handle.held }
-    ensures row { IfSome (core_of scheduler.old.handle.held) (λ s. result ≡ 0 → IfSome (slice_get (reverse s.rows) place) (λ r. row.new ≡ view.seen_row r)) }
-    ensures exactly { MatchOption (core_of scheduler.old.handle.held) (result ≡ 12) (λ s. IsRowStatus (kept_from scheduler.old.handle.held) (length s.rows) place result) }
+    ensures same { scheduler.new.block.held ≡ scheduler.old.block.held }
+    ensures row { IfSome (core_of scheduler.old.block.held) (λ s. result ≡ 0 → IfSome (slice_get (reverse s.rows) place) (λ r. row.new ≡ view.row_numbers r)) }
+    ensures exactly { MatchOption (core_of scheduler.old.block.held) (result ≡ 12) (λ s. IsRowStatus (kept_from scheduler.old.block.held) (length s.rows) place result) }
     ensures none { result ≢ 0 → row.new ≡ no_row }
 {
     *row = NO_ROW;
-    let Some(held) = take(scheduler, alloc) else {
+    let Some(held) = scheduler.take(alloc) else {
         return status::CLOSED;
     };
-    let (ended, found) = in_numbers(either::row_at(&*held, place));
+    let (ended, found) = match row_at(&*held, place) {
+        Some(found) => in_numbers(found),
+        None => (status::CLOSED, NO_ROW),
+    };
     *row = found;
-    put(scheduler, held);
+    scheduler.put(held);
     ended
 }
 
-const NO_ROW: SeenRow = SeenRow {
+// The row of this number in the scheduler that is held, the oldest row being number 0.
+fn row_at(held: &Held, place: u64) -> Option<Lookup>
+    ensures { MatchOption (core_of (Some held.now)) (result ≡ None) (λ s. result ≡ Some (lookup (kept_from (Some held.now)) (reverse s.rows) place)) }
+{
+    match held {
+        Held::Core(core) => Some(row_in(core.rows(), place)),
+        Held::Endless(core) => Some(core.recorder().row_at(place)),
+        Held::Monitor(_) => None,
+    }
+}
+
+fn row_in(rows: &[Row], place: u64) -> Lookup
+    ensures { result ≡ lookup 0 rows.now place }
+{
+    match rows.get(place as usize) {
+        Some(row) => Lookup::Here(*row),
+        None => Lookup::NotYet,
+    }
+}
+
+const NO_ROW: CRow = CRow {
     event: 0,
     task: 0,
     count: 0,
 };
 
-fn in_numbers(found: Lookup) -> (u32, SeenRow)
+fn in_numbers(found: Lookup) -> (u32, CRow)
     ensures { result ≡ row_returns found }
 {
     match found {
-        Lookup::Here(row) => (status::OK, seen_row(row)),
+        Lookup::Here(row) => (status::OK, row_numbers(row)),
         Lookup::NotYet => (status::NO_ROW, NO_ROW),
         Lookup::Gone => (status::GONE, NO_ROW),
     }

@@ -44,7 +44,7 @@ pub const PENDING: u32 = 26;
 
 pub const NO_ROW: u32 = 27;
 
-pub const NO_ROOM: u32 = 28;
+pub const NO_PERCENTAGE: u32 = 28;
 
 pub const NO_PROCESSOR: u32 = 29;
 
@@ -52,4 +52,4 @@ pub const GONE: u32 = 30;
 
 pub const ARGUMENT: u32 = 43;
 
-pub const ROOM: u32 = 44;
+pub const SHORT_BUFFER: u32 = 44;

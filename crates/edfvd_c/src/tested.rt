@@ -3,7 +3,7 @@ ghost use Rattle.std.specs.Prelude.{◌≡◌, ◌≢◌, ◌^◌, ◌/◌, ◌%
 ghost use Rattle.load_sum.specs.Belong.{BelongTo};
 ghost use Rattle.edfvd_c.specs.Tested as spec;
 
-use crate::given::{GivenTask, NoSet, set_of};
+use crate::given::{CTask, NoSet, set_of};
 use crate::status;
 use admission::admit;
 use load_sum::{LoadFault, Loads, sum_loads};
@@ -14,7 +14,7 @@ use std::alloc::Global;
 /// 2 for EDF-VD with the scale `p/q`.
 #[repr(C)]
 #[derive(Clone, Copy)]
-pub struct Tested {
+pub struct CTest {
     pub rule: u32,
     pub task: u32,
     pub p: u64,
@@ -28,7 +28,7 @@ pub struct Tested {
     pub high_high: u64,
 }
 
-const UNTESTED: Tested = Tested {
+const UNTESTED: CTest = CTest {
     rule: 0,
     task: 0,
     p: 0,
@@ -44,7 +44,7 @@ const UNTESTED: Tested = Tested {
 
 /// Tests the tasks by the published test.
 #[unsafe(no_mangle)]
-pub extern "C" fn edfvd_raw_check(alloc: Global, given: &[GivenTask], tested: &mut Tested) -> u32
+pub extern "C" fn edfvd_raw_check(alloc: Global, given: &[CTask], tested: &mut CTest) -> u32
     ensures { result ≡ 0 → spec.IsTested given.now tested.new }
 {
     match test(alloc, given) {
@@ -53,7 +53,7 @@ pub extern "C" fn edfvd_raw_check(alloc: Global, given: &[GivenTask], tested: &m
             status::OK
         }
         Err(no) => {
-            *tested = Tested {
+            *tested = CTest {
                 task: no.task,
                 ..UNTESTED
             };
@@ -62,7 +62,7 @@ pub extern "C" fn edfvd_raw_check(alloc: Global, given: &[GivenTask], tested: &m
     }
 }
 
-fn test(alloc: Global, given: &[GivenTask]) -> Result<Tested, NoSet>
+fn test(alloc: Global, given: &[CTask]) -> Result<CTest, NoSet>
     ensures tested { IfOk result (spec.IsTested given.now) }
     ensures status { IfErr result (λ no. no.status ≢ 0) }
 {
@@ -85,7 +85,7 @@ pub fn loads_of(set: &TaskSet) -> Result<Loads, NoSet>
     }
 }
 
-fn in_numbers(loads: Loads, rule: Option<Rule>) -> Tested
+fn in_numbers(loads: Loads, rule: Option<Rule>) -> CTest
     ensures loads { spec.loads_of result ≡ loads }
     ensures rule { spec.HasRule rule result }
 {
@@ -94,7 +94,7 @@ fn in_numbers(loads: Loads, rule: Option<Rule>) -> Tested
         Some(Rule::Plain) => (1, 0, 0),
         Some(Rule::Virtual { p, q }) => (2, p, q),
     };
-    Tested {
+    CTest {
         rule: number,
         task: 0,
         p,

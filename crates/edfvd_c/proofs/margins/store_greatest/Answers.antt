@@ -1,6 +1,6 @@
 use Rattle.std.proofs.Common.{ℕ, ◌+◌, ◌<◌, length, sym, subst, arith}
 use Rattle.std.proofs.Math.ListN.{set}
-use Rattle.edfvd_c.specs.declared.margins.Budgets.{Budgets}
+use Rattle.edfvd_c.specs.declared.margins.CBudgets.{CBudgets}
 use Rattle.edfvd_c.specs.Margins.{IsGreatestAt}
 use Rattle.edfvd_c.proofs.Greatest.{AreOf-length, greatest_more}
 use Rattle.edfvd_c.proofs.margins.store_greatest.Goals as goal
@@ -10,5 +10,5 @@ loop-i-preserved c =
     let tasks = c.args.loaded.now.set.tasks in
     let long = AreOf-length c.args.given.now tasks c.requires.numbers in
     let inside : c.loop-i.i < length c.loop-i.budgets = omega (arith, long) in
-    subst (λ (b : Budgets). (k : ℕ) → k < c.loop-i.i + 1 → IsGreatestAt tasks (set c.loop-i.budgets c.loop-i.i b) k) (sym c.budgets_in_numbers.ensures)
+    subst (λ (b : CBudgets). (k : ℕ) → k < c.loop-i.i + 1 → IsGreatestAt tasks (set c.loop-i.budgets c.loop-i.i b) k) (sym c.budgets_in_numbers.ensures)
     (greatest_more tasks c.loop-i.budgets c.loop-i.i c.greatest_of.result inside c.greatest_of.ensures c.loop-i.invariant)

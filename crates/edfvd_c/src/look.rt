@@ -1,6 +1,6 @@
 //! What is read of a scheduler, in numbers.
 ghost use Rattle.std.specs.Prelude.{◌≡◌, ◌+◌, ◌≤◌, reverse, length, slice_index_or};
-ghost use Rattle.edfvd_c.specs.Seen as spec;
+ghost use Rattle.edfvd_c.specs.Look as spec;
 
 use mc_model::Row;
 use mc_task::JobId;
@@ -10,7 +10,7 @@ use row_history::Recorder;
 /// A scheduler's numbers. A task and a count are 0 where there is no such job.
 #[repr(C)]
 #[derive(Clone, Copy)]
-pub struct Seen {
+pub struct CLook {
     pub ticks: u64,
     pub rows: u64,
     pub high_mode: u32,
@@ -23,13 +23,13 @@ pub struct Seen {
 /// A row: a release kept or dropped, a tick with more to do, done, stopped or over, or an idle tick.
 #[repr(C)]
 #[derive(Clone, Copy)]
-pub struct SeenRow {
+pub struct CRow {
     pub event: u32,
     pub task: u32,
     pub count: u32,
 }
 
-pub const NONE_SEEN: Seen = Seen {
+pub const NO_LOOK: CLook = CLook {
     ticks: 0,
     rows: 0,
     high_mode: 0,
@@ -40,11 +40,11 @@ pub const NONE_SEEN: Seen = Seen {
 };
 
 /// A scheduler's clock, mode, jobs and number of rows.
-pub fn look<R: Recorder>(core: &Core<R>) -> Seen
-    ensures { result ≡ spec.seen core.now }
+pub fn look_at<R: Recorder>(core: &Core<R>) -> CLook
+    ensures { result ≡ spec.look core.now }
 {
     let (out, chosen) = (core.out(), core.chosen());
-    Seen {
+    CLook {
         ticks: core.ticks(),
         rows: core.recorder().count() as u64,
         high_mode: if core.high_mode() { 1 } else { 0 },
@@ -74,21 +74,21 @@ pub fn count_number(job: Option<JobId>) -> u32
 }
 
 /// The row in numbers.
-pub fn seen_row(row: Row) -> SeenRow
-    ensures { result ≡ spec.seen_row row }
+pub fn row_numbers(row: Row) -> CRow
+    ensures { result ≡ spec.row_numbers row }
 {
     match row {
-        Row::Release { job, kept } => SeenRow {
+        Row::Release { job, kept } => CRow {
             event: if kept { 1 } else { 2 },
             task: job.task.0,
             count: job.count,
         },
-        Row::Tick { job, how } => SeenRow {
+        Row::Tick { job, how } => CRow {
             event: crate::event::how_number(how),
             task: job.task.0,
             count: job.count,
         },
-        Row::Idle => SeenRow {
+        Row::Idle => CRow {
             event: 9,
             task: 0,
             count: 0,

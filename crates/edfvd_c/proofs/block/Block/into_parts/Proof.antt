@@ -25,12 +25,12 @@ use denote.Triple.Table.{entered}
 use denote.Triple.Walked.{says, Stays, stay_dropped, walk_of, ends_at, Goes-dropped, walk_Meets}
 use Rattle.std_alloc.proofs.BoxSteps.Form.{D, B, word, box_typed}
 use Rattle.std_alloc.proofs.BoxSteps.Steps.{box_out, box_in}
-use Rattle.edfvd_c.proofs.AsBox.{E, FromHandle as From}
-use Rattle.edfvd_c.specs.contracts.handle.Handle as Handle
-use Rattle.edfvd_c.specs.contracts.handle.Handle.into_parts as F
-use Rattle.edfvd_c.specs.contracts.handle.Handle.into_parts.Key.{name as #self}
-use Rattle.edfvd_c.proofs.handle.Handle.into_parts.Statement as stated
-use Rattle.edfvd_c.proofs.handle.Handle.into_parts.Code as code
+use Rattle.edfvd_c.proofs.AsBox.{E, FromBlock as From}
+use Rattle.edfvd_c.specs.contracts.block.Block as Block
+use Rattle.edfvd_c.specs.contracts.block.Block.into_parts as F
+use Rattle.edfvd_c.specs.contracts.block.Block.into_parts.Key.{name as #self}
+use Rattle.edfvd_c.proofs.block.Block.into_parts.Statement as stated
+use Rattle.edfvd_c.proofs.block.Block.into_parts.Code as code
 
 abbrev Apart : Bool → Type 0
 Apart false = Unit {0}
@@ -51,7 +51,7 @@ module _ {M : Type 1} {𝓤 : Ura M} (𝓛 : Logic 𝓤) (at_mem : Memory → SP
   walk z =
       let Post = (walk_of 𝓛 F.ended stayed (F.clauses 𝓛 at_mem run)).post z in
       let h = z.0.3.0 in
-      let From' = Handle.the_row in
+      let From' = Block.the_row in
       qed 𝓛 ((‵ ftrue ⊛ ‵ (fsep (From'.own_val h z.0.4.0) ftrue)) ∷ raw (fact 𝓤 (IsSome h.held)) ∷ []) ∵ move ! (1 ∷ []) $ heard ! (IsSome h.held) (λ some_held.
       let x = (found h.held some_held).0 in let e : h.held ≡ Some x = (found h.held some_held).1 in
       let v : D E = record { ptr = h.at; alloc = h.alloc; value = x } in

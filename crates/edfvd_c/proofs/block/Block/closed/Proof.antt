@@ -1,4 +1,4 @@
--- `closed` makes a handle that owns nothing.
+-- `closed` makes a block that owns nothing.
 use Rattle.std.specs.Prelude.{None}
 use mathlib.Core.Path.{refl, sym, subst}
 use mathlib.Core.List.{List, [], ◌∷◌, ◌++◌}
@@ -36,11 +36,11 @@ use denote.Triple.Spec.{triple_of}
 use denote.Triple.Table.{entered}
 use denote.Triple.Walked.{says, Stays, stay_dropped, walk_of, ends_at, Goes-dropped, walk_Meets}
 use Rattle.std_heap.specs.contracts.Global as Heap
-use Rattle.edfvd_c.specs.contracts.handle.Handle as Handle
-use Rattle.edfvd_c.specs.contracts.handle.Handle.closed as F
-use Rattle.edfvd_c.specs.contracts.handle.Handle.closed.Key.{name as #self}
-use Rattle.edfvd_c.proofs.handle.Handle.closed.Statement as stated
-use Rattle.edfvd_c.proofs.handle.Handle.closed.Code as code
+use Rattle.edfvd_c.specs.contracts.block.Block as Block
+use Rattle.edfvd_c.specs.contracts.block.Block.closed as F
+use Rattle.edfvd_c.specs.contracts.block.Block.closed.Key.{name as #self}
+use Rattle.edfvd_c.proofs.block.Block.closed.Statement as stated
+use Rattle.edfvd_c.proofs.block.Block.closed.Code as code
 
 abbrev stayed : Stays (F.ended).signature.params (F.ended).kept
 stayed = (stay_dropped (plain (λ _. Heap.the_row)) yes, tt)
@@ -53,7 +53,7 @@ module _ {M : Type 1} {𝓤 : Ura M} (𝓛 : Logic 𝓤) (at_mem : Memory → SP
   walk z =
       let Post = (walk_of 𝓛 F.ended stayed (F.clauses 𝓛 at_mem run)).post z in
       let a = z.0.3.0 in
-      let made : Handle.the_row.Denot = record { at = null_ptr; alloc = a; held = None } in
+      let made : Block.the_row.Denot = record { at = null_ptr; alloc = a; held = None } in
       qed 𝓛 ((‵ ftrue ⊛ ‵ (fsep (Heap.the_row.own_val a z.0.4.0) ftrue)) ∷ raw (emp 𝓤) ∷ []) ∵ split ! $ drop ! $ fsplit ! $
       handle_tells E.al ! a z.0.4.0 (λ h eh fits. move ! (1 ∷ 2 ∷ []) $ drop ! $ drop ! $
       let w : Val = vstruct (vcons (vint w64 0) (vcons h vnil)) in
@@ -63,7 +63,7 @@ module _ {M : Type 1} {𝓤 : Ura M} (𝓛 : Logic 𝓤) (at_mem : Memory → SP
       (qed 𝓛 Γ ∵ enter ! 𝓣.C 𝓣.Λ code.function (h ∷ []) _ $ alloc_all ! (λ ls. pass_all ! refl (fits, tt) $
       sets ! (agg ! (and_then ! (lit ! tt) (and_then ! (get ! refl) (no_more !)))) refl typed $ returns ! (look_at ! 0 refl) $ free_all ! refl $
       nothing ! $ move ! (1 ∷ 0 ∷ []) $ fjoin ! $ feq_i ! (List Val) (vint w64 0 ∷ []) (vint w64 0 ∷ []) refl $ fjoin ! $ feq_i ! (List Val) (w ∷ []) (w ∷ []) refl $ fjoin ! $
-      fpack ! (Valss (RawPtr ∷ (Heap.the_field).row ∷ [])) (within (shape Handle.the_type) (null_ptr, (((a.memory.seal, tt), tt), tt)) (w ∷ [])) (vint w64 0 ∷ [], (h ∷ [], tt)) $ nothing ! $ move ! (1 ∷ 0 ∷ []) $ fjoin ! $
+      fpack ! (Valss (RawPtr ∷ (Heap.the_field).row ∷ [])) (within (shape Block.the_type) (null_ptr, (((a.memory.seal, tt), tt), tt)) (w ∷ [])) (vint w64 0 ∷ [], (h ∷ [], tt)) $ nothing ! $ move ! (1 ∷ 0 ∷ []) $ fjoin ! $
       suffices ! _ (ends_at 𝓛 F.ended stayed (F.clauses 𝓛 at_mem run) z w made (tt, tt) (tt, tt)) $ says ! refl $
       nothing ! $ nothing ! $ fjoin ! $ join ! $ nothing ! $ join ! $ done !))))
 

@@ -26,10 +26,10 @@ use denote.Triple.Walked.{says, Stays, stay_dropped, walk_of, ends_at, Goes-drop
 use Rattle.std_alloc.proofs.BoxSteps.Form.{D, B, word, box_typed}
 use Rattle.std_alloc.proofs.BoxSteps.Steps.{box_out, box_in}
 use Rattle.edfvd_c.proofs.AsBox.{E, FromParts as From}
-use Rattle.edfvd_c.specs.contracts.handle.Handle.of_parts as F
-use Rattle.edfvd_c.specs.contracts.handle.Handle.of_parts.Key.{name as #self}
-use Rattle.edfvd_c.proofs.handle.Handle.of_parts.Statement as stated
-use Rattle.edfvd_c.proofs.handle.Handle.of_parts.Code as code
+use Rattle.edfvd_c.specs.contracts.block.Block.of_parts as F
+use Rattle.edfvd_c.specs.contracts.block.Block.of_parts.Key.{name as #self}
+use Rattle.edfvd_c.proofs.block.Block.of_parts.Statement as stated
+use Rattle.edfvd_c.proofs.block.Block.of_parts.Code as code
 
 abbrev stayed : Stays (F.ended).signature.params (F.ended).kept
 stayed = (stay_dropped From yes, tt)

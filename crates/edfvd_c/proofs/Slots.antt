@@ -1,12 +1,9 @@
--- Rows in slots by their numbers, and what a lookup returns.
-use Rattle.std.proofs.Common.{◌≡◌, ℕ, zero, suc, ◌+◌, ◌%◌, ◌<◌, ◌≤◌, inl, inr, List, [], ◌∷◌, ◌++◌, Some, length, set, refl, sym, ap, ◌∙◌, arith, lt-ltb, le-ltb}
+-- Rows in slots by their numbers.
+use Rattle.std.proofs.Common.{◌≡◌, ℕ, zero, suc, ◌+◌, ◌%◌, ◌<◌, inl, inr, List, [], ◌∷◌, ◌++◌, Some, length, set, refl, sym, ap, ◌∙◌, arith}
 use Rattle.std.specs.Prelude.{reverse, slice_get}
-use Rattle.std.proofs.lemmas.Bool.{cases_lt, cases_eq}
+use Rattle.std.proofs.lemmas.Bool.{cases_eq}
 use Rattle.std.proofs.lemmas.List.{length-reverse, reverse-reverse, length-append, reverse-append}
-use Rattle.std.proofs.lemmas.Option.{slice_get_cases}
 use Rattle.mc_model.specs.declared.row.Row.{Row}
-use Rattle.edfvd_c.specs.declared.latest.Lookup.TheVariants.{Here, Gone, NotYet}
-use Rattle.edfvd_c.specs.Latest.{lookup, row_returns, IsRowStatus}
 use Rattle.edfvd_c.specs.Slots.{IsInSlots}
 
 -- an element keeps its index when one more is added at the end of its list
@@ -55,39 +52,3 @@ pub slots_more : (old new slots : List Row) (row : Row) (count : ℕ) → length
     → count ≡ length (reverse old) → IsInSlots new (set slots (count % 256) row)
 slots_more old new slots row count many is e c =
     rw (more_rows old new row e, c, length-reverse old) (one_more old slots row many is)
-
--- a lookup is gone, not there yet, or the row
-data IsFound (first : ℕ) (rows : List Row) (place : ℕ) : Type 0 where
-  gone : place < first → lookup first rows place ≡ Gone → IsFound first rows place
-  not_yet : first ≤ place → length rows ≤ place → lookup first rows place ≡ NotYet → IsFound first rows place
-  here : (row : Row) → first ≤ place → place < length rows → slice_get rows place ≡ Some row → lookup first rows place ≡ Here row → IsFound first rows place
-
--- each lookup is gone, not there yet, or the row
-is_found : (first : ℕ) (rows : List Row) (place : ℕ) → IsFound first rows place
-is_found first rows place = elim (cases_lt place first) [
-  | inl before ↦ gone before (rw (lt-ltb place first before) refl)
-  | inr kept ↦ elim ((slice_get_cases rows place).1) [
-    | inl there ↦ here there.0 kept there.1 there.2 (rw (le-ltb place first kept, there.2) refl)
-    | inr past ↦ not_yet kept past.0 (rw (le-ltb place first kept, past.1) refl)
-  ]
-]
-
--- the status of a lookup says whether the row is gone, not there yet, or kept
-pub row_status : (first : ℕ) (rows : List Row) (place : ℕ) → first ≤ length rows → IsRowStatus first (length rows) place (row_returns (lookup first rows place)).0
-row_status first rows place few = elim (is_found first rows place) [
-  | gone before is ↦ rw is (record {
-    kept = ((λ e. absurd (omega (arith, e))), (λ w. absurd (omega (arith, before, w.0))));
-    not_yet = ((λ e. absurd (omega (arith, e))), (λ w. absurd (omega (arith, before, few, w))));
-    gone = ((λ e. before), (λ w. refl));
-  })
-  | not_yet kept past is ↦ rw is (record {
-    kept = ((λ e. absurd (omega (arith, e))), (λ w. absurd (omega (arith, past, w.1))));
-    not_yet = ((λ e. past), (λ w. refl));
-    gone = ((λ e. absurd (omega (arith, e))), (λ w. absurd (omega (arith, kept, w))));
-  })
-  | here row kept there found is ↦ rw is (record {
-    kept = ((λ e. (kept, there)), (λ w. refl));
-    not_yet = ((λ e. absurd (omega (arith, e))), (λ w. absurd (omega (arith, there, w))));
-    gone = ((λ e. absurd (omega (arith, e))), (λ w. absurd (omega (arith, kept, w))));
-  })
-]

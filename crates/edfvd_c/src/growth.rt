@@ -1,9 +1,9 @@
 //! How far the high budgets of sets can grow.
 ghost use Rattle.std.specs.Prelude.{◌≡◌, ◌≢◌, Some, None, IfOk, IfErr};
-ghost use Rattle.edfvd_c.specs.Room as spec;
+ghost use Rattle.edfvd_c.specs.Growth as spec;
 ghost use Rattle.study.specs.Acceptance.{accept_table};
 
-use crate::given::{GivenTask, NoSet, set_of};
+use crate::given::{CTask, NoSet, set_of};
 use crate::status;
 use crate::tested::loads_of;
 use std::alloc::Global;
@@ -14,7 +14,7 @@ use study::{stretch, table_alone};
 #[unsafe(no_mangle)]
 pub extern "C" fn edfvd_raw_stretch(
     alloc: Global,
-    given: &[GivenTask],
+    given: &[CTask],
     percent: &mut u32,
     task: &mut u32,
 ) -> u32
@@ -28,7 +28,7 @@ pub extern "C" fn edfvd_raw_stretch(
             *percent = most;
             status::OK
         }
-        Ok(None) => status::NO_ROOM,
+        Ok(None) => status::NO_PERCENTAGE,
         Err(no) => {
             *task = no.task;
             no.status
@@ -36,7 +36,7 @@ pub extern "C" fn edfvd_raw_stretch(
     }
 }
 
-fn stretched(alloc: Global, given: &[GivenTask]) -> Result<Option<u32>, NoSet>
+fn stretched(alloc: Global, given: &[CTask]) -> Result<Option<u32>, NoSet>
     ensures stretch { IfOk result (spec.IsStretched given.now) }
     ensures status { IfErr result (λ no. (no.status ≢ 0) × (no.status ≢ 28)) }
 {
