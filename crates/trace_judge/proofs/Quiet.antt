@@ -12,14 +12,16 @@ use Rattle.mc_model.specs.declared.row.Row.TheVariants.{Tick}
 use Rattle.mc_model.specs.declared.run.Run.TheVariants as run
 use Rattle.mc_model.specs.TaskNumbers.{period_in}
 use Rattle.mc_model.specs.Rows.{ticks}
-use Rattle.mc_model.specs.Runs.{rows_of}
+use Rattle.mc_model.specs.Runs.{row_of, rows_of}
+use Rattle.mc_model.specs.declared.run.Run.{Run}
+use Rattle.trace_judge.specs.declared.step.Misfit.{Misfit}
 use Rattle.mc_model.specs.Late.{deadline}
 use Rattle.trace_judge.specs.declared.turned.Quiet.{Quiet}
 use Rattle.trace_judge.specs.declared.state.State.{State}
 use Rattle.trace_judge.specs.Entries.{Entry}
 use Rattle.trace_judge.specs.Placed.{Placed, waiting}
 use Rattle.trace_judge.specs.Quiet.{is_outside, deadline_at, are_quiet, IsQuiet}
-use Rattle.trace_judge.specs.Tracks.{Tracks, entry_of}
+use Rattle.trace_judge.specs.Tracks.{Tracks, StopsAt, entry_of}
 use Rattle.trace_judge.specs.Turned.{turned_of}
 use Rattle.trace_judge.proofs.Same.{same_all}
 use Rattle.trace_judge.proofs.Keeps.{waiting_idle}
@@ -50,6 +52,14 @@ quiet_ticks set j how n h q all = ticks_wait set (λ (x : Placed). is_outside q.
 -- the stretch of time after idle ticks is that before them
 pub quiet_idles : (set : List Task) (n : ℕ) (h : List Row) (q : Quiet) → IsQuiet set h q → IsQuiet set (rows_of (run.Idles n) ++ h) q
 quiet_idles set n h q all = rw (waiting_idle set n h) all
+
+-- the stretch of time before the first row of a run that does not fit is that before the run
+pub quiet_until : (set : List Task) (rule : Rule) (r : Run) (m : Misfit) (h : List Row) (q : Quiet) → StopsAt set rule r h m → IsQuiet set h q → IsQuiet set (replicate m.after (row_of r) ++ h) q
+quiet_until set rule (run.Release j kept) m h q stop all =
+    let none : m.after ≡ 0 = omega (arith, stop.inside) in
+    rw none all
+quiet_until set rule (run.Ticks j how n) m h q stop all = quiet_ticks set j how m.after h q all
+quiet_until set rule (run.Idles n) m h q stop all = quiet_idles set m.after h q all
 
 -- a release ends the stretch of time at the job's deadline
 pub quiet_release : (set : List Task) (j : JobId) (h : List Row) (q : Quiet) (deadline : ℕ) → deadline ≤ ticks h + period_in (task_at set j.task.0) → IsQuiet set h q →

@@ -95,6 +95,16 @@ pending_budget set rule g j s v p =
 pub at_first : (set : List Task) (rule : Rule) (r : Run) (g : List Row) (m : Misfit) (why : Why) → m ≡ record { after = 0; why = why } → 1 ≤ size r → Legal set rule g → Some why ≡ fault set rule (row_of r) g → StopsAt set rule r g m
 at_first set rule r g m why e some l f = subst (StopsAt set rule r g) (sym e) (record { inside = omega (arith, some); before = l; there = sym f })
 
+-- if the first row of a run does not fit, the state stays as it is
+pub at_first_tracks : (set : List Task) (rule : Rule) (r : Run) (g : List Row) (s : State) (m : Misfit) (why : Why) → m ≡ record { after = 0; why = why } → Tracks set rule g s → Tracks set rule (replicate m.after (row_of r) ++ g) s
+at_first_tracks set rule r g s m why e t = subst (λ (x : Misfit). Tracks set rule (replicate x.after (row_of r) ++ g) s) (sym e) t
+
+-- if several rows of a run of ticks fit before one that does not, its job goes on after each of them
+pub ticks_before : (set : List Task) (rule : Rule) (g : List Row) (s s' : State) (j : JobId) (how : How) (n : ℕ) (m : Misfit) → IsRun (run.Ticks j how n) → Legal set rule g → Tracks set rule g s → s.ticks + n ≤ 2 ^ 62 →
+    0 < m.after → m.after < n → GoesOn m.after j s s' → Tracks set rule (replicate m.after (row_of (run.Ticks j how n)) ++ g) s'
+ticks_before set rule g s s' j how n m is_run l t room some inside goes =
+    rw (is_run.1 (omega (arith, some, inside))) (keeps_more set rule g s s' j m.after l t (omega (arith, room, inside)) goes)
+
 -- a run of ticks of a job that stands at the least key of what is kept of legal rows
 pub record IsTicking (set : List Task) (rule : Rule) (g : List Row) (s : State) (j : JobId) (how : How) (n k : ℕ) (p : Pending) (task : Task) : Type 0 where
   pub legal : Legal set rule g

@@ -1,5 +1,6 @@
 -- The first row that does not fit, in the middle of a run and after later rows.
 use Rattle.std.proofs.Common.{◌≡◌, ℕ, ◌+◌, ◌-◌, ◌^◌, ◌<◌, min, true, false, filter, List, [], ◌∷◌, slice_get, ◌++◌, Option, Some, None, length, replicate, option_map, refl, sym, ap, ◌∙◌, subst, arith, append_assoc}
+use Rattle.std.specs.Prelude.{cond, is_some}
 use Rattle.std.proofs.lemmas.List.{length-append, length-map, length-replicate, get_or-replicate}
 use Rattle.std.proofs.lemmas.Option.{slice_get-get_or}
 use Rattle.mc_task.specs.declared.task.Rule.{Rule}
@@ -30,7 +31,7 @@ use Rattle.trace_judge.specs.Entries.{PendingEntries}
 use Rattle.trace_judge.specs.LateJobs.{IsEarliest}
 use Rattle.trace_judge.specs.Steps.{IsNew}
 use Rattle.trace_judge.specs.Tracks.{Tracks, StopsAt}
-use Rattle.trace_judge.specs.Watched.{Watched, Watches, TracksOrUnfit, unfit_in, is_none}
+use Rattle.trace_judge.specs.Watched.{Watched, Watches, HasFollowed, fitted, unfit_in, is_none}
 use Rattle.trace_judge.proofs.Reading.{copies_split}
 use Rattle.trace_judge.proofs.Verdicts.{fault_stays}
 
@@ -52,6 +53,30 @@ stops_unfit set rule r g n m l s =
     ∙ (ap (option_map (λ (x : RowFault). an_unfit x.place x.why)) (fault_stays set rule f more (row ∷ k) here)
     ∙ ap (λ (p : ℕ). Some (an_unfit p m.why)) place)
 
+-- if each row fits, the rows that fitted are all rows
+pub fitted_all : (set : List Task) (rule : Rule) (h : List Row) → first_unfit set rule h ≡ None → fitted set rule h ≡ h
+fitted_all set rule [] e = refl
+fitted_all set rule (row ∷ g) e = ap (λ (o : Option RowFault). cond (is_some o) (fitted set rule g) (row ∷ g)) e
+
+-- rows after one that does not fit are not among those that fitted
+pub fitted_more : (set : List Task) (rule : Rule) (f : RowFault) (xs h : List Row) → first_unfit set rule h ≡ Some f → fitted set rule (xs ++ h) ≡ fitted set rule h
+fitted_more set rule f [] h e = refl
+fitted_more set rule f (x ∷ xs) h e = rw (fault_stays set rule f xs h e) (fitted_more set rule f xs h e)
+
+-- the rows that fitted are those of the run before the row at which the steps stop, and the rows before the run
+pub stops_fitted : (set : List Task) (rule : Rule) (r : Run) (g : List Row) (m : Misfit) → StopsAt set rule r g m → fitted set rule (rows_of r ++ g) ≡ replicate m.after (row_of r) ++ g
+stops_fitted set rule r g m s =
+    let row : Row = row_of r in
+    let k : List Row = replicate m.after row ++ g in
+    let f : RowFault = record { place = length k + 1; why = m.why } in
+    let none : first_unfit set rule k ≡ None = no_fault set rule k s.before in
+    let here : first_unfit set rule (row ∷ k) ≡ Some f = rw (none, s.there) refl in
+    let more : List Row = replicate (size r - m.after - 1) row in
+    let rows : rows_of r ++ g ≡ more ++ row ∷ k = ap (λ xs. xs ++ g) (copies_split (size r) m.after row s.inside) ∙ append_assoc more (row ∷ replicate m.after row) g in
+    ap (fitted set rule) rows
+    ∙ (fitted_more set rule f more (row ∷ k) here
+    ∙ (ap (λ (o : Option RowFault). cond (is_some o) (fitted set rule k) (row ∷ k)) here ∙ fitted_all set rule k none))
+
 -- the first fault of the rows has the number and the cause of the row that does not fit
 known_unfit : (set : List Task) (rule : Rule) (h : List Row) (u : Unfit) (o : Option RowFault) → first_unfit set rule h ≡ o → option_map (λ (x : RowFault). an_unfit x.place x.why) o ≡ Some u → first_unfit set rule h ≡ Some (record { place = u.place; why = u.why })
 known_unfit set rule h u None e k = cc
@@ -70,6 +95,48 @@ unfit_verdict set rule u h e = sym (ap (λ o. verdict_of o (late set h)) (known_
 -- where all rows are legal there is no first row that does not fit
 pub none_unfit : (set : List Task) (rule : Rule) (h : List Row) → Legal set rule h → None ≡ unfit_in set rule h
 none_unfit set rule h l = sym (ap (option_map (λ (x : RowFault). an_unfit x.place x.why)) (no_fault set rule h l))
+
+-- without a first row that does not fit there is no fault
+no_first : (o : Option RowFault) → option_map (λ (x : RowFault). an_unfit x.place x.why) o ≡ None → o ≡ None
+no_first None e = refl
+no_first (Some f) e = cc
+
+-- legal rows were followed, all of them
+pub followed_all : (set : List Task) (rule : Rule) (h : List Row) (s : State) → Legal set rule h → Tracks set rule h s → HasFollowed h set rule s None
+followed_all set rule h s l t =
+    let all = fitted_all set rule h (no_fault set rule h l) in
+    record {
+      unfit = none_unfit set rule h l;
+      legal = subst (λ (g : List Row). Legal set rule g) (sym all) l;
+      tracks = subst (λ (g : List Row). Tracks set rule g s) (sym all) t;
+    }
+
+-- if no row was found that does not fit, all rows were followed
+pub followed_none : (set : List Task) (rule : Rule) (h : List Row) (s : State) → HasFollowed h set rule s None → Legal set rule h × Tracks set rule h s
+followed_none set rule h s w =
+    subst (λ (g : List Row). Legal set rule g × Tracks set rule g s) (fitted_all set rule h (no_first (first_unfit set rule h) (sym w.unfit))) (w.legal, w.tracks)
+
+-- the rows of a run were followed up to the one at which the steps stop
+pub followed_until :
+    (set : List Task) (rule : Rule) (r : Run) (g : List Row) (n : ℕ) (m : Misfit) (s : State) (u : Unfit) → n ≡ length g → u ≡ an_unfit (n + m.after + 1) m.why →
+    StopsAt set rule r g m → Tracks set rule (replicate m.after (row_of r) ++ g) s → HasFollowed (rows_of r ++ g) set rule s (Some u)
+followed_until set rule r g n m s u l e stop t =
+    let fit = stops_fitted set rule r g m stop in
+    record {
+      unfit = ap (λ (x : Unfit). Some x) e ∙ sym (stops_unfit set rule r g n m l stop);
+      legal = subst (λ (h : List Row). Legal set rule h) (sym fit) stop.before;
+      tracks = subst (λ (h : List Row). Tracks set rule h s) (sym fit) t;
+    }
+
+-- after a row that does not fit, more rows are seen and not followed
+pub followed_more : (set : List Task) (rule : Rule) (s : State) (u : Unfit) (xs h : List Row) → HasFollowed h set rule s (Some u) → HasFollowed (xs ++ h) set rule s (Some u)
+followed_more set rule s u xs h w =
+    let fit = fitted_more set rule _ xs h (known_unfit set rule h u (first_unfit set rule h) refl (sym w.unfit)) in
+    record {
+      unfit = sym (unfit_stays set rule u xs h (sym w.unfit));
+      legal = subst (λ (g : List Row). Legal set rule g) (sym fit) w.legal;
+      tracks = subst (λ (g : List Row). Tracks set rule g s) (sym fit) w.tracks;
+    }
 
 -- what a new state keeps is right before the first row
 pub tracks_none : (set : List Task) (rule : Rule) (n : ℕ) (s : State) → n ≡ length set → IsNew n s → Tracks set rule [] s
@@ -98,9 +165,13 @@ verdict_stays set rule u xs h e = sym (unfit_verdict set rule u h e) ∙ unfit_v
 abbrev pub a_monitor : Set → Rule → State → Option Unfit → Watched
 a_monitor set rule s u = record { set = set; rule = rule; state = s; unfit = u }
 
+-- if a monitor has found no row that does not fit, each row fitted
+pub all_fitted : (h : List Row) (m : Watched) → m.unfit ≡ None → Watches h m → fitted m.set.tasks m.rule h ≡ h
+all_fitted h m e w = fitted_all m.set.tasks m.rule h (no_first (first_unfit m.set.tasks m.rule h) (sym w.unfit ∙ e))
+
 -- of a monitor that has found no row that does not fit, what is kept follows the rows
 pub tracked : (h : List Row) (m : Watched) → m.unfit ≡ None → Watches h m → Legal m.set.tasks m.rule h × Tracks m.set.tasks m.rule h m.state
-tracked h m e w = subst (λ (o : Option Unfit). TracksOrUnfit h m.set.tasks m.rule m.state o) e w
+tracked h m e w = subst (λ (g : List Row). Legal m.set.tasks m.rule g × Tracks m.set.tasks m.rule g m.state) (all_fitted h m e w) (w.legal, w.tracks)
 
 -- a monitor has found no row that does not fit if each row has fitted
 pub none_found : (o : Option Unfit) → is_none o ≡ true → o ≡ None
@@ -114,11 +185,13 @@ found_one (Some u) e = (u, refl)
 
 -- if a monitor has found a row that does not fit, that row stays the first
 pub stays_found : (xs h : List Row) (m : Watched) (u : Unfit) → m.unfit ≡ Some u → Watches h m → unfit_in m.set.tasks m.rule (xs ++ h) ≡ Some u
-stays_found xs h m u e w = unfit_stays m.set.tasks m.rule u xs h (subst (λ (o : Option Unfit). TracksOrUnfit h m.set.tasks m.rule m.state o) e w)
+stays_found xs h m u e w = unfit_stays m.set.tasks m.rule u xs h (sym w.unfit ∙ e)
 
 -- a monitor that has found a row that does not fit has seen the later rows, too
 pub still_watches : (xs h : List Row) (m : Watched) (u : Unfit) → m.unfit ≡ Some u → Watches h m → Watches (xs ++ h) m
-still_watches xs h m u e w = subst (λ (o : Option Unfit). TracksOrUnfit (xs ++ h) m.set.tasks m.rule m.state o) (sym e) (stays_found xs h m u e w)
+still_watches xs h m u e w =
+    subst (λ (o : Option Unfit). HasFollowed (xs ++ h) m.set.tasks m.rule m.state o) (sym e)
+    (followed_more m.set.tasks m.rule m.state u xs h (subst (λ (o : Option Unfit). HasFollowed h m.set.tasks m.rule m.state o) e w))
 
 -- a verdict on all rows that a monitor may have seen is that on these, by its set and its rule
 pub said_of : (h : List Row) (m : Watched) (v : Verdict) → Watches h m → ((k : List Row) → Watches k m → v ≡ verdict m.set.tasks m.rule k) →

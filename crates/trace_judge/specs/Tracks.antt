@@ -47,12 +47,14 @@ pub record StopsAt (set : List Task) (rule : Rule) (run : Run) (g : List Row) (m
   pub before : Legal set rule (replicate misfit.after (row_of run) ++ g)
   pub there : fault set rule (row_of run) (replicate misfit.after (row_of run) ++ g) ≡ Some misfit.why
 
--- after legal rows that are tracked: each row of the run fits and is tracked, or this is the first row that does not fit
+-- after legal rows that are tracked: each row of the run fits and is tracked; or this is the first row that does not fit,
+-- and the rows of the run before it are tracked
 abbrev pub IsStep : List Task → Rule → Run → State → Option Misfit → State → Type 0
 IsStep set rule run old None new = (g : List Row) → Legal set rule g → Tracks set rule g old
     → Legal set rule (rows_of run ++ g) × Tracks set rule (rows_of run ++ g) new
 IsStep set rule run old (Some misfit) new =
-    (g : List Row) → Legal set rule g → Tracks set rule g old → StopsAt set rule run g misfit
+    (g : List Row) → Legal set rule g → Tracks set rule g old
+    → StopsAt set rule run g misfit × Tracks set rule (replicate misfit.after (row_of run) ++ g) new
 
 -- after legal rows that are tracked: each row of the run fits, or this is the first row that does not fit
 abbrev pub Looks : List Task → Rule → Run → State → Option Misfit → Type 0

@@ -1,11 +1,13 @@
 -- What a monitor has seen of a schedule. The newest row stands first.
-use Rattle.std.specs.Prelude.{◌≡◌, ℕ, Bool, true, false, List, Option, Some, None, option_map}
+use Rattle.std.specs.Prelude.{◌≡◌, ℕ, ◌+◌, ◌<◌, Bool, true, false, List, [], ◌∷◌, ◌++◌, Option, Some, None, option_map, is_some, cond, length, reverse, take}
 use Rattle.mc_task.specs.declared.task.Rule.{Rule}
 use Rattle.mc_task.specs.declared.task.Task.{Task}
 use Rattle.mc_task.specs.TaskSet.{Set}
 use Rattle.mc_model.specs.declared.row.Row.{Row}
+use Rattle.mc_model.specs.declared.run.Run.{Run}
 use Rattle.mc_model.specs.Holds.{Fits}
 use Rattle.mc_model.specs.Legal.{Legal}
+use Rattle.mc_model.specs.Runs.{expand}
 use Rattle.mc_model.specs.Verdict.{first_unfit}
 use Rattle.trace_judge.specs.declared.unfit.Unfit.{Unfit}
 use Rattle.trace_judge.specs.declared.state.State.{State}
@@ -24,32 +26,49 @@ pub record Watched : Type 0 where
 abbrev pub unfit_in : List Task → Rule → List Row → Option Unfit
 unfit_in set rule h = option_map (λ f. record { place = f.place; why = f.why }) (first_unfit set rule h)
 
--- the rows are legal and the state tracks them; or the option holds the first row that does not fit
-abbrev pub TracksOrUnfit : List Row → List Task → Rule → State → Option Unfit → Type 0
-TracksOrUnfit h set rule s None = Legal set rule h × Tracks set rule h s
-TracksOrUnfit h set rule s (Some u) = unfit_in set rule h ≡ Some u
+-- the rows before the first that does not fit; all rows if each fits
+abbrev pub fitted : List Task → Rule → List Row → List Row
+fitted set rule [] = []
+fitted set rule (row ∷ g) = cond (is_some (first_unfit set rule (row ∷ g))) (fitted set rule g) (row ∷ g)
 
--- the monitor has seen these rows: its state tracks them, or it has found the first that does not fit
+-- the option holds the first of the rows that does not fit, and the state tracks the rows before it
+pub record HasFollowed (h : List Row) (set : List Task) (rule : Rule) (s : State) (u : Option Unfit) : Type 0 where
+  pub unfit : u ≡ unfit_in set rule h
+  pub legal : Legal set rule (fitted set rule h)
+  pub tracks : Tracks set rule (fitted set rule h) s
+
+-- the monitor has seen these rows: it has found the first that does not fit, and keeps what its state is after the rows
+-- before that one
 abbrev pub Watches : List Row → Watched → Type 0
-Watches h m = TracksOrUnfit h m.set.tasks m.rule m.state m.unfit
+Watches h m = HasFollowed h m.set.tasks m.rule m.state m.unfit
 
--- the rule fits, and the state tracks some legal rows, after which no pending job has its deadline in the stretch of time
-pub record IsWatched (set : List Task) (rule : Rule) (s : State) (q : Quiet) : Type 0 where
+-- the rule fits, and the state tracks some legal rows, after which no pending job has its deadline in the stretch of time;
+-- and there are rows that the monitor has seen
+pub record IsWatched (set : List Task) (rule : Rule) (s : State) (u : Option Unfit) (q : Quiet) : Type 0 where
   pub fits : Fits rule
   pub rows : List Row
   pub legal : Legal set rule rows
   pub tracks : Tracks set rule rows s
   pub quiet : IsQuiet set rows q
+  pub seen : (h : List Row) × HasFollowed h set rule s u
 
 -- whether no row is known that does not fit
 abbrev pub is_none : Option Unfit → Bool
 is_none None = true
 is_none (Some u) = false
 
--- the number of rows that the monitor has seen and that fit
+-- the number of rows that the monitor has seen and that fit: those before the first row that does not fit
 abbrev pub seen : Watched → ℕ
 seen m = m.state.rows
 
 -- whether each row so far fits
 abbrev pub fits_so_far : Watched → Bool
 fits_so_far m = is_none m.unfit
+
+-- the monitor has seen the first of these runs, each row of which fits, and not all of them
+pub record HasTakenSome (runs : List Run) (old new : Watched) : Type 0 where
+  pub count : ℕ
+  pub some_left : count < length runs
+  pub rows : (h : List Row) → Watches h old → Watches (reverse (expand (take count runs)) ++ h) new
+  pub each_fits : fits_so_far new ≡ true
+  pub many : seen new ≡ seen old + length (expand (take count runs))

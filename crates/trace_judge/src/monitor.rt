@@ -1,5 +1,5 @@
 //! A schedule that is judged while it happens.
-ghost use Rattle.std.specs.Prelude.{◌≡◌, ◌≢◌, ◌+◌, ◌++◌, ◌^◌, ◌<◌, ◌≤◌, nat_le, true, false, [], None, IsSome, IfOk, OnOk, OnErr, IfErr, All, List, length, option_map, reverse};
+ghost use Rattle.std.specs.Prelude.{◌≡◌, ◌≢◌, ◌↔◌, ◌+◌, ◌++◌, ◌^◌, ◌<◌, ◌≤◌, nat_le, true, false, [], None, IsSome, Err, IfOk, OnOk, OnErr, IfErr, All, List, length, option_map, reverse};
 ghost use Rattle.mc_model.specs.declared.row.Row.{Row};
 ghost use Rattle.mc_model.specs.declared.verdict.Verdict.TheVariants.{Legal};
 ghost use Rattle.mc_model.specs.Holds.{Fits, Holds};
@@ -9,7 +9,7 @@ ghost use Rattle.mc_model.specs.Rows.{ticks};
 ghost use Rattle.mc_model.specs.Mode.{high_mode};
 ghost use Rattle.mc_model.specs.Pending.{pending};
 ghost use Rattle.mc_model.specs.declared.run.Run.{Run};
-ghost use Rattle.trace_judge.specs.Watched.{Watches, unfit_in, seen, fits_so_far};
+ghost use Rattle.trace_judge.specs.Watched.{Watches, HasTakenSome, unfit_in, fitted, seen, fits_so_far};
 ghost use Rattle.trace_judge.specs.Turned.{AreTurned, IsInOrder, AddLate};
 ghost use Rattle.trace_judge.specs.declared.monitor.ObserveFault.TheVariants as faults;
 
@@ -27,7 +27,8 @@ use std::marker::Model;
 /// The greatest number of rows that a monitor takes.
 const MOST_ROWS: u64 = 1 << 62;
 
-/// Why a monitor refuses a run. A refused run leaves the monitor as it was.
+/// Why a monitor refuses a run: the first of these reasons that applies, `Memory` last. A refused run leaves the monitor as it
+/// was.
 #[derive(Clone, Copy, Debug, PartialEq, Eq)]
 pub enum ObserveFault {
     Memory,
@@ -49,8 +50,9 @@ impl From<Memory> for ObserveFault {
 
 /// Judges a schedule while it happens, run by run, under a rule that fits and need not hold for the set.
 ///
-/// Contracts say what a monitor returns for all rows that it may have seen, `Watches rows monitor`, the newest first. A
-/// monitor stores no rows: its memory grows with the pending jobs alone.
+/// Contracts say what a monitor returns for all rows that it may have seen, `Watches rows monitor`, the newest first. The
+/// clock, the mode, the pending jobs and the counts are those after the rows that fitted, `fitted`: the rows before the first
+/// that does not fit. A monitor stores no rows: its memory grows with the pending jobs alone.
 #[derive(Drop)]
 pub struct Monitor {
     set: TaskSet,
@@ -67,11 +69,11 @@ impl Model for Monitor {
 
     ghost view = { λ a. record { set = a.set; rule = a.rule; state = a.state; unfit = a.unfit } };
 
-    ghost invariant = { λ a. IsWatched a.set.tasks a.rule a.state a.quiet };
+    ghost invariant = { λ a. IsWatched a.set.tasks a.rule a.state a.unfit a.quiet };
 }
 
 impl Monitor {
-    /// A monitor that has seen no row. The set stays with the monitor.
+    /// A monitor that has seen no row. The set stays with the monitor; if memory runs out, it is dropped.
     pub fn new(alloc: Global, set: TaskSet, rule: Rule) -> Result<Monitor, Memory>
         requires fits { Fits rule }
         ensures set { IfOk result (λ m. m.set ≡ set) }
@@ -91,15 +93,16 @@ impl Monitor {
     }
 
     /// Takes any run, and returns the first row so far that does not fit. A run that is refused leaves the monitor as it was.
+    /// After a row that does not fit, the monitor takes more runs, and returns that row again.
     pub fn observe(&mut self, alloc: Global, run: Run) -> Result<Option<Unfit>, ObserveFault>
         ensures answer { IfOk result (λ unfit. (h : List Row) → Watches h self.old → unfit ≡ unfit_in self.old.set.tasks self.old.rule (rows_of run ++ h)) }
         ensures rows { IfOk result (λ unfit. (h : List Row) → Watches h self.old → Watches (rows_of run ++ h) self.new) }
         ensures set { self.new.set ≡ self.old.set }
         ensures rule { self.new.rule ≡ self.old.rule }
         ensures unchanged { OnErr result (self.new ≡ self.old) }
-        ensures unknown { IfErr result (λ e. e ≡ faults.UnknownTask → ¬ IsRunOfSet self.old.set.tasks run) }
-        ensures not_a_run { IfErr result (λ e. e ≡ faults.NotARun → ¬ IsRun run) }
-        ensures full { IfErr result (λ e. e ≡ faults.Full → 2 ^ 62 < seen self.old + size run) }
+        ensures unknown { (result ≡ Err faults.UnknownTask) ↔ (¬ IsRunOfSet self.old.set.tasks run) }
+        ensures not_a_run { (result ≡ Err faults.NotARun) ↔ (IsRunOfSet self.old.set.tasks run × (¬ IsRun run)) }
+        ensures full { (result ≡ Err faults.Full) ↔ (IsRunOfSet self.old.set.tasks run × IsRun run × (2 ^ 62 < seen self.old + size run)) }
     {
         self.check_run(run)?;
         match self.follow(alloc, run) {
@@ -125,13 +128,14 @@ impl Monitor {
             return Ok(Some(unfit));
         }
         let now = self.state.ticks;
+        let before = self.state.rows;
         match step(&mut self.state, alloc, &self.set, self.rule, run)? {
             None => {
                 self.quiet = self.quiet.after_run(&self.set, now, run);
                 Ok(None)
             }
             Some(misfit) => {
-                let unfit = unfit_after(self.state.rows, misfit);
+                let unfit = unfit_after(before, misfit);
                 self.unfit = Some(unfit);
                 Ok(Some(unfit))
             }
@@ -140,12 +144,13 @@ impl Monitor {
 
     /// Takes valid runs of the set one after another, if there is capacity for all their rows or one so far does not fit.
     /// This costs less than a call for each run, but the next `turned_late` reads the pending jobs. If memory runs out, the
-    /// monitor has seen some of the runs, and no clause says how many.
+    /// monitor has seen the runs before one of them, and `seen` says how many rows these are.
     pub fn follow_all(&mut self, alloc: Global, runs: &[Run]) -> Result<(), Memory>
         requires runs { AreRuns runs.now }
         requires tasks { All (IsRunOfSet self.old.set.tasks) runs.now }
         requires room { fits_so_far self.old ≡ true → seen self.old + length (expand runs.now) ≤ 2 ^ 62 }
         ensures rows { OnOk result ((h : List Row) → Watches h self.old → Watches (reverse (expand runs.now) ++ h) self.new) }
+        ensures some { OnErr result (HasTakenSome runs.now self.old self.new) }
         ensures set { self.new.set ≡ self.old.set }
         ensures rule { self.new.rule ≡ self.old.rule }
     {
@@ -156,15 +161,15 @@ impl Monitor {
         Ok(())
     }
 
-    /// What `observe` would return for the run: the first row so far that does not fit. The monitor does not take the run, so
-    /// a dispatcher can ask before it makes a row. No memory is needed.
+    /// What `observe` would return for the run if memory does not run out: the first row so far that does not fit, or why the
+    /// run is refused. The monitor does not take the run, so a dispatcher can ask before it makes a row. No memory is needed.
     pub fn would_fit(&self, run: Run) -> Result<Option<Unfit>, ObserveFault>
         ensures answer { IfOk result (λ unfit. (h : List Row) → Watches h self.now → unfit ≡ unfit_in self.now.set.tasks self.now.rule (rows_of run ++ h)) }
         ensures found { IsSome self.now.unfit → IfOk result (λ unfit. unfit ≡ self.now.unfit) }
-        ensures memory { IfErr result (λ e. e ≢ faults.Memory) }
-        ensures unknown { IfErr result (λ e. e ≡ faults.UnknownTask → ¬ IsRunOfSet self.now.set.tasks run) }
-        ensures not_a_run { IfErr result (λ e. e ≡ faults.NotARun → ¬ IsRun run) }
-        ensures full { IfErr result (λ e. e ≡ faults.Full → 2 ^ 62 < seen self.now + size run) }
+        ensures memory { result ≢ Err faults.Memory }
+        ensures unknown { (result ≡ Err faults.UnknownTask) ↔ (¬ IsRunOfSet self.now.set.tasks run) }
+        ensures not_a_run { (result ≡ Err faults.NotARun) ↔ (IsRunOfSet self.now.set.tasks run × (¬ IsRun run)) }
+        ensures full { (result ≡ Err faults.Full) ↔ (IsRunOfSet self.now.set.tasks run × IsRun run × (2 ^ 62 < seen self.now + size run)) }
     {
         self.check_run(run)?;
         if let Some(unfit) = self.unfit {
@@ -181,10 +186,10 @@ impl Monitor {
         ensures task { OnOk result (IsRunOfSet self.now.set.tasks run) }
         ensures is_run { OnOk result (IsRun run) }
         ensures room { OnOk result (seen self.now + size run ≤ 2 ^ 62) }
-        ensures memory { IfErr result (λ e. e ≢ faults.Memory) }
-        ensures unknown { IfErr result (λ e. e ≡ faults.UnknownTask → ¬ IsRunOfSet self.now.set.tasks run) }
-        ensures not_a_run { IfErr result (λ e. e ≡ faults.NotARun → ¬ IsRun run) }
-        ensures full { IfErr result (λ e. e ≡ faults.Full → 2 ^ 62 < seen self.now + size run) }
+        ensures memory { result ≢ Err faults.Memory }
+        ensures unknown { (result ≡ Err faults.UnknownTask) ↔ (¬ IsRunOfSet self.now.set.tasks run) }
+        ensures not_a_run { (result ≡ Err faults.NotARun) ↔ (IsRunOfSet self.now.set.tasks run × (¬ IsRun run)) }
+        ensures full { (result ≡ Err faults.Full) ↔ (IsRunOfSet self.now.set.tasks run × IsRun run × (2 ^ 62 < seen self.now + size run)) }
     {
         if !is_of_set(&self.set, run) {
             return Err(ObserveFault::UnknownTask);
@@ -205,9 +210,10 @@ impl Monitor {
         self.state.rows <= MOST_ROWS && size_of(run) <= MOST_ROWS - self.state.rows
     }
 
-    /// How many rows the monitor has seen that fit.
+    /// How many rows fitted: those before the first that does not fit, also if that one stands in the middle of a run.
     pub fn seen(&self) -> u64
-        ensures { result ≡ seen self.now }
+        ensures value { result ≡ seen self.now }
+        ensures rows { (h : List Row) → Watches h self.now → result ≡ length (fitted self.now.set.tasks self.now.rule h) }
     {
         self.state.rows
     }
@@ -222,23 +228,23 @@ impl Monitor {
         }
     }
 
-    /// The number of ticks so far.
+    /// The number of ticks of the rows that fitted.
     pub fn ticks(&self) -> u64
-        ensures { (h : List Row) → Watches h self.now → fits_so_far self.now ≡ true → result ≡ ticks h }
+        ensures { (h : List Row) → Watches h self.now → result ≡ ticks (fitted self.now.set.tasks self.now.rule h) }
     {
         self.state.ticks
     }
 
-    /// Whether the mode is high.
+    /// Whether the mode is high after the rows that fitted.
     pub fn high_mode(&self) -> bool
-        ensures { (h : List Row) → Watches h self.now → fits_so_far self.now ≡ true → result ≡ high_mode self.now.rule h }
+        ensures { (h : List Row) → Watches h self.now → result ≡ high_mode self.now.rule (fitted self.now.set.tasks self.now.rule h) }
     {
         self.state.high_mode
     }
 
-    /// How many jobs are pending.
+    /// How many jobs are pending after the rows that fitted.
     pub fn pending(&self) -> u64
-        ensures { (h : List Row) → Watches h self.now → fits_so_far self.now ≡ true → result ≡ length (pending self.now.set.tasks h) }
+        ensures { (h : List Row) → Watches h self.now → result ≡ length (pending self.now.set.tasks (fitted self.now.set.tasks self.now.rule h)) }
     {
         let _rows = self.state.rows;
         self.state.waiting.count()
@@ -246,12 +252,12 @@ impl Monitor {
 
     /// The pending jobs whose deadlines came after `since` ticks, in the order of their deadlines, and those with one deadline
     /// in the order of their releases. After one run, with the number of ticks before it, these are all jobs that became late
-    /// by the run. Nothing is said of a monitor that has seen a row that does not fit.
+    /// by the run. After a row that does not fit, they are those of the rows before it.
     ///
     /// A call reads the pending jobs only if a deadline may have come since the last call that read them, or if `since` is
     /// before that call. It reads each of them once, sorts those that it returns, and needs memory for these alone.
     pub fn turned_late(&mut self, alloc: Global, since: u64) -> Result<Vec<Turned>, Memory>
-        ensures jobs { IfOk result (λ turned. (h : List Row) → Watches h self.old → fits_so_far self.old ≡ true → AreTurned self.old.set.tasks h since turned.items) }
+        ensures jobs { IfOk result (λ turned. (h : List Row) → Watches h self.old → AreTurned self.old.set.tasks (fitted self.old.set.tasks self.old.rule h) since turned.items) }
         ensures order { IfOk result (λ turned. IsInOrder turned.items) }
         ensures late { IfOk result (λ turned. (h : List Row) (run : Run) → Watches (rows_of run ++ h) self.old → fits_so_far self.old ≡ true → IsRun run → since ≡ ticks h → AddLate self.old.set.tasks run h turned.items) }
         ensures same { self.new ≡ self.old }

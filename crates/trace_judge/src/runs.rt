@@ -1,11 +1,11 @@
 //! Runs, followed one after another.
-ghost use Rattle.std.specs.Prelude.{◌+◌, ◌++◌, ◌^◌, ◌≤◌, All, IfOk, List, length, reverse};
+ghost use Rattle.std.specs.Prelude.{◌+◌, ◌++◌, ◌^◌, ◌<◌, ◌≤◌, ℕ, All, IfOk, OnErr, List, length, reverse, take};
 ghost use Rattle.mc_model.specs.declared.row.Row.{Row};
 ghost use Rattle.mc_model.specs.Holds.{Fits};
 ghost use Rattle.mc_model.specs.Legal.{Legal};
 ghost use Rattle.mc_model.specs.Runs.{expand, AreRuns, IsRunOfSet};
 ghost use Rattle.trace_judge.specs.Tracks.{Tracks};
-ghost use Rattle.trace_judge.specs.Watched.{TracksOrUnfit};
+ghost use Rattle.trace_judge.specs.Watched.{HasFollowed};
 
 use crate::state::State;
 use crate::step::step;
@@ -14,8 +14,8 @@ use mc_model::Run;
 use mc_task::{Memory, Rule, TaskSet};
 use std::alloc::Global;
 
-/// Follows runs up to the first row that does not fit, which is returned. If memory runs out, the state has followed the
-/// runs before that.
+/// Follows the rows of runs up to the first that does not fit, which is returned. If memory runs out, the state has followed
+/// the runs before one of them, and each row of them fits.
 pub fn follow_runs(
     state: &mut State,
     alloc: Global,
@@ -28,13 +28,14 @@ pub fn follow_runs(
     requires tasks { All (IsRunOfSet set.now.tasks) runs.now }
     requires tracks { (h : List Row) × (Legal set.now.tasks rule h × Tracks set.now.tasks rule h state.old) }
     requires room { state.old.rows + length (expand runs.now) ≤ 2 ^ 62 }
-    ensures answer { IfOk result (λ unfit. (h : List Row) → Legal set.now.tasks rule h → Tracks set.now.tasks rule h state.old → TracksOrUnfit (reverse (expand runs.now) ++ h) set.now.tasks rule state.new unfit) }
+    ensures answer { IfOk result (λ unfit. (h : List Row) → Legal set.now.tasks rule h → Tracks set.now.tasks rule h state.old → HasFollowed (reverse (expand runs.now) ++ h) set.now.tasks rule state.new unfit) }
+    ensures some { OnErr result ((count : ℕ) × (count < length runs.now) × ((h : List Row) → Legal set.now.tasks rule h → Tracks set.now.tasks rule h state.old → Legal set.now.tasks rule (reverse (expand (take count runs.now)) ++ h) × Tracks set.now.tasks rule (reverse (expand (take count runs.now)) ++ h) state.new)) }
     ensures tracks { (h : List Row) × (Legal set.now.tasks rule h × Tracks set.now.tasks rule h state.new) }
 {
     for run in runs {
+        let before = state.rows;
         if let Some(misfit) = step(state, alloc, set, rule, *run)? {
-            // The state is as it was before the run, which does not fit.
-            return Ok(Some(unfit_after(state.rows, misfit)));
+            return Ok(Some(unfit_after(before, misfit)));
         }
     }
     Ok(None)

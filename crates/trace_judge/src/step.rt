@@ -1,5 +1,5 @@
 //! One run: whether its rows fit what is kept of the rows before it, and what is kept after it.
-ghost use Rattle.std.specs.Prelude.{◌≡◌, ◌≢◌, ◌-◌, ◌+◌, ◌^◌, ◌≤◌, IfOk, OnOk, IfErr, OnErr, IsSome, Some, None, List, length};
+ghost use Rattle.std.specs.Prelude.{◌≡◌, ◌≢◌, ◌-◌, ◌+◌, ◌^◌, ◌<◌, ◌≤◌, IfOk, OnOk, IfErr, OnErr, Some, None, List, length};
 ghost use Rattle.mc_task.specs.declared.task.Rule.{Rule};
 ghost use Rattle.mc_task.specs.declared.task.Task.{Task};
 ghost use Rattle.mc_task.specs.TaskSet.{task_at};
@@ -42,7 +42,7 @@ struct JobTicks {
     length: u32,
 }
 
-/// The first row of the run that does not fit. If all rows fit, the state follows the run, in one step.
+/// The first row of the run that does not fit. The state follows the rows before it, or all rows if each fits, in one step.
 pub fn step(
     state: &mut State,
     alloc: Global,
@@ -58,7 +58,6 @@ pub fn step(
     requires room { state.old.rows + size run ≤ 2 ^ 62 }
     requires time { state.old.ticks + size run ≤ 2 ^ 62 }
     ensures step { IfOk result (λ misfit. IsStep set.now.tasks rule run state.old misfit state.new) }
-    ensures misfit { IfOk result (λ misfit. IsSome misfit → state.new ≡ state.old) }
     ensures unchanged { OnErr result (state.new ≡ state.old) }
 {
     match run {
@@ -107,7 +106,6 @@ fn release(
     requires room { state.old.rows + 1 ≤ 2 ^ 62 }
     requires time { state.old.ticks + 1 ≤ 2 ^ 62 }
     ensures step { IfOk result (λ misfit. IsStep set.now.tasks rule (run.Release job kept) state.old misfit state.new) }
-    ensures misfit { IfOk result (λ misfit. IsSome misfit → state.new ≡ state.old) }
     ensures unchanged { OnErr result (state.new ≡ state.old) }
 {
     let task = task_in(set, job.task);
@@ -131,7 +129,7 @@ fn release_misfit(state: &State, set: &TaskSet, job: JobId, kept: bool) -> Optio
     }
 }
 
-// Follows ticks of a job, if they all fit.
+// Follows ticks of a job, up to the first that does not fit.
 fn tick(
     state: &mut State,
     alloc: Global,
@@ -146,12 +144,17 @@ fn tick(
     requires room { state.old.rows + ticks.length ≤ 2 ^ 62 }
     requires time { state.old.ticks + ticks.length ≤ 2 ^ 62 }
     ensures step { IfOk result (λ misfit. IsStep set.now.tasks rule (run.Ticks ticks.job ticks.how ticks.length) state.old misfit state.new) }
-    ensures misfit { IfOk result (λ misfit. IsSome misfit → state.new ≡ state.old) }
     ensures unchanged { OnErr result (state.new ≡ state.old) }
 {
     let task = task_in(set, ticks.job.task);
     match ticks_fit(state, set, rule, task, ticks) {
-        Err(misfit) => Ok(Some(misfit)),
+        Err(misfit) => {
+            // Only ticks after which the job goes on stand before another tick of their run.
+            if misfit.after > 0 {
+                state.go_on(ticks.job, misfit.after);
+            }
+            Ok(Some(misfit))
+        }
         Ok(pending) => {
             follow_ticks(state, alloc, set, rule, task, ticks, pending)?;
             Ok(None)
@@ -178,6 +181,7 @@ fn ticks_fit(
     ensures fitting { IfOk result (λ pending. ticks.length ≤ fitting rule state.now.high_mode (Some task.now) pending.used ticks.how ticks.length) }
     ensures fits { OnOk result (Looks set.now.tasks rule (run.Ticks ticks.job ticks.how ticks.length) state.now None) }
     ensures misfit { IfErr result (λ misfit. Looks set.now.tasks rule (run.Ticks ticks.job ticks.how ticks.length) state.now (Some misfit)) }
+    ensures inside { IfErr result (λ misfit. misfit.after < ticks.length) }
 {
     let _is_set = set.len();
     let JobTicks { job, how, length } = ticks;
@@ -233,8 +237,7 @@ fn idle(state: &mut State, set: &TaskSet, rule: Rule, length: u32) -> Option<Mis
     requires is_run { IsRun (run.Idles length) }
     requires room { state.old.rows + length ≤ 2 ^ 62 }
     requires time { state.old.ticks + length ≤ 2 ^ 62 }
-    ensures step { IsStep set.now.tasks rule (run.Idles length) state.old result state.new }
-    ensures misfit { IsSome result → state.new ≡ state.old }
+    ensures { IsStep set.now.tasks rule (run.Idles length) state.old result state.new }
 {
     if !state.waiting.is_empty() {
         return Some(Misfit::first(Why::IdlePending));

@@ -1,4 +1,4 @@
-use Rattle.std.proofs.Common.{◌≡◌, ℕ, ◌+◌, ◌++◌, ◌^◌, ◌<◌, ◌≤◌, List, get_or, drop, length, reverse, Some, refl, ap, ◌∙◌, sym, subst, arith}
+use Rattle.std.proofs.Common.{◌≡◌, ℕ, ◌+◌, ◌++◌, ◌^◌, ◌<◌, ◌≤◌, List, get_or, drop, length, reverse, Some, None, sym, subst, arith}
 use Rattle.std.proofs.lemmas.List.{get_or_default, length-append}
 use Rattle.mc_task.specs.declared.task.Rule.{Rule}
 use Rattle.mc_task.specs.declared.task.Task.{Task}
@@ -8,10 +8,9 @@ use Rattle.mc_model.specs.Legal.{Legal}
 use Rattle.mc_model.specs.Runs.{expand, size}
 use Rattle.mc_model.proofs.Ticks.{ticks-le}
 use Rattle.trace_judge.specs.declared.state.State.{State}
-use Rattle.trace_judge.specs.declared.unfit.Unfit.{Unfit}
 use Rattle.trace_judge.specs.Tracks.{Tracks}
-use Rattle.trace_judge.specs.Watched.{unfit_in}
-use Rattle.trace_judge.proofs.Watching.{stops_unfit, unfit_stays}
+use Rattle.trace_judge.specs.Watched.{HasFollowed}
+use Rattle.trace_judge.proofs.Watching.{followed_all, followed_until, followed_more}
 use Rattle.trace_judge.proofs.Reading.{read, read_le, read_few, one_read_after, around_run_after, all_read}
 use Rattle.trace_judge.proofs.runs.follow_runs.Goals as goal
 
@@ -57,8 +56,7 @@ unfit_after-requires c =
     let t = c.loop-run.invariant h c.requires.tracks.1.0 c.requires.tracks.1.1 in
     let was = c.requires.tracks.1.1.rows in
     let rows = t.1.rows in
-    let same = rw c.in-Some.is at c.in_ok-misfit.ensures.misfit in
-    omega (arith, was, rows, ap (λ (s : State). s.rows) (same refl), c.requires.room, length-append (read c.args.runs.now c.loop-run.run-index) h, read_few c.args.runs.now c.loop-run.run-index)
+    omega (arith, was, rows, c.requires.room, length-append (read c.args.runs.now c.loop-run.run-index) h, read_few c.args.runs.now c.loop-run.run-index)
 
 pub loop-run-preserved : goal.loop-run-preserved
 loop-run-preserved c h l t =
@@ -75,14 +73,24 @@ returns-in-Some-clause-answer c h l t =
     let runs = c.args.runs.now in
     let i = c.loop-run.run-index in
     let f = rw c.in-Some.is at c.in_ok-misfit.ensures.step in
-    let same = rw c.in-Some.is at c.in_ok-misfit.ensures.misfit in
     let k = c.loop-run.invariant h l t in
-    let u = stops_unfit c.args.set.now.tasks c.args.rule _ (read runs i ++ h) c.step.new.state.rows c.in-Some.misfit (ap (λ (s : State). s.rows) (same refl) ∙ k.1.rows) (f (read runs i ++ h) k.0 k.1)
-    ∙ ap (λ (x : Unfit). Some x) (sym c.unfit_after.ensures) in
-    ap (unfit_in c.args.set.now.tasks c.args.rule) (around_run_after runs i _ h c.loop-run-test.true (get_or_default runs i _ _ c.loop-run-test.true))
-    ∙ unfit_stays c.args.set.now.tasks c.args.rule c.unfit_after.result (reverse (expand (drop (i + 1) runs))) _ u
+    let s = f (read runs i ++ h) k.0 k.1 in
+    let here = followed_until c.args.set.now.tasks c.args.rule _ (read runs i ++ h) c.loop-run.state.rows c.in-Some.misfit c.step.new.state c.unfit_after.result k.1.rows c.unfit_after.ensures s.0 s.1 in
+    subst (λ (g : List Row). HasFollowed g c.args.set.now.tasks c.args.rule c.step.new.state (Some c.unfit_after.result))
+    (sym (around_run_after runs i _ h c.loop-run-test.true (get_or_default runs i _ _ c.loop-run-test.true)))
+    (followed_more c.args.set.now.tasks c.args.rule c.step.new.state c.unfit_after.result (reverse (expand (drop (i + 1) runs))) _ here)
+
+pub returns-in-Some-clause-tracks : goal.returns-in-Some-clause-tracks
+returns-in-Some-clause-tracks c =
+    let h = c.requires.tracks.0 in
+    let f = rw c.in-Some.is at c.in_ok-misfit.ensures.step in
+    let k = c.loop-run.invariant h c.requires.tracks.1.0 c.requires.tracks.1.1 in
+    let s = f (read c.args.runs.now c.loop-run.run-index ++ h) k.0 k.1 in
+    (_, (s.0.before, s.1))
 
 pub returns-clause-answer : goal.returns-clause-answer
 returns-clause-answer c h l t =
-    subst (λ (g : List Row). Legal c.args.set.now.tasks c.args.rule (g ++ h) × Tracks c.args.set.now.tasks c.args.rule (g ++ h) c.loop-run.state)
-    (all_read c.args.runs.now c.loop-run.run-index c.loop-run-test.false) (c.loop-run.invariant h l t)
+    let k = c.loop-run.invariant h l t in
+    subst (λ (g : List Row). HasFollowed (g ++ h) c.args.set.now.tasks c.args.rule c.loop-run.state None)
+    (all_read c.args.runs.now c.loop-run.run-index c.loop-run-test.false)
+    (followed_all c.args.set.now.tasks c.args.rule (read c.args.runs.now c.loop-run.run-index ++ h) c.loop-run.state k.0 k.1)

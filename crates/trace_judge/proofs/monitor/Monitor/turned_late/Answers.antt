@@ -5,7 +5,7 @@ use Rattle.mc_model.specs.Runs.{rows_of}
 use Rattle.mc_model.specs.Sums.{total}
 use Rattle.trace_judge.specs.declared.turned.Turned.{Turned}
 use Rattle.trace_judge.specs.Turned.{turned_of}
-use Rattle.trace_judge.specs.Watched.{Watched}
+use Rattle.trace_judge.specs.Watched.{Watched, fitted}
 use Rattle.trace_judge.proofs.Quiet.{quiet_same, none_turned}
 use Rattle.trace_judge.proofs.TurnedLate.{are_turned, add_late}
 use Rattle.trace_judge.proofs.Watching.{none_found, tracked}
@@ -23,9 +23,8 @@ none_there c f =
     ap (total f) (c.new.ensures.items ∙ sym none) ∙ of_view _ _ c.self.view_is c.args.since f
 
 pub returns-then-now-self-clause-jobs : goal.returns-then-now-self-clause-jobs
-returns-then-now-self-clause-jobs c h w fits =
-    let k = tracked h c.args.self.now (none_found c.args.self.now.unfit fits) w in
-    are_turned c.args.self.now.set.tasks c.args.self.now.rule h c.args.self.now.state c.args.since c.new.result.items k.0 k.1 (none_there c)
+returns-then-now-self-clause-jobs c h w =
+    are_turned c.args.self.now.set.tasks c.args.self.now.rule (fitted c.args.self.now.set.tasks c.args.self.now.rule h) c.args.self.now.state c.args.since c.new.result.items w.legal w.tracks (none_there c)
 
 pub returns-then-now-self-clause-late : goal.returns-then-now-self-clause-late
 returns-then-now-self-clause-late c h run w fits is_run e =
@@ -39,13 +38,13 @@ invariant_of-self c = record {
   rows = c.self.invariant.rows;
   legal = c.self.invariant.legal;
   tracks = c.self.invariant.tracks;
+  seen = c.self.invariant.seen;
   quiet = sym (quiet_same c.self.inside.set.tasks c.self.inside.rule c.self.invariant.rows c.self.inside.state (record { after = c.self.inside.state.ticks; until = c.in_ok-turned.until }) c.self.invariant.tracks) ∙ c.in_ok-turned.ensures.until;
 }
 
 pub returns-clause-jobs : goal.returns-clause-jobs
-returns-clause-jobs c h w fits =
-    let k = tracked h c.args.self.now (none_found c.args.self.now.unfit fits) w in
-    are_turned c.args.self.now.set.tasks c.args.self.now.rule h c.args.self.now.state c.args.since c.in_ok-turned.turned.items k.0 k.1
+returns-clause-jobs c h w =
+    are_turned c.args.self.now.set.tasks c.args.self.now.rule (fitted c.args.self.now.set.tasks c.args.self.now.rule h) c.args.self.now.state c.args.since c.in_ok-turned.turned.items w.legal w.tracks
     (λ f. c.in_ok-turned.ensures.turned f ∙ of_view _ _ c.self.view_is c.args.since f)
 
 pub returns-clause-late : goal.returns-clause-late
