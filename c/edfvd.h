@@ -396,9 +396,9 @@ typedef struct edfvd_unfit {
     uint64_t place; /* the number of the row, from 1, or 0 */
 } edfvd_unfit;
 
-/* What a monitor has seen. After a row that does not fit, ticks, pending and high_mode mean nothing. */
+/* What a monitor has seen. After a row that does not fit, the numbers and the mode are those before that row. */
 typedef struct edfvd_watch {
-    uint64_t rows;      /* how many rows have fitted; of several that one call gave, none if one of them does not fit */
+    uint64_t rows;      /* how many rows have fitted; of several that one call gave, those before the first that does not fit */
     uint64_t ticks;     /* how many ticks have ended */
     uint64_t pending;   /* how many jobs are pending */
     uint32_t legal;     /* 1 if each row has fitted, otherwise 0 */
@@ -445,7 +445,7 @@ edfvd_status edfvd_monitor_would_fit(edfvd_monitor *m, const edfvd_row *row, uin
 /*
  * Stores the pending jobs whose deadlines came after `since` ticks, in the order of their deadlines, and their number in
  * `count`. After one observed row or run, with the ticks before it, these are the jobs that became late by it. `jobs` has
- * `capacity` elements, and may be null if that is 0. Nothing is said after a row that does not fit.
+ * `capacity` elements, and may be null if that is 0. After a row that does not fit, the jobs are those of the rows before it.
  *
  * Statuses: EDFVD_SHORT_BUFFER if there are more jobs than `capacity`, with their number alone: ask again with a longer array;
  * EDFVD_MEMORY. With EDFVD_MEMORY and EDFVD_CLOSED the number is 0.

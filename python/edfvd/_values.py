@@ -121,7 +121,7 @@ class Late:
 class Watch:
     """What a monitor has seen: how many ``rows`` have fitted, the clock, how many jobs are ``pending``, and the mode.
 
-    After a row that does not fit, ``legal`` is False and only ``rows`` still means something.
+    After a row that does not fit, ``legal`` is False, and the numbers and the mode are those before that row.
     """
 
     rows: int

@@ -52,6 +52,15 @@ class Watching(Case):
             self.assertEqual((monitor.look().rows, monitor.look().legal), (1, False))
             self.assertEqual(monitor.verdict(), Verdict(Why.WRONG_COUNT, 2, 0, None))
 
+    def test_a_run_that_breaks_in_its_middle(self) -> None:
+        with Monitor(CONTROL) as monitor:
+            monitor.observe(Row(Event.KEPT, "ctl", 1))
+            self.assertEqual(monitor.observe(Row(Event.MORE, "ctl", 1), times=5), Unfit(Why.WRONG_HOW, 3))
+            self.assertEqual(monitor.look(), Watch(2, False, 1, 1, False))
+            self.assertEqual(monitor.late(0), [])
+            self.assertEqual(monitor.observe(Row(Event.MORE, "ctl", 1), times=5), Unfit(Why.WRONG_HOW, 3))
+            self.assertEqual(monitor.look(), Watch(2, False, 1, 1, False))
+
     def test_beside_the_judge(self) -> None:
         """A schedule that is watched row by row has the judge's verdict on the rows so far."""
         with Scheduler(CONTROL, places=1000) as scheduler:

@@ -8,7 +8,6 @@ static edfvd_monitor m = EDFVD_NONE;
 static schedule wanted;
 static edfvd_row rows[MOST_ROWS];
 static size_t length;
-static uint64_t counted; /* how many rows the monitor says have fitted */
 
 /* A random row of a kind that there is, of a task of the set. */
 static edfvd_row any_row(void) {
@@ -86,13 +85,12 @@ static void compare_late(uint64_t since) {
     IS(0, memcmp(right, late, number * sizeof *late));
 }
 
+/* After a row that does not fit, all is as before that row. */
 static void compare_watch(void) {
     edfvd_watch *watch = at_edge(sizeof *watch, 1);
     RETURNS(EDFVD_OK, edfvd_monitor_look(&m, watch));
-    if (wanted.why == EDFVD_FITS) counted = wanted.rows; /* of rows that came with one call, all count or none */
-    IS(counted, watch->rows);
+    IS(wanted.rows, watch->rows);
     IS(wanted.why == EDFVD_FITS, watch->legal);
-    if (wanted.why != EDFVD_FITS) return;
     IS(wanted.ticks, watch->ticks);
     IS(wanted.jobs, watch->pending);
     IS(wanted.high_mode, watch->high_mode);
@@ -125,7 +123,7 @@ static void observe(edfvd_row row, uint32_t times) {
         IS(wanted.place, unfit->place);
     }
     compare_watch();
-    if (wanted.why == EDFVD_FITS) compare_late(since);
+    compare_late(since);
 }
 
 /* The rule that p and q stand for, or EDFVD_ARGUMENT; EDFVD_NOT_ADMITTED if the published test gives none. */
@@ -163,7 +161,6 @@ void try_rows(void) {
     if (right != EDFVD_OK) return;
     wanted = new_schedule(tasks, count, by);
     length = 0;
-    counted = 0;
     for (uint64_t runs = below(150); runs > 0 && tests.failed == 0 && length + 10 < MOST_ROWS; runs--) {
         if (one_in(20) && try_wrong_row()) continue;
         edfvd_row row = one_in(60) ? any_row() : likely_row();

@@ -12,7 +12,7 @@ use Rattle.mc_model.specs.Verdict.{verdict}
 use Rattle.trace_judge.specs.declared.unfit.Unfit.{Unfit}
 use Rattle.trace_judge.specs.declared.turned.Turned.{Turned}
 use Rattle.trace_judge.specs.Turned.{AreTurned, IsInOrder, AddLate}
-use Rattle.trace_judge.specs.Watched.{Watched, Watches, unfit_in, seen, fits_so_far}
+use Rattle.trace_judge.specs.Watched.{Watched, Watches, unfit_in, fitted, seen, fits_so_far}
 use Rattle.edfvd_c.specs.declared.given.CTask.{CTask}
 use Rattle.edfvd_c.specs.declared.judged.CVerdict.{CVerdict}
 use Rattle.edfvd_c.specs.declared.look.CRow.{CRow}
@@ -90,10 +90,10 @@ pub record WouldFind (row : CRow) (n : ℕ) (w : Watched) (status : ℕ) (unfit 
 abbrev pub late_job : Turned → CLate
 late_job t = record { task = t.job.task.0; count = t.job.count; deadline = t.deadline }
 
--- these are the jobs that turned late after this many ticks, in the order of their deadlines; if one run came
--- since then, it added exactly these to the late jobs
+-- these are the jobs that turned late after this many ticks of the rows that fitted, in the order of their deadlines; if one
+-- run came since then, it added exactly these to the late jobs
 pub record TurnedLate (w : Watched) (since : ℕ) (ts : List Turned) : Type 0 where
-  pub jobs : (h : List Row) → Watches h w → fits_so_far w ≡ true → AreTurned w.set.tasks h since ts
+  pub jobs : (h : List Row) → Watches h w → AreTurned w.set.tasks (fitted w.set.tasks w.rule h) since ts
   pub order : IsInOrder ts
   pub late : (h : List Row) (run : Run) → Watches (rows_of run ++ h) w → fits_so_far w ≡ true
       → IsRun run → since ≡ ticks h → AddLate w.set.tasks run h ts
@@ -113,11 +113,11 @@ pub record StoresLate (w : Watched) (since status many : ℕ) (jobs : List CLate
 abbrev pub IsVerdict : Watched → CVerdict → Type 0
 IsVerdict w found = (h : List Row) → Watches h w → found ≡ judged (verdict w.set.tasks w.rule h)
 
--- how many rows have fitted, and whether each has; if so, the clock, the mode and the number of pending jobs
+-- whether each row has fitted, and how many rows have; and the clock, the mode and the number of pending jobs after these
 pub record IsWatch (w : Watched) (found : CWatch) : Type 0 where
-  pub rows : found.rows ≡ seen w
   pub legal : found.legal ≡ cond (fits_so_far w) 1 0
-  pub ticks : (h : List Row) → Watches h w → fits_so_far w ≡ true → found.ticks ≡ ticks h
-  pub mode : (h : List Row) → Watches h w → fits_so_far w ≡ true → found.high_mode ≡ cond (high_mode w.rule h) 1 0
-  pub pending : (h : List Row) → Watches h w → fits_so_far w ≡ true
-      → found.pending ≡ length (pending w.set.tasks h)
+  pub rows : (h : List Row) → Watches h w → found.rows ≡ length (fitted w.set.tasks w.rule h)
+  pub ticks : (h : List Row) → Watches h w → found.ticks ≡ ticks (fitted w.set.tasks w.rule h)
+  pub mode : (h : List Row) → Watches h w → found.high_mode ≡ cond (high_mode w.rule (fitted w.set.tasks w.rule h)) 1 0
+  pub pending : (h : List Row) → Watches h w
+      → found.pending ≡ length (pending w.set.tasks (fitted w.set.tasks w.rule h))

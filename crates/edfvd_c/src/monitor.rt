@@ -21,7 +21,8 @@ pub struct CUnfit {
     pub place: u64,
 }
 
-/// What a monitor has seen: how many rows have fitted, and whether each has; if so, the clock, the mode and the jobs.
+/// What a monitor has seen: how many rows have fitted, and whether each has; and the clock, the mode and the jobs after those
+/// that have.
 #[repr(C)]
 #[derive(Clone, Copy)]
 pub struct CWatch {
