@@ -299,3 +299,102 @@ fn a_monitor_says_whether_a_run_would_fit(rt: HostRuntime) -> Result<(), Fail> {
     }
     Ok(())
 }
+
+// What a monitor says of the rows that fitted: how many they are, their ticks, whether the mode is high after them, and how many
+// jobs are then pending.
+type Fitted = (u64, u64, bool, u64);
+
+fn fitted(monitor: &Monitor) -> Fitted {
+    (
+        monitor.seen(),
+        monitor.ticks(),
+        monitor.high_mode(),
+        monitor.pending(),
+    )
+}
+
+// Runs of `CONTROL`, the last of which breaks a rule, in its middle or with its first row; the row that does not fit; and the
+// rows that fitted.
+const BROKEN: [(&str, Unfit, Fitted); 5] = [
+    (
+        "release ctl 1 kept, tick ctl 1 more 5",
+        Unfit {
+            place: 3,
+            why: Why::WrongHow,
+        },
+        (2, 1, false, 1),
+    ),
+    (
+        "release ctl 1 kept, tick ctl 1 over 1, tick ctl 1 more 3",
+        Unfit {
+            place: 2,
+            why: Why::WrongHow,
+        },
+        (1, 0, false, 1),
+    ),
+    (
+        "release log 1 kept, release ctl 1 kept, tick ctl 1 more, tick ctl 1 over, tick ctl 1 more 9",
+        Unfit {
+            place: 8,
+            why: Why::WrongHow,
+        },
+        (7, 5, true, 1),
+    ),
+    (
+        "release log 1 kept, tick log 1 more 3, tick log 1 more 4",
+        Unfit {
+            place: 6,
+            why: Why::WrongHow,
+        },
+        (5, 4, false, 1),
+    ),
+    (
+        "release log 1 kept, idle 7",
+        Unfit {
+            place: 2,
+            why: Why::IdlePending,
+        },
+        (1, 0, false, 1),
+    ),
+];
+
+// Whether the monitor has found this row, which does not fit, and keeps what it was before it; also after one more run.
+fn stands_at(alloc: Global, monitor: &mut Monitor, unfit: Unfit, before: Fitted) -> bool {
+    let is_kept = fitted(monitor) == before && !monitor.is_legal();
+    let again = monitor.observe(alloc, Run::Idles { length: 2 });
+    is_kept && again == Ok(Some(unfit)) && fitted(monitor) == before
+}
+
+#[test]
+fn the_rows_of_a_run_before_the_one_that_does_not_fit_count(rt: HostRuntime) -> Result<(), Fail> {
+    let alloc = rt.alloc();
+    let set = set_of(alloc, &CONTROL)?;
+    for (text, unfit, before) in BROKEN {
+        let mut monitor = monitor(alloc, &CONTROL, SCALED)?;
+        take(alloc, &set, &mut monitor, text)?;
+        assert!(rt; stands_at(alloc, &mut monitor, unfit, before), "{text}");
+    }
+    Ok(())
+}
+
+// A monitor of `CONTROL` that is given the runs of the text in one call.
+fn given_at_once(alloc: Global, set: &TaskSet, text: &str) -> Result<Monitor, Fail> {
+    let runs = runs_of(alloc, set, text)?;
+    if !are_of_set(set, &runs) {
+        return Err(Fail::from("runs of the set"));
+    }
+    let mut monitor = Monitor::new(alloc, set.copy(alloc)?, SCALED)?;
+    follow(alloc, &mut monitor, &runs)?;
+    Ok(monitor)
+}
+
+#[test]
+fn they_count_also_if_many_runs_are_given_at_once(rt: HostRuntime) -> Result<(), Fail> {
+    let alloc = rt.alloc();
+    let set = set_of(alloc, &CONTROL)?;
+    for (text, unfit, before) in BROKEN {
+        let mut monitor = given_at_once(alloc, &set, text)?;
+        assert!(rt; stands_at(alloc, &mut monitor, unfit, before), "{text}");
+    }
+    Ok(())
+}
