@@ -57,6 +57,8 @@ expect 6 judged/illegal.txt report judged/tasks.toml judged/illegal.csv
 # Recordings of real threads that follow this work: by the rules, and with one broken.
 expect 0 record/rules.csv run record/tasks.toml record/work.csv 40
 expect 0 judged/legal.txt judge record/tasks.toml record/rules.csv
+expect 0 record/greedy.csv run record/tasks.toml record/greedy_work.csv 40
+expect 0 judged/legal.txt judge record/tasks.toml record/greedy.csv
 for name in plain keep stolen; do
     expect 6 "$(says "$(head -n 1 "record/$name.judged")")" judge record/tasks.toml "record/$name.csv"
 done

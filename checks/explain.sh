@@ -108,7 +108,7 @@ sed 's,swapper/0:0,make:900,g' record/by_hand.txt >"$work/made.txt"
 wants 0 record/by_hand.csv ../tools/record/sched.py control/tasks.toml "$work/made.txt" 1000 0 ctl=ctl log=log ticker=- '*=.'
 refuses 'line 3: thread ticker-70 is in no map' control/tasks.toml "$work/made.txt" 1000 0 ctl=ctl log=log '*=.'
 
-# of_fifo STATUS TRACE REPORT: sched.py on a recording of fifo
+# of_fifo STATUS TRACE REPORT: sched.py on a recording of fifo or of posix
 of_fifo() {
     wants "$1" "$2" ../tools/record/sched.py -v record/tasks.toml "$3" 10000 1 ctl=ctl nav=nav log=log ticker=- migration/1=- rest=.
 }
@@ -126,6 +126,11 @@ for name in rules plain keep stolen; do
     [ "$name" = rules ] || wants 6 "record/$name.judged" ../tools/explain.py record/tasks.toml "record/$name.csv"
 done
 wants 0 judged/legal.txt ../tools/explain.py record/tasks.toml record/rules.csv
+# Threads that the proved scheduler dispatched: the same trace, and one with a thread that ignores its budget.
+of_fifo 0 record/rules.csv record/posix.txt
+cmp record/posix.moves "$work/err" || failed=$((failed + 1))
+of_fifo 0 record/greedy.csv record/greedy.txt
+cmp record/greedy.moves "$work/err" || failed=$((failed + 1))
 # The forms of `report -l` and of the kernel's own file say the same, and what is missing or wrong is named.
 sed 's/-\([0-9]*\) *\[001\] */-\1   1d..2. /' record/rules.txt >"$work/flags.txt"
 of_fifo 0 record/rules.csv "$work/flags.txt"

@@ -17,7 +17,9 @@ RT_LIMIT=$work/limit
 # What trace-cmd changes.
 CHANGED="$TRACING/current_tracer $TRACING/trace_clock $TRACING/tracing_cpumask $TRACING/tracing_on
     $TRACING/events/sched/sched_switch/enable $TRACING/events/sched/sched_waking/enable"
-export TRACING RT_LIMIT CHANGED
+# The words of trace-cmd's last call that runs a program.
+WORDS=$work/words
+export TRACING RT_LIMIT CHANGED WORDS
 mkdir -p "$TRACING/events/sched/sched_switch" "$TRACING/events/sched/sched_waking" "$work/tools" "$work/folder"
 : >"$TRACING/trace_marker"
 
@@ -53,6 +55,7 @@ record) [ -n "${RECORDS:-}" ] || exit 1 ;;
 extract) exit ;;
 report) exec cat "$REPORT" ;;
 esac
+echo "$@" >"$WORDS"
 for file in $CHANGED; do echo changed >"$file"; done
 echo 'fifo: a stand-in' >&2
 [ -z "${BEGUN:-}" ] || { : >"$BEGUN"; exec sleep 60; }
@@ -73,6 +76,31 @@ for records in '' yes; do
     checks "record.sh, with record $records: another text" cmp "$REPORT" "text$records.txt"
     checks "record.sh, with record $records: other settings" are 950000 nop local f 1 0 0
 done
+# runs RULE WORDS PRIORITY: with this rule the program has these words, and the text begins with the thread of this priority
+runs() {
+    sets 950000 nop '[local] global mono' f 1 0 0
+    sed "s/==> \(.*\) \[98\]\$/==> \1 [$3]/" "$REPORT.kept" >"$REPORT"
+    LIBRARY=$work/library "$here/../tools/record/record.sh" "$1.txt" ${1:+"$1"} >"$work/out"
+    checks "record.sh $1: status $?" [ $? -eq 0 ]
+    checks "record.sh $1: another program" grep -q "/program $2\$" "$WORDS"
+    checks "record.sh $1: another text" cmp "$REPORT" "$1.txt"
+    checks "record.sh $1: other settings" are 950000 nop local f 1 0 0
+}
+REPORT=$work/report
+cp "$here/record/rules.txt" "$REPORT.kept"
+: >"$work/library"
+inputs='../../examples/record/tasks.toml ../../examples/record/work.csv 40 10000 1'
+runs '' "$inputs" 98
+runs plain "$inputs plain" 98
+runs keep "$inputs keep" 98
+runs posix '10000 1' 97
+runs greedy '10000 1 greedy' 97
+LIBRARY=$work/none "$here/../tools/record/record.sh" none.txt posix 2>"$work/err"
+checks "record.sh posix without the library: status $?" [ $? -eq 1 ]
+checks 'record.sh posix without the library: another line' [ "$(cat "$work/err")" = 'record.sh: c/build.sh has not built the library' ]
+checks 'record.sh posix without the library: there is a text' [ ! -e none.txt ]
+REPORT=$here/record/rules.txt
+
 sets 950000 nop '[local] global mono' f 1 0 0
 BEGUN=$work/begun "$here/../tools/record/record.sh" ended.txt >"$work/out" &
 times=0
