@@ -2,11 +2,11 @@
 
 From the words of the clauses it follows the `use` lines from file to file, and takes of each file the declarations that
 are reached by name. A line counts where it is no comment, no `use` and not blank. Types that the code declares are
-followed to their structs and enums; a type with a Model is read as the Value of that Model, since clauses do not see how
+followed to their structs, enums and other names (`pub type`); a type with a Model is read as the Value of that Model, since clauses do not see how
 its fields make up the value. Names of the toolchain's libraries end the way, and are counted. A name that its equation
 binds is no declaration's.
 
-The headline stays below 800 lines of definitions, none of them longer than 110 characters: otherwise the status is 1.
+The headline stays below 700 lines of definitions, none of them longer than 110 characters: otherwise the status is 1.
 
 usage: definitions.py [CLAUSE]
        for all clauses together, or one of them
@@ -22,7 +22,7 @@ from usage import WrongWords, ends
 
 CRATES = pathlib.Path(__file__).resolve().parent.parent / 'crates'
 TOP = CRATES / 'edfvd_program/src/edfvd.rt'
-TOO_MANY_LINES, LONGEST_LINE = 800, 110
+TOO_MANY_LINES, LONGEST_LINE = 700, 110
 HEAD = re.compile(r'^(?:(?:abbrev|unfoldable|pub|record|data) )+([^\s(:{]+)')
 FIXITY = re.compile(r'^infix[lr]? \d+ (\S+)')
 NAME = re.compile(r"[A-Za-z_][\w'-]*")
@@ -86,7 +86,7 @@ class Page:
     def types(self, lines):
         found = {}
         for place, line in enumerate(lines):
-            head = re.match(r'^(?:pub )?(?:struct|enum) (\w+)|^impl.* Model for (\w+)', line)
+            head = re.match(r'^(?:pub )?(?:struct|enum|type) (\w+)|^impl.* Model for (\w+)', line)
             if head and head[1]:
                 found.setdefault(head[1], Declaration(self, head[1], counted(self.item(lines, place))))
             elif head:

@@ -5,13 +5,15 @@
 - PROMISES.md names clauses that the calls of the named files have.
 - DEFINITIONS.md names definitions by their lines, has the totals of definitions.py, and leads to each definition that the
   headline reaches, before its part on all others; those have a comment in the file that it names.
+- DEADLINE-PROOF.md leads to each lemma of demand_law that it names, by its line.
 - README.md has the total of the headline.
 - The links of all pages lead to a file, and to a heading of it where they name one.
 - overrun.svg is what svg.py draws of the overrun.
 - CITATION.cff has the newest version of CHANGELOG.md.
 
 usage: pages.py [mend]
-       with the word, writes the right line numbers and totals into DEFINITIONS.md and README.md, and draws overrun.svg again
+       with the word, writes the right line numbers and totals into DEFINITIONS.md, DEADLINE-PROOF.md and README.md, and draws
+       overrun.svg again
 """
 
 import pathlib
@@ -53,18 +55,23 @@ def samples_that_differ():
         encoding='utf-8') != text] + ([] if samples else ['FORMATS.md shows no files'])
 
 
-# A link of DEFINITIONS.md to a clause, as `call: clause`, or to a definition, by its line.
-LINK = re.compile(r'\[`(\w+)(?:: (\w+))?`\]\(\.\./(crates/[^#)]+)#L(\d+)\)')
+# A link to a clause, as `call: clause`, or to a definition or a lemma, by its line.
+LINK = re.compile(r'\[`([\w-]+)(?:: (\w+))?`\]\(\.\./(crates/[^#)]+)#L(\d+)\)')
 TOTALS = re.compile(r'(checks/definitions\.py` follows.*?```\n)(.*?)(\n```)', re.DOTALL)
 
 
-# The number of the line of a clause of a call, or of a definition, or None.
+# The head of a lemma, or of a definition, in a file of proofs.
+LEMMA = re.compile(r'^(pub )?(?:(?:abbrev|record|pub) )*([\w-]+) [:(]')
+
+
+# The number of the line of a clause of a call, or of a definition or a lemma, or None.
 def line_of(name, clause, path):
     place = ROOT / path
     lines = place.read_text(encoding='utf-8').split('\n') if place.is_file() else []
     if clause is None:
-        heads = ((number, definitions.HEAD.match(line)) for number, line in enumerate(lines, 1))
-        return next((number for number, head in heads if head and head[1] == name), None)
+        pattern, group = (LEMMA, 2) if '/proofs/' in path else (definitions.HEAD, 1)
+        heads = ((number, pattern.match(line)) for number, line in enumerate(lines, 1))
+        return next((number for number, head in heads if head and head[group] == name), None)
     within = False
     for number, line in enumerate(lines, 1):
         function = re.match(r'^\s*(?:pub )?fn (\w+)', line)
@@ -74,24 +81,51 @@ def line_of(name, clause, path):
     return None
 
 
-# The page with the lines and totals that are right.
-def lines_mended(page):
+# The page with links to the right lines.
+def links_mended(page):
     def link(match):
         name, clause, path, _ = match.groups()
         return re.sub(r'#L\d+', f'#L{line_of(name, clause, path)}', match[0])
+    return LINK.sub(link, page)
+
+
+# The page with the lines and totals that are right.
+def lines_mended(page):
     told = [definitions.total_line(label, definitions.read([label])) for label in ('headline', 'right_text', 'complete', 'tested', 'answer', 'outcome')]
     told.append(definitions.total_line('all clauses', definitions.read(definitions.clauses())))
-    return TOTALS.sub(lambda match: match[1] + '\n'.join(told) + match[3], LINK.sub(link, page))
+    return TOTALS.sub(lambda match: match[1] + '\n'.join(told) + match[3], links_mended(page))
+
+
+# The lines of a page that its mended form has otherwise, and its links that lead nowhere.
+def line_faults_of(name, mended):
+    page = (ROOT / 'docs' / name).read_text(encoding='utf-8')
+    pairs = zip(page.split('\n'), mended(page).split('\n'))
+    yield from (f'{name} has {old!r}, and it should be {new!r}' for old, new in pairs if old != new)
+    yield from (f'{name}: {match[0]} is not there' for match in LINK.finditer(page) if line_of(*match.groups()[:3]) is None)
+    if not LINK.search(page):
+        yield f'{name} has no links to lines'
 
 
 def line_faults():
     page = (ROOT / 'docs/DEFINITIONS.md').read_text(encoding='utf-8')
-    if not LINK.search(page) or not TOTALS.search(page):
-        return ['DEFINITIONS.md has no links to lines, or no totals']
-    pairs = zip(page.split('\n'), lines_mended(page).split('\n'))
-    faults = [f'DEFINITIONS.md has {old!r}, and it should be {new!r}' for old, new in pairs if old != new]
-    lost = [match[0] for match in LINK.finditer(page) if line_of(*match.groups()[:3]) is None]
-    return faults + [f'DEFINITIONS.md: {link} is not there' for link in lost]
+    yield from line_faults_of('DEFINITIONS.md', lines_mended)
+    if not TOTALS.search(page):
+        yield 'DEFINITIONS.md has no totals'
+
+
+# The names of the lemmas of demand_law that other files may cite.
+def lemmas():
+    for path in sorted((ROOT / 'crates/demand_law/proofs').rglob('*.antt')):
+        heads = map(LEMMA.match, path.read_text(encoding='utf-8').split('\n'))
+        yield from (head[2] for head in heads if head and head[1])
+
+
+def lemma_faults():
+    page = (ROOT / 'docs/DEADLINE-PROOF.md').read_text(encoding='utf-8')
+    yield from line_faults_of('DEADLINE-PROOF.md', links_mended)
+    linked = {match[1] for match in LINK.finditer(page)}
+    named = set(re.findall(r'`([\w-]+)`', page))
+    yield from (f'DEADLINE-PROOF.md names {lemma}, and does not lead to it' for lemma in sorted(named & set(lemmas()) - linked))
 
 
 # The columns of a claim in PROMISES.md: what is claimed, its clauses, and the files of the calls.
@@ -242,9 +276,9 @@ def citation_faults():
     return [] if cited == newest else [f'CITATION.cff has version {cited}, and CHANGELOG.md {newest}']
 
 
-CHECKS = [messages_not_named, samples_that_differ, promise_faults, line_faults, readme_faults, definitions_faults, others_faults, link_faults, picture_faults,
+CHECKS = [messages_not_named, samples_that_differ, promise_faults, line_faults, lemma_faults, readme_faults, definitions_faults, others_faults, link_faults, picture_faults,
           citation_faults]
-MENDED = [('docs/DEFINITIONS.md', lines_mended), ('README.md', readme_mended), ('docs/overrun.svg', overrun_drawn)]
+MENDED = [('docs/DEFINITIONS.md', lines_mended), ('docs/DEADLINE-PROOF.md', links_mended), ('README.md', readme_mended), ('docs/overrun.svg', overrun_drawn)]
 
 
 def main(words):

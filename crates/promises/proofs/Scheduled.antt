@@ -76,7 +76,7 @@ run_keeps command short files old reply h = (
     λ e. (let (set, rule, rows, t, a, says, follows, written) = writes e in
         let few : length t ≤ 2000000 = omega (arith, short, work-few set.tasks more rows says.1, follows-few set.tasks rule rows command.ticks t follows) in
         let keeps = timely (bytes_of files command.tasks) set rule t a follows.legal in
-        (set, rule, trace_text set.tasks (reverse t), a, written, says_timely set.tasks rule t (holds_for (bytes_of files command.tasks) set rule a).0 few keeps)),
+        (set, rule, trace_text set.tasks (reverse t), a, written, says_timely command.ticks set.tasks rule t (holds_for (bytes_of files command.tasks) set rule a).0 few follows.ticks keeps)),
   ),
   writes,
   complete,
@@ -118,7 +118,7 @@ live_keeps command short files old reply h = (
     λ e. (let (set, rule, t, a, is, written) = writes e in
         let (tasks, holds) = holds_for (bytes_of files command.tasks) set rule a in
         let few : length t ≤ 2000000 = omega (arith, short, is.ticks, few_rows set.tasks rule t tasks holds is.legal) in
-        (set, rule, trace_text set.tasks (reverse t), a, written, says_timely set.tasks rule t tasks few (timely (bytes_of files command.tasks) set rule t a is.legal))),
+        (set, rule, trace_text set.tasks (reverse t), a, written, says_timely command.ticks set.tasks rule t tasks few is.ticks (timely (bytes_of files command.tasks) set rule t a is.legal))),
   ),
   writes,
   λ set rule a. inl (ap (λ (r : Reply). r.status) (next_of (bytes_of files command.tasks) Next reply set rule a c).2),
@@ -143,8 +143,8 @@ soak_keeps command range files old reply h =
     let is = generated_sets-admitted (words_of command.number) command.tasks range.0 range.1 in
     let s = h.2 in
     let keeps = keeps_deadlines set h.0 h.1 is.set.each (published-holds set h.0 is.set s.test) s.follows.legal in (
-      λ e. (h.0, h.1, s, (s.follows.legal, keeps)),
-      λ e. (h.0, h.1, s, ap (λ (r : Reply). Some (old ++ r.text)) h.3),
+      tt,
+      λ e. (h.0, h.1, s, (s.follows.legal, keeps), ap (λ (r : Reply). Some (old ++ r.text)) h.3),
       inl (ap (λ (r : Reply). r.status) h.3),
       tt,
     )

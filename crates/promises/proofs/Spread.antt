@@ -117,13 +117,13 @@ used_tasks tasks some admitted = elim admitted [ inl none ↦ (let one = rw none
 
 -- the text of the trace that follows on a processor is a trace file, whose trace keeps the deadlines
 timely_on : (ticks : ℕ) (parted : Parted) (work : List WorkRow) (n : ℕ) (h : List Row) → ticks ≤ 1000000 → length work ≤ 1000000 → is_used parted n ≡ true
-    → IsAdmittedPart (tasks_on parted n) → IsTraceOn ticks parted work n h → IsTimelyOn parted n (trace_text (tasks_on parted n) (reverse h))
+    → IsAdmittedPart (tasks_on parted n) → IsTraceOn ticks parted work n h → IsTimelyOn ticks parted n (trace_text (tasks_on parted n) (reverse h))
 timely_on ticks parted work n h short rows used admitted is =
     let tasks = used_tasks (tasks_on parted n) used admitted in
     let follows = follows-few (tasks_on parted n) is.rule (part_rows n parted.of work) ticks h is.follows in
     let few : length h ≤ 2000000 = omega (arith, short, rows, follows, part_rows-length n parted.of work) in
     let keeps = keeps_deadlines (tasks_on parted n) is.rule h tasks.each (published-holds (tasks_on parted n) is.rule tasks is.test) is.follows.legal in
-    (is.rule, is.test, says_timely (tasks_on parted n) is.rule h tasks few (is.follows.legal, keeps))
+    (is.rule, is.test, says_timely ticks (tasks_on parted n) is.rule h tasks few is.follows.ticks (is.follows.legal, keeps))
 
 -- the text of each trace, on the processor at its index
 abbrev texts_of : Parted → List ℕ → List (List Row) → List (List ℕ)
@@ -133,7 +133,7 @@ texts_of parted ns ts = []
 -- the texts of the traces on processors with tasks are trace files whose traces keep the deadlines
 all_timely : (ticks : ℕ) (parted : Parted) (work : List WorkRow) (ns : List ℕ) (traces : List (List Row)) → ticks ≤ 1000000 → length work ≤ 1000000
     → AllByRecursion (λ n. is_used parted n ≡ true) ns → ((n : ℕ) → IsAdmittedPart (tasks_on parted n)) → AllZip (IsTraceOn ticks parted work) ns traces
-    → AllZip (IsTimelyOn parted) ns (texts_of parted ns traces)
+    → AllZip (IsTimelyOn ticks parted) ns (texts_of parted ns traces)
 all_timely ticks parted work [] [] short rows used admitted h = tt
 all_timely ticks parted work [] (t ∷ ts) short rows used admitted h = absurd h
 all_timely ticks parted work (n ∷ ns) [] short rows used admitted h = absurd h

@@ -9,6 +9,7 @@ use Rattle.mc_model.specs.declared.row.Row.{Row}
 use Rattle.mc_model.specs.declared.run.Run.{Run}
 use Rattle.mc_model.specs.declared.run.Run.TheVariants as run
 use Rattle.mc_model.specs.Legal.{Legal, IsOfSet}
+use Rattle.mc_model.specs.Rows.{ticks}
 use Rattle.mc_model.specs.Runs.{row_of, expand, pack, AreRuns}
 use Rattle.mc_model.specs.TraceText.{trace_text}
 use Rattle.mc_model.proofs.Lists.{Each-reverse}
@@ -56,10 +57,11 @@ says_trace set rule h is legal few =
     let valid = pack-valid (reverse h) (omega (arith, few, length-reverse h)) in
     (omega (arith, few, bytes), reads_back set rule h is legal (omega (arith, few)) valid)
 
--- where the trace keeps the deadlines, its text says so
-pub says_timely : (set : List Task) (rule : Rule) (h : List Row) → AreTasks set → length h ≤ 2000000 → IsTimely set rule h → SaysTimely (trace_text set (reverse h)) set rule
-says_timely set rule h is few timely =
-    (pack (reverse h), says_trace set rule h is timely.0 few, subst (λ rows. IsTimely set rule rows) (sym (packed h)) timely)
+-- where the trace has n ticks and keeps the deadlines, its text says so
+pub says_timely : (n : ℕ) (set : List Task) (rule : Rule) (h : List Row) → AreTasks set → length h ≤ 2000000 → ticks h ≡ n → IsTimely set rule h
+    → SaysTimely n (trace_text set (reverse h)) set rule
+says_timely n set rule h is few has timely =
+    (pack (reverse h), says_trace set rule h is timely.0 few, ap ticks (packed h) ∙ has, subst (λ rows. IsTimely set rule rows) (sym (packed h)) timely)
 
 -- the text of a legal trace that was read from a file is read as runs with the same rows
 pub again_read : (set : List Task) (rule : Rule) (bytes : List ℕ) (runs : List Run) → AreTasks set → trace_file set bytes ≡ Ok runs → Legal set rule (trace_of runs)

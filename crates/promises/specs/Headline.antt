@@ -11,6 +11,7 @@ use Rattle.mc_world.specs.Shelf.{Files}
 use Rattle.mc_model.specs.declared.row.Row.{Row}
 use Rattle.mc_model.specs.declared.run.Run.{Run}
 use Rattle.mc_model.specs.Loads.{IsWithinRange}
+use Rattle.mc_model.specs.Rows.{ticks}
 use Rattle.mc_model.specs.Test.{published, test}
 use Rattle.mc_model.specs.Legal.{Legal}
 use Rattle.mc_model.specs.Runs.{expand}
@@ -22,7 +23,6 @@ use Rattle.command_line.specs.declared.form.Form.TheVariants as form
 use Rattle.task_file.specs.TaskFile.{task_file}
 use Rattle.trace_format.specs.TraceFile.{trace_file}
 use Rattle.part_fit.specs.FirstFit.{first_fit}
-use Rattle.run_commands.specs.Soak.{workload_set, IsSoaked}
 use Rattle.part_commands.specs.Parted.{Parted, tasks_on, spread}
 use Rattle.part_commands.specs.RunAll.{used}
 
@@ -60,15 +60,16 @@ SaysTrace bytes set runs = (length bytes ≤ 2 ^ 27) × (trace_file set bytes �
 abbrev pub IsTimely : List Task → Rule → List Row → Type 0
 IsTimely set rule h = Legal set rule h × KeepsDeadlines set rule h
 
--- the bytes are a trace file of the set, and the trace of its runs is legal and keeps the deadlines
-abbrev pub SaysTimely : List ℕ → List Task → Rule → Type 0
-SaysTimely bytes set rule = (runs : List Run) × SaysTrace bytes set runs × IsTimely set rule (trace_of runs)
+-- the bytes are a trace file of the set, and the trace of its runs has n ticks, is legal and keeps the deadlines
+abbrev pub SaysTimely : ℕ → List ℕ → List Task → Rule → Type 0
+SaysTimely n bytes set rule = (runs : List Run) × SaysTrace bytes set runs
+    × (ticks (trace_of runs) ≡ n) × IsTimely set rule (trace_of runs)
 
 -- what `run` and `live` write with status 0 is a trace file of a set that the test admits, and the trace in
--- it is legal under the test's rule and keeps the deadlines
-abbrev pub WritesTimely : List ℕ → List ℕ → ℕ → Option (List ℕ) → Type 0
-WritesTimely bytes old ended new = ended ≡ 0 → (set : Set) × (rule : Rule) × (text : List ℕ)
-    × IsAdmitted bytes set rule × (new ≡ Some (old ++ text)) × SaysTimely text set.tasks rule
+-- it has the n ticks that the command asks for, is legal under the test's rule and keeps the deadlines
+abbrev pub WritesTimely : ℕ → List ℕ → List ℕ → ℕ → Option (List ℕ) → Type 0
+WritesTimely n bytes old ended new = ended ≡ 0 → (set : Set) × (rule : Rule) × (text : List ℕ)
+    × IsAdmitted bytes set rule × (new ≡ Some (old ++ text)) × SaysTimely n text set.tasks rule
 
 -- what `migrate` writes with status 0 is a trace file whose runs stand for the same rows as those of the file
 -- that it read; the other commands on a trace write no trace
@@ -96,11 +97,6 @@ FindsUnder (JudgeBy p q) bytes more old ended new = Unit {0}
 FindsUnder action bytes more old ended new =
     SchedulesExactly bytes ended × Finds action bytes more old ended new
 
--- the trace that `soak` sums up with status 0 is the one of its workload; it is legal and keeps the deadlines
-abbrev pub SumsTimely : ℕ → ℕ → ℕ → ℕ → Type 0
-SumsTimely number tasks ticks ended = ended ≡ 0 → (rule : Rule) × (h : List Row)
-    × IsSoaked number tasks ticks rule h × IsTimely (workload_set number tasks) rule h
-
 -- the task file says this set, and first fit puts its tasks on these processors, from 1 to m
 abbrev pub IsSpread : ℕ → List ℕ → Set → List ℕ → Type 0
 IsSpread m bytes set of = SaysSet bytes set × (first_fit set.tasks m ≡ Ok of)
@@ -111,35 +107,38 @@ pub record SpreadsExactly (m : ℕ) (bytes : List ℕ) (ended : ℕ) : Type 0 wh
   pub refused : ended ≡ 12 → (set : Set) × (task : ℕ) × SaysSet bytes set × (first_fit set.tasks m ≡ Err task)
   pub refuses : (s : Set) (k : ℕ) → SaysSet bytes s → first_fit s.tasks m ≡ Err k → (ended ≡ 12) ⊎ (ended ≡ 9)
 
--- the text is a trace file of the tasks on processor n; the trace in it is legal under the rule that the
--- published test gives these tasks, and keeps the deadlines
-abbrev pub IsTimelyOn : Parted → ℕ → List ℕ → Type 0
-IsTimelyOn parted n text = (rule : Rule)
-    × (published (tasks_on parted n) ≡ Some rule) × SaysTimely text (tasks_on parted n) rule
+-- the text is a trace file of the tasks on a processor; the trace in it has n ticks, is legal under the rule
+-- that the published test gives these tasks, and keeps the deadlines
+abbrev pub IsTimelyOn : ℕ → Parted → ℕ → List ℕ → Type 0
+IsTimelyOn n parted on text = (rule : Rule)
+    × (published (tasks_on parted on) ≡ Some rule) × SaysTimely n text (tasks_on parted on) rule
 
 -- what is written of a processor: a line with its number, and then the text of its trace
 abbrev pub lines_of : ℕ × List ℕ → List ℕ
 lines_of on = codes "processor " ++ (decimal on.0 ++ (codes "\n" ++ on.1))
 
 -- what `runall` writes with status 0 is a trace file for each processor with tasks, from the lowest number
--- on, and each of these traces is legal and keeps the deadlines
-abbrev pub WritesAllTimely : ℕ → List ℕ → List ℕ → ℕ → Option (List ℕ) → Type 0
-WritesAllTimely m bytes old ended new = ended ≡ 0 → (set : Set) × (of : List ℕ) × (texts : List (List ℕ))
-    × IsSpread m bytes set of × AllZip (IsTimelyOn (spread set.tasks of)) (used m (spread set.tasks of)) texts
+-- on, and each of these traces has the n ticks that the command asks for, is legal and keeps the deadlines
+abbrev pub WritesAllTimely : ℕ → ℕ → List ℕ → List ℕ → ℕ → Option (List ℕ) → Type 0
+WritesAllTimely n m bytes old ended new = ended ≡ 0 → (set : Set) × (of : List ℕ) × (texts : List (List ℕ))
+    × IsSpread m bytes set of
+    × AllZip (IsTimelyOn n (spread set.tasks of)) (used m (spread set.tasks of)) texts
     × (new ≡ Some (old ++ flat_map lines_of (zip (used m (spread set.tasks of)) texts)))
 
 -- the headline, for each command that schedules a set, or judges a trace under the test's rule: by the files,
--- the bytes that were written before, the status, and the bytes that are written after
+-- the bytes that were written before, the status, and the bytes that are written after. `soak` writes no trace:
+-- RightText says that the trace that it sums up keeps the deadlines.
 abbrev pub Headline : Option Form → Files → List ℕ → ℕ → Option (List ℕ) → Type 0
 Headline (Some (form.Check c)) files old ended new = SchedulesExactly (bytes_of files c.tasks) ended
 Headline (Some (form.Run c)) files old ended new =
-    SchedulesExactly (bytes_of files c.tasks) ended × WritesTimely (bytes_of files c.tasks) old ended new
+    SchedulesExactly (bytes_of files c.tasks) ended
+    × WritesTimely c.ticks (bytes_of files c.tasks) old ended new
 Headline (Some (form.Live c)) files old ended new =
-    SchedulesExactly (bytes_of files c.tasks) ended × WritesTimely (bytes_of files c.tasks) old ended new
-Headline (Some (form.Soak c)) files old ended new = SumsTimely c.number c.tasks c.ticks ended
+    SchedulesExactly (bytes_of files c.tasks) ended
+    × WritesTimely c.ticks (bytes_of files c.tasks) old ended new
 Headline (Some (form.RunAll c)) files old ended new =
     SpreadsExactly c.processors (bytes_of files c.tasks) ended
-    × WritesAllTimely c.processors (bytes_of files c.tasks) old ended new
+    × WritesAllTimely c.ticks c.processors (bytes_of files c.tasks) old ended new
 Headline (Some (form.OnTrace c)) files old ended new =
     FindsUnder c.action (bytes_of files c.tasks) (bytes_of files c.trace) old ended new
 Headline form files old ended new = Unit {0}

@@ -21,7 +21,7 @@ use Rattle.trace_commands.specs.OnTrace.{good_text}
 use Rattle.run_commands.specs.Soak.{workload_set, soak_text, IsSoaked}
 use Rattle.part_commands.specs.Parted.{Parted, spread}
 use Rattle.part_commands.specs.RunAll.{used, IsTraceOn, trace_lines}
-use Rattle.promises.specs.Headline.{bytes_of, IsAdmitted, trace_of, SaysTrace, IsSpread}
+use Rattle.promises.specs.Headline.{bytes_of, IsAdmitted, trace_of, SaysTrace, IsTimely, IsSpread}
 use Rattle.promises.specs.Complete.{SaysWork}
 
 -- after the bytes that were there, the text of the trace was written
@@ -70,10 +70,11 @@ abbrev pub WritesAboutUnder : TraceAction → List ℕ → List ℕ → List ℕ
 WritesAboutUnder (JudgeBy p q) bytes more old ended new = Unit {0}
 WritesAboutUnder action bytes more old ended new = WritesAbout action bytes more old ended new
 
--- with status 0 `soak` has written its text about the trace of the workload
+-- with status 0 `soak` has written its text about the trace of the workload, which is legal and keeps the
+-- deadlines
 abbrev pub SumsUp : ℕ → ℕ → ℕ → List ℕ → ℕ → Option (List ℕ) → Type 0
 SumsUp number tasks ticks old ended new = ended ≡ 0 → (rule : Rule) × (h : List Row)
-    × IsSoaked number tasks ticks rule h
+    × IsSoaked number tasks ticks rule h × IsTimely (workload_set number tasks) rule h
     × (new ≡ Some (old ++ soak_text number tasks ticks (workload_set number tasks) rule h))
 
 -- what each command that writes a trace, or writes about one, has written: by the files, the bytes that were
