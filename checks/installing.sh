@@ -282,6 +282,11 @@ END
     printf '#!/bin/sh\nexit 1\n' >"$work/stopped/ln"
     chmod +x "$work/stopped/ln"
     stopped '' "mv fails at call $count, and ln always"
+    rm "$work/stopped/mv"
+    holds 'install.sh where no file can have two names' bounded env PATH="$work/stopped:$alone" "$tree/install.sh" "$work/old"
+    rm "$work/old/bin/mine"
+    files "$work/old" >"$work/out"
+    judge 0 0 "$work/files_all" 'what is installed there'
 }
 
 # A folder stands at the place of a file, or a file at that of a folder.
