@@ -1,5 +1,5 @@
 -- A live schedule, row by row.
-use Rattle.std.proofs.Common.{◌≡◌, ℕ, ◌<◌, ◌^◌, List, [], ◌∷◌, ◌++◌, Option, Some, None, IfSome, Result, Ok, Err, OnOk, length, vec_capacity, refl, sym, ap, ◌∙◌, subst, arith}
+use Rattle.std.proofs.Common.{◌≡◌, ℕ, ◌<◌, ◌^◌, List, [], ◌∷◌, ◌++◌, Option, Some, None, IfSome, Result, Ok, Err, OnOk, length, refl, sym, ap, ◌∙◌, subst, arith}
 use Rattle.std.specs.Prelude.{is_some, is_err}
 use Rattle.mc_model.specs.Legal.{Legal}
 use Rattle.mc_model.specs.Late.{late}
@@ -55,12 +55,11 @@ clock_small written a is few = let at_most = ticks-le (rows_of_live a) in omega 
 
 -- a live schedule with one row more, which was judged and written unless the schedule stopped
 pub one_more : {W : Type 0} (written more : Option (List ℕ)) (a b : Inside W) (row : Row) → IsLive written a
-    → rows_of_live b ≡ row ∷ rows_of_live a → vec_capacity b.rows ≡ vec_capacity a.rows → b.set ≡ a.set → b.monitor.set ≡ a.monitor.set
+    → rows_of_live b ≡ row ∷ rows_of_live a → b.set ≡ a.set → b.monitor.set ≡ a.monitor.set
     → b.ticks ≡ ticks (row ∷ rows_of_live a) → (b.stop ≡ None → a.stop ≡ None)
     → (b.stop ≡ None → (h : List Row) → Watches h a.monitor → Watches (row ∷ h) b.monitor)
     → (b.stop ≡ None → more ≡ with_line written (row_line a.set.tasks a.ticks row)) → IsLive more b
-one_more written more a b row is rows room set watched_set clock before watched line = record {
-  room = room ∙ is.room;
+one_more written more a b row is rows set watched_set clock before watched line = record {
   set = set ∙ (is.set ∙ sym watched_set);
   clock = clock ∙ ap ticks (sym rows);
   watched = λ going. subst (λ (x : List Row). Watches x b.monitor) (sym rows) (watched going (rows_of_live a) (is.watched (before going)));

@@ -1,5 +1,5 @@
 -- How a live schedule is kept.
-use Rattle.std.specs.Prelude.{◌≡◌, ℕ, ◌^◌, List, map, reverse, Option, None, IfSome, vec_capacity}
+use Rattle.std.specs.Prelude.{◌≡◌, ℕ, List, Option, None, IfSome}
 use Rattle.mc_model.specs.declared.row.Row.{Row}
 use Rattle.mc_model.specs.Rows.{ticks}
 use Rattle.trace_judge.specs.Watched.{Watches}
@@ -8,7 +8,7 @@ use Rattle.calling_examples.specs.Live.{rows_text, LiveRows}
 
 -- the rows so far
 abbrev pub rows_of_live : {W : Type 0} → Inside W → List Row
-rows_of_live a = reverse (map (λ s. s.value) a.rows.items)
+rows_of_live a = a.rows
 
 -- what contracts see, where these bytes were written
 abbrev pub live_rows : {W : Type 0} → Option (List ℕ) → Inside W → LiveRows
@@ -20,10 +20,9 @@ live_rows written a = record {
   stop = a.stop;
 }
 
--- the recorder has capacity for 2^62 rows, and the clock is that of the rows; and until the schedule stops,
--- the monitor has seen the rows, and their text was written
+-- the clock is that of the rows; and until the schedule stops, the monitor has seen the rows, and their text was
+-- written
 pub record IsLive {W : Type 0} (written : Option (List ℕ)) (a : Inside W) : Type 0 where
-  pub room : vec_capacity a.rows ≡ 2 ^ 62
   pub set : a.set ≡ a.monitor.set
   pub clock : a.ticks ≡ ticks (rows_of_live a)
   pub watched : a.stop ≡ None → Watches (rows_of_live a) a.monitor

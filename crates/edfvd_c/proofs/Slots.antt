@@ -1,9 +1,10 @@
 -- Rows in slots by their numbers.
-use Rattle.std.proofs.Common.{◌≡◌, ℕ, zero, suc, ◌+◌, ◌%◌, ◌<◌, inl, inr, List, [], ◌∷◌, ◌++◌, Some, length, set, refl, sym, ap, ◌∙◌, arith}
+use Rattle.std.proofs.Common.{◌≡◌, ℕ, zero, suc, ◌+◌, ◌%◌, ◌<◌, ◌≤◌, inl, inr, List, [], ◌∷◌, ◌++◌, Some, length, replicate, set, subst, refl, sym, ap, ◌∙◌, arith}
 use Rattle.std.specs.Prelude.{reverse, slice_get}
 use Rattle.std.proofs.lemmas.Bool.{cases_eq}
-use Rattle.std.proofs.lemmas.List.{length-reverse, reverse-reverse, length-append, reverse-append}
+use Rattle.std.proofs.lemmas.List.{length-reverse, length-append, length-replicate, reverse-append}
 use Rattle.mc_model.specs.declared.row.Row.{Row}
+use Rattle.mc_model.proofs.Runs.{reverse-copies}
 use Rattle.edfvd_c.specs.Slots.{IsInSlots}
 
 -- an element keeps its index when one more is added at the end of its list
@@ -43,12 +44,26 @@ one_more all slots row many is n there late =
           slice_get_beside slots (length all % 256) (n % 256) row beside ∙ is n before (omega arith) ∙ sym (slice_get_left all row n before)
     ]
 
--- rows with one row more, in either order
-more_rows : (old new : List Row) (row : Row) → reverse new ≡ row ∷ reverse old → new ≡ old ++ row ∷ []
-more_rows old new row e = sym (reverse-reverse new) ∙ (ap reverse e ∙ (reverse-append (row ∷ []) (reverse old) ∙ ap (λ xs. xs ++ row ∷ []) (reverse-reverse old)))
+-- the slots after a row was added, by the rows with the newest first
+pub slots_more : (h g slots : List Row) (row : Row) (count : ℕ) → length slots ≡ 256 → IsInSlots (reverse h) slots → g ≡ row ∷ h
+    → count ≡ length h → IsInSlots (reverse g) (set slots (count % 256) row)
+slots_more h g slots row count many is e c =
+    let more : reverse (row ∷ h) ≡ reverse h ++ row ∷ [] = reverse-append (row ∷ []) h in
+    rw (e, c, more, ← length-reverse h) (one_more (reverse h) slots row many is)
 
--- the slots after a row was added
-pub slots_more : (old new slots : List Row) (row : Row) (count : ℕ) → length slots ≡ 256 → IsInSlots old slots → reverse new ≡ row ∷ reverse old
-    → count ≡ length (reverse old) → IsInSlots new (set slots (count % 256) row)
-slots_more old new slots row count many is e c =
-    rw (more_rows old new row e, c, length-reverse old) (one_more old slots row many is)
+-- an element of a list that ends with copies of a row, after the list
+slice_get_copies : (xs : List Row) (row : Row) (k n : ℕ) → length xs ≤ n → n < length xs + k → slice_get (xs ++ replicate k row) n ≡ Some row
+slice_get_copies [] row zero n low high = absurd (omega (arith, high))
+slice_get_copies [] row (suc k) zero low high = refl
+slice_get_copies [] row (suc k) (suc n) low high = slice_get_copies [] row k n (omega arith) (omega (arith, high))
+slice_get_copies (x ∷ xs) row k zero low high = absurd (omega (arith, low))
+slice_get_copies (x ∷ xs) row k (suc n) low high = slice_get_copies xs row k n (omega (arith, low)) (omega (arith, high))
+
+-- after 256 or more equal rows each slot has that row
+pub slots_filled : (h g : List Row) (row : Row) (k : ℕ) → 256 ≤ k → g ≡ replicate k row ++ h → IsInSlots (reverse g) (replicate 256 row)
+slots_filled h g row k long e n there late =
+    let rows : reverse g ≡ reverse h ++ replicate k row = ap reverse e ∙ (reverse-append (replicate k row) h ∙ ap (λ (xs : List Row). reverse h ++ xs) (reverse-copies k row)) in
+    let many : length (reverse g) ≡ length (reverse h) + k = omega (arith, ap length rows, length-append (reverse h) (replicate k row), length-replicate k row) in
+    let place : n % 256 < 256 = omega arith in
+    slice_get_copies [] row 256 (n % 256) (omega arith) (omega (arith, place))
+    ∙ sym (subst (λ (xs : List Row). slice_get xs n ≡ Some row) (sym rows) (slice_get_copies (reverse h) row k n (omega (arith, many, late, long)) (omega (arith, many, there))))

@@ -78,6 +78,18 @@ impl Recorder for LatestRows {
         self.rows.add(row);
     }
 
+    // After a run of 256 rows or more, the latest 256 rows are all equal.
+    fn add_run(&mut self, row: Row, times: usize) {
+        if times < KEPT {
+            for _ in 0..times {
+                self.add(row);
+            }
+        } else {
+            self.slots.fill(row);
+            self.rows.add_run(row, times);
+        }
+    }
+
     fn count(&self) -> usize {
         self.rows.count()
     }

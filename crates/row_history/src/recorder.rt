@@ -1,11 +1,12 @@
 //! What takes the rows of a schedule.
-ghost use Rattle.std.specs.Prelude.{◌≡◌, ℕ, ◌-◌, ◌<◌, ◌^◌, List, [], ◌∷◌, IfOk, length, reverse, map, vec_capacity};
+ghost use Rattle.std.specs.Prelude.{◌≡◌, ℕ, ◌-◌, ◌<◌, ◌^◌, List, [], ◌≤◌, ◌+◌, ◌∷◌, ◌++◌, IfOk, length, replicate, reverse, vec_capacity};
 ghost use Rattle.mc_task.specs.declared.task.Task.{Task};
 ghost use Rattle.mc_task.specs.declared.task.Rule.{Rule};
 ghost use Rattle.mc_model.specs.declared.row.Row.{Row};
 
 use mc_model::Row;
 use std::alloc::{AllocError, Global};
+use std::marker::Model;
 use std::snapshot::Snapshot;
 
 /// What takes the rows of a schedule, one after another.
@@ -29,6 +30,18 @@ pub trait Recorder: Drop {
         ensures capacity { capacity self.new ≡ capacity self.old }
         ensures set { (set : List Task) (rule : Rule) → is_for self.old set rule → is_for self.new set rule };
 
+    /// Takes this row this many times, one after another.
+    fn add_run(&mut self, row: Row, times: usize)
+        requires room { length (rows self.old) + times ≤ capacity self.old }
+        ensures rows { rows self.new ≡ replicate times row ++ rows self.old }
+        ensures capacity { capacity self.new ≡ capacity self.old }
+        ensures set { (set : List Task) (rule : Rule) → is_for self.old set rule → is_for self.new set rule }
+    {
+        for _ in 0..times {
+            self.add(row);
+        }
+    }
+
     /// How many rows it took.
     fn count(&self) -> usize
         ensures { result ≡ length (rows self.now) };
@@ -51,30 +64,68 @@ impl Recorder for Vec<Row> {
     }
 }
 
-/// The number of rows, without the rows: a snapshot has no bytes, so at run time this is a length, and adding a row counts
-/// it. Clauses see the rows. A recorder of your own that hands its rows on holds one, for its ghost `rows`.
-pub type RowCount = Vec<Snapshot<Row>>;
+// A row that was taken, and how many times in one call.
+#[derive(Clone, Copy, Debug, PartialEq, Eq)]
+struct Taken {
+    row: Row,
+    times: usize,
+}
 
-impl Recorder for Vec<Snapshot<Row>> {
-    ghost rows = { λ v. reverse (map (λ s. s.value) v.items) };
+/// The number of rows, without the rows. Clauses see the rows, as snapshots, which have no bytes: at run time it is two
+/// numbers, and taking a row any number of times is one addition. A recorder of your own that hands its rows on holds one,
+/// for its ghost `rows`.
+#[derive(Drop)]
+pub struct RowCount {
+    taken: Vec<Snapshot<Taken>>,
+    more: usize,
+}
 
-    ghost capacity = { λ v. vec_capacity v };
+// Clauses see the rows, the newest first.
+impl Model for RowCount {
+    ghost use Rattle.std.specs.Prelude.{List};
+    ghost use Rattle.mc_model.specs.declared.row.Row.{Row};
+
+    ghost Value = { List Row };
+
+    ghost use Rattle.row_history.specs.Counted.{counted_rows, IsCount};
+
+    ghost view = { counted_rows };
+
+    ghost invariant = { IsCount };
+}
+
+impl Recorder for RowCount {
+    ghost rows = { λ count. count };
+
+    ghost capacity = { λ _. 2 ^ 62 };
 
     ghost most = { 2 ^ 62 };
 
     fn add(&mut self, row: Row) {
-        self.push_reserved(Snapshot::of(&row));
+        let taken = Taken { row, times: 1 };
+        self.taken.push_reserved(Snapshot::of(&taken));
+    }
+
+    fn add_run(&mut self, row: Row, times: usize) {
+        if times == 0 {
+            return;
+        }
+        let taken = Taken { row, times };
+        self.taken.push_reserved(Snapshot::of(&taken));
+        self.more += times - 1;
     }
 
     fn count(&self) -> usize {
-        self.len()
+        self.taken.len() + self.more
     }
 }
 
 /// No rows, and capacity for 2^62 of them. It allocates nothing then.
 pub fn row_count(alloc: Global) -> Result<RowCount, AllocError>
-    ensures rows { IfOk result (λ count. count.items ≡ []) }
-    ensures capacity { IfOk result (λ count. vec_capacity count ≡ 2 ^ 62) }
+    ensures { IfOk result (λ count. count ≡ []) }
 {
-    Vec::with_capacity(alloc, 1 << 62)
+    Ok(RowCount {
+        taken: Vec::with_capacity(alloc, 1 << 62)?,
+        more: 0,
+    })
 }

@@ -26,11 +26,11 @@ struct Compared {
 }
 
 impl Recorder for Compared {
-    ghost use Rattle.std.specs.Prelude.{◌^◌, map, reverse, vec_capacity};
+    ghost use Rattle.std.specs.Prelude.{◌^◌};
 
-    ghost rows = { λ c. reverse (map (λ s. s.value) c.rows.items) };
+    ghost rows = { λ c. c.rows };
 
-    ghost capacity = { λ c. vec_capacity c.rows };
+    ghost capacity = { λ _. 2 ^ 62 };
 
     ghost most = { 2 ^ 62 };
 

@@ -14,5 +14,5 @@ invariant_of-self g c =
     let a = c.self.inside in
     let handed = c.hand_on-self-inside.ensures in
     one_more (g.W.Lines.written a.out) (g.W.Lines.written c.hand_on-self-inside.new.out) a _ c.args.row c.self.invariant c.add.ensures.rows
-    c.add.ensures.capacity refl handed.set (c.ticks_after-self-inside.ensures (rows_of_live a) c.self.invariant.clock) handed.before handed.watched
+    refl handed.set (c.ticks_after-self-inside.ensures (rows_of_live a) c.self.invariant.clock) handed.before handed.watched
     handed.line
