@@ -1,5 +1,5 @@
 //! The ticks that each task's current job has had.
-ghost use Rattle.std.specs.Prelude.{◌≡◌, ◌+◌, ◌-◌, ◌<◌, map, replicate, length, slice_set, IfOk};
+ghost use Rattle.std.specs.Prelude.{◌≡◌, ◌+◌, ◌-◌, ◌<◌, ◌≤◌, map, replicate, length, slice_set, IfOk};
 ghost use Rattle.budget_ledger.specs.Ledger.{budget};
 
 use mc_task::{Memory, Task, TaskNo, TaskSet};
@@ -90,6 +90,20 @@ impl Used {
         } else {
             Spent::Below
         }
+    }
+
+    /// Counts this many more ticks of the task's current job, and returns how many its own budget leaves it.
+    pub fn spend_many(&mut self, task: TaskNo, count: u32) -> u32
+        requires in_set { HasTask self.old task.0 }
+        requires within { ticks_of self.old task.0 + count ≤ (budget_of self.old task.0).own }
+        ensures answer { result ≡ (budget_of self.old task.0).own - (ticks_of self.old task.0 + count) }
+        ensures state { self.new ≡ with_ticks self.old task.0 (ticks_of self.old task.0 + count) }
+    {
+        let place = task.0 as usize - 1;
+        let Budget { low: _, own } = self.budgets[place];
+        let ticks = self.ticks[place] + count;
+        self.ticks[place] = ticks;
+        own - ticks
     }
 }
 

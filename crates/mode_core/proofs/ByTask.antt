@@ -9,7 +9,7 @@ use Rattle.mc_model.specs.Legal.{is_pending}
 use Rattle.mc_model.proofs.Booleans.{or_true}
 use Rattle.mc_model.proofs.Jobs.{same_live, is_in, head_in, live_eq, job_eq}
 use Rattle.demand_law.specs.OneLive.{pending_of}
-use Rattle.mode_core.specs.Representation.{job_of}
+use Rattle.mode_core.specs.Entries.{job_of}
 
 -- the job that is found for task number k is of that task
 pub job_of-task : (k : ℕ) (xs : List KeptRelease) (x : KeptRelease) → job_of k xs ≡ Some x → x.job.task.0 ≡ k

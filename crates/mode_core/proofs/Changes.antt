@@ -1,5 +1,5 @@
 -- What the slots have after a change.
-use Rattle.std.proofs.Common.{◌≡◌, ℕ, ◌+◌, ◌-◌, ◌<◌, ◌≤◌, true, false, nat_lt, cond, List, Option, Some, None, option_map, length, get_or, refl, sym, ap, ap₂, subst, ◌∙◌, arith, le-ltb, lt-ltb, inl, inr}
+use Rattle.std.proofs.Common.{◌≡◌, ℕ, ◌+◌, ◌-◌, ◌<◌, ◌≤◌, Bool, true, false, nat_lt, cond, List, Option, Some, None, option_map, length, get_or, refl, sym, ap, ap₂, subst, ◌∙◌, arith, le-ltb, lt-ltb, inl, inr}
 use Rattle.std.specs.Prelude.{slice_set}
 use Rattle.std.proofs.lemmas.Bool.{cases_eq, cases_lt}
 use Rattle.std.proofs.lemmas.Bool.Decides.{nat_tests}
@@ -9,7 +9,8 @@ use Rattle.mc_task.specs.declared.task.JobId.{JobId}
 use Rattle.mc_task.specs.TaskSet.{IsIn, task_at}
 use Rattle.mc_model.specs.TaskNumbers.{is_high_in}
 use Rattle.mode_core.specs.declared.pending_jobs.ReleasedJob.{ReleasedJob}
-use Rattle.mode_core.specs.Slots.{Slots, job_at, ticks_at, as_pending, ChangesOnly, GoesHigh}
+use Rattle.mode_core.specs.declared.pending.Pending.{Pending}
+use Rattle.mode_core.specs.Slots.{Slots, job_at, ticks_at, as_pending, number_at, if_low, ChangesOnly, GoesHigh, NotesDiscarded}
 use Rattle.mode_core.proofs.Options.{map-cond, same-cond}
 
 -- a job that begins changes only its task's slot
@@ -41,8 +42,8 @@ ended s k inside rooms = record {
 }
 
 -- setting the mode high and clearing the slots of the low tasks is the change to high mode
-pub switched : (s : Slots) (after : List (Option ReleasedJob)) → ((k : ℕ) → 1 ≤ k → job_at after k ≡ cond (is_high_in (task_at s.set k)) (job_at s.jobs k) None) → GoesHigh s (record s { high = true; jobs = after })
-switched s after cleared = record {
+pub switched : (s : Slots) (after : List (Option ReleasedJob)) (numbers : List (Option ℕ)) → ((k : ℕ) → 1 ≤ k → job_at after k ≡ cond (is_high_in (task_at s.set k)) (job_at s.jobs k) None) → GoesHigh s (record s { high = true; jobs = after; discarded = numbers })
+switched s after numbers cleared = record {
   same_set = refl;
   same_rule = refl;
   mode = refl;
@@ -83,3 +84,54 @@ cleared_all ts jobs now len at k first = elim (cases_lt (k - 1) (length jobs)) [
       subst (λ (n : ℕ). job_at now k ≡ cond (is_high_in (task_at ts n)) (job_at jobs k) None) number (rw (lt-ltb (k - 1) (length jobs) h) at (at (k - 1)))
   | inr h ↦ rw (get_or_past now (k - 1) None (omega arith), get_or_past jobs (k - 1) None h) (sym (same-cond (is_high_in (task_at ts k)) None))
 ]
+
+-- the numbers of discarded jobs, noted one by one
+
+-- the number that stands for slot i once those below slot n are noted
+abbrev pub noted : List Task → List (Option ReleasedJob) → List (Option ℕ) → ℕ → ℕ → Option ℕ
+noted ts jobs old n i = cond (nat_lt i n) (if_low ts (i + 1) (get_or jobs i None)) (get_or old i None)
+
+-- before the first step nothing is noted
+pub noted_start : (ts : List Task) (jobs : List (Option ReleasedJob)) (old : List (Option ℕ)) (i : ℕ) → get_or old i None ≡ noted ts jobs old 0 i
+noted_start ts jobs old i = let none : nat_lt i 0 ≡ false = grind (arith, nat_tests) in rw none refl
+
+-- one more step notes slot n
+pub noted_more :
+    (ts : List Task) (jobs : List (Option ReleasedJob)) (old now : List (Option ℕ)) (n : ℕ) (o : Option ℕ) → n < length now → ((i : ℕ) → get_or now i None ≡ noted ts jobs old n i) →
+    o ≡ if_low ts (n + 1) (get_or jobs n None) → (i : ℕ) → get_or (slice_set now n o) i None ≡ noted ts jobs old (n + 1) i
+noted_more ts jobs old now n o within before e i = elim (cases_eq i n) [
+  | inl d ↦
+      subst (λ (m : ℕ). get_or (slice_set now n o) m None ≡ noted ts jobs old (n + 1) m) (sym d)
+      (rw (lt-ltb n (n + 1) (omega arith)) (get_or-set_same now n o None within ∙ e))
+  | inr d ↦
+      let same : nat_lt i (n + 1) ≡ nat_lt i n = grind (arith, nat_tests) in
+      rw same (get_or-set_other now n i o None d ∙ before i)
+]
+
+-- of a high task or of no job there is no number
+no_number : (ts : List Task) (k : ℕ) → if_low ts k None ≡ None
+no_number ts k = same-cond (is_high_in (task_at ts k)) None
+
+-- after the last step each slot is noted
+pub noted_all :
+    (ts : List Task) (jobs : List (Option ReleasedJob)) (old now : List (Option ℕ)) → length now ≡ length jobs → ((i : ℕ) → get_or now i None ≡ noted ts jobs old (length jobs) i) →
+    (k : ℕ) → 1 ≤ k → number_at now k ≡ if_low ts k (job_at jobs k)
+noted_all ts jobs old now len at k first = elim (cases_lt (k - 1) (length jobs)) [
+  | inl h ↦
+      let number : (k - 1) + 1 ≡ k = omega arith in
+      subst (λ (n : ℕ). number_at now k ≡ if_low ts n (job_at jobs k)) number (rw (lt-ltb (k - 1) (length jobs) h) at (at (k - 1)))
+  | inr h ↦ rw (get_or_past now (k - 1) None (omega arith), get_or_past jobs (k - 1) None h) (sym (no_number ts k))
+]
+
+-- the job of task number k by its number, if the task is a low one
+low_job : (s : Slots) (k : ℕ) (b : Bool) (o : Option ReleasedJob) →
+    option_map (λ n. let j : JobId = record { task = record { 0 = k }; count = n } in j) (cond b None (option_map (λ j. j.count) o)) ≡ cond b None (option_map (λ (p : Pending). p.job) (option_map (as_pending k (ticks_at s k)) o))
+low_job s k true o = refl
+low_job s k false None = refl
+low_job s k false (Some j) = refl
+
+-- with their numbers noted, the jobs that an overrun discards are noted
+pub noted_jobs :
+    (s : Slots) (numbers : List (Option ℕ)) (jobs : List (Option ReleasedJob)) → ((k : ℕ) → 1 ≤ k → number_at numbers k ≡ if_low s.set k (job_at s.jobs k)) →
+    NotesDiscarded s (record s { high = true; jobs = jobs; discarded = numbers }) true
+noted_jobs s numbers jobs at k i = ap (option_map (λ n. let j : JobId = record { task = record { 0 = k }; count = n } in j)) (at k i.0) ∙ low_job s k (is_high_in (task_at s.set k)) (job_at s.jobs k)

@@ -1,5 +1,5 @@
 -- The job that runs first among the slots is the pending job that runs first.
-use Rattle.std.proofs.Common.{◌≡◌, ℕ, Bool, true, false, List, Option, Some, None, IfSome, IfNone, option_map, refl, sym, ap, subst, ◌∙◌, arith}
+use Rattle.std.proofs.Common.{◌≡◌, ℕ, ◌≤◌, Bool, true, false, List, Option, Some, None, IfSome, IfNone, option_map, refl, sym, ap, subst, ◌∙◌, arith}
 use Rattle.std.proofs.lemmas.Bool.Decides.{nat_tests}
 use Rattle.std.proofs.lemmas.Option.{same_Some, none-some}
 use Rattle.std.specs.List.{AllByRecursion}
@@ -7,6 +7,8 @@ use Rattle.mc_task.specs.declared.task.Rule.{Rule}
 use Rattle.mc_task.specs.declared.task.Task.{Task}
 use Rattle.mc_task.specs.TaskSet.{IsTask, IsIn}
 use Rattle.mc_model.specs.declared.row.Row.{Row}
+use Rattle.mc_model.specs.Rows.{ticks}
+use Rattle.mc_model.specs.Legal.{Legal}
 use Rattle.mc_model.specs.Mode.{high_mode}
 use Rattle.mc_model.specs.Pending.{KeptRelease, pending}
 use Rattle.mc_model.specs.Core.{runs_before, first_to_run}
@@ -15,9 +17,9 @@ use Rattle.mc_model.proofs.Jobs.{is_in, each_in}
 use Rattle.mc_model.proofs.Live.{IsLiveOk}
 use Rattle.demand_law.proofs.Laws.{at_most_one}
 use Rattle.mode_core.specs.declared.pending.Pending.{Pending}
-use Rattle.mode_core.specs.Entries.{entry, kept_release_of}
+use Rattle.mode_core.specs.Entries.{entry, kept_release_of, job_of}
 use Rattle.mode_core.specs.Slots.{Slots, waiting, IsQuiet, RunsFirst}
-use Rattle.mode_core.specs.Representation.{job_of, IsTally}
+use Rattle.mode_core.specs.Representation.{IsTally}
 use Rattle.mode_core.proofs.ByTask.{job_of-in, job_of-one}
 use Rattle.mode_core.proofs.Chosen.{IsFirst, is_first, none_runs}
 use Rattle.mode_core.proofs.Options.{mapped}
@@ -68,3 +70,12 @@ first_pending h s t o tasks holds y some none = go o some none (first_to_run s.s
         let empty = ap (λ (is : List KeptRelease). option_map (entry h) (job_of p.job.task.0 is)) (none_runs s.set s.rule (high_mode s.rule h) xs e) in
         absurd (none-some p (sym empty ∙ (sym (y.slots_are p.job.task.0 some.inside) ∙ some.there)))
     go (Some p) some none (Some x) e = both p x some (is_first s.set s.rule (high_mode s.rule h) xs x e)
+
+-- the pending job of a task was released by the present tick
+pub released_by :
+    (set : List Task) (rule : Rule) (h : List Row) (n k : ℕ) → AllByRecursion IsTask set → Legal set rule h → ticks h ≤ n → (o : Option KeptRelease) →
+    ((x : KeptRelease) → o ≡ Some x → job_of k (pending set h) ≡ Some x) → IfSome (option_map (entry h) o) (λ (p : Pending). p.release ≤ n)
+released_by set rule h n k tasks l few None is = tt
+released_by set rule h n k tasks l few (Some x) is =
+    let past : x.release ≤ ticks h = (each_in (IsLiveOk set rule h) x (pending set h) (job_of-in k (pending set h) x (is x refl)) (each_ok set rule h tasks l)).past in
+    omega (arith, past, few)

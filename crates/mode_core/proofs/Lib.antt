@@ -17,6 +17,8 @@ pub mod Opened
 pub mod Sound
 pub mod Writes
 pub mod CoreSteps
+pub mod Going
+pub mod Discards
 pub mod Releasing
 pub mod ChoiceLaw
 pub mod FewHeld

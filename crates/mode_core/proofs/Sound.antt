@@ -36,7 +36,7 @@ may_release s k sound e =
     record { soon = ltb-false _ _ (not_if _ _ p.0); room = room_left s sound left.0; few = leb-false _ _ left.1 }
 
 -- a sound state stays sound with other rows, granted tick and held releases that are good and within the capacity
-sound_with : {n : ℕ} (s : State) (rows : List Row) (out : Option JobId) (held : List JobId) → IsSoundUpTo n s → Good (record s { rows = rows; out = out; held = held }) →
+pub sound_with : {n : ℕ} (s : State) (rows : List Row) (out : Option JobId) (held : List JobId) → IsSoundUpTo n s → Good (record s { rows = rows; out = out; held = held }) →
     length rows + length held + tick_out out ≤ s.places → IsSoundUpTo n (record s { rows = rows; out = out; held = held })
 sound_with s rows out held sound good room = record { tasks = sound.tasks; fits = sound.fits; holds = sound.holds; good = good; range = sound.range; small = sound.small; room = room }
 

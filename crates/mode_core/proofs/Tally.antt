@@ -26,9 +26,9 @@ use Rattle.mc_model.proofs.Bridge.{bridge, pending-tick}
 use Rattle.mc_model.proofs.Steps.{release_fits, TickFits, tick_fits, idle_fits, Hows, more, done, stop, over, hows}
 use Rattle.demand_law.proofs.Laws.{at_most_one, none_at_release}
 use Rattle.mode_core.specs.declared.pending.Pending.{Pending}
-use Rattle.mode_core.specs.Entries.{entry}
+use Rattle.mode_core.specs.Entries.{entry, job_of}
 use Rattle.mode_core.specs.Slots.{Slots, job_at, ticks_at, as_pending, waiting, ChangesOnly, IsLeft, is_left, one_more}
-use Rattle.mode_core.specs.Representation.{job_of, IsTally}
+use Rattle.mode_core.specs.Representation.{IsTally}
 use Rattle.mode_core.proofs.Options.{mapped, map-cond, same-cond}
 use Rattle.mode_core.proofs.ByTask.{job_of-task, job_of-none, job_of-one, left, job_of-filter, IsThere, pending_there}
 use Rattle.mode_core.proofs.Fits.{each_ok}
@@ -120,7 +120,7 @@ ticking_line s h t m j how tasks holds l y =
     ap (used h) (sym k.job) ∙ pending_ticks s j.task.0 (entry h k.kept) (y.slots_are j.task.0 l.0 ∙ ap (option_map (entry h)) k.there)
 
 -- the job of task number k is the job that ticks exactly if k is the task of the job that ticks
-is_it : (set : List Task) (h : List Row) (j : JobId) (k : ℕ) (x : KeptRelease) → Ticks set h j → job_of k (pending set h) ≡ Some x → same_job j x.job ≡ (j.task.0 == k)
+pub is_it : (set : List Task) (h : List Row) (j : JobId) (k : ℕ) (x : KeptRelease) → Ticks set h j → job_of k (pending set h) ≡ Some x → same_job j x.job ≡ (j.task.0 == k)
 is_it set h j k x t e = elim (cases_eq j.task.0 k) [
   | inl m ↦ let a : t.kept ≡ x = same_Some t.kept x (sym t.there ∙ (ap (λ n. job_of n (pending set h)) m ∙ e)) in
       rw (eq-eqb _ _ m) (subst (λ (i : JobId). same_job j i ≡ true) (cc (a, t.job)) (same_job-refl j))

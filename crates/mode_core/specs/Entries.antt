@@ -1,5 +1,5 @@
 -- A pending job, as callers see it, and as it is queued.
-use Rattle.std.specs.Prelude.{ℕ, Bool, true, List}
+use Rattle.std.specs.Prelude.{ℕ, Bool, true, List, Option, find, ◌==◌}
 use Rattle.mc_task.specs.declared.task.Task.{Task}
 use Rattle.mc_task.specs.declared.task.Rule.{Rule}
 use Rattle.mc_task.specs.TaskSet.{task_at}
@@ -14,6 +14,10 @@ use Rattle.mode_core.specs.declared.pending.Pending.{Pending}
 -- the job with the ticks that it had in these rows
 abbrev pub entry : List Row → KeptRelease → Pending
 entry h x = record { job = x.job; release = x.release; used = used h x.job }
+
+-- the pending job of task number k
+abbrev pub job_of : ℕ → List KeptRelease → Option KeptRelease
+job_of k jobs = find (λ i. i.job.task.0 == k) jobs
 
 -- the job with its release time alone
 abbrev pub kept_release_of : Pending → KeptRelease

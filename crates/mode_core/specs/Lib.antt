@@ -1,4 +1,5 @@
 pub mod Events
+pub mod Runs
 pub mod Written
 pub mod Entries
 pub mod Slots
@@ -8,3 +9,5 @@ pub mod Shape
 pub mod Choice
 pub mod Timely
 pub mod OneLive
+pub mod Discarded
+pub mod PendingJob

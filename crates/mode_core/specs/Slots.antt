@@ -15,14 +15,15 @@ use Rattle.mode_core.specs.declared.pending.Pending.{Pending}
 use Rattle.mode_core.specs.declared.pending_jobs.ReleasedJob.{ReleasedJob}
 use Rattle.mode_core.specs.Entries.{kept_release_of}
 
--- the set and the rule, whether the mode is high, and task by task the pending job and the ticks that are
--- counted
+-- the set and the rule, whether the mode is high, and task by task the pending job, the ticks that are counted,
+-- and the number of the job that the latest overrun discarded
 pub record Slots : Type 0 where
   pub set : List Task
   pub rule : Rule
   pub high : Bool
   pub jobs : List (Option ReleasedJob)
   pub ticks : List ℕ
+  pub discarded : List (Option ℕ)
 
 -- the pending job of task number k
 abbrev pub job_at : List (Option ReleasedJob) → ℕ → Option ReleasedJob
@@ -49,7 +50,24 @@ free_slots set rule = record {
   high = false;
   jobs = replicate (length set) None;
   ticks = replicate (length set) 0;
+  discarded = replicate (length set) None;
 }
+
+-- the number that stands for task number k
+abbrev pub number_at : List (Option ℕ) → ℕ → Option ℕ
+number_at numbers k = slice_index_or numbers (k - 1) None
+
+-- the number of the job of task number k, if the task is a low one
+abbrev pub if_low : List Task → ℕ → Option ReleasedJob → Option ℕ
+if_low set k job = cond (is_high_in (task_at set k)) None (option_map (λ j. j.count) job)
+
+-- the job of task number k that the latest overrun discarded
+abbrev pub discarded_at : Slots → ℕ → Option JobId
+discarded_at s k = option_map (λ n. record { task = record { 0 = k }; count = n }) (number_at s.discarded k)
+
+-- the job of task number k that an overrun would discard now: the pending job of a low task
+abbrev pub discards_now : Slots → ℕ → Option JobId
+discards_now s k = cond (is_high_in (task_at s.set k)) None (option_map (λ p. p.job) (waiting s k))
 
 -- task number k has this pending job now, and nothing else changed
 pub record ChangesOnly (old new : Slots) (k : ℕ) (entry : Option Pending) : Type 0 where
@@ -62,6 +80,15 @@ pub record ChangesOnly (old new : Slots) (k : ℕ) (entry : Option Pending) : Ty
 -- the job has had one more tick
 abbrev pub one_more : Pending → Pending
 one_more p = record p { used = p.used + 1 }
+
+-- the job has had n more ticks
+abbrev pub more_by : ℕ → Pending → Pending
+more_by n p = record p { used = p.used + n }
+
+-- an overrun from these slots notes the jobs that it discards, and another outcome of a tick notes none
+abbrev pub NotesDiscarded : Slots → Slots → Bool → Type 0
+NotesDiscarded old new over = (k : ℕ) → IsIn old.set k
+    → discarded_at new k ≡ cond over (discards_now old k) (discarded_at old k)
 
 -- the mode is high, no low task has a pending job, and nothing else changed
 pub record GoesHigh (old new : Slots) : Type 0 where

@@ -54,6 +54,42 @@ pub enum IdleFault {
     Full,
 }
 
+/// A pending job of a task.
+#[derive(Clone, Copy, Debug, PartialEq, Eq)]
+pub struct PendingJob {
+    pub job: JobId,
+    /// Its release time.
+    pub release: u64,
+    /// The number of ticks before its deadline, which is its task's period after the release.
+    pub deadline: u64,
+    /// The key by which it competes in the present mode, in parts of a tick, as `virtual_key::key` returns it: the job
+    /// with the least key is the chosen one.
+    pub key: u128,
+    /// How many ticks it has had.
+    pub used: u32,
+}
+
+/// Which job runs, and the greatest number of ticks that it may run in one go: the last of them is the job's last, or an
+/// overrun, unless the job is done before.
+#[derive(Clone, Copy, Debug, PartialEq, Eq)]
+pub struct Boundary {
+    pub job: JobId,
+    pub ticks: u32,
+}
+
+/// Why a run of ticks is refused, in the order in which the reasons are tried.
+#[derive(Clone, Copy, Debug, PartialEq, Eq)]
+pub enum RunFault {
+    /// This job has a granted tick.
+    TickOut { job: JobId },
+    /// The chosen job is another one; no job is chosen if none is pending.
+    NotChosen { chosen: Option<JobId> },
+    /// The run passes the job's boundary, up to which the job may run this many ticks.
+    Past { most: u32 },
+    /// The capacity that is left is less than the run.
+    Full,
+}
+
 /// An outcome was given for a job without a granted tick.
 #[derive(Clone, Copy, Debug, PartialEq, Eq)]
 pub struct NotOut {

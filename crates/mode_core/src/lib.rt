@@ -8,5 +8,7 @@ mod schedule_log;
 mod scheduler;
 mod steps;
 
-pub use answers::{GrantFault, Granted, IdleFault, NotOut, ReleaseFault, Released};
+pub use answers::{
+    Boundary, GrantFault, Granted, IdleFault, NotOut, PendingJob, ReleaseFault, Released, RunFault,
+};
 pub use scheduler::Core;

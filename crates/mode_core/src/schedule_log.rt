@@ -1,20 +1,23 @@
 //! The rows of a schedule, and what the scheduler stores beside them: the clock, the mode and the pending job of each
 //! task.
-ghost use Rattle.std.specs.Prelude.{◌≡◌, ◌<◌, ◌≤◌, ◌^◌, ◌∷◌, [], length, option_map, IfOk};
+ghost use Rattle.std.specs.Prelude.{◌≡◌, ◌+◌, ◌<◌, ◌≤◌, ◌^◌, ◌∷◌, ◌++◌, [], length, replicate, option_map, Some, IfOk, IfSome};
 ghost use Rattle.mc_model.specs.declared.row.Row.TheVariants as row;
-ghost use Rattle.mode_core.specs.Entries.{entry};
+ghost use Rattle.mode_core.specs.Entries.{entry, job_of};
+ghost use Rattle.mode_core.specs.Discarded.{discarded};
 ghost use Rattle.mc_model.specs.Holds.{Fits, Holds};
-ghost use Rattle.mc_task.specs.TaskSet.{AreTasks};
+ghost use Rattle.mc_task.specs.TaskSet.{AreTasks, IsIn};
 ghost use Rattle.mc_model.specs.Legal.{Legal};
-ghost use Rattle.mc_model.specs.Rows.{ticks};
+ghost use Rattle.mc_model.specs.Rows.{ticks, used};
 ghost use Rattle.mc_model.specs.Mode.{high_mode};
 ghost use Rattle.mc_model.specs.Pending.{pending};
-ghost use Rattle.mc_model.specs.Core.{first_to_run, outcome_of};
+ghost use Rattle.mc_model.specs.declared.row.How.TheVariants.{More};
+ghost use Rattle.mc_model.specs.Core.{chosen, first_to_run, outcome_of};
+ghost use Rattle.mode_core.specs.Runs.{ticks_left};
 
 use crate::pending::Pending;
 use crate::pending_jobs::PendingJobs;
 use mc_model::{How, Row};
-use mc_task::{JobId, Memory, Rule, TaskSet};
+use mc_task::{JobId, Memory, Rule, TaskNo, TaskSet};
 use row_history::Recorder;
 use std::alloc::Global;
 use std::marker::Model;
@@ -154,6 +157,40 @@ impl<R: Recorder> ScheduleLog<R> {
         how
     }
 
+    /// Writes this many ticks of the chosen job, which goes on after each of them.
+    pub fn push_more(&mut self, job: JobId, count: u32)
+        requires chosen { chosen self.old.set self.old.rule self.old.rows ≡ Some job }
+        requires left { count < ticks_left self.old.set self.old.rule self.old.rows job }
+        requires room { length self.old.rows + count ≤ self.old.places }
+        ensures { self.new ≡ record self.old { rows = replicate count (row.Tick job More) ++ self.old.rows } }
+    {
+        self.pending_jobs.tick_many(job, count);
+        let how = How::More;
+        self.recorder
+            .add_run(Row::Tick { job, how }, count as usize);
+        self.ticks += count as u64;
+    }
+
+    /// Writes this many idle ticks, at least one, after which the mode is low.
+    pub fn push_idles(&mut self, count: usize)
+        requires some { 1 ≤ count }
+        requires none { pending self.old.set self.old.rows ≡ [] }
+        requires room { length self.old.rows + count ≤ self.old.places }
+        ensures { self.new ≡ record self.old { rows = replicate count row.Idle ++ self.old.rows } }
+    {
+        self.recorder.add_run(Row::Idle, count);
+        self.ticks += count as u64;
+        self.pending_jobs.calm();
+    }
+
+    /// How many ticks this pending job may have, up to the tick that is its last or an overrun.
+    pub fn left(&self, job: &Pending) -> u32
+        requires { job.now.used ≡ used self.now.rows job.now.job }
+        ensures { result ≡ ticks_left self.now.set self.now.rule self.now.rows job.now.job }
+    {
+        self.pending_jobs.left(job.job.task, job.used)
+    }
+
     /// The pending job that runs first.
     pub fn first(&self) -> Option<Pending>
         ensures { result ≡ option_map (entry self.now.rows)
@@ -161,6 +198,23 @@ impl<R: Recorder> ScheduleLog<R> {
             (pending self.now.set self.now.rows)) }
     {
         self.pending_jobs.first()
+    }
+
+    /// The task's pending job.
+    pub fn of_task(&self, task: TaskNo) -> Option<Pending>
+        requires { IsIn self.now.set task.0 }
+        ensures value { result ≡ option_map (entry self.now.rows) (job_of task.0 (pending self.now.set self.now.rows)) }
+        ensures released { IfSome result (λ p. p.release ≤ 2 ^ 62) }
+    {
+        self.pending_jobs.of_task(task)
+    }
+
+    /// The job of the task that the latest overrun discarded.
+    pub fn discarded(&self, task: TaskNo) -> Option<JobId>
+        requires { IsIn self.now.set task.0 }
+        ensures { result ≡ discarded self.now.set self.now.rows task.0 }
+    {
+        self.pending_jobs.discarded(task)
     }
 
     /// The task set.

@@ -1,24 +1,31 @@
 //! The scheduler's state, and what can be read of it.
-ghost use Rattle.std.specs.Prelude.{◌≡◌, ◌<◌, ◌≤◌, ◌^◌, [], reverse, All, IfOk, IfSome};
+ghost use Rattle.std.specs.Prelude.{◌≡◌, ◌+◌, ◌<◌, ◌≤◌, ◌^◌, [], Some, reverse, All, IfOk, IfSome};
 ghost use Rattle.mc_task.specs.TaskSet.{IsIn};
 ghost use Rattle.mc_model.specs.Holds.{Fits, Holds};
 ghost use Rattle.mc_model.specs.Legal.{Legal, IsOfSet};
 ghost use Rattle.mc_model.specs.Rows.{ticks};
 ghost use Rattle.mc_model.specs.Mode.{high_mode};
-ghost use Rattle.mc_model.specs.Core.{begun, chosen};
+ghost use Rattle.mc_model.specs.Core.{begun, chosen, places_used};
 ghost use Rattle.mode_core.specs.Choice.{IsChoice};
 ghost use Rattle.mode_core.specs.Events.{empty_state, is_full};
+ghost use Rattle.mode_core.specs.PendingJob.{pending_job};
+ghost use Rattle.mode_core.specs.Discarded.{discarded};
+ghost use Rattle.mc_model.specs.Key.{key_of};
 
 mod release;
+mod run;
 mod tick;
 
+use crate::PendingJob;
+use crate::pending::Pending;
 use crate::schedule_log::ScheduleLog;
 use arrivals::Arrivals;
 use mc_model::Row;
-use mc_task::{JobId, Memory, Rule, TaskSet};
+use mc_task::{JobId, Memory, Rule, Task, TaskNo, TaskSet};
 use row_history::Recorder;
 use std::alloc::Global;
 use std::marker::Model;
+use virtual_key::key;
 
 /// A schedule as it grows, one event a call. Contracts see the set, the rule, the capacity in rows, the rows, the job
 /// of the granted tick, and the releases that are held until its outcome.
@@ -182,6 +189,27 @@ impl<R: Recorder> Core<R> {
         }
     }
 
+    /// The task's pending job, if it has one. A job of a release that was held until an outcome is pending after it
+    /// exactly if the release was kept.
+    pub fn pending_job(&self, task: TaskNo) -> Option<PendingJob>
+        requires in_set { IsIn self.now.set task.0 }
+        ensures { result ≡ pending_job self.now task.0 }
+    {
+        match (self.log.of_task(task), self.set().get(task)) {
+            (Some(pending), Some(t)) => Some(seen_job(self.rule(), self.high_mode(), &t, pending)),
+            _ => None,
+        }
+    }
+
+    /// The job of the task that the latest overrun discarded: none if the task is a high one, if it had no pending job
+    /// then, and if there was no overrun.
+    pub fn discarded(&self, task: TaskNo) -> Option<JobId>
+        requires in_set { IsIn self.now.set task.0 }
+        ensures { result ≡ discarded self.now.set self.now.rows task.0 }
+    {
+        self.log.discarded(task)
+    }
+
     /// The capacity in rows.
     pub fn places(&self) -> usize
         ensures value { result ≡ self.now.places }
@@ -208,10 +236,41 @@ impl<R: Recorder> Core<R> {
     fn is_full(&self) -> bool
         ensures { result ≡ is_full self.now }
     {
+        self.places_used() == self.log.places()
+    }
+
+    // How much of the capacity is used: by rows, by held releases, and by a granted tick.
+    fn places_used(&self) -> usize
+        ensures value { result ≡ places_used self.now }
+        ensures range { self.now.places ≤ 2 ^ 62 }
+        ensures room { result ≤ self.now.places }
+    {
         let out = match self.out {
             Some(_) => 1,
             None => 0,
         };
-        self.log.len() + self.held.len() + out == self.log.places()
+        self.log.len() + self.held.len() + out
+    }
+}
+
+// What a caller sees of a pending job of the task.
+fn seen_job(rule: Rule, high_mode: bool, task: &Task, pending: Pending) -> PendingJob
+    requires fits { Fits rule }
+    requires range { pending.release ≤ 2 ^ 62 }
+    ensures { result ≡ record {
+      job = pending.job;
+      release = pending.release;
+      deadline = pending.release + task.now.period;
+      key = key_of rule high_mode (Some task.now) pending.release;
+      used = pending.used;
+    } }
+{
+    let Pending { job, release, used } = pending;
+    PendingJob {
+        job,
+        release,
+        deadline: release + u64::from(task.period),
+        key: key(rule, high_mode, task, release),
+        used,
     }
 }

@@ -62,8 +62,9 @@ impl<R: Recorder> Core<R> {
         self.arrivals.count(task)
     }
 
-    // The boundary from which the task may be released.
-    fn next_allowed(&self, task: TaskNo) -> u64
+    /// The earliest next release of the task: before this boundary a release is too soon. It is 0 before the task's first
+    /// release, and then the last release time plus the period.
+    pub fn next_allowed(&self, task: TaskNo) -> u64
         requires in_set { IsIn self.now.set task.0 }
         ensures { result ≡ next self.now task.0 }
     {

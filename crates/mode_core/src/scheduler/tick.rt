@@ -52,7 +52,7 @@ impl<R: Recorder> Core<R> {
     }
 
     // A grant that is not refused.
-    fn put_out(&mut self, task: TaskNo) -> Granted
+    pub(super) fn put_out(&mut self, task: TaskNo) -> Granted
         requires none { grant_refusal self.old task.0 ≡ None }
         ensures answer { result ≡ granted self.old (job_in (chosen_now self.old)) }
         ensures state { self.new ≡ record self.old { out = chosen_now self.old } }
@@ -107,7 +107,7 @@ impl<R: Recorder> Core<R> {
 
     // An outcome that is not refused.
     #[inline(always)]
-    fn end_tick(&mut self, job: JobId, done: bool) -> How
+    pub(super) fn end_tick(&mut self, job: JobId, done: bool) -> How
         requires none { outcome_refusal self.old job ≡ None }
         ensures answer { result ≡ outcome_of self.old.set self.old.rule self.old.rows job done }
         ensures state { self.new ≡ record self.old { rows = settle self.old done; out = None; held = [] } }

@@ -34,6 +34,7 @@ invariant_of-self c =
       slots = length-set a.jobs.items (k - 1) (Some j) ∙ c.self.invariant.slots;
       lines = ap (λ (l : Ledger). length l.ticks) c.start.ensures ∙ (length-set a.used.ticks (k - 1) 0 ∙ c.self.invariant.lines);
       budgets = ap (λ (l : Ledger). l.budgets) c.start.ensures ∙ c.self.invariant.budgets;
+      discards = c.self.invariant.discards;
       places = ap (λ (q : Queue). q.places) c.insert.ensures ∙ c.self.invariant.places;
       queued =
           subst (λ (q : Queue). AreQueued a.set.tasks a.rule a.high jobs q.items) (sym c.insert.ensures)
@@ -41,8 +42,8 @@ invariant_of-self c =
           (queued_begin a.set.tasks a.rule a.high a.jobs.items a.queue.items k j c.self.invariant.queued inside (omega (arith, inside.1, c.self.invariant.slots)) free));
     }
 
-pub returns : goal.returns
-returns c =
+pub returns-clause-state : goal.returns-clause-state
+returns-clause-state c =
     let a = c.self.inside in
     let k = c.args.job.task.0 in
     let inside : IsIn a.set.tasks k = subst (λ (s : Slots). IsIn s.set k) (sym c.self.view_is) c.requires.in_set in

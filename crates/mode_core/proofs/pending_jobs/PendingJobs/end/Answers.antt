@@ -22,13 +22,14 @@ invariant_of-self c =
       slots = length-set a.jobs.items (c.args.task.0 - 1) none ∙ c.self.invariant.slots;
       lines = c.self.invariant.lines;
       budgets = c.self.invariant.budgets;
+      discards = c.self.invariant.discards;
       places = ap (λ (q : Queue). q.places) c.remove.ensures.state ∙ c.self.invariant.places;
       queued =
           subst (λ (q : Queue). AreQueued a.set.tasks a.rule a.high jobs q.items) (sym c.remove.ensures.state)
           (queued_end a.set.tasks a.rule a.high a.jobs.items a.queue.items c.args.task.0 c.self.invariant.queued inside (omega (arith, inside.1, c.self.invariant.slots)));
     }
 
-pub returns : goal.returns
-returns c =
+pub returns-clause-slots : goal.returns-clause-slots
+returns-clause-slots c =
     let inside : IsIn c.self.inside.set.tasks c.args.task.0 = subst (λ (s : Slots). IsIn s.set c.args.task.0) (sym c.self.view_is) c.requires in
     subst (λ (s : Slots). ChangesOnly s (record (slots_of c.self.inside) { jobs = slice_set c.self.inside.jobs.items (c.args.task.0 - 1) None }) c.args.task.0 None) c.self.view_is (ended (slots_of c.self.inside) c.args.task.0 inside c.self.invariant.slots)

@@ -5,6 +5,7 @@ use Rattle.mode_core.specs.Slots.{Slots, waiting}
 use Rattle.mode_core.specs.Written.{Written}
 use Rattle.mode_core.specs.Representation.{IsTally}
 use Rattle.mode_core.proofs.Tally.{quiet, tally_idle}
+use Rattle.mode_core.proofs.Discards.{noted_still}
 use Rattle.mode_core.proofs.Opened.{opened_legal, opened_room, clock_small, room_for_one, one_more_seen, one_more_kept}
 use Rattle.mode_core.proofs.schedule_log.ScheduleLog.push_idle.Goals as goal
 
@@ -31,6 +32,7 @@ invariant_of-self g c =
     c.add.ensures.capacity c.add.ensures.set
     (subst (λ (x : Slots). IsTally s.set s.rule (row.Idle ∷ h) (a.ticks + 1) x.high (waiting x)) (sym c.calm.ensures)
     (tally_idle s.set s.rule h a.ticks s.high (waiting s) l c.self.invariant.tally))
+    (noted_still s c.calm.new.self h (row.Idle ∷ h) (ap (λ (x : Slots). x.set) c.calm.ensures) (ap (λ (x : Slots). x.discarded) c.calm.ensures) (λ k. refl) c.self.invariant.discards)
 
 pub returns : goal.returns
 returns g c =

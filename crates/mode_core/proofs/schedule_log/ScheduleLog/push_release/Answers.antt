@@ -6,6 +6,7 @@ use Rattle.mode_core.specs.Slots.{Slots, waiting}
 use Rattle.mode_core.specs.Written.{Written}
 use Rattle.mode_core.specs.Representation.{IsTally}
 use Rattle.mode_core.proofs.Tally.{slot_free, began, tally_dropped}
+use Rattle.mode_core.proofs.Discards.{noted_still}
 use Rattle.mode_core.proofs.Opened.{opened_legal, opened_room, clock_small, room_for_one, one_more_seen, one_more_kept}
 use Rattle.mode_core.proofs.schedule_log.ScheduleLog.push_release.Goals as goal
 
@@ -32,17 +33,18 @@ invariant_of-self g c =
     let s : Slots = a.pending_jobs in
     let l = opened_legal h a c.args.self.now (λ w. row.Release c.args.job c.args.kept) c.self.view_is c.requires.legal in
     let k = c.if-kept.true in
-    let e = c.begin.ensures in
+    let e = c.begin.ensures.state in
     one_more_kept h _ a _ (row.Release c.args.job c.args.kept) _ _ _ _ c.self.invariant (opened_room h a c.args.self.now c.self.view_is c.requires.room)
     (record { set = e.same_set; rule = e.same_rule; places = refl; rows = c.add.ensures.rows })
     c.add.ensures.capacity c.add.ensures.set
     (subst (λ (b : Bool). IsTally s.set s.rule (row.Release c.args.job b ∷ h) a.ticks c.begin.new.self.high (waiting c.begin.new.self)) (sym k)
     (began s c.begin.new.self h a.ticks c.args.job (subst (λ (b : Bool). Legal s.set s.rule (row.Release c.args.job b ∷ h)) k l) e c.self.invariant.tally))
+    (noted_still s c.begin.new.self h (row.Release c.args.job c.args.kept ∷ h) e.same_set c.begin.ensures.discarded (λ k. refl) c.self.invariant.discards)
 
 pub returns-then-kept : goal.returns-then-kept
 returns-then-kept g c =
     let a = c.self.inside in
-    let e = c.begin.ensures in
+    let e = c.begin.ensures.state in
     one_more_seen (g.R.Recorder.rows a.recorder) _ a (record a { recorder = c.add.new.self; pending_jobs = c.begin.new.self }) (row.Release c.args.job c.args.kept)
     (record { set = e.same_set; rule = e.same_rule; places = refl; rows = c.add.ensures.rows })
     ∙ ap (λ (w : Written). let v : Written = record w { rows = row.Release c.args.job c.args.kept ∷ w.rows } in v) c.self.view_is
@@ -59,3 +61,4 @@ invariant_of-self-else-kept g c =
     c.add.ensures.capacity c.add.ensures.set
     (subst (λ (b : Bool). IsTally s.set s.rule (row.Release c.args.job b ∷ h) a.ticks s.high (waiting s)) (sym k)
     (tally_dropped s.set s.rule h a.ticks s.high (waiting s) c.args.job (subst (λ (b : Bool). Legal s.set s.rule (row.Release c.args.job b ∷ h)) k l) c.self.invariant.tally))
+    (noted_still s s h (row.Release c.args.job c.args.kept ∷ h) refl refl (λ k. refl) c.self.invariant.discards)

@@ -14,6 +14,7 @@ use Rattle.mode_core.specs.Slots.{Slots, ticks_at, IsOutcome}
 use Rattle.mode_core.specs.Written.{Written}
 use Rattle.mode_core.specs.Representation.{written, IsScheduleLog}
 use Rattle.mode_core.proofs.Tally.{ticking_own, ticking_line, ticked}
+use Rattle.mode_core.proofs.Discards.{noted_tick}
 use Rattle.mode_core.proofs.Opened.{opened_legal, opened_room, clock_small, room_for_one, one_more_seen, one_more_kept}
 use Rattle.mode_core.proofs.schedule_log.ScheduleLog.push_tick.Goals as goal
 
@@ -61,12 +62,13 @@ invariant_of-self g c =
     let l = opened_legal h a c.args.self.now (tick_row c.args.job c.args.done) c.self.view_is c.requires.legal in
     let how = outcome h a _ _ c.args.job c.args.done c.self.invariant l c.tick-how.result c.tick-how.ensures.answer in
     let e = c.tick-how.ensures.state in
-    let f = c.clear_after.ensures in
+    let f = c.clear_after.ensures.slots in
     one_more_kept h _ a _ (row.Tick c.args.job c.tick-how.result) _ _ _ _ c.self.invariant (opened_room h a c.args.self.now c.self.view_is c.requires.room)
     (record { set = f.same_set ∙ e.same_set; rule = f.same_rule ∙ e.same_rule; places = refl; rows = c.add.ensures.rows })
     c.add.ensures.capacity c.add.ensures.set
     (ticked s c.tick-how.new.self c.clear_after.new.self h a.ticks c.args.job c.tick-how.result c.self.invariant.tasks.each c.self.invariant.holds
     (subst (λ (o : How). Legal s.set s.rule (row.Tick c.args.job o ∷ h)) (sym how) l) e f c.self.invariant.tally)
+    (noted_tick s c.tick-how.new.self c.clear_after.new.self h a.ticks c.args.job c.tick-how.result e c.tick-how.ensures.discarded f c.clear_after.ensures.discarded c.self.invariant.tally c.self.invariant.discards)
 
 pub returns : goal.returns
 returns g c =
@@ -75,7 +77,7 @@ returns g c =
     let l = opened_legal h a c.args.self.now (tick_row c.args.job c.args.done) c.self.view_is c.requires.legal in
     let how = outcome h a _ _ c.args.job c.args.done c.self.invariant l c.tick-how.result c.tick-how.ensures.answer in
     let e = c.tick-how.ensures.state in
-    let f = c.clear_after.ensures in
+    let f = c.clear_after.ensures.slots in
     record {
       answer = subst (λ (w : Written). c.tick-how.result ≡ outcome_of w.set w.rule w.rows c.args.job c.args.done) c.self.view_is how;
       state =
