@@ -19,3 +19,5 @@ mod queues;
 mod releases;
 #[cfg(test)]
 mod rules;
+#[cfg(test)]
+mod runs;
