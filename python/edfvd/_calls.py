@@ -2,17 +2,19 @@
 
 from __future__ import annotations
 
+import struct
 from fractions import Fraction
 from typing import Dict, Iterable, List, Optional
 
 from ._commands import counterexample
 from ._errors import Refused, Status
-from ._given import MOST_32, MOST_64, Names, given_demands, given_rows, given_tasks, number, parts_of
+from ._given import MOST_32, MOST_64, ROW_BYTES, Names, given_demands, given_rows, given_tasks, number, parts_of
 from ._library import CDemandTest, CTest, CVerdict, library, u32
 from ._values import Demand, DemandVerdict, Row, Rule, Task, Test, Verdict, Why
 
 
 _RULES = (None, Rule.PLAIN, Rule.VIRTUAL)
+_fields_of_test = struct.Struct("2I9Q").unpack
 
 
 def check(tasks: Iterable[Task]) -> Test:
@@ -21,18 +23,21 @@ def check(tasks: Iterable[Task]) -> Test:
     >>> check([Task("a", "low", period=4, low=1), Task("b", "high", period=8, low=2, high=4)]).rule
     <Rule.PLAIN: 1>
     """
-    array, names = given_tasks(tasks)
+    packed, names = given_tasks(tasks)
     test = CTest()
-    status = library.edfvd_check(array, len(array), test)
+    status = library.check(packed, len(names), test)
     if status:
         raise names.refused(status, test.task)
-    lcm, rule = test.lcm, _RULES[test.rule]
+    return test_of(test)
+
+
+def test_of(test: CTest) -> Test:
+    """What the library found of a set."""
+    number_of_rule, _, p, q, lcm, low_top, low, mixed_top, mixed, high_top, high = _fields_of_test(test)
+    rule = _RULES[number_of_rule]
     return Test(
-        low_low=Fraction(test.low_low_top << 64 | test.low_low, lcm),
-        high_low=Fraction(test.high_low_top << 64 | test.high_low, lcm),
-        high_high=Fraction(test.high_high_top << 64 | test.high_high, lcm),
-        rule=rule,
-        scale=Fraction(test.p, test.q) if rule is Rule.VIRTUAL else None,
+        Fraction(low_top << 64 | low, lcm), Fraction(mixed_top << 64 | mixed, lcm), Fraction(high_top << 64 | high, lcm), rule,
+        Fraction(p, q) if rule is Rule.VIRTUAL else None,
     )
 
 
@@ -42,9 +47,9 @@ def stretch(tasks: Iterable[Task]) -> Optional[int]:
     >>> stretch([Task("a", "high", period=10, low=2, high=5)])
     219
     """
-    array, names = given_tasks(tasks)
+    packed, names = given_tasks(tasks)
     percent, task = u32(), u32()
-    status = library.edfvd_stretch(array, len(array), percent, task)
+    status = library.stretch(packed, len(names), percent, task)
     if status == Status.NO_PERCENTAGE:
         return None
     if status:
@@ -58,9 +63,9 @@ def partition(tasks: Iterable[Task], processors: int) -> List[List[str]]:
     >>> partition([Task("a", "low", 2, 1), Task("b", "low", 4, 3), Task("c", "low", 4, 2)], 2)
     [['a', 'c'], ['b']]
     """
-    array, names = given_tasks(tasks)
-    most, on, task = number(processors, MOST_32, "processors"), (u32 * len(array))(), u32()
-    status = library.edfvd_partition(array, len(array), most, on, task)
+    packed, names = given_tasks(tasks)
+    most, on, task = number(processors, MOST_32, "processors"), (u32 * len(names))(), u32()
+    status = library.partition(packed, len(names), most, on, task)
     if status:
         raise names.refused(status, task.value)
     parts: List[List[str]] = [[] for _ in range(most)]
@@ -78,7 +83,7 @@ def accept(first: int, sets: int, tasks: int) -> Dict[int, int]:
     50
     """
     counts = (u32 * 11)()
-    status = library.edfvd_accept(
+    status = library.accept(
         number(first, MOST_64, "first"), number(sets, MOST_32, "sets"), number(tasks, MOST_32, "tasks"), counts
     )
     if status:
@@ -106,9 +111,9 @@ def judge(tasks: Iterable[Task], rows: Iterable[Row], scale: Optional[Fraction] 
     >>> judge(control, [Row(Event.KEPT, "ctl", 1), Row(Event.IDLE)])
     Verdict(why=<Why.IDLE_PENDING: 7>, place=2, late=0, first=None)
     """
-    array, names = given_tasks(tasks)
+    packed, names = given_tasks(tasks)
     trace, verdict = given_rows(rows, names), CVerdict()
-    status = library.edfvd_judge(array, len(array), trace, len(trace), *parts_of(scale), verdict)
+    status = library.judge(packed, len(names), trace, len(trace) // ROW_BYTES, *parts_of(scale), verdict)
     if status:
         raise names.refused(status, verdict.task)
     return verdict_of(names, verdict)
@@ -120,11 +125,11 @@ def demand(tasks: Iterable[Demand]) -> DemandVerdict:
     >>> demand([Demand("a", period=4, deadline=2, budget=1), Demand("b", period=6, deadline=3, budget=2)]).schedulable
     True
     """
-    array, names = given_demands(tasks)
+    packed, names = given_demands(tasks)
     test = CDemandTest()
-    status = library.edfvd_demand(array, len(array), test)
+    status = library.demand(packed, len(names), test)
     if status:
         raise names.refused(status, test.task)
     if not test.past:
         return DemandVerdict(True, test.length, None, ())
-    return DemandVerdict(False, test.length, test.demand, counterexample(array, names))
+    return DemandVerdict(False, test.length, test.demand, counterexample(packed, names))

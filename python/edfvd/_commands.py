@@ -3,11 +3,12 @@
 from __future__ import annotations
 
 import ctypes
+import struct
 from typing import Iterable, List, Tuple
 
 from ._errors import CommandRefused, Refused, Status
 from ._given import MOST_64, Names, given_bytes, given_jobs, given_tasks, given_words, number
-from ._library import CDemandTask, CTask, library, size, u32
+from ._library import library, size, u32
 from ._values import Event, Job, Row, Task
 
 
@@ -25,7 +26,7 @@ def ask(words: Iterable[str], first: bytes = b"", second: bytes = b"") -> Tuple[
     length, ended, room = size(), u32(), 4096
     while True:
         out = ctypes.create_string_buffer(room)
-        status = library.edfvd_ask(len(encoded), array, one, len(one), two, len(two), out, room, length, ended)
+        status = library.ask(len(encoded), array, one, len(one), two, len(two), out, room, length, ended)
         if status != Status.SHORT_BUFFER:
             break
         room = length.value
@@ -43,14 +44,13 @@ def _asked(words: List[str], first: str, second: str = "", *passes: int) -> Tupl
     return ended, lines
 
 
-def _task_file(tasks: Iterable[CTask], names: Names) -> str:
+def _task_file(packed: bytes, names: Names) -> str:
     """The tasks as a task file, in which a low task gives no high budget."""
     lines = []
-    for name, task in zip(names.in_order, tasks):
-        lines += ["[[task]]", f'name = "{name}"', f'level = "{"high" if task.level else "low"}"', f"period = {task.period}"]
-        lines.append(f"low = {task.low}")
-        if task.level or task.high != task.low:
-            lines.append(f"high = {task.high}")
+    for name, (level, period, low, high) in zip(names.in_order, struct.iter_unpack("4I", packed)):
+        lines += ["[[task]]", f'name = "{name}"', f'level = "{"high" if level else "low"}"', f"period = {period}", f"low = {low}"]
+        if level or high != low:
+            lines.append(f"high = {high}")
     return "\n".join(lines) + "\n"
 
 
@@ -62,9 +62,9 @@ def run(tasks: Iterable[Task], jobs: Iterable[Job], ticks: int) -> List[Row]:
     >>> [row.event.name for row in rows]
     ['KEPT', 'KEPT', 'MORE', 'OVER', 'DONE', 'IDLE', 'IDLE', 'IDLE', 'IDLE', 'IDLE']
     """
-    (array, names), length = given_tasks(tasks), number(ticks, MOST_64, "ticks")
+    (packed, names), length = given_tasks(tasks), number(ticks, MOST_64, "ticks")
     work = ["task,release,need", *(f"{task},{release},{need}" for task, release, need in given_jobs(jobs))]
-    _, text = _asked(["run", "1", "2", str(length)], _task_file(array, names), "\n".join(work) + "\n")
+    _, text = _asked(["run", "1", "2", str(length)], _task_file(packed, names), "\n".join(work) + "\n")
     rows: List[Row] = []
     for line in text[1:]:
         event, _tick, ticks_of_line, task, count, how = line.split(",")
@@ -73,10 +73,10 @@ def run(tasks: Iterable[Task], jobs: Iterable[Job], ticks: int) -> List[Row]:
     return rows
 
 
-def counterexample(tasks: Iterable[CDemandTask], names: Names) -> Tuple[str, ...]:
+def counterexample(packed: bytes, names: Names) -> Tuple[str, ...]:
     """The lines of a run in which a job is late, of tasks that plain EDF does not schedule."""
     lines = ["task,period,deadline,budget"]
-    for name, task in zip(names.in_order, tasks):
-        lines.append(f"{name},{task.period},{task.deadline},{task.budget}")
+    for name, fields in zip(names.in_order, struct.iter_unpack("3I", packed)):
+        lines.append(",".join(map(str, (name, *fields))))
     _, text = _asked(["demand", "1"], "\n".join(lines) + "\n", "", 10)
     return tuple(text[1:])

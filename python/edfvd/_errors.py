@@ -62,10 +62,11 @@ class Refused(EdfvdError):
     """
 
     def __init__(self, status: Status, task: Optional[str] = None, at: int = 0) -> None:
+        status = Status(status)
         self.status = status
         self.task = task
         self.at = at
-        word = library.edfvd_word(status).decode()
+        word = library.word(status).decode()
         super().__init__(word if task is None else f"task {task}: {word}")
 
     def __reduce__(self) -> Tuple[Type[Refused], Tuple[Status, Optional[str], int], Dict[str, Any]]:

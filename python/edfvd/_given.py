@@ -1,28 +1,33 @@
-"""What a caller passes: read once, checked, and laid out as the library takes it.
+"""What a caller passes: read once, checked, and packed as the library takes it.
 
 A caller's list may change while it is read, by another thread or by a property of an element. So each iterable is copied before
-it is measured, and each attribute is read once; from there on only the copies are used.
+it is measured, and each attribute is read once; from there on only the copies are used. What the library reads is ``bytes``.
+
+Sets and rows are packed as wholes. If one of them has anything in it that is not as it should be, it is read again element by
+element, to find the value to name or to convert.
 """
 
 from __future__ import annotations
 
-import ctypes
 import operator
 import re
 import reprlib
 import struct
 from fractions import Fraction
 from numbers import Rational
-from typing import Dict, Iterable, List, Optional, Tuple
+from typing import Any, Dict, Iterable, List, Optional, Set, Tuple
 
 from ._errors import Refused, Status
-from ._library import CDemandTask, CRow, CTask
 from ._values import Demand, Event, Job, Row, Task
 
 MOST_32 = 2**32 - 1
 MOST_64 = 2**64 - 1
 _LEVELS = {"low": 0, "high": 1}
 _is_name = re.compile("[A-Za-z0-9_-]{1,32}").fullmatch
+# Names that have the right form: most sets have the names of the set before. Emptied when it has too many.
+_known: Set[str] = set()
+_MOST_KNOWN = 10_000
+_EVENTS = {event.value: event for event in Event}
 
 
 def _of(what: str, task: Optional[str]) -> str:
@@ -37,11 +42,16 @@ def _kind(value: object) -> str:
 def _whole(value: object, what: str, task: Optional[str]) -> int:
     """The value as a plain int, if it can stand for one, as numpy's integers can."""
     try:
-        if isinstance(value, bool):
+        if _kind(value) in ("bool", "bool_"):  # Python's, and numpy's under either of its names
             raise TypeError
         return int.__index__(operator.index(value))  # type: ignore[arg-type]
     except TypeError:
         raise TypeError(f"{_of(what, task)} must be a whole number, not {_kind(value)}") from None
+
+
+def _shown(whole: int) -> str:
+    """The number as a message shows it."""
+    return str(whole) if whole.bit_length() <= 128 else f"a number of {whole.bit_length()} bits"
 
 
 def number(value: object, most: int, what: str, task: Optional[str] = None) -> int:
@@ -49,8 +59,7 @@ def number(value: object, most: int, what: str, task: Optional[str] = None) -> i
     whole = value if type(value) is int else _whole(value, what, task)
     if 0 <= whole <= most:
         return whole
-    shown = str(whole) if whole.bit_length() <= 128 else f"a number of {whole.bit_length()} bits"
-    raise ValueError(f"{_of(what, task)} is {shown}, which is not from 0 to {most}")
+    raise ValueError(f"{_of(what, task)} is {_shown(whole)}, which is not from 0 to {most}")
 
 
 def text(value: object, what: str) -> str:
@@ -70,23 +79,50 @@ def task_name(value: object) -> str:
     return name
 
 
+def _are_names(names: Set[str], count: int) -> bool:
+    """Whether these are as many names as ``count``, all of the right form."""
+    if len(names) != count:
+        return False
+    if not names <= _known:
+        if not all(map(_is_name, names)):
+            return False
+        if len(_known) > _MOST_KNOWN:
+            _known.clear()
+        _known.update(names)
+    return True
+
+
+def _all_are(kind: type, values: Iterable[object]) -> bool:
+    """Whether each of the values is of exactly this type."""
+    return set(map(type, values)) <= {kind}
+
+
+def _field(value: object, field: str) -> Any:
+    """The field of a value that was made without ``__init__``, perhaps, and then has none."""
+    try:
+        return getattr(value, field)
+    except AttributeError:
+        raise TypeError(f"a {_kind(value)} has no {field}") from None
+
+
 class Names:
-    """The names of a set's tasks in order, which must differ. The first one has the number 1."""
+    """The names of a set's tasks in order, all of them different. The first one has the number 1."""
 
     __slots__ = ("in_order", "_numbers")
 
     def __init__(self, in_order: List[str]) -> None:
-        if len(set(in_order)) != len(in_order):
-            twice = next(name for place, name in enumerate(in_order) if name in in_order[:place])
-            raise ValueError(f"two tasks have the name {twice}")
         self.in_order = in_order
-        self._numbers: Dict[str, int] = {}
+        self._numbers: Dict[object, int] = {}
+
+    def __len__(self) -> int:
+        """How many tasks the set has."""
+        return len(self.in_order)
 
     @property
-    def numbers(self) -> Dict[str, int]:
-        """The number of each name, found when it is first asked for."""
+    def numbers(self) -> Dict[object, int]:
+        """The number of each name, and 0 for None, found when it is first asked for."""
         if not self._numbers:
-            self._numbers = dict(zip(self.in_order, range(1, len(self.in_order) + 1)))
+            self._numbers = {None: 0, **{name: number for number, name in enumerate(self.in_order, 1)}}
         return self._numbers
 
     def name(self, task: int) -> Optional[str]:
@@ -111,8 +147,68 @@ class Names:
         return Refused(Status(status), self.name(task), at)
 
 
+# ---- Task sets ----
+
+def given_tasks(tasks: Iterable[Task]) -> Tuple[bytes, Names]:
+    """The tasks as the library takes them, and their names, which stay in Python."""
+    copied = tuple(tasks)
+    packed = _packed_tasks(copied) if _all_are(Task, copied) else None
+    return packed or _careful_tasks(copied)
+
+
+def _packed_tasks(tasks: Tuple[Task, ...]) -> Optional[Tuple[bytes, Names]]:
+    """The tasks and their names, or None if some field is not as most are: of a plain type, and in range.
+
+    No field is compared or hashed before its type is known, since that could run code of the caller.
+    """
+    names: List[str] = []
+    fields: List[Any] = []
+    try:
+        for task in tasks:
+            level, low, high = task.level, task.low, task.high
+            if type(level) is not str:
+                return None
+            if high is None:
+                if level == "high":
+                    return None
+                high = low
+            names.append(task.name)
+            fields += (_LEVELS[level], task.period, low, high)
+        if _all_are(int, fields) and _all_are(str, names) and _are_names(set(names), len(names)):
+            return struct.pack(f"{len(fields)}I", *fields), Names(names)
+    except (AttributeError, KeyError, struct.error):
+        pass
+    return None
+
+
+def _distinct(names: List[str]) -> Names:
+    """The names, if they differ."""
+    if len(set(names)) != len(names):
+        twice = next(name for place, name in enumerate(names) if name in names[:place])
+        raise ValueError(f"two tasks have the name {twice}")
+    return Names(names)
+
+
+def _careful_tasks(tasks: Tuple[object, ...]) -> Tuple[bytes, Names]:
+    """The tasks and their names, by each field in turn; the first value that is wrong is named."""
+    names: List[str] = []
+    fields: List[int] = []
+    for task in tasks:
+        if not isinstance(task, Task):
+            raise TypeError(f"a task set has Task objects, not {_kind(task)}")
+        name, level, period, low, high = (_field(task, field) for field in ("name", "level", "period", "low", "high"))
+        name = task_name(name)
+        level_number = _level(level, name)
+        period = number(period, MOST_32, "the period", name)
+        low = number(low, MOST_32, "the low budget", name)
+        high = _high_budget(level_number, low, name) if high is None else number(high, MOST_32, "the high budget", name)
+        names.append(name)
+        fields += (level_number, period, low, high)
+    return struct.pack(f"{len(fields)}I", *fields), _distinct(names)
+
+
 def _level(value: object, name: str) -> int:
-    """The number of a level that is no plain "low" or "high", if it is one."""
+    """The number of a level, if it is one."""
     level = text(value, f"task {name}: the level")
     if level not in _LEVELS:
         raise ValueError(f"task {name}: the level is {reprlib.repr(level)}, and not 'low' or 'high'")
@@ -126,81 +222,78 @@ def _high_budget(level: int, low: int, name: str) -> int:
     return low
 
 
-def given_tasks(tasks: Iterable[Task]) -> Tuple[ctypes.Array[CTask], Names]:
-    """The tasks as the library takes them, and their names, which stay in Python.
-
-    What is as it should be is found so without a call, since ``check`` is often called for many sets.
-    """
-    copied = tuple(tasks)
+def given_demands(tasks: Iterable[Demand]) -> Tuple[bytes, Names]:
+    """The tasks as the library takes them, and their names."""
     names: List[str] = []
     fields: List[int] = []
-    for task in copied:
-        if not isinstance(task, Task):
-            raise TypeError(f"a task set has Task objects, not {_kind(task)}")
-        name, level, period, low, high = task.name, task.level, task.period, task.low, task.high
-        if type(name) is not str or not _is_name(name):
-            name = task_name(name)
-        level_number = _LEVELS.get(level) if type(level) is str else None
-        if level_number is None:
-            level_number = _level(level, name)
-        if type(period) is not int or not 0 <= period <= MOST_32:
-            period = number(period, MOST_32, "the period", name)
-        if type(low) is not int or not 0 <= low <= MOST_32:
-            low = number(low, MOST_32, "the low budget", name)
-        if high is None:
-            high = _high_budget(level_number, low, name)
-        elif type(high) is not int or not 0 <= high <= MOST_32:
-            high = number(high, MOST_32, "the high budget", name)
-        names.append(name)
-        fields += (level_number, period, low, high)
-    array = (CTask * len(copied)).from_buffer_copy(struct.pack(f"{4 * len(copied)}I", *fields))
-    return array, Names(names)
-
-
-def given_demands(tasks: Iterable[Demand]) -> Tuple[ctypes.Array[CDemandTask], Names]:
-    """The tasks as the library takes them, and their names."""
-    copied = tuple(tasks)
-    array, names = (CDemandTask * len(copied))(), []
-    for place, task in zip(array, copied):
+    for task in tuple(tasks):
         if not isinstance(task, Demand):
             raise TypeError(f"a demand test takes Demand objects, not {_kind(task)}")
-        name = task_name(task.name)
-        place.period = number(task.period, MOST_32, "the period", name)
-        place.deadline = number(task.deadline, MOST_32, "the deadline", name)
-        place.budget = number(task.budget, MOST_32, "the budget", name)
+        name = task_name(_field(task, "name"))
+        fields += (number(_field(task, field), MOST_32, f"the {field}", name) for field in ("period", "deadline", "budget"))
         names.append(name)
-    return array, Names(names)
+    return struct.pack(f"{len(fields)}I", *fields), _distinct(names)
+
+
+# ---- Rows ----
+
+ROW_BYTES = 12
+_packed_row = struct.Struct("3I").pack
+
+
+def given_row(row: Row, names: Names) -> bytes:
+    """The row as the library takes it."""
+    if type(row) is Row:
+        try:
+            event, task, count = row.event, row.task, row.count
+            if type(event) is Event and type(count) is int and (task is None or type(task) is str):
+                return _packed_row(event, names.numbers[task], count)
+        except (AttributeError, KeyError, struct.error):
+            pass
+    return _packed_row(*_careful_row(row, names))
+
+
+def given_rows(rows: Iterable[Row], names: Names) -> bytes:
+    """The rows as the library takes them."""
+    copied = tuple(rows)
+    packed = _packed_rows(copied, names.numbers) if _all_are(Row, copied) else None
+    if packed is not None:
+        return packed
+    return b"".join([_packed_row(*_careful_row(row, names)) for row in copied])
+
+
+def _packed_rows(rows: Tuple[Row, ...], numbers: Dict[object, int]) -> Optional[bytes]:
+    """The rows, or None if some field is not as most are: of a plain type, in range, and of a task of the set."""
+    fields: List[Any] = [0] * (3 * len(rows))
+    try:
+        events, tasks, counts = [row.event for row in rows], [row.task for row in rows], [row.count for row in rows]
+        if _all_are(Event, events) and set(map(type, tasks)) <= {str, type(None)} and _all_are(int, counts):
+            fields[::3], fields[1::3], fields[2::3] = events, [numbers[task] for task in tasks], counts
+            return struct.pack(f"{len(fields)}I", *fields)
+    except (AttributeError, KeyError, struct.error):
+        pass
+    return None
+
+
+def _careful_row(row: object, names: Names) -> Tuple[int, int, int]:
+    """A row's event, the number of its task, and its count; the first value that is wrong is named."""
+    if not isinstance(row, Row):
+        raise TypeError(f"a trace has Row objects, not {_kind(row)}")
+    event, task, count = (_field(row, field) for field in ("event", "task", "count"))
+    known = _event(event)
+    of_task = 0 if task is None else names.number(task, "a row's task")
+    return known, of_task, number(count, MOST_32, "a row's count")
 
 
 def _event(value: object) -> Event:
-    """An event that is given as a plain number."""
-    return Event(number(value, MOST_32, "a row's event"))
+    """An event, which may be given as its number."""
+    whole = _whole(value, "a row's event", None)
+    if whole not in _EVENTS:
+        raise ValueError(f"a row's event is {_shown(whole)}, which is no event: those are {min(_EVENTS)} to {max(_EVENTS)}")
+    return _EVENTS[whole]
 
 
-def row_fields(row: Row, names: Names) -> Tuple[int, int, int]:
-    """A row's event, the number of its task, and its count."""
-    if not isinstance(row, Row):
-        raise TypeError(f"a trace has Row objects, not {_kind(row)}")
-    event, task, count = row.event, row.task, row.count
-    if type(event) is not Event:
-        event = _event(event)
-    if task is None:
-        of_task = 0
-    elif type(task) is not str or (of_task := names.numbers.get(task, 0)) == 0:
-        of_task = names.number(task, "a row's task")
-    if type(count) is not int or not 0 <= count <= MOST_32:
-        count = number(count, MOST_32, "a row's count")
-    return event, of_task, count
-
-
-def given_rows(rows: Iterable[Row], names: Names) -> ctypes.Array[CRow]:
-    """The rows as the library takes them."""
-    copied = tuple(rows)
-    fields: List[int] = []
-    for row in copied:
-        fields += row_fields(row, names)
-    return (CRow * len(copied)).from_buffer_copy(struct.pack(f"{3 * len(copied)}I", *fields))
-
+# ---- Other values ----
 
 def given_jobs(jobs: Iterable[Job]) -> List[Tuple[str, int, int]]:
     """The jobs with their releases and needs, in the order of their releases; those of equal releases keep their order."""

@@ -1,4 +1,7 @@
-"""The shared library, with its structs and calls as ``edfvd.h`` declares them. ``tests`` compare the two."""
+"""The shared library, with its structs and calls as ``edfvd.h`` declares them. ``tests`` compare the two.
+
+What a call only reads is passed as packed ``bytes``: nobody can change them while it reads.
+"""
 
 from __future__ import annotations
 
@@ -6,7 +9,7 @@ import ctypes
 import os
 import subprocess
 from pathlib import Path
-from typing import Any, Dict, List
+from typing import Any, Callable, Dict, List, Tuple
 
 u32 = ctypes.c_uint32
 u64 = ctypes.c_uint64
@@ -91,41 +94,60 @@ STRUCTS = {
     "edfvd_budgets": CBudgets, "edfvd_scale_range": CScaleRange,
 }
 
+class PackedTasks(ctypes.c_char_p):
+    """An array of ``edfvd_task`` that a call reads, as bytes."""
+
+    element = CTask
+
+
+class PackedDemands(ctypes.c_char_p):
+    """An array of ``edfvd_demand_task`` that a call reads, as bytes."""
+
+    element = CDemandTask
+
+
+class PackedRows(ctypes.c_char_p):
+    """A row, or an array of ``edfvd_row``, that a call reads, as bytes."""
+
+    element = CRow
+
+
 _pointer = ctypes.POINTER
-_tasks = [_pointer(CTask), size]
+_tasks = [PackedTasks, size]
 _scheduler = _pointer(CScheduler)
 _monitor = _pointer(CMonitor)
 
-CALLS: Dict[str, List[Any]] = {
-    "edfvd_check": [*_tasks, _pointer(CTest)],
-    "edfvd_stretch": [*_tasks, _pointer(u32), _pointer(u32)],
-    "edfvd_sensitivity": [*_tasks, _pointer(CBudgets), _pointer(u32)],
-    "edfvd_scales": [*_tasks, _pointer(CScaleRange), _pointer(u32)],
-    "edfvd_speed": [*_tasks, _pointer(u64), _pointer(u32)],
-    "edfvd_partition": [*_tasks, u32, _pointer(u32), _pointer(u32)],
-    "edfvd_accept": [u64, u32, u32, _pointer(u32)],
-    "edfvd_demand": [_pointer(CDemandTask), size, _pointer(CDemandTest)],
-    "edfvd_judge": [*_tasks, _pointer(CRow), size, u64, u64, _pointer(CVerdict)],
-    "edfvd_ask": [
+# Each call: the package's name for it, its name in the library, and its parameters. No other place has a name of the library.
+CALLS: Dict[str, Tuple[str, List[Any]]] = {
+    "check": ("edfvd_check", [*_tasks, _pointer(CTest)]),
+    "stretch": ("edfvd_stretch", [*_tasks, _pointer(u32), _pointer(u32)]),
+    "sensitivity": ("edfvd_sensitivity", [*_tasks, _pointer(CBudgets), _pointer(u32)]),
+    "scales": ("edfvd_scales", [*_tasks, _pointer(CScaleRange), _pointer(u32)]),
+    "speed": ("edfvd_speed", [*_tasks, _pointer(u64), _pointer(u32)]),
+    "partition": ("edfvd_partition", [*_tasks, u32, _pointer(u32), _pointer(u32)]),
+    "accept": ("edfvd_accept", [u64, u32, u32, _pointer(u32)]),
+    "demand": ("edfvd_demand", [PackedDemands, size, _pointer(CDemandTest)]),
+    "judge": ("edfvd_judge", [*_tasks, PackedRows, size, u64, u64, _pointer(CVerdict)]),
+    "ask": ("edfvd_ask", [
         size, _pointer(ctypes.c_char_p), ctypes.c_char_p, size, ctypes.c_char_p, size, ctypes.c_char_p, size,
         _pointer(size), _pointer(u32),
-    ],
-    "edfvd_scheduler_open": [_scheduler, *_tasks, u32, _pointer(u32)],
-    "edfvd_scheduler_open_endless": [_scheduler, *_tasks, _pointer(u32)],
-    "edfvd_scheduler_close": [_scheduler],
-    "edfvd_scheduler_release": [_scheduler, u32, _pointer(CAnswer)],
-    "edfvd_scheduler_grant": [_scheduler, u32, _pointer(CAnswer)],
-    "edfvd_scheduler_outcome": [_scheduler, u32, u32, ctypes.c_bool, _pointer(CAnswer)],
-    "edfvd_scheduler_idle": [_scheduler, _pointer(CAnswer)],
-    "edfvd_scheduler_look": [_scheduler, _pointer(CLook)],
-    "edfvd_scheduler_row": [_scheduler, u64, _pointer(CRow)],
-    "edfvd_monitor_open": [_monitor, *_tasks, u64, u64, _pointer(u32)],
-    "edfvd_monitor_close": [_monitor],
-    "edfvd_monitor_observe": [_monitor, _pointer(CRow), u32, _pointer(CUnfit)],
-    "edfvd_monitor_would_fit": [_monitor, _pointer(CRow), u32, _pointer(CUnfit)],
-    "edfvd_monitor_late": [_monitor, u64, _pointer(CLate), size, _pointer(u64)],
-    "edfvd_monitor_verdict": [_monitor, _pointer(CVerdict)],
-    "edfvd_monitor_look": [_monitor, _pointer(CWatch)],
+    ]),
+    "scheduler_open": ("edfvd_scheduler_open", [_scheduler, *_tasks, u32, _pointer(u32)]),
+    "scheduler_open_endless": ("edfvd_scheduler_open_endless", [_scheduler, *_tasks, _pointer(u32)]),
+    "scheduler_close": ("edfvd_scheduler_close", [_scheduler]),
+    "scheduler_release": ("edfvd_scheduler_release", [_scheduler, u32, _pointer(CAnswer)]),
+    "scheduler_grant": ("edfvd_scheduler_grant", [_scheduler, u32, _pointer(CAnswer)]),
+    "scheduler_outcome": ("edfvd_scheduler_outcome", [_scheduler, u32, u32, ctypes.c_bool, _pointer(CAnswer)]),
+    "scheduler_idle": ("edfvd_scheduler_idle", [_scheduler, _pointer(CAnswer)]),
+    "scheduler_look": ("edfvd_scheduler_look", [_scheduler, _pointer(CLook)]),
+    "scheduler_row": ("edfvd_scheduler_row", [_scheduler, u64, _pointer(CRow)]),
+    "monitor_open": ("edfvd_monitor_open", [_monitor, *_tasks, u64, u64, _pointer(u32)]),
+    "monitor_close": ("edfvd_monitor_close", [_monitor]),
+    "monitor_observe": ("edfvd_monitor_observe", [_monitor, PackedRows, u32, _pointer(CUnfit)]),
+    "monitor_would_fit": ("edfvd_monitor_would_fit", [_monitor, PackedRows, u32, _pointer(CUnfit)]),
+    "monitor_late": ("edfvd_monitor_late", [_monitor, u64, _pointer(CLate), size, _pointer(u64)]),
+    "monitor_verdict": ("edfvd_monitor_verdict", [_monitor, _pointer(CVerdict)]),
+    "monitor_look": ("edfvd_monitor_look", [_monitor, _pointer(CWatch)]),
 }
 
 
@@ -146,21 +168,24 @@ def _path() -> str:
         raise ImportError(f"there is no library of edfvd; c/build.sh makes it: {error}") from error
 
 
-def _load() -> ctypes.CDLL:
-    """The library, with the types of its calls."""
-    path = _path()
-    try:
-        loaded = ctypes.CDLL(path)
-    except OSError as error:
-        raise ImportError(f"the library of edfvd cannot be loaded; c/build.sh makes it: {error}") from error
-    try:
-        for name, arguments in CALLS.items():
-            call = getattr(loaded, name)
-            call.argtypes, call.restype = arguments, ctypes.c_int
-        loaded.edfvd_word.argtypes, loaded.edfvd_word.restype = [ctypes.c_int], ctypes.c_char_p
-    except AttributeError as error:
-        raise ImportError(f"{path} is not the library of this package: {error}") from error
-    return loaded
+class Library:
+    """The calls of a library, each under the package's name for it."""
+
+    def __init__(self, path: str) -> None:
+        self.path = path
+        try:
+            loaded = ctypes.CDLL(path)
+        except OSError as error:
+            raise ImportError(f"the library of edfvd cannot be loaded; c/build.sh makes it: {error}") from error
+        try:
+            for name, (own_name, arguments) in CALLS.items():
+                call = getattr(loaded, own_name)
+                call.argtypes, call.restype = arguments, ctypes.c_int
+                setattr(self, name, call)
+            self.word: Callable[[int], bytes] = loaded.edfvd_word
+            loaded.edfvd_word.argtypes, loaded.edfvd_word.restype = [ctypes.c_int], ctypes.c_char_p
+        except AttributeError as error:
+            raise ImportError(f"{path} is not the library of this package: {error}") from error
 
 
-library = _load()
+library: Any = Library(_path())

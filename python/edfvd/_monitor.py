@@ -7,9 +7,9 @@ from typing import Callable, Iterable, List, Optional
 
 from ._calls import verdict_of
 from ._errors import Refused, Status
-from ._given import MOST_32, MOST_64, given_tasks, number, parts_of, row_fields
+from ._given import MOST_32, MOST_64, given_row, given_tasks, number, parts_of
 from ._handle import Handle
-from ._library import CLate, CMonitor, CRow, CUnfit, CVerdict, CWatch, library, u64
+from ._library import CLate, CMonitor, CUnfit, CVerdict, CWatch, library, u64
 from ._values import Late, Row, Task, Unfit, Verdict, Watch, Why
 
 
@@ -26,15 +26,17 @@ class Monitor(Handle):
     """
 
     _struct = CMonitor
-    _free = library.edfvd_monitor_close
+    _free = library.monitor_close
 
     def __init__(self, tasks: Iterable[Task], scale: Optional[Fraction] = None) -> None:
-        array, names = given_tasks(tasks)
-        self._open(names, library.edfvd_monitor_open, array, len(array), *parts_of(scale))
+        packed, names = given_tasks(tasks)
+        self._open(names, library.monitor_open, packed, len(names), *parts_of(scale))
 
     def _found(self, call: Callable[..., int], row: Row, times: int) -> Optional[Unfit]:
-        given, unfit = CRow(*row_fields(row, self._names)), CUnfit()
-        status = call(self._held, given, number(times, MOST_32, "times"), unfit)
+        if type(times) is not int or not 0 <= times <= MOST_32:
+            times = number(times, MOST_32, "times")
+        unfit = CUnfit()
+        status = call(self._held, given_row(row, self._names), times, unfit)
         if status:
             raise Refused(Status(status))
         return Unfit(Why(unfit.why), unfit.place) if unfit.why else None
@@ -44,7 +46,7 @@ class Monitor(Handle):
 
         A tick of a job with more to do and an idle tick may come many ``times`` at once.
         """
-        return self._found(library.edfvd_monitor_observe, row, times)
+        return self._found(library.monitor_observe, row, times)
 
     def would_fit(self, row: Row, times: int = 1) -> Optional[Unfit]:
         """What :meth:`observe` would return for the row, which is not taken.
@@ -54,7 +56,7 @@ class Monitor(Handle):
         ...     monitor.would_fit(Row(Event.KEPT, "a", 2)), monitor.look().rows
         (Unfit(why=<Why.WRONG_COUNT: 2>, place=1), 0)
         """
-        return self._found(library.edfvd_monitor_would_fit, row, times)
+        return self._found(library.monitor_would_fit, row, times)
 
     def late(self, since: int) -> List[Late]:
         """The pending jobs whose deadlines came after ``since`` ticks, in the order of their deadlines.
@@ -73,7 +75,7 @@ class Monitor(Handle):
         ticks, count, room = number(since, MOST_64, "since"), u64(), 8
         while True:
             jobs = (CLate * room)()
-            status = library.edfvd_monitor_late(self._held, ticks, jobs, room, count)
+            status = library.monitor_late(self._held, ticks, jobs, room, count)
             if status != Status.SHORT_BUFFER:
                 break
             room = count.value
@@ -84,7 +86,7 @@ class Monitor(Handle):
     def verdict(self) -> Verdict:
         """The verdict on all rows so far."""
         verdict = CVerdict()
-        status = library.edfvd_monitor_verdict(self._held, verdict)
+        status = library.monitor_verdict(self._held, verdict)
         if status:
             raise Refused(Status(status))
         return verdict_of(self._names, verdict)
@@ -92,7 +94,7 @@ class Monitor(Handle):
     def look(self) -> Watch:
         """The clock, the mode and how many jobs are pending."""
         watch = CWatch()
-        status = library.edfvd_monitor_look(self._held, watch)
+        status = library.monitor_look(self._held, watch)
         if status:
             raise Refused(Status(status))
         return Watch(

@@ -26,15 +26,15 @@ class Scheduler(Handle):
     """
 
     _struct = CScheduler
-    _free = library.edfvd_scheduler_close
+    _free = library.scheduler_close
 
     def __init__(self, tasks: Iterable[Task], places: Optional[int]) -> None:
-        array, names = given_tasks(tasks)
+        packed, names = given_tasks(tasks)
         if places is None:
-            self._open(names, library.edfvd_scheduler_open_endless, array, len(array))
+            self._open(names, library.scheduler_open_endless, packed, len(names))
         else:
             capacity = number(places, MOST_32, "places")
-            self._open(names, library.edfvd_scheduler_open, array, len(array), capacity)
+            self._open(names, library.scheduler_open, packed, len(names), capacity)
 
     @classmethod
     def endless(cls, tasks: Iterable[Task]) -> Scheduler:
@@ -67,25 +67,25 @@ class Scheduler(Handle):
     def release(self, task: str) -> Answer:
         """Release the task's next job: ``KEPT``, ``DROPPED``, or ``HELD`` while a tick is in progress."""
         answer = CAnswer()
-        return self._answer(library.edfvd_scheduler_release(self._held, self._names.number(task), answer), answer)
+        return self._answer(library.scheduler_release(self._held, self._names.number(task), answer), answer)
 
     def grant(self, task: str) -> Answer:
         """Grant the next tick to the task, whose job must be the chosen one."""
         answer = CAnswer()
-        return self._answer(library.edfvd_scheduler_grant(self._held, self._names.number(task), answer), answer)
+        return self._answer(library.scheduler_grant(self._held, self._names.number(task), answer), answer)
 
     def outcome(self, task: str, count: int, *, done: bool) -> Answer:
         """Report whether the job is done with the tick in progress: ``DONE``, ``STOP``, ``OVER`` or ``MORE``."""
         if not isinstance(done, bool):
             raise TypeError(f"done must be a bool, not {type(done).__name__}")
         answer, number_of_job = CAnswer(), number(count, MOST_32, "the count")
-        status = library.edfvd_scheduler_outcome(self._held, self._names.number(task), number_of_job, done, answer)
+        status = library.scheduler_outcome(self._held, self._names.number(task), number_of_job, done, answer)
         return self._answer(status, answer)
 
     def idle(self) -> Answer:
         """Report that the next tick is idle, which it may be only if no job is pending."""
         answer = CAnswer()
-        return self._answer(library.edfvd_scheduler_idle(self._held, answer), answer)
+        return self._answer(library.scheduler_idle(self._held, answer), answer)
 
     def look(self) -> Look:
         """The clock, the mode, the job with the tick in progress and the one that comes next.
@@ -96,7 +96,7 @@ class Scheduler(Handle):
         ('a', 1)
         """
         look = CLook()
-        status = library.edfvd_scheduler_look(self._held, look)
+        status = library.scheduler_look(self._held, look)
         if status:
             raise Refused(Status(status))
         return Look(
@@ -120,7 +120,7 @@ class Scheduler(Handle):
     def _rows(self, since: int, end: int) -> Iterator[Row]:
         row = CRow()
         for place in range(since, end):
-            status = library.edfvd_scheduler_row(self._held, place, row)
+            status = library.scheduler_row(self._held, place, row)
             if status:
                 raise Refused(Status(status))
             yield Row(Event(row.event), self._names.name(row.task), row.count)

@@ -57,9 +57,9 @@ def sensitivity(tasks: Iterable[Task]) -> List[GreatestBudgets]:
     GreatestBudgets(task='ctl', low=4, high=8)
     GreatestBudgets(task='log', low=6, high=None)
     """
-    array, names = given_tasks(tasks)
-    budgets, task = (CBudgets * len(array))(), u32()
-    status = library.edfvd_sensitivity(array, len(array), budgets, task)
+    packed, names = given_tasks(tasks)
+    budgets, task = (CBudgets * len(names))(), u32()
+    status = library.sensitivity(packed, len(names), budgets, task)
     if status:
         raise names.refused(status, task.value)
     return [GreatestBudgets(name, most.low or None, most.high or None) for name, most in zip(names.in_order, budgets)]
@@ -73,9 +73,9 @@ def scales(tasks: Iterable[Task]) -> Optional[ScaleRange]:
     >>> scales([Task("ctl", "high", period=10, low=2, high=6), Task("log", "low", period=10, low=5)])
     ScaleRange(least=Fraction(2, 5), greatest=Fraction(4, 5))
     """
-    array, names = given_tasks(tasks)
+    packed, names = given_tasks(tasks)
     found, task = CScaleRange(), u32()
-    status = library.edfvd_scales(array, len(array), found, task)
+    status = library.scales(packed, len(names), found, task)
     if status == Status.NOT_ADMITTED:
         return None
     if status:
@@ -92,9 +92,9 @@ def speed(tasks: Iterable[Task]) -> Fraction:
     >>> float(speed([Task("ctl", "high", period=10, low=4, high=8), Task("log", "low", period=10, low=5)]))
     1.1217
     """
-    array, names = given_tasks(tasks)
+    packed, names = given_tasks(tasks)
     millionths, task = u64(), u32()
-    status = library.edfvd_speed(array, len(array), millionths, task)
+    status = library.speed(packed, len(names), millionths, task)
     if status:
         raise names.refused(status, task.value)
     return Fraction(millionths.value, _STEPS)

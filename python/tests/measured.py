@@ -11,39 +11,43 @@ from edfvd import _library
 
 # Which parameters are memory, and which one says how many elements it has. An array of 11 counts comes without a number.
 LENGTHS: Dict[str, List[Tuple[int, int]]] = {
-    "edfvd_check": [(0, 1)],
-    "edfvd_stretch": [(0, 1)],
-    "edfvd_partition": [(0, 1), (3, 1)],
-    "edfvd_demand": [(0, 1)],
-    "edfvd_sensitivity": [(0, 1), (2, 1)],
-    "edfvd_scales": [(0, 1)],
-    "edfvd_speed": [(0, 1)],
-    "edfvd_judge": [(0, 1), (2, 3)],
-    "edfvd_ask": [(1, 0), (2, 3), (4, 5), (6, 7)],
-    "edfvd_scheduler_open": [(1, 2)],
-    "edfvd_scheduler_open_endless": [(1, 2)],
-    "edfvd_monitor_open": [(1, 2)],
-    "edfvd_monitor_late": [(2, 3)],
+    "check": [(0, 1)],
+    "stretch": [(0, 1)],
+    "partition": [(0, 1), (3, 1)],
+    "demand": [(0, 1)],
+    "sensitivity": [(0, 1), (2, 1)],
+    "scales": [(0, 1)],
+    "speed": [(0, 1)],
+    "judge": [(0, 1), (2, 3)],
+    "ask": [(1, 0), (2, 3), (4, 5), (6, 7)],
+    "scheduler_open": [(1, 2)],
+    "scheduler_open_endless": [(1, 2)],
+    "monitor_open": [(1, 2)],
+    "monitor_late": [(2, 3)],
 }
+# Which parameter is one element, for calls that take one row.
+ONE: Dict[str, int] = {"monitor_observe": 1, "monitor_would_fit": 1}
 
 
 def elements(memory: Any, kind: Any) -> int:
     """How many elements of the parameter's type the memory has."""
     if isinstance(memory, bytes):
-        return len(memory)
+        return len(memory) // ctypes.sizeof(getattr(kind, "element", ctypes.c_char))
     element = 1 if kind is ctypes.c_char_p else ctypes.sizeof(kind._type_)
     return ctypes.sizeof(memory) // element
 
 
 def _watched(name: str, call: Callable[..., int]) -> Callable[..., int]:
     """The call, which asserts that its lengths are true."""
-    kinds = _library.CALLS[name]
+    _, kinds = _library.CALLS[name]
 
     def watched(*given: Any) -> int:
-        for memory, length in LENGTHS[name]:
+        for memory, length in LENGTHS.get(name, []):
             there = elements(given[memory], kinds[memory])
             if given[length] > there:
                 raise AssertionError(f"{name}: parameter {memory} has {there} elements, and {given[length]} are said")
+        if name in ONE and elements(given[ONE[name]], kinds[ONE[name]]) != 1:
+            raise AssertionError(f"{name}: no row is given")
         return call(*given)
 
     return watched
@@ -52,7 +56,7 @@ def _watched(name: str, call: Callable[..., int]) -> Callable[..., int]:
 @contextlib.contextmanager
 def measured() -> Iterator[None]:
     """Each call of the library is watched while this lasts."""
-    calls = {name: getattr(_library.library, name) for name in LENGTHS}
+    calls = {name: getattr(_library.library, name) for name in [*LENGTHS, *ONE]}
     for name, call in calls.items():
         setattr(_library.library, name, _watched(name, call))
     try:

@@ -8,7 +8,8 @@ from typing import Any, Callable, List, Tuple
 
 from edfvd import Demand, EdfvdError, Event, Monitor, Row, Scheduler, Task, ask, check, demand, judge, partition, run, stretch
 from edfvd import _library
-from measured import LENGTHS, measured
+from measured import LENGTHS, ONE, measured
+from support import CONTROL
 
 HEADER = Path(__file__).resolve().parents[2] / "c" / "edfvd.h"
 
@@ -68,9 +69,14 @@ class Changing(unittest.TestCase):
         """Each call that takes a length is among those that are watched, and a false length is caught."""
         if HEADER.exists():
             calls = re.findall(r"^edfvd_status (edfvd_\w+)\((.*?)\);", HEADER.read_text(), re.S | re.M)
-            self.assertEqual({name for name, given in calls if re.search(r"size_t \w", given)}, set(LENGTHS))
+            with_lengths = {name for name, given in calls if re.search(r"size_t \w", given)}
+            self.assertEqual(with_lengths, {_library.CALLS[name][0] for name in LENGTHS})
+            of_one_row = {name for name, given in calls if "const edfvd_row *row," in given}
+            self.assertEqual(of_one_row, {_library.CALLS[name][0] for name in ONE})
         with measured(), self.assertRaises(AssertionError):
-            _library.library.edfvd_check((_library.CTask * 1)(), 2, _library.CTest())
+            _library.library.check(bytes(31), 2, _library.CTest())
+        with measured(), Monitor(CONTROL) as monitor, self.assertRaises(AssertionError):
+            _library.library.monitor_observe(monitor._held, bytes(11), 1, _library.CUnfit())
 
     def test_a_list_that_grows(self) -> None:
         for name, call in CALLS:

@@ -27,7 +27,7 @@ class Counted:
 
     def __enter__(self) -> "Counted":
         gc.collect()
-        steps = {"edfvd_scheduler_open": 1, "edfvd_scheduler_open_endless": 1, "edfvd_monitor_open": 1}
+        steps = {"scheduler_open": 1, "scheduler_open_endless": 1, "monitor_open": 1}
         self.patches = [self.patched(_library.library, name, step) for name, step in steps.items()]
         self.patches += [self.patched(kind, "_free", -1) for kind in (Scheduler, Monitor)]
         for patch in self.patches:

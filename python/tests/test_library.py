@@ -8,6 +8,7 @@ import sys
 import tempfile
 import unittest
 from pathlib import Path
+from typing import Any, List
 
 from edfvd import Event, Status, Why, _library
 
@@ -53,18 +54,23 @@ class Declarations(unittest.TestCase):
     def test_calls(self) -> None:
         kinds = {
             "size_t": "c_ulong", "uint32_t": "c_uint", "uint64_t": "c_ulong", "bool": "c_bool", "void *": "c_char_p",
-            "char *const *": "LP_c_char_p", "uint32_t *": "LP_c_uint", "uint64_t *": "LP_c_ulong", "size_t *": "LP_c_ulong",
+            "const void *": "c_char_p", "const char *const *": "LP_c_char_p", "uint32_t *": "LP_c_uint", "uint64_t *": "LP_c_ulong", "size_t *": "LP_c_ulong",
         }
         kinds.update({f"{name} *": f"LP_{struct.__name__}" for name, struct in _library.STRUCTS.items()})
         kinds.update({"edfvd_scheduler *": "LP_CScheduler", "edfvd_monitor *": "LP_CMonitor"})
+        packed: List[Any] = [_library.PackedTasks, _library.PackedDemands, _library.PackedRows]
+        kinds.update({f"const {name} *": kind.__name__ for name, struct in _library.STRUCTS.items() for kind in packed
+                      if kind.element is struct})
         calls = dict(re.findall(r"^edfvd_status (edfvd_\w+)\((.*?)\);", self.header, re.S | re.M))
-        self.assertEqual(set(calls), set(_library.CALLS))
+        declared_calls = dict(_library.CALLS.values())
+        self.assertEqual(set(calls), set(declared_calls))
+        self.assertEqual(len(declared_calls), len(_library.CALLS))
         for name, parameters in calls.items():
             declared = []
             for parameter in re.sub(r"(\w+)\[\d+\]", r"*\1", parameters).split(","):
-                kind = re.sub(r"\w+$", "", " ".join(parameter.split())).replace("const ", "", 1).strip()
+                kind = re.sub(r"\w+$", "", " ".join(parameter.split())).strip()
                 declared.append(kinds[kind])
-            self.assertEqual(declared, [kind.__name__ for kind in _library.CALLS[name]], name)
+            self.assertEqual(declared, [kind.__name__ for kind in declared_calls[name]], name)
 
     def test_numbers(self) -> None:
         numbers = {name: int(number) for name, number in re.findall(r"\bEDFVD_(\w+) = (\d+)", self.header)}
@@ -81,11 +87,11 @@ class OtherLibraries(unittest.TestCase):
             [sys.executable, "-c", "import edfvd"], env={**os.environ, "EDFVD_LIBRARY": library}, capture_output=True,
             text=True, check=False, timeout=60,
         )
-        self.assertEqual(done.returncode, 0 if library == _library.library._name else 1)
+        self.assertEqual(done.returncode, 0 if library == _library.library.path else 1)
         return done.stderr.strip().split("\n")[-1]
 
     def test_named_by_the_environment(self) -> None:
-        self.assertEqual(self.imported(_library.library._name), "")
+        self.assertEqual(self.imported(_library.library.path), "")
 
     def test_no_library(self) -> None:
         with tempfile.TemporaryDirectory() as folder:

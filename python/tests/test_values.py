@@ -79,7 +79,7 @@ class Sets(Case):
     def test_levels(self) -> None:
         for level in ("", "middle", "High", "low\n"):
             self.raises(ValueError, f"task a: the level is {level!r}, and not 'low' or 'high'", [Task("a", level, 4, 1)])
-        for wrong in (None, 1, b"low", ["low"]):
+        for wrong in (None, 1, b"low", ["low"], memoryview(b"abcd").cast("I")):
             self.raises(TypeError, "task a: the level must be a str", [Task("a", wrong, 4, 1)])
 
     def test_numbers(self) -> None:
@@ -99,6 +99,47 @@ class Sets(Case):
         self.raises(TypeError, "a task set has Task objects, not str", "ctl")
         self.raises(TypeError, "a task set has Task objects, not tuple", [("ctl", "high", 10, 2, 6)])
         self.raises(TypeError, "a task set has Task objects, not Demand", [Demand("a", 4, 2, 1)])
+
+    def test_numbers_of_numpy(self) -> None:
+        """Numbers and arrays as numpy has them are taken, except those with a fraction and those that are true or false."""
+        try:
+            import numpy
+        except ImportError:
+            self.skipTest("there is no numpy")
+        kinds: List[Any] = [numpy.int8, numpy.uint8, numpy.int32, numpy.uint32, numpy.int64, numpy.uint64]
+        for kind in kinds:
+            tasks = [Task("ctl", "high", kind(10), kind(2), kind(6)), Task("log", "low", kind(10), kind(5))]
+            self.assertEqual(check(tasks), check(CONTROL))
+            self.assertEqual(partition(CONTROL, kind(2)), partition(CONTROL, 2))
+            self.assertTrue(judge(CONTROL, [Row(kind(1), "ctl", kind(1))]).legal)
+        for wrong in (numpy.float64(10), numpy.bool_(True), numpy.array([10, 20]), numpy.nan):
+            self.raises(TypeError, "task a: the period must be a whole number", [Task("a", "low", wrong, 1)])
+        self.raises(ValueError, "task a: the period is -1", [Task("a", "low", numpy.int64(-1), 1)])
+        self.raises(TypeError, "a task set has Task objects", numpy.zeros(3))
+
+    def test_a_task_without_its_fields(self) -> None:
+        """What was made without ``__init__`` has no fields, and is named as any other wrong type."""
+        self.raises(TypeError, "a Task has no name", [Task.__new__(Task)])
+        cases: List[Tuple[Any, Callable[[Any], object]]] = [
+            (Row, lambda one: judge(CONTROL, [one])), (Row, lambda one: Monitor(CONTROL).observe(one)),
+            (Demand, lambda one: demand([one])),
+        ]
+        for wrong, call in cases:
+            with self.assertRaisesRegex(TypeError, f"a {wrong.__name__} has no "):
+                call(wrong.__new__(wrong))
+
+    def test_a_set_is_told_from_the_next(self) -> None:
+        """Names that were right in one set are looked at again in the next, where a value of another type may be equal to one."""
+        class Like(str):
+            pass
+
+        self.assertEqual(check([Task("x9", "low", 4, 1)]), check([Task(Like("x9"), "low", 4, 1)]))
+        self.assertIs(type(partition([Task(Like("x9"), "low", 4, 1)], 1)[0][0]), str)
+        for place in range(300):
+            many = [Task(f"n{place}_{number}", "low", 1000, 1) for number in range(100)]
+            self.assertIsNotNone(check(many).rule)
+        self.raises(ValueError, "is no name", [Task("x9", "low", 4, 1), Task("x 9", "low", 4, 1)])
+        self.raises(ValueError, "two tasks have the name x9", [Task("x9", "low", 4, 1), Task("x9", "low", 4, 1)])
 
     def test_what_can_stand_for_a_value(self) -> None:
         tasks = [Task(Named.CTL, "high", Index(10), 2, Numeric(6)), Task(Named.LOG, "low", 10, Index(5))]
@@ -162,11 +203,28 @@ class Calls(Case):
         """The number of an event stands for it; one that would wrap to it in 32 bits does not."""
         for number in (2**32 + 1, 9 - 2**32, -1, 0, 10, 2**64 + 1, 10**5000):
             with self.subTest(number=str(number)[:30] if number < 2**99 else "large"):
-                with self.assertRaises(ValueError):
+                with self.assertRaisesRegex(ValueError, "a row's event is .*, which is no event: those are 1 to 9"):
                     judge(CONTROL, [Row(number, "ctl", 1)])
                 with Monitor(CONTROL) as monitor, self.assertRaises(ValueError):
                     monitor.observe(Row(number, "ctl", 1))
         self.assertTrue(judge(CONTROL, [Row(1, "ctl", 1)]).legal)
+
+    def test_each_event_of_a_row(self) -> None:
+        """The seven events that a trace has are taken, and the two that only a scheduler answers are refused."""
+        for event in Event:
+            rows = [Row(event) if event is Event.IDLE else Row(event, "ctl", 1)]
+            for given in (rows, [Row(int(event), rows[0].task, rows[0].count)]):
+                with self.subTest(event=event, kind=type(given[0].event)):
+                    if event in (Event.HELD, Event.GIVEN):
+                        self.assertIs(self.refused(lambda: judge(CONTROL, given)).status, Status.ARGUMENT)
+                    else:
+                        self.assertEqual(judge(CONTROL, given).legal, event in (Event.KEPT, Event.IDLE))
+
+    def test_a_refusal_of_no_status(self) -> None:
+        for wrong in ("EMPTY", 0, 99, None, -1, 2**64):
+            with self.subTest(wrong=wrong), self.assertRaises(ValueError):
+                untyped.Refused(wrong)
+        self.assertIs(untyped.Refused(1).status, Status.EMPTY)
 
     def test_a_scale_that_is_a_whole_number(self) -> None:
         self.assertTrue(judge(CONTROL, [], 1).legal)
