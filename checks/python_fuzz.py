@@ -4,7 +4,9 @@
   raises TypeError, ValueError, an exception of the package, or what its own list raised;
 - events of a scheduler or a monitor among such calls. Its rows stay legal, and it cannot be copied or pickled;
 - a call on a good set, whose result is compared with fractions that are computed here from the definitions, and a verdict with
-  that of model.py.
+  that of model.py;
+- a file in one of many forms, mostly with a damage: it is read where the program reads it, with values of which the program
+  says what it says of the file, and refused with the program's message elsewhere.
 
 At the end threads share lists and handles, and exceptions come back from a process pool. The lengths that are passed to the
 library are measured all the while. The output depends on CALLS and SEED alone. EDFVD_LIBRARY may name a library with the
@@ -172,11 +174,16 @@ def wild_scale(dice):
 # A call with values of any kind.
 def wild_call(dice):
     tasks = wild_set(dice)
+    rows = formed(dice, [wild_row(dice) for _ in range(dice.randint(0, 6))])
     dice.choice([
+        lambda: edfvd.write_tasks(tasks, scale=wild_scale(dice)), lambda: edfvd.write_trace(tasks, rows),
+        lambda: edfvd.read_tasks(text=wild_bytes(dice)), lambda: edfvd.read_trace(tasks, text=wild_bytes(dice)),
+        lambda: edfvd.read_work(tasks, text=wild_bytes(dice)), lambda: edfvd.chart(tasks, rows, wild_scale(dice)),
+        lambda: edfvd.svg(tasks, rows, perhaps(dice, 0), perhaps(dice, 5)), lambda: edfvd.Trace.of(rows),
         lambda: edfvd.check(tasks), lambda: edfvd.stretch(tasks), lambda: edfvd.partition(tasks, small(dice, 1, 16)),
         lambda: edfvd.accept(perhaps(dice, 7), small(dice, 1, 3), small(dice, 2, 8)),
         lambda: edfvd.demand(wild_demands(dice)),
-        lambda: edfvd.judge(tasks, formed(dice, [wild_row(dice) for _ in range(dice.randint(0, 6))]), wild_scale(dice)),
+        lambda: edfvd.judge(tasks, rows, wild_scale(dice)),
         lambda: edfvd.run(tasks, wild_jobs(dice), small(dice, 1, 60)),
         lambda: edfvd.ask(wild_words(dice), wild_bytes(dice), wild_bytes(dice)),
     ])()
@@ -365,6 +372,87 @@ def exact_verdict(dice):
     agree(f'{line}\n', model.verdict(given, rule, model_runs(tasks, rows))[1], 'judge', tasks, rows, scale)
 
 
+# ---- Files ----
+
+# The text with some of its characters changed, taken away, doubled or put elsewhere, in half of the cases.
+def damaged(dice, text):
+    while text and dice.random() < 0.4:
+        at = dice.randrange(len(text))
+        piece = dice.choice(['', text[at] * 2, dice.choice('"\'\\[]{},=.#\n\r 09x_'), text[dice.randrange(len(text)):][:9]])
+        text = text[:at] + piece + text[at + 1:]
+    return text
+
+
+# A number, a word and a table in one of the forms that TOML 1.0 and 1.1 have for it.
+def toml_number(dice, number):
+    return dice.choice([str(number), f'+{number}', f'0x{number:x}', f'0o{number:o}', f'0b{number:b}'])
+
+
+def escaped(dice, word):
+    return ''.join(dice.choice([one, one, f'\\x{ord(one):02x}', f'\\u{ord(one):04X}']) for one in word)
+
+
+def toml_key(dice, word):
+    return dice.choice([word, f'"{word}"', f"'{word}'", f'"{escaped(dice, word)}"'])
+
+
+def toml_word(dice, word):
+    return dice.choice([f'"{word}"', f"'{word}'", f'"{escaped(dice, word)}"', f'"""{escaped(dice, word)}"""', f"'''\n{word}'''"])
+
+
+def toml_table(dice, task):
+    pairs = [('name', toml_word(dice, task.name)), ('level', toml_word(dice, task.level))]
+    pairs += [(key, toml_number(dice, value)) for key, value in vars(task).items() if isinstance(value, int)]
+    dice.shuffle(pairs)
+    pairs = [f'{toml_key(dice, key)} = {value}' for key, value in pairs]
+    blank = dice.choice(['', ' ', '\n', ' # "}\n'])
+    return '{' + blank + f',{blank}'.join(pairs) + dice.choice(['', ',']) + blank + '}'
+
+
+# What the program says of files: whether its readers take them, or their message, and the verdict.
+def said(*texts):
+    ended, reply = edfvd.ask(['judge', '1', '2', '1', '1'], *(text.encode() for text in texts))
+    return (ended, reply.decode()) if ended in (0, 6) else edfvd.CommandRefused(ended, reply.decode().rstrip('\n'))
+
+
+# The value of the call, or the refusal that it raises, which must be that of the program, if that refuses.
+def as_said(found, call, what, *given):
+    try:
+        value = call()
+    except edfvd.CommandRefused as refused:
+        agree((refused.exit_status, str(refused)), (getattr(found, 'exit_status', None), str(found)), what, *given)
+        return None
+    agree(isinstance(found, edfvd.CommandRefused), False, what, *given)
+    return value
+
+
+def exact_task_file(dice):
+    tasks = good_set(dice)
+    head = dice.choice(['', 'version = 1\n', 'version = 2\nscale = [2, 4]\n'])
+    tables = dice.choice([', ', ',\n']).join(toml_table(dice, task) for task in tasks)
+    text = damaged(dice, f'{head}task = [{tables}]\n')
+    rows = 'event,tick,task,job,how\n'
+    found = as_said(said(text, rows), lambda: edfvd.read_tasks(text=text), 'read_tasks', text)
+    if found is not None:
+        again = edfvd.write_tasks(found.tasks, scale=found.scale)
+        agree(edfvd.ask(['check', '1'], again.encode()), edfvd.ask(['check', '1'], text.encode()), 'check', text, again)
+        agree(edfvd.read_tasks(text=again), found, 'write_tasks', text)
+
+
+def exact_trace_file(dice):
+    tasks, scale = good_set(dice), Fraction(1)
+    rows, _ = likely_rows(dice, tasks, scale)
+    text = edfvd.write_trace(tasks, rows)
+    agree(list(edfvd.read_trace(tasks, text=text)), rows, 'read_trace', text)
+    text, first = damaged(dice, text), edfvd.write_tasks(tasks)
+    verdict = said(first, text)
+    found = as_said(verdict, lambda: edfvd.read_trace(tasks, text=text), 'read_trace', text)
+    if found is not None:
+        agree(said(first, edfvd.write_trace(tasks, found)), verdict, 'write_trace', text)
+        if len(found) < 10**6:
+            agree(edfvd.judge(tasks, found, scale).legal, verdict[1].startswith('legal'), 'judge', text)
+
+
 # ---- Threads and processes ----
 
 # Runs the functions side by side, and passes on what one of them raises.
@@ -469,7 +557,7 @@ def one_call(dice, seen):
     elif kind < 0.75:
         handle_calls(dice, seen)
     elif kind < 0.99:
-        dice.choice([exact_tests, exact_tests, exact_demand, exact_verdict, exact_verdict])(dice)
+        dice.choice([exact_tests, exact_tests, exact_demand, exact_verdict, exact_verdict, exact_task_file, exact_trace_file])(dice)
     else:
         exact_stretch(dice)
 

@@ -15,15 +15,18 @@ not allow, or a high task without its high budget. docs/C-AND-PYTHON.md in the r
 from ._calls import accept, check, demand, judge, partition, stretch
 from ._commands import ask, run
 from ._errors import CommandRefused, EdfvdError, Refused, Status
+from ._files import TaskFile, chart, read_tasks, read_trace, read_work, report, svg, write_tasks, write_trace
 from ._monitor import Monitor
 from ._scheduler import Scheduler
 from ._sensitivity import GreatestBudgets, ScaleRange, scales, sensitivity, speed
+from ._trace import Trace
 from ._values import (
     Answer, Demand, DemandVerdict, Event, Job, Late, Look, Row, Rule, Task, Test, Unfit, Verdict, Watch, Why,
 )
 
 __all__ = [
     "Answer", "CommandRefused", "Demand", "DemandVerdict", "EdfvdError", "Event", "GreatestBudgets", "Job", "Late", "Look",
-    "Monitor", "Refused", "Row", "Rule", "ScaleRange", "Scheduler", "Status", "Task", "Test", "Unfit", "Verdict", "Watch", "Why",
-    "accept", "ask", "check", "demand", "judge", "partition", "run", "scales", "sensitivity", "speed", "stretch",
+    "Monitor", "Refused", "Row", "Rule", "ScaleRange", "Scheduler", "Status", "Task", "TaskFile", "Test", "Trace", "Unfit", "Verdict",
+    "Watch", "Why", "accept", "ask", "chart", "check", "demand", "judge", "partition", "read_tasks", "read_trace", "read_work",
+    "report", "run", "scales", "sensitivity", "speed", "stretch", "svg", "write_tasks", "write_trace",
 ]

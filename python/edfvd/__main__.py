@@ -9,44 +9,9 @@ import errno
 import os
 import sys
 from fractions import Fraction
-from typing import Any, Dict, List, Optional, Sequence, Tuple
+from typing import List, Optional, Sequence
 
-from . import Refused, Rule, Task, ask, check, scales, sensitivity, speed
-
-_MOST_BYTES = 16_777_216
-
-
-class _Ends(Exception):
-    """The end of the command: a line and an exit status, which is the program's for the same fault."""
-
-    def __init__(self, status: int, line: str) -> None:
-        super().__init__(line)
-        self.status = status
-
-
-def read_tasks(path: str) -> Tuple[List[Task], Optional[Fraction]]:
-    """The tasks of a task file, and its scale if it has one. A file that the program refuses is refused with the program's line."""
-    try:
-        with open(path, "rb") as file:
-            given = file.read(_MOST_BYTES + 1)
-    except OSError as error:
-        raise _Ends(7, f"{path}: {error.strerror}") from error
-    ended, text = ask(["check", "1"], given)
-    if ended not in (0, 1):
-        raise _Ends(ended, text.decode().rstrip("\n"))
-    try:
-        import tomllib
-    except ImportError as error:
-        raise _Ends(3, "task files need Python 3.11 or newer") from error
-    try:
-        document: Dict[str, Any] = tomllib.loads(given.decode("utf-8-sig"))
-    except tomllib.TOMLDecodeError as error:
-        raise _Ends(3, f"task file: written in a form of TOML that Python's tomllib does not read: {error}") from error
-    tasks = [
-        Task(table["name"], table["level"], table["period"], table["low"], table.get("high")) for table in document["task"]
-    ]
-    return tasks, Fraction(*document["scale"]) if "scale" in document else None
-
+from . import CommandRefused, Refused, Rule, Task, check, read_tasks, scales, sensitivity, speed
 
 def _shown(fraction: Fraction) -> str:
     return f"{fraction.numerator}/{fraction.denominator}"
@@ -99,9 +64,15 @@ def main(words: Sequence[str]) -> int:
         return 2
     try:
         text = table(*read_tasks(words[1]))
-    except (_Ends, Refused) as ends:
-        sys.stderr.write(f"{ends}\n")
-        return ends.status
+    except CommandRefused as refused:
+        sys.stderr.write(f"{refused}\n")
+        return refused.exit_status
+    except Refused as refused:
+        sys.stderr.write(f"{refused}\n")
+        return refused.status
+    except OSError as error:
+        sys.stderr.write(f"{words[1]}: {error.strerror}\n")
+        return 7
     sys.stdout.write(text)
     sys.stdout.flush()
     return 0

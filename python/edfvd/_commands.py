@@ -44,7 +44,7 @@ def _asked(words: List[str], first: str, second: str = "", *passes: int) -> Tupl
     return ended, lines
 
 
-def _task_file(packed: bytes, names: Names) -> str:
+def task_file(packed: bytes, names: Names) -> str:
     """The tasks as a task file, in which a low task gives no high budget."""
     lines = []
     for name, (level, period, low, high) in zip(names.in_order, struct.iter_unpack("4I", packed)):
@@ -64,7 +64,7 @@ def run(tasks: Iterable[Task], jobs: Iterable[Job], ticks: int) -> List[Row]:
     """
     (packed, names), length = given_tasks(tasks), number(ticks, MOST_64, "ticks")
     work = ["task,release,need", *(f"{task},{release},{need}" for task, release, need in given_jobs(jobs))]
-    _, text = _asked(["run", "1", "2", str(length)], _task_file(packed, names), "\n".join(work) + "\n")
+    _, text = _asked(["run", "1", "2", str(length)], task_file(packed, names), "\n".join(work) + "\n")
     rows: List[Row] = []
     for line in text[1:]:
         event, _tick, ticks_of_line, task, count, how = line.split(",")

@@ -275,11 +275,22 @@ def _packed_rows(rows: Tuple[Row, ...], numbers: Dict[object, int]) -> Optional[
     return None
 
 
-def _careful_row(row: object, names: Names) -> Tuple[int, int, int]:
-    """A row's event, the number of its task, and its count; the first value that is wrong is named."""
+def checked_row(row: object) -> Row:
+    """The value, if it is a row with all of its fields."""
+    _fields_of_row(row)
+    return row  # type: ignore[return-value]
+
+
+def _fields_of_row(row: object) -> List[Any]:
+    """The event, the task and the count of a row."""
     if not isinstance(row, Row):
         raise TypeError(f"a trace has Row objects, not {_kind(row)}")
-    event, task, count = (_field(row, field) for field in ("event", "task", "count"))
+    return [_field(row, field) for field in ("event", "task", "count")]
+
+
+def _careful_row(row: object, names: Names) -> Tuple[int, int, int]:
+    """A row's event, the number of its task, and its count; the first value that is wrong is named."""
+    event, task, count = _fields_of_row(row)
     known = _event(event)
     of_task = 0 if task is None else names.number(task, "a row's task")
     return known, of_task, number(count, MOST_32, "a row's count")

@@ -6,7 +6,7 @@ import unittest
 from pathlib import Path
 
 import edfvd
-from edfvd import _calls, _commands, _errors, _monitor, _scheduler, _sensitivity
+from edfvd import _calls, _commands, _errors, _files, _monitor, _scheduler, _sensitivity, _trace
 
 DOCS = Path(__file__).resolve().parents[2] / "docs"
 PAGES = [DOCS / "C-AND-PYTHON.md", DOCS / "SENSITIVITY.md"]
@@ -14,7 +14,7 @@ PAGES = [DOCS / "C-AND-PYTHON.md", DOCS / "SENSITIVITY.md"]
 
 def load_tests(loader: unittest.TestLoader, tests: unittest.TestSuite, pattern: object) -> unittest.TestSuite:
     """Adds a test for each docstring with an example, and one for each page."""
-    for module in (edfvd, _calls, _commands, _errors, _monitor, _scheduler, _sensitivity):
+    for module in (edfvd, _calls, _commands, _errors, _files, _monitor, _scheduler, _sensitivity, _trace):
         tests.addTests(doctest.DocTestSuite(module))
     for page in filter(Path.exists, PAGES):
         text = re.sub(r"^```.*$", "", page.read_text(), flags=re.M)

@@ -122,7 +122,7 @@ class Sets(Case):
         self.raises(TypeError, "a Task has no name", [Task.__new__(Task)])
         cases: List[Tuple[Any, Callable[[Any], object]]] = [
             (Row, lambda one: judge(CONTROL, [one])), (Row, lambda one: Monitor(CONTROL).observe(one)),
-            (Demand, lambda one: demand([one])),
+            (Row, lambda one: untyped.Trace.of([one, one])), (Demand, lambda one: demand([one])),
         ]
         for wrong, call in cases:
             with self.assertRaisesRegex(TypeError, f"a {wrong.__name__} has no "):
