@@ -10,6 +10,8 @@ Time is counted in ticks, and task sets, jobs and rows are plain values. A call 
 :class:`Refused`, and one that a command of the program refuses raises :class:`CommandRefused`. Before any call, a value of a
 wrong type raises ``TypeError``, and one that cannot be meant raises ``ValueError``: a number out of range, a name that files do
 not allow, or a high task without its high budget. docs/C-AND-PYTHON.md in the repository says what is proved.
+
+:mod:`edfvd.laboratory` generates random sets, has tests to compare, and draws the curves of papers.
 """
 
 from ._calls import accept, check, demand, judge, partition, stretch
