@@ -22,7 +22,7 @@ def measured(what, call, count):
         begin = time.process_time_ns()
         call()
         least = min(least, (time.process_time_ns() - begin) / count)
-    print(f'{what:24} {least / 1000:9.3f}')
+    print(f'{what:38} {least / 1000:9.3f}')
 
 
 def random_like_set(edfvd, count):
@@ -43,6 +43,23 @@ def rows_in_turn(edfvd, tasks):
     return rows[:ROWS]
 
 
+def measure_arrays(edfvd, tasks, rows):
+    """Measures the calls that take arrays, of as many rows and half as many sets of 8 tasks."""
+    from edfvd._library import CRow, CTask
+    numbers = {task.name: number for number, task in enumerate(tasks, 1)}
+    array = (CRow * ROWS)(*[(row.event, numbers[row.task], row.count) for row in rows])
+    measured('a row judged, of an array', lambda: edfvd.judge(tasks, array), ROWS)
+
+    def observed():
+        with edfvd.Monitor(tasks) as monitor:
+            monitor.observe_all(array)
+
+    measured('a row observed, of an array', observed, ROWS)
+    count, one = ROWS // 2, [(0, 10_000, 416, 416), (1, 10_000, 416, 625)] * 4
+    sets, offsets = (CTask * (8 * count))(*(one * count)), range(0, 8 * count + 1, 8)
+    measured('a set of 8 tasks checked, of an array', lambda: edfvd.check_many(sets, offsets), count)
+
+
 def main(words):
     if words:
         raise WrongWords
@@ -60,6 +77,8 @@ def main(words):
 
     measured('a row observed', observed, ROWS)
     measured('a row judged', lambda: edfvd.judge(tasks, rows), ROWS)
+    if hasattr(edfvd, 'check_many'):
+        measure_arrays(edfvd, tasks, rows)
     return 0
 
 

@@ -171,6 +171,14 @@ def wild_scale(dice):
     return perhaps(dice, dice.choice([None, Fraction(1), Fraction(2, 5)]))
 
 
+# An array of rows or of tasks with random numbers, or something else that has a buffer, or nothing of the kind.
+def wild_array(dice):
+    kind, width = dice.choice([(edfvd._library.CRow, 3), (edfvd._library.CTask, 4)])
+    array = (kind * 5)(*[tuple(dice.choice([0, 1, 2, 9, 10, 2**32 - 1]) for _ in range(width)) for _ in range(5)])
+    view = memoryview(array)
+    return perhaps(dice, dice.choice([array, view, view[::-1], view[1:1], bytes(array), memoryview(bytes(array)).cast('I')]))
+
+
 # A call with values of any kind.
 def wild_call(dice):
     tasks = wild_set(dice)
@@ -184,6 +192,9 @@ def wild_call(dice):
         lambda: edfvd.accept(perhaps(dice, 7), small(dice, 1, 3), small(dice, 2, 8)),
         lambda: edfvd.demand(wild_demands(dice)),
         lambda: edfvd.judge(tasks, rows, wild_scale(dice)),
+        lambda: edfvd.judge(tasks, wild_array(dice), wild_scale(dice)),
+        lambda: list(edfvd.check_many(formed(dice, [tasks, good_set(dice)]))),
+        lambda: list(edfvd.check_many(wild_array(dice), formed(dice, sorted(small(dice, 0, 5) for _ in range(3))))),
         lambda: edfvd.run(tasks, wild_jobs(dice), small(dice, 1, 60)),
         lambda: edfvd.ask(wild_words(dice), wild_bytes(dice), wild_bytes(dice)),
     ])()
@@ -202,6 +213,7 @@ def scheduler_event(dice, scheduler):
         dice.choice([
             lambda: scheduler.release(task), lambda: scheduler.release(task), scheduler.idle, lambda: scheduler.grant(task),
             lambda: scheduler.outcome(task, perhaps(dice, 1), done=True), lambda: list(scheduler.rows(perhaps(dice, 2))),
+            lambda: scheduler.row_array(perhaps(dice, 2)),
         ])()
 
 
@@ -209,6 +221,7 @@ def monitor_event(dice, monitor):
     dice.choice([
         lambda: monitor.observe(wild_row(dice), perhaps(dice, 1)), lambda: monitor.would_fit(wild_row(dice), perhaps(dice, 1)),
         lambda: monitor.late(perhaps(dice, 0)), monitor.verdict, monitor.look,
+        lambda: monitor.observe_all(formed(dice, [wild_row(dice) for _ in range(3)])), lambda: monitor.observe_all(wild_array(dice)),
     ])()
 
 
@@ -250,6 +263,7 @@ def handle_calls(dice, seen):
         if dice.random() < 0.1:
             refused_ways(dice, handle, seen)
     if is_good and event is scheduler_event:
+        agree(edfvd.judge(tasks, handle.row_array()), edfvd.Verdict(None, None, 0, None), 'an array of a schedule', tasks)
         agree(edfvd.judge(tasks, handle.rows()), edfvd.Verdict(None, None, 0, None), 'a schedule', tasks)
     if dice.random() < 0.5:
         handle.close()
@@ -307,6 +321,11 @@ def exact_tests(dice):
     tasks = good_set(dice)
     found = edfvd.check(tasks)
     agree((found.low_low, found.high_low, found.high_high, found.rule, found.scale), tested(tasks), 'check', tasks)
+    both = [tasks, good_set(dice)]
+    agree(list(edfvd.check_many(both)), [edfvd.check(one) for one in both], 'check_many', both)
+    fields = [(int(task.level == 'high'), task.period, task.low, task.high or task.low) for one in both for task in one]
+    array = (edfvd._library.CTask * len(fields))(*fields)
+    agree(list(edfvd.check_many(array, [0, len(tasks), len(fields)])), [edfvd.check(one) for one in both], 'check_many', fields)
     processors = dice.randint(1, 4)
     try:
         parts = edfvd.partition(tasks, processors)
@@ -363,6 +382,11 @@ def exact_verdict(dice):
     rows, watched = likely_rows(dice, tasks, scale)
     found = edfvd.judge(tasks, rows, scale)
     agree(watched, found, 'a monitor', tasks, rows, scale)
+    for given in (rows, edfvd.Trace.of(rows)):
+        with edfvd.Monitor(tasks, scale) as monitor:
+            unfit = monitor.observe_all(given)
+            agree(unfit and unfit.place, found.place, 'observe_all', tasks, rows, scale)
+            agree(monitor.verdict(), found, 'observe_all', tasks, rows, scale)
     if found.legal:
         line = f'legal late {found.late}' + (' first {} {}'.format(*found.first) if found.first else '')
     else:

@@ -19,8 +19,8 @@ ROOT = HERE.parent
 
 LIBRARY = "libedfvd.so"
 PACKAGE = [
-    "__init__.py", "__main__.py", "_calls.py", "_commands.py", "_errors.py", "_files.py", "_given.py", "_handle.py", "_library.py",
-    "_monitor.py", "_picture.py", "_scheduler.py", "_sensitivity.py", "_toml.py", "_trace.py", "_values.py", "laboratory.py", "py.typed",
+    "__init__.py", "__main__.py", "_arrays.py", "_calls.py", "_commands.py", "_errors.py", "_files.py", "_given.py", "_handle.py", "_library.py",
+    "_many.py", "_monitor.py", "_picture.py", "_scheduler.py", "_sensitivity.py", "_toml.py", "_trace.py", "_values.py", "laboratory.py", "py.typed",
 ]
 LICENCES = ["LICENSE-APACHE", "LICENSE-MIT"]
 # The licences of what is linked into the library, in a repository that has them.

@@ -6,13 +6,16 @@ import struct
 from fractions import Fraction
 from typing import Dict, Iterable, List, Optional
 
+from ._arrays import Rows, row_view
 from ._commands import counterexample
 from ._errors import Refused, Status
-from ._given import MOST_32, MOST_64, ROW_BYTES, Names, given_demands, given_rows, given_tasks, number, parts_of
+from ._given import MOST_32, MOST_64, ROW_BYTES, Names, given_demands, given_row, given_rows, given_tasks, number, parts_of
 from ._library import CDemandTest, CTest, CVerdict, library, u32
+from ._trace import Trace
 from ._values import Demand, DemandVerdict, Row, Rule, Task, Test, Verdict, Why
 
 
+_MOST_ROWS = 2_000_000
 _RULES = (None, Rule.PLAIN, Rule.VIRTUAL)
 _fields_of_test = struct.Struct("2I9Q").unpack
 
@@ -101,10 +104,24 @@ def verdict_of(names: Names, verdict: CVerdict) -> Verdict:
     )
 
 
-def judge(tasks: Iterable[Task], rows: Iterable[Row], scale: Optional[Fraction] = None) -> Verdict:
+def _packed(rows: Rows, names: Names) -> bytes:
+    """The rows as the library takes them. A trace of more rows than it takes is cut, to one row too many."""
+    view = row_view(rows)
+    if view is not None:
+        return view.tobytes()
+    if isinstance(rows, Trace) and len(rows) > _MOST_ROWS:
+        return given_row(rows[0], names) * (_MOST_ROWS + 1)
+    if isinstance(rows, Trace):
+        return b"".join([given_row(row, names) * times for row, times in rows.runs])
+    return given_rows(rows, names)  # type: ignore[arg-type]
+
+
+def judge(tasks: Iterable[Task], rows: Rows, scale: Optional[Fraction] = None) -> Verdict:
     """The verdict on a trace, the oldest row first.
 
-    The rule is that of the published test, or EDF-VD with ``scale``, above 0 and at most 1, whether or not the test holds.
+    The rule is that of the published test, or EDF-VD with ``scale``, above 0 and at most 1, whether or not the test holds. The rows
+    are ``Row`` objects, or an array of ``edfvd_row``, such as a structured array of numpy with the fields event, task (its number,
+    from 1) and count.
 
     >>> from edfvd import Event
     >>> control = [Task("ctl", "high", period=10, low=2, high=6), Task("log", "low", period=10, low=5)]
@@ -112,7 +129,7 @@ def judge(tasks: Iterable[Task], rows: Iterable[Row], scale: Optional[Fraction] 
     Verdict(why=<Why.IDLE_PENDING: 7>, place=2, late=0, first=None)
     """
     packed, names = given_tasks(tasks)
-    trace, verdict = given_rows(rows, names), CVerdict()
+    trace, verdict = _packed(rows, names), CVerdict()
     status = library.judge(packed, len(names), trace, len(trace) // ROW_BYTES, *parts_of(scale), verdict)
     if status:
         raise names.refused(status, verdict.task)

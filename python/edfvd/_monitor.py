@@ -3,14 +3,20 @@
 from __future__ import annotations
 
 from fractions import Fraction
-from typing import Callable, Iterable, List, Optional
+from itertools import islice
+from typing import Any, Callable, Iterable, Iterator, List, Optional, Tuple
 
+from ._arrays import Rows, parts, row_view
 from ._calls import verdict_of
 from ._errors import Refused, Status
-from ._given import MOST_32, MOST_64, given_row, given_tasks, number, parts_of
+from ._given import MOST_32, MOST_64, ROW_BYTES, given_row, given_rows, given_tasks, number, parts_of
 from ._handle import Handle
 from ._library import CLate, CMonitor, CUnfit, CVerdict, CWatch, library, u64
+from ._trace import Trace
 from ._values import Late, Row, Task, Unfit, Verdict, Watch, Why
+
+
+_CHUNK = 4096
 
 
 class Monitor(Handle):
@@ -47,6 +53,53 @@ class Monitor(Handle):
         A tick of a job with more to do and an idle tick may come many ``times`` at once.
         """
         return self._found(library.monitor_observe, row, times)
+
+    def observe_all(self, rows: Rows) -> Optional[Unfit]:
+        """Take the rows in order up to the first one that does not fit, and return that one, or None.
+
+        The rows are ``Row`` objects, a :class:`Trace`, of which each run is taken at once, or an array of ``edfvd_row``, such as a
+        structured array of numpy or what ``Scheduler.row_array`` returns. If a row is refused, those before it are taken.
+
+        >>> from edfvd import Event
+        >>> with Monitor([Task("a", "low", period=4, low=2)]) as monitor:
+        ...     monitor.observe_all([Row(Event.IDLE), Row(Event.KEPT, "a", 1), Row(Event.IDLE)])
+        Unfit(why=<Why.IDLE_PENDING: 7>, place=3)
+        """
+        unfit, observe, held = CUnfit(), library.monitor_observe, self._held
+        for packed, times in self._runs(rows):
+            status = observe(held, packed, times, unfit)
+            if status:
+                raise Refused(Status(status))
+            if unfit.why:
+                return Unfit(Why(unfit.why), unfit.place)
+        return None
+
+    def _runs(self, rows: Rows) -> Iterator[Tuple[bytes, int]]:
+        """The rows as the library takes them, with how many of each come at once."""
+        view = row_view(rows)
+        if isinstance(rows, Trace):
+            for row, times in rows.runs:
+                packed = given_row(row, self._names)
+                for left in range(times, 0, -MOST_32):
+                    yield packed, min(left, MOST_32)
+            return
+        chunks = parts(view, _CHUNK) if view is not None else self._chunks(rows)
+        for chunk in chunks:
+            for begin in range(0, len(chunk), ROW_BYTES):
+                yield chunk[begin:begin + ROW_BYTES], 1
+
+    def _chunks(self, rows: Iterable[Any]) -> Iterator[bytes]:
+        """Rows of an iterable, some at once; a row that is wrong is found when those before it are taken."""
+        left = iter(rows)
+        while True:
+            some = tuple(islice(left, _CHUNK))
+            if not some:
+                return
+            try:
+                yield given_rows(some, self._names)
+            except (TypeError, ValueError):
+                for row in some:
+                    yield given_row(row, self._names)
 
     def would_fit(self, row: Row, times: int = 1) -> Optional[Unfit]:
         """What :meth:`observe` would return for the row, which is not taken.

@@ -2,6 +2,7 @@
 
 from __future__ import annotations
 
+import ctypes
 from typing import Iterable, Iterator, Optional
 
 from ._errors import Refused, Status
@@ -116,6 +117,25 @@ class Scheduler(Handle):
         [Row(event=<Event.KEPT: 1>, task='a', count=1)]
         """
         return self._rows(number(since, MOST_64, "since"), self.look().rows)
+
+    def row_array(self, since: int = 0) -> "ctypes.Array[CRow]":
+        """The rows so far, without the first ``since`` of them, as an array of ``edfvd_row``.
+
+        It has the buffer protocol: ``numpy.asarray`` makes a structured array of it, and :func:`judge` and ``Monitor.observe_all``
+        take it. The task of a row is its number, from 1.
+
+        >>> with Scheduler([Task("a", "low", period=4, low=2)], places=100) as scheduler:
+        ...     _ = scheduler.idle(), scheduler.release("a")
+        ...     [(row.event, row.task, row.count) for row in scheduler.row_array()]
+        [(9, 0, 0), (1, 1, 1)]
+        """
+        first, end = number(since, MOST_64, "since"), self.look().rows
+        array = (CRow * max(0, end - first))()
+        for place, row in enumerate(array, first):
+            status = library.scheduler_row(self._held, place, row)
+            if status:
+                raise Refused(Status(status))
+        return array
 
     def _rows(self, since: int, end: int) -> Iterator[Row]:
         row = CRow()
