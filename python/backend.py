@@ -4,6 +4,7 @@ The wheel has the files that are listed here and no others, and the same files m
 umask goes into it, and nothing is compressed, since what a compressor writes depends on its version.
 """
 
+import ast
 import base64
 import hashlib
 import re
@@ -20,11 +21,21 @@ ROOT = HERE.parent
 LIBRARY = "libedfvd.so"
 PACKAGE = [
     "__init__.py", "__main__.py", "_arrays.py", "_calls.py", "_commands.py", "_errors.py", "_files.py", "_given.py", "_handle.py", "_library.py",
-    "_many.py", "_monitor.py", "_picture.py", "_scheduler.py", "_sensitivity.py", "_toml.py", "_trace.py", "_values.py", "laboratory.py", "py.typed",
+    "_many.py", "_monitor.py", "_picture.py", "_scheduler.py", "_sensitivity.py", "_table.py", "_toml.py", "_trace.py", "_values.py", "laboratory.py", "py.typed",
 ]
 LICENCES = ["LICENSE-APACHE", "LICENSE-MIT"]
+# The tools that are commands of the package, and the modules that they share, in a repository that has them.
+TOOLS = [
+    "divisors.py", "explain.py", "jobs.py", "perfetto.py", "periods.py", "reading.py", "rules.py", "svg.py", "usage.py", "walk.py",
+    "workloads.py",
+]
 # The licences of what is linked into the library, in a repository that has them.
 LINKED = "THIRD-PARTY-LICENSES"
+KEYWORDS = "mixed criticality,real-time scheduling,EDF-VD,formal verification"
+CLASSIFIERS = [
+    "Intended Audience :: Science/Research", "Operating System :: POSIX :: Linux", "Programming Language :: Python :: 3",
+    "Topic :: Scientific/Engineering", "Typing :: Typed",
+]
 SUMMARY = "EDF-VD task sets tested, traces judged, and a scheduler driven event by event, by a proved library"
 
 
@@ -64,9 +75,12 @@ def _library() -> Path:
 def _metadata(licences: List[str]) -> str:
     """What the wheel says of the package."""
     files = "".join(f"License-File: {name}\n" for name in licences)
+    classifiers = "".join(f"Classifier: {one}\n" for one in CLASSIFIERS)
+    page = ast.get_docstring(ast.parse(_bytes_of(HERE / "edfvd" / "__init__.py", "it is part of the repository"))) or ""
     return (
-        f"Metadata-Version: 2.4\nName: edfvd\nVersion: {_version()}\nSummary: {SUMMARY}\nRequires-Python: >=3.9\n"
-        f"License-Expression: MIT OR Apache-2.0\n{files}"
+        f"Metadata-Version: 2.4\nName: edfvd\nVersion: {_version()}\nSummary: {SUMMARY}\nAuthor: The edfvd authors\n"
+        f"Keywords: {KEYWORDS}\n{classifiers}Requires-Python: >=3.9\n"
+        f"License-Expression: MIT OR Apache-2.0\n{files}Description-Content-Type: text/plain\n\n{page}\n"
     )
 
 
@@ -99,6 +113,9 @@ def build_wheel(wheel_directory: str, config_settings: object = None, metadata_d
     tag, info = f"py3-none-{machine}", f"edfvd-{_version()}.dist-info"
     licences = _licences()
     files = {f"edfvd/{name}": _bytes_of(HERE / "edfvd" / name, "it is part of the repository") for name in PACKAGE}
+    tools = ROOT / "tools"
+    if tools.exists():
+        files.update({f"edfvd/_tools/{name}": _bytes_of(tools / name, "it is part of the repository") for name in TOOLS})
     files[f"edfvd/{LIBRARY}"] = _bytes_of(_library(), "c/build.sh makes the library")
     files.update({f"{info}/licenses/{name}": text for name, text in licences.items()})
     files[f"{info}/METADATA"] = _metadata(list(licences)).encode()

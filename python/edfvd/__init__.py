@@ -27,6 +27,8 @@ from ._values import (
     Answer, Demand, DemandVerdict, Event, Job, Late, Look, Row, Rule, Task, Test, Unfit, Verdict, Watch, Why,
 )
 
+__version__ = "0.9.0"
+
 __all__ = [
     "Answer", "CommandRefused", "Demand", "DemandVerdict", "EdfvdError", "Event", "GreatestBudgets", "Job", "Late", "Look",
     "Monitor", "Refused", "Row", "Rule", "ScaleRange", "Scheduler", "Status", "Task", "TaskFile", "Test", "Tests", "Trace", "Unfit",

@@ -69,6 +69,9 @@ class Refused(EdfvdError):
         word = library.word(status).decode()
         super().__init__(word if task is None else f"task {task}: {word}")
 
+    def __repr__(self) -> str:
+        return f"Refused(Status.{self.status.name}, task={self.task!r}, at={self.at})"
+
     def __reduce__(self) -> Tuple[Type[Refused], Tuple[Status, Optional[str], int], Dict[str, Any]]:
         """How the exception is copied and pickled, so that it comes back from another process."""
         return type(self), (self.status, self.task, self.at), vars(self)
@@ -88,6 +91,9 @@ class CommandRefused(EdfvdError):
     def __init__(self, exit_status: int, text: str) -> None:
         self.exit_status = exit_status
         super().__init__(text)
+
+    def __repr__(self) -> str:
+        return f"CommandRefused({self.exit_status}, {str(self)!r})"
 
     def __reduce__(self) -> Tuple[Type[CommandRefused], Tuple[int, str], Dict[str, Any]]:
         """How the exception is copied and pickled, so that it comes back from another process."""

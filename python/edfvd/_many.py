@@ -4,7 +4,7 @@ from __future__ import annotations
 
 import array
 import ctypes
-from typing import Dict, Iterable, List, Optional, Sequence, Union, overload
+from typing import Callable, Dict, Iterable, List, Optional, Sequence, Tuple, Union, overload
 
 from ._arrays import task_view
 from ._calls import test_of
@@ -55,8 +55,17 @@ class Tests(Sequence[Test]):
             raise names.refused(self.statuses[at], task)
         return test_of(self.structs[at])
 
+    def __reduce__(self) -> Tuple[Callable[..., Tests], Tuple[bytes, bytes, Dict[int, Names]]]:
+        """How the tests are copied and pickled."""
+        return _again, (bytes(self.structs), self.statuses, self._names)
+
     def __repr__(self) -> str:
         return f"<Tests of {len(self)} sets, {self.admitted} admitted>"
+
+
+def _again(structs: bytes, statuses: bytes, names: Dict[int, Names]) -> Tests:
+    """Tests that were pickled."""
+    return Tests((CTest * len(statuses)).from_buffer_copy(structs), statuses, names)
 
 
 def check_many(sets: object, offsets: Optional[Iterable[int]] = None) -> Tests:

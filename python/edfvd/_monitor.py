@@ -38,6 +38,13 @@ class Monitor(Handle):
         packed, names = given_tasks(tasks)
         self._open(names, library.monitor_open, packed, len(names), *parts_of(scale))
 
+    def __repr__(self) -> str:
+        try:
+            watch = self.look()
+        except Refused as refused:
+            return f"<Monitor, {refused}>"
+        return f"<Monitor of {len(self._names)} tasks, {watch.rows} rows, {'legal' if watch.legal else 'illegal'}>"
+
     def _found(self, call: Callable[..., int], row: Row, times: int) -> Optional[Unfit]:
         if type(times) is not int or not 0 <= times <= MOST_32:
             times = number(times, MOST_32, "times")

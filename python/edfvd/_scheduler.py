@@ -37,6 +37,13 @@ class Scheduler(Handle):
             capacity = number(places, MOST_32, "places")
             self._open(names, library.scheduler_open, packed, len(names), capacity)
 
+    def __repr__(self) -> str:
+        try:
+            look = self.look()
+        except Refused as refused:
+            return f"<Scheduler, {refused}>"
+        return f"<Scheduler of {len(self._names)} tasks, {look.ticks} ticks, {look.rows} rows>"
+
     @classmethod
     def endless(cls, tasks: Iterable[Task]) -> Scheduler:
         """A scheduler without an end, which keeps the latest 256 rows alone.

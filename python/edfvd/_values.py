@@ -5,7 +5,7 @@ from __future__ import annotations
 import enum
 from dataclasses import dataclass
 from fractions import Fraction
-from typing import NamedTuple, Optional, Tuple
+from typing import Literal, NamedTuple, Optional, Tuple
 
 
 class Rule(enum.IntEnum):
@@ -50,7 +50,7 @@ class Task:
     """
 
     name: str
-    level: str
+    level: Literal["low", "high"]
     period: int
     low: int
     high: Optional[int] = None

@@ -34,6 +34,10 @@ class Words(Case):
         self.assertEqual(len(set(words)), len(Status))
         self.assertNotIn("an unknown status", words)
 
+    def test_shown(self) -> None:
+        self.assertEqual(repr(Refused(Status.ZERO_NUMBER, "log")), "Refused(Status.ZERO_NUMBER, task='log', at=0)")
+        self.assertEqual(repr(CommandRefused(4, "a b")), "CommandRefused(4, 'a b')")
+
     def test_kinds(self) -> None:
         self.assertTrue(issubclass(Refused, EdfvdError) and issubclass(CommandRefused, EdfvdError))
         self.assertFalse(issubclass(EdfvdError, (ValueError, TypeError)))

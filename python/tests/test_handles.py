@@ -106,6 +106,19 @@ class Copies(Case):
             handle.close()
 
 
+class Shown(Case):
+    def test_each_state(self) -> None:
+        with Scheduler(CONTROL, 100) as scheduler, Monitor(CONTROL) as monitor:
+            scheduler.idle()
+            scheduler.release("ctl")
+            monitor.observe(Row(Event.IDLE))
+            self.assertEqual(repr(scheduler), "<Scheduler of 2 tasks, 1 ticks, 2 rows>")
+            self.assertEqual(repr(monitor), "<Monitor of 2 tasks, 1 rows, legal>")
+            monitor.observe(Row(Event.KEPT, "ctl", 2))
+            self.assertEqual(repr(monitor), "<Monitor of 2 tasks, 1 rows, illegal>")
+        self.assertEqual((repr(scheduler), repr(monitor)), ("<Scheduler, closed>", "<Monitor, closed>"))
+
+
 class Opening(Case):
     def test_a_second_time(self) -> None:
         """An open handle is not opened again, and keeps its tasks; a closed one may be."""

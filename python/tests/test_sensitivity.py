@@ -132,8 +132,8 @@ class Command(unittest.TestCase):
 
     def test_words(self) -> None:
         usage = "usage: python3 -m edfvd sensitivity TASKS\n"
-        self.assertEqual(self.asked("", "--help"), (0, usage, ""))
-        for words in (["sensitivity"], ["scales", "x"], ["sensitivity", "x", "y"]):
+        self.assertEqual(self.asked("", "sensitivity", "--help"), (0, usage, ""))
+        for words in (["sensitivity"], ["sensitivity", "x", "y"]):
             self.assertEqual(self.asked("", *words), (2, "", usage))
 
     @unittest.skipIf(sys.version_info < (3, 11) or not os.path.exists("/dev/full"), "there is no tomllib or no full disk")

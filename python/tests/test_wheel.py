@@ -4,6 +4,7 @@ import base64
 import email
 import hashlib
 import os
+import re
 import shutil
 import subprocess
 import sys
@@ -13,8 +14,14 @@ import zipfile
 from pathlib import Path
 from typing import List, Optional
 
+import edfvd.__main__
+
 PYTHON = Path(__file__).resolve().parents[1]
 MODULES = sorted(path.name for path in (PYTHON / "edfvd").glob("*.py"))
+TOOLS = [
+    "divisors.py", "explain.py", "jobs.py", "perfetto.py", "periods.py", "reading.py", "rules.py", "svg.py", "usage.py", "walk.py",
+    "workloads.py",
+]
 BUILD = "import sys; sys.path.insert(0, '.'); import backend; print(backend.build_wheel(sys.argv[1]))"
 
 
@@ -26,6 +33,9 @@ class Wheel(unittest.TestCase):
         self.root = Path(folder.name)
         (self.root / "wheels").mkdir()
         (self.root / "python" / "edfvd").mkdir(parents=True)
+        (self.root / "tools").mkdir()
+        for name in TOOLS:
+            (self.root / "tools" / name).write_text(f"# {name}\n")
         for name in ("backend.py", "pyproject.toml"):
             shutil.copy(PYTHON / name, self.root / "python" / name)
         for name in [*MODULES, "py.typed"]:
@@ -52,7 +62,7 @@ class Wheel(unittest.TestCase):
         info = "edfvd-1.2.3.dist-info"
         licences = ["LICENSE-APACHE", "LICENSE-MIT", *(others or [])]
         return sorted(
-            [f"edfvd/{name}" for name in [*MODULES, "libedfvd.so", "py.typed"]]
+            [f"edfvd/{name}" for name in [*MODULES, "libedfvd.so", "py.typed"]] + [f"edfvd/_tools/{name}" for name in TOOLS]
             + [f"{info}/licenses/{name}" for name in licences] + [f"{info}/{name}" for name in ("METADATA", "RECORD", "WHEEL")]
         )
 
@@ -61,6 +71,7 @@ class Wheel(unittest.TestCase):
         package = self.root / "python" / "edfvd"
         for name in ("notes.txt", "_old.py", "libedfvd.so.1", ".env", "__init__.py~"):
             (package / name).write_text("of the user")
+        (self.root / "tools" / "mine.py").write_text("of the user")
         (package / "__pycache__").mkdir()
         (self.root / "LICENSE-OF-THE-USER").write_text("no")
         with zipfile.ZipFile(self.built()) as wheel:
@@ -69,6 +80,24 @@ class Wheel(unittest.TestCase):
             self.assertEqual(wheel.read("edfvd-1.2.3.dist-info/licenses/LICENSE-APACHE"), b"Apache")
             for name in MODULES:
                 self.assertEqual(wheel.read(f"edfvd/{name}"), (PYTHON / "edfvd" / name).read_bytes())
+            self.assertEqual(wheel.read("edfvd/_tools/walk.py"), b"# walk.py\n")
+
+    def test_a_package_without_tools(self) -> None:
+        shutil.rmtree(self.root / "tools")
+        with zipfile.ZipFile(self.built()) as wheel:
+            self.assertEqual(sorted(wheel.namelist()), [name for name in self.files() if "_tools" not in name])
+
+    @unittest.skipUnless((PYTHON.parent / "tools").exists(), "the tools are not beside the package")
+    def test_modules_of_the_tools(self) -> None:
+        """Each tool that the package runs is in the wheel, with all modules that it imports."""
+        tools = PYTHON.parent / "tools"
+        wanted, seen = [f"{name}.py" for name in edfvd.__main__.TOOLS], set()
+        while wanted:
+            name = wanted.pop()
+            seen.add(name)
+            imported = re.findall(r"^(?:from|import) (\w+)", (tools / name).read_text(), re.M)
+            wanted += [f"{one}.py" for one in imported if (tools / f"{one}.py").exists() and f"{one}.py" not in seen]
+        self.assertEqual(sorted(seen), TOOLS)
 
     def test_licences_of_what_is_linked(self) -> None:
         (self.root / "THIRD-PARTY-LICENSES").write_text("linked")
@@ -111,6 +140,9 @@ class Wheel(unittest.TestCase):
         with zipfile.ZipFile(path) as wheel:
             metadata = email.message_from_bytes(wheel.read("edfvd-1.2.3.dist-info/METADATA"))
             tags = email.message_from_bytes(wheel.read("edfvd-1.2.3.dist-info/WHEEL"))
+        self.assertEqual(metadata["Author"], "The edfvd authors")
+        self.assertIn("Typing :: Typed", metadata.get_all("Classifier", []))
+        self.assertTrue(str(metadata.get_payload()).startswith("EDF-VD in Python: the proved library of edfvd"))
         wanted = {"Name": "edfvd", "Version": "1.2.3", "License-Expression": "MIT OR Apache-2.0", "Requires-Python": ">=3.9"}
         self.assertEqual({key: metadata[key] for key in wanted}, wanted)
         self.assertEqual(tags["Root-Is-Purelib"], "false")
