@@ -94,7 +94,7 @@ def main(words):
     if not 1 <= len(words) <= 2:
         raise WrongWords
     program, page = os.path.abspath(words[0]), pathlib.Path(words[1]) if words[1:] else ROOT / 'docs/COMMANDS.md'
-    rows = list(rows_in(page.read_text(encoding='utf-8')))
+    rows = list(rows_in(page.read_text(encoding='utf-8', errors='replace')))
     if not os.access(METER, os.X_OK):
         print(f'costs: skipped, there is no {METER}', file=sys.stderr)
         return 0
