@@ -226,6 +226,16 @@ class Calls(Case):
                 untyped.Refused(wrong)
         self.assertIs(untyped.Refused(1).status, Status.EMPTY)
 
+    def test_a_task_of_a_row_that_is_no_name(self) -> None:
+        for wrong in (["ctl"], 1, b"ctl", {}, Index(1)):
+            rows = [Row(Event.KEPT, wrong, 1)]
+            calls: List[Callable[[], object]] = [
+                lambda: judge(CONTROL, rows), lambda: Monitor(CONTROL).observe(rows[0]), lambda: Monitor(CONTROL).observe_all(rows),
+            ]
+            for call in calls:
+                with self.subTest(wrong=wrong), self.assertRaisesRegex(TypeError, "^a task's name must be a str, not "):
+                    call()
+
     def test_a_scale_that_is_a_whole_number(self) -> None:
         self.assertTrue(judge(CONTROL, [], 1).legal)
         with self.assertRaises(ValueError):
