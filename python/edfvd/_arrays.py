@@ -42,7 +42,7 @@ def view_of(value: object, struct: _Struct) -> Optional[memoryview]:
         return None
     try:
         view = memoryview(value)  # type: ignore[arg-type]
-    except TypeError:
+    except (TypeError, ValueError, BufferError):  # no buffer, or one whose items have no format, as numpy's dates
         return None
     if view.format == "O":
         return None

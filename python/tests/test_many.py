@@ -231,6 +231,8 @@ class WithNumpy(Case):
             self.assertIsNone(monitor.observe_all(rows))
             self.assertEqual(monitor.look().rows, len(rows))
         self.assertTrue(judge(CONTROL, self.numpy.array([Row(Event.IDLE)] * 3, dtype=object)).legal)
+        with self.assertRaises(TypeError):
+            judge(CONTROL, self.numpy.array(["2026-12-01"], dtype="M8[D]"))
 
 
 if __name__ == "__main__":

@@ -128,7 +128,7 @@ class Sets(Case):
             with self.assertRaisesRegex(TypeError, f"a {wrong.__name__} has no "):
                 call(wrong.__new__(wrong))
 
-    def test_a_set_is_told_from_the_next(self) -> None:
+    def test_names_that_were_right_before(self) -> None:
         """Names that were right in one set are looked at again in the next, where a value of another type may be equal to one."""
         class Like(str):
             pass
