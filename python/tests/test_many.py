@@ -107,7 +107,7 @@ class ManySets(Case):
 
         wrong: List[Any] = [
             CONTROL, b"0" * 48, array.array("I", [0] * 12), (Turned * 3)(), (Signed * 3)(), (Large * 3)(), (CRow * 3)(), (CTest * 3)(),
-            table([(1, 2, 3)] * 3), memoryview(bytearray(48)).cast("i", (3, 4)), memoryview(bytearray(96)).cast("Q", (3, 4)), None, 5,
+            table([(1, 2, 3)] * 3), table([(1, 10, 2, 6, 0)] * 3), memoryview(bytearray(48)).cast("i", (3, 4)), memoryview(bytearray(96)).cast("Q", (3, 4)), None, 5,
         ]
         for value in wrong:
             with self.subTest(value=type(value)), self.assertRaises(TypeError):
@@ -136,7 +136,7 @@ class ArraysOfRows(Case):
                 with Monitor(CONTROL) as monitor:
                     self.assertIs(self.refused(lambda: monitor.observe_all(given)).status, status)
                     self.assertEqual(monitor.look().rows, 1)
-        wrong: List[Any] = [b"0" * 24, array.array("I", [9, 0, 0]), (CTask * 3)(), memoryview(b"123")]
+        wrong: List[Any] = [b"0" * 24, array.array("I", [9, 0, 0]), (CTask * 3)(), memoryview(b"123"), table([(9, 0, 0, 0)] * 3)]
         for value in wrong:
             with self.subTest(value=type(value)), self.assertRaises(TypeError):
                 judge(CONTROL, value)
