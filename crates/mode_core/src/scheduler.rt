@@ -87,7 +87,8 @@ impl<R: Recorder> Core<R> {
     ghost use Rattle.mode_core.specs.Timely.{IsTimely};
     ghost use Rattle.mode_core.specs.OneLive.{IsOneLive};
 
-    /// A core whose rows go to this recorder, which has taken no rows so far.
+    /// A core whose rows go to this recorder, which has taken no rows so far. If memory runs out, the set and the recorder are
+    /// dropped.
     ///
     /// `places` is the capacity in rows, including held releases and a granted tick. No later call allocates, except
     /// what the recorder allocates.
