@@ -14,3 +14,8 @@ abbrev pub Takes : {X Row Cause : Type 0} → (X → List Row → Type 0) → Re
 Takes {Row = Row} took (Ok x) says = (rows : List Row) × (says ≡ Ok rows) × took x rows
 Takes took (Err Memory) says = Unit {0}
 Takes took (Err refusal) says = says ≡ Err refusal
+
+-- if the text is refused, these rows, which stand before the refusal, were taken; of out of memory nothing is said
+abbrev pub TakesBefore : {Row Cause : Type 0} → (List Row → Type 0) → List Row → Fault Cause → Type 0
+TakesBefore took before Memory = Unit {0}
+TakesBefore took before refusal = took before

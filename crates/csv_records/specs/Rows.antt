@@ -39,6 +39,26 @@ abbrev pub rows_in : {Row Cause : Type 0} → (List (List ℕ) → Option (Means
     → List ℕ → Result (List Row) (Fault Cause)
 rows_in header no_header text = rows_of header no_header (records default_config (strip_bom text))
 
+-- what is accepted after these rows: one more row if the next record means one, and what is accepted after it; otherwise
+-- none
+abbrev pub accepted_with : {Row Cause : Type 0} → List Row → (List Row → List Row) → Result Row Cause → List Row
+accepted_with before more (Err cause) = before
+accepted_with before more (Ok row) = more (before ++ row ∷ [])
+
+-- these rows and then the rows of the records, up to the first record that is refused
+abbrev pub accepted_from : {R C : Type 0} → Means R C → List (List (List ℕ)) → List R → List R
+accepted_from means [] before = before
+accepted_from means (fields ∷ left) before = accepted_with before (accepted_from means left) (means before fields)
+
+-- the rows of these records up to the first record that is refused; none if that is the header
+abbrev pub accepted_of : {Row Cause : Type 0} → (List (List ℕ) → Option (Means Row Cause)) → List (List (List ℕ)) → List Row
+accepted_of header [] = []
+accepted_of header (first ∷ left) = option_map_or (λ m. accepted_from m left []) (header first) []
+
+-- the rows of a text up to the first record that is refused; all rows if none is
+abbrev pub accepted_in : {Row Cause : Type 0} → (List (List ℕ) → Option (Means Row Cause)) → List ℕ → List Row
+accepted_in header text = accepted_of header (records default_config (strip_bom text))
+
 -- reading ends after these rows more: there are no further records, or the next record is refused
 abbrev pub EndsWith : {Row Cause : Type 0} → Means Row Cause → List (List (List ℕ)) → List Row → List Row
     → Result (List Row) (Fault Cause) → Type 0

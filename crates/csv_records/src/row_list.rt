@@ -11,7 +11,7 @@ pub struct RowList<'a, M> {
 }
 
 impl<'a, M: RowReader> TakesRows for RowList<'a, M> {
-    ghost use Rattle.std.specs.Prelude.{◌≡◌, ◌≤◌, List, [], length};
+    ghost use Rattle.std.specs.Prelude.{◌≡◌, ◌≤◌, List, length};
     ghost use Rattle.std.proofs.Common.{subst};
 
     type Row = M::Row;
@@ -26,7 +26,7 @@ impl<'a, M: RowReader> TakesRows for RowList<'a, M> {
 
     ghost means = { λ list. M.means list.reader.now };
 
-    ghost begins = { λ list rows. rows.items ≡ [] };
+    ghost handed = { λ list rows taken. rows.items ≡ taken };
 
     ghost took = { λ list state rows taken. (rows.items ≡ taken) × M.is_state_of list.reader.now state rows.items };
 
@@ -54,6 +54,8 @@ impl<'a, M: RowReader> TakesRows for RowList<'a, M> {
     }
 
     ghost narrow = { λ list fields wide. M.narrow list.reader.now fields wide };
+
+    ghost hands = { λ list state rows taken took. took.0 };
 
     ghost few = { λ list state rows taken took. subst (λ (r : List M.Row). length r ≤ 2000000) took.0 (M.few list.reader.now state rows.items took.1) };
 }

@@ -1,7 +1,7 @@
 //! The rows of a text, by what its records mean.
-ghost use Rattle.std.specs.Prelude.{[], IfOk};
-ghost use Rattle.csv_records.specs.Reads.{Reads, Takes};
-ghost use Rattle.csv_records.specs.Rows.{EachIsRead, rows_from, rows_in};
+ghost use Rattle.std.specs.Prelude.{[], IfOk, IfErr};
+ghost use Rattle.csv_records.specs.Reads.{Reads, Takes, TakesBefore};
+ghost use Rattle.csv_records.specs.Rows.{EachIsRead, accepted_from, accepted_in, rows_from, rows_in};
 
 use crate::fault::Fault;
 use crate::records::{Next, Records};
@@ -34,7 +34,8 @@ pub fn read_rows<M: RowReader>(
 }
 
 /// Reads the rows of a text and hands over one after another, or reports the text's first refusal. The first record is
-/// the header; if it is absent or is not a header, line 1 is refused for the cause `no_header`.
+/// the header; if it is absent or is not a header, line 1 is refused for the cause `no_header`. If the text is refused, the
+/// rows before the refusal were handed over, and no others; if memory runs out, no clause says which.
 pub fn take_rows<T: TakesRows>(
     alloc: Global,
     text: &[u8],
@@ -42,8 +43,9 @@ pub fn take_rows<T: TakesRows>(
     taker: &T,
     rows: &mut T::Rows,
 ) -> Result<T::State, Fault<T::Cause>>
-    requires { T.begins taker.now rows.old }
-    ensures { Takes (λ state. T.took taker.now state rows.new) result (rows_in (T.header taker.now) no_header text.now) }
+    requires { T.handed taker.now rows.old [] }
+    ensures rows { Takes (λ state. T.took taker.now state rows.new) result (rows_in (T.header taker.now) no_header text.now) }
+    ensures before { IfErr result (TakesBefore (T.handed taker.now rows.new) (accepted_in (T.header taker.now) text.now)) }
 {
     let mut records = Records::new(alloc, text);
     // One record buffer for all records, so that a row allocates nothing here.
@@ -70,7 +72,8 @@ fn take_after_header<T: TakesRows>(
     rows: &mut T::Rows,
 ) -> Result<T::State, Fault<T::Cause>>
     requires { T.took taker.now state rows.old [] }
-    ensures { Takes (λ state. T.took taker.now state rows.new) result (rows_from (T.means taker.now state) records.old []) }
+    ensures rows { Takes (λ state. T.took taker.now state rows.new) result (rows_from (T.means taker.now state) records.old []) }
+    ensures before { IfErr result (TakesBefore (T.handed taker.now rows.new) (accepted_from (T.means taker.now state) records.old [])) }
 {
     let mut state = state;
     let mut line: u32 = 2;

@@ -28,8 +28,8 @@ pub trait TakesRows {
     /// What records mean, by what the reader keeps.
     ghost means: { Self → Self.State → Means Self.Row Self.Cause };
 
-    /// Whether no row was handed over.
-    ghost begins: { Self → Self.Rows → Type 0 };
+    /// Whether these rows were handed over.
+    ghost handed: { Self → Self.Rows → List Self.Row → Type 0 };
 
     /// Whether these rows were taken, by what the reader keeps of them and by what they were handed to.
     ghost took: { Self → Self.State → Self.Rows → List Self.Row → Type 0 };
@@ -38,9 +38,10 @@ pub trait TakesRows {
     fn header(&self, fields: &ByteRecord) -> Option<Self::State>
         ensures none { IfNone result (header self.now (fields_of fields.now) ≡ None) }
         ensures some { IfSome result (λ state. header self.now (fields_of fields.now) ≡ Some (means self.now state)) }
-        ensures took { IfSome result (λ state. (rows : Self.Rows) → begins self.now rows → took self.now state rows []) };
+        ensures took { IfSome result (λ state. (rows : Self.Rows) → handed self.now rows [] → took self.now state rows []) };
 
-    /// Takes the row that a record means, or returns why the record is refused. Fails if an allocation fails.
+    /// Takes the row that a record means, or returns why the record is refused. A record that is refused hands nothing over.
+    /// Fails if an allocation fails.
     fn row(
         &self,
         state: &mut Self::State,
@@ -49,6 +50,7 @@ pub trait TakesRows {
     ) -> Result<Option<Self::Cause>, AllocError>
         requires { (before : List Self.Row) × took self.now state.old rows.old before }
         ensures row { IfOk result (λ refused. (before : List Self.Row) → took self.now state.old rows.old before → IsTaken (took self.now state.new rows.new) before refused (means self.now state.old before (fields_of fields.now))) }
+        ensures refused { IfOk result (λ refused. IfSome refused (λ _. (before : List Self.Row) → took self.now state.old rows.old before → handed self.now rows.new before)) }
         ensures same { IfOk result (λ refused. IfNone refused (means self.now state.new ≡ means self.now state.old)) };
 
     /// Why a record with more than 6 fields is refused after these rows, whatever its fields are.
@@ -58,6 +60,9 @@ pub trait TakesRows {
 
     /// A header has at most 6 fields.
     ghost narrow: { (taker : Self) (fields : List (List ℕ)) → most_fields < length fields → header taker fields ≡ None };
+
+    /// Rows that were taken were handed over.
+    ghost hands: { (taker : Self) (state : Self.State) (rows : Self.Rows) (taken : List Self.Row) → took taker state rows taken → handed taker rows taken };
 
     /// There are at most 2,000,000 rows, so that the number of a line has 32 bits.
     ghost few: { (taker : Self) (state : Self.State) (rows : Self.Rows) (taken : List Self.Row) → took taker state rows taken → length taken ≤ 2000000 };

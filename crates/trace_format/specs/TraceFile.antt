@@ -4,7 +4,7 @@ use Rattle.std.specs.Prelude.{ℕ, ◌+◌, Bool, true, not, ◌==◌, nat_le, n
 use lib.Pointwise.{pointwise}
 use Rattle.std.specs.Str.{bytes_eq}
 use Rattle.csv_records.specs.Fields.{field}
-use Rattle.csv_records.specs.Rows.{Means, rows_in}
+use Rattle.csv_records.specs.Rows.{Means, accepted_in, rows_in}
 use Rattle.csv_records.specs.declared.fault.Fault.{Fault}
 use Rattle.numeral.specs.Numeral.{number}
 use Rattle.mc_task.specs.declared.task.Task.{Task}
@@ -100,3 +100,7 @@ after_header set fields = option_map (record_run set) (version_of fields)
 -- the runs of a text, or its first refusal; its records are as csv's reader with its defaults returns them
 abbrev pub trace_file : List Task → List ℕ → Result (List Run) (Fault TraceCause)
 trace_file set text = rows_in (after_header set) Header text
+
+-- the runs of a text up to the first record that is refused; all runs if none is
+abbrev pub accepted_runs : List Task → List ℕ → List Run
+accepted_runs set text = accepted_in (after_header set) text

@@ -1,8 +1,8 @@
 //! Traces, read.
-ghost use Rattle.std.specs.Prelude.{[], All, IfOk};
-ghost use Rattle.csv_records.specs.Reads.{Reads, Takes};
+ghost use Rattle.std.specs.Prelude.{[], All, IfOk, IfErr};
+ghost use Rattle.csv_records.specs.Reads.{Reads, Takes, TakesBefore};
 ghost use Rattle.mc_model.specs.Runs.{IsRunOfSet, AreRuns};
-ghost use Rattle.trace_format.specs.TraceFile.{trace_file};
+ghost use Rattle.trace_format.specs.TraceFile.{trace_file, accepted_runs};
 
 use crate::record::{record_run, version_of, wrong_width};
 use crate::run_list::RunList;
@@ -35,7 +35,8 @@ pub fn read_trace(alloc: Global, set: &TaskSet, bytes: &[u8]) -> Result<Vec<Run>
     }
 }
 
-/// Reads a trace as `read_trace` does, and hands over one run after another.
+/// Reads a trace as `read_trace` does, and hands over one run after another. If the trace is refused, the runs before the
+/// refusal were handed over, and no others; if memory runs out, no clause says which.
 pub fn read_runs<T: TakesRuns>(
     alloc: Global,
     set: &TaskSet,
@@ -44,7 +45,8 @@ pub fn read_runs<T: TakesRuns>(
     runs: &mut T::Runs,
 ) -> Result<(), TraceFault>
     requires { T.took taker.now runs.old set.now.tasks [] }
-    ensures { Takes (λ done. T.took taker.now runs.new set.now.tasks) result (trace_file set.now.tasks bytes.now) }
+    ensures runs { Takes (λ done. T.took taker.now runs.new set.now.tasks) result (trace_file set.now.tasks bytes.now) }
+    ensures before { IfErr result (TakesBefore (T.took taker.now runs.new set.now.tasks) (accepted_runs set.now.tasks bytes.now)) }
 {
     let records = TraceRecords { set, taker };
     match take_rows(alloc, bytes, TraceCause::Header, &records, runs) {
@@ -104,7 +106,7 @@ impl<'a, T: TakesRuns> TakesRows for TraceRecords<'a, T> {
 
     ghost means = { λ trace reading. record_run trace.set.now.tasks reading.version };
 
-    ghost begins = { λ trace runs. T.took trace.taker.now runs trace.set.now.tasks [] };
+    ghost handed = { λ trace runs taken. T.took trace.taker.now runs trace.set.now.tasks taken };
 
     ghost took = { λ trace reading runs taken. AreRead taken reading × T.took trace.taker.now runs trace.set.now.tasks taken };
 
@@ -155,6 +157,8 @@ impl<'a, T: TakesRuns> TakesRows for TraceRecords<'a, T> {
     }
 
     ghost narrow = { λ trace fields wide. Prim.grind (arith, nat_tests, words_length) };
+
+    ghost hands = { λ trace reading runs taken took. took.1 };
 
     ghost few = { λ trace reading runs taken took. let few = took.0.few in let count = took.0.count in Prim.omega (arith, few, count) };
 }

@@ -7,20 +7,20 @@ use Rattle.trace_commands.proofs.JudgedText.{seen_more}
 use Rattle.trace_commands.proofs.judged_text.judge_text.Goals as goal
 
 pub follow_all-requires-clause-runs : goal.follow_all-requires-clause-runs
-follow_all-requires-clause-runs c = rw c.deref.ensures.value c.in_ok-read_runs.ensures.2.valid
+follow_all-requires-clause-runs c = rw c.deref.ensures.value c.in_ok-read_runs.ensures.runs.2.valid
 
 pub follow_all-requires-clause-tasks : goal.follow_all-requires-clause-tasks
 follow_all-requires-clause-tasks c =
-    let read = c.in_ok-read_runs.ensures.2 in
+    let read = c.in_ok-read_runs.ensures.runs.2 in
     rw (c.deref.ensures.value, read.judged.same_tasks) read.of_set
 
 pub follow_all-requires-clause-room : goal.follow_all-requires-clause-room
-follow_all-requires-clause-room c = rw c.deref.ensures.value c.in_ok-read_runs.ensures.2.room
+follow_all-requires-clause-room c = rw c.deref.ensures.value c.in_ok-read_runs.ensures.runs.2.room
 
 pub returns-in-Ok-follow_all : goal.returns-in-Ok-follow_all
 returns-in-Ok-follow_all c =
     let tasks = c.args.set.now.tasks in
-    let read = c.in_ok-read_runs.ensures in
+    let read = c.in_ok-read_runs.ensures.runs in
     let has = read.2 in
     let items = c.read_runs.new.runs.runs.items in
     let is = seen_more tasks c.args.rule has.first items c.read_runs.new.runs.monitor c.follow_all.new.self has.judged c.follow_all.ensures.set c.follow_all.ensures.rule

@@ -8,11 +8,11 @@ use Rattle.trace_format.proofs.read.read_trace.Goals as goal
 
 pub returns-in-Ok-clause-runs : goal.returns-in-Ok-clause-runs
 returns-in-Ok-clause-runs c =
-    let taken = c.in-Ok.ensures in
+    let taken = c.in-Ok.ensures.runs in
     subst AreRuns (sym taken.2) (valid_runs c.args.set.now.tasks c.args.bytes.now taken.0 taken.1)
 
 pub returns-in-Ok-clause-tasks : goal.returns-in-Ok-clause-tasks
 returns-in-Ok-clause-tasks c =
     let tasks = c.args.set.now.tasks in
-    let taken = c.in-Ok.ensures in
+    let taken = c.in-Ok.ensures.runs in
     All-from_recursion (IsRunOfSet tasks) _ (subst (λ (runs : List Run). AllByRecursion (IsRunOfSet tasks) runs) (sym taken.2) (runs_of_set tasks c.args.bytes.now taken.0 taken.1))
