@@ -2,8 +2,8 @@
 # Sourced by scripts that need to know whether a file was built from the sources that are here, as the wrapper edfvd does. They set
 # $here to the repository's folder; FILE is a path below that folder. Beside a built FILE stands FILE.sources: one line with the digest
 # of the sources that it was built from, and the sha256 of FILE itself. So a file that something else built later is not accepted.
-# The program and the library in prebuilt come with the repository: prebuilt/SOURCES has a line with the two digests for each of them,
-# and lines with the toolchain and the machine.
+# The programs and the libraries in prebuilt come with the repository: prebuilt/SOURCES has a line with the two digests for each of them,
+# and lines with the toolchain and the machine. The NAME of one of them is its path in prebuilt: those for 64-bit ARM are in aarch64.
 built_program=crates/edfvd_program/out/edfvd_program
 built_library=c/out/libedfvd.so
 
@@ -86,10 +86,10 @@ is_current() {
     return 0
 }
 
-# crates_of NAME: the crates that the program edfvd or the library libedfvd.so is made of, without those below them
+# crates_of NAME: the crates that the program or the library is made of, without those below them
 crates_of() {
     case $1 in
-    edfvd) echo edfvd_program ;;
+    edfvd | */edfvd) echo edfvd_program ;;
     *) echo edfvd_c edfvd_ask_c ;;
     esac
 }
@@ -97,10 +97,15 @@ crates_of() {
 # guards NAME: the files besides crates that the program or the library is made of. A change of c/build.sh is rarely one of the
 # library, but nobody has to decide which.
 guards() (
-    [ "$1" = edfvd ] || { cd "$here" && ls c/*.c c/*.h c/build.sh; }
+    cd "$here" || exit
+    case $1 in
+    edfvd) ;;
+    */edfvd) ls c/heap.c c/machine.sh c/program.sh c/system.c ;;
+    *) ls c/*.c c/*.h c/build.sh c/machine.sh ;;
+    esac
 )
 
-# digest_of NAME: a digest of the sources of the program edfvd or of the library libedfvd.so
+# digest_of NAME: a digest of the sources of the program or the library
 digest_of() {
     # shellcheck disable=SC2046
     set -- "$1" "$(sources_digest $(crates_of "$1"))"
@@ -109,13 +114,28 @@ digest_of() {
 }
 
 # is_prebuilt NAME: whether prebuilt/SOURCES says of this very file in prebuilt that it was built from the sources that are here, with
-# the toolchain of KIT, with which anybody must be able to build it again, and for this machine
+# the toolchain of KIT, with which anybody must be able to build it again
 is_prebuilt() (
     notes=$here/prebuilt/SOURCES
     line="$1 $(digest_of "$1") $(sha256sum <"$here/prebuilt/$1" | sed 's/ .*//')"
-    [ "${#line}" -eq $((${#1} + 130)) ] && grep -qxF "$line" "$notes" && [ "$(sed -n 's/^kit //p' "$notes")" = "$(cat "$here/KIT")" ] &&
-        grep -qxF "machine $(uname -m)" "$notes"
+    [ "${#line}" -eq $((${#1} + 130)) ] && grep -qxF "$line" "$notes" && [ "$(sed -n 's/^kit //p' "$notes")" = "$(cat "$here/KIT")" ]
 ) 2>/dev/null
+
+# for_machine FILE: the NAME of the program or the library for this machine. Only 64-bit ARM has a folder of its own.
+for_machine() {
+    case $(uname -m) in
+    aarch64) echo "aarch64/$1" ;;
+    *) echo "$1" ;;
+    esac
+}
+
+# is_for_machine NAME: whether prebuilt/SOURCES says that the file is for this machine
+is_for_machine() {
+    case $1 in
+    */*) [ "${1%%/*}" = "$(uname -m)" ] ;;
+    *) grep -qxF "machine $(uname -m)" "$here/prebuilt/SOURCES" 2>/dev/null ;;
+    esac
+}
 
 # was_same NAME: whether nothing changed since prebuilt/NAME was last found to be of the sources that are here. The file
 # prebuilt/out/NAME.same has the paths that decide, and was written before they were read. Of these paths, and of what is in the folders
@@ -135,7 +155,7 @@ was_same() {
 # must also run on this machine: called without words, it has status 2. One for another machine or a newer C library would otherwise
 # answer with a status that means something else.
 is_same() (
-    [ -e "$here/prebuilt/$1" ] || exit
+    [ -e "$here/prebuilt/$1" ] && is_for_machine "$1" || exit
     name=$1
     note=$here/prebuilt/out/$name
     trap 'rm -f "$note.$$"' EXIT
@@ -149,8 +169,8 @@ is_same() (
             $(crate_lines "$@" | sed 's|:.*||; s|^|crates/|') $(source_folders "$@") >"$note.$$" && noted=yes
     } 2>/dev/null
     is_prebuilt "$name" || exit
-    if [ "$name" = edfvd ]; then
-        "$here/prebuilt/edfvd" >/dev/null 2>&1
+    if [ "${name##*/}" = edfvd ]; then
+        "$here/prebuilt/$name" >/dev/null 2>&1
         [ $? -eq 2 ] || exit
     fi
     [ -z "$noted" ] || mv -f "$note.$$" "$note.same" 2>/dev/null
@@ -163,8 +183,9 @@ is_same() (
 choose() {
     chosen=$here/$built_program
     [ -x "$chosen" ] && [ -z "$(newer_source "$built_program" edfvd_program)" ] && return
-    if was_same edfvd; then
-        chosen=$here/prebuilt/edfvd
+    prebuilt=$(for_machine edfvd)
+    if was_same "$prebuilt"; then
+        chosen=$here/prebuilt/$prebuilt
         return
     fi
     why='not built'
@@ -172,15 +193,30 @@ choose() {
         is_current && return
         why='older than its sources'
     fi
-    is_same edfvd || return
-    chosen=$here/prebuilt/edfvd
+    is_same "$prebuilt" || return
+    chosen=$here/prebuilt/$prebuilt
+}
+
+# is_noted FILE NAME: whether the file beside it notes that the file was made of the sources that NAME has now
+is_noted() {
+    [ -e "$1" ] && [ "$(cat "$1.sources" 2>/dev/null)" = "$(digest_of "$2") $(sha256sum <"$1" | sed 's/ .*//')" ]
+}
+
+# choose_for_arm: sets $chosen to the program for 64-bit ARM of the sources that are here: the one that c/program.sh built, or else the
+# prebuilt one. The status is 1 if neither is of these sources.
+choose_for_arm() {
+    chosen=$here/c/out/aarch64/edfvd
+    is_noted "$chosen" aarch64/edfvd && return
+    chosen=$here/prebuilt/aarch64/edfvd
+    is_prebuilt aarch64/edfvd
 }
 
 # choose_library: sets $chosen to the shared library of the sources that are here: the one that c/build.sh built, or else the prebuilt
 # one. The status is 1 if neither is of these sources.
 choose_library() {
     chosen=$here/$built_library
-    [ -e "$chosen" ] && [ "$(cat "$chosen.sources" 2>/dev/null)" = "$(digest_of libedfvd.so) $(sha256sum <"$chosen" | sed 's/ .*//')" ] && return
-    chosen=$here/prebuilt/libedfvd.so
-    was_same libedfvd.so || is_same libedfvd.so
+    is_noted "$chosen" libedfvd.so && return
+    prebuilt=$(for_machine libedfvd.so)
+    chosen=$here/prebuilt/$prebuilt
+    was_same "$prebuilt" || is_same "$prebuilt"
 }

@@ -124,7 +124,42 @@ for path in "$root"/*; do
     *) ln -s "$path" "$clone/" ;;
     esac
 done
-cp "$root/c/build.sh" "$root/c/edfvd.c" "$root/c/edfvd_ask.c" "$root/c/edfvd.h" "$clone/c/"
+cp "$root/c/build.sh" "$root/c/machine.sh" "$root/c/program.sh" "$root"/c/*.c "$root/c/edfvd.h" "$clone/c/"
+
+# refuses STATUS LINE COMMAND..: the command has this status and writes this line, and makes nothing
+refuses() {
+    want=$1
+    line=$2
+    shift 2
+    "$@" >"$work/log" 2>&1
+    [ $? -eq "$want" ] && [ "$(cat "$work/log")" = "$line" ] && [ ! -e "$clone/c/out" ] && are_only "$TMPDIR"
+}
+
+# for_machine NAME: a compiler that says it compiles for this machine
+for_machine() {
+    printf '#!/bin/sh\ncase $1 in\n-dumpmachine) echo %s ;;\nesac\n' "$1" >"$tools/$1-gcc"
+    chmod 755 "$tools/$1-gcc"
+    echo "$tools/$1-gcc"
+}
+
+for machine in riscv64-linux-gnu aarch64-apple-darwin x86_64-w64-mingw32 arm-linux-gnueabihf; do
+    compiler=$(for_machine "$machine")
+    for script in build.sh program.sh; do
+        notes "$script for $machine" refuses 1 "$script: $compiler compiles for $machine; only x86-64 Linux and 64-bit ARM Linux are known here" \
+            env LD=true AR=true OBJCOPY=true CC="$compiler" "$clone/c/$script"
+    done
+done
+printf '#!/bin/sh\nexit 1\n' >"$tools/none-gcc"
+chmod 755 "$tools/none-gcc"
+notes 'a compiler that says nothing' refuses 1 "build.sh: $tools/none-gcc does not say for which machine it compiles" \
+    env LD=true AR=true OBJCOPY=true CC="$tools/none-gcc" "$clone/c/build.sh"
+for script in build.sh program.sh; do
+    notes "$script without its compiler" refuses 127 "$script: no-such-gcc is not on the PATH" env CC=no-such-gcc "$clone/c/$script"
+    notes "$script without its archiver" refuses 127 "$script: no-such-ar is not on the PATH" env CC=cc AR=no-such-ar "$clone/c/$script"
+done
+compiler=$(for_machine x86_64-linux-gnu)
+notes 'program.sh for x86-64' refuses 1 "program.sh: $compiler compiles for x86-64, for which ./edfvd builds the program" \
+    env LD=true AR=true OBJCOPY=true CC="$compiler" "$clone/c/program.sh"
 
 for mask in 077 027 022; do
     rm -rf "$clone/c/out"
