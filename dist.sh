@@ -5,14 +5,15 @@
 # the umask: an archive with the modes of umask 077 would lock the folders that it is unpacked over.
 # The archive has one folder, edfvd-VERSION-MACHINE-linux, from which the program can be run as it is. It is unpacked over a prefix by
 #     tar -xzf edfvd-VERSION-MACHINE-linux.tar.gz --strip-components=1 -C PREFIX
-# and the program needs glibc 2.34 or later there.
-# usage: dist.sh FOLDER
+# and the program needs glibc 2.34 or later there. MACHINE is x86_64, or aarch64 for 64-bit ARM, and without the word this machine.
+# usage: dist.sh FOLDER [MACHINE]
 set -u
 unset CDPATH TAR_OPTIONS GZIP
 umask 022
 here=$(dirname -- "$(readlink -f -- "$0")")
 . "$here/tools/usage.sh"
-takes 1 1 "$@"
+takes 1 2 "$@"
+machine=${2-$(uname -m)}
 
 # refuse WHY: ends without an archive
 refuse() {
@@ -32,10 +33,10 @@ new=
 work=$(mktemp -d) || exit 1
 trap clean EXIT
 trap 'exit 1' HUP INT TERM
-"$here/install.sh" "$work/edfvd" >/dev/null || exit 1
+"$here/install.sh" "$work/edfvd" "$machine" >/dev/null || exit 1
 [ -e "$work/edfvd/include/edfvd.h" ] || echo "dist.sh: the archive has no C libraries, since $here/c/build.sh has not made them" >&2
 
-name=edfvd-$(awk 'NR == 1 { print $3 }' "$work/edfvd/share/doc/edfvd/RELEASE")-$(uname -m)-linux
+name=edfvd-$(awk 'NR == 1 { print $3 }' "$work/edfvd/share/doc/edfvd/RELEASE")-$machine-linux
 mv "$work/edfvd" "$work/$name" || exit 1
 seconds=0
 [ ! -e "$here/.git" ] || seconds=$(git -C "$here" log -1 --format=%ct) || exit 1

@@ -4,10 +4,12 @@
 # PREFIX/share/doc/edfvd. The program is the one that was built here, or else the one in the folder prebuilt, as for ./edfvd. What is
 # installed needs glibc 2.34 or later, and neither this folder, nor the wrapper, nor the command rt. The prefix may be moved as a whole.
 # If c/build.sh has made the C libraries, they go to PREFIX/lib and PREFIX/include, with a file for pkg-config.
+# With MACHINE, which is x86_64 or aarch64, what is installed is for that machine: for aarch64, which is 64-bit ARM, the program that
+# c/program.sh made, or else the prebuilt one, and the libraries that c/build.sh made for it.
 # Either everything is installed or nothing is: each file is written beside its place first, and renamed when all of them are there.
 # After a fault or a signal everything is as it was before the call; only a call that is killed outright can leave files, whose names
 # begin with .edfvd. The modes are 755 and 644, whatever the umask is, for nothing in it is private.
-# usage: install.sh PREFIX
+# usage: install.sh PREFIX [MACHINE]
 #        as in install.sh ~/.local
 set -u
 unset CDPATH
@@ -27,18 +29,34 @@ refuse() {
     exit "${2:-1}"
 }
 
-# check_build: program and libraries are there, and not older than their sources. A program that was built here before is built again.
-check_build() {
+# check_program: the program for the machine is there, and not older than its sources. One for this machine that was built here before
+# is built again.
+check_program() {
+    if [ "$machine" != "$(uname -m)" ]; then
+        [ "$machine" = aarch64 ] || refuse "there is no program for $machine here, but for x86_64 and aarch64"
+        choose_for_arm || refuse "the program for aarch64 is not built: run $here/c/program.sh first"
+        return
+    fi
     if ! choose && ! [ -x "$here/$built_program" ]; then
         refuse "the program is not built: run $here/edfvd check $here/examples/control/tasks.toml first"
     fi
     if ! "$here/edfvd" check "$here/examples/control/tasks.toml" >/dev/null || ! choose; then
         refuse 'the program was not proved or not built'
     fi
-    [ -e "$here/c/out/libedfvd.a" ] || return 0
+}
+
+# check_libraries: if the libraries for the machine are there, they are not older than their sources
+check_libraries() {
+    libraries=$here/c/out
+    call="$here/c/build.sh"
+    if [ "$machine" = aarch64 ]; then
+        libraries=$here/c/out/aarch64
+        call="CC=aarch64-linux-gnu-gcc $call"
+    fi
+    [ -e "$libraries/libedfvd.a" ] || return 0
     newer=$(find "$here/c/edfvd.h" "$here"/c/*.c "$here/crates" \( -name '*.[hc]' -o -name '*.rt' \) \
-        -newer "$here/c/out/libedfvd.a" -print -quit)
-    [ -z "$newer" ] || refuse "the C libraries are older than their sources: run $here/c/build.sh first"
+        -newer "$libraries/libedfvd.a" -print -quit)
+    [ -z "$newer" ] || refuse "the C libraries are older than their sources: run $call first"
 }
 
 # add FILE NAME: the file is part of what is installed, under this name below the prefix
@@ -117,11 +135,11 @@ add_pages() {
 add_libraries() {
     add "$here/c/edfvd.h" include/edfvd.h
     for file in libedfvd.a libedfvd_core.a libedfvd.so; do
-        add "$here/c/out/$file" "lib/$file"
+        add "$libraries/$file" "lib/$file"
     done
     # shellcheck disable=SC2016
     sed -e 's|^libdir=.*|libdir=${pcfiledir}/..|' -e 's|^includedir=.*|includedir=${pcfiledir}/../../include|' \
-        "$here/c/out/edfvd.pc" >"$work/pc" || refuse "$here/c/out/edfvd.pc cannot be copied"
+        "$libraries/edfvd.pc" >"$work/pc" || refuse "$libraries/edfvd.pc cannot be copied"
     add "$work/pc" lib/pkgconfig/edfvd.pc
 }
 
@@ -136,7 +154,7 @@ make_tree() {
     add "$here/man/edfvd.sh" bin/edfvd
     add "$chosen" libexec/edfvd/edfvd
     add "$here/man/help.txt" libexec/edfvd/help.txt
-    about >"$work/version" || refuse 'the text of the version cannot be made'
+    about "$machine" >"$work/version" || refuse 'the text of the version cannot be made'
     add "$work/version" libexec/edfvd/version.txt
     add "$here/man/edfvd.1" share/man/man1/edfvd.1
     add "$here/man/edfvd.bash" share/bash-completion/completions/edfvd
@@ -144,7 +162,7 @@ make_tree() {
         add "$here/$file" "share/doc/edfvd/$file"
     done
     add_pages
-    if [ -e "$here/c/out/libedfvd.a" ]; then add_libraries; fi
+    if [ -e "$libraries/libedfvd.a" ]; then add_libraries; fi
     if ! { find "$tree" -type f -exec chmod 644 {} + && chmod 755 "$tree/bin/edfvd" "$tree/libexec/edfvd/edfvd"; }; then
         refuse "$tree cannot be written"
     fi
@@ -234,8 +252,9 @@ clean() {
     done
 }
 
-takes 1 1 "$@"
+takes 1 2 "$@"
 prefix=$1
+machine=${2-$(uname -m)}
 [ -n "$prefix" ] || refuse 'the prefix is empty' 2
 # Folders are listed by lines.
 case $prefix in /*) whole=$prefix ;; *) whole=$PWD/$prefix ;; esac
@@ -244,7 +263,8 @@ case $whole in *"
 if [ -e "$prefix" ] && ! [ -d "$prefix" ]; then
     refuse "$prefix is no folder"
 fi
-check_build
+check_program
+check_libraries
 work=$(mktemp -d) || refuse 'there is no folder for temporary files'
 tree=$work/tree
 trap clean EXIT
@@ -256,7 +276,7 @@ clean
 
 # A name may have a backslash, which `echo` of some shells would read.
 printf 'installed %s/bin/edfvd and %s/share/man/man1/edfvd.1\n' "$prefix" "$prefix"
-[ ! -e "$here/c/out/libedfvd.a" ] || printf 'installed %s/include/edfvd.h, and the libraries in %s/lib\n' "$prefix" "$prefix"
+if [ -e "$libraries/libedfvd.a" ]; then printf 'installed %s/include/edfvd.h, and the libraries in %s/lib\n' "$prefix" "$prefix"; fi
 printf 'version, commit, kit and checksums are in %s/share/doc/edfvd/RELEASE\n' "$prefix"
 case :$PATH: in
     *":$prefix/bin:"*) ;;

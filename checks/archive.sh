@@ -23,8 +23,9 @@ archives() {
 }
 
 refused() {
-    tries 2 "$work/empty" 'usage: dist.sh FOLDER' "$alone" "$tree/dist.sh"
-    tries 0 "$(says 'usage: dist.sh FOLDER')" '' "$alone" "$tree/dist.sh" --help
+    tries 2 "$work/empty" 'usage: dist.sh FOLDER [MACHINE]' "$alone" "$tree/dist.sh"
+    tries 0 "$(says 'usage: dist.sh FOLDER [MACHINE]')" '' "$alone" "$tree/dist.sh" --help
+    tries 1 "$work/empty" 'there is no program for sparc64 here' "$alone" "$tree/dist.sh" "$work" sparc64
     tries 1 "$work/empty" 'is no folder' "$alone" "$tree/dist.sh" "$tasks"
     mkdir -p "$work/way/$name.tar.gz"
     tries 1 "$work/empty" "$name.tar.gz is a folder" "$alone" "$tree/dist.sh" "$work/way"
@@ -97,6 +98,23 @@ libraries() {
     rm -r "$tree/c"
 }
 
+# for_arm: the archive for 64-bit ARM has its name, and what install.sh installs for that machine
+for_arm() {
+    [ "$(uname -m)" = x86_64 ] || return 0
+    put_arm
+    mkdir "$work/arm"
+    bounded env PATH="$alone" "$tree/dist.sh" "$work/arm" aarch64 >"$work/sum" 2>"$work/err"
+    holds 'dist.sh for aarch64' [ $? -eq 0 ]
+    holds 'the sum for ARM' sums_hold "$work/arm" "$work/sum"
+    ls -A "$work/arm" >"$work/out"
+    judge 0 0 "$(says "edfvd-$version-aarch64-linux.tar.gz")" 'what dist.sh writes for aarch64'
+    bounded env PATH="$alone" "$tree/install.sh" "$work/installed" aarch64 >/dev/null
+    tar -xzf "$work/arm/edfvd-$version-aarch64-linux.tar.gz" -C "$work/arm"
+    holds 'what is in the archive for ARM is what is installed' diff -r "$work/installed" "$work/arm/edfvd-$version-aarch64-linux"
+    holds 'the program for ARM' [ "$(cat "$work/arm/edfvd-$version-aarch64-linux/libexec/edfvd/edfvd")" = 'edfvd for ARM' ]
+    rm -r "$tree/c"
+}
+
 # A link at a name that a call could be guessed to write leads nowhere, nor does one at the archive's own place.
 planted() {
     echo untouched >"$work/victim"
@@ -141,6 +159,7 @@ same_bytes
 content
 over_prefix "$work/022"
 libraries
+for_arm
 planted
 interrupted
 ends archive

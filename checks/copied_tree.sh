@@ -73,6 +73,16 @@ put_libraries() {
     printf 'libdir=here\nincludedir=there\n' >"$tree/c/out/edfvd.pc"
 }
 
+# put_arm: stand-ins for the program and the libraries for 64-bit ARM, of these sources
+put_arm() {
+    mkdir -p "$tree/c/out/aarch64"
+    cp -p ../c/edfvd.h ../c/*.c ../c/*.sh "$tree/c"
+    for file in edfvd libedfvd.a libedfvd_core.a libedfvd.so; do echo "$file for ARM" >"$tree/c/out/aarch64/$file"; done
+    printf 'libdir=here\nincludedir=there\n' >"$tree/c/out/aarch64/edfvd.pc"
+    # shellcheck disable=SC2016
+    here=$tree sh -c '. "$here/sources.sh" && note_sources "$here/c/out/aarch64/edfvd" "$(digest_of aarch64/edfvd)"'
+}
+
 # sums_hold FOLDER FILE: the files in the folder have the sums of the file
 sums_hold() {
     (cd "$1" && sha256sum --status -c "$2")

@@ -257,6 +257,35 @@ completion() {
     completes 'control/tasks.toml' runall x control/ta
 }
 
+# on_arm: on 64-bit ARM the wrapper runs the prebuilt program for that machine, if it is of these sources, and never the other one
+on_arm() {
+    mkdir -p "$work/arm" "$clone/prebuilt/aarch64"
+    printf '#!/bin/sh\necho aarch64\n' >"$work/arm/uname"
+    # What stands for the program has status 2 without words, as the program has.
+    printf '#!/bin/sh\n[ $# -ne 0 ] || exit 2\necho "$* on ARM"\n' >"$clone/prebuilt/aarch64/edfvd"
+    chmod +x "$work/arm/uname" "$clone/prebuilt/aarch64/edfvd"
+    cp "$clone/prebuilt/SOURCES" "$work/sources"
+    tries 127 "$work/empty" "$line" "$work/arm:$alone" "$clone/edfvd" check control/tasks.toml
+    grep -v '^aarch64/edfvd ' "$work/sources" >"$clone/prebuilt/SOURCES"
+    # shellcheck disable=SC2016
+    here=$clone sh -c '. "$here/sources.sh"
+        echo "aarch64/edfvd $(digest_of aarch64/edfvd) $(sha256sum <"$here/prebuilt/aarch64/edfvd" | sed "s/ .*//")"' >>"$clone/prebuilt/SOURCES"
+    for time in first second; do
+        tries 0 "$(says 'check control/tasks.toml on ARM')" '' "$work/arm:$alone" "$clone/edfvd" check control/tasks.toml
+        holds "the $time call notes the comparison" [ -e "$clone/prebuilt/out/aarch64/edfvd.same" ]
+    done
+    calls 0 ''
+    tries 0 "$(says 'check control/tasks.toml on ARM')" '' "$work/arm:$alone" "$clone/edfvd" check control/tasks.toml
+    echo '// more' >>"$source"
+    tries 127 "$work/empty" "$line" "$work/arm:$alone" "$clone/edfvd" check control/tasks.toml
+    # On a machine of another kind there is none.
+    printf '#!/bin/sh\necho sparc64\n' >"$work/arm/uname"
+    cp -p ../crates/mc_task/src/task.rt "$source"
+    tries 127 "$work/empty" "$line" "$work/arm:$alone" "$clone/edfvd" check control/tasks.toml
+    rm -r "$clone"
+    copies
+}
+
 # python: pip installs the package with the prebuilt library, and without installing it is imported from the clone
 python() {
     if ! python3 -c 'import ensurepip, venv' 2>/dev/null || ! python3 -m venv "$work/venv" 2>/dev/null; then
@@ -304,5 +333,6 @@ mkdir "$clone/.git"
 answers 'the wrapper without git' "$clone/edfvd"
 rmdir "$clone/.git"
 installs
+on_arm
 python
 ends getting

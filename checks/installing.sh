@@ -158,8 +158,8 @@ own.md"
 # The C libraries are installed if they are there, and none that is older than its sources.
 libraries() {
     put_libraries
-    sed "1a installed $work/prefix/include/edfvd.h, and the libraries in $work/prefix/lib" "$work/installed" >"$work/wanted"
-    tries 0 "$work/wanted" '' "$alone" "$tree/install.sh" "$work/prefix"
+    sed "1a installed $work/prefix/include/edfvd.h, and the libraries in $work/prefix/lib" "$work/installed" >"$work/all"
+    tries 0 "$work/all" '' "$alone" "$tree/install.sh" "$work/prefix"
     holds 'the header' cmp "$work/prefix/include/edfvd.h" ../c/edfvd.h
     for file in libedfvd.a libedfvd_core.a libedfvd.so; do
         holds "$file" [ "$(cat "$work/prefix/lib/$file")" = "$file" ]
@@ -173,6 +173,64 @@ libraries() {
     touch "$tree/c/edfvd.h"
     fails 'the C libraries are older than their sources: run' "$alone" "$tree/install.sh" "$work/older"
     touch "$tree/c/out/libedfvd.a"
+}
+
+# installs_arm: what is installed is the stand-ins, and RELEASE names the machine
+installs_arm() {
+    sed "s|$work/prefix|$work/arm|g" "$work/all" >"$work/wanted"
+    tries 0 "$work/wanted" '' "$alone" "$tree/install.sh" "$work/arm" aarch64
+    for file in libexec/edfvd/edfvd lib/libedfvd.a lib/libedfvd_core.a lib/libedfvd.so; do
+        holds "$file" [ "$(cat "$work/arm/$file")" = "${file##*/} for ARM" ]
+    done
+    holds 'the mode of the program for ARM' [ "$(find "$work/arm/libexec/edfvd/edfvd" -printf %m)" = 755 ]
+    for file in "$released" libexec/edfvd/version.txt; do
+        holds "the machine in $file" grep -q '^\(# \)*needs Linux on aarch64, with glibc 2.34 or later$' "$work/arm/$file"
+    done
+    holds 'the checksums for ARM' sums_hold "$work/arm" "$released"
+}
+
+# With a second word what is installed is for that machine, and never for another.
+for_another_machine() {
+    fails 'there is no program for sparc64 here, but for x86_64 and aarch64' "$alone" "$tree/install.sh" "$work/arm" sparc64
+    holds 'nothing is installed for sparc64' [ ! -e "$work/arm" ]
+    if [ "$(uname -m)" != x86_64 ]; then
+        echo 'installing: 64-bit ARM as another machine is left out, this is not x86-64'
+        return
+    fi
+    cp -R "$tree/c" "$work/c"
+    fails "the program for aarch64 is not built: run $tree/c/program.sh first" "$alone" "$tree/install.sh" "$work/arm" aarch64
+    put_arm
+    installs_arm
+    tries 0 "$work/all" '' "$alone" "$tree/install.sh" "$work/prefix" x86_64
+    echo more >>"$tree/c/out/aarch64/edfvd"
+    fails "the program for aarch64 is not built: run $tree/c/program.sh first" "$alone" "$tree/install.sh" "$work/arm" aarch64
+    put_arm
+    touch -d '1 hour ago' "$tree/c/out/aarch64/libedfvd.a"
+    fails "the C libraries are older than their sources: run CC=aarch64-linux-gnu-gcc $tree/c/build.sh first" "$alone" \
+        "$tree/install.sh" "$work/arm" aarch64
+    rm "$tree/c/out/aarch64/"lib*
+    echo '// more' >>"$tree/crates/mc_task/src/task.rt"
+    fails "the program for aarch64 is not built: run $tree/c/program.sh first" "$alone" "$tree/install.sh" "$work/arm" aarch64
+    cp ../crates/mc_task/src/task.rt "$tree/crates/mc_task/src"
+    put_program
+    echo '/* more */' >>"$tree/c/system.c"
+    fails "the program for aarch64 is not built: run $tree/c/program.sh first" "$alone" "$tree/install.sh" "$work/arm" aarch64
+    # The prebuilt one, if SOURCES says that it is of these sources.
+    rm -r "$tree/c" "$work/arm"
+    cp -R "$work/c" "$tree/c"
+    cp ../c/*.c ../c/*.sh "$tree/c"
+    touch "$tree/c/out"/*
+    mkdir -p "$tree/prebuilt/aarch64"
+    echo 'edfvd for ARM' >"$tree/prebuilt/aarch64/edfvd"
+    # shellcheck disable=SC2016
+    here=$tree sh -c '. "$here/sources.sh"; echo "kit $(cat "$here/KIT")"; echo "aarch64/edfvd $(digest_of aarch64/edfvd) $(
+        sha256sum <"$here/prebuilt/aarch64/edfvd" | sed "s/ .*//")"' >"$tree/prebuilt/SOURCES"
+    bounded env PATH="$alone" "$tree/install.sh" "$work/arm" aarch64 >"$work/out" 2>"$work/err"
+    holds 'the prebuilt program for ARM' [ "$(cat "$work/arm/libexec/edfvd/edfvd")" = 'edfvd for ARM' ]
+    holds 'no library of another machine' [ ! -e "$work/arm/lib" ]
+    echo more >>"$tree/prebuilt/aarch64/edfvd"
+    fails "the program for aarch64 is not built: run $tree/c/program.sh first" "$alone" "$tree/install.sh" "$work/arm" aarch64
+    rm -r "$tree/prebuilt"
 }
 
 # A relative prefix is one of the caller's folder, whatever CDPATH says, and a name may have blanks.
@@ -326,6 +384,7 @@ release
 pages
 links_that_lead_out
 libraries
+for_another_machine
 files "$work/prefix" >"$work/files_all"
 names
 planted

@@ -8,22 +8,35 @@ takes 0 0 "$@"
 cd "$(dirname -- "$0")/../examples" || exit 1
 . ../checks/copied_tree.sh
 kit=$(cat ../KIT)
+# What compare.sh ends with where nothing differs: with a compiler for 64-bit ARM, and without.
+whole='prebuilt: 15 compared, 0 failed'
+without_arm='prebuilt: 12 compared, 0 failed'
 
 # build_tree: the copy gets what the scripts need: the folder without the files that refresh.sh writes, and the files in c. The library is
-# a text, which the stand-in for nm writes. The stand-in for c/build.sh makes it.
+# a text, which the stand-in for nm writes. The stand-ins for c/build.sh and c/program.sh make it, and what is for 64-bit ARM.
 build_tree() {
     mkdir -p "$tree/prebuilt" "$tree/c"
     cp ../prebuilt/*.sh ../prebuilt/README.md "$tree/prebuilt"
     cp ../reproduce.sh ../about.sh "$tree"
-    cp ../c/*.c ../c/*.h "$tree/c"
+    cp ../c/*.c ../c/*.h ../c/machine.sh "$tree/c"
     cat >"$tree/c/build.sh" <<'END'
 #!/bin/sh
 cd "${0%/*}" || exit
 [ ! -e fails ] || exit 1
-mkdir -p out
-printf '0 T edfvd_ask\n0 T edfvd_check\n' >out/libedfvd.so
+mkdir -p out/aarch64
+case ${CC:-} in
+aarch64-*)
+    [ ! -e fails_for_arm ] || exit 1
+    for file in libedfvd.so libedfvd_core.a; do echo "$file for ARM" >"out/aarch64/$file"; done
+    ;;
+*) printf '0 T edfvd_ask\n0 T edfvd_check\n' >out/libedfvd.so ;;
+esac
 END
-    chmod +x "$tree/c/build.sh"
+    cat >"$tree/c/program.sh" <<'END'
+#!/bin/sh
+cd "${0%/*}" && [ ! -e fails ] && echo 'edfvd for ARM' >out/aarch64/edfvd && chmod 755 out/aarch64/edfvd
+END
+    chmod +x "$tree/c/build.sh" "$tree/c/program.sh"
     cat >"$work/rt/rt" <<END
 #!/bin/sh
 case \$1 in
@@ -32,7 +45,9 @@ version) echo "$kit" ;;
 esac
 END
     cp "$program" "$work/made"
-    for tool in cc ld; do printf '#!/bin/sh\necho "%s of the test, 1.0"\necho more\n' "$tool" >"$work/rt/$tool"; done
+    for tool in cc ld aarch64-linux-gnu-gcc aarch64-linux-gnu-ld; do
+        printf '#!/bin/sh\necho "%s of the test, 1.0"\necho more\n' "$tool" >"$work/rt/$tool"
+    done
     # shellcheck disable=SC2016
     printf '#!/bin/sh\ncat "$3"\n' >"$work/rt/nm"
     chmod +x "$work/rt"/*
@@ -81,7 +96,12 @@ refused() {
     put_program
     : >"$tree/c/fails"
     fails 'the library was not built' "$with" "$refresh"
-    rm "$tree/c/fails"
+    mv "$tree/c/fails" "$tree/c/fails_for_arm"
+    fails 'the files for 64-bit ARM were not built' "$with" "$refresh"
+    rm "$tree/c/fails_for_arm"
+    mv "$work/rt/aarch64-linux-gnu-gcc" "$work/kept"
+    fails 'aarch64-linux-gnu-gcc is not on the PATH' "$with" "$refresh"
+    mv "$work/kept" "$work/rt/aarch64-linux-gnu-gcc"
 }
 
 # sum FILE: its sha256
@@ -91,29 +111,35 @@ sum() {
 
 # written: the files, their modes and what SOURCES says; and the same bytes again
 written() {
-    passes 'prebuilt: 9 compared, 0 failed' "$tree/prebuilt/refresh.sh"
+    passes "$whole" "$tree/prebuilt/refresh.sh"
     find "$tree/prebuilt" -mindepth 1 -printf '%m %P\n' | sort -k 2 >"$work/out"
     {
         printf '755 %s.sh\n' compare library program refresh
-        echo '755 edfvd'
-        printf '644 %s\n' LICENSE-APACHE LICENSE-MIT README.md SHA256SUMS SOURCES THIRD-PARTY-LICENSES libedfvd.so tools.sh
+        printf '755 %s\n' edfvd aarch64 aarch64/edfvd
+        printf '644 %s\n' aarch64/libedfvd.so aarch64/libedfvd_core.a LICENSE-APACHE LICENSE-MIT README.md SHA256SUMS SOURCES THIRD-PARTY-LICENSES libedfvd.so tools.sh
     } | sort -k 2 >"$work/wanted"
     judge 0 0 "$work/wanted" 'the files that refresh.sh writes'
     cut -d ' ' -f 1 "$tree/prebuilt/SOURCES" | tr '\n' ' ' >"$work/out"
-    printf 'kit machine cc ld edfvd libedfvd.so ' >"$work/wanted"
+    printf 'kit machine cc ld aarch64/cc aarch64/ld edfvd libedfvd.so aarch64/edfvd aarch64/libedfvd.so aarch64/libedfvd_core.a ' >"$work/wanted"
     judge 0 0 "$work/wanted" 'the first words of SOURCES'
-    grep -v '^edfvd\|^libedfvd' "$tree/prebuilt/SOURCES" >"$work/out"
+    grep -v 'edfvd' "$tree/prebuilt/SOURCES" >"$work/out"
     printf 'kit %s\nmachine %s\ncc cc of the test, 1.0\nld ld of the test, 1.0\n' "$kit" "$(uname -m)" >"$work/wanted"
+    printf 'aarch64/cc aarch64-linux-gnu-gcc of the test, 1.0\naarch64/ld aarch64-linux-gnu-ld of the test, 1.0\n' >>"$work/wanted"
     judge 0 0 "$work/wanted" 'the tools in SOURCES'
     holds 'the sum of the program' grep -q "^edfvd [0-9a-f]\{64\} $(sum "$program")\$" "$tree/prebuilt/SOURCES"
     holds 'the sum of the library' grep -q "^libedfvd.so [0-9a-f]\{64\} $(sum "$tree/c/out/libedfvd.so")\$" "$tree/prebuilt/SOURCES"
-    (cd "$tree/prebuilt" && for name in LICENSE-APACHE LICENSE-MIT SOURCES THIRD-PARTY-LICENSES edfvd libedfvd.so; do
+    for name in edfvd libedfvd.so libedfvd_core.a; do
+        holds "the sum of aarch64/$name" grep -q "^aarch64/$name [0-9a-f]\{64\} $(sum "$tree/c/out/aarch64/$name")\$" "$tree/prebuilt/SOURCES"
+        holds "aarch64/$name" cmp "$tree/prebuilt/aarch64/$name" "$tree/c/out/aarch64/$name"
+    done
+    (cd "$tree/prebuilt" && for name in LICENSE-APACHE LICENSE-MIT SOURCES THIRD-PARTY-LICENSES aarch64/edfvd aarch64/libedfvd.so \
+        aarch64/libedfvd_core.a edfvd libedfvd.so; do
         printf '%s  %s\n' "$(sum "$name")" "$name"
     done) >"$work/wanted"
     holds 'SHA256SUMS' cmp "$tree/prebuilt/SHA256SUMS" "$work/wanted"
     files >"$work/first"
     umask 077
-    passes 'prebuilt: 9 compared, 0 failed' "$tree/prebuilt/refresh.sh"
+    passes "$whole" "$tree/prebuilt/refresh.sh"
     umask 022
     files >"$work/out"
     judge 0 0 "$work/first" 'the files that refresh.sh writes under umask 077'
@@ -129,11 +155,27 @@ finds() {
 
 # found: each thing that may differ
 found() {
-    passes 'prebuilt: 9 compared, 0 failed' "$tree/prebuilt/compare.sh"
+    passes "$whole" "$tree/prebuilt/compare.sh"
     finds 'SHA256SUMS is wrong' prebuilt/SOURCES
     finds 'SHA256SUMS is wrong' prebuilt/SHA256SUMS
     finds 'edfvd is not the program that was built' prebuilt/edfvd
     finds 'libedfvd.so is not the one that was built' prebuilt/libedfvd.so
+    for name in edfvd libedfvd.so libedfvd_core.a; do
+        finds "aarch64/$name is not of the sources that are here" "prebuilt/aarch64/$name"
+        finds "aarch64/$name is not the one that was built" "prebuilt/aarch64/$name"
+        finds "aarch64/$name is not the one that was built" "c/out/aarch64/$name"
+        mv "$tree/c/out/aarch64/$name" "$work/kept"
+        fails "c/out/aarch64/$name is not built" "$with" "$tree/prebuilt/compare.sh"
+        mv "$work/kept" "$tree/c/out/aarch64/$name"
+    done
+    for file in heap.c system.c machine.sh program.sh; do
+        finds 'aarch64/edfvd is not of the sources that are here' "c/$file"
+    done
+    for file in heap.c machine.sh build.sh edfvd.h; do
+        finds 'aarch64/libedfvd.so is not of the sources that are here' "c/$file"
+        finds 'aarch64/libedfvd_core.a is not of the sources that are here' "c/$file"
+    done
+    finds 'aarch64/edfvd is not of the sources that are here' crates/edfvd_program/src/main.rt
     finds 'edfvd is not the program that was built' crates/edfvd_program/out/edfvd_program
     finds 'libedfvd.so is not the one that was built' c/out/libedfvd.so
     finds 'LICENSE-MIT is not the one of the repository' LICENSE-MIT
@@ -147,7 +189,7 @@ found() {
     # A source of the library alone is none of the program.
     echo '// more' >>"$tree/c/edfvd_ask.c"
     fails 'libedfvd.so is not of' "$with" "$tree/prebuilt/compare.sh"
-    holds 'the program is of its sources' [ "$(grep -c 'edfvd is not of' "$work/text")" -eq 0 ]
+    holds 'the programs are of their sources' [ "$(grep -c 'edfvd is not of' "$work/text")" -eq 0 ]
     cp ../c/edfvd_ask.c "$tree/c"
     mv "$tree/c/out/libedfvd.so" "$work/kept"
     fails "$tree/c/out/libedfvd.so is not built" "$with" "$tree/prebuilt/compare.sh"
@@ -167,7 +209,7 @@ another_compiler() {
     for tool in cc ld; do
         printf '#!/bin/sh\necho another\n' >"$work/rt/$tool"
         printf '9 T edfvd_check\n8 T edfvd_ask\n' >"$tree/c/out/libedfvd.so"
-        passes 'prebuilt: 9 compared, 0 failed' "$tree/prebuilt/compare.sh"
+        passes "$whole" "$tree/prebuilt/compare.sh"
         holds 'a line says so' grep -qxF "$only" "$work/text"
         printf '9 T edfvd_check\n' >"$tree/c/out/libedfvd.so"
         fails 'libedfvd.so has not the calls of the one that was built' "$with" "$tree/prebuilt/compare.sh"
@@ -176,14 +218,34 @@ another_compiler() {
     done
 }
 
+# another_arm_compiler: without one for 64-bit ARM, or with another one than that of SOURCES, what was built for it is not compared, and a
+# line says why
+another_arm_compiler() {
+    echo more >>"$tree/c/out/aarch64/edfvd"
+    for tool in gcc ld; do
+        cp "$work/rt/aarch64-linux-gnu-$tool" "$work/kept"
+        printf '#!/bin/sh\necho another\n' >"$work/rt/aarch64-linux-gnu-$tool"
+        passes "$without_arm" "$tree/prebuilt/compare.sh"
+        holds 'a line says so' grep -q 'is not compared with what was built: its cc or ld is not that of prebuilt/SOURCES' "$work/text"
+        cp "$work/kept" "$work/rt/aarch64-linux-gnu-$tool"
+    done
+    mv "$work/rt/aarch64-linux-gnu-gcc" "$work/kept"
+    passes "$without_arm" "$tree/prebuilt/compare.sh"
+    holds 'a line says so' grep -q 'is not compared with what was built: there is no aarch64-linux-gnu-gcc' "$work/text"
+    mv "$work/kept" "$work/rt/aarch64-linux-gnu-gcc"
+    "$tree/c/program.sh"
+}
+
 # reproduced: from nothing, in another folder
 reproduced() {
     reproduce=$tree/reproduce.sh
-    passes 'prebuilt: 9 compared, 0 failed' "$reproduce" "$work/again"
+    passes "$whole" "$reproduce" "$work/again"
     holds 'the copy stays' cmp "$program" "$work/again/crates/edfvd_program/out/edfvd_program"
+    holds 'what is for ARM is built again' cmp "$tree/c/out/aarch64/edfvd" "$work/again/c/out/aarch64/edfvd"
     holds 'what is prebuilt is not copied' [ ! -e "$work/again/prebuilt/edfvd" ]
+    holds 'what is prebuilt for ARM is not copied' [ ! -e "$work/again/prebuilt/aarch64" ]
     mkdir "$work/temporary"
-    passes 'prebuilt: 9 compared, 0 failed' TMPDIR="$work/temporary" CC=none CFLAGS=-none "$reproduce"
+    passes "$whole" TMPDIR="$work/temporary" CC=none CFLAGS=-none "$reproduce"
     holds 'no other copy stays' [ -z "$(ls -A "$work/temporary")" ]
     fails 'is not empty' "$with" "$reproduce" "$work/again"
     fails 'is no folder' "$with" "$reproduce" "$work/made"
@@ -200,8 +262,8 @@ bounded ../prebuilt/compare.sh >"$work/text" 2>&1
 holds 'prebuilt is what is built here' [ $? -eq 0 ]
 cat "$work/text"
 if [ -e ../.git ]; then
-    printf 'prebuilt/%s: binary: set\n' edfvd libedfvd.so >"$work/wanted"
-    (cd .. && git check-attr binary prebuilt/edfvd prebuilt/libedfvd.so) >"$work/out"
+    printf 'prebuilt/%s: binary: set\n' edfvd libedfvd.so aarch64/edfvd aarch64/libedfvd.so aarch64/libedfvd_core.a >"$work/wanted"
+    (cd .. && sed 's/: .*//' "$work/wanted" | git check-attr --stdin binary) >"$work/out"
     judge 0 $? "$work/wanted" 'the attributes of the binary files'
 fi
 build_tree
@@ -209,5 +271,6 @@ refused
 written
 found
 another_compiler
+another_arm_compiler
 reproduced
 ends prebuilt

@@ -1,7 +1,8 @@
 #!/bin/sh
 # Compares the folder prebuilt with the sources that are here, and byte by byte with what was built in the folder TREE, which is this
 # repository's if none is named. The bytes of the library depend on the compiler and the linker in C; where those of SOURCES are not on
-# this machine, the calls that the two libraries offer are compared. A line says what differs, and the status is then 1.
+# this machine, the calls that the two libraries offer are compared. What is for 64-bit ARM is compared with the sources; with what was
+# built only where the compilers are those of SOURCES. A line says what differs, and the status is then 1.
 # usage: compare.sh [TREE]
 . "$(dirname -- "$0")/tools.sh"
 takes 0 1 "$@"
@@ -61,8 +62,21 @@ compares_library() {
     fi
 }
 
+# compares_arm: byte by byte, where there is a compiler for 64-bit ARM and it is the one of SOURCES
+compares_arm() {
+    if ! has_arm; then
+        echo "prebuilt: what is for 64-bit ARM is not compared with what was built: there is no $arm_cc"
+    elif [ "$(arm_compilers)" != "$(grep '^aarch64/cc \|^aarch64/ld ' "$here/prebuilt/SOURCES")" ]; then
+        echo "prebuilt: what is for 64-bit ARM is not compared with what was built: its cc or ld is not that of prebuilt/SOURCES"
+    else
+        for name in $arm; do
+            if has_built "c/out/$name"; then notes "$name is not the one that was built" cmp "$here/prebuilt/$name" "$tree/c/out/$name"; fi
+        done
+    fi
+}
+
 notes 'SHA256SUMS is wrong' sums
-for name in edfvd libedfvd.so; do
+for name in $native $arm; do
     notes "$name is not of the sources that are here: prebuilt/refresh.sh writes it again" is_prebuilt "$name"
 done
 for name in LICENSE-APACHE LICENSE-MIT THIRD-PARTY-LICENSES; do
@@ -71,5 +85,6 @@ done
 notes "more than $limit bytes" is_small
 if has_built "$built_program"; then notes 'edfvd is not the program that was built' cmp "$here/prebuilt/edfvd" "$tree/$built_program"; fi
 if has_built "$built_library"; then compares_library; fi
+compares_arm
 echo "prebuilt: $compared compared, $failed failed"
 [ "$failed" -eq 0 ]
