@@ -1,6 +1,6 @@
 #!/bin/sh
 # Runs each script that tries the built program, as many at once as there are processors; the one that limits the time of a run follows
-# alone, and so does the one that needs the library which library.sh builds. What a script printed is shown when it has ended. The
+# alone, and so do those that need what library.sh and arm.sh build. What a script printed is shown when it has ended. The
 # status is that of the first of the list below that failed, or 0.
 # usage: all.sh
 . "$(dirname -- "$0")/../tools/usage.sh"
@@ -41,6 +41,7 @@ licences.sh
 LIST
 cat >"$work/alone" <<'LIST'
 calm.sh
+arm.sh
 prebuilt.sh
 LIST
 cat "$work/together" "$work/alone" >"$work/list"

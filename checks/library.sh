@@ -11,61 +11,11 @@
 takes 0 0 "$@"
 cd "$(dirname -- "$0")/../examples" || exit 1
 . ../checks/expect.sh
-c=$PWD/../c
+. ../checks/in_c.sh
 python=$PWD/../python
-strict='-Wall -Wextra -Werror -Wpedantic -Wconversion -Wshadow'
 CC=${CC:-cc}
-limit=300
 # The seed of the random calls: another one tries other calls.
 seed=1
-
-# has TOOL WITHOUT: whether the tool is there; if not, says what is left out
-has() {
-    command -v "$1" >/dev/null 2>&1 && return 0
-    echo "library: $2 left out: there is no $1"
-    return 1
-}
-
-# passes WHAT COMMAND..: notes one run, which must end with status 0, within $limit seconds
-passes() {
-    what=$1
-    shift
-    runs=$((runs + 1))
-    if ! timeout "$limit" "$@" >"$work/out" 2>&1; then
-        failed=$((failed + 1))
-        echo "library: $what failed:"
-        tail -n 20 "$work/out"
-    fi
-}
-
-# tries WHAT PROGRAM COMMAND..: notes one run of an example or test, which must end with status 0 and write what is expected, where
-# there is a text for it
-tries() {
-    what=$1
-    text=$c/expected/${2##*/}.txt
-    shift 2
-    if [ ! -e "$text" ]; then
-        passes "$what" "$@"
-        return
-    fi
-    # shellcheck disable=SC2016
-    passes "$what" sh -c 'text=$1; shift; "$@" | cmp - "$text"' sh "$text" "$@"
-}
-
-# compiled SOURCE TO FLAGS..: whether the example or test, a path below c, is compiled, without a warning
-compiled() {
-    source=$1
-    to=$2
-    shift 2
-    case $source in
-    tests/fuzz) set -- "$c/tests/fuzz/"*.c "$@" ;;
-    tests/memory | tests/busy) set -- "$c/$source.c" "$@" -Wl,--wrap=malloc,--wrap=realloc,--wrap=free ;;
-    *) set -- "$c/$source.c" "$@" ;;
-    esac
-    # shellcheck disable=SC2086
-    passes "compiling $source" "$CC" -std=c11 $strict -I"$c" -I"$work" "$@" -pthread -o "$to"
-    [ -x "$to" ]
-}
 
 # ground SOURCE NAME: a run under memcheck, of a size that does not take long there
 ground() {
@@ -83,14 +33,11 @@ ground() {
 # header names and with 10^9 places are not for memcheck, and where memory fails on purpose or is measured the sanitizers' own
 # allocations are in the way.
 tried_in_c() {
-    # shellcheck disable=SC2016
-    passes 'the sentences of edfvd.h that tests try' sh -c '"$1" >"$2"' sh "$c/tests/stated.sh" "$work/stated.h"
-    for source in examples/control examples/deadlines examples/margins examples/dispatcher examples/monitor examples/endless examples/ask \
-        tests/sets tests/events tests/handles tests/judging tests/asking tests/stack tests/places tests/busy tests/threads tests/wrong \
-        tests/memory tests/fuzz; do
+    stated
+    compiled examples/posix "$work/posix" -O2 "$c/out/libedfvd_core.a"
+    for source in $in_c; do
         name=${source##*/}
-        library=$c/out/libedfvd_core.a
-        case $name in ask | asking | stack | memory | fuzz) library=$c/out/libedfvd.a ;; esac
+        library=$c/out/$(library_for "$name")
         words=
         [ "$name" != fuzz ] || words="$seed 20000"
         compiled "$source" "$work/$name" -O2 "$library" || continue
