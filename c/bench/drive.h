@@ -71,13 +71,13 @@ static void reset(void) {
 
 static inline void open_all(void) {
     reset();
-    must("open", edfvd_open_endless(&scheduler, tasks, count, NULL));
+    must("open", edfvd_scheduler_open_endless(&scheduler, tasks, count, NULL));
     must("monitor_open", edfvd_monitor_open(&monitor, tasks, count, 0, 0, NULL));
 }
 
 static inline void close_all(void) {
     must("monitor_close", edfvd_monitor_close(&monitor));
-    must("close", edfvd_close(&scheduler));
+    must("close", edfvd_scheduler_close(&scheduler));
 }
 
 /* Gives the monitor each new row. */
@@ -85,13 +85,13 @@ static void hand_on(void) {
     edfvd_look look;
     edfvd_watch watch;
     edfvd_status status;
-    CALL(PEEK, status = edfvd_peek(&scheduler, &look));
+    CALL(PEEK, status = edfvd_scheduler_look(&scheduler, &look));
     must("peek", status);
-    must("monitor_peek", edfvd_monitor_peek(&monitor, &watch));
+    must("monitor_peek", edfvd_monitor_look(&monitor, &watch));
     for (; seen < look.rows; seen++) {
         edfvd_row row;
         edfvd_unfit unfit;
-        CALL(ROW_AT, status = edfvd_row_at(&scheduler, seen, &row));
+        CALL(ROW_AT, status = edfvd_scheduler_row(&scheduler, seen, &row));
         must("row_at", status);
         CALL(WOULD_FIT, status = edfvd_monitor_would_fit(&monitor, &row, 1, &unfit));
         must("would_fit", status);
@@ -118,7 +118,7 @@ static void release(bool in_bursts, bool in_tick) {
     for (uint32_t task = 1; task <= count; task++) {
         edfvd_status status;
         if (!is_due(task, in_bursts, in_tick)) continue;
-        CALL(RELEASE, status = edfvd_release(&scheduler, task, NULL));
+        CALL(RELEASE, status = edfvd_scheduler_release(&scheduler, task, NULL));
         if (status == EDFVD_RUNNING) continue; /* its own job has the tick */
         must("release", status);
         const edfvd_task *of = &tasks[task - 1];
@@ -135,17 +135,17 @@ static void tick(bool in_bursts) {
     edfvd_status status;
     release(in_bursts, false);
     hand_on();
-    CALL(PEEK, status = edfvd_peek(&scheduler, &look));
+    CALL(PEEK, status = edfvd_scheduler_look(&scheduler, &look));
     must("peek", status);
     if (look.chosen_task == 0) {
-        CALL(IDLE, status = edfvd_idle(&scheduler, NULL));
+        CALL(IDLE, status = edfvd_scheduler_idle(&scheduler, NULL));
         must("idle", status);
     } else {
-        CALL(GRANT, status = edfvd_grant(&scheduler, look.chosen_task, &given));
+        CALL(GRANT, status = edfvd_scheduler_grant(&scheduler, look.chosen_task, &given));
         must("grant", status);
         release(in_bursts, true);
         bool is_done = given.before + 1 >= plans[given.task].need;
-        CALL(OUTCOME, status = edfvd_outcome(&scheduler, given.task, given.count, is_done, NULL));
+        CALL(OUTCOME, status = edfvd_scheduler_outcome(&scheduler, given.task, given.count, is_done, NULL));
         must("outcome", status);
     }
     hand_on();

@@ -147,12 +147,12 @@ static void observe(void) {
     edfvd_look look;
     edfvd_watch watch;
     uint64_t late;
-    must("peek", edfvd_peek(&scheduler, &look));
-    must("monitor_peek", edfvd_monitor_peek(&monitor, &watch));
+    must("peek", edfvd_scheduler_look(&scheduler, &look));
+    must("monitor_peek", edfvd_monitor_look(&monitor, &watch));
     for (; seen < look.rows; seen++) {
         edfvd_row row;
         edfvd_unfit unfit;
-        must("row_at", edfvd_row_at(&scheduler, seen, &row));
+        must("row_at", edfvd_scheduler_row(&scheduler, seen, &row));
         must("observe", edfvd_monitor_observe(&monitor, &row, 1, &unfit));
         if (unfit.why != EDFVD_FITS) fail("monitor", "a row does not fit", 1);
         of_kind[row.event]++;
@@ -180,7 +180,7 @@ static void end_tick(void) {
     if (running.task == 0) return;
     worker *w = &workers[running.task];
     set_priority(w->thread, ASIDE);
-    must("outcome", edfvd_outcome(&scheduler, running.task, running.count, atomic_load(&w->done) == running.count, NULL));
+    must("outcome", edfvd_scheduler_outcome(&scheduler, running.task, running.count, atomic_load(&w->done) == running.count, NULL));
     running.task = 0;
 }
 
@@ -188,7 +188,7 @@ static void end_tick(void) {
 static void release(const job *due) {
     edfvd_answer answer;
     worker *w = &workers[due->task];
-    must("release", edfvd_release(&scheduler, due->task, &answer));
+    must("release", edfvd_scheduler_release(&scheduler, due->task, &answer));
     mark(answer.what == EDFVD_DROPPED ? "drop" : "release", names[due->task]);
     if (answer.what == EDFVD_DROPPED) return;
     atomic_store(&w->work, due->need * tick_length - tick_length / 10);
@@ -199,12 +199,12 @@ static void release(const job *due) {
 /* Begins a tick: grants it to the chosen job, whose thread gets the processor. */
 static void begin_tick(void) {
     edfvd_look look;
-    must("peek", edfvd_peek(&scheduler, &look));
+    must("peek", edfvd_scheduler_look(&scheduler, &look));
     if (look.chosen_task == 0) {
-        must("idle", edfvd_idle(&scheduler, NULL));
+        must("idle", edfvd_scheduler_idle(&scheduler, NULL));
         return;
     }
-    must("grant", edfvd_grant(&scheduler, look.chosen_task, &running));
+    must("grant", edfvd_scheduler_grant(&scheduler, look.chosen_task, &running));
     set_priority(workers[running.task].thread, GRANTED);
 }
 
@@ -270,7 +270,7 @@ static int report(void) {
            most_ungranted / 1000);
     printf("the ticker came at most %" PRId64 " us late\n", latest / 1000);
     must("monitor_close", edfvd_monitor_close(&monitor));
-    must("close", edfvd_close(&scheduler));
+    must("close", edfvd_scheduler_close(&scheduler));
     return verdict.why == EDFVD_FITS && verdict.late == 0 && latest < tick_length / 10 && most_ungranted < tick_length / 10 ? 0 : 1;
 }
 
@@ -290,7 +290,7 @@ int main(int argc, char **argv) {
     }
     tick_length = microseconds * 1000;
     least_granted = tick_length;
-    must("open", edfvd_open_endless(&scheduler, tasks, TASKS, NULL));
+    must("open", edfvd_scheduler_open_endless(&scheduler, tasks, TASKS, NULL));
     must("monitor_open", edfvd_monitor_open(&monitor, tasks, TASKS, 0, 0, NULL));
     settle((int)processor);
     sem_init(&ready, 0, 0);

@@ -121,7 +121,7 @@ static void write_answer(edfvd_answer a) {
 
 static edfvd_look peek(void) {
     edfvd_look l;
-    came("peek", edfvd_peek(&scheduler, &l));
+    came("peek", edfvd_scheduler_look(&scheduler, &l));
     printf(" %" PRIu64 " %" PRIu64 " %" PRIu32 " %" PRIu32 " %" PRIu32 " %" PRIu32 " %" PRIu32 "\n", l.ticks, l.rows, l.high_mode,
            l.out_task, l.out_count, l.chosen_task, l.chosen_count);
     return l;
@@ -138,10 +138,10 @@ static void wrong_event(uint32_t task) {
     edfvd_answer a = {0, 0, 0, 0, 0};
     uint32_t count = below(3);
     switch (below(4)) {
-    case 0: came("grant", edfvd_grant(&scheduler, task, &a)); break;
-    case 1: came("outcome", edfvd_outcome(&scheduler, task, count, one_in(2), &a)); break;
-    case 2: came("idle", edfvd_idle(&scheduler, &a)); break;
-    default: came("release", edfvd_release(&scheduler, (uint32_t)random64(), &a)); break;
+    case 0: came("grant", edfvd_scheduler_grant(&scheduler, task, &a)); break;
+    case 1: came("outcome", edfvd_scheduler_outcome(&scheduler, task, count, one_in(2), &a)); break;
+    case 2: came("idle", edfvd_scheduler_idle(&scheduler, &a)); break;
+    default: came("release", edfvd_scheduler_release(&scheduler, (uint32_t)random64(), &a)); break;
     }
     write_answer(a);
 }
@@ -155,15 +155,15 @@ static void event(size_t count) {
         return;
     }
     if (what < 4) {
-        came("release", edfvd_release(&scheduler, task, &a));
+        came("release", edfvd_scheduler_release(&scheduler, task, &a));
     } else if (l.out_task != 0) {
         bool is_done = given.before + 1 >= 1 + below(4);
-        came("outcome", edfvd_outcome(&scheduler, l.out_task, l.out_count, is_done, &a));
+        came("outcome", edfvd_scheduler_outcome(&scheduler, l.out_task, l.out_count, is_done, &a));
     } else if (l.chosen_task != 0) {
-        came("grant", edfvd_grant(&scheduler, l.chosen_task, &a));
+        came("grant", edfvd_scheduler_grant(&scheduler, l.chosen_task, &a));
         given = a;
     } else {
-        came("idle", edfvd_idle(&scheduler, &a));
+        came("idle", edfvd_scheduler_idle(&scheduler, &a));
     }
     write_answer(a);
 }
@@ -174,7 +174,7 @@ static void hand_on(void) {
         edfvd_row row;
         edfvd_unfit u = {9, 9};
         edfvd_watch w;
-        came("row", edfvd_row_at(&scheduler, seen, &row));
+        came("row", edfvd_scheduler_row(&scheduler, seen, &row));
         printf(" %" PRIu32 " %" PRIu32 " %" PRIu32 "\n", row.event, row.task, row.count);
         if (length < MOST_ROWS) rows[length++] = row;
         if (one_in(60)) spoil(&row);
@@ -183,7 +183,7 @@ static void hand_on(void) {
         printf(" %" PRIu32 " %" PRIu64 "\n", u.why, u.place);
         came("observe", edfvd_monitor_observe(&monitor, &row, times, &u));
         printf(" %" PRIu32 " %" PRIu64 "\n", u.why, u.place);
-        came("watch", edfvd_monitor_peek(&monitor, &w));
+        came("watch", edfvd_monitor_look(&monitor, &w));
         printf(" %" PRIu64 " %" PRIu64 " %" PRIu64 " %" PRIu32 " %" PRIu32 "\n", w.rows, w.ticks, w.pending, w.legal, w.high_mode);
     }
 }
@@ -223,8 +223,8 @@ static void try_schedule(void) {
     length = 0;
     seen = 0;
     bool is_endless = one_in(2);
-    came("open", is_endless ? edfvd_open_endless(&scheduler, tasks, count, &task)
-                            : edfvd_open(&scheduler, tasks, count, 50 + below(400), &task));
+    came("open", is_endless ? edfvd_scheduler_open_endless(&scheduler, tasks, count, &task)
+                            : edfvd_scheduler_open(&scheduler, tasks, count, 50 + below(400), &task));
     printf(" %" PRIu32 "\n", task);
     if (one_in(3)) {
         q = 1 + random64() % ((uint64_t)1 << (1 + below(61)));
@@ -237,10 +237,10 @@ static void try_schedule(void) {
         hand_on();
     }
     edfvd_row row;
-    came("row", edfvd_row_at(&scheduler, random64() % (seen + 2), &row));
+    came("row", edfvd_scheduler_row(&scheduler, random64() % (seen + 2), &row));
     printf(" %" PRIu32 " %" PRIu32 " %" PRIu32 "\n", row.event, row.task, row.count);
     judge(tasks, count, p, q);
-    came("close", edfvd_close(&scheduler));
+    came("close", edfvd_scheduler_close(&scheduler));
     came(" close", edfvd_monitor_close(&monitor));
     printf("\n");
 }

@@ -1,5 +1,5 @@
 /*
- * What edfvd.h says of the memory of edfvd_open: some bytes a place, all taken when it opens, and none by an event. With 10^9 places
+ * What edfvd.h says of the memory of edfvd_scheduler_open: some bytes a place, all taken when it opens, and none by an event. With 10^9 places
  * a system may promise memory that it does not have, and then the header has to say so; with less address space than they need it is
  * EDFVD_MEMORY. Memory is read from /proc. stated.h has what stated.sh writes.
  */
@@ -50,17 +50,17 @@ static void events_take_none(void) {
     uint32_t task;
     PAINTED(task);
     memory before = taken();
-    RETURNS(EDFVD_OK, edfvd_open(&s, control, 2, FEW, &task));
+    RETURNS(EDFVD_OK, edfvd_scheduler_open(&s, control, 2, FEW, &task));
     IS(0, task);
     memory after = taken();
     is_of_places(after.promised - before.promised, FEW);
     limited(after.promised);
     unsigned refused = 0;
-    for (int place = 0; place < FEW; place++) refused += edfvd_idle(&s, NULL) != EDFVD_OK;
+    for (int place = 0; place < FEW; place++) refused += edfvd_scheduler_idle(&s, NULL) != EDFVD_OK;
     IS(0, refused);
-    RETURNS(EDFVD_FULL, edfvd_idle(&s, NULL));
+    RETURNS(EDFVD_FULL, edfvd_scheduler_idle(&s, NULL));
     limited(0);
-    RETURNS(EDFVD_OK, edfvd_close(&s));
+    RETURNS(EDFVD_OK, edfvd_scheduler_close(&s));
 }
 
 /* As many places as no address space of a GiB has. */
@@ -69,9 +69,9 @@ static void refused(void) {
     uint32_t task;
     PAINTED(task);
     limited(taken().promised + 1024 * (uint64_t)MIB);
-    RETURNS(EDFVD_MEMORY, edfvd_open(&s, control, 2, MANY, &task));
+    RETURNS(EDFVD_MEMORY, edfvd_scheduler_open(&s, control, 2, MANY, &task));
     IS(0, task);
-    RETURNS(EDFVD_CLOSED, edfvd_close(&s));
+    RETURNS(EDFVD_CLOSED, edfvd_scheduler_close(&s));
     limited(0);
 }
 
@@ -79,7 +79,7 @@ static void refused(void) {
 static void promised(void) {
     edfvd_scheduler s = EDFVD_NONE;
     memory before = taken();
-    edfvd_status status = edfvd_open(&s, control, 2, MANY, NULL);
+    edfvd_status status = edfvd_scheduler_open(&s, control, 2, MANY, NULL);
     if (status == EDFVD_MEMORY) {
         puts("places: this system does not promise the memory of 10^9 places");
         return;
@@ -88,7 +88,7 @@ static void promised(void) {
     memory after = taken();
     is_of_places(after.promised - before.promised, MANY);
     if (after.there - before.there < STATED_PLACE_BYTES * (uint64_t)MANY / 2) IS(1, STATED_PROMISED);
-    RETURNS(EDFVD_OK, edfvd_close(&s));
+    RETURNS(EDFVD_OK, edfvd_scheduler_close(&s));
     IS(1, taken().promised < before.promised + MIB);
 }
 
