@@ -12,7 +12,6 @@ trap 'exit 1' HUP INT TERM
 
 # The longest first, so that none of them is left alone at the end.
 cat >"$work/together" <<'LIST'
-bodies.sh 5
 night.sh 2
 costs.sh
 compare.sh
