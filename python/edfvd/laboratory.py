@@ -33,7 +33,6 @@ __all__ = [
 
 # Below 2^60, and with 103,680 divisors: periods that divide it have a hyperperiod in the range of the library.
 DENSE = 897_612_484_786_617_600
-_MOST_RESCALES = 2_000
 
 
 # ---- Loads of tasks ----
@@ -59,10 +58,11 @@ def uunifast(rng: random.Random, count: int, total: float) -> List[float]:
 def dirichlet_rescale(rng: random.Random, total: float, most: Sequence[float], least: Sequence[float] = ()) -> List[float]:
     """Loads that add up to ``total``, each at most as in ``most``, and at least as in ``least`` (zeros without it).
 
-    The algorithm DRS of Griffin, Bate and Davis (Generating utilization vectors for the systematic evaluation of schedulability
-    tests, RTSS 2020), written from its description: a point of the flat Dirichlet distribution that exceeds bounds lies in a
-    smaller simplex, which is rescaled to the whole one, until no bound is exceeded. The loads are uniformly distributed if no
-    two bounds can be exceeded at once, and nearly so otherwise.
+    They are uniformly distributed over all such loads. The algorithm is DRS of Griffin, Bate and Davis (Generating utilization
+    vectors for the systematic evaluation of schedulability tests, RTSS 2020), written from its description: a point of the flat
+    Dirichlet distribution that exceeds bounds lies in a smaller simplex, which is rescaled to the whole one, until no bound is
+    exceeded. :func:`rescaled` keeps count of the limits within which the point is then uniformly distributed; where these
+    leave out a part of what is within the bounds, another point is drawn.
 
     >>> [round(load, 3) for load in dirichlet_rescale(random.Random(1), 0.5, most=[0.1, 0.2, 0.9])]
     [0.035, 0.119, 0.347]
@@ -86,25 +86,30 @@ def _within(rng: random.Random, total: float, most: Sequence[float]) -> List[flo
     bounds = [bound / total for bound in most]
     while True:
         draws = [rng.expovariate(1.0) for _ in most]
-        point = [draw / sum(draws) for draw in draws]
-        for _ in range(_MOST_RESCALES):
+        point, limits = [draw / sum(draws) for draw in draws], [1.0] * len(draws)
+        while all(limit >= min(bound, 1.0) for limit, bound in zip(limits, bounds)):
             if all(part <= bound for part, bound in zip(point, bounds)):
                 return [total * part for part in point]
-            point = rescaled(point, bounds)
+            point, limits = rescaled(point, limits, bounds)
 
 
-def rescaled(point: Sequence[float], bounds: Sequence[float]) -> List[float]:
-    """The point of the whole simplex that is where the point is in the simplex of all points that exceed the bounds it exceeds.
+def rescaled(point: Sequence[float], limits: Sequence[float], bounds: Sequence[float]) -> Tuple[List[float], List[float]]:
+    """The point of the whole simplex that is where the point is in the simplex of all points that exceed the bounds it exceeds,
+    and its limits.
 
-    Parts of a point add up to 1. Of those that exceed their bounds, the bounds are taken away; what is left is 1 again.
+    Parts of a point add up to 1. Of those that exceed their bounds, the bounds are taken away, and what is left is made 1 again.
+    If the point is uniformly distributed over all points with no part above its limit, then so is the new one with the new
+    limits, for each choice of bounds that are exceeded: the map is the same for all points of a choice, and keeps volumes in
+    proportion.
 
-    >>> rescaled([0.75, 0.25, 0.0], bounds=[0.5, 1.0, 1.0])
-    [0.5, 0.5, 0.0]
+    >>> rescaled([0.75, 0.25, 0.0], [1.0, 1.0, 1.0], bounds=[0.5, 0.25, 1.0])
+    ([0.5, 0.5, 0.0], [1.0, 0.5, 2.0])
     """
     exceeded = [part > bound for part, bound in zip(point, bounds)]
-    parts = [part - bound if over else part for part, bound, over in zip(point, bounds, exceeded)]
-    whole = sum(parts)
-    return [part / whole for part in parts]
+    whole = max(1.0 - sum(bound for bound, over in zip(bounds, exceeded) if over), 1e-300)
+    parts = [(part - bound if over else part) / whole for part, bound, over in zip(point, bounds, exceeded)]
+    highest = [(limit - bound if over else min(limit, bound)) / whole for limit, bound, over in zip(limits, bounds, exceeded)]
+    return parts, highest
 
 
 # ---- Periods ----

@@ -56,10 +56,17 @@ class Loads(Case):
         self.assertTrue(all(abs(sum(vector) - 0.6) < 1e-9 and min(vector) >= 0 for vector in vectors))
 
     def test_rescaled_by_hand(self) -> None:
-        """What exceeds no bound stays in proportion; of what exceeds one, the bound is taken away."""
-        self.assertTrue(near(rescaled([0.6, 0.3, 0.1], [0.5, 1, 1]), [0.2, 0.6, 0.2]))
-        self.assertTrue(near(rescaled([0.5, 0.4, 0.1], [0.25, 0.25, 1]), [0.5, 0.3, 0.2]))
-        self.assertTrue(near(rescaled([0.5, 0.5, 0.0], [1, 1, 1]), [0.5, 0.5, 0.0]))
+        """What exceeds no bound stays in proportion; of what exceeds one, the bound is taken away. So it is with the limits, of
+        which the one of a part that exceeds no bound is at most that bound."""
+        cases: List[Tuple[List[float], List[float], List[float], List[float], List[float]]] = [
+            ([0.6, 0.3, 0.1], [1, 1, 1], [0.5, 1, 1], [0.2, 0.6, 0.2], [1, 2, 2]),
+            ([0.6, 0.3, 0.1], [0.9, 0.5, 0.5], [0.5, 0.4, 1], [0.2, 0.6, 0.2], [0.8, 0.8, 1]),
+            ([0.5, 0.4, 0.1], [1, 1, 1], [0.25, 0.25, 1], [0.5, 0.3, 0.2], [1.5, 1.5, 2]),
+            ([0.5, 0.5, 0.0], [1, 1, 1], [1, 1, 1], [0.5, 0.5, 0.0], [1, 1, 1]),
+        ]
+        for point, limits, bounds, parts, highest in cases:
+            found = rescaled(point, limits, bounds)
+            self.assertTrue(near(found[0], parts) and near(found[1], highest), found)
 
     def test_rescale_of_one_draw(self) -> None:
         """Draws of 2, 1 and 1 are the point (1/2, 1/4, 1/4); with the bound 2/5 for the first it becomes (1/6, 5/12, 5/12)."""
@@ -76,6 +83,31 @@ class Loads(Case):
         vectors = [dirichlet_rescale(rng, 1.0, [0.6, 0.6, 0.6]) for _ in range(20_000)]
         for place in range(3):
             self.assertLess(abs(sum(vector[place] ** 2 for vector in vectors) / 20_000 - 0.0706667 / 0.52), 0.002)
+
+    def test_rescale_is_uniform_where_bounds_are_exceeded_together(self) -> None:
+        """Three loads of 0.5, of which the third has no bound: the first two are uniform in a rectangle of 0.1 by 0.2. Four loads of
+        1, each at most 0.3: what they are below it is uniform in the simplex of four parts of 0.2."""
+        rng = random.Random(5)
+        vectors = [dirichlet_rescale(rng, 0.5, [0.1, 0.2, 0.9]) for _ in range(20_000)]
+        cells = Counter((int(vector[0] / 0.05), int(vector[1] / 0.1)) for vector in vectors)
+        self.assertEqual(sorted(cells), [(0, 0), (0, 1), (1, 0), (1, 1)])
+        self.assertTrue(all(abs(count - 5_000) < 250 for count in cells.values()), cells)
+        # 0.3 minus a load is a part of 0.2, uniform over the simplex: it is above 0.1 in one case of eight.
+        vectors = [dirichlet_rescale(rng, 1.0, [0.3] * 4) for _ in range(20_000)]
+        for place in range(4):
+            self.assertLess(abs(sum(vector[place] < 0.2 for vector in vectors) - 2_500), 200)
+
+    def test_rescale_beside_rejection(self) -> None:
+        """Where bounds are tight, the means of loads are those of points that are drawn until one is within the bounds."""
+        rng, most = random.Random(6), [0.2, 0.25, 0.4, 0.7]
+        found = [dirichlet_rescale(rng, 1.0, most) for _ in range(8_000)]
+        drawn_again: List[List[float]] = []
+        while len(drawn_again) < 8_000:
+            vector = uunifast(rng, 4, 1.0)
+            drawn_again += [vector] if all(load <= bound for load, bound in zip(vector, most)) else []
+        for place in range(4):
+            means = [sum(vector[place] for vector in vectors) / 8_000 for vectors in (found, drawn_again)]
+            self.assertLess(abs(means[0] - means[1]), 0.005)
 
     def test_rescale_within_bounds(self) -> None:
         rng = random.Random(3)
