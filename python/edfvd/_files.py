@@ -15,7 +15,7 @@ from typing import Iterable, List, NamedTuple, Optional, Tuple, Union
 from . import _picture, _toml
 from ._commands import ask, task_file
 from ._errors import CommandRefused
-from ._given import MOST_32, given_row, given_tasks, number, parts_of
+from ._given import MOST_32, copied, given_row, given_tasks, number, parts_of
 from ._trace import Trace
 from ._values import Event, Job, Row, Task
 
@@ -184,16 +184,16 @@ def write_trace(tasks: Iterable[Task], rows: Iterable[Row], path: Optional[Path]
     release,0,,log,1,kept
     tick,0,1,log,1,done
     """
-    copied = tuple(tasks)
-    text = _trace_text(copied, rows)
-    _replied(["judge", "1", "2", "1", "1"], ("the tasks", "the trace"), _task_text(copied, None).encode(), text.encode(), _ILLEGAL)
+    given = copied(tasks)
+    text = _trace_text(given, rows)
+    _replied(["judge", "1", "2", "1", "1"], ("the tasks", "the trace"), _task_text(given, None).encode(), text.encode(), _ILLEGAL)
     return _written(text, path)
 
 
 def _on_trace(command: str, tasks: Iterable[Task], rows: Iterable[Row], scale: Optional[Fraction]) -> str:
     """What a command says of the trace of these rows."""
-    copied = tuple(tasks)
-    first, second = _task_text(copied, scale), _trace_text(copied, rows)
+    given = copied(tasks)
+    first, second = _task_text(given, scale), _trace_text(given, rows)
     return _replied([command, "1", "2"], ("the tasks", "the trace"), first.encode(), second.encode())
 
 
@@ -225,8 +225,8 @@ def svg(tasks: Iterable[Task], rows: Iterable[Row], begin: int, end: int) -> str
     >>> svg([Task("log", "low", 10, 5)], [Row(Event.IDLE)] * 4, 0, 4).splitlines()[1]
     '<title>Ticks 0 to 3 of a trace</title>'
     """
-    copied = tuple(tasks)
-    packed, names = given_tasks(copied)
+    given = copied(tasks)
+    packed, names = given_tasks(given)
     fields = struct.iter_unpack("4I", packed)
     lanes = [_picture.Lane(name, "high" if level else "low", period) for name, (level, period, *_) in zip(names.in_order, fields)]
     first, last = number(begin, MOST_32, "begin"), number(end, MOST_32, "end")
@@ -235,7 +235,7 @@ def svg(tasks: Iterable[Task], rows: Iterable[Row], begin: int, end: int) -> str
     runs: List[_picture.Run] = []
     tick = 0
     trace = Trace.of(rows)
-    _trace_text(copied, trace)
+    _trace_text(given, trace)
     for row, times in trace.runs:
         event, task, count = struct.unpack("3I", given_row(row, names))
         job = _picture.Job(task, count) if task else None

@@ -15,11 +15,12 @@ import reprlib
 import struct
 from fractions import Fraction
 from numbers import Rational
-from typing import Any, Dict, Iterable, List, Optional, Set, Tuple
+from typing import Any, Dict, Iterable, List, Optional, Set, Tuple, TypeVar
 
 from ._errors import Refused, Status
 from ._values import Demand, Event, Job, Row, Task
 
+_Value = TypeVar("_Value")
 MOST_32 = 2**32 - 1
 MOST_64 = 2**64 - 1
 _LEVELS = {"low": 0, "high": 1}
@@ -147,13 +148,24 @@ class Names:
         return Refused(Status(status), self.name(task), at)
 
 
+def copied(values: Iterable[_Value]) -> Tuple[_Value, ...]:
+    """A copy of the values, which is read from there on."""
+    try:
+        return tuple(values)
+    except NotImplementedError:
+        array: object = values
+        if isinstance(array, memoryview):  # of structs, which Python does not read
+            raise TypeError(f"an array of {array.format} is no list of values") from None
+        raise
+
+
 # ---- Task sets ----
 
 def given_tasks(tasks: Iterable[Task]) -> Tuple[bytes, Names]:
     """The tasks as the library takes them, and their names, which stay in Python."""
-    copied = tuple(tasks)
-    packed = _packed_tasks(copied) if _all_are(Task, copied) else None
-    return packed or _careful_tasks(copied)
+    given = copied(tasks)
+    packed = _packed_tasks(given) if _all_are(Task, given) else None
+    return packed or _careful_tasks(given)
 
 
 def _packed_tasks(tasks: Tuple[Task, ...]) -> Optional[Tuple[bytes, Names]]:
@@ -226,7 +238,7 @@ def given_demands(tasks: Iterable[Demand]) -> Tuple[bytes, Names]:
     """The tasks as the library takes them, and their names."""
     names: List[str] = []
     fields: List[int] = []
-    for task in tuple(tasks):
+    for task in copied(tasks):
         if not isinstance(task, Demand):
             raise TypeError(f"a demand test takes Demand objects, not {_kind(task)}")
         name = task_name(_field(task, "name"))
@@ -255,11 +267,11 @@ def given_row(row: Row, names: Names) -> bytes:
 
 def given_rows(rows: Iterable[Row], names: Names) -> bytes:
     """The rows as the library takes them."""
-    copied = tuple(rows)
-    packed = _packed_rows(copied, names.numbers) if _all_are(Row, copied) else None
+    given = copied(rows)
+    packed = _packed_rows(given, names.numbers) if _all_are(Row, given) else None
     if packed is not None:
         return packed
-    return b"".join([_packed_row(*_careful_row(row, names)) for row in copied])
+    return b"".join([_packed_row(*_careful_row(row, names)) for row in given])
 
 
 def _packed_rows(rows: Tuple[Row, ...], numbers: Dict[object, int]) -> Optional[bytes]:
@@ -309,7 +321,7 @@ def _event(value: object) -> Event:
 def given_jobs(jobs: Iterable[Job]) -> List[Tuple[str, int, int]]:
     """The jobs with their releases and needs, in the order of their releases; those of equal releases keep their order."""
     found = []
-    for job in tuple(jobs):
+    for job in copied(jobs):
         if not isinstance(job, Job):
             raise TypeError(f"a work list has Job objects, not {_kind(job)}")
         release, need = number(job.release, MOST_64, "a release"), number(job.need, MOST_64, "a need")
@@ -341,7 +353,7 @@ def given_words(words: Iterable[str]) -> List[bytes]:
     """The words as the library takes them."""
     if isinstance(words, (str, bytes)):
         raise TypeError(f"words must be a list of str, not {_kind(words)}")
-    encoded = [text(word, "a word").encode() for word in tuple(words)]
+    encoded = [text(word, "a word").encode() for word in copied(words)]
     if any(0 in word for word in encoded):
         raise ValueError("a word has a 0 byte in it")
     return encoded

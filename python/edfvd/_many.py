@@ -8,7 +8,7 @@ from typing import Callable, Dict, Iterable, List, Optional, Sequence, Tuple, Un
 
 from ._arrays import task_view
 from ._calls import test_of
-from ._given import MOST_64, Names, given_tasks, number
+from ._given import MOST_64, Names, copied, given_tasks, number
 from ._library import CTask, CTest, library
 from ._values import Task, Test
 
@@ -86,7 +86,7 @@ def check_many(sets: object, offsets: Optional[Iterable[int]] = None) -> Tests:
     view = task_view(sets)
     if view is None:
         raise TypeError(f"with offsets the sets are one array of edfvd_task, not {type(sets).__name__}")
-    ends = array.array("Q", (number(end, MOST_64, "an offset") for end in tuple(offsets)))
+    ends = array.array("Q", (number(end, MOST_64, "an offset") for end in copied(offsets)))
     packed, most = view.tobytes(), len(view)
     if not ends or ends[-1] > most or any(end < begin for begin, end in zip(ends, ends[1:])):
         raise ValueError(f"offsets are at least one, in order, and at most {most}, the length of the array")
@@ -99,10 +99,10 @@ def check_many(sets: object, offsets: Optional[Iterable[int]] = None) -> Tests:
 
 def _of_sets(sets: object) -> Tests:
     """The tests of sets of ``Task`` objects."""
-    copied: List[Iterable[Task]] = list(sets)  # type: ignore[call-overload]
-    structs, statuses, refused = (CTest * len(copied))(), bytearray(len(copied)), {}
+    given: Tuple[Iterable[Task], ...] = copied(sets)  # type: ignore[arg-type]
+    structs, statuses, refused = (CTest * len(given))(), bytearray(len(given)), {}
     for place, struct in enumerate(structs):
-        packed, names = given_tasks(copied[place])
+        packed, names = given_tasks(given[place])
         statuses[place] = library.check(packed, len(names), struct)
         if statuses[place]:
             refused[place] = names

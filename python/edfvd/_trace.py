@@ -6,7 +6,7 @@ from bisect import bisect_right
 from itertools import accumulate, chain, repeat
 from typing import Iterable, Iterator, List, Optional, Sequence, Tuple, Union, overload
 
-from ._given import MOST_64, checked_row, number
+from ._given import MOST_64, checked_row, copied, number
 from ._values import Event, Row
 
 Run = Tuple[Row, int]
@@ -60,7 +60,7 @@ class Trace(Sequence[Row]):
         >>> Trace.of([Row(Event.IDLE), Row(Event.IDLE)]).runs
         ((Row(event=<Event.IDLE: 9>, task=None, count=0), 2),)
         """
-        return cls(_joined(rows.runs if isinstance(rows, Trace) else ((checked_row(row), 1) for row in rows)))
+        return cls(_joined(rows.runs if isinstance(rows, Trace) else ((checked_row(row), 1) for row in copied(rows))))
 
     @property
     def ticks(self) -> int:

@@ -15,6 +15,7 @@ from edfvd import (
     Event, Job, Row, Status, Task, TaskFile, Trace, chart, judge, read_tasks, read_trace, read_work, report, run, svg, write_tasks,
     write_trace,
 )
+from edfvd import _library
 from support import CONTROL, CTL, LOG, TOO_MUCH, Case
 from test_judge import trace
 
@@ -249,6 +250,8 @@ class AsASequence(unittest.TestCase):
                 untyped.Trace([(wrong, 1)])
             with self.subTest(wrong=wrong), self.assertRaises(TypeError):
                 untyped.Trace.of([wrong, wrong])
+        with self.assertRaises(TypeError):
+            untyped.Trace.of(memoryview((_library.CTask * 2)()))
 
 
 class Commands(InAFolder):

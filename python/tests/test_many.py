@@ -112,7 +112,7 @@ class ManySets(Case):
         for value in wrong:
             with self.subTest(value=type(value)), self.assertRaises(TypeError):
                 check_many(value, [0, 1])
-        for value in (5, None, [5], [CTL], "ctl", (CTask * 3)()):
+        for value in (5, None, [5], [CTL], "ctl", (CTask * 3)(), memoryview((CTask * 3)())):
             with self.subTest(value=type(value)), self.assertRaises(TypeError):
                 check_many(value)
 
@@ -144,7 +144,7 @@ class ArraysOfRows(Case):
                 monitor.observe_all(value)
 
     def test_too_many_rows(self) -> None:
-        for times in (2_000_001, 2**62):
+        for times in (2_000_001, 10**11, 2**62):
             self.assertIs(self.refused(lambda: judge([LOG], Trace([(Row(Event.IDLE), times)]))).status, Status.FULL)
         self.assertTrue(judge([LOG], Trace([(Row(Event.IDLE), 2_000_000)])).legal)
 

@@ -6,7 +6,7 @@ from fractions import Fraction
 from typing import Any, Callable, List, Tuple
 
 import edfvd
-from edfvd import Event, Status
+from edfvd import Event, Status, _library
 from support import CONTROL, CTL, Case
 
 # The package without its types: wrong ones are what is tried here.
@@ -98,6 +98,7 @@ class Sets(Case):
         self.raises(TypeError, "not iterable", CTL)
         self.raises(TypeError, "a task set has Task objects, not str", "ctl")
         self.raises(TypeError, "a task set has Task objects, not tuple", [("ctl", "high", 10, 2, 6)])
+        self.raises(TypeError, "is no list of values", memoryview((_library.CTask * 2)()))
         self.raises(TypeError, "a task set has Task objects, not Demand", [Demand("a", 4, 2, 1)])
 
     def test_numbers_of_numpy(self) -> None:
@@ -155,7 +156,8 @@ class Calls(Case):
         calls: List[Callable[[], object]] = [
             lambda: partition(CONTROL, 2.0), lambda: partition(CONTROL, True), lambda: partition(CONTROL, "2"),
             lambda: accept(1.0, 50, 8), lambda: accept(1, None, 8), lambda: accept(1, 50, "8"),
-            lambda: demand(5), lambda: demand([CTL]), lambda: demand([Demand("a", 4, 2, 1.0)]),
+            lambda: demand(memoryview((_library.CTask * 2)())), lambda: run(CONTROL, memoryview((_library.CTask * 2)()), 4),
+            lambda: ask(memoryview((_library.CTask * 2)())), lambda: demand(5), lambda: demand([CTL]), lambda: demand([Demand("a", 4, 2, 1.0)]),
             lambda: demand([Demand("a", 4, "2", 1)]), lambda: demand([Demand("a", None, 2, 1)]),
             lambda: demand([Demand(5, 4, 2, 1)]),
             lambda: judge(CONTROL, 5), lambda: judge(CONTROL, ["idle"]), lambda: judge(CONTROL, [(Event.IDLE, None, 0)]),
