@@ -43,6 +43,7 @@ PROGRAM = {
     "accept": ("", (3,)), "demand": ("DEMANDS", (0,)),
 }
 TOOLS = ("explain", "svg", "perfetto", "jobs", "divisors", "periods")
+_CHECKED = (0, 1)  # the statuses of check for a set that is in range: it is admitted, or not
 _WRONG_WORDS, _NO_READER, _READ_FAULT, _WRITE_FAULT = 2, 3, 7, 8
 
 
@@ -88,7 +89,11 @@ def run_sensitivity(words: Sequence[str]) -> int:
     """Writes the table of a task file, and returns the exit status."""
     if len(words) != 1:
         return _wrong("sensitivity")
-    sys.stdout.write(table(*read_tasks(words[0])))
+    given = _bytes_in(words[0], MOST_BYTES)
+    ended, text = ask(["check", "1"], given)
+    if ended not in _CHECKED:
+        raise CommandRefused(ended, text.decode().rstrip("\n"))
+    sys.stdout.write(table(*read_tasks(text=given)))
     return 0
 
 

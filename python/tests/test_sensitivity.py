@@ -128,6 +128,9 @@ class Command(unittest.TestCase):
 
     def test_refusals(self) -> None:
         self.assertEqual(self.asked("task = 1\n"), (3, "", "task file: task 0: wrong kind of task\n"))
+        wide = CONTROL_FILE.replace("period = 10", "period = 4294967291", 1).replace("period = 10", "period = 4294967279", 1)
+        self.assertEqual(self.asked(wide), (3, "", "task file: task 2: periods out of range\n"))
+        self.assertEqual(self.asked(CONTROL_FILE + "# " * 2**23), (7, "", "file 1 is longer than 16777216 bytes\n"))
         self.assertEqual(self.asked(CONTROL_FILE, "sensitivity", "/nowhere"), (7, "", "/nowhere: No such file or directory\n"))
 
     def test_words(self) -> None:
