@@ -6,7 +6,7 @@
 - DEFINITIONS.md names definitions by their lines, has the totals of definitions.py, and leads to each definition that the
   headline reaches, before its part on all others; those have a comment in the file that it names.
 - DEADLINE-PROOF.md leads to each lemma of demand_law that it names, by its line.
-- README.md has the total of the headline.
+- README.md has the total of the headline and of what says that nothing is refused without reason.
 - The links of all pages lead to a file, and to a heading of it where they name one.
 - overrun.svg is what svg.py draws of the overrun.
 - CITATION.cff has the newest version of CHANGELOG.md.
@@ -214,12 +214,13 @@ def link_faults():
                 yield f'{page.relative_to(ROOT)}: {target} leads nowhere'
 
 
+PROMISE = ['headline', 'complete']
 HEADLINE = re.compile(r'[\d,]+ lines of definitions and [\d,]+ of types')
 
 
-# README.md with the lines that the headline reaches.
+# README.md with the lines that the clauses of the promise reach.
 def readme_mended(page):
-    (_, lines, _), (_, types, _) = definitions.totals(definitions.read(['headline'])).values()
+    (_, lines, _), (_, types, _) = definitions.totals(definitions.read(PROMISE)).values()
     return HEADLINE.sub(f'{lines:,} lines of definitions and {types:,} of types', page)
 
 
