@@ -7,7 +7,6 @@ set -u
 unset CDPATH TAR_OPTIONS CC CFLAGS LD AR OBJCOPY
 here=$(cd "$(dirname -- "$0")" && pwd) || exit 1
 . "$here/tools/usage.sh"
-. "$here/prebuilt/tools.sh"
 takes 0 1 "$@"
 
 # refuse WHY: ends the script
@@ -37,7 +36,8 @@ fi
 copy_sources "$copy" || refuse "the sources cannot be copied to $copy"
 "$copy/edfvd" check "$copy/examples/control/tasks.toml" >/dev/null || refuse 'the program was not built'
 "$copy/c/build.sh" >&2 || refuse 'the library was not built'
-if has_arm; then
+arm_cc=aarch64-linux-gnu-gcc
+if command -v "$arm_cc" >/dev/null 2>&1; then
     CC=$arm_cc "$copy/c/build.sh" >&2 && CC=$arm_cc "$copy/c/program.sh" >&2 || refuse 'what is for 64-bit ARM was not built'
 fi
 "$here/prebuilt/compare.sh" "$copy"
