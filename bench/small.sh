@@ -87,7 +87,11 @@ calls_table() {
     awk -F '|' '
         FNR == 1 { file++ }
         { stack[$1, file] = $3; takers[$1, file] = $4; calls[$1, file] = $2; most[$1, file] = $5; if (file == 1) name[++names] = $1 }
-        function takes(n, f) { return takers[n, f] == 0 ? "no" : calls[n, f] < 100 ? "yes, " most[n, f] " times" : takers[n, f] " of " calls[n, f] " calls" }
+        function takes(n, f) {
+            if (takers[n, f] == 0) return "no"
+            if (calls[n, f] >= 100) return takers[n, f] " of " calls[n, f] " calls"
+            return "by " most[n, f] (most[n, f] == 1 ? " allocation" : " allocations")
+        }
         END {
             for (n = 1; n <= names; n++) {
                 it = name[n]

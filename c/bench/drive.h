@@ -14,10 +14,12 @@
 #include <stdlib.h>
 #include <string.h>
 
-enum { RELEASE, GRANT, OUTCOME, IDLE, PEEK, ROW_AT, OBSERVE, WOULD_FIT, LATE, KINDS };
+enum { RELEASE, GRANT, OUTCOME, IDLE, LOOK, ROW, OBSERVE, WOULD_FIT, LATE, KINDS };
 
-static const char *const kinds[KINDS] = {"release", "grant", "outcome", "idle", "peek", "row_at", "monitor_observe", "monitor_would_fit",
-                                         "monitor_late"};
+static const char *const kinds[KINDS] = {
+    "scheduler_release", "scheduler_grant", "scheduler_outcome",  "scheduler_idle", "scheduler_look",
+    "scheduler_row",     "monitor_observe", "monitor_would_fit", "monitor_late",
+};
 
 static edfvd_task tasks[128];
 static uint32_t count;
@@ -85,14 +87,14 @@ static void hand_on(void) {
     edfvd_look look;
     edfvd_watch watch;
     edfvd_status status;
-    CALL(PEEK, status = edfvd_scheduler_look(&scheduler, &look));
-    must("peek", status);
-    must("monitor_peek", edfvd_monitor_look(&monitor, &watch));
+    CALL(LOOK, status = edfvd_scheduler_look(&scheduler, &look));
+    must("look", status);
+    must("monitor_look", edfvd_monitor_look(&monitor, &watch));
     for (; seen < look.rows; seen++) {
         edfvd_row row;
         edfvd_unfit unfit;
-        CALL(ROW_AT, status = edfvd_scheduler_row(&scheduler, seen, &row));
-        must("row_at", status);
+        CALL(ROW, status = edfvd_scheduler_row(&scheduler, seen, &row));
+        must("row", status);
         CALL(WOULD_FIT, status = edfvd_monitor_would_fit(&monitor, &row, 1, &unfit));
         must("would_fit", status);
         CALL(OBSERVE, status = edfvd_monitor_observe(&monitor, &row, 1, &unfit));
@@ -135,8 +137,8 @@ static void tick(bool in_bursts) {
     edfvd_status status;
     release(in_bursts, false);
     hand_on();
-    CALL(PEEK, status = edfvd_scheduler_look(&scheduler, &look));
-    must("peek", status);
+    CALL(LOOK, status = edfvd_scheduler_look(&scheduler, &look));
+    must("look", status);
     if (look.chosen_task == 0) {
         CALL(IDLE, status = edfvd_scheduler_idle(&scheduler, NULL));
         must("idle", status);

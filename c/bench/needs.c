@@ -122,7 +122,7 @@ static void with_rows(void) {
     static edfvd_verdict verdict;
     for (size_t place = 0; place < MOST; place++) rows[place] = (edfvd_row){EDFVD_IDLE, 0, 0};
     ONE("judge of 256 rows", edfvd_judge(tasks, count, rows, MOST, 0, 0, &verdict));
-    ONE("open of 1,000 places", edfvd_scheduler_open(&plain, tasks, count, 1000, NULL));
+    ONE("scheduler_open of 1,000 places", edfvd_scheduler_open(&plain, tasks, count, 1000, NULL));
     must("close", edfvd_scheduler_close(&plain));
 }
 
@@ -151,13 +151,13 @@ int main(int argc, char **argv) {
         edfvd_verdict verdict;
         edfvd_watch watch;
         reset();
-        ONE("open_endless", edfvd_scheduler_open_endless(&scheduler, tasks, count, NULL));
+        ONE("scheduler_open_endless", edfvd_scheduler_open_endless(&scheduler, tasks, count, NULL));
         ONE("monitor_open", edfvd_monitor_open(&monitor, tasks, count, 0, 0, NULL));
         for (uint32_t number = 0; number < ticks; number++) tick(in_bursts);
         ONE("monitor_verdict", edfvd_monitor_verdict(&monitor, &verdict));
-        ONE("monitor_peek", edfvd_monitor_look(&monitor, &watch));
+        ONE("monitor_look", edfvd_monitor_look(&monitor, &watch));
         ONE("monitor_close", edfvd_monitor_close(&monitor));
-        ONE("close", edfvd_scheduler_close(&scheduler));
+        ONE("scheduler_close", edfvd_scheduler_close(&scheduler));
     }
     with_late_job();
     if (held != before) return 1;

@@ -10,14 +10,16 @@ MARK(mark_0_release)
 MARK(mark_1_grant)
 MARK(mark_2_outcome)
 MARK(mark_3_idle)
-MARK(mark_4_peek)
-MARK(mark_5_row_at)
+MARK(mark_4_look)
+MARK(mark_5_row)
 MARK(mark_6_observe)
 MARK(mark_7_would_fit)
 MARK(mark_8_late)
 MARK(mark_end)
-static void (*const marks[])(void) = {mark_0_release, mark_1_grant,   mark_2_outcome,   mark_3_idle, mark_4_peek,
-                                      mark_5_row_at,  mark_6_observe, mark_7_would_fit, mark_8_late};
+static void (*const marks[])(void) = {
+    mark_0_release, mark_1_grant,   mark_2_outcome,   mark_3_idle, mark_4_look,
+    mark_5_row,     mark_6_observe, mark_7_would_fit, mark_8_late,
+};
 #define CALL(kind, call) \
     do {                 \
         marks[kind]();   \

@@ -147,12 +147,12 @@ static void observe(void) {
     edfvd_look look;
     edfvd_watch watch;
     uint64_t late;
-    must("peek", edfvd_scheduler_look(&scheduler, &look));
-    must("monitor_peek", edfvd_monitor_look(&monitor, &watch));
+    must("look", edfvd_scheduler_look(&scheduler, &look));
+    must("monitor_look", edfvd_monitor_look(&monitor, &watch));
     for (; seen < look.rows; seen++) {
         edfvd_row row;
         edfvd_unfit unfit;
-        must("row_at", edfvd_scheduler_row(&scheduler, seen, &row));
+        must("row", edfvd_scheduler_row(&scheduler, seen, &row));
         must("observe", edfvd_monitor_observe(&monitor, &row, 1, &unfit));
         if (unfit.why != EDFVD_FITS) fail("monitor", "a row does not fit", 1);
         of_kind[row.event]++;
@@ -199,7 +199,7 @@ static void release(const job *due) {
 /* Begins a tick: grants it to the chosen job, whose thread gets the processor. */
 static void begin_tick(void) {
     edfvd_look look;
-    must("peek", edfvd_scheduler_look(&scheduler, &look));
+    must("look", edfvd_scheduler_look(&scheduler, &look));
     if (look.chosen_task == 0) {
         must("idle", edfvd_scheduler_idle(&scheduler, NULL));
         return;

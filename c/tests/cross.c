@@ -119,9 +119,9 @@ static void write_answer(edfvd_answer a) {
     printf(" %" PRIu32 " %" PRIu32 " %" PRIu32 " %" PRIu32 " %" PRIu64 "\n", a.what, a.task, a.count, a.before, a.at);
 }
 
-static edfvd_look peek(void) {
+static edfvd_look look_at(void) {
     edfvd_look l;
-    came("peek", edfvd_scheduler_look(&scheduler, &l));
+    came("look", edfvd_scheduler_look(&scheduler, &l));
     printf(" %" PRIu64 " %" PRIu64 " %" PRIu32 " %" PRIu32 " %" PRIu32 " %" PRIu32 " %" PRIu32 "\n", l.ticks, l.rows, l.high_mode,
            l.out_task, l.out_count, l.chosen_task, l.chosen_count);
     return l;
@@ -147,7 +147,7 @@ static void wrong_event(uint32_t task) {
 }
 
 static void event(size_t count) {
-    edfvd_look l = peek();
+    edfvd_look l = look_at();
     edfvd_answer a = {0, 0, 0, 0, 0};
     uint32_t task = 1 + below((uint32_t)count + (count == 0 || one_in(30))), what = below(10);
     if (what == 9) {
@@ -170,7 +170,7 @@ static void event(size_t count) {
 
 /* Hands the rows that are new to the monitor, one in 60 with another number in a field. */
 static void hand_on(void) {
-    for (uint64_t until = peek().rows; seen < until; seen++) {
+    for (uint64_t until = look_at().rows; seen < until; seen++) {
         edfvd_row row;
         edfvd_unfit u = {9, 9};
         edfvd_watch w;
