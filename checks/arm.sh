@@ -36,6 +36,9 @@ made() {
 tried_in_c() {
     stated
     compiled examples/posix "$work/posix" -O2 -static "$arm/libedfvd_core.a"
+    # In the emulator a program cannot call itself, so the words come from here.
+    # shellcheck disable=SC2086
+    compiled tests/standins "$work/standins" -O2 && passes tests/standins $qemu "$work/standins" ab '' "$(printf '\377\200!')"
     for source in $in_c; do
         name=${source##*/}
         library=$arm/$(library_for "$name")

@@ -1,4 +1,4 @@
-# shellcheck shell=sh disable=SC2154
+# shellcheck shell=sh disable=SC2034,SC2154
 # Sourced in examples/ by the scripts that try the C libraries, after expect.sh: what they share. The name of the script begins each line.
 c=$PWD/../c
 strict='-Wall -Wextra -Werror -Wpedantic -Wconversion -Wshadow'
@@ -66,6 +66,7 @@ compiled() {
     shift 2
     case $source in
     tests/fuzz) set -- "$c/tests/fuzz/"*.c "$@" ;;
+    tests/standins) set -- "$c/$source.c" "$c/heap.c" "$c/system.c" "$@" -Wl,--wrap=malloc,--wrap=realloc,--wrap=free ;;
     tests/memory | tests/busy) set -- "$c/$source.c" "$@" -Wl,--wrap=malloc,--wrap=realloc,--wrap=free ;;
     *) set -- "$c/$source.c" "$@" ;;
     esac
