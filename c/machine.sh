@@ -9,15 +9,14 @@ there() {
     done
 }
 
-# own TOOL: the compiler's own tool of this name, or else the system's
+# own TOOL: the tool of this name for the machine: the system's for x86-64, and the compiler's own for another
 own() {
-    "$CC" -print-prog-name="$1" 2>/dev/null || echo "$1"
+    if [ -z "$machine" ]; then echo "$1"; else "$CC" -print-prog-name="$1"; fi
 }
 
 # find_machine: sets the tools, and $machine to aarch64, or to nothing for x86-64
 find_machine() {
     there rt "${CC:=cc}"
-    there "${LD:=$(own ld)}" "${AR:=$(own ar)}" "${OBJCOPY:=$(own objcopy)}"
     target=$("$CC" -dumpmachine) || { echo "${0##*/}: $CC does not say for which machine it compiles" >&2; exit 1; }
     case $target in
     x86_64-*linux*) machine= ;;
@@ -27,6 +26,7 @@ find_machine() {
         exit 1
         ;;
     esac
+    there "${LD:=$(own ld)}" "${AR:=$(own ar)}" "${OBJCOPY:=$(own objcopy)}"
     # Each function in a section of its own. Without the last flag a compiler for ARM calls a function of its library for each exchange.
     sections='-ffunction-sections -fdata-sections'
     [ -z "$machine" ] || sections="$sections -mno-outline-atomics"
