@@ -20,11 +20,15 @@ __attribute__((section(".init_array"), used)) static void (*const keeps)(int, ch
 
 extern int32_t rattle_errno(void);
 extern void rattle_set_errno(int32_t error);
+extern size_t rattle_arg_count(void);
 extern ptrdiff_t rattle_arg(size_t number, uint8_t *buffer, size_t room);
 
 int32_t rattle_errno(void) { return errno; }
 
 void rattle_set_errno(int32_t error) { errno = error; }
+
+/* How many arguments there are, with the name of the program. */
+size_t rattle_arg_count(void) { return count; }
 
 /* The length of an argument, which is stored at the start of the buffer. -1 if there is none of this number; -2 if it does not fit, and
    then the buffer is full. */

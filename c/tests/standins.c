@@ -18,6 +18,7 @@ extern tried rattle_realloc(void *at, size_t kept, size_t size, size_t align);
 extern void rattle_dealloc(void *at);
 extern int32_t rattle_errno(void);
 extern void rattle_set_errno(int32_t error);
+extern size_t rattle_arg_count(void);
 extern ptrdiff_t rattle_arg(size_t number, uint8_t *buffer, size_t room);
 
 tally tests;
@@ -108,6 +109,7 @@ static void errors(void) {
 /* The arguments are the name of the program, `ab`, an empty one, and one of three bytes that are no text. */
 static void arguments(void) {
     uint8_t buffer[8];
+    IS(4, rattle_arg_count());
     PAINTED(buffer);
     IS(2, rattle_arg(1, buffer, sizeof buffer));
     IS('a', buffer[0]);
