@@ -18,6 +18,8 @@ mod queues;
 #[cfg(test)]
 mod releases;
 #[cfg(test)]
+mod restarts;
+#[cfg(test)]
 mod rules;
 #[cfg(test)]
 mod runs;
