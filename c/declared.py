@@ -20,7 +20,7 @@ CRATES = [HERE.parent / "crates" / name / "src" for name in ("edfvd_c", "edfvd_a
 
 # The structs that cross. CScaleRange in Rattle is edfvd_scale_range in C.
 STRUCTS = {
-    "CTask", "CTest", "CDemandTask", "CDemandTest", "CAnswer", "CLook", "CRow", "CVerdict", "CUnfit", "CWatch", "CLate", "CBudgets",
+    "CTask", "CTest", "CDemandTask", "CDemandTest", "CAnswer", "CLook", "CNext", "CPending", "CScale", "CRow", "CVerdict", "CUnfit", "CWatch", "CLate", "CBudgets",
     "CScaleRange",
 }
 

@@ -22,6 +22,10 @@ extern uint32_t edfvd_raw_partition(const edfvd_task *tasks, size_t count, uint3
 extern uint32_t edfvd_raw_scheduler_open(raw_handle *scheduler, const edfvd_task *tasks, size_t count, uint32_t places,
                                          uint32_t *task);
 extern uint32_t edfvd_raw_scheduler_open_endless(raw_handle *scheduler, const edfvd_task *tasks, size_t count, uint32_t *task);
+extern uint32_t edfvd_raw_scheduler_open_scaled(raw_handle *scheduler, const edfvd_task *tasks, size_t count, uint64_t p,
+                                                uint64_t q, uint32_t places, uint32_t *task);
+extern uint32_t edfvd_raw_scheduler_open_endless_scaled(raw_handle *scheduler, const edfvd_task *tasks, size_t count, uint64_t p,
+                                                        uint64_t q, uint32_t *task);
 extern uint32_t edfvd_raw_scheduler_close(raw_handle *scheduler);
 extern uint32_t edfvd_raw_scheduler_release(raw_handle *scheduler, uint32_t task, edfvd_answer *answer);
 extern uint32_t edfvd_raw_scheduler_grant(raw_handle *scheduler, uint32_t task, edfvd_answer *answer);
@@ -30,6 +34,14 @@ extern uint32_t edfvd_raw_scheduler_outcome(raw_handle *scheduler, uint32_t task
 extern uint32_t edfvd_raw_scheduler_idle(raw_handle *scheduler, edfvd_answer *answer);
 extern uint32_t edfvd_raw_scheduler_look(raw_handle *scheduler, edfvd_look *look);
 extern uint32_t edfvd_raw_scheduler_row(raw_handle *scheduler, uint64_t place, edfvd_row *row);
+extern uint32_t edfvd_raw_scheduler_run(raw_handle *scheduler, uint32_t task, uint32_t count, uint32_t ticks, bool done,
+                                        edfvd_answer *answer);
+extern uint32_t edfvd_raw_scheduler_idle_for(raw_handle *scheduler, uint64_t ticks, edfvd_answer *answer);
+extern uint32_t edfvd_raw_scheduler_next(raw_handle *scheduler, edfvd_next *next);
+extern uint32_t edfvd_raw_scheduler_pending(raw_handle *scheduler, uint32_t task, edfvd_pending *pending);
+extern uint32_t edfvd_raw_scheduler_earliest(raw_handle *scheduler, uint32_t task, uint64_t *at);
+extern uint32_t edfvd_raw_scheduler_discarded(raw_handle *scheduler, uint32_t task, uint32_t *count);
+extern uint32_t edfvd_raw_scheduler_scale(raw_handle *scheduler, edfvd_scale *scale);
 extern uint32_t edfvd_raw_monitor_open(raw_handle *monitor, const edfvd_task *tasks, size_t count, uint64_t p, uint64_t q,
                                        uint32_t *task);
 extern uint32_t edfvd_raw_monitor_close(raw_handle *monitor);
@@ -47,6 +59,9 @@ _Static_assert(sizeof(edfvd_demand_task) == 12, "edfvd_demand_task");
 _Static_assert(sizeof(edfvd_demand_test) == 24, "edfvd_demand_test");
 _Static_assert(sizeof(edfvd_answer) == 24, "edfvd_answer");
 _Static_assert(sizeof(edfvd_look) == 40, "edfvd_look");
+_Static_assert(sizeof(edfvd_next) == 12, "edfvd_next");
+_Static_assert(sizeof(edfvd_pending) == 48, "edfvd_pending");
+_Static_assert(sizeof(edfvd_scale) == 16, "edfvd_scale");
 _Static_assert(sizeof(edfvd_row) == 12, "edfvd_row");
 _Static_assert(sizeof(edfvd_verdict) == 32, "edfvd_verdict");
 _Static_assert(sizeof(edfvd_unfit) == 16, "edfvd_unfit");
@@ -181,6 +196,30 @@ edfvd_status edfvd_scheduler_open_endless(edfvd_scheduler *s, const edfvd_task *
     return leave_opened(h, status);
 }
 
+edfvd_status edfvd_scheduler_open_scaled(edfvd_scheduler *s, const edfvd_task *tasks, size_t count, uint64_t p, uint64_t q,
+                                         uint32_t places, uint32_t *task) {
+    uint32_t unread = 0;
+    if (tasks == NULL && count != 0) return EDFVD_NULL;
+    edfvd_handle *h = of_scheduler(s);
+    edfvd_status entered = enter(h);
+    if (entered != EDFVD_OK) return entered;
+    uint32_t status = edfvd_raw_scheduler_open_scaled(raw(h), some(tasks, count), count, numerator(p, q), q, places,
+                                                      task == NULL ? &unread : task);
+    return leave_opened(h, status);
+}
+
+edfvd_status edfvd_scheduler_open_endless_scaled(edfvd_scheduler *s, const edfvd_task *tasks, size_t count, uint64_t p,
+                                                 uint64_t q, uint32_t *task) {
+    uint32_t unread = 0;
+    if (tasks == NULL && count != 0) return EDFVD_NULL;
+    edfvd_handle *h = of_scheduler(s);
+    edfvd_status entered = enter(h);
+    if (entered != EDFVD_OK) return entered;
+    uint32_t status = edfvd_raw_scheduler_open_endless_scaled(raw(h), some(tasks, count), count, numerator(p, q), q,
+                                                              task == NULL ? &unread : task);
+    return leave_opened(h, status);
+}
+
 edfvd_status edfvd_scheduler_close(edfvd_scheduler *s) {
     edfvd_handle *h = of_scheduler(s);
     edfvd_status entered = enter(h);
@@ -219,6 +258,63 @@ edfvd_status edfvd_scheduler_idle(edfvd_scheduler *s, edfvd_answer *answer) {
     edfvd_status entered = enter(h);
     if (entered != EDFVD_OK) return entered;
     return leave(h, edfvd_raw_scheduler_idle(raw(h), answer == NULL ? &unread : answer));
+}
+
+edfvd_status edfvd_scheduler_run(edfvd_scheduler *s, uint32_t task, uint32_t count, uint32_t ticks, bool done,
+                                 edfvd_answer *answer) {
+    edfvd_answer unread;
+    edfvd_handle *h = of_scheduler(s);
+    edfvd_status entered = enter(h);
+    if (entered != EDFVD_OK) return entered;
+    return leave(h, edfvd_raw_scheduler_run(raw(h), task, count, ticks, done, answer == NULL ? &unread : answer));
+}
+
+edfvd_status edfvd_scheduler_idle_for(edfvd_scheduler *s, uint64_t ticks, edfvd_answer *answer) {
+    edfvd_answer unread;
+    edfvd_handle *h = of_scheduler(s);
+    edfvd_status entered = enter(h);
+    if (entered != EDFVD_OK) return entered;
+    return leave(h, edfvd_raw_scheduler_idle_for(raw(h), ticks, answer == NULL ? &unread : answer));
+}
+
+edfvd_status edfvd_scheduler_next(edfvd_scheduler *s, edfvd_next *next) {
+    if (next == NULL) return EDFVD_NULL;
+    edfvd_handle *h = of_scheduler(s);
+    edfvd_status entered = enter(h);
+    if (entered != EDFVD_OK) return entered;
+    return leave(h, edfvd_raw_scheduler_next(raw(h), next));
+}
+
+edfvd_status edfvd_scheduler_pending(edfvd_scheduler *s, uint32_t task, edfvd_pending *pending) {
+    if (pending == NULL) return EDFVD_NULL;
+    edfvd_handle *h = of_scheduler(s);
+    edfvd_status entered = enter(h);
+    if (entered != EDFVD_OK) return entered;
+    return leave(h, edfvd_raw_scheduler_pending(raw(h), task, pending));
+}
+
+edfvd_status edfvd_scheduler_earliest(edfvd_scheduler *s, uint32_t task, uint64_t *at) {
+    if (at == NULL) return EDFVD_NULL;
+    edfvd_handle *h = of_scheduler(s);
+    edfvd_status entered = enter(h);
+    if (entered != EDFVD_OK) return entered;
+    return leave(h, edfvd_raw_scheduler_earliest(raw(h), task, at));
+}
+
+edfvd_status edfvd_scheduler_discarded(edfvd_scheduler *s, uint32_t task, uint32_t *count) {
+    if (count == NULL) return EDFVD_NULL;
+    edfvd_handle *h = of_scheduler(s);
+    edfvd_status entered = enter(h);
+    if (entered != EDFVD_OK) return entered;
+    return leave(h, edfvd_raw_scheduler_discarded(raw(h), task, count));
+}
+
+edfvd_status edfvd_scheduler_scale(edfvd_scheduler *s, edfvd_scale *scale) {
+    if (scale == NULL) return EDFVD_NULL;
+    edfvd_handle *h = of_scheduler(s);
+    edfvd_status entered = enter(h);
+    if (entered != EDFVD_OK) return entered;
+    return leave(h, edfvd_raw_scheduler_scale(raw(h), scale));
 }
 
 edfvd_status edfvd_scheduler_look(edfvd_scheduler *s, edfvd_look *look) {
@@ -326,6 +422,7 @@ const char *edfvd_word(edfvd_status status) {
     case EDFVD_NO_PERCENTAGE: return "admitted at no percentage";
     case EDFVD_NO_PROCESSOR: return "fits on no processor";
     case EDFVD_GONE: return "the row is no longer kept";
+    case EDFVD_PAST: return "the run passes the job's boundary";
     case EDFVD_NULL: return "a null pointer";
     case EDFVD_MOVED: return "copied or moved while open";
     case EDFVD_BUSY: return "another thread is in a call";

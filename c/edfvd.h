@@ -64,6 +64,7 @@ typedef enum edfvd_status {
     EDFVD_NO_PERCENTAGE = 28,  /* the published test admits the set at no percentage */
     EDFVD_NO_PROCESSOR = 29,   /* the task fits on none of the processors */
     EDFVD_GONE = 30,           /* the row is older than those that a scheduler without an end keeps */
+    EDFVD_PAST = 31,           /* the run passes the tick at which its job ends or overruns; answer.at is the ticks up to it */
     EDFVD_NULL = 40,           /* a pointer is null */
     EDFVD_MOVED = 41,          /* the scheduler or monitor was copied or moved after it was opened */
     EDFVD_BUSY = 42,           /* another thread is in a call with this scheduler or monitor */
@@ -261,8 +262,29 @@ typedef struct edfvd_answer {
     uint32_t task;   /* the job's task, or 0 */
     uint32_t count;  /* which of its task's releases the job is, from 1 */
     uint32_t before; /* EDFVD_GIVEN: how many ticks the job has had */
-    uint64_t at;     /* the tick, from 0, of a release, a grant or an idle tick; see also EDFVD_TOO_SOON */
+    uint64_t at;     /* the tick, from 0, of a release, a grant or an idle tick; see also EDFVD_TOO_SOON and EDFVD_PAST */
 } edfvd_answer;
+
+/* The chosen job, and how many ticks it may run in one go. */
+typedef struct edfvd_next {
+    uint32_t task, count; /* 0 if no job is pending */
+    uint32_t ticks;
+} edfvd_next;
+
+/* A pending job. The job with the least key is the chosen one, and of equal keys the one of the lowest task number. */
+typedef struct edfvd_pending {
+    uint32_t task, count;  /* 0 if the task has no pending job; then all is 0 */
+    uint32_t used;         /* how many ticks it has had */
+    uint64_t release;      /* its release, in ticks */
+    uint64_t deadline;     /* the number of ticks before its deadline */
+    uint64_t key_top, key; /* its virtual deadline in low mode and its deadline in high mode, in units of 1/q tick (of 1 tick
+                              under plain EDF): key_top * 2^64 + key */
+} edfvd_pending;
+
+/* The scale p/q of EDF-VD; 0 and 0 under plain EDF. */
+typedef struct edfvd_scale {
+    uint64_t p, q;
+} edfvd_scale;
 
 typedef struct edfvd_look {
     uint64_t ticks;                     /* how many ticks have ended */
@@ -291,13 +313,26 @@ edfvd_status edfvd_scheduler_open(edfvd_scheduler *s, const edfvd_task *tasks, s
 
 /*
  * Opens a scheduler without an end: as edfvd_scheduler_open, but it keeps the latest 256 rows alone, and its memory depends on
- * the number of tasks alone. An event makes at most one row more than there are tasks, so that is at most 129: if you read the
- * rows after each event, from the `rows` of the edfvd_scheduler_look before it on, you get them all. Every other call with it
- * is that of a plain scheduler. Events are EDFVD_FULL after 2^62 rows.
+ * the number of tasks alone. Each of the four events below makes at most one row more than there are tasks, so at most 129: if
+ * you read the rows after each event, from the `rows` of the edfvd_scheduler_look before it on, you get them all. Every other
+ * call with it is that of a plain scheduler. Events are EDFVD_FULL after 2^62 rows.
  *
  * Statuses: those of edfvd_scheduler_open.
  */
 edfvd_status edfvd_scheduler_open_endless(edfvd_scheduler *s, const edfvd_task *tasks, size_t count, uint32_t *task);
+
+/*
+ * Open a scheduler as edfvd_scheduler_open and edfvd_scheduler_open_endless do, but under a scale of your own, for instance one
+ * with which the set was certified: EDF-VD with p/q, 1 <= p <= q <= 2^60, which must hold for the set. If p and q are 0, the
+ * rule is that of the published test.
+ *
+ * Statuses: those of edfvd_scheduler_open, where EDFVD_NOT_ADMITTED means that the scale does not hold; EDFVD_ARGUMENT for
+ * another p and q, whatever the tasks are.
+ */
+edfvd_status edfvd_scheduler_open_scaled(edfvd_scheduler *s, const edfvd_task *tasks, size_t count, uint64_t p, uint64_t q,
+                                         uint32_t places, uint32_t *task);
+edfvd_status edfvd_scheduler_open_endless_scaled(edfvd_scheduler *s, const edfvd_task *tasks, size_t count, uint64_t p,
+                                                 uint64_t q, uint32_t *task);
 
 /* Closes the scheduler and frees its memory. It may be opened again. No further statuses. */
 edfvd_status edfvd_scheduler_close(edfvd_scheduler *s);
@@ -336,6 +371,67 @@ edfvd_status edfvd_scheduler_outcome(edfvd_scheduler *s, uint32_t task, uint32_t
  * Statuses: EDFVD_TICK_OUT, with the job that has the tick; EDFVD_PENDING, with the chosen job; EDFVD_FULL.
  */
 edfvd_status edfvd_scheduler_idle(edfvd_scheduler *s, edfvd_answer *answer);
+
+/*
+ * ---- Several ticks in one call ----
+ *
+ * A kernel without a periodic tick asks edfvd_scheduler_next which job runs and for how many ticks at most, sets its timer to
+ * that or to its next release, whichever is first, and then reports with edfvd_scheduler_run what happened. Both ways to drive
+ * a scheduler may be mixed. An event of a scheduler without an end may then make more than 129 rows, of which it keeps the
+ * latest 256.
+ */
+
+/*
+ * Stores the chosen job, and how many ticks it may run in one go: unless it is done before, it overruns or is stopped in the
+ * last of them. After EDFVD_CLOSED zeros. No further statuses.
+ */
+edfvd_status edfvd_scheduler_next(edfvd_scheduler *s, edfvd_next *next);
+
+/*
+ * Reports that the chosen job ran for `ticks` ticks in one go, and whether it was done in the last of them: it leaves what a
+ * grant and an outcome for each of these ticks leave. EDFVD_MORE, _DONE, _STOP or _OVER of the last tick. The time of a call
+ * does not grow with `ticks` without an end, and by a row a tick otherwise. Report a run before you release jobs at the tick
+ * at which it ended.
+ *
+ * Statuses, of which the first that applies is returned: EDFVD_ARGUMENT if `ticks` is 0; EDFVD_TICK_OUT, with the job that has
+ * a tick by edfvd_scheduler_grant; EDFVD_NOT_CHOSEN, with the chosen job; EDFVD_PAST, with the ticks of edfvd_scheduler_next
+ * in `at`; EDFVD_FULL if fewer than `ticks` places are left.
+ */
+edfvd_status edfvd_scheduler_run(edfvd_scheduler *s, uint32_t task, uint32_t count, uint32_t ticks, bool done,
+                                 edfvd_answer *answer);
+
+/*
+ * Reports that the next `ticks` ticks are idle: it leaves what as many calls of edfvd_scheduler_idle leave. EDFVD_IDLE, with the
+ * first of them in `at`.
+ *
+ * Statuses: EDFVD_ARGUMENT if `ticks` is 0; those of edfvd_scheduler_idle; EDFVD_FULL if fewer than `ticks` places are left.
+ */
+edfvd_status edfvd_scheduler_idle_for(edfvd_scheduler *s, uint64_t ticks, edfvd_answer *answer);
+
+/*
+ * Stores the task's pending job. A job that was held until an outcome is pending after it exactly if its release was kept.
+ *
+ * Status: EDFVD_NO_TASK, with zeros, as after EDFVD_CLOSED.
+ */
+edfvd_status edfvd_scheduler_pending(edfvd_scheduler *s, uint32_t task, edfvd_pending *pending);
+
+/*
+ * Stores the earliest next release of the task: the first tick at which a release is not EDFVD_TOO_SOON.
+ *
+ * Status: EDFVD_NO_TASK, with 0, as after EDFVD_CLOSED.
+ */
+edfvd_status edfvd_scheduler_earliest(edfvd_scheduler *s, uint32_t task, uint64_t *at);
+
+/*
+ * Stores the count of the task's job that the latest EDFVD_OVER discarded, or 0 if it discarded none of the task. After each
+ * EDFVD_OVER ask for every low task, and stop the thread of each job that is discarded.
+ *
+ * Status: EDFVD_NO_TASK, with 0, as after EDFVD_CLOSED.
+ */
+edfvd_status edfvd_scheduler_discarded(edfvd_scheduler *s, uint32_t task, uint32_t *count);
+
+/* Stores the scale in force; after EDFVD_CLOSED zeros. No further statuses. */
+edfvd_status edfvd_scheduler_scale(edfvd_scheduler *s, edfvd_scale *scale);
 
 /* Stores the scheduler's clock, mode and jobs; after EDFVD_CLOSED zeros. No further statuses. */
 edfvd_status edfvd_scheduler_look(edfvd_scheduler *s, edfvd_look *look);

@@ -14,6 +14,11 @@ static struct stores {
     edfvd_answer answer;
     edfvd_look look;
     edfvd_row row;
+    edfvd_next next;
+    edfvd_pending pending;
+    edfvd_scale scale;
+    uint64_t at;
+    uint32_t discarded;
     uint32_t task;
     edfvd_unfit unfit;
     edfvd_late late[2];
@@ -24,17 +29,29 @@ static struct stores {
 
 static edfvd_status open_plain(edfvd_scheduler *s) { return edfvd_scheduler_open(s, control, 2, 50, &to.task); }
 static edfvd_status open_endless(edfvd_scheduler *s) { return edfvd_scheduler_open_endless(s, control, 2, &to.task); }
+static edfvd_status open_scaled(edfvd_scheduler *s) { return edfvd_scheduler_open_scaled(s, control, 2, 2, 5, 50, &to.task); }
+static edfvd_status open_endless_scaled(edfvd_scheduler *s) {
+    return edfvd_scheduler_open_endless_scaled(s, control, 2, 2, 5, &to.task);
+}
 static edfvd_status close_it(edfvd_scheduler *s) { return edfvd_scheduler_close(s); }
 static edfvd_status release(edfvd_scheduler *s) { return edfvd_scheduler_release(s, 1, &to.answer); }
 static edfvd_status grant(edfvd_scheduler *s) { return edfvd_scheduler_grant(s, 1, &to.answer); }
 static edfvd_status outcome(edfvd_scheduler *s) { return edfvd_scheduler_outcome(s, 1, 1, true, &to.answer); }
 static edfvd_status idle(edfvd_scheduler *s) { return edfvd_scheduler_idle(s, &to.answer); }
+static edfvd_status run(edfvd_scheduler *s) { return edfvd_scheduler_run(s, 1, 1, 1, true, &to.answer); }
+static edfvd_status idle_for(edfvd_scheduler *s) { return edfvd_scheduler_idle_for(s, 3, &to.answer); }
+static edfvd_status next(edfvd_scheduler *s) { return edfvd_scheduler_next(s, &to.next); }
+static edfvd_status pending(edfvd_scheduler *s) { return edfvd_scheduler_pending(s, 1, &to.pending); }
+static edfvd_status earliest(edfvd_scheduler *s) { return edfvd_scheduler_earliest(s, 1, &to.at); }
+static edfvd_status discarded(edfvd_scheduler *s) { return edfvd_scheduler_discarded(s, 1, &to.discarded); }
+static edfvd_status scale(edfvd_scheduler *s) { return edfvd_scheduler_scale(s, &to.scale); }
 static edfvd_status look(edfvd_scheduler *s) { return edfvd_scheduler_look(s, &to.look); }
 static edfvd_status row_at(edfvd_scheduler *s) { return edfvd_scheduler_row(s, 0, &to.row); }
 
-static edfvd_status (*const scheduler_calls[])(edfvd_scheduler *) = {open_plain, open_endless, close_it, release, grant,
-                                                                     outcome,    idle,         look,     row_at};
-enum { OPENERS = 2, SCHEDULER_CALLS = sizeof scheduler_calls / sizeof *scheduler_calls };
+static edfvd_status (*const scheduler_calls[])(edfvd_scheduler *) = {
+    open_plain, open_endless, open_scaled, open_endless_scaled, close_it, release,   grant, outcome, idle,
+    run,        idle_for,     next,        pending,             earliest, discarded, scale, look,    row_at};
+enum { OPENERS = 4, SCHEDULER_CALLS = sizeof scheduler_calls / sizeof *scheduler_calls };
 
 static const edfvd_row first_row = {EDFVD_KEPT, 1, 1};
 
@@ -89,6 +106,12 @@ static void all_closed(edfvd_scheduler *s) {
     IS_ZEROS(to.answer);
     look_is_zeros(&to.look);
     IS_ZEROS(to.row);
+    IS_ZEROS(to.next);
+    IS(0, to.pending.task | to.pending.count | to.pending.used);
+    IS(0, to.pending.release | to.pending.deadline | to.pending.key_top | to.pending.key);
+    IS_ZEROS(to.at);
+    IS_ZEROS(to.discarded);
+    IS_ZEROS(to.scale);
 }
 
 static void all_closed_monitor(edfvd_monitor *m) {

@@ -58,6 +58,10 @@ int main(void) {
     say("outcome with no tick in progress", edfvd_scheduler_outcome(&s, 1, 1, true, &a));
     say("grant to task 2", edfvd_scheduler_grant(&s, 2, &a));
     say("idle", edfvd_scheduler_idle(&s, &a));
+    say("run of task 1 past its low budget", edfvd_scheduler_run(&s, 1, 1, 3, true, &a));
+    say("run of no tick", edfvd_scheduler_run(&s, 1, 1, 0, true, &a));
+    say("open by a scale above 1", edfvd_scheduler_open_scaled(&(edfvd_scheduler)EDFVD_NONE, tasks, 2, 3, 2, 10, &task));
+    say("open by a scale that does not hold", edfvd_scheduler_open_scaled(&(edfvd_scheduler)EDFVD_NONE, tasks, 2, 1, 1, 10, &task));
     say("grant to task 1", edfvd_scheduler_grant(&s, 1, &a));
     say("grant to task 1 again", edfvd_scheduler_grant(&s, 1, &a));
     say("release of task 1 in its tick", edfvd_scheduler_release(&s, 1, &a));

@@ -67,6 +67,12 @@ Does old new status answer returns after =
     MatchOption old ((new ≡ None) × (status ≡ 12) × (answer ≡ nothing))
     (λ s. (new ≡ Some (after s)) × (status ≡ (returns s).0) × (answer ≡ (returns s).1))
 
+-- what is read through a handle: with a closed one the status is 12 with nothing, and with an open one its state
+-- says what is returned
+abbrev pub Reads : {T : Type 0} → Option State → ℕ → T → T → (State → ℕ × T) → Type 0
+Reads held status found nothing returns =
+    MatchOption held ((status ≡ 12) × (found ≡ nothing)) (λ s. (status ≡ (returns s).0) × (found ≡ (returns s).1))
+
 -- an opened scheduler: the tasks have the given numbers, the rule is that of the published test, and it has no
 -- rows
 abbrev pub IsOpening : List CTask → ℕ → Option State → Type 0

@@ -13,3 +13,5 @@ pub mod Judged
 pub mod Monitor
 pub mod Refused
 pub mod Margins
+pub mod Runs
+pub mod Certified

@@ -2,11 +2,12 @@
 ghost use Rattle.std.specs.Prelude.{◌≡◌};
 ghost use Rattle.mode_core.specs.Events.{after_idle};
 ghost use Rattle.edfvd_c.specs.Event as spec;
+ghost use Rattle.edfvd_c.specs.Runs as runs;
 
 use crate::status;
 use mc_model::How;
 use mc_task::{JobId, TaskNo};
-use mode_core::{Core, GrantFault, Granted, IdleFault, NotOut, ReleaseFault, Released};
+use mode_core::{Core, GrantFault, Granted, IdleFault, NotOut, ReleaseFault, Released, RunFault};
 use row_history::Recorder;
 
 /// What came of an event, the job and its numbers; each is 0 where there is none.
@@ -109,6 +110,49 @@ pub fn idle<R: Recorder>(core: &mut Core<R>) -> (u32, CAnswer)
     ensures state { core.new ≡ after_idle core.old }
 {
     match core.idle() {
+        Ok(at) => (status::OK, at_tick(IDLE, at)),
+        Err(IdleFault::TickOut { job }) => (status::TICK_OUT, of_job(0, job, 0, 0)),
+        Err(IdleFault::Pending { job }) => (status::PENDING, of_job(0, job, 0, 0)),
+        Err(IdleFault::Full) => (status::FULL, NOTHING),
+    }
+}
+
+/// A run of this many ticks of this job.
+pub fn run<R: Recorder>(
+    core: &mut Core<R>,
+    task: u32,
+    count: u32,
+    ticks: u32,
+    done: bool,
+) -> (u32, CAnswer)
+    ensures exact { result ≡ runs.run_returns core.old task count ticks done }
+    ensures state { core.new ≡ runs.run_after core.old task count ticks done }
+{
+    if ticks == 0 {
+        return (status::ARGUMENT, NOTHING);
+    }
+    let job = JobId {
+        task: TaskNo(task),
+        count,
+    };
+    match core.run(job, ticks, done) {
+        Ok(how) => (status::OK, of_job(how_number(how), job, 0, 0)),
+        Err(RunFault::TickOut { job }) => (status::TICK_OUT, of_job(0, job, 0, 0)),
+        Err(RunFault::NotChosen { chosen }) => (status::NOT_CHOSEN, of_some(chosen)),
+        Err(RunFault::Past { most }) => (status::PAST, at_tick(0, most as u64)),
+        Err(RunFault::Full) => (status::FULL, NOTHING),
+    }
+}
+
+/// This many idle ticks.
+pub fn idle_for<R: Recorder>(core: &mut Core<R>, ticks: u64) -> (u32, CAnswer)
+    ensures exact { result ≡ runs.idle_for_returns core.old ticks }
+    ensures state { core.new ≡ runs.idle_for_after core.old ticks }
+{
+    if ticks == 0 {
+        return (status::ARGUMENT, NOTHING);
+    }
+    match core.idle_for(ticks as usize) {
         Ok(at) => (status::OK, at_tick(IDLE, at)),
         Err(IdleFault::TickOut { job }) => (status::TICK_OUT, of_job(0, job, 0, 0)),
         Err(IdleFault::Pending { job }) => (status::PENDING, of_job(0, job, 0, 0)),

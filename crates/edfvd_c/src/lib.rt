@@ -2,6 +2,7 @@
 #![tactic(auto)]
 
 mod block;
+mod certified;
 mod demand;
 mod event;
 mod given;
@@ -15,6 +16,7 @@ mod margins;
 mod monitor;
 mod parted;
 mod parts;
+mod runs;
 mod scheduler;
 mod status;
 mod tested;

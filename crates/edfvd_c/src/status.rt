@@ -50,6 +50,8 @@ pub const NO_PROCESSOR: u32 = 29;
 
 pub const GONE: u32 = 30;
 
+pub const PAST: u32 = 31;
+
 pub const ARGUMENT: u32 = 43;
 
 pub const SHORT_BUFFER: u32 = 44;
