@@ -20,6 +20,7 @@ from ._errors import CommandRefused, EdfvdError, Refused, Status
 from ._files import TaskFile, chart, read_tasks, read_trace, read_work, report, svg, write_tasks, write_trace
 from ._many import Tests, check_many
 from ._monitor import Monitor
+from ._runs import Next, PendingJob
 from ._scheduler import Scheduler
 from ._sensitivity import GreatestBudgets, ScaleRange, scales, sensitivity, speed
 from ._trace import Trace
@@ -31,7 +32,7 @@ __version__ = "0.9.0"
 
 __all__ = [
     "Answer", "CommandRefused", "Demand", "DemandVerdict", "EdfvdError", "Event", "GreatestBudgets", "Job", "Late", "Look",
-    "Monitor", "Refused", "Row", "Rule", "ScaleRange", "Scheduler", "Status", "Task", "TaskFile", "Test", "Tests", "Trace", "Unfit",
-    "Verdict", "Watch", "Why", "accept", "ask", "chart", "check", "check_many", "demand", "judge", "partition", "read_tasks", "read_trace", "read_work",
+    "Monitor", "Next", "PendingJob", "Refused", "Row", "Rule", "ScaleRange", "Scheduler", "Status", "Task", "TaskFile", "Test", "Tests", "Trace",
+    "Unfit", "Verdict", "Watch", "Why", "accept", "ask", "chart", "check", "check_many", "demand", "judge", "partition", "read_tasks", "read_trace", "read_work",
     "report", "run", "scales", "sensitivity", "speed", "stretch", "svg", "write_tasks", "write_trace",
 ]

@@ -35,6 +35,7 @@ class Status(enum.IntEnum):
     NO_PERCENTAGE = 28
     NO_PROCESSOR = 29
     GONE = 30
+    PAST = 31
     NULL = 40
     MOVED = 41
     BUSY = 42
@@ -51,7 +52,7 @@ class Refused(EdfvdError):
     """The library refused a call.
 
     ``status`` says why, and ``task`` names the task that it is about, if any. If a release came too soon, ``at`` is the first
-    tick at which the task may release again.
+    tick at which the task may release again; if a run was too long, ``at`` is how many ticks the job may run.
 
     >>> from edfvd import Task, check
     >>> try:

@@ -67,6 +67,20 @@ class CLook(ctypes.Structure):
     ]
 
 
+class CNext(ctypes.Structure):
+    _fields_ = [("task", u32), ("count", u32), ("ticks", u32)]
+
+
+class CPending(ctypes.Structure):
+    _fields_ = [
+        ("task", u32), ("count", u32), ("used", u32), ("release", u64), ("deadline", u64), ("key_top", u64), ("key", u64),
+    ]
+
+
+class CScale(ctypes.Structure):
+    _fields_ = [("p", u64), ("q", u64)]
+
+
 class CRow(ctypes.Structure):
     _fields_ = [("event", u32), ("task", u32), ("count", u32)]
 
@@ -90,6 +104,7 @@ class CLate(ctypes.Structure):
 STRUCTS = {
     "edfvd_task": CTask, "edfvd_test": CTest, "edfvd_demand_task": CDemandTask, "edfvd_demand_test": CDemandTest,
     "edfvd_answer": CAnswer, "edfvd_look": CLook, "edfvd_row": CRow,
+    "edfvd_next": CNext, "edfvd_pending": CPending, "edfvd_scale": CScale,
     "edfvd_verdict": CVerdict, "edfvd_unfit": CUnfit, "edfvd_watch": CWatch, "edfvd_late": CLate,
     "edfvd_budgets": CBudgets, "edfvd_scale_range": CScaleRange,
 }
@@ -134,11 +149,20 @@ CALLS: Dict[str, Tuple[str, List[Any]]] = {
     ]),
     "scheduler_open": ("edfvd_scheduler_open", [_scheduler, *_tasks, u32, _pointer(u32)]),
     "scheduler_open_endless": ("edfvd_scheduler_open_endless", [_scheduler, *_tasks, _pointer(u32)]),
+    "scheduler_open_scaled": ("edfvd_scheduler_open_scaled", [_scheduler, *_tasks, u64, u64, u32, _pointer(u32)]),
+    "scheduler_open_endless_scaled": ("edfvd_scheduler_open_endless_scaled", [_scheduler, *_tasks, u64, u64, _pointer(u32)]),
     "scheduler_close": ("edfvd_scheduler_close", [_scheduler]),
     "scheduler_release": ("edfvd_scheduler_release", [_scheduler, u32, _pointer(CAnswer)]),
     "scheduler_grant": ("edfvd_scheduler_grant", [_scheduler, u32, _pointer(CAnswer)]),
     "scheduler_outcome": ("edfvd_scheduler_outcome", [_scheduler, u32, u32, ctypes.c_bool, _pointer(CAnswer)]),
     "scheduler_idle": ("edfvd_scheduler_idle", [_scheduler, _pointer(CAnswer)]),
+    "scheduler_run": ("edfvd_scheduler_run", [_scheduler, u32, u32, u32, ctypes.c_bool, _pointer(CAnswer)]),
+    "scheduler_idle_for": ("edfvd_scheduler_idle_for", [_scheduler, u64, _pointer(CAnswer)]),
+    "scheduler_next": ("edfvd_scheduler_next", [_scheduler, _pointer(CNext)]),
+    "scheduler_pending": ("edfvd_scheduler_pending", [_scheduler, u32, _pointer(CPending)]),
+    "scheduler_earliest": ("edfvd_scheduler_earliest", [_scheduler, u32, _pointer(u64)]),
+    "scheduler_discarded": ("edfvd_scheduler_discarded", [_scheduler, u32, _pointer(u32)]),
+    "scheduler_scale": ("edfvd_scheduler_scale", [_scheduler, _pointer(CScale)]),
     "scheduler_look": ("edfvd_scheduler_look", [_scheduler, _pointer(CLook)]),
     "scheduler_row": ("edfvd_scheduler_row", [_scheduler, u64, _pointer(CRow)]),
     "monitor_open": ("edfvd_monitor_open", [_monitor, *_tasks, u64, u64, _pointer(u32)]),

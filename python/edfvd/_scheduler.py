@@ -7,12 +7,12 @@ from typing import Iterable, Iterator, Optional
 
 from ._errors import Refused, Status
 from ._given import MOST_32, MOST_64, given_tasks, number
-from ._handle import Handle
 from ._library import CAnswer, CLook, CRow, CScheduler, library
+from ._runs import Runs
 from ._values import Answer, Event, Look, Row, Task
 
 
-class Scheduler(Handle):
+class Scheduler(Runs):
     """A scheduler of a set under the rule that the published test gives it. As a context manager it closes itself.
 
     ``places`` is how many rows it can record, with held releases and the tick in progress among them; with None it is one

@@ -8,7 +8,7 @@ from pathlib import Path
 from typing import Any, List
 
 import edfvd
-from edfvd import _calls, _commands, _errors, _files, _many, _monitor, _scheduler, _sensitivity, _trace, laboratory
+from edfvd import _calls, _commands, _errors, _files, _many, _monitor, _runs, _scheduler, _sensitivity, _trace, laboratory
 
 DOCS = Path(__file__).resolve().parents[2] / "docs"
 PAGES = [DOCS / "C-AND-PYTHON.md", DOCS / "LABORATORY.md", DOCS / "SENSITIVITY.md"]
@@ -28,7 +28,7 @@ class Finder(doctest.DocTestFinder):
 
 def load_tests(loader: unittest.TestLoader, tests: unittest.TestSuite, pattern: object) -> unittest.TestSuite:
     """Adds a test for each docstring with an example, and one for each page."""
-    for module in (edfvd, _calls, _commands, _errors, _files, _many, _monitor, _scheduler, _sensitivity, _trace, laboratory):
+    for module in (edfvd, _calls, _commands, _errors, _files, _many, _monitor, _runs, _scheduler, _sensitivity, _trace, laboratory):
         tests.addTests(doctest.DocTestSuite(module, test_finder=Finder()))
     for page in filter(Path.exists, PAGES):
         text = re.sub(r"^```.*$", "", page.read_text(), flags=re.M)
