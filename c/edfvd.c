@@ -120,6 +120,20 @@ edfvd_status edfvd_check(const edfvd_task *tasks, size_t count, edfvd_test *test
     return (edfvd_status)edfvd_raw_check(some(tasks, count), count, test);
 }
 
+edfvd_status edfvd_check_many(const edfvd_task *tasks, size_t count, const uint64_t *offsets, size_t sets, edfvd_test *tests,
+                              uint32_t *statuses) {
+    if (offsets == NULL || (tasks == NULL && count != 0)) return EDFVD_NULL;
+    if ((tests == NULL || statuses == NULL) && sets != 0) return EDFVD_NULL;
+    for (size_t i = 0; i < sets; i++)
+        if (offsets[i] > offsets[i + 1]) return EDFVD_ARGUMENT;
+    if (offsets[sets] > count) return EDFVD_ARGUMENT;
+    for (size_t i = 0; i < sets; i++) {
+        size_t length = offsets[i + 1] - offsets[i];
+        statuses[i] = edfvd_raw_check(length == 0 ? no_tasks : tasks + offsets[i], length, &tests[i]);
+    }
+    return EDFVD_OK;
+}
+
 edfvd_status edfvd_stretch(const edfvd_task *tasks, size_t count, uint32_t *percent, uint32_t *task) {
     uint32_t unread;
     if (percent == NULL || (tasks == NULL && count != 0)) return EDFVD_NULL;
@@ -360,6 +374,36 @@ edfvd_status edfvd_monitor_observe(edfvd_monitor *m, const edfvd_row *row, uint3
     edfvd_status entered = enter(h);
     if (entered != EDFVD_OK) return entered;
     return leave(h, edfvd_raw_monitor_observe(raw(h), row, times, unfit == NULL ? &unread : unfit));
+}
+
+/* How many of the rows from the first on are equal to it, and may come at once. */
+static uint32_t equal_rows(const edfvd_row *rows, size_t length) {
+    uint32_t times = 1;
+    if (rows->event != EDFVD_MORE && rows->event != EDFVD_IDLE) return times;
+    while (times < length && times < UINT32_MAX && rows[times].event == rows->event && rows[times].task == rows->task &&
+           rows[times].count == rows->count)
+        times++;
+    return times;
+}
+
+edfvd_status edfvd_monitor_observe_all(edfvd_monitor *m, const edfvd_row *rows, size_t length, edfvd_unfit *unfit) {
+    static const edfvd_unfit none;
+    edfvd_watch unread;
+    edfvd_unfit found = none;
+    if (rows == NULL && length != 0) return EDFVD_NULL;
+    edfvd_handle *h = of_monitor(m);
+    edfvd_status entered = enter(h);
+    if (entered != EDFVD_OK) return entered;
+    /* Whether the monitor is open is said without a row, too. */
+    uint32_t status = edfvd_raw_monitor_look(raw(h), &unread);
+    while (status == EDFVD_OK && length != 0 && found.why == EDFVD_FITS) {
+        uint32_t times = equal_rows(rows, length);
+        status = edfvd_raw_monitor_observe(raw(h), rows, times, &found);
+        rows += times;
+        length -= times;
+    }
+    if (unfit != NULL) *unfit = found;
+    return leave(h, status);
 }
 
 edfvd_status edfvd_monitor_would_fit(edfvd_monitor *m, const edfvd_row *row, uint32_t times, edfvd_unfit *unfit) {

@@ -115,6 +115,17 @@ typedef struct edfvd_test {
 edfvd_status edfvd_check(const edfvd_task *tasks, size_t count, edfvd_test *test);
 
 /*
+ * Tests many sets, which are parts of one array of `count` tasks: set number i, from 0, has the tasks from offsets[i] up to
+ * offsets[i + 1], so `offsets` has `sets` + 1 elements. Of each set statuses[i] gets what edfvd_check returns for these tasks, and
+ * tests[i] what it stores; a task that a refusal is about is a number in the set. A refused set does not hinder the others.
+ * `tests` and `statuses` have `sets` elements, and may be null if that is 0.
+ *
+ * Status: EDFVD_ARGUMENT if an offset is above the next one, or the last one above `count`; then nothing is stored.
+ */
+edfvd_status edfvd_check_many(const edfvd_task *tasks, size_t count, const uint64_t *offsets, size_t sets, edfvd_test *tests,
+                              uint32_t *statuses);
+
+/*
  * Stores the greatest percentage, up to 1000, at which the test admits the set if the high budgets of the high tasks are taken
  * at that percentage, rounded down to whole ticks but at least their low budgets. EDFVD_OK with 0 percent means that the test
  * admits the set if each high budget is the low one, and at 1 percent no longer. With any other status `percent` gets 0, too.
@@ -529,6 +540,15 @@ edfvd_status edfvd_monitor_close(edfvd_monitor *m);
  * set does not have; EDFVD_FULL for more than 2^62 rows; EDFVD_MEMORY.
  */
 edfvd_status edfvd_monitor_observe(edfvd_monitor *m, const edfvd_row *row, uint32_t times, edfvd_unfit *unfit);
+
+/*
+ * Takes `length` rows in order, up to the first one that does not fit or is refused, as edfvd_monitor_observe takes one after the
+ * other. `unfit`, which may be null, gets what that call stores for the last of them, and zeros without a row. After a refusal
+ * the rows before the refused one are taken. `rows` may be null if `length` is 0.
+ *
+ * Statuses: those of edfvd_monitor_observe.
+ */
+edfvd_status edfvd_monitor_observe_all(edfvd_monitor *m, const edfvd_row *rows, size_t length, edfvd_unfit *unfit);
 
 /*
  * Stores in `unfit` what edfvd_monitor_observe would store for these rows, and the monitor does not take them: a dispatcher can

@@ -8,9 +8,9 @@ script=${script%.sh}
 limit=300
 
 # The examples and tests that are run. examples/posix needs root, and is compiled.
-in_c='examples/control examples/deadlines examples/margins examples/dispatcher examples/monitor examples/endless examples/tickless examples/ask
-    tests/sets tests/events tests/runs tests/handles tests/judging tests/asking tests/stack tests/places tests/busy tests/threads tests/wrong
-    tests/memory tests/fuzz'
+in_c='examples/control examples/deadlines examples/margins examples/dispatcher examples/monitor examples/endless examples/tickless
+    examples/ask tests/sets tests/many tests/events tests/runs tests/handles tests/judging tests/asking tests/stack tests/places tests/busy
+    tests/threads tests/wrong tests/memory tests/fuzz'
 
 # library_for NAME: the file with the calls that this example or test makes: libedfvd_core.a has no edfvd_ask
 library_for() {

@@ -127,6 +127,12 @@ class PackedRows(ctypes.c_char_p):
     element = CRow
 
 
+class PackedOffsets(ctypes.c_char_p):
+    """An array of numbers of 64 bits that a call reads, as bytes."""
+
+    element = u64
+
+
 _pointer = ctypes.POINTER
 _tasks = [PackedTasks, size]
 _scheduler = _pointer(CScheduler)
@@ -135,6 +141,7 @@ _monitor = _pointer(CMonitor)
 # Each call: the package's name for it, its name in the library, and its parameters. No other place has a name of the library.
 CALLS: Dict[str, Tuple[str, List[Any]]] = {
     "check": ("edfvd_check", [*_tasks, _pointer(CTest)]),
+    "check_many": ("edfvd_check_many", [*_tasks, PackedOffsets, size, _pointer(CTest), _pointer(u32)]),
     "stretch": ("edfvd_stretch", [*_tasks, _pointer(u32), _pointer(u32)]),
     "sensitivity": ("edfvd_sensitivity", [*_tasks, _pointer(CBudgets), _pointer(u32)]),
     "scales": ("edfvd_scales", [*_tasks, _pointer(CScaleRange), _pointer(u32)]),
@@ -168,6 +175,7 @@ CALLS: Dict[str, Tuple[str, List[Any]]] = {
     "monitor_open": ("edfvd_monitor_open", [_monitor, *_tasks, u64, u64, _pointer(u32)]),
     "monitor_close": ("edfvd_monitor_close", [_monitor]),
     "monitor_observe": ("edfvd_monitor_observe", [_monitor, PackedRows, u32, _pointer(CUnfit)]),
+    "monitor_observe_all": ("edfvd_monitor_observe_all", [_monitor, PackedRows, size, _pointer(CUnfit)]),
     "monitor_would_fit": ("edfvd_monitor_would_fit", [_monitor, PackedRows, u32, _pointer(CUnfit)]),
     "monitor_late": ("edfvd_monitor_late", [_monitor, u64, _pointer(CLate), size, _pointer(u64)]),
     "monitor_verdict": ("edfvd_monitor_verdict", [_monitor, _pointer(CVerdict)]),

@@ -9,10 +9,8 @@ from typing import Callable, Dict, Iterable, List, Optional, Sequence, Tuple, Un
 from ._arrays import task_view
 from ._calls import test_of
 from ._given import MOST_64, Names, copied, given_tasks, number
-from ._library import CTask, CTest, library
+from ._library import CTest, library, u32
 from ._values import Task, Test
-
-_TASK_BYTES = ctypes.sizeof(CTask)
 
 
 class Tests(Sequence[Test]):
@@ -87,14 +85,11 @@ def check_many(sets: object, offsets: Optional[Iterable[int]] = None) -> Tests:
     if view is None:
         raise TypeError(f"with offsets the sets are one array of edfvd_task, not {type(sets).__name__}")
     ends = array.array("Q", (number(end, MOST_64, "an offset") for end in copied(offsets)))
-    packed, most = view.tobytes(), len(view)
-    if not ends or ends[-1] > most or any(end < begin for begin, end in zip(ends, ends[1:])):
+    packed, most, count = view.tobytes(), len(view), max(0, len(ends) - 1)
+    structs, statuses = (CTest * count)(), (u32 * count)()
+    if not ends or library.check_many(packed, most, ends.tobytes(), count, structs, statuses):
         raise ValueError(f"offsets are at least one, in order, and at most {most}, the length of the array")
-    structs, statuses, check = (CTest * (len(ends) - 1))(), bytearray(len(ends) - 1), library.check
-    for place, struct in enumerate(structs):
-        begin, end = ends[place], ends[place + 1]
-        statuses[place] = check(packed[_TASK_BYTES * begin:_TASK_BYTES * end], end - begin, struct)
-    return Tests(structs, bytes(statuses), {})
+    return Tests(structs, bytes(status for status in statuses), {})
 
 
 def _of_sets(sets: object) -> Tests:

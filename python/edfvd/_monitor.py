@@ -4,7 +4,7 @@ from __future__ import annotations
 
 from fractions import Fraction
 from itertools import islice
-from typing import Any, Callable, Iterable, Iterator, List, Optional, Tuple
+from typing import Any, Callable, Iterable, Iterator, List, Optional
 
 from ._arrays import Rows, parts, row_view
 from ._calls import verdict_of
@@ -72,28 +72,26 @@ class Monitor(Handle):
         ...     monitor.observe_all([Row(Event.IDLE), Row(Event.KEPT, "a", 1), Row(Event.IDLE)])
         Unfit(why=<Why.IDLE_PENDING: 7>, place=3)
         """
-        unfit, observe, held = CUnfit(), library.monitor_observe, self._held
-        for packed, times in self._runs(rows):
-            status = observe(held, packed, times, unfit)
+        if isinstance(rows, Trace):
+            return self._observe_runs(rows)
+        view = row_view(rows)
+        unfit = CUnfit()
+        for packed in parts(view, _CHUNK) if view is not None else self._chunks(rows):
+            status = library.monitor_observe_all(self._held, packed, len(packed) // ROW_BYTES, unfit)
             if status:
                 raise Refused(Status(status))
             if unfit.why:
                 return Unfit(Why(unfit.why), unfit.place)
         return None
 
-    def _runs(self, rows: Rows) -> Iterator[Tuple[bytes, int]]:
-        """The rows as the library takes them, with how many of each come at once."""
-        view = row_view(rows)
-        if isinstance(rows, Trace):
-            for row, times in rows.runs:
-                packed = given_row(row, self._names)
-                for left in range(times, 0, -MOST_32):
-                    yield packed, min(left, MOST_32)
-            return
-        chunks = parts(view, _CHUNK) if view is not None else self._chunks(rows)
-        for chunk in chunks:
-            for begin in range(0, len(chunk), ROW_BYTES):
-                yield chunk[begin:begin + ROW_BYTES], 1
+    def _observe_runs(self, trace: Trace) -> Optional[Unfit]:
+        """Take the runs of a trace up to the first row that does not fit, each at once."""
+        for row, times in trace.runs:
+            for left in range(times, 0, -MOST_32):
+                found = self.observe(row, min(left, MOST_32))
+                if found is not None:
+                    return found
+        return None
 
     def _chunks(self, rows: Iterable[Any]) -> Iterator[bytes]:
         """Rows of an iterable, some at once; a row that is wrong is found when those before it are taken."""

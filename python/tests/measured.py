@@ -12,6 +12,7 @@ from edfvd import _library
 # Which parameters are memory, and which one says how many elements it has. An array of 11 counts comes without a number.
 LENGTHS: Dict[str, List[Tuple[int, int]]] = {
     "check": [(0, 1)],
+    "check_many": [(0, 1), (2, 3), (4, 3), (5, 3)],
     "stretch": [(0, 1)],
     "partition": [(0, 1), (3, 1)],
     "demand": [(0, 1)],
@@ -23,6 +24,7 @@ LENGTHS: Dict[str, List[Tuple[int, int]]] = {
     "scheduler_open": [(1, 2)],
     "scheduler_open_endless": [(1, 2)],
     "monitor_open": [(1, 2)],
+    "monitor_observe_all": [(1, 2)],
     "monitor_late": [(2, 3)],
 }
 # Which parameter is one element, for calls that take one row.
@@ -44,7 +46,8 @@ def _watched(name: str, call: Callable[..., int]) -> Callable[..., int]:
     def watched(*given: Any) -> int:
         for memory, length in LENGTHS.get(name, []):
             there = elements(given[memory], kinds[memory])
-            if given[length] > there:
+            # There is one offset more than there are sets.
+            if given[length] + (kinds[memory] is _library.PackedOffsets) > there:
                 raise AssertionError(f"{name}: parameter {memory} has {there} elements, and {given[length]} are said")
         if name in ONE and elements(given[ONE[name]], kinds[ONE[name]]) != 1:
             raise AssertionError(f"{name}: no row is given")

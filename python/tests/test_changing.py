@@ -77,6 +77,8 @@ class Changing(unittest.TestCase):
             _library.library.check(bytes(31), 2, _library.CTest())
         with measured(), Monitor(CONTROL) as monitor, self.assertRaises(AssertionError):
             _library.library.monitor_observe(monitor._held, bytes(11), 1, _library.CUnfit())
+        with measured(), self.assertRaises(AssertionError):
+            _library.library.check_many(bytes(16), 1, bytes(15), 1, (_library.CTest * 1)(), (_library.u32 * 1)())
 
     def test_a_list_that_grows(self) -> None:
         for name, call in CALLS:

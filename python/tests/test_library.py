@@ -61,6 +61,7 @@ class Declarations(unittest.TestCase):
         packed: List[Any] = [_library.PackedTasks, _library.PackedDemands, _library.PackedRows]
         kinds.update({f"const {name} *": kind.__name__ for name, struct in _library.STRUCTS.items() for kind in packed
                       if kind.element is struct})
+        kinds["const uint64_t *"] = "PackedOffsets"
         calls = dict(re.findall(r"^edfvd_status (edfvd_\w+)\((.*?)\);", self.header, re.S | re.M))
         declared_calls = dict(_library.CALLS.values())
         self.assertEqual(set(calls), set(declared_calls))
