@@ -115,6 +115,8 @@ static edfvd_status leave_closed(edfvd_handle *h, uint32_t status) {
     return leave(h, status);
 }
 
+uint32_t edfvd_version(void) { return EDFVD_VERSION; }
+
 edfvd_status edfvd_check(const edfvd_task *tasks, size_t count, edfvd_test *test) {
     if (test == NULL || (tasks == NULL && count != 0)) return EDFVD_NULL;
     return (edfvd_status)edfvd_raw_check(some(tasks, count), count, test);

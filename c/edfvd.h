@@ -37,6 +37,9 @@ extern "C" {
 
 #define EDFVD_VERSION 1
 
+/* The EDFVD_VERSION of the header that the library was built with, for callers that load the library when they run. */
+uint32_t edfvd_version(void);
+
 /* What a call returns. "The task" and "the job" are stored where the call says. */
 typedef enum edfvd_status {
     EDFVD_OK = 0,

@@ -1,4 +1,4 @@
-/* Many sets tested at once, and many rows observed at once: beside the calls that take one, by hand, and each refusal. */
+/* Many sets tested at once, many rows observed at once, and the version: beside the calls that take one, by hand, and each refusal. */
 #include "tests.h"
 
 tally tests;
@@ -159,6 +159,7 @@ static void refused_rows(void) {
 }
 
 int main(void) {
+    IS(EDFVD_VERSION, edfvd_version());
     sets();
     parts_of_the_array();
     wrong_offsets();

@@ -11,6 +11,9 @@ import subprocess
 from pathlib import Path
 from typing import Any, Callable, Dict, List, Tuple
 
+# The version of edfvd.h that this package is written for, which must be that of the library.
+VERSION = 1
+
 u32 = ctypes.c_uint32
 u64 = ctypes.c_uint64
 size = ctypes.c_size_t
@@ -216,8 +219,11 @@ class Library:
                 setattr(self, name, call)
             self.word: Callable[[int], bytes] = loaded.edfvd_word
             loaded.edfvd_word.argtypes, loaded.edfvd_word.restype = [ctypes.c_int], ctypes.c_char_p
+            loaded.edfvd_version.argtypes, loaded.edfvd_version.restype = [], u32
         except AttributeError as error:
             raise ImportError(f"{path} is not the library of this package: {error}") from error
+        if loaded.edfvd_version() != VERSION:
+            raise ImportError(f"{path} has version {loaded.edfvd_version()} of edfvd.h, and this package needs version {VERSION}")
 
 
 library: Any = Library(_path())

@@ -3,6 +3,7 @@
 import ctypes
 import os
 import re
+import shutil
 import subprocess
 import sys
 import tempfile
@@ -73,6 +74,9 @@ class Declarations(unittest.TestCase):
                 declared.append(kinds[kind])
             self.assertEqual(declared, [kind.__name__ for kind in declared_calls[name]], name)
 
+    def test_version(self) -> None:
+        self.assertIn(f"\n#define EDFVD_VERSION {_library.VERSION}\n", self.header)
+
     def test_numbers(self) -> None:
         numbers = {name: int(number) for name, number in re.findall(r"\bEDFVD_(\w+) = (\d+)", self.header)}
         for kind, prefix in ((Status, ""), (Event, ""), (Why, "WHY_")):
@@ -101,6 +105,19 @@ class OtherLibraries(unittest.TestCase):
             for path in (folder, str(text), f"{folder}/absent.so"):
                 line = self.imported(path)
                 self.assertTrue(line.startswith("ImportError: the library of edfvd cannot be loaded"), line)
+
+    def test_a_library_of_another_version(self) -> None:
+        """Each name of the library leads to one function, which returns 7."""
+        compiler = shutil.which(os.environ.get("CC", "cc"))
+        if compiler is None:
+            self.skipTest("there is no C compiler")
+        names = [name for name, _ in _library.CALLS.values()] + ["edfvd_word", "edfvd_version"]
+        with tempfile.TemporaryDirectory(prefix="with spaces ") as folder:
+            source, path = Path(folder, "other.c"), str(Path(folder, "other.so"))
+            source.write_text("".join(f"unsigned {name}(void);\nunsigned {name}(void) {{ return 7; }}\n" for name in names))
+            subprocess.run([compiler, "-shared", "-fPIC", str(source), "-o", path], check=True)
+            line = self.imported(path)
+        self.assertEqual(line, f"ImportError: {path} has version 7 of edfvd.h, and this package needs version {_library.VERSION}")
 
     def test_a_library_of_something_else(self) -> None:
         line = self.imported("libc.so.6")
