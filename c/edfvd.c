@@ -181,14 +181,10 @@ edfvd_status edfvd_demand(const edfvd_demand_task *tasks, size_t count, edfvd_de
     return (edfvd_status)edfvd_raw_demand(count == 0 ? none : tasks, count, test);
 }
 
-/* What the library is given for p. It takes p = 0 as the rule of the published test, whatever q is. For a caller that rule is 0
-   and 0, and 0/q with any other q is no scale: then the greatest p is passed, which the library refuses with every q. */
-static uint64_t numerator(uint64_t p, uint64_t q) { return p == 0 && q != 0 ? UINT64_MAX : p; }
-
 edfvd_status edfvd_judge(const edfvd_task *tasks, size_t count, const edfvd_row *rows, size_t length, uint64_t p, uint64_t q,
                          edfvd_verdict *verdict) {
     if (verdict == NULL || (tasks == NULL && count != 0) || (rows == NULL && length != 0)) return EDFVD_NULL;
-    return (edfvd_status)edfvd_raw_judge(some(tasks, count), count, length == 0 ? no_rows : rows, length, numerator(p, q), q,
+    return (edfvd_status)edfvd_raw_judge(some(tasks, count), count, length == 0 ? no_rows : rows, length, p, q,
                                          verdict);
 }
 
@@ -356,7 +352,7 @@ edfvd_status edfvd_monitor_open(edfvd_monitor *m, const edfvd_task *tasks, size_
     edfvd_handle *h = of_monitor(m);
     edfvd_status entered = enter(h);
     if (entered != EDFVD_OK) return entered;
-    uint32_t status = edfvd_raw_monitor_open(raw(h), some(tasks, count), count, numerator(p, q), q,
+    uint32_t status = edfvd_raw_monitor_open(raw(h), some(tasks, count), count, p, q,
                                              task == NULL ? &unread : task);
     return leave_opened(h, status);
 }

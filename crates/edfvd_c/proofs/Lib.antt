@@ -5,3 +5,5 @@ pub mod Numbered
 pub mod Levels
 pub mod Greatest
 pub mod Scaled
+pub mod Periods
+pub mod Reasons

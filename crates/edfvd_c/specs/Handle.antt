@@ -18,7 +18,7 @@ use Rattle.mc_task.specs.declared.task.Rule.{Rule}
 use Rattle.mc_model.specs.Test.{published}
 use Rattle.mode_core.specs.Events.{empty_state}
 use Rattle.edfvd_c.specs.declared.given.CTask.{CTask}
-use Rattle.edfvd_c.specs.Given.{AreOf}
+use Rattle.edfvd_c.specs.Refused.{AreInRange}
 use Rattle.edfvd_c.specs.Event.{Returned, nothing}
 use Rattle.edfvd_c.specs.Latest.{latest_from}
 
@@ -73,9 +73,9 @@ abbrev pub Reads : {T : Type 0} → Option State → ℕ → T → T → (State 
 Reads held status found nothing returns =
     MatchOption held ((status ≡ 12) × (found ≡ nothing)) (λ s. (status ≡ (returns s).0) × (found ≡ (returns s).1))
 
--- an opened scheduler: the tasks have the given numbers, the rule is that of the published test, and it has no
--- rows
+-- an opened scheduler: the tasks have the given numbers and are a set within range, the rule is that of the published test, and
+-- it has no rows
 abbrev pub IsOpening : List CTask → ℕ → Option State → Type 0
 IsOpening given places core =
-    (tasks : List Task) × (rule : Rule) × AreOf given tasks × (published tasks ≡ Some rule)
+    (tasks : List Task) × (rule : Rule) × AreInRange given tasks × (published tasks ≡ Some rule)
     × (core ≡ Some (empty_state tasks rule places))

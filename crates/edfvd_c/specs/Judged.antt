@@ -1,8 +1,11 @@
 -- What the judge says of given rows, in numbers.
-use Rattle.std.specs.Prelude.{◌≡◌, ℕ, ◌==◌, MatchBool, List, map, reverse, Some}
+use Rattle.std.specs.Prelude.{◌≡◌, ℕ, ◌==◌, ◌&&◌, ◌<◌, ◌≤◌, ◌^◌, ◌⊎◌, MatchBool, All, List, length, map, reverse, Some, None, slice_get}
 use Rattle.mc_task.specs.declared.task.Task.{Task}
 use Rattle.mc_task.specs.declared.task.Rule.{Rule}
 use Rattle.mc_task.specs.declared.task.Rule.TheVariants.{Virtual}
+use Rattle.mc_task.specs.TaskSet.{AreTasks}
+use Rattle.mc_model.specs.Legal.{IsOfSet}
+use Rattle.mc_model.specs.Loads.{range_fault}
 use Rattle.mc_model.specs.Test.{published}
 use Rattle.mc_model.specs.declared.row.Row.{Row}
 use Rattle.mc_model.specs.declared.verdict.Why.{Why}
@@ -14,7 +17,8 @@ use Rattle.edfvd_c.specs.declared.given.CTask.{CTask}
 use Rattle.edfvd_c.specs.declared.look.CRow.{CRow}
 use Rattle.edfvd_c.specs.declared.judged.CVerdict.{CVerdict}
 use Rattle.edfvd_c.specs.Given.{AreOf}
-use Rattle.edfvd_c.specs.Look.{row_numbers, task_number, count_number}
+use Rattle.edfvd_c.specs.Look.{row_in, row_numbers, task_number, count_number}
+use Rattle.edfvd_c.specs.Refused.{AreNotAdmitted}
 
 -- which rule a row breaks, from 1
 abbrev pub why_number : Why → ℕ
@@ -37,13 +41,66 @@ judged (Legal late first) = record {
 }
 judged (Illegal place y) = record { why = why_number y; task = 0; count = 0; late = 0; place = place }
 
--- the rule of the published test where p is 0, and otherwise EDF-VD with the scale p/q
-abbrev pub IsRule : ℕ → ℕ → List Task → Rule → Type 0
-IsRule p q tasks rule = MatchBool (p == 0) (published tasks ≡ Some rule) (rule ≡ Virtual p q)
+-- p and q are a scale
+pub record IsScale (p q : ℕ) : Type 0 where
+  pub some : 1 ≤ p
+  pub ordered : p ≤ q
+  pub small : q ≤ 2 ^ 60
 
--- tasks and rows are as given, and this is the verdict on them under the rule
-abbrev pub IsJudged : List CTask → List CRow → ℕ → ℕ → CVerdict → Type 0
-IsJudged given seen p q found =
-    (tasks : List Task) × (rule : Rule) × (rows : List Row)
-    × AreOf given tasks × IsRule p q tasks rule × (map row_numbers rows ≡ seen)
-    × (found ≡ judged (verdict tasks rule (reverse rows)))
+-- p and q name a rule: both are 0, which is that of the published test, or they are a scale
+abbrev pub NameRule : ℕ → ℕ → Type 0
+NameRule p q = ((p ≡ 0) × (q ≡ 0)) ⊎ IsScale p q
+
+-- the rule that p and q name for tasks: if both are 0, that of the published test, for which the tasks are within range;
+-- otherwise EDF-VD with the scale p/q
+abbrev pub IsRule : ℕ → ℕ → List Task → Rule → Type 0
+IsRule p q tasks rule =
+    MatchBool (p == 0 && q == 0) ((range_fault tasks ≡ None) × (published tasks ≡ Some rule)) (IsScale p q × (rule ≡ Virtual p q))
+
+-- the tasks have these numbers and are a set, and this is the rule that p and q name for them
+pub record AreUnderRule (given : List CTask) (p q : ℕ) (tasks : List Task) (rule : Rule) : Type 0 where
+  pub numbers : AreOf given tasks
+  pub set : AreTasks tasks
+  pub named : IsRule p q tasks rule
+
+-- p and q name a rule for the tasks with these numbers, which are a set
+abbrev pub HaveRule : List CTask → ℕ → ℕ → Type 0
+HaveRule given p q = (tasks : List Task) × (rule : Rule) × AreUnderRule given p q tasks rule
+
+-- the tasks with these numbers are a set, and p and q name no rule
+abbrev pub HaveNoScale : List CTask → ℕ → ℕ → Type 0
+HaveNoScale given p q = (tasks : List Task) × AreOf given tasks × AreTasks tasks × ¬ NameRule p q
+
+-- some of the numbers stand for no row
+abbrev pub HaveNoRow : List CRow → Type 0
+HaveNoRow given = (k : ℕ) × (r : CRow) × (slice_get given k ≡ Some r) × (row_in r ≡ None)
+
+-- the numbers stand for rows, of which one is of a task that the set does not have
+abbrev pub HaveNoTask : List Task → List CRow → Type 0
+HaveNoTask tasks given = (rows : List Row) × (map row_numbers rows ≡ given) × ¬ All (IsOfSet tasks) rows
+
+-- the tasks are under this rule, the rows are as given, at most 2,000,000 and of the set, and this is the verdict on them
+pub record IsJudged (tasks_given : List CTask) (rows_given : List CRow) (p q : ℕ) (found : CVerdict) : Type 0 where
+  pub tasks : List Task
+  pub rule : Rule
+  pub under : AreUnderRule tasks_given p q tasks rule
+  pub few : length rows_given ≤ 2000000
+  pub rows : List Row
+  pub are : map row_numbers rows ≡ rows_given
+  pub of_set : All (IsOfSet tasks) rows
+  pub result : found ≡ judged (verdict tasks rule (reverse rows))
+
+-- why tasks that are a set, or rows, are not judged, by the status: 7 and 8 of the published test; 43 for p and q that name no
+-- rule, or then for numbers of no row; 22 for more than 2,000,000 rows; 10 for a row of a task that the set does not have
+pub record IsUnjudged (tasks_given : List CTask) (rows_given : List CRow) (p q status : ℕ) : Type 0 where
+  pub range : status ≡ 7 → (p ≡ 0) × (q ≡ 0)
+  pub not_admitted : status ≡ 8 → (p ≡ 0) × (q ≡ 0) × AreNotAdmitted tasks_given
+  pub argument : status ≡ 43 → HaveNoScale tasks_given p q
+      ⊎ (HaveRule tasks_given p q × (length rows_given ≤ 2000000) × HaveNoRow rows_given)
+  pub full : status ≡ 22 → HaveRule tasks_given p q × (2000000 < length rows_given)
+  pub no_task : status ≡ 10 → (length rows_given ≤ 2000000)
+      × ((tasks : List Task) × (rule : Rule) × AreUnderRule tasks_given p q tasks rule × HaveNoTask tasks rows_given)
+
+-- a verdict with the task of a refusal, and no other number
+abbrev pub refused_at : ℕ → CVerdict
+refused_at task = record { why = 0; task = task; count = 0; late = 0; place = 0 }

@@ -1,5 +1,5 @@
 -- What a monitor in C is, and what is observed through it. The newest row stands first.
-use Rattle.std.specs.Prelude.{◌≡◌, ◌≢◌, ◌<◌, ◌+◌, ◌^◌, ◌⊎◌, ⊤, ℕ, ◌==◌, true, List, [], ◌++◌, length, take, map, cond, if◌then◌else◌, Option, Some, None, option_and_then, MatchOption, IfSome}
+use Rattle.std.specs.Prelude.{◌≡◌, ◌≢◌, ◌<◌, ◌+◌, ◌^◌, ◌⊎◌, ◌↔◌, ⊤, ℕ, ◌==◌, true, List, [], ◌++◌, length, take, drop, map, cond, if◌then◌else◌, Option, Some, None, option_and_then, MatchOption, IfSome}
 use Rattle.mc_model.specs.declared.row.Row.{Row}
 use Rattle.mc_model.specs.declared.row.Row.TheVariants.{Release, Tick, Idle}
 use Rattle.mc_model.specs.declared.run.Run.{Run}
@@ -9,6 +9,8 @@ use Rattle.mc_model.specs.Pending.{pending}
 use Rattle.mc_model.specs.Rows.{ticks}
 use Rattle.mc_model.specs.Runs.{size, rows_of, IsRun, IsRunOfSet}
 use Rattle.mc_model.specs.Verdict.{verdict}
+use Rattle.trace_judge.specs.declared.monitor.ObserveFault.{ObserveFault}
+use Rattle.trace_judge.specs.declared.monitor.ObserveFault.TheVariants as faults
 use Rattle.trace_judge.specs.declared.unfit.Unfit.{Unfit}
 use Rattle.trace_judge.specs.declared.turned.Turned.{Turned}
 use Rattle.trace_judge.specs.Turned.{AreTurned, IsInOrder, AddLate}
@@ -19,14 +21,13 @@ use Rattle.edfvd_c.specs.declared.look.CRow.{CRow}
 use Rattle.edfvd_c.specs.declared.monitor.CUnfit.{CUnfit}
 use Rattle.edfvd_c.specs.declared.monitor.CWatch.{CWatch}
 use Rattle.edfvd_c.specs.declared.monitor.CLate.{CLate}
-use Rattle.edfvd_c.specs.Given.{AreOf}
 use Rattle.edfvd_c.specs.Look.{row_in}
-use Rattle.edfvd_c.specs.Judged.{judged, why_number, IsRule}
+use Rattle.edfvd_c.specs.Judged.{judged, why_number, AreUnderRule}
 
 -- an opened monitor: its tasks have the given numbers, the rule is as for the judge, and it has seen no row
 abbrev pub IsMonitorOpening : List CTask → ℕ → ℕ → Option Watched → Type 0
 IsMonitorOpening given p q m = MatchOption m ⊥
-    (λ w. AreOf given w.set.tasks × IsRule p q w.set.tasks w.rule × Watches [] w)
+    (λ w. AreUnderRule given p q w.set.tasks w.rule × Watches [] w)
 
 -- n rows equal to this one as a run, if they are one; a release is a run alone
 abbrev pub run_of : ℕ → Row → Option Run
@@ -51,15 +52,21 @@ pub record Takes (run : Run) (before after : Watched) (unfit : CUnfit) : Type 0 
   pub found : (h : List Row) → Watches h before
       → unfit ≡ unfit_row (unfit_in before.set.tasks before.rule (rows_of run ++ h))
 
--- the numbers stand for no run, or for one that is not valid
-abbrev pub IsNoRun : CRow → ℕ → Type 0
-IsNoRun row n = MatchOption (run_in row n) ⊤ (λ run. ¬ IsRun run)
+-- the status of a fault of a run
+abbrev pub fault_status : ObserveFault → ℕ
+fault_status faults.Memory = 9
+fault_status faults.UnknownTask = 10
+fault_status faults.Full = 22
+fault_status faults.NotARun = 43
 
--- why a monitor does not take n equal rows
-pub record HasReason (row : CRow) (n : ℕ) (w : Watched) (status : ℕ) : Type 0 where
-  pub no_run : status ≡ 43 → IsNoRun row n
-  pub no_task : status ≡ 10 → IfSome (run_in row n) (λ run. ¬ IsRunOfSet w.set.tasks run)
-  pub full : status ≡ 22 → IfSome (run_in row n) (λ run. 2 ^ 62 < seen w + size run)
+-- which status a monitor has for a run, if the numbers stand for one: each of 10, 22 and 43 exactly for its cause
+pub record HasReason (given : Option Run) (w : Watched) (status : ℕ) : Type 0 where
+  -- the run is of a task that the set does not have
+  pub no_task : (status ≡ 10) ↔ MatchOption given ⊥ (λ run. ¬ IsRunOfSet w.set.tasks run)
+  -- the numbers stand for no run, or for one of the set that is not valid
+  pub no_run : (status ≡ 43) ↔ MatchOption given ⊤ (λ run. IsRunOfSet w.set.tasks run × (¬ IsRun run))
+  -- with the rows of the run there would be more than 2^62
+  pub full : (status ≡ 22) ↔ MatchOption given ⊥ (λ run. IsRunOfSet w.set.tasks run × IsRun run × (2 ^ 62 < seen w + size run))
   -- only these statuses are returned; 9 is out of memory
   pub only : (status ≡ 0) ⊎ (status ≡ 9) ⊎ (status ≡ 10) ⊎ (status ≡ 22) ⊎ (status ≡ 43)
 
@@ -69,9 +76,9 @@ pub record Observed (row : CRow) (n : ℕ) (before : Watched) (new : Option Watc
   -- with status 0 the monitor has seen the run that the numbers stand for
   pub taken : status ≡ 0 → (run : Run) × (after : Watched)
       × (run_in row n ≡ Some run) × (new ≡ Some after) × Takes run before after found
-  -- with any status but 0 the monitor is as it was before
-  pub refused : status ≢ 0 → new ≡ Some before
-  pub reason : HasReason row n before status
+  -- with any status but 0 the monitor is as it was before, and zeros are stored
+  pub refused : status ≢ 0 → (new ≡ Some before) × (found ≡ unfit_row None)
+  pub reason : HasReason (run_in row n) before status
 
 -- what is observed through a monitor: with a closed one the status is 12 and it stays closed
 abbrev pub Observes : CRow → ℕ → Option Watched → Option Watched → ℕ → CUnfit → Type 0
@@ -83,7 +90,8 @@ Observes row n old new status found =
 pub record WouldFind (row : CRow) (n : ℕ) (w : Watched) (status : ℕ) (unfit : CUnfit) : Type 0 where
   pub found : status ≡ 0 → (run : Run) × (run_in row n ≡ Some run) × ((h : List Row) → Watches h w
       → unfit ≡ unfit_row (unfit_in w.set.tasks w.rule (rows_of run ++ h)))
-  pub reason : HasReason row n w status
+  pub refused : status ≢ 0 → unfit ≡ unfit_row None
+  pub reason : HasReason (run_in row n) w status
   pub memory : status ≢ 9
 
 -- a job that turned late, in numbers
@@ -99,13 +107,16 @@ pub record TurnedLate (w : Watched) (since : ℕ) (ts : List Turned) : Type 0 wh
       → IsRun run → since ≡ ticks h → AddLate w.set.tasks run h ts
 
 -- what is stored of the jobs that turned late
-pub record StoresLate (w : Watched) (since status many : ℕ) (jobs : List CLate) : Type 0 where
-  -- with status 0 the array begins with the jobs that turned late, and their number is returned
+pub record StoresLate (w : Watched) (since status many : ℕ) (old new : List CLate) : Type 0 where
+  -- with status 0 the array begins with the jobs that turned late, its rest is as it was, and their number is returned
   pub stored : status ≡ 0 → (ts : List Turned)
-      × TurnedLate w since ts × (many ≡ length ts) × (take many jobs ≡ map late_job ts)
+      × TurnedLate w since ts × (many ≡ length ts) × (take many new ≡ map late_job ts)
+  pub rest : status ≡ 0 → drop many new ≡ drop many old
   -- with status 44 the number of jobs that turned late is returned, and the array has fewer elements
   pub short : status ≡ 44 → (ts : List Turned)
-      × TurnedLate w since ts × (many ≡ length ts) × (length jobs < many)
+      × TurnedLate w since ts × (many ≡ length ts) × (length old < many)
+  pub untouched : status ≢ 0 → new ≡ old
+  pub memory : status ≡ 9 → many ≡ 0
   -- only these statuses are returned; 9 is out of memory
   pub only : (status ≡ 0) ⊎ (status ≡ 9) ⊎ (status ≡ 44)
 
@@ -121,3 +132,11 @@ pub record IsWatch (w : Watched) (found : CWatch) : Type 0 where
   pub mode : (h : List Row) → Watches h w → found.high_mode ≡ cond (high_mode w.rule (fitted w.set.tasks w.rule h)) 1 0
   pub pending : (h : List Row) → Watches h w
       → found.pending ≡ length (pending w.set.tasks (fitted w.set.tasks w.rule h))
+
+-- what is stored of a closed monitor
+abbrev pub no_verdict : CVerdict
+no_verdict = record { why = 0; task = 0; count = 0; late = 0; place = 0 }
+
+-- what is read of a closed monitor
+abbrev pub no_watch : CWatch
+no_watch = record { rows = 0; ticks = 0; pending = 0; legal = 0; high_mode = 0 }

@@ -1,11 +1,12 @@
 -- Why given tasks are refused before they are tested, with the status and the task of each cause.
-use Rattle.std.specs.Prelude.{◌≡◌, ℕ, ◌-◌, ◌<◌, ◌≤◌, List, map, length, Some, slice_get}
+use Rattle.std.specs.Prelude.{◌≡◌, ℕ, None, ◌-◌, ◌<◌, ◌≤◌, List, map, length, Some, slice_get}
 use Rattle.mc_task.specs.declared.task.Task.{Task}
 use Rattle.mc_task.specs.declared.set.SetFault.{SetFault}
 use Rattle.mc_task.specs.declared.set.SetFault.TheVariants.{Empty, TooMany, ZeroNumber, BudgetOrder, SameName}
 use Rattle.mc_task.specs.TaskSet.{AreTasks}
 use Rattle.mc_task.specs.Faults.{first_fault}
 use Rattle.mc_model.specs.Loads.{range_fault}
+use Rattle.mc_model.specs.Test.{published}
 use Rattle.edfvd_c.specs.declared.given.CTask.{CTask}
 use Rattle.edfvd_c.specs.Given.{AreOf}
 use Rattle.edfvd_c.specs.Named.{names_of}
@@ -66,3 +67,13 @@ pub record IsRefused (given : List CTask) (status task : ℕ) : Type 0 where
   pub has : HasCause given cause
   pub status_is : status ≡ status_of cause
   pub task_is : task ≡ task_of cause
+
+-- the tasks have these numbers, are a set and are within range
+pub record AreInRange (given : List CTask) (tasks : List Task) : Type 0 where
+  pub numbers : AreOf given tasks
+  pub set : AreTasks tasks
+  pub range : range_fault tasks ≡ None
+
+-- the given tasks are a set within range that the published test does not admit
+abbrev pub AreNotAdmitted : List CTask → Type 0
+AreNotAdmitted given = (tasks : List Task) × AreInRange given tasks × (published tasks ≡ None)

@@ -1,5 +1,6 @@
 //! A task set from numbers in memory.
 ghost use Rattle.std.specs.Prelude.{◌≡◌, ◌≢◌, ◌<◌, ◌≤◌, ◌+◌, ◌%◌, IfOk, IfErr, IfSome, IfNone, length};
+ghost use Rattle.mc_task.specs.TaskSet.{AreTasks};
 ghost use Rattle.edfvd_c.specs.Given.{AreOf, numbers_of};
 ghost use Rattle.edfvd_c.specs.Named as named;
 ghost use Rattle.edfvd_c.specs.Refused.{IsRefused, fault_status, fault_task};
@@ -25,14 +26,21 @@ pub struct NoSet {
     pub task: u32,
 }
 
+/// A failed allocation, which is about no task.
+pub const OUT_OF_MEMORY: NoSet = NoSet {
+    status: status::MEMORY,
+    task: 0,
+};
+
 /// The set of the tasks, which are named by their numbers.
 pub fn set_of(alloc: Global, given: &[CTask]) -> Result<TaskSet, NoSet>
-    ensures status { IfErr result (λ no. (no.status ≢ 0) × (no.status ≢ 8) × (no.status ≢ 28) × (no.status ≢ 29) × (no.status ≢ 43)) }
+    ensures status { IfErr result (λ no. (1 ≤ no.status) × (no.status ≤ 9) × (no.status ≢ 7) × (no.status ≢ 8)) }
     ensures tasks { IfOk result (λ set. AreOf given.now set.tasks) }
+    ensures set { IfOk result (λ set. AreTasks set.tasks) }
     ensures few { IfOk result (λ set. length given.now ≤ 128) }
     ensures many { IfErr result (λ no. 128 < length given.now → (no.status ≡ 2) × (no.task ≡ 0)) }
     ensures refused { IfErr result (λ no. length given.now ≤ 128 → no.status ≢ 9 → IsRefused given.now no.status no.task) }
-    ensures memory { IfErr result (λ no. no.status ≡ 9 → no.task ≡ 0) }
+    ensures memory { IfErr result (λ no. 8 ≤ no.status → no.task ≡ 0) }
 {
     if given.len() > 128 {
         return Err(NoSet {
@@ -53,14 +61,14 @@ pub fn set_of(alloc: Global, given: &[CTask]) -> Result<TaskSet, NoSet>
             }
         };
         if tasks.push(task).is_err() {
-            return Err(NoSet {
-                status: status::MEMORY,
-                task: 0,
-            });
+            return Err(OUT_OF_MEMORY);
         }
     }
     match TaskSet::new(tasks) {
-        Ok(set) => Ok(set),
+        Ok(set) => {
+            let _is_set = set.len();
+            Ok(set)
+        }
         Err(fault) => Err(no_set(fault)),
     }
 }

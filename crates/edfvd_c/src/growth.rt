@@ -1,11 +1,12 @@
 //! How far the high budgets of sets can grow.
-ghost use Rattle.std.specs.Prelude.{◌≡◌, ◌≢◌, Some, None, IfOk, IfErr};
+ghost use Rattle.std.specs.Prelude.{◌≡◌, ◌≢◌, ◌↔◌, ◌⊎◌, ◌<◌, ◌≤◌, Some, None, length};
 ghost use Rattle.edfvd_c.specs.Growth as spec;
+ghost use Rattle.edfvd_c.specs.Refused.{IsRefused};
 ghost use Rattle.study.specs.Acceptance.{accept_table};
 
-use crate::given::{CTask, NoSet, set_of};
+use crate::given::CTask;
+use crate::loaded::set_and_loads;
 use crate::status;
-use crate::tested::loads_of;
 use std::alloc::Global;
 use study::{stretch, table_alone};
 
@@ -20,29 +21,26 @@ pub extern "C" fn edfvd_raw_stretch(
 ) -> u32
     ensures some { result ≡ 0 → spec.IsStretched given.now (Some percent.new) }
     ensures none { result ≡ 28 → spec.IsStretched given.now None }
+    ensures many { 128 < length given.now → (result ≡ 2) × (task.new ≡ 0) }
+    ensures refused { length given.now ≤ 128 → result ≢ 0 → result ≢ 9 → result ≢ 28 → IsRefused given.now result task.new }
+    ensures zero { result ≢ 0 → percent.new ≡ 0 }
+    ensures task { (result ≡ 0) ⊎ (result ≡ 9) ⊎ (result ≡ 28) → task.new ≡ 0 }
 {
     *percent = 0;
     *task = 0;
-    match stretched(alloc, given) {
-        Ok(Some(most)) => {
-            *percent = most;
-            status::OK
-        }
-        Ok(None) => status::NO_PERCENTAGE,
+    match set_and_loads(alloc, given) {
+        Ok(loaded) => match stretch(&loaded.set, &loaded.loads) {
+            Some(most) => {
+                *percent = most;
+                status::OK
+            }
+            None => status::NO_PERCENTAGE,
+        },
         Err(no) => {
             *task = no.task;
             no.status
         }
     }
-}
-
-fn stretched(alloc: Global, given: &[CTask]) -> Result<Option<u32>, NoSet>
-    ensures stretch { IfOk result (spec.IsStretched given.now) }
-    ensures status { IfErr result (λ no. (no.status ≢ 0) × (no.status ≢ 28)) }
-{
-    let set = set_of(alloc, given)?;
-    let loads = loads_of(&set)?;
-    Ok(stretch(&set, &loads))
 }
 
 /// Of this many random sets of this many tasks, those generated from `number` on, counts how many have a stretch of at least 100
@@ -54,7 +52,9 @@ pub extern "C" fn edfvd_raw_accept(
     tasks: u32,
     counts: &mut [u32; 11],
 ) -> u32
-    ensures { result ≡ 0 → counts.new ≡ accept_table number sets tasks }
+    ensures counts { result ≡ 0 → counts.new ≡ accept_table number sets tasks }
+    ensures accepted { (result ≡ 0) ↔ spec.AreAccepted number sets tasks }
+    ensures argument { result ≢ 0 → (result ≡ 43) × (counts.new ≡ counts.old) }
 {
     if !(1..=10_000).contains(&sets)
         || !(2..=32).contains(&tasks)

@@ -1,15 +1,16 @@
 //! Rows of a caller's own, judged.
-ghost use Rattle.std.specs.Prelude.{◌≡◌, ◌≢◌, ◌↔◌, ◌<◌, ◌^◌, All, IfOk, IfErr, IfSome, IsTrue, map, length, reverse};
+ghost use Rattle.std.specs.Prelude.{◌≡◌, ◌≢◌, ◌↔◌, ◌⊎◌, ◌<◌, ◌≤◌, ◌^◌, All, IfOk, IfErr, IfSome, IsTrue, map, length, reverse};
 ghost use Rattle.mc_model.specs.Holds.{Fits};
 ghost use Rattle.mc_model.specs.Legal.{IsOfSet};
 ghost use Rattle.mc_model.specs.Verdict.{verdict};
 ghost use Rattle.edfvd_c.specs.Judged as spec;
 ghost use Rattle.edfvd_c.specs.Look.{row_in, row_numbers};
+ghost use Rattle.edfvd_c.specs.Refused.{AreNotAdmitted, IsRefused};
 
 use crate::given::{CTask, NoSet, set_of};
+use crate::loaded::loads_of;
 use crate::look::{CRow, count_number, task_number};
 use crate::status;
-use crate::tested::loads_of;
 use admission::admit;
 use mc_model::{How, Row, Verdict, Why};
 use mc_task::{JobId, Memory, Rule, TaskNo, TaskSet};
@@ -37,9 +38,8 @@ pub const UNJUDGED: CVerdict = CVerdict {
     place: 0,
 };
 
-/// Judges rows, the oldest first, under the rule of the published test if `p` is 0, and otherwise under EDF-VD with the
-/// scale `p/q`, which need not hold. On a refusal `place` is the number of the row, or `task` that of the task, that
-/// the refusal is about.
+/// Judges rows, the oldest first, under the rule of the published test if `p` and `q` are 0, and otherwise under EDF-VD with
+/// the scale `p/q`, which need not hold. `task` is the task that a refusal is about, or 0.
 #[unsafe(no_mangle)]
 pub extern "C" fn edfvd_raw_judge(
     alloc: Global,
@@ -49,7 +49,13 @@ pub extern "C" fn edfvd_raw_judge(
     q: u64,
     judged: &mut CVerdict,
 ) -> u32
-    ensures { result ≡ 0 → spec.IsJudged given.now rows.now p q judged.new }
+    ensures judged { result ≡ 0 → spec.IsJudged given.now rows.now p q judged.new }
+    ensures many { 128 < length given.now → (result ≡ 2) × (judged.new ≡ spec.refused_at 0) }
+    ensures refused { length given.now ≤ 128 → result ≢ 0 → result ≢ 8 → result ≢ 9 → result ≢ 10 → result ≢ 22 → result ≢ 43 → IsRefused given.now result judged.new.task }
+    ensures unjudged { spec.IsUnjudged given.now rows.now p q result }
+    ensures zeros { result ≢ 0 → judged.new ≡ spec.refused_at judged.new.task }
+    ensures task { 8 ≤ result → judged.new.task ≡ 0 }
+    ensures only { (result ≤ 10) ⊎ (result ≡ 22) ⊎ (result ≡ 43) }
 {
     match judge_given(alloc, given, rows, p, q) {
         Ok(found) => {
@@ -74,50 +80,83 @@ fn judge_given(
     q: u64,
 ) -> Result<CVerdict, NoSet>
     ensures judged { IfOk result (spec.IsJudged given.now rows.now p q) }
-    ensures status { IfErr result (λ no. no.status ≢ 0) }
+    ensures many { IfErr result (λ no. 128 < length given.now → (no.status ≡ 2) × (no.task ≡ 0)) }
+    ensures refused { IfErr result (λ no. length given.now ≤ 128 → no.status ≢ 8 → no.status ≢ 9 → no.status ≢ 10 → no.status ≢ 22 → no.status ≢ 43 → IsRefused given.now no.status no.task) }
+    ensures unjudged { IfErr result (λ no. spec.IsUnjudged given.now rows.now p q no.status) }
+    ensures task { IfErr result (λ no. 8 ≤ no.status → no.task ≡ 0) }
+    ensures status { IfErr result (λ no. ((1 ≤ no.status) × (no.status ≤ 10)) ⊎ (no.status ≡ 22) ⊎ (no.status ≡ 43)) }
 {
-    let set = set_of(alloc, given)?;
-    let rule = rule_of(&set, p, q)?;
-    let rows = rows_of(alloc, rows)?;
-    let verdict = verdict_on(alloc, &set, rule, &rows)?;
-    Ok(in_numbers(verdict))
+    let (set, rule) = set_under_rule(alloc, given, p, q)?;
+    let rows = match rows_of(alloc, rows) {
+        Ok(rows) => rows,
+        Err(status) => return Err(no(status)),
+    };
+    match verdict_on(alloc, &set, rule, &rows) {
+        Ok(verdict) => Ok(in_numbers(verdict)),
+        Err(status) => Err(no(status)),
+    }
 }
 
 fn no(status: u32) -> NoSet
-    ensures { result.status ≡ status }
+    ensures { (result.status ≡ status) × (result.task ≡ 0) }
 {
     NoSet { status, task: 0 }
 }
 
-pub fn rule_of(set: &TaskSet, p: u64, q: u64) -> Result<Rule, NoSet>
-    ensures rule { IfOk result (spec.IsRule p q set.now.tasks) }
-    ensures fits { IfOk result Fits }
-    ensures status { IfErr result (λ no. no.status ≢ 0) }
+/// The set of the tasks and the rule that `p` and `q` name for it, or the status and the task of a refusal: one of a set; 7 and
+/// 8 of the published test; 43 if `p` and `q` name no rule.
+pub fn set_under_rule(
+    alloc: Global,
+    given: &[CTask],
+    p: u64,
+    q: u64,
+) -> Result<(TaskSet, Rule), NoSet>
+    ensures under { IfOk result (λ found. spec.AreUnderRule given.now p q found.0.tasks found.1) }
+    ensures fits { IfOk result (λ found. Fits found.1) }
+    ensures many { IfErr result (λ no. 128 < length given.now → (no.status ≡ 2) × (no.task ≡ 0)) }
+    ensures few { IfOk result (λ found. length given.now ≤ 128) }
+    ensures refused { IfErr result (λ no. length given.now ≤ 128 → no.status ≢ 8 → no.status ≢ 9 → no.status ≢ 43 → IsRefused given.now no.status no.task) }
+    ensures range { IfErr result (λ no. no.status ≡ 7 → (p ≡ 0) × (q ≡ 0)) }
+    ensures not_admitted { IfErr result (λ no. no.status ≡ 8 → (p ≡ 0) × (q ≡ 0) × AreNotAdmitted given.now) }
+    ensures no_scale { IfErr result (λ no. no.status ≡ 43 → spec.HaveNoScale given.now p q) }
+    ensures task { IfErr result (λ no. 8 ≤ no.status → no.task ≡ 0) }
+    ensures status { IfErr result (λ no. ((1 ≤ no.status) × (no.status ≤ 9)) ⊎ (no.status ≡ 43)) }
 {
-    if p == 0 {
-        let loads = loads_of(set)?;
-        return admit(&loads).ok_or(no(status::NOT_ADMITTED));
+    let set = set_of(alloc, given)?;
+    if p == 0 && q == 0 {
+        let loads = match loads_of(&set) {
+            Ok(loads) => loads,
+            Err(range) => return Err(range),
+        };
+        let Some(rule) = admit(&loads) else {
+            return Err(no(status::NOT_ADMITTED));
+        };
+        return Ok((set, rule));
     }
-    if q < p || q > 1 << 60 {
+    if p == 0 || q < p || q > 1 << 60 {
         return Err(no(status::ARGUMENT));
     }
-    Ok(Rule::Virtual { p, q })
+    Ok((set, Rule::Virtual { p, q }))
 }
 
-fn rows_of(alloc: Global, given: &[CRow]) -> Result<Vec<Row>, NoSet>
+// The rows that the numbers stand for, or a status: 22 for more than 2,000,000, 43 for numbers of no row.
+fn rows_of(alloc: Global, given: &[CRow]) -> Result<Vec<Row>, u32>
     ensures rows { IfOk result (λ rows. map row_numbers rows.items ≡ given.now) }
-    ensures status { IfErr result (λ no. no.status ≢ 0) }
+    ensures few { IfOk result (λ rows. length given.now ≤ 2000000) }
+    ensures full { IfErr result (λ status. status ≡ 22 → 2000000 < length given.now) }
+    ensures no_row { IfErr result (λ status. status ≡ 43 → (length given.now ≤ 2000000) × spec.HaveNoRow given.now) }
+    ensures status { IfErr result (λ status. (status ≡ 9) ⊎ (status ≡ 22) ⊎ (status ≡ 43)) }
 {
     if given.len() > 2_000_000 {
-        return Err(no(status::FULL));
+        return Err(status::FULL);
     }
     let mut rows = Vec::new(alloc);
     for place in 0..given.len() {
         let Some(row) = row_of(given[place]) else {
-            return Err(no(status::ARGUMENT));
+            return Err(status::ARGUMENT);
         };
         if rows.push(row).is_err() {
-            return Err(no(status::MEMORY));
+            return Err(status::MEMORY);
         }
     }
     Ok(rows)
@@ -155,23 +194,24 @@ pub fn row_of(given: CRow) -> Option<Row>
     }
 }
 
-fn verdict_on(alloc: Global, set: &TaskSet, rule: Rule, rows: &[Row]) -> Result<Verdict, NoSet>
+// The verdict on the rows, or a status: 10 for a row of a task that the set does not have.
+fn verdict_on(alloc: Global, set: &TaskSet, rule: Rule, rows: &[Row]) -> Result<Verdict, u32>
     requires fits { Fits rule }
+    requires few { length rows.now ≤ 2000000 }
     ensures exact { IfOk result (λ v. v ≡ verdict set.now.tasks rule (reverse rows.now)) }
-    ensures status { IfErr result (λ no. no.status ≢ 0) }
+    ensures of_set { IfOk result (λ v. All (IsOfSet set.now.tasks) rows.now) }
+    ensures no_task { IfErr result (λ status. status ≡ 10 → ¬ All (IsOfSet set.now.tasks) rows.now) }
+    ensures status { IfErr result (λ status. (status ≡ 9) ⊎ (status ≡ 10)) }
 {
-    if rows.len() > 2_000_000 {
-        return Err(no(status::FULL));
-    }
     if !are_of_set(set, rows) {
-        return Err(no(status::NO_TASK));
+        return Err(status::NO_TASK);
     }
     let Ok(runs) = pack(alloc, rows) else {
-        return Err(no(status::MEMORY));
+        return Err(status::MEMORY);
     };
     match judge(alloc, set, rule, &runs) {
         Ok(verdict) => Ok(verdict),
-        Err(Memory) => Err(no(status::MEMORY)),
+        Err(Memory) => Err(status::MEMORY),
     }
 }
 

@@ -11,6 +11,7 @@ mod handle;
 mod held;
 mod judged;
 mod latest;
+mod loaded;
 mod look;
 mod margins;
 mod monitor;

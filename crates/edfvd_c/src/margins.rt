@@ -1,15 +1,15 @@
 //! What may change in a set with the published test still admitting it: the budgets, the scale, and the speed of the processor.
-ghost use Rattle.std.specs.Prelude.{◌≡◌, ◌≢◌, ◌<◌, ◌≤◌, ◌^◌, IfOk, IfErr, length};
+ghost use Rattle.std.specs.Prelude.{◌≡◌, ◌≢◌, ◌<◌, ◌≤◌, ◌^◌, length};
 ghost use Rattle.tick_frac.specs.Fraction.{IsLowest};
-ghost use Rattle.load_sum.specs.Belong.{BelongTo, fault_task};
+ghost use Rattle.load_sum.specs.Belong.{BelongTo};
 ghost use Rattle.edfvd_c.specs.Given.{AreOf};
 ghost use Rattle.edfvd_c.specs.Margins as spec;
 ghost use Rattle.edfvd_c.specs.Refused.{IsRefused};
 
-use crate::given::{CTask, NoSet, set_of};
+use crate::given::CTask;
+use crate::loaded::{SetAndLoads, set_and_loads};
 use crate::status;
-use load_sum::{LoadFault, Loads, sum_loads};
-use mc_task::{TaskNo, TaskSet};
+use mc_task::TaskNo;
 use sensitivity::{GreatestBudgets, ScaleRange, greatest_of, least_speed, scales};
 use std::alloc::Global;
 
@@ -169,40 +169,5 @@ pub extern "C" fn edfvd_raw_speed(
             *task = no.task;
             no.status
         }
-    }
-}
-
-// A set and its loads.
-#[derive(Drop)]
-struct SetAndLoads {
-    set: TaskSet,
-    loads: Loads,
-}
-
-fn set_and_loads(alloc: Global, given: &[CTask]) -> Result<SetAndLoads, NoSet>
-    ensures numbers { IfOk result (λ loaded. AreOf given.now loaded.set.tasks) }
-    ensures loads { IfOk result (λ loaded. BelongTo loaded.set.tasks loaded.loads) }
-    ensures few { IfOk result (λ loaded. length given.now ≤ 128) }
-    ensures many { IfErr result (λ no. 128 < length given.now → (no.status ≡ 2) × (no.task ≡ 0)) }
-    ensures refused { IfErr result (λ no. length given.now ≤ 128 → no.status ≢ 9 → IsRefused given.now no.status no.task) }
-    ensures status { IfErr result (λ no. (no.status ≢ 0) × (no.status ≢ 8) × (no.status ≢ 43)) }
-    ensures memory { IfErr result (λ no. no.status ≡ 9 → no.task ≡ 0) }
-{
-    let set = set_of(alloc, given)?;
-    let _is_set = set.len();
-    match sum_loads(&set) {
-        Ok(loads) => Ok(SetAndLoads { set, loads }),
-        Err(fault) => Err(NoSet {
-            status: status::PERIODS,
-            task: task_at_fault(fault),
-        }),
-    }
-}
-
-fn task_at_fault(fault: LoadFault) -> u32
-    ensures { result ≡ fault_task fault }
-{
-    match fault {
-        LoadFault::Range { task } => task.0,
     }
 }

@@ -1,12 +1,14 @@
 //! A monitor that a caller in C feeds with rows.
-ghost use Rattle.std.specs.Prelude.{◌≡◌, ◌≢◌, IsSome, IfOk, IfErr, MatchOption};
+ghost use Rattle.std.specs.Prelude.{◌≡◌, ◌≢◌, ◌↔◌, ◌⊎◌, ◌<◌, ◌≤◌, Some, None, IsSome, IfOk, IfErr, MatchOption, length};
 ghost use Rattle.edfvd_c.specs.Handle.{monitor_of};
+ghost use Rattle.edfvd_c.specs.Judged.{HaveNoScale};
 ghost use Rattle.edfvd_c.specs.Monitor as spec;
+ghost use Rattle.edfvd_c.specs.Refused.{AreNotAdmitted, IsRefused};
 
-use crate::given::{CTask, NoSet, set_of};
+use crate::given::{CTask, NoSet, OUT_OF_MEMORY};
 use crate::handle::Handle;
 use crate::held::Held;
-use crate::judged::{CVerdict, UNJUDGED, in_numbers, row_of, rule_of, why_number};
+use crate::judged::{CVerdict, UNJUDGED, in_numbers, row_of, set_under_rule, why_number};
 use crate::look::CRow;
 use crate::status;
 use mc_model::{Row, Run};
@@ -50,8 +52,8 @@ const NO_WATCH: CWatch = CWatch {
     high_mode: 0,
 };
 
-/// Opens a monitor of the tasks under the rule of the published test where `p` is 0, and otherwise under EDF-VD with the scale
-/// `p/q`, which need not hold.
+/// Opens a monitor of the tasks under the rule of the published test if `p` and `q` are 0, and otherwise under EDF-VD with the
+/// scale `p/q`, which need not hold.
 #[unsafe(no_mangle)]
 pub extern "C" fn edfvd_raw_monitor_open(
     alloc: Global,
@@ -61,9 +63,17 @@ pub extern "C" fn edfvd_raw_monitor_open(
     q: u64,
     task: &mut u32,
 ) -> u32
-    ensures open { result ≡ 0 → monitor.old.block.held ≡ None }
+    // The handle holds a scheduler or a monitor already.
+    ensures open { (result ≡ 13) ↔ IsSome monitor.old.block.held }
     ensures made { result ≡ 0 → spec.IsMonitorOpening given.now p q (monitor_of monitor.new.block.held) }
-    ensures refused { result ≢ 0 → monitor.new.block.held ≡ monitor.old.block.held }
+    ensures many { monitor.old.block.held ≡ None → 128 < length given.now → (result ≡ 2) × (task.new ≡ 0) }
+    ensures refused { length given.now ≤ 128 → result ≢ 0 → result ≢ 8 → result ≢ 9 → result ≢ 13 → result ≢ 43 → IsRefused given.now result task.new }
+    ensures range { result ≡ 7 → (p ≡ 0) × (q ≡ 0) }
+    ensures not_admitted { result ≡ 8 → (p ≡ 0) × (q ≡ 0) × AreNotAdmitted given.now }
+    ensures no_scale { result ≡ 43 → HaveNoScale given.now p q }
+    ensures task { (result ≡ 0) ⊎ (8 ≤ result) → task.new ≡ 0 }
+    ensures only { (result ≤ 9) ⊎ (result ≡ 13) ⊎ (result ≡ 43) }
+    ensures same { result ≢ 0 → monitor.new.block.held ≡ monitor.old.block.held }
 {
     *task = 0;
     if monitor.is_open() {
@@ -84,20 +94,22 @@ pub extern "C" fn edfvd_raw_monitor_open(
 fn opened(alloc: Global, given: &[CTask], p: u64, q: u64) -> Result<Box<Held>, NoSet>
     ensures made { IfOk result (λ held. spec.IsMonitorOpening given.now p q (monitor_of (Some held.value))) }
     ensures some { IfOk result (λ held. IsSome (monitor_of (Some held.value))) }
-    ensures status { IfErr result (λ no. no.status ≢ 0) }
+    ensures many { IfErr result (λ no. 128 < length given.now → (no.status ≡ 2) × (no.task ≡ 0)) }
+    ensures few { IfOk result (λ held. length given.now ≤ 128) }
+    ensures refused { IfErr result (λ no. length given.now ≤ 128 → no.status ≢ 8 → no.status ≢ 9 → no.status ≢ 43 → IsRefused given.now no.status no.task) }
+    ensures range { IfErr result (λ no. no.status ≡ 7 → (p ≡ 0) × (q ≡ 0)) }
+    ensures not_admitted { IfErr result (λ no. no.status ≡ 8 → (p ≡ 0) × (q ≡ 0) × AreNotAdmitted given.now) }
+    ensures no_scale { IfErr result (λ no. no.status ≡ 43 → HaveNoScale given.now p q) }
+    ensures task { IfErr result (λ no. 8 ≤ no.status → no.task ≡ 0) }
+    ensures status { IfErr result (λ no. ((1 ≤ no.status) × (no.status ≤ 9)) ⊎ (no.status ≡ 43)) }
 {
-    let set = set_of(alloc, given)?;
-    let rule = rule_of(&set, p, q)?;
-    let wanting = NoSet {
-        status: status::MEMORY,
-        task: 0,
-    };
+    let (set, rule) = set_under_rule(alloc, given, p, q)?;
     let Ok(monitor) = Monitor::new(alloc, set, rule) else {
-        return Err(wanting);
+        return Err(OUT_OF_MEMORY);
     };
     match Box::new(alloc, Held::Monitor(monitor)) {
         Ok(held) => Ok(held),
-        Err(_) => Err(wanting),
+        Err(_) => Err(OUT_OF_MEMORY),
     }
 }
 
@@ -146,16 +158,23 @@ pub extern "C" fn edfvd_raw_monitor_observe(
 fn observed(alloc: Global, monitor: &mut Monitor, row: CRow, length: u32) -> (u32, CUnfit)
     ensures { spec.Observed row length monitor.old (Some monitor.new) result.0 result.1 }
 {
-    let none = unfit_row(None);
     let Some(run) = run_in(row, length) else {
-        return (status::ARGUMENT, none);
+        return (status::ARGUMENT, unfit_row(None));
     };
     match monitor.observe(alloc, run) {
         Ok(unfit) => (status::OK, unfit_row(unfit)),
-        Err(ObserveFault::Memory) => (status::MEMORY, none),
-        Err(ObserveFault::UnknownTask) => (status::NO_TASK, none),
-        Err(ObserveFault::NotARun) => (status::ARGUMENT, none),
-        Err(ObserveFault::Full) => (status::FULL, none),
+        Err(fault) => (fault_status(fault), unfit_row(None)),
+    }
+}
+
+fn fault_status(fault: ObserveFault) -> u32
+    ensures { result ≡ spec.fault_status fault }
+{
+    match fault {
+        ObserveFault::Memory => status::MEMORY,
+        ObserveFault::UnknownTask => status::NO_TASK,
+        ObserveFault::Full => status::FULL,
+        ObserveFault::NotARun => status::ARGUMENT,
     }
 }
 
@@ -192,7 +211,7 @@ pub extern "C" fn edfvd_raw_monitor_would_fit(
     unfit: &mut CUnfit,
 ) -> u32
     ensures same { monitor.new.block.held ≡ monitor.old.block.held }
-    ensures found { MatchOption (monitor_of monitor.old.block.held) (result ≡ 12) (λ w. spec.WouldFind row.now length w result unfit.new) }
+    ensures found { MatchOption (monitor_of monitor.old.block.held) ((result ≡ 12) × (unfit.new ≡ spec.unfit_row None)) (λ w. spec.WouldFind row.now length w result unfit.new) }
 {
     *unfit = unfit_row(None);
     let Some(held) = monitor.take(alloc) else {
@@ -210,16 +229,12 @@ pub extern "C" fn edfvd_raw_monitor_would_fit(
 fn would_find(monitor: &Monitor, row: CRow, length: u32) -> (u32, CUnfit)
     ensures { spec.WouldFind row length monitor.now result.0 result.1 }
 {
-    let none = unfit_row(None);
     let Some(run) = run_in(row, length) else {
-        return (status::ARGUMENT, none);
+        return (status::ARGUMENT, unfit_row(None));
     };
     match monitor.would_fit(run) {
         Ok(unfit) => (status::OK, unfit_row(unfit)),
-        Err(ObserveFault::Memory) => (status::MEMORY, none),
-        Err(ObserveFault::UnknownTask) => (status::NO_TASK, none),
-        Err(ObserveFault::NotARun) => (status::ARGUMENT, none),
-        Err(ObserveFault::Full) => (status::FULL, none),
+        Err(fault) => (fault_status(fault), unfit_row(None)),
     }
 }
 
@@ -234,7 +249,7 @@ pub extern "C" fn edfvd_raw_monitor_late(
     many: &mut u64,
 ) -> u32
     ensures same { monitor.new.block.held ≡ monitor.old.block.held }
-    ensures stored { MatchOption (monitor_of monitor.old.block.held) (result ≡ 12) (λ w. spec.StoresLate w since result many.new jobs.new) }
+    ensures stored { MatchOption (monitor_of monitor.old.block.held) ((result ≡ 12) × (many.new ≡ 0) × (jobs.new ≡ jobs.old)) (λ w. spec.StoresLate w since result many.new jobs.old jobs.new) }
 {
     *many = 0;
     let Some(mut held) = monitor.take(alloc) else {
@@ -251,7 +266,7 @@ pub extern "C" fn edfvd_raw_monitor_late(
 
 fn store_late(alloc: Global, monitor: &mut Monitor, since: u64, jobs: &mut [CLate]) -> (u32, u64)
     ensures same { monitor.new ≡ monitor.old }
-    ensures stored { spec.StoresLate monitor.old since result.0 result.1 jobs.new }
+    ensures stored { spec.StoresLate monitor.old since result.0 result.1 jobs.old jobs.new }
 {
     let Ok(turned) = monitor.turned_late(alloc, since) else {
         return (status::MEMORY, 0);
@@ -284,7 +299,7 @@ pub extern "C" fn edfvd_raw_monitor_verdict(
     judged: &mut CVerdict,
 ) -> u32
     ensures same { monitor.new.block.held ≡ monitor.old.block.held }
-    ensures verdict { MatchOption (monitor_of monitor.old.block.held) (result ≡ 12) (λ w. (result ≡ 0) × spec.IsVerdict w judged.new) }
+    ensures verdict { MatchOption (monitor_of monitor.old.block.held) ((result ≡ 12) × (judged.new ≡ spec.no_verdict)) (λ w. (result ≡ 0) × spec.IsVerdict w judged.new) }
 {
     *judged = UNJUDGED;
     let Some(held) = monitor.take(alloc) else {
@@ -307,7 +322,7 @@ pub extern "C" fn edfvd_raw_monitor_look(
     watch: &mut CWatch,
 ) -> u32
     ensures same { monitor.new.block.held ≡ monitor.old.block.held }
-    ensures watch { MatchOption (monitor_of monitor.old.block.held) (result ≡ 12) (λ w. (result ≡ 0) × spec.IsWatch w watch.new) }
+    ensures watch { MatchOption (monitor_of monitor.old.block.held) ((result ≡ 12) × (watch.new ≡ spec.no_watch)) (λ w. (result ≡ 0) × spec.IsWatch w watch.new) }
 {
     *watch = NO_WATCH;
     let Some(held) = monitor.take(alloc) else {

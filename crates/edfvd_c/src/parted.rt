@@ -1,6 +1,7 @@
 //! The tasks of a set on several processors.
-ghost use Rattle.std.specs.Prelude.{◌≡◌, ◌≢◌, IfOk, IfErr};
+ghost use Rattle.std.specs.Prelude.{◌≡◌, ◌≢◌, ◌↔◌, ◌⊎◌, ◌<◌, ◌≤◌, IfOk, IfErr, length};
 ghost use Rattle.edfvd_c.specs.Parted as spec;
+ghost use Rattle.edfvd_c.specs.Refused.{IsRefused};
 
 use crate::given::{CTask, NoSet, set_of};
 use crate::status;
@@ -8,7 +9,8 @@ use part_fit::{FitFault, Parts, fit};
 use std::alloc::Global;
 
 /// Puts the tasks on processors 1 to `processors`, at most 16, by first fit with the published test, and writes the processor
-/// of each task in order. Status 29 where a task fits on none of them: `task` is the first such task.
+/// of each task in order. Status 29 where a task fits on none of them: `task` is the first such task. Status 43 if the number
+/// of processors is out of range, or `on` has not as many elements as there are tasks.
 #[unsafe(no_mangle)]
 pub extern "C" fn edfvd_raw_partition(
     alloc: Global,
@@ -17,36 +19,41 @@ pub extern "C" fn edfvd_raw_partition(
     on: &mut [u32],
     task: &mut u32,
 ) -> u32
-    ensures parted { result ≡ 0 → spec.BeginsWithParts given.now processors on.new }
+    ensures parted { result ≡ 0 → spec.AreParted given.now processors on.new }
     ensures no_processor { result ≡ 29 → spec.FitsNowhere given.now processors task.new }
+    ensures argument { (result ≢ 43) ↔ spec.IsParting given.now processors on.old }
+    ensures many { result ≢ 43 → 128 < length given.now → (result ≡ 2) × (task.new ≡ 0) }
+    ensures refused { length given.now ≤ 128 → result ≢ 0 → result ≢ 9 → result ≢ 29 → result ≢ 43 → IsRefused given.now result task.new }
+    ensures untouched { result ≢ 0 → on.new ≡ on.old }
+    ensures task { (result ≡ 0) ⊎ (result ≡ 9) ⊎ (result ≡ 43) → task.new ≡ 0 }
+    ensures only { (result ≤ 6) ⊎ (result ≡ 9) ⊎ (result ≡ 29) ⊎ (result ≡ 43) }
 {
     *task = 0;
-    let parts = match parted(alloc, given, processors) {
-        Ok(parts) => parts,
-        Err(no) => {
-            *task = no.task;
-            return no.status;
-        }
-    };
-    let of = parts.of.as_slice();
-    if on.len() < of.len() {
+    if !(1..=16).contains(&processors) || on.len() != given.len() {
         return status::ARGUMENT;
     }
-    on[..of.len()].copy_from_slice(of);
-    status::OK
+    match parted(alloc, given, processors) {
+        Ok(parts) => {
+            on.copy_from_slice(parts.of.as_slice());
+            status::OK
+        }
+        Err(no) => {
+            *task = no.task;
+            no.status
+        }
+    }
 }
 
 fn parted(alloc: Global, given: &[CTask], processors: u32) -> Result<Parts, NoSet>
+    requires { (1 ≤ processors) × (processors ≤ 16) }
     ensures parted { IfOk result (spec.AreParted given.now processors) }
+    ensures long { IfOk result (λ parts. length parts ≡ length given.now) }
     ensures no_processor { IfErr result (λ no. no.status ≡ 29 → spec.FitsNowhere given.now processors no.task) }
-    ensures status { IfErr result (λ no. no.status ≢ 0) }
+    ensures many { IfErr result (λ no. 128 < length given.now → (no.status ≡ 2) × (no.task ≡ 0)) }
+    ensures refused { IfErr result (λ no. length given.now ≤ 128 → no.status ≢ 9 → no.status ≢ 29 → IsRefused given.now no.status no.task) }
+    ensures status { IfErr result (λ no. ((1 ≤ no.status) × (no.status ≤ 6)) ⊎ (no.status ≡ 9) ⊎ (no.status ≡ 29)) }
+    ensures memory { IfErr result (λ no. no.status ≡ 9 → no.task ≡ 0) }
 {
-    if !(1..=16).contains(&processors) {
-        return Err(NoSet {
-            status: status::ARGUMENT,
-            task: 0,
-        });
-    }
     let set = set_of(alloc, given)?;
     match fit(alloc, &set, processors) {
         Ok(parts) => Ok(parts),

@@ -1,25 +1,25 @@
 //! A scheduler that a caller in C drives event by event.
-ghost use Rattle.std.specs.Prelude.{◌≡◌, ◌≢◌, ◌<◌, ◌^◌, ℕ, true, false, Some, None, IsSome, IfSome, IfOk, IfErr, MatchOption, slice_get, reverse, length, ◌≤◌};
+ghost use Rattle.std.specs.Prelude.{◌≡◌, ◌≢◌, ◌↔◌, ◌⊎◌, ◌<◌, ◌^◌, ℕ, true, false, Some, None, IsSome, IfSome, IfOk, IfErr, MatchOption, slice_get, reverse, length, ◌≤◌};
 ghost use Rattle.mc_model.specs.Core.{State};
 ghost use Rattle.mc_model.specs.Test.{published};
 ghost use Rattle.mc_model.specs.Holds.{Fits, Holds};
 ghost use Rattle.mode_core.specs.Events.{empty_state, after_idle};
 ghost use Rattle.mode_core.specs.Timely.{IsTimely};
-ghost use Rattle.edfvd_c.specs.Given.{AreOf};
+ghost use Rattle.edfvd_c.specs.Refused.{AreInRange, AreNotAdmitted, IsRefused};
 ghost use Rattle.edfvd_c.specs.Handle.{core_of, is_endless, kept_from, Does, IsOpening};
 ghost use Rattle.edfvd_c.specs.Latest.{IsRowStatus, lookup, row_returns, no_row};
 ghost use Rattle.edfvd_c.specs.Look as view;
 ghost use Rattle.edfvd_c.specs.Event as spec;
 
 use crate::event::{self, CAnswer, NOTHING};
-use crate::given::{CTask, NoSet, set_of};
+use crate::given::{CTask, NoSet, OUT_OF_MEMORY};
 use crate::handle::Handle;
 use crate::held::{Held, on_scheduler};
 use crate::latest::{LatestRows, Lookup};
+use crate::loaded::{SetAndLoads, set_and_loads};
 use crate::look::{CLook, CRow, NO_LOOK, look_at, row_numbers};
 use crate::status;
 use admission::admit;
-use load_sum::{LoadFault, sum_loads};
 use mc_model::Row;
 use mc_task::{Rule, TaskSet};
 use mode_core::Core;
@@ -27,11 +27,6 @@ use std::alloc::Global;
 
 // What an event of no scheduler returns.
 const NO_SCHEDULER: (u32, CAnswer) = (status::CLOSED, NOTHING);
-
-const OUT_OF_MEMORY: NoSet = NoSet {
-    status: status::MEMORY,
-    task: 0,
-};
 
 /// Opens a scheduler of the tasks under the rule of the published test, with this capacity in rows.
 #[unsafe(no_mangle)]
@@ -42,10 +37,16 @@ pub extern "C" fn edfvd_raw_scheduler_open(
     places: u32,
     task: &mut u32,
 ) -> u32
-    ensures open { result ≡ 0 → scheduler.old.block.held ≡ None }
+    // The handle holds a scheduler or a monitor already.
+    ensures open { (result ≡ 13) ↔ IsSome scheduler.old.block.held }
     ensures made { result ≡ 0 → IsOpening given.now places (core_of scheduler.new.block.held) }
     ensures kind { result ≡ 0 → is_endless scheduler.new.block.held ≡ false }
-    ensures refused { result ≢ 0 → scheduler.new.block.held ≡ scheduler.old.block.held }
+    ensures many { scheduler.old.block.held ≡ None → 128 < length given.now → (result ≡ 2) × (task.new ≡ 0) }
+    ensures refused { length given.now ≤ 128 → result ≢ 0 → result ≢ 8 → result ≢ 9 → result ≢ 13 → IsRefused given.now result task.new }
+    ensures not_admitted { result ≡ 8 → AreNotAdmitted given.now }
+    ensures task { (result ≡ 0) ⊎ (8 ≤ result) → task.new ≡ 0 }
+    ensures only { (result ≤ 9) ⊎ (result ≡ 13) }
+    ensures same { result ≢ 0 → scheduler.new.block.held ≡ scheduler.old.block.held }
 {
     *task = 0;
     if scheduler.is_open() {
@@ -67,7 +68,12 @@ fn opened(alloc: Global, given: &[CTask], places: u32) -> Result<Box<Held>, NoSe
     ensures made { IfOk result (λ held. IsOpening given.now places (core_of (Some held.value))) }
     ensures some { IfOk result (λ held. IsSome (core_of (Some held.value))) }
     ensures kind { IfOk result (λ held. is_endless (Some held.value) ≡ false) }
-    ensures status { IfErr result (λ no. no.status ≢ 0) }
+    ensures many { IfErr result (λ no. 128 < length given.now → (no.status ≡ 2) × (no.task ≡ 0)) }
+    ensures few { IfOk result (λ held. length given.now ≤ 128) }
+    ensures refused { IfErr result (λ no. length given.now ≤ 128 → no.status ≢ 8 → no.status ≢ 9 → IsRefused given.now no.status no.task) }
+    ensures not_admitted { IfErr result (λ no. no.status ≡ 8 → AreNotAdmitted given.now) }
+    ensures task { IfErr result (λ no. 8 ≤ no.status → no.task ≡ 0) }
+    ensures status { IfErr result (λ no. (1 ≤ no.status) × (no.status ≤ 9)) }
 {
     let (set, rule) = admitted(alloc, given)?;
     let Ok(core) = Core::new(alloc, set, rule, places as usize) else {
@@ -81,22 +87,18 @@ fn opened(alloc: Global, given: &[CTask], places: u32) -> Result<Box<Held>, NoSe
 
 // The set of the tasks, and the rule of the published test.
 fn admitted(alloc: Global, given: &[CTask]) -> Result<(TaskSet, Rule), NoSet>
-    ensures tasks { IfOk result (λ found. AreOf given.now found.0.tasks) }
+    ensures tasks { IfOk result (λ found. AreInRange given.now found.0.tasks) }
     ensures published { IfOk result (λ found. published found.0.tasks ≡ Some found.1) }
     ensures fits { IfOk result (λ found. Fits found.1) }
     ensures holds { IfOk result (λ found. Holds found.0.tasks found.1) }
-    ensures status { IfErr result (λ no. no.status ≢ 0) }
+    ensures many { IfErr result (λ no. 128 < length given.now → (no.status ≡ 2) × (no.task ≡ 0)) }
+    ensures few { IfOk result (λ found. length given.now ≤ 128) }
+    ensures refused { IfErr result (λ no. length given.now ≤ 128 → no.status ≢ 8 → no.status ≢ 9 → IsRefused given.now no.status no.task) }
+    ensures not_admitted { IfErr result (λ no. no.status ≡ 8 → AreNotAdmitted given.now) }
+    ensures task { IfErr result (λ no. 8 ≤ no.status → no.task ≡ 0) }
+    ensures status { IfErr result (λ no. (1 ≤ no.status) × (no.status ≤ 9)) }
 {
-    let set = set_of(alloc, given)?;
-    let loads = match sum_loads(&set) {
-        Ok(loads) => loads,
-        Err(LoadFault::Range { task }) => {
-            return Err(NoSet {
-                status: status::PERIODS,
-                task: task.0,
-            });
-        }
-    };
+    let SetAndLoads { set, loads } = set_and_loads(alloc, given)?;
     match admit(&loads) {
         Some(rule) => Ok((set, rule)),
         None => Err(NoSet {
@@ -115,10 +117,16 @@ pub extern "C" fn edfvd_raw_scheduler_open_endless(
     given: &[CTask],
     task: &mut u32,
 ) -> u32
-    ensures open { result ≡ 0 → scheduler.old.block.held ≡ None }
+    // The handle holds a scheduler or a monitor already.
+    ensures open { (result ≡ 13) ↔ IsSome scheduler.old.block.held }
     ensures made { result ≡ 0 → IsOpening given.now (2 ^ 62) (core_of scheduler.new.block.held) }
     ensures kind { result ≡ 0 → is_endless scheduler.new.block.held ≡ true }
-    ensures refused { result ≢ 0 → scheduler.new.block.held ≡ scheduler.old.block.held }
+    ensures many { scheduler.old.block.held ≡ None → 128 < length given.now → (result ≡ 2) × (task.new ≡ 0) }
+    ensures refused { length given.now ≤ 128 → result ≢ 0 → result ≢ 8 → result ≢ 9 → result ≢ 13 → IsRefused given.now result task.new }
+    ensures not_admitted { result ≡ 8 → AreNotAdmitted given.now }
+    ensures task { (result ≡ 0) ⊎ (8 ≤ result) → task.new ≡ 0 }
+    ensures only { (result ≤ 9) ⊎ (result ≡ 13) }
+    ensures same { result ≢ 0 → scheduler.new.block.held ≡ scheduler.old.block.held }
 {
     *task = 0;
     if scheduler.is_open() {
@@ -140,7 +148,12 @@ fn opened_endless(alloc: Global, given: &[CTask]) -> Result<Box<Held>, NoSet>
     ensures made { IfOk result (λ held. IsOpening given.now (2 ^ 62) (core_of (Some held.value))) }
     ensures some { IfOk result (λ held. IsSome (core_of (Some held.value))) }
     ensures kind { IfOk result (λ held. is_endless (Some held.value) ≡ true) }
-    ensures status { IfErr result (λ no. no.status ≢ 0) }
+    ensures many { IfErr result (λ no. 128 < length given.now → (no.status ≡ 2) × (no.task ≡ 0)) }
+    ensures few { IfOk result (λ held. length given.now ≤ 128) }
+    ensures refused { IfErr result (λ no. length given.now ≤ 128 → no.status ≢ 8 → no.status ≢ 9 → IsRefused given.now no.status no.task) }
+    ensures not_admitted { IfErr result (λ no. no.status ≡ 8 → AreNotAdmitted given.now) }
+    ensures task { IfErr result (λ no. 8 ≤ no.status → no.task ≡ 0) }
+    ensures status { IfErr result (λ no. (1 ≤ no.status) × (no.status ≤ 9)) }
 {
     let (set, rule) = admitted(alloc, given)?;
     let Ok(rows) = LatestRows::new(alloc) else {

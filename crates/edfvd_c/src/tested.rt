@@ -1,13 +1,14 @@
 //! A task set tested.
-ghost use Rattle.std.specs.Prelude.{◌≡◌, ◌≢◌, ◌^◌, ◌/◌, ◌%◌, IfOk, IfErr};
-ghost use Rattle.load_sum.specs.Belong.{BelongTo};
+ghost use Rattle.std.specs.Prelude.{◌≡◌, ◌≢◌, ◌<◌, ◌≤◌, ◌^◌, ◌/◌, ◌%◌, length};
+ghost use Rattle.edfvd_c.specs.Refused.{IsRefused};
 ghost use Rattle.edfvd_c.specs.Tested as spec;
 
-use crate::given::{CTask, NoSet, set_of};
+use crate::given::CTask;
+use crate::loaded::{SetAndLoads, set_and_loads};
 use crate::status;
 use admission::admit;
-use load_sum::{LoadFault, Loads, sum_loads};
-use mc_task::{Rule, TaskSet};
+use load_sum::Loads;
+use mc_task::Rule;
 use std::alloc::Global;
 
 /// The loads over the least common multiple of the periods, each in two halves, and the rule: 0 for none, 1 for plain EDF,
@@ -42,14 +43,21 @@ const UNTESTED: CTest = CTest {
     high_high: 0,
 };
 
-/// Tests the tasks by the published test.
+/// Tests the tasks by the published test. More than 128 tasks are status 2. Any other refusal has the status of its cause, and
+/// `task` is the task that it is about, or 0.
 #[unsafe(no_mangle)]
 pub extern "C" fn edfvd_raw_check(alloc: Global, given: &[CTask], tested: &mut CTest) -> u32
-    ensures { result ≡ 0 → spec.IsTested given.now tested.new }
+    ensures tested { result ≡ 0 → spec.IsTested given.now tested.new }
+    ensures many { 128 < length given.now → (result ≡ 2) × (tested.new ≡ spec.refused_at 0) }
+    ensures refused { length given.now ≤ 128 → result ≢ 0 → result ≢ 9 → IsRefused given.now result tested.new.task }
+    ensures zeros { result ≢ 0 → tested.new ≡ spec.refused_at tested.new.task }
+    ensures memory { result ≡ 9 → tested.new.task ≡ 0 }
+    // The set is tested, or its status is that of a refusal or of a failed allocation.
+    ensures only { (result ≤ 9) × (result ≢ 8) }
 {
-    match test(alloc, given) {
-        Ok(found) => {
-            *tested = found;
+    match set_and_loads(alloc, given) {
+        Ok(SetAndLoads { loads, .. }) => {
+            *tested = in_numbers(loads, admit(&loads));
             status::OK
         }
         Err(no) => {
@@ -62,32 +70,10 @@ pub extern "C" fn edfvd_raw_check(alloc: Global, given: &[CTask], tested: &mut C
     }
 }
 
-fn test(alloc: Global, given: &[CTask]) -> Result<CTest, NoSet>
-    ensures tested { IfOk result (spec.IsTested given.now) }
-    ensures status { IfErr result (λ no. no.status ≢ 0) }
-{
-    let set = set_of(alloc, given)?;
-    let loads = loads_of(&set)?;
-    Ok(in_numbers(loads, admit(&loads)))
-}
-
-/// The loads of a set.
-pub fn loads_of(set: &TaskSet) -> Result<Loads, NoSet>
-    ensures loads { IfOk result (BelongTo set.now.tasks) }
-    ensures status { IfErr result (λ no. (no.status ≢ 0) × (no.status ≢ 28)) }
-{
-    match sum_loads(set) {
-        Ok(loads) => Ok(loads),
-        Err(LoadFault::Range { task }) => Err(NoSet {
-            status: status::PERIODS,
-            task: task.0,
-        }),
-    }
-}
-
 fn in_numbers(loads: Loads, rule: Option<Rule>) -> CTest
     ensures loads { spec.loads_of result ≡ loads }
     ensures rule { spec.HasRule rule result }
+    ensures task { result.task ≡ 0 }
 {
     let (number, p, q) = match rule {
         None => (0, 0, 0),

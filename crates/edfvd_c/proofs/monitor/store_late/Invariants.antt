@@ -1,7 +1,10 @@
-use Rattle.std.proofs.Common.{◌≡◌, map}
-use Rattle.std.specs.Prelude.{take}
+use Rattle.std.proofs.Common.{◌≡◌, ◌≤◌, ℕ, map}
+use Rattle.std.specs.Prelude.{take, drop}
 use Rattle.edfvd_c.specs.Monitor.{late_job}
 use Rattle.edfvd_c.proofs.monitor.store_late.Given as goal
 
 abbrev pub invariant-loop-place : goal.invariant-loop-place
-invariant-loop-place l = take l.place l.jobs ≡ map late_job (take l.place l.turned.items)
+invariant-loop-place l = record {
+  front : take l.place l.jobs ≡ map late_job (take l.place l.turned.items);
+  back : (k : ℕ) → l.place ≤ k → drop k l.jobs ≡ drop k l.fn.jobs;
+}
