@@ -2,9 +2,10 @@
 """Compares what C declares with what the proved libraries export: each call, each struct and each number.
 
 No compiler sees both sides: where they differ, a call does what nobody proved. So this script reads the sources of
-crates/edfvd_c and crates/edfvd_ask_c, and edfvd.h, edfvd.c and edfvd_ask.c, and reports each difference. The statuses stand in
-edfvd.h: the proved sources, the words of edfvd_word and Python's Status must have them as they are there. With the word `offsets`
-it writes C text instead, which a compiler refuses unless each struct of edfvd.h is laid out as the library's.
+crates/edfvd_c and crates/edfvd_ask_c, and edfvd.h, edfvd.c and edfvd_ask.c, and reports each difference, also of a limit that a
+sentence of edfvd.h states. The statuses stand in edfvd.h: the proved sources, the words of edfvd_word and Python's Status must
+have them as they are there. With the word `offsets` it writes C text instead, which a compiler refuses unless each struct of
+edfvd.h is laid out as the library's.
 
 usage: declared.py [offsets]
 """
@@ -133,13 +134,47 @@ def numbers(text: str) -> dict[str, dict[str, str]]:
         return re.sub(r"(?<=[a-z])(?=[A-Z])", "_", name).upper()
 
     constants = dict(re.findall(r"^(?:pub )?const (\w+): u32 = (\d+);", text, re.M))
+    rules = re.findall(r"^        (?:None|Some\(Rule::(\w+)[^)]*\)) => \((\d), ", text, re.M)
     events = {"KEPT", "DROPPED", "HELD", "GIVEN", "MORE", "DONE", "STOP", "OVER", "IDLE"}
     whys = {f"WHY_{shouted(name)}": number for name, number in re.findall(r"Why::(\w+) => (\d+),", text)}
     return {
         "status": {name: number for name, number in constants.items() if name not in events},
         "event": {name: number for name, number in constants.items() if name in events},
         "why": whys,
+        "level": {shouted(name): number for number, name in re.findall(r"^        (\d) => Level::(\w+),", text, re.M)},
+        "rule": {f"RULE_{shouted(name or 'None')}": number for name, number in rules},
     }
+
+
+# What bounds a call, as its source and the sentence of edfvd.h have it.
+LIMITS = {
+    "tasks of a set": (r"given\.len\(\) > (\d+) \{\s+return Err\(NoSet", r"the set has more than (\d+) tasks"),
+    "tasks for edfvd_demand": (r"fn test_demand.*?given\.len\(\) > (\d+)", r"an array of 1 to (\d+) elements"),
+    "processors": (r"\(1\.\.=(\d+)\)\.contains\(&processors\)", r"which is 1 to (\d+), by first fit"),
+    "random sets": (r"\(1\.\.=([\d_]+)\)\.contains\(&sets\)", r"`sets` is 1 to (\d+)"),
+    "least tasks of a random set": (r"\((\d+)\.\.=\d+\)\.contains\(&tasks\)", r"`tasks` (\d+) to \d+"),
+    "most tasks of a random set": (r"\(\d+\.\.=(\d+)\)\.contains\(&tasks\)", r"`tasks` \d+ to (\d+)"),
+    "rows to judge": (r"given\.len\(\) > ([\d_]+) \{\s+return Err\(status::FULL", r"the oldest first, at most (\d+)"),
+    "a scale": (r"q > 1 << (\d+)", r"1 <= p <= q <= 2\^(\d+)"),
+    "rows that are kept": (r"const KEPT: usize = (\d+);", r"it keeps the latest (\d+) rows alone"),
+    "rows without an end": (r"rule, 1 << (\d+), rows\)", r"Events are EDFVD_FULL after 2\^(\d+) rows"),
+    "words of a command": (r"MOST_WORDS = (\d+)", r"more than (five) words"),
+}
+
+
+def limit_faults(sources: str, header: str) -> list[str]:
+    """The limits that are not found once on each side, or differ, and the arrays of a fixed length that do."""
+    faults = []
+    for name, (ours, theirs) in LIMITS.items():
+        found = [sorted(set(re.findall(pattern, text, re.S))) for pattern, text in ((ours, sources), (theirs, header))]
+        plain = [[number.replace("_", "").replace("five", "5") for number in numbers] for numbers in found]
+        if plain[0] != plain[1] or len(plain[0]) != 1:
+            faults.append(f"limit of {name}: {plain[0]} in the sources, {plain[1]} in edfvd.h")
+    lengths = [sorted(re.findall(r"(\w+): &mut \[\w+; (\d+)\]", sources)),
+               sorted(re.findall(r"uint\d+_t (\w+)\[(\d+)\]", header))]
+    if lengths[0] != lengths[1] or not lengths[0]:
+        faults.append(f"arrays: {lengths[0]} in Rattle, {lengths[1]} in C")
+    return faults
 
 
 def status_faults(header: str, guards: str, python: str) -> list[str]:
@@ -186,11 +221,12 @@ def main() -> int:
     of_header = c_structs(header)
     faults += [f"{name}: {pairs} in Rattle, {of_header.get(name)} in C" for name, pairs in fields.items() if of_header.get(name) != pairs]
     faults += handle_faults(rattle, guards + header)
-    words = dict(re.findall(r"\bEDFVD_(\w+) = (\d+)", header))
+    words = dict(re.findall(r"\bEDFVD_(\w+) = (\d+)", header)) | dict(re.findall(r"#define EDFVD_(\w+) (\d+)u", header))
     known = numbers(rattle)
     faults += [f"{kind} {name}: {number} in Rattle, {words.get(name)} in C"
                for kind, names in known.items() for name, number in names.items() if words.get(name) != number]
     faults += status_faults(header, guards, (HERE.parent / "python" / "edfvd" / "_errors.py").read_text())
+    faults += limit_faults(rattle + guards, re.sub(r"\s+\*? *", " ", header))
     if not ours or len(fields) != len(STRUCTS) or not all(known.values()):
         faults.append("an export, a struct or a number was not found")
     for fault in faults:

@@ -15,10 +15,10 @@
  *     EDFVD_MOVED, EDFVD_BUSY    any call with a scheduler or monitor; nothing is stored
  *     EDFVD_CLOSED               any call with a scheduler or monitor, except the one that opens it
  *
- * What you keep. Each pointer leads to as many elements as you say. Memory that a call writes does not overlap anything else
- * that you pass to it. No call is made from a signal handler, nor in the forked child of a process with threads. A call keeps
- * none of your pointers, except that an open edfvd_scheduler or edfvd_monitor stays where it is. Different ones may be used by
- * different threads at once.
+ * What you keep. Each pointer leads to as many elements as you say, and is aligned as C aligns their type. Memory that a call
+ * writes does not overlap anything else that you pass to it. No call is made from a signal handler, nor in the forked child of
+ * a process with threads. A call keeps none of your pointers, except that an open edfvd_scheduler or edfvd_monitor stays where
+ * it is. Several threads may be in calls at once: in calls without a scheduler or monitor, and in calls with different ones.
  *
  * Each call stands on a function of the proved libraries in crates/edfvd_c and crates/edfvd_ask_c. edfvd.c and edfvd_ask.c,
  * which are not proved, stand between: they refuse null pointers, a scheduler or monitor that was copied or moved while it was
@@ -98,11 +98,18 @@ typedef struct edfvd_task {
     uint32_t high;   /* ticks: the budget in high mode; a low task has its one budget here again */
 } edfvd_task;
 
+/* The order of jobs: by their deadlines, or by virtual deadlines while the mode is low. */
+typedef enum edfvd_rule {
+    EDFVD_RULE_NONE = 0,   /* the set is not admitted */
+    EDFVD_RULE_PLAIN = 1,  /* plain EDF */
+    EDFVD_RULE_VIRTUAL = 2 /* EDF-VD with a scale */
+} edfvd_rule;
+
 /* What the published test says of a set. Loads are fractions over lcm, and each numerator is top * 2^64 + rest. */
 typedef struct edfvd_test {
-    uint32_t rule;                          /* 0 not admitted, 1 plain EDF, 2 EDF-VD with the scale p/q */
+    uint32_t rule;                          /* an edfvd_rule */
     uint32_t task;                          /* the task that a refusal is about, or 0 */
-    uint64_t p, q;                          /* the scale in lowest terms, under rule 2 */
+    uint64_t p, q;                          /* the scale p/q in lowest terms, under EDFVD_RULE_VIRTUAL; otherwise 0 */
     uint64_t lcm;                           /* the hyperperiod: the least common multiple of the periods, in ticks */
     uint64_t low_low_top, low_low;          /* U_LL: the low tasks with their low budgets */
     uint64_t high_low_top, high_low;        /* U_HL: the high tasks with their low budgets */
@@ -110,8 +117,8 @@ typedef struct edfvd_test {
 } edfvd_test;
 
 /*
- * Tests a set by the published test (Baruah et al., ECRTS 2012). A set that is not admitted is EDFVD_OK with rule 0. With any
- * other status `test` holds zeros and the task.
+ * Tests a set by the published test (Baruah et al., ECRTS 2012). A set that is not admitted is EDFVD_OK with EDFVD_RULE_NONE.
+ * With any other status `test` holds zeros and the task.
  *
  * Statuses: the refusals of a set, EDFVD_PERIODS, EDFVD_MEMORY.
  */
@@ -151,7 +158,7 @@ edfvd_status edfvd_partition(const edfvd_task *tasks, size_t count, uint32_t pro
 /*
  * Of `sets` random sets of `tasks` tasks, those generated from `number`, number + 1 and so on, counts how many have a stretch
  * of at least 100 percent (counts[0]), 110 percent (counts[1]) and so on to 200 percent (counts[10]). `sets` is 1 to 10000,
- * `tasks` 2 to 32, and number + sets is below 2^64. `counts` is written only with EDFVD_OK. The call takes no memory.
+ * `tasks` 2 to 32, and number + sets is below 2^64. `counts` is written only with EDFVD_OK.
  *
  * Status: EDFVD_ARGUMENT.
  */
@@ -317,9 +324,9 @@ typedef struct edfvd_row {
 /*
  * Opens a scheduler of the set under the rule that the published test gives it. It keeps all its rows. A place is used by each
  * row, each held release and the tick in progress; after `places` of them events are EDFVD_FULL. All memory is taken here,
- * some 16 bytes a place, and no event takes more. A system may promise memory that it does not have, as Linux does: EDFVD_OK
- * then means that malloc promised all places, and a process that uses more than there is may be ended by the system. `task`
- * gets the task of a refusal, or 0, and may be null.
+ * some 16 bytes a place, and no other call with it is EDFVD_MEMORY. A system may promise memory that it does not have, as
+ * Linux does: EDFVD_OK then means that malloc promised all places, and a process that uses more than there is may be ended by
+ * the system. `task` gets the task of a refusal, or 0, and may be null.
  *
  * Statuses: EDFVD_OPEN, the refusals of a set, EDFVD_PERIODS, EDFVD_NOT_ADMITTED, EDFVD_MEMORY.
  */
@@ -330,6 +337,10 @@ edfvd_status edfvd_scheduler_open(edfvd_scheduler *s, const edfvd_task *tasks, s
  * the number of tasks alone. Each of the four events below makes at most one row more than there are tasks, so at most 129: if
  * you read the rows after each event, from the `rows` of the edfvd_scheduler_look before it on, you get them all. Every other
  * call with it is that of a plain scheduler. Events are EDFVD_FULL after 2^62 rows.
+ *
+ * Releases are counted: a task's release after 2^32 - 1 of them is EDFVD_FULL, which with 1,000 releases a second takes 49
+ * days. Before that, when no job is pending, close the scheduler and open it again. This forgets the ticks, the rows and the counts,
+ * which begin anew, and for each task the first tick at which it may release again: that gap is then yours to keep.
  *
  * Statuses: those of edfvd_scheduler_open.
  */
@@ -352,8 +363,21 @@ edfvd_status edfvd_scheduler_open_endless_scaled(edfvd_scheduler *s, const edfvd
 edfvd_status edfvd_scheduler_close(edfvd_scheduler *s);
 
 /*
+ * Your part of the loop. The scheduler says which job has the next tick, and you run it and report. For each tick:
+ *
+ *   1. Release each task whose next job arrives. The job of a release that is EDFVD_DROPPED never runs. One that is EDFVD_HELD
+ *      is kept or dropped with the outcome of the tick in progress, and its row says which.
+ *   2. Look. If no job is chosen, report an idle tick. Otherwise grant the tick to the chosen task, and let its job run for it.
+ *   3. Report the outcome of that tick, and do what the answer says:
+ *
+ *          EDFVD_MORE   nothing: the job may be chosen again
+ *          EDFVD_DONE   nothing: the job has ended, and gets no further tick
+ *          EDFVD_STOP   stop the job, which is not done: it has used its budget, and gets no further tick
+ *          EDFVD_OVER   stop every pending job of a low task: none of them gets a further tick. The job of the tick itself
+ *                       goes on, and low tasks release no job that runs until a tick is idle
+ *
  * The four events. `answer` gets what came of the event, or after a refusal the numbers that its comment names and otherwise
- * zeros; it may be null. No event takes memory.
+ * zeros; it may be null. No event is EDFVD_MEMORY.
  */
 
 /*
@@ -555,7 +579,7 @@ edfvd_status edfvd_monitor_observe_all(edfvd_monitor *m, const edfvd_row *rows, 
 
 /*
  * Stores in `unfit` what edfvd_monitor_observe would store for these rows, and the monitor does not take them: a dispatcher can
- * ask before it acts. It takes no memory.
+ * ask before it acts.
  *
  * Statuses: those of edfvd_monitor_observe, except EDFVD_MEMORY.
  */

@@ -21,7 +21,7 @@ int main(void) {
     printf("U_LL %" PRIu64 "/%" PRIu64 "\n", test.low_low, test.lcm);
     printf("U_HL %" PRIu64 "/%" PRIu64 "\n", test.high_low, test.lcm);
     printf("U_HH %" PRIu64 "/%" PRIu64 "\n", test.high_high, test.lcm);
-    if (test.rule == 2) printf("rule virtual\nx %" PRIu64 "/%" PRIu64 "\n", test.p, test.q);
+    if (test.rule == EDFVD_RULE_VIRTUAL) printf("rule virtual\nx %" PRIu64 "/%" PRIu64 "\n", test.p, test.q);
 
     edfvd_scheduler s = EDFVD_NONE;
     status = edfvd_scheduler_open(&s, tasks, 2, 100, NULL);

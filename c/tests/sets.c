@@ -60,12 +60,12 @@ static void check_stores_the_test(void) {
     } tested[] = {
         {{{EDFVD_HIGH, 10, 2, 6}, {EDFVD_LOW, 10, 5, 5}},
          2,
-         {.rule = 2, .p = 2, .q = 5, .lcm = 10, .low_low = 5, .high_low = 2, .high_high = 6}},
-        {{{EDFVD_LOW, 7, 7, 7}}, 1, {.rule = 1, .lcm = 7, .low_low = 7}},
-        {{{EDFVD_LOW, 7, 8, 8}}, 1, {.rule = 0, .lcm = 7, .low_low = 8}},
+         {.rule = EDFVD_RULE_VIRTUAL, .p = 2, .q = 5, .lcm = 10, .low_low = 5, .high_low = 2, .high_high = 6}},
+        {{{EDFVD_LOW, 7, 7, 7}}, 1, {.rule = EDFVD_RULE_PLAIN, .lcm = 7, .low_low = 7}},
+        {{{EDFVD_LOW, 7, 8, 8}}, 1, {.rule = EDFVD_RULE_NONE, .lcm = 7, .low_low = 8}},
         {{{EDFVD_LOW, 2147483648u, UINT32_MAX, UINT32_MAX}, {EDFVD_HIGH, 536870911u, UINT32_MAX, UINT32_MAX}},
          2,
-         {.rule = 0,
+         {.rule = EDFVD_RULE_NONE,
           .lcm = (UINT64_C(1) << 60) - (UINT64_C(1) << 31),
           .low_low = UINT64_C(4294967295) * 536870911u,
           .high_low = UINT64_C(4294967295) << 31,
@@ -86,7 +86,7 @@ static void check_stores_both_halves_of_a_load(void) {
         many[10 + place] = (edfvd_task){EDFVD_HIGH, 2147483648u, UINT32_MAX, UINT32_MAX};
     }
     many[20] = (edfvd_task){EDFVD_LOW, 536870911u, 1, 1};
-    stores(many, 21, (edfvd_test){.rule = 0,
+    stores(many, 21, (edfvd_test){.rule = EDFVD_RULE_NONE,
                                   .lcm = (UINT64_C(1) << 60) - (UINT64_C(1) << 31),
                                   .low_low_top = 1,
                                   .low_low = rest + (UINT64_C(1) << 31),
@@ -163,16 +163,16 @@ static void stretch_stores_the_percentage(void) {
     stretch_stores(small, 1, 1000);
     edfvd_test test;
     RETURNS(EDFVD_OK, edfvd_check(none_left, 2, &test));
-    IS(0, test.rule);
+    IS(EDFVD_RULE_NONE, test.rule);
     /* What the header says of this percentage: with each high budget the low one plain EDF does, and at the next percentage none. */
     edfvd_task changed[] = {none_left[0], none_left[1]};
     changed[0].high = changed[0].low;
     RETURNS(EDFVD_OK, edfvd_check(changed, 2, &test));
-    IS(1, test.rule);
+    IS(EDFVD_RULE_PLAIN, test.rule);
     IS(STATED_LEAST_PERCENT + 1, STATED_NEXT_PERCENT);
     changed[0].high = none_left[0].high * STATED_NEXT_PERCENT / 100;
     RETURNS(EDFVD_OK, edfvd_check(changed, 2, &test));
-    IS(0, test.rule);
+    IS(EDFVD_RULE_NONE, test.rule);
 }
 
 static void stretch_refuses(void) {

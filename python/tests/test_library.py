@@ -11,7 +11,7 @@ import unittest
 from pathlib import Path
 from typing import Any, List
 
-from edfvd import Event, Status, Why, _library
+from edfvd import Event, Rule, Status, Why, _library
 
 HEADER = Path(__file__).resolve().parents[2] / "c" / "edfvd.h"
 
@@ -79,10 +79,10 @@ class Declarations(unittest.TestCase):
 
     def test_numbers(self) -> None:
         numbers = {name: int(number) for name, number in re.findall(r"\bEDFVD_(\w+) = (\d+)", self.header)}
-        for kind, prefix in ((Status, ""), (Event, ""), (Why, "WHY_")):
+        for kind, prefix in ((Status, ""), (Event, ""), (Why, "WHY_"), (Rule, "RULE_")):
             for member in kind:
                 self.assertEqual(numbers[prefix + member.name], member.value)
-        self.assertEqual(len(numbers), len(Status) + len(Event) + len(Why) + 2)  # and EDFVD_OK, EDFVD_FITS
+        self.assertEqual(len(numbers), len(Status) + len(Event) + len(Why) + len(Rule) + 3)  # and OK, FITS, RULE_NONE
 
 
 class OtherLibraries(unittest.TestCase):
