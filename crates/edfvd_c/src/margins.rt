@@ -2,9 +2,8 @@
 ghost use Rattle.std.specs.Prelude.{◌≡◌, ◌≢◌, ◌<◌, ◌≤◌, ◌^◌, length};
 ghost use Rattle.tick_frac.specs.Fraction.{IsLowest};
 ghost use Rattle.load_sum.specs.Belong.{BelongTo};
-ghost use Rattle.edfvd_c.specs.Given.{AreOf};
 ghost use Rattle.edfvd_c.specs.Margins as spec;
-ghost use Rattle.edfvd_c.specs.Refused.{IsRefused};
+ghost use Rattle.edfvd_c.specs.Refused.{AreInRange, IsRefused};
 
 use crate::given::CTask;
 use crate::loaded::{SetAndLoads, set_and_loads};
@@ -65,7 +64,7 @@ pub extern "C" fn edfvd_raw_sensitivity(
 }
 
 fn store_greatest(loaded: &SetAndLoads, given: &[CTask], budgets: &mut [CBudgets]) -> u32
-    requires numbers { AreOf given.now loaded.now.set.tasks }
+    requires tasks { AreInRange given.now loaded.now.set.tasks }
     requires loads { BelongTo loaded.now.set.tasks loaded.now.loads }
     ensures greatest { result ≡ 0 → spec.AreGreatest given.now budgets.new }
     ensures argument { result ≢ 0 → (result ≡ 43) × (length budgets.old ≢ length given.now) × (budgets.new ≡ budgets.old) }
