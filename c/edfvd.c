@@ -215,7 +215,7 @@ edfvd_status edfvd_scheduler_open_scaled(edfvd_scheduler *s, const edfvd_task *t
     edfvd_handle *h = of_scheduler(s);
     edfvd_status entered = enter(h);
     if (entered != EDFVD_OK) return entered;
-    uint32_t status = edfvd_raw_scheduler_open_scaled(raw(h), some(tasks, count), count, numerator(p, q), q, places,
+    uint32_t status = edfvd_raw_scheduler_open_scaled(raw(h), some(tasks, count), count, p, q, places,
                                                       task == NULL ? &unread : task);
     return leave_opened(h, status);
 }
@@ -227,7 +227,7 @@ edfvd_status edfvd_scheduler_open_endless_scaled(edfvd_scheduler *s, const edfvd
     edfvd_handle *h = of_scheduler(s);
     edfvd_status entered = enter(h);
     if (entered != EDFVD_OK) return entered;
-    uint32_t status = edfvd_raw_scheduler_open_endless_scaled(raw(h), some(tasks, count), count, numerator(p, q), q,
+    uint32_t status = edfvd_raw_scheduler_open_endless_scaled(raw(h), some(tasks, count), count, p, q,
                                                               task == NULL ? &unread : task);
     return leave_opened(h, status);
 }

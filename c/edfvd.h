@@ -35,7 +35,7 @@
 extern "C" {
 #endif
 
-#define EDFVD_VERSION 1
+#define EDFVD_VERSION 2
 
 /* The EDFVD_VERSION of the header that the library was built with, for callers that load the library when they run. */
 uint32_t edfvd_version(void);

@@ -12,7 +12,7 @@ from pathlib import Path
 from typing import Any, Callable, Dict, List, Tuple
 
 # The version of edfvd.h that this package is written for, which must be that of the library.
-VERSION = 1
+VERSION = 2
 
 u32 = ctypes.c_uint32
 u64 = ctypes.c_uint64

@@ -10,9 +10,9 @@ use Rattle.mode_core.specs.Events.{empty_state}
 use Rattle.edfvd_c.specs.declared.given.CTask.{CTask}
 use Rattle.edfvd_c.specs.Given.{AreOf}
 
--- p and q are neither 0 and any number, for the rule of the published test, nor a scale with 1 ≤ p ≤ q ≤ 2^60
+-- p and q are neither 0 and 0, for the rule of the published test, nor a scale with 1 ≤ p ≤ q ≤ 2^60
 abbrev pub is_no_scale : ℕ → ℕ → Bool
-is_no_scale p q = not (p == 0) && (nat_lt q p || nat_lt (2 ^ 60) q)
+is_no_scale p q = nat_lt q p || (nat_lt (2 ^ 60) q || (p == 0 && not (q == 0)))
 
 -- the rule for p and q: that of the published test where p is 0, and otherwise EDF-VD with the scale p/q, which holds
 abbrev pub IsCertified : ℕ → ℕ → List Task → Rule → Type 0

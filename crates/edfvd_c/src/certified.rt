@@ -148,7 +148,7 @@ fn certified(alloc: Global, given: &[CTask], p: u64, q: u64) -> Result<(TaskSet,
     ensures not_admitted { IfErr result (λ no. no.status ≡ 8 → AreUncertified given.now p q) }
     ensures status { IfErr result (λ no. no.status ≢ 0) }
 {
-    if p != 0 && (q < p || q > 1 << 60) {
+    if q < p || q > 1 << 60 || (p == 0 && q != 0) {
         return Err(NoSet {
             status: status::ARGUMENT,
             task: 0,
