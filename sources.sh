@@ -2,10 +2,12 @@
 # Sourced by scripts that need to know whether a file was built from the sources that are here, as the wrapper edfvd does. They set
 # $here to the repository's folder; FILE is a path below that folder. Beside a built FILE stands FILE.sources: one line with the digest
 # of the sources that it was built from, and the sha256 of FILE itself. So a file that something else built later is not accepted.
-# The programs and the libraries in prebuilt come with the repository: prebuilt/SOURCES has a line with the two digests for each of them,
-# and lines with the toolchain and the machine. The NAME of one of them is its path in prebuilt: those for 64-bit ARM are in aarch64.
+# The programs, the libraries and the page in prebuilt come with the repository: prebuilt/SOURCES has a line with the two digests for
+# each of them, and lines with the toolchain and the machine. The NAME of one of them is its path in prebuilt: those for 64-bit ARM are
+# in aarch64. The page is one for all machines.
 built_program=crates/edfvd_program/out/edfvd_program
 built_library=c/out/libedfvd.so
+built_page=web/out/edfvd.html
 
 # crate_lines CRATE..: the lines that crates.txt has for these crates and for the crates of this repository below them
 crate_lines() {
@@ -86,26 +88,31 @@ is_current() {
     return 0
 }
 
-# crates_of NAME: the crates that the program or the library is made of, without those below them
+# crates_of NAME: the crates that the program, the library or the page edfvd.html is made of, without those below them
 crates_of() {
     case $1 in
     edfvd | */edfvd) echo edfvd_program ;;
+    edfvd.html) echo edfvd_ask_c ;;
     *) echo edfvd_c edfvd_ask_c ;;
     esac
 }
 
-# guards NAME: the files besides crates that the program or the library is made of. A change of c/build.sh is rarely one of the
-# library, but nobody has to decide which.
+# guards NAME: the files besides crates that the program, the library or the page is made of. A change of c/build.sh is rarely one of
+# the library, but nobody has to decide which.
 guards() (
     cd "$here" || exit
     case $1 in
     edfvd) ;;
     */edfvd) ls c/heap.c c/machine.sh c/program.sh c/system.c ;;
+    edfvd.html)
+        ls web/build.sh web/*.py web/heap.c web/index.html web/style.css web/src/*.js
+        grep -o '[a-z]*/[a-z_]*\.\(toml\|csv\)' web/examples.py | sed 's|^|examples/|' | LC_ALL=C sort -u
+        ;;
     *) ls c/*.c c/*.h c/build.sh c/machine.sh ;;
     esac
 )
 
-# digest_of NAME: a digest of the sources of the program or the library
+# digest_of NAME: a digest of the sources of the program, the library or the page
 digest_of() {
     # shellcheck disable=SC2046
     set -- "$1" "$(sources_digest $(crates_of "$1"))"
@@ -219,4 +226,13 @@ choose_library() {
     prebuilt=$(for_machine libedfvd.so)
     chosen=$here/prebuilt/$prebuilt
     was_same "$prebuilt" || is_same "$prebuilt"
+}
+
+# choose_page: sets $chosen to the page of the sources that are here: the one that web/build.sh built, or else the prebuilt one. The
+# status is 1 if neither is of these sources.
+choose_page() {
+    chosen=$here/$built_page
+    is_noted "$chosen" edfvd.html && return
+    chosen=$here/prebuilt/edfvd.html
+    is_prebuilt edfvd.html
 }

@@ -1,0 +1,77 @@
+// Fractions of whole numbers without rounding, for what the page works out from the loads that the proved code writes.
+
+function divisorOf(one, other) {
+    while (other !== 0n) [one, other] = [other, one % other];
+    return one;
+}
+
+export class Fraction {
+    constructor(over, under = 1n) {
+        const divisor = divisorOf(over < 0n ? -over : over, under) || 1n;
+        this.over = over / divisor;
+        this.under = under / divisor;
+    }
+
+    // The fraction of a text such as 3/4.
+    static of(text) {
+        const [over, under = '1'] = text.split('/');
+        return new Fraction(BigInt(over), BigInt(under));
+    }
+
+    plus(other) {
+        return new Fraction(this.over * other.under + other.over * this.under, this.under * other.under);
+    }
+
+    minus(other) {
+        return new Fraction(this.over * other.under - other.over * this.under, this.under * other.under);
+    }
+
+    times(other) {
+        return new Fraction(this.over * other.over, this.under * other.under);
+    }
+
+    // The quotient; the other fraction is above 0.
+    by(other) {
+        return new Fraction(this.over * other.under, this.under * other.over);
+    }
+
+    isAtMost(other) {
+        return this.over * other.under <= other.over * this.under;
+    }
+
+    isAbove(other) {
+        return !this.isAtMost(other);
+    }
+
+    toString() {
+        return `${this.over}/${this.under}`;
+    }
+
+    toNumber() {
+        const places = 10n ** 15n;
+        return Number(this.over * places / this.under) / 1e15;
+    }
+}
+
+export const ZERO = new Fraction(0n);
+export const ONE = new Fraction(1n);
+
+// The least and the greatest scale that hold for a set with these loads, or null if none does. A least scale of 0 is no scale itself.
+export function scalesThatHold(lowLow, highLow, highHigh) {
+    if (highHigh.isAbove(ONE)) return null;
+    const spare = ONE.minus(lowLow);
+    if (spare.isAtMost(ZERO) && (highLow.isAbove(ZERO) || spare.over < 0n)) return null;
+    const least = highLow.isAtMost(ZERO) ? ZERO : highLow.by(spare);
+    const most = lowLow.isAtMost(ZERO) ? ONE : ONE.minus(highHigh).by(lowLow);
+    const greatest = most.isAbove(ONE) ? ONE : most;
+    return least.isAbove(greatest) || greatest.isAtMost(ZERO) ? null : { least, greatest };
+}
+
+// The two conditions of the published test with their numbers: what each sum is, and whether it is at most 1. The second is absent
+// where its scale is not defined.
+export function conditionsOf(lowLow, highLow, highHigh) {
+    const plain = lowLow.plus(highHigh);
+    if (!lowLow.isAtMost(ONE) || lowLow.toString() === '1/1') return { plain, scale: null, virtual: null };
+    const scale = highLow.by(ONE.minus(lowLow));
+    return { plain, scale, virtual: scale.times(lowLow).plus(highHigh) };
+}
