@@ -1,6 +1,6 @@
 #!/bin/sh
 # Runs each script that tries the built program, as many at once as there are processors; the one that limits the time of a run follows
-# alone, and so do those that need what library.sh and arm.sh build. What a script printed is shown when it has ended. The
+# alone, and so do those that need what library.sh, web.sh and arm.sh build. What a script printed is shown when it has ended. The
 # status is that of the first of the list below that failed, or 0.
 # usage: all.sh
 . "$(dirname -- "$0")/../tools/usage.sh"
@@ -19,6 +19,7 @@ memcheck.sh
 hostile.sh
 usages.sh
 library.sh
+web.sh
 check.sh
 mutate.sh
 faults.sh
