@@ -3,9 +3,10 @@
 # PREFIX/share/man/man1/edfvd.1, its completion for bash to PREFIX/share/bash-completion/completions, and the pages and licences to
 # PREFIX/share/doc/edfvd. The program is the one that was built here, or else the one in the folder prebuilt, as for ./edfvd. What is
 # installed needs glibc 2.34 or later, and neither this folder, nor the wrapper, nor the command rt. The prefix may be moved as a whole.
-# If c/build.sh has made the C libraries, they go to PREFIX/lib and PREFIX/include, with a file for pkg-config.
+# If c/build.sh has made the C libraries, they go to PREFIX/lib and PREFIX/include, with a file for pkg-config. The page edfvd.html, the
+# one that web/build.sh made or else the one in the folder prebuilt, goes to PREFIX/share/doc/edfvd if it is of the sources that are here.
 # With MACHINE, which is x86_64 or aarch64, what is installed is for that machine: for aarch64, which is 64-bit ARM, the program that
-# c/program.sh made, or else the prebuilt one, and the libraries that c/build.sh made for it.
+# c/program.sh made, or else the prebuilt one, and the libraries that c/build.sh made for it. The page is for each of them.
 # Either everything is installed or nothing is: each file is written beside its place first, and renamed when all of them are there.
 # After a fault or a signal everything is as it was before the call; only a call that is killed outright can leave files, whose names
 # begin with .edfvd. The modes are 755 and 644, whatever the umask is, for nothing in it is private.
@@ -162,6 +163,7 @@ make_tree() {
         add "$here/$file" "share/doc/edfvd/$file"
     done
     add_pages
+    if choose_page; then add "$chosen" share/doc/edfvd/edfvd.html; fi
     if [ -e "$libraries/libedfvd.a" ]; then add_libraries; fi
     if ! { find "$tree" -type f -exec chmod 644 {} + && chmod 755 "$tree/bin/edfvd" "$tree/libexec/edfvd/edfvd"; }; then
         refuse "$tree cannot be written"

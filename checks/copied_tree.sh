@@ -83,6 +83,25 @@ put_arm() {
     here=$tree sh -c '. "$here/sources.sh" && note_sources "$here/c/out/aarch64/edfvd" "$(digest_of aarch64/edfvd)"'
 }
 
+# put_page_sources: the files that the page is made of, without what was built
+put_page_sources() {
+    mkdir -p "$tree/web"
+    cp -R ../web/*.py ../web/*.c ../web/build.sh ../web/index.html ../web/style.css ../web/src "$tree/web"
+    for folder in avionics certified control demand explained judged overrun record refused runs several; do cp -R "$folder" "$tree/examples"; done
+}
+
+# put_page: a stand-in for the page, with a note that it is of the sources in the tree
+put_page() {
+    put_page_sources
+    mkdir -p "$tree/web/out"
+    echo '<!doctype html>' >"$tree/web/out/edfvd.html"
+    (
+        here=$tree
+        . "$tree/sources.sh"
+        note_sources web/out/edfvd.html "$(digest_of edfvd.html)"
+    )
+}
+
 # sums_hold FOLDER FILE: the files in the folder have the sums of the file
 sums_hold() {
     (cd "$1" && sha256sum --status -c "$2")

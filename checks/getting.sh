@@ -214,6 +214,7 @@ installs() {
     mv "$work/first place" "$work/second place"
     prefix="$work/second place"
     holds 'the installed program' cmp "$prefix/libexec/edfvd/edfvd" "$program"
+    holds 'the installed page' cmp "$prefix/share/doc/edfvd/edfvd.html" ../prebuilt/edfvd.html
     answers 'the installed command' "$prefix/bin/edfvd"
     ln -s "$prefix/bin/edfvd" "$work/installed link"
     ln -s ../../installed\ link "$prefix/bin/a link"

@@ -233,6 +233,26 @@ for_another_machine() {
     rm -r "$tree/prebuilt"
 }
 
+# The page in one file is installed if it is of these sources, and no other.
+page_in_browser() {
+    put_page
+    tries 0 "$work/all" '' "$alone" "$tree/install.sh" "$work/prefix"
+    holds 'the page in one file' cmp "$work/prefix/share/doc/edfvd/edfvd.html" "$tree/web/out/edfvd.html"
+    holds 'its sum' sums_hold "$work/prefix" "$released"
+    for file in web/out/edfvd.html web/src/page.js web/heap.c examples/overrun/work.csv crates/edfvd_ask_c/src/lib.rt; do
+        cp -p "$tree/$file" "$work/kept"
+        echo '// more' >>"$tree/$file"
+        if [ "$file" = crates/edfvd_ask_c/src/lib.rt ]; then touch "$tree/c/out/libedfvd.a"; fi
+        bounded env PATH="$alone" "$tree/install.sh" "$work/other" >"$work/text" 2>"$work/err"
+        holds "install.sh after a change of $file" [ $? -eq 0 ]
+        holds "no page after a change of $file" [ ! -e "$work/other/share/doc/edfvd/edfvd.html" ]
+        cp -p "$work/kept" "$tree/$file"
+    done
+    rm -r "$tree/web"
+    rm "$work/prefix/share/doc/edfvd/edfvd.html"
+    tries 0 "$work/all" '' "$alone" "$tree/install.sh" "$work/prefix"
+}
+
 # A relative prefix is one of the caller's folder, whatever CDPATH says, and a name may have blanks.
 names() {
     mkdir -p "$work/caller's folder" "$work/elsewhere/a prefix/b"
@@ -385,6 +405,7 @@ pages
 links_that_lead_out
 libraries
 for_another_machine
+page_in_browser
 files "$work/prefix" >"$work/files_all"
 names
 planted

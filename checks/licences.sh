@@ -1,6 +1,6 @@
 #!/bin/sh
-# Checks that THIRD-PARTY-LICENSES has a heading for each crate of the toolchain that the program and the C libraries are made of,
-# and, where the toolchain of the file KIT is on the PATH, that it is what the licence files there say. It needs no built program.
+# Checks that THIRD-PARTY-LICENSES has a heading for each crate of the toolchain that the program, the C libraries and the page are made
+# of, and, where the toolchain of the file KIT is on the PATH, that it is what the licence files there say. It needs no built program.
 # usage: licences.sh [mend]
 #        with the word, writes the file from the toolchain on the PATH
 . "$(dirname -- "$0")/../tools/usage.sh"
@@ -66,14 +66,17 @@ whole() {
     cat <<'TEXT'
 # Licences of what is linked into edfvd
 
-The program `edfvd` and its C libraries are built from the code of this repository, under the MIT licence or the Apache licence 2.0,
-and from the crates of the Rattle toolchain that are named below. Many of these are ports of Rust crates of the same name. Of a
+The program `edfvd`, its C libraries and the page `edfvd.html` are built from the code of this repository, under the MIT licence or the
+Apache licence 2.0, and from the crates of the Rattle toolchain that are named below. Many of these are ports of Rust crates of the same name. Of a
 crate that has both the MIT and the Apache licence, the MIT licence is used and printed here.
 
 The program also has the start files of the C library and of the compiler. Those of glibc (`Scrt1.o`, `crti.o`, `crtn.o`,
 `libc_nonshared.a`) are under the LGPL 2.1 or later, with the permission to distribute programs that are linked with them without
 any restriction from their use. Those of GCC (`crtbeginS.o`, `crtendS.o`, `libgcc.a`) are under the GPL 3 with the GCC Runtime
 Library Exception, which allows the same. The C library itself is not part of the program: it is loaded when the program starts.
+
+The page has none of these files. It has the code of `rattle-link` for numbers of 128 bits in WebAssembly, a part of the toolchain,
+which has no licence file for it. Of binaryen, whose `wasm-opt` transforms the module, nothing is linked into the page.
 
 Written by `licences.sh mend` in the repository.
 TEXT

@@ -1,24 +1,35 @@
 #!/bin/sh
 # Compares the folder prebuilt with the sources and with what the gate built, and tries its scripts and reproduce.sh in a copy of the tree
 # with stand-ins for the toolchain: what refresh.sh writes and when it refuses, and that compare.sh finds each thing that differs.
-# c/build.sh must have built the library: library.sh does.
+# c/build.sh must have built the library, and web/build.sh the page where wasm-opt is there: library.sh and web.sh do.
 # usage: prebuilt.sh
 . "$(dirname -- "$0")/../tools/usage.sh"
 takes 0 0 "$@"
 cd "$(dirname -- "$0")/../examples" || exit 1
 . ../checks/copied_tree.sh
 kit=$(cat ../KIT)
-# What compare.sh ends with where nothing differs: with a compiler for 64-bit ARM, and without.
-whole='prebuilt: 15 compared, 0 failed'
-without_arm='prebuilt: 12 compared, 0 failed'
+# What compare.sh ends with where nothing differs: with all tools, without a compiler for 64-bit ARM, and without the wasm-opt of SOURCES.
+whole='prebuilt: 17 compared, 0 failed'
+without_arm='prebuilt: 14 compared, 0 failed'
+without_optimizer='prebuilt: 16 compared, 0 failed'
 
-# build_tree: the copy gets what the scripts need: the folder without the files that refresh.sh writes, and the files in c. The library is
-# a text, which the stand-in for nm writes. The stand-ins for c/build.sh and c/program.sh make it, and what is for 64-bit ARM.
+# build_tree: the copy gets what the scripts need: the folder without the files that refresh.sh writes, and the files in c and web. The
+# library is a text, which the stand-in for nm writes. The stand-ins for c/build.sh and c/program.sh make it, and what is for 64-bit ARM;
+# the one for web/build.sh makes the page.
 build_tree() {
     mkdir -p "$tree/prebuilt" "$tree/c"
     cp ../prebuilt/*.sh ../prebuilt/README.md "$tree/prebuilt"
     cp ../reproduce.sh ../about.sh "$tree"
     cp ../c/*.c ../c/*.h ../c/machine.sh "$tree/c"
+    put_page_sources
+    cat >"$tree/web/build.sh" <<'END'
+#!/bin/sh
+cd "${0%/*}" || exit
+[ ! -e fails ] || exit 1
+mkdir -p out
+echo '<!doctype html>' >out/edfvd.html
+END
+    chmod +x "$tree/web/build.sh"
     cat >"$tree/c/build.sh" <<'END'
 #!/bin/sh
 cd "${0%/*}" || exit
@@ -45,7 +56,7 @@ version) echo "$kit" ;;
 esac
 END
     cp "$program" "$work/made"
-    for tool in cc ld aarch64-linux-gnu-gcc aarch64-linux-gnu-ld; do
+    for tool in cc ld aarch64-linux-gnu-gcc aarch64-linux-gnu-ld wasm-opt; do
         printf '#!/bin/sh\necho "%s of the test, 1.0"\necho more\n' "$tool" >"$work/rt/$tool"
     done
     # shellcheck disable=SC2016
@@ -102,6 +113,9 @@ refused() {
     mv "$work/rt/aarch64-linux-gnu-gcc" "$work/kept"
     fails 'aarch64-linux-gnu-gcc is not on the PATH' "$with" "$refresh"
     mv "$work/kept" "$work/rt/aarch64-linux-gnu-gcc"
+    : >"$tree/web/fails"
+    fails 'the page was not built' "$with" "$refresh"
+    rm "$tree/web/fails"
 }
 
 # sum FILE: its sha256
@@ -116,24 +130,28 @@ written() {
     {
         printf '755 %s.sh\n' compare library program refresh
         printf '755 %s\n' edfvd aarch64 aarch64/edfvd
-        printf '644 %s\n' aarch64/libedfvd.so aarch64/libedfvd_core.a LICENSE-APACHE LICENSE-MIT README.md SHA256SUMS SOURCES THIRD-PARTY-LICENSES libedfvd.so tools.sh
+        printf '644 %s\n' aarch64/libedfvd.so aarch64/libedfvd_core.a LICENSE-APACHE LICENSE-MIT README.md SHA256SUMS SOURCES \
+            THIRD-PARTY-LICENSES edfvd.html libedfvd.so tools.sh
     } | sort -k 2 >"$work/wanted"
     judge 0 0 "$work/wanted" 'the files that refresh.sh writes'
     cut -d ' ' -f 1 "$tree/prebuilt/SOURCES" | tr '\n' ' ' >"$work/out"
-    printf 'kit machine cc ld aarch64/cc aarch64/ld edfvd libedfvd.so aarch64/edfvd aarch64/libedfvd.so aarch64/libedfvd_core.a ' >"$work/wanted"
+    printf '%s ' kit machine cc ld aarch64/cc aarch64/ld wasm-opt edfvd libedfvd.so edfvd.html aarch64/edfvd aarch64/libedfvd.so \
+        aarch64/libedfvd_core.a >"$work/wanted"
     judge 0 0 "$work/wanted" 'the first words of SOURCES'
     grep -v 'edfvd' "$tree/prebuilt/SOURCES" >"$work/out"
     printf 'kit %s\nmachine %s\ncc cc of the test, 1.0\nld ld of the test, 1.0\n' "$kit" "$(uname -m)" >"$work/wanted"
     printf 'aarch64/cc aarch64-linux-gnu-gcc of the test, 1.0\naarch64/ld aarch64-linux-gnu-ld of the test, 1.0\n' >>"$work/wanted"
+    echo 'wasm-opt wasm-opt of the test, 1.0' >>"$work/wanted"
     judge 0 0 "$work/wanted" 'the tools in SOURCES'
     holds 'the sum of the program' grep -q "^edfvd [0-9a-f]\{64\} $(sum "$program")\$" "$tree/prebuilt/SOURCES"
     holds 'the sum of the library' grep -q "^libedfvd.so [0-9a-f]\{64\} $(sum "$tree/c/out/libedfvd.so")\$" "$tree/prebuilt/SOURCES"
+    holds 'the sum of the page' grep -q "^edfvd.html [0-9a-f]\{64\} $(sum "$tree/web/out/edfvd.html")\$" "$tree/prebuilt/SOURCES"
     for name in edfvd libedfvd.so libedfvd_core.a; do
         holds "the sum of aarch64/$name" grep -q "^aarch64/$name [0-9a-f]\{64\} $(sum "$tree/c/out/aarch64/$name")\$" "$tree/prebuilt/SOURCES"
         holds "aarch64/$name" cmp "$tree/prebuilt/aarch64/$name" "$tree/c/out/aarch64/$name"
     done
     (cd "$tree/prebuilt" && for name in LICENSE-APACHE LICENSE-MIT SOURCES THIRD-PARTY-LICENSES aarch64/edfvd aarch64/libedfvd.so \
-        aarch64/libedfvd_core.a edfvd libedfvd.so; do
+        aarch64/libedfvd_core.a edfvd edfvd.html libedfvd.so; do
         printf '%s  %s\n' "$(sum "$name")" "$name"
     done) >"$work/wanted"
     holds 'SHA256SUMS' cmp "$tree/prebuilt/SHA256SUMS" "$work/wanted"
@@ -186,6 +204,12 @@ found() {
     finds 'libedfvd.so is not of the sources that are here' c/edfvd.c
     finds 'libedfvd.so is not of the sources that are here' c/edfvd.h
     finds 'libedfvd.so is not of the sources that are here' c/build.sh
+    finds 'edfvd.html is not the one that was built' prebuilt/edfvd.html
+    finds 'edfvd.html is not the one that was built' web/out/edfvd.html
+    for file in crates/edfvd_ask_c/src/lib.rt web/build.sh web/heap.c web/single.py web/retarget.py web/style.css web/index.html \
+        web/src/page.js web/src/edfvd.js examples/overrun/work.csv; do
+        finds 'edfvd.html is not of the sources that are here' "$file"
+    done
     # A source of the library alone is none of the program.
     echo '// more' >>"$tree/c/edfvd_ask.c"
     fails 'libedfvd.so is not of' "$with" "$tree/prebuilt/compare.sh"
@@ -194,6 +218,9 @@ found() {
     mv "$tree/c/out/libedfvd.so" "$work/kept"
     fails "$tree/c/out/libedfvd.so is not built" "$with" "$tree/prebuilt/compare.sh"
     mv "$work/kept" "$tree/c/out/libedfvd.so"
+    mv "$tree/web/out/edfvd.html" "$work/kept"
+    fails "$tree/web/out/edfvd.html is not built" "$with" "$tree/prebuilt/compare.sh"
+    mv "$work/kept" "$tree/web/out/edfvd.html"
     mv "$built" "$work/kept"
     fails 'edfvd_program is not built' "$with" "$tree/prebuilt/compare.sh"
     mv "$work/kept" "$built"
@@ -236,6 +263,20 @@ another_arm_compiler() {
     "$tree/c/program.sh"
 }
 
+# another_optimizer: the page is compared with the sources alone then
+another_optimizer() {
+    printf '#!/bin/sh\necho another\n' >"$work/rt/wasm-opt"
+    echo other >"$tree/web/out/edfvd.html"
+    passes "$without_optimizer" "$tree/prebuilt/compare.sh"
+    holds 'a line says so' grep -qF 'prebuilt: edfvd.html is not compared with a built one' "$work/text"
+    rm -r "$work/again"
+    cp "$program" "$work/made"
+    passes "$without_optimizer" "$reproduce" "$work/again"
+    holds 'no page is built with another wasm-opt' [ ! -e "$work/again/web/out" ]
+    printf '#!/bin/sh\necho "wasm-opt of the test, 1.0"\n' >"$work/rt/wasm-opt"
+    "$tree/web/build.sh"
+}
+
 # reproduced: from nothing, in another folder
 reproduced() {
     reproduce=$tree/reproduce.sh
@@ -244,6 +285,8 @@ reproduced() {
     holds 'what is for ARM is built again' cmp "$tree/c/out/aarch64/edfvd" "$work/again/c/out/aarch64/edfvd"
     holds 'what is prebuilt is not copied' [ ! -e "$work/again/prebuilt/edfvd" ]
     holds 'what is prebuilt for ARM is not copied' [ ! -e "$work/again/prebuilt/aarch64" ]
+    holds 'the prebuilt page is not copied' [ ! -e "$work/again/prebuilt/edfvd.html" ]
+    holds 'the page is built' cmp "$tree/web/out/edfvd.html" "$work/again/web/out/edfvd.html"
     mkdir "$work/temporary"
     passes "$whole" TMPDIR="$work/temporary" CC=none CFLAGS=-none "$reproduce"
     holds 'no other copy stays' [ -z "$(ls -A "$work/temporary")" ]
@@ -252,6 +295,9 @@ reproduced() {
     fails 'the command rt, which proves and builds, is not on the PATH' "$alone" "$reproduce"
     echo more >>"$work/made"
     fails 'edfvd is not the program that was built' "$with" "$reproduce"
+    : >"$tree/web/fails"
+    fails 'the page was not built' "$with" "$reproduce"
+    rm "$tree/web/fails"
     : >"$tree/c/fails"
     fails 'the library was not built' "$with" "$reproduce"
     rm "$tree/c/fails" "$work/made"
@@ -263,7 +309,8 @@ holds 'prebuilt is what is built here' [ $? -eq 0 ]
 cat "$work/text"
 if [ -e ../.git ]; then
     printf 'prebuilt/%s: binary: set\n' edfvd libedfvd.so aarch64/edfvd aarch64/libedfvd.so aarch64/libedfvd_core.a >"$work/wanted"
-    (cd .. && sed 's/: .*//' "$work/wanted" | git check-attr --stdin binary) >"$work/out"
+    (cd .. && sed 's/: .*//' "$work/wanted" | git check-attr --stdin binary && git check-attr text prebuilt/edfvd.html) >"$work/out"
+    echo 'prebuilt/edfvd.html: text: unset' >>"$work/wanted"
     judge 0 $? "$work/wanted" 'the attributes of the binary files'
 fi
 build_tree
@@ -273,4 +320,5 @@ found
 another_compiler
 another_arm_compiler
 reproduced
+another_optimizer
 ends prebuilt

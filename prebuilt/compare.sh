@@ -1,8 +1,8 @@
 #!/bin/sh
 # Compares the folder prebuilt with the sources that are here, and byte by byte with what was built in the folder TREE, which is this
 # repository's if none is named. The bytes of the library depend on the compiler and the linker in C; where those of SOURCES are not on
-# this machine, the calls that the two libraries offer are compared. What is for 64-bit ARM is compared with the sources; with what was
-# built only where the compilers are those of SOURCES. A line says what differs, and the status is then 1.
+# this machine, the calls that the two libraries offer are compared. What is for 64-bit ARM, and the page, are compared with the sources;
+# with what was built only where the compilers, and wasm-opt, are those of SOURCES. A line says what differs, and the status is then 1.
 # usage: compare.sh [TREE]
 . "$(dirname -- "$0")/tools.sh"
 takes 0 1 "$@"
@@ -75,8 +75,17 @@ compares_arm() {
     fi
 }
 
+# compares_page: byte by byte if wasm-opt is the same
+compares_page() {
+    if [ "$(optimizer)" = "$(grep '^wasm-opt ' "$here/prebuilt/SOURCES")" ]; then
+        if has_built "$built_page"; then notes 'edfvd.html is not the one that was built' cmp "$here/prebuilt/edfvd.html" "$tree/$built_page"; fi
+    else
+        echo 'prebuilt: edfvd.html is not compared with a built one: wasm-opt is not that of prebuilt/SOURCES'
+    fi
+}
+
 notes 'SHA256SUMS is wrong' sums
-for name in $native $arm; do
+for name in $native $page $arm; do
     notes "$name is not of the sources that are here: prebuilt/refresh.sh writes it again" is_prebuilt "$name"
 done
 for name in LICENSE-APACHE LICENSE-MIT THIRD-PARTY-LICENSES; do
@@ -86,5 +95,6 @@ notes "more than $limit bytes" is_small
 if has_built "$built_program"; then notes 'edfvd is not the program that was built' cmp "$here/prebuilt/edfvd" "$tree/$built_program"; fi
 if has_built "$built_library"; then compares_library; fi
 compares_arm
+compares_page
 echo "prebuilt: $compared compared, $failed failed"
 [ "$failed" -eq 0 ]
