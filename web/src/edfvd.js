@@ -2,9 +2,9 @@
 
 export const OUT_OF_MEMORY = 9;
 export const STOPPED = -1;
-const ROOM = 44;
+const SHORT_BUFFER = 44;
 const MOST_WORDS = 5;
-const FIRST_ROOM = 1 << 20;
+const FIRST_CAPACITY = 1 << 20;
 const MOST_KEPT = 1 << 28;
 const NONE = new Uint8Array(0);
 
@@ -54,19 +54,19 @@ export class Edfvd {
         return this.answered([list, BigInt(given.length), ...files], numbers, taken);
     }
 
-    // Calls with a buffer for the text, and again with a longer one if the text has no room in it.
+    // Calls with a buffer for the text, and again with a longer one if the text does not fit.
     answered(slices, numbers, taken) {
-        for (let room = FIRST_ROOM; ;) {
-            const out = this.take(room, taken);
-            const status = this.calls.edfvd_raw_ask(...slices, out, BigInt(room), numbers, numbers + 8n);
+        for (let capacity = FIRST_CAPACITY; ;) {
+            const out = this.take(capacity, taken);
+            const status = this.calls.edfvd_raw_ask(...slices, out, BigInt(capacity), numbers, numbers + 8n);
             const seen = new DataView(this.calls.memory.buffer, Number(numbers), 16);
             const length = Number(seen.getBigUint64(0, true));
-            if (status !== ROOM) {
+            if (status !== SHORT_BUFFER) {
                 const text = new Uint8Array(this.calls.memory.buffer, Number(out), status === 0 ? length : 0).slice();
                 return { status, exit: seen.getUint32(8, true), text };
             }
             this.calls.edfvd_web_give(taken.pop());
-            room = length;
+            capacity = length;
         }
     }
 
