@@ -69,14 +69,16 @@ is_recent_python() {
     return 1
 }
 
-# finds_page: sets $chosen to the page of these sources, which is built if the tools are there
+# builds_page: the page, if the tools are there. Without the gate the crates are proved first, which takes up to an hour.
+builds_page() {
+    has rt 'building the page' && has wasm-opt 'building the page' && has python3 'building the page' || return
+    limit=7200
+    passes 'building the page' "$web/build.sh"
+    limit=600
+}
+
+# finds_page: sets $chosen to the page of these sources
 finds_page() {
-    if has rt 'building the page' && has wasm-opt 'building the page'; then
-        # Without the gate the crates are proved first, which takes up to an hour.
-        limit=7200
-        passes 'building the page' "$web/build.sh"
-        limit=600
-    fi
     choose_page && return
     echo 'web: the tests of the whole page left out: neither web/out nor prebuilt has a page of these sources'
     return 1
@@ -112,6 +114,7 @@ is_recent_node || is_node=
 if [ -n "$is_node" ]; then
     for test in reading drawing contrast; do passes "$test" node "$web/tests/$test.js"; done
 fi
+builds_page
 if is_recent_python; then
     if [ -n "$is_node" ]; then
         python3 -B "$web/tests/recordings.py" 120 "$seed" >"$work/recordings.json" || failed=$((failed + 1))
