@@ -239,6 +239,12 @@ page_in_browser() {
     tries 0 "$work/all" '' "$alone" "$tree/install.sh" "$work/prefix"
     holds 'the page in one file' cmp "$work/prefix/share/doc/edfvd/edfvd.html" "$tree/web/out/edfvd.html"
     holds 'its sum' sums_hold "$work/prefix" "$released"
+    if [ "$(uname -m)" = x86_64 ]; then
+        put_arm
+        bounded env PATH="$alone" "$tree/install.sh" "$work/arm" aarch64 >"$work/text" 2>"$work/err"
+        holds 'the page beside what is for ARM' cmp "$work/arm/share/doc/edfvd/edfvd.html" "$tree/web/out/edfvd.html"
+        rm -r "$tree/c/out/aarch64"
+    fi
     for file in web/out/edfvd.html web/src/page.js web/heap.c examples/overrun/work.csv crates/edfvd_ask_c/src/lib.rt; do
         cp -p "$tree/$file" "$work/kept"
         echo '// more' >>"$tree/$file"

@@ -1,7 +1,8 @@
 #!/bin/sh
 # Compares the folder prebuilt with the sources and with what the gate built, and tries its scripts and reproduce.sh in a copy of the tree
 # with stand-ins for the toolchain: what refresh.sh writes and when it refuses, and that compare.sh finds each thing that differs.
-# c/build.sh must have built the library, and web/build.sh the page where wasm-opt is there: library.sh and web.sh do.
+# library.sh must have built the library, arm.sh what is for 64-bit ARM where the compiler for it is there, and web.sh the page where
+# wasm-opt is there.
 # usage: prebuilt.sh
 . "$(dirname -- "$0")/../tools/usage.sh"
 takes 0 0 "$@"
@@ -263,12 +264,16 @@ another_arm_compiler() {
     "$tree/c/program.sh"
 }
 
-# another_optimizer: the page is compared with the sources alone then
+# another_optimizer: the page is compared with the sources alone then, and also without one
 another_optimizer() {
-    printf '#!/bin/sh\necho another\n' >"$work/rt/wasm-opt"
     echo other >"$tree/web/out/edfvd.html"
+    rm "$work/rt/wasm-opt"
     passes "$without_optimizer" "$tree/prebuilt/compare.sh"
-    holds 'a line says so' grep -qF 'prebuilt: edfvd.html is not compared with a built one' "$work/text"
+    holds 'a line says so' grep -qF 'prebuilt: edfvd.html is not compared with what was built' "$work/text"
+    printf '#!/bin/sh\necho another\n' >"$work/rt/wasm-opt"
+    chmod +x "$work/rt/wasm-opt"
+    passes "$without_optimizer" "$tree/prebuilt/compare.sh"
+    holds 'a line says so' grep -qF 'prebuilt: edfvd.html is not compared with what was built' "$work/text"
     rm -r "$work/again"
     cp "$program" "$work/made"
     passes "$without_optimizer" "$reproduce" "$work/again"
@@ -310,8 +315,9 @@ cat "$work/text"
 if [ -e ../.git ]; then
     printf 'prebuilt/%s: binary: set\n' edfvd libedfvd.so aarch64/edfvd aarch64/libedfvd.so aarch64/libedfvd_core.a >"$work/wanted"
     (cd .. && sed 's/: .*//' "$work/wanted" | git check-attr --stdin binary && git check-attr text prebuilt/edfvd.html) >"$work/out"
+    status=$?
     echo 'prebuilt/edfvd.html: text: unset' >>"$work/wanted"
-    judge 0 $? "$work/wanted" 'the attributes of the binary files'
+    judge 0 "$status" "$work/wanted" 'the attributes of the binary files'
 fi
 build_tree
 refused

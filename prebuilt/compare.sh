@@ -78,9 +78,9 @@ compares_arm() {
 # compares_page: byte by byte if wasm-opt is the same
 compares_page() {
     if [ "$(optimizer)" = "$(grep '^wasm-opt ' "$here/prebuilt/SOURCES")" ]; then
-        if has_built "$built_page"; then notes 'edfvd.html is not the one that was built' cmp "$here/prebuilt/edfvd.html" "$tree/$built_page"; fi
+        if has_built "$built_page"; then notes "$page is not the one that was built" cmp "$here/prebuilt/$page" "$tree/$built_page"; fi
     else
-        echo 'prebuilt: edfvd.html is not compared with a built one: wasm-opt is not that of prebuilt/SOURCES'
+        echo 'prebuilt: edfvd.html is not compared with what was built: wasm-opt is not there, or not that of prebuilt/SOURCES'
     fi
 }
 
