@@ -111,9 +111,11 @@ refused() {
     mv "$tree/c/fails" "$tree/c/fails_for_arm"
     fails 'the files for 64-bit ARM were not built' "$with" "$refresh"
     rm "$tree/c/fails_for_arm"
-    mv "$work/rt/aarch64-linux-gnu-gcc" "$work/kept"
-    fails 'aarch64-linux-gnu-gcc is not on the PATH' "$with" "$refresh"
-    mv "$work/kept" "$work/rt/aarch64-linux-gnu-gcc"
+    for tool in aarch64-linux-gnu-gcc wasm-opt; do
+        mv "$work/rt/$tool" "$work/kept"
+        fails "$tool is not on the PATH" "$with" "$refresh"
+        mv "$work/kept" "$work/rt/$tool"
+    done
     : >"$tree/web/fails"
     fails 'the page was not built' "$with" "$refresh"
     rm "$tree/web/fails"

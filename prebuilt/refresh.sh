@@ -41,6 +41,7 @@ fill() {
 [ "$(rt version 2>/dev/null)" = "$(cat "$here/KIT")" ] || refuse 'the toolchain of KIT is not on the PATH'
 is_built || refuse "the program is not built from the sources that are here: run $here/edfvd, or rt ci, first"
 has_arm || refuse "$arm_cc is not on the PATH"
+command -v wasm-opt >/dev/null 2>&1 || refuse 'wasm-opt is not on the PATH'
 "$here/c/build.sh" >&2 || refuse 'the library was not built'
 { (unset LD AR OBJCOPY; CC=$arm_cc "$here/c/build.sh") && (unset LD AR OBJCOPY; CC=$arm_cc "$here/c/program.sh"); } >&2 ||
     refuse 'the files for 64-bit ARM were not built'
