@@ -50,7 +50,7 @@ wants 0 runs/perfetto.json ../tools/perfetto.py runs/tasks.toml runs/runs.csv
 wants 0 runs/perfetto.json ../tools/perfetto.py runs/tasks.toml runs/rows.csv
 for name in by_hand by_hand_late_loop; do
     wants 0 "record/$name.csv" ../tools/record/sched.py -v control/tasks.toml "record/$name.txt" 1000 0 ctl=ctl log=log ticker=-
-    cmp "record/$name.moves" "$work/err" || failed=$((failed + 1))
+    cmp "../checks/record/$name.moves" "$work/err" || failed=$((failed + 1))
 done
 wants 0 judged/legal.txt ../tools/explain.py control/tasks.toml record/by_hand.csv
 wants 6 record/by_hand_late_loop.judged ../tools/explain.py control/tasks.toml record/by_hand_late_loop.csv
@@ -89,7 +89,7 @@ wants 0 "$work/dropped.csv" ../tools/record/sched.py control/tasks.toml "$work/d
 
 # The same events as a CSV file, whose lines have the numbers of those of the text.
 wants 0 record/by_hand.csv ../tools/record/sched.py -v control/tasks.toml record/by_hand_events.csv 1000
-cmp record/by_hand.moves "$work/err" || failed=$((failed + 1))
+cmp ../checks/record/by_hand.moves "$work/err" || failed=$((failed + 1))
 # refused_events WORDS LINE: that file spoilt by these words of sed is refused with this line
 refused_events() {
     sed "$1" record/by_hand_events.csv >"$work/spoilt.csv"
@@ -122,15 +122,15 @@ refused_with() {
 # Recordings of real threads, and the verdicts on them.
 for name in rules plain keep stolen; do
     of_fifo 0 "record/$name.csv" "record/$name.txt"
-    cmp "record/$name.moves" "$work/err" || failed=$((failed + 1))
+    cmp "../checks/record/$name.moves" "$work/err" || failed=$((failed + 1))
     [ "$name" = rules ] || wants 6 "record/$name.judged" ../tools/explain.py record/tasks.toml "record/$name.csv"
 done
 wants 0 judged/legal.txt ../tools/explain.py record/tasks.toml record/rules.csv
 # Threads that the proved scheduler dispatched: the same trace, and one with a thread that ignores its budget.
 of_fifo 0 record/rules.csv record/posix.txt
-cmp record/posix.moves "$work/err" || failed=$((failed + 1))
+cmp ../checks/record/posix.moves "$work/err" || failed=$((failed + 1))
 of_fifo 0 record/greedy.csv record/greedy.txt
-cmp record/greedy.moves "$work/err" || failed=$((failed + 1))
+cmp ../checks/record/greedy.moves "$work/err" || failed=$((failed + 1))
 # The forms of `report -l` and of the kernel's own file say the same, and what is missing or wrong is named.
 sed 's/-\([0-9]*\) *\[001\] */-\1   1d..2. /' record/rules.txt >"$work/flags.txt"
 of_fifo 0 record/rules.csv "$work/flags.txt"
