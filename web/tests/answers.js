@@ -18,6 +18,11 @@ for (const [words, first, second, status, text] of JSON.parse(readFileSync(file,
     equals(`${words.join(' ')} of ${bytes(first).length} and ${bytes(second).length} bytes`, [answer.status, answer.exit, Buffer.from(answer.text ?? []).toString('base64')], [0, status, text]);
 }
 for (const status of [0, 1, 2, 3, 4, 5, 6, 7, 10, 11, 12]) holds(`an answer with status ${status} among the cases`, statuses.has(status));
+// The program would look for files of these names. Here a name that is neither 1 nor 2 is an empty file.
+for (const name of ['\u00fc', '', '3']) {
+    const { status, exit, text } = edfvd.ask(['check', name], bytes(''), bytes(''));
+    equals(`check of the name ${JSON.stringify(name)}`, [status, exit, Buffer.from(text).toString()], [0, 3, 'task file: no tasks\n']);
+}
 equals('threads are refused', edfvd.ask(['live', '1', '12']), { status: 45, exit: 0, text: new Uint8Array(0) });
 
 // A call that traps, or that finds no memory, is followed by a new instance, which answers.

@@ -99,7 +99,7 @@ def fixed_questions():
         yield ['stretch', '1'], tasks.read_bytes(), b''
     for demands in sorted(EXAMPLES.glob('demand/*.csv')):
         yield ['demand', '1'], demands.read_bytes(), b''
-    for words in [], ['help'], ['accept', '7', '50', '8'], ['a', 'b', 'c', 'd', 'e', 'f'], ['check', '\u00fc'], ['check', '1', '2'], ['check', '']:
+    for words in [], ['help'], ['accept', '7', '50', '8'], ['a', 'b', 'c', 'd', 'e', 'f'], ['check', '1', '2']:
         yield words, b'', b''
     yield ['check', '1'], b'\xff\xfe', b''
     yield ['check', '1'], b'', b''
