@@ -92,6 +92,7 @@ def links_mended(page):
 # The page with the lines and totals that are right.
 def lines_mended(page):
     told = [definitions.total_line(label, definitions.read([label])) for label in ('headline', 'right_text', 'complete', 'tested', 'answer', 'outcome')]
+    told.append(definitions.total_line('headline and complete', definitions.read(PROMISE)))
     told.append(definitions.total_line('all clauses', definitions.read(definitions.clauses())))
     return TOTALS.sub(lambda match: match[1] + '\n'.join(told) + match[3], links_mended(page))
 
