@@ -17,9 +17,4 @@ mod laws;
 mod queues;
 #[cfg(test)]
 mod releases;
-#[cfg(test)]
-mod restarts;
-#[cfg(test)]
-mod rules;
-#[cfg(test)]
-mod runs;
+pub mod rules;

@@ -1,13 +1,13 @@
 //! Tests of runs: rows worked by hand, and random schedules by events beside the same schedules tick by tick.
-ghost use Rattle.std.specs.Prelude.{◌≤◌};
+ghost use Rattle.std.specs.Prelude.{◌≤◌, ◌<◌};
 
-use crate::rules::set_under;
 use mc_model::How::{Done, More, Over, Stop};
 use mc_model::{How, Row};
 use mc_task::{JobId, Rule, TaskNo};
 use mode_core::{
     Boundary, Core, GrantFault, IdleFault, PendingJob, ReleaseFault, Released, RunFault,
 };
+use scheduler_tests::rules::set_under;
 use std::alloc::Global;
 use std::test::Fail;
 use worked_sets::{
@@ -377,6 +377,7 @@ fn stand_alike(runs: &Core, ticks: &Core, discarded: &[Option<JobId>; 3]) -> boo
 // The next number of a pseudorandom sequence.
 fn next(seed: &mut u32, below: u32) -> u32
     requires { 1 ≤ below }
+    ensures { result < below }
 {
     *seed = seed.wrapping_mul(1664525).wrapping_add(1013904223);
     (*seed >> 8) % below

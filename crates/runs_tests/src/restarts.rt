@@ -1,10 +1,10 @@
 //! Tests of a scheduler whose counts start anew, with values worked by hand.
-use crate::rules::set_under;
 use mc_model::How;
 use mc_model::How::{Done, Over, Stop};
 use mc_task::{JobId, Rule, TaskNo};
 use mode_core::{Core, ReleaseFault, Released};
 use restart::{RestartFault, Restartable};
+use scheduler_tests::rules::set_under;
 use std::alloc::Global;
 use std::test::Fail;
 use worked_sets::{CONTROL, job};
