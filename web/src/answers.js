@@ -1,7 +1,7 @@
 // The answers about a schedule, a trace and a demand file.
 import { lineOfRecord } from './csv.js';
 import { at, bad, badLine, button, good, grouped, made, note, save, table, took } from './elements.js';
-import { page } from './shared.js';
+import { asking, page } from './shared.js';
 import { nanoseconds } from './recording.js';
 
 const MOST_TEXT = 100000;
@@ -69,7 +69,7 @@ function reportOf(text) {
 // The start of the trace, and a button that saves all of it.
 async function showStart(ask, size) {
     const { bytes } = await ask('bytes', { name: 'run', most: MOST_TEXT });
-    const whole = button('Save trace.csv', async () => save('trace.csv', (await page.asker.ask('bytes', { name: 'run', most: size })).bytes));
+    const whole = button('Save trace.csv', asking(async () => save('trace.csv', (await page.asker.ask('bytes', { name: 'run', most: size })).bytes)));
     showText('trace-text', new TextDecoder().decode(bytes), whole, size);
 }
 
@@ -100,7 +100,7 @@ function verdictOf(answer) {
         card.append(made('p', {}, answer.exit === 0 ? 'Each row fits the rules, and no job is late.' : 'Each row fits the rules, and a job is late.'));
     }
     if (answer.moved) {
-        const get = button('Save trace.csv', async () => save('trace.csv', (await page.asker.ask('bytes', { name: 'judge', most: answer.shown.size })).bytes));
+        const get = button('Save trace.csv', asking(async () => save('trace.csv', (await page.asker.ask('bytes', { name: 'judge', most: answer.shown.size })).bytes)));
         card.append(made('p', {}, `The recording as a trace: ${answer.moved}. `, get));
     }
     return card;

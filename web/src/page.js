@@ -9,7 +9,7 @@ import { EXAMPLES } from './examples.js';
 import { fragmentOf, MOST_LINK, stateOf } from './link.js';
 import { newWorker, openModule } from './opening.js';
 import { isRecording } from './recording.js';
-import { asksOf, Outdated, page } from './shared.js';
+import { asking, asksOf, Outdated, page } from './shared.js';
 import { tasksIn } from './toml.js';
 import { View } from './view.js';
 import { MOST_JOBS, workOf } from './workload.js';
@@ -155,7 +155,7 @@ function listen() {
     at('fill-overrun').addEventListener('click', () => fill(true));
     at('link').addEventListener('click', showLink);
     at('link-close').addEventListener('click', () => { at('link-part').hidden = true; });
-    at('to-judge').addEventListener('click', takeToJudge);
+    at('to-judge').addEventListener('click', asking(takeToJudge));
     at('chart-part').addEventListener('toggle', () => at('chart-part').open && !at('chart').firstChild && showChart(asksOf(page.round)).catch(() => {}));
     window.addEventListener('hashchange', loadLink);
     // A file that is dropped beside the editors must not take the place of the page.

@@ -10,7 +10,7 @@ SETTLED = '''new Promise((done) => {
     const { dataset } = document.body;
     const wait = () => {
         const isAnswered = dataset.answered !== undefined && dataset.answered === dataset.asked;
-        if (isAnswered || performance.now() - begin > 60000) done(isAnswered);
+        if (isAnswered || performance.now() - begin > 120000) done(isAnswered);
         else setTimeout(wait, 20);
     };
     setTimeout(wait, 20);
@@ -36,7 +36,14 @@ class Page:
         return self.browser.value(expression)
 
     def settle(self):
-        self.wants('an answer within a minute', self.value(SETTLED))
+        self.wants('an answer within two minutes', self.value(SETTLED))
+
+    def until(self, what, expression):
+        """Waits up to two minutes for what the expression says."""
+        end = time.time() + 120
+        while not (is_so := self.value(expression)) and time.time() < end:
+            time.sleep(0.1)
+        self.wants(what, is_so, expression)
 
     def text(self, place):
         return self.value(f'document.getElementById("{place}").innerText.replaceAll("\\u00a0", " ")')
@@ -70,9 +77,10 @@ class Page:
         self.settle()
 
     def drop(self, place, content, name='dropped.csv'):
+        asked = self.value('document.body.dataset.asked')
         self.value(f'''(() => {{ const data = new DataTransfer(); data.items.add(new File([{content}], {json.dumps(name)}));
             document.getElementById("{place}").dispatchEvent(new DragEvent("drop", {{ dataTransfer: data, bubbles: true, cancelable: true }})); }})()''')
-        time.sleep(0.4)
+        self.until('a dropped file is taken or refused', f'document.body.dataset.asked !== "{asked}" || !!document.querySelector("[role=alert]:not([hidden])")')
         self.settle()
 
     def press(self, *keys):
