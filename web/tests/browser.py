@@ -15,7 +15,7 @@ class Browser:
     """One page of a Chromium of its own."""
 
     def __init__(self, chromium='chromium'):
-        self.folder = tempfile.TemporaryDirectory(prefix='edfvd-web-')
+        self.folder = tempfile.TemporaryDirectory(prefix='edfvd-web-', ignore_cleanup_errors=True)
         down, self.to = os.pipe()
         self.come, up = os.pipe()
 

@@ -14,7 +14,7 @@ KEYS = {'ArrowRight': '\ue014', 'ArrowLeft': '\ue012', 'Tab': '\ue004', 'Home': 
 
 class Firefox:
     def __init__(self, firefox='firefox-esr'):
-        self.folder = tempfile.TemporaryDirectory(prefix='edfvd-web-')
+        self.folder = tempfile.TemporaryDirectory(prefix='edfvd-web-', ignore_cleanup_errors=True)
         with socket.socket() as one:
             one.bind(('127.0.0.1', 0))
             port = one.getsockname()[1]
