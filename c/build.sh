@@ -64,7 +64,7 @@ one() {
     "$OBJCOPY" --keep-global-symbols="$parts/calls" "$parts/$1.o"
 }
 digest=$(digest_of libedfvd.so)
-sed -n 's/^\(edfvd_status \|const char \*\)\(edfvd_[a-z_]*\)(.*$/\2/p' "$c/edfvd.h" >"$parts/calls"
+sed -n 's/^\(edfvd_status \|uint32_t \|const char \*\)\(edfvd_[a-z_]*\)(.*$/\2/p' "$c/edfvd.h" >"$parts/calls"
 one edfvd_c edfvd.c
 one edfvd_ask_c edfvd_ask.c
 "$AR" rcs "$parts/libedfvd_core.a" "$parts/edfvd_c.o"
