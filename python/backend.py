@@ -21,7 +21,8 @@ ROOT = HERE.parent
 LIBRARY = "libedfvd.so"
 PACKAGE = [
     "__init__.py", "__main__.py", "_arrays.py", "_calls.py", "_commands.py", "_errors.py", "_files.py", "_given.py", "_handle.py", "_library.py",
-    "_many.py", "_monitor.py", "_picture.py", "_scheduler.py", "_sensitivity.py", "_table.py", "_toml.py", "_trace.py", "_values.py", "laboratory.py", "py.typed",
+    "_many.py", "_monitor.py", "_picture.py", "_runs.py", "_scheduler.py", "_sensitivity.py", "_table.py", "_toml.py", "_trace.py",
+    "_values.py", "laboratory.py", "py.typed",
 ]
 LICENCES = ["LICENSE-APACHE", "LICENSE-MIT"]
 # The tools that are commands of the package, and the modules that they share, in a repository that has them.

@@ -23,6 +23,8 @@ LENGTHS: Dict[str, List[Tuple[int, int]]] = {
     "ask": [(1, 0), (2, 3), (4, 5), (6, 7)],
     "scheduler_open": [(1, 2)],
     "scheduler_open_endless": [(1, 2)],
+    "scheduler_open_scaled": [(1, 2)],
+    "scheduler_open_endless_scaled": [(1, 2)],
     "monitor_open": [(1, 2)],
     "monitor_observe_all": [(1, 2)],
     "monitor_late": [(2, 3)],

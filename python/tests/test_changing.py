@@ -3,6 +3,7 @@
 import re
 import threading
 import unittest
+from fractions import Fraction
 from pathlib import Path
 from typing import Any, Callable, List, Tuple
 
@@ -17,6 +18,7 @@ CALLS: List[Tuple[str, Callable[[Any], object]]] = [
     ("check", check), ("stretch", stretch), ("partition", lambda tasks: partition(tasks, 2)),
     ("judge", lambda tasks: judge(tasks, [])), ("run", lambda tasks: run(tasks, [], 1)),
     ("Scheduler", lambda tasks: Scheduler(tasks, 1)), ("endless", Scheduler.endless), ("Monitor", Monitor),
+    ("scaled", lambda tasks: Scheduler.scaled(tasks, Fraction(1, 2), 1)), ("endless, scaled", lambda tasks: Scheduler.scaled(tasks, None)),
 ]
 MORE = [Task(f"x{place}", "low", 100_000, 1) for place in range(100)]
 MORE_DEMANDS = [Demand(f"x{place}", 1000, 500, 1) for place in range(100)]
