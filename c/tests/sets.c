@@ -353,7 +353,7 @@ static void demand_refuses(void) {
 /* Each status has words of its own, and every other number has those of an unknown one. */
 static void words_of_statuses(void) {
     static const int known[] = {0,  1,  2,  3,  4,  5,  6,  7,  8,  9,  10, 11, 12, 13, 20, 21,
-                                22, 23, 24, 25, 26, 27, 28, 29, 30, 40, 41, 42, 43, 44, 45};
+                                22, 23, 24, 25, 26, 27, 28, 29, 30, 31, 40, 41, 42, 43, 44, 45};
     const char *unknown = edfvd_word((edfvd_status)14);
     IS(0, strcmp(unknown, "an unknown status"));
     enum { KNOWN = sizeof known / sizeof *known };
@@ -363,7 +363,7 @@ static void words_of_statuses(void) {
         for (size_t other = 0; other < place; other++) IS(1, strcmp(word, edfvd_word((edfvd_status)known[other])) != 0);
     }
     IS(0, strcmp(edfvd_word(EDFVD_TOO_SOON), "too soon"));
-    static const unsigned others[] = {14, 19, 31, 39, 46, 255, 0x7fffffff};
+    static const unsigned others[] = {14, 19, 32, 39, 46, 255, 0x7fffffff};
     for (size_t place = 0; place < sizeof others / sizeof *others; place++)
         IS(0, strcmp(edfvd_word((edfvd_status)others[place]), unknown));
 }
