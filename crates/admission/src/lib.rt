@@ -2,5 +2,7 @@
 #![tactic(auto)]
 
 mod test;
+mod tested;
 
 pub use test::{admit, admit_scaled, holds_for, three_quarters};
+pub use tested::{NoRule, Tested, test_set};

@@ -1,3 +1,4 @@
 pub mod Outcomes
 pub mod Written
 pub mod Serving
+mod RuleOf

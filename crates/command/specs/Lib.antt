@@ -3,3 +3,5 @@ pub mod Outcome
 pub mod Written
 pub mod Serves
 pub mod Within
+pub mod Admitted
+pub mod Given

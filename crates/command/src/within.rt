@@ -13,6 +13,9 @@ pub struct Within<const LEAST: u64, const MOST: u64> {
 /// How many tasks a random set has, 2 to 32.
 pub type TaskCount = Within<2, 32>;
 
+/// How many ticks a run has, 1 to 1,000,000.
+pub type Ticks = Within<1, 1_000_000>;
+
 impl<const LEAST: u64, const MOST: u64> Model for Within<LEAST, MOST> {
     ghost use Rattle.std.specs.Prelude.{◌≤◌, ℕ};
 

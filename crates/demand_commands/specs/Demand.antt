@@ -11,7 +11,7 @@ use Rattle.replies.specs.Reply.{Reply, reply_of}
 use Rattle.replies.specs.Refusal.{DemandFile}
 use Rattle.replies.specs.Reading.{refused_as}
 use Rattle.command.specs.Command.{Command, answer, read_or_refuse}
-use Rattle.task_commands.specs.Admitted.{fetch_table}
+use Rattle.command.specs.Admitted.{fetch_table}
 
 -- the line for a set that is schedulable: in each length up to h it asks for no more ticks than there are
 abbrev pub within_line : ℕ → List ℕ

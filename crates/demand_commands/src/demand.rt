@@ -4,13 +4,12 @@ ghost use Rattle.demand_test.specs.DemandSet.{IsDemandSet};
 ghost use Rattle.command.specs.Serves.{Serves, IsOwn};
 ghost use Rattle.demand_commands.specs.Demand.{IsDemandReply, demand};
 
-use command::{FileName, fetch};
+use command::{FileName, MOST_TABLE_BYTES, fetch};
 use demand_test::{DemandSet, Fit, check_demand, counter, read_demands};
 use mc_task::Memory;
 use mc_world::Shelf;
 use replies::{Reply, Stop, refused};
 use std::alloc::Global;
-use task_commands::MOST_TABLE_BYTES;
 
 /// `demand DEMANDS`.
 #[derive(Drop)]

@@ -4,7 +4,7 @@ use Rattle.std.specs.Prelude.{All}
 use Rattle.std.specs.List.{AllZip}
 use Rattle.std.proofs.lemmas.List.{length-map, get_or-map}
 use Rattle.timetable.specs.Floor.{FloorState}
-use Rattle.task_threads.specs.declared.threads.Memory.{Memory}
+use Rattle.mc_task.specs.declared.set.Memory.{Memory}
 use Rattle.part_commands.specs.declared.side_by_side.Side.{Side}
 use Rattle.part_commands.specs.Runs.{IsFresh, IsFreshSide, IsRunOf, RunsEach, floors_of, results_of}
 

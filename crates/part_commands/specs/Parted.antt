@@ -6,7 +6,7 @@ use Rattle.part_fit.specs.Parts.{part_of}
 use Rattle.part_fit.specs.FirstFit.{first_fit}
 use Rattle.replies.specs.Refusal.{Refusal, NoRoom}
 use Rattle.replies.specs.Reading.{◌>>=◌, refused_as}
-use Rattle.task_commands.specs.Admitted.{set_in}
+use Rattle.command.specs.Admitted.{set_in}
 
 -- the tasks of a set, and the processor of each task
 pub record Parted : Type 0 where

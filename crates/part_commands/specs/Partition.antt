@@ -5,7 +5,7 @@ use Rattle.mc_task.specs.declared.task.Task.{Task}
 use Rattle.replies.specs.Refusal.{Refusal}
 use Rattle.replies.specs.Reading.{◌>>=◌, reply_by}
 use Rattle.command.specs.Command.{Command, answer}
-use Rattle.task_commands.specs.Admitted.{fetch_table}
+use Rattle.command.specs.Admitted.{fetch_table}
 use Rattle.part_commands.specs.Parted.{Parted, tasks_on, parted}
 
 -- the names of the tasks, each after a space

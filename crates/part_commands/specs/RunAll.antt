@@ -10,8 +10,7 @@ use Rattle.mc_model.specs.TraceText.{trace_text}
 use Rattle.part_fit.specs.PartWork.{part_rows}
 use Rattle.replies.specs.Reply.{Reply, reply_of}
 use Rattle.command.specs.Command.{Command, answer, read_or_refuse}
-use Rattle.task_commands.specs.Admitted.{fetch_table}
-use Rattle.run_commands.specs.Run.{work_of}
+use Rattle.command.specs.Admitted.{fetch_table, work_of}
 use Rattle.part_commands.specs.Parted.{Parted, tasks_on, parted}
 
 -- whether processor n has tasks

@@ -5,7 +5,7 @@ use Rattle.timetable.specs.declared.acts.Act.TheVariants as act
 use Rattle.timetable.specs.Floor.{FloorState, is_planned, next_act}
 use Rattle.timetable.specs.Plans.{IsTraceOfPlan}
 use Rattle.executive.specs.Stands.{opening_of}
-use Rattle.task_threads.specs.declared.threads.Memory.{Memory}
+use Rattle.mc_task.specs.declared.set.Memory.{Memory}
 use Rattle.part_commands.specs.declared.side_by_side.Side.{Side}
 
 -- a floor with a plan, no rows and no tick in progress

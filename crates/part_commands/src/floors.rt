@@ -12,12 +12,11 @@ ghost use Rattle.part_commands.specs.Planned.{parted_of, numbers_on, IsPlannedOn
 
 use crate::parted::Processors;
 use crate::run_parts::RunAllJob;
-use admission::admit;
-use load_sum::sum_loads;
+use admission::test_set;
+use command::Ticks;
 use mc_task::{Rule, TaskNo, TaskSet};
 use mode_core::Core;
 use part_fit::{part, part_work};
-use run_commands::Ticks;
 use std::alloc::{AllocError, Global};
 use timetable::{Floor, Plan};
 
@@ -68,14 +67,13 @@ impl PartFloors {
         ensures planned { OnOk result (ArePlanned ticks.now (parted_of job.now.parted) job.now.work self.new) }
         ensures few { OnOk result (length self.new.floors.items ≤ length self.old.floors.items + 1) }
     {
-        let _is_set = job.parted.set.len();
         let tasks = match part(alloc, &job.parted.set, &job.parted.parts, processor) {
             Ok(Some(tasks)) => tasks,
             Ok(None) => return Ok(()),
             Err(_) => return Err(AllocError),
         };
         let floor = floor_on(alloc, job, ticks, processor, tasks)?;
-        let numbers = numbers_on(alloc, &job.parted.parts.of, processor)?;
+        let numbers = numbers_on(alloc, &job.parted.set, &job.parted.parts.of, processor)?;
         self.floors.push(floor)?;
         self.numbers.push(numbers)?;
         self.used.push(processor)?;
@@ -97,7 +95,6 @@ fn floor_on(
     requires admitted { IsAdmittedPart tasks.tasks }
     ensures { IfOk result (IsPlannedOn ticks.now (parted_of job.now.parted) job.now.work processor) }
 {
-    let _is_set = tasks.len();
     let parted = &job.parted;
     let Ok(work) = part_work(alloc, &parted.set, &parted.parts, processor, &job.work) else {
         return Err(AllocError);
@@ -119,21 +116,26 @@ fn rule_of(set: &TaskSet) -> Rule
     ensures fits { Fits result }
     ensures holds { Holds set.now.tasks result }
 {
-    match sum_loads(set) {
-        Ok(loads) => admit(&loads).unwrap(),
+    match test_set(set, None) {
+        Ok(tested) => tested.rule,
         Err(_) => unreachable!(),
     }
 }
 
 // The numbers in the whole set of the tasks on the processor.
-fn numbers_on(alloc: Global, of: &[u32], processor: u32) -> Result<Vec<TaskNo>, AllocError>
-    requires { length of.now ≤ 128 }
+fn numbers_on(
+    alloc: Global,
+    set: &TaskSet,
+    of: &[u32],
+    processor: u32,
+) -> Result<Vec<TaskNo>, AllocError>
+    requires { length of.now ≡ length set.now.tasks }
     ensures { IfOk result (λ numbers. map (λ (k : TaskNo). k.0) numbers.items ≡ numbers_on processor of.now (length of.now)) }
 {
     let mut numbers = Vec::new(alloc);
-    for i in 0..of.len() {
-        if of[i] == processor {
-            numbers.push(TaskNo(i as u32 + 1))?;
+    for i in 0..set.len() {
+        if of[i as usize] == processor {
+            numbers.push(TaskNo(i + 1))?;
         }
     }
     Ok(numbers)

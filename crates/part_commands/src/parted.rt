@@ -3,12 +3,11 @@ ghost use Rattle.replies.specs.Stop.{ReadsOrRefuses};
 ghost use Rattle.part_commands.specs.Parted.{fitted, parted};
 ghost use Rattle.part_commands.specs.Given.{IsParted};
 
-use command::Within;
+use command::{Within, read_set};
 use mc_task::TaskSet;
 use part_fit::{FitFault, Parts, fit};
 use replies::{Stop, refused};
 use std::alloc::Global;
-use task_commands::read_set;
 
 /// A set, and the processor of each of its tasks.
 #[derive(Drop)]

@@ -6,13 +6,12 @@ ghost use Rattle.part_commands.specs.Partition.{partition};
 ghost use Rattle.part_commands.specs.Planned.{parted_of};
 
 use crate::parted::{Parted, Processors, read_parted};
-use command::{FileName, fetch};
+use command::{FileName, MOST_TABLE_BYTES, fetch};
 use mc_task::Task;
 use mc_world::Shelf;
 use part_fit::part;
 use replies::{Reply, Stop};
 use std::alloc::{AllocError, Global};
-use task_commands::MOST_TABLE_BYTES;
 
 /// `partition TASKS M`.
 #[derive(Drop)]

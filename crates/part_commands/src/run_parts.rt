@@ -8,15 +8,13 @@ use crate::floors::{PartFloors, floors_of};
 use crate::parted::{Parted, Processors, read_parted};
 use crate::side_by_side::run_all;
 use crate::traces::traces_text;
-use command::{FileName, fetch};
+use command::{FileName, MOST_TABLE_BYTES, Ticks, fetch, read_work_of};
 use executive::Gate;
 use mc_world::Shelf;
 use replies::{Reply, Stop};
-use run_commands::{Ticks, read_work_of};
 use std::alloc::Global;
 use std::sync::Wait;
 use std::thread::Threads;
-use task_commands::MOST_TABLE_BYTES;
 use work_file::Work;
 
 /// `runall TASKS WORK TICKS M`.
@@ -95,9 +93,7 @@ pub fn finish_run_all<R: Threads + Wait + Sync, G: Gate + Sync>(
         floors,
         numbers,
     } = floors_of(alloc, &job, ticks, processors)?;
-    let Ok(done) = run_all(rt, alloc, floors, numbers, gate) else {
-        return Err(Stop::Memory);
-    };
+    let done = run_all(rt, alloc, floors, numbers, gate)?;
     let text = traces_text(alloc, &used, &done)?;
     Ok(Reply::new(0, text))
 }

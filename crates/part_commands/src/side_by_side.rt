@@ -5,12 +5,12 @@ ghost use Rattle.part_commands.specs.Runs.{IsFresh, IsRunOf, IsFreshSide, RunsEa
 
 use crate::numbered::Numbered;
 use executive::Gate;
-use mc_task::TaskNo;
+use mc_task::{Memory, TaskNo};
 use std::alloc::{AllocError, Global};
 use std::sync::Wait;
 use std::thread;
 use std::thread::Threads;
-use task_threads::{Memory, run_threads};
+use task_threads::run_threads;
 use timetable::Floor;
 
 // A floor and the numbers of its tasks in the whole set.

@@ -2,8 +2,8 @@
 ghost use Rattle.std.specs.Prelude.{◌≡◌, IfOk, length, flat_map, zip, All};
 ghost use Rattle.part_commands.specs.Traced.{HasSmallCapacity, floor_lines};
 
+use command::trace_text;
 use mc_task::Memory;
-use run_commands::trace_text;
 use std::alloc::Global;
 use timetable::Floor;
 

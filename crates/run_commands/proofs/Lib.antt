@@ -1,4 +1,5 @@
 mod Soaked
+pub mod PlannedTrace
 pub mod LiveCapacity
 mod LiveRows
 pub mod TextBytes

@@ -13,7 +13,6 @@ use Rattle.mc_task.specs.TaskSet.{IsTask, AreTasks}
 use Rattle.mc_model.specs.declared.row.Row.{Row}
 use Rattle.mc_model.specs.Rows.{ticks}
 use Rattle.mc_model.specs.Legal.{Legal}
-use Rattle.mc_model.specs.Core.{State}
 use Rattle.mc_model.specs.Sums.{total}
 use Rattle.mc_model.specs.Loads.{by_level, low_low, high_high, product, load, load_ll, load_hh}
 use Rattle.mc_model.specs.Holds.{HoldsOver, Holds}
@@ -96,10 +95,3 @@ pub few_rows : (set : List Task) (rule : Rule) (h : List Row) → AreTasks set �
 few_rows set rule h is holds legal =
     let rows = rows-le set rule h (ticks h) is.each legal (omega arith) in
     omega (arith, rows, few_capacity set rule (ticks h) is holds)
-
--- the rows of a core with the capacity of a live run are few
-pub few_live_rows : (set : List Task) (rule : Rule) (n : ℕ) (s t : State) (places : ℕ) (rows : List Row) → AreTasks set → Holds set rule → n ≤ 100000 → s ≡ t → t.places ≡ places → places ≡ live_capacity set n → length rows ≤ s.places → length rows ≤ 2000000
-few_live_rows set rule n s t places rows is holds ticks same room all inside =
-    let one : s.places ≡ t.places = ap (λ (u : State). u.places) same in
-    let law = few_capacity set rule n is holds in
-    omega (arith, one, law, ticks, room, all, inside)

@@ -1,6 +1,6 @@
 -- The live trace among the rows of a core, whose list in the code has the oldest row first.
 use Rattle.std.proofs.Common.{◌≡◌, ◌⊎◌, inl, inr, ℕ, ◌+◌, ◌-◌, ◌<◌, ◌≤◌, true, List, [], ◌∷◌, ◌++◌, reverse, take, drop, length, get_or, ap, sym, ◌∙◌, subst, arith}
-use Rattle.std.proofs.lemmas.List.{reverse-append, reverse-reverse, take-append-drop, take_more, take_all, length-take, length-reverse}
+use Rattle.std.proofs.lemmas.List.{reverse-append, reverse-reverse, take-append-drop, take_more, take_all}
 use Rattle.mc_task.specs.declared.task.Task.{Task}
 use Rattle.mc_task.specs.declared.task.Rule.{Rule}
 use Rattle.mc_task.specs.declared.task.JobId.{JobId}
@@ -12,7 +12,6 @@ use Rattle.mc_model.specs.Rows.{ticks}
 use Rattle.mc_model.specs.Follows.{ends_in_tick}
 use Rattle.mc_model.specs.LiveTrace.{LiveTrace}
 use Rattle.mc_model.proofs.Ticks.{ticks-append}
-use Rattle.mode_core.specs.Shape.{IsSound}
 use Rattle.task_threads.specs.LiveLeft.{HasLiveTrace}
 
 -- a row that is a tick adds one tick to whatever rows stand before it
@@ -69,14 +68,6 @@ live_front s n i left rows part d live is front inside tick some none sum =
     subst (λ xs. LiveTrace s.set s.rule n (reverse xs)) (sym front)
     (subst (λ xs. LiveTrace s.set s.rule n (reverse (take (i + 1) xs))) (sym is)
     (live_part s n i d live (subst (λ xs. i < length xs) is inside) (subst (λ xs. ends_in_tick (get_or xs i d ∷ []) ≡ true) is here) (subst (λ xs. ticks (reverse (take i xs)) + 1 ≡ n) is one)))
-
--- the rows of a part are no more than the core's capacity
-pub few_rows : (s : State) (i : ℕ) (rows part : List Row) → IsSound s → rows ≡ reverse s.rows → part ≡ take i rows → length part ≤ s.places
-few_rows s i rows part sound is front =
-    let a = ap length front ∙ length-take i rows in
-    let b = ap length is ∙ length-reverse s.rows in
-    let room = sound.room in
-    omega (arith, a, b, room)
 
 -- the index of the n-th tick is found before the rows end
 pub some_place : (s : State) (n i left : ℕ) (rows : List Row) → HasLiveTrace s n → rows ≡ reverse s.rows → length rows ≤ i → 1 ≤ left → ticks (reverse (take i rows)) + left ≡ n → ⊥

@@ -1,11 +1,9 @@
 -- The jobs of `live` and `run`: what is left to do, in threads, once the command's files are read.
-use Rattle.std.specs.Prelude.{◌≡◌, ℕ, List}
-use Rattle.mc_task.specs.declared.task.Task.{Task}
-use Rattle.mc_model.specs.declared.work.WorkRow.{WorkRow}
+use Rattle.std.specs.Prelude.{ℕ}
 use Rattle.mc_model.specs.Holds.{Fits, Holds}
 use Rattle.mc_model.specs.Work.{IsWork}
 use Rattle.replies.specs.Reply.{Reply}
-use Rattle.task_commands.specs.declared.set_with_rule.SetWithRule.{SetWithRule}
+use Rattle.command.specs.declared.set_with_rule.SetWithRule.{SetWithRule}
 use Rattle.run_commands.specs.declared.run.RunJob.{RunJob}
 use Rattle.run_commands.specs.Run.{IsTraceReply}
 
@@ -23,8 +21,3 @@ pub record IsRunJob (job : RunJob) : Type 0 where
 -- the reply to a job of `run`, of this many ticks
 abbrev pub RepliesToRun : ℕ → RunJob → Reply → Type 0
 RepliesToRun ticks job reply = IsTraceReply ticks job.set.tasks job.rule job.work reply
-
--- the code's work is the work in the file, and is for the set
-pub record IsWorkOf (set : List Task) (read given : List WorkRow) : Type 0 where
-  pub same : given ≡ read
-  pub is_work : IsWork set given

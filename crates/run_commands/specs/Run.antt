@@ -1,17 +1,14 @@
 -- The command `run TASKS WORK TICKS`.
-use Rattle.std.specs.Prelude.{◌≡◌, ℕ, ◌≤◌, List, length, reverse, Result}
+use Rattle.std.specs.Prelude.{◌≡◌, ℕ, ◌≤◌, List, length, reverse}
 use Rattle.mc_task.specs.declared.task.Task.{Task}
 use Rattle.mc_task.specs.declared.task.Rule.{Rule}
 use Rattle.mc_model.specs.declared.row.Row.{Row}
 use Rattle.mc_model.specs.declared.work.WorkRow.{WorkRow}
 use Rattle.mc_model.specs.Follows.{Follows}
 use Rattle.mc_model.specs.TraceText.{trace_text}
-use Rattle.work_file.specs.WorkFile.{work_in}
 use Rattle.replies.specs.Reply.{Reply, reply_of}
-use Rattle.replies.specs.Refusal.{Refusal, WorkFile}
-use Rattle.replies.specs.Reading.{refused_as}
 use Rattle.command.specs.Command.{Command, answer, read_or_refuse}
-use Rattle.task_commands.specs.Admitted.{admitted, fetch_table}
+use Rattle.command.specs.Admitted.{admitted, work_of, fetch_table}
 
 -- the reply with the text of a trace and status 0; the newest row of the trace stands first here
 abbrev pub traced : List Task → List Row → Reply
@@ -20,10 +17,6 @@ traced set h = reply_of 0 (trace_text set (reverse h))
 -- the reply's text has at most this many bytes
 abbrev pub IsShort : ℕ → Reply → Type 0
 IsShort bytes reply = length reply.text ≤ bytes
-
--- the work for the set that a work file of these bytes says, or the file's refusal
-abbrev pub work_of : List Task → List ℕ → Result (List WorkRow) Refusal
-work_of set bytes = refused_as WorkFile (work_in set bytes)
 
 -- the reply is the text of the one trace of this many ticks that follows from the set, the rule and the work
 abbrev pub IsTraceReply : ℕ → List Task → Rule → List WorkRow → Reply → Type 0

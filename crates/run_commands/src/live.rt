@@ -1,5 +1,5 @@
 //! The command `live`.
-ghost use Rattle.std.specs.Prelude.{◌≤◌, ◌^◌, IfOk, length, reverse};
+ghost use Rattle.std.specs.Prelude.{◌≤◌, ◌^◌, IfOk, reverse};
 ghost use Rattle.mc_model.specs.LiveTrace.{LiveTrace};
 ghost use Rattle.task_threads.specs.LiveLeft.{HasLiveTrace};
 ghost use Rattle.replies.specs.Stop.{Replies};
@@ -8,8 +8,9 @@ ghost use Rattle.run_commands.specs.Live.{IsLiveReply, live};
 ghost use Rattle.run_commands.specs.Run.{IsShort};
 ghost use Rattle.run_commands.specs.Jobs.{IsLiveJob};
 
-use crate::traced::trace_text;
-use command::{FileName, Within, fetch};
+use command::{
+    Admitted, FileName, MOST_TABLE_BYTES, SetWithRule, Within, fetch, read_admitted, trace_text,
+};
 use executive::Gate;
 use mc_model::Row;
 use mc_world::Shelf;
@@ -18,7 +19,6 @@ use replies::{Reply, Stop};
 use std::alloc::Global;
 use std::sync::Wait;
 use std::thread::Threads;
-use task_commands::{Admitted, MOST_TABLE_BYTES, SetWithRule, read_admitted};
 use task_threads::{live_capacity, run_live};
 use timetable::{Floor, Plan};
 
@@ -74,15 +74,13 @@ pub fn finish_live<R: Threads + Wait + Sync, G: Gate + Sync>(
     ensures own { Replies IsOwn result }
 {
     let SetWithRule { set, rule } = job;
-    // The set has at most 128 tasks, so the capacity is small, and its names are short.
+    // The set has at most 128 tasks, so its traces are short, and so are its names.
     let _is_set = set.len();
     let ticks = ticks.get();
     let places = live_capacity(&set, ticks) as usize;
     let core = Core::new(alloc, set, rule, places)?;
     let floor = Floor::new(core, Plan::Free);
-    let Ok(floor) = run_live(rt, alloc, floor, ticks, gate) else {
-        return Err(Stop::Memory);
-    };
+    let floor = run_live(rt, alloc, floor, ticks, gate)?;
     let done = floor.core();
     let text = trace_text(alloc, done.set(), live_rows(done, ticks))?;
     Ok(Reply::new(0, text))
@@ -92,10 +90,8 @@ pub fn finish_live<R: Threads + Wait + Sync, G: Gate + Sync>(
 fn live_rows(core: &Core, ticks: u64) -> &[Row]
     requires some { 1 ≤ ticks }
     requires live { HasLiveTrace core.now ticks }
-    ensures live { LiveTrace core.now.set core.now.rule ticks (reverse result.now) }
-    ensures few { length result.now ≤ core.now.places }
+    ensures { LiveTrace core.now.set core.now.rule ticks (reverse result.now) }
 {
-    let _sound = core.places();
     let rows = core.rows();
     let mut left = ticks;
     for place in 0..rows.len() {

@@ -1,9 +1,10 @@
 //! A plan run to its end.
-ghost use Rattle.std.specs.Prelude.{◌≡◌, ◌≤◌, ◌+◌, IfOk};
+ghost use Rattle.std.specs.Prelude.{◌≡◌, ◌≤◌, IfOk, length};
 ghost use Rattle.run_commands.specs.Jobs.{IsRunJob};
 ghost use Rattle.run_commands.specs.Planned.{IsPlanned, opening_for};
 
-use crate::run::{RunJob, Ticks};
+use crate::run::RunJob;
+use command::Ticks;
 use executive::Gate;
 use mc_task::Memory;
 use mode_core::Core;
@@ -14,6 +15,7 @@ use task_threads::run_threads;
 use timetable::{Floor, Plan};
 
 /// The floor with the one trace of this many ticks that set, rule and work determine, run in a thread for each task.
+#[tactic(auto, using(crate::proofs::PlannedTrace::is_planned))]
 pub fn planned<R: Threads + Wait + Sync, G: Gate + Sync>(
     rt: &R,
     alloc: Global,
@@ -25,12 +27,7 @@ pub fn planned<R: Threads + Wait + Sync, G: Gate + Sync>(
     ensures { IfOk result (IsPlanned job ticks.now) }
 {
     let ready = opened(alloc, job, ticks)?;
-    let Ok(floor) = run_threads(rt, alloc, ready, gate) else {
-        return Err(Memory);
-    };
-    // The floor has no more rows than its capacity.
-    let _places = floor.core().places();
-    Ok(floor)
+    run_threads(rt, alloc, ready, gate)
 }
 
 /// The floor with the one trace of this many ticks that set, rule and work determine, run on the caller's thread.
@@ -40,8 +37,6 @@ pub fn planned_alone(alloc: Global, job: RunJob, ticks: &Ticks) -> Result<Floor,
 {
     let mut floor = opened(alloc, job, ticks)?;
     floor.finish();
-    // The floor has no more rows than its capacity.
-    let _places = floor.core().places();
     Ok(floor)
 }
 
@@ -50,7 +45,7 @@ fn opened(alloc: Global, job: RunJob, ticks: &Ticks) -> Result<Floor, Memory>
     requires { IsRunJob job }
     ensures opening { IfOk result (λ floor. floor ≡ opening_for job ticks.now) }
     ensures ticks { ticks.now ≤ 1000000 }
-    ensures few { IfOk result (λ floor. floor.core.places ≤ ticks.now + 1000000) }
+    ensures work { length job.work ≤ 1000000 }
 {
     let RunJob { set, rule, work } = job;
     let ticks = ticks.get();

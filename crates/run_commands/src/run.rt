@@ -1,25 +1,25 @@
 //! The command `run`.
-ghost use Rattle.std.specs.Prelude.{IfOk, IfErr};
-ghost use Rattle.replies.specs.Stop.{StopsBy, ReadsOrRefuses, Replies};
+ghost use Rattle.std.specs.Prelude.{◌≤◌, ℕ, IfOk, length};
+ghost use Rattle.replies.specs.Stop.{Replies};
 ghost use Rattle.command.specs.Serves.{Serves, IsOwn, Prepares};
-ghost use Rattle.run_commands.specs.Run.{IsShort, work_of, run, run_on};
-ghost use Rattle.run_commands.specs.Jobs.{IsRunJob, RepliesToRun, IsWorkOf};
+ghost use Rattle.run_commands.specs.declared.run.RunJob.{RunJob as Job};
+ghost use Rattle.run_commands.specs.Run.{IsShort, run, run_on};
+ghost use Rattle.run_commands.specs.Jobs.{IsRunJob, RepliesToRun};
+ghost use Rattle.run_commands.specs.Planned.{IsPlanned};
 
-use crate::planned::planned;
-use crate::traced::trace_reply;
-use command::{FileName, Within, fetch};
+use crate::planned::{planned, planned_alone};
+use command::{
+    Admitted, FileName, MOST_TABLE_BYTES, Ticks, fetch, read_admitted, read_work_of, trace_text,
+};
 use executive::Gate;
 use mc_task::{Rule, TaskSet};
 use mc_world::Shelf;
-use replies::{Reply, Stop, refused};
+use replies::{Reply, Stop};
 use std::alloc::Global;
 use std::sync::Wait;
 use std::thread::Threads;
-use task_commands::{Admitted, MOST_TABLE_BYTES, read_admitted};
-use work_file::{Work, read_work};
-
-/// How many ticks a run has, 1 to 1,000,000.
-pub type Ticks = Within<1, 1_000_000>;
+use timetable::Floor;
+use work_file::Work;
 
 /// `run TASKS WORK TICKS`.
 #[derive(Drop)]
@@ -54,6 +54,16 @@ impl<'a> RunCommand<'a> {
         finish_run(rt, alloc, job, &self.ticks, gate)
     }
 
+    /// The reply that [`RunCommand::reply`] gives, by the caller's thread alone: there is one trace, and this thread makes it.
+    pub fn reply_alone<S: Shelf>(&self, alloc: Global, shelf: &mut S) -> Result<Reply, Stop>
+        ensures serves { Serves 1 (run self.now.tasks self.now.work self.now.ticks) (S.state shelf.old) (S.state shelf.new) result }
+        ensures short { IfOk result (IsShort 128000024) }
+    {
+        let job = self.job(alloc, shelf)?;
+        let floor = planned_alone(alloc, job, &self.ticks)?;
+        trace_reply(alloc, &floor)
+    }
+
     /// The job to run, by both files. Without a runtime this cannot wait.
     pub fn job<S: Shelf>(&self, alloc: Global, shelf: &mut S) -> Result<RunJob, Stop>
         ensures { Prepares 1 (run self.now.tasks self.now.work self.now.ticks) IsRunJob (RepliesToRun self.now.ticks) (S.state shelf.old) (S.state shelf.new) result }
@@ -73,17 +83,6 @@ impl<'a> RunCommand<'a> {
     }
 }
 
-/// The work for the set in a work file with these bytes.
-pub fn read_work_of(alloc: Global, set: &TaskSet, bytes: &[u8]) -> Result<Work, Stop>
-    ensures work { ReadsOrRefuses (IsWorkOf set.now.tasks) (work_of set.now.tasks bytes.now) result }
-    ensures own { IfErr result (StopsBy IsOwn) }
-{
-    match read_work(alloc, set, bytes) {
-        Ok(work) => Ok(work),
-        Err(fault) => Err(refused::work_file(alloc, &fault)),
-    }
-}
-
 /// The reply of a `run` of this many ticks, as [`RunCommand::reply`] gives it once the files are read.
 pub fn finish_run<R: Threads + Wait + Sync, G: Gate + Sync>(
     rt: &R,
@@ -99,4 +98,19 @@ pub fn finish_run<R: Threads + Wait + Sync, G: Gate + Sync>(
 {
     let floor = planned(rt, alloc, job, ticks, gate)?;
     trace_reply(alloc, &floor)
+}
+
+// The reply with the text of the trace on a floor at the end of its plan.
+fn trace_reply(alloc: Global, floor: &Floor) -> Result<Reply, Stop>
+    requires { length floor.now.core.rows ≤ 2000000 }
+    ensures trace { (job : Job) (ticks : ℕ) → IsPlanned job ticks floor.now → Replies (RepliesToRun ticks job) result }
+    ensures short { (job : Job) (ticks : ℕ) → IsPlanned job ticks floor.now → IfOk result (IsShort 128000024) }
+    ensures own { Replies IsOwn result }
+{
+    let core = floor.core();
+    let set = core.set();
+    // The names of a set are short.
+    let _is_set = set.len();
+    let text = trace_text(alloc, set, core.rows())?;
+    Ok(Reply::new(0, text))
 }

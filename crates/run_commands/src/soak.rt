@@ -10,8 +10,8 @@ ghost use Rattle.run_commands.specs.Soak as spec;
 ghost use Rattle.run_commands.specs.Soak.{soak};
 
 use crate::planned::planned;
-use crate::run::{RunJob, Ticks};
-use command::TaskCount;
+use crate::run::RunJob;
+use command::{TaskCount, Ticks};
 use executive::Gate;
 use mc_model::Row;
 use mc_task::{Memory, Rule, TaskSet};

@@ -8,7 +8,7 @@ use Rattle.study.specs.Stretch.{at_percent}
 use Rattle.replies.specs.Refusal.{Refusal, OutOfRange}
 use Rattle.replies.specs.Reading.{◌>>=◌, none_or, reply_by}
 use Rattle.command.specs.Command.{Command, answer}
-use Rattle.task_commands.specs.Admitted.{set_in, fetch_table}
+use Rattle.command.specs.Admitted.{set_in, fetch_table}
 
 -- the line of U_HH at s percent of the high budgets
 unfoldable pub high_line : List Task → ℕ → List ℕ

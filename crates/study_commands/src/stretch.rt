@@ -6,14 +6,13 @@ ghost use Rattle.command.specs.Serves.{Serves};
 ghost use Rattle.study_commands.specs.Stretch as spec;
 ghost use Rattle.study_commands.specs.Stretch.{stretch};
 
-use command::{FileName, fetch};
+use command::{FileName, MOST_TABLE_BYTES, fetch, read_set};
 use load_sum::{LoadFault, Loads, sum_loads};
 use mc_task::TaskSet;
 use mc_world::Shelf;
 use replies::{Reply, Stop, refused};
 use std::alloc::{AllocError, Global};
 use study::high_at;
-use task_commands::{MOST_TABLE_BYTES, read_set};
 use tick_frac::Ratio;
 
 /// `stretch TASKS`.

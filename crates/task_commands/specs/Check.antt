@@ -4,7 +4,7 @@ use Rattle.mc_model.specs.CheckText.{check_text}
 use Rattle.replies.specs.Refusal.{Refusal}
 use Rattle.replies.specs.Reading.{◌>>=◌, reply_by}
 use Rattle.command.specs.Command.{Command, answer}
-use Rattle.task_commands.specs.Admitted.{admitted, fetch_table}
+use Rattle.command.specs.Admitted.{admitted, fetch_table}
 
 -- what `check` writes for a task file of these bytes: the loads of an admitted set, and its rule; or the
 -- refusal

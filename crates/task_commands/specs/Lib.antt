@@ -1,3 +1,1 @@
-pub mod Admitted
-pub mod Given
 pub mod Check

@@ -2,9 +2,8 @@
 ghost use Rattle.command.specs.Serves.{Serves};
 ghost use Rattle.task_commands.specs.Check.{check};
 
-use crate::admitted::{Admitted, MOST_TABLE_BYTES, read_admitted};
 use crate::check_lines::check_text;
-use command::{FileName, fetch};
+use command::{Admitted, FileName, MOST_TABLE_BYTES, fetch, read_admitted};
 use mc_world::Shelf;
 use replies::{Reply, Stop};
 use std::alloc::Global;

@@ -19,8 +19,8 @@ use Rattle.trace_commands.specs.declared.action.TraceAction.TheVariants.{JudgeBy
 use Rattle.replies.specs.Refusal.{Refusal, Trace, BadTrace, LongChart}
 use Rattle.replies.specs.Reading.{◌>>=◌, refused_as, reply_by}
 use Rattle.command.specs.Command.{Command, answer, fetch, read_or_refuse}
-use Rattle.task_commands.specs.Admitted.{admitted, set_with_rule, fetch_table}
-use Rattle.task_commands.specs.declared.set_with_rule.SetWithRule.{SetWithRule}
+use Rattle.command.specs.Admitted.{admitted, set_with_rule, fetch_table}
+use Rattle.command.specs.declared.set_with_rule.SetWithRule.{SetWithRule}
 
 -- whether the verdict finds that each row fits and no job is late
 abbrev pub is_good : Verdict → Bool

@@ -13,12 +13,12 @@ ghost use Rattle.trace_commands.specs.declared.action.TraceAction.TheVariants as
 use crate::action::TraceAction;
 use crate::judged_text::judge_text;
 use crate::texts::{merged_text, ticks_of};
+use command::SetWithRule;
 use mc_model::{Run, Verdict};
 use replies::{Reply, Stop, refused, verdict_line};
 use sched_chart::chart;
 use sched_report::report;
 use std::alloc::Global;
-use task_commands::SetWithRule;
 
 /// The most ticks of a chart.
 const MOST_CHART_TICKS: u64 = 2_000_000;

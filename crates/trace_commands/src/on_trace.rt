@@ -2,16 +2,17 @@
 ghost use Rattle.trace_commands.specs.OnTrace.{IsScale, on_trace, on_trace_on, set_with_rule_for};
 ghost use Rattle.replies.specs.Stop.{ReadsOrRefuses};
 ghost use Rattle.command.specs.Serves.{Serves};
-ghost use Rattle.task_commands.specs.Given.{IsSetWithRule};
+ghost use Rattle.command.specs.Given.{IsSetWithRule};
 
 use crate::action::TraceAction;
 use crate::judging::reply_to_trace;
-use command::{FileName, fetch};
+use command::{
+    Admitted, FileName, MOST_TABLE_BYTES, SetWithRule, fetch, read_admitted, read_set_with_rule,
+};
 use mc_task::Rule;
 use mc_world::Shelf;
 use replies::{Reply, Stop};
 use std::alloc::Global;
-use task_commands::{Admitted, MOST_TABLE_BYTES, SetWithRule, read_admitted, read_set_with_rule};
 
 /// The most bytes of a trace.
 const MOST_TRACE_BYTES: usize = 1 << 27;

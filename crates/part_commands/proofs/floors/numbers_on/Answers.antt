@@ -1,4 +1,4 @@
-use Rattle.std.proofs.Common.{◌≡◌, ℕ, ◌+◌, ◌∷◌, [], ◌++◌, ◌∙◌, List, cond, filter, length, map, sym, ap, arith, eq-eqb, ne_eqb}
+use Rattle.std.proofs.Common.{◌≡◌, ℕ, ◌+◌, ◌<◌, ◌∷◌, [], ◌++◌, ◌∙◌, List, cond, filter, length, map, sym, ap, arith, eq-eqb, ne_eqb}
 use Rattle.std.proofs.lemmas.List.{map-append, append-nil}
 use Rattle.mc_task.specs.declared.task.TaskNo.{TaskNo}
 use Rattle.part_fit.specs.PartWork.{is_on}
@@ -12,9 +12,10 @@ loop-i-preserved c =
     let on = is_on c.args.processor c.args.of.now in
     let i = c.loop-i.i in
     let some = map (λ (k : TaskNo). k.0) c.loop-i.numbers.items in
-    let here = on-place c.args.processor c.args.of.now i c.loop-i-test.true in
+    let within : i < length c.args.of.now = (let more = c.loop-i-test.true in omega (arith, more, c.len-i-end.ensures.count, c.requires)) in
+    let here = on-place c.args.processor c.args.of.now i within in
     let more = λ (next : List ℕ) (grows : next ≡ some ++ filter on ((i + 1) ∷ [])).
-    made-more (filter on) (λ k. filter on (k ∷ [])) (i + 1) (length c.args.of.now) some next _ (filter-one on) (let t = c.loop-i-test.true in omega (arith, t)) c.loop-i.invariant grows in
+    made-more (filter on) (λ k. filter on (k ∷ [])) (i + 1) (length c.args.of.now) some next _ (filter-one on) (omega (arith, within)) c.loop-i.invariant grows in
     elim c.if-of-i.branch [
       | then-of-i+in_ok-push w ↦
           more _ (ap (λ v. map (λ (k : TaskNo). k.0) v.items) w.numbers-is ∙ ap (λ l. map (λ (k : TaskNo). k.0) l) w.in_ok-push.ensures.items ∙ map-append (λ (k : TaskNo). k.0) c.loop-i.numbers.items _

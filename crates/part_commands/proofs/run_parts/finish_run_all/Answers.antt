@@ -16,21 +16,21 @@ run_all-requires-clause-fresh g c κs within =
 pub traces_text-requires-clause-long : goal.traces_text-requires-clause-long
 traces_text-requires-clause-long g c =
     let parts = c.in_ok-used.field-0 in
-    let ended = all-ended c.args.ticks.now (parted_of c.args.job.parted) c.args.job.work parts.used.items parts.floors.items c.in-Ok.done.items c.in_ok-used.ensures.planned.each c.in-Ok.ensures in
-    let long = AllZip-long (IsEnded c.args.ticks.now (parted_of c.args.job.parted) c.args.job.work) parts.used.items c.in-Ok.done.items ended in
+    let ended = all-ended c.args.ticks.now (parted_of c.args.job.parted) c.args.job.work parts.used.items parts.floors.items c.in_ok-done.done.items c.in_ok-used.ensures.planned.each c.in_ok-done.ensures in
+    let long = AllZip-long (IsEnded c.args.ticks.now (parted_of c.args.job.parted) c.args.job.work) parts.used.items c.in_ok-done.done.items ended in
     ap length c.deref.ensures.value ∙ sym (ap length c.deref-2.ensures.value ∙ long)
 
 pub traces_text-requires-clause-few : goal.traces_text-requires-clause-few
 traces_text-requires-clause-few g c =
     let parts = c.in_ok-used.field-0 in
-    let ended = all-ended c.args.ticks.now (parted_of c.args.job.parted) c.args.job.work parts.used.items parts.floors.items c.in-Ok.done.items c.in_ok-used.ensures.planned.each c.in-Ok.ensures in
-    subst (λ ds. All HasSmallCapacity ds) (sym c.deref-2.ensures.value) (all-few c.args.ticks.now (parted_of c.args.job.parted) c.args.job.work parts.used.items c.in-Ok.done.items ended)
+    let ended = all-ended c.args.ticks.now (parted_of c.args.job.parted) c.args.job.work parts.used.items parts.floors.items c.in_ok-done.done.items c.in_ok-used.ensures.planned.each c.in_ok-done.ensures in
+    subst (λ ds. All HasSmallCapacity ds) (sym c.deref-2.ensures.value) (all-few c.args.ticks.now (parted_of c.args.job.parted) c.args.job.work parts.used.items c.in_ok-done.done.items ended)
 
 pub returns-clause-traces : goal.returns-clause-traces
 returns-clause-traces g c =
     let parts = c.in_ok-used.field-0 in
-    let done = c.in-Ok.done.items in
-    let ended = all-ended c.args.ticks.now (parted_of c.args.job.parted) c.args.job.work parts.used.items parts.floors.items done c.in_ok-used.ensures.planned.each c.in-Ok.ensures in
+    let done = c.in_ok-done.done.items in
+    let ended = all-ended c.args.ticks.now (parted_of c.args.job.parted) c.args.job.work parts.used.items parts.floors.items done c.in_ok-used.ensures.planned.each c.in_ok-done.ensures in
     let (follow, same) = all-follow c.args.ticks.now (parted_of c.args.job.parted) c.args.job.work parts.used.items done ended in
     let text : c.new.result ≡ reply_of 0 c.in_ok-text.text.items = search rules in (
       rows_of done,

@@ -1,4 +1,4 @@
-use Rattle.run_commands.proofs.LiveRows.{live_front, few_rows, some_place}
+use Rattle.run_commands.proofs.LiveRows.{live_front, some_place}
 use Rattle.run_commands.proofs.live.live_rows.Goals as goal
 
 pub returns-then-left-eq0 : goal.returns-then-left-eq0
@@ -7,10 +7,7 @@ returns-then-left-eq0 c =
     let core = c.args.core.now in
     let rows = c.rows-rows.result.now in
     let part = c.split_at.result.0.now in
-    record {
-      live = live_front core c.args.ticks l.place l.left rows part _ c.requires.live c.rows-rows.ensures.value c.split_at.ensures.front c.loop-place-test.true c.in-Tick.is l.invariant.some c.if-left-eq0.true l.invariant.sum;
-      few = few_rows core _ rows part c.places-sound.ensures.sound c.rows-rows.ensures.value c.split_at.ensures.front;
-    }
+    live_front core c.args.ticks l.place l.left rows part _ c.requires.live c.rows-rows.ensures.value c.split_at.ensures.front c.loop-place-test.true c.in-Tick.is l.invariant.some c.if-left-eq0.true l.invariant.sum
 
 pub unreachable-requires : goal.unreachable-requires
 unreachable-requires c =

@@ -1,4 +1,4 @@
-use Rattle.std.proofs.Common.{◌∙◌, length, ap, arith, length-append}
+use Rattle.std.proofs.Common.{◌∙◌, length, ap, sym, arith, length-append}
 use Rattle.std.proofs.lemmas.Slice.Zip.{all_zipped_more}
 use Rattle.part_commands.specs.declared.run_parts.RunAllJob.{RunAllJob}
 use Rattle.part_commands.specs.Planned.{parted_of, IsPlannedOn}
@@ -7,7 +7,7 @@ use Rattle.part_commands.proofs.floors.PartFloors.add.Goals as goal
 pub numbers_on-requires : goal.numbers_on-requires
 numbers_on-requires c =
     let long = ap length (c.deref.ensures.value ∙ ap (λ (j : RunAllJob). j.parted.parts) c.job.view_is) ∙ c.requires.job.1.admitted.long in
-    omega (arith, long, c.len-is_set.ensures.set.few)
+    long ∙ sym (ap (λ (j : RunAllJob). length j.parted.set.tasks) c.job.view_is)
 
 pub returns-clause-planned : goal.returns-clause-planned
 returns-clause-planned c =

@@ -1,8 +1,8 @@
 use Rattle.std.proofs.Common.{Err, rules}
 use Rattle.std.proofs.lemmas.Result.{err_from_is_err_and}
 use Rattle.command.proofs.Serving.{serves_need, serves_fetch, serves_answer, serves_refused}
-use Rattle.run_commands.specs.Run.{work_of}
-use Rattle.run_commands.specs.Jobs.{IsWorkOf}
+use Rattle.command.specs.Admitted.{work_of}
+use Rattle.command.specs.Given.{IsWorkOf}
 use Rattle.part_commands.specs.Parted.{parted}
 use Rattle.part_commands.specs.Given.{IsParted}
 use Rattle.part_commands.specs.RunAll.{IsTracesReply}

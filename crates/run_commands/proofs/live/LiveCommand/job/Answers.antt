@@ -1,7 +1,7 @@
 use Rattle.std.proofs.Common.{rules}
 use Rattle.command.proofs.Serving.{serves_need, serves_fetch, serves_answer}
-use Rattle.task_commands.specs.Admitted.{admitted}
-use Rattle.task_commands.specs.Given.{IsGivenAs}
+use Rattle.command.specs.Admitted.{admitted}
+use Rattle.command.specs.Given.{IsGivenAs}
 use Rattle.run_commands.specs.Live.{IsLiveReply}
 use Rattle.run_commands.proofs.live.LiveCommand.job.Goals as goal
 

@@ -1,10 +1,9 @@
 use Rattle.std.proofs.Common.{Err, rules}
 use Rattle.std.proofs.lemmas.Result.{err_from_is_err_and}
 use Rattle.command.proofs.Serving.{serves_need, serves_fetch, serves_answer, serves_refused}
-use Rattle.task_commands.specs.Admitted.{admitted}
-use Rattle.task_commands.specs.Given.{IsGivenAs}
-use Rattle.run_commands.specs.Run.{IsTraceReply, work_of}
-use Rattle.run_commands.specs.Jobs.{IsWorkOf}
+use Rattle.command.specs.Admitted.{admitted, work_of}
+use Rattle.run_commands.specs.Run.{IsTraceReply}
+use Rattle.command.specs.Given.{IsGivenAs, IsWorkOf}
 use Rattle.run_commands.proofs.run.RunCommand.job_on.Goals as goal
 
 pub returns-in_err-work : goal.returns-in_err-work

@@ -1,8 +1,8 @@
 use Rattle.std.proofs.Common.{◌≡◌, ◌∙◌, ap, refl}
 use Rattle.replies.specs.Reading.{reply_by}
 use Rattle.command.proofs.Serving.{serves_need, serves_fetch, serves_answer, Replies-weaker}
-use Rattle.task_commands.specs.Admitted.{with_rule}
-use Rattle.task_commands.specs.Given.{IsSetWithRule}
+use Rattle.command.specs.Admitted.{with_rule}
+use Rattle.command.specs.Given.{IsSetWithRule}
 use Rattle.trace_commands.specs.OnTrace.{set_with_rule_for, output_for}
 use Rattle.trace_commands.proofs.on_trace.TraceCommand.reply_on.Goals as goal
 

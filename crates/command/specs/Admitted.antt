@@ -1,14 +1,17 @@
--- What a task file gives a command: a set, and the rule under which its jobs are ordered.
+-- What a file gives a command: a set, the rule under which its jobs are ordered, the work for a set.
 use Rattle.std.specs.Prelude.{ℕ, ◌^◌, List, ok_or, Result, Ok}
 use Rattle.mc_task.specs.declared.task.Rule.{Rule}
+use Rattle.mc_task.specs.declared.task.Task.{Task}
 use Rattle.mc_task.specs.TaskSet.{Set}
 use Rattle.mc_model.specs.Loads.{range_fault}
 use Rattle.mc_model.specs.Test.{test}
+use Rattle.mc_model.specs.declared.work.WorkRow.{WorkRow}
 use Rattle.task_file.specs.TaskFile.{task_file}
-use Rattle.replies.specs.Refusal.{Refusal, TaskFile, OutOfRange, NotAdmitted}
+use Rattle.work_file.specs.WorkFile.{work_in}
+use Rattle.replies.specs.Refusal.{Refusal, TaskFile, WorkFile, OutOfRange, NotAdmitted}
 use Rattle.replies.specs.Reading.{◌>>=◌, refused_as, none_or}
 use Rattle.command.specs.Command.{Command, fetch}
-use Rattle.task_commands.specs.declared.set_with_rule.SetWithRule.{SetWithRule}
+use Rattle.command.specs.declared.set_with_rule.SetWithRule.{SetWithRule}
 
 -- a set with the rule under which its jobs are ordered
 abbrev pub with_rule : Rule → Set → SetWithRule
@@ -38,6 +41,10 @@ abbrev pub set_with_rule : Rule → List ℕ → Result SetWithRule Refusal
 set_with_rule rule bytes = do
   set ← set_in bytes
   Ok (with_rule rule set)
+
+-- the work for the set that a work file of these bytes says, or the file's refusal
+abbrev pub work_of : List Task → List ℕ → Result (List WorkRow) Refusal
+work_of set bytes = refused_as WorkFile (work_in set bytes)
 
 -- the command that asks for a task file, a work file or a demand file, of at most 16,777,216 bytes, and goes
 -- on by its bytes

@@ -1,11 +1,11 @@
 //! The set in a task file, if the test admits it.
 ghost use Rattle.std.specs.Prelude.{◌≡◌};
 ghost use Rattle.replies.specs.Stop.{ReadsOrRefuses};
-ghost use Rattle.task_commands.specs.Admitted.{set_in, tested, admitted};
-ghost use Rattle.task_commands.specs.Given.{IsGivenAs};
+ghost use Rattle.command.specs.Admitted.{set_in, tested, admitted};
+ghost use Rattle.command.specs.Given.{IsGivenAs};
 
-use admission::admit_scaled;
-use load_sum::{LoadFault, Loads, sum_loads};
+use admission::{NoRule, Tested, test_set};
+use load_sum::Loads;
 use mc_task::{Rule, TaskSet};
 use replies::{Stop, refused};
 use std::alloc::Global;
@@ -39,15 +39,13 @@ pub fn read_set(alloc: Global, bytes: &[u8]) -> Result<TaskSet, Stop>
     }
 }
 
+#[tactic(auto, using(crate::proofs::RuleOf::rule_of_test))]
 fn tested_set(alloc: Global, set: TaskSet) -> Result<Admitted, Stop>
     ensures { ReadsOrRefuses IsGivenAs (tested set) result }
 {
-    let loads = match sum_loads(&set) {
-        Ok(loads) => loads,
-        Err(LoadFault::Range { task }) => return Err(refused::out_of_range(alloc, task)),
-    };
-    match admit_scaled(&loads, set.scale()) {
-        Some(rule) => Ok(Admitted { set, loads, rule }),
-        None => Err(refused::not_admitted(alloc, &loads)),
+    match test_set(&set, set.scale()) {
+        Ok(Tested { loads, rule }) => Ok(Admitted { set, loads, rule }),
+        Err(NoRule::Range { task }) => Err(refused::out_of_range(alloc, task)),
+        Err(NoRule::NotAdmitted { loads }) => Err(refused::not_admitted(alloc, &loads)),
     }
 }

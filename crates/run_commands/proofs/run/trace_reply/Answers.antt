@@ -2,7 +2,7 @@ use Rattle.std.proofs.Common.{rules, ◌≡◌, ◌∙◌, reverse, ap, arith}
 use Rattle.mc_model.specs.Core.{State}
 use Rattle.replies.specs.Reply.{reply_of}
 use Rattle.run_commands.proofs.TraceBytes.{trace_text_le}
-use Rattle.run_commands.proofs.traced.trace_reply.Goals as goal
+use Rattle.run_commands.proofs.run.trace_reply.Goals as goal
 
 pub trace_text-requires-clause-tasks : goal.trace_text-requires-clause-tasks
 trace_text-requires-clause-tasks c = rw c.set-set.ensures c.rows.ensures.of_set

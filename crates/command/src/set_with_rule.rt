@@ -1,8 +1,8 @@
 //! The set in a task file, under a rule.
 ghost use Rattle.mc_model.specs.Holds.{Fits};
 ghost use Rattle.replies.specs.Stop.{ReadsOrRefuses};
-ghost use Rattle.task_commands.specs.Admitted.{set_with_rule};
-ghost use Rattle.task_commands.specs.Given.{IsSetWithRule};
+ghost use Rattle.command.specs.Admitted.{set_with_rule};
+ghost use Rattle.command.specs.Given.{IsSetWithRule};
 
 use crate::admitted::read_set;
 use mc_task::{Rule, TaskSet};
