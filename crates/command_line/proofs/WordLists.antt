@@ -1,5 +1,5 @@
 -- The words of a slice, and words that are too few or too many.
-use Rattle.std.proofs.Common.{◌≡◌, ℕ, zero, suc, ◌+◌, List, [], ◌∷◌, length, map, Bor, true, false, slice_index_or, nat_lt, None, refl, ap, true≢false, arith}
+use Rattle.std.proofs.Common.{◌≡◌, ℕ, zero, suc, ◌+◌, ◌<◌, List, [], ◌∷◌, length, map, Bor, true, false, slice_index_or, nat_lt, None, refl, sym, ap, true≢false, arith}
 use Rattle.std.proofs.lemmas.Bool.Decides.{nat_tests}
 use Rattle.command_line.specs.Form.{form_in}
 
@@ -34,3 +34,6 @@ none_of_few (a ∷ b ∷ rest) few = absurd (grind (arith, nat_tests, few))
 pub none_of_many : (words : Words) → nat_lt (length words) 6 ≡ false → None ≡ form_in words
 none_of_many (a ∷ b ∷ c ∷ d ∷ e ∷ f ∷ rest) many = refl
 none_of_many words many = absurd (true≢false many)
+
+pub none_of_long : (words : Words) → 5 < length words → form_in words ≡ None
+none_of_long words long = sym (none_of_many words (grind (arith, nat_tests, long)))

@@ -1,5 +1,5 @@
 //! The forms of the command line: which words ask for which command.
-ghost use Rattle.std.specs.Prelude.{◌≡◌, ◌+◌, ◌<◌, ◌≤◌, ◌^◌, IfOk, IfSome, IfNone, OnSome};
+ghost use Rattle.std.specs.Prelude.{◌≡◌, ◌+◌, ◌<◌, ◌≤◌, ◌^◌, IfOk, IfSome, IfNone, OnSome, None, length};
 ghost use Rattle.command.specs.Serves.{Serves};
 ghost use Rattle.trace_commands.specs.OnTrace.{IsScale};
 ghost use Rattle.command_line.specs.Form as spec;
@@ -88,8 +88,11 @@ impl<'a> Form<'a> {
 }
 
 /// The form that the words have, if any.
+#[tactic(auto, using(crate::proofs::WordLists::none_of_long))]
 pub fn form_of<'a>(words: &[&'a str]) -> Option<Form<'a>>
     ensures form { result ≡ spec.form_in words.now }
+    // More than five words have no form.
+    ensures long { 5 < length words.now → spec.form_in words.now ≡ None }
     ensures range { IfSome result spec.IsInRange }
 {
     match *words {

@@ -39,6 +39,9 @@ pub fn edfvd<R: Threads + Wait + Sync, S: Shelf, K: Sink, G: Gate + Sync>(
 ) -> u8
     ensures outcome { Outcome S.state K.state call.old call.new result }
 
+    // The words stay as they are.
+    ensures words { call.new.words ≡ call.old.words }
+
     // The next five hold where the shelf reports its files, the sink its bytes, and neither fails. The status and the text are
     // the answer, or memory ran out and nothing was written.
     ensures answer { WhereReported S.state K.state WritesAnswer call.old call.new result }

@@ -1,6 +1,10 @@
 //! edfvd: tests and schedules task sets by EDF with virtual deadlines.
 #![tactic(auto)]
 
+ghost use Rattle.std.specs.Prelude.{◌≡◌, length, map, string_bytes, take};
+ghost use Rattle.command_line.specs.Form.{form_in, form_of};
+ghost use Rattle.edfvd_program.specs.Words.{text_at};
+
 mod edfvd;
 #[cfg(test)]
 mod tests;
@@ -27,8 +31,11 @@ fn main(rt: HostRuntime) -> ExitCode {
     ExitCode::from(edfvd(&rt, rt.alloc(), &mut call, &QuietGate))
 }
 
-// The first words, one more than a command has at most: of a longer list they have no form, as the whole list has none.
-fn first_words(texts: &[String]) -> [&str; 6] {
+// The first six texts, one more than a command has words, with empty ones after the last. If there are more than six, the six
+// and all of them have no form.
+fn first_words(texts: &[String]) -> [&str; 6]
+    ensures form { form_in (take (length texts.now) result) ≡ form_of (map string_bytes texts.now) }
+{
     [
         word(texts, 0),
         word(texts, 1),
@@ -39,7 +46,9 @@ fn first_words(texts: &[String]) -> [&str; 6] {
     ]
 }
 
-fn word(texts: &[String], place: usize) -> &str {
+fn word(texts: &[String], place: usize) -> &str
+    ensures { result.now ≡ text_at texts.now place }
+{
     match texts.get(place) {
         Some(text) => text.as_str(),
         None => "",

@@ -25,31 +25,22 @@ use Rattle.trace_commands.specs.declared.on_trace.TraceCommand.{TraceCommand}
 use Rattle.replies.specs.Reply.{Reply, reply_of}
 use Rattle.replies.specs.Refusal.{Refusal, Trace, BadTrace, LongChart, status_of}
 use Rattle.replies.specs.Reading.{◌>>=◌, refused_as, reply_by}
-use Rattle.command.specs.Command.{answer, fetch, read_or_refuse}
+use Rattle.command.specs.Command.{Command, answer, fetch}
 use Rattle.command.specs.Outcome.{IsAnswer}
-use Rattle.task_commands.specs.Admitted.{with_rule, tested, admitted}
-use Rattle.task_commands.specs.declared.set_with_rule.SetWithRule.{SetWithRule}
+use Rattle.command.specs.Admitted.{with_rule, tested}
+use Rattle.command.specs.declared.set_with_rule.SetWithRule.{SetWithRule}
 use Rattle.trace_commands.specs.OnTrace.{is_good, rows_in, good_text, judged, output_for, on_trace}
 use Rattle.trace_commands.proofs.GoodTrace.{no_fault_in, rows_of_runs}
 use Rattle.promises.specs.Headline.{bytes_of, IsAdmitted, SchedulesExactly, trace_of, SaysTrace, WritesAgain, Finds, FindsUnder}
 use Rattle.promises.specs.RightText.{WritesAbout, WritesAboutUnder}
 use Rattle.promises.specs.Complete.{IsShortEnough, FindsEach, FindsBy, FindsAll}
-use Rattle.promises.proofs.Cases.{By, OfFile, OfSet, held, by_text, by_steps, by_set, within, by_reader, for_file, decided}
+use Rattle.promises.proofs.Cases.{fetched, goes_on, reads, steps, by_text, on_set, decided}
 use Rattle.promises.proofs.Written.{again_read}
-use Rattle.promises.proofs.Promised.{Keeps, Comes, holds_for, timely, only_ruled, next_of, schedules_exactly}
+use Rattle.promises.proofs.Promised.{Keeps, holds_for, timely, only_ruled, next_of, schedules_exactly}
 
--- the reply refuses the trace file, or is the command's reply to the rows in it
-abbrev RepliesNext : TraceAction → List ℕ → Reply → SetWithRule → Type 0
-RepliesNext action more reply ruled = OfFile 2 (2 ^ 27) more (rows_in ruled.set.tasks more) (λ h. reply ≡ reply_by (judged action ruled h)) reply
-
--- the answer of a command that asks for a trace file refuses the file, or is the reply to the rows in it
-by_trace : (action : TraceAction) (files : Files) (trace : List ℕ) (reply : Reply) (ruled : SetWithRule)
-    → IsAnswer files 2 (fetch trace (2 ^ 27) (λ more. answer (λ reply. reply ≡ reply_by (output_for action ruled more)))) reply
-    → RepliesNext action (bytes_of files trace) reply ruled
-by_trace action files trace reply ruled h =
-    held files 2 (2 ^ 27) trace (λ more. answer (λ reply. reply ≡ reply_by (output_for action ruled more)))
-    (λ more. By (rows_in ruled.set.tasks more) (λ h. reply ≡ reply_by (judged action ruled h)) reply) reply
-    (λ more k. by_text (rows_in ruled.set.tasks more) (judged action ruled) reply k) h
+-- the command that writes about the trace in a trace file, of the set under the rule
+abbrev on_rows : TraceAction → List ℕ → SetWithRule → Command
+on_rows action trace ruled = fetch trace (2 ^ 27) (λ more. answer (λ reply. reply ≡ reply_by (output_for action ruled more)))
 
 -- a command writes its text about each good trace, except a chart that is too long
 text_ok : (action : TraceAction) (ruled : SetWithRule) (h : List Row) → IsShortEnough action h → (text : List ℕ) × (good_text action ruled h ≡ Ok text)
@@ -85,14 +76,15 @@ judges action ruled h reply k = go (is_good (verdict ruled.set.tasks ruled.rule 
     go false e k = blames e (ap (λ (r : Reply). r.status) k)
 
 -- the rows of the trace file, which are of the set, and the judgement on them, if the status is none of the file's refusals
-judged_of : (action : TraceAction) (more : List ℕ) (reply : Reply) (ruled : SetWithRule) → reply.status ≢ 7 → reply.status ≢ 5 → RepliesNext action more reply ruled
-    → (runs : List Run) × SaysTrace more ruled.set.tasks runs × AllByRecursion (IsOfSet ruled.set.tasks) (trace_of runs) × Judges action ruled (trace_of runs) reply
-judged_of action more reply ruled not_7 not_5 k =
-    let P : List Row → Type 0 = λ h. reply ≡ reply_by (judged action ruled h) in
-    let (short, by) = within 2 (2 ^ 27) more (By (rows_in ruled.set.tasks more) P reply) reply not_7 k in
+judged_of : (action : TraceAction) (files : Files) (trace : List ℕ) (reply : Reply) (ruled : SetWithRule) → IsAnswer files 2 (on_rows action trace ruled) reply → reply.status ≢ 7 → reply.status ≢ 5
+    → (runs : List Run) × SaysTrace (bytes_of files trace) ruled.set.tasks runs × AllByRecursion (IsOfSet ruled.set.tasks) (trace_of runs) × Judges action ruled (trace_of runs) reply
+judged_of action files trace reply ruled h not_7 not_5 =
+    let more = bytes_of files trace in
+    let (short, by) = fetched files 2 (2 ^ 27) trace (λ more. answer (λ reply. reply ≡ reply_by (output_for action ruled more))) reply h not_7 in
+    let judged_by : List Row → Command = λ h. answer (λ reply. reply ≡ reply_by (judged action ruled h)) in
     let file = trace_file ruled.set.tasks more in
-    let (runs, is, p) = by_reader Trace file (λ runs. P (trace_of runs)) reply (λ fault. not_5)
-    (by_steps (refused_as Trace file) (λ runs. Ok (trace_of runs)) P reply by) in (
+    let read = steps files 3 (refused_as Trace file) (λ runs. Ok (trace_of runs)) judged_by reply (by_text files 3 (rows_in ruled.set.tasks more) (judged action ruled) reply by) in
+    let (runs, is, p) = reads files 3 Trace file (λ runs. judged_by (trace_of runs)) reply read (λ fault. not_5) in (
       runs,
       (short, is),
       rows_of_runs ruled.set.tasks runs (runs_of_set ruled.set.tasks more runs is),
@@ -100,15 +92,14 @@ judged_of action more reply ruled not_7 not_5 k =
     )
 
 -- a good trace that is short enough for the command gets status 0
-good_0 : (action : TraceAction) (more : List ℕ) (reply : Reply) (ruled : SetWithRule) (runs : List Run) → SaysTrace more ruled.set.tasks runs
-    → is_good (verdict ruled.set.tasks ruled.rule (trace_of runs)) ≡ true → IsShortEnough action (trace_of runs)
-    → RepliesNext action more reply ruled → reply.status ≡ 0
-good_0 action more reply ruled runs said good is k =
+good_0 : (action : TraceAction) (files : Files) (trace : List ℕ) (reply : Reply) (ruled : SetWithRule) → IsAnswer files 2 (on_rows action trace ruled) reply
+    → (runs : List Run) → SaysTrace (bytes_of files trace) ruled.set.tasks runs → is_good (verdict ruled.set.tasks ruled.rule (trace_of runs)) ≡ true
+    → IsShortEnough action (trace_of runs) → reply.status ≡ 0
+good_0 action files trace reply ruled h runs said good is =
     let (text, t) = text_ok action ruled (trace_of runs) is in
-    let output_for : judged action ruled (trace_of runs) ≡ Ok text = rw (good, t) refl in
-    let rows : rows_in ruled.set.tasks more ≡ Ok (trace_of runs) = ap (λ read. refused_as Trace read >>= (λ runs. Ok (trace_of runs))) said.1 in
-    let P : List Row → Type 0 = λ h. reply ≡ reply_by (judged action ruled h) in
-    ap (λ (r : Reply). r.status) (for_file 2 (2 ^ 27) more (rows_in ruled.set.tasks more) P reply (trace_of runs) said.0 rows k ∙ ap reply_by output_for)
+    let writes : judged action ruled (trace_of runs) ≡ Ok text = rw (good, t) refl in
+    let rows = ap (λ read. (refused_as Trace read >>= (λ runs. Ok (trace_of runs))) >>= judged action ruled) said.1 in
+    ap (λ (r : Reply). r.status) (goes_on files 2 (2 ^ 27) trace (λ more. answer (λ reply. reply ≡ reply_by (output_for action ruled more))) reply h said.0 ∙ ap reply_by (rows ∙ writes))
 
 -- what `migrate` writes of a trace that it finds legal is a trace file of the same rows
 again : (action : TraceAction) (ruled : SetWithRule) (more : List ℕ) (runs : List Run) (text old : List ℕ) (new : Option (List ℕ)) → AreTasks ruled.set.tasks
@@ -125,15 +116,13 @@ good_of : (bytes : List ℕ) (set : Set) (rule : Rule) (h : List Row) → IsAdmi
 good_of bytes set rule h a l = let s = holds_for bytes set rule a in ap is_good (verdict-good set.tasks rule h l (none_late set.tasks rule h s.0.each s.1 l))
 
 -- what a command on a trace promises under the test's rule
-finds : (action : TraceAction) (tasks trace : List ℕ) (files : Files) (old : List ℕ) (reply : Reply)
-    → IsAnswer files 1 (fetch tasks (2 ^ 24) (λ bytes. read_or_refuse (admitted bytes)
-    (λ ruled. fetch trace (2 ^ 27) (λ more. answer (λ reply. reply ≡ reply_by (output_for action ruled more)))))) reply
+finds : (action : TraceAction) (tasks trace : List ℕ) (files : Files) (old : List ℕ) (reply : Reply) → IsAnswer files 1 (on_set tasks tested (on_rows action trace)) reply
     → (SchedulesExactly (bytes_of files tasks) reply.status × Finds action (bytes_of files tasks) (bytes_of files trace) old reply.status (Some (old ++ reply.text)))
     × WritesAbout action (bytes_of files tasks) (bytes_of files trace) old reply.status (Some (old ++ reply.text))
     × FindsEach action (bytes_of files tasks) (bytes_of files trace) reply.status × Unit {0}
 finds action tasks trace files old reply h = (
   (
-    schedules_exactly bytes Next reply not_1 c,
+    schedules_exactly files tasks (on_rows action trace) reply h not_1,
     record {
       finds = λ e. (let (set, rule, runs, text, legal, a, said, t, w) = found e in (
         set,
@@ -148,7 +137,8 @@ finds action tasks trace files old reply h = (
     },
   ),
   λ e. (let (set, rule, runs, text, legal, a, said, t, w) = found e in (set, rule, runs, text, a, said, t, w)),
-  λ set rule runs a said legal is. inl (good_0 action more reply (with_rule rule set) runs said (good_of bytes set rule (trace_of runs) a legal) is (next_of bytes Next reply set rule a c)),
+  λ set rule runs a said legal is.
+      inl (good_0 action files trace reply (with_rule rule set) (next_of files tasks (on_rows action trace) reply h set rule a) runs said (good_of bytes set rule (trace_of runs) a legal) is),
   tt,
 )
   where
@@ -158,17 +148,9 @@ finds action tasks trace files old reply h = (
     more : List ℕ
     more = bytes_of files trace
 
-    Next : SetWithRule → Type 0
-    Next ruled = RepliesNext action more reply ruled
-
-    c : Comes bytes Next reply
-    c =
-        by_set files tasks tested (λ ruled. fetch trace (2 ^ 27) (λ more. answer (λ reply. reply ≡ reply_by (output_for action ruled more))))
-        Next reply (by_trace action files trace reply) h
-
-    not_1 : (ruled : SetWithRule) → Next ruled → reply.status ≢ 1
+    not_1 : (ruled : SetWithRule) → IsAnswer files 2 (on_rows action trace ruled) reply → reply.status ≢ 1
     not_1 ruled k e =
-        let (t, said, of, verdict) = judged_of action more reply ruled (λ z. absurd (omega arith)) (λ z. absurd (omega arith)) k in
+        let (t, said, of, verdict) = judged_of action files trace reply ruled k (λ z. absurd (omega arith)) (λ z. absurd (omega arith)) in
         elim verdict [
           | blames bad s ↦ absurd (omega arith)
           | refuses s ↦ absurd (omega arith)
@@ -179,8 +161,8 @@ finds action tasks trace files old reply h = (
         × IsAdmitted bytes set rule × SaysTrace more set.tasks runs × (good_text action (with_rule rule set) (trace_of runs) ≡ Ok text)
         × (Some (old ++ reply.text) ≡ Some (old ++ text))
     found e =
-        let (set, rule, a, k) = only_ruled bytes Next reply (λ z. absurd (omega arith)) (λ z. absurd (omega arith)) (λ z. absurd (omega arith)) c in
-        let (runs, said, of, verdict) = judged_of action more reply (with_rule rule set) (λ z. absurd (omega arith)) (λ z. absurd (omega arith)) k in
+        let (set, rule, a, k) = only_ruled files tasks (on_rows action trace) reply h (λ z. absurd (omega arith)) (λ z. absurd (omega arith)) (λ z. absurd (omega arith)) in
+        let (runs, said, of, verdict) = judged_of action files trace reply (with_rule rule set) k (λ z. absurd (omega arith)) (λ z. absurd (omega arith)) in
         elim verdict [
           | blames bad s ↦ absurd (omega arith)
           | refuses s ↦ absurd (omega arith)
@@ -193,8 +175,8 @@ finds action tasks trace files old reply h = (
     faulty : reply.status ≡ 6 → (set : Set) × (rule : Rule) × (runs : List Run) × IsAdmitted bytes set rule × SaysTrace more set.tasks runs
         × (Legal set.tasks rule (trace_of runs) → ⊥)
     faulty e =
-        let (set, rule, a, k) = only_ruled bytes Next reply (λ z. absurd (omega arith)) (λ z. absurd (omega arith)) (λ z. absurd (omega arith)) c in
-        let (runs, said, of, verdict) = judged_of action more reply (with_rule rule set) (λ z. absurd (omega arith)) (λ z. absurd (omega arith)) k in
+        let (set, rule, a, k) = only_ruled files tasks (on_rows action trace) reply h (λ z. absurd (omega arith)) (λ z. absurd (omega arith)) (λ z. absurd (omega arith)) in
+        let (runs, said, of, verdict) = judged_of action files trace reply (with_rule rule set) k (λ z. absurd (omega arith)) (λ z. absurd (omega arith)) in
         elim verdict [
           | blames bad s ↦ (set, rule, runs, a, said, λ legal. (let clash : true ≡ false = sym (good_of bytes set rule (trace_of runs) a legal) ∙ bad in cc))
           | refuses s ↦ absurd (omega arith)
@@ -208,28 +190,11 @@ finds_by p q tasks trace files old reply h = (
   tt,
   tt,
   λ set runs says said legal none.
-      inl (good_0 (JudgeBy p q) more reply (ruled set) runs said (ap is_good (verdict-good set.tasks (Virtual p q) (trace_of runs) legal none)) tt
-      (decided bytes (λ set. Ok (ruled set)) (Ok (ruled set)) Next reply set says refl c)),
+      inl (good_0 (JudgeBy p q) files trace reply (with_rule (Virtual p q) set)
+      (decided files tasks (λ set. Ok (with_rule (Virtual p q) set)) (on_rows (JudgeBy p q) trace) reply h set (Ok (with_rule (Virtual p q) set)) says refl)
+      runs said (ap is_good (verdict-good set.tasks (Virtual p q) (trace_of runs) legal none)) tt),
   tt,
 )
-  where
-    bytes : List ℕ
-    bytes = bytes_of files tasks
-
-    more : List ℕ
-    more = bytes_of files trace
-
-    ruled : Set → SetWithRule
-    ruled set = with_rule (Virtual p q) set
-
-    Next : SetWithRule → Type 0
-    Next ruled = RepliesNext (JudgeBy p q) more reply ruled
-
-    c : OfSet bytes (λ set. By (Ok (ruled set)) Next reply) reply
-    c =
-        by_set files tasks (λ set. Ok (ruled set)) (λ ruled. fetch trace (2 ^ 27) (λ more. answer (λ reply. reply ≡ reply_by (output_for (JudgeBy p q) ruled more))))
-        Next reply
-        (by_trace (JudgeBy p q) files trace reply) h
 
 under_rule : (action : TraceAction) (tasks trace : List ℕ) (files : Files) (old : List ℕ) (reply : Reply) → IsAnswer files 1 (on_trace action tasks trace) reply
     → FindsUnder action (bytes_of files tasks) (bytes_of files trace) old reply.status (Some (old ++ reply.text))

@@ -1,6 +1,5 @@
 pub mod Cases
 pub mod Promised
-pub mod FewRows
 pub mod Written
 pub mod Scheduled
 pub mod Found

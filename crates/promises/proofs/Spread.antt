@@ -1,7 +1,8 @@
 -- What the commands on several processors promise: `partition` and `runall`.
-use Rattle.std.proofs.Common.{◌≡◌, ◌≢◌, ◌⊎◌, ◌≤◌, inl, inr, ℕ, ◌^◌, nat_lt, true, List, [], ◌∷◌, ◌++◌, length, reverse, flat_map, zip, Some, Result, Ok, Err, refl, ap, ◌∙◌, arith}
+use Rattle.std.proofs.Common.{◌≡◌, ◌≢◌, ◌⊎◌, ◌≤◌, inl, inr, ℕ, nat_lt, true, List, [], ◌∷◌, ◌++◌, length, reverse, flat_map, zip, Some, Result, Ok, Err, refl, ap, ◌∙◌, arith}
 use Rattle.std.specs.List.{AllByRecursion, AllZip, range_with_len}
 use Rattle.mc_task.specs.declared.task.Task.{Task}
+use Rattle.mc_world.specs.Shelf.{Files}
 use Rattle.mc_task.specs.TaskSet.{Set, AreTasks, task_at, name_in}
 use Rattle.mc_model.specs.declared.row.Row.{Row}
 use Rattle.mc_model.specs.declared.work.WorkRow.{WorkRow}
@@ -16,100 +17,89 @@ use Rattle.part_fit.specs.PartWork.{part_rows}
 use Rattle.part_fit.proofs.Placed.{first_fit-IsPartition}
 use Rattle.part_fit.proofs.WorkRows.{part_rows-length}
 use Rattle.command_line.specs.declared.form.Form.TheVariants as form
+use Rattle.run_commands.proofs.PlannedTrace.{follows-few}
 use Rattle.part_commands.specs.declared.partition.PartitionCommand.{PartitionCommand}
 use Rattle.part_commands.specs.declared.run_parts.RunAllCommand.{RunAllCommand}
 use Rattle.replies.specs.Reply.{Reply, reply_of}
-use Rattle.replies.specs.Refusal.{NoRoom, WorkFile}
-use Rattle.replies.specs.Reading.{◌>>=◌, refused_as, reply_by}
-use Rattle.command.specs.Command.{answer}
-use Rattle.task_commands.specs.Admitted.{set_in}
-use Rattle.run_commands.specs.Run.{work_of}
-use Rattle.part_commands.specs.Parted.{Parted, tasks_on, spread, fitted, parted}
-use Rattle.part_commands.specs.Partition.{partition_text, placed}
-use Rattle.part_commands.specs.RunAll.{is_used, used, IsTraceOn, IsTracesReply, trace_lines}
+use Rattle.replies.specs.Refusal.{NoRoom}
+use Rattle.replies.specs.Reading.{◌>>=◌, refused_as}
+use Rattle.command.specs.Command.{Command, answer, read_or_refuse}
+use Rattle.command.specs.Outcome.{IsAnswer}
+use Rattle.part_commands.specs.Parted.{Parted, tasks_on, spread, fitted}
+use Rattle.part_commands.specs.Partition.{partition_text}
+use Rattle.part_commands.specs.RunAll.{is_used, used, IsTraceOn, trace_lines}
 use Rattle.promises.specs.Headline.{bytes_of, SaysSet, IsSpread, SpreadsExactly, IsTimelyOn, lines_of}
 use Rattle.promises.specs.RightText.{WritesParts}
-use Rattle.promises.specs.Complete.{ServesSpread}
-use Rattle.promises.proofs.Cases.{By, OfSet, held, by_text, by_steps, by_set, of_set, for_file, decided}
-use Rattle.promises.proofs.FewRows.{work-few, follows-few}
+use Rattle.promises.proofs.Cases.{on_set, of_set, decided, text_on_set}
 use Rattle.promises.proofs.Promised.{Keeps}
 use Rattle.promises.proofs.Written.{says_timely}
-use Rattle.promises.proofs.Scheduled.{OfWork, by_work, of_work}
+use Rattle.promises.proofs.Scheduled.{work-few, of_work, for_work}
 
--- the reply refuses the task file, or the first task that fits on no processor, or this holds of the set on
--- its processors
-abbrev Spreads : ℕ → List ℕ → (Parted → Type 0) → Reply → Type 0
-Spreads m bytes Then reply = OfSet bytes (λ set. By (fitted m set.tasks) Then reply) reply
+-- the command that goes on with the set in a task file on processors 1 to m
+abbrev on_parts : ℕ → List ℕ → (Parted → Command) → Command
+on_parts m tasks next = on_set tasks (λ set. fitted m set.tasks) next
 
--- first fit finds no processor for a task, with status 12, or this holds of the processors that it finds
-by_fit : (m : ℕ) (set : Set) (Then : Parted → Type 0) (reply : Reply) → By (fitted m set.tasks) Then reply
-    → ((task : ℕ) × (first_fit set.tasks m ≡ Err task) × (reply.status ≡ 12)) ⊎ ((of : List ℕ) × (first_fit set.tasks m ≡ Ok of) × Then (spread set.tasks of))
-by_fit m set Then reply h = go (first_fit set.tasks m) refl h
+-- first fit finds no processor for a task, with status 12, or the reply is the answer by the processors that it finds
+by_fit : (files : Files) (m : ℕ) (set : Set) (next : Parted → Command) (reply : Reply) → IsAnswer files 2 (read_or_refuse (fitted m set.tasks) next) reply
+    → ((task : ℕ) × (first_fit set.tasks m ≡ Err task) × (reply.status ≡ 12)) ⊎ ((of : List ℕ) × (first_fit set.tasks m ≡ Ok of) × IsAnswer files 2 (next (spread set.tasks of)) reply)
+by_fit files m set next reply h = go (first_fit set.tasks m) refl h
   where
     go : (found : Result (List ℕ) ℕ) → first_fit set.tasks m ≡ found
-        → By (refused_as (λ k. NoRoom (name_in (task_at set.tasks k)) m) found >>= (λ of. Ok (spread set.tasks of))) Then reply
-        → ((task : ℕ) × (first_fit set.tasks m ≡ Err task) × (reply.status ≡ 12)) ⊎ ((of : List ℕ) × (first_fit set.tasks m ≡ Ok of) × Then (spread set.tasks of))
+        → IsAnswer files 2 (read_or_refuse (refused_as (λ k. NoRoom (name_in (task_at set.tasks k)) m) found >>= (λ of. Ok (spread set.tasks of))) next) reply
+        → ((task : ℕ) × (first_fit set.tasks m ≡ Err task) × (reply.status ≡ 12)) ⊎ ((of : List ℕ) × (first_fit set.tasks m ≡ Ok of) × IsAnswer files 2 (next (spread set.tasks of)) reply)
     go (Ok of) e k = inr (of, e, k)
-    go (Err task) e k = inl (task, e, ap (λ r. r.status) k)
+    go (Err task) e k = inl (task, e, ap (λ (r : Reply). r.status) k)
 
 -- Status 12 comes exactly if a task fits on no processor, provided that the next step has another status.
-spreads_exactly : (m : ℕ) (bytes : List ℕ) (Then : Parted → Type 0) (reply : Reply) → ((x : Parted) → Then x → reply.status ≢ 12) → Spreads m bytes Then reply
-    → SpreadsExactly m bytes reply.status
-spreads_exactly m bytes Then reply other h = record { refused = only; refuses = always }
+spreads_exactly : (files : Files) (m : ℕ) (tasks : List ℕ) (next : Parted → Command) (reply : Reply) → IsAnswer files 1 (on_parts m tasks next) reply
+    → ((x : Parted) → IsAnswer files 2 (next x) reply → reply.status ≢ 12) → SpreadsExactly m (bytes_of files tasks) reply.status
+spreads_exactly files m tasks next reply h other = record { refused = only; refuses = always }
   where
-    only : reply.status ≡ 12 → (set : Set) × (task : ℕ) × SaysSet bytes set × (first_fit set.tasks m ≡ Err task)
+    only : reply.status ≡ 12 → (set : Set) × (task : ℕ) × SaysSet (bytes_of files tasks) set × (first_fit set.tasks m ≡ Err task)
     only e =
-        let (set, says, k) = of_set bytes (λ set. By (fitted m set.tasks) Then reply) reply (λ z. absurd (omega arith)) (λ z. absurd (omega arith)) h in
-        elim (by_fit m set Then reply k) [ inl none ↦ (set, none.0, says, none.1) | inr r ↦ absurd (other (spread set.tasks r.0) r.2 e) ]
+        let (set, says, k) = of_set files tasks (λ set. fitted m set.tasks) next reply h (λ z. absurd (omega arith)) (λ z. absurd (omega arith)) in
+        elim (by_fit files m set next reply k) [ inl none ↦ (set, none.0, says, none.1) | inr r ↦ absurd (other (spread set.tasks r.0) r.2 e) ]
 
-    always : (set : Set) (task : ℕ) → SaysSet bytes set → first_fit set.tasks m ≡ Err task → (reply.status ≡ 12) ⊎ (reply.status ≡ 9)
+    always : (set : Set) (task : ℕ) → SaysSet (bytes_of files tasks) set → first_fit set.tasks m ≡ Err task → (reply.status ≡ 12) ⊎ (reply.status ≡ 9)
     always set task says none =
         let refuses : fitted m set.tasks ≡ Err (NoRoom (name_in (task_at set.tasks task)) m) = rw none refl in
-        inl (ap (λ r. r.status) (decided bytes (λ set. fitted m set.tasks) (Err (NoRoom (name_in (task_at set.tasks task)) m)) Then reply set says refuses h))
+        inl (ap (λ (r : Reply). r.status) (decided files tasks (λ set. fitted m set.tasks) next reply h set (Err (NoRoom (name_in (task_at set.tasks task)) m)) says refuses))
 
--- with status 0 first fit puts the set's tasks on processors, and this is so of the set on these
-only_spread : (m : ℕ) (bytes : List ℕ) (Then : Parted → Type 0) (reply : Reply) → Spreads m bytes Then reply → reply.status ≡ 0
-    → (set : Set) × (of : List ℕ) × IsSpread m bytes set of × Then (spread set.tasks of)
-only_spread m bytes Then reply h e =
-    let (set, says, k) = of_set bytes (λ set. By (fitted m set.tasks) Then reply) reply (λ z. absurd (omega arith)) (λ z. absurd (omega arith)) h in
-    elim (by_fit m set Then reply k) [ inl none ↦ absurd (omega (arith, none.2)) | inr r ↦ (set, r.0, (says, r.1), r.2) ]
+-- with status 0 first fit puts the set's tasks on processors, and the reply is the answer by the set on these
+only_spread : (files : Files) (m : ℕ) (tasks : List ℕ) (next : Parted → Command) (reply : Reply) → IsAnswer files 1 (on_parts m tasks next) reply → reply.status ≡ 0
+    → (set : Set) × (of : List ℕ) × IsSpread m (bytes_of files tasks) set of × IsAnswer files 2 (next (spread set.tasks of)) reply
+only_spread files m tasks next reply h e =
+    let (set, says, k) = of_set files tasks (λ set. fitted m set.tasks) next reply h (λ z. absurd (omega arith)) (λ z. absurd (omega arith)) in
+    elim (by_fit files m set next reply k) [ inl none ↦ absurd (omega (arith, none.2)) | inr r ↦ (set, r.0, (says, r.1), r.2) ]
 
--- if first fit puts the set's tasks on processors, this is so of the set on these
-next_spread : (m : ℕ) (bytes : List ℕ) (Then : Parted → Type 0) (reply : Reply) (set : Set) (of : List ℕ) → IsSpread m bytes set of → Spreads m bytes Then reply
-    → Then (spread set.tasks of)
-next_spread m bytes Then reply set of is h =
+-- if first fit puts the set's tasks on processors, the reply is the answer by the set on these
+next_spread : (files : Files) (m : ℕ) (tasks : List ℕ) (next : Parted → Command) (reply : Reply) → IsAnswer files 1 (on_parts m tasks next) reply
+    → (set : Set) (of : List ℕ) → IsSpread m (bytes_of files tasks) set of → IsAnswer files 2 (next (spread set.tasks of)) reply
+next_spread files m tasks next reply h set of is =
     let fits : fitted m set.tasks ≡ Ok (spread set.tasks of) = rw is.1 refl in
-    decided bytes (λ set. fitted m set.tasks) (Ok (spread set.tasks of)) Then reply set is.0 fits h
+    decided files tasks (λ set. fitted m set.tasks) next reply h set (Ok (spread set.tasks of)) is.0 fits
 
 -- first fit puts each task on one processor, and the tasks of each processor are admitted
 parts_of : (m : ℕ) (bytes : List ℕ) (set : Set) (of : List ℕ) → IsSpread m bytes set of → IsPartition set.tasks of m
 parts_of m bytes set of is = first_fit-IsPartition set.tasks m of (says_set bytes set is.0.1).tasks is.1
 
 pub partition_keeps : (command : PartitionCommand) → Keeps (form.Partition command)
-partition_keeps command files old reply h = (
-  tt,
-  tt,
-  tt,
-  (
-    spreads_exactly command.processors bytes Next reply (λ on k e. absurd (omega (arith, ap (λ (r : Reply). r.status) k))) c,
-    record {
-      writes = λ e. (let (set, of, is, k) = only_spread command.processors bytes Next reply c e in (set, of, is, parts_of command.processors bytes set of is, ap (λ (r : Reply). Some (old ++ r.text)) k));
-      complete = λ set of is. inl (ap (λ (r : Reply). r.status) (next_spread command.processors bytes Next reply set of is c));
-    },
-  ),
-)
-  where
-    bytes : List ℕ
-    bytes = bytes_of files command.tasks
-
-    Next : Parted → Type 0
-    Next on = reply ≡ reply_of 0 (partition_text command.processors on)
-
-    c : Spreads command.processors bytes Next reply
-    c =
-        held files 1 (2 ^ 24) command.tasks (λ bytes. answer (λ reply. reply ≡ reply_by (placed command.processors bytes)))
-        (λ bytes. By (set_in bytes) (λ set. By (fitted command.processors set.tasks) Next reply) reply) reply
-        (λ bytes k. by_steps (set_in bytes) (λ set. fitted command.processors set.tasks) Next reply (by_text (parted command.processors bytes) (λ on. Ok (partition_text command.processors on)) reply k)) h
+partition_keeps command files old reply h =
+    let written = partition_text command.processors in
+    let next : Parted → Command = λ on. answer (λ reply. reply ≡ reply_of 0 (written on)) in
+    let by = text_on_set files command.tasks (λ set. fitted command.processors set.tasks) written reply h in (
+      tt,
+      tt,
+      tt,
+      (
+        spreads_exactly files command.processors command.tasks next reply by (λ on k e. absurd (omega (arith, ap (λ (r : Reply). r.status) k))),
+        record {
+          writes = λ e. (let (set, of, is, k) = only_spread files command.processors command.tasks next reply by e in
+              (set, of, is, parts_of command.processors (bytes_of files command.tasks) set of is, ap (λ (r : Reply). Some (old ++ r.text)) k));
+          complete = λ set of is. inl (ap (λ (r : Reply). r.status) (next_spread files command.processors command.tasks next reply by set of is));
+        },
+      ),
+    )
 
 -- the tasks of an admitted part that has some are those of a set
 used_tasks : (tasks : List Task) → nat_lt 0 (length tasks) ≡ true → IsAdmittedPart tasks → AreTasks tasks
@@ -156,7 +146,9 @@ used_each m parted =
 pub run_all_keeps : (command : RunAllCommand) → command.ticks ≤ 1000000 → Keeps (form.RunAll command)
 run_all_keeps command short files old reply h = (
   (
-    spreads_exactly command.processors bytes Next reply not_12 c,
+    spreads_exactly files command.processors command.tasks _ reply h (λ on k e.
+        (let (rows, says, t) = of_work files on.set command.work _ reply k (λ z. absurd (omega arith)) (λ z. absurd (omega arith)) in
+        absurd (omega (arith, ap (λ (r : Reply). r.status) t.2)))),
     λ e. (let (set, of, rows, traces, is, says, each, written) = writes e in
         let on : Parted = spread set.tasks of in
         let ns : List ℕ = used command.processors on in (
@@ -169,7 +161,8 @@ run_all_keeps command short files old reply h = (
         )),
   ),
   writes,
-  complete,
+  λ set of rows is says.
+      inl (ap (λ (r : Reply). r.status) (for_work files set.tasks command.work _ reply (next_spread files command.processors command.tasks _ reply h set of is) rows says).2),
   tt,
 )
   where
@@ -179,25 +172,8 @@ run_all_keeps command short files old reply h = (
     more : List ℕ
     more = bytes_of files command.work
 
-    Next : Parted → Type 0
-    Next on = OfWork on.set more (λ rows. IsTracesReply command.ticks command.processors on rows reply) reply
-
-    c : Spreads command.processors bytes Next reply
-    c = by_set files command.tasks (λ set. fitted command.processors set.tasks) _ Next reply (λ on. by_work files on.set command.work _ (λ rows. IsTracesReply command.ticks command.processors on rows reply) reply (λ rows t. t)) h
-
-    not_12 : (on : Parted) → Next on → reply.status ≢ 12
-    not_12 on k e =
-        let (rows, says, t) = of_work on.set more _ reply (λ z. absurd (omega arith)) (λ z. absurd (omega arith)) k in
-        absurd (omega (arith, ap (λ (r : Reply). r.status) t.2))
-
     writes : WritesParts command.ticks command.processors bytes more old reply.status (Some (old ++ reply.text))
     writes e =
-        let (set, of, is, k) = only_spread command.processors bytes Next reply c e in
-        let (rows, says, t) = of_work set.tasks more _ reply (λ z. absurd (omega arith)) (λ z. absurd (omega arith)) k in
+        let (set, of, is, k) = only_spread files command.processors command.tasks _ reply h e in
+        let (rows, says, t) = of_work files set.tasks command.work _ reply k (λ z. absurd (omega arith)) (λ z. absurd (omega arith)) in
         (set, of, rows, t.0, is, says, t.1, ap (λ (r : Reply). Some (old ++ r.text)) t.2)
-
-    complete : ServesSpread command.processors bytes more reply.status
-    complete set of rows is says =
-        let t = for_file 2 (2 ^ 24) more (work_of set.tasks more) (λ rows. IsTracesReply command.ticks command.processors (spread set.tasks of) rows reply) reply rows says.0 (ap (refused_as WorkFile) says.1)
-        (next_spread command.processors bytes Next reply set of is c) in
-        inl (ap (λ (r : Reply). r.status) t.2)

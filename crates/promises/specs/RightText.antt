@@ -16,7 +16,7 @@ use Rattle.trace_commands.specs.declared.action.TraceAction.{TraceAction}
 use Rattle.trace_commands.specs.declared.action.TraceAction.TheVariants.{JudgeBy}
 use Rattle.command_line.specs.declared.form.Form.{Form}
 use Rattle.command_line.specs.declared.form.Form.TheVariants as form
-use Rattle.task_commands.specs.Admitted.{with_rule}
+use Rattle.command.specs.Admitted.{with_rule}
 use Rattle.trace_commands.specs.OnTrace.{good_text}
 use Rattle.run_commands.specs.Soak.{workload_set, soak_text, IsSoaked}
 use Rattle.part_commands.specs.Parted.{Parted, spread}
