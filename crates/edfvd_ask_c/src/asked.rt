@@ -19,7 +19,7 @@ pub extern "C" fn edfvd_raw_ask(
     len: &mut usize,
     ended: &mut u32,
 ) -> u32
-    ensures asked { Asks (map (λ w. w.now) words.now) first.now second.now result ended.new len.new out.new }
+    ensures asked { Asks (map (λ w. w.now) words.now) first.now second.now result ended.new len.new out.old out.new }
 {
     *len = 0;
     *ended = 0;

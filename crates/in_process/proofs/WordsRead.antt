@@ -1,8 +1,9 @@
 -- Words read as texts, one after the other, and why a call in process has no reply.
-use Rattle.std.proofs.Common.{◌≡◌, ℕ, zero, suc, ◌+◌, ◌<◌, List, [], ◌∷◌, ◌++◌, length, slice_index_or, take, map, Bor, ap, sym, ◌∙◌, subst, arith}
+use Rattle.std.proofs.Common.{◌≡◌, ℕ, zero, suc, ◌+◌, ◌<◌, ◌≤◌, List, [], ◌∷◌, ◌++◌, length, slice_index_or, take, map, Bor, ap, sym, ◌∙◌, subst, arith}
 use Rattle.std.proofs.Math.ListN.{get_or-map}
-use Rattle.std.proofs.lemmas.List.{map-append, take_more, length-map}
-use Rattle.std.specs.Prelude.{IsUtf8}
+use Rattle.std.proofs.lemmas.List.{map-append, take_more, take_all, length-map}
+use Rattle.std.proofs.lemmas.List.Elements.{All-push}
+use Rattle.std.specs.Prelude.{All, IsUtf8}
 use Rattle.in_process.specs.declared.reply.NoReply.{NoReply}
 use Rattle.in_process.specs.declared.reply.NoReply.TheVariants.{Memory, Threads, NotText}
 use Rattle.in_process.specs.Asked.{HasCause}
@@ -28,6 +29,22 @@ one_more texts words i text below same is =
     ∙ (ap (λ xs. xs ++ text.now ∷ []) same
     ∙ (ap (λ x. take i (bytes_of words) ++ x ∷ []) (is ∙ sym (get_or-map (λ w. w.now) words i (record { ref_ptr = (0, 0); now = [] })))
     ∙ sym (take_more (bytes_of words) i [] (within words i below))))
+
+-- the words so far are UTF-8, and so are they with one more that is
+pub more_utf8 : (texts : Words) (text : Bor (List ℕ)) (bytes : List ℕ) → All IsUtf8 (bytes_of texts) → text.now ≡ bytes → IsUtf8 bytes
+    → All IsUtf8 (bytes_of (texts ++ text ∷ []))
+more_utf8 texts text bytes so_far is utf8 =
+    subst (All IsUtf8) (sym (map-append (λ w. w.now) texts (text ∷ [])))
+    (All-push IsUtf8 (bytes_of texts) text.now so_far (subst IsUtf8 (sym is) utf8))
+
+-- all words are read
+pub all_read : (texts words : Words) (i : ℕ) → length words ≤ i → bytes_of texts ≡ take i (bytes_of words) → bytes_of texts ≡ bytes_of words
+all_read texts words i whole same = same ∙ take_all i (bytes_of words) (omega (arith, whole, length-map words (λ (w : Bor (List ℕ)). w.now)))
+
+-- all words are UTF-8 if each of them was read
+pub all_utf8 : (texts words : Words) (i : ℕ) → length words ≤ i → bytes_of texts ≡ take i (bytes_of words) → All IsUtf8 (bytes_of texts)
+    → All IsUtf8 (bytes_of words)
+all_utf8 texts words i whole same utf8 = subst (All IsUtf8) (all_read texts words i whole same) utf8
 
 -- in a list of one word
 at : {word : List ℕ} (k : ℕ) (d : List ℕ) → k < length (word ∷ []) → IsUtf8 word → IsUtf8 (slice_index_or (word ∷ []) k d)

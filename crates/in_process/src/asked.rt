@@ -1,6 +1,7 @@
 //! Words and files in memory.
-ghost use Rattle.std.specs.Prelude.{◌≡◌, ◌∷◌, [], map, IfOk, IfErr, OnOk};
+ghost use Rattle.std.specs.Prelude.{◌≡◌, ◌≢◌, ◌∷◌, [], map, All, IsUtf8, IfOk, IfErr, OnOk};
 ghost use Rattle.mc_world.specs.CalmShelfState.{new_calm_shelf};
+ghost use Rattle.in_process.specs.declared.reply.NoReply.TheVariants as no_reply;
 ghost use Rattle.in_process.specs.Asked.{pair, IsAnswered, AskForThreads, HasCause};
 
 use crate::reply::{NoReply, reply_alone};
@@ -19,6 +20,9 @@ pub fn ask_in_process(
     ensures reply { IfOk result (IsAnswered (map (λ w. w.now) words.now) first.now second.now) }
     ensures cause { IfErr result (HasCause (map (λ w. w.now) words.now)) }
     ensures alone { OnOk result (¬ AskForThreads (map (λ w. w.now) words.now)) }
+    // A word that is not UTF-8 comes before any other cause but a failed allocation.
+    ensures utf8 { OnOk result (All IsUtf8 (map (λ w. w.now) words.now)) }
+    ensures threads { IfErr result (λ e. e ≡ no_reply.Threads → All IsUtf8 (map (λ w. w.now) words.now)) }
 {
     let words = texts(alloc, words)?;
     let mut shelf = shelf_of(alloc, first, second)?;
@@ -29,6 +33,8 @@ pub fn ask_in_process(
 fn texts<'a>(alloc: Global, words: &[&'a [u8]]) -> Result<Vec<&'a str>, NoReply>
     ensures texts { IfOk result (λ texts. map (λ t. t.now) texts.items ≡ map (λ w. w.now) words.now) }
     ensures cause { IfErr result (HasCause (map (λ w. w.now) words.now)) }
+    ensures utf8 { OnOk result (All IsUtf8 (map (λ w. w.now) words.now)) }
+    ensures read { IfErr result (λ e. e ≢ no_reply.Threads) }
 {
     let mut texts = Vec::new(alloc);
     for word in words {
@@ -42,6 +48,8 @@ fn texts<'a>(alloc: Global, words: &[&'a [u8]]) -> Result<Vec<&'a str>, NoReply>
 
 fn text_of(word: &[u8]) -> Result<&str, NoReply>
     ensures text { IfOk result (λ text. text.now ≡ word.now) }
+    ensures utf8 { OnOk result (IsUtf8 word.now) }
+    ensures read { IfErr result (λ e. e ≡ no_reply.NotText) }
     ensures cause { IfErr result (HasCause (word.now ∷ [])) }
 {
     match std::str::from_utf8(word) {

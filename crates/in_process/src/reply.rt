@@ -1,6 +1,7 @@
 //! The reply to each command that starts no threads.
 ghost use Rattle.std.specs.Prelude.{◌≡◌, IfOk, IfErr, IfSome, OnOk, map};
-ghost use Rattle.command_line.specs.Form.{form_in, IsInRange};
+ghost use Rattle.command.specs.Outcome.{AskedInOrder};
+ghost use Rattle.command_line.specs.Form.{form_in, command, IsInRange};
 ghost use Rattle.promises.specs.Reply.{IsReply};
 ghost use Rattle.in_process.specs.declared.reply.NoReply.TheVariants as no_reply;
 ghost use Rattle.in_process.specs.Asked.{AskForThreads, HasCause};
@@ -31,10 +32,17 @@ impl From<AllocError> for NoReply {
 
 /// What the program replies to the words after its name, over a shelf. `run` and `accept` work on the caller's thread, with the
 /// program's reply.
+#[tactic(auto, using(crate::proofs::NotAsked::not_asked))]
 pub fn reply_alone<S: Shelf>(alloc: Global, words: &[&str], shelf: &mut S) -> Result<Reply, NoReply>
     ensures reply { IfOk result (IsReply (form_in words.now) (S.state shelf.old) (S.state shelf.new)) }
     ensures cause { IfErr result (HasCause (map (λ w. w.now) words.now)) }
     ensures alone { OnOk result (¬ AskForThreads (map (λ w. w.now) words.now)) }
+    // No file is fetched for a command that starts threads.
+    ensures unchanged { IfErr result (λ e. e ≡ no_reply.Threads → S.state shelf.new ≡ S.state shelf.old) }
+    // There is no reply if a fetch ran out of memory.
+    ensures memory_faults { OnOk result ((S.state shelf.new).memory_faults ≡ (S.state shelf.old).memory_faults) }
+    // Even if memory runs out, no file is asked for except the command's, in their order.
+    ensures asked { AskedInOrder (command (form_in words.now)) (S.state shelf.old) (S.state shelf.new) }
     ensures range { IfSome (form_in words.now) IsInRange }
 {
     let Some(form) = form_of(words) else {
