@@ -6,6 +6,7 @@ pub mod Counter
 pub mod Deadlines
 pub mod CounterText
 pub mod Play
+pub mod TickLine
 pub mod Refusals
 pub mod DemandFile
 pub mod DemandList

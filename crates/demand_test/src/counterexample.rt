@@ -25,7 +25,7 @@ pub fn counter(alloc: Global, set: &DemandSet, length: u64) -> Result<Vec<u8>, M
     let length = length as u32;
     let play = played(alloc, set, length)?;
     let mut out = Vec::new(alloc);
-    push_rows(&mut out, set, &play.rows)?;
+    push_rows(alloc, &mut out, set, &play.rows)?;
     push_late(&mut out, set, first_due(&play.jobs, length))?;
     Ok(out)
 }

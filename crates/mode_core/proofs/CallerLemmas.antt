@@ -18,4 +18,4 @@ pub use Rattle.mode_core.proofs.Options.{neither, not_if, no_map}
 pub use Rattle.mode_core.proofs.Sound.{MayGrant, may_grant}
 -- a run is its single ticks: none of them is refused, the job goes on after each but the last, and no run is longer than to the
 -- boundary; and what an overrun discards
-pub use Rattle.mode_core.proofs.Going.{MayRun, may_run, going_is, run_ticks, run_ends, run_fills, idling_is, over_discards}
+pub use Rattle.mode_core.proofs.Going.{MayRun, may_run, going_is, run_ticks, run_ends, run_fills, idling_is, idle_ticks, over_discards}

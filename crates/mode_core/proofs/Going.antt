@@ -37,7 +37,7 @@ use Rattle.mode_core.specs.Representation.{IsTally}
 use Rattle.mode_core.specs.Noted.{notes_of_rows, notes_of}
 use Rattle.mode_core.specs.Shape.{IsSoundUpTo}
 use Rattle.mode_core.specs.Events.{refused_if, unless, is_full, is_out, chosen_now, grant_refusal, outcome_refusal, after_grant, after_outcome, idle_refusal, after_idle}
-use Rattle.mode_core.specs.Runs.{after_tick, after_ticks, after_idles, may_switch, ticks_left, boundary_of, run_refusal, idles_refusal, is_too_full, AreRunTicks, IsLastTick, going}
+use Rattle.mode_core.specs.Runs.{after_tick, after_ticks, after_idles, may_switch, ticks_left, boundary_of, run_refusal, idles_refusal, is_too_full, AreRunTicks, AreIdleTicks, IsLastTick, going}
 use Rattle.arrivals.specs.Arrived.{arrived}
 use Rattle.mode_core.specs.declared.scheduler.Core.TheInside.{Inside}
 use Rattle.mode_core.specs.Shape.{state_of, IsCore}
@@ -243,15 +243,16 @@ module _ {m : ℕ} (s : State) (sound : IsSoundUpTo m s) where
         ap (λ (f : Option GrantFault). after_outcome (unless f last_granted (going s j n)) j done) last_free
         ∙ ap (λ (f : Option NotOut). unless f (let x : State = record last_granted { rows = settle last_granted done; out = None; held = [] } in x) last_granted) last_out
 
--- a single idle tick is its row
-pub one_idle : (s : State) → chosen_now s ≡ None → s.out ≡ None → places_used s < s.places → after_idle s ≡ record s { rows = Idle ∷ s.rows }
-one_idle s c o room = ap (λ (f : Option IdleFault). unless f (let x : State = record s { rows = Idle ∷ s.rows } in x) s) free
+-- a single idle tick is not refused if there is capacity for it and no job
+idle_free : (s : State) → chosen_now s ≡ None → s.out ≡ None → places_used s < s.places → idle_refusal s ≡ None
+idle_free s c o room = rw (full, o, c) refl
   where
     full : is_full s ≡ false
     full = grind (arith, nat_tests)
 
-    free : idle_refusal s ≡ None
-    free = rw (full, o, c) refl
+-- a single idle tick is its row
+pub one_idle : (s : State) → chosen_now s ≡ None → s.out ≡ None → places_used s < s.places → after_idle s ≡ record s { rows = Idle ∷ s.rows }
+one_idle s c o room = ap (λ (f : Option IdleFault). unless f (let x : State = record s { rows = Idle ∷ s.rows } in x) s) (idle_free s c o room)
 
 -- if no job is chosen, none is chosen after idle ticks
 chosen_idle : (set : List Task) (rule : Rule) (n : ℕ) (g : List Row) → pending set g ≡ [] → chosen set rule (replicate n Idle ++ g) ≡ None
@@ -363,6 +364,14 @@ run_ticks s j n sound e = record {
 
     part : (i : ℕ) → i < n → MayRun s j (i + 1)
     part i h = record { chosen = may.chosen; out = may.out; left = omega (arith, may.left, h); room = omega (arith, may.room, h) }
+
+-- no single tick of idle ticks that are not refused is refused
+pub idle_ticks : {m : ℕ} (s : State) (n : ℕ) → IsSoundUpTo m s → idles_refusal s n ≡ None → AreIdleTicks s n
+idle_ticks s n sound e i h =
+    let may : MayIdle s n = may_idle s n e in
+    let part : MayIdle s i = record { chosen = may.chosen; out = may.out; room = omega (arith, may.room, h) } in
+    subst (λ (x : State). idle_refusal x ≡ None) (sym (idling_is s sound i part))
+    (idle_free (idling s sound i part) (chosen_idle s.set s.rule i s.rows (idle_pending s sound i part)) may.out (omega (arith, may.room, h, length_copies Idle i s.rows)))
 
 -- the tick at the boundary ends the job or is an overrun, if the job is not done: no longer run is one of single ticks
 pub run_ends : {m : ℕ} (s : State) (j : JobId) (n : ℕ) → IsSoundUpTo m s → MayRun s j (n + 1) → n + 1 ≡ ticks_left s.set s.rule s.rows j → outcome_of s.set s.rule (after_ticks n s j).rows j false ≢ More

@@ -19,7 +19,7 @@ use Rattle.mode_core.specs.declared.answers.RunFault.{RunFault}
 use Rattle.mode_core.specs.declared.answers.RunFault.TheVariants as run_fault
 use Rattle.mode_core.specs.declared.answers.IdleFault.{IdleFault}
 use Rattle.mode_core.specs.declared.answers.IdleFault.TheVariants as idle_fault
-use Rattle.mode_core.specs.Events.{refused_if, answer, unless, is_out, chosen_now, grant_refusal, after_grant, after_outcome, after_idle}
+use Rattle.mode_core.specs.Events.{refused_if, answer, unless, is_out, chosen_now, grant_refusal, idle_refusal, after_grant, after_outcome, after_idle}
 
 -- the state after one tick of the job: a grant to its task, and then its outcome
 abbrev pub after_tick : State → JobId → Bool → State
@@ -106,3 +106,7 @@ idles_answer s n = answer (idles_refusal s n) (ticks s.rows)
 -- the state after n idle ticks
 abbrev pub after_idle_for : State → ℕ → State
 after_idle_for s n = unless (idles_refusal s n) (after_idles n s) s
+
+-- what idle ticks of one call are: none of them is refused as a single tick
+abbrev pub AreIdleTicks : State → ℕ → Type 0
+AreIdleTicks s n = (i : ℕ) → i < n → idle_refusal (after_idles i s) ≡ None

@@ -42,7 +42,8 @@ pub fn keeps<R: Recorder>(log: &ScheduleLog<R>, task: TaskNo) -> bool
     is_high(log.set(), task) || !log.high_mode()
 }
 
-/// Writes the held releases, in the order in which they were taken.
+/// Writes the held releases, in the order in which they were taken. Inlined, since after most ticks there are none.
+#[inline(always)]
 pub fn write_held<R: Recorder>(log: &mut ScheduleLog<R>, held: &[JobId])
     requires legal { Legal log.old.set log.old.rule
         (add_held log.old.set log.old.rule (reverse held.now) log.old.rows) }

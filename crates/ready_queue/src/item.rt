@@ -1,5 +1,5 @@
 //! The items of the queue, and which of two comes first.
-ghost use Rattle.std.specs.Prelude.{◌≡◌, option_map};
+ghost use Rattle.std.specs.Prelude.{◌≡◌, cond, option_map};
 ghost use Rattle.ready_queue.specs.Items.{before};
 ghost use Rattle.ready_queue.specs.Tree.{winner, rekeyed};
 
@@ -23,14 +23,15 @@ fn before(i: &Item, j: &Item) -> bool
     i.key < j.key || (i.key == j.key && i.task.0 < j.task.0)
 }
 
-/// The item of the two that comes first; the other one if either is `None`.
-pub fn winner(a: Option<Item>, b: Option<Item>) -> Option<Item>
-    ensures { result ≡ winner a b }
+/// Whether the second of the two items comes first, or is the only one that there may be.
+#[inline(always)]
+pub fn is_second_first(a: &Option<Item>, b: &Option<Item>) -> bool
+    ensures { winner a.now b.now ≡ cond result b.now a.now }
 {
     match (a, b) {
-        (Some(i), Some(j)) => { if before(&j, &i) { b } else { a } }
-        (None, _) => b,
-        (_, None) => a,
+        (Some(i), Some(j)) => before(j, i),
+        (None, _) => true,
+        (_, None) => false,
     }
 }
 

@@ -2,9 +2,9 @@
 //!
 //! The last half of the array are the leaves, and node k has the winner of the nodes 2k and 2k + 1. Node 0 is not used.
 ghost use Rattle.std.specs.Prelude.{◌≡◌, ◌+◌, ◌*◌, ◌/◌, ◌<◌, ◌≤◌, ℕ, length, drop, map, slice_set, replicate, None, IfOk};
-ghost use Rattle.ready_queue.specs.Tree.{rekeyed, IsTree, IsTreeBut};
+ghost use Rattle.ready_queue.specs.Tree.{rekeyed, winner, node, IsTree, IsTreeBut};
 
-use crate::item::{Item, rekeyed, winner};
+use crate::item::{Item, is_second_first, rekeyed};
 use std::alloc::{AllocError, Global};
 
 /// A tree with `places` leaves and no item. Fails if an allocation fails.
@@ -16,6 +16,7 @@ pub fn no_items(alloc: Global, places: usize) -> Result<Vec<Option<Item>>, Alloc
 }
 
 /// Puts an item, or none, at a leaf, and plays the matches from there to the root.
+#[inline(always)]
 pub fn put(nodes: &mut [Option<Item>], places: usize, leaf: usize, item: Option<Item>)
     requires places { length nodes.old ≡ 2 * places }
     requires leaf { leaf < places }
@@ -27,7 +28,7 @@ pub fn put(nodes: &mut [Option<Item>], places: usize, leaf: usize, item: Option<
     climb(nodes, places + leaf);
 }
 
-// Plays the matches from a changed node to the root.
+// Plays the matches from a changed node to the root, or to the first whose winner stays: none above it changes.
 fn climb(nodes: &mut [Option<Item>], from: usize)
     requires pair { 2 * (from / 2) + 1 < length nodes.old }
     requires tree { IsTreeBut (from / 2) nodes.old }
@@ -36,8 +37,27 @@ fn climb(nodes: &mut [Option<Item>], from: usize)
 {
     let mut at = from / 2;
     while at > 0 {
-        nodes[at] = winner(nodes[2 * at], nodes[2 * at + 1]);
+        let won = winning_node(nodes, at);
+        if nodes[at] == nodes[won] {
+            return;
+        }
+        nodes[at] = nodes[won];
         at /= 2;
+    }
+}
+
+// Which of the two nodes below this one has their winner.
+#[inline(always)]
+fn winning_node(nodes: &[Option<Item>], at: usize) -> usize
+    requires pair { 2 * at + 1 < length nodes.now }
+    ensures below { result ≤ 2 * at + 1 }
+    ensures winner { node nodes.now result ≡ winner (node nodes.now (2 * at)) (node nodes.now (2 * at + 1)) }
+{
+    let (first, second) = (2 * at, 2 * at + 1);
+    if is_second_first(&nodes[first], &nodes[second]) {
+        second
+    } else {
+        first
     }
 }
 
@@ -67,6 +87,6 @@ fn play_all(nodes: &mut [Option<Item>], places: usize)
     ensures leaves { drop places nodes.new ≡ drop places nodes.old }
 {
     for at in (1..places).rev() {
-        nodes[at] = winner(nodes[2 * at], nodes[2 * at + 1]);
+        nodes[at] = nodes[winning_node(nodes, at)];
     }
 }

@@ -5,7 +5,7 @@ use Rattle.mc_task.specs.TaskSet.{task_at}
 use Rattle.mc_model.specs.declared.row.How.{How}
 use Rattle.mode_core.specs.declared.answers.Granted.{Granted}
 use Rattle.executive.specs.declared.entry.Call.{Call}
-use Rattle.executive.specs.declared.entry.Call.TheVariants.{Take, Outcome}
+use Rattle.executive.specs.declared.entry.Call.TheVariants.{Take, Outcome, Release, Look, Idle}
 use Rattle.executive.specs.declared.entry.Answer.{Answer}
 use Rattle.executive.specs.declared.entry.Answer.TheVariants.{Taken, Settled}
 use Rattle.executive.specs.declared.pass.TaskPass.{TaskPass}
@@ -24,6 +24,16 @@ call_live set k c a p q h calls by =
 -- a call that ends no tick leaves a pass whose jobs end by their needs
 pub pass_live : (e : Executive) (k : ℕ) (c : Call) (a : Answer) (p q : TaskPass) → IsPassOf e q → Calls c a (of_pass p) (of_pass q) → ((last : Option Granted) → IsByNeed (live_need (task_at (floor_of e).core.set k)) last c) → IsLivePass e k p → IsLivePass e k q
 pass_live e k c a p q of calls by h = ((of, calls.task ∙ h.0.1), call_live (floor_of e).core.set k c a (of_pass p) (of_pass q) h.1 calls (by _))
+
+-- a release, a look and an idle tick end no job
+pub released_live : (e : Executive) (k : ℕ) (a : Answer) (p q : TaskPass) → IsPassOf e q → Calls Release a (of_pass p) (of_pass q) → IsLivePass e k p → IsLivePass e k q
+released_live e k a p q of calls h = pass_live e k Release a p q of calls (λ last. tt) h
+
+pub looked_live : (e : Executive) (k : ℕ) (a : Answer) (p q : TaskPass) → IsPassOf e q → Calls Look a (of_pass p) (of_pass q) → IsLivePass e k p → IsLivePass e k q
+looked_live e k a p q of calls h = pass_live e k Look a p q of calls (λ last. tt) h
+
+pub idled_live : (e : Executive) (k : ℕ) (a : Answer) (p q : TaskPass) → IsPassOf e q → Calls Idle a (of_pass p) (of_pass q) → IsLivePass e k p → IsLivePass e k q
+idled_live e k a p q of calls h = pass_live e k Idle a p q of calls (λ last. tt) h
 
 -- a tick that was taken and ended by its job's need leaves a pass whose jobs end by their needs
 pub ticked_live : (set : List Task) (k : ℕ) (g : Granted) (done : Bool) (how : How) (p q r : PassState) → EndsByNeed set k p → Calls Take (Taken (Ok g)) p q → Calls (Outcome done) (Settled (Ok how)) q r

@@ -17,4 +17,4 @@ mod worker;
 
 pub use live::run_live;
 pub use live_room::live_capacity;
-pub use threads::{Memory, run_threads};
+pub use threads::run_threads;

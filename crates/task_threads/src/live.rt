@@ -15,10 +15,9 @@ use crate::live_needs::LiveNeeds;
 use crate::live_round::{Runner, release_first};
 use crate::parking_spots::ParkingSpots;
 use crate::starts::{SpawnResult, in_threads};
-use crate::threads::Memory;
 use crate::worker::Serving;
 use executive::{Executive, Gate, TaskPass};
-use mc_task::{TaskNo, TaskSet};
+use mc_task::{Memory, TaskNo, TaskSet};
 use status_board::Watcher;
 use std::alloc::Global;
 use std::sync::Wait;
@@ -57,7 +56,9 @@ pub fn run_live<R: Threads + Wait + Sync, G: Gate + Sync>(
         mut back,
     } = make_rooms(alloc, tasks)?;
     needs_of_each(floor.core().set(), &mut needs);
-    let (executive, passes, watchers) = Executive::with_watchers(rt, alloc, floor, tasks)?;
+    let Ok((executive, passes, watchers)) = Executive::with_watchers(rt, alloc, floor, tasks) else {
+        return Err(Memory);
+    };
     let all = needs.as_slice();
     let serving = Serving {
         rt,

@@ -1,14 +1,12 @@
 //! A round of a task's thread in a live run.
-ghost use Rattle.std.specs.Prelude.{IfOk};
 ghost use Rattle.mc_task.specs.TaskSet.{task_at};
-ghost use Rattle.executive.specs.Gates.{HasReleased};
-ghost use Rattle.executive.specs.Passes.{floor_of, of_pass};
+ghost use Rattle.executive.specs.Passes.{floor_of};
 ghost use Rattle.task_threads.specs.LivePasses.{IsLivePass, IsRunner, AreNeedsOf};
 
 use crate::live_needs::LiveNeeds;
 use crate::parking_spots::ParkingSpots;
 use crate::worker::{Progress, Serving, Worker};
-use executive::{Executive, Gate, Taken, TaskPass};
+use executive::{Gate, Taken, TaskPass};
 use mc_model::How;
 use mc_task::TaskNo;
 use mode_core::{GrantFault, IdleFault, ReleaseFault, Released};
@@ -106,64 +104,20 @@ fn unless_due(spots: &ParkingSpots, task: TaskNo, ticks: u64, progress: Progress
     }
 }
 
-// Releases the task, and returns what the executive returns.
-fn released<R: Wait>(
-    rt: &R,
-    executive: &Executive,
-    pass: TaskPass,
-    task: TaskNo,
-) -> (TaskPass, Result<Released, ActFault<ReleaseFault>>)
-    requires { IsLivePass executive.now task.0 pass }
-    ensures pass { IsLivePass executive.now task.0 result.0 }
-    ensures newest { IfOk result.1 (λ _. HasReleased (of_pass result.0)) }
-{
-    let _ = task;
-    let mut pass = pass;
-    let answer = executive.release(rt, &mut pass);
-    (pass, answer)
-}
-
 // Makes the first release of a task, by a pass that made no call.
 pub fn release_first<R: Wait, G: Gate>(
     serving: &Serving<'_, R, G>,
-    pass: TaskPass,
+    mut pass: TaskPass,
     task: TaskNo,
 ) -> TaskPass
     requires { IsLivePass serving.now.executive.now task.0 pass }
     ensures { IsLivePass serving.now.executive.now task.0 result }
 {
-    let (pass, answer) = released(serving.rt, serving.executive, pass, task);
+    let answer = serving.executive.release(serving.rt, &mut pass);
     if answer.is_ok() {
         serving.gate.released(task.0, &pass);
     }
     pass
-}
-
-// Makes a look.
-fn looked<R: Wait>(rt: &R, executive: &Executive, pass: TaskPass, task: TaskNo) -> (TaskPass, Act)
-    requires { IsLivePass executive.now task.0 pass }
-    ensures { IsLivePass executive.now task.0 result.0 }
-{
-    let _ = task;
-    let mut pass = pass;
-    let act = executive.look(rt, &mut pass);
-    (pass, act)
-}
-
-// Makes an idle tick.
-fn idled<R: Wait>(
-    rt: &R,
-    executive: &Executive,
-    pass: TaskPass,
-    task: TaskNo,
-) -> (TaskPass, Result<u64, ActFault<IdleFault>>)
-    requires { IsLivePass executive.now task.0 pass }
-    ensures { IsLivePass executive.now task.0 result.0 }
-{
-    let _ = task;
-    let mut pass = pass;
-    let answer = executive.idle(rt, &mut pass);
-    (pass, answer)
 }
 
 // Takes a tick of the task, whose step runs outside the turns. Its job is done when it has had the ticks that it needs.
@@ -191,10 +145,11 @@ fn ticked<R: Wait, G: Gate>(
 }
 
 // Releases the task again, if it may after `now` ticks. The pass comes back with the boundary of the next release.
+#[tactic(auto, using(crate::proofs::LivePasses::released_live))]
 fn release_due<R: Wait, G: Gate>(
     serving: &Serving<'_, R, G>,
     needs: LiveNeeds,
-    pass: TaskPass,
+    mut pass: TaskPass,
     next: u64,
     now: u64,
     task: TaskNo,
@@ -205,8 +160,7 @@ fn release_due<R: Wait, G: Gate>(
     if now < next {
         return (pass, next, Progress::Waits);
     }
-    let (pass, answer) = released(serving.rt, serving.executive, pass, task);
-    match answer {
+    match serving.executive.release(serving.rt, &mut pass) {
         Ok(Released::Kept { at, .. } | Released::Dropped { at, .. } | Released::Held { at, .. }) =>
             {
                 serving.gate.released(task.0, &pass);
@@ -223,10 +177,11 @@ fn release_due<R: Wait, G: Gate>(
 
 // Looks once, and does the next act, if it is this task's or an idle tick. If it is another task's, that task's thread
 // is woken.
+#[tactic(auto, using(crate::proofs::LivePasses::looked_live, crate::proofs::LivePasses::idled_live))]
 fn act<R: Wait, G: Gate>(
     serving: &Serving<'_, R, G>,
     needs: LiveNeeds,
-    pass: TaskPass,
+    mut pass: TaskPass,
     now: u64,
     task: TaskNo,
 ) -> (TaskPass, Progress)
@@ -234,14 +189,13 @@ fn act<R: Wait, G: Gate>(
     requires needs { AreNeedsOf (task_at (floor_of serving.now.executive.now).core.set task.0) needs }
     ensures { IsLivePass serving.now.executive.now task.0 result.0 }
 {
-    let (pass, next) = looked(serving.rt, serving.executive, pass, task);
-    match next {
+    match serving.executive.look(serving.rt, &mut pass) {
         Act::Grant(chosen) if chosen == task => {
             let (pass, answer) = ticked(serving, needs, pass, task);
             (pass, progress_of_tick(serving.spots, task, now, answer))
         }
         Act::Idle => {
-            let (pass, answer) = idled(serving.rt, serving.executive, pass, task);
+            let answer = serving.executive.idle(serving.rt, &mut pass);
             (pass, progress_of_idle(serving.spots, task, answer))
         }
         Act::Grant(other) | Act::Release(other) => {

@@ -119,8 +119,8 @@ impl ParkingSpots {
         }
     }
 
-    // Called after the boundary is stored with its task: a look that began before this call has lowered the soonest
-    // boundary itself.
+    // Called after the boundary is stored with its task: a look at all tasks that has passed it raised the soonest boundary
+    // before this call.
     fn keep_soonest(&self, boundary: u64) {
         if boundary < self.soonest.load(SeqCst) {
             self.soonest.fetch_min(boundary, SeqCst);
@@ -133,21 +133,26 @@ impl ParkingSpots {
         self.soonest.load(SeqCst) <= ticks && self.wake_first_due(task, ticks)
     }
 
-    // The soonest boundary is raised first and then lowered task by task, so a boundary that is set meanwhile is kept.
+    // The soonest boundary is raised first and lowered at the end, so a boundary that is set meanwhile is kept.
     fn wake_first_due(&self, task: TaskNo, ticks: u64) -> bool {
         let mut is_awaited = false;
+        let mut soonest = NEVER;
         self.soonest.store(NEVER, SeqCst);
         for task_spot in &self.spots {
             let next = task_spot.next_release.load(SeqCst);
-            if next <= ticks && task_spot.task != task {
+            if next == AWAITED {
+                soonest = 0;
+                is_awaited = is_awaited || task_spot.task != task;
+            } else if next <= ticks && task_spot.task != task {
                 task_spot.next_release.store(AWAITED, SeqCst);
                 self.soonest.store(0, SeqCst);
                 self.wake(task_spot.task);
                 return true;
+            } else {
+                soonest = soonest.min(next);
             }
-            is_awaited = is_awaited || next == AWAITED && task_spot.task != task;
-            self.keep_soonest(if next == AWAITED { 0 } else { next });
         }
+        self.keep_soonest(soonest);
         is_awaited
     }
 

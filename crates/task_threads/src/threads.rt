@@ -11,27 +11,12 @@ ghost use Rattle.executive.specs.Stands.{opening_of};
 use crate::parking_spots::ParkingSpots;
 use crate::starts::in_threads;
 use crate::worker::Serving;
-use executive::{Executive, Gate, NoMemory};
-use std::alloc::{AllocError, Global};
+use executive::{Executive, Gate};
+use mc_task::Memory;
+use std::alloc::Global;
 use std::sync::Wait;
 use std::thread::Threads;
 use timetable::Floor;
-
-/// Out of memory.
-#[derive(Clone, Copy, Debug, PartialEq, Eq, Drop)]
-pub struct Memory;
-
-impl From<AllocError> for Memory {
-    fn from(_refused: AllocError) -> Memory {
-        Memory
-    }
-}
-
-impl From<NoMemory> for Memory {
-    fn from(_refused: NoMemory) -> Memory {
-        Memory
-    }
-}
 
 /// Runs the plan of a floor with no rows and no granted tick, in a thread for each task, and calls the gate on the way.
 ///
@@ -82,7 +67,9 @@ fn serve_all<R: Threads + Wait + Sync, G: Gate + Sync>(
     let tasks = floor.core().set().len();
     let spots = ParkingSpots::new(alloc, tasks)?;
     let starts = Vec::with_capacity(alloc, tasks as usize)?;
-    let (executive, passes) = Executive::new(rt, alloc, floor)?;
+    let Ok((executive, passes)) = Executive::new(rt, alloc, floor) else {
+        return Err(Memory);
+    };
     let serving = Serving {
         rt,
         executive: &executive,

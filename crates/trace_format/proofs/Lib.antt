@@ -4,3 +4,4 @@ pub mod PackLemmas
 pub mod LineLemmas
 pub mod WrittenLemmas
 pub mod RunsOfSet
+pub mod TenDigits

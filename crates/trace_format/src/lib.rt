@@ -3,6 +3,7 @@
 
 mod event;
 mod fault;
+mod line_buffer;
 mod packing;
 mod read;
 mod record;
@@ -15,4 +16,4 @@ pub use fault::{TraceCause, TraceFault};
 pub use packing::{merge, pack};
 pub use read::{read_runs, read_trace};
 pub use takes_runs::TakesRuns;
-pub use write::write_trace;
+pub use write::{how_word, kept_word, write_trace};

@@ -1,13 +1,14 @@
 //! Traces, written.
-ghost use Rattle.std.specs.Prelude.{◌≡◌, ◌+◌, ◌++◌, ◌≤◌, [], All, Ok, IfOk, OnOk, decimal, codes};
+ghost use Rattle.std.specs.Prelude.{◌≡◌, ◌+◌, ◌++◌, ◌≤◌, All, Ok, IfOk, OnOk, length, decimal, codes};
+ghost use Rattle.mc_task.specs.TaskSet.{IsIn, name_in, task_at};
 ghost use Rattle.mc_model.specs.Runs.{length_of, AreRuns, IsRunOfSet};
-ghost use Rattle.mc_model.specs.TraceText.{how_word, kept_word, line_of, run_line, runs_text};
+ghost use Rattle.mc_model.specs.TraceText.{how_word, kept_word, run_line, runs_text};
 ghost use Rattle.trace_format.specs.TraceFile.{trace_file};
 ghost use Rattle.trace_format.specs.Writable.{IsWritable};
 
-use itoa::Buffer;
+use crate::line_buffer::LineBuffer;
 use mc_model::{How, Run};
-use mc_task::{Memory, TaskSet};
+use mc_task::{JobId, Memory, TaskSet};
 use std::alloc::{AllocError, Global};
 
 /// The runs as the text of a trace in version 2: the header, and a line for each run. Fails with `Memory` if an
@@ -21,9 +22,10 @@ pub fn write_trace(alloc: Global, set: &TaskSet, runs: &[Run]) -> Result<Vec<u8>
     let _is_set = set.len();
     let mut out = Vec::new(alloc);
     out.extend_from_slice(b"event,tick,length,task,job,how\n")?;
+    let mut line = LineBuffer::new();
     let mut tick = 0u32;
     for run in runs {
-        push_run(&mut out, set, tick, *run)?;
+        push_run(&mut out, &mut line, set, tick, *run)?;
         tick = tick_after(tick, *run);
     }
     Ok(out)
@@ -40,42 +42,111 @@ pub fn tick_after(tick: u32, run: Run) -> u32
     }
 }
 
-#[tactic(auto, unfolding(mc_model::specs::TraceText::run_line))]
-fn push_run(out: &mut Vec<u8>, set: &TaskSet, tick: u32, run: Run) -> Result<(), AllocError>
+// Adds the line of a run whose first tick has this number.
+#[inline(always)]
+fn push_run(
+    out: &mut Vec<u8>,
+    line: &mut LineBuffer,
+    set: &TaskSet,
+    tick: u32,
+    run: Run,
+) -> Result<(), AllocError>
     requires { IsRunOfSet set.now.tasks run }
     ensures line { OnOk result (out.new.items ≡ out.old.items ++ run_line set.now.tasks tick run) }
     ensures writable { IsWritable set.now.tasks run }
 {
-    let mut count_buffer = Buffer::new();
-    let mut length_buffer = Buffer::new();
+    put_run(line, set, tick, run);
+    out.extend_from_slice(line.text())
+}
+
+// Makes the text the line of a run whose first tick has this number.
+#[inline(always)]
+#[tactic(auto, unfolding(mc_model::specs::TraceText::run_line))]
+fn put_run(line: &mut LineBuffer, set: &TaskSet, tick: u32, run: Run)
+    requires { IsRunOfSet set.now.tasks run }
+    ensures line { line.new ≡ run_line set.now.tasks tick run }
+    ensures writable { IsWritable set.now.tasks run }
+{
+    line.clear();
     match run {
         Run::Release { job, kept } => {
-            let task = set.get(job.task).unwrap();
-            let count = count_buffer.format(job.count);
-            let name = task.name.bytes();
-            push_line(out, "release", tick, "", name, count, kept_word(kept))
+            put_kept(line, kept);
+            put_job(line, set, job);
+            line.put(b",,");
+            line.put_number(tick);
+            line.put(b"release,");
         }
         Run::Ticks { job, how, length } => {
-            let task = set.get(job.task).unwrap();
-            let count = count_buffer.format(job.count);
-            let length = length_buffer.format(length);
-            let name = task.name.bytes();
-            push_line(out, "tick", tick, length, name, count, how_word(how))
+            put_how(line, how);
+            put_job(line, set, job);
+            line.put(b",");
+            line.put_number(length);
+            line.put(b",");
+            line.put_number(tick);
+            line.put(b"tick,");
         }
         Run::Idles { length } => {
-            let length = length_buffer.format(length);
-            push_idles(out, tick, length)
+            line.put(b",,,\n");
+            line.put_number(length);
+            line.put(b",");
+            line.put_number(tick);
+            line.put(b"idle,");
         }
     }
 }
 
-fn kept_word(kept: bool) -> &'static str
+// Puts the task's name and the job's number before the text, as two fields.
+#[inline(always)]
+fn put_job(line: &mut LineBuffer, set: &TaskSet, job: JobId)
+    requires task { IsIn set.now.tasks job.task.0 }
+    requires room { 43 + length line.old ≤ 96 }
+    ensures text { line.new ≡ name_in (task_at set.now.tasks job.task.0) ++ (codes "," ++ (decimal job.count ++ line.old)) }
+    ensures short { length line.new ≤ 43 + length line.old }
+{
+    let task = set.get(job.task).unwrap();
+    line.put_number(job.count);
+    line.put(b",");
+    line.put(task.name.bytes());
+}
+
+// Puts the last field of a release and the end of its line before the text.
+#[inline(always)]
+fn put_kept(line: &mut LineBuffer, kept: bool)
+    requires { 9 + length line.old ≤ 96 }
+    ensures text { line.new ≡ codes "," ++ (kept_word kept ++ (codes "\n" ++ line.old)) }
+    ensures short { length line.new ≤ 9 + length line.old }
+{
+    if kept {
+        line.put(b",kept\n");
+    } else {
+        line.put(b",dropped\n");
+    }
+}
+
+// Puts the last field of a tick and the end of its line before the text.
+#[inline(always)]
+fn put_how(line: &mut LineBuffer, how: How)
+    requires { 6 + length line.old ≤ 96 }
+    ensures text { line.new ≡ codes "," ++ (how_word how ++ (codes "\n" ++ line.old)) }
+    ensures short { length line.new ≤ 6 + length line.old }
+{
+    match how {
+        How::More => line.put(b",more\n"),
+        How::Done => line.put(b",done\n"),
+        How::Stop => line.put(b",stop\n"),
+        How::Over => line.put(b",over\n"),
+    }
+}
+
+/// The word of a release that is kept, or that is not.
+pub fn kept_word(kept: bool) -> &'static str
     ensures { result.now ≡ kept_word kept }
 {
     if kept { "kept" } else { "dropped" }
 }
 
-fn how_word(how: How) -> &'static str
+/// The word for how a tick ends.
+pub fn how_word(how: How) -> &'static str
     ensures { result.now ≡ how_word how }
 {
     match how {
@@ -84,46 +155,4 @@ fn how_word(how: How) -> &'static str
         How::Stop => "stop",
         How::Over => "over",
     }
-}
-
-fn push_line(
-    out: &mut Vec<u8>,
-    event: &str,
-    tick: u32,
-    length: &str,
-    task: &[u8],
-    job: &str,
-    how: &str,
-) -> Result<(), AllocError>
-    ensures { OnOk result (out.new.items ≡ out.old.items ++ line_of event.now (decimal tick) length.now task.now job.now how.now) }
-{
-    let mut buffer = Buffer::new();
-    push_field(out, event.as_bytes())?;
-    push_field(out, buffer.format(tick).as_bytes())?;
-    push_field(out, length.as_bytes())?;
-    push_field(out, task)?;
-    push_field(out, job.as_bytes())?;
-    out.extend_from_slice(how.as_bytes())?;
-    out.push(b'\n')?;
-    Ok(())
-}
-
-// The line of idle ticks, in which the fields of the job are empty.
-fn push_idles(out: &mut Vec<u8>, tick: u32, length: &str) -> Result<(), AllocError>
-    ensures { OnOk result (out.new.items ≡ out.old.items ++ line_of (codes "idle") (decimal tick) length.now [] [] []) }
-{
-    let mut buffer = Buffer::new();
-    out.extend_from_slice(b"idle,")?;
-    push_field(out, buffer.format(tick).as_bytes())?;
-    out.extend_from_slice(length.as_bytes())?;
-    out.extend_from_slice(b",,,\n")?;
-    Ok(())
-}
-
-fn push_field(out: &mut Vec<u8>, field: &[u8]) -> Result<(), AllocError>
-    ensures { OnOk result (out.new.items ≡ out.old.items ++ (field.now ++ codes ",")) }
-{
-    out.extend_from_slice(field)?;
-    out.push(b',')?;
-    Ok(())
 }

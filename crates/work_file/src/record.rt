@@ -1,7 +1,8 @@
 //! A record of a work file as a row.
-ghost use Rattle.std.specs.Prelude.{◌≡◌, ◌<◌, ◌++◌, ◌∷◌, [], IfOk, OnOk, length};
+ghost use Rattle.std.specs.Prelude.{◌≡◌, ◌<◌, ◌++◌, ◌∷◌, [], IfOk, OnOk, IfSome, length, option_map};
 ghost use Rattle.csv.specs.Records.{fields_of};
 ghost use Rattle.mc_task.specs.TaskSet.{IsIn};
+ghost use Rattle.mc_task.specs.Faults.{named};
 ghost use Rattle.mc_model.specs.Work.{IsWork};
 ghost use Rattle.work_file.specs.WorkFile as file;
 ghost use Rattle.work_file.specs.Tracks.{Tracks};
@@ -45,27 +46,42 @@ pub fn record_row(
     if fields.len() != 3 {
         return Err(WorkCause::BadRecord);
     }
-    let row = row_of(set, near(before), fields)?;
+    let row = row_of(set, last_task(before), fields)?;
     match next.take(set, before, row) {
         Some(cause) => Err(cause),
         None => Ok(row),
     }
 }
 
-// A task near which the next row's task likely is: that of the last row. This decides only how fast a task is found.
-fn near(before: &[WorkRow]) -> TaskNo {
+// The task of the last row; the first task before any row.
+fn last_task(before: &[WorkRow]) -> TaskNo {
     match before.last() {
         Some(row) => row.task,
         None => TaskNo(1),
     }
 }
 
+// The task with this name. The task after that of the last row is tried first, and then that of the last row: this
+// decides only how fast a task is found.
+#[inline(always)]
+fn find_likely(set: &TaskSet, name: &[u8], last: TaskNo) -> Option<TaskNo>
+    ensures number { option_map (λ task. task.0) result ≡ named name.now set.now.tasks }
+    ensures inside { IfSome result (λ task. IsIn set.now.tasks task.0) }
+{
+    let _is_set = set.len();
+    let likely = set.task_after(last);
+    if set.is_named(likely, name) {
+        return Some(likely);
+    }
+    set.find_near(name, last)
+}
+
 // The row that three fields say, or why they are refused.
-fn row_of(set: &TaskSet, near: TaskNo, fields: &ByteRecord) -> Result<WorkRow, WorkCause>
+fn row_of(set: &TaskSet, last: TaskNo, fields: &ByteRecord) -> Result<WorkRow, WorkCause>
     ensures row { result ≡ file.row_of set.now.tasks (fields_of fields.now) }
     ensures task { IfOk result (λ row. IsIn set.now.tasks row.task.0) }
 {
-    let Some(task) = set.find_near(field(fields, 0), near) else {
+    let Some(task) = find_likely(set, field(fields, 0), last) else {
         return Err(WorkCause::UnknownTask);
     };
     let Some(release) = number(field(fields, 1)) else {

@@ -5,7 +5,7 @@ ghost use Rattle.mode_core.specs.declared.answers.RunFault.TheVariants as run_fa
 ghost use Rattle.mode_core.specs.Events.{refused_if};
 ghost use Rattle.mc_model.specs.Rows.{ticks};
 ghost use Rattle.mc_model.specs.Core.{outcome_of};
-ghost use Rattle.mode_core.specs.Runs.{boundary_of, run_refusal, run_answer, after_run, AreRunTicks, IsLastTick, after_tick, after_ticks, going, is_too_full, idles_refusal, idles_answer, after_idles, after_idle_for};
+ghost use Rattle.mode_core.specs.Runs.{boundary_of, run_refusal, run_answer, after_run, AreRunTicks, IsLastTick, after_tick, after_ticks, going, is_too_full, idles_refusal, idles_answer, after_idles, after_idle_for, AreIdleTicks};
 
 use super::Core;
 use crate::{Boundary, IdleFault, RunFault};
@@ -124,6 +124,7 @@ impl<R: Recorder> Core<R> {
         requires some { 1 ≤ count }
         ensures answer { result ≡ idles_answer self.old count }
         ensures state { self.new ≡ after_idle_for self.old count }
+        ensures ticks { OnOk result (AreIdleTicks self.old count) }
         ensures timely { IsTimely self.new }
     {
         match self.idles_fault(count) {

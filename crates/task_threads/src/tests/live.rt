@@ -2,11 +2,12 @@
 ghost use Rattle.std.specs.Prelude.{◌≤◌};
 
 use super::floors::{LIVE_ROWS, free};
-use crate::{Memory, run_live};
+use crate::run_live;
 use executive::{Gate, QuietGate};
 use mc_model::How::Done;
 use mc_model::Row;
 use mc_task::Level::Low;
+use mc_task::Memory;
 use std::alloc::Global;
 use std::sync::Wait;
 use std::test::Fail;
