@@ -25,20 +25,26 @@ use Rattle.mc_model.proofs.Lists.{Each, Each-all, filter_none}
 use Rattle.mc_model.proofs.Sums.{one, total-append, total-map, total-filter, total-ext, total-same, total-mono}
 use Rattle.mc_model.proofs.Repeats.{ticks_more, releases_more, next_more, mode_more, used_more, ticks_idle, releases_idle, next_idle, mode_idle, length_copies}
 use Rattle.trace_judge.specs.declared.pending_queues.Pending.{Pending}
-use Rattle.trace_judge.specs.Entries.{Entry, is_of, spent_entry, late_job_of, late_job}
+use Rattle.trace_judge.specs.Entries.{Entry, is_of, spent_entry, late_job_of, late_job, entries_of}
 use Rattle.trace_judge.specs.declared.state.TaskNote.{TaskNote}
 use Rattle.trace_judge.specs.declared.state.State.{State}
 use Rattle.trace_judge.specs.Placed.{new_one, waiting, gone_late, Placed, stays, is_due}
-use Rattle.trace_judge.specs.Steps.{Waits, Releases, Ends, GoesOn, Rests}
+use Rattle.trace_judge.specs.Steps.{TakesMemory, Waits, Releases, Ends, GoesOn, Rests}
 use Rattle.trace_judge.specs.Tracks.{Tracks, entry_of, late_job_in}
 use Rattle.trace_judge.specs.LateJobs.{CountsLateJobs, noted}
 use Rattle.trace_judge.specs.Rules.{is_due_at}
 use Rattle.trace_judge.specs.declared.late_jobs.LateJob.{LateJob}
-use Rattle.trace_judge.specs.Switch.{moved, rekeyed, noted_each, Switches, Overruns, is_discarded_late}
-use Rattle.trace_judge.proofs.Placed.{release_count, fresh_used}
+use Rattle.trace_judge.specs.Switch.{moved, rekeyed, is_keyed, noted_each, Switches, Overruns, is_discarded_late}
+use Rattle.trace_judge.proofs.Placed.{release_count, fresh_used, kept_of, pending_is}
+use Rattle.mc_model.specs.Pending.{KeptRelease, pending}
+use Rattle.mc_model.specs.declared.run.Run.{Run}
+use Rattle.mc_model.specs.declared.run.Run.TheVariants as run
+use Rattle.trace_judge.specs.Watched.{NeedsMemory}
 use Rattle.trace_judge.proofs.Firsts.{total_removed, total_found, total_changed}
 use Rattle.trace_judge.proofs.Noted.{IsSum, counts_same, counts_note, counts_all}
 use Rattle.trace_judge.proofs.Faults.{apart}
+use Rattle.trace_judge.proofs.Same.{list_all-true, same_all}
+use Rattle.std.specs.List.{list_all}
 use Rattle.trace_judge.proofs.LateTotal.{filter_true}
 
 -- what is written at an index is read there
@@ -314,3 +320,27 @@ keeps_rest set rule g s s' n some none t m = record {
   waiting = λ f. ap (total f) m.waiting ∙ (t.waiting f ∙ (ap (total (λ x. f (entry_of set rule g x))) none ∙ sym (ap (total (λ x. f (entry_of set rule (replicate n Idle ++ g) x))) (waiting_idle set n g ∙ none))));
   late_jobs = rw (m.late_jobs, gone_idle set n g) t.late_jobs;
 }
+
+-- the entries of tracked rows have their keys
+pub keyed_tracks : (set : List Task) (rule : Rule) (g : List Row) (s : State) → Tracks set rule g s → list_all (is_keyed set rule (high_mode rule g)) s.waiting.entries ≡ true
+keyed_tracks set rule g s t =
+    same_all s.waiting.entries (entry_of set rule g) (waiting set g) t.waiting (is_keyed set rule (high_mode rule g))
+    ∙ list_all-true (λ (x : Placed). is_keyed set rule (high_mode rule g) (entry_of set rule g x)) (λ x. eqb-refl (key set rule (high_mode rule g) x.kept)) (waiting set g)
+
+-- a task has as many entries as pending jobs
+count_of : (k : ℕ) (xs : List KeptRelease) → length (filter (λ (i : KeptRelease). i.job.task.0 == k) xs) ≡ total (λ (i : KeptRelease). cond (i.job.task.0 == k) 1 0) xs
+count_of k [] = refl
+count_of k (x ∷ xs) = grind (arith, count_of k xs)
+
+entries_pending : (set : List Task) (rule : Rule) (g : List Row) (s : State) (k : ℕ) → Legal set rule g → Tracks set rule g s →
+    entries_of k s.waiting.entries ≡ length (filter (λ (i : KeptRelease). i.job.task.0 == k) (pending set g))
+entries_pending set rule g s k l t =
+    t.waiting (λ (e : Entry). cond (e.0.1 == k) 1 0)
+    ∙ sym (ap (λ (xs : List KeptRelease). length (filter (λ (i : KeptRelease). i.job.task.0 == k) xs)) (pending_is set rule g l)
+    ∙ (count_of k (map kept_of (waiting set g)) ∙ total-map (λ (i : KeptRelease). cond (i.job.task.0 == k) 1 0) kept_of (waiting set g)))
+
+-- a run that needs memory by what is kept needs it by the rows
+pub needs_memory : (set : List Task) (rule : Rule) (g : List Row) (s : State) (r : Run) → Legal set rule g → Tracks set rule g s → TakesMemory r s → NeedsMemory set g r
+needs_memory set rule g s (run.Release j kept) l t m = (m.0, subst (λ (n : ℕ). 2 ≤ n) (entries_pending set rule g s j.task.0 l t) m.1)
+needs_memory set rule g s (run.Ticks j how n) l t m = m
+needs_memory set rule g s (run.Idles n) l t m = m

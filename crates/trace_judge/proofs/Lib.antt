@@ -1,6 +1,7 @@
 pub mod Firsts
 pub mod Ordered
 pub mod Queues
+pub mod Switched
 pub mod Trees
 pub mod Same
 pub mod Noted

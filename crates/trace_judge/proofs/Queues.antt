@@ -1,5 +1,5 @@
 -- The entries of the queues.
-use Rattle.std.proofs.Common.{◌≡◌, ◌≢◌, ℕ, zero, suc, ◌+◌, ◌-◌, ◌<◌, ◌≤◌, ◌==◌, Bool, true, false, nat_le, List, [], ◌∷◌, ◌++◌, Some, None, length, map, set, get_or, drop, replicate, refl, sym, ap, ◌∙◌, arith, append_assoc}
+use Rattle.std.proofs.Common.{◌≡◌, ◌≢◌, ℕ, zero, suc, ◌+◌, ◌-◌, ◌<◌, ◌≤◌, ◌==◌, Bool, true, false, nat_le, List, [], ◌∷◌, ◌++◌, Some, None, length, map, set, get_or, drop, replicate, refl, sym, ap, ◌∙◌, arith, append_assoc, Result, Ok, Err, OnErr}
 use Rattle.std.specs.Prelude.{find, All, Contains}
 use Rattle.std.specs.List.{AllByRecursion, list_any, list_all}
 use Rattle.std.proofs.lemmas.Bool.Decides.{nat_tests}
@@ -213,3 +213,8 @@ pub none_left : (qs : List (List Queued)) (next at : ℕ) → length qs ≤ next
 none_left qs next at h i =
     let first : at ≡ 0 = omega (arith, i) in
     rw first (ap (entries_from (next + 1)) (drop_all next qs h))
+
+-- what holds in any case holds if a call fails
+pub on_err : {T E P : Type 0} (r : Result T E) → P → OnErr r P
+on_err (Ok x) p = tt
+on_err (Err e) p = p

@@ -1,5 +1,5 @@
 -- The pending jobs as entries, in any order.
-use Rattle.std.specs.Prelude.{◌≡◌, ℕ, ◌+◌, ◌-◌, ◌^◌, ◌≤◌, Bool, true, false, ◌&&◌, ◌==◌, nat_le, min, Some, List, length, find}
+use Rattle.std.specs.Prelude.{◌≡◌, ℕ, ◌+◌, ◌-◌, ◌^◌, ◌≤◌, Bool, true, false, ◌&&◌, ◌==◌, nat_le, min, Some, List, cond, length, find}
 use Rattle.std.specs.List.{list_any, list_all}
 use Rattle.mc_task.specs.declared.task.JobId.{JobId}
 use Rattle.mc_task.specs.declared.task.Task.{Task}
@@ -33,6 +33,10 @@ HasQueues h set = h.tasks ≡ length set
 -- the entry is the job's
 abbrev pub is_of : JobId → Entry → Bool
 is_of j e = (j.task.0 == e.0.1) && (j.count == e.0.2)
+
+-- how many entries are of task number k
+abbrev pub entries_of : ℕ → List Entry → ℕ
+entries_of k es = total (λ e. cond (e.0.1 == k) 1 0) es
 
 -- `more` has the entries of es and e
 abbrev pub IsMore : List Entry → Entry → List Entry → Type 0

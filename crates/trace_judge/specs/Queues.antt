@@ -1,6 +1,11 @@
 -- The pending jobs as the judge keeps them: in a queue for each task.
-use Rattle.std.specs.Prelude.{◌≡◌, ℕ, ◌+◌, ◌-◌, ◌^◌, ◌<◌, ◌≤◌, ◌==◌, Bool, List, [], ◌∷◌, ◌++◌, length, map, drop, slice_index_or}
+use Rattle.std.specs.Prelude.{◌≡◌, ℕ, ◌+◌, ◌-◌, ◌^◌, ◌<◌, ◌≤◌, ◌==◌, Bool, true, List, [], ◌∷◌, ◌++◌, Option, cond, length, map, drop, slice_index_or}
 use Rattle.std.specs.List.{AllByRecursion}
+use Rattle.mc_task.specs.declared.task.Rule.{Rule}
+use Rattle.mc_task.specs.declared.task.Task.{Task}
+use Rattle.mc_task.specs.TaskSet.{task_at}
+use Rattle.mc_model.specs.Key.{key_of}
+use Rattle.mc_model.specs.TaskNumbers.{is_high_in}
 use Rattle.trace_judge.specs.declared.queue.Queued.{Queued}
 use Rattle.trace_judge.specs.Heads.{no_key}
 use Rattle.trace_judge.specs.Entries.{Entry, PendingEntries, ticked}
@@ -57,3 +62,20 @@ pub record AreQueues (queues : List (List Queued)) (heads : List ℕ) : Type 0 w
   pub few : length queues < 2 ^ 32
   pub each : AllByRecursion IsQueue queues
   pub heads_are : heads ≡ map head_key queues
+
+-- each job has the key that its task and its release give it in this mode
+abbrev pub AreKeyed : Rule → Bool → Option Task → List Queued → Type 0
+AreKeyed rule high t qs = AllByRecursion (λ (q : Queued). q.key ≡ key_of rule high t q.pending.release) qs
+
+-- the job with its key of high mode
+abbrev pub rekeyed_job : Rule → Option Task → Queued → Queued
+rekeyed_job rule t q = record { key = key_of rule true t q.pending.release; count = q.count; pending = q.pending }
+
+-- the queue of task t after an overrun: without the jobs of a low task, and with the keys of high mode for those of a high one
+abbrev pub switched_queue : Rule → Option Task → List Queued → List Queued
+switched_queue rule t qs = cond (is_high_in t) (map (rekeyed_job rule t) qs) []
+
+-- the queues after an overrun, the first of which belongs to task number k
+abbrev pub switched_from : List Task → Rule → ℕ → List (List Queued) → List (List Queued)
+switched_from set rule k [] = []
+switched_from set rule k (q ∷ qs) = switched_queue rule (task_at set k) q ∷ switched_from set rule (k + 1) qs

@@ -1,9 +1,11 @@
 -- What a row does to what is kept: the state before it and after it.
-use Rattle.std.specs.Prelude.{◌≡◌, ℕ, ◌+◌, ◌-◌, Bool, true, false, not, ◌||◌, ◌==◌, nat_lt, List, [], ◌∷◌, Option, None, slice_set, slice_index_or, cond, replicate}
+use Rattle.std.specs.Prelude.{◌≡◌, ℕ, ◌+◌, ◌-◌, ◌≤◌, Bool, true, false, not, ◌||◌, ◌==◌, nat_lt, List, [], ◌∷◌, Option, None, slice_set, slice_index_or, cond, replicate}
 use Rattle.std.proofs.Math.Bool.{beq}
 use Rattle.mc_task.specs.declared.task.Rule.{Rule}
 use Rattle.mc_task.specs.declared.task.Task.{Task}
 use Rattle.mc_task.specs.declared.task.JobId.{JobId}
+use Rattle.mc_model.specs.declared.run.Run.{Run}
+use Rattle.mc_model.specs.declared.run.Run.TheVariants as run
 use Rattle.mc_model.specs.declared.verdict.Why.{Why}
 use Rattle.mc_model.specs.declared.verdict.Why.TheVariants.{TooSoon, WrongCount, WrongKept}
 use Rattle.mc_model.specs.TaskNumbers.{period_in, is_high_in}
@@ -14,7 +16,7 @@ use Rattle.trace_judge.specs.declared.state.TaskNote.{TaskNote}
 use Rattle.trace_judge.specs.declared.state.State.{State}
 use Rattle.trace_judge.specs.LateJobs.{noted}
 use Rattle.trace_judge.specs.Firsts.{change_first, remove_first}
-use Rattle.trace_judge.specs.Entries.{Entry, IsMore, is_of, spent_entry, late_job}
+use Rattle.trace_judge.specs.Entries.{Entry, IsMore, is_of, spent_entry, late_job, entries_of}
 use Rattle.trace_judge.specs.Rules.{is_due_at}
 
 -- the note of task number k
@@ -40,6 +42,11 @@ pub record IsNew (count : ℕ) (s : State) : Type 0 where
   pub waiting : s.waiting ≡ record { tasks = count; entries = [] }
   pub count_zero : s.late_jobs.count ≡ 0
   pub first : s.late_jobs.first ≡ None
+
+-- the run is a kept release of a task that has two entries already
+abbrev pub TakesMemory : Run → State → Type 0
+TakesMemory (run.Release j kept) s = (kept ≡ true) × (2 ≤ entries_of j.task.0 s.waiting.entries)
+TakesMemory _ s = ⊥
 
 -- the job of this entry is added to the entries if it is kept
 abbrev pub Waits : Bool → Entry → List Entry → List Entry → Type 0

@@ -1,5 +1,5 @@
 -- What an overrun does to what is kept: the low jobs go, and the high ones get their keys of high mode.
-use Rattle.std.specs.Prelude.{◌≡◌, ℕ, Bool, true, not, ◌&&◌, List, [], ◌∷◌, Option, Some, None, cond}
+use Rattle.std.specs.Prelude.{◌≡◌, ℕ, Bool, true, not, ◌&&◌, ◌==◌, List, [], ◌∷◌, Option, Some, None, cond}
 use Rattle.mc_task.specs.declared.task.JobId.{JobId}
 use Rattle.mc_task.specs.declared.task.Rule.{Rule}
 use Rattle.mc_task.specs.declared.task.Task.{Task}
@@ -28,6 +28,10 @@ is_discarded_late set now e = not (is_high_in (task_at set e.0.1)) && is_due_ent
 abbrev pub noted_each : (Entry → Bool) → LateJobs → List Entry → LateJobs
 noted_each p s [] = s
 noted_each p s (e ∷ es) = noted_each p (cond (p e) (noted s (late_job_of e)) s) es
+
+-- the entry has the key that its task and its release give it in this mode
+abbrev pub is_keyed : List Task → Rule → Bool → Entry → Bool
+is_keyed set rule high e = e.0.0 == key_of rule high (task_at set e.0.1) e.1.release
 
 -- the rank of a job of the task in high mode
 abbrev pub rekeyed : Rule → Option Task → Rank → Pending → Rank

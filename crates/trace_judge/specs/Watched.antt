@@ -1,10 +1,12 @@
 -- What a monitor has seen of a schedule. The newest row stands first.
-use Rattle.std.specs.Prelude.{◌≡◌, ℕ, ◌+◌, ◌<◌, Bool, true, false, List, [], ◌∷◌, ◌++◌, Option, Some, None, option_map, is_some, cond, length, reverse, take}
+use Rattle.std.specs.Prelude.{◌≡◌, ℕ, ◌+◌, ◌<◌, ◌≤◌, ◌==◌, Bool, filter, true, false, List, [], ◌∷◌, ◌++◌, Option, Some, None, IfSome, option_map, is_some, cond, length, reverse, take, slice_get}
 use Rattle.mc_task.specs.declared.task.Rule.{Rule}
 use Rattle.mc_task.specs.declared.task.Task.{Task}
 use Rattle.mc_task.specs.TaskSet.{Set}
 use Rattle.mc_model.specs.declared.row.Row.{Row}
 use Rattle.mc_model.specs.declared.run.Run.{Run}
+use Rattle.mc_model.specs.declared.run.Run.TheVariants as run
+use Rattle.mc_model.specs.Pending.{KeptRelease, pending}
 use Rattle.mc_model.specs.Holds.{Fits}
 use Rattle.mc_model.specs.Legal.{Legal}
 use Rattle.mc_model.specs.Runs.{expand}
@@ -65,10 +67,28 @@ seen m = m.state.rows
 abbrev pub fits_so_far : Watched → Bool
 fits_so_far m = is_none m.unfit
 
--- the monitor has seen the first of these runs, each row of which fits, and not all of them
+-- after these rows the run is a kept release of a task that has at least two pending jobs: a monitor is opened with memory
+-- for two jobs of each task
+abbrev pub NeedsMemory : List Task → List Row → Run → Type 0
+NeedsMemory set h (run.Release j kept) =
+    (kept ≡ true) × (2 ≤ length (filter (λ (i : KeptRelease). i.job.task.0 == j.task.0) (pending set h)))
+NeedsMemory set h _ = ⊥
+
+-- a state that tracked some legal rows tracks them with those of the first of these runs, which are legal too; it has not
+-- followed all of them: the next run needs memory
+pub record HasFollowedSome (runs : List Run) (set : List Task) (rule : Rule) (old new : State) : Type 0 where
+  pub count : ℕ
+  pub some_left : count < length runs
+  pub rows : (h : List Row) → Legal set rule h → Tracks set rule h old
+      → Legal set rule (reverse (expand (take count runs)) ++ h) × Tracks set rule (reverse (expand (take count runs)) ++ h) new
+  pub memory : (h : List Row) → Legal set rule h → Tracks set rule h old
+      → IfSome (slice_get runs count) (NeedsMemory set (reverse (expand (take count runs)) ++ h))
+
+-- the monitor has seen the first of these runs, each row of which fits, and not all of them: the next run needs memory
 pub record HasTakenSome (runs : List Run) (old new : Watched) : Type 0 where
   pub count : ℕ
   pub some_left : count < length runs
   pub rows : (h : List Row) → Watches h old → Watches (reverse (expand (take count runs)) ++ h) new
   pub each_fits : fits_so_far new ≡ true
   pub many : seen new ≡ seen old + length (expand (take count runs))
+  pub memory : (h : List Row) → Watches h old → IfSome (slice_get runs count) (NeedsMemory old.set.tasks (reverse (expand (take count runs)) ++ h))

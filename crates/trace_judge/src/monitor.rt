@@ -9,7 +9,7 @@ ghost use Rattle.mc_model.specs.Rows.{ticks};
 ghost use Rattle.mc_model.specs.Mode.{high_mode};
 ghost use Rattle.mc_model.specs.Pending.{pending};
 ghost use Rattle.mc_model.specs.declared.run.Run.{Run};
-ghost use Rattle.trace_judge.specs.Watched.{Watches, HasTakenSome, unfit_in, fitted, seen, fits_so_far};
+ghost use Rattle.trace_judge.specs.Watched.{Watches, HasTakenSome, NeedsMemory, unfit_in, fitted, seen, fits_so_far};
 ghost use Rattle.trace_judge.specs.Turned.{AreTurned, IsInOrder, AddLate};
 ghost use Rattle.trace_judge.specs.declared.monitor.ObserveFault.TheVariants as faults;
 
@@ -52,7 +52,8 @@ impl From<Memory> for ObserveFault {
 ///
 /// Contracts say what a monitor returns for all rows that it may have seen, `Watches rows monitor`, the newest first. The
 /// clock, the mode, the pending jobs and the counts are those after the rows that fitted, `fitted`: the rows before the first
-/// that does not fit. A monitor stores no rows: its memory grows with the pending jobs alone.
+/// that does not fit. A monitor stores no rows. It is opened with memory for two jobs of each task, and takes more only when a
+/// task has more pending jobs.
 #[derive(Drop)]
 pub struct Monitor {
     set: TaskSet,
@@ -103,6 +104,7 @@ impl Monitor {
         ensures unknown { (result ≡ Err faults.UnknownTask) ↔ (¬ IsRunOfSet self.old.set.tasks run) }
         ensures not_a_run { (result ≡ Err faults.NotARun) ↔ (IsRunOfSet self.old.set.tasks run × (¬ IsRun run)) }
         ensures full { (result ≡ Err faults.Full) ↔ (IsRunOfSet self.old.set.tasks run × IsRun run × (2 ^ 62 < seen self.old + size run)) }
+        ensures memory { result ≡ Err faults.Memory → (h : List Row) → Watches h self.old → NeedsMemory self.old.set.tasks h run }
     {
         self.check_run(run)?;
         match self.follow(alloc, run) {
@@ -113,7 +115,7 @@ impl Monitor {
 
     /// Takes a valid run of the set, if there is capacity for its rows, and returns the first row so far that does not
     /// fit. If memory runs out, the monitor is unchanged.
-    pub fn follow(&mut self, alloc: Global, run: Run) -> Result<Option<Unfit>, Memory>
+    pub fn follow(&mut self, _: Global, run: Run) -> Result<Option<Unfit>, Memory>
         requires task { IsRunOfSet self.old.set.tasks run }
         requires is_run { IsRun run }
         requires room { seen self.old + size run ≤ 2 ^ 62 }
@@ -123,13 +125,14 @@ impl Monitor {
         ensures set { self.new.set ≡ self.old.set }
         ensures rule { self.new.rule ≡ self.old.rule }
         ensures unchanged { OnErr result (self.new ≡ self.old) }
+        ensures memory { OnErr result ((h : List Row) → Watches h self.old → NeedsMemory self.old.set.tasks h run) }
     {
         if let Some(unfit) = self.unfit {
             return Ok(Some(unfit));
         }
         let now = self.state.ticks;
         let before = self.state.rows;
-        match step(&mut self.state, alloc, &self.set, self.rule, run)? {
+        match step(&mut self.state, &self.set, self.rule, run)? {
             None => {
                 self.quiet = self.quiet.after_run(&self.set, now, run);
                 Ok(None)
@@ -144,8 +147,8 @@ impl Monitor {
 
     /// Takes valid runs of the set one after another, if there is capacity for all their rows or one so far does not fit.
     /// This costs less than a call for each run, but the next `turned_late` reads the pending jobs. If memory runs out, the
-    /// monitor has seen the runs before one of them, and `seen` says how many rows these are.
-    pub fn follow_all(&mut self, alloc: Global, runs: &[Run]) -> Result<(), Memory>
+    /// monitor has seen the runs before one that needs memory, and `seen` says how many rows these are.
+    pub fn follow_all(&mut self, _: Global, runs: &[Run]) -> Result<(), Memory>
         requires runs { AreRuns runs.now }
         requires tasks { All (IsRunOfSet self.old.set.tasks) runs.now }
         requires room { fits_so_far self.old ≡ true → seen self.old + length (expand runs.now) ≤ 2 ^ 62 }
@@ -156,7 +159,7 @@ impl Monitor {
     {
         if self.is_legal() {
             self.quiet = Quiet::empty();
-            self.unfit = follow_runs(&mut self.state, alloc, &self.set, self.rule, runs)?;
+            self.unfit = follow_runs(&mut self.state, &self.set, self.rule, runs)?;
         }
         Ok(())
     }

@@ -1,12 +1,18 @@
 //! The pending jobs: those of each task in a queue, and the least key of each queue.
-ghost use Rattle.std.specs.Prelude.{◌≡◌, ◌+◌, ◌-◌, ◌<◌, ◌≤◌, ◌==◌, min, [], ◌∷◌, ◌^◌, IfOk, OnOk, OnErr, MatchOption, length, replicate};
+ghost use Rattle.std.specs.Prelude.{◌≡◌, ◌+◌, ◌-◌, ◌<◌, ◌≤◌, ◌==◌, Bool, true, min, [], ◌∷◌, ◌^◌, IfOk, OnOk, OnErr, MatchOption, length, replicate};
+ghost use Rattle.std.specs.List.{list_all};
+ghost use Rattle.mc_model.specs.Holds.{Fits};
+ghost use Rattle.mc_model.specs.Sums.{total, when};
+ghost use Rattle.mc_model.proofs.Sums.{one};
 ghost use Rattle.trace_judge.specs.Heads.{no_key};
 ghost use Rattle.trace_judge.specs.Firsts.{change_first, remove_first};
-ghost use Rattle.trace_judge.specs.Entries.{HasQueue, IsMore, Stands, is_of, spent_entry};
+ghost use Rattle.trace_judge.specs.Entries.{HasQueue, IsMore, Stands, is_of, spent_entry, entries_of};
+ghost use Rattle.trace_judge.specs.Queues.{entries_from, switched_from, AreQueues};
+ghost use Rattle.trace_judge.specs.Switch.{Switches, is_keyed};
 
 use crate::heads::{Heads, NO_KEY};
 use crate::queue::{Queue, Queued};
-use mc_task::{JobId, Memory};
+use mc_task::{JobId, Memory, Rule, TaskNo, TaskSet};
 use std::alloc::{AllocError, Global};
 use std::marker::Model;
 
@@ -107,6 +113,7 @@ impl PendingQueues {
         ensures tasks { OnOk result (self.new.tasks ≡ self.old.tasks) }
         ensures entries { OnOk result (IsMore self.new.entries (at, pending) self.old.entries) }
         ensures unchanged { OnErr result (self.new ≡ self.old) }
+        ensures memory { OnErr result (2 ≤ entries_of at.1 self.old.entries) }
     {
         let index = at.1 as usize - 1;
         let queue = &mut self.queues[index];
@@ -144,6 +151,17 @@ impl PendingQueues {
         self.heads.set(index, queue.head_key());
     }
 
+    /// Follows an overrun: the jobs of low tasks are taken out, and those of high ones get their keys of high mode. No memory
+    /// is needed.
+    pub fn switch(&mut self, set: &TaskSet, rule: Rule)
+        requires fits { Fits rule }
+        requires keyed { (high : Bool) × (list_all (is_keyed set.now.tasks rule high) self.old.entries ≡ true) }
+        ensures tasks { self.new.tasks ≡ self.old.tasks }
+        ensures entries { Switches set.now.tasks rule self.old.entries self.new.entries }
+    {
+        switch_each(&mut self.queues, &mut self.heads, set, rule);
+    }
+
     /// All pending jobs, to be gone through.
     pub fn remaining(&self) -> Remaining<'_>
         ensures { result ≡ self.now.entries }
@@ -162,9 +180,23 @@ fn empty_queues(alloc: Global, count: u32) -> Result<Vec<Queue>, AllocError>
 {
     let mut queues = Vec::new(alloc);
     for _ in 0..count {
-        queues.push(Queue::new(alloc))?;
+        queues.push(Queue::new(alloc)?)?;
     }
     Ok(queues)
+}
+
+// Has each queue follow an overrun.
+fn switch_each(queues: &mut Vec<Queue>, heads: &mut Heads, set: &TaskSet, rule: Rule)
+    requires fits { Fits rule }
+    requires queues { AreQueues queues.old.items heads.old }
+    requires keyed { (high : Bool) × (list_all (is_keyed set.now.tasks rule high) (entries_from 1 queues.old.items) ≡ true) }
+    ensures items { queues.new.items ≡ switched_from set.now.tasks rule 1 queues.old.items }
+    ensures queues { AreQueues queues.new.items heads.new }
+{
+    for index in 0..queues.len() {
+        queues[index].switch(rule, &set.get(TaskNo(index as u32 + 1)));
+        heads.set(index, queues[index].head_key());
+    }
 }
 
 /// The pending jobs that are still to be gone through, task by task: those of the queues from `next` on, except the first

@@ -1,18 +1,24 @@
 //! The pending jobs of one task, in ascending order of their keys. Jobs of a task are released in that order, so a new
 //! job is put last, and the job that runs is the first.
-ghost use Rattle.std.specs.Prelude.{◌≡◌, ◌+◌, ◌<◌, ◌≤◌, ℕ, [], OnOk, OnErr, IfOk, IfSome, IfNone, cond, length, slice_index_or, true, false, find};
-ghost use Rattle.std.specs.List.{list_any, insert, remove};
+ghost use Rattle.std.specs.Prelude.{◌≡◌, ◌+◌, ◌<◌, ◌≤◌, ℕ, Bool, [], Some, OnOk, OnErr, IfOk, IfSome, IfNone, cond, length, map, slice_index_or, true, false, find};
+ghost use Rattle.std.specs.List.{list_any, insert, remove, AllByRecursion};
+ghost use Rattle.std.proofs.Common.{deque_capacity};
+ghost use Rattle.mc_model.specs.Holds.{Fits};
 ghost use Rattle.mc_model.specs.Sums.{total};
 ghost use Rattle.trace_judge.specs.Heads.{no_key};
-ghost use Rattle.trace_judge.specs.Queues.{has_count, head_key, spent_job, IsQueue, IsPositionFor};
+ghost use Rattle.trace_judge.specs.Queues.{has_count, head_key, spent_job, rekeyed_job, switched_queue, AreKeyed, IsQueue, IsPositionFor};
 ghost use Rattle.trace_judge.specs.Firsts.{change_first, remove_first, IsFirstAt};
 
 use crate::heads::NO_KEY;
 use crate::pending_queues::Pending;
-use mc_task::Memory;
+use crate::rules::key_at;
+use mc_task::{Memory, Rule, Task};
 use std::alloc::{AllocError, Global};
 use std::collections::VecDeque;
 use std::marker::Model;
+
+/// How many jobs a queue takes without more memory: a pending one, and the next.
+const OPENED_FOR: usize = 2;
 
 /// A pending job of a task: its key, its count, and what is kept of it.
 #[derive(Clone, Copy, Debug, PartialEq, Eq)]
@@ -38,17 +44,19 @@ impl Model for Queue {
 
     ghost view = { λ a. a.jobs.items };
 
-    ghost invariant = { λ a. IsQueue a.jobs.items };
+    ghost use Rattle.std.specs.Prelude.{◌≤◌};
+    ghost use Rattle.std.proofs.Common.{deque_capacity};
+
+    ghost invariant = { λ a. IsQueue a.jobs.items × (2 ≤ deque_capacity a.jobs) };
 }
 
 impl Queue {
-    /// A queue without jobs.
-    pub fn new(alloc: Global) -> Queue
-        ensures { result ≡ [] }
+    /// A queue without jobs, with memory for two.
+    pub fn new(alloc: Global) -> Result<Queue, AllocError>
+        ensures { IfOk result (λ queue. queue ≡ []) }
     {
-        Queue {
-            jobs: VecDeque::new(alloc),
-        }
+        let jobs = VecDeque::with_capacity(alloc, OPENED_FOR)?;
+        Ok(Queue { jobs })
     }
 
     /// Puts a job after those whose keys are not greater, and returns whether the job is now the first.
@@ -60,6 +68,7 @@ impl Queue {
         ensures jobs { OnOk result ((f : Queued → ℕ) → total f self.new ≡ f job + total f self.old) }
         ensures ordered { OnOk result (IsQueue self.new) }
         ensures unchanged { OnErr result (self.new ≡ self.old) }
+        ensures memory { OnErr result (2 ≤ length self.old) }
     {
         let position = position_for(&self.jobs, job.key);
         put_at(&mut self.jobs, position, job)?;
@@ -110,6 +119,20 @@ impl Queue {
         }
     }
 
+    /// Follows an overrun: the jobs of a low task are taken out, and those of a high one get their keys of high mode. All
+    /// keys of a task move by one distance, so their order stays.
+    pub fn switch(&mut self, rule: Rule, task: &Option<Task>)
+        requires fits { Fits rule }
+        requires keyed { (high : Bool) × AreKeyed rule high task.now self.old }
+        ensures jobs { self.new ≡ switched_queue rule task.now self.old }
+        ensures ordered { IsQueue self.new }
+    {
+        match task {
+            Some(task) if task.is_high() => rekey_each(&mut self.jobs, rule, task),
+            _ => self.jobs.clear(),
+        }
+    }
+
     /// The number of jobs.
     pub fn len(&self) -> usize
         ensures { result ≡ length self.now }
@@ -148,6 +171,8 @@ fn put_at(jobs: &mut VecDeque<Queued>, position: usize, job: Queued) -> Result<(
     requires { position ≤ length jobs.old.items }
     ensures items { OnOk result (jobs.new.items ≡ insert jobs.old.items position job) }
     ensures unchanged { OnErr result (jobs.new.items ≡ jobs.old.items) }
+    ensures memory { OnErr result (deque_capacity jobs.old ≤ length jobs.old.items) }
+    ensures capacity { deque_capacity jobs.old ≤ deque_capacity jobs.new }
 {
     if position < jobs.len() {
         jobs.insert(position, job)?;
@@ -161,13 +186,27 @@ fn put_at(jobs: &mut VecDeque<Queued>, position: usize, job: Queued) -> Result<(
 #[inline(always)]
 fn take_at(jobs: &mut VecDeque<Queued>, position: usize)
     requires { position < length jobs.old.items }
-    ensures { jobs.new.items ≡ remove jobs.old.items position }
+    ensures items { jobs.new.items ≡ remove jobs.old.items position }
+    ensures capacity { deque_capacity jobs.new ≡ deque_capacity jobs.old }
 {
     if position > 0 {
         let _ = jobs.remove(position);
         return;
     }
     let _ = jobs.pop_front();
+}
+
+// Gives each job of the task its key of high mode.
+fn rekey_each(jobs: &mut VecDeque<Queued>, rule: Rule, task: &Task)
+    requires { Fits rule }
+    ensures items { jobs.new.items ≡ map (rekeyed_job rule (Some task.now)) jobs.old.items }
+    ensures below { AllByRecursion (λ q. q.key < no_key) jobs.new.items }
+    ensures capacity { deque_capacity jobs.new ≡ deque_capacity jobs.old }
+{
+    for position in 0..jobs.len() {
+        let release = jobs[position].pending.release;
+        jobs[position].key = key_at(rule, true, task, release);
+    }
 }
 
 // The index of the first job of this count. Mostly it is the job that runs, so the front is tried first.

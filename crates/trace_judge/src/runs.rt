@@ -1,24 +1,22 @@
 //! Runs, followed one after another.
-ghost use Rattle.std.specs.Prelude.{◌+◌, ◌++◌, ◌^◌, ◌<◌, ◌≤◌, ℕ, All, IfOk, OnErr, List, length, reverse, take};
+ghost use Rattle.std.specs.Prelude.{◌+◌, ◌++◌, ◌^◌, ◌≤◌, All, IfOk, OnErr, List, length, reverse};
 ghost use Rattle.mc_model.specs.declared.row.Row.{Row};
 ghost use Rattle.mc_model.specs.Holds.{Fits};
 ghost use Rattle.mc_model.specs.Legal.{Legal};
 ghost use Rattle.mc_model.specs.Runs.{expand, AreRuns, IsRunOfSet};
 ghost use Rattle.trace_judge.specs.Tracks.{Tracks};
-ghost use Rattle.trace_judge.specs.Watched.{HasFollowed};
+ghost use Rattle.trace_judge.specs.Watched.{HasFollowed, HasFollowedSome};
 
 use crate::state::State;
 use crate::step::step;
 use crate::unfit::{Unfit, unfit_after};
 use mc_model::Run;
 use mc_task::{Memory, Rule, TaskSet};
-use std::alloc::Global;
 
 /// Follows the rows of runs up to the first that does not fit, which is returned. If memory runs out, the state has followed
-/// the runs before one of them, and each row of them fits.
+/// the runs before one of them that needs memory, and each row of them fits.
 pub fn follow_runs(
     state: &mut State,
-    alloc: Global,
     set: &TaskSet,
     rule: Rule,
     runs: &[Run],
@@ -29,12 +27,12 @@ pub fn follow_runs(
     requires tracks { (h : List Row) × (Legal set.now.tasks rule h × Tracks set.now.tasks rule h state.old) }
     requires room { state.old.rows + length (expand runs.now) ≤ 2 ^ 62 }
     ensures answer { IfOk result (λ unfit. (h : List Row) → Legal set.now.tasks rule h → Tracks set.now.tasks rule h state.old → HasFollowed (reverse (expand runs.now) ++ h) set.now.tasks rule state.new unfit) }
-    ensures some { OnErr result ((count : ℕ) × (count < length runs.now) × ((h : List Row) → Legal set.now.tasks rule h → Tracks set.now.tasks rule h state.old → Legal set.now.tasks rule (reverse (expand (take count runs.now)) ++ h) × Tracks set.now.tasks rule (reverse (expand (take count runs.now)) ++ h) state.new)) }
+    ensures some { OnErr result (HasFollowedSome runs.now set.now.tasks rule state.old state.new) }
     ensures tracks { (h : List Row) × (Legal set.now.tasks rule h × Tracks set.now.tasks rule h state.new) }
 {
     for run in runs {
         let before = state.rows;
-        if let Some(misfit) = step(state, alloc, set, rule, *run)? {
+        if let Some(misfit) = step(state, set, rule, *run)? {
             return Ok(Some(unfit_after(before, misfit)));
         }
     }

@@ -1,13 +1,13 @@
 //! What is kept of the rows so far, and what each kind of row does to it.
-ghost use Rattle.std.specs.Prelude.{◌≡◌, ◌+◌, ◌-◌, ◌^◌, ◌<◌, ◌≤◌, OnOk, OnErr, IfOk, IsSome, Some, length};
+ghost use Rattle.std.specs.Prelude.{◌≡◌, ◌+◌, ◌-◌, ◌^◌, ◌<◌, ◌≤◌, Bool, true, OnOk, OnErr, IfOk, Some, length};
+ghost use Rattle.std.specs.List.{list_all};
 ghost use Rattle.mc_task.specs.TaskSet.{IsIn, task_at};
 ghost use Rattle.mc_model.specs.Holds.{Fits};
 ghost use Rattle.mc_model.specs.TaskNumbers.{is_high_in};
 ghost use Rattle.trace_judge.specs.Rules.{is_due_at};
-ghost use Rattle.trace_judge.specs.Heads.{no_key};
-ghost use Rattle.trace_judge.specs.Entries.{HasQueue, HasQueues, late_job};
+ghost use Rattle.trace_judge.specs.Entries.{HasQueue, HasQueues, late_job, entries_of};
 ghost use Rattle.trace_judge.specs.Steps.{IsNew, note_at, release_why, Releases, GoesOn, Ends, Rests};
-ghost use Rattle.trace_judge.specs.Switch.{rekeyed, Switches, Overruns, noted_each, is_due_entry, is_discarded_late};
+ghost use Rattle.trace_judge.specs.Switch.{Overruns, is_keyed, noted_each, is_due_entry, is_discarded_late};
 
 use crate::late_jobs::{LateJob, LateJobs};
 use crate::pending_queues::{Pending, PendingQueues, Rank};
@@ -90,6 +90,7 @@ impl State {
         requires time { self.old.ticks < 2 ^ 62 }
         ensures follows { OnOk result (Releases rule (Some task.now) job kept self.old self.new) }
         ensures unchanged { OnErr result (self.new ≡ self.old) }
+        ensures memory { OnErr result ((kept ≡ true) × (2 ≤ entries_of job.task.0 self.old.waiting.entries)) }
     {
         if kept {
             let key = key_at(rule, self.high_mode, task, self.ticks);
@@ -148,58 +149,37 @@ impl State {
         self.rows += 1;
     }
 
-    /// Follows an overrun.
-    pub fn overrun(
-        &mut self,
-        alloc: Global,
-        set: &TaskSet,
-        rule: Rule,
-        job: JobId,
-    ) -> Result<(), Memory>
+    /// Follows an overrun. High jobs get their keys of high mode, and low ones are discarded.
+    pub fn overrun(&mut self, set: &TaskSet, rule: Rule, job: JobId)
         requires fits { Fits rule }
         requires task { IsIn set.now.tasks job.task.0 }
         requires queues { HasQueues self.old.waiting set.now.tasks }
+        requires keyed { (high : Bool) × (list_all (is_keyed set.now.tasks rule high) self.old.waiting.entries ≡ true) }
         requires room { self.old.rows < 2 ^ 62 }
         requires time { self.old.ticks < 2 ^ 62 }
-        ensures follows { OnOk result (Overruns set.now.tasks rule job self.old self.new) }
-        ensures unchanged { OnErr result (self.new ≡ self.old) }
+        ensures { Overruns set.now.tasks rule job self.old self.new }
     {
-        let (waiting, late_jobs) = self.switched(alloc, set, rule)?;
-        self.waiting = waiting;
-        self.late_jobs = late_jobs;
+        self.late_jobs = self.late_after_overrun(set);
+        self.waiting.switch(set, rule);
         self.waiting.spend(job, 1);
         self.high_mode = true;
         self.ticks += 1;
         self.rows += 1;
-        Ok(())
     }
 
-    // The pending jobs and the late ones after an overrun at this tick. High jobs get their keys of high mode. Low jobs are
-    // discarded, and one whose deadline came before this tick is late.
-    fn switched(
-        &self,
-        alloc: Global,
-        set: &TaskSet,
-        rule: Rule,
-    ) -> Result<(PendingQueues, LateJobs), Memory>
-        requires { Fits rule }
-        ensures queues { IfOk result (λ r. HasQueues r.0 set.now.tasks) }
-        ensures waiting { IfOk result (λ r. Switches set.now.tasks rule self.now.waiting.entries r.0.entries) }
-        ensures late_jobs { IfOk result (λ r. r.1 ≡ noted_each (is_discarded_late set.now.tasks self.now.ticks) self.now.late_jobs self.now.waiting.entries) }
+    // The late jobs after an overrun at this tick: a low job is discarded, and is late if its deadline came before this tick.
+    fn late_after_overrun(&self, set: &TaskSet) -> LateJobs
+        ensures { result ≡ noted_each (is_discarded_late set.now.tasks self.now.ticks) self.now.late_jobs self.now.waiting.entries }
     {
-        let mut waiting = PendingQueues::new(alloc, set.len())?;
         let mut late_jobs = self.late_jobs;
         let mut remaining = self.waiting.remaining();
         while let Some((at, pending)) = remaining.pop() {
             let task = set.get(TaskNo(at.1));
-            if is_high_task(&task) {
-                let at = rekeyed(rule, &task, at, pending);
-                waiting.put(at, pending)?;
-            } else if is_due_task(&task, pending.release, self.ticks) {
+            if !is_high_task(&task) && is_due_task(&task, pending.release, self.ticks) {
                 late_jobs.note(late_job(job_at(at), pending));
             }
         }
-        Ok((waiting, late_jobs))
+        late_jobs
     }
 
     /// The late jobs so far: those that ended or were discarded late, and the pending ones whose deadlines have come.
@@ -255,17 +235,5 @@ pub fn is_due_task(task: &Option<Task>, release: u64, now: u64) -> bool
     match task {
         None => release <= now,
         Some(task) => is_due(task, release, now),
-    }
-}
-
-// The rank of a high job in high mode.
-fn rekeyed(rule: Rule, task: &Option<Task>, at: Rank, pending: Pending) -> Rank
-    requires { Fits rule }
-    ensures rank { result ≡ rekeyed rule task.now at pending }
-    ensures key { IsSome task.now → result.0 < no_key }
-{
-    match task {
-        None => at,
-        Some(task) => (key_at(rule, true, task, pending.release), at.1, at.2),
     }
 }

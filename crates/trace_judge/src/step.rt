@@ -1,5 +1,5 @@
 //! One run: whether its rows fit what is kept of the rows before it, and what is kept after it.
-ghost use Rattle.std.specs.Prelude.{◌≡◌, ◌≢◌, ◌-◌, ◌+◌, ◌^◌, ◌<◌, ◌≤◌, IfOk, OnOk, IfErr, OnErr, Some, None, List, length};
+ghost use Rattle.std.specs.Prelude.{◌≡◌, ◌≢◌, ◌-◌, ◌+◌, ◌^◌, ◌<◌, ◌≤◌, Bool, true, IfOk, OnOk, IfErr, OnErr, Some, None, List, length};
 ghost use Rattle.mc_task.specs.declared.task.Rule.{Rule};
 ghost use Rattle.mc_task.specs.declared.task.Task.{Task};
 ghost use Rattle.mc_task.specs.TaskSet.{task_at};
@@ -7,7 +7,10 @@ ghost use Rattle.mc_model.specs.Holds.{Fits};
 ghost use Rattle.mc_model.specs.Runs.{size, IsRun, IsRunOfSet};
 ghost use Rattle.mc_model.specs.declared.run.Run.TheVariants as run;
 ghost use Rattle.trace_judge.specs.Entries.{HasQueues, Stands};
+ghost use Rattle.std.specs.List.{list_all};
 ghost use Rattle.trace_judge.specs.Rules.{fitting};
+ghost use Rattle.trace_judge.specs.Steps.{TakesMemory};
+ghost use Rattle.trace_judge.specs.Switch.{is_keyed};
 ghost use Rattle.trace_judge.specs.Tracks.{IsStep, Looks};
 ghost use Rattle.trace_judge.specs.declared.pending_queues.Standing.TheVariants as standing;
 
@@ -16,7 +19,6 @@ use crate::rules::fitting;
 use crate::state::State;
 use mc_model::{How, Run, Why};
 use mc_task::{JobId, Memory, Rule, Task, TaskNo, TaskSet};
-use std::alloc::Global;
 
 /// The first row of a run that does not fit: how many rows of the run stand before it, and which of its parts fails.
 #[derive(Clone, Copy, Debug, PartialEq, Eq)]
@@ -45,7 +47,6 @@ struct JobTicks {
 /// The first row of the run that does not fit. The state follows the rows before it, or all rows if each fits, in one step.
 pub fn step(
     state: &mut State,
-    alloc: Global,
     set: &TaskSet,
     rule: Rule,
     run: Run,
@@ -55,15 +56,17 @@ pub fn step(
     requires is_run { IsRun run }
     requires count { length state.old.tasks.items ≡ length set.now.tasks }
     requires queues { HasQueues state.old.waiting set.now.tasks }
+    requires keyed { (high : Bool) × (list_all (is_keyed set.now.tasks rule high) state.old.waiting.entries ≡ true) }
     requires room { state.old.rows + size run ≤ 2 ^ 62 }
     requires time { state.old.ticks + size run ≤ 2 ^ 62 }
     ensures step { IfOk result (λ misfit. IsStep set.now.tasks rule run state.old misfit state.new) }
     ensures unchanged { OnErr result (state.new ≡ state.old) }
+    ensures memory { OnErr result (TakesMemory run state.old) }
 {
     match run {
         Run::Release { job, kept } => release(state, set, rule, job, kept),
         Run::Ticks { job, how, length } => {
-            tick(state, alloc, set, rule, JobTicks { job, how, length })
+            Ok(tick(state, set, rule, JobTicks { job, how, length }))
         }
         Run::Idles { length } => Ok(idle(state, set, rule, length)),
     }
@@ -107,6 +110,7 @@ fn release(
     requires time { state.old.ticks + 1 ≤ 2 ^ 62 }
     ensures step { IfOk result (λ misfit. IsStep set.now.tasks rule (run.Release job kept) state.old misfit state.new) }
     ensures unchanged { OnErr result (state.new ≡ state.old) }
+    ensures memory { OnErr result (TakesMemory (run.Release job kept) state.old) }
 {
     let task = task_in(set, job.task);
     if let Some(why) = state.release_why(task, job, kept) {
@@ -130,21 +134,15 @@ fn release_misfit(state: &State, set: &TaskSet, job: JobId, kept: bool) -> Optio
 }
 
 // Follows ticks of a job, up to the first that does not fit.
-fn tick(
-    state: &mut State,
-    alloc: Global,
-    set: &TaskSet,
-    rule: Rule,
-    ticks: JobTicks,
-) -> Result<Option<Misfit>, Memory>
+fn tick(state: &mut State, set: &TaskSet, rule: Rule, ticks: JobTicks) -> Option<Misfit>
     requires fits { Fits rule }
     requires task { IsRunOfSet set.now.tasks (run.Ticks ticks.job ticks.how ticks.length) }
     requires is_run { IsRun (run.Ticks ticks.job ticks.how ticks.length) }
     requires queues { HasQueues state.old.waiting set.now.tasks }
+    requires keyed { (high : Bool) × (list_all (is_keyed set.now.tasks rule high) state.old.waiting.entries ≡ true) }
     requires room { state.old.rows + ticks.length ≤ 2 ^ 62 }
     requires time { state.old.ticks + ticks.length ≤ 2 ^ 62 }
-    ensures step { IfOk result (λ misfit. IsStep set.now.tasks rule (run.Ticks ticks.job ticks.how ticks.length) state.old misfit state.new) }
-    ensures unchanged { OnErr result (state.new ≡ state.old) }
+    ensures { IsStep set.now.tasks rule (run.Ticks ticks.job ticks.how ticks.length) state.old result state.new }
 {
     let task = task_in(set, ticks.job.task);
     match ticks_fit(state, set, rule, task, ticks) {
@@ -153,11 +151,11 @@ fn tick(
             if misfit.after > 0 {
                 state.go_on(ticks.job, misfit.after);
             }
-            Ok(Some(misfit))
+            Some(misfit)
         }
         Ok(pending) => {
-            follow_ticks(state, alloc, set, rule, task, ticks, pending)?;
-            Ok(None)
+            follow_ticks(state, set, rule, task, ticks, pending);
+            None
         }
     }
 }
@@ -203,33 +201,31 @@ fn ticks_fit(
 // Follows ticks of a job that all fit.
 fn follow_ticks(
     state: &mut State,
-    alloc: Global,
     set: &TaskSet,
     rule: Rule,
     task: &Task,
     ticks: JobTicks,
     pending: Pending,
-) -> Result<(), Memory>
+)
     requires fits { Fits rule }
     requires task { IsRunOfSet set.now.tasks (run.Ticks ticks.job ticks.how ticks.length) }
     requires at { task_at set.now.tasks ticks.job.task.0 ≡ Some task.now }
     requires is_run { IsRun (run.Ticks ticks.job ticks.how ticks.length) }
     requires queues { HasQueues state.old.waiting set.now.tasks }
+    requires keyed { (high : Bool) × (list_all (is_keyed set.now.tasks rule high) state.old.waiting.entries ≡ true) }
     requires room { state.old.rows + ticks.length ≤ 2 ^ 62 }
     requires time { state.old.ticks + ticks.length ≤ 2 ^ 62 }
     requires least { Stands state.old.waiting.entries ticks.job (standing.Least pending) }
     requires fitting { ticks.length ≤ fitting rule state.old.high_mode (Some task.now) pending.used ticks.how ticks.length }
-    ensures step { OnOk result (IsStep set.now.tasks rule (run.Ticks ticks.job ticks.how ticks.length) state.old None state.new) }
-    ensures unchanged { OnErr result (state.new ≡ state.old) }
+    ensures { IsStep set.now.tasks rule (run.Ticks ticks.job ticks.how ticks.length) state.old None state.new }
 {
     let _is_set = set.len();
     let JobTicks { job, how, length } = ticks;
     match how {
         How::More => state.go_on(job, length),
         How::Done | How::Stop => state.end(task, job, pending),
-        How::Over => state.overrun(alloc, set, rule, job)?,
+        How::Over => state.overrun(set, rule, job),
     }
-    Ok(())
 }
 
 // Follows idle ticks, if they fit. They all fit if the first of them does.

@@ -28,7 +28,7 @@ pub fn judge(alloc: Global, set: &TaskSet, rule: Rule, runs: &[Run]) -> Result<V
     ensures no_late { IfOk result (λ v. Holds set.now.tasks rule → HasNoLate v) }
 {
     let mut state = State::new(alloc, set.len())?;
-    match follow_runs(&mut state, alloc, set, rule, runs)? {
+    match follow_runs(&mut state, set, rule, runs)? {
         None => Ok(legal(state.all_late_jobs(set))),
         Some(unfit) => Ok(illegal(unfit)),
     }

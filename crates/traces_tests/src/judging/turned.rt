@@ -55,7 +55,7 @@ fn first_wrong(
     Ok(None)
 }
 
-// Whether the monitor has seen so many ticks and rows, and has this verdict on them.
+// Whether the monitor has seen these numbers of ticks and rows, and has this verdict on them.
 fn has_come_to(monitor: &Monitor, ticks: u64, rows: u64, verdict: Verdict) -> bool {
     monitor.ticks() == ticks && monitor.seen() == rows && monitor.verdict() == verdict
 }

@@ -1,5 +1,6 @@
-use Rattle.std.proofs.Common.{◌≡◌, ℕ, ◌+◌, ◌++◌, ◌^◌, ◌<◌, ◌≤◌, List, get_or, drop, length, reverse, Some, None, sym, subst, arith}
+use Rattle.std.proofs.Common.{◌≡◌, ℕ, ◌+◌, ◌++◌, ◌^◌, ◌<◌, ◌≤◌, List, get_or, drop, length, reverse, Option, Some, None, IfSome, sym, subst, arith}
 use Rattle.std.proofs.lemmas.List.{get_or_default, length-append}
+use Rattle.std.proofs.lemmas.Option.{slice_get-get_or}
 use Rattle.mc_task.specs.declared.task.Rule.{Rule}
 use Rattle.mc_task.specs.declared.task.Task.{Task}
 use Rattle.mc_model.specs.declared.row.Row.{Row}
@@ -9,8 +10,10 @@ use Rattle.mc_model.specs.Runs.{expand, size}
 use Rattle.mc_model.proofs.Ticks.{ticks-le}
 use Rattle.trace_judge.specs.declared.state.State.{State}
 use Rattle.trace_judge.specs.Tracks.{Tracks}
-use Rattle.trace_judge.specs.Watched.{HasFollowed}
+use Rattle.trace_judge.specs.Watched.{HasFollowed, NeedsMemory}
 use Rattle.trace_judge.proofs.Watching.{followed_all, followed_until, followed_more}
+use Rattle.trace_judge.proofs.Keeps.{keyed_tracks, needs_memory}
+use Rattle.trace_judge.proofs.Queues.{on_err}
 use Rattle.trace_judge.proofs.Reading.{read, read_le, read_few, one_read_after, around_run_after, all_read}
 use Rattle.trace_judge.proofs.runs.follow_runs.Goals as goal
 
@@ -43,6 +46,9 @@ step-requires-clause-time c =
     let rows = t.1.rows in
     let time = t.1.ticks in
     omega (arith, rows, time, step-requires-clause-room c, ticks-le (read runs i ++ c.requires.tracks.0))
+
+pub step-requires-clause-keyed : goal.step-requires-clause-keyed
+step-requires-clause-keyed c = (_, keyed_tracks _ _ _ _ (c.loop-run.invariant c.requires.tracks.0 c.requires.tracks.1.0 c.requires.tracks.1.1).1)
 
 pub step-requires-clause-task : goal.step-requires-clause-task
 step-requires-clause-task c = c.requires.tasks c.loop-run.run-index _ c.loop-run-test.true
@@ -94,3 +100,20 @@ returns-clause-answer c h l t =
     subst (λ (g : List Row). HasFollowed (g ++ h) c.args.set.now.tasks c.args.rule c.loop-run.state None)
     (all_read c.args.runs.now c.loop-run.run-index c.loop-run-test.false)
     (followed_all c.args.set.now.tasks c.args.rule (read c.args.runs.now c.loop-run.run-index ++ h) c.loop-run.state k.0 k.1)
+
+pub returns-in_err-misfit-clause-some : goal.returns-in_err-misfit-clause-some
+returns-in_err-misfit-clause-some c =
+    let runs = c.args.runs.now in
+    let i = c.loop-run.run-index in
+    on_err c.from_residual.result (record {
+      count = i;
+      some_left = c.loop-run-test.true;
+      rows = λ h l t.
+          subst (λ (s : State). Legal c.args.set.now.tasks c.args.rule (read runs i ++ h) × Tracks c.args.set.now.tasks c.args.rule (read runs i ++ h) s)
+          (sym c.in_err-misfit.ensures.unchanged) (c.loop-run.invariant h l t);
+      memory = λ h l t. (
+          let k = c.loop-run.invariant h l t in
+          subst (λ (o : Option Run). IfSome o (NeedsMemory c.args.set.now.tasks (read runs i ++ h))) (sym (slice_get-get_or runs i _ c.loop-run-test.true))
+          (needs_memory c.args.set.now.tasks c.args.rule (read runs i ++ h) c.loop-run.state _ k.0 k.1 c.in_err-misfit.ensures.memory)
+          );
+    })

@@ -4,6 +4,8 @@ use Rattle.mc_model.specs.Runs.{row_of, rows_of}
 use Rattle.mc_model.proofs.Ticks.{ticks-le}
 use Rattle.trace_judge.specs.Watched.{Watched, HasFollowed, unfit_in}
 use Rattle.trace_judge.specs.declared.unfit.Unfit.{Unfit}
+use Rattle.trace_judge.proofs.Keeps.{keyed_tracks, needs_memory}
+use Rattle.trace_judge.proofs.Queues.{on_err}
 use Rattle.trace_judge.proofs.Quiet.{quiet_until}
 use Rattle.trace_judge.proofs.Watching.{none_unfit, followed_all, followed_until, a_monitor, tracked, stays_found, still_watches}
 use Rattle.trace_judge.proofs.monitor.Monitor.follow.Goals as goal
@@ -12,6 +14,9 @@ pub step-requires-clause-time : goal.step-requires-clause-time
 step-requires-clause-time c =
     let rows : c.args.self.now.state.rows ≡ c.self.inside.state.rows = ap (λ (m : Watched). m.state.rows) (sym c.self.view_is) in
     omega (arith, c.requires.room, rows, c.self.invariant.tracks.rows, c.self.invariant.tracks.ticks, ticks-le c.self.invariant.rows)
+
+pub step-requires-clause-keyed : goal.step-requires-clause-keyed
+step-requires-clause-keyed c = (_, keyed_tracks c.self.inside.set.tasks c.self.inside.rule c.self.invariant.rows c.self.inside.state c.self.invariant.tracks)
 
 pub returns-in-Some-clause-answer : goal.returns-in-Some-clause-answer
 returns-in-Some-clause-answer c h w =
@@ -83,3 +88,9 @@ invariant_of-self-in-Some-2 c =
 pub returns-in-Some-2-clause-answer : goal.returns-in-Some-2-clause-answer
 returns-in-Some-2-clause-answer c h w =
     (returns-in-Some-2-clause-rows c h w).unfit ∙ ap (λ (m : Watched). unfit_in m.set.tasks m.rule (rows_of c.args.run ++ h)) c.self.view_is
+
+pub returns-in_err-step-clause-memory : goal.returns-in_err-step-clause-memory
+returns-in_err-step-clause-memory c =
+    on_err c.from_residual.result (rw (← c.self.view_is) (λ h w. (
+    let k = tracked h (a_monitor c.self.inside.set c.self.inside.rule c.self.inside.state c.self.inside.unfit) c.in_default.is w in
+    needs_memory c.self.inside.set.tasks c.self.inside.rule h c.self.inside.state c.args.run k.0 k.1 c.in_err-step.ensures.memory)))

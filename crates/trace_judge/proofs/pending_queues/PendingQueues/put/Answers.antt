@@ -1,11 +1,12 @@
-use Rattle.std.proofs.Common.{◌≡◌, ℕ, ◌+◌, ◌-◌, Bool, cond, List, set, get_or, sym, ap, subst, ◌∙◌, arith}
+use Rattle.std.proofs.Common.{◌≡◌, ℕ, ◌+◌, ◌-◌, ◌≤◌, Bool, cond, List, length, set, get_or, sym, ap, subst, ◌∙◌, arith}
 use Rattle.std.proofs.lemmas.List.{set-get_or}
 use Rattle.mc_model.specs.Sums.{total}
 use Rattle.trace_judge.specs.declared.queue.Queued.{Queued}
 use Rattle.trace_judge.specs.declared.pending_queues.Pending.{Pending}
-use Rattle.trace_judge.specs.Entries.{Rank, PendingEntries, HasQueue, IsMore}
+use Rattle.trace_judge.specs.Entries.{Rank, PendingEntries, HasQueue, IsMore, entries_of}
 use Rattle.trace_judge.specs.Queues.{AreQueues, head_key, entries_from, pending_entries}
-use Rattle.trace_judge.proofs.Queues.{place_inside, queues_set, queues_same, more_set}
+use Rattle.trace_judge.proofs.Queues.{place_inside, queues_set, queues_same, more_set, on_err}
+use Rattle.trace_judge.proofs.Switched.{has_entries}
 use Rattle.trace_judge.proofs.pending_queues.PendingQueues.put.Goals as goal
 
 -- a job of this rank
@@ -46,3 +47,13 @@ invariant_of-self-2 c =
 pub returns-clause-entries : goal.returns-clause-entries
 returns-clause-entries c =
     one_more c.args.self.now c.self.inside.queues.items c.args.at c.args.pending c.index_mut-queue.result.now c.push.new.self c.self.view_is c.requires.task c.index_mut-queue.ensures.value c.in_ok-is_first.ensures.jobs
+
+pub returns-in_err-is_first-clause-memory : goal.returns-in_err-is_first-clause-memory
+returns-in_err-is_first-clause-memory c =
+    let n : ℕ = c.args.at.1 in
+    let qs : List (List Queued) = c.self.inside.queues.items in
+    let queue : List Queued = c.index_mut-queue.result.now in
+    let inside = place_inside c.args.self.now qs n c.self.view_is c.requires.task in
+    let many : 2 ≤ entries_of n (entries_from 1 qs) =
+    omega (arith, c.in_err-is_first.ensures.memory, ap length c.index_mut-queue.ensures.value, has_entries n 1 qs (n - 1) queue (omega (arith, c.requires.task.0)) inside) in
+    on_err c.from_residual.result (subst (λ (h : PendingEntries). 2 ≤ entries_of n h.entries) c.self.view_is many)

@@ -25,10 +25,10 @@ returns-in-Some-clause-jobs c =
 
 pub returns-in-Some-clause-ordered : goal.returns-in-Some-clause-ordered
 returns-in-Some-clause-ordered c =
-    subst IsQueue (sym (returns-in-Some-clause-jobs c)) (ordered_spent c.args.ticks (has_count c.args.count) c.args.self.now (subst IsQueue c.self.view_is c.self.invariant))
+    subst IsQueue (sym (returns-in-Some-clause-jobs c)) (ordered_spent c.args.ticks (has_count c.args.count) c.args.self.now (subst IsQueue c.self.view_is c.self.invariant.0))
 
 pub invariant_of-self : goal.invariant_of-self
-invariant_of-self c = returns-in-Some-clause-ordered c
+invariant_of-self c = (returns-in-Some-clause-ordered c, c.self.invariant.1)
 
 pub returns-in_default-clause-jobs : goal.returns-in_default-clause-jobs
 returns-in_default-clause-jobs c =
