@@ -4,7 +4,8 @@
 #
 #     libedfvd.a        every call of edfvd.h
 #     libedfvd_core.a   every call except edfvd_ask, which is most of the code
-#     libedfvd.so       every call, shared
+#     libedfvd.so       every call, shared, with the soname libedfvd.so.N, where N is EDFVD_VERSION of edfvd.h
+#     libedfvd.so.N     a link to it, by which a program that was linked with it finds it
 #     edfvd.pc          for pkg-config, with these folders; install.sh writes one with its own
 #
 # The libraries are for the machine that the C compiler CC compiles for: x86-64 Linux, or 64-bit ARM Linux, as in
@@ -29,6 +30,7 @@ here=$(cd "$(dirname -- "$0")/.." && pwd)
 c=$here/c
 . "$here/tools/usage.sh"
 . "$here/sources.sh"
+. "$here/about.sh"
 . "$c/machine.sh"
 takes 0 1 "$@"
 find_machine
@@ -63,7 +65,14 @@ one() {
     "$LD" -r -o "$parts/$1.o" "$parts/$1.d"/*.o
     "$OBJCOPY" --keep-global-symbols="$parts/calls" "$parts/$1.o"
 }
+
+# escaped FOLDER: the folder's name as edfvd.pc has it, with a backslash before each character that would end it or be read as a quote
+escaped() {
+    printf '%s\n' "$1" | sed "s/[\\\\ '\"]/\\\\&/g"
+}
+
 digest=$(digest_of libedfvd.so)
+soname=libedfvd.so.$(sed -n 's/^#define EDFVD_VERSION //p' "$c/edfvd.h")
 sed -n 's/^\(edfvd_status \|uint32_t \|const char \*\)\(edfvd_[a-z_]*\)(.*$/\2/p' "$c/edfvd.h" >"$parts/calls"
 one edfvd_c edfvd.c
 one edfvd_ask_c edfvd_ask.c
@@ -73,20 +82,15 @@ put "$parts/libedfvd_core.a" "$out/libedfvd_core.a"
 put "$parts/libedfvd.a" "$out/libedfvd.a"
 if [ $# -eq 1 ]; then exit; fi
 "$CC" -shared -o "$parts/libedfvd.so" "$parts/edfvd_c.o" "$parts/edfvd_ask_c.o" \
-    -Wl,-z,defs,-z,now,-z,relro -Wl,-soname,libedfvd.so
+    -Wl,-z,defs,-z,now,-z,relro -Wl,-soname,"$soname"
 put "$parts/libedfvd.so" "$out/libedfvd.so"
+for old in "$out"/libedfvd.so.[0-9]*; do
+    if [ -L "$old" ] && [ "${old##*/}" != "$soname" ]; then rm "$old"; fi
+done
+ln -sf libedfvd.so "$parts/$soname"
+mv -f "$parts/$soname" "$out/$soname"
 note_unless_changed "$out/libedfvd.so" libedfvd.so "$digest"
 [ -n "$machine" ] || put "$parts/libedfvd.so" "$here/python/edfvd/libedfvd.so"
-version=$(sed -n 's/^version: //p' "$here/CITATION.cff")
-cat >"$parts/edfvd.pc" <<END
-libdir=$out
-includedir=$c
-
-Name: edfvd
-Description: EDF-VD task sets tested, traces judged, and a scheduler driven event by event
-Version: $version
-Libs: -L"\${libdir}" -ledfvd
-Cflags: -I"\${includedir}"
-END
+pkg_config "$(escaped "$out")" "$(escaped "$c")" >"$parts/edfvd.pc"
 put "$parts/edfvd.pc" "$out/edfvd.pc"
 echo "built $out/libedfvd.a, libedfvd_core.a and libedfvd.so"

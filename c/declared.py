@@ -3,7 +3,7 @@
 
 No compiler sees both sides: where they differ, a call does what nobody proved. So this script reads the sources of
 crates/edfvd_c and crates/edfvd_ask_c, and edfvd.h, edfvd.c and edfvd_ask.c, and reports each difference, also of a limit that a
-sentence of edfvd.h states. The statuses stand in edfvd.h: the proved sources, the words of edfvd_word and Python's Status must
+sentence of edfvd.h states, which may come from a definition or a function of another crate. The statuses stand in edfvd.h: the proved sources, the words of edfvd_word and Python's Status must
 have them as they are there. With the word `offsets` it writes C text instead, which a compiler refuses unless each struct of
 edfvd.h is laid out as the library's.
 
@@ -156,20 +156,45 @@ LIMITS = {
     "most tasks of a random set": (r"\(\d+\.\.=(\d+)\)\.contains\(&tasks\)", r"`tasks` \d+ to (\d+)"),
     "rows to judge": (r"given\.len\(\) > ([\d_]+) \{\s+return Err\(status::FULL", r"the oldest first, at most (\d+)"),
     "a scale": (r"q > 1 << (\d+)", r"1 <= p <= q <= 2\^(\d+)"),
-    "rows that are kept": (r"const KEPT: usize = (\d+);", r"it keeps the latest (\d+) rows alone"),
+    "runs that are kept": (r"const KEPT: usize = (\d+);", r"it keeps the latest (\d+) runs of equal rows alone"),
     "rows without an end": (r"rule, 1 << (\d+), rows\)", r"Events are EDFVD_FULL after 2\^(\d+) rows"),
     "words of a command": (r"MOST_WORDS = (\d+)", r"more than (five) words"),
 }
 
 
+# What bounds a call in a definition or a function below edfvd_c: the file in crates, its text, and the sentences of edfvd.h.
+DEFINED = {
+    "the hyperperiod": ("mc_model/specs/Loads.antt", r"most_lcm = 2 \^ (\d+)", r"exceeds? 2\^(\d+)(?: ticks|, either)"),
+    "the hyperperiod for edfvd_demand": ("demand_test/specs/DemandSet.antt", r"most_lcm = (\d+)", r"or ([\d,]+) for edfvd_demand"),
+    "a percentage": ("study/specs/Stretch.antt", r"\(s ≤ (\d+)\) ×", r"greatest percentage, up to (\d+), at which"),
+    "a stretched budget": ("study/specs/Stretch.antt", r"\* s / 100\) (\d+)\)", r"and at most (\d+)\. EDFVD_OK"),
+    "releases of a task": ("mode_core/specs/Events.antt", r"nat_le \(2 \^ (\d+) - 1\) \(released_so_far",
+                           r"(?:at most|release after) 2\^(\d+) - 1 (?:releases|of them)"),
+    "equal rows of edfvd_scheduler_rows": ("edfvd_c/specs/Latest.antt", r"times ≡ 2 \^ (\d+) - 1",
+                                           r"or 2\^(\d+) - 1 if there are more"),
+    "rows of a monitor": ("trace_judge/src/monitor.rt", r"MOST_ROWS: u64 = 1 << (\d+);", r"EDFVD_FULL for more than 2\^(\d+) rows"),
+    "pending jobs with memory": ("trace_judge/src/queue.rt", r"OPENED_FOR: usize = (\d+);", r"opened with memory for (two) pending jobs"),
+}
+WORDS = {"two": "2", "five": "5"}
+
+
 def limit_faults(sources: str, header: str) -> list[str]:
     """The limits that are not found once on each side, or differ, and the arrays of a fixed length that do."""
     faults = []
-    for name, (ours, theirs) in LIMITS.items():
-        found = [sorted(set(re.findall(pattern, text, re.S))) for pattern, text in ((ours, sources), (theirs, header))]
-        plain = [[number.replace("_", "").replace("five", "5") for number in numbers] for numbers in found]
+    limits = [(name, sources, ours, theirs) for name, (ours, theirs) in LIMITS.items()]
+    limits += [(name, (HERE.parent / "crates" / file).read_text(), ours, theirs) for name, (file, ours, theirs) in DEFINED.items()]
+    for name, text, ours, theirs in limits:
+        found = [sorted(set(re.findall(pattern, side, re.S))) for pattern, side in ((ours, text), (theirs, header))]
+        plain = [[WORDS.get(number, re.sub("[_,]", "", number)) for number in numbers] for numbers in found]
         if plain[0] != plain[1] or len(plain[0]) != 1:
             faults.append(f"limit of {name}: {plain[0]} in the sources, {plain[1]} in edfvd.h")
+    # An event of one tick makes at most one row more than a set has tasks, of which a set has at most 128.
+    most = re.findall(LIMITS["tasks of a set"][0], sources)
+    if [int(number) - 1 for number in re.findall(r"so at most (\d+): if you read", header)] != [int(number) for number in most[:1]]:
+        faults.append(f"rows of an event: edfvd.h has another number than that of the {most[:1]} tasks of a set, and one")
+    # At speed 4/3 the test admits each set whose loads are at most 1: in millionths, rounded up.
+    if re.findall(r"the speed is at most (\d+) \(4/3", header) != [str(-(-4 * 10**6 // 3))]:
+        faults.append("the speed in edfvd.h is not 4/3 in millionths, rounded up")
     lengths = [sorted(re.findall(r"(\w+): &mut \[\w+; (\d+)\]", sources)),
                sorted(re.findall(r"uint\d+_t (\w+)\[(\d+)\]", header))]
     if lengths[0] != lengths[1] or not lengths[0]:
@@ -182,7 +207,7 @@ def status_faults(header: str, guards: str, python: str) -> list[str]:
     body = re.search(r"typedef enum edfvd_status \{(.*?)\n\} edfvd_status;", header, re.S)
     statuses = re.findall(r"^    EDFVD_(\w+) = (\d+)", body[1] if body else "", re.M)
     cases = re.findall(r'case EDFVD_(\w+): return "([^"]+)";', guards)
-    members = re.search(r"class Status\(enum\.IntEnum\):(.*?)\n\n\n", python, re.S)
+    members = re.search(r"class Status\(Named\):(.*?)\n\n\n", python, re.S)
     known = re.findall(r"^    (\w+) = (\d+)$", members[1] if members else "", re.M)
     faults = []
     if not statuses or len({number for _, number in statuses}) != len(statuses):

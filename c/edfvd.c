@@ -27,6 +27,7 @@ extern uint32_t edfvd_raw_scheduler_open_scaled(raw_handle *scheduler, const edf
 extern uint32_t edfvd_raw_scheduler_open_endless_scaled(raw_handle *scheduler, const edfvd_task *tasks, size_t count, uint64_t p,
                                                         uint64_t q, uint32_t *task);
 extern uint32_t edfvd_raw_scheduler_close(raw_handle *scheduler);
+extern uint32_t edfvd_raw_scheduler_restart(raw_handle *scheduler, edfvd_answer *answer);
 extern uint32_t edfvd_raw_scheduler_release(raw_handle *scheduler, uint32_t task, edfvd_answer *answer);
 extern uint32_t edfvd_raw_scheduler_grant(raw_handle *scheduler, uint32_t task, edfvd_answer *answer);
 extern uint32_t edfvd_raw_scheduler_outcome(raw_handle *scheduler, uint32_t task, uint32_t count, bool done,
@@ -34,6 +35,7 @@ extern uint32_t edfvd_raw_scheduler_outcome(raw_handle *scheduler, uint32_t task
 extern uint32_t edfvd_raw_scheduler_idle(raw_handle *scheduler, edfvd_answer *answer);
 extern uint32_t edfvd_raw_scheduler_look(raw_handle *scheduler, edfvd_look *look);
 extern uint32_t edfvd_raw_scheduler_row(raw_handle *scheduler, uint64_t place, edfvd_row *row);
+extern uint32_t edfvd_raw_scheduler_rows(raw_handle *scheduler, uint64_t place, edfvd_row *row, uint32_t *times);
 extern uint32_t edfvd_raw_scheduler_run(raw_handle *scheduler, uint32_t task, uint32_t count, uint32_t ticks, bool done,
                                         edfvd_answer *answer);
 extern uint32_t edfvd_raw_scheduler_idle_for(raw_handle *scheduler, uint64_t ticks, edfvd_answer *answer);
@@ -87,11 +89,12 @@ static edfvd_handle *of_monitor(edfvd_monitor *m) { return m == NULL ? NULL : &m
 
 static raw_handle *raw(edfvd_handle *h) { return (raw_handle *)(void *)h; }
 
-/* Enters a call, unless another thread is in one with this scheduler or monitor, or it is not where it was opened. */
-static edfvd_status enter(edfvd_handle *h) {
+/* Enters a call, unless another thread is in one with this scheduler or monitor, or it is not where it was opened. That another
+   thread is in one is marked as rare, which saves each call an instruction. */
+static inline edfvd_status enter(edfvd_handle *h) {
     if (h == NULL) return EDFVD_NULL;
-    if (__atomic_exchange_n(&h->busy, 1, __ATOMIC_ACQUIRE) != 0) return EDFVD_BUSY;
-    if (h->self != NULL && h->self != h) {
+    if (__builtin_expect(__atomic_exchange_n(&h->busy, 1, __ATOMIC_ACQUIRE) != 0, 0)) return EDFVD_BUSY;
+    if (h->self != h && h->self != NULL) {
         __atomic_store_n(&h->busy, 0, __ATOMIC_RELEASE);
         return EDFVD_MOVED;
     }
@@ -240,6 +243,14 @@ edfvd_status edfvd_scheduler_close(edfvd_scheduler *s) {
     return leave_closed(h, status);
 }
 
+edfvd_status edfvd_scheduler_restart(edfvd_scheduler *s, edfvd_answer *answer) {
+    edfvd_answer unread;
+    edfvd_handle *h = of_scheduler(s);
+    edfvd_status entered = enter(h);
+    if (entered != EDFVD_OK) return entered;
+    return leave(h, edfvd_raw_scheduler_restart(raw(h), answer == NULL ? &unread : answer));
+}
+
 edfvd_status edfvd_scheduler_release(edfvd_scheduler *s, uint32_t task, edfvd_answer *answer) {
     edfvd_answer unread;
     edfvd_handle *h = of_scheduler(s);
@@ -343,6 +354,14 @@ edfvd_status edfvd_scheduler_row(edfvd_scheduler *s, uint64_t number, edfvd_row 
     edfvd_status entered = enter(h);
     if (entered != EDFVD_OK) return entered;
     return leave(h, edfvd_raw_scheduler_row(raw(h), number, row));
+}
+
+edfvd_status edfvd_scheduler_rows(edfvd_scheduler *s, uint64_t number, edfvd_row *row, uint32_t *times) {
+    if (row == NULL || times == NULL) return EDFVD_NULL;
+    edfvd_handle *h = of_scheduler(s);
+    edfvd_status entered = enter(h);
+    if (entered != EDFVD_OK) return entered;
+    return leave(h, edfvd_raw_scheduler_rows(raw(h), number, row, times));
 }
 
 edfvd_status edfvd_monitor_open(edfvd_monitor *m, const edfvd_task *tasks, size_t count, uint64_t p, uint64_t q,

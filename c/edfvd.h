@@ -7,9 +7,9 @@
  * from 1.
  *
  * Each call returns a status. EDFVD_OK means that it did what its comment says. With any other status no scheduler and no
- * monitor has changed; what is stored through the other pointers is stated at the call. Each call lists the other statuses
- * that it may return. These are not listed, because many calls share them, and no sentence on other statuses is about the first
- * three:
+ * monitor has changed, except by edfvd_monitor_observe_all; what is stored through the other pointers is stated at the call.
+ * Each call lists the other statuses that it may return. These are not listed, because many calls share them, and no sentence
+ * on other statuses is about the first three:
  *
  *     EDFVD_NULL                 a pointer is null, and the call does not say that it may be; nothing is stored
  *     EDFVD_MOVED, EDFVD_BUSY    any call with a scheduler or monitor; nothing is stored
@@ -35,7 +35,7 @@
 extern "C" {
 #endif
 
-#define EDFVD_VERSION 2
+#define EDFVD_VERSION 3
 
 /* The EDFVD_VERSION of the header that the library was built with, for callers that load the library when they run. */
 uint32_t edfvd_version(void);
@@ -50,7 +50,7 @@ typedef enum edfvd_status {
     EDFVD_SAME_NAME = 5,       /* never returned: tasks have numbers here, and no names */
     EDFVD_LEVEL = 6,           /* the task's level is neither EDFVD_LOW nor EDFVD_HIGH */
     EDFVD_PERIODS = 7,         /* the hyperperiod of the tasks up to this one exceeds 2^60 ticks, or 500,000 for edfvd_demand */
-    EDFVD_NOT_ADMITTED = 8,    /* the published test gives the set no rule */
+    EDFVD_NOT_ADMITTED = 8,    /* the published test gives the set no rule; with a scale of your own: it does not hold */
     EDFVD_MEMORY = 9,          /* malloc failed */
     EDFVD_NO_TASK = 10,        /* the set has no task of this number */
     EDFVD_DEADLINE_ORDER = 11, /* the task's deadline is above its period */
@@ -62,7 +62,7 @@ typedef enum edfvd_status {
     EDFVD_TICK_OUT = 23,       /* a tick of the job is in progress: its outcome comes first */
     EDFVD_NOT_CHOSEN = 24,     /* another job is the chosen one; task 0 if none is pending */
     EDFVD_NOT_OUT = 25,        /* no tick of this job is in progress; the job is the one with a tick, or task 0 */
-    EDFVD_PENDING = 26,        /* the job is pending, so the tick is not idle */
+    EDFVD_PENDING = 26,        /* the job is pending, so the tick is not idle, and the counts do not start anew */
     EDFVD_NO_ROW = 27,         /* the scheduler has no row of this number yet */
     EDFVD_NO_PERCENTAGE = 28,  /* the published test admits the set at no percentage */
     EDFVD_NO_PROCESSOR = 29,   /* the task fits on none of the processors */
@@ -71,7 +71,7 @@ typedef enum edfvd_status {
     EDFVD_NULL = 40,           /* a pointer is null */
     EDFVD_MOVED = 41,          /* the scheduler or monitor was copied or moved after it was opened */
     EDFVD_BUSY = 42,           /* another thread is in a call with this scheduler or monitor */
-    EDFVD_ARGUMENT = 43,       /* a number is outside the range that the call states */
+    EDFVD_ARGUMENT = 43,       /* a number is outside the range that the call states, or a word of edfvd_ask is not UTF-8 */
     EDFVD_SHORT_BUFFER = 44,   /* the buffer or array is too short; the length that it needs is stored */
     EDFVD_THREADS = 45         /* the command starts threads, which a library does not: soak, live, runall */
 } edfvd_status;
@@ -85,7 +85,10 @@ const char *edfvd_word(edfvd_status status);
  *
  * `tasks` has `count` elements, which a call reads and does not keep; it may be null if `count` is 0. An array that is no set
  * is refused with EDFVD_EMPTY, _TOO_MANY, _ZERO_NUMBER, _BUDGET_ORDER or _LEVEL: these five are meant where a call says "the
- * refusals of a set". The task that one of them is about is stored, or 0.
+ * refusals of a set". The task that one of them is about is stored, or 0. If several apply, the first of these is returned:
+ * EDFVD_TOO_MANY; EDFVD_LEVEL, whichever task has it; EDFVD_EMPTY; that of the first task at fault.
+ *
+ * Memory may run out before a call finds another cause. So a call that lists EDFVD_MEMORY may return it in place of a refusal.
  */
 
 #define EDFVD_LOW 0u
@@ -137,9 +140,9 @@ edfvd_status edfvd_check_many(const edfvd_task *tasks, size_t count, const uint6
 
 /*
  * Stores the greatest percentage, up to 1000, at which the test admits the set if the high budgets of the high tasks are taken
- * at that percentage, rounded down to whole ticks but at least their low budgets. EDFVD_OK with 0 percent means that the test
- * admits the set if each high budget is the low one, and at 1 percent no longer. With any other status `percent` gets 0, too.
- * `task` gets the task of a refusal, or 0, and may be null.
+ * at that percentage, rounded down to whole ticks but at least their low budgets, and at most 4294967295. EDFVD_OK with 0 percent
+ * means that the test admits the set if each high budget is the low one, and at 1 percent no longer. With any other status
+ * `percent` gets 0, too. `task` gets the task of a refusal, or 0, and may be null.
  *
  * Statuses: EDFVD_NO_PERCENTAGE if there is no such percentage, the refusals of a set, EDFVD_PERIODS, EDFVD_MEMORY.
  */
@@ -150,8 +153,10 @@ edfvd_status edfvd_stretch(const edfvd_task *tasks, size_t count, uint32_t *perc
  * processor of each task in order: `on` has `count` elements, and is written only with EDFVD_OK. `task` gets the task of a
  * refusal, or 0, and may be null.
  *
- * Statuses: EDFVD_NO_PROCESSOR if a task fits nowhere, with the first such task; EDFVD_ARGUMENT, the refusals of a set,
- * EDFVD_MEMORY.
+ * A task does not fit where the least common multiple of the periods would exceed 2^60, either.
+ *
+ * Statuses: EDFVD_ARGUMENT for another number of processors, before any other; EDFVD_NO_PROCESSOR if a task fits nowhere, with
+ * the first such task; the refusals of a set, EDFVD_MEMORY.
  */
 edfvd_status edfvd_partition(const edfvd_task *tasks, size_t count, uint32_t processors, uint32_t *on, uint32_t *task);
 
@@ -323,24 +328,25 @@ typedef struct edfvd_row {
 
 /*
  * Opens a scheduler of the set under the rule that the published test gives it. It keeps all its rows. A place is used by each
- * row, each held release and the tick in progress; after `places` of them events are EDFVD_FULL. All memory is taken here,
- * some 16 bytes a place, and no other call with it is EDFVD_MEMORY. A system may promise memory that it does not have, as
- * Linux does: EDFVD_OK then means that malloc promised all places, and a process that uses more than there is may be ended by
- * the system. `task` gets the task of a refusal, or 0, and may be null.
+ * row, each held release and the tick in progress; after `places` of them each event but an outcome is refused, with EDFVD_FULL
+ * if no other status of its list applies. All memory is taken here, some 16 bytes a place, and no other call with it is
+ * EDFVD_MEMORY, except edfvd_scheduler_restart. A system may promise memory that it does not have, as Linux does: EDFVD_OK then
+ * means that malloc promised all places, and a process that uses more than there is may be ended by the system. `task` gets the
+ * task of a refusal, or 0, and may be null.
  *
  * Statuses: EDFVD_OPEN, the refusals of a set, EDFVD_PERIODS, EDFVD_NOT_ADMITTED, EDFVD_MEMORY.
  */
 edfvd_status edfvd_scheduler_open(edfvd_scheduler *s, const edfvd_task *tasks, size_t count, uint32_t places, uint32_t *task);
 
 /*
- * Opens a scheduler without an end: as edfvd_scheduler_open, but it keeps the latest 256 rows alone, and its memory depends on
- * the number of tasks alone. Each of the four events below makes at most one row more than there are tasks, so at most 129: if
- * you read the rows after each event, from the `rows` of the edfvd_scheduler_look before it on, you get them all. Every other
- * call with it is that of a plain scheduler. Events are EDFVD_FULL after 2^62 rows.
+ * Opens a scheduler without an end: as edfvd_scheduler_open, but it keeps the latest 256 runs of equal rows alone, and its
+ * memory depends on the number of tasks alone. Each of the four events below makes at most one row more than there are tasks, so
+ * at most 129: if you read the rows after each event, from the `rows` of the edfvd_scheduler_look before it on, you get them
+ * all. Every other call with it is that of a plain scheduler. Events are EDFVD_FULL after 2^62 rows.
  *
  * Releases are counted: a task's release after 2^32 - 1 of them is EDFVD_FULL, which with 1,000 releases a second takes 49
- * days. Before that, when no job is pending, close the scheduler and open it again. This forgets the ticks, the rows and the counts,
- * which begin anew, and for each task the first tick at which it may release again: that gap is then yours to keep.
+ * days. Before that, when no job is pending, call edfvd_scheduler_restart: the ticks, the rows and the counts begin anew. To
+ * close the scheduler and open it again does this, too, but forgets for each task the first tick at which it may release again.
  *
  * Statuses: those of edfvd_scheduler_open.
  */
@@ -351,8 +357,8 @@ edfvd_status edfvd_scheduler_open_endless(edfvd_scheduler *s, const edfvd_task *
  * with which the set was certified: EDF-VD with p/q, 1 <= p <= q <= 2^60, which must hold for the set. If p and q are 0, the
  * rule is that of the published test.
  *
- * Statuses: those of edfvd_scheduler_open, where EDFVD_NOT_ADMITTED means that the scale does not hold; EDFVD_ARGUMENT for
- * another p and q, whatever the tasks are.
+ * Statuses: those of edfvd_scheduler_open, where EDFVD_NOT_ADMITTED means that the scale does not hold, if p and q are one;
+ * EDFVD_ARGUMENT for another p and q, whatever the tasks are.
  */
 edfvd_status edfvd_scheduler_open_scaled(edfvd_scheduler *s, const edfvd_task *tasks, size_t count, uint64_t p, uint64_t q,
                                          uint32_t places, uint32_t *task);
@@ -361,6 +367,16 @@ edfvd_status edfvd_scheduler_open_endless_scaled(edfvd_scheduler *s, const edfvd
 
 /* Closes the scheduler and frees its memory. It may be opened again. No further statuses. */
 edfvd_status edfvd_scheduler_close(edfvd_scheduler *s);
+
+/*
+ * Starts the ticks, the rows and the counts of a scheduler anew, as after its opening, at any moment when no job is pending. Only
+ * each task's earliest next release is kept, counted from the restart, so that two releases of a task are a period apart across
+ * a restart, too. The mode is low. The call takes the memory of an opening before it frees the old. `answer`, which may be null,
+ * gets the job that a refusal is about, and otherwise zeros.
+ *
+ * Statuses: EDFVD_TICK_OUT, with the job that has the tick; EDFVD_PENDING, with the chosen job; EDFVD_MEMORY.
+ */
+edfvd_status edfvd_scheduler_restart(edfvd_scheduler *s, edfvd_answer *answer);
 
 /*
  * Your part of the loop. The scheduler says which job has the next tick, and you run it and report. For each tick:
@@ -415,8 +431,8 @@ edfvd_status edfvd_scheduler_idle(edfvd_scheduler *s, edfvd_answer *answer);
  *
  * A kernel without a periodic tick asks edfvd_scheduler_next which job runs and for how many ticks at most, sets its timer to
  * that or to its next release, whichever is first, and then reports with edfvd_scheduler_run what happened. Both ways to drive
- * a scheduler may be mixed. An event of a scheduler without an end may then make more than 129 rows, of which it keeps the
- * latest 256.
+ * a scheduler may be mixed. An event may then make many more rows than 129, but no more than two runs of equal rows, which
+ * edfvd_scheduler_rows reads by two calls, or more where a run has more than 4294967295 rows.
  */
 
 /*
@@ -429,7 +445,7 @@ edfvd_status edfvd_scheduler_next(edfvd_scheduler *s, edfvd_next *next);
  * Reports that the chosen job ran for `ticks` ticks in one go, and whether it was done in the last of them: it leaves what a
  * grant and an outcome for each of these ticks leave. EDFVD_MORE, _DONE, _STOP or _OVER of the last tick. The time of a call
  * does not grow with `ticks` without an end, and by a row a tick otherwise. Report a run before you release jobs at the tick
- * at which it ended.
+ * at which it ended: a release counts at the end of the last reported tick, so an earlier one may make the run EDFVD_NOT_CHOSEN.
  *
  * Statuses, of which the first that applies is returned: EDFVD_ARGUMENT if `ticks` is 0; EDFVD_TICK_OUT, with the job that has
  * a tick by edfvd_scheduler_grant; EDFVD_NOT_CHOSEN, with the chosen job; EDFVD_PAST, with the ticks of edfvd_scheduler_next
@@ -481,6 +497,16 @@ edfvd_status edfvd_scheduler_look(edfvd_scheduler *s, edfvd_look *look);
  */
 edfvd_status edfvd_scheduler_row(edfvd_scheduler *s, uint64_t number, edfvd_row *row);
 
+/*
+ * Stores row number `number` as edfvd_scheduler_row does, and in `times` how many equal rows begin with it, or 2^32 - 1 if there
+ * are more. So edfvd_monitor_observe takes this `row` and these `times` at once, and the next row to be read has the number
+ * `number` + `times`. A scheduler without an end keeps the latest 256 runs of equal rows. Any other counts the equal rows one by
+ * one, and the time of a call grows with them. After a refusal `times` is 0.
+ *
+ * Statuses: those of edfvd_scheduler_row.
+ */
+edfvd_status edfvd_scheduler_rows(edfvd_scheduler *s, uint64_t number, edfvd_row *row, uint32_t *times);
+
 /* ---- The judge ---- */
 
 /* Which rule a row breaks. */
@@ -490,7 +516,7 @@ typedef enum edfvd_why {
     EDFVD_WHY_WRONG_COUNT = 2,  /* a release with another count than the next */
     EDFVD_WHY_WRONG_KEPT = 3,   /* a release kept that must be dropped, or the other way round */
     EDFVD_WHY_NOT_PENDING = 4,  /* a tick of a job that is not pending */
-    EDFVD_WHY_NOT_LEAST = 5,    /* a tick of a job although another comes first */
+    EDFVD_WHY_NOT_LEAST = 5,    /* a tick of a job although another one has a lesser key */
     EDFVD_WHY_WRONG_HOW = 6,    /* a tick that ends otherwise than the budgets say */
     EDFVD_WHY_IDLE_PENDING = 7  /* an idle tick although a job is pending */
 } edfvd_why;
@@ -507,9 +533,9 @@ typedef struct edfvd_verdict {
  * of the published test, which must admit the set; otherwise it is EDF-VD with the scale p/q, 1 <= p <= q <= 2^60, whether or
  * not the test holds with it. With any other status than EDFVD_OK `verdict` holds zeros and the task of a refusal.
  *
- * Statuses: EDFVD_ARGUMENT for another p and q, such as 0 and 1, or a row that is none of edfvd_row's kinds; EDFVD_FULL for
- * more rows; EDFVD_NO_TASK for a row of a task that the set does not have; the refusals of a set, EDFVD_MEMORY; if p and q are
- * 0, EDFVD_PERIODS and EDFVD_NOT_ADMITTED.
+ * Statuses, the first that applies: the refusals of a set; if p and q are 0, EDFVD_PERIODS and EDFVD_NOT_ADMITTED, and otherwise
+ * EDFVD_ARGUMENT for another p and q, such as 0 and 1; EDFVD_FULL for more rows; EDFVD_ARGUMENT if a row is none of edfvd_row's
+ * kinds; EDFVD_NO_TASK if a row is of a task that the set does not have; EDFVD_MEMORY.
  */
 edfvd_status edfvd_judge(const edfvd_task *tasks, size_t count, const edfvd_row *rows, size_t length, uint64_t p, uint64_t q,
                          edfvd_verdict *verdict);
@@ -549,8 +575,8 @@ typedef struct edfvd_late {
  * Opens a monitor of the set, under the rule that edfvd_judge takes for p and q. `task` gets the task of a refusal, or 0, and
  * may be null.
  *
- * Statuses: EDFVD_OPEN, EDFVD_ARGUMENT for p and q that edfvd_judge refuses, the refusals of a set, EDFVD_MEMORY; if p and q
- * are 0, EDFVD_PERIODS and EDFVD_NOT_ADMITTED.
+ * Statuses: EDFVD_OPEN, before any other; then the refusals of a set; EDFVD_ARGUMENT for p and q that edfvd_judge refuses;
+ * EDFVD_MEMORY; if p and q are 0, EDFVD_PERIODS and EDFVD_NOT_ADMITTED.
  */
 edfvd_status edfvd_monitor_open(edfvd_monitor *m, const edfvd_task *tasks, size_t count, uint64_t p, uint64_t q,
                                 uint32_t *task);
@@ -561,10 +587,11 @@ edfvd_status edfvd_monitor_close(edfvd_monitor *m);
 /*
  * Takes the next rows of the schedule: `times` rows that are all `row`. `times` is 1, except that a tick with EDFVD_MORE or
  * EDFVD_IDLE may come many times. `unfit`, which may be null, gets the first row so far that does not fit, and zeros after a
- * refusal. The monitor keeps no rows: its memory grows with the number of pending jobs alone.
+ * refusal. The monitor keeps no rows, and is opened with memory for two pending jobs of each task.
  *
- * Statuses: EDFVD_ARGUMENT for a row that is none of edfvd_row's kinds, or another `times`; EDFVD_NO_TASK for a task that the
- * set does not have; EDFVD_FULL for more than 2^62 rows; EDFVD_MEMORY.
+ * Statuses, the first that applies: EDFVD_ARGUMENT for a row that is none of edfvd_row's kinds, or a release that does not come
+ * once; EDFVD_NO_TASK for a task that the set does not have; EDFVD_ARGUMENT for another `times`; EDFVD_FULL for more than 2^62
+ * rows, those that have fitted and these; EDFVD_MEMORY only for an EDFVD_KEPT row of a task that has two pending jobs or more.
  */
 edfvd_status edfvd_monitor_observe(edfvd_monitor *m, const edfvd_row *row, uint32_t times, edfvd_unfit *unfit);
 
@@ -606,18 +633,23 @@ edfvd_status edfvd_monitor_look(edfvd_monitor *m, edfvd_watch *watch);
 /*
  * Asks what the words ask of the program, such as {"judge", "1", "2"}, over the bytes of two files in memory, which the words
  * name "1" and "2"; any other name is an empty file. Words end with a 0 byte, and more than five words are no command (exit
- * status 2). The reply's text is stored in `out`, which has `capacity` bytes, without a 0 byte at its end; its length in bytes
- * in `length`, and the status that the program would exit with in `exit_status`; so a refused task file is EDFVD_OK with exit
- * status 3. `run` and `accept` work on this thread, with the program's reply. `words`, `first`, `second` and `out` may be null
- * if their lengths are 0.
+ * status 2), whatever they are. The reply's text is stored in `out`, which has `capacity` bytes, without a 0 byte at its end; its
+ * length in bytes in `length`, and the status that the program would exit with in `exit_status`; so a refused task file is
+ * EDFVD_OK with exit status 3. `run` and `accept` work on this thread, with the program's reply. `words`, `first`, `second` and
+ * `out` may be null if their lengths are 0.
  *
  * Call it with 256 KiB of stack or more. The reader of task files calls itself once for each level of a file's tables, up to
  * its limit of 80: a file of 163 bytes uses some 150,000 bytes of stack, and no file needs more levels. The main thread of a
  * process and the threads of most C libraries have megabytes; those of musl have 128 KiB unless you ask for more.
  *
- * Statuses: EDFVD_SHORT_BUFFER if `out` is too small, with the length alone: ask again with a longer buffer; EDFVD_ARGUMENT
- * for a word that is not UTF-8; EDFVD_THREADS for soak, live and runall; EDFVD_MEMORY. With each of them `out` is not written,
- * `exit_status` gets 0, and so does `length`, except with EDFVD_SHORT_BUFFER.
+ * Statuses: EDFVD_MEMORY may come in place of any other. Without it, the first of these that applies is returned:
+ *
+ *     EDFVD_ARGUMENT        a word is not UTF-8, and there are at most five: more words are not read
+ *     EDFVD_THREADS         the words are the command soak, live or runall, whatever the files are, and even if `out` is too small
+ *     EDFVD_SHORT_BUFFER    the text is longer than `capacity`: its length is stored, so ask again with a longer buffer
+ *     EDFVD_OK              the text fits; the bytes of `out` after it are as they were
+ *
+ * With any status but EDFVD_OK `out` is as it was and `exit_status` gets 0; `length` gets 0 too, except with EDFVD_SHORT_BUFFER.
  */
 edfvd_status edfvd_ask(size_t count, const char *const *words, const void *first, size_t first_length, const void *second,
                        size_t second_length, void *out, size_t capacity, size_t *length, uint32_t *exit_status);

@@ -114,7 +114,7 @@ static void with_sets(void) {
     ONE("accept", edfvd_accept(1, 10, 8, counts));
 }
 
-/* A scheduler with 1,000 places, and the judge on rows of a schedule that was driven before. */
+/* A scheduler of 1,000 rows, and the judge on rows of a schedule that was driven before. */
 static void with_rows(void) {
     enum { MOST = 256 };
     static edfvd_row rows[MOST];
@@ -122,7 +122,7 @@ static void with_rows(void) {
     static edfvd_verdict verdict;
     for (size_t place = 0; place < MOST; place++) rows[place] = (edfvd_row){EDFVD_IDLE, 0, 0};
     ONE("judge of 256 rows", edfvd_judge(tasks, count, rows, MOST, 0, 0, &verdict));
-    ONE("scheduler_open of 1,000 places", edfvd_scheduler_open(&plain, tasks, count, 1000, NULL));
+    ONE("scheduler_open of 1,000 rows", edfvd_scheduler_open(&plain, tasks, count, 1000, NULL));
     must("close", edfvd_scheduler_close(&plain));
 }
 

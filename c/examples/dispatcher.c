@@ -2,8 +2,9 @@
  * A dispatcher as firmware has it: no stdio, no memory but what the two open calls take, and no end. A timer calls tick() once
  * each tick. It reports how the last tick ended for its job, releases the jobs that are due, and grants the tick to the job
  * that the scheduler chooses. Each row goes to a monitor of its own, so a row that breaks a rule, or a job that becomes late,
- * is seen in the tick in which it happens. Here a loop stands for the timer. The program ends with 0 if no call was refused,
- * each row fitted and no job was late.
+ * is seen in the tick in which it happens. A monitor takes memory after it is open only if a task with two pending jobs
+ * releases a third, and then is_good() sees EDFVD_MEMORY if there is none. Here a loop stands for the timer. The program ends
+ * with 0 if no call was refused, each row fitted and no job was late.
  */
 #include "edfvd.h"
 

@@ -10,9 +10,14 @@
  *     4         6, an overrun    is dropped  0              4      12
  *
  * So four rounds have 3 * 2 + 6 = 12 ticks of ctl, 3 * 3 = 9 of log and 3 * 5 + 4 = 19 idle ones, which are 40 ticks. Three
- * million ticks are 75,000 times that: 900,000, 675,000 and 1,425,000, in 300,000 rounds with 3,600,000 rows. The scheduler
- * keeps the last 256 rows; so the oldest is number 3,600,000 - 256 = 3,599,744. No job is late: ctl ends within 6 of its 10
- * ticks, and log at the end of tick 4.
+ * million ticks are 75,000 times that: 900,000, 675,000 and 1,425,000, in 300,000 rounds with 3,600,000 rows. No job is late:
+ * ctl ends within 6 of its 10 ticks, and log at the end of tick 4.
+ *
+ * Each round has seven runs of equal rows. In rounds 1, 2 and 3 these are the release of ctl, its first tick, its last; the
+ * release of log, its first two ticks, its last; and the idle ticks. In round 4 they are the release of ctl, its first tick, its
+ * overrun; the release of log; the next three ticks of ctl, its last; and the idle ticks. The scheduler keeps the last 256 runs,
+ * which are 36 rounds, and four runs of the round before them. That is round 299,964, a fourth one, so the oldest row is its
+ * release of log, which has three rows of the round before it: number 299,963 * 12 + 3 = 3,599,559.
  *
  * usage: endless [ROUNDS]
  *        ROUNDS is how many rounds there are, 300000 without it
@@ -43,21 +48,22 @@ static void must(const char *call, edfvd_status status) {
     exit(1);
 }
 
-/* Gives the monitor each row that is new since the last call. No event makes more rows than the scheduler keeps. */
+/* Gives the monitor the rows that are new since the last call, equal ones at once. No event makes more runs of equal rows than
+   the scheduler keeps. */
 static void stream(void) {
     edfvd_look look;
     must("look", edfvd_scheduler_look(&scheduler, &look));
-    for (; seen < look.rows; seen++) {
+    for (uint32_t times; seen < look.rows; seen += times) {
         edfvd_row row;
         edfvd_unfit unfit;
-        must("row_at", edfvd_scheduler_row(&scheduler, seen, &row));
-        must("observe", edfvd_monitor_observe(&monitor, &row, 1, &unfit));
+        must("rows", edfvd_scheduler_rows(&scheduler, seen, &row, &times));
+        must("observe", edfvd_monitor_observe(&monitor, &row, times, &unfit));
         if (unfit.why != EDFVD_FITS) {
             fprintf(stderr, "row %" PRIu64 " does not fit\n", unfit.place);
             exit(1);
         }
-        of_kind[row.event]++;
-        if (row.event >= EDFVD_MORE) ticks_of[row.task]++;
+        of_kind[row.event] += times;
+        if (row.event >= EDFVD_MORE) ticks_of[row.task] += times;
     }
 }
 

@@ -1,9 +1,9 @@
 /*
  * A dispatcher without a periodic tick. It asks the scheduler which job runs and for how many ticks at most, sets its timer to
- * that or to the next release, and reports afterwards how many ticks the job ran. The timer enforces the budgets: a job that
- * is not done at its low budget overruns there. Releases come at any time, here those of net at 3 and 23 in the middle of a
- * job of log. After an overrun the discarded jobs are stopped. A monitor of its own judges each run. Here a list of numbers
- * stands for the work of the jobs, and no time passes.
+ * that or to the next release, and reports afterwards how many ticks the job ran. The timer ends the budgets: a job that is
+ * not done at its low budget overruns there, and a kernel also stops a job at EDFVD_STOP. Releases come at any tick, here those
+ * of net at 3 and 23 in the middle of a job of log. After an overrun the discarded jobs are stopped. A monitor of its own judges
+ * the rows, equal ones at once. Here lists of numbers stand for the releases and the work of the jobs, and no time passes.
  */
 #include "edfvd.h"
 #include <inttypes.h>
@@ -28,17 +28,22 @@ static uint32_t need(uint32_t task, uint32_t count) {
     return task == CTL ? of_ctl[count - 1] : task == LOG ? 4 : 1;
 }
 
-static bool seen(uint32_t event, uint32_t task, uint32_t count, uint32_t times) {
-    edfvd_row row = {event, task, count};
+static uint64_t seen; /* how many rows the monitor has had */
+
+/* Gives the monitor the rows that are new, equal ones at once. Whether each fits. */
+static bool new_rows_fit(void) {
+    edfvd_row row;
     edfvd_unfit unfit;
-    return times == 0 || (edfvd_monitor_observe(&monitor, &row, times, &unfit) == EDFVD_OK && unfit.why == EDFVD_FITS);
+    uint32_t times;
+    edfvd_status status;
+    while ((status = edfvd_scheduler_rows(&scheduler, seen, &row, &times)) == EDFVD_OK) {
+        if (edfvd_monitor_observe(&monitor, &row, times, &unfit) != EDFVD_OK || unfit.why != EDFVD_FITS) return false;
+        seen += times;
+    }
+    return status == EDFVD_NO_ROW;
 }
 
-static bool release(uint32_t task) {
-    edfvd_answer answer;
-    if (edfvd_scheduler_release(&scheduler, task, &answer) != EDFVD_OK) return false;
-    return seen(answer.what, answer.task, answer.count, 1);
-}
+static bool release(uint32_t task) { return edfvd_scheduler_release(&scheduler, task, NULL) == EDFVD_OK && new_rows_fit(); }
 
 /* The next tick after `now` at which a job is released. */
 static uint64_t next_release(uint64_t now) {
@@ -81,17 +86,14 @@ static uint64_t run(const edfvd_next *next, uint64_t now, uint64_t timer) {
     if (edfvd_scheduler_run(&scheduler, job.task, job.count, (uint32_t)ticks, ticks == left, &answer) != EDFVD_OK) return 0;
     printf("%2" PRIu64 "-%2" PRIu64 " %s %" PRIu32 " %s\n", now, now + ticks, names[job.task - 1], job.count, word(answer.what));
     if (answer.what == EDFVD_OVER && !stop_discarded()) return 0;
-    uint32_t more = answer.what == EDFVD_MORE ? (uint32_t)ticks : (uint32_t)ticks - 1;
-    bool fits = seen(EDFVD_MORE, job.task, job.count, more);
-    if (answer.what != EDFVD_MORE) fits = fits && seen(answer.what, job.task, job.count, 1);
-    return fits ? ticks : 0;
+    return new_rows_fit() ? ticks : 0;
 }
 
 /* Idles until the timer; returns how many ticks that took, or 0 after a refusal. */
 static uint64_t rest(uint64_t now, uint64_t timer) {
     if (edfvd_scheduler_idle_for(&scheduler, timer - now, NULL) != EDFVD_OK) return 0;
     printf("%2" PRIu64 "-%2" PRIu64 " idle\n", now, timer);
-    return seen(EDFVD_IDLE, 0, 0, (uint32_t)(timer - now)) ? timer - now : 0;
+    return new_rows_fit() ? timer - now : 0;
 }
 
 int main(void) {

@@ -43,6 +43,16 @@ static void buffers(void) {
     }
 }
 
+/* A capacity of more than 32 bits: the call writes the text alone, so the buffer need not be that long. */
+static void longest_buffer(void) {
+    static const char *const check[] = {"check", "1"};
+    PAINTED(to);
+    RETURNS(EDFVD_OK, edfvd_ask(2, check, file, strlen(file), NULL, 0, to.out, (SIZE_MAX >> 32) + 2, &to.length, &to.exit_status));
+    IS(LONG, to.length);
+    IS(0, memcmp(to.out, reply, LONG));
+    compare_bytes(__FILE__, __LINE__, "the rest of the buffer", to.out + LONG, BUFFER - LONG, PAINT);
+}
+
 /* The status that the program would exit with, which is no status of the call; and an empty file for every other name. */
 static void exit_statuses(void) {
     RETURNS(EDFVD_OK, ask(2, (const char *const[]){"check", "2"}, BUFFER));
@@ -93,16 +103,38 @@ static void words_that_are_no_text(void) {
     for (size_t place = 0; place < sizeof bad / sizeof *bad; place++) {
         refused(EDFVD_ARGUMENT, 2, (const char *const[]){"check", bad[place]}, BUFFER, 0);
         refused(EDFVD_ARGUMENT, 5, (const char *const[]){"judge", "1", "2", "1", bad[place]}, BUFFER, 0);
+        /* No command, a command that would start threads, and a buffer without a byte. */
+        refused(EDFVD_ARGUMENT, 1, (const char *const[]){bad[place]}, BUFFER, 0);
+        refused(EDFVD_ARGUMENT, 3, (const char *const[]){"live", bad[place], "10"}, BUFFER, 0);
+        refused(EDFVD_ARGUMENT, 2, (const char *const[]){"check", bad[place]}, 0, 0);
+        /* Of more than five words none is read. */
+        RETURNS(EDFVD_OK, ask(6, (const char *const[]){bad[place], "b", "c", "d", "e", "f"}, BUFFER));
+        IS(2, to.exit_status);
     }
     RETURNS(EDFVD_OK, ask(2, (const char *const[]){"check", "\xc3\xa9\xf4\x8f\xbf\xbf"}, BUFFER));
     IS(3, to.exit_status);
 }
 
+/* The commands that start threads, whatever the buffer and the files: no buffer, one that is too short, and no task file. */
 static void commands_with_threads(void) {
-    refused(EDFVD_THREADS, 4, (const char *const[]){"soak", "1", "8", "100"}, BUFFER, 0);
-    refused(EDFVD_THREADS, 3, (const char *const[]){"live", "1", "10"}, BUFFER, 0);
-    refused(EDFVD_THREADS, 5, (const char *const[]){"runall", "1", "2", "5", "2"}, BUFFER, 0);
-    refused(EDFVD_THREADS, 5, (const char *const[]){"runall", "1", "2", "5", "2"}, 0, 0);
+    static const char *const soak[] = {"soak", "1", "8", "100"}, *const live[] = {"live", "1", "10"};
+    static const char *const runall[] = {"runall", "1", "2", "5", "2"}, *const absent[] = {"live", "absent", "10"};
+    static const size_t rooms[] = {0, 1, BUFFER};
+    for (size_t place = 0; place < sizeof rooms / sizeof *rooms; place++) {
+        refused(EDFVD_THREADS, 4, soak, rooms[place], 0);
+        refused(EDFVD_THREADS, 3, live, rooms[place], 0);
+        refused(EDFVD_THREADS, 3, absent, rooms[place], 0);
+        refused(EDFVD_THREADS, 5, runall, rooms[place], 0);
+    }
+    /* With a number out of its range, or a word more, they are no commands. */
+    RETURNS(EDFVD_OK, ask(4, (const char *const[]){"soak", "1", "8", "0"}, BUFFER));
+    IS(2, to.exit_status);
+    RETURNS(EDFVD_OK, ask(3, (const char *const[]){"live", "1", "100001"}, BUFFER));
+    IS(2, to.exit_status);
+    RETURNS(EDFVD_OK, ask(5, (const char *const[]){"runall", "1", "2", "5", "17"}, BUFFER));
+    IS(2, to.exit_status);
+    RETURNS(EDFVD_OK, ask(5, (const char *const[]){"soak", "1", "8", "100", "1"}, BUFFER));
+    IS(2, to.exit_status);
 }
 
 /* Each pointer that is null with a length above 0, or that may never be null: nothing is stored. */
@@ -129,6 +161,7 @@ static void nulls(void) {
 
 int main(void) {
     buffers();
+    longest_buffer();
     exit_statuses();
     numbers_of_words();
     words_that_are_no_text();

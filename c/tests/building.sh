@@ -54,12 +54,14 @@ builds() {
     "$@" >"$work/log" 2>&1
 }
 
-# whole_files: each file is there with the mode 644, and nothing else is
+# whole_files: each file is there with the mode 644, the soname is a link to the shared library, and nothing else is there
 whole_files() {
     for file in $made; do
         [ "$(mode_of "$clone/$file")" = -rw-r--r-- ] || return 1
     done
-    are_only "$clone/c/out" edfvd.pc libedfvd.a libedfvd.so libedfvd.so.sources libedfvd_core.a && are_only "$clone/python/edfvd" libedfvd.so
+    soname=libedfvd.so.$(sed -n 's/^#define EDFVD_VERSION //p' "$root/c/edfvd.h")
+    [ "$(readlink "$clone/c/out/$soname")" = libedfvd.so ] || return 1
+    are_only "$clone/c/out" edfvd.pc libedfvd.a libedfvd.so "$soname" libedfvd.so.sources libedfvd_core.a && are_only "$clone/python/edfvd" libedfvd.so
 }
 
 # under UMASK WORDS..: builds from the folder above, by a relative name, with an exported CDPATH in which c is another folder

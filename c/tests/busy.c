@@ -49,7 +49,7 @@ static void *scheduler_calls(void *none) {
     edfvd_answer answer;
     edfvd_look look;
     edfvd_row row;
-    uint32_t task, count;
+    uint32_t task, count, times;
     edfvd_next next;
     edfvd_pending pending;
     edfvd_scale scale;
@@ -62,6 +62,7 @@ static void *scheduler_calls(void *none) {
     PAINTED(answer);
     PAINTED(look);
     PAINTED(row);
+    PAINTED(times);
     PAINTED(task);
     RETURNS(EDFVD_BUSY, edfvd_scheduler_open(&s, control, 2, 10, &task));
     RETURNS(EDFVD_BUSY, edfvd_scheduler_open_endless(&s, control, 2, &task));
@@ -80,6 +81,8 @@ static void *scheduler_calls(void *none) {
     RETURNS(EDFVD_BUSY, edfvd_scheduler_idle(&s, &answer));
     RETURNS(EDFVD_BUSY, edfvd_scheduler_look(&s, &look));
     RETURNS(EDFVD_BUSY, edfvd_scheduler_row(&s, 0, &row));
+    RETURNS(EDFVD_BUSY, edfvd_scheduler_rows(&s, 0, &row, &times));
+    RETURNS(EDFVD_BUSY, edfvd_scheduler_restart(&s, &answer));
     RETURNS(EDFVD_BUSY, edfvd_scheduler_close(&s));
     IS_PAINTED(next);
     IS_PAINTED(pending);
@@ -89,6 +92,7 @@ static void *scheduler_calls(void *none) {
     IS_PAINTED(answer);
     IS_PAINTED(look);
     IS_PAINTED(row);
+    IS_PAINTED(times);
     IS_PAINTED(task);
     return none;
 }

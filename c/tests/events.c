@@ -243,17 +243,35 @@ static void row_numbers(void) {
     }
 }
 
-/* A scheduler without an end keeps its latest 256 rows. */
+/* A scheduler without an end keeps its latest 256 runs of equal rows. A job of ctl in each ten ticks, done in its first, makes
+   three runs of 11 rows: its release, its tick and nine idle ticks. So 85 jobs make 255 runs of 935 rows. */
 static void latest_rows(void) {
     RETURNS(EDFVD_OK, edfvd_scheduler_open_endless(&s, control, 2, NULL));
-    for (int tick = 0; tick < 256; tick++) RETURNS(EDFVD_OK, edfvd_scheduler_idle(&s, NULL));
-    has_row(0, EDFVD_IDLE, 0, 0);
+    for (uint32_t job = 1; job <= 85; job++) {
+        RETURNS(EDFVD_OK, edfvd_scheduler_release(&s, CTL, NULL));
+        RETURNS(EDFVD_OK, edfvd_scheduler_grant(&s, CTL, NULL));
+        RETURNS(EDFVD_OK, edfvd_scheduler_outcome(&s, CTL, job, true, NULL));
+        for (int tick = 0; tick < 9; tick++) RETURNS(EDFVD_OK, edfvd_scheduler_idle(&s, NULL));
+    }
     RETURNS(EDFVD_OK, edfvd_scheduler_release(&s, CTL, NULL));
+    has_row(0, EDFVD_KEPT, CTL, 1);
+    has_row(935, EDFVD_KEPT, CTL, 86);
+    has_no_row(936, EDFVD_NO_ROW);
+    RETURNS(EDFVD_OK, edfvd_scheduler_grant(&s, CTL, NULL));
+    RETURNS(EDFVD_OK, edfvd_scheduler_outcome(&s, CTL, 86, true, NULL));
     has_no_row(0, EDFVD_GONE);
-    has_row(1, EDFVD_IDLE, 0, 0);
-    has_row(255, EDFVD_IDLE, 0, 0);
-    has_row(256, EDFVD_KEPT, CTL, 1);
-    has_no_row(257, EDFVD_NO_ROW);
+    has_row(1, EDFVD_DONE, CTL, 1);
+    RETURNS(EDFVD_OK, edfvd_scheduler_idle(&s, NULL));
+    has_no_row(1, EDFVD_GONE);
+    has_row(2, EDFVD_IDLE, 0, 0);
+    for (int tick = 0; tick < 8; tick++) RETURNS(EDFVD_OK, edfvd_scheduler_idle(&s, NULL));
+    has_row(2, EDFVD_IDLE, 0, 0);
+    has_row(945, EDFVD_IDLE, 0, 0);
+    has_no_row(946, EDFVD_NO_ROW);
+    RETURNS(EDFVD_OK, edfvd_scheduler_release(&s, CTL, NULL));
+    has_no_row(2, EDFVD_GONE);
+    has_no_row(10, EDFVD_GONE);
+    has_row(11, EDFVD_KEPT, CTL, 2);
     RETURNS(EDFVD_OK, edfvd_scheduler_close(&s));
 }
 

@@ -19,6 +19,7 @@ static struct stores {
     edfvd_scale scale;
     uint64_t at;
     uint32_t discarded;
+    uint32_t times;
     uint32_t task;
     edfvd_unfit unfit;
     edfvd_late late[2];
@@ -47,10 +48,12 @@ static edfvd_status discarded(edfvd_scheduler *s) { return edfvd_scheduler_disca
 static edfvd_status scale(edfvd_scheduler *s) { return edfvd_scheduler_scale(s, &to.scale); }
 static edfvd_status look(edfvd_scheduler *s) { return edfvd_scheduler_look(s, &to.look); }
 static edfvd_status row_at(edfvd_scheduler *s) { return edfvd_scheduler_row(s, 0, &to.row); }
+static edfvd_status rows_at(edfvd_scheduler *s) { return edfvd_scheduler_rows(s, 0, &to.row, &to.times); }
+static edfvd_status restart(edfvd_scheduler *s) { return edfvd_scheduler_restart(s, &to.answer); }
 
 static edfvd_status (*const scheduler_calls[])(edfvd_scheduler *) = {
-    open_plain, open_endless, open_scaled, open_endless_scaled, close_it, release,   grant, outcome, idle,
-    run,        idle_for,     next,        pending,             earliest, discarded, scale, look,    row_at};
+    open_plain, open_endless, open_scaled, open_endless_scaled, close_it, release,   grant, outcome, idle,   run,
+    idle_for,   next,         pending,     earliest,            discarded, scale,    look,  row_at,  rows_at, restart};
 enum { OPENERS = 4, SCHEDULER_CALLS = sizeof scheduler_calls / sizeof *scheduler_calls };
 
 static const edfvd_row first_row = {EDFVD_KEPT, 1, 1};
@@ -111,6 +114,7 @@ static void all_closed(edfvd_scheduler *s) {
     IS(0, to.pending.release | to.pending.deadline | to.pending.key_top | to.pending.key);
     IS_ZEROS(to.at);
     IS_ZEROS(to.discarded);
+    IS_ZEROS(to.times);
     IS_ZEROS(to.scale);
 }
 
@@ -251,6 +255,8 @@ static void null_arguments(void) {
     PAINTED(to);
     RETURNS(EDFVD_NULL, edfvd_scheduler_look(&s, NULL));
     RETURNS(EDFVD_NULL, edfvd_scheduler_row(&s, 0, NULL));
+    RETURNS(EDFVD_NULL, edfvd_scheduler_rows(&s, 0, NULL, &to.times));
+    RETURNS(EDFVD_NULL, edfvd_scheduler_rows(&s, 0, &to.row, NULL));
     RETURNS(EDFVD_NULL, edfvd_monitor_observe(&m, NULL, 1, &to.unfit));
     RETURNS(EDFVD_NULL, edfvd_monitor_would_fit(&m, NULL, 1, &to.unfit));
     RETURNS(EDFVD_NULL, edfvd_monitor_would_fit(&m, &first_row, 1, NULL));
@@ -265,6 +271,7 @@ static void null_arguments(void) {
     RETURNS(EDFVD_OK, edfvd_scheduler_grant(&s, 1, NULL));
     RETURNS(EDFVD_OK, edfvd_scheduler_outcome(&s, 1, 1, true, NULL));
     RETURNS(EDFVD_OK, edfvd_scheduler_idle(&s, NULL));
+    RETURNS(EDFVD_OK, edfvd_scheduler_restart(&s, NULL));
     RETURNS(EDFVD_OK, edfvd_monitor_observe(&m, &first_row, 1, NULL));
     RETURNS(EDFVD_OK, edfvd_monitor_late(&m, 0, NULL, 0, &to.count));
     RETURNS(EDFVD_OK, close_it(&s));

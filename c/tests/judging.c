@@ -331,6 +331,55 @@ static void late_jobs(void) {
     RETURNS(EDFVD_OK, edfvd_monitor_close(&m));
 }
 
+/* Of two causes the first: the set before the scale, the scale before the rows, and their number before the kind of one and its task. */
+static void first_causes(void) {
+    static const edfvd_task zero_and_level[] = {{EDFVD_LOW, 0, 1, 1}, {7, 10, 1, 1}};
+    static const edfvd_task beyond[] = {{EDFVD_LOW, 10, 11, 11}};
+    static const edfvd_row mixed[] = {{EDFVD_KEPT, 9, 1}, {EDFVD_GIVEN, 1, 1}};
+    edfvd_row *many = calloc(MOST_ROWS + 1, sizeof *many); /* none of these is of a kind */
+    edfvd_monitor m = EDFVD_NONE;
+    edfvd_verdict verdict;
+    edfvd_unfit unfit;
+    IS(1, many != NULL);
+    if (many == NULL) return;
+    RETURNS(EDFVD_LEVEL, edfvd_judge(zero_and_level, 2, many, 1, 3, 2, &verdict));
+    IS(2, verdict.task);
+    RETURNS(EDFVD_NOT_ADMITTED, edfvd_judge(beyond, 1, many, MOST_ROWS + 1, 0, 0, &verdict));
+    RETURNS(EDFVD_ARGUMENT, edfvd_judge(control, 2, many, MOST_ROWS + 1, 3, 2, &verdict));
+    RETURNS(EDFVD_FULL, edfvd_judge(control, 2, many, MOST_ROWS + 1, 2, 5, &verdict));
+    RETURNS(EDFVD_ARGUMENT, edfvd_judge(control, 2, mixed, 2, 2, 5, &verdict));
+    RETURNS(EDFVD_NO_TASK, edfvd_judge(control, 2, mixed, 1, 2, 5, &verdict));
+    free(many);
+    RETURNS(EDFVD_OK, edfvd_monitor_open(&m, control, 2, 0, 0, NULL));
+    RETURNS(EDFVD_ARGUMENT, edfvd_monitor_observe(&m, &(edfvd_row){EDFVD_KEPT, 3, 1}, 2, &unfit));
+    RETURNS(EDFVD_NO_TASK, edfvd_monitor_observe(&m, &(edfvd_row){EDFVD_DONE, 3, 1}, 2, &unfit));
+    RETURNS(EDFVD_NO_TASK, edfvd_monitor_would_fit(&m, &(edfvd_row){EDFVD_MORE, 3, 1}, 0, &unfit));
+    RETURNS(EDFVD_ARGUMENT, edfvd_monitor_would_fit(&m, &(edfvd_row){EDFVD_MORE, 1, 1}, 0, &unfit));
+    RETURNS(EDFVD_OK, edfvd_monitor_close(&m));
+}
+
+/* Ticks of more than 32 bits: a job is released at 2^32 and has its deadline at 2^32 + 4, and no tick. */
+static void late_after_many_ticks(void) {
+    static const uint64_t most = UINT64_C(1) << 32;
+    edfvd_monitor m = EDFVD_NONE;
+    edfvd_late late[2];
+    uint64_t count;
+    RETURNS(EDFVD_OK, edfvd_monitor_open(&m, overload, 2, 1, 1, NULL));
+    RETURNS(EDFVD_OK, edfvd_monitor_observe(&m, &idle, UINT32_MAX, NULL));
+    RETURNS(EDFVD_OK, edfvd_monitor_observe(&m, &idle, 1, NULL));
+    for (uint32_t task = 1; task <= 2; task++)
+        RETURNS(EDFVD_OK, edfvd_monitor_observe(&m, &(edfvd_row){EDFVD_KEPT, task, 1}, 1, NULL));
+    RETURNS(EDFVD_OK, edfvd_monitor_observe(&m, &(edfvd_row){EDFVD_MORE, 1, 1}, 3, NULL));
+    RETURNS(EDFVD_OK, edfvd_monitor_observe(&m, &(edfvd_row){EDFVD_STOP, 1, 1}, 1, NULL));
+    RETURNS(EDFVD_OK, edfvd_monitor_late(&m, most + 3, late, 2, &count));
+    IS(1, count);
+    IS(2, late[0].task);
+    IS(most + 4, late[0].deadline);
+    RETURNS(EDFVD_OK, edfvd_monitor_late(&m, most + 4, late, 2, &count));
+    IS(0, count);
+    RETURNS(EDFVD_OK, edfvd_monitor_close(&m));
+}
+
 int main(void) {
     verdicts();
     scales();
@@ -341,5 +390,7 @@ int main(void) {
     only_asked();
     watches();
     late_jobs();
+    late_after_many_ticks();
+    first_causes();
     return ends("judging");
 }

@@ -40,6 +40,25 @@ static void sets(void) {
     }
 }
 
+/* A refused set does not hinder those after it, whatever it is refused for. */
+static void a_refused_set_before_others(void) {
+    static const edfvd_task mixed[] = {{EDFVD_LOW, 0, 1, 1},        {EDFVD_LOW, 7, 7, 7}, {7, 1, 1, 1}, {EDFVD_LOW, 7, 8, 8},
+                                       {EDFVD_HIGH, 10, 7, 6}, {EDFVD_LOW, 7, 6, 6}};
+    static const uint64_t offsets[] = {0, 1, 2, 3, 4, 5, 6};
+    static const uint32_t wanted[] = {EDFVD_ZERO_NUMBER, EDFVD_OK, EDFVD_LEVEL, EDFVD_OK, EDFVD_BUDGET_ORDER, EDFVD_OK};
+    static const uint64_t loads[] = {0, 7, 0, 8, 0, 6};
+    edfvd_test found[6];
+    uint32_t statuses[6];
+    PAINTED(found);
+    PAINTED(statuses);
+    RETURNS(EDFVD_OK, edfvd_check_many(mixed, 6, offsets, 6, found, statuses));
+    for (size_t i = 0; i < 6; i++) {
+        IS(wanted[i], statuses[i]);
+        IS(wanted[i] == EDFVD_OK ? 0 : 1, found[i].task);
+        IS(loads[i], found[i].low_low);
+    }
+}
+
 /* The sets need not begin with the first task, nor end with the last one, and there may be none. */
 static void parts_of_the_array(void) {
     static const uint64_t offsets[] = {1, 2}, end[] = {5, 5}, none[] = {0};
@@ -122,6 +141,36 @@ static void equal_rows_that_are_no_run(void) {
     RETURNS(EDFVD_OK, edfvd_monitor_close(&m));
 }
 
+/* Neighbours of one kind that differ in the job's count, or of a kind that comes once, are not taken as one run; and after a row that
+   does not fit no row is looked at, not even one that is none. */
+static void rows_that_are_taken_one_by_one(void) {
+    static const struct {
+        edfvd_row rows[4];
+        size_t length;
+        uint32_t why;
+        uint64_t place;
+    } bad[] = {
+        {{{EDFVD_KEPT, CTL, 1}, {EDFVD_MORE, CTL, 1}, {EDFVD_MORE, CTL, 2}}, 3, EDFVD_WHY_NOT_PENDING, 3},
+        {{{EDFVD_KEPT, CTL, 1}, {EDFVD_DONE, CTL, 1}, {EDFVD_DONE, CTL, 1}}, 3, EDFVD_WHY_NOT_PENDING, 3},
+        {{{EDFVD_DROPPED, LOG, 1}, {EDFVD_DROPPED, LOG, 1}}, 2, EDFVD_WHY_WRONG_KEPT, 1},
+        {{{EDFVD_MORE, CTL, 1}, {EDFVD_GIVEN, CTL, 1}}, 2, EDFVD_WHY_NOT_PENDING, 1},
+        {{{EDFVD_KEPT, CTL, 1}, {EDFVD_IDLE, 0, 0}, {EDFVD_MORE, 3, 1}}, 3, EDFVD_WHY_IDLE_PENDING, 2},
+    };
+    for (size_t i = 0; i < sizeof bad / sizeof *bad; i++) {
+        edfvd_monitor m = EDFVD_NONE;
+        edfvd_unfit unfit;
+        edfvd_watch watch;
+        PAINTED(unfit);
+        RETURNS(EDFVD_OK, edfvd_monitor_open(&m, tasks, 2, 0, 0, NULL));
+        RETURNS(EDFVD_OK, edfvd_monitor_observe_all(&m, bad[i].rows, bad[i].length, &unfit));
+        IS(bad[i].why, unfit.why);
+        IS(bad[i].place, unfit.place);
+        RETURNS(EDFVD_OK, edfvd_monitor_look(&m, &watch));
+        IS(bad[i].place - 1, watch.rows);
+        RETURNS(EDFVD_OK, edfvd_monitor_close(&m));
+    }
+}
+
 /* A refused row in the middle: the one before it is taken, the one after it is not, and zeros are stored. */
 static void refused_rows(void) {
     static const struct {
@@ -161,10 +210,12 @@ static void refused_rows(void) {
 int main(void) {
     IS(EDFVD_VERSION, edfvd_version());
     sets();
+    a_refused_set_before_others();
     parts_of_the_array();
     wrong_offsets();
     rows();
     equal_rows_that_are_no_run();
+    rows_that_are_taken_one_by_one();
     refused_rows();
     return ends("many");
 }

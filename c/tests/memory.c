@@ -92,6 +92,35 @@ static edfvd_status try_open_endless(void) {
     return tried ? EDFVD_FULL : status == EDFVD_OK ? closed : status;
 }
 
+/* A restart that finds no memory leaves the scheduler as it was: its nine rows, and the ten ticks of its task from release to
+   release. */
+static edfvd_status try_restart(bool endless) {
+    edfvd_scheduler s = EDFVD_NONE;
+    edfvd_look look;
+    edfvd_answer answer;
+    uint64_t earliest;
+    long before = left;
+    bool had_failed = has_failed;
+    left = -1; /* the opening finds memory */
+    edfvd_status opened = endless ? edfvd_scheduler_open_endless(&s, tasks, 2, NULL) : edfvd_scheduler_open(&s, tasks, 2, 9, NULL);
+    if (opened == EDFVD_OK) opened = edfvd_scheduler_release(&s, 1, NULL);
+    if (opened == EDFVD_OK) opened = edfvd_scheduler_run(&s, 1, 1, 2, true, NULL);
+    if (opened == EDFVD_OK) opened = edfvd_scheduler_idle_for(&s, 6, NULL);
+    left = before;
+    has_failed = had_failed;
+    edfvd_status status = opened == EDFVD_OK ? edfvd_scheduler_restart(&s, &answer) : opened;
+    left = -1;
+    if (edfvd_scheduler_look(&s, &look) != EDFVD_OK || edfvd_scheduler_earliest(&s, 1, &earliest) != EDFVD_OK) return EDFVD_FULL;
+    if (status == EDFVD_MEMORY && (look.ticks != 8 || look.rows != 9 || earliest != 10)) status = EDFVD_FULL;
+    if (status == EDFVD_OK && (look.ticks != 0 || look.rows != 0 || earliest != 2)) status = EDFVD_FULL;
+    if (answer.what != 0 || answer.task != 0) status = EDFVD_FULL;
+    edfvd_status closed = edfvd_scheduler_close(&s);
+    return closed == EDFVD_OK ? status : closed;
+}
+
+static edfvd_status try_restart_plain(void) { return try_restart(false); }
+static edfvd_status try_restart_endless(void) { return try_restart(true); }
+
 static edfvd_status try_demand(void) {
     static const edfvd_demand_task three[] = {{4, 2, 1}, {6, 3, 2}, {12, 12, 1}};
     edfvd_demand_test test;
@@ -115,11 +144,17 @@ static edfvd_status try_monitor(void) {
     return status == EDFVD_OK ? closed : status;
 }
 
+/* With EDFVD_MEMORY the buffer is as it was, and both numbers are 0. */
 static edfvd_status ask(size_t count, const char *const *words, const char *second) {
-    static char out[4096];
-    size_t length;
-    uint32_t ended;
-    return edfvd_ask(count, words, file, strlen(file), second, strlen(second), out, sizeof out, &length, &ended);
+    static char out[4096], before[sizeof out];
+    size_t length = SIZE_MAX;
+    uint32_t ended = UINT32_MAX;
+    memset(out, 0xa5, sizeof out);
+    memset(before, 0xa5, sizeof before);
+    edfvd_status status =
+        edfvd_ask(count, words, file, strlen(file), second, strlen(second), out, sizeof out, &length, &ended);
+    if (status != EDFVD_MEMORY) return status;
+    return length == 0 && ended == 0 && memcmp(out, before, sizeof out) == 0 ? status : EDFVD_SHORT_BUFFER;
 }
 
 static edfvd_status ask_check(void) { return ask(2, (const char *const[]){"check", "1"}, ""); }
@@ -167,7 +202,8 @@ int main(void) {
                  {"demand", try_demand},     {"open", try_open},         {"open_endless", try_open_endless},
                  {"judge", try_judge},       {"monitor", try_monitor},   {"ask check", ask_check},
                  {"ask run", ask_run},       {"ask report", ask_report}, {"ask partition", ask_partition},
-                 {"ask demand", ask_demand}, {"ask accept", ask_accept}, {"margins", try_margins}};
+                 {"ask demand", ask_demand}, {"ask accept", ask_accept}, {"margins", try_margins},
+                 {"restart", try_restart_plain}, {"restart without an end", try_restart_endless}};
     for (size_t place = 0; place < sizeof calls / sizeof *calls; place++) {
         for_good = false;
         if (!is_good_with_each(calls[place].name, calls[place].made)) return 1;

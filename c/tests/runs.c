@@ -96,6 +96,31 @@ static void has_row(uint64_t number, uint32_t event, uint32_t task, uint32_t cou
     IS(count, row.count);
 }
 
+/* The row of this number, and how many equal rows begin with it. */
+static void has_rows(uint64_t number, uint32_t event, uint32_t task, uint32_t count, uint32_t equal) {
+    edfvd_row row;
+    uint32_t times;
+    PAINTED(row);
+    PAINTED(times);
+    RETURNS(EDFVD_OK, edfvd_scheduler_rows(&s, number, &row, &times));
+    IS(event, row.event);
+    IS(task, row.task);
+    IS(count, row.count);
+    IS(equal, times);
+    has_row(number, event, task, count);
+}
+
+static void has_no_rows(uint64_t number, edfvd_status status) {
+    edfvd_row row;
+    uint32_t times;
+    PAINTED(row);
+    PAINTED(times);
+    RETURNS(status, edfvd_scheduler_rows(&s, number, &row, &times));
+    IS_ZEROS(row);
+    IS_ZEROS(times);
+    RETURNS(status, edfvd_scheduler_row(&s, number, &row));
+}
+
 /* The schedule by runs: an overrun that discards a job, refusals of each kind, and the last place used. */
 static void each_run(void) {
     edfvd_answer a;
@@ -142,8 +167,10 @@ static void each_run(void) {
         {EDFVD_MORE, 1, 1}, {EDFVD_MORE, 1, 1}, {EDFVD_DONE, 1, 1}, {EDFVD_IDLE, 0, 0}, {EDFVD_IDLE, 0, 0},
         {EDFVD_IDLE, 0, 0}, {EDFVD_IDLE, 0, 0}, {EDFVD_KEPT, 2, 2}, {EDFVD_MORE, 2, 2}, {EDFVD_MORE, 2, 2},
         {EDFVD_MORE, 2, 2}, {EDFVD_MORE, 2, 2}, {EDFVD_STOP, 2, 2}, {EDFVD_IDLE, 0, 0}, {EDFVD_IDLE, 0, 0}};
-    for (uint64_t row = 0; row < 20; row++) has_row(row, rows[row].event, rows[row].task, rows[row].count);
-    RETURNS(EDFVD_NO_ROW, edfvd_scheduler_row(&s, 20, &(edfvd_row){0, 0, 0}));
+    static const uint32_t equal[20] = {1, 1, 1, 1, 3, 2, 1, 1, 4, 3, 2, 1, 1, 4, 3, 2, 1, 1, 2, 1};
+    for (uint64_t row = 0; row < 20; row++) has_rows(row, rows[row].event, rows[row].task, rows[row].count, equal[row]);
+    has_no_rows(20, EDFVD_NO_ROW);
+    has_no_rows(UINT64_MAX, EDFVD_NO_ROW);
     RETURNS(EDFVD_OK, edfvd_scheduler_close(&s));
 }
 
@@ -161,7 +188,7 @@ static void too_few_places(void) {
     RETURNS(EDFVD_OK, edfvd_scheduler_close(&s));
 }
 
-/* Long runs without an end: of their rows the latest 256 are kept. A key that needs more than 64 bits. */
+/* Long runs without an end, each of which is one of the runs that are kept. A key that needs more than 64 bits. */
 static void long_runs(void) {
     static const edfvd_task slow[] = {{EDFVD_HIGH, 4000000000u, 1000000000u, 3000000000u}, {EDFVD_LOW, 4000000000u, 1, 1}};
     edfvd_answer a;
@@ -183,11 +210,20 @@ static void long_runs(void) {
     IS(13000000010, look.ticks);
     IS(13000000011, look.rows);
     IS(0, look.high_mode);
-    RETURNS(EDFVD_GONE, edfvd_scheduler_row(&s, look.rows - 257, &(edfvd_row){0, 0, 0}));
-    has_row(look.rows - 256, EDFVD_MORE, CTL, 1);
-    has_row(look.rows - 12, EDFVD_MORE, CTL, 1);
-    has_row(look.rows - 11, EDFVD_STOP, CTL, 1);
-    has_row(look.rows - 10, EDFVD_IDLE, 0, 0);
+    has_rows(0, EDFVD_IDLE, 0, 0, UINT32_MAX);
+    has_rows(10000000000 - UINT32_MAX - 1, EDFVD_IDLE, 0, 0, UINT32_MAX);
+    has_rows(10000000000 - UINT32_MAX, EDFVD_IDLE, 0, 0, UINT32_MAX);
+    has_rows(10000000000 - UINT32_MAX + 1, EDFVD_IDLE, 0, 0, UINT32_MAX - 1);
+    has_rows(9999999999, EDFVD_IDLE, 0, 0, 1);
+    has_rows(10000000000, EDFVD_KEPT, CTL, 1, 1);
+    has_rows(10000000001, EDFVD_MORE, CTL, 1, 999999999);
+    has_rows(10999999999, EDFVD_MORE, CTL, 1, 1);
+    has_rows(11000000000, EDFVD_OVER, CTL, 1, 1);
+    has_rows(11000000001, EDFVD_MORE, CTL, 1, 1999999999);
+    has_rows(13000000000, EDFVD_STOP, CTL, 1, 1);
+    has_rows(13000000001, EDFVD_IDLE, 0, 0, 10);
+    has_rows(13000000010, EDFVD_IDLE, 0, 0, 1);
+    has_no_rows(13000000011, EDFVD_NO_ROW);
     RETURNS(EDFVD_OK, edfvd_scheduler_close(&s));
 }
 
@@ -203,7 +239,7 @@ static void has_scale(uint64_t p, uint64_t q) {
 /* A scale holds for the control set if 1/2 + (1/5)/x <= 1 and x/2 + 3/5 <= 1: from 2/5 to 4/5. */
 static void scales(void) {
     static const edfvd_task plain[] = {{EDFVD_HIGH, 4, 1, 2}, {EDFVD_LOW, 4, 2, 2}};
-    static const uint64_t holding[][2] = {{2, 5}, {4, 5}, {1, 2}, {4, 10}, {800, 1000}};
+    static const uint64_t holding[][2] = {{2, 5}, {4, 5}, {1, 2}, {4, 10}, {800, 1000}, {(uint64_t)1 << 59, (uint64_t)1 << 60}};
     static const uint64_t failing[][2] = {{1, 5}, {399, 1000}, {801, 1000}, {1, 1}, {1, (uint64_t)1 << 60}};
     static const uint64_t wrong[][2] = {{0, 1}, {0, UINT64_MAX}, {3, 2}, {1, 0}, {1, ((uint64_t)1 << 60) + 1}, {UINT64_MAX, UINT64_MAX}};
     uint32_t task;
@@ -227,6 +263,11 @@ static void scales(void) {
         RETURNS(EDFVD_ARGUMENT, edfvd_scheduler_open_scaled(&s, control, 2, wrong[n][0], wrong[n][1], 9, NULL));
         RETURNS(EDFVD_ARGUMENT, edfvd_scheduler_open_endless_scaled(&s, NULL, 0, wrong[n][0], wrong[n][1], NULL));
     }
+    /* As many places as were asked for, also more than 2^16. */
+    RETURNS(EDFVD_OK, edfvd_scheduler_open_scaled(&s, control, 2, 2, 5, 70000, NULL));
+    rests(EDFVD_OK, 70000, at_tick(EDFVD_IDLE, 0));
+    rests(EDFVD_FULL, 1, nothing);
+    RETURNS(EDFVD_OK, edfvd_scheduler_close(&s));
     PAINTED(task);
     RETURNS(EDFVD_EMPTY, edfvd_scheduler_open_scaled(&s, NULL, 0, 2, 5, 9, &task));
     IS(0, task);
@@ -245,6 +286,8 @@ static void nulls(void) {
     RETURNS(EDFVD_NULL, edfvd_scheduler_earliest(&s, CTL, NULL));
     RETURNS(EDFVD_NULL, edfvd_scheduler_discarded(&s, CTL, NULL));
     RETURNS(EDFVD_NULL, edfvd_scheduler_scale(&s, NULL));
+    RETURNS(EDFVD_NULL, edfvd_scheduler_rows(&s, 0, NULL, &(uint32_t){0}));
+    RETURNS(EDFVD_NULL, edfvd_scheduler_rows(&s, 0, &(edfvd_row){0, 0, 0}, NULL));
     RETURNS(EDFVD_OK, edfvd_scheduler_idle_for(&s, 2, NULL));
     RETURNS(EDFVD_OK, edfvd_scheduler_release(&s, CTL, &a));
     answers(&a, EDFVD_KEPT, CTL, 1, 2);
@@ -270,6 +313,108 @@ static void held(void) {
     }
 }
 
+static void restarts(edfvd_status status, edfvd_answer wanted) {
+    edfvd_answer answer;
+    PAINTED(answer);
+    RETURNS(status, edfvd_scheduler_restart(&s, &answer));
+    answers(&answer, wanted.what, wanted.task, wanted.count, wanted.at);
+}
+
+/* The ticks and rows so far, and whether the mode is high. */
+static void has_counts(uint64_t ticks, uint64_t rows, uint32_t high_mode) {
+    edfvd_look look;
+    PAINTED(look);
+    RETURNS(EDFVD_OK, edfvd_scheduler_look(&s, &look));
+    IS(ticks, look.ticks);
+    IS(rows, look.rows);
+    IS(high_mode, look.high_mode);
+}
+
+/* The counts start anew while no job is pending: ctl, released at 0, may be released again at 10, and that is kept over each
+   restart. An overrun is over then, and all places are free. */
+static void counts_anew(void) {
+    for (int endless = 0; endless < 2; endless++) {
+        edfvd_answer a;
+        RETURNS(EDFVD_OK, endless ? edfvd_scheduler_open_endless(&s, control, 2, NULL) : edfvd_scheduler_open(&s, control, 2, 9, NULL));
+        restarts(EDFVD_OK, nothing);
+        has_counts(0, 0, 0);
+        RETURNS(EDFVD_OK, edfvd_scheduler_release(&s, CTL, &a));
+        restarts(EDFVD_PENDING, of_job(0, CTL, 1));
+        has_counts(0, 1, 0);
+        RETURNS(EDFVD_OK, edfvd_scheduler_grant(&s, CTL, &a));
+        restarts(EDFVD_TICK_OUT, of_job(0, CTL, 1));
+        RETURNS(EDFVD_OK, edfvd_scheduler_outcome(&s, CTL, 1, false, &a));
+        restarts(EDFVD_PENDING, of_job(0, CTL, 1));
+        runs(EDFVD_OK, CTL, 1, 1, false, of_job(EDFVD_OVER, CTL, 1));
+        runs(EDFVD_OK, CTL, 1, 1, true, of_job(EDFVD_DONE, CTL, 1));
+        has_counts(3, 4, 1);
+        has_task(CTL, none, 10, 0);
+        restarts(EDFVD_OK, nothing);
+        has_counts(0, 0, 0);
+        has_no_rows(0, EDFVD_NO_ROW);
+        has_task(CTL, none, 7, 0);
+        has_task(LOG, none, 0, 0);
+        RETURNS(EDFVD_TOO_SOON, edfvd_scheduler_release(&s, CTL, &a));
+        answers(&a, 0, 0, 0, 7);
+        rests(EDFVD_OK, 4, at_tick(EDFVD_IDLE, 0));
+        restarts(EDFVD_OK, nothing);
+        has_task(CTL, none, 3, 0);
+        restarts(EDFVD_OK, nothing);
+        has_task(CTL, none, 3, 0);
+        RETURNS(EDFVD_OK, edfvd_scheduler_release(&s, LOG, &a));
+        answers(&a, EDFVD_KEPT, LOG, 1, 0);
+        runs(EDFVD_OK, LOG, 1, 2, true, of_job(EDFVD_DONE, LOG, 1));
+        RETURNS(EDFVD_TOO_SOON, edfvd_scheduler_release(&s, CTL, &a));
+        rests(EDFVD_OK, 1, at_tick(EDFVD_IDLE, 2));
+        RETURNS(EDFVD_OK, edfvd_scheduler_release(&s, CTL, &a));
+        answers(&a, EDFVD_KEPT, CTL, 1, 3);
+        has_task(CTL, (edfvd_pending){CTL, 1, 0, 3, 13, 0, 35}, 13, 0);
+        has_task(LOG, none, 10, 0);
+        runs(EDFVD_OK, CTL, 1, 2, true, of_job(EDFVD_DONE, CTL, 1));
+        has_rows(0, EDFVD_KEPT, LOG, 1, 1);
+        restarts(EDFVD_OK, nothing);
+        has_task(CTL, none, 8, 0);
+        has_task(LOG, none, 5, 0);
+        rests(EDFVD_OK, 9, at_tick(EDFVD_IDLE, 0));
+        rests(endless ? EDFVD_OK : EDFVD_FULL, 1, endless ? at_tick(EDFVD_IDLE, 9) : nothing);
+        restarts(EDFVD_OK, nothing);
+        has_task(CTL, none, 0, 0);
+        RETURNS(EDFVD_OK, edfvd_scheduler_close(&s));
+    }
+}
+
+/* A scheduler without an end takes 2^62 rows: 2^62 - 3 idle ones, a release, and two ticks of its job. The job, released at
+   2^62 - 3, is followed by the next one 10 ticks later, which is 8 ticks after the last tick. */
+static void the_last_rows(void) {
+    const uint64_t most = UINT64_C(1) << 62;
+    edfvd_answer a;
+    RETURNS(EDFVD_OK, edfvd_scheduler_open_endless(&s, control, 2, NULL));
+    rests(EDFVD_FULL, UINT64_MAX, nothing);
+    rests(EDFVD_FULL, most + 1, nothing);
+    rests(EDFVD_OK, most - 3, at_tick(EDFVD_IDLE, 0));
+    RETURNS(EDFVD_OK, edfvd_scheduler_release(&s, CTL, &a));
+    answers(&a, EDFVD_KEPT, CTL, 1, most - 3);
+    has_next(CTL, 1, 2);
+    /* The key is 5 (2^62 - 3) + 20 = 2^64 + 2^62 + 5. */
+    has_task(CTL, (edfvd_pending){CTL, 1, 0, most - 3, most + 7, 1, most + 5}, most + 7, 0);
+    runs(EDFVD_OK, CTL, 1, 2, true, of_job(EDFVD_DONE, CTL, 1));
+    has_counts(most - 1, most, 0);
+    rests(EDFVD_FULL, 1, nothing);
+    RETURNS(EDFVD_FULL, edfvd_scheduler_idle(&s, &a));
+    RETURNS(EDFVD_FULL, edfvd_scheduler_release(&s, LOG, &a));
+    has_counts(most - 1, most, 0);
+    has_rows(0, EDFVD_IDLE, 0, 0, UINT32_MAX);
+    has_rows(most - 4, EDFVD_IDLE, 0, 0, 1);
+    has_rows(most - 3, EDFVD_KEPT, CTL, 1, 1);
+    has_rows(most - 2, EDFVD_MORE, CTL, 1, 1);
+    has_rows(most - 1, EDFVD_DONE, CTL, 1, 1);
+    has_no_rows(most, EDFVD_NO_ROW);
+    restarts(EDFVD_OK, nothing);
+    has_task(CTL, none, 8, 0);
+    rests(EDFVD_OK, most, at_tick(EDFVD_IDLE, 0));
+    RETURNS(EDFVD_OK, edfvd_scheduler_close(&s));
+}
+
 int main(void) {
     each_run();
     too_few_places();
@@ -277,5 +422,7 @@ int main(void) {
     scales();
     nulls();
     held();
+    counts_anew();
+    the_last_rows();
     return ends("runs");
 }

@@ -350,6 +350,36 @@ static void demand_refuses(void) {
     RETURNS(EDFVD_NULL, edfvd_demand(many, 1, NULL));
 }
 
+/* A number of tasks that is one or two in its lower 32 bits: too many, which each call says before it reads a task. */
+static void counts_of_more_than_32_bits(void) {
+    static const edfvd_demand_task within[] = {{4, 2, 1}, {6, 3, 2}};
+    size_t many = (SIZE_MAX >> 32) + 3;
+    edfvd_test test;
+    edfvd_demand_test demand;
+    edfvd_scale_range scales;
+    edfvd_budgets budgets[2];
+    edfvd_verdict verdict;
+    edfvd_scheduler s = EDFVD_NONE;
+    edfvd_monitor m = EDFVD_NONE;
+    uint32_t percent, on[2];
+    uint64_t millionths;
+    edfvd_row row = {EDFVD_IDLE, 0, 0};
+    RETURNS(EDFVD_TOO_MANY, edfvd_check(control, many, &test));
+    RETURNS(EDFVD_TOO_MANY, edfvd_stretch(control, many, &percent, NULL));
+    RETURNS(EDFVD_TOO_MANY, edfvd_partition(control, many, 2, on, NULL));
+    RETURNS(EDFVD_TOO_MANY, edfvd_sensitivity(control, many, budgets, NULL));
+    RETURNS(EDFVD_TOO_MANY, edfvd_scales(control, many, &scales, NULL));
+    RETURNS(EDFVD_TOO_MANY, edfvd_speed(control, many, &millionths, NULL));
+    RETURNS(EDFVD_TOO_MANY, edfvd_demand(within, many, &demand));
+    RETURNS(EDFVD_TOO_MANY, edfvd_judge(control, many, &row, 1, 0, 0, &verdict));
+    RETURNS(EDFVD_FULL, edfvd_judge(control, 2, &row, many, 0, 0, &verdict));
+    RETURNS(EDFVD_TOO_MANY, edfvd_scheduler_open(&s, control, many, 9, NULL));
+    RETURNS(EDFVD_TOO_MANY, edfvd_scheduler_open_endless(&s, control, many, NULL));
+    RETURNS(EDFVD_TOO_MANY, edfvd_scheduler_open_scaled(&s, control, many, 2, 5, 9, NULL));
+    RETURNS(EDFVD_TOO_MANY, edfvd_scheduler_open_endless_scaled(&s, control, many, 2, 5, NULL));
+    RETURNS(EDFVD_TOO_MANY, edfvd_monitor_open(&m, control, many, 0, 0, NULL));
+}
+
 /* Each status has words of its own, and every other number has those of an unknown one. */
 static void words_of_statuses(void) {
     static const int known[] = {0,  1,  2,  3,  4,  5,  6,  7,  8,  9,  10, 11, 12, 13, 20, 21,
@@ -363,6 +393,7 @@ static void words_of_statuses(void) {
         for (size_t other = 0; other < place; other++) IS(1, strcmp(word, edfvd_word((edfvd_status)known[other])) != 0);
     }
     IS(0, strcmp(edfvd_word(EDFVD_TOO_SOON), "too soon"));
+    IS(0, strcmp(edfvd_word(EDFVD_SAME_NAME), "two tasks have one name")); /* which no call returns */
     static const unsigned others[] = {14, 19, 32, 39, 46, 255, 0x7fffffff};
     for (size_t place = 0; place < sizeof others / sizeof *others; place++)
         IS(0, strcmp(edfvd_word((edfvd_status)others[place]), unknown));
@@ -380,6 +411,7 @@ int main(void) {
     accept_refuses();
     demand_stores_the_test();
     demand_refuses();
+    counts_of_more_than_32_bits();
     words_of_statuses();
     return ends("sets");
 }

@@ -28,7 +28,7 @@ states STACK_FILE_BYTES 'a file of N bytes uses some'
 states STACK_BYTES 'bytes uses some N bytes of stack'
 states LEAST_PERCENT 'EDFVD_OK with N percent means that the test admits the set if each high budget is the low one'
 states NEXT_PERCENT 'is the low one, and at N percent no longer'
-states PLACE_BYTES 'All memory is taken here, some N bytes a place, and no other call with it is EDFVD_MEMORY'
+states PLACE_BYTES 'All memory is taken here, some N bytes a place, and no other call with it is EDFVD_MEMORY, except'
 case $text in
 *' EDFVD_OK then means that malloc promised all places'*) echo '#define STATED_PROMISED 1' ;;
 *) echo '#define STATED_PROMISED 0' ;;

@@ -81,10 +81,18 @@ int main(void) {
     say("idle after close", edfvd_scheduler_idle(&s, &a));
     say("open without an end", edfvd_scheduler_open_endless(&s, tasks, 2, &task));
     say("open without an end again", edfvd_scheduler_open_endless(&s, tasks, 2, &task));
-    for (int tick = 0; tick < 257; tick++) (void)edfvd_scheduler_idle(&s, &a);
-    say("row before the last 256", edfvd_scheduler_row(&s, 0, &(edfvd_row){0, 0, 0}));
-    say("first of the last 256 rows", edfvd_scheduler_row(&s, 1, &(edfvd_row){0, 0, 0}));
-    say("row after the last, without an end", edfvd_scheduler_row(&s, 257, &(edfvd_row){0, 0, 0}));
+    /* Each job makes three runs of equal rows, its release, its tick and nine idle ticks: 86 jobs make 258 of 946 rows. */
+    for (uint32_t job = 1; job <= 86; job++) {
+        (void)edfvd_scheduler_release(&s, 1, &a);
+        if (job == 1) say("restart with a job pending", edfvd_scheduler_restart(&s, &a));
+        (void)edfvd_scheduler_run(&s, 1, job, 1, true, &a);
+        (void)edfvd_scheduler_idle_for(&s, 9, &a);
+    }
+    say("row before the last 256 runs", edfvd_scheduler_row(&s, 1, &(edfvd_row){0, 0, 0}));
+    say("first of the last 256 runs", edfvd_scheduler_rows(&s, 2, &(edfvd_row){0, 0, 0}, &task));
+    say("row after the last, without an end", edfvd_scheduler_row(&s, 946, &(edfvd_row){0, 0, 0}));
+    say("restart", edfvd_scheduler_restart(&s, &a));
+    say("row before the restart", edfvd_scheduler_rows(&s, 2, &(edfvd_row){0, 0, 0}, &task));
     say("close of it", edfvd_scheduler_close(&s));
     say("open no tasks without an end", edfvd_scheduler_open_endless(&s, NULL, 0, &task));
     say("open NULL without an end", edfvd_scheduler_open_endless(NULL, tasks, 2, &task));

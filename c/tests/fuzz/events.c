@@ -53,15 +53,35 @@ static void try_event(void) {
     if (answer != NULL) IS(0, memcmp(&expected, answer, sizeof expected));
 }
 
-/* Each row that there is, those that are gone, and none after the last. */
+/* Whether the row of this number, which is not 0, equals the row before it. */
+static bool is_equal(uint64_t number) { return memcmp(&wanted.rows[number - 1], &wanted.rows[number], sizeof(edfvd_row)) == 0; }
+
+/* The number of the oldest of the latest 256 runs of equal rows. */
+static uint64_t oldest_kept(void) {
+    uint64_t oldest = wanted.so_far.rows, runs = 0;
+    for (uint64_t number = wanted.so_far.rows; number > 0 && runs < 256; number--)
+        if (number == 1 || !is_equal(number - 1)) {
+            runs++;
+            oldest = number - 1;
+        }
+    return oldest;
+}
+
+/* Each row that there is and how many equal rows begin with it, those that are gone, and none after the last. */
 static void compare_rows(void) {
-    uint64_t rows = wanted.so_far.rows, oldest = is_endless && rows > 256 ? rows - 256 : 0;
+    uint64_t rows = wanted.so_far.rows, oldest = is_endless ? oldest_kept() : 0;
     for (uint64_t number = 0; number < rows + 3; number++) {
         static const edfvd_row none = {0, 0, 0};
         edfvd_row *row = at_edge(sizeof *row, 1);
+        uint32_t *times = at_edge(sizeof *times, 2), equal = 1;
         bool is_kept = number >= oldest && number < rows;
-        RETURNS(number < oldest ? EDFVD_GONE : is_kept ? EDFVD_OK : EDFVD_NO_ROW, edfvd_scheduler_row(&s, number, row));
+        edfvd_status right = number < oldest ? EDFVD_GONE : is_kept ? EDFVD_OK : EDFVD_NO_ROW;
+        RETURNS(right, edfvd_scheduler_row(&s, number, row));
         IS(0, memcmp(is_kept ? &wanted.rows[number] : &none, row, sizeof *row));
+        while (is_kept && number + equal < rows && is_equal(number + equal)) equal++;
+        RETURNS(right, edfvd_scheduler_rows(&s, number, row, times));
+        IS(0, memcmp(is_kept ? &wanted.rows[number] : &none, row, sizeof *row));
+        IS(is_kept ? equal : 0, *times);
     }
     edfvd_row *row = at_edge(sizeof *row, 1);
     RETURNS(EDFVD_NO_ROW, edfvd_scheduler_row(&s, rows + (UINT64_C(1) << (below(32) + 32)), row));

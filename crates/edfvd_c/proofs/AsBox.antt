@@ -1,4 +1,6 @@
 -- A block and its parts own what a box at the same types owns.
+use Rattle.std.specs.Prelude.{Bool, true, false, ◌≡◌, Option, Some, None, IsSome}
+use mathlib.Core.Path.{refl, subst}
 use mir.Syntax.{impl, tnil, dnil}
 use mathlib.Core.List.{[]}
 use denote.Signature.{Slot, plain}
@@ -19,3 +21,12 @@ FromParts = plain (λ _. Parts.the_row Held.the_row Heap.the_row ghosts)
 
 abbrev pub FromBlock : Slot 0
 FromBlock = plain (λ _. Block.the_row)
+
+abbrev Apart : Bool → Type 0
+Apart false = Unit {0}
+Apart true = ⊥
+
+-- what is in an option that has something in it
+pub found : {A : Type 0} (c : Option A) → IsSome c → (x : A) × (c ≡ Some x)
+found (Some x) t = (x, refl)
+found None t = absurd (subst Apart t tt)

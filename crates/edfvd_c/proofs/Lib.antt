@@ -1,4 +1,5 @@
 pub mod AsBox
+pub mod Marked
 pub mod Slots
 pub mod Names
 pub mod Numbered
@@ -7,3 +8,4 @@ pub mod Greatest
 pub mod Scaled
 pub mod Periods
 pub mod Reasons
+pub mod RunBegins

@@ -5,10 +5,10 @@ use Rattle.mc_task.specs.declared.task.Rule.{Rule}
 use Rattle.mc_task.specs.declared.task.Rule.TheVariants.{Virtual}
 use Rattle.mc_model.specs.Test.{published}
 use Rattle.mc_model.specs.Holds.{Holds}
-use Rattle.mc_model.specs.Core.{State}
+use Rattle.restart.specs.Restarted.{Restarted, opened}
 use Rattle.mode_core.specs.Events.{empty_state}
 use Rattle.edfvd_c.specs.declared.given.CTask.{CTask}
-use Rattle.edfvd_c.specs.Given.{AreOf}
+use Rattle.edfvd_c.specs.Refused.{AreInRange}
 
 -- p and q are neither 0 and 0, for the rule of the published test, nor a scale with 1 ≤ p ≤ q ≤ 2^60
 abbrev pub is_no_scale : ℕ → ℕ → Bool
@@ -19,14 +19,15 @@ abbrev pub IsCertified : ℕ → ℕ → List Task → Rule → Type 0
 IsCertified p q tasks rule =
     MatchBool (p == 0) (published tasks ≡ Some rule) ((rule ≡ Virtual p q) × Holds tasks (Virtual p q))
 
--- an opened scheduler: the tasks have the given numbers, its rule is the one for p and q, and it has no rows
-abbrev pub IsScaledOpening : List CTask → ℕ → ℕ → ℕ → Option State → Type 0
-IsScaledOpening given p q places core =
-    (tasks : List Task) × (rule : Rule) × AreOf given tasks × IsCertified p q tasks rule
-    × (core ≡ Some (empty_state tasks rule places))
+-- an opened scheduler: the tasks have the given numbers and are a set within range, its rule is the one for p and q, and it has
+-- no rows
+abbrev pub IsScaledOpening : List CTask → ℕ → ℕ → ℕ → Option Restarted → Type 0
+IsScaledOpening given p q places scheduler =
+    (tasks : List Task) × (rule : Rule) × AreInRange given tasks × IsCertified p q tasks rule
+    × (scheduler ≡ Some (opened (empty_state tasks rule places)))
 
--- the tasks are a set for which p and q give no rule: the published test gives none where p is 0, and otherwise the scale
--- p/q does not hold
+-- the given tasks are a set within range for which p and q give no rule: the published test gives none where p is 0, and
+-- otherwise the scale p/q does not hold
 abbrev pub AreUncertified : List CTask → ℕ → ℕ → Type 0
 AreUncertified given p q =
-    (tasks : List Task) × AreOf given tasks × MatchBool (p == 0) (published tasks ≡ None) (Holds tasks (Virtual p q) → ⊥)
+    (tasks : List Task) × AreInRange given tasks × MatchBool (p == 0) (published tasks ≡ None) (Holds tasks (Virtual p q) → ⊥)

@@ -15,8 +15,8 @@ use Rattle.mode_core.specs.declared.answers.GrantFault.{GrantFault}
 use Rattle.mode_core.specs.declared.answers.GrantFault.TheVariants as grant_fault
 use Rattle.mode_core.specs.declared.answers.IdleFault.{IdleFault}
 use Rattle.mode_core.specs.declared.answers.IdleFault.TheVariants as idle_fault
-use Rattle.mode_core.specs.Events.{release_answer, grant_answer, outcome_answer, idle_answer}
-use Rattle.mode_core.specs.Events.{after_release, after_grant, after_outcome}
+use Rattle.mode_core.specs.Events.{grant_answer, outcome_answer, idle_answer, after_grant, after_outcome}
+use Rattle.restart.specs.Restarted.{Restarted, release_answer, after_release}
 use Rattle.edfvd_c.specs.declared.event.CAnswer.{CAnswer}
 
 -- a status with an answer
@@ -86,12 +86,16 @@ abbrev pub is_in : State → ℕ → Bool
 is_in s k = nat_le 1 k && nat_le k (length s.set)
 
 -- what a release by this number returns: status 10 if no task has it
-abbrev pub release_returns : State → ℕ → Returned
-release_returns s k = if is_in s k then returned_release (release_answer s k) else (10, nothing)
+abbrev pub release_returns : Restarted → ℕ → Returned
+release_returns s k = if is_in s.core k then returned_release (release_answer s k) else (10, nothing)
 
--- the state after a release by this number
-abbrev pub release_after : State → ℕ → State
-release_after s k = if is_in s k then after_release s k else s
+-- the scheduler after a release by this number
+abbrev pub release_after : Restarted → ℕ → Restarted
+release_after s k = if is_in s.core k then after_release s k else s
+
+-- the scheduler after an event that changes only its state since its counts began
+abbrev pub with_core : Restarted → State → Restarted
+with_core s core = record s { core = core }
 
 -- what a grant by this number returns: status 10 if no task has it
 abbrev pub grant_returns : State → ℕ → Returned

@@ -11,6 +11,7 @@ use Rattle.edfvd_c.specs.contracts.held.Held.{the_row}
 use Rattle.edfvd_c.specs.declared.held.Held.{Held}
 use Rattle.edfvd_c.specs.declared.held.Held.TheVariants as held
 use Rattle.mc_model.specs.Core.{State}
+use Rattle.restart.specs.Restarted.{Restarted, opened}
 use Rattle.trace_judge.specs.Watched.{Watched}
 use Rattle.edfvd_c.specs.declared.event.CAnswer.{CAnswer}
 use Rattle.mc_task.specs.declared.task.Task.{Task}
@@ -32,9 +33,15 @@ abbrev pub held_coded : Coded (Option Held)
 held_coded = coded_option the_row.coded
 
 -- the scheduler that a handle holds, if it holds one
+abbrev pub scheduler_of : Option Held → Option Restarted
+scheduler_of (Some (held.Core s)) = Some s
+scheduler_of (Some (held.Endless s)) = Some s
+scheduler_of other = None
+
+-- the state of the scheduler that a handle holds, since its counts began
 abbrev pub core_of : Option Held → Option State
-core_of (Some (held.Core s)) = Some s
-core_of (Some (held.Endless s)) = Some s
+core_of (Some (held.Core s)) = Some s.core
+core_of (Some (held.Endless s)) = Some s.core
 core_of other = None
 
 -- whether a handle holds a scheduler without an end
@@ -42,9 +49,10 @@ abbrev pub is_endless : Option Held → Bool
 is_endless (Some (held.Endless s)) = true
 is_endless other = false
 
--- the number of the oldest row that is kept: a scheduler without an end keeps its latest 256 rows, and any other keeps each
+-- the number of the oldest row that is kept: a scheduler without an end keeps its latest 256 runs of equal rows, and any other
+-- keeps each row
 abbrev pub kept_from : Option Held → ℕ
-kept_from (Some (held.Endless s)) = latest_from s.rows
+kept_from (Some (held.Endless s)) = latest_from s.core.rows
 kept_from other = 0
 
 -- the monitor that a handle holds, if it holds one
@@ -60,22 +68,22 @@ open_mark = 7306077154177937264
 abbrev pub IsMarked : ℕ → Option Held → Type 0
 IsMarked mark h = (mark ≡ open_mark → IsSome h) × (mark ≢ open_mark → h ≡ None)
 
--- an event through a handle: with a closed one the status is 12 and it stays closed; with an open one its state
--- says what is returned, and which state it has after
-abbrev pub Does : Option State → Option State → ℕ → CAnswer → (State → Returned) → (State → State) → Type 0
+-- an event through a handle: with a closed one the status is 12 and it stays closed; with an open one its scheduler
+-- says what is returned, and how it is after
+abbrev pub Does : Option Restarted → Option Restarted → ℕ → CAnswer → (Restarted → Returned) → (Restarted → Restarted) → Type 0
 Does old new status answer returns after =
     MatchOption old ((new ≡ None) × (status ≡ 12) × (answer ≡ nothing))
     (λ s. (new ≡ Some (after s)) × (status ≡ (returns s).0) × (answer ≡ (returns s).1))
 
--- what is read through a handle: with a closed one the status is 12 with nothing, and with an open one its state
+-- what is read through a handle: with a closed one the status is 12 with nothing, and with an open one what it holds
 -- says what is returned
-abbrev pub Reads : {T : Type 0} → Option State → ℕ → T → T → (State → ℕ × T) → Type 0
+abbrev pub Reads : {S T : Type 0} → Option S → ℕ → T → T → (S → ℕ × T) → Type 0
 Reads held status found nothing returns =
     MatchOption held ((status ≡ 12) × (found ≡ nothing)) (λ s. (status ≡ (returns s).0) × (found ≡ (returns s).1))
 
 -- an opened scheduler: the tasks have the given numbers and are a set within range, the rule is that of the published test, and
 -- it has no rows
-abbrev pub IsOpening : List CTask → ℕ → Option State → Type 0
-IsOpening given places core =
+abbrev pub IsOpening : List CTask → ℕ → Option Restarted → Type 0
+IsOpening given places scheduler =
     (tasks : List Task) × (rule : Rule) × AreInRange given tasks × (published tasks ≡ Some rule)
-    × (core ≡ Some (empty_state tasks rule places))
+    × (scheduler ≡ Some (opened (empty_state tasks rule places)))

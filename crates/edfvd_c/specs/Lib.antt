@@ -9,9 +9,11 @@ pub mod Look
 pub mod Latest
 pub mod Slots
 pub mod Handle
+pub mod Lending
 pub mod Judged
 pub mod Monitor
 pub mod Refused
 pub mod Margins
 pub mod Runs
 pub mod Certified
+pub mod Restarts

@@ -1,5 +1,5 @@
 -- What a monitor in C is, and what is observed through it. The newest row stands first.
-use Rattle.std.specs.Prelude.{◌≡◌, ◌≢◌, ◌<◌, ◌+◌, ◌^◌, ◌⊎◌, ◌↔◌, ⊤, ℕ, ◌==◌, true, List, [], ◌++◌, length, take, drop, map, cond, if◌then◌else◌, Option, Some, None, option_and_then, MatchOption, IfSome}
+use Rattle.std.specs.Prelude.{◌≡◌, ◌≢◌, ◌<◌, ◌+◌, ◌^◌, ◌⊎◌, ◌↔◌, ⊤, ℕ, ◌==◌, true, List, [], ◌++◌, length, take, drop, map, cond, if◌then◌else◌, Option, Some, None, option_and_then, MatchOption}
 use Rattle.mc_model.specs.declared.row.Row.{Row}
 use Rattle.mc_model.specs.declared.row.Row.TheVariants.{Release, Tick, Idle}
 use Rattle.mc_model.specs.declared.run.Run.{Run}
@@ -14,7 +14,7 @@ use Rattle.trace_judge.specs.declared.monitor.ObserveFault.TheVariants as faults
 use Rattle.trace_judge.specs.declared.unfit.Unfit.{Unfit}
 use Rattle.trace_judge.specs.declared.turned.Turned.{Turned}
 use Rattle.trace_judge.specs.Turned.{AreTurned, IsInOrder, AddLate}
-use Rattle.trace_judge.specs.Watched.{Watched, Watches, unfit_in, fitted, seen, fits_so_far}
+use Rattle.trace_judge.specs.Watched.{Watched, Watches, NeedsMemory, unfit_in, fitted, seen, fits_so_far}
 use Rattle.edfvd_c.specs.declared.given.CTask.{CTask}
 use Rattle.edfvd_c.specs.declared.judged.CVerdict.{CVerdict}
 use Rattle.edfvd_c.specs.declared.look.CRow.{CRow}
@@ -79,6 +79,9 @@ pub record Observed (row : CRow) (n : ℕ) (before : Watched) (new : Option Watc
   -- with any status but 0 the monitor is as it was before, and zeros are stored
   pub refused : status ≢ 0 → (new ≡ Some before) × (found ≡ unfit_row None)
   pub reason : HasReason (run_in row n) before status
+  -- with status 9 the row is a kept release of a task that has at least two pending jobs
+  pub memory : status ≡ 9 → MatchOption (run_in row n) ⊥
+      (λ run. (h : List Row) → Watches h before → NeedsMemory before.set.tasks h run)
 
 -- what is observed through a monitor: with a closed one the status is 12 and it stays closed
 abbrev pub Observes : CRow → ℕ → Option Watched → Option Watched → ℕ → CUnfit → Type 0

@@ -1,10 +1,11 @@
 -- What a run, idle ticks and the next boundary return through a call, and what is read of a task.
-use Rattle.std.specs.Prelude.{ℕ, ◌+◌, ◌*◌, ◌^◌, ◌/◌, ◌%◌, Option, Some, None, Result, Ok, Err, Bool, ◌==◌, if◌then◌else◌}
+use Rattle.std.specs.Prelude.{ℕ, ◌^◌, ◌/◌, ◌%◌, Option, Some, None, Result, Ok, Err, Bool, ◌==◌, if◌then◌else◌}
 use Rattle.mc_task.specs.declared.task.JobId.{JobId}
 use Rattle.mc_task.specs.declared.task.Rule.{Rule}
 use Rattle.mc_task.specs.declared.task.Rule.TheVariants.{Plain, Virtual}
 use Rattle.mc_model.specs.declared.row.How.{How}
-use Rattle.mc_model.specs.Core.{State, next}
+use Rattle.mc_model.specs.Core.{State}
+use Rattle.restart.specs.Restarted.{Restarted, earliest}
 use Rattle.mode_core.specs.declared.answers.Boundary.{Boundary}
 use Rattle.mode_core.specs.declared.answers.PendingJob.{PendingJob}
 use Rattle.mode_core.specs.declared.answers.RunFault.{RunFault}
@@ -77,8 +78,8 @@ abbrev pub pending_returns : State → ℕ → ℕ × CPending
 pending_returns s k = if is_in s k then (0, pending_numbers (pending_job s k)) else (10, pending_numbers None)
 
 -- what is returned for the task's earliest next release: status 10 if no task has the number
-abbrev pub earliest_returns : State → ℕ → ℕ × ℕ
-earliest_returns s k = if is_in s k then (0, next s k) else (10, 0)
+abbrev pub earliest_returns : Restarted → ℕ → ℕ × ℕ
+earliest_returns s k = if is_in s.core k then (0, earliest s k) else (10, 0)
 
 -- what is returned for the task's job that the latest overrun discarded: status 10 if no task has the number
 abbrev pub discarded_returns : State → ℕ → ℕ × ℕ

@@ -1,6 +1,7 @@
 //! What stands behind a pointer that C keeps.
 ghost use Rattle.std.specs.Prelude.{◌≡◌, Option, Some, None, IsSome};
 ghost use Rattle.edfvd_c.specs.declared.held.Held.{Held};
+ghost use Rattle.std.specs.Borrow.{sem};
 ghost use Rattle.edfvd_c.specs.Handle.{block_owns, held_coded};
 
 use crate::held::Held;
@@ -23,6 +24,8 @@ impl Model for Block {
 }
 
 impl Block {
+    ghost use Rattle.edfvd_c.specs.Lending.{BlockLends};
+
     pub fn closed(alloc: Global) -> Block
         ensures { result.held ≡ None }
     {
@@ -40,6 +43,15 @@ impl Block {
             at: ptr as *mut u8,
             alloc,
         }
+    }
+
+    /// Lends what is in it.
+    pub fn held_mut(&mut self) -> &mut Held
+        requires { IsSome self.old.held }
+        ensures* writes_back { sem 𝓛 (BlockLends self.entry result) }
+        ensures value { self.old.held ≡ Some result.now }
+    {
+        unsafe { &mut *(self.at as *mut Held) }
     }
 
     pub fn into_parts(self) -> Parts<Held, Global>

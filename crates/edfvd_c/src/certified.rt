@@ -1,25 +1,19 @@
 //! Schedulers that are opened under a scale of the caller's own, which must hold for the tasks.
-ghost use Rattle.std.specs.Prelude.{◌≡◌, ◌≢◌, ◌↔◌, ◌^◌, true, false, Some, None, IsSome, IfOk, IfErr};
+ghost use Rattle.std.specs.Prelude.{◌≡◌, ◌≢◌, ◌↔◌, ◌⊎◌, ◌<◌, ◌≤◌, ◌^◌, true, false, Some, None, IsSome, IfOk, IfErr, length};
 ghost use Rattle.mc_model.specs.Holds.{Fits, Holds};
-ghost use Rattle.edfvd_c.specs.Given.{AreOf};
-ghost use Rattle.edfvd_c.specs.Handle.{core_of, is_endless};
+ghost use Rattle.edfvd_c.specs.Handle.{scheduler_of, is_endless};
 ghost use Rattle.edfvd_c.specs.Certified.{is_no_scale, IsCertified, AreUncertified, IsScaledOpening};
+ghost use Rattle.edfvd_c.specs.Refused.{AreInRange, IsRefused};
 
-use crate::given::{CTask, NoSet, set_of};
+use crate::given::{CTask, NoSet};
 use crate::handle::Handle;
 use crate::held::Held;
-use crate::latest::LatestRows;
+use crate::loaded::{SetAndLoads, set_and_loads};
+use crate::opening::{with_places, without_end};
 use crate::status;
 use admission::{admit, holds_for};
-use load_sum::{LoadFault, sum_loads};
 use mc_task::{Rule, TaskSet};
-use mode_core::Core;
 use std::alloc::Global;
-
-const OUT_OF_MEMORY: NoSet = NoSet {
-    status: status::MEMORY,
-    task: 0,
-};
 
 const NOT_ADMITTED: NoSet = NoSet {
     status: status::NOT_ADMITTED,
@@ -38,11 +32,16 @@ pub extern "C" fn edfvd_raw_scheduler_open_scaled(
     places: u32,
     task: &mut u32,
 ) -> u32
-    ensures open { IsSome scheduler.old.block.held → result ≡ 13 }
+    // The handle holds a scheduler or a monitor already.
+    ensures open { (result ≡ 13) ↔ IsSome scheduler.old.block.held }
     ensures argument { scheduler.old.block.held ≡ None → (result ≡ 43) ↔ (is_no_scale p q ≡ true) }
-    ensures made { result ≡ 0 → IsScaledOpening given.now p q places (core_of scheduler.new.block.held) }
+    ensures made { result ≡ 0 → IsScaledOpening given.now p q places (scheduler_of scheduler.new.block.held) }
     ensures kind { result ≡ 0 → is_endless scheduler.new.block.held ≡ false }
+    ensures many { scheduler.old.block.held ≡ None → is_no_scale p q ≡ false → 128 < length given.now → (result ≡ 2) × (task.new ≡ 0) }
+    ensures refused { length given.now ≤ 128 → result ≢ 0 → result ≢ 8 → result ≢ 9 → result ≢ 13 → result ≢ 43 → IsRefused given.now result task.new }
     ensures not_admitted { result ≡ 8 → AreUncertified given.now p q }
+    ensures task { (result ≡ 0) ⊎ (8 ≤ result) → task.new ≡ 0 }
+    ensures only { (result ≤ 9) ⊎ (result ≡ 13) ⊎ (result ≡ 43) }
     ensures same { result ≢ 0 → scheduler.new.block.held ≡ scheduler.old.block.held }
 {
     *task = 0;
@@ -62,22 +61,20 @@ pub extern "C" fn edfvd_raw_scheduler_open_scaled(
 }
 
 fn opened(alloc: Global, given: &[CTask], p: u64, q: u64, places: u32) -> Result<Box<Held>, NoSet>
-    ensures made { IfOk result (λ held. IsScaledOpening given.now p q places (core_of (Some held.value))) }
-    ensures some { IfOk result (λ held. IsSome (core_of (Some held.value))) }
+    ensures made { IfOk result (λ held. IsScaledOpening given.now p q places (scheduler_of (Some held.value))) }
+    ensures some { IfOk result (λ held. IsSome (scheduler_of (Some held.value))) }
     ensures kind { IfOk result (λ held. is_endless (Some held.value) ≡ false) }
     ensures scale { IfOk result (λ held. is_no_scale p q ≡ false) }
+    ensures few { IfOk result (λ held. length given.now ≤ 128) }
     ensures argument { IfErr result (λ no. (no.status ≡ 43) ↔ (is_no_scale p q ≡ true)) }
+    ensures many { IfErr result (λ no. is_no_scale p q ≡ false → 128 < length given.now → (no.status ≡ 2) × (no.task ≡ 0)) }
+    ensures refused { IfErr result (λ no. length given.now ≤ 128 → no.status ≢ 8 → no.status ≢ 9 → no.status ≢ 43 → IsRefused given.now no.status no.task) }
     ensures not_admitted { IfErr result (λ no. no.status ≡ 8 → AreUncertified given.now p q) }
-    ensures status { IfErr result (λ no. no.status ≢ 0) }
+    ensures task { IfErr result (λ no. 8 ≤ no.status → no.task ≡ 0) }
+    ensures status { IfErr result (λ no. ((1 ≤ no.status) × (no.status ≤ 9)) ⊎ (no.status ≡ 43)) }
 {
     let (set, rule) = certified(alloc, given, p, q)?;
-    let Ok(core) = Core::new(alloc, set, rule, places as usize) else {
-        return Err(OUT_OF_MEMORY);
-    };
-    match Box::new(alloc, Held::Core(core)) {
-        Ok(held) => Ok(held),
-        Err(_) => Err(OUT_OF_MEMORY),
-    }
+    with_places(alloc, set, rule, places)
 }
 
 /// Opens a scheduler without an end under the rule of the published test where `p` is 0, and otherwise under EDF-VD with the
@@ -91,11 +88,16 @@ pub extern "C" fn edfvd_raw_scheduler_open_endless_scaled(
     q: u64,
     task: &mut u32,
 ) -> u32
-    ensures open { IsSome scheduler.old.block.held → result ≡ 13 }
+    // The handle holds a scheduler or a monitor already.
+    ensures open { (result ≡ 13) ↔ IsSome scheduler.old.block.held }
     ensures argument { scheduler.old.block.held ≡ None → (result ≡ 43) ↔ (is_no_scale p q ≡ true) }
-    ensures made { result ≡ 0 → IsScaledOpening given.now p q (2 ^ 62) (core_of scheduler.new.block.held) }
+    ensures made { result ≡ 0 → IsScaledOpening given.now p q (2 ^ 62) (scheduler_of scheduler.new.block.held) }
     ensures kind { result ≡ 0 → is_endless scheduler.new.block.held ≡ true }
+    ensures many { scheduler.old.block.held ≡ None → is_no_scale p q ≡ false → 128 < length given.now → (result ≡ 2) × (task.new ≡ 0) }
+    ensures refused { length given.now ≤ 128 → result ≢ 0 → result ≢ 8 → result ≢ 9 → result ≢ 13 → result ≢ 43 → IsRefused given.now result task.new }
     ensures not_admitted { result ≡ 8 → AreUncertified given.now p q }
+    ensures task { (result ≡ 0) ⊎ (8 ≤ result) → task.new ≡ 0 }
+    ensures only { (result ≤ 9) ⊎ (result ≡ 13) ⊎ (result ≡ 43) }
     ensures same { result ≢ 0 → scheduler.new.block.held ≡ scheduler.old.block.held }
 {
     *task = 0;
@@ -115,38 +117,37 @@ pub extern "C" fn edfvd_raw_scheduler_open_endless_scaled(
 }
 
 fn opened_endless(alloc: Global, given: &[CTask], p: u64, q: u64) -> Result<Box<Held>, NoSet>
-    ensures made { IfOk result (λ held. IsScaledOpening given.now p q (2 ^ 62) (core_of (Some held.value))) }
-    ensures some { IfOk result (λ held. IsSome (core_of (Some held.value))) }
+    ensures made { IfOk result (λ held. IsScaledOpening given.now p q (2 ^ 62) (scheduler_of (Some held.value))) }
+    ensures some { IfOk result (λ held. IsSome (scheduler_of (Some held.value))) }
     ensures kind { IfOk result (λ held. is_endless (Some held.value) ≡ true) }
     ensures scale { IfOk result (λ held. is_no_scale p q ≡ false) }
+    ensures few { IfOk result (λ held. length given.now ≤ 128) }
     ensures argument { IfErr result (λ no. (no.status ≡ 43) ↔ (is_no_scale p q ≡ true)) }
+    ensures many { IfErr result (λ no. is_no_scale p q ≡ false → 128 < length given.now → (no.status ≡ 2) × (no.task ≡ 0)) }
+    ensures refused { IfErr result (λ no. length given.now ≤ 128 → no.status ≢ 8 → no.status ≢ 9 → no.status ≢ 43 → IsRefused given.now no.status no.task) }
     ensures not_admitted { IfErr result (λ no. no.status ≡ 8 → AreUncertified given.now p q) }
-    ensures status { IfErr result (λ no. no.status ≢ 0) }
+    ensures task { IfErr result (λ no. 8 ≤ no.status → no.task ≡ 0) }
+    ensures status { IfErr result (λ no. ((1 ≤ no.status) × (no.status ≤ 9)) ⊎ (no.status ≡ 43)) }
 {
     let (set, rule) = certified(alloc, given, p, q)?;
-    let Ok(rows) = LatestRows::new(alloc) else {
-        return Err(OUT_OF_MEMORY);
-    };
-    let Ok(core) = Core::with_recorder(alloc, set, rule, 1 << 62, rows) else {
-        return Err(OUT_OF_MEMORY);
-    };
-    match Box::new(alloc, Held::Endless(core)) {
-        Ok(held) => Ok(held),
-        Err(_) => Err(OUT_OF_MEMORY),
-    }
+    without_end(alloc, set, rule)
 }
 
 // The set of the tasks, and the rule that holds for it: that of the published test where p is 0, and otherwise that of the
 // scale.
 fn certified(alloc: Global, given: &[CTask], p: u64, q: u64) -> Result<(TaskSet, Rule), NoSet>
-    ensures tasks { IfOk result (λ found. AreOf given.now found.0.tasks) }
+    ensures tasks { IfOk result (λ found. AreInRange given.now found.0.tasks) }
     ensures rule { IfOk result (λ found. IsCertified p q found.0.tasks found.1) }
     ensures fits { IfOk result (λ found. Fits found.1) }
     ensures holds { IfOk result (λ found. Holds found.0.tasks found.1) }
     ensures scale { IfOk result (λ found. is_no_scale p q ≡ false) }
+    ensures few { IfOk result (λ found. length given.now ≤ 128) }
     ensures argument { IfErr result (λ no. (no.status ≡ 43) ↔ (is_no_scale p q ≡ true)) }
+    ensures many { IfErr result (λ no. is_no_scale p q ≡ false → 128 < length given.now → (no.status ≡ 2) × (no.task ≡ 0)) }
+    ensures refused { IfErr result (λ no. length given.now ≤ 128 → no.status ≢ 8 → no.status ≢ 9 → no.status ≢ 43 → IsRefused given.now no.status no.task) }
     ensures not_admitted { IfErr result (λ no. no.status ≡ 8 → AreUncertified given.now p q) }
-    ensures status { IfErr result (λ no. no.status ≢ 0) }
+    ensures task { IfErr result (λ no. 8 ≤ no.status → no.task ≡ 0) }
+    ensures status { IfErr result (λ no. ((1 ≤ no.status) × (no.status ≤ 9)) ⊎ (no.status ≡ 43)) }
 {
     if q < p || q > 1 << 60 || (p == 0 && q != 0) {
         return Err(NoSet {
@@ -154,16 +155,7 @@ fn certified(alloc: Global, given: &[CTask], p: u64, q: u64) -> Result<(TaskSet,
             task: 0,
         });
     }
-    let set = set_of(alloc, given)?;
-    let loads = match sum_loads(&set) {
-        Ok(loads) => loads,
-        Err(LoadFault::Range { task }) => {
-            return Err(NoSet {
-                status: status::PERIODS,
-                task: task.0,
-            });
-        }
-    };
+    let SetAndLoads { set, loads } = set_and_loads(alloc, given)?;
     let found = if p == 0 {
         admit(&loads)
     } else if holds_for(&loads, p, q) {

@@ -41,6 +41,7 @@ pub extern "C" fn edfvd_raw_demand(
     ensures many { 128 < length given.now → (result ≡ 2) × (tested.new ≡ spec.refused_at 0) }
     ensures refused { length given.now ≤ 128 → result ≢ 0 → result ≢ 9 → spec.IsRefused given.now result tested.new.task }
     ensures zeros { result ≢ 0 → tested.new ≡ spec.refused_at tested.new.task }
+    ensures memory { result ≡ 9 → tested.new.task ≡ 0 }
 {
     match test_demand(alloc, given) {
         Ok(found) => {
@@ -65,6 +66,7 @@ fn test_demand(alloc: Global, given: &[CDemandTask]) -> Result<CDemandTest, NoSe
     ensures many { IfErr result (λ no. 128 < length given.now → (no.status ≡ 2) × (no.task ≡ 0)) }
     ensures refused { IfErr result (λ no. length given.now ≤ 128 → no.status ≢ 9 → spec.IsRefused given.now no.status no.task) }
     ensures status { IfErr result (λ no. no.status ≢ 0) }
+    ensures memory { IfErr result (λ no. no.status ≡ 9 → no.task ≡ 0) }
 {
     if given.len() > 128 {
         return Err(NoSet {
@@ -103,6 +105,7 @@ fn demand_set_of(alloc: Global, given: &[CDemandTask]) -> Result<DemandSet, NoSe
     ensures tasks { IfOk result (λ set. spec.AreOf given.now set) }
     ensures refused { IfErr result (λ no. no.status ≢ 9 → spec.IsRefused given.now no.status no.task) }
     ensures status { IfErr result (λ no. no.status ≢ 0) }
+    ensures memory { IfErr result (λ no. no.status ≡ 9 → no.task ≡ 0) }
 {
     let mut tasks = Vec::new(alloc);
     for place in 0..given.len() {
@@ -141,6 +144,7 @@ fn demand_of(given: CDemandTask, number: u32) -> Demand
 fn status_of(cause: DemandCause) -> u32
     ensures value { result ≡ spec.status_of cause }
     ensures fault { result ≢ 0 }
+    ensures enough { result ≢ 9 }
 {
     match cause {
         DemandCause::Empty => status::EMPTY,

@@ -7,7 +7,8 @@ ghost use Rattle.edfvd_c.specs.Runs as runs;
 use crate::status;
 use mc_model::How;
 use mc_task::{JobId, TaskNo};
-use mode_core::{Core, GrantFault, Granted, IdleFault, NotOut, ReleaseFault, Released, RunFault};
+use mode_core::{GrantFault, Granted, IdleFault, NotOut, ReleaseFault, Released, RunFault};
+use restart::Restartable;
 use row_history::Recorder;
 
 /// What came of an event, the job and its numbers; each is 0 where there is none.
@@ -48,14 +49,14 @@ const OVER: u32 = 8;
 const IDLE: u32 = 9;
 
 /// A release of the task of this number.
-pub fn release<R: Recorder>(core: &mut Core<R>, task: u32) -> (u32, CAnswer)
-    ensures exact { result ≡ spec.release_returns core.old task }
-    ensures state { core.new ≡ spec.release_after core.old task }
+pub fn release<R: Recorder>(scheduler: &mut Restartable<R>, task: u32) -> (u32, CAnswer)
+    ensures exact { result ≡ spec.release_returns scheduler.old task }
+    ensures state { scheduler.new ≡ spec.release_after scheduler.old task }
 {
-    if core.set().get(TaskNo(task)).is_none() {
+    if scheduler.core().set().get(TaskNo(task)).is_none() {
         return (status::NO_TASK, NOTHING);
     }
-    match core.release(TaskNo(task)) {
+    match scheduler.release(TaskNo(task)) {
         Ok(released) => (status::OK, of_released(released)),
         Err(ReleaseFault::Running { job }) => (status::RUNNING, of_job(0, job, 0, 0)),
         Err(ReleaseFault::TooSoon { next }) => (status::TOO_SOON, at_tick(0, next)),
@@ -74,14 +75,14 @@ fn of_released(released: Released) -> CAnswer
 }
 
 /// A grant to the task of this number.
-pub fn grant<R: Recorder>(core: &mut Core<R>, task: u32) -> (u32, CAnswer)
-    ensures exact { result ≡ spec.grant_returns core.old task }
-    ensures state { core.new ≡ spec.grant_after core.old task }
+pub fn grant<R: Recorder>(scheduler: &mut Restartable<R>, task: u32) -> (u32, CAnswer)
+    ensures exact { result ≡ spec.grant_returns scheduler.old.core task }
+    ensures state { scheduler.new ≡ spec.with_core scheduler.old (spec.grant_after scheduler.old.core task) }
 {
-    if core.set().get(TaskNo(task)).is_none() {
+    if scheduler.core().set().get(TaskNo(task)).is_none() {
         return (status::NO_TASK, NOTHING);
     }
-    match core.grant(TaskNo(task)) {
+    match scheduler.grant(TaskNo(task)) {
         Ok(Granted { job, at, before }) => (status::OK, of_job(GIVEN, job, before, at)),
         Err(GrantFault::TickOut { job }) => (status::TICK_OUT, of_job(0, job, 0, 0)),
         Err(GrantFault::NotChosen { chosen }) => (status::NOT_CHOSEN, of_some(chosen)),
@@ -90,26 +91,31 @@ pub fn grant<R: Recorder>(core: &mut Core<R>, task: u32) -> (u32, CAnswer)
 }
 
 /// The outcome of the tick of this job.
-pub fn outcome<R: Recorder>(core: &mut Core<R>, task: u32, count: u32, done: bool) -> (u32, CAnswer)
-    ensures exact { result ≡ spec.outcome_returns core.old task count done }
-    ensures state { core.new ≡ spec.outcome_after core.old task count done }
+pub fn outcome<R: Recorder>(
+    scheduler: &mut Restartable<R>,
+    task: u32,
+    count: u32,
+    done: bool,
+) -> (u32, CAnswer)
+    ensures exact { result ≡ spec.outcome_returns scheduler.old.core task count done }
+    ensures state { scheduler.new ≡ spec.with_core scheduler.old (spec.outcome_after scheduler.old.core task count done) }
 {
     let job = JobId {
         task: TaskNo(task),
         count,
     };
-    match core.outcome(job, done) {
+    match scheduler.outcome(job, done) {
         Ok(how) => (status::OK, of_job(how_number(how), job, 0, 0)),
         Err(NotOut { out, .. }) => (status::NOT_OUT, of_some(out)),
     }
 }
 
 /// An idle tick.
-pub fn idle<R: Recorder>(core: &mut Core<R>) -> (u32, CAnswer)
-    ensures exact { result ≡ spec.idle_returns core.old }
-    ensures state { core.new ≡ after_idle core.old }
+pub fn idle<R: Recorder>(scheduler: &mut Restartable<R>) -> (u32, CAnswer)
+    ensures exact { result ≡ spec.idle_returns scheduler.old.core }
+    ensures state { scheduler.new ≡ spec.with_core scheduler.old (after_idle scheduler.old.core) }
 {
-    match core.idle() {
+    match scheduler.idle() {
         Ok(at) => (status::OK, at_tick(IDLE, at)),
         Err(IdleFault::TickOut { job }) => (status::TICK_OUT, of_job(0, job, 0, 0)),
         Err(IdleFault::Pending { job }) => (status::PENDING, of_job(0, job, 0, 0)),
@@ -119,14 +125,14 @@ pub fn idle<R: Recorder>(core: &mut Core<R>) -> (u32, CAnswer)
 
 /// A run of this many ticks of this job.
 pub fn run<R: Recorder>(
-    core: &mut Core<R>,
+    scheduler: &mut Restartable<R>,
     task: u32,
     count: u32,
     ticks: u32,
     done: bool,
 ) -> (u32, CAnswer)
-    ensures exact { result ≡ runs.run_returns core.old task count ticks done }
-    ensures state { core.new ≡ runs.run_after core.old task count ticks done }
+    ensures exact { result ≡ runs.run_returns scheduler.old.core task count ticks done }
+    ensures state { scheduler.new ≡ spec.with_core scheduler.old (runs.run_after scheduler.old.core task count ticks done) }
 {
     if ticks == 0 {
         return (status::ARGUMENT, NOTHING);
@@ -135,7 +141,7 @@ pub fn run<R: Recorder>(
         task: TaskNo(task),
         count,
     };
-    match core.run(job, ticks, done) {
+    match scheduler.run(job, ticks, done) {
         Ok(how) => (status::OK, of_job(how_number(how), job, 0, 0)),
         Err(RunFault::TickOut { job }) => (status::TICK_OUT, of_job(0, job, 0, 0)),
         Err(RunFault::NotChosen { chosen }) => (status::NOT_CHOSEN, of_some(chosen)),
@@ -145,14 +151,14 @@ pub fn run<R: Recorder>(
 }
 
 /// This many idle ticks.
-pub fn idle_for<R: Recorder>(core: &mut Core<R>, ticks: u64) -> (u32, CAnswer)
-    ensures exact { result ≡ runs.idle_for_returns core.old ticks }
-    ensures state { core.new ≡ runs.idle_for_after core.old ticks }
+pub fn idle_for<R: Recorder>(scheduler: &mut Restartable<R>, ticks: u64) -> (u32, CAnswer)
+    ensures exact { result ≡ runs.idle_for_returns scheduler.old.core ticks }
+    ensures state { scheduler.new ≡ spec.with_core scheduler.old (runs.idle_for_after scheduler.old.core ticks) }
 {
     if ticks == 0 {
         return (status::ARGUMENT, NOTHING);
     }
-    match core.idle_for(ticks as usize) {
+    match scheduler.idle_for(ticks as usize) {
         Ok(at) => (status::OK, at_tick(IDLE, at)),
         Err(IdleFault::TickOut { job }) => (status::TICK_OUT, of_job(0, job, 0, 0)),
         Err(IdleFault::Pending { job }) => (status::PENDING, of_job(0, job, 0, 0)),
@@ -171,7 +177,7 @@ pub fn how_number(how: How) -> u32
     }
 }
 
-fn of_job(what: u32, job: JobId, before: u32, at: u64) -> CAnswer
+pub fn of_job(what: u32, job: JobId, before: u32, at: u64) -> CAnswer
     ensures { result ≡ spec.of_job what job before at }
 {
     CAnswer {

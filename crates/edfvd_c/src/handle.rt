@@ -1,4 +1,5 @@
 //! What a caller in C keeps of a scheduler or a monitor.
+ghost use Rattle.std.specs.Borrow.{sem};
 ghost use Rattle.std.specs.Prelude.{◌≡◌, Some, None, IfSome, IfNone, is_some};
 ghost use Rattle.edfvd_c.specs.Handle.{IsMarked};
 
@@ -20,11 +21,26 @@ pub struct Handle {
 }
 
 impl Handle {
+    ghost use Rattle.edfvd_c.specs.Lending.{HandleLends};
+
     /// Whether it holds a scheduler or a monitor.
     pub fn is_open(&self) -> bool
         ensures { result ≡ is_some self.now.block.held }
     {
         self.mark == OPEN_MARK
+    }
+
+    /// Lends what it holds.
+    pub fn held(&mut self) -> Option<&mut Held>
+        ensures* writes_back { sem 𝓛 (HandleLends self.entry result) }
+        ensures some { IfSome result (λ held. self.old.block.held ≡ Some held.now) }
+        ensures none { IfNone result (self.old.block.held ≡ None) }
+    {
+        if self.mark == OPEN_MARK {
+            Some(self.block.held_mut())
+        } else {
+            None
+        }
     }
 
     /// Takes out what it holds, and leaves none.

@@ -1,23 +1,23 @@
 //! What C keeps behind a pointer.
 use crate::latest::LatestRows;
-use mode_core::Core;
+use restart::Restartable;
 use trace_judge::Monitor;
 
 #[derive(Drop)]
 pub enum Held {
     /// A scheduler that keeps all its rows.
-    Core(Core),
+    Core(Restartable),
     /// A scheduler without an end, which keeps its latest rows.
-    Endless(Core<LatestRows>),
+    Endless(Restartable<LatestRows>),
     Monitor(Monitor),
 }
 
 /// What the call gives for the scheduler that is held, whichever rows it keeps, and `$other` if a monitor is held.
 macro_rules! on_scheduler {
-    ($held:expr, $core:ident => $call:expr, $other:expr) => {
+    ($held:expr, $scheduler:ident => $call:expr, $other:expr) => {
         match $held {
-            Held::Core($core) => $call,
-            Held::Endless($core) => $call,
+            Held::Core($scheduler) => $call,
+            Held::Endless($scheduler) => $call,
             Held::Monitor(_) => $other,
         }
     };

@@ -117,6 +117,7 @@ fn opened(alloc: Global, given: &[CTask], p: u64, q: u64) -> Result<Box<Held>, N
 #[unsafe(no_mangle)]
 pub extern "C" fn edfvd_raw_monitor_close(alloc: Global, monitor: &mut Handle) -> u32
     ensures closed { monitor_of monitor.new.block.held ≡ None }
+    ensures emptied { IsSome (monitor_of monitor.old.block.held) → monitor.new.block.held ≡ None }
     ensures other { monitor_of monitor.old.block.held ≡ None → monitor.new.block.held ≡ monitor.old.block.held }
     ensures status { MatchOption (monitor_of monitor.old.block.held) (result ≡ 12) (λ w. result ≡ 0) }
 {
@@ -143,15 +144,14 @@ pub extern "C" fn edfvd_raw_monitor_observe(
     ensures other { monitor_of monitor.old.block.held ≡ None → monitor.new.block.held ≡ monitor.old.block.held }
 {
     *unfit = unfit_row(None);
-    let Some(mut held) = monitor.take(alloc) else {
+    let Some(held) = monitor.held() else {
         return status::CLOSED;
     };
-    let (ended, found) = match &mut *held {
+    let (ended, found) = match held {
         Held::Monitor(watching) => observed(alloc, watching, *row, length),
         _ => (status::CLOSED, unfit_row(None)),
     };
     *unfit = found;
-    monitor.put(held);
     ended
 }
 
@@ -204,7 +204,6 @@ fn run_in(row: CRow, length: u32) -> Option<Run>
 /// Finds the first row that would not fit if this many of the row came next. The monitor does not take them.
 #[unsafe(no_mangle)]
 pub extern "C" fn edfvd_raw_monitor_would_fit(
-    alloc: Global,
     monitor: &mut Handle,
     row: &CRow,
     length: u32,
@@ -214,7 +213,7 @@ pub extern "C" fn edfvd_raw_monitor_would_fit(
     ensures found { MatchOption (monitor_of monitor.old.block.held) ((result ≡ 12) × (unfit.new ≡ spec.unfit_row None)) (λ w. spec.WouldFind row.now length w result unfit.new) }
 {
     *unfit = unfit_row(None);
-    let Some(held) = monitor.take(alloc) else {
+    let Some(held) = monitor.held() else {
         return status::CLOSED;
     };
     let (ended, found) = match &*held {
@@ -222,7 +221,6 @@ pub extern "C" fn edfvd_raw_monitor_would_fit(
         _ => (status::CLOSED, unfit_row(None)),
     };
     *unfit = found;
-    monitor.put(held);
     ended
 }
 
@@ -252,15 +250,14 @@ pub extern "C" fn edfvd_raw_monitor_late(
     ensures stored { MatchOption (monitor_of monitor.old.block.held) ((result ≡ 12) × (many.new ≡ 0) × (jobs.new ≡ jobs.old)) (λ w. spec.StoresLate w since result many.new jobs.old jobs.new) }
 {
     *many = 0;
-    let Some(mut held) = monitor.take(alloc) else {
+    let Some(held) = monitor.held() else {
         return status::CLOSED;
     };
-    let (ended, number) = match &mut *held {
+    let (ended, number) = match held {
         Held::Monitor(watching) => store_late(alloc, watching, since, jobs),
         _ => (status::CLOSED, 0),
     };
     *many = number;
-    monitor.put(held);
     ended
 }
 
@@ -293,16 +290,12 @@ fn late_job(turned: Turned) -> CLate
 
 /// Stores the verdict on all rows that the monitor has seen.
 #[unsafe(no_mangle)]
-pub extern "C" fn edfvd_raw_monitor_verdict(
-    alloc: Global,
-    monitor: &mut Handle,
-    judged: &mut CVerdict,
-) -> u32
+pub extern "C" fn edfvd_raw_monitor_verdict(monitor: &mut Handle, judged: &mut CVerdict) -> u32
     ensures same { monitor.new.block.held ≡ monitor.old.block.held }
     ensures verdict { MatchOption (monitor_of monitor.old.block.held) ((result ≡ 12) × (judged.new ≡ spec.no_verdict)) (λ w. (result ≡ 0) × spec.IsVerdict w judged.new) }
 {
     *judged = UNJUDGED;
-    let Some(held) = monitor.take(alloc) else {
+    let Some(held) = monitor.held() else {
         return status::CLOSED;
     };
     let (ended, found) = match &*held {
@@ -310,22 +303,17 @@ pub extern "C" fn edfvd_raw_monitor_verdict(
         _ => (status::CLOSED, UNJUDGED),
     };
     *judged = found;
-    monitor.put(held);
     ended
 }
 
 /// Stores the monitor's clock, mode and counts.
 #[unsafe(no_mangle)]
-pub extern "C" fn edfvd_raw_monitor_look(
-    alloc: Global,
-    monitor: &mut Handle,
-    watch: &mut CWatch,
-) -> u32
+pub extern "C" fn edfvd_raw_monitor_look(monitor: &mut Handle, watch: &mut CWatch) -> u32
     ensures same { monitor.new.block.held ≡ monitor.old.block.held }
     ensures watch { MatchOption (monitor_of monitor.old.block.held) ((result ≡ 12) × (watch.new ≡ spec.no_watch)) (λ w. (result ≡ 0) × spec.IsWatch w watch.new) }
 {
     *watch = NO_WATCH;
-    let Some(held) = monitor.take(alloc) else {
+    let Some(held) = monitor.held() else {
         return status::CLOSED;
     };
     let (ended, found) = match &*held {
@@ -333,7 +321,6 @@ pub extern "C" fn edfvd_raw_monitor_look(
         _ => (status::CLOSED, NO_WATCH),
     };
     *watch = found;
-    monitor.put(held);
     ended
 }
 

@@ -1,6 +1,7 @@
 //! Runs of ticks in one call, and what a caller would otherwise keep tables of.
 ghost use Rattle.std.specs.Prelude.{◌≡◌, Some, None};
-ghost use Rattle.edfvd_c.specs.Handle.{core_of, is_endless, Does, Reads};
+ghost use Rattle.edfvd_c.specs.Handle.{scheduler_of, core_of, is_endless, Does, Reads};
+ghost use Rattle.edfvd_c.specs.Event.{with_core};
 ghost use Rattle.edfvd_c.specs.Runs as spec;
 
 use crate::event::{self, CAnswer, NOTHING};
@@ -10,8 +11,8 @@ use crate::look::count_number;
 use crate::status;
 use mc_task::{Rule, TaskNo};
 use mode_core::{Boundary, Core, PendingJob};
+use restart::Restartable;
 use row_history::Recorder;
-use std::alloc::Global;
 
 /// The chosen job, and how many ticks it may run in one go. All is 0 if no job is pending.
 #[repr(C)]
@@ -69,7 +70,6 @@ const NO_SCALE: CScale = CScale { p: 0, q: 0 };
 /// for a run past the job's boundary, with the number of ticks up to it, and 43 for no tick.
 #[unsafe(no_mangle)]
 pub extern "C" fn edfvd_raw_scheduler_run(
-    alloc: Global,
     scheduler: &mut Handle,
     task: u32,
     count: u32,
@@ -77,69 +77,59 @@ pub extern "C" fn edfvd_raw_scheduler_run(
     done: bool,
     answer: &mut CAnswer,
 ) -> u32
-    ensures does { Does (core_of scheduler.old.block.held) (core_of scheduler.new.block.held) result answer.new (λ s. spec.run_returns s task count ticks done) (λ s. spec.run_after s task count ticks done) }
+    ensures does { Does (scheduler_of scheduler.old.block.held) (scheduler_of scheduler.new.block.held) result answer.new (λ s. spec.run_returns s.core task count ticks done) (λ s. with_core s (spec.run_after s.core task count ticks done)) }
     ensures kind { is_endless scheduler.new.block.held ≡ is_endless scheduler.old.block.held }
     ensures other { core_of scheduler.old.block.held ≡ None → scheduler.new.block.held ≡ scheduler.old.block.held }
 {
-    *answer = NOTHING;
-    let Some(mut held) = scheduler.take(alloc) else {
+    let Some(held) = scheduler.held() else {
+        *answer = NOTHING;
         return status::CLOSED;
     };
     let (ended, found) =
-        on_scheduler!(&mut *held, core => event::run(core, task, count, ticks, done), NO_SCHEDULER);
+        on_scheduler!(held, open => event::run(open, task, count, ticks, done), NO_SCHEDULER);
     *answer = found;
-    scheduler.put(held);
     ended
 }
 
 /// Reports that the next ticks, this many, are idle, which they may be only if no job is pending. Status 43 for no tick.
 #[unsafe(no_mangle)]
 pub extern "C" fn edfvd_raw_scheduler_idle_for(
-    alloc: Global,
     scheduler: &mut Handle,
     ticks: u64,
     answer: &mut CAnswer,
 ) -> u32
-    ensures does { Does (core_of scheduler.old.block.held) (core_of scheduler.new.block.held) result answer.new (λ s. spec.idle_for_returns s ticks) (λ s. spec.idle_for_after s ticks) }
+    ensures does { Does (scheduler_of scheduler.old.block.held) (scheduler_of scheduler.new.block.held) result answer.new (λ s. spec.idle_for_returns s.core ticks) (λ s. with_core s (spec.idle_for_after s.core ticks)) }
     ensures kind { is_endless scheduler.new.block.held ≡ is_endless scheduler.old.block.held }
     ensures other { core_of scheduler.old.block.held ≡ None → scheduler.new.block.held ≡ scheduler.old.block.held }
 {
-    *answer = NOTHING;
-    let Some(mut held) = scheduler.take(alloc) else {
+    let Some(held) = scheduler.held() else {
+        *answer = NOTHING;
         return status::CLOSED;
     };
-    let (ended, found) =
-        on_scheduler!(&mut *held, core => event::idle_for(core, ticks), NO_SCHEDULER);
+    let (ended, found) = on_scheduler!(held, open => event::idle_for(open, ticks), NO_SCHEDULER);
     *answer = found;
-    scheduler.put(held);
     ended
 }
 
 /// Stores the chosen job, and how many ticks it may run in one go.
 #[unsafe(no_mangle)]
-pub extern "C" fn edfvd_raw_scheduler_next(
-    alloc: Global,
-    scheduler: &mut Handle,
-    next: &mut CNext,
-) -> u32
+pub extern "C" fn edfvd_raw_scheduler_next(scheduler: &mut Handle, next: &mut CNext) -> u32
     ensures same { scheduler.new.block.held ≡ scheduler.old.block.held }
     ensures reads { Reads (core_of scheduler.old.block.held) result next.new (spec.next_numbers None) spec.next_returns }
 {
     *next = NO_NEXT;
-    let Some(held) = scheduler.take(alloc) else {
+    let Some(held) = scheduler.held() else {
         return status::CLOSED;
     };
     let (ended, found) =
-        on_scheduler!(&*held, core => (status::OK, next_numbers(core.boundary())), (status::CLOSED, NO_NEXT));
+        on_scheduler!(&*held, open => (status::OK, next_numbers(open.core().boundary())), (status::CLOSED, NO_NEXT));
     *next = found;
-    scheduler.put(held);
     ended
 }
 
 /// Stores the task's pending job.
 #[unsafe(no_mangle)]
 pub extern "C" fn edfvd_raw_scheduler_pending(
-    alloc: Global,
     scheduler: &mut Handle,
     task: u32,
     pending: &mut CPending,
@@ -148,42 +138,38 @@ pub extern "C" fn edfvd_raw_scheduler_pending(
     ensures reads { Reads (core_of scheduler.old.block.held) result pending.new (spec.pending_numbers None) (λ s. spec.pending_returns s task) }
 {
     *pending = NO_PENDING;
-    let Some(held) = scheduler.take(alloc) else {
+    let Some(held) = scheduler.held() else {
         return status::CLOSED;
     };
     let (ended, found) =
-        on_scheduler!(&*held, core => pending_in(core, task), (status::CLOSED, NO_PENDING));
+        on_scheduler!(&*held, open => pending_in(open.core(), task), (status::CLOSED, NO_PENDING));
     *pending = found;
-    scheduler.put(held);
     ended
 }
 
 /// Stores the earliest next release of the task: the first tick at which it is not too soon.
 #[unsafe(no_mangle)]
 pub extern "C" fn edfvd_raw_scheduler_earliest(
-    alloc: Global,
     scheduler: &mut Handle,
     task: u32,
     at: &mut u64,
 ) -> u32
     ensures same { scheduler.new.block.held ≡ scheduler.old.block.held }
-    ensures reads { Reads (core_of scheduler.old.block.held) result at.new 0 (λ s. spec.earliest_returns s task) }
+    ensures reads { Reads (scheduler_of scheduler.old.block.held) result at.new 0 (λ s. spec.earliest_returns s task) }
 {
     *at = 0;
-    let Some(held) = scheduler.take(alloc) else {
+    let Some(held) = scheduler.held() else {
         return status::CLOSED;
     };
     let (ended, found) =
-        on_scheduler!(&*held, core => earliest_in(core, task), (status::CLOSED, 0));
+        on_scheduler!(&*held, open => earliest_in(open, task), (status::CLOSED, 0));
     *at = found;
-    scheduler.put(held);
     ended
 }
 
 /// Stores the count of the task's job that the latest overrun discarded, or 0 if it discarded none of the task.
 #[unsafe(no_mangle)]
 pub extern "C" fn edfvd_raw_scheduler_discarded(
-    alloc: Global,
     scheduler: &mut Handle,
     task: u32,
     count: &mut u32,
@@ -192,34 +178,28 @@ pub extern "C" fn edfvd_raw_scheduler_discarded(
     ensures reads { Reads (core_of scheduler.old.block.held) result count.new 0 (λ s. spec.discarded_returns s task) }
 {
     *count = 0;
-    let Some(held) = scheduler.take(alloc) else {
+    let Some(held) = scheduler.held() else {
         return status::CLOSED;
     };
     let (ended, found) =
-        on_scheduler!(&*held, core => discarded_in(core, task), (status::CLOSED, 0));
+        on_scheduler!(&*held, open => discarded_in(open.core(), task), (status::CLOSED, 0));
     *count = found;
-    scheduler.put(held);
     ended
 }
 
 /// Stores the scale in force.
 #[unsafe(no_mangle)]
-pub extern "C" fn edfvd_raw_scheduler_scale(
-    alloc: Global,
-    scheduler: &mut Handle,
-    scale: &mut CScale,
-) -> u32
+pub extern "C" fn edfvd_raw_scheduler_scale(scheduler: &mut Handle, scale: &mut CScale) -> u32
     ensures same { scheduler.new.block.held ≡ scheduler.old.block.held }
     ensures reads { Reads (core_of scheduler.old.block.held) result scale.new (record { p = 0; q = 0 }) spec.scale_returns }
 {
     *scale = NO_SCALE;
-    let Some(held) = scheduler.take(alloc) else {
+    let Some(held) = scheduler.held() else {
         return status::CLOSED;
     };
     let (ended, found) =
-        on_scheduler!(&*held, core => (status::OK, scale_numbers(core.rule())), (status::CLOSED, NO_SCALE));
+        on_scheduler!(&*held, open => (status::OK, scale_numbers(open.core().rule())), (status::CLOSED, NO_SCALE));
     *scale = found;
-    scheduler.put(held);
     ended
 }
 
@@ -262,13 +242,13 @@ fn pending_numbers(pending: Option<PendingJob>) -> CPending
     }
 }
 
-fn earliest_in<R: Recorder>(core: &Core<R>, task: u32) -> (u32, u64)
-    ensures { result ≡ spec.earliest_returns core.now task }
+fn earliest_in<R: Recorder>(scheduler: &Restartable<R>, task: u32) -> (u32, u64)
+    ensures { result ≡ spec.earliest_returns scheduler.now task }
 {
-    if core.set().get(TaskNo(task)).is_none() {
+    if scheduler.core().set().get(TaskNo(task)).is_none() {
         return (status::NO_TASK, 0);
     }
-    (status::OK, core.next_allowed(TaskNo(task)))
+    (status::OK, scheduler.earliest(TaskNo(task)))
 }
 
 fn discarded_in<R: Recorder>(core: &Core<R>, task: u32) -> (u32, u32)

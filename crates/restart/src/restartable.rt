@@ -1,9 +1,10 @@
 //! A core, and what is kept of the time before its counts began.
-ghost use Rattle.std.specs.Prelude.{◌≡◌, ◌⊎◌, ◌-◌, ◌≤◌, [], ℕ, length, max, slice_index_or, Some, None, IfOk, OnOk, OnErr, IfErr};
+ghost use Rattle.std.specs.Prelude.{◌≡◌, ◌⊎◌, ◌-◌, ◌≤◌, ◌<◌, [], ℕ, length, max, slice_index_or, Some, None, IfOk, IfSome, OnOk, OnErr, IfErr};
 ghost use Rattle.mc_task.specs.TaskSet.{IsIn};
+ghost use Rattle.mc_model.specs.Core.{begun};
 ghost use Rattle.mode_core.specs.Events as event;
 ghost use Rattle.mode_core.specs.Runs.{run_answer, after_run, idles_answer, after_idle_for};
-ghost use Rattle.restart.specs.Restarted.{opened, earliest, early, kept_from_now, release_answer, after_release, restart_refusal, IsRestarted};
+ghost use Rattle.restart.specs.Restarted.{opened, earliest, early, kept_for, kept_from_now, release_answer, after_release, restart_refusal, IsRestarted};
 
 use mc_model::{How, Row};
 use mc_task::{JobId, Memory, TaskNo};
@@ -80,11 +81,16 @@ impl<R: Recorder> Restartable<R> {
         }
     }
 
-    // Why the task may not be released, whatever the capacity.
+    // Why the task may not be released before the boundary that is kept for it, whatever the capacity. From that boundary on
+    // the core knows.
     fn early(&self, task: TaskNo) -> Option<ReleaseFault>
         requires { IsIn self.now.core.set task.0 }
-        ensures { result ≡ early self.now task.0 }
+        ensures before { begun self.now.core < kept_for self.now task.0 → result ≡ early self.now task.0 }
+        ensures after { kept_for self.now task.0 ≤ begun self.now.core → result ≡ None }
     {
+        if self.core.ticks_begun() >= self.kept[task.0 as usize - 1] {
+            return None;
+        }
         if let Some(job) = self.core.out() {
             if job.task == task {
                 return Some(ReleaseFault::Running { job });
@@ -143,13 +149,15 @@ impl<R: Recorder> Restartable<R> {
     /// Starts the counts of ticks, rows and jobs anew, in low mode, with this recorder, which has taken no rows. Each task's
     /// earliest next release is kept.
     ///
-    /// It is refused exactly if a tick is granted or a job is pending, or if memory runs out. A refusal changes nothing.
+    /// It is refused exactly if a tick is granted or a job is pending, or if memory runs out. A refusal changes nothing,
+    /// and drops the recorder.
     pub fn restart(&mut self, alloc: Global, recorder: R) -> Result<(), RestartFault>
         requires fresh { R.rows recorder ≡ [] }
         requires room { self.old.core.places ≤ R.capacity recorder }
         requires recorder { R.is_for recorder self.old.core.set self.old.core.rule }
         ensures restarted { OnOk result (IsRestarted self.old self.new) }
         ensures allowed { OnOk result (restart_refusal self.old.core ≡ None) }
+        ensures refused { IfSome (restart_refusal self.old.core) (λ fault. result ≡ Err fault) }
         ensures cause { IfErr result (λ fault. (fault ≡ RestartFault.Memory) ⊎ (restart_refusal self.old.core ≡ Some fault)) }
         ensures same { OnErr result (self.new ≡ self.old) }
     {
@@ -164,8 +172,8 @@ impl<R: Recorder> Restartable<R> {
         Ok(())
     }
 
-    // Why the counts cannot start anew.
-    fn restart_fault(&self) -> Option<RestartFault>
+    /// Why the counts cannot start anew now, even if no allocation fails.
+    pub fn restart_fault(&self) -> Option<RestartFault>
         ensures { result ≡ restart_refusal self.now.core }
     {
         if let Some(job) = self.core.out() {

@@ -1,4 +1,4 @@
-use Rattle.std.proofs.Common.{◌≡◌, ◌∙◌, refl, sym, ap, arith, subst, Option, Ok}
+use Rattle.std.proofs.Common.{◌∙◌, refl, sym, ap, arith, subst, Option, Ok}
 use Rattle.mc_model.specs.declared.run.Run.{Run}
 use Rattle.edfvd_c.specs.Monitor as spec
 use Rattle.edfvd_c.proofs.Reasons.{reason_of}
@@ -22,4 +22,5 @@ returns-in-Ok c =
       );
       refused = λ e. absurd (e refl);
       reason = subst (λ (run : Option Run). spec.HasReason run c.args.monitor.now 0) (sym is) (reason_of c.in-Some.run' c.args.monitor.now (Ok c.in-Ok.unfit) c.in-Ok.ensures.unknown c.in-Ok.ensures.not_a_run c.in-Ok.ensures.full);
+      memory = λ e. absurd (omega (arith, e));
     }

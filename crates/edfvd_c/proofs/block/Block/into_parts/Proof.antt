@@ -1,5 +1,5 @@
 -- `into_parts` moves two fields, and what they own goes with them.
-use Rattle.std.specs.Prelude.{Bool, true, false, ◌≡◌, Option, Some, None, IsSome}
+use Rattle.std.specs.Prelude.{◌≡◌, Option, Some, IsSome}
 use mathlib.Core.Path.{refl, sym, subst}
 use mathlib.Core.List.{List, [], ◌∷◌, ◌++◌}
 use seplogic.Ra.Ura.{Ura}
@@ -25,20 +25,12 @@ use denote.Triple.Table.{entered}
 use denote.Triple.Walked.{says, Stays, stay_dropped, walk_of, ends_at, Goes-dropped, walk_Meets}
 use Rattle.std_alloc.proofs.BoxSteps.Form.{D, B, word, box_typed}
 use Rattle.std_alloc.proofs.BoxSteps.Steps.{box_out, box_in}
-use Rattle.edfvd_c.proofs.AsBox.{E, FromBlock as From}
+use Rattle.edfvd_c.proofs.AsBox.{E, FromBlock as From, found}
 use Rattle.edfvd_c.specs.contracts.block.Block as Block
 use Rattle.edfvd_c.specs.contracts.block.Block.into_parts as F
 use Rattle.edfvd_c.specs.contracts.block.Block.into_parts.Key.{name as #self}
 use Rattle.edfvd_c.proofs.block.Block.into_parts.Statement as stated
 use Rattle.edfvd_c.proofs.block.Block.into_parts.Code as code
-
-abbrev Apart : Bool → Type 0
-Apart false = Unit {0}
-Apart true = ⊥
-
-found : {A : Type 0} (c : Option A) → IsSome c → (x : A) × (c ≡ Some x)
-found (Some x) t = (x, refl)
-found None t = absurd (subst Apart t tt)
 
 abbrev stayed : Stays (F.ended).signature.params (F.ended).kept
 stayed = (stay_dropped From yes, tt)

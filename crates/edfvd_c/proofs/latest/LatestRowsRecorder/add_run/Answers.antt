@@ -1,33 +1,41 @@
-use Rattle.std.proofs.Common.{◌≡◌, ℕ, suc, ◌+◌, ◌≤◌, sym, vec_len, List, ◌∷◌, ◌++◌, length, replicate, refl, ap, ◌∙◌, subst, arith}
+use Rattle.std.proofs.Common.{◌≡◌, ℕ, suc, ◌-◌, true, false, List, ◌∷◌, ◌++◌, length, replicate, refl, sym, ap, ◌∙◌, subst, arith}
 use Rattle.std.specs.Prelude.{reverse}
-use Rattle.std.proofs.lemmas.List.{length-append, length-replicate}
+use Rattle.std.proofs.lemmas.List.{length-set}
 use Rattle.mc_model.specs.declared.row.Row.{Row}
-use Rattle.edfvd_c.specs.Slots.{IsInSlots}
-use Rattle.edfvd_c.proofs.Slots.{slots_filled}
+use Rattle.edfvd_c.specs.declared.latest.RunBegin.{RunBegin}
+use Rattle.edfvd_c.specs.Latest.{begins, is_again}
+use Rattle.edfvd_c.specs.Slots.{IsInSlots, IsNewest}
+use Rattle.edfvd_c.proofs.Slots.{slots_more}
+use Rattle.edfvd_c.proofs.RunBegins.{begins_again, begins_new, few_begins, newest_again}
 use Rattle.edfvd_c.proofs.latest.LatestRowsRecorder.add_run.Goals as goal
-
-pub loop-init : goal.loop-init
-loop-init c = refl
-
-pub add-requires : goal.add-requires
-add-requires c =
-    let old : List Row = c.args.self.now in
-    let i : ℕ = c.loop.counter in
-    record { room = omega (arith, c.loop-test.true, c.requires.room, ap length c.loop.invariant, length-append (replicate i c.args.row) old, length-replicate i c.args.row) }
-
-pub loop-preserved : goal.loop-preserved
-loop-preserved c =
-    let i : ℕ = c.loop.counter in
-    let more : suc i ≡ i + 1 = omega arith in
-    subst (λ (n : ℕ). c.add.new.self ≡ replicate n c.args.row ++ c.args.self.now) more (c.add.ensures.rows ∙ ap (λ (xs : List Row). c.args.row ∷ xs) c.loop.invariant)
 
 pub invariant_of-self : goal.invariant_of-self
 invariant_of-self c =
     let a = c.self.inside in
-    let many : vec_len a.slots ≡ 256 = omega (arith, a.slots.ok.0, c.self.invariant.slots) in
-    let items : c.fill.new.self.items ≡ replicate 256 c.args.row = c.fill.ensures.items (λ y e. e) ∙ ap (λ (n : ℕ). replicate n c.args.row) many in
-    let long : 256 ≤ c.args.times = omega (arith, c.if-times-lt-KEPT.false) in
+    let again : is_again c.args.row a.rows ≡ true = subst (λ (h : List Row). is_again c.args.row h ≡ true) (sym c.self.view_is) (sym c.is_again.ensures ∙ c.if-is_again.true) in
+    let same : begins c.add_run.new.self ≡ begins a.rows = ap begins c.add_run.ensures.rows ∙ begins_again c.args.times c.args.row a.rows again in
     record {
-      slots = ap length items ∙ length-replicate 256 c.args.row;
-      latest = subst (IsInSlots (reverse c.add_run.new.self)) (sym items) (slots_filled a.rows _ c.args.row c.args.times long c.add_run.ensures.rows);
+      newest = subst (λ (h : List Row). IsNewest a.newest h) (sym c.add_run.ensures.rows) (newest_again c.args.times c.args.row a.newest a.rows c.self.invariant.newest again);
+      slots = c.self.invariant.slots;
+      runs = c.self.invariant.runs ∙ sym (ap length same);
+      latest = subst (λ (bs : List RunBegin). IsInSlots (reverse bs) a.slots.items) (sym same) c.self.invariant.latest;
+    }
+
+pub overflow_add-self : goal.overflow_add-self
+overflow_add-self c = omega (arith, c.self.invariant.runs, few_begins c.self.inside.rows, ap length c.self.view_is, c.requires.room)
+
+pub invariant_of-self-2 : goal.invariant_of-self-2
+invariant_of-self-2 c =
+    let a = c.self.inside in
+    let first : RunBegin = record { row = c.args.row; number = c.count.result } in
+    let fresh : is_again c.args.row a.rows ≡ false = subst (λ (h : List Row). is_again c.args.row h ≡ false) (sym c.self.view_is) (sym c.is_again.ensures ∙ c.if-is_again.false) in
+    let some : c.args.times ≡ suc (c.args.times - 1) = omega (arith, c.if-times-eq0.false) in
+    let rows : c.add_run-2.new.self ≡ replicate (suc (c.args.times - 1)) c.args.row ++ a.rows = c.add_run-2.ensures.rows ∙ ap (λ (n : ℕ). replicate n c.args.row ++ a.rows) some in
+    let new : begins c.add_run-2.new.self ≡ first ∷ begins a.rows =
+    ap begins rows ∙ (begins_new (c.args.times - 1) c.args.row a.rows fresh ∙ ap (λ (n : ℕ). record { row = c.args.row; number = n } ∷ begins a.rows) (sym c.count.ensures)) in
+    record {
+      newest = subst (λ (h : List Row). IsNewest c.args.row h) (sym rows) refl;
+      slots = length-set a.slots.items _ first ∙ c.self.invariant.slots;
+      runs = omega (arith, c.self.invariant.runs, ap length new);
+      latest = slots_more (begins a.rows) (begins c.add_run-2.new.self) a.slots.items first a.runs c.self.invariant.slots c.self.invariant.latest new c.self.invariant.runs;
     }
