@@ -1,13 +1,13 @@
 //! A row as a line of a trace, in version 1.
 ghost use Rattle.std.specs.Prelude.{◌≡◌, ◌++◌, IfOk, OnOk, codes, decimal};
 ghost use Rattle.mc_task.specs.TaskSet.{task_at, name_in};
-ghost use Rattle.mc_model.specs.TraceText.{how_word, kept_word};
 ghost use Rattle.calling_examples.specs.Live.{fields, row_line};
 
 use itoa::Buffer;
-use mc_model::{How, Row};
+use mc_model::Row;
 use mc_task::{JobId, TaskSet};
 use std::alloc::{AllocError, Global};
+use trace_format::{how_word, kept_word};
 
 /// The line of a row after `tick` ticks, with its line feed.
 pub fn line_of(alloc: Global, set: &TaskSet, tick: u64, row: Row) -> Result<Vec<u8>, AllocError>
@@ -26,23 +26,6 @@ fn push_row(line: &mut Vec<u8>, set: &TaskSet, tick: u64, row: Row) -> Result<()
         Row::Release { job, kept } => push_job(line, "release", tick, set, job, kept_word(kept)),
         Row::Tick { job, how } => push_job(line, "tick", tick, set, job, how_word(how)),
         Row::Idle => push_fields(line, "idle", tick, b"", "", ""),
-    }
-}
-
-fn kept_word(kept: bool) -> &'static str
-    ensures { result.now ≡ kept_word kept }
-{
-    if kept { "kept" } else { "dropped" }
-}
-
-fn how_word(how: How) -> &'static str
-    ensures { result.now ≡ how_word how }
-{
-    match how {
-        How::More => "more",
-        How::Done => "done",
-        How::Stop => "stop",
-        How::Over => "over",
     }
 }
 

@@ -5,12 +5,12 @@ ghost use Rattle.timetable.specs.Floor.{is_planned};
 use crate::floors::{crowd, floor};
 use executive::QuietGate;
 use mc_model::Row;
-use mc_task::Rule;
+use mc_task::{Memory, Rule};
 use std::alloc::Global;
 use std::sync::Wait;
 use std::test::Fail;
 use std::thread::Threads;
-use task_threads::{Memory, run_threads};
+use task_threads::run_threads;
 use timetable::{Act, Floor};
 use worked_sets::{PLANS, WorkedPlan};
 
@@ -46,7 +46,7 @@ fn ends_as_worked<R: Threads + Wait + Sync>(
     Ok(ends_as(rt, alloc, floor, plan.rule, plan.rows))
 }
 
-// The first of these worked plans that does not end, in each of so many runs in threads, with the rows that were worked by
+// The first of these worked plans that does not end, in each of some runs in threads, with the rows that were worked by
 // hand.
 fn first_other<R: Threads + Wait + Sync>(
     rt: &R,

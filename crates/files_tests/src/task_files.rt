@@ -2,7 +2,7 @@
 use mc_task::{Level, Name, Scale, Task, TaskNo, TaskSet};
 use std::alloc::{AllocError, Global};
 use std::test::Fail;
-use task_file::{TaskFault, print_tasks, read_tasks};
+use task_file::{KeyText, TaskFault, print_tasks, read_tasks};
 
 const CONTROL: &str = "
 [[task]]
@@ -324,4 +324,24 @@ fn a_printed_set_of_128_tasks_is_read_back(rt: HostRuntime) -> Result<(), Fail> 
     assert!(rt; is_half(&set, 128));
     assert_eq!(rt; right_tasks(alloc, &set)?, 128);
     Ok(())
+}
+
+// Keys, and how a refusal shows them: the first 32 bytes, with a question mark for each that is no visible ASCII character.
+const KEYS: [(&str, &str); 5] = [
+    ("", ""),
+    ("prio", "prio"),
+    ("a b~!\n\u{7f}", "a?b~!??"),
+    ("\u{e9}", "??"),
+    (
+        "0123456789abcdef0123456789ABCDEFx",
+        "0123456789abcdef0123456789ABCDEF",
+    ),
+];
+
+#[test]
+fn a_key_is_shown_by_its_first_32_bytes(rt: HostRuntime) {
+    for (key, shown) in KEYS {
+        let text = KeyText::new(key.as_bytes());
+        assert_eq!(rt; text.bytes(), shown.as_bytes(), "{key}");
+    }
 }

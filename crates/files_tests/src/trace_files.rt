@@ -1,10 +1,10 @@
 //! Tests of traces as text.
-use mc_model::How::{Done, More, Over};
+use mc_model::How::{Done, More, Over, Stop};
 use mc_model::{Row, Run};
 use mc_task::TaskSet;
 use std::alloc::{AllocError, Global};
 use std::test::Fail;
-use trace_format::{TraceFault, merge, pack, read_trace, write_trace};
+use trace_format::{TraceFault, how_word, kept_word, merge, pack, read_trace, write_trace};
 use worked_sets::{CONTROL, OVERRUN_RUNS, kept, release, set_of, tick, ticks};
 
 const HEADER: &str = "event,tick,task,job,how\n";
@@ -370,4 +370,12 @@ fn a_text_of_many_runs_is_read_and_written(rt: HostRuntime) -> Result<(), Fail> 
     assert!(rt; are_many_read(rt.alloc())?);
     assert!(rt; are_many_written(rt.alloc())?);
     Ok(())
+}
+
+// The words of docs/FORMATS.md for a release that is kept or dropped, and for each way in which a tick ends.
+#[test]
+fn a_release_and_a_tick_have_the_words_of_the_format(rt: HostRuntime) {
+    assert_eq!(rt; (kept_word(true), kept_word(false)), ("kept", "dropped"));
+    assert_eq!(rt; (how_word(More), how_word(Done)), ("more", "done"));
+    assert_eq!(rt; (how_word(Stop), how_word(Over)), ("stop", "over"));
 }

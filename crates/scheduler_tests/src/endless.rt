@@ -224,6 +224,7 @@ fn is_full_after_two(core: &mut Core<RowCount>) -> bool {
 fn a_core_that_keeps_no_rows_is_full_at_its_capacity(rt: HostRuntime) -> Result<(), Fail> {
     let mut core = counting(rt.alloc(), 2)?;
     assert!(rt; is_full_after_two(&mut core));
+    assert_eq!(rt; core.into_recorder().count(), 2);
     Ok(())
 }
 

@@ -12,8 +12,7 @@ ghost use Rattle.set_gen.specs.Laws.{AreWithinThreeQuarters, IsTaken, GeneratedS
 use crate::jobs::jobs_of;
 use crate::tasks::{Drawn, draw};
 use crate::words::words_of;
-use admission::admit;
-use load_sum::sum_loads;
+use admission::test_set;
 use mc_model::WorkRow;
 use mc_task::{Memory, Rule, Task, TaskSet};
 use std::alloc::{AllocError, Global};
@@ -89,11 +88,8 @@ fn rule_of(set: &TaskSet) -> Rule
     ensures fits { Fits result }
     ensures holds { Holds set.now.tasks result }
 {
-    match sum_loads(set) {
-        Ok(loads) => match admit(&loads) {
-            Some(rule) => rule,
-            None => unreachable!(),
-        },
+    match test_set(set, None) {
+        Ok(tested) => tested.rule,
         Err(_) => unreachable!(),
     }
 }
