@@ -77,7 +77,7 @@ def run_program(command: str, words: Sequence[str]) -> int:
     ]
     try:
         status, text = ask([command, *"12"[:len(files)], *words[len(files):]], *contents)
-    except UnicodeEncodeError:  # a word that is no text
+    except ValueError:  # a word that is no text
         return _wrong(command)
     if status == _WRONG_WORDS:
         return _wrong(command)

@@ -9,19 +9,25 @@ from typing import Dict, Iterable, List, Optional
 from ._arrays import Rows, row_view
 from ._commands import counterexample
 from ._errors import Refused, Status
-from ._given import MOST_32, MOST_64, ROW_BYTES, Names, given_demands, given_row, given_rows, given_tasks, number, parts_of
+from ._given import (
+    A_SCALE_HELPS, MOST_32, MOST_64, ROW_BYTES, WHY_OF_DEMANDS, Names, given_demands, given_row, given_rows, given_tasks, number,
+    parts_of, row_fault,
+)
 from ._library import CDemandTest, CTest, CVerdict, library, u32
 from ._trace import Trace
 from ._values import Demand, DemandVerdict, Row, Rule, Task, Test, Verdict, Why
 
 
 _MOST_ROWS = 2_000_000
+_HINTS = {**A_SCALE_HELPS, Status.FULL: f": judge takes at most {_MOST_ROWS:,} rows, and a Monitor takes any number"}
 _RULES = (None, Rule.PLAIN, Rule.VIRTUAL)
 _fields_of_test = struct.Struct("2I9Q").unpack
 
 
 def check(tasks: Iterable[Task]) -> Test:
     """The published test of a set. If it does not admit the set, ``rule`` is None.
+
+    A set has at most 128 tasks, and the least common multiple of its periods is at most 2^60 ticks; another one is :class:`Refused`.
 
     >>> check([Task("a", "low", period=4, low=1), Task("b", "high", period=8, low=2, high=4)]).rule
     <Rule.PLAIN: 1>
@@ -119,9 +125,15 @@ def _packed(rows: Rows, names: Names) -> bytes:
 def judge(tasks: Iterable[Task], rows: Rows, scale: Optional[Fraction] = None) -> Verdict:
     """The verdict on a trace, the oldest row first.
 
-    The rule is that of the published test, or EDF-VD with ``scale``, above 0 and at most 1, whether or not the test holds. The rows
-    are ``Row`` objects, or an array of ``edfvd_row``, such as a structured array of numpy with the fields event, task (its number,
-    from 1) and count.
+    The rule is that of the published test, or EDF-VD with ``scale``, above 0 and at most 1, whether or not the test holds. So a set
+    that is not admitted needs a scale. docs/RULES.md in the repository states the rules that rows must follow, and docs/LABORATORY.md
+    has a simulator whose rows follow them; :class:`Why` lists what can be wrong. The rows are ``Row`` objects, or an array of
+    ``edfvd_row``, such as a structured array of numpy with the fields event, task (its number, from 1) and count, or a
+    :class:`Trace`: ``Trace([(row, n)])`` takes runs, which are a row and how many equal ticks it stands for. There are at most
+    2,000,000 rows, each tick of a run counted; a :class:`Monitor` takes any number.
+
+    Plain EDF has no levels. To judge its trace, also of a set that the test admits with a scale, declare each task ``"low"`` with its
+    greatest budget, and give the scale 1.
 
     >>> from edfvd import Event
     >>> control = [Task("ctl", "high", period=10, low=2, high=6), Task("log", "low", period=10, low=5)]
@@ -132,8 +144,16 @@ def judge(tasks: Iterable[Task], rows: Rows, scale: Optional[Fraction] = None) -
     trace, verdict = _packed(rows, names), CVerdict()
     status = library.judge(packed, len(names), trace, len(trace) // ROW_BYTES, *parts_of(scale), verdict)
     if status:
-        raise names.refused(status, verdict.task)
+        raise _refused_trace(names, status, verdict.task, trace)
     return verdict_of(names, verdict)
+
+
+def _refused_trace(names: Names, status: int, task: int, packed: bytes) -> Refused:
+    """The exception for a trace that the library refused to judge; if it is because of a row, the message names it."""
+    found = row_fault(status, packed, names)
+    if found is None:
+        return names.refused(status, task, more=_HINTS.get(Status(status), ""))
+    return Refused(Status(status), words=f"row {found[0] + 1}: {found[1]}")
 
 
 def demand(tasks: Iterable[Demand]) -> DemandVerdict:
@@ -146,7 +166,7 @@ def demand(tasks: Iterable[Demand]) -> DemandVerdict:
     test = CDemandTest()
     status = library.demand(packed, len(names), test)
     if status:
-        raise names.refused(status, test.task)
+        raise names.refused(status, test.task, why=WHY_OF_DEMANDS)
     if not test.past:
         return DemandVerdict(True, test.length, None, ())
     return DemandVerdict(False, test.length, test.demand, counterexample(packed, names))

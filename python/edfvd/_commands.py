@@ -15,7 +15,8 @@ from ._values import Event, Job, Row, Task
 def ask(words: Iterable[str], first: bytes = b"", second: bytes = b"") -> Tuple[int, bytes]:
     """What the program replies to the words: its exit status and its text.
 
-    The words name the two files ``1`` and ``2``, whose bytes are given; any other name is an empty file.
+    The words name the two files ``1`` and ``2``, whose bytes are given; any other name is an empty file. ``soak``, ``live`` and
+    ``runall`` start threads, and are refused with ``Status.THREADS``, whatever the files are.
 
     >>> ask(["check", "1"], b"task = [{name='a', level='low', period=4, low=2}]")[0]
     0

@@ -2,14 +2,14 @@
 
 from __future__ import annotations
 
-import enum
 from typing import Any, Dict, Optional, Tuple, Type
 
 from ._library import library
+from ._values import Named
 
 
-class Status(enum.IntEnum):
-    """Why the library refuses a call; the numbers are those of ``edfvd.h``."""
+class Status(Named):
+    """Why the library refuses a call; the numbers are those of ``edfvd.h``. ``str(Refused(status))`` says it in words."""
 
     EMPTY = 1
     TOO_MANY = 2
@@ -52,7 +52,8 @@ class Refused(EdfvdError):
     """The library refused a call.
 
     ``status`` says why, and ``task`` names the task that it is about, if any. If a release came too soon, ``at`` is the first
-    tick at which the task may release again; if a run was too long, ``at`` is how many ticks the job may run.
+    tick at which the task may release again; if a run was too long, ``at`` is how many ticks the job may run. The message is
+    ``words`` if they are given, and otherwise those of the status.
 
     >>> from edfvd import Task, check
     >>> try:
@@ -62,20 +63,21 @@ class Refused(EdfvdError):
     ZERO_NUMBER - task a: a period, deadline or budget is 0
     """
 
-    def __init__(self, status: Status, task: Optional[str] = None, at: int = 0) -> None:
+    def __init__(self, status: Status, task: Optional[str] = None, at: int = 0, words: Optional[str] = None) -> None:
         status = Status(status)
         self.status = status
         self.task = task
         self.at = at
-        word = library.word(status).decode()
+        word = library.word(status).decode() if words is None else words
         super().__init__(word if task is None else f"task {task}: {word}")
 
     def __repr__(self) -> str:
         return f"Refused(Status.{self.status.name}, task={self.task!r}, at={self.at})"
 
-    def __reduce__(self) -> Tuple[Type[Refused], Tuple[Status, Optional[str], int], Dict[str, Any]]:
+    def __reduce__(self) -> Tuple[Type[Refused], Tuple[Status, Optional[str], int, str], Dict[str, Any]]:
         """How the exception is copied and pickled, so that it comes back from another process."""
-        return type(self), (self.status, self.task, self.at), vars(self)
+        begin = "" if self.task is None else f"task {self.task}: "
+        return type(self), (self.status, self.task, self.at, str(self).removeprefix(begin)), vars(self)
 
 
 class CommandRefused(EdfvdError):

@@ -14,8 +14,8 @@ from typing import Iterable, List, NamedTuple, Optional, Tuple, Union
 
 from . import _picture, _toml
 from ._commands import ask, task_file
-from ._errors import CommandRefused
-from ._given import MOST_32, copied, given_row, given_tasks, number, parts_of
+from ._errors import CommandRefused, Status
+from ._given import MOST_32, copied, given_row, given_tasks, given_text, number, parts_of
 from ._trace import Trace
 from ._values import Event, Job, Row, Task
 
@@ -41,16 +41,29 @@ class TaskFile(NamedTuple):
 
 # ---- Bytes ----
 
+def _file_name(path: Path) -> str:
+    """The path as a str. A number would stand for a file that is open, such as the standard output, and would close it."""
+    name = os.fspath(path) if isinstance(path, os.PathLike) else path
+    if not isinstance(name, str):
+        raise TypeError(f"a path must be a str or an os.PathLike, not {type(path).__name__}")
+    try:
+        os.fsencode(name)
+    except UnicodeEncodeError as error:
+        raise ValueError(f"the path is no name of a file: {error.reason}") from None
+    return name
+
+
 def _given(path: Optional[Path], text: Optional[Text], most: int) -> Tuple[str, bytes]:
     """The name and the bytes of what is read: of a file at most one byte more than there may be."""
     if (path is None) == (text is None):
         raise TypeError("either a path or a text is read")
     if path is not None:
-        with open(path, "rb") as file:
-            return os.fspath(path), file.read(most + 1)
+        name = _file_name(path)
+        with open(name, "rb") as file:
+            return name, file.read(most + 1)
     if not isinstance(text, (str, bytes)):
         raise TypeError(f"a text must be a str or bytes, not {type(text).__name__}")
-    return "the text", text.encode() if isinstance(text, str) else bytes(text)
+    return "the text", given_text(text, "the text") if isinstance(text, str) else bytes(text)
 
 
 def _replied(words: List[str], names: Tuple[str, str], first: bytes, second: bytes, *passes: int) -> str:
@@ -73,7 +86,7 @@ def _records(text: bytes) -> List[List[str]]:
 def _written(text: str, path: Optional[Path]) -> str:
     """The text, which is also written to the file, if there is one."""
     if path is not None:
-        with open(path, "w", encoding="ascii", newline="\n") as file:
+        with open(_file_name(path), "w", encoding="ascii", newline="\n") as file:
             file.write(text)
     return text
 
@@ -184,7 +197,7 @@ def write_trace(tasks: Iterable[Task], rows: Iterable[Row], path: Optional[Path]
     release,0,,log,1,kept
     tick,0,1,log,1,done
     """
-    given = copied(tasks)
+    given = copied(tasks, "tasks")
     text = _trace_text(given, rows)
     _replied(["judge", "1", "2", "1", "1"], ("the tasks", "the trace"), _task_text(given, None).encode(), text.encode(), _ILLEGAL)
     return _written(text, path)
@@ -192,7 +205,7 @@ def write_trace(tasks: Iterable[Task], rows: Iterable[Row], path: Optional[Path]
 
 def _on_trace(command: str, tasks: Iterable[Task], rows: Iterable[Row], scale: Optional[Fraction]) -> str:
     """What a command says of the trace of these rows."""
-    given = copied(tasks)
+    given = copied(tasks, "tasks")
     first, second = _task_text(given, scale), _trace_text(given, rows)
     return _replied([command, "1", "2"], ("the tasks", "the trace"), first.encode(), second.encode())
 
@@ -225,8 +238,10 @@ def svg(tasks: Iterable[Task], rows: Iterable[Row], begin: int, end: int) -> str
     >>> svg([Task("log", "low", 10, 5)], [Row(Event.IDLE)] * 4, 0, 4).splitlines()[1]
     '<title>Ticks 0 to 3 of a trace</title>'
     """
-    given = copied(tasks)
+    given = copied(tasks, "tasks")
     packed, names = given_tasks(given)
+    if not names.in_order:
+        raise names.refused(Status.EMPTY)
     fields = struct.iter_unpack("4I", packed)
     lanes = [_picture.Lane(name, "high" if level else "low", period) for name, (level, period, *_) in zip(names.in_order, fields)]
     first, last = number(begin, MOST_32, "begin"), number(end, MOST_32, "end")

@@ -3,31 +3,26 @@
 A caller's list may change while it is read, by another thread or by a property of an element. So each iterable is copied before
 it is measured, and each attribute is read once; from there on only the copies are used. What the library reads is ``bytes``.
 
-Sets and rows are packed as wholes. If one of them has anything in it that is not as it should be, it is read again element by
-element, to find the value to name or to convert.
+A task is packed when it is made, and rows are packed as wholes. If one of them has anything in it that is not as it should be, all
+are read again element by element, to find the value to name or to convert.
 """
 
 from __future__ import annotations
 
+import math
 import operator
-import re
 import reprlib
 import struct
 from fractions import Fraction
 from numbers import Rational
-from typing import Any, Dict, Iterable, List, Optional, Set, Tuple, TypeVar
+from typing import Any, Dict, Iterable, List, Mapping, Optional, Set, SupportsFloat, Tuple, TypeVar
 
 from ._errors import Refused, Status
-from ._values import Demand, Event, Job, Row, Task
+from ._values import LEVELS, Demand, Event, Job, Row, Task, is_name
 
 _Value = TypeVar("_Value")
 MOST_32 = 2**32 - 1
 MOST_64 = 2**64 - 1
-_LEVELS = {"low": 0, "high": 1}
-_is_name = re.compile("[A-Za-z0-9_-]{1,32}").fullmatch
-# Names that have the right form: most sets have the names of the set before. Emptied when it has too many.
-_known: Set[str] = set()
-_MOST_KNOWN = 10_000
 _EVENTS = {event.value: event for event in Event}
 
 
@@ -40,7 +35,7 @@ def _kind(value: object) -> str:
     return type(value).__name__
 
 
-def _whole(value: object, what: str, task: Optional[str]) -> int:
+def whole_number(value: object, what: str, task: Optional[str]) -> int:
     """The value as a plain int, if it can stand for one, as numpy's integers can."""
     try:
         if _kind(value) in ("bool", "bool_"):  # Python's, and numpy's under either of its names
@@ -50,17 +45,39 @@ def _whole(value: object, what: str, task: Optional[str]) -> int:
         raise TypeError(f"{_of(what, task)} must be a whole number, not {_kind(value)}") from None
 
 
-def _shown(whole: int) -> str:
+def shown(whole: int) -> str:
     """The number as a message shows it."""
     return str(whole) if whole.bit_length() <= 128 else f"a number of {whole.bit_length()} bits"
 
 
-def number(value: object, most: int, what: str, task: Optional[str] = None) -> int:
-    """The value, if it is a whole number from 0 to ``most``."""
-    whole = value if type(value) is int else _whole(value, what, task)
-    if 0 <= whole <= most:
+def number(value: object, most: int, what: str, task: Optional[str] = None, least: int = 0) -> int:
+    """The value, if it is a whole number from ``least``, which is 0 without it, to ``most``."""
+    whole = value if type(value) is int else whole_number(value, what, task)
+    if least <= whole <= most:
         return whole
-    raise ValueError(f"{_of(what, task)} is {_shown(whole)}, which is not from 0 to {most}")
+    raise ValueError(f"{_of(what, task)} is {shown(whole)}, which is not from {least} to {most}")
+
+
+def real(value: object, what: str) -> float:
+    """The value as a float, if it is a finite number, as those of numpy and fractions are, and neither a bool nor a text."""
+    try:
+        if isinstance(value, (str, bytes)) or _kind(value) in ("bool", "bool_") or not isinstance(value, SupportsFloat):
+            raise TypeError
+        found = float(value)
+    except TypeError:
+        raise TypeError(f"{what} must be a number, not {_kind(value)}") from None
+    except OverflowError:
+        raise ValueError(f"{what} is beyond the range of a float") from None
+    if not math.isfinite(found):
+        raise ValueError(f"{what} is {found}, and not a finite number")
+    return found
+
+
+def reals(values: Iterable[object], what: str) -> List[float]:
+    """The values as floats, if each of them is a finite number."""
+    if isinstance(values, (str, bytes)) or not isinstance(values, Iterable):
+        raise TypeError(f"{what} must be a sequence of numbers, not {_kind(values)}")
+    return [real(value, f"an element of {what}") for value in copied(values, what)]
 
 
 def text(value: object, what: str) -> str:
@@ -75,22 +92,9 @@ def text(value: object, what: str) -> str:
 def task_name(value: object) -> str:
     """The value, if it has the form of a task's name, which is that of task files."""
     name = text(value, "a task's name")
-    if not _is_name(name):
+    if not is_name(name):
         raise ValueError(f"{reprlib.repr(name)} is no name: a name is 1 to 32 ASCII letters, digits, '_' or '-'")
     return name
-
-
-def _are_names(names: Set[str], count: int) -> bool:
-    """Whether these are as many names as ``count``, all of the right form."""
-    if len(names) != count:
-        return False
-    if not names <= _known:
-        if not all(map(_is_name, names)):
-            return False
-        if len(_known) > _MOST_KNOWN:
-            _known.clear()
-        _known.update(names)
-    return True
 
 
 def _all_are(kind: type, values: Iterable[object]) -> bool:
@@ -106,14 +110,26 @@ def _field(value: object, field: str) -> Any:
         raise TypeError(f"a {_kind(value)} has no {field}") from None
 
 
+UNKNOWN: Dict[object, int] = {None: 0}
+# What a message says of a status beyond its words: the limit, and what stays within it.
+_WHY: Mapping[Status, str] = {
+    Status.PERIODS: ": with the period of this task the least common multiple of the periods is above 2^60"
+    " (edfvd.laboratory.periods draws periods for which it is not)",
+}
+WHY_OF_DEMANDS: Mapping[Status, str] = {
+    Status.PERIODS: ": with the period of this task the least common multiple of the periods is above 500,000",
+}
+
+
 class Names:
     """The names of a set's tasks in order, all of them different. The first one has the number 1."""
 
-    __slots__ = ("in_order", "_numbers")
+    __slots__ = ("in_order", "known")
 
     def __init__(self, in_order: List[str]) -> None:
         self.in_order = in_order
-        self._numbers: Dict[object, int] = {}
+        # The number of each name once it has been asked for, and 0 for None.
+        self.known = UNKNOWN
 
     def __len__(self) -> int:
         """How many tasks the set has."""
@@ -121,10 +137,10 @@ class Names:
 
     @property
     def numbers(self) -> Dict[object, int]:
-        """The number of each name, and 0 for None, found when it is first asked for."""
-        if not self._numbers:
-            self._numbers = {None: 0, **{name: number for number, name in enumerate(self.in_order, 1)}}
-        return self._numbers
+        """The number of each name, and 0 for None."""
+        if len(self.known) <= len(self.in_order):
+            self.known = {None: 0, **{name: number for number, name in enumerate(self.in_order, 1)}}
+        return self.known
 
     def name(self, task: int) -> Optional[str]:
         """The name of the task of this number."""
@@ -143,15 +159,23 @@ class Names:
         name = self.name(task)
         return None if name is None else (name, count)
 
-    def refused(self, status: int, task: int = 0, at: int = 0) -> Refused:
-        """The exception for a call that the library refused because of this task, if any."""
-        return Refused(Status(status), self.name(task), at)
+    def refused(self, status: int, task: int = 0, at: int = 0, more: str = "", why: Mapping[Status, str] = _WHY) -> Refused:
+        """The exception for a call that the library refused because of this task, if any. After the status in words, its message says
+        ``why``, and it ends with ``more``."""
+        found = Refused(Status(status))
+        return Refused(found.status, self.name(task), at, f"{found}{why.get(found.status, '')}{more}")
 
 
-def copied(values: Iterable[_Value]) -> Tuple[_Value, ...]:
-    """A copy of the values, which is read from there on."""
+def copied(values: Iterable[_Value], what: str) -> Tuple[_Value, ...]:
+    """A copy of the values, which is read from there on; ``what`` begins the error message if they are not iterable."""
     try:
         return tuple(values)
+    except TypeError as error:
+        try:
+            iter(values)
+        except TypeError:
+            raise TypeError(f"{what}: {error}") from None
+        raise
     except NotImplementedError:
         array: object = values
         if isinstance(array, memoryview):  # of structs, which Python does not read
@@ -163,34 +187,19 @@ def copied(values: Iterable[_Value]) -> Tuple[_Value, ...]:
 
 def given_tasks(tasks: Iterable[Task]) -> Tuple[bytes, Names]:
     """The tasks as the library takes them, and their names, which stay in Python."""
-    given = copied(tasks)
+    given = copied(tasks, "tasks")
     packed = _packed_tasks(given) if _all_are(Task, given) else None
     return packed or _careful_tasks(given)
 
 
 def _packed_tasks(tasks: Tuple[Task, ...]) -> Optional[Tuple[bytes, Names]]:
-    """The tasks and their names, or None if some field is not as most are: of a plain type, and in range.
-
-    No field is compared or hashed before its type is known, since that could run code of the caller.
-    """
-    names: List[str] = []
-    fields: List[Any] = []
+    """The tasks and their names, or None if one of them was not packed when it was made, or two have one name."""
     try:
-        for task in tasks:
-            level, low, high = task.level, task.low, task.high
-            if type(level) is not str:
-                return None
-            if high is None:
-                if level == "high":
-                    return None
-                high = low
-            names.append(task.name)
-            fields += (_LEVELS[level], task.period, low, high)
-        if _all_are(int, fields) and _all_are(str, names) and _are_names(set(names), len(names)):
-            return struct.pack(f"{len(fields)}I", *fields), Names(names)
-    except (AttributeError, KeyError, struct.error):
-        pass
-    return None
+        packed = b"".join([task._packed for task in tasks])  # type: ignore[misc]
+        names = [task.name for task in tasks]
+    except (AttributeError, TypeError):
+        return None
+    return (packed, Names(names)) if len(set(names)) == len(names) else None
 
 
 def _distinct(names: List[str]) -> Names:
@@ -222,14 +231,14 @@ def _careful_tasks(tasks: Tuple[object, ...]) -> Tuple[bytes, Names]:
 def _level(value: object, name: str) -> int:
     """The number of a level, if it is one."""
     level = text(value, f"task {name}: the level")
-    if level not in _LEVELS:
+    if level not in LEVELS:
         raise ValueError(f"task {name}: the level is {reprlib.repr(level)}, and not 'low' or 'high'")
-    return _LEVELS[level]
+    return LEVELS[level]
 
 
 def _high_budget(level: int, low: int, name: str) -> int:
     """The high budget of a task that gives none: that of a low task is its low budget."""
-    if level == _LEVELS["high"]:
+    if level == LEVELS["high"]:
         raise ValueError(f"task {name}: a high task needs its high budget")
     return low
 
@@ -238,7 +247,7 @@ def given_demands(tasks: Iterable[Demand]) -> Tuple[bytes, Names]:
     """The tasks as the library takes them, and their names."""
     names: List[str] = []
     fields: List[int] = []
-    for task in copied(tasks):
+    for task in copied(tasks, "tasks"):
         if not isinstance(task, Demand):
             raise TypeError(f"a demand test takes Demand objects, not {_kind(task)}")
         name = task_name(_field(task, "name"))
@@ -250,7 +259,7 @@ def given_demands(tasks: Iterable[Demand]) -> Tuple[bytes, Names]:
 # ---- Rows ----
 
 ROW_BYTES = 12
-_packed_row = struct.Struct("3I").pack
+packed_row = struct.Struct("3I").pack
 
 
 def given_row(row: Row, names: Names) -> bytes:
@@ -258,20 +267,20 @@ def given_row(row: Row, names: Names) -> bytes:
     if type(row) is Row:
         try:
             event, task, count = row.event, row.task, row.count
-            if type(event) is Event and type(count) is int and (task is None or type(task) is str):
-                return _packed_row(event, names.numbers[task], count)
+            if type(event) is Event and type(count) is int and (type(task) is str or task is None):
+                return packed_row(event, names.known[task], count)
         except (AttributeError, KeyError, struct.error):
             pass
-    return _packed_row(*_careful_row(row, names))
+    return packed_row(*_careful_row(row, names))
 
 
 def given_rows(rows: Iterable[Row], names: Names) -> bytes:
     """The rows as the library takes them."""
-    given = copied(rows)
+    given = copied(rows, "rows")
     packed = _packed_rows(given, names.numbers) if _all_are(Row, given) else None
     if packed is not None:
         return packed
-    return b"".join([_packed_row(*_careful_row(row, names)) for row in given])
+    return b"".join([packed_row(*_careful_row(row, names)) for row in given])
 
 
 def _packed_rows(rows: Tuple[Row, ...], numbers: Dict[object, int]) -> Optional[bytes]:
@@ -310,10 +319,54 @@ def _careful_row(row: object, names: Names) -> Tuple[int, int, int]:
 
 def _event(value: object) -> Event:
     """An event, which may be given as its number."""
-    whole = _whole(value, "a row's event", None)
+    if not hasattr(value, "__index__") or _kind(value) in ("bool", "bool_"):
+        raise TypeError(f"a row's event must be an Event, such as Event.KEPT, not {_kind(value)}")
+    whole = whole_number(value, "a row's event", None)
     if whole not in _EVENTS:
-        raise ValueError(f"a row's event is {_shown(whole)}, which is no event: those are {min(_EVENTS)} to {max(_EVENTS)}")
+        raise ValueError(f"a row's event is {shown(whole)}, which is no event: those are {min(_EVENTS)} to {max(_EVENTS)}")
     return _EVENTS[whole]
+
+
+def row_fault(status: int, packed: bytes, names: Names, times: int = 1) -> Optional[Tuple[int, str]]:
+    """Which of the rows, from 0, is the first that the library refuses with this status, and what is wrong with it.
+
+    Each of the rows is given this many times.
+    """
+    find = {Status.ARGUMENT: _fault_of_kind, Status.NO_TASK: _fault_of_task}.get(Status(status))
+    for place, (event, task, count) in enumerate(struct.iter_unpack("3I", packed) if find else ()):
+        words = find(event, task, count, len(names), times) if find else ""
+        if words:
+            return place, words
+    return None
+
+
+def _fault_of_kind(number_of_event: int, task: int, count: int, tasks: int, times: int) -> str:
+    """What is wrong with a row, whatever the tasks of the set are; empty if nothing is."""
+    event = _EVENTS.get(number_of_event)
+    if event is None:
+        return f"{number_of_event} is no event"
+    if event in (Event.HELD, Event.GIVEN):
+        return f"{event} is no event of a trace"
+    if event is Event.IDLE and (task or count):
+        return f"an idle row has no {'task' if task else 'count'}"
+    if times == 0:
+        return "times is 0"
+    return f"{event} comes once, and not {times} times" if times > 1 and event not in (Event.MORE, Event.IDLE) else ""
+
+
+def _fault_of_task(number_of_event: int, task: int, count: int, tasks: int, times: int) -> str:
+    """What is wrong with the task of a row of a set of this many tasks; empty if nothing is."""
+    if number_of_event == Event.IDLE or 1 <= task <= tasks:
+        return ""
+    event = _EVENTS.get(number_of_event, number_of_event)
+    return f"{task} is not the number of a task, which is from 1 to {tasks}" if task else f"{event} needs a task"
+
+
+# How the message goes on if no rule is known for a set: judge and Monitor take each scale, whether or not it holds.
+A_SCALE_HELPS = {
+    status: "; with a scale of your own, such as scale=Fraction(1), rows are judged all the same"
+    for status in (Status.NOT_ADMITTED, Status.PERIODS)
+}
 
 
 # ---- Other values ----
@@ -321,7 +374,7 @@ def _event(value: object) -> Event:
 def given_jobs(jobs: Iterable[Job]) -> List[Tuple[str, int, int]]:
     """The jobs with their releases and needs, in the order of their releases; those of equal releases keep their order."""
     found = []
-    for job in copied(jobs):
+    for job in copied(jobs, "jobs"):
         if not isinstance(job, Job):
             raise TypeError(f"a work list has Job objects, not {_kind(job)}")
         release, need = number(job.release, MOST_64, "a release"), number(job.need, MOST_64, "a need")
@@ -349,11 +402,19 @@ def given_bytes(value: bytes, what: str) -> bytes:
     return bytes(value)
 
 
+def given_text(value: str, what: str) -> bytes:
+    """The text in UTF-8, in which half of a surrogate pair has no bytes."""
+    try:
+        return value.encode()
+    except UnicodeEncodeError as error:
+        raise ValueError(f"{what} is no text that UTF-8 has: {error.reason}") from None
+
+
 def given_words(words: Iterable[str]) -> List[bytes]:
     """The words as the library takes them."""
     if isinstance(words, (str, bytes)):
         raise TypeError(f"words must be a list of str, not {_kind(words)}")
-    encoded = [text(word, "a word").encode() for word in copied(words)]
+    encoded = [given_text(text(word, "a word"), "a word") for word in copied(words, "words")]
     if any(0 in word for word in encoded):
         raise ValueError("a word has a 0 byte in it")
     return encoded

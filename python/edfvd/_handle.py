@@ -4,7 +4,7 @@ from __future__ import annotations
 
 import ctypes
 from types import TracebackType
-from typing import Any, Callable, ClassVar, NoReturn, Optional, Type, TypeVar
+from typing import Any, Callable, ClassVar, Dict, NoReturn, Optional, Type, TypeVar
 
 from ._errors import Refused, Status
 from ._given import Names
@@ -18,18 +18,24 @@ class Handle:
 
     _struct: ClassVar[Type[ctypes.Structure]]
     _free: ClassVar[Callable[..., int]]
+    # How the messages of these statuses go on if it cannot be opened.
+    _hints: Dict[Status, str] = {}
 
     # Until it is opened the library is given a null pointer, which it refuses.
     _held: Any = None
+    _at: Any = None
     _names = Names([])
 
     def _open(self, names: Names, call: Callable[..., int], *given: object) -> None:
         """Opens it by the call of the library, which refuses one that is open already."""
         held, task = vars(self).setdefault("_held", self._struct()), u32()
+        self._at = ctypes.byref(held)
         status = call(held, *given, task)
         if status:
-            raise names.refused(status, task.value)
+            raise names.refused(status, task.value, more=self._hints.get(Status(status), ""))
         self._names = names
+        # A dict of its own: up to Python 3.12, attributes take three times as long in one whose keys all instances of a class share.
+        self.__dict__ = dict(vars(self))
 
     def __enter__(self: _Self) -> _Self:
         return self

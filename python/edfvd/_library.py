@@ -12,7 +12,7 @@ from pathlib import Path
 from typing import Any, Callable, Dict, List, Tuple
 
 # The version of edfvd.h that this package is written for, which must be that of the library.
-VERSION = 2
+VERSION = 3
 
 u32 = ctypes.c_uint32
 u64 = ctypes.c_uint64
@@ -175,6 +175,8 @@ CALLS: Dict[str, Tuple[str, List[Any]]] = {
     "scheduler_scale": ("edfvd_scheduler_scale", [_scheduler, _pointer(CScale)]),
     "scheduler_look": ("edfvd_scheduler_look", [_scheduler, _pointer(CLook)]),
     "scheduler_row": ("edfvd_scheduler_row", [_scheduler, u64, _pointer(CRow)]),
+    "scheduler_rows": ("edfvd_scheduler_rows", [_scheduler, u64, _pointer(CRow), _pointer(u32)]),
+    "scheduler_restart": ("edfvd_scheduler_restart", [_scheduler, _pointer(CAnswer)]),
     "monitor_open": ("edfvd_monitor_open", [_monitor, *_tasks, u64, u64, _pointer(u32)]),
     "monitor_close": ("edfvd_monitor_close", [_monitor]),
     "monitor_observe": ("edfvd_monitor_observe", [_monitor, PackedRows, u32, _pointer(CUnfit)]),
@@ -184,6 +186,11 @@ CALLS: Dict[str, Tuple[str, List[Any]]] = {
     "monitor_verdict": ("edfvd_monitor_verdict", [_monitor, _pointer(CVerdict)]),
     "monitor_look": ("edfvd_monitor_look", [_monitor, _pointer(CWatch)]),
 }
+
+
+# Calls that come for each row, and take less time than what else ctypes does for a call. They have no prototype in Python, so
+# pointers are given as what ctypes.byref returns, rows as bytes, and numbers of 32 bits as ints; and no other thread runs meanwhile.
+SHORT = ("monitor_observe", "monitor_would_fit")
 
 
 def _path() -> str:
@@ -209,13 +216,13 @@ class Library:
     def __init__(self, path: str) -> None:
         self.path = path
         try:
-            loaded = ctypes.CDLL(path)
+            loaded, held = ctypes.CDLL(path), ctypes.PyDLL(path)
         except OSError as error:
             raise ImportError(f"the library of edfvd cannot be loaded; c/build.sh makes it: {error}") from error
         try:
             for name, (own_name, arguments) in CALLS.items():
-                call = getattr(loaded, own_name)
-                call.argtypes, call.restype = arguments, ctypes.c_int
+                call = getattr(held if name in SHORT else loaded, own_name)
+                call.argtypes, call.restype = None if name in SHORT else arguments, ctypes.c_int
                 setattr(self, name, call)
             self.word: Callable[[int], bytes] = loaded.edfvd_word
             loaded.edfvd_word.argtypes, loaded.edfvd_word.restype = [ctypes.c_int], ctypes.c_char_p

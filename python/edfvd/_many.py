@@ -84,21 +84,24 @@ def check_many(sets: object, offsets: Optional[Iterable[int]] = None) -> Tests:
     view = task_view(sets)
     if view is None:
         raise TypeError(f"with offsets the sets are one array of edfvd_task, not {type(sets).__name__}")
-    ends = array.array("Q", (number(end, MOST_64, "an offset") for end in copied(offsets)))
+    ends = array.array("Q", (number(end, MOST_64, "an offset") for end in copied(offsets, "offsets")))
     packed, most, count = view.tobytes(), len(view), max(0, len(ends) - 1)
     structs, statuses = (CTest * count)(), (u32 * count)()
     if not ends or library.check_many(packed, most, ends.tobytes(), count, structs, statuses):
         raise ValueError(f"offsets are at least one, in order, and at most {most}, the length of the array")
-    return Tests(structs, bytes(status for status in statuses), {})
+    return Tests(structs, bytes(statuses[:]), {})
 
 
 def _of_sets(sets: object) -> Tests:
     """The tests of sets of ``Task`` objects."""
-    given: Tuple[Iterable[Task], ...] = copied(sets)  # type: ignore[arg-type]
-    structs, statuses, refused = (CTest * len(given))(), bytearray(len(given)), {}
-    for place, struct in enumerate(structs):
-        packed, names = given_tasks(given[place])
-        statuses[place] = library.check(packed, len(names), struct)
-        if statuses[place]:
-            refused[place] = names
-    return Tests(structs, bytes(statuses), refused)
+    given: Tuple[Iterable[Task], ...] = copied(sets, "sets")  # type: ignore[arg-type]
+    pieces, names, ends, count = [], [], array.array("Q", [0]), len(given)
+    for tasks in given:
+        packed, names_of_set = given_tasks(tasks)
+        pieces.append(packed)
+        names.append(names_of_set)
+        ends.append(ends[-1] + len(names_of_set))
+    structs, statuses = (CTest * count)(), (u32 * count)()
+    library.check_many(b"".join(pieces), ends[-1], ends.tobytes(), count, structs, statuses)
+    refused = bytes(statuses[:])
+    return Tests(structs, refused, {place: names[place] for place, status in enumerate(refused) if status})

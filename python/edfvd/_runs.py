@@ -13,6 +13,7 @@ from ._library import CAnswer, CNext, CPending, CScale, library, u32, u64
 from ._values import Answer, Task
 
 _Self = TypeVar("_Self", bound="Runs")
+_SCALE_FAILS = {Status.NOT_ADMITTED: " under this scale; edfvd.scales says which scales hold for the set, if any"}
 
 
 @dataclass(frozen=True)
@@ -63,6 +64,8 @@ class Runs(Handle):
         packed, names = given_tasks(tasks)
         numerator, denominator = parts_of(scale)
         scheduler = cls.__new__(cls)
+        if numerator:
+            scheduler._hints = _SCALE_FAILS
         if places is None:
             call = library.scheduler_open_endless_scaled
             scheduler._open(names, call, packed, len(names), numerator, denominator)

@@ -3,11 +3,12 @@
 from __future__ import annotations
 
 import ctypes
-from typing import Iterable, Iterator, Optional
+from itertools import chain, repeat
+from typing import Iterable, Iterator, Optional, Tuple
 
 from ._errors import Refused, Status
 from ._given import MOST_32, MOST_64, given_tasks, number
-from ._library import CAnswer, CLook, CRow, CScheduler, library
+from ._library import CAnswer, CLook, CRow, CScheduler, library, u32
 from ._runs import Runs
 from ._values import Answer, Event, Look, Row, Task
 
@@ -28,6 +29,7 @@ class Scheduler(Runs):
 
     _struct = CScheduler
     _free = library.scheduler_close
+    _hints = {Status.NOT_ADMITTED: "; no scale holds for the set, so only judge and Monitor take it, with any scale"}
 
     def __init__(self, tasks: Iterable[Task], places: Optional[int]) -> None:
         packed, names = given_tasks(tasks)
@@ -46,19 +48,19 @@ class Scheduler(Runs):
 
     @classmethod
     def endless(cls, tasks: Iterable[Task]) -> Scheduler:
-        """A scheduler without an end, which keeps the latest 256 rows alone.
+        """A scheduler without an end, which keeps the latest 256 runs of equal rows alone.
 
-        An event makes at most one row more than there are tasks. So if you read the rows after each event, from the last one
-        that you have on, you get them all; here a monitor gets them.
+        An event makes at most one row more than there are tasks, except that ``run`` and ``idle_for`` make one or two runs of equal
+        rows. So if you read the runs after each event, from the last row that you have on, you get them all; here a monitor gets them.
 
         >>> from edfvd import Monitor
         >>> tasks, seen = [Task("a", "low", period=4, low=2)], 0
         >>> with Scheduler.endless(tasks) as scheduler, Monitor(tasks) as monitor:
         ...     for _ in range(1000):
         ...         _ = scheduler.idle()
-        ...         for row in scheduler.rows(seen):
-        ...             _ = monitor.observe(row)
-        ...             seen += 1
+        ...         for row, times in scheduler.runs(seen):
+        ...             _ = monitor.observe(row, times)
+        ...             seen += times
         ...     monitor.verdict().legal, len(list(scheduler.rows(990)))
         (True, 10)
         """
@@ -123,7 +125,19 @@ class Scheduler(Runs):
         ...     list(scheduler.rows(since=1))
         [Row(event=<Event.KEPT: 1>, task='a', count=1)]
         """
-        return self._rows(number(since, MOST_64, "since"), self.look().rows)
+        return chain.from_iterable(repeat(row, times) for row, times in self.runs(since))
+
+    def runs(self, since: int = 0) -> Iterator[Tuple[Row, int]]:
+        """The rows as :meth:`rows` has them, of which equal neighbours are one row with how many ``times`` it comes.
+
+        ``Trace`` takes them, and ``Monitor.observe`` takes each. One has at most 2^32 - 1 rows, so more equal rows are several.
+
+        >>> with Scheduler.endless([Task("a", "low", period=4, low=2)]) as scheduler:
+        ...     _ = scheduler.idle_for(1000), scheduler.release("a")
+        ...     list(scheduler.runs())
+        [(Row(event=<Event.IDLE: 9>, task=None, count=0), 1000), (Row(event=<Event.KEPT: 1>, task='a', count=1), 1)]
+        """
+        return self._runs(number(since, MOST_64, "since"), self.look().rows)
 
     def row_array(self, since: int = 0) -> "ctypes.Array[CRow]":
         """The rows so far, without the first ``since`` of them, as an array of ``edfvd_row``.
@@ -144,10 +158,29 @@ class Scheduler(Runs):
                 raise Refused(Status(status))
         return array
 
-    def _rows(self, since: int, end: int) -> Iterator[Row]:
-        row = CRow()
-        for place in range(since, end):
-            status = library.scheduler_row(self._held, place, row)
+    def _runs(self, since: int, end: int) -> Iterator[Tuple[Row, int]]:
+        row, times = CRow(), u32()
+        while since < end:
+            status = library.scheduler_rows(self._held, since, row, times)
             if status:
                 raise Refused(Status(status))
-            yield Row(Event(row.event), self._names.name(row.task), row.count)
+            equal = min(times.value, end - since)
+            yield Row(Event(row.event), self._names.name(row.task), row.count), equal
+            since += equal
+
+    def restart(self) -> None:
+        """Start the ticks, the rows and the counts anew, at any moment when no job is pending.
+
+        Each task's earliest next release is kept, so two releases of a task are a period apart also across a restart. A scheduler
+        that runs for ever needs this, since a task has at most 2^32 - 1 releases.
+
+        >>> with Scheduler.endless([Task("a", "low", period=4, low=2)]) as scheduler:
+        ...     _ = scheduler.release("a"), scheduler.run("a", 1, 1, done=True)
+        ...     scheduler.restart()
+        ...     scheduler.look().ticks, scheduler.earliest("a")
+        (0, 3)
+        """
+        answer = CAnswer()
+        status = library.scheduler_restart(self._held, answer)
+        if status:
+            raise self._names.refused(status, answer.task, answer.at)

@@ -4,6 +4,7 @@ from __future__ import annotations
 
 from dataclasses import dataclass
 from fractions import Fraction
+from numbers import Rational
 from typing import Iterable, List, Optional
 
 from ._errors import Status
@@ -41,6 +42,8 @@ class ScaleRange:
     greatest: Fraction
 
     def __contains__(self, scale: Fraction) -> bool:
+        if not isinstance(scale, Rational) or isinstance(scale, bool):
+            raise TypeError(f"the scale must be a Fraction, not {type(scale).__name__}")
         return 0 < scale and self.least <= scale <= self.greatest
 
 

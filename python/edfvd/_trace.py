@@ -14,12 +14,15 @@ Run = Tuple[Row, int]
 LONG = (Event.MORE, Event.IDLE)
 
 
-def _run(row: Row, times: int) -> Run:
-    """The run, if there is one of this row."""
+def _run(pair: Run) -> Run:
+    """The run, if the pair is a row and how many times it may come."""
+    if not isinstance(pair, (tuple, list)) or len(pair) != 2:
+        raise TypeError(f"a run must be a pair of a Row and its times, not {type(pair).__name__}")
+    row, times = pair
     checked_row(row)
-    count = number(times, MOST_64, "times")
-    if count == 0 or count > 1 and row.event not in LONG:
-        raise ValueError("a row comes once, and only an idle tick or a tick of a job with more to do comes more often")
+    count = number(times, MOST_64, "times", least=1)
+    if count > 1 and row.event not in LONG:
+        raise ValueError(f"times is {count}: a row comes once, and only an idle tick or a tick of a job with more to do comes more often")
     return row, count
 
 
@@ -50,7 +53,7 @@ class Trace(Sequence[Row]):
     __slots__ = ("runs", "_ends")
 
     def __init__(self, runs: Iterable[Run] = ()) -> None:
-        self.runs: Tuple[Run, ...] = tuple(_run(row, times) for row, times in runs)
+        self.runs: Tuple[Run, ...] = tuple(map(_run, copied(runs, "runs")))
         self._ends = list(accumulate(times for _, times in self.runs))
 
     @classmethod
@@ -60,7 +63,7 @@ class Trace(Sequence[Row]):
         >>> Trace.of([Row(Event.IDLE), Row(Event.IDLE)]).runs
         ((Row(event=<Event.IDLE: 9>, task=None, count=0), 2),)
         """
-        return cls(_joined(rows.runs if isinstance(rows, Trace) else ((checked_row(row), 1) for row in copied(rows))))
+        return cls(_joined(rows.runs if isinstance(rows, Trace) else ((checked_row(row), 1) for row in copied(rows, "rows"))))
 
     @property
     def ticks(self) -> int:

@@ -1,9 +1,11 @@
 """The commands: what `ask` replies, and the rows of `run`, by hand."""
 
+import ctypes
 import unittest
 from typing import Any, List, Tuple
 
 from edfvd import Event, Job, Row, Status, Task, ask, judge, run
+from edfvd._library import library, size, u32
 from support import CONTROL, CTL, TOO_MUCH, Case
 from test_judge import trace
 
@@ -41,8 +43,33 @@ class Ask(Case):
         self.assertEqual((ended, text), (0, b"a      " + b"." * 100_000 + b"\n(mode) " + b"L" * 100_000 + b"\n"))
 
     def test_threads_are_not_started(self) -> None:
-        for words in (["soak", "1", "8", "100"], ["live", "1", "10"], ["runall", "1", "2", "5", "2"]):
-            self.assertIs(self.refused(lambda: ask(words, FILE)).status, Status.THREADS)
+        for words in (["soak", "1", "8", "100"], ["live", "1", "10"], ["live", "absent", "10"], ["runall", "1", "2", "5", "2"]):
+            with self.subTest(words=words):
+                self.assertIs(self.refused(lambda: ask(words, FILE)).status, Status.THREADS)
+        for words in (["soak", "1", "8", "0"], ["live", "1", "100001"], ["runall", "1", "2", "5", "17"], ["live", "1", "10", "2"]):
+            with self.subTest(words=words):
+                self.assertEqual(ask(words, FILE)[0], 2)
+
+    def test_what_each_status_stores(self) -> None:
+        """The buffer, the length and the exit status, filled before the call: the reply to check has 8 + 3 * 9 + 11 bytes."""
+        reply, before = b"tasks 1\nU_LL 1/2\nU_HL 0/1\nU_HH 0/1\nrule plain\n", b"\xa5" * 64
+        cases: List[Tuple[Any, ...]] = [
+            ([b"check", b"1"], 46, (0, 46, 0, reply + before[46:])),
+            ([b"check", b"1"], 64, (0, 46, 0, reply + before[46:])),
+            ([b"check", b"2"], 64, (0, 20, 3, b"task file: no tasks\n" + before[20:])),
+            ([b"check", b"1"], 45, (Status.SHORT_BUFFER, 46, 0, before)),
+            ([b"check", b"1"], 0, (Status.SHORT_BUFFER, 46, 0, before)),
+            ([b"check", b"\xff"], 64, (Status.ARGUMENT, 0, 0, before)),
+            ([b"live", b"\xff", b"10"], 0, (Status.ARGUMENT, 0, 0, before)),
+            ([b"live", b"1", b"10"], 64, (Status.THREADS, 0, 0, before)),
+            ([b"live", b"1", b"10"], 0, (Status.THREADS, 0, 0, before)),
+        ]
+        for words, room, stored in cases:
+            with self.subTest(words=words, room=room):
+                out, length, ended = ctypes.create_string_buffer(before, len(before)), size(2**32 - 1), u32(2**32 - 1)
+                array = (ctypes.c_char_p * len(words))(*words)
+                status = library.ask(len(words), array, FILE, len(FILE), b"", 0, out, room, length, ended)
+                self.assertEqual((status, length.value, ended.value, out.raw), stored)
 
 
 class Run(Case):

@@ -142,6 +142,39 @@ class TaskFiles(InAFolder):
                 call()
 
 
+class Paths(InAFolder):
+    def test_a_number_is_no_path(self) -> None:
+        """A number of an open file is refused before anything is opened, so that the file stays open."""
+        path = self.folder / "open"
+        with open(path, "wb") as file:
+            for wrong in (file.fileno(), True, False, 1.5, b"tasks.toml", bytearray(b"a"), ["a"]):
+                for call, *first in (
+                    (untyped.read_tasks, ), (untyped.read_work, CONTROL), (untyped.read_trace, CONTROL), (untyped.write_tasks, CONTROL),
+                    (untyped.write_trace, CONTROL, []),
+                ):
+                    with self.subTest(wrong=wrong), self.assertRaisesRegex(TypeError, "^a path must be a str or an os.PathLike, not "):
+                        call(*first, wrong)
+            file.write(b"still open")
+        self.assertEqual(path.read_bytes(), b"still open")
+
+    def test_text_that_utf_8_does_not_have(self) -> None:
+        half = "\ud800"
+        paths: List[Callable[[], object]] = [
+            lambda: read_tasks(half), lambda: write_tasks(CONTROL, half), lambda: write_trace(CONTROL, [], half),
+        ]
+        for call in paths:
+            with self.assertRaisesRegex(ValueError, "^the path is no name of a file: "):
+                call()
+        texts: List[Callable[[], object]] = [
+            lambda: read_tasks(text=half), lambda: read_work(CONTROL, text=half), lambda: read_trace(CONTROL, text=half),
+        ]
+        for read in texts:
+            with self.assertRaisesRegex(ValueError, "^the text is no text that UTF-8 has: "):
+                read()
+        with self.assertRaisesRegex(ValueError, "^a word is no text that UTF-8 has: "):
+            edfvd.ask(["check", half])
+
+
 class WorkFiles(InAFolder):
     def test_values(self) -> None:
         text = 'task,release,need\r\nctl,0,6\n"log","0",5\n\nlog,10,00005\n'
@@ -252,6 +285,12 @@ class AsASequence(unittest.TestCase):
                 untyped.Trace.of([wrong, wrong])
         with self.assertRaises(TypeError):
             untyped.Trace.of(memoryview((_library.CTask * 2)()))
+        for pair in (row, "ab", 5, (row,), (row, 1, 1)):
+            with self.subTest(pair=pair), self.assertRaisesRegex(TypeError, "^a run must be a pair of a Row and its times, not "):
+                untyped.Trace([pair])
+        with self.assertRaisesRegex(ValueError, "^times is 0, which is not from 1 to "):
+            Trace([(row, 0)])
+        self.assertEqual(untyped.Trace([[row, 1]]).runs, ((row, 1),))
 
 
 class Commands(InAFolder):
@@ -285,6 +324,7 @@ class Commands(InAFolder):
         for begin, end, kind in [(3, 3, ValueError), (-1, 4, ValueError), (0, 2**32, ValueError), (0.0, 4, TypeError)]:
             with self.subTest(begin=begin), self.assertRaises(kind):
                 untyped.svg(CONTROL, [], begin, end)
+        self.assertIs(self.refused(lambda: svg([], [], 0, 4)).status, Status.EMPTY)
 
     def test_a_picture_is_that_of_the_tool(self) -> None:
         tool = Path(__file__).resolve().parents[2] / "tools" / "svg.py"

@@ -2,9 +2,10 @@
 
 import unittest
 from fractions import Fraction
-from typing import Any, List, Tuple
+from typing import Any, Callable, List, Tuple
 
-from edfvd import Event, Row, Status, Task, Verdict, Why, judge
+from edfvd import Event, Monitor, Row, Status, Task, Trace, Verdict, Why, judge
+from edfvd._library import CRow
 from support import CONTROL, CTL, LOG, TOO_MUCH, TWICE, Case
 
 KINDS = {event.name.lower(): event for event in Event}
@@ -95,9 +96,79 @@ class Judge(Case):
         for tasks in (TOO_MUCH, wide):
             self.assertTrue(judge(tasks, [], Fraction(1)).legal)
 
+    def test_a_refused_row_is_named(self) -> None:
+        """The message has the row's number, from 1, and what is wrong with it, for rows and for arrays of them."""
+        good, words = trace("kept:ctl:1 more:ctl:1 over:ctl:1 done:ctl:1 idle"), []
+        wrong = [
+            Row(Event.HELD, "ctl", 1), Row(Event.GIVEN, "log", 1), Row(Event.IDLE, "ctl"), Row(Event.IDLE, None, 2), Row(Event.KEPT),
+            Row(Event.OVER, None, 1),
+        ]
+        for row in wrong:
+            refused = self.refused(lambda: judge(CONTROL, [*good, row, row]))
+            self.assertEqual((refused.task, refused.at), (None, 0))
+            words.append((refused.status, str(refused)))
+        self.assertEqual(words, [
+            (Status.ARGUMENT, "row 6: HELD is no event of a trace"), (Status.ARGUMENT, "row 6: GIVEN is no event of a trace"),
+            (Status.ARGUMENT, "row 6: an idle row has no task"), (Status.ARGUMENT, "row 6: an idle row has no count"),
+            (Status.NO_TASK, "row 6: KEPT needs a task"), (Status.NO_TASK, "row 6: OVER needs a task"),
+        ])
+        refused = self.refused(lambda: judge(CONTROL, Trace.of([*[Row(Event.IDLE)] * 9, wrong[0]])))
+        self.assertEqual(str(refused), "row 10: HELD is no event of a trace")
+        for number, text in [(12, "12 is no event"), (1, "3 is not the number of a task, which is from 1 to 2")]:
+            rows = (CRow * 2)(CRow(9, 0, 0), CRow(number, 3, 1))
+            self.assertEqual(str(self.refused(lambda: judge(CONTROL, rows))), f"row 2: {text}")
+        # The kinds of all rows are looked at before the tasks.
+        refused = self.refused(lambda: judge(CONTROL, [Row(Event.IDLE), Row(Event.KEPT), Row(Event.HELD)]))
+        self.assertEqual((refused.status, str(refused)), (Status.ARGUMENT, "row 3: HELD is no event of a trace"))
+        self.assertEqual(str(self.refused(lambda: judge(CONTROL, [], Fraction(1, 2**60 + 1)))), "a number out of range")
+
+    def test_a_scale_helps(self) -> None:
+        """The message for a set without a rule says that its rows can be judged under a scale, which is true."""
+        wide = [Task("a", "low", 2**31, 1), Task("b", "low", 3**20, 1)]
+        more = "; with a scale of your own, such as scale=Fraction(1), rows are judged all the same"
+        calls: List[Callable[..., object]] = [judge, lambda tasks, rows: Monitor(tasks)]
+        periods = "task b: periods out of range: with the period of this task the least common multiple of the periods is above 2^60" \
+            " (edfvd.laboratory.periods draws periods for which it is not)"
+        for tasks, begin in [(TOO_MUCH, "not admitted"), (wide, periods)]:
+            for call in calls:
+                self.assertEqual(str(self.refused(lambda: call(tasks, []))), begin + more)
+            with Monitor(tasks, Fraction(1)) as monitor:
+                self.assertTrue(judge(tasks, [], Fraction(1)).legal and monitor.verdict().legal)
+
+    def test_ties_and_fractions(self) -> None:
+        """With the scale 2/5, ctl has the virtual deadline 4 for a period of 10, as late as log, and 4.4 for one of 11."""
+        for period, why in [(10, None), (11, Why.NOT_LEAST)]:
+            tasks = [Task("ctl", "high", period, 2, 6), Task("log", "low", 4, 1)]
+            for kept in ("kept:ctl:1 kept:log:1", "kept:log:1 kept:ctl:1"):
+                self.assertIs(judge(tasks, trace(f"{kept} more:ctl:1"), Fraction(2, 5)).why, why)
+                self.assertTrue(judge(tasks, trace(f"{kept} done:log:1"), Fraction(2, 5)).legal)
+
+    def test_plain_has_no_modes(self) -> None:
+        """Loads 1/2 and 2/5 are at most 1 together: a third tick of ctl is neither an overrun nor does it drop log."""
+        light = [Task("ctl", "high", 10, 2, 4), LOG]
+        begin = "kept:ctl:1 more:ctl:1"
+        self.assertTrue(judge(light, trace(f"{begin} more:ctl:1 kept:log:1 more:ctl:1 stop:ctl:1 more:log:1")).legal)
+        self.assertEqual(judge(light, trace(f"{begin} over:ctl:1")), Verdict(Why.WRONG_HOW, 3, 0, None))
+        self.assertEqual(judge(light, trace(f"{begin} more:ctl:1 dropped:log:1")), Verdict(Why.WRONG_KEPT, 4, 0, None))
+
     def test_too_many_rows(self) -> None:
         rows = [Row(Event.IDLE)] * 2_000_001
-        self.assertIs(self.refused(lambda: judge([LOG], rows)).status, Status.FULL)
+        refused = self.refused(lambda: judge([LOG], rows))
+        self.assertIs(refused.status, Status.FULL)
+        words = "too many rows or releases: judge takes at most 2,000,000 rows, and a Monitor takes any number"
+        self.assertEqual(str(refused), words)
+        self.assertEqual(str(self.refused(lambda: judge([LOG], Trace([(Row(Event.IDLE), 2_000_001)])))), words)
+        self.assertTrue(judge([LOG], Trace([(Row(Event.IDLE), 2_000_000)])).legal)
+
+    def test_plain_edf_of_a_set_with_a_scale(self) -> None:
+        """The job of ctl has its deadline at 10, and the first one of log at 11. So ctl has its 6 ticks first; under EDF-VD its second
+        one is an overrun. After 10 ticks ctl has a second job, whose deadline is 20, and log ends before it."""
+        rows = trace(
+            "kept:ctl:1 more:ctl:1 kept:log:1 more:ctl:1*4 done:ctl:1 more:log:1*4 kept:ctl:2 done:log:1 more:ctl:2 done:ctl:2 idle"
+        )
+        plain = [Task("ctl", "low", 10, 6), Task("log", "low", 10, 5)]
+        self.assertEqual(judge(plain, rows, Fraction(1)), Verdict(None, None, 0, None))
+        self.assertEqual(judge(CONTROL, rows), Verdict(Why.WRONG_HOW, 4, 0, None))
 
 
 if __name__ == "__main__":

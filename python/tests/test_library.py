@@ -98,6 +98,10 @@ class OtherLibraries(unittest.TestCase):
     def test_named_by_the_environment(self) -> None:
         self.assertEqual(self.imported(_library.library.path), "")
 
+    def test_modules_of_the_package(self) -> None:
+        """What the help of the package names is there when the package is imported."""
+        subprocess.run([sys.executable, "-c", "import edfvd; edfvd.laboratory.edf_vd"], check=True, timeout=60)
+
     def test_no_library(self) -> None:
         with tempfile.TemporaryDirectory() as folder:
             text = Path(folder, "libedfvd.so")

@@ -59,10 +59,10 @@ class ManySets(Case):
 
     def test_refused_sets(self) -> None:
         """A refused set raises where it is looked at, as check does, and hinders no other."""
-        tests = check_many([CONTROL, [], [CTL, Task("log", "low", 0, 5)], CONTROL])
+        tests = check_many([CONTROL, [], [CTL, Task("net", "low", 0, 5)], CONTROL])
         self.assertEqual((list(tests.statuses), list(tests.rules)), ([0, Status.EMPTY, Status.ZERO_NUMBER, 0], [2, 0, 0, 2]))
         self.assertEqual((tests.admitted, tests[3].scale), (2, Fraction(2, 5)))
-        for place, status, task in [(1, Status.EMPTY, None), (2, Status.ZERO_NUMBER, "log")]:
+        for place, status, task in [(1, Status.EMPTY, None), (2, Status.ZERO_NUMBER, "net")]:
             refused = self.refused(lambda: tests[place])
             self.assertEqual((refused.status, refused.task), (status, task))
 
@@ -173,6 +173,12 @@ class ArraysOfRows(Case):
                     finally:
                         self.assertEqual(monitor.look().rows, before)
 
+    def test_no_row_is_read_long_after_one_that_does_not_fit(self) -> None:
+        """The rows are read some at once, and those that come later are neither taken nor looked at."""
+        with Monitor(CONTROL) as monitor:
+            rows = [Row(Event.KEPT, "ctl", 2), *[Row(Event.IDLE)] * 5000, 5]
+            self.assertEqual(monitor.observe_all(rows), Unfit(Why.WRONG_COUNT, 1))  # type: ignore[arg-type]
+
     def test_long_runs(self) -> None:
         with Monitor(CONTROL) as monitor:
             self.assertIsNone(monitor.observe_all(Trace([(Row(Event.IDLE), 3 * 2**32)])))
@@ -193,8 +199,9 @@ class ArraysOfRows(Case):
         with Scheduler.endless(CONTROL) as scheduler:
             for _ in range(300):
                 scheduler.idle()
-            self.assertEqual(len(scheduler.row_array(since=44)), 256)
-            self.assertIs(self.refused(lambda: scheduler.row_array(since=43)).status, Status.GONE)
+            self.assertEqual(len(scheduler.row_array()), 300)  # 300 equal rows are one run
+            run_ticks(scheduler, 1000)
+            self.assertIs(self.refused(scheduler.row_array).status, Status.GONE)
         self.assertIs(self.refused(scheduler.row_array).status, Status.CLOSED)
 
 

@@ -6,9 +6,9 @@ import sys
 import unittest
 from fractions import Fraction
 from pathlib import Path
-from typing import List, Optional
+from typing import Callable, List, Optional
 
-from edfvd import Answer, Event, Next, PendingJob, Refused, Row, Scheduler, Status, Task
+from edfvd import Answer, Event, Next, PendingJob, Row, Scheduler, Status, Task, Trace
 from support import CONTROL, TOO_MUCH, Case
 
 PLAIN = [Task("hi", "high", 4, 1, 2), Task("lo", "low", 4, 2)]
@@ -27,7 +27,9 @@ class ByHand(Case):
             self.assertEqual(scheduler.next(), Next("ctl", 1, 2))
             self.assertEqual(scheduler.pending("ctl"), PendingJob("ctl", 1, 0, 0, 10, Fraction(4)))
             self.assertEqual(scheduler.pending("log"), PendingJob("log", 1, 0, 0, 10, Fraction(10)))
+            self.assertIs(scheduler.look().high_mode, False)
             self.assertEqual(scheduler.run("ctl", 1, 2, done=False), Answer(Event.OVER, "ctl", 1, 0, 0))
+            self.assertIs(scheduler.look().high_mode, True)
             self.assertEqual(scheduler.next(), Next("ctl", 1, 4))
             self.assertEqual(scheduler.pending("ctl"), PendingJob("ctl", 1, 2, 0, 10, Fraction(10)))
             self.assertIsNone(scheduler.pending("log"))
@@ -68,18 +70,124 @@ class ByHand(Case):
 
     def test_wrong_values(self) -> None:
         with Scheduler(CONTROL, places=4) as scheduler:
-            for call in (
+            calls: List[Callable[[], object]] = [
                 lambda: scheduler.run("net", 1, 1, done=True), lambda: scheduler.pending("net"),
                 lambda: scheduler.earliest("net"), lambda: scheduler.discarded("net"),
-            ):
-                with self.assertRaises((ValueError, Refused)):
+            ]
+            for call in calls:
+                with self.assertRaises(ValueError):
                     call()
-            with self.assertRaises(ValueError):
-                scheduler.run("ctl", 1, 2**32, done=True)
-            with self.assertRaises(ValueError):
-                scheduler.idle_for(2**64)
+            scheduler.release("ctl")
+            for wrong, kind in [("1", TypeError), (True, TypeError), (-1, ValueError), (2**32 + 1, ValueError), (2**64 + 1, ValueError)]:
+                with self.subTest(wrong=wrong):
+                    self.assertRaises(kind, scheduler.run, "ctl", wrong, 1, done=True)
+                    self.assertRaises(kind, scheduler.run, "ctl", 1, wrong, done=True)
+                    if wrong != 2**32 + 1:
+                        self.assertRaises(kind, scheduler.idle_for, wrong)
             with self.assertRaises(TypeError):
                 scheduler.run("ctl", 1, 1, done=1)  # type: ignore[arg-type]
+            self.assertEqual((scheduler.look().ticks, scheduler.look().rows), (0, 1))
+
+    def test_places(self) -> None:
+        """Two releases use two places, so a run of one tick is refused; no place is left for a first release of none."""
+        opened: List[Callable[[Optional[int]], Scheduler]] = [
+            lambda places: Scheduler(CONTROL, places), lambda places: Scheduler.scaled(CONTROL, Fraction(1, 2), places),
+            lambda places: Scheduler.scaled(CONTROL, None, places),
+        ]
+        for make in opened:
+            with make(0) as scheduler:
+                self.assertIs(self.refused(lambda: scheduler.release("ctl")).status, Status.FULL)
+            for places in (2, 3, None):
+                with make(places) as scheduler:
+                    scheduler.release("ctl")
+                    scheduler.release("log")
+                    if places == 2:
+                        self.assertIs(self.refused(lambda: scheduler.run("ctl", 1, 1, done=True)).status, Status.FULL)
+                    else:
+                        self.assertIs(scheduler.run("ctl", 1, 1, done=True).event, Event.DONE)
+            for wrong, kind in [("2", TypeError), (-1, ValueError), (2**32, ValueError)]:
+                with self.subTest(places=wrong):
+                    self.assertRaises(kind, make, wrong)
+
+    def test_closed(self) -> None:
+        scheduler = Scheduler(CONTROL, places=4)
+        scheduler.release("ctl")
+        scheduler.close()
+        calls: List[Callable[[], object]] = [
+            scheduler.next, scheduler.scale, lambda: scheduler.pending("ctl"), lambda: scheduler.earliest("ctl"),
+            lambda: scheduler.discarded("ctl"), lambda: scheduler.run("ctl", 1, 1, done=True), lambda: scheduler.idle_for(1),
+            scheduler.runs, scheduler.row_array, scheduler.restart,
+        ]
+        for place, call in enumerate(calls):
+            with self.subTest(place=place):
+                self.assertIs(self.refused(call).status, Status.CLOSED)
+
+    def test_restart(self) -> None:
+        """ctl, released at 0, may be released again at 10, which is 3 ticks after a restart at 7; log may be released at once."""
+        with Scheduler.endless(CONTROL) as scheduler:
+            scheduler.release("ctl")
+            pending = self.refused(scheduler.restart)
+            self.assertEqual((pending.status, pending.task), (Status.PENDING, "ctl"))
+            scheduler.grant("ctl")
+            granted = self.refused(scheduler.restart)
+            self.assertEqual((granted.status, granted.task), (Status.TICK_OUT, "ctl"))
+            scheduler.outcome("ctl", 1, done=True)
+            scheduler.idle_for(6)
+            self.assertEqual((scheduler.look().ticks, scheduler.look().rows), (7, 8))
+            scheduler.restart()
+            self.assertEqual((scheduler.look().ticks, scheduler.look().rows), (0, 0))
+            self.assertEqual((scheduler.earliest("ctl"), scheduler.earliest("log")), (3, 0))
+            soon = self.refused(lambda: scheduler.release("ctl"))
+            self.assertEqual((soon.status, soon.at), (Status.TOO_SOON, 3))
+            self.assertEqual(scheduler.release("log").count, 1)
+            scheduler.run("log", 1, 5, done=True)
+            self.assertEqual(scheduler.release("ctl").count, 1)
+            self.assertEqual(list(scheduler.runs()), [
+                (Row(Event.KEPT, "log", 1), 1), (Row(Event.MORE, "log", 1), 4), (Row(Event.DONE, "log", 1), 1), (Row(Event.KEPT, "ctl", 1), 1),
+            ])
+        self.assertIs(self.refused(scheduler.restart).status, Status.CLOSED)
+
+    def test_rows_as_runs(self) -> None:
+        idle = Row(Event.IDLE)
+        for places in (None, 50):
+            with Scheduler(CONTROL, places) as scheduler:
+                self.assertEqual(list(scheduler.runs()), [])
+                scheduler.idle_for(20)
+                scheduler.release("log")
+                scheduler.run("log", 1, 4, done=False)
+                more = Row(Event.MORE, "log", 1)
+                self.assertEqual(list(scheduler.runs()), [(idle, 20), (Row(Event.KEPT, "log", 1), 1), (more, 4)])
+                self.assertEqual(list(scheduler.runs(since=23)), [(more, 2)])
+                self.assertEqual((list(scheduler.runs(since=25)), list(scheduler.runs(since=2**64 - 1))), ([], []))
+                before = scheduler.runs()
+                scheduler.run("log", 1, 1, done=True)
+                scheduler.idle_for(3)
+                self.assertEqual(list(before)[-1], (more, 4))
+                self.assertEqual(Trace(scheduler.runs()), Trace.of(scheduler.rows()))
+                self.assertEqual(len(list(scheduler.rows())), 29)
+                with self.assertRaises(ValueError):
+                    scheduler.runs(since=-1)
+        with Scheduler.endless(CONTROL) as scheduler:
+            scheduler.idle_for(2**33)
+            self.assertEqual(list(scheduler.runs()), [(idle, 2**32 - 1), (idle, 2**32 - 1), (idle, 2)])
+            for _ in range(150):
+                scheduler.release("ctl")
+                scheduler.run("ctl", scheduler.look().chosen[1], 1, done=True)  # type: ignore[index]
+                scheduler.idle_for(9)
+            self.assertIs(self.refused(lambda: next(scheduler.runs())).status, Status.GONE)
+            # Eleven rows of each job are three runs, of which the latest 256 are kept.
+            self.assertEqual(sum(times for _, times in scheduler.runs(scheduler.look().rows - 85 * 11)), 85 * 11)
+
+    def test_large_numbers(self) -> None:
+        """Ticks of more than 32 bits, and a key that counts parts of 2^60 of a tick, and so has more than 64 bits."""
+        half, late = Fraction(2**59 + 1, 2**60), 2**40
+        with Scheduler.scaled(CONTROL, half) as scheduler:
+            self.assertEqual(scheduler.idle_for(late).event, Event.IDLE)
+            scheduler.release("ctl")
+            self.assertEqual(scheduler.pending("ctl"), PendingJob("ctl", 1, 0, late, late + 10, late + 10 * half))
+            self.assertEqual(scheduler.earliest("ctl"), late + 10)
+            self.assertEqual(scheduler.earliest("log"), 0)
+            self.assertEqual(scheduler.look().rows, late + 1)
 
     def test_scales(self) -> None:
         """A scale holds for the control set from 2/5 to 4/5."""
@@ -127,8 +235,9 @@ class BesideTicks(Case):
                         idle = rng.randint(1, 6)
                         self.assertEqual(runs.idle_for(idle), [ticks.idle() for _ in range(idle)][0])
                     else:
-                        past = self.refused(lambda: runs.run(job.task, job.count, job.ticks + 1, done=done))
-                        self.assertEqual((past.status, past.at), (Status.PAST, job.ticks))
+                        task, count, most = job.task, job.count, job.ticks
+                        past = self.refused(lambda: runs.run(task, count, most + 1, done=done))
+                        self.assertEqual((past.status, past.at), (Status.PAST, most))
                         length = rng.randint(1, job.ticks)
                         ran = runs.run(job.task, job.count, length, done=done)
                         self.assertEqual(ran, one_by_one(ticks, job.task, job.count, length, done))

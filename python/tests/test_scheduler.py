@@ -2,9 +2,10 @@
 
 import threading
 import unittest
+from fractions import Fraction
 from typing import Any, List, Tuple
 
-from edfvd import Answer, Event, Look, Refused, Row, Scheduler, Status, Task, judge
+from edfvd import Answer, Event, Look, Refused, Row, Scheduler, Status, Task, judge, scales
 from support import CONTROL, CTL, LOG, TOO_MUCH, Case
 
 
@@ -147,6 +148,19 @@ class Refusals(Case):
                     refused = self.refused(opened)
                     self.assertEqual((refused.status, refused.task), (status, task))
 
+    def test_opening_without_a_rule(self) -> None:
+        """No scale holds for a set that is not admitted; for an admitted one a scale may not hold."""
+        none = "not admitted; no scale holds for the set, so only judge and Monitor take it, with any scale"
+        other = "not admitted under this scale; edfvd.scales says which scales hold for the set, if any"
+        for opened, words in [
+            (lambda: Scheduler(TOO_MUCH, 10), none), (lambda: Scheduler.endless(TOO_MUCH), none),
+            (lambda: Scheduler.scaled(TOO_MUCH, None), none), (lambda: Scheduler.scaled(TOO_MUCH, Fraction(1)), other),
+            (lambda: Scheduler.scaled(CONTROL, Fraction(1, 10)), other),
+        ]:
+            self.assertEqual(str(self.refused(opened)), words)
+        self.assertIsNone(scales(TOO_MUCH))
+        self.assertTrue(judge(TOO_MUCH, [], Fraction(1)).legal)
+
 
 class Schedules(Case):
     def test_beside_the_judge(self) -> None:
@@ -162,7 +176,7 @@ class Schedules(Case):
         self.assertEqual(sum(row.event is Event.IDLE for row in rows), 80)
 
     def test_endless(self) -> None:
-        """A scheduler without an end has the rows of a plain one, of which it keeps the latest 256."""
+        """A scheduler without an end has the rows of a plain one, of which it keeps the latest 256 runs of equal rows."""
         seen: List[Row] = []
         with Scheduler(CONTROL, places=10_000) as plain, Scheduler.endless(CONTROL) as endless:
             for _ in range(500):
@@ -171,7 +185,7 @@ class Schedules(Case):
                 seen += endless.rows(len(seen))
             self.assertEqual(seen, list(plain.rows()))
             self.assertEqual(endless.look(), plain.look())
-            kept = len(seen) - 256
+            kept = [place for place, row in enumerate(seen) if place == 0 or row != seen[place - 1]][-256]
             self.assertEqual(list(endless.rows(kept)), seen[kept:])
             self.assertEqual(list(endless.rows(len(seen))), [])
             self.assertIs(self.refused(lambda: next(endless.rows(kept - 1))).status, Status.GONE)

@@ -9,7 +9,7 @@ import tempfile
 import unittest
 from fractions import Fraction
 from pathlib import Path
-from typing import Callable, List, Optional, Sequence, Tuple
+from typing import Any, Callable, List, Optional, Sequence, Tuple
 
 from edfvd import Refused, ScaleRange, Status, Task, scales, sensitivity, speed
 from edfvd.__main__ import main
@@ -82,6 +82,10 @@ class Margins(unittest.TestCase):
         self.assertTrue(all(scale in held for scale in inside))
         self.assertFalse(any(scale in held for scale in [Fraction(0), Fraction(39, 100), Fraction(81, 100)]))
         self.assertFalse(Fraction(0) in ScaleRange(Fraction(0), Fraction(1)))
+        wrong: Any
+        for wrong in (None, 0.5, "1/2", True, 1j):
+            with self.subTest(wrong=wrong), self.assertRaisesRegex(TypeError, "^the scale must be a Fraction, not "):
+                wrong in held
 
     def test_speed(self) -> None:
         for tasks, millionths in [

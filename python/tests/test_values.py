@@ -1,12 +1,17 @@
 """Values of wrong types and values that cannot be meant: which exception comes, and what it says."""
 
+import copy
+import dataclasses
 import enum
+import pickle
+import random
+import re
 import unittest
 from fractions import Fraction
 from typing import Any, Callable, List, Tuple
 
 import edfvd
-from edfvd import Event, Status, _library
+from edfvd import Event, Status, _library, _values, laboratory
 from support import CONTROL, CTL, Case
 
 # The package without its types: wrong ones are what is tried here.
@@ -93,9 +98,15 @@ class Sets(Case):
             for other in (1.0, True, "1", Fraction(1), [1], float("nan")):
                 self.raises(TypeError, f"task a: the {field} must be a whole number", [task(other)])
 
+    def test_known_names_take_bounded_memory(self) -> None:
+        """Names that were seen once are forgotten when there are more than 10,000 of them, and stay names."""
+        tasks = [Task(f"n{place}", "low", 10, 1) for place in range(20_005)]
+        self.assertLessEqual(len(_values._known), 10_001)
+        self.assertEqual(check(tasks[:2]).low_low, Fraction(1, 5))
+
     def test_what_is_no_list_of_tasks(self) -> None:
-        self.raises(TypeError, "not iterable", None)
-        self.raises(TypeError, "not iterable", CTL)
+        self.raises(TypeError, "tasks: 'NoneType' object is not iterable", None)
+        self.raises(TypeError, "tasks: 'Task' object is not iterable", CTL)
         self.raises(TypeError, "a task set has Task objects, not str", "ctl")
         self.raises(TypeError, "a task set has Task objects, not tuple", [("ctl", "high", 10, 2, 6)])
         self.raises(TypeError, "is no list of values", memoryview((_library.CTask * 2)()))
@@ -141,6 +152,42 @@ class Sets(Case):
             self.assertIsNotNone(check(many).rule)
         self.raises(ValueError, "is no name", [Task("x9", "low", 4, 1), Task("x 9", "low", 4, 1)])
         self.raises(ValueError, "two tasks have the name x9", [Task("x9", "low", 4, 1), Task("x9", "low", 4, 1)])
+
+    def test_random_sets(self) -> None:
+        """Random sets have the loads that fractions give, whether their tasks are new, or were copied, pickled or in a call before."""
+        rng = random.Random(3)
+        ways: List[Callable[[Any], Any]] = [
+            lambda task: task, copy.copy, copy.deepcopy, lambda task: pickle.loads(pickle.dumps(task)),
+            lambda task: dataclasses.replace(task, low=1), lambda task: Task(*dataclasses.astuple(task)),
+        ]
+        taken = [Task(f"x{place}", "low", 1000, 1) for place in range(20)]
+        for _ in range(300):
+            new = [Task(f"y{place}", rng.choice(["low", "high"]), rng.choice([10, 40, 1000]), rng.randint(1, 9), 9) for place in range(5)]
+            new = [dataclasses.replace(task, high=None) if task.level == "low" else task for task in new]
+            tasks = [rng.choice(ways)(task) for task in rng.sample(new, rng.randint(0, 5)) + rng.sample(taken, rng.randint(1, 9))]
+            rng.shuffle(tasks)
+            test = check(tasks)
+            self.assertEqual((test.low_low, test.high_low, test.high_high), laboratory.loads(tasks))
+            self.assertEqual(sorted(sum(partition(tasks, 16), [])), sorted(task.name for task in tasks))
+            taken = rng.sample(taken, 15) + [dataclasses.replace(task, name=f"x{rng.randrange(10**9)}") for task in new]
+
+    def test_what_was_right_before(self) -> None:
+        """Tasks that were in a set are looked at again in the next: two names that are equal, other fields, a class of your own."""
+        class OfMyOwn(edfvd.Task):
+            pass
+
+        check(CONTROL)
+        self.raises(ValueError, "two tasks have the name ctl", [CTL, CTL])
+        self.raises(TypeError, "a task set has Task objects, not str", [CTL, "log"])
+        self.raises(ValueError, "task log: the period is -1", [CTL, dataclasses.replace(CONTROL[1], period=-1)])
+        own = OfMyOwn("ctl", "high", 10, 2, 6)
+        self.assertEqual(check([own]), check([CTL]))
+        own.__dict__["period"] = 20
+        self.assertEqual(check([own]), check([Task("ctl", "high", 20, 2, 6)]))
+        without = Task.__new__(Task)
+        without.__dict__.update(name="ctl", level="high", period=20, low=2, high=6)
+        self.assertEqual(check([without]), check([own]))
+        self.assertEqual(pickle.dumps(CTL), pickle.dumps(Task("ctl", "high", 10, 2, 6)))
 
     def test_what_can_stand_for_a_value(self) -> None:
         tasks = [Task(Named.CTL, "high", Index(10), 2, Numeric(6)), Task(Named.LOG, "low", 10, Index(5))]
@@ -200,6 +247,35 @@ class Calls(Case):
         for place, call in enumerate(calls):
             with self.subTest(place=place, values=call.__code__.co_consts), self.assertRaises(ValueError):
                 call()
+
+    def test_an_event_that_is_no_event(self) -> None:
+        for wrong in ("KEPT", "kept", 1.0, None, True, (1,)):
+            for call in (lambda row: judge(CONTROL, [row]), Monitor(CONTROL).observe):
+                with self.assertRaises(TypeError) as caught:
+                    call(Row(wrong, "ctl", 1))
+                words = f"a row's event must be an Event, such as Event.KEPT, not {type(wrong).__name__}"
+                self.assertEqual(str(caught.exception), words)
+
+    def test_names_of_numbers(self) -> None:
+        """A member is shown by its name in each version of Python, and is a number all the same."""
+        for member, name, number in [
+            (untyped.Why.WRONG_HOW, "WRONG_HOW", 6), (untyped.Rule.PLAIN, "PLAIN", 1), (Event.IDLE, "IDLE", 9), (Status.BUSY, "BUSY", 42),
+        ]:
+            self.assertEqual([str(member), f"{member}", "%s" % member, f"{member:>10}"], [name, name, name, name.rjust(10)])
+            self.assertEqual([int(member), f"{member:d}", f"{member:03x}", "%d" % member], [number, str(number), f"{number:03x}", str(number)])
+            self.assertEqual(repr(member), f"<{type(member).__name__}.{name}: {number}>")
+
+    def test_each_member_is_explained(self) -> None:
+        for kind in (untyped.Why, untyped.Rule, Event):
+            found = re.findall("^ *- ``([A-Z_]+)``: ", kind.__doc__ or "", flags=re.M)
+            self.assertEqual(found, [member.name for member in kind])
+
+    def test_the_calls_are_listed(self) -> None:
+        """The table at the head of the package has each call and class that is not a value, and laboratory."""
+        table = (edfvd.__doc__ or "").split("=" * 90)[2]
+        listed = re.findall("[A-Za-z_]+", " ".join(line[:42] for line in table.splitlines()))
+        functions = [name for name in edfvd.__all__ if name[0].islower()]
+        self.assertEqual(sorted(listed), sorted([*functions, "Monitor", "Scheduler", "Trace"]))
 
     def test_events_as_numbers(self) -> None:
         """The number of an event stands for it; one that would wrap to it in 32 bits does not."""
@@ -271,8 +347,9 @@ class Handles(Case):
                 with self.subTest(count=wrong), self.assertRaises(kind):
                     scheduler.outcome("ctl", wrong, done=True)
             for wrong, kind in [("0", TypeError), (None, TypeError), (-1, ValueError), (2**64, ValueError)]:
-                with self.subTest(since=wrong), self.assertRaises(kind):
-                    scheduler.rows(wrong)
+                with self.subTest(since=wrong):
+                    for rows in (scheduler.rows, scheduler.runs, scheduler.row_array):
+                        self.assertRaises(kind, rows, wrong)
             self.assertEqual((scheduler.look().out, scheduler.look().rows), (("ctl", 1), 1))
 
     def test_monitor(self) -> None:
