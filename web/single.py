@@ -1,7 +1,7 @@
-"""Writes the page as one file, which needs no server and no network. Scripts, style and module are inside, and a content security policy
+"""Writes the page as one file, which needs no server and no network. Scripts, style and modules are inside, and a content security policy
 names each of them by its hash, so that the page loads nothing else and sends nothing.
 
-usage: single.py MODULE.wasm EXAMPLES.js > FILE.html
+usage: single.py MODULE.wasm SETS.wasm EXAMPLES.js > FILE.html
 """
 
 import base64
@@ -59,8 +59,8 @@ def replaced(page, old, new):
     return page.replace(old, new)
 
 
-def page_of(module, examples):
-    """The page with this module and these examples."""
+def page_of(module, sets, examples):
+    """The page with these modules and examples."""
     def sources(name):
         return examples if name == 'examples.js' else (HERE / 'src' / name).read_text()
     style = (HERE / 'style.css').read_text()
@@ -73,15 +73,17 @@ def page_of(module, examples):
     page = replaced(page, '<link rel="stylesheet" href="style.css">\n', f'<style>{style}</style>\n')
     page = replaced(page, '<script type="module" src="page.js"></script>\n', '')
     return replaced(page, '</body>\n', f'<script type="text/plain" id="module">{base64.b64encode(module).decode()}</script>\n'
+                                       f'<script type="text/plain" id="sets">{base64.b64encode(sets).decode()}</script>\n'
                                        f'<script type="text/plain" id="worker">\n{worker}</script>\n'
                                        f'<script type="module">{script}</script>\n</body>\n')
 
 
 def main(words):
-    if len(words) != 2:
+    if len(words) != 3:
         raise WrongWords
     try:
-        page = page_of(pathlib.Path(words[0]).read_bytes(), pathlib.Path(words[1]).read_text())
+        module, sets, examples = (pathlib.Path(word).read_bytes() for word in words)
+        page = page_of(module, sets, examples.decode())
     except Unexpected as why:
         print(f'single.py: {why}', file=sys.stderr)
         return 1

@@ -3,8 +3,8 @@
 export class Stopped extends Error {}
 
 export class Asker {
-    constructor(module, newWorker) {
-        this.module = module;
+    constructor(modules, newWorker) {
+        this.modules = modules;
         this.newWorker = newWorker;
         this.last = 0;
         this.begin();
@@ -14,7 +14,7 @@ export class Asker {
         this.waiting = new Map();
         this.since = 0;
         this.worker = this.newWorker();
-        this.worker.postMessage({ module: this.module });
+        this.worker.postMessage({ modules: this.modules });
         this.worker.onmessage = ({ data: { number, answer, error } }) => {
             const { done, fail } = this.waiting.get(number);
             this.waiting.delete(number);

@@ -1,5 +1,6 @@
 // The answer of `check`, and why a set is not admitted.
-import { at, bad, badLine, button, good, made, took } from './elements.js';
+import { adviceOn } from './advice.js';
+import { at, bad, badLine, button, good, made, note, took } from './elements.js';
 import { conditionsOf, Fraction, ONE } from './fraction.js';
 import { page } from './shared.js';
 import { lineOfTaskError } from './toml.js';
@@ -8,12 +9,24 @@ function percent(fraction) {
     return `${(100 * Fraction.of(fraction).toNumber()).toFixed(1)} %`;
 }
 
-// A list of loads: the name of each, the fraction and the percentage.
+const MEANINGS = { U_LL: 'low tasks', U_HL: 'high tasks, low budgets', U_HH: 'high tasks, high budgets' };
+
+const RULE_HINTS = {
+    virtual: 'In low mode the virtual deadline of a high job is its release + x·period; in high mode its own deadline counts.',
+    plain: 'Plain EDF has no modes: a high job may use its high budget, no job overruns, and no low job is dropped or discarded. '
+        + 'A scale that holds, chosen under “What may change”, gives the set virtual deadlines and modes.',
+};
+
+// A list of loads: the name of each, the fraction, the percentage, and of which tasks it is.
 export function loadsOf(pairs) {
     const list = made('dl', { className: 'loads' });
-    for (const [name, fraction] of pairs) list.append(made('dt', {}, name), made('dd', {}, fraction), made('dd', { className: 'share' }, percent(fraction)));
+    for (const [name, fraction] of pairs) {
+        list.append(made('dt', {}, name), made('dd', {}, fraction), made('dd', { className: 'share' }, percent(fraction)), made('dd', { className: 'meaning' }, MEANINGS[name] ?? ''));
+    }
     return list;
 }
+
+const loadHint = (words) => made('p', { className: 'hint' }, `${words}A load is the sum of budget/period.`);
 
 function admitted(answer, lines) {
     const [[, count], ...rest] = lines;
@@ -22,9 +35,10 @@ function admitted(answer, lines) {
     const words = rule === 'virtual' ? `EDF with virtual deadlines, x\u00a0=\u00a0${scale}` : 'plain EDF';
     const card = good(made('strong', {}, `Admitted: ${words}`), took(answer));
     const unheld = rest.find(([word]) => word === 'scale');
-    if (unheld) card.append(made('p', {}, unheld.join(' ')));
-    card.append(loadsOf(rest.slice(0, 3)), made('p', { className: 'hint' }, `${count} ${count === '1' ? 'task' : 'tasks'}`));
-    return { card, result: { isAdmitted: true, loads: rest.slice(0, 3).map(([, load]) => load), rule, scale, unheld: unheld?.[1] } };
+    card.append(loadsOf(rest.slice(0, 3)), loadHint(`${count} ${count === '1' ? 'task' : 'tasks'}. `));
+    card.append(made('p', { className: 'hint' }, RULE_HINTS[rule]));
+    const cards = unheld ? [badLine(`${unheld.join(' ')}. It is the file’s own, so the test chooses the rule.`), card] : [card];
+    return { cards, result: { isAdmitted: true, count: Number(count), loads: rest.slice(0, 3).map(([, load]) => load), rule, scale } };
 }
 
 // The two sums of the published test, each of which is above 1.
@@ -41,23 +55,25 @@ function notAdmitted(answer, showChanges) {
     const words = answer.text.replace('not admitted: ', '').split(' ');
     const pairs = [0, 2, 4].map((place) => words.slice(place, place + 2));
     const loads = pairs.map(([, load]) => load);
-    const card = bad(made('strong', {}, 'Not admitted by the test'), took(answer), loadsOf(pairs), reasons(loads),
-        made('p', {}, button('What would have to change?', showChanges)));
-    return { card, result: { isAdmitted: false, loads } };
+    const card = bad(made('strong', {}, 'Not admitted by the test'), took(answer), loadsOf(pairs), loadHint(''), reasons(loads));
+    if (showChanges) card.append(made('p', {}, button('What would have to change?', showChanges)));
+    return { cards: [card], result: { isAdmitted: false, loads } };
 }
 
-// Shows the answer of `check`, and returns what it says of the set; `loads` is absent if the file is refused.
+// Shows the answer of `check`, and returns what it says of the set: `loads` unless the file is refused, and `count`, the number of tasks, if
+// the set is admitted. `showChanges` is the action of a button, or null where what would have to change is shown already.
 export async function showCheck(ask, showChanges) {
     const { tasks } = page.editors;
     const answer = await ask('check', { tasks: tasks.source() });
     tasks.unmark();
     if (answer.exit > 1) {
         tasks.blame(lineOfTaskError(answer.text, tasks.text()));
-        at('check').replaceChildren(badLine(answer.text));
+        const advice = adviceOn(answer.text);
+        at('check').replaceChildren(badLine(answer.text), ...(advice ? [note(advice)] : []));
         return { isAdmitted: false };
     }
     const lines = answer.text.split('\n').map((line) => line.split(' '));
-    const { card, result } = answer.exit === 0 ? admitted(answer, lines) : notAdmitted(answer, showChanges);
-    at('check').replaceChildren(card);
+    const { cards, result } = answer.exit === 0 ? admitted(answer, lines) : notAdmitted(answer, showChanges);
+    at('check').replaceChildren(...cards);
     return result;
 }

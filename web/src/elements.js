@@ -22,7 +22,7 @@ export const badLine = (words) => made('p', { className: 'bad line' }, words);
 export const grouped = (number) => Number(number).toLocaleString('en');
 
 export function took({ took: time }) {
-    return made('span', { className: 'took' }, time < 1 ? 'in less than 1 ms' : `in ${Math.round(time)} ms`);
+    return made('span', { className: 'took' }, time < 1 ? ' in less than 1 ms' : ` in ${Math.round(time)} ms`);
 }
 
 // A table of texts and elements, with a heading for each column.

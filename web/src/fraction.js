@@ -53,19 +53,7 @@ export class Fraction {
     }
 }
 
-export const ZERO = new Fraction(0n);
 export const ONE = new Fraction(1n);
-
-// The least and the greatest scale that hold for a set with these loads, or null if none does. A least scale of 0 is no scale itself.
-export function scalesThatHold(lowLow, highLow, highHigh) {
-    if (highHigh.isAbove(ONE)) return null;
-    const spare = ONE.minus(lowLow);
-    if (spare.isAtMost(ZERO) && (highLow.isAbove(ZERO) || spare.over < 0n)) return null;
-    const least = highLow.isAtMost(ZERO) ? ZERO : highLow.by(spare);
-    const most = lowLow.isAtMost(ZERO) ? ONE : ONE.minus(highHigh).by(lowLow);
-    const greatest = most.isAbove(ONE) ? ONE : most;
-    return least.isAbove(greatest) || greatest.isAtMost(ZERO) ? null : { least, greatest };
-}
 
 // The two conditions of the published test with their numbers: what each sum is, and whether it is at most 1. The second is absent
 // where its scale is not defined.

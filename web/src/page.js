@@ -1,16 +1,17 @@
 // The page: what is edited is asked of the proved code, and the answers are shown.
-import { showChart, showDemand, showSchedule, showVerdict } from './answers.js';
+import { showChart, showDemand, showSchedule, showVerdict, traceHint } from './answers.js';
 import { Asker, Stopped } from './asking.js';
-import { showFit, showMargins, showScales } from './changes.js';
+import { showChanges, showFit } from './changes.js';
 import { showCheck } from './checked.js';
 import { Editor } from './editor.js';
 import { at, badLine, grouped, made } from './elements.js';
 import { EXAMPLES } from './examples.js';
 import { fragmentOf, MOST_LINK, stateOf } from './link.js';
-import { newWorker, openModule } from './opening.js';
+import { newWorker, openModules } from './opening.js';
 import { isRecording } from './recording.js';
 import { asking, asksOf, Outdated, page } from './shared.js';
 import { tasksIn } from './toml.js';
+import { Unseen } from './unseen.js';
 import { View } from './view.js';
 import { MOST_JOBS, workOf } from './workload.js';
 
@@ -18,10 +19,14 @@ const PAUSE = 120;
 const PATIENCE = 300;
 const FIELDS = ['ticks', 'scale', 'processors', 'tick'];
 const EDITORS = ['tasks', 'work', 'trace', 'demands'];
+const NO_WORK = 'task,release,need\n';
+// What a file or a field holds if neither an example nor a link names it.
+const FIRST_VALUES = { tasks: EXAMPLES[0].tasks, trace: '', demands: EXAMPLES.find(({ demands }) => demands !== undefined).demands, ticks: '20', scale: '', processors: '2', tick: '1000' };
 // Where a failure is shown, by tab.
 const PLACES = { schedule: 'run', judge: 'verdict', fit: 'stretch', demand: 'demanded' };
 
 const views = {};
+const unseen = new Unseen();
 let timer = 0;
 let asked = 0;
 
@@ -49,6 +54,7 @@ async function answer(turn) {
         if (error instanceof Stopped) views.run.clear();
         at(PLACES[tab]).replaceChildren(badLine(error.message));
     }
+    unseen.changed(at(tab === 'fit' ? 'check' : PLACES[tab]));
     document.body.dataset.answered = String(turn);
 }
 
@@ -57,7 +63,7 @@ async function answers(tab, ask) {
         await showDemand(ask);
         return;
     }
-    const check = await showCheck(ask, () => choose('fit'));
+    const check = await showCheck(ask, tab === 'fit' ? null : showWhatMayChange);
     if (tab === 'schedule') await showSchedule(ask, check.isAdmitted, views.run);
     if (tab === 'judge') {
         const start = await startOf(page.editors.trace.source());
@@ -65,9 +71,8 @@ async function answers(tab, ask) {
         await showVerdict(ask, views.judge, isRecording(start));
     }
     if (tab === 'fit') {
-        showScales(check);
+        await showChanges(ask, check);
         await showFit(ask);
-        await showMargins(ask, check);
     }
 }
 
@@ -88,6 +93,7 @@ function show(tab) {
         one.tabIndex = isChosen ? 0 : -1;
     }
     for (const editor of Object.values(page.editors)) editor.shown();
+    unseen.forget();
 }
 
 function choose(tab) {
@@ -95,19 +101,33 @@ function choose(tab) {
     changed();
 }
 
-// Puts files and fields into the page: those of an example or of a link. What a state does not name stays, except the scale.
+// The button that leads there is gone then, so the chosen tab gets the focus.
+function showWhatMayChange() {
+    choose('fit');
+    at('tab-fit').focus();
+}
+
+// Puts files and fields into the page: those of an example or of a link. What these do not name is not left of what was there before: the
+// work file is one that is filled in for the tasks, and the rest is as in the example that shows it first.
 function load(state) {
-    for (const name of EDITORS) if (state[name] !== undefined) page.editors[name].set(state[name]);
-    for (const name of FIELDS) if (state[name] !== undefined) at(name).value = state[name];
-    at('scale').value = state.scale ?? '';
+    const values = { ...FIRST_VALUES, ...state };
+    const texts = { ...values, work: values.work ?? workOf(readTasks(values.tasks), Number(values.ticks), false) ?? NO_WORK };
+    for (const name of EDITORS) page.editors[name].set(texts[name]);
+    for (const name of FIELDS) at(name).value = texts[name];
     for (const view of Object.values(views)) view.clear();
     choose(state.tab);
 }
 
+// The tasks that can be read, if all of them can.
+function readTasks(text) {
+    const tasks = tasksIn(text);
+    return tasks.every(({ period, low }) => period >= 1 && low >= 1) ? tasks : [];
+}
+
 // Fills in a work file for the tasks and the ticks that are here.
 function fill(hasOverruns) {
-    const tasks = tasksIn(page.editors.tasks.text());
-    const isKnown = tasks.length > 0 && tasks.every(({ period, low }) => period >= 1 && low >= 1);
+    const tasks = readTasks(page.editors.tasks.text());
+    const isKnown = tasks.length > 0;
     const text = isKnown ? workOf(tasks, Number(at('ticks').value) || 1, hasOverruns) : null;
     if (text !== null) page.editors.work.set(text);
     else page.editors.work.refuse(isKnown ? `That would be more than ${grouped(MOST_JOBS)} jobs: fill in fewer ticks.` : 'The task file has no tasks that can be read.');
@@ -158,6 +178,7 @@ function listen() {
     at('to-judge').addEventListener('click', asking(takeToJudge));
     at('chart-part').addEventListener('toggle', () => at('chart-part').open && !at('chart').firstChild && showChart(asksOf(page.round)).catch(() => {}));
     window.addEventListener('hashchange', loadLink);
+    unseen.listen();
     // A file that is dropped beside the editors must not take the place of the page.
     for (const kind of ['dragover', 'drop']) window.addEventListener(kind, (event) => event.preventDefault());
 }
@@ -183,10 +204,11 @@ function watch() {
 
 async function begin() {
     try {
-        page.asker = new Asker(await openModule(), newWorker);
+        page.asker = new Asker(await openModules(), newWorker);
         at('state').textContent = '';
         for (const name of EDITORS) page.editors[name] = new Editor(at(name), changed);
         for (const name of ['run', 'judge']) views[name] = new View(name, at(`${name}-drawing`));
+        at('trace-hint').append(traceHint());
         listen();
         watch();
         if (!loadLink()) load(EXAMPLES[0]);

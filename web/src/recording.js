@@ -2,7 +2,7 @@
 // compares the two. No proof sees this. The proved code then judges the trace that comes out.
 import { recordsIn } from './csv.js';
 
-export const MOST_TICKS = 10000000;
+const MOST_TICKS = 10000000;
 const MOST_TIME = 2 ** 52;
 const MOST_NO_TIME = 2n ** 62n;
 const HEADER = 'time,event,task';

@@ -1,5 +1,5 @@
 // Shapes as SVG elements, and a drawing as a file. Words of a file become text and never markup.
-import { LEGEND, PATHS } from './drawing.js';
+import { LEGEND } from './drawing.js';
 
 const SVG = 'http://www.w3.org/2000/svg';
 
@@ -11,9 +11,11 @@ function element({ name, attributes, title, text }) {
     return made;
 }
 
-export function svgOf({ width, height, label, shapes }) {
-    const svg = element({ name: 'svg', attributes: { viewBox: `0 0 ${width} ${height}`, width, height, role: 'img', 'aria-label': label } });
-    svg.append(...shapes.map(element));
+// The picture, which says in words what it shows to those who do not see it. The name is that of the drawing on the page.
+export function svgOf({ width, height, label, words, shapes }, name) {
+    const [viewBox, id] = [`0 0 ${width} ${height}`, `${name}-words`];
+    const svg = element({ name: 'svg', attributes: { viewBox, width, height, role: 'img', 'aria-label': label, 'aria-describedby': id } });
+    svg.append(element({ name: 'desc', attributes: { id }, text: words }), ...shapes.map(element));
     return svg;
 }
 
@@ -26,7 +28,7 @@ export function svgFile(svg) {
     copy.setAttribute('xmlns', SVG);
     const [seen, written] = [svg.querySelectorAll('*'), copy.querySelectorAll('*')];
     seen.forEach((one, place) => {
-        if (one.localName === 'title') return;
+        if (one.localName === 'title' || one.localName === 'desc') return;
         const style = getComputedStyle(one);
         for (const look of LOOKS) written[place].setAttribute(look, style.getPropertyValue(look));
     });
@@ -39,15 +41,11 @@ export function svgFile(svg) {
 export function legend() {
     const list = document.createElement('ul');
     list.className = 'legend';
-    for (const [kind, words] of LEGEND) {
+    for (const [kind, words, path] of LEGEND) {
         const item = document.createElement('li');
         const svg = element({ name: 'svg', attributes: { width: 22, height: 22, viewBox: '0 0 22 22', 'aria-hidden': 'true' } });
-        if (kind in PATHS) {
-            const [, up, path] = PATHS[kind];
-            svg.append(element({ name: 'path', attributes: { class: kind, d: `M11 ${21 - up}${path.replaceAll('36', '20')}` } }));
-        } else {
-            svg.append(element({ name: 'rect', attributes: { class: kind, x: 1, y: 3, width: 20, height: 16 } }));
-        }
+        if (path) svg.append(element({ name: 'path', attributes: { class: kind, d: path } }));
+        else svg.append(element({ name: 'rect', attributes: { class: kind, x: 1, y: 3, width: 20, height: 16 } }));
         item.append(svg, words);
         list.append(item);
     }

@@ -1,8 +1,8 @@
-// A trace as the drawing needs it: who has which ticks, the releases of each task, jobs that were discarded, and the stretches of high
-// mode. The verdict on the trace is the proved code's; what is kept here is the page's own reading.
+// A trace as the drawing needs it: who has which ticks, the releases of each task, jobs that were discarded or late, and the stretches of
+// high mode. The verdict on the trace is the proved code's; what is kept here is the page's own reading.
 
 export const OUTCOMES = ['more', 'done', 'stop', 'over'];
-const [, DONE, STOP, OVER] = OUTCOMES.keys();
+const [MORE, DONE, STOP, OVER] = OUTCOMES.keys();
 
 // A list of whole numbers below 2^32, in four bytes each.
 class Column {
@@ -25,6 +25,10 @@ class Column {
         return this.numbers[place];
     }
 
+    set(place, number) {
+        this.numbers[place] = number;
+    }
+
     // The place of the first number that is at least this one, in a list that never falls.
     placeOf(least) {
         let [low, high] = [0, this.length];
@@ -42,16 +46,17 @@ export function columns(...names) {
 }
 
 const SIGNS = new Set(OUTCOMES);
+const newReleases = () => columns('tick', 'job', 'isKept', 'isLate', 'isInHighMode');
 
-export class Timeline {
-    // The tasks are those of the task file if it names each task of the trace; the others are added without level and period.
+class Timeline {
+    // The tasks are those of the task file if it names each task of the trace; the others are added without level, period and budgets.
     constructor(tasks) {
-        this.lanes = tasks.map((task) => ({ ...task, releases: columns('tick', 'job', 'isKept') }));
+        this.lanes = tasks.map((task) => ({ ...task, releases: newReleases() }));
         this.laneOf = new Map(tasks.map(({ name }, lane) => [name, lane]));
-        this.pending = new Map();
-        this.slices = columns('begin', 'end', 'lane', 'job', 'outcome');
+        this.pending = tasks.map(() => new Map());
+        this.slices = columns('begin', 'end', 'lane', 'job', 'outcome', 'isBeyond');
         this.discards = columns('tick', 'lane', 'job');
-        this.modes = columns('begin', 'end');
+        this.modes = columns('begin', 'end', 'isEndedByIdleTick');
         this.highSince = -1;
         this.ticks = 0;
         this.records = 0;
@@ -60,93 +65,133 @@ export class Timeline {
     lane(name) {
         if (!this.laneOf.has(name)) {
             this.laneOf.set(name, this.lanes.length);
-            this.lanes.push({ name, releases: columns('tick', 'job', 'isKept') });
+            this.lanes.push({ name, releases: newReleases() });
+            this.pending.push(new Map());
         }
         return this.laneOf.get(name);
     }
 
     release(tick, lane, job, isKept) {
-        const { releases, level } = this.lanes[lane];
+        const { releases } = this.lanes[lane];
+        if (isKept) this.pending[lane].set(job, { place: releases.tick.length, used: 0 });
         releases.tick.push(tick);
         releases.job.push(job);
         releases.isKept.push(Number(isKept));
-        if (isKept && level === 'low') this.pendingOf(lane).add(job);
+        releases.isLate.push(0);
+        releases.isInHighMode.push(Number(this.highSince >= 0));
     }
 
-    pendingOf(lane) {
-        if (!this.pending.has(lane)) this.pending.set(lane, new Set());
-        return this.pending.get(lane);
-    }
-
+    // Ticks of a job, which are two slices if its low budget is used up between them.
     tick(begin, length, lane, job, outcome) {
-        const { slices } = this;
         const end = begin + length;
+        const waiting = this.pending[lane].get(job);
+        const { level, low } = this.lanes[lane];
+        const within = waiting && level === 'high' && low >= 1 ? Math.min(Math.max(low - waiting.used, 0), length) : length;
+        if (within > 0) this.slice(begin, begin + within, lane, job, within < length ? MORE : outcome, 0);
+        if (within < length) this.slice(begin + within, end, lane, job, outcome, 1);
+        if (waiting) waiting.used += length;
+        if (outcome === DONE || outcome === STOP) this.leave(lane, job, end);
+        if (outcome === OVER) this.overrun(end);
+        this.ticks = Math.max(this.ticks, end);
+    }
+
+    slice(begin, end, lane, job, outcome, isBeyond) {
+        const { slices } = this;
         slices.begin.push(begin);
         slices.end.push(end);
         slices.lane.push(lane);
         slices.job.push(job);
         slices.outcome.push(outcome);
-        if (outcome === DONE || outcome === STOP) this.pending.get(lane)?.delete(job);
-        if (outcome === OVER) this.overrun(end);
-        this.ticks = Math.max(this.ticks, end);
+        slices.isBeyond.push(isBeyond);
     }
 
     overrun(tick) {
-        for (const [lane, jobs] of this.pending) {
-            for (const job of jobs) {
+        this.pending.forEach((jobs, lane) => {
+            if (this.lanes[lane].level !== 'low') return;
+            for (const job of [...jobs.keys()]) {
                 this.discards.tick.push(tick);
                 this.discards.lane.push(lane);
                 this.discards.job.push(job);
+                this.leave(lane, job, tick);
             }
-            jobs.clear();
-        }
+        });
         if (this.highSince < 0) this.highSince = tick;
     }
 
+    // A pending job ends or is discarded at this boundary. It is late if its deadline was before.
+    leave(lane, job, boundary) {
+        const { period, releases } = this.lanes[lane];
+        const waiting = this.pending[lane].get(job);
+        if (!waiting) return;
+        if (releases.tick.at(waiting.place) + period < boundary) releases.isLate.set(waiting.place, 1);
+        this.pending[lane].delete(job);
+    }
+
+    // The trace ends here: a job that is pending is late if its deadline has come.
+    finish() {
+        this.endOfHighMode(this.ticks, false);
+        this.pending.forEach((jobs, lane) => {
+            const { period, releases } = this.lanes[lane];
+            for (const { place } of jobs.values()) if (releases.tick.at(place) + period <= this.ticks) releases.isLate.set(place, 1);
+        });
+    }
+
+    // How many jobs are late, and how many did not get all their ticks: by the word for why.
+    counts() {
+        const sum = (column, wanted) => column.numbers.subarray(0, column.length).reduce((count, one) => count + Number(one === wanted), 0);
+        const ofLanes = (name, wanted) => this.lanes.reduce((count, { releases }) => count + sum(releases[name], wanted), 0);
+        return { late: ofLanes('isLate', 1), dropped: ofLanes('isKept', 0), discarded: this.discards.tick.length, stopped: sum(this.slices.outcome, STOP) };
+    }
+
     idle(begin, length) {
-        if (this.highSince >= 0) this.endOfHighMode(begin + 1);
+        this.endOfHighMode(begin + 1, true);
         this.ticks = Math.max(this.ticks, begin + length);
     }
 
-    endOfHighMode(tick) {
-        if (tick > this.highSince) {
+    // High mode, if it is that, is drawn up to this boundary: the end of the first idle tick, or of the trace.
+    endOfHighMode(tick, isIdle) {
+        if (this.highSince >= 0 && tick > this.highSince) {
             this.modes.begin.push(this.highSince);
             this.modes.end.push(tick);
+            this.modes.isEndedByIdleTick.push(Number(isIdle));
         }
         this.highSince = -1;
     }
 }
 
+// The rows that a record stands for: their event, the tick and the lane of the first of them, their number, and the job and the last word.
+function rowsOf(timeline, isLong, fields) {
+    const event = fields[0];
+    const length = event === 'release' ? 0 : isLong ? Number(fields[2]) : 1;
+    const [name, job, how] = isLong ? fields.slice(3) : fields.slice(2);
+    return { event, tick: Number(fields[1]), length, lane: event === 'idle' ? -1 : timeline.lane(name), job: Number(job), how };
+}
+
 // The timeline of the records of a trace of either version, and where its row of this number is, counted from 1: its line, tick, lane
-// and length. Without such a row, or with the number 0, `fault` is null.
-export function timelineOf(tasks, records, row) {
+// and length, the line of the header, and the first and the last row of its record. Without such a row, or with the number 0, `fault` is
+// null. `reasonOf` is asked once, with the timeline of the records before and this row; its answer is the fault's `reason`.
+export function timelineOf(tasks, records, row, reasonOf = () => null) {
     const timeline = new Timeline(tasks);
-    let isLong = false;
-    let rows = 0;
-    let fault = null;
-    let isHeader = true;
+    let [rows, fault, header, isLong] = [0, null, -1, false];
     for (const { line, fields } of records) {
-        if (isHeader) {
+        if (header < 0) {
             isLong = fields.length === 6;
-            isHeader = false;
+            header = line;
             continue;
         }
-        const event = fields[0];
-        const begin = Number(fields[1]);
-        const length = event === 'release' ? 0 : isLong ? Number(fields[2]) : 1;
-        const [name, job, outcome] = isLong ? fields.slice(3) : fields.slice(2);
-        const lane = event === 'idle' ? -1 : timeline.lane(name);
+        const { event, tick, length, lane, job, how } = rowsOf(timeline, isLong, fields);
         const count = Math.max(length, 1);
         if (fault === null && row > rows && row <= rows + count) {
-            const past = event === 'release' ? 0 : row - rows - 1;
-            fault = { line, tick: begin + past, lane, length: Math.min(length, 1) };
+            const past = row - rows - 1;
+            const reason = reasonOf(timeline, { event, lane, job, how, past });
+            fault = { line, header, rows: [rows + 1, rows + count], tick: tick + past, lane, length: Math.min(length, 1), reason };
         }
         rows += count;
         timeline.records += 1;
-        if (event === 'idle') timeline.idle(begin, length);
-        else if (event === 'release') timeline.release(begin, lane, Number(job), outcome === 'kept');
-        else timeline.tick(begin, length, lane, Number(job), SIGNS.has(outcome) ? OUTCOMES.indexOf(outcome) : 0);
+        if (event === 'idle') timeline.idle(tick, length);
+        else if (event === 'release') timeline.release(tick, lane, job, how === 'kept');
+        else timeline.tick(tick, length, lane, job, SIGNS.has(how) ? OUTCOMES.indexOf(how) : MORE);
     }
-    if (timeline.highSince >= 0) timeline.endOfHighMode(timeline.ticks);
+    timeline.finish();
     return { timeline, fault };
 }

@@ -48,7 +48,7 @@ export class View {
         const width = Math.max(this.canvas.clientWidth - 2, LEAST_WIDTH);
         const picture = await page.asker.ask('window', { name: this.name, begin, end, width, fault });
         if (picture === null || turn !== this.painted || this.trace === null) return;
-        this.canvas.replaceChildren(svgOf(picture));
+        this.canvas.replaceChildren(svgOf(picture, this.name));
         if (!picture.isAllShown) this.canvas.append(made('p', { className: 'hint' }, 'Signs that would hide each other are not drawn: show fewer ticks to see them.'));
         const part = (name) => this.place.querySelector(`[name=${name}]`);
         part('begin').value = begin;

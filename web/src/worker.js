@@ -1,30 +1,40 @@
 // Answers the page's questions in a thread of its own: asks the proved code, and reads, draws and marks traces. The first message has the
-// module; each other message is a question, and the questions are answered one after the other.
+// modules; each other message is a question, and the questions are answered one after the other.
 import { Edfvd } from './edfvd.js';
+import { OUT_OF_MEMORY, STOPPED } from './instance.js';
 import { lineAt, recordsIn } from './csv.js';
 import { pictureOf } from './drawing.js';
-import { marginsOf } from './margins.js';
+import { reasonOf } from './reasons.js';
 import { isRecording, Refused } from './recording.js';
 import { traceOf } from './recorded.js';
+import { ruleOf } from './rule.js';
 import { timelineOf } from './timeline.js';
+import { Sets } from './sets.js';
 import { tasksIn } from './toml.js';
 
 const FIRST_WINDOW = 240;
 const MOST_LINE = 120;
+const LEGAL = { row: 0, why: '' };
 
 // What is kept of the two traces that are shown: the trace of the work file under `run`, and the judged one under `judge`.
 const kept = new Map();
 let edfvd = null;
+let sets = null;
 
 const decoded = (bytes) => new TextDecoder('utf-8', { ignoreBOM: true }).decode(bytes);
 const bytesOf = async (source) => (source instanceof Blob ? new Uint8Array(await source.arrayBuffer()) : source);
 
-// The answer of the proved code with its text, without the line feed at its end. An answer that there is not becomes an error.
+// An answer of the proved code. One that there is not becomes an error.
+function called(answer) {
+    if (answer.status === OUT_OF_MEMORY) throw new Error('There was not enough memory in this browser for an answer.');
+    if (answer.status === STOPPED) throw new Error(`The module stopped: ${answer.why}.`);
+    return answer;
+}
+
+// The answer to the words of a command, with its text.
 function answered(words, first, second) {
     const begin = performance.now();
-    const { status, exit, text, why } = edfvd.ask(words, first, second);
-    if (status === 9) throw new Error('There was not enough memory in this browser for an answer.');
-    if (status === -1) throw new Error(`The module stopped: ${why}.`);
+    const { status, exit, text } = called(edfvd.ask(words, first, second));
     if (status !== 0) throw new Error(`The call ended with status ${status}.`);
     return { exit, bytes: text, took: performance.now() - begin };
 }
@@ -33,19 +43,15 @@ function texted({ exit, bytes, took }) {
     return { exit, text: decoded(bytes).replace(/\n$/, ''), took };
 }
 
-// The tasks of the file for the lanes of a drawing.
-function lanesOf(tasks) {
-    return tasksIn(decoded(tasks)).map(({ name, level, period }) => ({ name, level, period }));
-}
-
-// Keeps a trace under a name, with its timeline, and says what the page must know to show a window of it.
-function keep(name, tasks, trace, row) {
+// Keeps a trace under a name, with its timeline, and says what the page must know to show a window of it. The verdict names a row or none.
+function keep(name, tasks, trace, { row, why }, scale = []) {
     const text = decoded(trace);
-    const { timeline, fault } = timelineOf(lanesOf(tasks), recordsIn(text), row);
-    kept.set(name, { tasks, trace, timeline });
+    const rule = ruleOf(scale, scale.length > 0 ? '' : texted(answered(['check', '1'], tasks)).text);
+    const { timeline, fault } = timelineOf(tasksIn(decoded(tasks)), recordsIn(text), row, (before, placed) => reasonOf(before, rule, why, placed));
+    kept.set(name, { tasks, trace, timeline, rule });
     const { ticks, records } = timeline;
     const first = timeline.slices.begin.length > FIRST_WINDOW ? timeline.slices.begin.at(FIRST_WINDOW) : ticks;
-    return { shown: { ticks, records, first: Math.max(Math.min(first, ticks), 1), size: trace.length },
+    return { counts: timeline.counts(), shown: { ticks, records, first: Math.max(Math.min(first, ticks), 1), size: trace.length },
         fault: fault && { ...fault, text: lineAt(text, fault.line, MOST_LINE) } };
 }
 
@@ -64,7 +70,7 @@ const ANSWERS = {
         if (run.exit !== 0) return texted(run);
         const verdict = texted(answered(['judge', '1', '2'], tasks, run.bytes));
         const report = texted(answered(['report', '1', '2'], tasks, run.bytes));
-        return { exit: 0, took: run.took, verdict, report, ...keep('run', tasks, run.bytes, 0) };
+        return { exit: 0, took: run.took, verdict, report, ...keep('run', tasks, run.bytes, LEGAL) };
     },
 
     // The verdict on a trace, or on the trace that a recording makes, whose tick is `tick` nanoseconds.
@@ -84,8 +90,8 @@ const ANSWERS = {
         }
         const answer = { ...texted(answered(['judge', '1', '2', ...scale], tasks, given)), moved };
         if (answer.exit !== 0 && answer.exit !== 6) return answer;
-        const row = /^illegal row (\d+) /.exec(answer.text);
-        return { ...answer, ...keep('judge', tasks, given, row ? Number(row[1]) : 0) };
+        const illegal = /^illegal row (\d+) (\w+)$/.exec(answer.text);
+        return { ...answer, ...keep('judge', tasks, given, illegal ? { row: Number(illegal[1]), why: illegal[2] } : LEGAL, scale) };
     },
 
     fit({ tasks, processors }) {
@@ -94,11 +100,10 @@ const ANSWERS = {
 
     demand: ({ demands }) => texted(answered(['demand', '1'], demands)),
 
-    margins({ text, place }) {
-        return marginsOf((tried) => answered(['check', '1'], new TextEncoder().encode(tried)).exit, text, place);
-    },
+    // What the calls for sets of numbers say of these tasks.
+    changes: ({ numbers }) => ({ budgets: called(sets.budgets(numbers)), scales: called(sets.scales(numbers)), speed: called(sets.speed(numbers)) }),
 
-    window: ({ name, begin, end, width, fault }) => (kept.has(name) ? pictureOf(kept.get(name).timeline, begin, end, width, fault) : null),
+    window: ({ name, begin, end, width, fault }) => (kept.has(name) ? pictureOf(kept.get(name), begin, end, width, fault) : null),
 
     chart({ name }) {
         const { tasks, trace } = keptOf(name);
@@ -122,6 +127,10 @@ async function answer({ number, kind, ...given }) {
 let last = Promise.resolve();
 
 self.onmessage = ({ data }) => {
-    if (data.module) edfvd = new Edfvd(data.module);
-    else last = last.then(() => answer(data));
+    if (data.modules) {
+        edfvd = new Edfvd(data.modules.module);
+        sets = new Sets(data.modules.sets);
+    } else {
+        last = last.then(() => answer(data));
+    }
 };

@@ -1,7 +1,8 @@
 // Asks the module of a page what cases.py asked the program: each status and each byte of the text must be the program's. The words of
 // the call are the page and the file with the cases.
 import { readFileSync } from 'node:fs';
-import { Edfvd, OUT_OF_MEMORY, STOPPED } from '../src/edfvd.js';
+import { Edfvd } from '../src/edfvd.js';
+import { OUT_OF_MEMORY, STOPPED } from '../src/instance.js';
 import { ends, equals, holds } from './expect.js';
 
 const [page, file] = process.argv.slice(2);

@@ -76,6 +76,10 @@ class Browser:
             text = {'text': key} if len(key) == 1 and kind == 'keyDown' else {}
             self.call('Input.dispatchKeyEvent', type=kind, key=key, code=key, windowsVirtualKeyCode=KEYS[key], **text)
 
+    def point(self, x, y):
+        """Moves the pointer there."""
+        self.call('Input.dispatchMouseEvent', type='mouseMoved', x=x, y=y)
+
     def look(self, width, height, is_dark=False):
         self.call('Emulation.setDeviceMetricsOverride', width=width, height=height, deviceScaleFactor=1, mobile=False)
         self.call('Emulation.setEmulatedMedia', features=[{'name': 'prefers-color-scheme', 'value': 'dark' if is_dark else 'light'}])

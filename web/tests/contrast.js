@@ -27,7 +27,7 @@ const TEXTS = {
 };
 const SIGNS = {
     edge: ['page', 'card', 'field'], accent: ['page', 'field', 'card'], good: ['field'], bad: ['page'],
-    high: ['card', 'mode'], low: ['card'], over: ['card'], sign: ['card', 'mode'], deadline: ['card', 'mode'], cross: ['card', 'mode'], lane: ['card'],
+    high: ['card', 'mode'], low: ['card'], over: ['card', 'mode'], sign: ['card', 'mode'], deadline: ['card', 'mode'], cross: ['card', 'mode'], lane: ['card'],
 };
 for (const [name, colours] of Object.entries({ light, dark })) {
     for (const [least, pairs] of [[4.5, TEXTS], [3, SIGNS]]) {

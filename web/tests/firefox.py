@@ -24,6 +24,15 @@ class Firefox:
         with self.log.open('wb') as log:
             self.process = subprocess.Popen([firefox, '--headless', '--marionette', '--no-remote', '--profile', self.folder.name],
                                             stdin=subprocess.DEVNULL, stdout=log, stderr=log)
+        try:
+            self.begin(port)
+        except BaseException:
+            self.process.kill()
+            self.process.wait()
+            self.folder.cleanup()
+            raise
+
+    def begin(self, port):
         for _ in range(600):
             with contextlib.suppress(OSError):
                 self.socket = socket.create_connection(('127.0.0.1', port))
@@ -45,7 +54,10 @@ class Firefox:
         return json.loads(text)
 
     def read(self):
-        got = self.socket.recv(1 << 20)
+        try:
+            got = self.socket.recv(1 << 20)
+        except TimeoutError:
+            raise EOFError('the browser does not answer') from None
         if not got:
             raise EOFError('the browser ended')
         return got

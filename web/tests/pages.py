@@ -1,5 +1,5 @@
-"""Uses the page in a headless browser as a visitor does: each example, edits, wrong lines, dropped files, recordings, the keyboard, the
-slider, links, hostile words, long questions. Nothing may be sent, and the console must stay silent. With FOLDER, pictures go there.
+"""Uses the page in a headless browser as a visitor does: each example, the uses of uses.py, hostile words, the keyboard, long questions.
+Nothing may be sent, and the console must stay silent. With FOLDER, pictures go there.
 
 usage: pages.py chromium|firefox ADDRESS [FOLDER]
        ADDRESS is that of the page, as file:///home/you/edfvd/web/out/edfvd.html
@@ -15,10 +15,11 @@ sys.path.insert(0, str(pathlib.Path(__file__).resolve().parent))
 ROOT = pathlib.Path(__file__).resolve().parent.parent.parent
 sys.path.insert(0, str(ROOT / 'tools'))
 from usage import WrongWords, ends  # noqa: E402
+from uses import USES  # noqa: E402
 from visitor import Page  # noqa: E402
 
 SEEN = {
-    'An overrun': ('check', 'Admitted: EDF with virtual deadlines, x = 2/5'),
+    'An overrun': ('run', '12 ticks, no job is late. Not every job got all its ticks: 1 discarded'),
     'A flight computer': ('run', '20,000 ticks, no job is late'),
     'A certified scale': ('check', 'x = 2/5'),
     'A certified scale, outgrown': ('check', 'scale 2/5 does not hold'),
@@ -44,95 +45,6 @@ def examples(page):
         page.choose(name)
         page.sees(name, place, words)
         page.picture(''.join(letter if letter.isalnum() else '_' for letter in name.lower()))
-
-
-def schedules(page):
-    page.choose('An overrun')
-    page.wants('the drawing', page.value('document.querySelectorAll("#run-drawing .canvas rect.over").length') == 1)
-    page.wants('high mode', page.value('document.querySelectorAll("#run-drawing .canvas rect.mode").length') == 1)
-    page.type('work', 'task,release,need\nctl,0,6\nlog,0,0\n')
-    page.sees('a wrong line', 'run', 'work file line 3: need is 0')
-    page.wants('its mark', page.value('document.querySelector("#work .mark").style.top') == f'{8 + 2 * 21}px')
-    page.type('work', 'task,release,need\nctl,0,1\n')
-    page.sees('an edit', 'report', 'ctl\t1\t1\t0\t0\t1\t0\t1\t1')
-    page.type('ticks', '0')
-    page.sees('ticks out of range', 'run', 'Ticks is a number from 1 to 1,000,000.')
-    page.type('ticks', '20')
-    page.click('#fill')
-    page.wants('a work file that is filled in', page.file('work') == 'task,release,need\nctl,0,2\nlog,0,5\nctl,10,2\nlog,10,5\n', page.file('work'))
-    page.click('#fill-overrun')
-    page.wants('with an overrun', page.value('document.querySelectorAll("#run-drawing .canvas rect.over").length') == 1)
-    page.value('document.getElementById("chart-part").open = true')
-    page.until('the chart', 'document.getElementById("chart").innerText.includes("(mode) LLHHHHHLLLLLLLLLLLLL")')
-    page.value('document.getElementById("chart-part").open = false')
-    page.click('#to-judge')
-    page.until('taken to the judge', 'document.getElementById("verdict").innerText.includes("legal late 0")')
-    page.settle()
-
-
-def traces(page):
-    page.drop('trace', '"event,tick,task,job,how\\r\\nidle,0,,,\\r\\nidle,2,,,\\r\\n"')
-    page.sees('a dropped file', 'verdict', 'trace line 3: wrong tick')
-    page.wants('the mark of its line', page.value('document.querySelector("#trace .mark").style.top') == f'{8 + 2 * 21}px')
-    page.drop('trace', '"time,event,task\\n0,run,ctl\\n10,release,ctl\\n9,finish,\\n"')
-    page.sees('a recording that is refused', 'verdict', 'This recording makes no trace: line 4: its time is before that of line 3.')
-    page.wants('the field for the tick', not page.value('document.getElementById("tick-part").hidden'))
-    page.type('tick', '0')
-    page.sees('no tick', 'verdict', 'A tick is a number of microseconds above 0')
-    page.type('tick', '1000')
-    page.choose('A legal trace')
-    page.wants('no field for a tick', page.value('document.getElementById("tick-part").hidden'))
-    page.type('scale', '2/1')
-    page.sees('a scale that is none', 'verdict', 'A scale is p/q')
-    page.type('scale', '')
-    page.drop('trace', '"x".repeat(100), new Uint8Array(134217728)')
-    page.sees('a file that is too long', 'judge', '')
-    page.wants('its sentence', 'dropped.csv has 134,217,828 bytes. This page takes at most 134,217,728 here.' in page.value('document.body.innerText'))
-    page.sees('what was there stays', 'verdict', 'legal late 0')
-
-
-def changes(page):
-    page.choose('Budgets that may grow')
-    rows = page.value('[...document.querySelectorAll("#margins tbody tr")].map((row) => row.innerText)')
-    page.wants('the greatest budgets', rows == ['ctl\thigh\t10\t2\t4\t6\t8', 'log\tlow\t10\t5\t6\t–\t–'], rows)
-    page.click('[data-change="0 high"]')
-    page.wants('a click tries the number', 'high = 8' in page.file('tasks'), page.file('tasks'))
-    page.sees('and it is admitted', 'check', 'Admitted')
-    page.choose('Not admitted')
-    page.sees('why it is not admitted', 'check', 'Plain EDF needs U_LL + U_HH ≤ 1, and this sum is 3/2.')
-    page.sees('why EDF-VD does not do', 'check', 'x = U_HL/(1 − U_LL) = 1/2, and this sum is 5/4.')
-    page.click('#check button')
-    rows = page.value('[...document.querySelectorAll("#margins tbody tr")].map((row) => row.innerText)')
-    page.wants('what would do', rows == ['tap\tlow\t2\t1\tnone\t–\t–', 'arm\thigh\t4\t1\tnone\t4\t3'], rows)
-    page.sees('no scale', 'scales', 'No scale holds.')
-    page.click('[data-change="1 high"]')
-    page.sees('mended by a click', 'check', 'Admitted: EDF with virtual deadlines, x = 1/2')
-    page.choose('Budgets that may grow')
-    page.sees('the scales that hold', 'scales', 'The scales from 2/5 to 4/5 hold')
-    page.wants('the shade', page.value('document.querySelector(".holds").style.cssText') == 'left: 40%; right: 20%;', page.value('document.querySelector(".holds").style.cssText'))
-    page.value('(() => { const it = document.getElementById("slider"); it.value = 600; it.dispatchEvent(new Event("input")); it.dispatchEvent(new Event("change")); })()')
-    page.settle()
-    page.sees('a scale that was chosen', 'check', 'x = 3/5')
-    page.value('(() => { const it = document.getElementById("slider"); it.value = 300; it.dispatchEvent(new Event("input")); it.dispatchEvent(new Event("change")); })()')
-    page.settle()
-    page.sees('a scale that does not hold', 'check', 'scale 3/10 does not hold')
-    page.sees('and its words', 'scales', 'x = 3/10 = 0.3000 does not hold')
-    page.value('[...document.querySelectorAll("#scales button")].pop().click()')
-    page.settle()
-    page.wants('no scale of its own', 'scale' not in page.file('tasks'), page.file('tasks'))
-
-
-def links(page):
-    page.choose('An illegal trace')
-    page.click('#link')
-    link = page.value('document.getElementById("link-text").value')
-    trace = page.file('trace')
-    page.open(link)
-    page.sees('a page from a link', 'verdict', 'illegal row 5 not_pending')
-    page.wants('the trace of a link', page.file('trace') == trace)
-    page.open(f'{page.address}#1.broken')
-    page.sees('a damaged link', 'state', 'The link that opened this page is damaged')
-    page.sees('and an example', 'check', 'Admitted')
 
 
 def link_of(page, state):
@@ -173,6 +85,10 @@ def keyboard(page):
     page.until('plus shows fewer ticks', 'document.querySelector("#run-drawing [name=end]").value === "6"')
     page.press('ArrowRight')
     page.until('an arrow key moves the drawing', 'document.querySelector("#run-drawing [name=begin]").value === "3"')
+    page.press('End')
+    page.until('End shows the last ticks', '["begin", "end"].map((name) => document.querySelector(`#run-drawing [name=${name}]`).value).join() === "6,12"')
+    page.press('ArrowRight')
+    page.until('no tick after the last', '["begin", "end"].map((name) => document.querySelector(`#run-drawing [name=${name}]`).value).join() === "6,12"')
     page.choose('Budgets that may grow')
     page.value('document.querySelector("#slider").focus()')
     page.press('ArrowRight')
@@ -223,12 +139,25 @@ def long_questions(page):
     page.sees('and then an answer again', 'run', '12 ticks, no job is late')
 
 
+# Whether each word of a table that is seen stands on one line.
+WHOLE_WORDS = '''[...document.querySelectorAll("th, td")].filter((cell) => cell.offsetParent && cell.firstChild?.nodeType === Node.TEXT_NODE).every((cell) => {
+    const text = cell.firstChild;
+    return [...text.data.matchAll(/[^ ]+/g)].every(({ 0: word, index }) => {
+        const range = document.createRange();
+        range.setStart(text, index);
+        range.setEnd(text, index + word.length);
+        return range.getClientRects().length === 1;
+    });
+})'''
+
+
 def looks(page):
     for name in ('An overrun', 'An illegal trace', 'Budgets that may grow'):
-        for width, is_dark in ((500, False), (500, True), (1300, True)):
+        for width, is_dark in ((400, False), (400, True), (1300, True)):
             page.browser.look(width, 850, is_dark)
             page.choose(name)
             time.sleep(0.3)
+            page.wants(f'no word of a table is broken at {width}', page.value(WHOLE_WORDS))
             page.wants(f'no sideways scrolling at {width}', page.value('document.documentElement.scrollWidth <= window.innerWidth'))
             page.picture(f'{name.lower().replace(" ", "_")}_{width}{"_dark" if is_dark else ""}')
     page.browser.look(1300, 900)
@@ -265,7 +194,7 @@ def main(words):
     browser = Browser()
     try:
         page = Page(browser, words[1], words[2] if len(words) == 3 else '')
-        for part in examples, schedules, traces, changes, links, hostile, keyboard, long_questions, looks:
+        for part in examples, *USES, hostile, keyboard, long_questions, looks:
             part(page)
         complaints, sent = browser.complaints(), browser.sent()
         page.wants('a console without complaints', not complaints, complaints)

@@ -1,10 +1,13 @@
 // Tries what the page reads and writes of files by itself: CSV, task files, fractions, links and work files. The wanted values are worked
 // out by hand.
+import { adviceOn } from '../src/advice.js';
+import { isReadAlike, whyRefused } from '../src/alike.js';
 import { lineAt, lineOfRecord, recordsIn } from '../src/csv.js';
-import { conditionsOf, Fraction, ONE, scalesThatHold, ZERO } from '../src/fraction.js';
+import { conditionsOf, Fraction, ONE } from '../src/fraction.js';
 import { fragmentOf, MOST_LINK, stateOf } from '../src/link.js';
-import { greatest, isReadAlike, marginsOf, MOST_NUMBER } from '../src/margins.js';
+import { noScaleWords, rangeWords, scaleWords } from '../src/scales.js';
 import { documentIn, lineOfTaskError, tasksIn, withNumber, withoutScale, withScale } from '../src/toml.js';
+import { sideOf } from '../src/unseen.js';
 import { MOST_JOBS, workOf } from '../src/workload.js';
 import { ends, equals, holds } from './expect.js';
 
@@ -70,6 +73,26 @@ equals('lines of error messages', lines(['task 1: out of range period', 'task 2:
 equals('a line after a text over lines', lineOfTaskError('task file: task 1: out of range low', 'x = """\na\nb"""\n[[task]]\nlow = 0\n'), 4);
 equals('no message of a task file', lineOfTaskError('trace line 3: wrong tick', FILE), -1);
 
+// ---- Error messages ----
+
+// The messages of docs/MISTAKES.md have advice, of which a few words are wanted here.
+const ADVISED = [['not TOML', 'begins with a line [[task]]'], ['unknown key tasks', 'stand below its [[task]]'], ['unknown version', 'The version is 1 or 2.'],
+    ['task 0: wrong kind of scale', 'scale = [p, q]'], ['task 0: out of range scale', '1 ≤ p ≤ q'], ['no tasks', 'two brackets'], ['task 0: wrong kind of task', 'two brackets'],
+    ['task 1: wrong kind of task', 'two brackets'], ['task 12: unknown key wcet', 'the budget low'], ['task 1: missing key level', 'the budget low'],
+    ['task 1: wrong kind of name', 'in quotes'], ['task 1: wrong kind of level', 'in quotes'], ['task 3: wrong kind of period', 'whole numbers'], ['task 1: wrong kind of low', 'whole numbers'],
+    ['task 1: bad name', 'no space'], ['task 1: out of range level', '"low" or "high"'], ['task 1: out of range high', 'from 1 to 4,294,967,295'],
+    ['task 1: missing key high', 'two budgets'], ['task 2: high budget on a low task', 'has one budget'], ['task 1: high budget below low budget', 'at least its low budget'],
+    ['tasks 1 and 2 have one name', 'a name of its own'], ['task 2: periods out of range', '2^60']].map(([message, words]) => [`task file: ${message}`, words]);
+ADVISED.push(...[['header is not task,release,need', 'The first line is'], ['not three fields', 'three fields'], ['unknown task', 'no task of this name'], ['bad number', 'digits alone'],
+    ['need is 0', 'at least one tick'], ['release before the last one', 'in the order'], ['too soon, next 20', 'at least its period apart']].map(([message, words]) => [`work file line 2: ${message}`, words]));
+ADVISED.push(...[['header is of no trace version', 'That of a recording is time,event,task.'], ['not five fields', 'idle,6,,, of five'], ['not six fields', 'idle,6,4,,, of six'],
+    ['unknown event', 'release, tick or idle'], ['unknown task', 'no task of this name'], ['bad number', 'counted from 1'], ['wrong tick', 'from 0 on without a gap'],
+    ['bad length', 'at least 1']].map(([message, words]) => [`trace line 2: ${message}`, words]));
+ADVISED.push(...[['header is not task,period,deadline,budget', 'The first line is'], ['not four fields', 'four fields'], ['deadline after period', 'at most the period'],
+    ['periods out of range', '500,000']].map(([message, words]) => [`demand file line 2: ${message}`, words]));
+for (const [message, words] of ADVISED) holds(`advice on ${message}`, adviceOn(message).includes(words));
+equals('no more to say', ['task file: 129 tasks, at most 128', 'work file line 1000002: more than 1000000 rows', 'trace line 2: unknown', ''].map(adviceOn), ['', '', '', '']);
+
 // ---- Fractions ----
 
 const fraction = (text) => Fraction.of(text);
@@ -77,37 +100,41 @@ equals('sums', ['1/2', '1/3'].map(fraction).reduce((one, other) => one.plus(othe
 equals('a difference, a product and a quotient', [fraction('1/2').minus(fraction('2/3')), fraction('2/3').times(fraction('3/4')), fraction('2/3').by(fraction('4/3'))].map(String),
     ['-1/6', '1/2', '1/2']);
 equals('lowest terms', [fraction('0/7'), fraction('10/4'), fraction('3')].map(String), ['0/1', '5/2', '3/1']);
-holds('1/3 is at most 1/3, and not above', fraction('1/3').isAtMost(fraction('2/6')) && !fraction('1/3').isAbove(fraction('1/3')) && ONE.isAbove(ZERO));
+holds('1/3 is at most 1/3, and not above', fraction('1/3').isAtMost(fraction('2/6')) && !fraction('1/3').isAbove(fraction('1/3')) && ONE.isAbove(fraction('0/1')));
 equals('a number', fraction('3/8').toNumber(), 0.375);
-const range = (...loads) => { const found = scalesThatHold(...loads.map(fraction)); return found && [String(found.least), String(found.greatest)]; };
-equals('the scales of control', range('1/2', '1/5', '3/5'), ['2/5', '4/5']);
-equals('none where the test refuses', range('1/2', '1/4', '1/1'), null);
-equals('none between', range('1/2', '3/8', '7/8'), null);
-equals('no high task', range('1/2', '0/1', '0/1'), ['0/1', '1/1']);
-equals('a full load of low tasks', range('1/1', '0/1', '0/1'), ['0/1', '1/1']);
-equals('too many low tasks', range('5/4', '0/1', '0/1'), null);
-equals('no low task', range('0/1', '1/3', '1/1'), ['1/3', '1/1']);
-equals('high tasks above 1', range('0/1', '1/3', '7/6'), null);
-equals('no low spare', range('1/1', '1/9', '1/9'), null);
-equals('one scale alone', range('1/2', '1/4', '3/4'), ['1/2', '1/2']);
 equals('the conditions of a set that is refused', Object.values(conditionsOf(...['1/2', '1/4', '1/1'].map(fraction))).map(String), ['3/2', '1/2', '5/4']);
 equals('U_LL of 1', Object.values(conditionsOf(...['1/1', '1/4', '1/2'].map(fraction))).map(String), ['3/2', 'null', 'null']);
 
-// ---- The greatest budgets ----
+// ---- Read as the proved code reads it ----
 
-for (const most of [1, 2, 3, 7, 8, 9, 1000, MOST_NUMBER - 1, MOST_NUMBER]) equals(`the greatest up to ${most}`, greatest(1, MOST_NUMBER, (number) => number <= most), most);
-equals('none', greatest(5, 9, () => false), null);
-equals('one alone', greatest(5, 5, () => true), 5);
 const CONTROL = '[[task]]\nname = "ctl"\nlevel = "high"\nperiod = 10\nlow = 2\nhigh = 6\n[[task]]\nname = "log"\nlevel = "low"\nperiod = 10\nlow = 5\n';
-// The test of this set by hand: the loads in tenths.
-const check = (text) => {
-    const [ctl, log] = tasksIn(text);
-    return log.low + ctl.high <= 10 || (log.low < 10 && ctl.low * log.low + ctl.high * (10 - log.low) <= 10 * (10 - log.low) && ctl.low <= ctl.high) ? 0 : 1;
-};
-equals('the budgets of ctl', marginsOf(check, CONTROL, 0), { low: 4, high: 8 });
-equals('the budget of log', marginsOf(check, CONTROL, 1), { low: 6, high: undefined });
 holds('read alike', isReadAlike(CONTROL, ['1/2', '1/5', '3/5']));
+holds('no period', !isReadAlike(CONTROL.replaceAll('period = 10', 'period = 0'), ['1/2', '1/5', '3/5']));
 holds('not read alike', !isReadAlike(CONTROL, ['1/2', '1/5', '4/5']) && !isReadAlike(CONTROL.replace('low = 5', 'low = "five"'), ['1/2', '1/5', '3/5']));
+// The loads of a task of an unknown level are in none of the sums.
+const EXTRA = `${CONTROL}[[task]]\nname = "odd"\nlevel = "middle"\nperiod = 10\nlow = 1\n`;
+equals('another number of tasks', [2, 3, 1, undefined].map((count) => isReadAlike(CONTROL, ['1/2', '1/5', '3/5'], count)), [true, false, false, true]);
+equals('a task of an unknown level', [2, 3, undefined].map((count) => isReadAlike(EXTRA, ['1/2', '1/5', '3/5'], count)), [false, false, false]);
+const statuses = (budgets, scales, speed) => whyRefused({ budgets: { status: budgets }, scales: { status: scales }, speed: { status: speed } });
+const REFUSED = (status) => `The proved code refuses the numbers that this page reads from the task file (status ${status}), so it tries no other values.`;
+equals('calls that refuse nothing', [statuses(0, 0, 0), statuses(0, 8, 0)], ['', '']);
+equals('calls that refuse numbers', [statuses(4, 0, 0), statuses(0, 3, 0), statuses(0, 8, 7), statuses(8, 0, 0)], [4, 3, 7, 8].map(REFUSED));
+
+// ---- Scales ----
+
+// With loads in tenths, low 1 and high 2 and 3: plain EDF has 1 + 3 of at most 10. The least scale is 2/(10 - 1), and the greatest is 1.
+const PLAIN = { least: '2/9', greatest: '1/1' };
+const NEEDS_NONE = 'The rule of this set is plain EDF, which needs no scale. With virtual deadlines,';
+equals('the scales of a set under plain EDF', rangeWords(PLAIN, true), `${NEEDS_NONE} the scales from 2/9 to 1/1 would hold; they are shaded.`);
+equals('those of a set without high tasks', rangeWords({ least: '0/1', greatest: '1/1' }, true), `${NEEDS_NONE} each scale above 0 and up to 1/1 would hold; they are shaded.`);
+equals('one scale alone', [true, false].map((isPlain) => rangeWords({ least: '1/1', greatest: '1/1' }, isPlain)),
+    [`${NEEDS_NONE} the scale 1/1 alone would hold; it is marked.`, 'The scale 1/1 alone holds; it is marked.']);
+equals('under virtual deadlines', [['2/5', '4/5'], ['0/1', '1/1']].map(([least, greatest]) => rangeWords({ least, greatest }, false)),
+    ['The scales from 2/5 to 4/5 hold; they are shaded.', 'Each scale above 0 and up to 1/1 holds; they are shaded.']);
+equals('the scale at the slider', [null, '2/9', '1/9', '1/1'].map((scale) => scaleWords(PLAIN, scale && fraction(scale))),
+    ['No scale is in use: plain EDF has no x.', 'x = 2/9 = 0.2222 holds', 'x = 1/9 = 0.1111 does not hold', 'x = 1/1 = 1.0000 holds']);
+equals('no scale', [null, fraction('1/2')].map(noScaleWords), ['', ' The file’s own scale 1/2 does not hold either.'].map((more) =>
+    `No scale holds. One holds exactly if the test admits the set, so there is none to choose here yet.${more}`));
 
 // ---- Links ----
 
@@ -121,7 +148,10 @@ const wrong = ['', '#', '#1.', '#2.e30', '#1.e30', '#1.!!', '#1.AAAA', coded('nu
 equals('links that are none', wrong.map(stateOf), wrong.map(() => null));
 equals('names that a link may not set', stateOf(coded('{"tab":"fit","__proto__":{"tasks":"y"},"hidden":"z"}')), { tab: 'fit' });
 equals('a link that would be too long', fragmentOf({ tab: 'fit', tasks: 'x'.repeat(MOST_LINK) }), null);
-equals('a link that is too long', stateOf(`#1.${'A'.repeat(2 * MOST_LINK)}`), null);
+const EMPTY = JSON.stringify({ tab: 'fit', tasks: '' }).length;
+const longest = { tab: 'fit', tasks: 'x'.repeat(MOST_LINK - EMPTY) };
+equals('the longest link', stateOf(fragmentOf(longest)), longest);
+equals('no longer one', [fragmentOf({ ...longest, tasks: `${longest.tasks}x` }), stateOf(coded({ ...longest, tasks: `${longest.tasks}xxxx` }))], [null, null]);
 
 // ---- Work files ----
 
@@ -130,4 +160,10 @@ equals('a work file', workOf([ctl, { ...log, period: 6 }], 12, false), 'task,rel
 equals('a work file with overruns', workOf([ctl, { ...log, period: 6 }], 11, true), 'task,release,need\nctl,0,6\nlog,0,5\nlog,6,5\nctl,10,2\n');
 equals('no more than these jobs', [workOf([{ ...log, period: 1 }], MOST_JOBS + 1, false), workOf([{ ...log, period: 1 }], NaN, false)], [null, null]);
 equals('these jobs', workOf([{ ...log, period: 1 }], MOST_JOBS, false).split('\n').length, MOST_JOBS + 2);
+
+// ---- Answers out of sight ----
+
+// In a window of 600 pixels a block is seen if 24 of them show it.
+equals('where an answer is', [[577, 700], [576, 700], [-100, 23], [-100, 24], [0, 40], [900, 990], [-90, 900]].map(([top, bottom]) => sideOf({ top, bottom }, 600)),
+    ['below', '', 'above', '', '', 'below', '']);
 ends('reading');

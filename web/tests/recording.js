@@ -42,6 +42,9 @@ equals('a task without a tick', tens('0,release,ctl', '0,release,log', '0,run,ct
 equals('a job that goes on after an idle tick', lines(tens('0,release,ctl', '0,run,ctl', '20,run,.', '30,run,ctl', '50,finish,')),
     ['release,0,,ctl,1,kept', 'tick,0,1,ctl,1,more', 'tick,1,1,ctl,1,over', 'idle,2,1,,,', 'tick,3,2,ctl,1,more']);
 equals('a job that is stopped', lines(tens('0,release,log', '0,run,log', '60,finish,')).slice(0, 3), ['release,0,,log,1,kept', 'tick,0,4,log,1,more', 'tick,4,1,log,1,stop']);
+const EQUAL = [{ name: 'x', level: 'high', period: 10, low: 2, high: 2 }];
+equals('equal budgets: the job is stopped, and does not overrun', lines(made(EQUAL, true, 'time,event,task\n0,release,x\n0,run,x\n20,run,.\n30,finish,\n', 10000)),
+    ['release,0,,x,1,kept', 'tick,0,1,x,1,more', 'tick,1,1,x,1,stop', 'idle,2,1,,,']);
 equals('a tick of overhead', lines(tens('0,release,log', '0,run,-', '10,run,log', '20,finish,')), ['release,0,,log,1,kept', 'idle,0,1,,,', 'tick,1,1,log,1,more']);
 
 const cases = JSON.parse(readFileSync(process.argv[2], 'utf8'));
