@@ -1,8 +1,9 @@
 #!/bin/sh
 # Makes an archive FOLDER/edfvd-VERSION-MACHINE-linux.tar.gz of what install.sh installs: the proved program, its manual page, the
-# pages, the licences, the page edfvd.html, RELEASE with version, commit, kit and the sha256 of each file, and, if c/build.sh has made
-# them, the C libraries with their header. It writes the archive's sha256. The same program, libraries, page and commit make the same
-# bytes, whatever the umask: an archive with the modes of umask 077 would lock the folders that it is unpacked over.
+# pages, the licences, the page edfvd.html, RELEASE with version, commit, kit and the sha256 of each file, and the C libraries with their
+# header, if c/build.sh has made them or those in the folder prebuilt are of the sources that are here. It writes the archive's sha256. The
+# same program, libraries, page and commit make the same bytes, whatever the umask: an archive with the modes of umask 077 would lock the
+# folders that it is unpacked over.
 # The archive has one folder, edfvd-VERSION-MACHINE-linux, from which the program can be run as it is. It is unpacked over a prefix by
 #     tar -xzf edfvd-VERSION-MACHINE-linux.tar.gz --strip-components=1 -C PREFIX
 # and the program needs glibc 2.34 or later there. MACHINE is x86_64, or aarch64 for 64-bit ARM, and without the word this machine.
@@ -34,7 +35,9 @@ work=$(mktemp -d) || exit 1
 trap clean EXIT
 trap 'exit 1' HUP INT TERM
 "$here/install.sh" "$work/edfvd" "$machine" >/dev/null || exit 1
-[ -e "$work/edfvd/include/edfvd.h" ] || echo "dist.sh: the archive has no C libraries, since $here/c/build.sh has not made them" >&2
+if ! [ -e "$work/edfvd/include/edfvd.h" ]; then
+    echo "dist.sh: the archive has no C libraries, since $here/c/build.sh has not made them, and prebuilt has none of these sources" >&2
+fi
 
 name=edfvd-$(awk 'NR == 1 { print $3 }' "$work/edfvd/share/doc/edfvd/RELEASE")-$machine-linux
 mv "$work/edfvd" "$work/$name" || exit 1

@@ -3,10 +3,14 @@
 # PREFIX/share/man/man1/edfvd.1, its completion for bash to PREFIX/share/bash-completion/completions, and the pages and licences to
 # PREFIX/share/doc/edfvd. The program is the one that was built here, or else the one in the folder prebuilt, as for ./edfvd. What is
 # installed needs glibc 2.34 or later, and neither this folder, nor the wrapper, nor the command rt. The prefix may be moved as a whole.
-# If c/build.sh has made the C libraries, they go to PREFIX/lib and PREFIX/include, with a file for pkg-config. The page edfvd.html, the
-# one that web/build.sh made or else the one in the folder prebuilt, goes to PREFIX/share/doc/edfvd if it is of the sources that are here.
+# The C libraries go to PREFIX/lib, with a file for pkg-config, and their header to PREFIX/include. They are those that c/build.sh made,
+# which are refused if they are older than their sources, or else those in the folder prebuilt, if they are of the sources that are here.
+# c/build.sh makes the static ones, too; prebuilt has the shared one, and libedfvd_core.a for 64-bit ARM alone. The shared one gets the
+# name of its soname, libedfvd.so.N, where N is EDFVD_VERSION of edfvd.h, and libedfvd.so is a link to it for the linker. The page
+# edfvd.html, the one that web/build.sh made or else the one in the folder prebuilt, goes to PREFIX/share/doc/edfvd if it is of the
+# sources that are here.
 # With MACHINE, which is x86_64 or aarch64, what is installed is for that machine: for aarch64, which is 64-bit ARM, the program that
-# c/program.sh made, or else the prebuilt one, and the libraries that c/build.sh made for it. The page is for each of them.
+# c/program.sh made, or else the prebuilt one, and the libraries for that machine. The page is for each of them.
 # Either everything is installed or nothing is: each file is written beside its place first, and renamed when all of them are there.
 # After a fault or a signal everything is as it was before the call; only a call that is killed outright can leave files, whose names
 # begin with .edfvd. The modes are 755 and 644, whatever the umask is, for nothing in it is private.
@@ -46,18 +50,40 @@ check_program() {
     fi
 }
 
-# check_libraries: if the libraries for the machine are there, they are not older than their sources
-check_libraries() {
+# choose_libraries: sets $libraries to the folder with the C libraries for the machine, and $names to those of them that are installed:
+# the ones that were built here, which must not be older than their sources, or else the prebuilt ones
+choose_libraries() {
     libraries=$here/c/out
     call="$here/c/build.sh"
     if [ "$machine" = aarch64 ]; then
         libraries=$here/c/out/aarch64
         call="CC=aarch64-linux-gnu-gcc $call"
     fi
-    [ -e "$libraries/libedfvd.a" ] || return 0
+    if ! [ -e "$libraries/libedfvd.a" ]; then
+        choose_prebuilt_libraries
+        return
+    fi
+    names='libedfvd.a libedfvd_core.a libedfvd.so'
     newer=$(find "$here/c/edfvd.h" "$here"/c/*.c "$here/crates" \( -name '*.[hc]' -o -name '*.rt' \) \
         -newer "$libraries/libedfvd.a" -print -quit)
     [ -z "$newer" ] || refuse "the C libraries are older than their sources: run $call first"
+}
+
+# choose_prebuilt_libraries: sets $libraries and $names to the prebuilt libraries for the machine. $names is empty if one of them is not
+# of the sources that are here.
+choose_prebuilt_libraries() {
+    folder=
+    names=libedfvd.so
+    if [ "$machine" = aarch64 ]; then
+        folder=aarch64/
+        names='libedfvd_core.a libedfvd.so'
+    elif ! is_for_machine libedfvd.so; then
+        names=
+    fi
+    libraries=$here/prebuilt/$folder
+    for name in $names; do
+        is_prebuilt "$folder$name" || names=
+    done
 }
 
 # add FILE NAME: the file is part of what is installed, under this name below the prefix
@@ -135,12 +161,16 @@ add_pages() {
 # the whole prefix may be moved
 add_libraries() {
     add "$here/c/edfvd.h" include/edfvd.h
-    for file in libedfvd.a libedfvd_core.a libedfvd.so; do
-        add "$libraries/$file" "lib/$file"
+    soname=libedfvd.so.$(sed -n 's/^#define EDFVD_VERSION //p' "$here/c/edfvd.h")
+    for name in $names; do
+        case $name in
+        libedfvd.so) add "$libraries/$name" "lib/$soname" ;;
+        *) add "$libraries/$name" "lib/$name" ;;
+        esac
     done
+    ln -s "$soname" "$tree/lib/libedfvd.so" || refuse "$tree/lib/libedfvd.so cannot be made"
     # shellcheck disable=SC2016
-    sed -e 's|^libdir=.*|libdir=${pcfiledir}/..|' -e 's|^includedir=.*|includedir=${pcfiledir}/../../include|' \
-        "$libraries/edfvd.pc" >"$work/pc" || refuse "$libraries/edfvd.pc cannot be copied"
+    pkg_config '${pcfiledir}/..' '${pcfiledir}/../../include' >"$work/pc" || refuse 'the text of edfvd.pc cannot be made'
     add "$work/pc" lib/pkgconfig/edfvd.pc
 }
 
@@ -164,14 +194,14 @@ make_tree() {
     done
     add_pages
     if choose_page; then add "$chosen" share/doc/edfvd/edfvd.html; fi
-    if [ -e "$libraries/libedfvd.a" ]; then add_libraries; fi
+    if [ -n "$names" ]; then add_libraries; fi
     if ! { find "$tree" -type f -exec chmod 644 {} + && chmod 755 "$tree/bin/edfvd" "$tree/libexec/edfvd/edfvd"; }; then
         refuse "$tree cannot be written"
     fi
     release >"$work/release" || refuse 'the text of RELEASE cannot be made'
     add "$work/release" share/doc/edfvd/RELEASE
     chmod 644 "$tree/share/doc/edfvd/RELEASE" || refuse "$tree cannot be written"
-    (cd "$tree" && find . -type f | sed 's|^\./||' | LC_ALL=C sort) >"$work/files"
+    (cd "$tree" && find . -type f -o -type l | sed 's|^\./||' | LC_ALL=C sort) >"$work/files"
     sed 's|/[^/]*$||' "$work/files" | LC_ALL=C sort -u >"$work/folders"
 }
 
@@ -207,7 +237,7 @@ write_beside() {
     while read -r name; do
         paths "$name"
         [ ! -d "$target" ] || refuse "$target is a folder"
-        cp "$tree/$name" "$new" || refuse "$target cannot be written"
+        cp -P "$tree/$name" "$new" || refuse "$target cannot be written"
     done <"$work/files"
 }
 
@@ -228,7 +258,7 @@ rename_all() {
 undo() {
     while read -r name; do
         paths "$name"
-        if [ -e "$new" ]; then
+        if [ -e "$new" ] || [ -L "$new" ]; then
             continue
         elif [ -e "$old" ] || [ -L "$old" ]; then
             mv -f "$old" "$target"
@@ -266,7 +296,7 @@ if [ -e "$prefix" ] && ! [ -d "$prefix" ]; then
     refuse "$prefix is no folder"
 fi
 check_program
-check_libraries
+choose_libraries
 work=$(mktemp -d) || refuse 'there is no folder for temporary files'
 tree=$work/tree
 trap clean EXIT
@@ -278,7 +308,9 @@ clean
 
 # A name may have a backslash, which `echo` of some shells would read.
 printf 'installed %s/bin/edfvd and %s/share/man/man1/edfvd.1\n' "$prefix" "$prefix"
-if [ -e "$libraries/libedfvd.a" ]; then printf 'installed %s/include/edfvd.h, and the libraries in %s/lib\n' "$prefix" "$prefix"; fi
+if [ -n "$names" ]; then
+    printf 'installed %s/include/edfvd.h, %s/lib/pkgconfig/edfvd.pc, and in %s/lib: %s\n' "$prefix" "$prefix" "$prefix" "$names"
+fi
 printf 'version, commit, kit and checksums are in %s/share/doc/edfvd/RELEASE\n' "$prefix"
 case :$PATH: in
     *":$prefix/bin:"*) ;;

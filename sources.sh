@@ -88,11 +88,10 @@ is_current() {
     return 0
 }
 
-# crates_of NAME: the crates that the program, the library or the page edfvd.html is made of, without those below them
+# crates_of NAME: the crates that the program, the library or the page is made of, without those below them
 crates_of() {
     case $1 in
     edfvd | */edfvd) echo edfvd_program ;;
-    edfvd.html) echo edfvd_ask_c ;;
     *) echo edfvd_c edfvd_ask_c ;;
     esac
 }
