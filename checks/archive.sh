@@ -88,8 +88,14 @@ over_prefix() {
     tries 0 control/check.txt '' "$alone" "$work/over/bin/edfvd" check "$tasks"
 }
 
-# The libraries are in the archive if they are there.
+# The libraries are in the archive if they are there, or if prebuilt ones are of these sources.
 libraries() {
+    put_prebuilt libedfvd.so aarch64/libedfvd.so aarch64/libedfvd_core.a
+    archives "$work/with_prebuilt" ''
+    tar -tzf "$work/with_prebuilt/$name.tar.gz" >"$work/list"
+    holds 'the prebuilt library' grep -q '/lib/libedfvd\.so\.[0-9]*$' "$work/list"
+    holds 'the header beside it' grep -q '/include/edfvd\.h$' "$work/list"
+    rm -r "$tree/prebuilt" "$tree/c"
     put_libraries
     archives "$work/with" ''
     bounded env PATH="$alone" "$tree/install.sh" "$work/prefix" >/dev/null

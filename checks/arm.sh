@@ -46,7 +46,7 @@ tried_in_c() {
         library=$arm/$(library_for "$name")
         words=
         case $name in
-        fuzz) words='1 2000' ;;
+        fuzz | schedules) words='1 2000' ;;
         threads) words=2000 ;;
         esac
         compiled "$source" "$work/$name" -O2 -static "$library" || continue

@@ -70,7 +70,6 @@ put_libraries() {
     mkdir -p "$tree/c/out"
     cp ../c/edfvd.h ../c/*.c "$tree/c"
     for file in libedfvd.a libedfvd_core.a libedfvd.so; do echo "$file" >"$tree/c/out/$file"; done
-    printf 'libdir=here\nincludedir=there\n' >"$tree/c/out/edfvd.pc"
 }
 
 # put_arm: stand-ins for the program and the libraries for 64-bit ARM, of these sources
@@ -78,10 +77,22 @@ put_arm() {
     mkdir -p "$tree/c/out/aarch64"
     cp -p ../c/edfvd.h ../c/*.c ../c/*.sh "$tree/c"
     for file in edfvd libedfvd.a libedfvd_core.a libedfvd.so; do echo "$file for ARM" >"$tree/c/out/aarch64/$file"; done
-    printf 'libdir=here\nincludedir=there\n' >"$tree/c/out/aarch64/edfvd.pc"
     # shellcheck disable=SC2016
     here=$tree sh -c '. "$here/sources.sh" && note_sources "$here/c/out/aarch64/edfvd" "$(digest_of aarch64/edfvd)"'
 }
+
+# put_prebuilt NAME..: stand-ins for these files of the folder prebuilt, with notes that they are of the sources in the tree
+put_prebuilt() (
+    mkdir -p "$tree/prebuilt/aarch64" "$tree/c"
+    cp ../c/edfvd.h ../c/*.c ../c/*.sh "$tree/c"
+    for name; do echo "prebuilt $name" >"$tree/prebuilt/$name"; done
+    here=$tree
+    . "$tree/sources.sh"
+    {
+        printf 'kit %s\nmachine %s\n' "$(cat "$tree/KIT")" "$(uname -m)"
+        for name; do echo "$name $(digest_of "$name") $(sha256sum <"$tree/prebuilt/$name" | sed 's/ .*//')"; done
+    } >"$tree/prebuilt/SOURCES"
+)
 
 # put_page_sources: the files that the page is made of, without what was built
 put_page_sources() {

@@ -8,8 +8,8 @@ binds is no declaration's.
 
 The headline stays below 700 lines of definitions, none of them longer than 110 characters: otherwise the status is 1.
 
-usage: definitions.py [CLAUSE]
-       for all clauses together, or one of them
+usage: definitions.py [CLAUSE..]
+       for all clauses together, or for these
 """
 
 import collections
@@ -23,6 +23,8 @@ from usage import WrongWords, ends
 CRATES = pathlib.Path(__file__).resolve().parent.parent / 'crates'
 TOP = CRATES / 'edfvd_program/src/edfvd.rt'
 TOO_MANY_LINES, LONGEST_LINE = 700, 110
+# The clauses that README's sentence is.
+PROMISE = ['headline', 'complete']
 HEAD = re.compile(r'^(?:(?:abbrev|unfoldable|pub|record|data) )+([^\s(:{]+)')
 FIXITY = re.compile(r'^infix[lr]? \d+ (\S+)')
 NAME = re.compile(r"[A-Za-z_][\w'-]*")
@@ -265,7 +267,7 @@ def faults():
 
 def main(words):
     known = clauses()
-    if len(words) > 1 or any(word not in known for word in words):
+    if any(word not in known for word in words):
         raise WrongWords(f'the clauses are {", ".join(known)}')
     reader = read(words or known)
     by_file = collections.defaultdict(list)
@@ -279,7 +281,8 @@ def main(words):
     if not words:
         for label in known:
             print(total_line(label, read([label])))
-    print(total_line(words[0] if words else 'all clauses', reader))
+        print(total_line(' and '.join(PROMISE), read(PROMISE)))
+    print(total_line(' and '.join(words) or 'all clauses', reader))
     length, path, name = longest(reader)
     print(f'longest line: {length} characters, of {name} in {path}')
     found = list(faults())

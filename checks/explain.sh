@@ -158,7 +158,7 @@ wants 0 flight/expected.txt ../checks/flight.py "$work"
 python3 -B ../checks/tools_check.py || failed=$((failed + 1))
 python3 -B ../checks/explain_check.py "${1:-100}" "${2:-1}" || failed=$((failed + 1))
 python3 -B ../checks/pages.py || failed=$((failed + 1))
-# Each wrong body that the gate leaves out still applies to its source.
+# Each wrong body still applies to its source, those of the gate and those that it leaves out.
 python3 -B ../checks/wrong_bodies.py || failed=$((failed + 1))
 # How many lines of definitions the headline reaches, and the longest of them; too many or too long is a failure.
 python3 -B ../checks/definitions.py headline >"$work/out" || failed=$((failed + 1))

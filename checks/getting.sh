@@ -1,7 +1,8 @@
 #!/bin/sh
-# Tries what somebody gets who has this repository and not the command rt: the first command of README.md, install.sh, and pip with the
-# Python package, each in a fresh copy of the tree with its prebuilt program and library; that these are used only for the sources
-# that they were built from; the words --help and --version; and the completion for bash. It needs no built program.
+# Tries what somebody gets who has this repository and not the command rt: the first command of README.md, install.sh with a program in C
+# that is compiled with what it installed, and pip with the Python package, each in a fresh copy of the tree with its prebuilt program
+# and library; that these are used only for the sources that they were built from; the words --help and --version; and the completion
+# for bash. It needs no built program.
 # usage: getting.sh
 . "$(dirname -- "$0")/../tools/usage.sh"
 takes 0 0 "$@"
@@ -10,7 +11,7 @@ cd "$(dirname -- "$0")/../examples" || exit 1
 PROGRAM=$PWD/../prebuilt/edfvd
 . ../checks/copied_tree.sh
 clone="$work/a clone"
-line='the program is not built, the one in prebuilt is not of these sources or does not run here, and the command rt'
+line='the program is not built, the one in prebuilt is not of these sources and this KIT, or does not run here, and the command rt'
 source=$clone/crates/mc_task/src/task.rt
 
 # copies: the files of the repository, without what is ignored, all of them new
@@ -207,6 +208,21 @@ the_help() {
     judge 0 0 "$work/sorted" 'the forms of the help'
 }
 
+# compiles_in_c: a program in C is compiled with the installed header and library, by the flags of pkg-config, and runs
+compiles_in_c() {
+    soname=libedfvd.so.$(sed -n 's/^#define EDFVD_VERSION //p' ../c/edfvd.h)
+    holds 'the installed library' cmp "$prefix/lib/$soname" ../prebuilt/libedfvd.so
+    if ! command -v pkg-config >/dev/null 2>&1 || ! command -v "${CC:=cc}" >/dev/null 2>&1; then
+        echo 'getting: a program in C is left out, there is no pkg-config or no C compiler'
+        return
+    fi
+    # The flags are words for a shell: the name of the prefix has a blank.
+    flags=$(PKG_CONFIG_PATH="$prefix/lib/pkgconfig" pkg-config --cflags --libs edfvd)
+    holds 'control.c with the flags of pkg-config' eval "\"\$CC\" ../c/examples/control.c $flags -o \"\$work/control\""
+    bounded env LD_LIBRARY_PATH="$prefix/lib" "$work/control" >"$work/out" 2>"$work/err"
+    judge 0 $? ../c/expected/control.txt 'control.c with the installed library'
+}
+
 # installs: install.sh installs the prebuilt program, and the prefix may be moved and linked to
 installs() {
     bounded env PATH="$alone" "$clone/install.sh" "$work/first place" >"$work/text" 2>"$work/err"
@@ -215,6 +231,7 @@ installs() {
     prefix="$work/second place"
     holds 'the installed program' cmp "$prefix/libexec/edfvd/edfvd" "$program"
     holds 'the installed page' cmp "$prefix/share/doc/edfvd/edfvd.html" ../prebuilt/edfvd.html
+    compiles_in_c
     answers 'the installed command' "$prefix/bin/edfvd"
     ln -s "$prefix/bin/edfvd" "$work/installed link"
     ln -s ../../installed\ link "$prefix/bin/a link"

@@ -1,6 +1,7 @@
 # shellcheck shell=sh disable=SC2034,SC2154
 # Sourced in examples/ by the scripts that try the C libraries, after expect.sh: what they share. The name of the script begins each line.
 c=$PWD/../c
+usage_line=$(sed -n 's/^usage_line = codes "\(.*\)\\n"$/\1/p' ../crates/command_line/specs/Form.antt)
 strict='-Wall -Wextra -Werror -Wpedantic -Wconversion -Wshadow'
 script=${0##*/}
 script=${script%.sh}
@@ -10,7 +11,7 @@ limit=300
 # The examples and tests that are run. examples/posix needs root, and is compiled.
 in_c='examples/control examples/deadlines examples/margins examples/dispatcher examples/monitor examples/endless examples/tickless
     examples/ask tests/sets tests/many tests/events tests/runs tests/handles tests/judging tests/asking tests/stack tests/places tests/busy
-    tests/threads tests/wrong tests/memory tests/fuzz'
+    tests/threads tests/wrong tests/memory tests/fuzz tests/schedules'
 
 # library_for NAME: the file with the calls that this example or test makes: libedfvd_core.a has no edfvd_ask
 library_for() {
@@ -40,7 +41,7 @@ passes() {
 }
 
 # tries WHAT PROGRAM COMMAND..: notes one run of an example or test, which must end with status 0 and write what is expected, where
-# there is a text for it
+# there is a text for it. A line USAGE of the text stands for the program's usage line, which the definition of its words writes out.
 tries() {
     what=$1
     text=$c/expected/${2##*/}.txt
@@ -49,8 +50,9 @@ tries() {
         passes "$what" "$@"
         return
     fi
+    LC_ALL=C sed "s/^USAGE\$/$usage_line/" "$text" >"$work/expected"
     # shellcheck disable=SC2016
-    passes "$what" sh -c 'text=$1; shift; "$@" | cmp - "$text"' sh "$text" "$@"
+    passes "$what" sh -c 'text=$1; shift; "$@" | cmp - "$text"' sh "$work/expected" "$@"
 }
 
 # stated: the numbers that the tests take from sentences of edfvd.h, as a header in $work

@@ -1,7 +1,8 @@
 #!/bin/sh
-# Tries install.sh in a copy of the tree: which files it installs, and their modes under three umasks; that a call which fails or is
-# interrupted leaves everything as it was, with its modes, owners, times and links; that it never writes through a link; and that the
-# links of installed pages lead to installed files. Whose the files are is tried by root alone, who can give them away.
+# Tries install.sh in a copy of the tree: which files it installs, and their modes under three umasks; that it takes prebuilt libraries
+# of its own sources alone, and those that were built here first; that a call which fails or is interrupted leaves everything as it was,
+# with its modes, owners, times and links; that it never writes through a link; and that the links of installed pages lead to installed
+# files. Whose the files are is tried by root alone, who can give them away.
 # usage: installing.sh
 . "$(dirname -- "$0")/../tools/usage.sh"
 takes 0 0 "$@"
@@ -155,24 +156,120 @@ own.md"
     rm "$tree/docs/MORE.md" "$tree/docs/my"*own.md "$work/prefix/share/doc/edfvd/docs/MORE.md"
 }
 
+# says_libraries PREFIX NAMES: the file with what a call writes that installs these libraries to the prefix
+says_libraries() {
+    sed "s|$work/prefix|$1|g; 1a installed $1/include/edfvd.h, $1/lib/pkgconfig/edfvd.pc, and in $1/lib: $2" "$work/installed"
+}
+
+# takes_prebuilt PREFIX FOLDER NAMES [MACHINE]: a call installs these libraries of this folder of prebuilt, and no others
+takes_prebuilt() {
+    where=$1
+    folder=$2
+    names=$3
+    shift 3
+    says_libraries "$where" "$names" >"$work/wanted"
+    tries 0 "$work/wanted" '' "$alone" "$tree/install.sh" "$where" "$@"
+    holds 'the header beside a prebuilt library' cmp "$where/include/edfvd.h" ../c/edfvd.h
+    for name in $names; do
+        holds "the prebuilt $folder$name" [ "$(cat "$where/lib/$name")" = "prebuilt $folder$name" ]
+    done
+    {
+        printf '644 f %s \n' include/edfvd.h "lib/$soname" lib/pkgconfig/edfvd.pc
+        printf '777 l lib/libedfvd.so %s\n' "$soname"
+        for name in $names; do [ "$name" = libedfvd.so ] || echo "644 f lib/$name "; done
+    } | sort -k 3 >"$work/wanted"
+    (cd "$where" && find include lib ! -type d -printf '%m %y %p %l\n' | sort -k 3) >"$work/out"
+    judge 0 0 "$work/wanted" "the libraries that are installed in $where"
+    holds 'the checksums with prebuilt libraries' sums_hold "$where" "$released"
+}
+
+# takes_none WHEN [MACHINE]: a call installs no library and no header, and all else
+takes_none() {
+    when=$1
+    shift
+    rm -rf "$work/none"
+    sed "s|$work/prefix|$work/none|g" "$work/installed" >"$work/wanted"
+    tries 0 "$work/wanted" '' "$alone" "$tree/install.sh" "$work/none" "$@"
+    holds "no library, $when" [ ! -e "$work/none/lib" ]
+    holds "no header, $when" [ ! -e "$work/none/include" ]
+}
+
+# The prebuilt libraries are installed if all of them are of the sources that are here, and those for the machine alone.
+prebuilt_libraries() {
+    if [ "$(uname -m)" != x86_64 ]; then
+        echo 'installing: the prebuilt libraries are left out, this is not x86-64'
+        return
+    fi
+    soname=libedfvd.so.$(sed -n 's/^#define EDFVD_VERSION //p' ../c/edfvd.h)
+    prebuilt='libedfvd.so aarch64/edfvd aarch64/libedfvd.so aarch64/libedfvd_core.a'
+    # shellcheck disable=SC2086
+    put_prebuilt $prebuilt
+    takes_prebuilt "$work/with_shared" '' libedfvd.so
+    takes_prebuilt "$work/with_arm" aarch64/ 'libedfvd_core.a libedfvd.so' aarch64
+    for file in prebuilt/aarch64/libedfvd_core.a prebuilt/aarch64/libedfvd.so prebuilt/libedfvd.so c/edfvd.c c/edfvd.h KIT \
+        crates/edfvd_ask_c/src/lib.rt; do
+        cp -p "$tree/$file" "$work/kept"
+        echo '// more' >>"$tree/$file"
+        case $file in
+        prebuilt/aarch64/*) takes_none "after a change of $file" aarch64 ;;
+        c/edfvd.c)
+            takes_none "after a change of $file" aarch64
+            takes_none "after a change of $file"
+            ;;
+        *) takes_none "after a change of $file" ;;
+        esac
+        cp -p "$work/kept" "$tree/$file"
+    done
+    sed -i '/^machine /s/ .*/ pdp11/' "$tree/prebuilt/SOURCES"
+    takes_none 'of another machine'
+    rm "$tree/prebuilt/SOURCES"
+    takes_none 'without notes'
+    rm -r "$tree/prebuilt" "$tree/c"
+}
+
 # The C libraries are installed if they are there, and none that is older than its sources.
 libraries() {
     put_libraries
-    sed "1a installed $work/prefix/include/edfvd.h, and the libraries in $work/prefix/lib" "$work/installed" >"$work/all"
+    says_libraries "$work/prefix" 'libedfvd.a libedfvd_core.a libedfvd.so' >"$work/all"
     tries 0 "$work/all" '' "$alone" "$tree/install.sh" "$work/prefix"
     holds 'the header' cmp "$work/prefix/include/edfvd.h" ../c/edfvd.h
     for file in libedfvd.a libedfvd_core.a libedfvd.so; do
         holds "$file" [ "$(cat "$work/prefix/lib/$file")" = "$file" ]
     done
-    # shellcheck disable=SC2016
-    printf 'libdir=${pcfiledir}/..\nincludedir=${pcfiledir}/../../include\n' >"$work/wanted"
+    # The shared library has the name of its soname, and the linker's name for it is a link to it, in a prefix that was moved, too.
+    soname=libedfvd.so.$(sed -n 's/^#define EDFVD_VERSION //p' ../c/edfvd.h)
+    holds 'the link libedfvd.so' [ "$(readlink "$work/prefix/lib/libedfvd.so")" = "$soname" ]
+    holds "$soname is a file" [ -f "$work/prefix/lib/$soname" ] && holds "$soname is no link" [ ! -L "$work/prefix/lib/$soname" ]
+    # A library of an older version stays for the programs that were linked with it, and a file that libedfvd.so was is replaced.
+    cp "$work/prefix/lib/$soname" "$work/prefix/lib/libedfvd.so.1"
+    rm "$work/prefix/lib/libedfvd.so"
+    echo old >"$work/prefix/lib/libedfvd.so"
+    tries 0 "$work/all" '' "$alone" "$tree/install.sh" "$work/prefix"
+    holds 'the link libedfvd.so, again' [ "$(readlink "$work/prefix/lib/libedfvd.so")" = "$soname" ]
+    holds 'libedfvd.so.1' rm "$work/prefix/lib/libedfvd.so.1"
+    cat >"$work/wanted" <<END
+libdir=\${pcfiledir}/..
+includedir=\${pcfiledir}/../../include
+
+Name: edfvd
+Description: EDF-VD task sets tested, traces judged, and a scheduler driven event by event
+Version: $(sed -n 's/^version: //p' ../CITATION.cff)
+Libs: -L\${libdir} -ledfvd
+Cflags: -I\${includedir}
+END
     cp "$work/prefix/lib/pkgconfig/edfvd.pc" "$work/out"
     judge 0 0 "$work/wanted" 'edfvd.pc'
     find "$work/prefix" -name '.edfvd*' >"$work/out"
     judge 0 0 "$work/empty" 'files that are left'
     touch "$tree/c/edfvd.h"
     fails 'the C libraries are older than their sources: run' "$alone" "$tree/install.sh" "$work/older"
+    # Those that were built here come before prebuilt ones, also if they are older than their sources.
+    put_prebuilt libedfvd.so
+    fails 'the C libraries are older than their sources: run' "$alone" "$tree/install.sh" "$work/older"
     touch "$tree/c/out/libedfvd.a"
+    tries 0 "$work/all" '' "$alone" "$tree/install.sh" "$work/prefix"
+    holds 'the built library before the prebuilt one' [ "$(cat "$work/prefix/lib/libedfvd.so")" = libedfvd.so ]
+    rm -r "$tree/prebuilt"
 }
 
 # installs_arm: what is installed is the stand-ins, and RELEASE names the machine
@@ -293,7 +390,7 @@ planted() {
     judge 0 $? "$work/out" 'install.sh beside planted links'
     holds 'what the links lead to' cmp "$work/victim" "$(says untouched)"
     holds 'a link in the place of the program is replaced' cmp "$work/planted/bin/edfvd" ../man/edfvd.sh
-    find "$work/planted" -type l -exec rm {} +
+    find "$work/planted" -type l -lname "$work/victim" -exec rm {} +
     files "$work/planted" >"$work/out"
     judge 0 0 "$work/files_all" 'what is installed beside planted links'
 }
@@ -341,7 +438,9 @@ interrupted() {
     ln -sf ../../../bin/mine "$work/old/share/doc/edfvd/LICENSE-MIT"
     if is_root; then chown 60606:60606 "$work/old/share/doc/edfvd/LICENSE-APACHE"; fi
     kept "$work/old" >"$work/files_old"
+    # Each file is copied twice and renamed once; a link of what is installed is made, copied once and renamed once.
     count=$(find "$work/prefix" -type f | wc -l)
+    all=$(find "$work/prefix" -type f -o -type l | wc -l)
     # Each line is a tool, the number of its call at which the signal comes, and the signal.
     while read -r tool number signal; do
         stand_in "$tool" "$number" "$signal"
@@ -349,23 +448,24 @@ interrupted() {
     done <<END
 cp 1 INT
 cp $((count + 1)) INT
-cp $((2 * count)) TERM
+cp $((count + all)) TERM
 mv 1 INT
 mv 2 TERM
-mv $count INT
+mv $all INT
 END
     while read -r tool number; do
         stand_in "$tool" "$number" 0
         stopped '' "$tool fails at call $number"
     done <<END
 cp $((count - 1))
-cp $((2 * count - 1))
-mv $((count - 1))
-mv $count
+cp $((count + all - 1))
+mv $((all - 1))
+mv $all
 END
-    printf '#!/bin/sh\nexit 1\n' >"$work/stopped/ln"
+    # A second name of a file cannot be made, and a link that leads to one can.
+    printf '#!/bin/sh\n[ "$1" = -s ] || exit 1\nexec %s "$@"\n' "$work/tools/ln" >"$work/stopped/ln"
     chmod +x "$work/stopped/ln"
-    stopped '' "mv fails at call $count, and ln always"
+    stopped '' "mv fails at call $all, and ln always"
     rm "$work/stopped/mv"
     holds 'install.sh where no file can have two names' bounded env PATH="$work/stopped:$alone" "$tree/install.sh" "$work/old"
     rm "$work/old/bin/mine"
@@ -409,6 +509,7 @@ installed
 release
 pages
 links_that_lead_out
+prebuilt_libraries
 libraries
 for_another_machine
 page_in_browser

@@ -24,7 +24,7 @@ ground() {
     case $1 in
     tests/threads | tests/stack | tests/places) ;;
     examples/endless) passes "$1 under memcheck" $memcheck "$work/$2" 2000 ;;
-    tests/fuzz) passes "$1 under memcheck" $memcheck "$work/$2" "$seed" 400 ;;
+    tests/fuzz | tests/schedules) passes "$1 under memcheck" $memcheck "$work/$2" "$seed" 400 ;;
     *) tries "$1 under memcheck" "$2" $memcheck "$work/$2" ;;
     esac
 }
@@ -42,7 +42,7 @@ tried_in_c() {
         name=${source##*/}
         library=$c/out/$(library_for "$name")
         words=
-        [ "$name" != fuzz ] || words="$seed 20000"
+        case $name in fuzz | schedules) words="$seed 20000" ;; esac
         compiled "$source" "$work/$name" -O2 "$library" || continue
         # shellcheck disable=SC2086
         tries "$source" "$name" "$work/$name" $words
@@ -120,6 +120,8 @@ pages() {
         fi
     } >"$work/shown.sh"
     shown 'the commands of C-AND-PYTHON.md for Python' 2/5 50
+    commands docs/C-AND-PYTHON.md 'mkdir -p c/out' >"$work/shown.sh"
+    shown 'the commands of C-AND-PYTHON.md for C' 'x 2/5'
 }
 
 # fuzzed: random calls of the package, with the library as it is and with the guards under the address sanitizer, say the same

@@ -12,6 +12,8 @@ usage: model.py
 """
 
 import math
+import pathlib
+import re
 from fractions import Fraction
 from itertools import islice
 from typing import NamedTuple, Optional
@@ -1143,10 +1145,9 @@ def set_fault(tasks):
 
 # ---- The program ----
 
-USAGE = ('usage: check TASKS | run TASKS WORK TICKS | judge TASKS TRACE [P Q] | chart TASKS TRACE '
-         '| report TASKS TRACE | soak NUMBER TASKCOUNT TICKS | migrate TASKS TRACE | live TASKS TICKS '
-         '| demand DEMANDS | partition TASKS M | runall TASKS WORK TICKS M | stretch TASKS '
-         '| accept NUMBER SETS TASKCOUNT\n')
+# The usage line, as the definition that the program's contract cites writes it out.
+FORMS = (pathlib.Path(__file__).resolve().parent.parent / 'crates/command_line/specs/Form.antt').read_text(encoding='utf-8')
+USAGE = re.search(r'^usage_line = codes "(.*)\\n"$', FORMS, re.MULTILINE)[1] + '\n'
 COUNT_OF_WORDS = {
     'check': [0], 'run': [1], 'judge': [0, 2], 'chart': [0], 'report': [0], 'soak': [3], 'migrate': [0], 'live': [1],
     'demand': [0], 'partition': [1], 'runall': [2], 'stretch': [0], 'accept': [3]}

@@ -10,6 +10,9 @@
 - The links of all pages lead to a file, and to a heading of it where they name one.
 - overrun.svg is what svg.py draws of the overrun.
 - CITATION.cff has the newest version of CHANGELOG.md.
+- TESTING.md has the numbers of edits.
+- An edit of the gate or a test shows each public call that no other crate calls (public_calls.py).
+- The clauses that no page names are those of unnamed_clauses.txt (unnamed_clauses.py).
 
 usage: pages.py [mend]
        with the word, writes the right line numbers and totals into DEFINITIONS.md, DEADLINE-PROOF.md and README.md, and draws
@@ -22,8 +25,10 @@ import re
 import with_tools
 import definitions
 import model
+import public_calls
 import reading
 import svg
+import unnamed_clauses
 from usage import WrongWords, ends
 
 ROOT = pathlib.Path(__file__).resolve().parent.parent
@@ -92,7 +97,7 @@ def links_mended(page):
 # The page with the lines and totals that are right.
 def lines_mended(page):
     told = [definitions.total_line(label, definitions.read([label])) for label in ('headline', 'right_text', 'complete', 'tested', 'answer', 'outcome')]
-    told.append(definitions.total_line('headline and complete', definitions.read(PROMISE)))
+    told.append(definitions.total_line(' and '.join(definitions.PROMISE), definitions.read(definitions.PROMISE)))
     told.append(definitions.total_line('all clauses', definitions.read(definitions.clauses())))
     return TOTALS.sub(lambda match: match[1] + '\n'.join(told) + match[3], links_mended(page))
 
@@ -215,13 +220,12 @@ def link_faults():
                 yield f'{page.relative_to(ROOT)}: {target} leads nowhere'
 
 
-PROMISE = ['headline', 'complete']
 HEADLINE = re.compile(r'[\d,]+ lines of definitions and [\d,]+ of types')
 
 
 # README.md with the lines that the clauses of the promise reach.
 def readme_mended(page):
-    (_, lines, _), (_, types, _) = definitions.totals(definitions.read(PROMISE)).values()
+    (_, lines, _), (_, types, _) = definitions.totals(definitions.read(definitions.PROMISE)).values()
     return HEADLINE.sub(f'{lines:,} lines of definitions and {types:,} of types', page)
 
 
@@ -278,8 +282,16 @@ def citation_faults():
     return [] if cited == newest else [f'CITATION.cff has version {cited}, and CHANGELOG.md {newest}']
 
 
+def edit_faults():
+    """TESTING.md has the number of edits that the gate tries, of all edits, and of those that the gate leaves out."""
+    tried, others = (sum(1 for _ in (ROOT / 'crates').glob(f'*/{folder}/*.edit')) for folder in ('must-fail', 'wrong-bodies'))
+    page = ' '.join((ROOT / 'docs/TESTING.md').read_text(encoding='utf-8').split())
+    numbers = (f'only {tried} of {tried + others} edits', f'the other {others} edits')
+    return [f'TESTING.md does not have: {words}' for words in numbers if words not in page]
+
+
 CHECKS = [messages_not_named, samples_that_differ, promise_faults, line_faults, lemma_faults, readme_faults, definitions_faults, others_faults, link_faults, picture_faults,
-          citation_faults]
+          citation_faults, edit_faults, public_calls.faults, unnamed_clauses.faults]
 MENDED = [('docs/DEFINITIONS.md', lines_mended), ('docs/DEADLINE-PROOF.md', links_mended), ('README.md', readme_mended), ('docs/overrun.svg', overrun_drawn)]
 
 

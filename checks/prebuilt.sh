@@ -209,8 +209,8 @@ found() {
     finds 'libedfvd.so is not of the sources that are here' c/build.sh
     finds 'edfvd.html is not the one that was built' prebuilt/edfvd.html
     finds 'edfvd.html is not the one that was built' web/out/edfvd.html
-    for file in crates/edfvd_ask_c/src/lib.rt web/build.sh web/heap.c web/single.py web/retarget.py web/style.css web/index.html \
-        web/src/page.js web/src/edfvd.js examples/overrun/work.csv; do
+    for file in crates/edfvd_ask_c/src/lib.rt crates/edfvd_c/src/lib.rt web/build.sh web/heap.c web/single.py web/retarget.py web/style.css web/index.html \
+        web/src/page.js web/src/sets.js examples/overrun/work.csv; do
         finds 'edfvd.html is not of the sources that are here' "$file"
     done
     # A source of the library alone is none of the program.

@@ -1,9 +1,10 @@
 #!/bin/sh
-# Tries the page of the folder web. By node: what it reads, draws and makes of files, with values worked out by hand; recordings beside
-# tools/record/sched.py; the contrast of its colours; and its module beside the program, on random files and traces, each status and each
-# byte. By cc: the heap of the module. By Chromium and Firefox, without a screen: the page in one file, opened from the disk and used. The
-# page is the one that web/build.sh makes, where rt and binaryen's wasm-opt are there, or else the prebuilt one. What a missing tool makes
-# impossible is left out, with a line that says so.
+# Tries the page of the folder web. By node: what it reads, draws, explains and makes of files, with values worked out by hand; the
+# explanation of random illegal traces beside checks/model.py; recordings beside tools/record/sched.py; the contrast of its colours; its
+# module beside the program, on random files and traces, each status and each byte; its module for sets of numbers beside the shared
+# library, on random sets; and the time of a run of a million ticks. By cc: the heap of the modules. By Chromium and Firefox, without a
+# screen: the page in one file, opened from the disk and used. The page is the one that web/build.sh makes, where rt and binaryen's
+# wasm-opt are there, or else the prebuilt one. What a missing tool makes impossible is left out, with a line that says so.
 # The first run after the gate builds the page, which takes some minutes; all else takes three.
 # usage: web.sh [CASES [TRACES]]
 . "$(dirname -- "$0")/../tools/usage.sh"
@@ -84,6 +85,25 @@ finds_page() {
     return 1
 }
 
+# finds_library: sets $chosen to the shared library of these sources
+finds_library() {
+    choose_library && return
+    echo 'web: the sets of numbers left out: neither c/out nor prebuilt has a library of these sources'
+    return 1
+}
+
+# answers_as WHAT SCRIPT PAGE CASES WORDS..: the script in node, with this page, if there is one, and the cases that the script CASES writes
+answers_as() {
+    what=$1 test=$2 page=$3 cases_of=$4
+    shift 4
+    if python3 -B "$web/tests/$cases_of" "$@" >"$work/cases.json"; then
+        passes "$what" node "$web/tests/$test" ${page:+"$page"} "$work/cases.json"
+    else
+        runs=$((runs + 1)) failed=$((failed + 1))
+        echo "web: $cases_of failed"
+    fi
+}
+
 # uses_page BROWSER COMMAND: the page in this browser
 uses_page() {
     has "$2" "the page in $1" || return
@@ -101,7 +121,7 @@ tries_heap() {
 
 cases=${1:-500}
 traces=${2:-100}
-for script in build.sh single.py examples.py tests/cases.py tests/recordings.py tests/pages.py; do
+for script in build.sh single.py examples.py tests/cases.py tests/recordings.py tests/reasons.py tests/sets.py tests/pages.py; do
     refuses "$script" --wrong
     refuses "$script" 1 2 3 4 5 6 7 8 9
 done
@@ -112,19 +132,22 @@ tries_heap
 is_node=yes
 is_recent_node || is_node=
 if [ -n "$is_node" ]; then
-    for test in reading drawing contrast; do passes "$test" node "$web/tests/$test.js"; done
+    for test in reading drawing reasons contrast; do passes "$test" node "$web/tests/$test.js"; done
 fi
 builds_page
 if is_recent_python; then
     if [ -n "$is_node" ]; then
-        python3 -B "$web/tests/recordings.py" 120 "$seed" >"$work/recordings.json" || failed=$((failed + 1))
-        passes recording node "$web/tests/recording.js" "$work/recordings.json"
+        answers_as recording recording.js '' recordings.py 120 "$seed"
+        answers_as 'reasons of random traces' random_reasons.js '' reasons.py 600 "$seed"
     fi
     if finds_page; then
+        made=$chosen
         if [ -n "$is_node" ]; then
-            python3 -B "$web/tests/cases.py" "$program" "$cases" "$traces" "$seed" >"$work/cases.json" || failed=$((failed + 1))
-            passes answers node "$web/tests/answers.js" "$chosen" "$work/cases.json"
+            answers_as answers answers.js "$made" cases.py "$program" "$cases" "$traces" "$seed"
+            passes 'a run of a million ticks' node "$web/tests/speed.js" "$made"
+            if finds_library; then answers_as sets sets.js "$made" sets.py "$chosen" 300 "$seed"; fi
         fi
+        chosen=$made
         uses_page chromium chromium
         uses_page firefox firefox-esr
     fi

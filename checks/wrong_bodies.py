@@ -1,18 +1,30 @@
-"""The wrong bodies that the gate leaves out; except of calling_examples it tries others of the same crate. They stand in wrong-bodies/
-of their crates, in the form of those in must-fail/: each is a plausible mistake that the prover must refuse.
+"""The wrong bodies that the gate leaves out. They stand in wrong-bodies/ of their crates, in the form of those in must-fail/: each is a
+plausible mistake that the prover must refuse.
 
-With no word, looks whether each still applies: an old line stands exactly once in its file. With names of crates, or `all`, has
-`rt ci` try them in a copy of the repository, which takes half a minute to three minutes of a processor for each. With `for`, tries a
-few of one crate after another, in an order by the seed, and begins with no further crate once the minutes are over.
+With no word, looks whether each still applies, which means that an old line stands exactly once in its file; also those of the gate.
+With names of crates, or `all`, has the prover try their edits, crate by crate. Each must be refused, and not only because a proof cites
+a name that the edit took away. With `for`, tries a few of one crate after another, in an order by the seed, until the minutes are over.
+It then fails if an edit does not apply, if the prover cannot read one or accepts one, or if `rt` ends before the time is over and says
+nothing of one. Those that were not tried in time are only counted.
+
+The edits are tried in a copy. If `rt ci` has proved the crates below in this tree, the copy has only the crate and those below it, and
+`rt ci` there tries the edits like those of the gate. It takes from the gate what it proved, and first proves the crate itself again, as
+the base of its edits. Otherwise `rt must-fail` (`rt ci`, if the kit has no such command) tries them in a copy of the repository, where
+it first builds each crate below. Either tries one edit on each processor, as far as there is memory. It does not try an edit again
+whose result it kept from an earlier run of the same files on this machine; a line of `rt` then says so.
 
 usage: wrong_bodies.py [CRATE..]
        wrong_bodies.py for MINUTES SEED
 """
 
+import collections
 import contextlib
+import os
 import pathlib
 import random
+import re
 import shutil
+import signal
 import subprocess
 import tempfile
 import time
@@ -24,6 +36,17 @@ ROOT = pathlib.Path(__file__).resolve().parent.parent
 CRATES = ROOT / 'crates'
 # How many edits of a crate are tried before the next crate: the first of a crate costs its proof besides.
 AT_ONCE = 3
+# What the prover says of an edit, and what is said of one that it had no time for, or of which it said nothing. A refusal only because
+# a proof cites a name that is gone, or only by a limit of the prover, shows little of the contract, so these are counted apart.
+BY_NAME, BY_LIMIT, REFUSED, ACCEPTED, BAD, NOT_TRIED, NO_WORD = RESULTS = (
+    'refused, as it must be (only because a proof file names', 'refused, as it must be (only by a limit', 'refused, as it must be',
+    'NOT REFUSED', 'BAD EDIT', 'NOT TRIED', 'NO WORD OF IT')
+# Prints the crate and those below it, if rt ci has proved those in this tree (c/machine.sh). Without out/ nothing was proved here.
+ON_GATE = '''
+    here=$1 crates=$1/crates
+    . "$here/sources.sh" && . "$here/c/machine.sh" || exit
+    if [ -d "$crates/$2/out" ] && on_gate "$2"; then crate_lines "$2" | sed 's/:.*//'; fi
+'''
 
 
 def fault_of(edit):
@@ -55,56 +78,116 @@ def look(edits):
 
 @contextlib.contextmanager
 def copied():
-    """A copy of the repository in which no edit stands in must-fail. `rt ci` takes what it proved before on this machine for the crates
-    below the one that it is given."""
-    with tempfile.TemporaryDirectory() as folder:
+    """A copy of the repository in which no edit stands in must-fail. The libraries of the crates below are built in the copy, each once.
+    The prover's own files are made beside the copy, and go with it."""
+    with tempfile.TemporaryDirectory(ignore_cleanup_errors=True) as folder:
         copy = pathlib.Path(folder) / 'copy'
-        shutil.copytree(ROOT, copy, symlinks=True, ignore=shutil.ignore_patterns('.git', 'out', 'must-fail'))
+        shutil.copytree(CRATES, copy / 'crates', symlinks=True, ignore=shutil.ignore_patterns('out', 'must-fail'))
+        for name in ('crates.txt', 'HANDLES'):
+            shutil.copy(ROOT / name, copy)
         yield copy
 
 
-def refused(copy, edits):
-    """Has the prover try these edits in the copy: the lines that it prints of them, and whether its status was 0."""
+def command():
+    """The command of the kit that tries the edits of named crates."""
+    words = {'stdin': subprocess.DEVNULL, 'stdout': subprocess.PIPE, 'stderr': subprocess.STDOUT}
+    usage = subprocess.run(['rt'], text=True, errors='replace', check=False, **words).stdout
+    return 'must-fail' if 'rt must-fail' in usage else 'ci'
+
+
+@contextlib.contextmanager
+def place_of(copy, crate):
+    """Where the edits of a crate are tried, and the words for `rt`: if `rt ci` has proved the crates below, a copy of the crate and of
+    those alone, since `rt ci` takes all crates of a repository; else the copy of the repository."""
+    words = ['sh', '-c', ON_GATE, 'sh', ROOT, crate]
+    names = subprocess.run(words, stdout=subprocess.PIPE, text=True, check=True).stdout.split()
+    if not names:
+        yield copy, [command(), crate]
+        return
+    place = copy.parent / crate
+    for name in names:
+        shutil.copytree(copy / 'crates' / name, place / 'crates' / name, symlinks=True, ignore=shutil.ignore_patterns('out'))
+    lines = (copy / 'crates.txt').read_text(encoding='utf-8').splitlines(keepends=True)
+    (place / 'crates.txt').write_text(''.join(line for line in lines if re.match(r'\w*', line)[0] in names), encoding='utf-8')
+    shutil.copy(copy / 'HANDLES', place)
+    (place / '.git').mkdir()
+    yield place, ['ci']
+    shutil.rmtree(place, ignore_errors=True)
+
+
+def said_by_prover(place, words, seconds):
+    """What `rt` prints for these words, and whether it ended within that many seconds. If not, it is ended with all that it started,
+    which is a process group of its own."""
+    with open(place.parent / 'said', 'w+', encoding='utf-8', errors='replace') as said:
+        where = {'cwd': place, 'env': {**os.environ, 'TMPDIR': str(place.parent)}, 'stdout': said, 'stderr': subprocess.STDOUT}
+        prover = subprocess.Popen(['rt', *words], start_new_session=True, **where)
+        try:
+            prover.wait(seconds)
+            ended = True
+        except subprocess.TimeoutExpired:
+            ended = False
+        finally:
+            if prover.poll() is None:
+                os.killpg(prover.pid, signal.SIGTERM)
+                prover.wait()
+        said.seek(0)
+        return said.read(), ended
+
+
+def tried(copy, edits, seconds=None):
+    """Has the prover try these edits of one crate, and returns what came of each, in the words of RESULTS."""
+    crate = edits[0].parent.parent.name
+    with place_of(copy, crate) as (place, words):
+        folder = place / 'crates' / crate / 'must-fail'
+        folder.mkdir()
+        for edit in edits:
+            shutil.copy(edit, folder)
+        text, ended = said_by_prover(place, words, seconds)
+        shutil.rmtree(folder)
+    lines = text.split('\n')
+    for line in lines:
+        if line.startswith(f'rt: {crate}: ') and ' must-fail edits' in line:
+            print(line)
+    results = []
     for edit in edits:
-        place = copy / edit.parent.parent.relative_to(ROOT) / 'must-fail'
-        place.mkdir(exist_ok=True)
-        shutil.copy(edit, place)
-    crates = sorted({edit.parent.parent.name for edit in edits})
-    with subprocess.Popen(['rt', 'ci', *crates], cwd=copy, stdout=subprocess.PIPE, text=True) as gate:
-        lines = [line for line in gate.stdout if line.startswith('rt: must-fail ')]
-    for crate in crates:
-        shutil.rmtree(copy / 'crates' / crate / 'must-fail')
-    print(*lines, sep='', end='', flush=True)
-    return lines, gate.returncode == 0
+        label = f'rt: must-fail {crate}/{edit.name}: '
+        line = next((line for line in lines if line.startswith(label)), label + (NO_WORD if ended else NOT_TRIED))
+        print(line, flush=True)
+        results.append(next((result for result in RESULTS if line.startswith(label + result)), NO_WORD))
+    if NO_WORD in results:
+        print(*lines[-8:], sep='\n', flush=True)
+    return results
 
 
-def status_of(tried, wanted):
-    """The status for the lines of each call of the prover, of which there has to be one for each edit that was to be tried."""
-    lines = [line for lines, _ in tried for line in lines]
-    failed = sum('refused, as it must be' not in line for line in lines) + wanted - len(lines)
-    print(f'wrong_bodies: {wanted} tried, {failed} not refused')
-    return 1 if failed or not all(passed for _, passed in tried) else 0
+def counted(results):
+    """Prints how many edits came to each result, and returns the numbers."""
+    counts = collections.Counter(results)
+    little = f'{counts[BY_NAME]} only by a name in a proof, {counts[BY_LIMIT]} only by a limit'
+    failed = f'{counts[ACCEPTED]} accepted, {counts[BAD]} bad, {counts[NO_WORD]} of which rt said nothing'
+    print(f'wrong_bodies: {counts[REFUSED]} refused, {little}, {failed}, {counts[NOT_TRIED]} not tried')
+    return counts
 
 
-def try_all(edits):
-    """Has the prover try all of these edits."""
+def try_all(crates):
+    """Has the prover try all edits of these crates."""
     with copied() as copy:
-        return status_of([refused(copy, edits)], len(edits))
+        results = [result for crate in crates for result in tried(copy, edits_of(crate))]
+    counts = counted(results)
+    return 0 if counts[REFUSED] + counts[BY_LIMIT] == len(results) else 1
 
 
 def try_some(minutes, seed, crates):
     """Has the prover try a few edits of one crate after another, in an order by the seed, until the minutes are over."""
-    order, begun, tried, wanted = random.Random(seed), time.monotonic(), [], 0
+    order, end, results = random.Random(seed), time.monotonic() + 60 * minutes, []
     order.shuffle(crates)
     with copied() as copy:
         for crate in crates:
-            if tried and time.monotonic() - begun >= 60 * minutes:
-                break
             edits = edits_of(crate)
             picked = order.sample(edits, min(AT_ONCE, len(edits)))
-            tried.append(refused(copy, picked))
-            wanted += len(picked)
-    return status_of(tried, wanted)
+            if time.monotonic() < end:
+                results += tried(copy, picked, end - time.monotonic())
+    counts = counted(results)
+    return 1 if counts[ACCEPTED] or counts[BAD] or counts[NO_WORD] else 0
 
 
 def edits_of(crate):
@@ -112,14 +195,17 @@ def edits_of(crate):
 
 
 def main(words):
+    if not words:
+        return look(sorted(CRATES.glob('*/*/*.edit')))
     crates = sorted(folder.parent.name for folder in CRATES.glob('*/wrong-bodies'))
-    if words[:1] == ['for'] and len(words) == 3:
-        return try_some(whole_number(words[1]), whole_number(words[2]), crates)
-    wanted = crates if words == ['all'] else words
+    is_some = words[0] == 'for' and len(words) == 3
+    wanted = crates if is_some or words == ['all'] else words
     if not set(wanted) <= set(crates):
         raise WrongWords(f'crates: {" ".join(crates)}')
-    edits = [edit for crate in wanted or crates for edit in edits_of(crate)]
-    return look(edits) or (try_all(edits) if words else 0)
+    edits = [edit for crate in wanted for edit in edits_of(crate)]
+    if look(edits):
+        return 1
+    return try_some(whole_number(words[1]), whole_number(words[2]), crates) if is_some else try_all(wanted)
 
 
 if __name__ == '__main__':
