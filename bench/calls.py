@@ -1,4 +1,4 @@
-"""Measures the calls of the Python package, in microseconds of processor time: the least of seven runs of each.
+"""Measures the calls of the Python package, in microseconds of processor time: the least of 20 runs of each.
 
 The package is the one that Python finds. So two versions are compared by two runs in turn, each with its own PYTHONPATH.
 
@@ -13,14 +13,19 @@ sys.path.insert(0, str(pathlib.Path(__file__).resolve().parent.parent / 'tools')
 from usage import WrongWords, ends
 
 ROWS = 50_000
+RUNS = 20
 
 
-def measured(what, call, count):
-    """Prints how long one of `count` elements takes, of which each call of the function handles all."""
+def measured(what, call, count, make=None):
+    """Prints how long one of `count` elements takes, of which each call of the function handles all.
+
+    If there is a function that makes what the call takes, its own time is left out.
+    """
     least = float('inf')
-    for _ in range(7):
+    for _ in range(RUNS):
+        given = [] if make is None else [make()]
         begin = time.process_time_ns()
-        call()
+        call(*given)
         least = min(least, (time.process_time_ns() - begin) / count)
     print(f'{what:38} {least / 1000:9.3f}')
 
@@ -57,6 +62,8 @@ def measure_arrays(edfvd, tasks, rows):
     measured('a row observed, of an array', observed, ROWS)
     count, one = ROWS // 2, [(0, 10_000, 416, 416), (1, 10_000, 416, 625)] * 4
     sets, offsets = (CTask * (8 * count))(*(one * count)), range(0, 8 * count + 1, 8)
+    lists = [random_like_set(edfvd, 8) for _ in range(1_000)]
+    measured('a set of 8 tasks checked, of a list', lambda: edfvd.check_many(lists), 1_000)
     measured('a set of 8 tasks checked, of an array', lambda: edfvd.check_many(sets, offsets), count)
 
 
@@ -65,8 +72,12 @@ def main(words):
         raise WrongWords
     import edfvd
     for count in (2, 8, 32, 128):
-        tasks, times = random_like_set(edfvd, count), 20_000 // count
+        tasks, times = random_like_set(edfvd, count), 4_000 // count
         measured(f'check of {count} tasks', lambda: [edfvd.check(tasks) for _ in range(times)], times)
+        measured(
+            f'check of {count} new tasks', lambda sets: [edfvd.check(tasks) for tasks in sets], times,
+            lambda: [random_like_set(edfvd, count) for _ in range(times)],
+        )
     tasks = [edfvd.Task(f't{n}', 'low', 8, 1) for n in range(8)]
     rows = rows_in_turn(edfvd, tasks)
 

@@ -4,9 +4,9 @@
 use std::cmp::Reverse;
 use std::collections::{BinaryHeap, HashSet};
 use std::env;
-use std::fmt::Write as _;
 use std::fs;
 use std::io::{self, Write as _};
+use std::ops::Range;
 use std::process::ExitCode;
 
 const HEADER: &str = "task,period,deadline,budget";
@@ -30,9 +30,9 @@ fn main() -> io::Result<ExitCode> {
     let name = env::args_os().nth(1).expect("the name of a demand file");
     let (status, text) = match read(&fs::read_to_string(name)?) {
         Some(set) => answer(&set),
-        None => (11, "demand file refused\n".to_string()),
+        None => (11, b"demand file refused\n".to_vec()),
     };
-    io::stdout().write_all(text.as_bytes())?;
+    io::stdout().write_all(&text)?;
     Ok(ExitCode::from(status))
 }
 
@@ -93,14 +93,15 @@ fn least_common_multiple(a: u64, b: u64) -> u64 {
     a / x * b
 }
 
-fn answer(set: &Set) -> (u8, String) {
+fn answer(set: &Set) -> (u8, Vec<u8>) {
     match first_past(set) {
         None => (
             0,
-            format!("schedulable, demand checked to {}\n", set.multiple),
+            format!("schedulable, demand checked to {}\n", set.multiple).into_bytes(),
         ),
         Some((length, demand)) => {
-            let mut text = format!("not schedulable: demand {demand} in length {length}\n");
+            let mut text =
+                format!("not schedulable: demand {demand} in length {length}\n").into_bytes();
             write_counterexample(set, length, &mut text);
             (10, text)
         }
@@ -129,15 +130,17 @@ fn first_past(set: &Set) -> Option<(u64, u64)> {
     None
 }
 
-/// The run in which each task releases at every multiple of its period and ties go to the lowest number, and its late job.
-fn write_counterexample(set: &Set, length: u64, text: &mut String) {
+/// The run in which each task releases at every multiple of its period and ties go to the lowest number, and its late job. It goes
+/// from one release or end of a job to the next.
+fn write_counterexample(set: &Set, length: u64, text: &mut Vec<u8>) {
     // The next release of each task, by its time.
     let mut releases: BinaryHeap<_> = (0..set.tasks.len())
         .map(|task| Reverse((0, task)))
         .collect();
     // The pending jobs by their deadlines, each with its task, its number, and the ticks that it still needs.
     let mut pending = BinaryHeap::new();
-    for now in 0..length {
+    let mut now = 0;
+    while now < length {
         while let Some(&Reverse((at, k))) = releases.peek().filter(|release| release.0 .0 == now) {
             let task = &set.tasks[k];
             let count = at / task.period + 1;
@@ -146,13 +149,23 @@ fn write_counterexample(set: &Set, length: u64, text: &mut String) {
             releases.push(Reverse((at + task.period, k)));
             pending.push(Reverse((at + task.deadline, k, count, task.budget)));
         }
+        let next = releases
+            .peek()
+            .map_or(length, |release| length.min(release.0 .0));
         match pending.pop() {
-            None => writeln!(text, "idle {now}").unwrap(),
-            Some(Reverse((deadline, k, count, left))) => {
-                writeln!(text, "tick {now} {} {count}", set.tasks[k].name).unwrap();
-                if left > 1 {
-                    pending.push(Reverse((deadline, k, count, left - 1)));
+            None => {
+                for tick in now..next {
+                    writeln!(text, "idle {tick}").unwrap();
                 }
+                now = next;
+            }
+            Some(Reverse((deadline, k, count, left))) => {
+                let end = next.min(now + left);
+                write_ticks(&set.tasks[k].name, count, now..end, text);
+                if now + left > end {
+                    pending.push(Reverse((deadline, k, count, now + left - end)));
+                }
+                now = end;
             }
         }
     }
@@ -163,4 +176,29 @@ fn write_counterexample(set: &Set, length: u64, text: &mut String) {
         .min()
         .expect("a late job");
     writeln!(text, "late {} {count}", set.tasks[k].name).unwrap();
+}
+
+/// The lines of a job's ticks. The number of the first is counted up for each other one.
+fn write_ticks(name: &str, count: u64, ticks: Range<u64>, text: &mut Vec<u8>) {
+    let from = text.len();
+    writeln!(text, "tick {} {name} {count}", ticks.start).unwrap();
+    if ticks.end - ticks.start == 1 {
+        return;
+    }
+    let mut line = text[from..].to_vec();
+    let mut last = 4 + ticks.start.to_string().len();
+    for _ in ticks.skip(1) {
+        let mut at = last;
+        while line[at] == b'9' {
+            line[at] = b'0';
+            at -= 1;
+        }
+        if line[at] == b' ' {
+            line.insert(at + 1, b'1');
+            last += 1;
+        } else {
+            line[at] += 1;
+        }
+        text.extend_from_slice(&line);
+    }
 }

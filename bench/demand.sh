@@ -19,29 +19,8 @@ trap 'exit 1' HUP INT TERM
 [ $# -gt 0 ] || ../edfvd check ../examples/control/tasks.toml >"$work/out" || exit 1
 rustc --edition 2021 -O -o "$work/plain" demand.rs || exit 1
 
-# demands NAME: lines of a name, a period, a deadline and a budget become the demand file NAME.csv
-demands() {
-    { echo task,period,deadline,budget; tr ' ' ','; } >"$work/$1.csv"
-}
-
-# 128 tasks whose periods are the divisors of 500,000 from 1,000 up, except two of them, with deadlines of 9/10 of the periods
-# and a load of about 1/200 each.
-awk 'BEGIN {
-    count = split("1000 1250 2000 2500 3125 4000 5000 6250 10000 12500 15625 20000 25000 31250 50000 62500 100000 500000", periods, " ")
-    for (i = 0; i < 128; i++) {
-        period = periods[i % count + 1]
-        print "t" i, period, int(period * 9 / 10), int(period / 200)
-    } }' | demands wide
-
-# 127 tasks that release a job at each 160th tick, and one of period 500,000: 396,876 jobs in all.
-awk 'BEGIN { for (i = 0; i < 127; i++) print "t" i, 160, 33 + i, 1; print "long 500000 250000 50000" }' | demands dense
-
-# 128 tasks of period 500,000, which ask for 500,001 ticks in 500,000: a counterexample of that length.
-awk 'BEGIN { for (i = 1; i < 128; i++) print "t" i, 500000, 500000, 3906; print "t128 500000 500000 3939" }' | demands past
-
-# The 127 tasks of `dense`, and one with which the set asks for 500,001 ticks in 500,000: a counterexample of that length, in
-# which four of five ticks are the only one of a job.
-awk 'BEGIN { for (i = 0; i < 127; i++) print "t" i, 160, 33 + i, 1; print "long 500000 500000 103126" }' | demands dense_past
+. ./sets.sh
+demand_sets
 
 # instructions COMMAND..: how many the whole process takes
 instructions() {

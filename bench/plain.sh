@@ -17,27 +17,8 @@ program=${PROGRAM:-$(../prebuilt/program.sh)} || exit 1
 rustc -O --edition 2021 -o "$work/plain" plain.rs || exit 1
 failed=0
 
-# 8 tasks that are all released at each 8th tick, each for one: no two ticks are equal.
-awk 'BEGIN { for (i = 1; i <= 8; i++)
-    printf "[[task]]\nname = \"t%d\"\nlevel = \"%s\"\nperiod = 8\nlow = 1\n%s\n", i, i % 2 ? "high" : "low", i % 2 ? "high = 1\n" : "" }' >"$work/turns.toml"
-# turns VERSION RECORDS: the header and the first RECORDS records of their trace
-turns() {
-    awk -v version="$1" -v records="$2" 'BEGIN {
-        print version == 1 ? "event,tick,task,job,how" : "event,tick,length,task,job,how"
-        for (place = 0; place < records; place++) {
-            round = int(place / 16); step = place % 16; tick = round * 8
-            if (step < 8) printf "release,%d,%st%d,%d,kept\n", tick, version == 1 ? "" : ",", step + 1, round + 1
-            else printf "tick,%d,%st%d,%d,done\n", tick + step - 8, version == 1 ? "" : "1,", step - 7, round + 1
-        }
-    }'
-}
-# idles VERSION RECORDS: the header and RECORDS idle ticks
-idles() {
-    awk -v version="$1" -v records="$2" 'BEGIN {
-        print version == 1 ? "event,tick,task,job,how" : "event,tick,length,task,job,how"
-        for (tick = 0; tick < records; tick++) printf "idle,%d,%s,,\n", tick, version == 1 ? "" : "1,"
-    }'
-}
+. ./sets.sh
+turns_set
 
 # count PROGRAM WORDS..: its instructions
 count() {
@@ -92,8 +73,7 @@ for command in judge report migrate chart; do
 done
 
 # The instructions of a tick of `live`, of 32 tasks of period 200 that need 2 or 3 ticks, by 2,000 and 6,000 ticks.
-awk 'BEGIN { for (i = 1; i <= 32; i++)
-    printf "[[task]]\nname = \"t%d\"\nlevel = \"%s\"\nperiod = 200\nlow = %d\n%s\n", i, i % 2 ? "high" : "low", i % 2 ? 2 : 3, i % 2 ? "high = 5\n" : "" }' >"$work/live.toml"
+live_set
 for of in "$program" "$work/plain"; do
     for ticks in 2000 6000; do
         count "$of" live "$work/live.toml" $ticks >>"$work/counts"

@@ -20,11 +20,8 @@ length=$(wc -c <../examples/control/tasks.toml)
     echo
 } >"$work/comments.toml"
 
-# 128 tasks with long names and large periods, whose least common multiple is 4,294,967,295.
-awk 'BEGIN { for (i = 1; i <= 128; i++) {
-    printf "[[task]]\nname = \"task_with_a_long_name_%03d\"\nlevel = \"%s\"\n", i, i % 2 ? "high" : "low"
-    printf "period = %s\nlow = 10000000\n%s\n", i % 2 ? "1431655765" : "4294967295", i % 2 ? "high = 17000000\n" : ""
-} }' >"$work/tasks.toml"
+. ./sets.sh
+long_names_set
 
 # measure NAME RUNS COMMAND..: the time of RUNS runs, and the peak memory of one
 measure() {
@@ -65,11 +62,9 @@ done
 # Traces: the avionics run, that of 128 tasks that take turns, 2,000,000 idle rows, and half a million pending jobs at a time.
 "$program" run "$work/avionics.toml" "$work/avionics.csv" 1000000 >"$work/avionics_trace.csv"
 "$program" run "$work/crowd.toml" "$work/crowd.csv" 1000000 >"$work/crowd_trace.csv"
-awk 'BEGIN { print "event,tick,task,job,how"; for (t = 0; t < 2000000; t++) print "idle," t ",,," }' >"$work/idle_trace.csv"
-printf 'task = [{name="a", level="low", period=1, low=1}, {name="b", level="low", period=1, low=1}]\n' >"$work/two.toml"
-awk 'BEGIN { print "event,tick,task,job,how"; for (t = 0; t < 500000; t++) {
-    print "release," t ",a," t + 1 ",kept"; print "release," t ",b," t + 1 ",kept"
-    print "tick," t "," (t % 2 ? "b" : "a") "," int(t / 2) + 1 ",done" } }' >"$work/two_trace.csv"
+idles 1 2000000 >"$work/idle_trace.csv"
+two_tasks
+two_rows 1500000 >"$work/two_trace.csv"
 
 measure 'judge, avionics, 1,000,000 ticks' 5 "$program" judge "$work/avionics.toml" "$work/avionics_trace.csv"
 measure 'judge, 128 tasks in turn, 1,999,936 rows' 5 "$program" judge "$work/crowd.toml" "$work/crowd_trace.csv"

@@ -13,15 +13,8 @@ trap 'rm -rf "$work"' EXIT
 trap 'exit 1' HUP INT TERM
 [ $# -gt 0 ] || ../edfvd check ../examples/control/tasks.toml >"$work/out" || exit 1
 
-# 128 tasks, every other one high, each of a load of about 1/9 in its own mode: some 8 to a processor.
-awk 'BEGIN {
-    count = split("100 200 250 400 500 800 1000 2000", periods, " ")
-    for (i = 0; i < 128; i++) {
-        period = periods[i % count + 1]
-        printf "\n[[task]]\nname = \"t%d\"\nperiod = %d\n", i, period
-        if (i % 2) printf "level = \"low\"\nlow = %d\n", int(period / 9)
-        else printf "level = \"high\"\nlow = %d\nhigh = %d\n", int(period / 18), int(period / 9)
-    } }' >"$work/wide.toml"
+. ./sets.sh
+wide_set
 
 # pairs COUNT: two tasks for each of COUNT processors, of which no two pairs fit on one, with their jobs at each release
 pairs() {
