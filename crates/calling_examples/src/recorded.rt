@@ -1,10 +1,10 @@
 //! Rows from a recorder of the caller's own, judged.
-ghost use Rattle.std.specs.Prelude.{◌≡◌, ◌↔◌, ◌<◌, All, Err, IfOk, IsTrue, length, reverse};
+ghost use Rattle.std.specs.Prelude.{◌≡◌, ◌<◌, All, Err, IfOk, length, reverse};
 ghost use Rattle.mc_model.specs.Holds.{Fits, Holds};
 ghost use Rattle.mc_model.specs.Legal.{IsOfSet};
 ghost use Rattle.mc_model.specs.Verdict.{verdict, HasNoLate};
 
-use mc_model::{Row, Verdict};
+use mc_model::{Row, Verdict, are_of_set};
 use mc_task::{Memory, Rule, TaskSet};
 use std::alloc::Global;
 use thiserror::Error;
@@ -48,22 +48,5 @@ pub fn verdict_on(
     match judge(alloc, set, rule, &runs) {
         Ok(verdict) => Ok(verdict),
         Err(Memory) => Err(NotJudged::Memory),
-    }
-}
-
-// Whether each row is idle or of a task of the set.
-fn are_of_set(set: &TaskSet, rows: &[Row]) -> bool
-    ensures { IsTrue result ↔ All (IsOfSet set.now.tasks) rows.now }
-{
-    rows.iter().all(|row| is_of_set(set, *row))
-}
-
-fn is_of_set(set: &TaskSet, row: Row) -> bool
-    ensures { IsTrue result ↔ IsOfSet set.now.tasks row }
-{
-    match row {
-        Row::Release { job, .. } => set.get(job.task).is_some(),
-        Row::Tick { job, .. } => set.get(job.task).is_some(),
-        Row::Idle => true,
     }
 }

@@ -1,4 +1,5 @@
-//! The deadline laws, each a function whose contract is the law.
+//! The deadline laws, each a function whose contract is the law. Its body computes nothing: it calls `len` so that the prover
+//! learns that the tasks of the set are valid.
 ghost use Rattle.std.specs.Prelude.{◌≡◌, true, false, reverse};
 ghost use Rattle.mc_task.specs.declared.task.Rule.TheVariants.{Plain};
 ghost use Rattle.mc_model.specs.Holds.{Fits, Holds};

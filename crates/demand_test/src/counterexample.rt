@@ -21,6 +21,7 @@ pub fn counter(alloc: Global, set: &DemandSet, length: u64) -> Result<Vec<u8>, M
     ensures text { IfOk result (λ text. ShowsCounter set.now length text.items) }
     ensures law { OneCounter set.now length }
 {
+    // The tasks are valid, and the hyperperiod, which `length` is not above, is at most 500,000.
     let _is_set = set.len();
     let length = length as u32;
     let play = played(alloc, set, length)?;

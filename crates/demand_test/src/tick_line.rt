@@ -70,12 +70,14 @@ impl TickLine {
         tick > 0 && self.tick == tick - 1 && self.job == Some(job)
     }
 
-    // Makes the line that of the next tick, if its number has as many digits.
+    // Makes the line that of the next tick. Returns `false` if the number of that tick has one more digit: the digits in the line
+    // are spoilt then, and the caller writes the line again.
     fn advance(&mut self, set: &DemandSet, job: JobId) -> bool
         requires small { self.old.tick + 2 < 2 ^ 64 }
         requires line { IsLineOf set.now self.old.tick job self.old }
         ensures { result ≡ true → IsLineOf set.now (self.old.tick + 1) job self.new }
     {
+        // The digits come after the five bytes of `tick `.
         if !count_up(&mut self.bytes[5..self.end]) {
             return false;
         }
@@ -103,7 +105,8 @@ impl TickLine {
 
 ghost use Rattle.demand_test.specs.TickLine.{IsNext};
 
-// Counts a decimal number up by one. Returns `false` if the next number has one more digit.
+// Counts a decimal number up by one. Returns `false` if the next number has one more digit: each digit is 0 then, and the number
+// is lost.
 #[inline(always)]
 fn count_up(digits: &mut [u8]) -> bool
     ensures next { result ≡ true → IsNext digits.old digits.new }

@@ -1,7 +1,7 @@
--- Properties of each element of a list, and filters.
-use Rattle.std.proofs.Common.{◌≡◌, Bool, true, false, ◌&&◌, List, [], ◌∷◌, ◌++◌, cond, filter, reverse, refl, sym, ap, subst}
+-- Properties of each element of a list, filters, and the first elements in reverse order.
+use Rattle.std.proofs.Common.{◌≡◌, Bool, true, false, ◌&&◌, ℕ, ◌+◌, ◌<◌, List, [], ◌∷◌, ◌++◌, cond, filter, take, get_or, length, reverse, refl, sym, ap, ◌∙◌, subst}
 use Rattle.std.specs.List.{AllByRecursion}
-use Rattle.std.proofs.lemmas.List.{reverse-append}
+use Rattle.std.proofs.lemmas.List.{reverse-append, take_more}
 
 -- each element of the list has the property
 abbrev pub Each : {X : Type 0} → (X → Type 0) → List X → Type 0
@@ -66,3 +66,7 @@ Each-append P (x ∷ xs) ys h k = (h.0, Each-append P xs ys h.1 k)
 pub Each-reverse : {X : Type 0} (P : X → Type 0) (xs : List X) → Each P xs → Each P (reverse xs)
 Each-reverse P [] h = tt
 Each-reverse P (x ∷ xs) h = subst (Each P) (sym (reverse-append (x ∷ []) xs)) (Each-append P (reverse xs) (x ∷ []) (Each-reverse P xs h.1) (h.0, tt))
+
+-- the first i + 1 elements in reverse order are element i, then the first i in reverse order
+pub reverse-take_more : {X : Type 0} (xs : List X) (i : ℕ) (d : X) → i < length xs → reverse (take (i + 1) xs) ≡ get_or xs i d ∷ reverse (take i xs)
+reverse-take_more xs i d h = ap reverse (take_more xs i d h) ∙ reverse-append (take i xs) (get_or xs i d ∷ [])

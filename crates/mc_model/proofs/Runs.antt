@@ -61,7 +61,7 @@ rows_more rs i d h =
     ∙ (reverse-append (expand (take i rs)) (rows_of (get_or rs i d)) ∙ ap (λ xs. xs ++ reverse (expand (take i rs))) (reverse-copies (size (get_or rs i d)) (row_of (get_or rs i d)))))
 
 -- the ticks of a run's rows are its length
-ticks_copies : (r : Run) → ticks (rows_of r) ≡ length_of r
+pub ticks_copies : (r : Run) → ticks (rows_of r) ≡ length_of r
 ticks_copies (run.Release j kept) = refl
 ticks_copies (run.Ticks j how n) = go n
   where

@@ -1,5 +1,5 @@
 -- What follows from a row that fits the rows before it.
-use Rattle.std.proofs.Common.{◌≡◌, ℕ, ◌+◌, ◌≤◌, Bool, true, false, not, ◌&&◌, ◌||◌, List, [], ◌∷◌, None, cond, nat_lt, ◌==◌, ◌≢◌, refl, arith, leb-true, ltb-false, eqb-true}
+use Rattle.std.proofs.Common.{◌≡◌, ℕ, ◌+◌, ◌≤◌, Bool, true, false, not, ◌&&◌, ◌||◌, List, [], ◌∷◌, ◌++◌, None, cond, nat_lt, ◌==◌, ◌≢◌, refl, arith, leb-true, ltb-false, eqb-true}
 use Rattle.mc_task.specs.declared.task.Rule.{Rule}
 use Rattle.mc_task.specs.declared.task.Task.{Task}
 use Rattle.mc_task.specs.declared.task.JobId.{JobId}
@@ -12,13 +12,18 @@ use Rattle.mc_model.specs.declared.verdict.Why.{Why}
 use Rattle.mc_model.specs.TaskNumbers.{period_in, low_in, own_in, is_high_in}
 use Rattle.mc_model.specs.Pending.{KeptRelease}
 use Rattle.mc_model.specs.Rows.{ticks, used, releases, next_release, is_too_soon}
-use Rattle.mc_model.specs.Legal.{is_pending, is_least, is_empty, same_how, is_allowed_how, first_of_parts}
+use Rattle.mc_model.specs.Legal.{Legal, is_pending, is_least, is_empty, same_how, is_allowed_how, first_of_parts}
 use Rattle.mc_task.specs.Kinds.{is_virtual}
 use Rattle.mc_model.specs.Mode.{high_mode}
 use Rattle.mc_model.proofs.Booleans.{not_true, eqb-false}
 use Rattle.mc_model.proofs.Fold.{pending, fault}
 use Rattle.std.proofs.lemmas.Bool.{or_parts}
 use Rattle.std.proofs.Math.Bool.{beq}
+
+-- the rows of a legal trace up to any of them are legal; the newest row stands first
+pub legal_earlier : (set : List Task) (rule : Rule) (later h : List Row) → Legal set rule (later ++ h) → Legal set rule h
+legal_earlier set rule [] h l = l
+legal_earlier set rule (row ∷ later) h l = legal_earlier set rule later h l.2
 
 -- if no part of one fails, that part is true
 pub parts_one : (a : Bool) (u : Why) → first_of_parts ((a, u) ∷ []) ≡ None → a ≡ true

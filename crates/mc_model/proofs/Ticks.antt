@@ -1,9 +1,9 @@
--- The number of ticks of rows, and of the first of them.
-use Rattle.std.proofs.Common.{◌≡◌, ℕ, ◌+◌, ◌≤◌, ◌<◌, List, [], ◌∷◌, ◌++◌, length, get_or, take, drop, reverse, ap, sym, ◌∙◌, arith}
+-- The number of ticks of rows, of the first of them, and of a task's releases.
+use Rattle.std.proofs.Common.{◌≡◌, ℕ, ◌+◌, ◌≤◌, ◌<◌, ◌==◌, true, false, cond, List, [], ◌∷◌, ◌++◌, length, get_or, take, drop, reverse, ap, sym, ◌∙◌, arith}
 use Rattle.std.proofs.lemmas.List.{reverse-append, take-append-drop, take_more}
 use Rattle.mc_model.specs.declared.row.Row.{Row}
 use Rattle.mc_model.specs.declared.row.Row.TheVariants.{Release, Tick, Idle}
-use Rattle.mc_model.specs.Rows.{ticks}
+use Rattle.mc_model.specs.Rows.{ticks, releases}
 
 pub ticks-append : (g h : List Row) → ticks (g ++ h) ≡ ticks g + ticks h
 ticks-append [] h = omega arith
@@ -17,6 +17,14 @@ ticks-le [] = omega arith
 ticks-le (Release j kept ∷ g) = let less : ticks g ≤ length g = ticks-le g in omega arith
 ticks-le (Tick j how ∷ g) = let less : ticks g ≤ length g = ticks-le g in omega arith
 ticks-le (Idle ∷ g) = let less : ticks g ≤ length g = ticks-le g in omega arith
+
+-- a task has no more releases than there are rows
+pub releases-le : (g : List Row) (k : ℕ) → releases g k ≤ length g
+releases-le [] k = omega arith
+releases-le (Release j kept ∷ g) k =
+    let rest = releases-le g k in
+    elim (j.task.0 == k) as (λ b. cond b 1 0 + releases g k ≤ length (Release j kept ∷ g)) [ true ↦ omega (arith, rest) | false ↦ omega (arith, rest) ]
+releases-le (row ∷ g) k = omega (arith, releases-le g k)
 
 -- rows in reverse order have as many ticks
 pub ticks-reverse : (g : List Row) → ticks (reverse g) ≡ ticks g

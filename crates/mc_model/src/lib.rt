@@ -6,7 +6,7 @@ mod run;
 mod verdict;
 mod work;
 
-pub use row::{How, Row};
+pub use row::{How, Row, are_of_set};
 pub use run::Run;
 pub use verdict::{Verdict, Why};
 pub use work::WorkRow;

@@ -1,5 +1,8 @@
 //! The rows of a trace.
-use mc_task::JobId;
+ghost use Rattle.std.specs.Prelude.{◌↔◌, All, IsTrue};
+ghost use Rattle.mc_model.specs.Legal.{IsOfSet};
+
+use mc_task::{JobId, TaskSet};
 
 /// How a tick ended for its job.
 #[derive(Clone, Copy, Debug, PartialEq, Eq)]
@@ -23,4 +26,20 @@ pub enum Row {
     Tick { job: JobId, how: How },
     /// A tick in which nothing was pending.
     Idle,
+}
+
+/// Whether each row is idle or of a task of the set.
+pub fn are_of_set(set: &TaskSet, rows: &[Row]) -> bool
+    ensures { IsTrue result ↔ All (IsOfSet set.now.tasks) rows.now }
+{
+    rows.iter().all(|row| is_of_set(set, *row))
+}
+
+fn is_of_set(set: &TaskSet, row: Row) -> bool
+    ensures { IsTrue result ↔ IsOfSet set.now.tasks row }
+{
+    match row {
+        Row::Release { job, .. } | Row::Tick { job, .. } => set.get(job.task).is_some(),
+        Row::Idle => true,
+    }
 }

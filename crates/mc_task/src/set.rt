@@ -70,6 +70,18 @@ impl TaskSet {
         }
     }
 
+    /// The set of these tasks with no scale, where it is known that they have no fault. They are not looked at.
+    pub fn of_valid(tasks: Vec<Task>) -> TaskSet
+        requires { AreTasks tasks.items }
+        ensures { result ≡ unscaled tasks.items }
+    {
+        TaskSet {
+            names: NameTable::new(&tasks),
+            tasks,
+            scale: None,
+        }
+    }
+
     /// The set with this scale in place of any that it had.
     pub fn with_scale(self, scale: Scale) -> TaskSet
         requires { IsScale scale }

@@ -5,11 +5,11 @@ use Rattle.mc_task.specs.declared.task.Task.{Task}
 use Rattle.mc_task.specs.declared.task.Rule.{Rule}
 use Rattle.mc_model.specs.declared.row.Row.{Row}
 use Rattle.mc_model.specs.Legal.{Legal}
+use Rattle.mc_model.proofs.Ticks.{ticks-le}
 use Rattle.mode_core.specs.Slots.{waiting}
 use Rattle.mode_core.specs.Written.{Written}
 use Rattle.mode_core.specs.Representation.{written, AreDiscarded, IsScheduleLog, IsTally}
 use Rattle.mode_core.specs.declared.schedule_log.ScheduleLog.TheInside.{Inside}
-use Rattle.mode_core.proofs.Pendings.{ticks-few}
 
 module _ {K : Type 0} (h : List Row) (a : Inside K) where
   -- one more row is legal after the recorder's rows, by the log's fields
@@ -23,7 +23,7 @@ module _ {K : Type 0} (h : List Row) (a : Inside K) where
   module _ (n : ℕ) (is_for : List Task → Rule → Type 0) (k : IsScheduleLog h n is_for a) where
     -- the clock is in range
     pub clock_small : a.ticks ≤ 2 ^ 62
-    clock_small = omega (arith, k.tally.clock_is, ticks-few h, k.few, k.range)
+    clock_small = omega (arith, k.tally.clock_is, ticks-le h, k.few, k.range)
 
     -- the recorder has capacity for one more row
     pub room_for_one : (w : Written) → written h a ≡ w → length w.rows < w.places → length h < n

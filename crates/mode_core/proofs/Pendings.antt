@@ -29,12 +29,6 @@ pending-dropped set rule j g l = (bridge set rule (Release j false ∷ g) l).sam
 pub pending-idle : (set : List Task) (rule : Rule) (g : List Row) → Legal set rule (Idle ∷ g) → pending set (Idle ∷ g) ≡ pending set g
 pending-idle set rule g l = (bridge set rule (Idle ∷ g) l).same ∙ sym (bridge set rule g l.2).same
 
--- there are no more ticks than rows
-pub ticks-few : (h : List Row) → ticks h ≤ length h
-ticks-few [] = omega arith
-ticks-few (Tick j how ∷ g) = omega (arith, ticks-few g)
-ticks-few (row ∷ g) = omega (arith, ticks-few g)
-
 -- a job that was just released has no ticks
 pub unused : (set : List Task) (rule : Rule) (j : JobId) (kept : Bool) (h : List Row) → Legal set rule (Release j kept ∷ h) → used h j ≡ 0
 unused set rule j kept h l = (counted_so set rule h (bridge set rule h l.2).legal).fresh j (omega (arith, (release_fits set rule j kept h l.1).count))

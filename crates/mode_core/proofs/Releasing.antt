@@ -9,6 +9,7 @@ use Rattle.mc_model.specs.declared.row.Row.{Row}
 use Rattle.mc_model.specs.declared.row.Row.TheVariants.{Release}
 use Rattle.mc_model.specs.Rows.{ticks, releases}
 use Rattle.mc_model.specs.Legal.{Legal}
+use Rattle.mc_model.proofs.Ticks.{ticks-le, releases-le}
 use Rattle.mc_model.specs.Core.{State, begun, next_job, keeps, release_row, places_used, tick_out, jobs_of}
 use Rattle.arrivals.specs.declared.arrivals.Slot.{Slot}
 use Rattle.arrivals.specs.Arrived.{arrived, count_of, ForNotes}
@@ -19,7 +20,7 @@ use Rattle.mode_core.specs.declared.answers.Released.TheVariants.{Kept, Dropped}
 use Rattle.mode_core.specs.Events.{is_spent, taken, release_refusal}
 use Rattle.mode_core.specs.Noted.{note_at, notes_of, MayNote}
 use Rattle.mode_core.specs.Shape.{state_of, IsCore}
-use Rattle.mode_core.proofs.Pendings.{pushed, ticks-few}
+use Rattle.mode_core.proofs.Pendings.{pushed}
 use Rattle.mode_core.proofs.Keep.{no_held}
 use Rattle.mode_core.proofs.FewHeld.{held_few}
 use Rattle.mode_core.proofs.Noted.{count_noted, next_noted}
@@ -53,12 +54,6 @@ begun_out s h = rw (some_of s.out h).1 refl
 pub begun_in : (s : State) → s.out ≡ None → ticks s.rows ≡ begun s
 begun_in s e = omega (arith, ap tick_out e)
 
--- there are no more releases than rows
-releases-few : (h : List Row) (k : ℕ) → releases h k ≤ length h
-releases-few [] k = omega arith
-releases-few (Release j kept ∷ g) k = let ih : releases g k ≤ length g = releases-few g k in elim (j.task.0 == k) as (λ b. cond b 1 0 + releases g k ≤ length (Release j kept ∷ g)) [ true ↦ omega (arith, ih) | false ↦ omega (arith, ih) ]
-releases-few (row ∷ g) k = omega (arith, releases-few g k)
-
 -- there are no more jobs of one task than jobs
 pub jobs-few : (k : ℕ) (js : List JobId) → jobs_of k js ≤ length js
 jobs-few k [] = omega arith
@@ -67,7 +62,7 @@ jobs-few k (j ∷ js) = let ih : jobs_of k js ≤ length js = jobs-few k js in e
 -- if the capacity is below 2^32 rows and not all of it is used, the task's jobs have numbers left
 pub not_spent : (s : State) (k : ℕ) → s.places < 2 ^ 32 → places_used s < s.places → is_spent s k ≡ false
 not_spent s k small room =
-    or_from _ _ (ne_eqb (places_used s) s.places (omega arith)) (lt-leb _ _ (omega (arith, small, room, releases-few s.rows k, jobs-few k s.held)))
+    or_from _ _ (ne_eqb (places_used s) s.places (omega arith)) (lt-leb _ _ (omega (arith, small, room, releases-le s.rows k, jobs-few k s.held)))
 
 -- a release that a core takes may be noted
 pub may_note : {K : Type 0} {n : ℕ} (a : Inside K) (k at : ℕ) → Takes n a k → at ≡ begun (state_of a) → MayNote a.arrivals k at
@@ -77,7 +72,7 @@ may_note a k at take e =
     subst (λ (slots : List Slot). MayNote slots k at) (sym take.core.notes_are) (record {
       task = HasTask-arrived s.set (notes_of s) k take.inside;
       few = omega (arith, may.few, count_of-arrived s.set (notes_of s) k take.inside, count_noted s k);
-      time = omega (arith, e, may.room, take.core.sound.small, ticks-few s.rows);
+      time = omega (arith, e, may.room, take.core.sound.small, ticks-le s.rows);
       allowed = omega (arith, e, may.soon, next_of-arrived s.set (notes_of s) k take.inside.0, next_noted s k take.core.sound.tasks take.inside);
     })
 

@@ -1,11 +1,12 @@
 -- The held releases are written one after another.
 use Rattle.std.proofs.Common.{◌≡◌, ℕ, ◌+◌, ◌<◌, ◌≤◌, List, [], ◌∷◌, ◌++◌, take, drop, reverse, length, get_or, refl, sym, ap, ◌∙◌, subst, arith}
-use Rattle.std.proofs.lemmas.List.{reverse-append, take-append-drop, length-reverse, length-take-le, take_more}
+use Rattle.std.proofs.lemmas.List.{reverse-append, take-append-drop, length-reverse, length-take-le}
 use Rattle.mc_task.specs.declared.task.Rule.{Rule}
 use Rattle.mc_task.specs.declared.task.Task.{Task}
 use Rattle.mc_task.specs.declared.task.JobId.{JobId}
 use Rattle.mc_model.specs.declared.row.Row.{Row}
 use Rattle.mc_model.specs.Legal.{Legal}
+use Rattle.mc_model.proofs.Lists.{reverse-take_more}
 use Rattle.mode_core.proofs.Held.{length-held}
 use Rattle.mc_model.specs.Core.{add_held, release_row}
 
@@ -19,14 +20,10 @@ legal-before : (set : List Task) (rule : Rule) (xs : List JobId) (g : List Row) 
 legal-before set rule [] g l = l
 legal-before set rule (x ∷ xs) g l = legal-before set rule xs g l.2
 
--- the first i + 1 jobs in reverse order are job i, then the first i jobs in reverse order
-reverse-more : (js : List JobId) (i : ℕ) (d : JobId) → i < length js → reverse (take (i + 1) js) ≡ get_or js i d ∷ reverse (take i js)
-reverse-more js i d h = ap reverse (take_more js i d h) ∙ reverse-append (take i js) (get_or js i d ∷ [])
-
 -- one more release is one more row
 pub add_one : (set : List Task) (rule : Rule) (js : List JobId) (i : ℕ) (d : JobId) (g : List Row) → i < length js →
     add_held set rule (reverse (take (i + 1) js)) g ≡ release_row set rule (get_or js i d) (add_held set rule (reverse (take i js)) g) ∷ add_held set rule (reverse (take i js)) g
-add_one set rule js i d g h = ap (λ xs. add_held set rule xs g) (reverse-more js i d h)
+add_one set rule js i d g h = ap (λ xs. add_held set rule xs g) (reverse-take_more js i d h)
 
 -- the row of the next held release fits
 pub legal_one : (set : List Task) (rule : Rule) (js : List JobId) (i : ℕ) (d : JobId) (g : List Row) → i < length js → Legal set rule (add_held set rule (reverse js) g) →

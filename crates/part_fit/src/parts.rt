@@ -1,6 +1,5 @@
 //! The tasks of each processor.
 ghost use Rattle.std.specs.Prelude.{◌≡◌, IfOk, length};
-ghost use Rattle.mc_task.specs.TaskSet.{AreTasks, unscaled};
 ghost use Rattle.part_fit.specs.Parts as spec;
 
 use mc_task::{Memory, Task, TaskSet};
@@ -32,12 +31,13 @@ pub fn part(
     requires { length parts.now ≡ length set.now.tasks }
     ensures { IfOk result (spec.IsPart (spec.part_of set.now.tasks parts.now processor)) }
 {
+    // The tasks are valid and their names differ, so those on one processor are a set, if there are any.
     let _is_set = set.len();
     let tasks = tasks_on(alloc, set, &parts.of, processor)?;
     if tasks.is_empty() {
         return Ok(None);
     }
-    Ok(Some(set_of(tasks)))
+    Ok(Some(TaskSet::of_valid(tasks)))
 }
 
 // The tasks on the processor, in the order of the set.
@@ -58,15 +58,4 @@ fn tasks_on(
         }
     }
     Ok(own)
-}
-
-// The set of these tasks.
-fn set_of(tasks: Vec<Task>) -> TaskSet
-    requires { AreTasks tasks.items }
-    ensures { result ≡ unscaled tasks.items }
-{
-    match TaskSet::new(tasks) {
-        Ok(set) => set,
-        Err(_) => unreachable!(),
-    }
 }

@@ -26,6 +26,7 @@ pub fn part_work(
     ensures rows { IfOk result (λ own. own ≡ part_rows processor parts.now work.now) }
     ensures work { IfOk result (IsWork (part_of set.now.tasks parts.now processor)) }
 {
+    // There are at most 128 tasks, so `parts` has at most 128 numbers.
     let _is_set = set.len();
     let tasks = part(alloc, set, parts, processor)?.unwrap();
     let rows = rows_on(alloc, &parts.of, processor, work.rows())?;
@@ -38,6 +39,7 @@ fn work_of(set: &TaskSet, rows: Vec<WorkRow>) -> Work
     requires few { length rows.items ≤ 1000000 }
     ensures { result ≡ rows.items }
 {
+    // The tasks are valid, so `Work::new` takes each list of work of at most 1,000,000 rows.
     let _is_set = set.len();
     match Work::new(set, rows) {
         Ok(work) => work,

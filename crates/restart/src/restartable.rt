@@ -29,6 +29,7 @@ pub enum RestartFault {
 #[derive(Drop)]
 pub struct Restartable<R: Recorder = Vec<Row>> {
     core: Core<R>,
+    // For each task, the boundary before which its first release since the counts began is too soon; 0 before any restart.
     kept: Vec<u64>,
 }
 
@@ -81,8 +82,8 @@ impl<R: Recorder> Restartable<R> {
         }
     }
 
-    // Why the task may not be released before the boundary that is kept for it, whatever the capacity. From that boundary on
-    // the core knows.
+    // Before the boundary that is kept for the task, why it may not be released, whatever the capacity: it has a granted tick, or
+    // the release is too soon. From that boundary on there is no such reason, and the core alone decides.
     fn early(&self, task: TaskNo) -> Option<ReleaseFault>
         requires { IsIn self.now.core.set task.0 }
         ensures before { begun self.now.core < kept_for self.now task.0 → result ≡ early self.now task.0 }

@@ -7,18 +7,14 @@ use Rattle.mc_model.specs.declared.row.Row.{Row}
 use Rattle.mc_model.specs.Rows.{ticks}
 use Rattle.mc_model.specs.Runs.{expand, rows_of, row_of, length_of, IsRun, size}
 use Rattle.mc_model.proofs.Ticks.{ticks-append, ticks-reverse}
-use Rattle.mc_model.proofs.Runs.{rows_more, expand-append, ticks-expand, some_rows}
-
--- the ticks of a run's rows are its length
-rows-ticks : (r : Run) → ticks (rows_of r) ≡ length_of r
-rows-ticks r = let e = ticks-expand (r ∷ []) in let a = ticks-append (rows_of r) [] in omega (arith, e, a)
+use Rattle.mc_model.proofs.Runs.{rows_more, expand-append, ticks_copies, some_rows}
 
 pub more : (runs : List Run) (i : ℕ) (d : Run) (t s : ℕ) → i < length runs → ticks (reverse (expand (take i runs))) ≡ t → s ≡ t + length_of (get_or runs i d)
     → ticks (reverse (expand (take (i + 1) runs))) ≡ s
 more runs i d t s inside was is =
     let e = ap ticks (rows_more runs i d inside) in
     let a = ticks-append (rows_of (get_or runs i d)) (reverse (expand (take i runs))) in
-    omega (arith, was, is, e, a, rows-ticks (get_or runs i d))
+    omega (arith, was, is, e, a, ticks_copies (get_or runs i d))
 
 -- the ticks of all rows are the same in reverse order
 pub reversed : (runs : List Run) → ticks (reverse (expand runs)) ≡ ticks (expand runs)

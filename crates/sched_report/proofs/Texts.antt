@@ -8,6 +8,7 @@ use Rattle.mc_model.specs.declared.row.Row.{Row}
 use Rattle.mc_model.specs.declared.run.Run.{Run}
 use Rattle.mc_model.specs.Runs.{row_of, size, expand, IsRun}
 use Rattle.mc_model.proofs.Runs.{some_rows, expand-append, rows_more}
+use Rattle.mc_model.proofs.Steps.{legal_earlier}
 use Rattle.sched_report.proofs.Steps.{inside}
 use Rattle.mc_model.specs.Legal.{Legal, IsOfSet}
 use Rattle.sched_report.specs.ReportText.{JobCounts, plus, sum_counts, report_line, report_lines}
@@ -19,15 +20,10 @@ use Rattle.sched_report.specs.declared.counts.Counts as mine
 use Rattle.sched_report.specs.Counts.{counts_in, counts_of_tally, sum_tallies, tally_line, AreAtMost}
 use Rattle.sched_report.proofs.Numbered.{get-numbered}
 
--- the rows before a row of a legal trace are legal
-legal_after : (set : List Task) (rule : Rule) (g h : List Row) → Legal set rule (g ++ h) → Legal set rule h
-legal_after set rule [] h l = l
-legal_after set rule (row ∷ g) h l = legal_after set rule g h l.2
-
 -- the rows of the first runs of a legal trace are legal
 pub legal_first : (set : List Task) (rule : Rule) (runs : List Run) (i : ℕ) → Legal set rule (reverse (expand runs)) → Legal set rule (reverse (expand (take i runs)))
 legal_first set rule runs i l =
-    legal_after set rule (reverse (expand (drop i runs))) (reverse (expand (take i runs)))
+    legal_earlier set rule (reverse (expand (drop i runs))) (reverse (expand (take i runs)))
     (subst (Legal set rule) (ap (λ xs. reverse (expand xs)) (sym (take-append-drop i runs)) ∙ (ap reverse (expand-append (take i runs) (drop i runs)) ∙ reverse-append (expand (take i runs)) (expand (drop i runs)))) l)
 
 -- a run of a trace is of its set

@@ -43,6 +43,7 @@ pub fn summary(alloc: Global, set: &TaskSet, runs: &[Run]) -> Result<Vec<u8>, Me
     requires trace { IsTraceOf set.now.tasks (reverse (expand runs.now)) }
     ensures { IfOk result (λ text. text.items ≡ summary_text set.now.tasks (reverse (expand runs.now))) }
 {
+    // There are at most 128 tasks, so the sums over all of them are in range.
     let _is_set = set.len();
     let tally = tally_of(alloc, set, runs)?;
     let mut text = Vec::new(alloc);

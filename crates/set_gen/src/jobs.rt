@@ -77,6 +77,7 @@ impl Jobs {
         requires small { gap < 2 ^ 16 }
         ensures { IfOk result (λ next. Visit set.now.tasks gap at i self.old self.new next) }
     {
+        // There are at most 128 tasks, so `i + 1` is a number of 32 bits.
         let _few = set.len();
         let next = self.next[i];
         if next != at {
@@ -111,6 +112,7 @@ fn need(set: &TaskSet, task: TaskNo, word: u32) -> u32
     requires { IsIn set.now.tasks task.0 }
     ensures { result ≡ spec.need_in (task_at set.now.tasks task.0) word }
 {
+    // No budget is 0, as in each set.
     let _is_set = set.len();
     match set.get(task) {
         Some(task) => {

@@ -1,6 +1,6 @@
 //! Workloads generated from a number.
 ghost use Rattle.std.specs.Prelude.{◌≡◌, ◌≤◌, length, IfOk, Some};
-ghost use Rattle.mc_task.specs.TaskSet.{AreTasks, unscaled};
+ghost use Rattle.mc_task.specs.TaskSet.{unscaled};
 ghost use Rattle.mc_model.specs.Test.{published};
 ghost use Rattle.mc_model.specs.Holds.{Holds, Fits};
 ghost use Rattle.mc_model.specs.Work.{IsWork};
@@ -63,22 +63,11 @@ fn make_all(alloc: Global, number: u64, count: u32, ticks: u32) -> Result<Made, 
 {
     let mut words = words_of(number);
     let Drawn { tasks, gaps } = draw(alloc, &mut words, count)?;
-    let set = set_of(tasks);
+    let set = TaskSet::of_valid(tasks);
     let rule = rule_of(&set);
     let rows = jobs_of(alloc, words, &set, &gaps, ticks)?;
     let work = work_of(&set, rows);
     Ok(Made { set, rule, work })
-}
-
-// The set of these tasks.
-fn set_of(tasks: Vec<Task>) -> TaskSet
-    requires { AreTasks tasks.items }
-    ensures { result ≡ unscaled tasks.items }
-{
-    match TaskSet::new(tasks) {
-        Ok(set) => set,
-        Err(_) => unreachable!(),
-    }
 }
 
 // The rule of the published test.
@@ -99,6 +88,7 @@ fn work_of(set: &TaskSet, rows: Vec<WorkRow>) -> Work
     requires { IsTaken set.now.tasks rows.items }
     ensures { result ≡ rows.items }
 {
+    // The tasks are valid, so `Work::new` takes each list of work of at most 1,000,000 rows.
     let _is_set = set.len();
     match Work::new(set, rows) {
         Ok(work) => work,

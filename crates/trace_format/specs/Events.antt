@@ -26,6 +26,11 @@ abbrev pub task_column : Version → ℕ
 task_column One = 2
 task_column Two = 3
 
+-- the column of the length: version 1 has none
+abbrev pub length_column : Version → Option ℕ
+length_column One = None
+length_column Two = Some 2
+
 -- whether the record has no length: version 1 has no such field, and in version 2 it is empty
 abbrev pub has_no_length : Version → List (List ℕ) → Bool
 has_no_length One fields = true

@@ -59,29 +59,6 @@ fn is_second_header(fields: &ByteRecord) -> bool
                         && (is(field(fields, 4), "job") && is(field(fields, 5), "how"))))))
 }
 
-// The column of the task's field; the fields of the job and of the outcome come after it.
-#[inline(always)]
-fn task_column(version: Version) -> usize
-    ensures column { result ≡ events.task_column version }
-    ensures few { result ≤ 3 }
-{
-    match version {
-        Version::One => 2,
-        Version::Two => 3,
-    }
-}
-
-// The number of fields of a record.
-#[inline(always)]
-fn width(version: Version) -> usize
-    ensures { result ≡ length (file.header_words version) }
-{
-    match version {
-        Version::One => 5,
-        Version::Two => 6,
-    }
-}
-
 // The refusal of a record with another number of fields.
 pub fn wrong_width(version: Version) -> TraceCause
     ensures { result ≡ file.wrong_width version }
@@ -110,7 +87,7 @@ pub fn record_run(
     if count >= 2_000_000 {
         return Err(TraceCause::TooMany);
     }
-    if fields.len() != width(version) {
+    if fields.len() != version.columns().width {
         return Err(wrong_width(version));
     }
     match event_of(version, fields) {
@@ -172,7 +149,7 @@ fn task_in(
 {
     match event {
         Event::Release { .. } | Event::Tick { .. } => {
-            find_likely(set, field(fields, task_column(version)), likely)
+            find_likely(set, field(fields, version.columns().task), likely)
         }
         Event::Idle => Some(TaskNo(0)),
     }
@@ -183,6 +160,7 @@ fn task_in(
 fn find_likely(set: &TaskSet, name: &[u8], likely: TaskNo) -> Option<TaskNo>
     ensures { option_map (λ task. task.0) result ≡ named name.now set.now.tasks }
 {
+    // The names differ, so no other task has the name of the likely one.
     let _is_set = set.len();
     if set.is_named(likely, name) {
         return Some(likely);
@@ -235,7 +213,7 @@ fn tick_in(fields: &ByteRecord) -> Option<u32>
 fn count_in(version: Version, fields: &ByteRecord) -> Option<u32>
     ensures { result ≡ text.number (field (fields_of fields.now) (events.task_column version + 1)) }
 {
-    number(field(fields, task_column(version) + 1))
+    number(field(fields, version.columns().task + 1))
 }
 
 // Whether a record that says this event may have this number of ticks.
@@ -271,9 +249,9 @@ fn run_from(event: Event, task: TaskNo, numbers: RecordNumbers) -> Run
 fn length_in(version: Version, fields: &ByteRecord) -> Option<u32>
     ensures { result ≡ file.length_in version (fields_of fields.now) }
 {
-    match version {
-        Version::One => Some(1),
-        Version::Two => number(field(fields, 2)),
+    match version.columns().length {
+        Some(column) => number(field(fields, column)),
+        None => Some(1),
     }
 }
 
@@ -283,7 +261,7 @@ fn event_of(version: Version, fields: &ByteRecord) -> Option<Event>
     ensures { result ≡ events.event_of version (fields_of fields.now) }
 {
     let word = field(fields, 0);
-    let column = task_column(version);
+    let column = version.columns().task;
     if is(word, "release") {
         if has_no_length(version, fields) {
             return release_event(field(fields, column + 2));
@@ -305,9 +283,9 @@ fn event_of(version: Version, fields: &ByteRecord) -> Option<Event>
 fn has_no_length(version: Version, fields: &ByteRecord) -> bool
     ensures { result ≡ events.has_no_length version (fields_of fields.now) }
 {
-    match version {
-        Version::One => true,
-        Version::Two => field(fields, 2).len() == 0,
+    match version.columns().length {
+        Some(column) => field(fields, column).is_empty(),
+        None => true,
     }
 }
 

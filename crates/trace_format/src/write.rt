@@ -19,6 +19,7 @@ pub fn write_trace(alloc: Global, set: &TaskSet, runs: &[Run]) -> Result<Vec<u8>
     ensures text { IfOk result (λ text. text.items ≡ runs_text set.now.tasks runs.now) }
     ensures reads_back { IfOk result (λ text. trace_file set.now.tasks text.items ≡ Ok runs.now) }
 {
+    // The names are valid and differ, so what is written can be read again.
     let _is_set = set.len();
     let mut out = Vec::new(alloc);
     out.extend_from_slice(b"event,tick,length,task,job,how\n")?;

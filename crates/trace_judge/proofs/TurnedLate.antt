@@ -24,6 +24,7 @@ use Rattle.mc_model.specs.Legal.{Legal}
 use Rattle.mc_model.specs.Sums.{total, when}
 use Rattle.mc_model.proofs.Repeats.{ticks_more, ticks_idle}
 use Rattle.mc_model.proofs.Runs.{alone}
+use Rattle.mc_model.proofs.Steps.{legal_earlier}
 use Rattle.mc_model.proofs.Sums.{total-append, total-map, total-filter, total-same, total-add}
 use Rattle.mc_model.proofs.Tasks.{known}
 use Rattle.trace_judge.specs.declared.state.State.{State}
@@ -55,11 +56,6 @@ total-permutation f xs ys p = total_is f ys ∙ (sum_by-IsPermutation f xs ys p 
 total-zero : {X : Type 0} (xs : List X) → total (λ x. 0) xs ≡ 0
 total-zero [] = refl
 total-zero (x ∷ xs) = omega (arith, total-zero xs)
-
--- the earlier rows of legal ones are legal
-rest_legal : (set : List Task) (rule : Rule) (xs h : List Row) → Legal set rule (xs ++ h) → Legal set rule h
-rest_legal set rule [] h l = l
-rest_legal set rule (x ∷ xs) h l = rest_legal set rule xs h l.2
 
 -- a deadline that has come by a boundary had come before, or has come since
 since_then : (d t u n : ℕ) → t ≤ u → ◌≡◌ {A = ℕ} (cond (nat_le d u) n 0) (cond (nat_le d t) n 0 + cond (nat_le d u && not (nat_le d t)) n 0)
@@ -161,4 +157,4 @@ add_late set rule r h s since ts i each e l t same f =
     same (λ x. f x.job)
     ∙ (turned_sum set rule (rows_of r ++ h) s since t (λ x. f x.job)
     ∙ ap (λ (n : ℕ). total (when (λ x. is_turned set n (ticks (rows_of r ++ h)) x.kept) (λ (x : Placed). f x.kept.job)) (waiting set (rows_of r ++ h))) e) in
-    omega (arith, late_sum set rule (rows_of r ++ h) l f, late_sum set rule h (rest_legal set rule (rows_of r) h l) f, run_late set rule r h i l each (λ (x : Placed). f x.kept.job), now)
+    omega (arith, late_sum set rule (rows_of r ++ h) l f, late_sum set rule h (legal_earlier set rule (rows_of r) h l) f, run_late set rule r h i l each (λ (x : Placed). f x.kept.job), now)

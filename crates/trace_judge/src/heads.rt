@@ -9,7 +9,7 @@ use std::alloc::{AllocError, Global};
 use std::marker::Model;
 
 /// The key at the head of a queue without a job: no job has so great a key. The top bit of a job's key is 0, so one look
-/// at this bit tells whether a queue is empty.
+/// at this bit shows whether a queue is empty.
 pub const NO_KEY: u128 = 1 << 127;
 
 /// The key at the head of each queue, as a list.

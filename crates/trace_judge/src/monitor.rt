@@ -115,6 +115,8 @@ impl Monitor {
 
     /// Takes a valid run of the set, if there is capacity for its rows, and returns the first row so far that does not
     /// fit. If memory runs out, the monitor is unchanged.
+    ///
+    /// The allocator shows that a call may take memory. It is not used: a queue grows by the one with which it was opened.
     pub fn follow(&mut self, _: Global, run: Run) -> Result<Option<Unfit>, Memory>
         requires task { IsRunOfSet self.old.set.tasks run }
         requires is_run { IsRun run }
@@ -148,6 +150,8 @@ impl Monitor {
     /// Takes valid runs of the set one after another, if there is capacity for all their rows or one so far does not fit.
     /// This costs less than a call for each run, but the next `turned_late` reads the pending jobs. If memory runs out, the
     /// monitor has seen the runs before one that needs memory, and `seen` says how many rows these are.
+    ///
+    /// The allocator shows that a call may take memory. It is not used: a queue grows by the one with which it was opened.
     pub fn follow_all(&mut self, _: Global, runs: &[Run]) -> Result<(), Memory>
         requires runs { AreRuns runs.now }
         requires tasks { All (IsRunOfSet self.old.set.tasks) runs.now }
@@ -249,6 +253,7 @@ impl Monitor {
     pub fn pending(&self) -> u64
         ensures { (h : List Row) → Watches h self.now → result ≡ length (pending self.now.set.tasks (fitted self.now.set.tasks self.now.rule h)) }
     {
+        // The number of rows is one of 64 bits.
         let _rows = self.state.rows;
         self.state.waiting.count()
     }
@@ -282,6 +287,7 @@ impl Monitor {
         // Under a rule that holds for the set no job of a legal schedule is late.
         ensures no_late { (h : List Row) → Watches h self.now → Holds self.now.set.tasks self.now.rule → HasNoLate result }
     {
+        // The number of rows is one of 64 bits.
         let _rows = self.state.rows;
         let _is_set = self.set.len();
         match self.unfit {

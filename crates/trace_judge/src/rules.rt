@@ -80,6 +80,7 @@ pub fn key_at(rule: Rule, high_mode: bool, task: &Task, release: u64) -> u128
     ensures key { result ≡ key_of rule high_mode (Some task.now) release }
     ensures below { result < no_key }
 {
+    // The period is a number of 32 bits, and the release one of 64 bits.
     let _period = task.period;
     let _release = release;
     key(rule, high_mode, task, release)

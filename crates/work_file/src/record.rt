@@ -68,6 +68,7 @@ fn find_likely(set: &TaskSet, name: &[u8], last: TaskNo) -> Option<TaskNo>
     ensures number { option_map (λ task. task.0) result ≡ named name.now set.now.tasks }
     ensures inside { IfSome result (λ task. IsIn set.now.tasks task.0) }
 {
+    // The names differ, so no other task has the name of the likely one.
     let _is_set = set.len();
     let likely = set.task_after(last);
     if set.is_named(likely, name) {

@@ -1,5 +1,0 @@
-use Rattle.mc_task.proofs.FaultLemmas.{first_fault-set}
-use Rattle.set_gen.proofs.made.set_of.Goals as goal
-
-pub unreachable-requires : goal.unreachable-requires
-unreachable-requires c = absurd (let none = first_fault-set c.args.tasks.items c.requires in let some = c.in-Err.ensures.fault in cc)
