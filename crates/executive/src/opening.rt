@@ -87,6 +87,7 @@ impl Executive {
         ensures board { IfOk result (λ r. r.0.board ≡ board) }
         ensures memory { IfErr result (λ e. e.floor ≡ floor) }
     {
+        // The core is sound, which `Turnstile::new` asks of the state.
         let _sound = floor.core().ticks();
         let tasks = floor.core().set().len();
         let Ok(list) = Vec::with_capacity(alloc, 128) else {

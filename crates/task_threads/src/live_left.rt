@@ -54,6 +54,7 @@ fn tick_left(floor: &mut Floor, needs: &[LiveNeeds], ticks: u64)
     requires more { ticks_of floor.old.core.rows < ticks }
     ensures { Moves floor.old floor.new 1 }
 {
+    // The rows are legal, so a chosen job is of a task of the set, and there is capacity for this tick.
     let _sound = floor.core().ticks();
     match floor.next_act() {
         Act::Grant(task) => {

@@ -5,7 +5,7 @@ ghost use Rattle.task_threads.specs.LivePasses.{IsLivePass, IsRunner, AreNeedsOf
 
 use crate::live_needs::LiveNeeds;
 use crate::parking_spots::ParkingSpots;
-use crate::worker::{Progress, Serving, Worker};
+use crate::worker::{Expected, Progress, Serving, Worker, next_act};
 use executive::{Gate, Taken, TaskPass};
 use mc_model::How;
 use mc_task::TaskNo;
@@ -33,12 +33,13 @@ impl Worker for Runner {
         &self.pass
     }
 
-    // Watches; then, unless all ticks have ended, releases if that is allowed, looks, and does the next act if it is
-    // this task's.
+    // Watches; then, unless all ticks have ended, releases if that is allowed, and does the next act if it is this
+    // task's.
     fn round<R: Wait, G: Gate>(
         self,
         serving: &Serving<'_, R, G>,
         task: TaskNo,
+        expected: Expected,
     ) -> (Runner, Progress) {
         let Runner {
             pass,
@@ -49,7 +50,7 @@ impl Worker for Runner {
         } = self;
         let now = serving.executive.watch(&mut watcher).ticks;
         let (pass, next, progress) = if now < ticks {
-            act_at(serving, needs, pass, next, now, task)
+            act_at(serving, needs, pass, next, now, task, expected)
         } else {
             (pass, next, Progress::Finished)
         };
@@ -75,6 +76,7 @@ fn act_at<R: Wait, G: Gate>(
     next: u64,
     now: u64,
     task: TaskNo,
+    expected: Expected,
 ) -> (TaskPass, u64, Progress)
     requires pass { IsLivePass serving.now.executive.now task.0 pass }
     requires needs { AreNeedsOf (task_at (floor_of serving.now.executive.now).core.set task.0) needs }
@@ -85,7 +87,12 @@ fn act_at<R: Wait, G: Gate>(
         return (pass, next, Progress::Finished);
     }
     serving.spots.set_release(task, next);
-    let (pass, progress) = act(serving, needs, pass, now, task);
+    // After a release another act may be next.
+    let expected = match release {
+        Progress::Acted => Expected::Unknown,
+        _ => expected,
+    };
+    let (pass, progress) = act(serving, needs, pass, now, task, expected);
     // A task that released counts as the one that acted last, even if its tick was idle.
     if progress == Progress::Idled {
         (pass, next, progress.max(release))
@@ -175,21 +182,22 @@ fn release_due<R: Wait, G: Gate>(
     }
 }
 
-// Looks once, and does the next act, if it is this task's or an idle tick. If it is another task's, that task's thread
-// is woken.
-#[tactic(auto, using(crate::proofs::LivePasses::looked_live, crate::proofs::LivePasses::idled_live))]
+// Does the next act, if it is this task's or an idle tick. If it is a tick of another task, that task's thread is woken.
+// But if an expected idle tick is refused since a job is pending, nobody is woken: the thread that released it looks next.
+#[tactic(auto, using(crate::proofs::LivePasses::idled_live))]
 fn act<R: Wait, G: Gate>(
     serving: &Serving<'_, R, G>,
     needs: LiveNeeds,
     mut pass: TaskPass,
     now: u64,
     task: TaskNo,
+    expected: Expected,
 ) -> (TaskPass, Progress)
     requires pass { IsLivePass serving.now.executive.now task.0 pass }
     requires needs { AreNeedsOf (task_at (floor_of serving.now.executive.now).core.set task.0) needs }
     ensures { IsLivePass serving.now.executive.now task.0 result.0 }
 {
-    match serving.executive.look(serving.rt, &mut pass) {
+    match next_act(serving, &mut pass, task, expected) {
         Act::Grant(chosen) if chosen == task => {
             let (pass, answer) = ticked(serving, needs, pass, task);
             (pass, progress_of_tick(serving.spots, task, now, answer))
@@ -198,12 +206,15 @@ fn act<R: Wait, G: Gate>(
             let answer = serving.executive.idle(serving.rt, &mut pass);
             (pass, progress_of_idle(serving.spots, task, answer))
         }
-        Act::Grant(other) | Act::Release(other) => {
-            serving.spots.wake(other);
-            (pass, Progress::Waits)
-        }
-        Act::Wait(_) | Act::Finished => (pass, Progress::Waits),
+        Act::Grant(other) => (pass, hand_over(serving.spots, other)),
+        Act::Release(_) | Act::Wait(_) | Act::Finished => (pass, Progress::Waits),
     }
+}
+
+// Wakes the thread of another task, whose tick is next.
+fn hand_over(spots: &ParkingSpots, other: TaskNo) -> Progress {
+    spots.wake(other, Expected::Tick);
+    Progress::Waits
 }
 
 // The result of a tick of the task.
@@ -222,9 +233,14 @@ fn progress_of_tick(
                 How::More | How::Over => {
                     // The task goes on, while another that may release wakes up.
                     let _ = spots.wake_due(task, ticks);
-                    Progress::Acted
+                    Progress::GoesOn
                 }
             }
+        }
+        // Either a release during this task's last tick made another task the next one, and the thread that released
+        // looked before the tick ended, and found only the tick. Or this thread was woken for a tick that is over.
+        Err(ActFault::Core(GrantFault::NotChosen { chosen: Some(job) })) => {
+            hand_over(spots, job.task)
         }
         Err(ActFault::Core(GrantFault::Full)) => Progress::Finished,
         Err(_) => Progress::Waits,

@@ -1,9 +1,10 @@
 //! Where the threads of the tasks rest. Correctness does not depend on wake-ups that come in time.
+use crate::worker::Expected;
 use mc_task::TaskNo;
 use std::alloc::{AllocError, Global};
 use std::sync::Wait;
 use std::sync::atomic::Ordering::SeqCst;
-use std::sync::atomic::{AtomicBool, AtomicU64};
+use std::sync::atomic::{AtomicBool, AtomicU8, AtomicU64};
 use std::thread::Parker;
 use std::time::Duration;
 
@@ -16,31 +17,55 @@ const NEVER: u64 = u64::MAX;
 // Sentinel for `next_release`: the task was woken for its release and has not made it yet.
 const AWAITED: u64 = u64::MAX - 1;
 
-// Where one thread rests: a parker, and whether the thread was called, which `park_timeout` does not return.
+// The code of a spot whose thread was not called.
+const NOT_CALLED: u8 = 0;
+
+// The code of a spot whose thread was called for this act.
+fn code_of(expected: Expected) -> u8 {
+    match expected {
+        Expected::Unknown => 1,
+        Expected::Release => 2,
+        Expected::Tick => 3,
+        Expected::Idle => 4,
+    }
+}
+
+// The act with this code, unless the thread was not called.
+fn act_of(code: u8) -> Option<Expected> {
+    match code {
+        1 => Some(Expected::Unknown),
+        2 => Some(Expected::Release),
+        3 => Some(Expected::Tick),
+        4 => Some(Expected::Idle),
+        _ => None,
+    }
+}
+
+// Where one thread rests: a parker, and the code of what the thread was called for, which `park_timeout` does not return.
 #[derive(Drop)]
 struct Spot {
     parker: Parker,
-    is_called: AtomicBool,
+    code: AtomicU8,
 }
 
 impl Spot {
     fn new() -> Spot {
         Spot {
             parker: Parker::new(),
-            is_called: AtomicBool::new(false),
+            code: AtomicU8::new(NOT_CALLED),
         }
     }
 
-    fn call(&self) {
-        self.is_called.store(true, SeqCst);
+    fn call(&self, expected: Expected) {
+        self.code.store(code_of(expected), SeqCst);
         self.parker.unpark();
     }
 
-    // Rests until it is called, for at most `millis` milliseconds. Returns whether it was called.
-    fn rest<R: Wait>(&self, rt: &R, millis: u32) -> bool {
+    // Rests until it is called, for at most `millis` milliseconds. Returns what it was called for.
+    fn rest<R: Wait>(&self, rt: &R, millis: u32) -> Option<Expected> {
         self.parker
             .park_timeout(rt, Duration::from_millis(u64::from(millis)));
-        self.is_called.swap(false, SeqCst)
+        act_of(self.code.swap(NOT_CALLED, SeqCst))
     }
 }
 
@@ -146,7 +171,7 @@ impl ParkingSpots {
             } else if next <= ticks && task_spot.task != task {
                 task_spot.next_release.store(AWAITED, SeqCst);
                 self.soonest.store(0, SeqCst);
-                self.wake(task_spot.task);
+                self.wake(task_spot.task, Expected::Unknown);
                 return true;
             } else {
                 soonest = soonest.min(next);
@@ -168,45 +193,46 @@ impl ParkingSpots {
         }
     }
 
-    // Wakes the thread of a task.
-    pub fn wake(&self, task: TaskNo) {
-        self.spot(task).call();
+    // Wakes the thread of a task, which is to expect this act.
+    pub fn wake(&self, task: TaskNo, expected: Expected) {
+        self.spot(task).call(expected);
     }
 
     // The task is no longer served. Whoever serves the next task is woken, and then wakes the one after it.
     pub fn leave(&self, task: TaskNo) {
         self.set_release(task, NEVER);
         let next = task.0 as usize;
-        self.wake(TaskNo(if next < self.spots.len() {
+        let other = if next < self.spots.len() {
             task.0.saturating_add(1)
         } else {
             1
-        }));
+        };
+        self.wake(TaskNo(other), Expected::Unknown);
     }
 
-    // Rests until the task's thread is woken, or for a pause in which no act was done. Returns the next pause.
-    pub fn rest<R: Wait>(&self, rt: &R, task: TaskNo, pause: u32) -> u32 {
+    // Rests until the task's thread is woken, or for a pause in which no act was done. Returns the act that it is to
+    // expect.
+    pub fn rest<R: Wait>(&self, rt: &R, task: TaskNo, pause: &mut u32) -> Expected {
         self.rest_while_acting(rt, self.spot(task), pause)
     }
 
-    // Rests, as the caller, until a task that it serves is woken, or for a pause in which no act was done. Returns the
-    // next pause.
-    pub fn rest_of_caller<R: Wait>(&self, rt: &R, pause: u32) -> u32 {
-        self.rest_while_acting(rt, &self.caller, pause)
+    // Rests, as the caller, until a task that it serves is woken, or for a pause in which no act was done. Since it
+    // serves several tasks, it expects no act.
+    pub fn rest_of_caller<R: Wait>(&self, rt: &R, pause: &mut u32) {
+        self.rest_while_acting(rt, &self.caller, pause);
     }
 
     // Each pause that ends without a call is followed by one twice as long, at most a second.
-    fn rest_while_acting<R: Wait>(&self, rt: &R, spot: &Spot, pause: u32) -> u32 {
-        let mut pause = pause;
+    fn rest_while_acting<R: Wait>(&self, rt: &R, spot: &Spot, pause: &mut u32) -> Expected {
         let mut seen = self.acts.load(SeqCst);
         for _ in rt.forever() {
-            if spot.rest(rt, pause) {
-                return pause;
+            if let Some(expected) = spot.rest(rt, *pause) {
+                return expected;
             }
-            pause = pause.saturating_mul(2).min(LONGEST);
+            *pause = pause.saturating_mul(2).min(LONGEST);
             let now = self.acts.load(SeqCst);
             if now == seen {
-                return pause;
+                return Expected::Unknown;
             }
             seen = now;
         }

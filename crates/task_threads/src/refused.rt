@@ -3,7 +3,7 @@ ghost use Rattle.std.specs.Prelude.{◌≡◌, ◌≤◌, vec_len};
 ghost use Rattle.task_threads.specs.Starts.{IsSpawnResultOf, GoDown};
 
 use crate::starts::SpawnResult;
-use crate::worker::{Progress, Serving, Worker};
+use crate::worker::{Expected, Progress, Serving, Worker};
 use executive::Gate;
 use mc_task::TaskNo;
 use std::sync::Wait;
@@ -19,8 +19,8 @@ pub fn serve_refused<T: Worker + Drop, R: Wait, G: Gate>(
     let mut pause = 1;
     for _ in serving.rt.forever() {
         match serve_each(serving, starts) {
-            Progress::Acted | Progress::Idled => {}
-            Progress::Waits => pause = serving.spots.rest_of_caller(serving.rt, pause),
+            Progress::GoesOn | Progress::Acted | Progress::Idled => {}
+            Progress::Waits => serving.spots.rest_of_caller(serving.rt, &mut pause),
             Progress::Finished => return,
         }
     }
@@ -60,7 +60,7 @@ fn serve_one<T: Worker + Drop, R: Wait, G: Gate>(
     let Some(worker) = start.worker.take() else {
         return Progress::Finished;
     };
-    let (worker, progress) = worker.round(serving, task);
+    let (worker, progress) = worker.round(serving, task, Expected::Unknown);
     start.worker = Some(worker);
     start.has_left = progress == Progress::Finished;
     progress

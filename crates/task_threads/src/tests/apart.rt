@@ -14,7 +14,7 @@ use crate::live_round::Runner;
 use crate::parking_spots::ParkingSpots;
 use crate::refused::serve_refused;
 use crate::starts::{SpawnResult, in_threads, join_all, kept_here};
-use crate::worker::{Serving, Worker, work};
+use crate::worker::{Expected, Serving, Worker, work};
 use executive::{Executive, QuietGate, TaskPass};
 use mc_task::Level::{High, Low};
 use mc_task::TaskNo;
@@ -45,9 +45,17 @@ fn quietly<'a, R: Wait>(
 }
 
 // The floor once the tasks of its plan, of which there are two, were served by threads with spots of their own, so that
-// neither wakes the other.
-fn served_apart<R: Threads + Wait + Sync + Abort>(rt: &R, alloc: Global) -> Result<Floor, Fail> {
+// neither wakes the other. Each may have been woken for an act before any was done.
+fn served_apart<R: Threads + Wait + Sync + Abort>(
+    rt: &R,
+    alloc: Global,
+    woken_for: Option<Expected>,
+) -> Result<Floor, Fail> {
     let (here, there) = spots_apart(alloc)?;
+    if let Some(expected) = woken_for {
+        here.wake(TaskNo(1), expected);
+        there.wake(TaskNo(2), expected);
+    }
     let floor = floor(alloc, &CONTROL, &OVERRUN_WORK, 12)?;
     serve_apart(rt, alloc, floor, &here, &there)
 }
@@ -110,8 +118,21 @@ fn serve_both<R: Threads + Wait + Sync>(
 
 #[test]
 fn a_wake_up_that_never_comes_costs_time_alone(rt: HostRuntime) -> Result<(), Fail> {
-    let floor = served_apart(&rt, rt.alloc())?;
+    let floor = served_apart(&rt, rt.alloc(), None)?;
     assert!(rt; floor.core().rows() == OVERRUN_ROWS.as_slice());
+    Ok(())
+}
+
+const ACTS: [Expected; 3] = [Expected::Release, Expected::Tick, Expected::Idle];
+
+#[test]
+fn a_thread_that_was_woken_for_another_act_than_the_next_makes_the_same_rows(
+    rt: HostRuntime,
+) -> Result<(), Fail> {
+    for expected in ACTS.as_slice() {
+        let floor = served_apart(&rt, rt.alloc(), Some(*expected))?;
+        assert!(rt; floor.core().rows() == OVERRUN_ROWS.as_slice());
+    }
     Ok(())
 }
 
