@@ -1,5 +1,5 @@
 -- The reply over a shelf that exposes its files, and over one that does not fail.
-use Rattle.std.proofs.Common.{◌≡◌, ◌≢◌, inl, inr, ℕ, ◌+◌, ◌<◌, ◌≤◌, List, [], ◌∷◌, length, Option, Some, None, IfSome, ap, sym, ◌∙◌, subst, arith, le-leb}
+use Rattle.std.proofs.Common.{◌≡◌, ◌≢◌, inl, inr, ℕ, ◌+◌, ◌<◌, List, length, get_or, Option, Some, None, IfSome, ap, sym, ◌∙◌, subst, arith, le-leb}
 use Rattle.std.specs.Prelude.{MatchBool, nat_lt, IsSomeAnd}
 use Rattle.std.proofs.lemmas.Bool.{lt-leb}
 use Rattle.mc_world.specs.Count.{Rose}
@@ -9,19 +9,11 @@ use Rattle.replies.specs.Refusal.{ReadFault, Longer, refuse}
 use Rattle.command.specs.Command.{Command, answer, fetch}
 use Rattle.command.specs.Outcome.{HasBytes, IsReply, Exposes, IsAnswer}
 
--- of bytes past a limit, the statement for longer bytes holds
-past : (P Q : Type 0) (limit : ℕ) (bytes : List ℕ) → limit < length bytes → P → MatchBool (nat_lt limit (length bytes)) P Q
-past P Q limit bytes long h = subst (λ b. MatchBool b P Q) (sym (le-leb _ _ long)) h
-
--- of bytes within a limit, the statement for bytes that are not longer holds
-within : (P Q : Type 0) (limit : ℕ) (bytes : List ℕ) → length bytes ≤ limit → Q → MatchBool (nat_lt limit (length bytes)) P Q
-within P Q limit bytes short h = subst (λ b. MatchBool b P Q) (sym (lt-leb _ _ (omega arith))) h
-
 -- of a file that is longer than its limit, the statement for longer bytes holds
 long_answer : (P Q : List ℕ → Type 0) (limit : ℕ) (file : Option (List ℕ)) → IsSomeAnd file (λ bytes. limit < length bytes) → ((bytes : List ℕ) → P bytes)
     → IsSomeAnd file (λ bytes. MatchBool (nat_lt limit (length bytes)) (P bytes) (Q bytes))
 long_answer P Q limit None long h = absurd long
-long_answer P Q limit (Some bytes) long h = past (P bytes) (Q bytes) limit bytes long (h bytes)
+long_answer P Q limit (Some bytes) long h = subst (λ b. MatchBool b (P bytes) (Q bytes)) (sym (le-leb _ _ long)) (h bytes)
 
 -- a shelf that exposes its files before a fetch exposes the same files after it
 exposes_on : (name : List ℕ) (limit : ℕ) (bytes : List ℕ) (files : Files) (before mid after : ShelfState) → HasBytes name limit bytes before mid → Exposes files before after → Exposes files mid after
@@ -42,25 +34,17 @@ is_answer files k (fetch name limit next) before after reply r t =
       | inr more ↦
           subst (λ o. IsSomeAnd o (λ bytes. MatchBool (nat_lt limit (length bytes)) (reply ≡ refuse (Longer k limit)) (IsAnswer files (k + 1) (next bytes) reply)))
           (sym (subst (λ o. IfSome o (λ files. files name ≡ Some more.0)) t.exposed more.2.exposed))
-          (within (reply ≡ refuse (Longer k limit)) (IsAnswer files (k + 1) (next more.0) reply) limit more.0 more.2.short
+          (subst (λ b. MatchBool b (reply ≡ refuse (Longer k limit)) (IsAnswer files (k + 1) (next more.0) reply)) (sym (lt-leb _ _ (omega (arith, more.2.short))))
           (is_answer files (k + 1) (next more.0) more.1 after reply more.3 (exposes_on name limit more.0 files before more.1 after more.2 t)))
     ]
 
 -- a count that is 0 never rose
 pub never_rose : (before after : ℕ) → after ≡ 0 → Rose before after → ⊥
-never_rose before after zero rose =
-    elim rose [
-      | inl more ↦ absurd (omega (arith, zero, more))
-      | inr full ↦ absurd (omega (arith, zero, full))
-    ]
-
-abbrev first_byte : List ℕ → ℕ
-first_byte [] = 0
-first_byte (c ∷ cs) = c
+never_rose before after zero rose = elim rose [ inl more ↦ absurd (omega (arith, zero, more)) | inr full ↦ absurd (omega (arith, zero, full)) ]
 
 -- the two lines of status 7 differ in their first byte
 not_longer : (j k limit : ℕ) → refuse (ReadFault j) ≢ refuse (Longer k limit)
-not_longer j k limit same = let e : 114 ≡ 102 = ap (λ r. first_byte r.text) same in absurd (omega (arith, e))
+not_longer j k limit same = let e : 114 ≡ 102 = ap (λ (r : Reply). get_or r.text 0 0) same in absurd (omega (arith, e))
 
 -- over a shelf whose count of faults is 0 no reply reports a read fault
 pub reports_no_fault : (k : ℕ) (command : Command) (before after : ShelfState) (reply : Reply) → IsReply k command before after reply → after.faults ≡ 0 → (j : ℕ) → reply ≢ refuse (ReadFault j)

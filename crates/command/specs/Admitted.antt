@@ -11,7 +11,7 @@ use Rattle.work_file.specs.WorkFile.{work_in}
 use Rattle.replies.specs.Refusal.{Refusal, TaskFile, WorkFile, OutOfRange, NotAdmitted}
 use Rattle.replies.specs.Reading.{◌>>=◌, refused_as, none_or}
 use Rattle.command.specs.Command.{Command, fetch}
-use Rattle.command.specs.declared.set_with_rule.SetWithRule.{SetWithRule}
+use Rattle.command.specs.declared.admitted.SetWithRule.{SetWithRule}
 
 -- a set with the rule under which its jobs are ordered
 abbrev pub with_rule : Rule → Set → SetWithRule

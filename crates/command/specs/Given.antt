@@ -5,7 +5,7 @@ use Rattle.mc_model.specs.declared.work.WorkRow.{WorkRow}
 use Rattle.mc_model.specs.Work.{IsWork}
 use Rattle.mc_model.specs.Holds.{Holds, Fits}
 use Rattle.load_sum.specs.Belong.{BelongTo}
-use Rattle.command.specs.declared.set_with_rule.SetWithRule.{SetWithRule}
+use Rattle.command.specs.declared.admitted.SetWithRule.{SetWithRule}
 use Rattle.command.specs.declared.admitted.Admitted.{Admitted}
 
 -- the code's value has the set, its loads, and the rule, which fits and holds for the set

@@ -1,8 +1,10 @@
-//! The set in a task file, if the test admits it.
-ghost use Rattle.std.specs.Prelude.{◌≡◌};
-ghost use Rattle.replies.specs.Stop.{ReadsOrRefuses};
-ghost use Rattle.command.specs.Admitted.{set_in, tested, admitted};
-ghost use Rattle.command.specs.Given.{IsGivenAs};
+//! What a command's files give it: a set, the rule under which its jobs are ordered, the work for the set.
+ghost use Rattle.std.specs.Prelude.{◌≡◌, IfErr};
+ghost use Rattle.mc_model.specs.Holds.{Fits};
+ghost use Rattle.replies.specs.Stop.{StopsBy, ReadsOrRefuses};
+ghost use Rattle.command.specs.Admitted.{set_in, tested, admitted, set_with_rule, work_of};
+ghost use Rattle.command.specs.Given.{IsGivenAs, IsSetWithRule, IsWorkOf};
+ghost use Rattle.command.specs.Serves.{IsOwn};
 
 use admission::{NoRule, Tested, test_set};
 use load_sum::Loads;
@@ -10,9 +12,17 @@ use mc_task::{Rule, TaskSet};
 use replies::{Stop, refused};
 use std::alloc::Global;
 use task_file::read_tasks;
+use work_file::{Work, read_work};
 
 /// The most bytes of a task file, and of a work file.
 pub const MOST_TABLE_BYTES: usize = 1 << 24;
+
+/// A set, and the rule under which its jobs are ordered.
+#[derive(Drop)]
+pub struct SetWithRule {
+    pub set: TaskSet,
+    pub rule: Rule,
+}
 
 /// A set that the test admits, with its loads and its rule.
 #[derive(Drop)]
@@ -47,5 +57,25 @@ fn tested_set(alloc: Global, set: TaskSet) -> Result<Admitted, Stop>
         Ok(Tested { loads, rule }) => Ok(Admitted { set, loads, rule }),
         Err(NoRule::Range { task }) => Err(refused::out_of_range(alloc, task)),
         Err(NoRule::NotAdmitted { loads }) => Err(refused::not_admitted(alloc, &loads)),
+    }
+}
+
+/// The set in a task file with these bytes, under this rule.
+pub fn read_set_with_rule(alloc: Global, rule: Rule, bytes: &[u8]) -> Result<SetWithRule, Stop>
+    requires { Fits rule }
+    ensures { ReadsOrRefuses IsSetWithRule (set_with_rule rule bytes.now) result }
+{
+    let set = read_set(alloc, bytes)?;
+    Ok(SetWithRule { set, rule })
+}
+
+/// The work for the set in a work file with these bytes.
+pub fn read_work_of(alloc: Global, set: &TaskSet, bytes: &[u8]) -> Result<Work, Stop>
+    ensures work { ReadsOrRefuses (IsWorkOf set.now.tasks) (work_of set.now.tasks bytes.now) result }
+    ensures own { IfErr result (StopsBy IsOwn) }
+{
+    match read_work(alloc, set, bytes) {
+        Ok(work) => Ok(work),
+        Err(fault) => Err(refused::work_file(alloc, &fault)),
     }
 }

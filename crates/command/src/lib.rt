@@ -6,16 +6,15 @@ mod admitted;
 mod delivery;
 mod fetching;
 mod file_name;
-mod set_with_rule;
 mod traced;
 mod within;
-mod work;
 
-pub use admitted::{Admitted, MOST_TABLE_BYTES, read_admitted, read_set};
+pub use admitted::{
+    Admitted, MOST_TABLE_BYTES, SetWithRule, read_admitted, read_set, read_set_with_rule,
+    read_work_of,
+};
 pub use delivery::deliver;
 pub use fetching::fetch;
 pub use file_name::FileName;
-pub use set_with_rule::{SetWithRule, read_set_with_rule};
 pub use traced::trace_text;
 pub use within::{TaskCount, Ticks, Within};
-pub use work::read_work_of;

@@ -32,7 +32,7 @@ impl From<AllocError> for NoReply {
 
 /// What the program replies to the words after its name, over a shelf. `run` and `accept` work on the caller's thread, with the
 /// program's reply.
-#[tactic(auto, using(crate::proofs::NotAsked::not_asked))]
+#[tactic(auto, using(command::proofs::Serving::not_asked))]
 pub fn reply_alone<S: Shelf>(alloc: Global, words: &[&str], shelf: &mut S) -> Result<Reply, NoReply>
     ensures reply { IfOk result (IsReply (form_in words.now) (S.state shelf.old) (S.state shelf.new)) }
     ensures cause { IfErr result (HasCause (map (λ w. w.now) words.now)) }

@@ -1,4 +1,1 @@
-mod RunLists
 mod Processors
-mod Names
-mod PartTraces

@@ -1,5 +1,4 @@
 pub mod Parted
-pub mod Given
 pub mod Partition
 pub mod RunAll
 pub mod Runs

@@ -1,10 +1,9 @@
 -- The command `partition TASKS M`.
-use Rattle.std.specs.Prelude.{◌≡◌, ℕ, List, ◌++◌, flat_map, codes, decimal, Result, Ok}
+use Rattle.std.specs.Prelude.{◌≡◌, ℕ, List, ◌++◌, flat_map, codes, decimal}
 use Rattle.std.specs.List.{range_with_len}
 use Rattle.mc_task.specs.declared.task.Task.{Task}
-use Rattle.replies.specs.Refusal.{Refusal}
-use Rattle.replies.specs.Reading.{◌>>=◌, reply_by}
-use Rattle.command.specs.Command.{Command, answer}
+use Rattle.replies.specs.Reply.{reply_of}
+use Rattle.command.specs.Command.{Command, answer, read_or_refuse}
 use Rattle.command.specs.Admitted.{fetch_table}
 use Rattle.part_commands.specs.Parted.{Parted, tasks_on, parted}
 
@@ -21,12 +20,8 @@ processor_line parted n =
 abbrev pub partition_text : ℕ → Parted → List ℕ
 partition_text m parted = flat_map (processor_line parted) (range_with_len 1 m)
 
--- what `partition` writes for a task file of these bytes: the processors with their tasks, or the refusal
-abbrev pub placed : ℕ → List ℕ → Result (List ℕ) Refusal
-placed m bytes = do
-  spread ← parted m bytes
-  Ok (partition_text m spread)
-
--- the command `partition` on the task file of this name, for processors 1 to m
+-- the command `partition` on the task file of this name, for processors 1 to m: it writes the processors with
+-- their tasks
 abbrev pub partition : List ℕ → ℕ → Command
-partition tasks m = fetch_table tasks (λ bytes. answer (λ reply. reply ≡ reply_by (placed m bytes)))
+partition tasks m = fetch_table tasks (λ bytes.
+    read_or_refuse (parted m bytes) (λ spread. answer (λ reply. reply ≡ reply_of 0 (partition_text m spread))))

@@ -40,14 +40,10 @@ IsTracesReply ticks m parted work reply =
     (traces : List (List Row)) × AllZip (IsTraceOn ticks parted work) (used m parted) traces
     × (reply ≡ reply_of 0 (flat_map (trace_lines parted) (zip (used m parted) traces)))
 
--- the command `runall` with the work in the second file, once the task file was read and has these bytes
-abbrev pub run_all_on : List ℕ → ℕ → ℕ → List ℕ → Command
-run_all_on work ticks m bytes =
-    read_or_refuse (parted m bytes) (λ spread.
-    fetch_table work (λ more.
-    read_or_refuse (work_of spread.set more) (λ rows. answer (IsTracesReply ticks m spread rows))))
-
 -- the command `runall` of this many ticks, on the task file and the work file of these names, for processors
 -- 1 to m
 abbrev pub run_all : List ℕ → List ℕ → ℕ → ℕ → Command
-run_all tasks work ticks m = fetch_table tasks (run_all_on work ticks m)
+run_all tasks work ticks m = fetch_table tasks (λ bytes.
+    read_or_refuse (parted m bytes) (λ spread.
+    fetch_table work (λ more.
+    read_or_refuse (work_of spread.set more) (λ rows. answer (IsTracesReply ticks m spread rows)))))

@@ -1,5 +1,5 @@
 //! A floor for each processor that has tasks.
-ghost use Rattle.std.specs.Prelude.{◌≡◌, ◌≤◌, ◌+◌, ◌++◌, ◌∷◌, [], ℕ, IfOk, OnOk, length, map, filter, Some, IsSome};
+ghost use Rattle.std.specs.Prelude.{◌≡◌, ◌++◌, ◌∷◌, [], ℕ, IfOk, OnOk, length, map, filter, Some, IsSome};
 ghost use Rattle.mc_task.specs.declared.task.TaskNo.{TaskNo};
 ghost use Rattle.mc_model.specs.Holds.{Fits, Holds};
 ghost use Rattle.mc_model.specs.Loads.{IsWithinRange};
@@ -12,6 +12,7 @@ ghost use Rattle.part_commands.specs.Planned.{parted_of, numbers_on, IsPlannedOn
 
 use crate::parted::Processors;
 use crate::run_parts::RunAllJob;
+use crate::side_by_side::Side;
 use admission::test_set;
 use command::Ticks;
 use mc_task::{Rule, TaskNo, TaskSet};
@@ -20,12 +21,11 @@ use part_fit::{part, part_work};
 use std::alloc::{AllocError, Global};
 use timetable::{Floor, Plan};
 
-/// The processors that have tasks, and of each the floor and the numbers of its tasks in the whole set.
+/// The processors that have tasks, and the floor of each.
 #[derive(Drop)]
 pub struct PartFloors {
     pub used: Vec<u32>,
-    pub floors: Vec<Floor>,
-    pub numbers: Vec<Vec<TaskNo>>,
+    pub sides: Vec<Side>,
 }
 
 /// The floors of the processors that have tasks, each with its part of the work.
@@ -38,13 +38,11 @@ pub fn floors_of(
     requires { IsRunAllJob processors.now job.now }
     ensures used { IfOk result (λ parts. parts.used.items ≡ used processors.now (parted_of job.now.parted)) }
     ensures planned { IfOk result (ArePlanned ticks.now (parted_of job.now.parted) job.now.work) }
-    ensures few { IfOk result (λ parts. length parts.floors.items ≤ 16) }
 {
     let most = processors.get() as u32;
     let mut parts = PartFloors {
         used: Vec::new(alloc),
-        floors: Vec::new(alloc),
-        numbers: Vec::new(alloc),
+        sides: Vec::new(alloc),
     };
     for processor in 1..most + 1 {
         parts.add(alloc, job, ticks, processor)?;
@@ -65,36 +63,35 @@ impl PartFloors {
         requires planned { ArePlanned ticks.now (parted_of job.now.parted) job.now.work self.old }
         ensures used { OnOk result (self.new.used.items ≡ self.old.used.items ++ filter (is_used (parted_of job.now.parted)) (processor ∷ [])) }
         ensures planned { OnOk result (ArePlanned ticks.now (parted_of job.now.parted) job.now.work self.new) }
-        ensures few { OnOk result (length self.new.floors.items ≤ length self.old.floors.items + 1) }
     {
         let tasks = match part(alloc, &job.parted.set, &job.parted.parts, processor) {
             Ok(Some(tasks)) => tasks,
             Ok(None) => return Ok(()),
             Err(_) => return Err(AllocError),
         };
-        let floor = floor_on(alloc, job, ticks, processor, tasks)?;
-        let numbers = numbers_on(alloc, &job.parted.set, &job.parted.parts.of, processor)?;
-        self.floors.push(floor)?;
-        self.numbers.push(numbers)?;
+        let side = side_on(alloc, job, ticks, processor, tasks)?;
+        self.sides.push(side)?;
         self.used.push(processor)?;
         Ok(())
     }
 }
 
-// The floor of a processor with these tasks under their rule, with capacity for each tick and each row of their work.
-fn floor_on(
+// The floor of a processor with these tasks under their rule, with capacity for each tick and each row of their work, and
+// the numbers of the tasks in the whole set.
+fn side_on(
     alloc: Global,
     job: &RunAllJob,
     ticks: &Ticks,
     processor: u32,
     tasks: TaskSet,
-) -> Result<Floor, AllocError>
+) -> Result<Side, AllocError>
     requires parts { length job.now.parted.parts ≡ length job.now.parted.set.tasks }
     requires work { IsWork job.now.parted.set.tasks job.now.work }
     requires tasks { tasks.tasks ≡ part_of job.now.parted.set.tasks job.now.parted.parts processor }
     requires admitted { IsAdmittedPart tasks.tasks }
     ensures { IfOk result (IsPlannedOn ticks.now (parted_of job.now.parted) job.now.work processor) }
 {
+    let numbers = numbers_on(alloc, &job.parted.set, &job.parted.parts.of, processor)?;
     let parted = &job.parted;
     let Ok(work) = part_work(alloc, &parted.set, &parted.parts, processor, &job.work) else {
         return Err(AllocError);
@@ -103,7 +100,10 @@ fn floor_on(
     let ticks = ticks.get();
     let places = ticks as usize + work.rows().len();
     match Core::new(alloc, tasks, rule, places) {
-        Ok(core) => Ok(Floor::new(core, Plan::Rows { work, ticks })),
+        Ok(core) => {
+            let floor = Floor::new(core, Plan::Rows { work, ticks });
+            Ok(Side { floor, numbers })
+        }
         Err(_) => Err(AllocError),
     }
 }

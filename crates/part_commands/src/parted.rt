@@ -1,7 +1,7 @@
 //! The set that a task file says, on several processors.
 ghost use Rattle.replies.specs.Stop.{ReadsOrRefuses};
 ghost use Rattle.part_commands.specs.Parted.{fitted, parted};
-ghost use Rattle.part_commands.specs.Given.{IsParted};
+ghost use Rattle.part_commands.specs.Planned.{IsParted};
 
 use command::{Within, read_set};
 use mc_task::TaskSet;

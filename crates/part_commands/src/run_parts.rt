@@ -1,7 +1,7 @@
 //! The command `runall`.
 ghost use Rattle.replies.specs.Stop.{Replies};
 ghost use Rattle.command.specs.Serves.{Serves, IsOwn, Prepares};
-ghost use Rattle.part_commands.specs.RunAll.{run_all, run_all_on};
+ghost use Rattle.part_commands.specs.RunAll.{run_all};
 ghost use Rattle.part_commands.specs.Planned.{IsRunAllJob, RepliesToRunAll};
 
 use crate::floors::{PartFloors, floors_of};
@@ -55,22 +55,9 @@ impl<'a> RunAllCommand<'a> {
             (IsRunAllJob self.now.processors) (RepliesToRunAll self.now.ticks self.now.processors) (S.state shelf.old) (S.state shelf.new) result }
     {
         let bytes = fetch(alloc, shelf, 1, &self.tasks, MOST_TABLE_BYTES)?;
-        self.job_on(alloc, shelf, &bytes)
-    }
-
-    // The job to run, by the bytes of the task file and by the work file.
-    fn job_on<S: Shelf>(
-        &self,
-        alloc: Global,
-        shelf: &mut S,
-        bytes: &[u8],
-    ) -> Result<RunAllJob, Stop>
-        ensures { Prepares 2 (run_all_on self.now.work self.now.ticks self.now.processors bytes.now)
-            (IsRunAllJob self.now.processors) (RepliesToRunAll self.now.ticks self.now.processors) (S.state shelf.old) (S.state shelf.new) result }
-    {
-        let parted = read_parted(alloc, bytes, &self.processors)?;
-        let bytes = fetch(alloc, shelf, 2, &self.work, MOST_TABLE_BYTES)?;
-        let work = read_work_of(alloc, &parted.set, &bytes)?;
+        let parted = read_parted(alloc, &bytes, &self.processors)?;
+        let more = fetch(alloc, shelf, 2, &self.work, MOST_TABLE_BYTES)?;
+        let work = read_work_of(alloc, &parted.set, &more)?;
         Ok(RunAllJob { parted, work })
     }
 }
@@ -88,12 +75,8 @@ pub fn finish_run_all<R: Threads + Wait + Sync, G: Gate + Sync>(
     ensures traces { Replies (RepliesToRunAll ticks.now processors.now job) result }
     ensures own { Replies IsOwn result }
 {
-    let PartFloors {
-        used,
-        floors,
-        numbers,
-    } = floors_of(alloc, &job, ticks, processors)?;
-    let done = run_all(rt, alloc, floors, numbers, gate)?;
+    let PartFloors { used, sides } = floors_of(alloc, &job, ticks, processors)?;
+    let done = run_all(rt, alloc, sides, gate)?;
     let text = traces_text(alloc, &used, &done)?;
     Ok(Reply::new(0, text))
 }

@@ -1,7 +1,7 @@
 //! Several floors, each to its end.
-ghost use Rattle.std.specs.Prelude.{◌≡◌, ◌≤◌, All, IfOk, length};
+ghost use Rattle.std.specs.Prelude.{◌≡◌, All, IfOk, length};
 ghost use Rattle.std.specs.List.{AllZip};
-ghost use Rattle.part_commands.specs.Runs.{IsFresh, IsRunOf, IsFreshSide, RunsEach, floors_of, results_of};
+ghost use Rattle.part_commands.specs.Runs.{IsFresh, IsRunOf, RunsEach, results_of};
 
 use crate::numbered::Numbered;
 use executive::Gate;
@@ -13,54 +13,28 @@ use std::thread::Threads;
 use task_threads::run_threads;
 use timetable::Floor;
 
-// A floor and the numbers of its tasks in the whole set.
+/// A floor and the numbers of its tasks in the whole set.
 #[derive(Drop)]
 pub struct Side {
     pub floor: Floor,
     pub numbers: Vec<TaskNo>,
 }
 
-/// Runs the plans of at most 16 floors at once, each with a thread for each of its tasks. The gate sees each task by its number in
-/// the whole set, and `numbers` has those of each floor's tasks. On success all floors are finished, and in their order.
+/// Runs the plans of several floors at once, each with a thread for each of its tasks. The gate sees each task by its number in
+/// the whole set. On success all floors are finished, and in their order.
 ///
 /// It may wait for other threads; nothing is proved about how long.
 pub fn run_all<R: Threads + Wait + Sync, G: Gate + Sync>(
     rt: &R,
     alloc: Global,
-    floors: Vec<Floor>,
-    numbers: Vec<Vec<TaskNo>>,
+    sides: Vec<Side>,
     gate: &G,
 ) -> Result<Vec<Floor>, Memory>
-    requires fresh { All IsFresh floors.items }
-    requires few { length floors.items ≤ 16 }
-    requires numbers { length numbers.items ≡ length floors.items }
-    ensures { IfOk result (λ done. AllZip IsRunOf floors.items done.items) }
+    requires { All IsFresh sides.items }
+    ensures { IfOk result (λ done. AllZip IsRunOf sides.items done.items) }
 {
-    let sides = sides_of(alloc, floors, numbers)?;
     let results = run_sides(rt, alloc, sides, gate)?;
     floors_in(alloc, results)
-}
-
-// Each floor with its numbers.
-fn sides_of(
-    alloc: Global,
-    mut floors: Vec<Floor>,
-    mut numbers: Vec<Vec<TaskNo>>,
-) -> Result<Vec<Side>, AllocError>
-    requires { length numbers.items ≡ length floors.items }
-    ensures { IfOk result (λ sides. floors_of sides.items ≡ floors.items) }
-{
-    floors.reverse();
-    numbers.reverse();
-    let mut sides = Vec::new(alloc);
-    while let Some(floor) = floors.pop() {
-        let numbers = match numbers.pop() {
-            Some(numbers) => numbers,
-            None => unreachable!(),
-        };
-        sides.push(Side { floor, numbers })?;
-    }
-    Ok(sides)
 }
 
 // A thread for each floor.
@@ -70,7 +44,7 @@ fn run_sides<R: Threads + Wait + Sync, G: Gate + Sync>(
     sides: Vec<Side>,
     gate: &G,
 ) -> Result<Vec<Result<Floor, Memory>>, AllocError>
-    requires { All IsFreshSide sides.items }
+    requires { All IsFresh sides.items }
     ensures long { IfOk result (λ results. length results.items ≡ length sides.items) }
     ensures each { IfOk result (λ results. RunsEach sides.items results.items) }
 {
@@ -78,8 +52,8 @@ fn run_sides<R: Threads + Wait + Sync, G: Gate + Sync>(
         rt,
         sides,
         &|side: Side| -> Result<Floor, Memory>
-            requires { IsFresh side.floor }
-            ensures { IfOk result (IsRunOf side.floor) }
+            requires { IsFresh side }
+            ensures { IfOk result (IsRunOf side) }
         {
             let Side { floor, numbers } = side;
             let numbers = numbers.as_slice();

@@ -1,5 +1,5 @@
 -- What the commands on a trace promise.
-use Rattle.std.proofs.Common.{◌≡◌, ◌≢◌, inl, ℕ, ◌^◌, nat_le, if◌then◌else◌, Bool, true, false, List, ◌++◌, reverse, Option, Some, Result, Ok, Err, refl, sym, ap, ◌∙◌, subst, arith, le-leb}
+use Rattle.std.proofs.Common.{◌≡◌, ◌≢◌, ◌⊎◌, inl, inr, ℕ, ◌^◌, nat_le, if◌then◌else◌, Bool, true, false, List, ◌++◌, reverse, Option, Some, Result, Ok, Err, refl, sym, ap, ◌∙◌, subst, arith, le-leb}
 use Rattle.std.specs.List.{AllByRecursion}
 use Rattle.mc_world.specs.Shelf.{Files}
 use Rattle.mc_task.specs.declared.task.Rule.{Rule}
@@ -28,7 +28,7 @@ use Rattle.replies.specs.Reading.{◌>>=◌, refused_as, reply_by}
 use Rattle.command.specs.Command.{Command, answer, fetch}
 use Rattle.command.specs.Outcome.{IsAnswer}
 use Rattle.command.specs.Admitted.{with_rule, tested}
-use Rattle.command.specs.declared.set_with_rule.SetWithRule.{SetWithRule}
+use Rattle.command.specs.declared.admitted.SetWithRule.{SetWithRule}
 use Rattle.trace_commands.specs.OnTrace.{is_good, rows_in, good_text, judged, output_for, on_trace}
 use Rattle.trace_commands.proofs.GoodTrace.{no_fault_in, rows_of_runs}
 use Rattle.promises.specs.Headline.{bytes_of, IsAdmitted, SchedulesExactly, trace_of, SaysTrace, WritesAgain, Finds, FindsUnder}
@@ -55,25 +55,24 @@ text_status Chart ruled h refusal k = go (nat_le (ticks h) 2000000) k
     go false e = let same : LongChart (ticks h) ≡ refusal = cc in rw (← same) refl
 text_status action ruled h refusal k = cc
 
--- the reply to the rows of a trace reports a row that does not fit, or a chart that is too long, or is the
--- command's text about a good trace
-data Judges (action : TraceAction) (ruled : SetWithRule) (h : List Row) (reply : Reply) : Type 0 where
-  blames : is_good (verdict ruled.set.tasks ruled.rule h) ≡ false → reply.status ≡ 6 → Judges action ruled h reply
-  refuses : reply.status ≡ 5 → Judges action ruled h reply
-  says : (text : List ℕ) → is_good (verdict ruled.set.tasks ruled.rule h) ≡ true → good_text action ruled h ≡ Ok text → reply ≡ reply_of 0 text → Judges action ruled h reply
+-- the reply to the rows of a trace reports with status 6 that the trace is not good, or is the command's text about a good trace
+abbrev Judges : TraceAction → SetWithRule → List Row → Reply → Type 0
+Judges action ruled h reply =
+    ((is_good (verdict ruled.set.tasks ruled.rule h) ≡ false) × (reply.status ≡ 6))
+    ⊎ ((text : List ℕ) × (is_good (verdict ruled.set.tasks ruled.rule h) ≡ true) × (good_text action ruled h ≡ Ok text) × (reply ≡ reply_of 0 text))
 
-judges : (action : TraceAction) (ruled : SetWithRule) (h : List Row) (reply : Reply) → reply ≡ reply_by (judged action ruled h) → Judges action ruled h reply
-judges action ruled h reply k = go (is_good (verdict ruled.set.tasks ruled.rule h)) refl k
+judges : (action : TraceAction) (ruled : SetWithRule) (h : List Row) (reply : Reply) → reply ≡ reply_by (judged action ruled h) → reply.status ≢ 5 → Judges action ruled h reply
+judges action ruled h reply k not_5 = go (is_good (verdict ruled.set.tasks ruled.rule h)) refl k
   where
     reports_it : is_good (verdict ruled.set.tasks ruled.rule h) ≡ true → (t : Result (List ℕ) Refusal) → good_text action ruled h ≡ t → reply ≡ reply_by t
         → Judges action ruled h reply
-    reports_it good (Ok text) e k = says text good e k
-    reports_it good (Err refusal) e k = refuses (ap (λ (r : Reply). r.status) k ∙ text_status action ruled h refusal e)
+    reports_it good (Ok text) e k = inr (text, good, e, k)
+    reports_it good (Err refusal) e k = absurd (not_5 (ap (λ (r : Reply). r.status) k ∙ text_status action ruled h refusal e))
 
     go : (b : Bool) → is_good (verdict ruled.set.tasks ruled.rule h) ≡ b
         → reply ≡ reply_by (if b then good_text action ruled h else Err (BadTrace ruled.set.tasks (verdict ruled.set.tasks ruled.rule h))) → Judges action ruled h reply
     go true e k = reports_it e (good_text action ruled h) refl k
-    go false e k = blames e (ap (λ (r : Reply). r.status) k)
+    go false e k = inl (e, ap (λ (r : Reply). r.status) k)
 
 -- the rows of the trace file, which are of the set, and the judgement on them, if the status is none of the file's refusals
 judged_of : (action : TraceAction) (files : Files) (trace : List ℕ) (reply : Reply) (ruled : SetWithRule) → IsAnswer files 2 (on_rows action trace ruled) reply → reply.status ≢ 7 → reply.status ≢ 5
@@ -88,7 +87,7 @@ judged_of action files trace reply ruled h not_7 not_5 =
       runs,
       (short, is),
       rows_of_runs ruled.set.tasks runs (runs_of_set ruled.set.tasks more runs is),
-      judges action ruled (trace_of runs) reply p,
+      judges action ruled (trace_of runs) reply p not_5,
     )
 
 -- a good trace that is short enough for the command gets status 0
@@ -151,11 +150,7 @@ finds action tasks trace files old reply h = (
     not_1 : (ruled : SetWithRule) → IsAnswer files 2 (on_rows action trace ruled) reply → reply.status ≢ 1
     not_1 ruled k e =
         let (t, said, of, verdict) = judged_of action files trace reply ruled k (λ z. absurd (omega arith)) (λ z. absurd (omega arith)) in
-        elim verdict [
-          | blames bad s ↦ absurd (omega arith)
-          | refuses s ↦ absurd (omega arith)
-          | says text good is w ↦ absurd (omega (arith, ap (λ (r : Reply). r.status) w))
-        ]
+        elim verdict [ inl bad ↦ absurd (omega (arith, bad.1)) | inr w ↦ absurd (omega (arith, ap (λ (r : Reply). r.status) w.3)) ]
 
     found : reply.status ≡ 0 → (set : Set) × (rule : Rule) × (runs : List Run) × (text : List ℕ) × Legal set.tasks rule (trace_of runs)
         × IsAdmitted bytes set rule × SaysTrace more set.tasks runs × (good_text action (with_rule rule set) (trace_of runs) ≡ Ok text)
@@ -164,12 +159,11 @@ finds action tasks trace files old reply h = (
         let (set, rule, a, k) = only_ruled files tasks (on_rows action trace) reply h (λ z. absurd (omega arith)) (λ z. absurd (omega arith)) (λ z. absurd (omega arith)) in
         let (runs, said, of, verdict) = judged_of action files trace reply (with_rule rule set) k (λ z. absurd (omega arith)) (λ z. absurd (omega arith)) in
         elim verdict [
-          | blames bad s ↦ absurd (omega arith)
-          | refuses s ↦ absurd (omega arith)
-          | says text good is w ↦
+          | inl bad ↦ absurd (omega (arith, bad.1))
+          | inr w ↦
               let t = trace_of runs in
-              let legal = legal_by_verdict set.tasks rule t of (no_fault_in (first_unfit set.tasks rule t) (late set.tasks t) good) in
-              (set, rule, runs, text, legal, a, said, is, ap (λ (r : Reply). Some (old ++ r.text)) w)
+              let legal = legal_by_verdict set.tasks rule t of (no_fault_in (first_unfit set.tasks rule t) (late set.tasks t) w.1) in
+              (set, rule, runs, w.0, legal, a, said, w.2, ap (λ (r : Reply). Some (old ++ r.text)) w.3)
         ]
 
     faulty : reply.status ≡ 6 → (set : Set) × (rule : Rule) × (runs : List Run) × IsAdmitted bytes set rule × SaysTrace more set.tasks runs
@@ -178,9 +172,8 @@ finds action tasks trace files old reply h = (
         let (set, rule, a, k) = only_ruled files tasks (on_rows action trace) reply h (λ z. absurd (omega arith)) (λ z. absurd (omega arith)) (λ z. absurd (omega arith)) in
         let (runs, said, of, verdict) = judged_of action files trace reply (with_rule rule set) k (λ z. absurd (omega arith)) (λ z. absurd (omega arith)) in
         elim verdict [
-          | blames bad s ↦ (set, rule, runs, a, said, λ legal. (let clash : true ≡ false = sym (good_of bytes set rule (trace_of runs) a legal) ∙ bad in cc))
-          | refuses s ↦ absurd (omega arith)
-          | says text good is w ↦ absurd (omega (arith, ap (λ (r : Reply). r.status) w))
+          | inl bad ↦ (set, rule, runs, a, said, λ legal. (let clash : true ≡ false = sym (good_of bytes set rule (trace_of runs) a legal) ∙ bad.0 in cc))
+          | inr w ↦ absurd (omega (arith, ap (λ (r : Reply). r.status) w.3))
         ]
 
 -- what `judge` promises under a scale that the words give

@@ -24,7 +24,7 @@ use Rattle.command_line.specs.declared.form.Form.{Form}
 use Rattle.command.specs.Command.{Command, read_or_refuse}
 use Rattle.command.specs.Outcome.{IsAnswer}
 use Rattle.command.specs.Admitted.{with_rule, tested}
-use Rattle.command.specs.declared.set_with_rule.SetWithRule.{SetWithRule}
+use Rattle.command.specs.declared.admitted.SetWithRule.{SetWithRule}
 use Rattle.command_line.specs.Form.{command}
 use Rattle.promises.specs.Headline.{bytes_of, SaysSet, IsAdmitted, IsTimely, SchedulesExactly}
 use Rattle.promises.specs.Promises.{Promises}

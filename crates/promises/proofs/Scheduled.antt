@@ -4,7 +4,6 @@ use Rattle.mc_task.specs.declared.task.Task.{Task}
 use Rattle.mc_world.specs.Shelf.{Files}
 use Rattle.mc_model.specs.declared.work.WorkRow.{WorkRow}
 use Rattle.mc_model.specs.TraceText.{trace_text}
-use Rattle.mc_model.specs.CheckText.{check_text}
 use Rattle.mc_model.proofs.RuleHolds.{published-holds}
 use Rattle.demand_law.proofs.Promise.{keeps_deadlines}
 use Rattle.set_gen.specs.Words.{words_of}
@@ -15,20 +14,19 @@ use Rattle.task_commands.specs.declared.check.CheckCommand.{CheckCommand}
 use Rattle.run_commands.specs.declared.run.RunCommand.{RunCommand}
 use Rattle.run_commands.specs.declared.live.LiveCommand.{LiveCommand}
 use Rattle.run_commands.specs.declared.soak.SoakCommand.{SoakCommand}
-use Rattle.replies.specs.Reply.{Reply, reply_of}
+use Rattle.replies.specs.Reply.{Reply}
 use Rattle.replies.specs.Refusal.{WorkFile}
 use Rattle.replies.specs.Reading.{refused_as}
-use Rattle.command.specs.Command.{Command, answer, fetch, read_or_refuse}
+use Rattle.command.specs.Command.{Command, fetch, read_or_refuse}
 use Rattle.command.specs.Outcome.{IsAnswer}
-use Rattle.command.specs.Admitted.{tested, work_of}
-use Rattle.command.specs.declared.set_with_rule.SetWithRule.{SetWithRule}
+use Rattle.command.specs.Admitted.{work_of}
 use Rattle.run_commands.proofs.LiveCapacity.{few_rows}
 use Rattle.run_commands.specs.Soak.{workload_set}
 use Rattle.run_commands.proofs.PlannedTrace.{follows-few}
 use Rattle.promises.specs.Headline.{bytes_of}
 use Rattle.promises.specs.RightText.{WritesRun, WritesLive}
 use Rattle.promises.specs.Complete.{SaysWork}
-use Rattle.promises.proofs.Cases.{of_file, for_file, text_on_set}
+use Rattle.promises.proofs.Cases.{of_file, for_file}
 use Rattle.promises.proofs.Promised.{Keeps, holds_for, timely, only_ruled, next_of, schedules_exactly}
 use Rattle.promises.proofs.Written.{says_timely}
 use Rattle.std.proofs.lemmas.Bool.Decides.{nat_tests}
@@ -80,15 +78,12 @@ pub for_work : (files : Files) (set : List Task) (work : List ℕ) (next : List 
 for_work files set work next reply h rows says = for_file files 2 (2 ^ 24) work (λ more. work_of set more) next reply h rows says.0 (ap (refused_as WorkFile) says.1)
 
 pub check_keeps : (command : CheckCommand) → Keeps (form.Check command)
-check_keeps command files old reply h =
-    let written : SetWithRule → List ℕ = λ ruled. check_text ruled.set ruled.rule in
-    let next : SetWithRule → Command = λ ruled. answer (λ reply. reply ≡ reply_of 0 (written ruled)) in
-    let by = text_on_set files command.tasks tested written reply h in (
-      schedules_exactly files command.tasks next reply by (λ ruled k e. absurd (omega (arith, ap (λ (r : Reply). r.status) k))),
-      tt,
-      λ set rule a. inl (ap (λ (r : Reply). r.status) (next_of files command.tasks next reply by set rule a)),
-      tt,
-    )
+check_keeps command files old reply h = (
+  schedules_exactly files command.tasks _ reply h (λ ruled k e. absurd (omega (arith, ap (λ (r : Reply). r.status) k))),
+  tt,
+  λ set rule a. inl (ap (λ (r : Reply). r.status) (next_of files command.tasks _ reply h set rule a)),
+  tt,
+)
 
 pub run_keeps : (command : RunCommand) → command.ticks ≤ 1000000 → Keeps (form.Run command)
 run_keeps command short files old reply h = (

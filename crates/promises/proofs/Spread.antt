@@ -20,17 +20,16 @@ use Rattle.command_line.specs.declared.form.Form.TheVariants as form
 use Rattle.run_commands.proofs.PlannedTrace.{follows-few}
 use Rattle.part_commands.specs.declared.partition.PartitionCommand.{PartitionCommand}
 use Rattle.part_commands.specs.declared.run_parts.RunAllCommand.{RunAllCommand}
-use Rattle.replies.specs.Reply.{Reply, reply_of}
+use Rattle.replies.specs.Reply.{Reply}
 use Rattle.replies.specs.Refusal.{NoRoom}
 use Rattle.replies.specs.Reading.{◌>>=◌, refused_as}
-use Rattle.command.specs.Command.{Command, answer, read_or_refuse}
+use Rattle.command.specs.Command.{Command, read_or_refuse}
 use Rattle.command.specs.Outcome.{IsAnswer}
 use Rattle.part_commands.specs.Parted.{Parted, tasks_on, spread, fitted}
-use Rattle.part_commands.specs.Partition.{partition_text}
 use Rattle.part_commands.specs.RunAll.{is_used, used, IsTraceOn, trace_lines}
 use Rattle.promises.specs.Headline.{bytes_of, SaysSet, IsSpread, SpreadsExactly, IsTimelyOn, lines_of}
 use Rattle.promises.specs.RightText.{WritesParts}
-use Rattle.promises.proofs.Cases.{on_set, of_set, decided, text_on_set}
+use Rattle.promises.proofs.Cases.{on_set, of_set, decided}
 use Rattle.promises.proofs.Promised.{Keeps}
 use Rattle.promises.proofs.Written.{says_timely}
 use Rattle.promises.proofs.Scheduled.{work-few, of_work, for_work}
@@ -84,22 +83,19 @@ parts_of : (m : ℕ) (bytes : List ℕ) (set : Set) (of : List ℕ) → IsSpread
 parts_of m bytes set of is = first_fit-IsPartition set.tasks m of (says_set bytes set is.0.1).tasks is.1
 
 pub partition_keeps : (command : PartitionCommand) → Keeps (form.Partition command)
-partition_keeps command files old reply h =
-    let written = partition_text command.processors in
-    let next : Parted → Command = λ on. answer (λ reply. reply ≡ reply_of 0 (written on)) in
-    let by = text_on_set files command.tasks (λ set. fitted command.processors set.tasks) written reply h in (
-      tt,
-      tt,
-      tt,
-      (
-        spreads_exactly files command.processors command.tasks next reply by (λ on k e. absurd (omega (arith, ap (λ (r : Reply). r.status) k))),
-        record {
-          writes = λ e. (let (set, of, is, k) = only_spread files command.processors command.tasks next reply by e in
-              (set, of, is, parts_of command.processors (bytes_of files command.tasks) set of is, ap (λ (r : Reply). Some (old ++ r.text)) k));
-          complete = λ set of is. inl (ap (λ (r : Reply). r.status) (next_spread files command.processors command.tasks next reply by set of is));
-        },
-      ),
-    )
+partition_keeps command files old reply h = (
+  tt,
+  tt,
+  tt,
+  (
+    spreads_exactly files command.processors command.tasks _ reply h (λ on k e. absurd (omega (arith, ap (λ (r : Reply). r.status) k))),
+    record {
+      writes = λ e. (let (set, of, is, k) = only_spread files command.processors command.tasks _ reply h e in
+          (set, of, is, parts_of command.processors (bytes_of files command.tasks) set of is, ap (λ (r : Reply). Some (old ++ r.text)) k));
+      complete = λ set of is. inl (ap (λ (r : Reply). r.status) (next_spread files command.processors command.tasks _ reply h set of is));
+    },
+  ),
+)
 
 -- the tasks of an admitted part that has some are those of a set
 used_tasks : (tasks : List Task) → nat_lt 0 (length tasks) ≡ true → IsAdmittedPart tasks → AreTasks tasks
@@ -115,27 +111,19 @@ timely_on ticks parted work n h short rows used admitted is =
     let keeps = keeps_deadlines (tasks_on parted n) is.rule h tasks.each (published-holds (tasks_on parted n) is.rule tasks is.test) is.follows.legal in
     (is.rule, is.test, says_timely ticks (tasks_on parted n) is.rule h tasks few is.follows.ticks (is.follows.legal, keeps))
 
--- the text of each trace, on the processor at its index
-abbrev texts_of : Parted → List ℕ → List (List Row) → List (List ℕ)
-texts_of parted (n ∷ ns) (t ∷ ts) = trace_text (tasks_on parted n) (reverse t) ∷ texts_of parted ns ts
-texts_of parted ns ts = []
-
--- the texts of the traces on processors with tasks are trace files whose traces keep the deadlines
+-- what is written of the traces on processors with tasks is the lines of trace files whose traces keep the deadlines
 all_timely : (ticks : ℕ) (parted : Parted) (work : List WorkRow) (ns : List ℕ) (traces : List (List Row)) → ticks ≤ 1000000 → length work ≤ 1000000
     → AllByRecursion (λ n. is_used parted n ≡ true) ns → ((n : ℕ) → IsAdmittedPart (tasks_on parted n)) → AllZip (IsTraceOn ticks parted work) ns traces
-    → AllZip (IsTimelyOn ticks parted) ns (texts_of parted ns traces)
-all_timely ticks parted work [] [] short rows used admitted h = tt
+    → (texts : List (List ℕ)) × AllZip (IsTimelyOn ticks parted) ns texts × (flat_map (trace_lines parted) (zip ns traces) ≡ flat_map lines_of (zip ns texts))
+all_timely ticks parted work [] [] short rows used admitted h = ([], tt, refl)
 all_timely ticks parted work [] (t ∷ ts) short rows used admitted h = absurd h
 all_timely ticks parted work (n ∷ ns) [] short rows used admitted h = absurd h
 all_timely ticks parted work (n ∷ ns) (t ∷ ts) short rows used admitted h =
-    (timely_on ticks parted work n t short rows used.0 (admitted n) h.0, all_timely ticks parted work ns ts short rows used.1 admitted h.1)
-
--- what is written of all processors is the lines of the texts of their traces
-lines_of_texts : (parted : Parted) (ns : List ℕ) (traces : List (List Row))
-    → flat_map (trace_lines parted) (zip ns traces) ≡ flat_map lines_of (zip ns (texts_of parted ns traces))
-lines_of_texts parted [] traces = refl
-lines_of_texts parted (n ∷ ns) [] = refl
-lines_of_texts parted (n ∷ ns) (t ∷ ts) = ap (λ more. trace_lines parted (n, t) ++ more) (lines_of_texts parted ns ts)
+    let (texts, timely, same) = all_timely ticks parted work ns ts short rows used.1 admitted h.1 in (
+      trace_text (tasks_on parted n) (reverse t) ∷ texts,
+      (timely_on ticks parted work n t short rows used.0 (admitted n) h.0, timely),
+      ap (λ more. trace_lines parted (n, t) ++ more) same,
+    )
 
 -- each processor that is listed among the used ones has tasks
 used_each : (m : ℕ) (parted : Parted) → AllByRecursion (λ n. is_used parted n ≡ true) (used m parted)
@@ -151,14 +139,9 @@ run_all_keeps command short files old reply h = (
         absurd (omega (arith, ap (λ (r : Reply). r.status) t.2)))),
     λ e. (let (set, of, rows, traces, is, says, each, written) = writes e in
         let on : Parted = spread set.tasks of in
-        let ns : List ℕ = used command.processors on in (
-          set,
-          of,
-          texts_of on ns traces,
-          is,
-          all_timely command.ticks on rows ns traces short (work-few set.tasks more rows says.1) (used_each command.processors on) (parts_of command.processors bytes set of is).admitted each,
-          written ∙ ap (λ text. Some (old ++ text)) (lines_of_texts on ns traces),
-        )),
+        let (texts, timely, same) = all_timely command.ticks on rows (used command.processors on) traces short (work-few set.tasks more rows says.1) (used_each command.processors on)
+        (parts_of command.processors bytes set of is).admitted each in
+        (set, of, texts, is, timely, written ∙ ap (λ text. Some (old ++ text)) same)),
   ),
   writes,
   λ set of rows is says.

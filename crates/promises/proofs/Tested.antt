@@ -1,5 +1,5 @@
 -- What `demand`, `stretch` and `accept` promise, and then each command.
-use Rattle.std.proofs.Common.{◌≡◌, inl, ℕ, ◌^◌, List, ◌++◌, Option, Some, Ok, ap, ◌∙◌, arith, ◌≢◌, ◌⊎◌, inr}
+use Rattle.std.proofs.Common.{◌≡◌, inl, ℕ, ◌^◌, List, ◌++◌, Option, Some, ap, subst, arith, ◌≢◌, ◌⊎◌, inr}
 use Rattle.mc_task.specs.TaskSet.{Set}
 use Rattle.task_file.specs.TaskFile.{task_file}
 use Rattle.mc_model.specs.Loads.{range_fault, IsWithinRange}
@@ -11,14 +11,15 @@ use Rattle.command_line.specs.Form.{IsInRange}
 use Rattle.study_commands.specs.declared.stretch.StretchCommand.{StretchCommand}
 use Rattle.replies.specs.Reply.{Reply, reply_of}
 use Rattle.replies.specs.Refusal.{TaskFile, OutOfRange, DemandFile}
-use Rattle.replies.specs.Reading.{◌>>=◌, none_or, refused_as, reply_by}
-use Rattle.command.specs.Command.{Command, answer}
+use Rattle.replies.specs.Reading.{none_or, refused_as}
+use Rattle.command.specs.Command.{Command, answer, read_or_refuse}
+use Rattle.command.specs.Outcome.{IsAnswer}
 use Rattle.command.specs.Admitted.{set_in}
-use Rattle.study_commands.specs.Stretch.{stretch_text, measured, stretched}
+use Rattle.study_commands.specs.Stretch.{stretch_text}
 use Rattle.study_commands.specs.Accept.{IsAcceptReply}
 use Rattle.promises.specs.Headline.{bytes_of, SaysSet}
 use Rattle.promises.specs.Complete.{Succeeds}
-use Rattle.promises.proofs.Cases.{fetched, goes_on, reads, by_text, of_file, for_file}
+use Rattle.promises.proofs.Cases.{of_file, for_file}
 use Rattle.promises.proofs.Promised.{Keeps, in_range, in_range_says}
 use Rattle.promises.proofs.Scheduled.{check_keeps, run_keeps, live_keeps, soak_keeps}
 use Rattle.promises.proofs.Spread.{partition_keeps, run_all_keeps}
@@ -38,20 +39,11 @@ use Rattle.demand_commands.specs.declared.demand.DemandCommand.{DemandCommand}
 use Rattle.demand_commands.specs.Demand.{IsFitReply, IsDemandReply}
 use Rattle.promises.specs.Tested.{SaysDemands, Tabulates}
 
--- the answer that the reply reports, by its status
-within_of : (set : List Demand) (fit : Fit) (reply : Reply) → IsDemandSet set → IsFit set fit → IsFitReply set fit reply → reply.status ≡ 0 → (h : List EdfRow)
-    → IsEdfSchedule set h → NoneLate set h
-within_of set (Within n) reply is fit t e = none_late_if_within set (Within n) is fit
-within_of set (Past n m) reply is fit t e = absurd (omega (arith, ap (λ (r : Reply). r.status) t.2))
-
-past_of : (set : List Demand) (fit : Fit) (reply : Reply) → IsDemandSet set → IsFit set fit → IsFitReply set fit reply → reply.status ≡ 10
-    → (h : List EdfRow) × IsEdfSchedule set h × SomeLate set h
-past_of set (Within n) reply is fit t e = absurd (omega (arith, ap (λ (r : Reply). r.status) t))
-past_of set (Past n m) reply is fit t e = let late = late_if_past set (Past n m) is fit in (late.h, late.counter.run, late.late)
-
-either : (set : List Demand) (fit : Fit) (reply : Reply) → IsFitReply set fit reply → (reply.status ≡ 10) ⊎ Succeeds reply.status
-either set (Within n) reply t = inr (inl (ap (λ (r : Reply). r.status) t))
-either set (Past n m) reply t = inl (ap (λ (r : Reply). r.status) t.2)
+-- the reply reports that no job is late in any EDF schedule, or that a job is late in one
+reports : (set : List Demand) (fit : Fit) (reply : Reply) → IsDemandSet set → IsFit set fit → IsFitReply set fit reply
+    → ((reply.status ≡ 0) × ((h : List EdfRow) → IsEdfSchedule set h → NoneLate set h)) ⊎ ((reply.status ≡ 10) × (h : List EdfRow) × IsEdfSchedule set h × SomeLate set h)
+reports set (Within n) reply is fit t = inl (ap (λ (r : Reply). r.status) t, none_late_if_within set (Within n) is fit)
+reports set (Past n m) reply is fit t = let late = late_if_past set (Past n m) is fit in inr (ap (λ (r : Reply). r.status) t.2, late.h, late.counter.run, late.late)
 
 pub demand_keeps : (command : DemandCommand) → Keeps (form.Demand command)
 demand_keeps command files old reply h = (tt, tt, tt, record { none_late = none_late; some_late = some_late; complete = complete })
@@ -63,17 +55,20 @@ demand_keeps command files old reply h = (tt, tt, tt, record { none_late = none_
     tested not_7 not_11 = of_file files 1 (2 ^ 24) command.demands DemandFile demands_in (λ set. answer (IsDemandReply set)) reply h not_7 (λ fault. not_11)
 
     none_late : reply.status ≡ 0 → (set : List Demand) × SaysDemands bytes set × ((h : List EdfRow) → IsEdfSchedule set h → NoneLate set h)
-    none_late e = let (set, says, f) = tested (λ z. absurd (omega arith)) (λ z. absurd (omega arith)) in (set, says, within_of set f.fit reply f.is_set f.is f.fit_reply e)
+    none_late e =
+        let (set, says, f) = tested (λ z. absurd (omega arith)) (λ z. absurd (omega arith)) in
+        elim (reports set f.fit reply f.is_set f.is f.fit_reply) [ inl none ↦ (set, says, none.1) | inr some ↦ absurd (omega (arith, e, some.0)) ]
 
     some_late : reply.status ≡ 10 → (set : List Demand) × (h : List EdfRow) × SaysDemands bytes set × IsEdfSchedule set h × SomeLate set h
     some_late e =
         let (set, says, f) = tested (λ z. absurd (omega arith)) (λ z. absurd (omega arith)) in
-        let (t, run, late) = past_of set f.fit reply f.is_set f.is f.fit_reply e in (set, t, says, run, late)
+        elim (reports set f.fit reply f.is_set f.is f.fit_reply) [ inl none ↦ absurd (omega (arith, e, none.0)) | inr some ↦ (set, some.1, says, some.2, some.3) ]
 
     complete : (set : List Demand) → SaysDemands bytes set → (reply.status ≡ 10) ⊎ Succeeds reply.status
     complete set says =
         let f : IsDemandReply set reply = for_file files 1 (2 ^ 24) command.demands (λ bytes. refused_as DemandFile (demands_in bytes)) (λ set. answer (IsDemandReply set)) reply h set
-        says.0 (ap (refused_as DemandFile) says.1) in either set f.fit reply f.fit_reply
+        says.0 (ap (refused_as DemandFile) says.1) in
+        elim (reports set f.fit reply f.is_set f.is f.fit_reply) [ inl none ↦ inr (inl none.0) | inr some ↦ inl some.0 ]
 
 pub stretch_keeps : (command : StretchCommand) → Keeps (form.Stretch command)
 stretch_keeps command files old reply h = (tt, tt, tt, record { writes = writes; complete = complete })
@@ -81,28 +76,24 @@ stretch_keeps command files old reply h = (tt, tt, tt, record { writes = writes;
     bytes : List ℕ
     bytes = bytes_of files command.tasks
 
-    next : List ℕ → Command
-    next bytes = answer (λ reply. reply ≡ reply_by (stretched bytes))
+    measured : Set → Unit {0} → Command
+    measured set none = answer (λ reply. reply ≡ reply_of 0 (stretch_text set.tasks (room.stretch set.tasks)))
 
-    text : Set → List ℕ
-    text set = stretch_text set.tasks (room.stretch set.tasks)
+    next : Set → Command
+    next set = read_or_refuse (none_or OutOfRange (range_fault set.tasks)) (measured set)
 
     writes : reply.status ≡ 0
         → (set : Set) × (s : Option ℕ) × SaysSet bytes set × IsWithinRange set.tasks × room.IsStretch set.tasks s
         × (Some (old ++ reply.text) ≡ Some (old ++ stretch_text set.tasks s))
     writes e =
-        let (short, by) = fetched files 1 (2 ^ 24) command.tasks next reply h (λ z. absurd (omega arith)) in
-        let (set, is, k) = reads files 2 TaskFile (task_file bytes) (λ set. answer (λ reply. reply ≡ reply_by (measured set.tasks))) reply
-        (by_text files 2 (set_in bytes) (λ set. measured set.tasks) reply by) (λ fault z. absurd (omega arith)) in
-        let (range, written) = in_range files set.tasks (λ none. answer (λ reply. reply ≡ reply_of 0 (text set))) reply
-        (by_text files 2 (none_or OutOfRange (range_fault set.tasks)) (λ none. Ok (text set)) reply k) (λ z. absurd (omega arith)) in
-        (set, room.stretch set.tasks, (short, is), range, stretch-greatest set.tasks, ap (λ (r : Reply). Some (old ++ r.text)) written)
+        let (set, says, k) = of_file files 1 (2 ^ 24) command.tasks TaskFile task_file next reply h (λ z. absurd (omega arith)) (λ fault z. absurd (omega arith)) in
+        let (range, is) = in_range files set.tasks (measured set) reply k (λ z. absurd (omega arith)) in
+        (set, room.stretch set.tasks, says, range, stretch-greatest set.tasks, ap (λ (r : Reply). Some (old ++ r.text)) is)
 
     complete : (set : Set) → SaysSet bytes set → IsWithinRange set.tasks → Succeeds reply.status
     complete set says range =
-        let read = ap (λ read. reply_by (refused_as TaskFile read >>= (λ set. measured set.tasks))) says.1 in
-        let measures = ap (λ o. reply_by (none_or OutOfRange o >>= (λ none. Ok (text set)))) (in_range_says bytes set says range) in
-        inl (ap (λ (r : Reply). r.status) (goes_on files 1 (2 ^ 24) command.tasks next reply h says.0 ∙ (read ∙ measures)))
+        let k = for_file files 1 (2 ^ 24) command.tasks (λ bytes. set_in bytes) next reply h set says.0 (ap (refused_as TaskFile) says.1) in
+        inl (ap (λ (r : Reply). r.status) (subst (λ o. IsAnswer files 2 (read_or_refuse (none_or OutOfRange o) (measured set)) reply) (in_range_says bytes set says range) k))
 
 -- what `accept` promises of its answer
 tabulates : (number sets tasks : ℕ) (old : List ℕ) (reply : Reply) → IsAcceptReply number sets tasks reply → Tabulates number sets tasks old reply.status (Some (old ++ reply.text))

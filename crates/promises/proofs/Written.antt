@@ -21,8 +21,7 @@ use Rattle.trace_format.specs.Writable.{IsWritable}
 use Rattle.trace_format.proofs.PackLemmas.{of_rows}
 use Rattle.trace_format.proofs.RunsOfSet.{valid_runs}
 use Rattle.trace_format.proofs.WrittenLemmas.{read_back}
-use Rattle.run_commands.proofs.TextBytes.{HasCountBelow}
-use Rattle.run_commands.proofs.TraceBytes.{counts-below, trace_le}
+use Rattle.run_commands.proofs.TraceBytes.{HasCountBelow, counts-below, trace_le}
 use Rattle.promises.specs.Headline.{IsTimely, trace_of, SaysTrace, SaysTimely}
 
 -- a run can be written whose row is of the set and has a count below 2^32

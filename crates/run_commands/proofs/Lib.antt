@@ -1,6 +1,3 @@
-mod Soaked
 pub mod PlannedTrace
 pub mod LiveCapacity
-mod LiveRows
-pub mod TextBytes
 pub mod TraceBytes

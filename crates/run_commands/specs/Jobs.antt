@@ -3,7 +3,7 @@ use Rattle.std.specs.Prelude.{ℕ}
 use Rattle.mc_model.specs.Holds.{Fits, Holds}
 use Rattle.mc_model.specs.Work.{IsWork}
 use Rattle.replies.specs.Reply.{Reply}
-use Rattle.command.specs.declared.set_with_rule.SetWithRule.{SetWithRule}
+use Rattle.command.specs.declared.admitted.SetWithRule.{SetWithRule}
 use Rattle.run_commands.specs.declared.run.RunJob.{RunJob}
 use Rattle.run_commands.specs.Run.{IsTraceReply}
 

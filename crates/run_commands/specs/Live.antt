@@ -5,7 +5,7 @@ use Rattle.mc_model.specs.LiveTrace.{LiveTrace}
 use Rattle.replies.specs.Reply.{Reply}
 use Rattle.command.specs.Command.{Command, answer, read_or_refuse}
 use Rattle.command.specs.Admitted.{admitted, fetch_table}
-use Rattle.command.specs.declared.set_with_rule.SetWithRule.{SetWithRule}
+use Rattle.command.specs.declared.admitted.SetWithRule.{SetWithRule}
 use Rattle.run_commands.specs.Run.{traced}
 
 -- the reply is the text of a live trace of this many ticks, of the set under its rule

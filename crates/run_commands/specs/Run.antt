@@ -23,14 +23,10 @@ abbrev pub IsTraceReply : ℕ → List Task → Rule → List WorkRow → Reply 
 IsTraceReply ticks set rule work reply =
     (h : List Row) × Follows set rule work ticks h × (reply ≡ traced set h)
 
--- the command `run` with the work in the second file, once the task file was read and has these bytes
-abbrev pub run_on : List ℕ → ℕ → List ℕ → Command
-run_on work ticks bytes =
+-- the command `run` of this many ticks, on the task file and the work file of these names
+abbrev pub run : List ℕ → List ℕ → ℕ → Command
+run tasks work ticks = fetch_table tasks (λ bytes.
     read_or_refuse (admitted bytes) (λ ruled.
     fetch_table work (λ more.
     read_or_refuse (work_of ruled.set.tasks more) (λ rows.
-    answer (IsTraceReply ticks ruled.set.tasks ruled.rule rows))))
-
--- the command `run` of this many ticks, on the task file and the work file of these names
-abbrev pub run : List ℕ → List ℕ → ℕ → Command
-run tasks work ticks = fetch_table tasks (run_on work ticks)
+    answer (IsTraceReply ticks ruled.set.tasks ruled.rule rows)))))

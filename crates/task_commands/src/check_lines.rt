@@ -46,8 +46,9 @@ fn unheld_text(alloc: Global, loads: &Loads, scale: Option<Scale>) -> Result<Str
     ensures { IfOk result (λ s. (tasks : List Task) → BelongTo tasks loads.now → string_bytes s ≡ unheld_text tasks scale) }
 {
     match scale {
-        Some(scale) if !holds_for(loads, scale.p, scale.q) => scale_text(alloc, scale),
-        _ => Ok(String::new(alloc)),
+        Some(scale) if holds_for(loads, scale.p, scale.q) => Ok(String::new(alloc)),
+        Some(scale) => scale_text(alloc, scale),
+        None => Ok(String::new(alloc)),
     }
 }
 

@@ -6,10 +6,12 @@ use Rattle.mc_task.specs.declared.task.JobId.{JobId}
 use Rattle.mc_task.specs.declared.task.Rule.{Rule}
 use Rattle.mc_task.specs.declared.task.Task.{Task}
 use Rattle.mc_task.proofs.TaskLemmas.{each_of_all}
+use Rattle.mc_model.specs.declared.row.Row.{Row}
 use Rattle.mc_model.specs.declared.run.Run.{Run}
 use Rattle.mc_model.specs.Holds.{Fits}
 use Rattle.mc_model.specs.Legal.{IsOfSet}
 use Rattle.mc_model.specs.Late.{late}
+use Rattle.mc_model.specs.Rows.{ticks}
 use Rattle.mc_model.specs.Runs.{expand, AreRuns, IsRunOfSet}
 use Rattle.mc_model.specs.Traces.{IsTraceOf}
 use Rattle.mc_model.specs.declared.verdict.Verdict.{Verdict}
@@ -20,12 +22,24 @@ use Rattle.mc_model.proofs.Verdicts.{legal_by_verdict}
 use Rattle.std.specs.Prelude.{Option, Some, None, refl}
 use Rattle.trace_format.specs.TraceFile.{trace_file}
 use Rattle.trace_format.proofs.RunsOfSet.{valid_runs, runs_of_set}
+use Rattle.trace_judge.specs.Watched.{Watched, Watches, fitted}
+use Rattle.trace_judge.proofs.Watching.{all_fitted}
+use Rattle.trace_commands.specs.JudgedText.{IsMonitorOf}
 use Rattle.trace_commands.specs.OnTrace.{is_good}
 
 -- a good verdict finds no fault
 pub no_fault_in : (f : Option RowFault) (lates : List JobId) → is_good (verdict_of f lates) ≡ true → f ≡ None
 no_fault_in None lates h = refl
 no_fault_in (Some f) lates h = cc
+
+-- a monitor of a good trace counts the trace's ticks
+pub good_ticks : (set : List Task) (rule : Rule) (runs : List Run) (m : Watched) (t : ℕ) → IsMonitorOf set rule runs m → is_good (verdict set rule (reverse (expand runs))) ≡ true
+    → ((h : List Row) → Watches h m → t ≡ ticks (fitted m.set.tasks m.rule h)) → t ≡ ticks (reverse (expand runs))
+good_ticks set rule runs m t is good counts =
+    let h = reverse (expand runs) in
+    let none = no_fault_in (first_unfit set rule h) (late set h) good in
+    let fits : m.unfit ≡ None = is.seen_rows.unfit ∙ rw (is.same_tasks, is.same_rule, none) refl in
+    counts h is.seen_rows ∙ ap ticks (all_fitted h m fits is.seen_rows)
 
 -- the rows of runs are of the set, also the newest first
 pub rows_of_runs : (set : List Task) (runs : List Run) → AllByRecursion (IsRunOfSet set) runs → AllByRecursion (IsOfSet set) (reverse (expand runs))

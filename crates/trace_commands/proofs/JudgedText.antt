@@ -1,5 +1,5 @@
 -- A trace that is judged while it is read: before and after one more run, and after the stored runs are judged.
-use Rattle.std.proofs.Common.{◌≡◌, ◌+◌, ◌^◌, ◌≤◌, Bool, true, false, All, List, [], ◌∷◌, ◌++◌, length, reverse, refl, sym, ap, subst, ◌∙◌, arith, append-nil}
+use Rattle.std.proofs.Common.{◌≡◌, ◌+◌, ◌^◌, ◌≤◌, Bool, true, false, All, List, [], ◌∷◌, ◌++◌, length, reverse, sym, ap, subst, ◌∙◌, arith, append-nil}
 use Rattle.std.proofs.lemmas.List.{append_assoc, length-append, length-reverse, reverse-append}
 use Rattle.std.proofs.lemmas.List.Elements.{All-nil, All-push}
 use Rattle.mc_task.specs.declared.task.Rule.{Rule}
@@ -38,18 +38,6 @@ room_left tasks rule before more m is few short fits =
 -- a list of no runs is valid
 pub no_runs : AreRuns []
 no_runs = record { each = All-nil IsRun; few = omega arith; short = omega arith }
-
--- before the first run no run was read: the monitor has seen none, and none is stored
-pub none_read : (keeps_runs : Bool) (rule : Rule) (tasks : List Task) (judging : Judging) → IsMonitorOf tasks rule [] judging.monitor → judging.runs.items ≡ [] → HasRead keeps_runs rule tasks [] judging
-none_read keeps_runs rule tasks judging is none = record {
-  first = [];
-  split = sym none;
-  judged = is;
-  keeps = λ kept. refl;
-  valid = subst AreRuns (sym none) no_runs;
-  of_set = subst (All (IsRunOfSet tasks)) (sym none) (All-nil (IsRunOfSet tasks));
-  room = λ fits. rw none (room_left tasks rule [] [] judging.monitor is (omega arith) (omega arith) fits);
-}
 
 -- a run added to all runs is a run added to the stored ones
 pub with_next : (before first items : List Run) (run : Run) → before ≡ first ++ items → before ++ run ∷ [] ≡ first ++ (items ++ run ∷ [])

@@ -1,3 +1,2 @@
-pub mod Ticks
 pub mod GoodTrace
 pub mod JudgedText

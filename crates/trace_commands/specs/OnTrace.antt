@@ -20,7 +20,7 @@ use Rattle.replies.specs.Refusal.{Refusal, Trace, BadTrace, LongChart}
 use Rattle.replies.specs.Reading.{◌>>=◌, refused_as, reply_by}
 use Rattle.command.specs.Command.{Command, answer, fetch, read_or_refuse}
 use Rattle.command.specs.Admitted.{admitted, set_with_rule, fetch_table}
-use Rattle.command.specs.declared.set_with_rule.SetWithRule.{SetWithRule}
+use Rattle.command.specs.declared.admitted.SetWithRule.{SetWithRule}
 
 -- whether the verdict finds that each row fits and no job is late
 abbrev pub is_good : Verdict → Bool
@@ -67,13 +67,8 @@ abbrev pub set_with_rule_for : TraceAction → List ℕ → Result SetWithRule R
 set_with_rule_for (JudgeBy p q) bytes = set_with_rule (Virtual p q) bytes
 set_with_rule_for action bytes = admitted bytes
 
--- a command on the trace in the second file, of at most 134,217,728 bytes, once the task file was read and
--- has these bytes
-abbrev pub on_trace_on : TraceAction → List ℕ → List ℕ → Command
-on_trace_on action trace bytes =
-    read_or_refuse (set_with_rule_for action bytes) (λ ruled.
-    fetch trace (2 ^ 27) (λ more. answer (λ reply. reply ≡ reply_by (output_for action ruled more))))
-
--- a command on the trace in the second file, of the set in the first
+-- a command on the trace in the second file, of at most 134,217,728 bytes, of the set in the first
 abbrev pub on_trace : TraceAction → List ℕ → List ℕ → Command
-on_trace action tasks trace = fetch_table tasks (on_trace_on action trace)
+on_trace action tasks trace = fetch_table tasks (λ bytes.
+    read_or_refuse (set_with_rule_for action bytes) (λ ruled.
+    fetch trace (2 ^ 27) (λ more. answer (λ reply. reply ≡ reply_by (output_for action ruled more)))))

@@ -2,10 +2,12 @@
 ghost use Rattle.std.specs.Prelude.{◌≡◌, true, [], IfOk, reverse};
 ghost use Rattle.csv_records.specs.Reads.{Takes};
 ghost use Rattle.mc_model.specs.Holds.{Fits};
+ghost use Rattle.mc_model.specs.Rows.{ticks};
 ghost use Rattle.mc_model.specs.Runs.{expand};
 ghost use Rattle.mc_model.specs.Verdict.{verdict};
 ghost use Rattle.trace_format.specs.TraceFile.{trace_file};
 ghost use Rattle.trace_commands.specs.JudgedText.{IsMonitorOf};
+ghost use Rattle.trace_commands.specs.OnTrace.{is_good};
 
 use mc_model::{Run, Verdict};
 use mc_task::{Memory, Rule, TaskSet};
@@ -16,8 +18,9 @@ use trace_judge::Monitor;
 /// The most runs that are stored before they are judged, if the runs are not kept.
 const BATCH: usize = 4096;
 
-/// The verdict on the trace in a text, with the trace's runs if they are kept; or the trace's first refusal, which comes
-/// before any verdict. If no run is kept, memory grows with the pending jobs alone, apart from the text.
+/// The verdict on the trace in a text, with the number of its ticks if the verdict is good, and its runs if they are kept; or
+/// the trace's first refusal, which comes before any verdict. If no run is kept, memory grows with the pending jobs alone,
+/// apart from the text.
 // Not inlined, so that the loop over the records need not share registers with the code of its caller.
 #[inline(never)]
 pub fn judge_text(
@@ -26,9 +29,10 @@ pub fn judge_text(
     rule: Rule,
     bytes: &[u8],
     keeps_runs: bool,
-) -> Result<(Verdict, Vec<Run>), TraceFault>
+) -> Result<(Verdict, u64, Vec<Run>), TraceFault>
     requires { Fits rule }
-    ensures { Takes (λ read runs. (read.0 ≡ verdict set.now.tasks rule (reverse (expand runs))) × (keeps_runs ≡ true → read.1.items ≡ runs)) result (trace_file set.now.tasks bytes.now) }
+    ensures { Takes (λ read runs. (read.0 ≡ verdict set.now.tasks rule (reverse (expand runs)))
+        × (is_good read.0 ≡ true → read.1 ≡ ticks (reverse (expand runs))) × (keeps_runs ≡ true → read.2.items ≡ runs)) result (trace_file set.now.tasks bytes.now) }
 {
     let Ok(monitor) = monitor_for(alloc, set, rule) else {
         return Err(TraceFault::Memory);
@@ -43,7 +47,7 @@ pub fn judge_text(
     read_runs(alloc, set, bytes, &taker, &mut judging)?;
     let Judging { mut monitor, runs } = judging;
     match monitor.follow_all(alloc, &runs) {
-        Ok(()) => Ok((monitor.verdict(), runs)),
+        Ok(()) => Ok((monitor.verdict(), monitor.ticks(), runs)),
         Err(Memory) => Err(TraceFault::Memory),
     }
 }

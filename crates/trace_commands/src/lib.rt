@@ -5,7 +5,6 @@ mod action;
 mod judged_text;
 mod judging;
 mod on_trace;
-mod texts;
 
 pub use action::TraceAction;
 pub use on_trace::TraceCommand;

@@ -1,5 +1,5 @@
 //! A command on a trace.
-ghost use Rattle.trace_commands.specs.OnTrace.{IsScale, on_trace, on_trace_on, set_with_rule_for};
+ghost use Rattle.trace_commands.specs.OnTrace.{IsScale, on_trace, set_with_rule_for};
 ghost use Rattle.replies.specs.Stop.{ReadsOrRefuses};
 ghost use Rattle.command.specs.Serves.{Serves};
 ghost use Rattle.command.specs.Given.{IsSetWithRule};
@@ -32,17 +32,9 @@ impl<'a> TraceCommand<'a> {
         ensures { Serves 1 (on_trace self.now.action self.now.tasks self.now.trace) (S.state shelf.old) (S.state shelf.new) result }
     {
         let bytes = fetch(alloc, shelf, 1, &self.tasks, MOST_TABLE_BYTES)?;
-        self.reply_on(alloc, shelf, &bytes)
-    }
-
-    // The reply, where the task file has these bytes.
-    fn reply_on<S: Shelf>(&self, alloc: Global, shelf: &mut S, bytes: &[u8]) -> Result<Reply, Stop>
-        requires { IsScale self.now.action }
-        ensures { Serves 2 (on_trace_on self.now.action self.now.trace bytes.now) (S.state shelf.old) (S.state shelf.new) result }
-    {
-        let ruled = set_with_rule_for(alloc, self.action, bytes)?;
-        let bytes = fetch(alloc, shelf, 2, &self.trace, MOST_TRACE_BYTES)?;
-        reply_to_trace(alloc, self.action, &ruled, &bytes)
+        let ruled = set_with_rule_for(alloc, self.action, &bytes)?;
+        let more = fetch(alloc, shelf, 2, &self.trace, MOST_TRACE_BYTES)?;
+        reply_to_trace(alloc, self.action, &ruled, &more)
     }
 }
 

@@ -1,4 +1,4 @@
-use Rattle.std.proofs.Common.{◌≡◌, map, Bor, IfOk, IfErr, IfSome, OnOk, List, ℕ, Result, Ok, Err, Some, [], refl, ap, ◌∙◌, subst}
+use Rattle.std.proofs.Common.{◌≡◌, map, Bor, IfOk, IfSome, List, ℕ, Result, Ok, Err, Some, [], refl, ap, ◌∙◌, subst}
 use Rattle.replies.specs.Reply.{Reply}
 use Rattle.mc_world.specs.Shelf.{ShelfState}
 use Rattle.mc_world.specs.CalmShelfState.{CalmShelfState, calm_files}
@@ -6,7 +6,7 @@ use Rattle.command_line.specs.Form.{IsInRange, form_of, command}
 use Rattle.command.proofs.Outcomes.{is_answer, never_rose}
 use Rattle.promises.specs.Reply.{IsReply}
 use Rattle.promises.proofs.Headlines.{of_reply}
-use Rattle.in_process.specs.Asked.{two_files, IsAnswered, AskForThreads, HasCause}
+use Rattle.in_process.specs.Asked.{two_files, IsAnswered}
 use Rattle.in_process.proofs.asked.ask_in_process.Goals as goal
 
 -- a reply over a calm shelf of the two files is the answer, and keeps what the program promises
@@ -27,9 +27,7 @@ returns-clause-reply c =
     (ap (λ (s : CalmShelfState). Some (calm_files s.files)) c.in_ok-shelf.ensures) refl c.reply_alone.ensures.range c.reply_alone.ensures.reply
 
 pub returns-clause-cause : goal.returns-clause-cause
-returns-clause-cause c =
-    subst (λ words. IfErr c.reply_alone.result (HasCause words)) (ap (λ (ws : List (Bor (List ℕ))). map (λ w. w.now) ws) c.deref.ensures.value ∙ c.in_ok-words.ensures.texts) c.reply_alone.ensures.cause
+returns-clause-cause c = rw (c.deref.ensures.value, c.in_ok-words.ensures.texts) at c.reply_alone.ensures.cause
 
 pub returns-clause-alone : goal.returns-clause-alone
-returns-clause-alone c =
-    subst (λ words. OnOk c.reply_alone.result (¬ AskForThreads words)) (ap (λ (ws : List (Bor (List ℕ))). map (λ w. w.now) ws) c.deref.ensures.value ∙ c.in_ok-words.ensures.texts) c.reply_alone.ensures.alone
+returns-clause-alone c = rw (c.deref.ensures.value, c.in_ok-words.ensures.texts) at c.reply_alone.ensures.alone

@@ -12,5 +12,4 @@ loop-processor-preserved c =
       used = made-more (filter used) (λ k. filter used (k ∷ [])) l.processor c.args.processors.now l.parts.used.items _ _ (filter-one used) (let t = c.loop-processor-test.true in omega (arith, t, c.get-most.ensures.value))
           l.invariant.used c.in_ok-add.ensures.used;
       planned = c.in_ok-add.ensures.planned;
-      few = (let more = c.in_ok-add.ensures.few in let few = l.invariant.few in omega (arith, more, few));
     }

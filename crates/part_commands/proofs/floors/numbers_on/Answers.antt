@@ -1,11 +1,18 @@
-use Rattle.std.proofs.Common.{◌≡◌, ℕ, ◌+◌, ◌<◌, ◌∷◌, [], ◌++◌, ◌∙◌, List, cond, filter, length, map, sym, ap, arith, eq-eqb, ne_eqb}
+use Rattle.std.proofs.Common.{◌≡◌, ℕ, suc, ◌+◌, ◌<◌, false, ◌==◌, List, ◌++◌, length, get_or, sym, ap, ◌∙◌, arith, ◌∷◌, [], cond, filter, map, eq-eqb, ne_eqb}
+use Rattle.std.specs.Option.{option_map_or}
+use Rattle.std.proofs.lemmas.Option.{slice_get-get_or}
+use Rattle.part_fit.specs.PartWork.{is_on}
 use Rattle.std.proofs.lemmas.List.{map-append, append-nil}
 use Rattle.mc_task.specs.declared.task.TaskNo.{TaskNo}
-use Rattle.part_fit.specs.PartWork.{is_on}
-use Rattle.part_commands.proofs.Names.{on-place}
 use Rattle.part_commands.proofs.Processors.{made-more, filter-one}
 use Rattle.part_commands.proofs.floors.numbers_on.Goals as goal
 use Rattle.part_commands.proofs.floors.numbers_on.Goals.{then-of-i+in_ok-push, else-of-i}
+
+-- whether the task at an index is on the processor
+on-place : (n : ℕ) (of : List ℕ) (i : ℕ) → i < length of → is_on n of (i + 1) ≡ (get_or of i 0 == n)
+on-place n of i within =
+    let number : i + 1 ≡ suc i = omega arith in
+    ap (is_on n of) number ∙ ap (λ o. option_map_or (λ p. p == n) o false) (slice_get-get_or of i 0 within)
 
 pub loop-i-preserved : goal.loop-i-preserved
 loop-i-preserved c =

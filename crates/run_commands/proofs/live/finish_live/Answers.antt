@@ -1,32 +1,35 @@
-use Rattle.std.proofs.Common.{rules, ◌≡◌, ◌≤◌, ◌∙◌, reverse, ap, sym, arith}
-use Rattle.std.proofs.lemmas.List.{length-reverse, reverse-reverse}
+use Rattle.std.proofs.Common.{◌≡◌, ℕ, ◌≤◌, List, reverse, ap, sym, ◌∙◌, subst, arith, rules}
+use Rattle.std.proofs.lemmas.List.{reverse-reverse, length-reverse}
+use Rattle.mc_task.specs.declared.task.Task.{Task}
+use Rattle.mc_task.specs.declared.task.Rule.{Rule}
+use Rattle.mc_model.specs.declared.row.Row.{Row}
 use Rattle.mc_model.specs.Core.{State}
 use Rattle.mc_model.specs.Rows.{ticks}
+use Rattle.mc_model.specs.LiveTrace.{LiveTrace}
 use Rattle.mc_model.specs.TraceText.{trace_text}
 use Rattle.mc_model.proofs.Traces.{rows_of_trace}
 use Rattle.replies.specs.Reply.{reply_of}
 use Rattle.run_commands.proofs.LiveCapacity.{few_rows}
-use Rattle.run_commands.proofs.LiveRows.{live_of}
 use Rattle.run_commands.proofs.TraceBytes.{trace_text_le}
 use Rattle.run_commands.proofs.live.finish_live.Goals as goal
 
-pub trace_text-requires-clause-tasks : goal.trace_text-requires-clause-tasks
-trace_text-requires-clause-tasks g c =
-    let set : c.in_ok-floor.floor.core.set ≡ c.args.job.set.tasks = search rules in
-    let rule : c.in_ok-floor.floor.core.rule ≡ c.args.job.rule = search rules in
-    let rows = c.live_rows.result.now in
-    let live = live_of c.core-done.result.now c.in_ok-floor.floor.core c.args.job.set.tasks c.args.job.rule c.get-ticks.result (reverse rows) c.core-done.ensures.value set rule c.live_rows.ensures in
-    rw (c.set.ensures ∙ (ap (λ (s : State). s.set) c.core-done.ensures.value ∙ set))
-    (rows_of_trace c.args.job.set.tasks rows (record { rule = c.args.job.rule; fits = c.requires.fits; legal = live.legal }))
+-- a live trace of a core's set and rule is one of the set and the rule that an equal state has
+live_of : (s t : State) (set : List Task) (rule : Rule) (n : ℕ) (h : List Row) → s ≡ t → t.set ≡ set → t.rule ≡ rule → LiveTrace s.set s.rule n h → LiveTrace set rule n h
+live_of s t set rule n h same of_set of_rule live =
+    subst (λ r. LiveTrace set r n h) of_rule (subst (λ x. LiveTrace x t.rule n h) of_set (subst (λ (u : State). LiveTrace u.set u.rule n h) same live))
 
-pub trace_text-requires-clause-few : goal.trace_text-requires-clause-few
-trace_text-requires-clause-few g c =
+pub trace_text-requires : goal.trace_text-requires
+trace_text-requires g c =
     let set : c.in_ok-floor.floor.core.set ≡ c.args.job.set.tasks = search rules in
     let rule : c.in_ok-floor.floor.core.rule ≡ c.args.job.rule = search rules in
     let rows = c.live_rows.result.now in
     let live = live_of c.core-done.result.now c.in_ok-floor.floor.core c.args.job.set.tasks c.args.job.rule c.get-ticks.result (reverse rows) c.core-done.ensures.value set rule c.live_rows.ensures in
     let few = few_rows c.args.job.set.tasks c.args.job.rule (reverse rows) c.len-is_set.ensures.set c.requires.holds live.legal in
-    omega (arith, few, length-reverse rows, live.ticks, c.get-ticks.ensures.most)
+    record {
+      tasks = rw (c.set.ensures ∙ (ap (λ (s : State). s.set) c.core-done.ensures.value ∙ set))
+          (rows_of_trace c.args.job.set.tasks rows (record { rule = c.args.job.rule; fits = c.requires.fits; legal = live.legal }));
+      few = omega (arith, few, length-reverse rows, live.ticks, c.get-ticks.ensures.most);
+    }
 
 pub returns-clause-live_reply : goal.returns-clause-live_reply
 returns-clause-live_reply g c =

@@ -1,24 +1,16 @@
-use Rattle.std.proofs.Common.{◌≡◌, sym, ◌∙◌, subst}
-use Rattle.std.proofs.lemmas.Bool.{false≢true}
+use Rattle.std.proofs.Common.{◌≡◌}
+use Rattle.std.proofs.lemmas.Bool.Decides.{same_from_decides}
 use Rattle.std.proofs.lemmas.Result.{IfOk-weaker}
-use Rattle.mc_task.specs.declared.task.Scale.{Scale}
-use Rattle.mc_task.specs.declared.task.Rule.TheVariants.{Virtual}
-use Rattle.mc_model.specs.Holds.{Holds}
-use Rattle.task_commands.proofs.Scales.{line-unheld, line-held}
+use Rattle.mc_model.proofs.ScaledTests.{scale_holds-Decides}
 use Rattle.task_commands.proofs.check_lines.unheld_text.Goals as goal
-use Rattle.task_commands.proofs.check_lines.unheld_text.Goals.{in_default-via-in-Some+else-not-holds_for, in_default-via-in_default}
 
 pub returns-in-Some : goal.returns-in-Some
-returns-in-Some c = IfOk-weaker c.scale_text.result _ _ (λ line is tasks belong.
-    is ∙ line-unheld tasks c.args.scale c.in-Some.scale c.in-Some.is (λ holds. false≢true (sym c.if-not-holds_for.true ∙ (c.holds_for.ensures.exactly tasks belong).1 holds))) c.scale_text.ensures
+returns-in-Some c = λ tasks belong.
+    let same = same_from_decides _ _ (c.holds_for.ensures.exactly tasks belong) (scale_holds-Decides tasks c.in-Some.scale) in
+    rw (c.in-Some.is, ← same, c.if-holds_for.true) c.new.ensures.bytes
 
--- the scale holds, or there is none
-pub returns-in_default : goal.returns-in_default
-returns-in_default c = λ tasks belong.
-    c.new.ensures.bytes ∙ line-held tasks c.args.scale (λ x is.
-    elim c.in_default.branch [
-      | in_default-via-in-Some+else-not-holds_for w ↦
-          let given : w.in-Some.scale ≡ x = cc (w.in-Some.is, is) in
-          subst (λ (y : Scale). Holds tasks (Virtual y.p y.q)) given ((w.holds_for.ensures.exactly tasks belong).0 w.if-not-holds_for.false)
-      | in_default-via-in_default w ↦ absurd (cc (w.in_default.is, is))
-    ])
+pub returns-in-Some-2 : goal.returns-in-Some-2
+returns-in-Some-2 c = IfOk-weaker c.scale_text.result _ _ (λ line is tasks belong.
+    let same = same_from_decides _ _ (c.holds_for.ensures.exactly tasks belong) (scale_holds-Decides tasks c.in-Some.scale) in
+    let one : c.in-Some-2.scale ≡ c.in-Some.scale = cc (c.in-Some.is, c.in-Some-2.is) in
+    rw (c.in-Some.is, ← same, c.if-holds_for.false) (rw one at is)) c.scale_text.ensures

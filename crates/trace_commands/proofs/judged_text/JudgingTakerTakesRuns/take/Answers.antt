@@ -6,20 +6,14 @@ pub returns-then-len-lt-BATCH : goal.returns-then-len-lt-BATCH
 returns-then-len-lt-BATCH c tasks before has =
     one_stored c.args.self.now.keeps_runs c.args.self.now.rule tasks before c.args.run c.args.judging.now _ has c.requires.0 c.requires.1 c.requires.2 c.requires.3 refl c.in_ok-push.ensures.items
 
-pub follow_all-requires-clause-runs : goal.follow_all-requires-clause-runs
-follow_all-requires-clause-runs c =
+pub follow_all-requires : goal.follow_all-requires
+follow_all-requires c =
     let stored = one_stored c.args.self.now.keeps_runs c.args.self.now.rule c.requires.0 c.requires.1 c.args.run c.args.judging.now (record { monitor = c.args.judging.now.monitor; runs = c.push.new.self }) c.requires.2 c.requires.0 c.requires.1 c.requires.2 c.requires.3 refl c.in_ok-push.ensures.items in
-    rw c.deref.ensures.value stored.valid
-
-pub follow_all-requires-clause-tasks : goal.follow_all-requires-clause-tasks
-follow_all-requires-clause-tasks c =
-    let stored = one_stored c.args.self.now.keeps_runs c.args.self.now.rule c.requires.0 c.requires.1 c.args.run c.args.judging.now (record { monitor = c.args.judging.now.monitor; runs = c.push.new.self }) c.requires.2 c.requires.0 c.requires.1 c.requires.2 c.requires.3 refl c.in_ok-push.ensures.items in
-    rw (c.deref.ensures.value, stored.judged.same_tasks) stored.of_set
-
-pub follow_all-requires-clause-room : goal.follow_all-requires-clause-room
-follow_all-requires-clause-room c =
-    let stored = one_stored c.args.self.now.keeps_runs c.args.self.now.rule c.requires.0 c.requires.1 c.args.run c.args.judging.now (record { monitor = c.args.judging.now.monitor; runs = c.push.new.self }) c.requires.2 c.requires.0 c.requires.1 c.requires.2 c.requires.3 refl c.in_ok-push.ensures.items in
-    rw c.deref.ensures.value stored.room
+    record {
+      runs = rw c.deref.ensures.value stored.valid;
+      tasks = rw (c.deref.ensures.value, stored.judged.same_tasks) stored.of_set;
+      room = rw c.deref.ensures.value stored.room;
+    }
 
 pub returns-in-Ok : goal.returns-in-Ok
 returns-in-Ok c tasks before has =

@@ -1,2 +1,0 @@
-pub mod WordsRead
-pub mod NotAsked

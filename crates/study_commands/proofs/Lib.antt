@@ -1,2 +1,0 @@
-mod HighLoads
-mod Lines
