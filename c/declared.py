@@ -3,9 +3,9 @@
 
 No compiler sees both sides: where they differ, a call does what nobody proved. So this script reads the sources of
 crates/edfvd_c and crates/edfvd_ask_c, and edfvd.h, edfvd.c and edfvd_ask.c, and reports each difference, also of a limit that a
-sentence of edfvd.h states, which may come from a definition or a function of another crate. The statuses stand in edfvd.h: the proved sources, the words of edfvd_word and Python's Status must
-have them as they are there. With the word `offsets` it writes C text instead, which a compiler refuses unless each struct of
-edfvd.h is laid out as the library's.
+sentence of edfvd.h states, which may come from a definition or a function of another crate. The statuses stand in edfvd.h: the
+contracts (specs/Status.antt), the proved sources, the words of edfvd_word and Python's Status must have them as they are there. With
+the word `offsets` it writes C text instead, which a compiler refuses unless each struct of edfvd.h is laid out as the library's.
 
 usage: declared.py [offsets]
 """
@@ -221,6 +221,14 @@ def status_faults(header: str, guards: str, python: str) -> list[str]:
     return faults
 
 
+def contract_faults(of_code: dict[str, str]) -> list[str]:
+    """The statuses that the contracts of edfvd_c, or its code, lack or number otherwise."""
+    text = (CRATES[0].parent / "specs" / "Status.antt").read_text()
+    of_contracts = dict(re.findall(r"^(\w+) = (\d+)$", text, re.M))
+    return [f"status {name}: {of_contracts.get(name)} in the contracts, {of_code.get(name)} in the code"
+            for name in sorted(of_contracts.keys() | of_code.keys()) if of_contracts.get(name) != of_code.get(name)]
+
+
 def main() -> int:
     if sys.argv[1:] not in ([], ["offsets"]):
         print(__doc__.rsplit("\n\n", 1)[1], end="", file=sys.stderr)
@@ -251,6 +259,7 @@ def main() -> int:
     faults += [f"{kind} {name}: {number} in Rattle, {words.get(name)} in C"
                for kind, names in known.items() for name, number in names.items() if words.get(name) != number]
     faults += status_faults(header, guards, (HERE.parent / "python" / "edfvd" / "_errors.py").read_text())
+    faults += contract_faults(numbers((CRATES[0] / "status.rt").read_text())["status"])
     faults += limit_faults(rattle + guards, re.sub(r"\s+\*? *", " ", header))
     if not ours or len(fields) != len(STRUCTS) or not all(known.values()):
         faults.append("an export, a struct or a number was not found")

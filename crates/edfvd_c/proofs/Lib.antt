@@ -6,6 +6,6 @@ pub mod Numbered
 pub mod Levels
 pub mod Greatest
 pub mod Scaled
-pub mod Periods
+pub mod Causes
 pub mod Reasons
 pub mod RunBegins

@@ -1,5 +1,5 @@
 -- The rule of a scheduler that is opened under a scale, which must hold.
-use Rattle.std.specs.Prelude.{◌≡◌, ℕ, ◌^◌, ◌==◌, ◌&&◌, ◌||◌, Bool, not, nat_lt, MatchBool, List, Option, Some, None}
+use Rattle.std.specs.Prelude.{◌≡◌, ℕ, ◌^◌, ◌==◌, ◌&&◌, ◌||◌, Bool, not, nat_lt, MatchBool, List, Some, None}
 use Rattle.mc_task.specs.declared.task.Task.{Task}
 use Rattle.mc_task.specs.declared.task.Rule.{Rule}
 use Rattle.mc_task.specs.declared.task.Rule.TheVariants.{Virtual}
@@ -8,6 +8,7 @@ use Rattle.mc_model.specs.Holds.{Holds}
 use Rattle.restart.specs.Restarted.{Restarted, opened}
 use Rattle.mode_core.specs.Events.{empty_state}
 use Rattle.edfvd_c.specs.declared.given.CTask.{CTask}
+use Rattle.edfvd_c.specs.declared.held.Held.{Held}
 use Rattle.edfvd_c.specs.Refused.{AreInRange}
 
 -- p and q are neither 0 and 0, for the rule of the published test, nor a scale with 1 ≤ p ≤ q ≤ 2^60
@@ -19,12 +20,12 @@ abbrev pub IsCertified : ℕ → ℕ → List Task → Rule → Type 0
 IsCertified p q tasks rule =
     MatchBool (p == 0) (published tasks ≡ Some rule) ((rule ≡ Virtual p q) × Holds tasks (Virtual p q))
 
--- an opened scheduler: the tasks have the given numbers and are a set within range, its rule is the one for p and q, and it has
--- no rows
-abbrev pub IsScaledOpening : List CTask → ℕ → ℕ → ℕ → Option Restarted → Type 0
-IsScaledOpening given p q places scheduler =
+-- an opened scheduler, with or without an end: the tasks have the given numbers and are a set within range, the rule is the one
+-- for p and q, and it has no rows
+abbrev pub IsScaledOpening : (Restarted → Held) → List CTask → ℕ → ℕ → ℕ → Held → Type 0
+IsScaledOpening kind given p q places made =
     (tasks : List Task) × (rule : Rule) × AreInRange given tasks × IsCertified p q tasks rule
-    × (scheduler ≡ Some (opened (empty_state tasks rule places)))
+    × (made ≡ kind (opened (empty_state tasks rule places)))
 
 -- the given tasks are a set within range for which p and q give no rule: the published test gives none where p is 0, and
 -- otherwise the scale p/q does not hold

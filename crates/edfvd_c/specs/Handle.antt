@@ -1,4 +1,4 @@
--- What a handle owns: the scheduler or the monitor behind its pointer, if it holds one. And what an event does
+-- What a handle owns: the scheduler or the monitor that its pointer leads to, if it holds one. And what an event does
 -- to the scheduler that a handle holds.
 use Rattle.std.specs.Prelude.{◌≡◌, ◌≢◌, ℕ, Bool, true, false, List, Option, Some, None, IsSome, MatchOption}
 use Rattle.std.specs.Coded.{Coded, coded_option}
@@ -11,19 +11,13 @@ use Rattle.edfvd_c.specs.contracts.held.Held.{the_row}
 use Rattle.edfvd_c.specs.declared.held.Held.{Held}
 use Rattle.edfvd_c.specs.declared.held.Held.TheVariants as held
 use Rattle.mc_model.specs.Core.{State}
-use Rattle.restart.specs.Restarted.{Restarted, opened}
+use Rattle.restart.specs.Restarted.{Restarted}
 use Rattle.trace_judge.specs.Watched.{Watched}
 use Rattle.edfvd_c.specs.declared.event.CAnswer.{CAnswer}
-use Rattle.mc_task.specs.declared.task.Task.{Task}
-use Rattle.mc_task.specs.declared.task.Rule.{Rule}
-use Rattle.mc_model.specs.Test.{published}
-use Rattle.mode_core.specs.Events.{empty_state}
-use Rattle.edfvd_c.specs.declared.given.CTask.{CTask}
-use Rattle.edfvd_c.specs.Refused.{AreInRange}
 use Rattle.edfvd_c.specs.Event.{Returned, nothing}
 use Rattle.edfvd_c.specs.Latest.{latest_from}
 
--- what a handle owns: nothing, or the memory behind its pointer with what it holds
+-- what a handle owns: nothing, or the memory that its pointer leads to, with a scheduler or a monitor in it
 abbrev pub block_owns : Global → Ptr → Option Held → Fml
 block_owns alloc at None = ftrue
 block_owns alloc at (Some x) = box_owns (ghosts.dealloc_token alloc) the_row at x
@@ -60,7 +54,7 @@ abbrev pub monitor_of : Option Held → Option Watched
 monitor_of (Some (held.Monitor w)) = Some w
 monitor_of other = None
 
--- the number that an open handle bears
+-- the mark of an open handle: the letters edfvd_op in ASCII, the first of them in the highest byte of the number
 abbrev pub open_mark : ℕ
 open_mark = 7306077154177937264
 
@@ -80,10 +74,3 @@ Does old new status answer returns after =
 abbrev pub Reads : {S T : Type 0} → Option S → ℕ → T → T → (S → ℕ × T) → Type 0
 Reads held status found nothing returns =
     MatchOption held ((status ≡ 12) × (found ≡ nothing)) (λ s. (status ≡ (returns s).0) × (found ≡ (returns s).1))
-
--- an opened scheduler: the tasks have the given numbers and are a set within range, the rule is that of the published test, and
--- it has no rows
-abbrev pub IsOpening : List CTask → ℕ → Option Restarted → Type 0
-IsOpening given places scheduler =
-    (tasks : List Task) × (rule : Rule) × AreInRange given tasks × (published tasks ≡ Some rule)
-    × (scheduler ≡ Some (opened (empty_state tasks rule places)))

@@ -1,5 +1,5 @@
 -- What the judge says of given rows, in numbers.
-use Rattle.std.specs.Prelude.{◌≡◌, ℕ, ◌==◌, ◌&&◌, ◌<◌, ◌≤◌, ◌^◌, ◌⊎◌, MatchBool, All, List, length, map, reverse, Some, None, slice_get}
+use Rattle.std.specs.Prelude.{◌≡◌, ◌≢◌, ℕ, ◌==◌, ◌&&◌, ◌<◌, ◌≤◌, ◌^◌, ◌⊎◌, MatchBool, All, List, length, map, reverse, Some, None, slice_get}
 use Rattle.mc_task.specs.declared.task.Task.{Task}
 use Rattle.mc_task.specs.declared.task.Rule.{Rule}
 use Rattle.mc_task.specs.declared.task.Rule.TheVariants.{Virtual}
@@ -18,7 +18,8 @@ use Rattle.edfvd_c.specs.declared.look.CRow.{CRow}
 use Rattle.edfvd_c.specs.declared.judged.CVerdict.{CVerdict}
 use Rattle.edfvd_c.specs.Given.{AreOf}
 use Rattle.edfvd_c.specs.Look.{row_in, row_numbers, task_number, count_number}
-use Rattle.edfvd_c.specs.Refused.{AreNotAdmitted}
+use Rattle.edfvd_c.specs.Refused.{AreNotAdmitted, IsRefused}
+use Rattle.edfvd_c.specs.Status.{PERIODS, NOT_ADMITTED, NO_TASK, FULL, ARGUMENT}
 
 -- which rule a row breaks, from 1
 abbrev pub why_number : Why → ℕ
@@ -71,6 +72,14 @@ HaveRule given p q = (tasks : List Task) × (rule : Rule) × AreUnderRule given 
 abbrev pub HaveNoScale : List CTask → ℕ → ℕ → Type 0
 HaveNoScale given p q = (tasks : List Task) × AreOf given tasks × AreTasks tasks × ¬ NameRule p q
 
+-- why the given tasks have no rule. They may be refused, for their periods only under the published test. Or that test does not admit
+-- them, or p and q name no rule; then no task is stored
+pub record HaveNoRule (given : List CTask) (p q status task : ℕ) : Type 0 where
+  pub refused : status ≢ NOT_ADMITTED → status ≢ ARGUMENT → IsRefused given status task
+  pub range : status ≡ PERIODS → (p ≡ 0) × (q ≡ 0)
+  pub not_admitted : status ≡ NOT_ADMITTED → (p ≡ 0) × (q ≡ 0) × AreNotAdmitted given × (task ≡ 0)
+  pub no_scale : status ≡ ARGUMENT → HaveNoScale given p q × (task ≡ 0)
+
 -- some of the numbers stand for no row
 abbrev pub HaveNoRow : List CRow → Type 0
 HaveNoRow given = (k : ℕ) × (r : CRow) × (slice_get given k ≡ Some r) × (row_in r ≡ None)
@@ -90,16 +99,16 @@ pub record IsJudged (tasks_given : List CTask) (rows_given : List CRow) (p q : �
   pub of_set : All (IsOfSet tasks) rows
   pub result : found ≡ judged (verdict tasks rule (reverse rows))
 
--- why tasks that are a set, or rows, are not judged, by the status: 7 and 8 of the published test; 43 for p and q that name no
--- rule, or then for numbers of no row; 22 for more than 2,000,000 rows; 10 for a row of a task that the set does not have
-pub record IsUnjudged (tasks_given : List CTask) (rows_given : List CRow) (p q status : ℕ) : Type 0 where
-  pub range : status ≡ 7 → (p ≡ 0) × (q ≡ 0)
-  pub not_admitted : status ≡ 8 → (p ≡ 0) × (q ≡ 0) × AreNotAdmitted tasks_given
-  pub argument : status ≡ 43 → HaveNoScale tasks_given p q
+-- why rows are not judged: the tasks have no rule; or they have one, and then there are more than 2,000,000 rows, or numbers
+-- of no row, or a row of a task that the set does not have
+pub record IsUnjudged (tasks_given : List CTask) (rows_given : List CRow) (p q status task : ℕ) : Type 0 where
+  pub no_rule : status ≢ ARGUMENT → status ≢ FULL → status ≢ NO_TASK → HaveNoRule tasks_given p q status task
+  pub argument : status ≡ ARGUMENT → HaveNoScale tasks_given p q
       ⊎ (HaveRule tasks_given p q × (length rows_given ≤ 2000000) × HaveNoRow rows_given)
-  pub full : status ≡ 22 → HaveRule tasks_given p q × (2000000 < length rows_given)
-  pub no_task : status ≡ 10 → (length rows_given ≤ 2000000)
+  pub full : status ≡ FULL → HaveRule tasks_given p q × (2000000 < length rows_given)
+  pub no_task : status ≡ NO_TASK → (length rows_given ≤ 2000000)
       × ((tasks : List Task) × (rule : Rule) × AreUnderRule tasks_given p q tasks rule × HaveNoTask tasks rows_given)
+  pub of_none : (status ≡ ARGUMENT) ⊎ (status ≡ FULL) ⊎ (status ≡ NO_TASK) → task ≡ 0
 
 -- a verdict with the task of a refusal, and no other number
 abbrev pub refused_at : ℕ → CVerdict

@@ -1,3 +1,4 @@
+pub mod Status
 pub mod Given
 pub mod Named
 pub mod Tested
@@ -9,6 +10,7 @@ pub mod Look
 pub mod Latest
 pub mod Slots
 pub mod Handle
+pub mod Opening
 pub mod Lending
 pub mod Judged
 pub mod Monitor

@@ -16,6 +16,8 @@ use Rattle.trace_judge.specs.declared.turned.Turned.{Turned}
 use Rattle.trace_judge.specs.Turned.{AreTurned, IsInOrder, AddLate}
 use Rattle.trace_judge.specs.Watched.{Watched, Watches, NeedsMemory, unfit_in, fitted, seen, fits_so_far}
 use Rattle.edfvd_c.specs.declared.given.CTask.{CTask}
+use Rattle.edfvd_c.specs.declared.held.Held.{Held}
+use Rattle.edfvd_c.specs.declared.held.Held.TheVariants as held
 use Rattle.edfvd_c.specs.declared.judged.CVerdict.{CVerdict}
 use Rattle.edfvd_c.specs.declared.look.CRow.{CRow}
 use Rattle.edfvd_c.specs.declared.monitor.CUnfit.{CUnfit}
@@ -25,9 +27,9 @@ use Rattle.edfvd_c.specs.Look.{row_in}
 use Rattle.edfvd_c.specs.Judged.{judged, why_number, AreUnderRule}
 
 -- an opened monitor: its tasks have the given numbers, the rule is as for the judge, and it has seen no row
-abbrev pub IsMonitorOpening : List CTask → ℕ → ℕ → Option Watched → Type 0
-IsMonitorOpening given p q m = MatchOption m ⊥
-    (λ w. AreUnderRule given p q w.set.tasks w.rule × Watches [] w)
+abbrev pub IsMonitorOpening : List CTask → ℕ → ℕ → Held → Type 0
+IsMonitorOpening given p q made =
+    (w : Watched) × (made ≡ held.Monitor w) × AreUnderRule given p q w.set.tasks w.rule × Watches [] w
 
 -- n rows equal to this one as a run, if they are one; a release is a run alone
 abbrev pub run_of : ℕ → Row → Option Run

@@ -1,5 +1,5 @@
 -- Why given tasks are refused before they are tested, with the status and the task of each cause.
-use Rattle.std.specs.Prelude.{◌≡◌, ℕ, None, ◌-◌, ◌<◌, ◌≤◌, List, map, length, Some, slice_get}
+use Rattle.std.specs.Prelude.{◌≡◌, ◌≢◌, ◌⊎◌, ℕ, None, ◌-◌, ◌<◌, ◌≤◌, List, map, length, Some, slice_get}
 use Rattle.mc_task.specs.declared.task.Task.{Task}
 use Rattle.mc_task.specs.declared.set.SetFault.{SetFault}
 use Rattle.mc_task.specs.declared.set.SetFault.TheVariants.{Empty, TooMany, ZeroNumber, BudgetOrder, SameName}
@@ -10,6 +10,7 @@ use Rattle.mc_model.specs.Test.{published}
 use Rattle.edfvd_c.specs.declared.given.CTask.{CTask}
 use Rattle.edfvd_c.specs.Given.{AreOf}
 use Rattle.edfvd_c.specs.Named.{names_of}
+use Rattle.edfvd_c.specs.Status.{EMPTY, TOO_MANY, ZERO_NUMBER, BUDGET_ORDER, SAME_NAME, LEVEL, PERIODS, MEMORY}
 
 -- the causes: a task of neither level; a fault of the set; a task whose period takes the hyperperiod past 2^60
 pub data Cause : Type 0 where
@@ -19,11 +20,11 @@ pub data Cause : Type 0 where
 
 -- the status of a fault of a set
 abbrev pub fault_status : SetFault → ℕ
-fault_status Empty = 1
-fault_status (TooMany count) = 2
-fault_status (ZeroNumber task) = 3
-fault_status (BudgetOrder task) = 4
-fault_status (SameName first second) = 5
+fault_status Empty = EMPTY
+fault_status (TooMany count) = TOO_MANY
+fault_status (ZeroNumber task) = ZERO_NUMBER
+fault_status (BudgetOrder task) = BUDGET_ORDER
+fault_status (SameName first second) = SAME_NAME
 
 -- the task of a fault of a set, or 0
 abbrev pub fault_task : SetFault → ℕ
@@ -35,9 +36,9 @@ fault_task (SameName first second) = second.0
 
 -- the status of a cause
 abbrev pub status_of : Cause → ℕ
-status_of (Level task) = 6
+status_of (Level task) = LEVEL
 status_of (NoSet fault) = fault_status fault
-status_of (Periods task) = 7
+status_of (Periods task) = PERIODS
 
 -- the task of a cause, or 0
 abbrev pub task_of : Cause → ℕ
@@ -61,12 +62,22 @@ HasCause given (Level task) = IsFirstOfNoLevel given task
 HasCause given (NoSet fault) = (tasks : List Task) × AreNamed given tasks × (first_fault tasks ≡ Some fault)
 HasCause given (Periods task) = (tasks : List Task) × AreOf given tasks × AreTasks tasks × (range_fault tasks ≡ Some task)
 
--- the given tasks are refused with this status, which is about this task
-pub record IsRefused (given : List CTask) (status task : ℕ) : Type 0 where
+-- the given tasks have a cause with this status, which is about this task
+pub record HasStatus (given : List CTask) (status task : ℕ) : Type 0 where
   pub cause : Cause
   pub has : HasCause given cause
   pub status_is : status ≡ status_of cause
   pub task_is : task ≡ task_of cause
+
+-- the given tasks are refused with this status, and this task is stored: the one that the status is about, or 0
+pub record IsRefused (given : List CTask) (status task : ℕ) : Type 0 where
+  -- more than 128 tasks are too many, whatever they are
+  pub many : 128 < length given → (status ≡ TOO_MANY) × (task ≡ 0)
+  -- of at most 128 the cause is found, unless memory runs out
+  pub cause : length given ≤ 128 → status ≢ MEMORY → HasStatus given status task
+  pub memory : status ≡ MEMORY → task ≡ 0
+  -- only these statuses are returned: those of a cause, from EMPTY to PERIODS, and MEMORY
+  pub only : ((EMPTY ≤ status) × (status ≤ PERIODS)) ⊎ (status ≡ MEMORY)
 
 -- the tasks have these numbers, are a set and are within range
 pub record AreInRange (given : List CTask) (tasks : List Task) : Type 0 where

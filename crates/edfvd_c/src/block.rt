@@ -1,4 +1,4 @@
-//! What stands behind a pointer that C keeps.
+//! The part of a handle that owns memory: the raw pointer to a box with a scheduler or a monitor in it, or null.
 ghost use Rattle.std.specs.Prelude.{◌≡◌, Option, Some, None, IsSome};
 ghost use Rattle.edfvd_c.specs.declared.held.Held.{Held};
 ghost use Rattle.std.specs.Borrow.{sem};
@@ -10,7 +10,8 @@ use std::alloc::Global;
 use std::marker::Model;
 use std::ptr::null_mut;
 
-/// Nothing, or memory of the allocator with a scheduler or a monitor in it.
+/// Nothing, or memory of the allocator with a scheduler or a monitor in it. Dropping a block frees nothing: the memory is freed
+/// with the box that `into_parts` leads back to.
 #[repr(C)]
 #[derive(Drop)]
 pub struct Block {
@@ -26,6 +27,7 @@ impl Model for Block {
 impl Block {
     ghost use Rattle.edfvd_c.specs.Lending.{BlockLends};
 
+    /// The block of a closed handle, with nothing in it.
     pub fn closed(alloc: Global) -> Block
         ensures { result.held ≡ None }
     {
@@ -35,6 +37,7 @@ impl Block {
         }
     }
 
+    /// The block that owns the memory of the box that had these parts.
     pub fn of_parts(parts: Parts<Held, Global>) -> Block
         ensures { result.held ≡ Some parts.value }
     {
@@ -45,7 +48,7 @@ impl Block {
         }
     }
 
-    /// Lends what is in it.
+    /// Lends the scheduler or the monitor in the block to the caller, who may change it there.
     pub fn held_mut(&mut self) -> &mut Held
         requires { IsSome self.old.held }
         ensures* writes_back { sem 𝓛 (BlockLends self.entry result) }
@@ -54,6 +57,7 @@ impl Block {
         unsafe { &mut *(self.at as *mut Held) }
     }
 
+    /// The parts of the box whose memory the block owns.
     pub fn into_parts(self) -> Parts<Held, Global>
         requires { IsSome self.held }
         ensures { self.held ≡ Some result.value }

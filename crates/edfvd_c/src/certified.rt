@@ -1,9 +1,10 @@
 //! Schedulers that are opened under a scale of the caller's own, which must hold for the tasks.
-ghost use Rattle.std.specs.Prelude.{◌≡◌, ◌≢◌, ◌↔◌, ◌⊎◌, ◌<◌, ◌≤◌, ◌^◌, true, false, Some, None, IsSome, IfOk, IfErr, length};
+ghost use Rattle.std.specs.Prelude.{◌≡◌, ◌≢◌, ◌↔◌, ◌⊎◌, ◌^◌, true, false, IfOk, IfErr};
 ghost use Rattle.mc_model.specs.Holds.{Fits, Holds};
-ghost use Rattle.edfvd_c.specs.Handle.{scheduler_of, is_endless};
 ghost use Rattle.edfvd_c.specs.Certified.{is_no_scale, IsCertified, AreUncertified, IsScaledOpening};
-ghost use Rattle.edfvd_c.specs.Refused.{AreInRange, IsRefused};
+ghost use Rattle.edfvd_c.specs.Opening.{Opens, IsUnopened};
+ghost use Rattle.edfvd_c.specs.Refused.{AreInRange};
+ghost use Rattle.edfvd_c.specs.Status.{OK, OPEN, ARGUMENT};
 
 use crate::given::{CTask, NoSet};
 use crate::handle::Handle;
@@ -32,17 +33,10 @@ pub extern "C" fn edfvd_raw_scheduler_open_scaled(
     places: u32,
     task: &mut u32,
 ) -> u32
-    // The handle holds a scheduler or a monitor already.
-    ensures open { (result ≡ 13) ↔ IsSome scheduler.old.block.held }
-    ensures argument { scheduler.old.block.held ≡ None → (result ≡ 43) ↔ (is_no_scale p q ≡ true) }
-    ensures made { result ≡ 0 → IsScaledOpening given.now p q places (scheduler_of scheduler.new.block.held) }
-    ensures kind { result ≡ 0 → is_endless scheduler.new.block.held ≡ false }
-    ensures many { scheduler.old.block.held ≡ None → is_no_scale p q ≡ false → 128 < length given.now → (result ≡ 2) × (task.new ≡ 0) }
-    ensures refused { length given.now ≤ 128 → result ≢ 0 → result ≢ 8 → result ≢ 9 → result ≢ 13 → result ≢ 43 → IsRefused given.now result task.new }
-    ensures not_admitted { result ≡ 8 → AreUncertified given.now p q }
-    ensures task { (result ≡ 0) ⊎ (8 ≤ result) → task.new ≡ 0 }
-    ensures only { (result ≤ 9) ⊎ (result ≡ 13) ⊎ (result ≡ 43) }
-    ensures same { result ≢ 0 → scheduler.new.block.held ≡ scheduler.old.block.held }
+    ensures opens { Opens scheduler.old.block.held scheduler.new.block.held result (IsScaledOpening Held.Core given.now p q places) }
+    ensures argument { result ≢ OPEN → (result ≡ ARGUMENT) ↔ (is_no_scale p q ≡ true) }
+    ensures unopened { result ≢ OK → result ≢ OPEN → result ≢ ARGUMENT → IsUnopened given.now (AreUncertified given.now p q) result task.new }
+    ensures task { (result ≡ OK) ⊎ (result ≡ OPEN) ⊎ (result ≡ ARGUMENT) → task.new ≡ 0 }
 {
     *task = 0;
     if scheduler.is_open() {
@@ -61,17 +55,12 @@ pub extern "C" fn edfvd_raw_scheduler_open_scaled(
 }
 
 fn opened(alloc: Global, given: &[CTask], p: u64, q: u64, places: u32) -> Result<Box<Held>, NoSet>
-    ensures made { IfOk result (λ held. IsScaledOpening given.now p q places (scheduler_of (Some held.value))) }
-    ensures some { IfOk result (λ held. IsSome (scheduler_of (Some held.value))) }
-    ensures kind { IfOk result (λ held. is_endless (Some held.value) ≡ false) }
-    ensures scale { IfOk result (λ held. is_no_scale p q ≡ false) }
-    ensures few { IfOk result (λ held. length given.now ≤ 128) }
-    ensures argument { IfErr result (λ no. (no.status ≡ 43) ↔ (is_no_scale p q ≡ true)) }
-    ensures many { IfErr result (λ no. is_no_scale p q ≡ false → 128 < length given.now → (no.status ≡ 2) × (no.task ≡ 0)) }
-    ensures refused { IfErr result (λ no. length given.now ≤ 128 → no.status ≢ 8 → no.status ≢ 9 → no.status ≢ 43 → IsRefused given.now no.status no.task) }
-    ensures not_admitted { IfErr result (λ no. no.status ≡ 8 → AreUncertified given.now p q) }
-    ensures task { IfErr result (λ no. 8 ≤ no.status → no.task ≡ 0) }
-    ensures status { IfErr result (λ no. ((1 ≤ no.status) × (no.status ≤ 9)) ⊎ (no.status ≡ 43)) }
+    ensures made { IfOk result (λ made. IsScaledOpening Held.Core given.now p q places made.value) }
+    ensures scale { IfOk result (λ made. is_no_scale p q ≡ false) }
+    ensures argument { IfErr result (λ no. (no.status ≡ ARGUMENT) ↔ (is_no_scale p q ≡ true)) }
+    ensures unopened { IfErr result (λ no. no.status ≢ ARGUMENT → IsUnopened given.now (AreUncertified given.now p q) no.status no.task) }
+    ensures task { IfErr result (λ no. no.status ≡ ARGUMENT → no.task ≡ 0) }
+    ensures status { IfErr result (λ no. (no.status ≢ OK) × (no.status ≢ OPEN)) }
 {
     let (set, rule) = certified(alloc, given, p, q)?;
     with_places(alloc, set, rule, places)
@@ -88,17 +77,10 @@ pub extern "C" fn edfvd_raw_scheduler_open_endless_scaled(
     q: u64,
     task: &mut u32,
 ) -> u32
-    // The handle holds a scheduler or a monitor already.
-    ensures open { (result ≡ 13) ↔ IsSome scheduler.old.block.held }
-    ensures argument { scheduler.old.block.held ≡ None → (result ≡ 43) ↔ (is_no_scale p q ≡ true) }
-    ensures made { result ≡ 0 → IsScaledOpening given.now p q (2 ^ 62) (scheduler_of scheduler.new.block.held) }
-    ensures kind { result ≡ 0 → is_endless scheduler.new.block.held ≡ true }
-    ensures many { scheduler.old.block.held ≡ None → is_no_scale p q ≡ false → 128 < length given.now → (result ≡ 2) × (task.new ≡ 0) }
-    ensures refused { length given.now ≤ 128 → result ≢ 0 → result ≢ 8 → result ≢ 9 → result ≢ 13 → result ≢ 43 → IsRefused given.now result task.new }
-    ensures not_admitted { result ≡ 8 → AreUncertified given.now p q }
-    ensures task { (result ≡ 0) ⊎ (8 ≤ result) → task.new ≡ 0 }
-    ensures only { (result ≤ 9) ⊎ (result ≡ 13) ⊎ (result ≡ 43) }
-    ensures same { result ≢ 0 → scheduler.new.block.held ≡ scheduler.old.block.held }
+    ensures opens { Opens scheduler.old.block.held scheduler.new.block.held result (IsScaledOpening Held.Endless given.now p q (2 ^ 62)) }
+    ensures argument { result ≢ OPEN → (result ≡ ARGUMENT) ↔ (is_no_scale p q ≡ true) }
+    ensures unopened { result ≢ OK → result ≢ OPEN → result ≢ ARGUMENT → IsUnopened given.now (AreUncertified given.now p q) result task.new }
+    ensures task { (result ≡ OK) ⊎ (result ≡ OPEN) ⊎ (result ≡ ARGUMENT) → task.new ≡ 0 }
 {
     *task = 0;
     if scheduler.is_open() {
@@ -117,17 +99,12 @@ pub extern "C" fn edfvd_raw_scheduler_open_endless_scaled(
 }
 
 fn opened_endless(alloc: Global, given: &[CTask], p: u64, q: u64) -> Result<Box<Held>, NoSet>
-    ensures made { IfOk result (λ held. IsScaledOpening given.now p q (2 ^ 62) (scheduler_of (Some held.value))) }
-    ensures some { IfOk result (λ held. IsSome (scheduler_of (Some held.value))) }
-    ensures kind { IfOk result (λ held. is_endless (Some held.value) ≡ true) }
-    ensures scale { IfOk result (λ held. is_no_scale p q ≡ false) }
-    ensures few { IfOk result (λ held. length given.now ≤ 128) }
-    ensures argument { IfErr result (λ no. (no.status ≡ 43) ↔ (is_no_scale p q ≡ true)) }
-    ensures many { IfErr result (λ no. is_no_scale p q ≡ false → 128 < length given.now → (no.status ≡ 2) × (no.task ≡ 0)) }
-    ensures refused { IfErr result (λ no. length given.now ≤ 128 → no.status ≢ 8 → no.status ≢ 9 → no.status ≢ 43 → IsRefused given.now no.status no.task) }
-    ensures not_admitted { IfErr result (λ no. no.status ≡ 8 → AreUncertified given.now p q) }
-    ensures task { IfErr result (λ no. 8 ≤ no.status → no.task ≡ 0) }
-    ensures status { IfErr result (λ no. ((1 ≤ no.status) × (no.status ≤ 9)) ⊎ (no.status ≡ 43)) }
+    ensures made { IfOk result (λ made. IsScaledOpening Held.Endless given.now p q (2 ^ 62) made.value) }
+    ensures scale { IfOk result (λ made. is_no_scale p q ≡ false) }
+    ensures argument { IfErr result (λ no. (no.status ≡ ARGUMENT) ↔ (is_no_scale p q ≡ true)) }
+    ensures unopened { IfErr result (λ no. no.status ≢ ARGUMENT → IsUnopened given.now (AreUncertified given.now p q) no.status no.task) }
+    ensures task { IfErr result (λ no. no.status ≡ ARGUMENT → no.task ≡ 0) }
+    ensures status { IfErr result (λ no. (no.status ≢ OK) × (no.status ≢ OPEN)) }
 {
     let (set, rule) = certified(alloc, given, p, q)?;
     without_end(alloc, set, rule)
@@ -141,13 +118,10 @@ fn certified(alloc: Global, given: &[CTask], p: u64, q: u64) -> Result<(TaskSet,
     ensures fits { IfOk result (λ found. Fits found.1) }
     ensures holds { IfOk result (λ found. Holds found.0.tasks found.1) }
     ensures scale { IfOk result (λ found. is_no_scale p q ≡ false) }
-    ensures few { IfOk result (λ found. length given.now ≤ 128) }
-    ensures argument { IfErr result (λ no. (no.status ≡ 43) ↔ (is_no_scale p q ≡ true)) }
-    ensures many { IfErr result (λ no. is_no_scale p q ≡ false → 128 < length given.now → (no.status ≡ 2) × (no.task ≡ 0)) }
-    ensures refused { IfErr result (λ no. length given.now ≤ 128 → no.status ≢ 8 → no.status ≢ 9 → no.status ≢ 43 → IsRefused given.now no.status no.task) }
-    ensures not_admitted { IfErr result (λ no. no.status ≡ 8 → AreUncertified given.now p q) }
-    ensures task { IfErr result (λ no. 8 ≤ no.status → no.task ≡ 0) }
-    ensures status { IfErr result (λ no. ((1 ≤ no.status) × (no.status ≤ 9)) ⊎ (no.status ≡ 43)) }
+    ensures argument { IfErr result (λ no. (no.status ≡ ARGUMENT) ↔ (is_no_scale p q ≡ true)) }
+    ensures unopened { IfErr result (λ no. no.status ≢ ARGUMENT → IsUnopened given.now (AreUncertified given.now p q) no.status no.task) }
+    ensures task { IfErr result (λ no. no.status ≡ ARGUMENT → no.task ≡ 0) }
+    ensures status { IfErr result (λ no. (no.status ≢ OK) × (no.status ≢ OPEN)) }
 {
     if q < p || q > 1 << 60 || (p == 0 && q != 0) {
         return Err(NoSet {

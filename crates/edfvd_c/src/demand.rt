@@ -2,6 +2,7 @@
 ghost use Rattle.std.specs.Prelude.{◌≡◌, ◌≢◌, ◌<◌, ◌≤◌, IfOk, IfErr, length};
 ghost use Rattle.edfvd_c.specs.DemandTested as spec;
 ghost use Rattle.edfvd_c.specs.Named as named;
+ghost use Rattle.edfvd_c.specs.Status.{OK, MEMORY};
 
 use crate::given::{NoSet, name_of};
 use crate::status;
@@ -37,11 +38,9 @@ pub extern "C" fn edfvd_raw_demand(
     given: &[CDemandTask],
     tested: &mut CDemandTest,
 ) -> u32
-    ensures tested { result ≡ 0 → spec.IsDemandTested given.now tested.new }
-    ensures many { 128 < length given.now → (result ≡ 2) × (tested.new ≡ spec.refused_at 0) }
-    ensures refused { length given.now ≤ 128 → result ≢ 0 → result ≢ 9 → spec.IsRefused given.now result tested.new.task }
-    ensures zeros { result ≢ 0 → tested.new ≡ spec.refused_at tested.new.task }
-    ensures memory { result ≡ 9 → tested.new.task ≡ 0 }
+    ensures tested { result ≡ OK → spec.IsDemandTested given.now tested.new }
+    ensures refused { result ≢ OK → spec.IsRefused given.now result tested.new.task }
+    ensures zeros { result ≢ OK → tested.new ≡ spec.refused_at tested.new.task }
 {
     match test_demand(alloc, given) {
         Ok(found) => {
@@ -62,11 +61,8 @@ pub extern "C" fn edfvd_raw_demand(
 
 fn test_demand(alloc: Global, given: &[CDemandTask]) -> Result<CDemandTest, NoSet>
     ensures tested { IfOk result (spec.IsDemandTested given.now) }
-    ensures few { IfOk result (λ tested. length given.now ≤ 128) }
-    ensures many { IfErr result (λ no. 128 < length given.now → (no.status ≡ 2) × (no.task ≡ 0)) }
-    ensures refused { IfErr result (λ no. length given.now ≤ 128 → no.status ≢ 9 → spec.IsRefused given.now no.status no.task) }
-    ensures status { IfErr result (λ no. no.status ≢ 0) }
-    ensures memory { IfErr result (λ no. no.status ≡ 9 → no.task ≡ 0) }
+    ensures refused { IfErr result (λ no. spec.IsRefused given.now no.status no.task) }
+    ensures status { IfErr result (λ no. no.status ≢ OK) }
 {
     if given.len() > 128 {
         return Err(NoSet {
@@ -103,9 +99,8 @@ fn in_numbers(fit: Fit) -> CDemandTest
 fn demand_set_of(alloc: Global, given: &[CDemandTask]) -> Result<DemandSet, NoSet>
     requires { length given.now ≤ 128 }
     ensures tasks { IfOk result (λ set. spec.AreOf given.now set) }
-    ensures refused { IfErr result (λ no. no.status ≢ 9 → spec.IsRefused given.now no.status no.task) }
-    ensures status { IfErr result (λ no. no.status ≢ 0) }
-    ensures memory { IfErr result (λ no. no.status ≡ 9 → no.task ≡ 0) }
+    ensures refused { IfErr result (λ no. spec.IsRefused given.now no.status no.task) }
+    ensures status { IfErr result (λ no. no.status ≢ OK) }
 {
     let mut tasks = Vec::new(alloc);
     for place in 0..given.len() {
@@ -143,8 +138,8 @@ fn demand_of(given: CDemandTask, number: u32) -> Demand
 
 fn status_of(cause: DemandCause) -> u32
     ensures value { result ≡ spec.status_of cause }
-    ensures fault { result ≢ 0 }
-    ensures enough { result ≢ 9 }
+    ensures fault { result ≢ OK }
+    ensures enough { result ≢ MEMORY }
 {
     match cause {
         DemandCause::Empty => status::EMPTY,

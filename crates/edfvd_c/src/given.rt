@@ -4,6 +4,7 @@ ghost use Rattle.mc_task.specs.TaskSet.{AreTasks};
 ghost use Rattle.edfvd_c.specs.Given.{AreOf, numbers_of};
 ghost use Rattle.edfvd_c.specs.Named as named;
 ghost use Rattle.edfvd_c.specs.Refused.{IsRefused, fault_status, fault_task};
+ghost use Rattle.edfvd_c.specs.Status.{PERIODS};
 
 use crate::status;
 use mc_task::{Level, Name, SetFault, Task, TaskSet};
@@ -34,13 +35,12 @@ pub const OUT_OF_MEMORY: NoSet = NoSet {
 
 /// The set of the tasks, which are named by their numbers.
 pub fn set_of(alloc: Global, given: &[CTask]) -> Result<TaskSet, NoSet>
-    ensures status { IfErr result (λ no. (1 ≤ no.status) × (no.status ≤ 9) × (no.status ≢ 7) × (no.status ≢ 8)) }
     ensures tasks { IfOk result (λ set. AreOf given.now set.tasks) }
     ensures set { IfOk result (λ set. AreTasks set.tasks) }
     ensures few { IfOk result (λ set. length given.now ≤ 128) }
-    ensures many { IfErr result (λ no. 128 < length given.now → (no.status ≡ 2) × (no.task ≡ 0)) }
-    ensures refused { IfErr result (λ no. length given.now ≤ 128 → no.status ≢ 9 → IsRefused given.now no.status no.task) }
-    ensures memory { IfErr result (λ no. 8 ≤ no.status → no.task ≡ 0) }
+    ensures refused { IfErr result (λ no. IsRefused given.now no.status no.task) }
+    // The hyperperiod is not looked at.
+    ensures range { IfErr result (λ no. no.status ≢ PERIODS) }
 {
     if given.len() > 128 {
         return Err(NoSet {

@@ -1,8 +1,9 @@
 //! How far the high budgets of sets can grow.
-ghost use Rattle.std.specs.Prelude.{◌≡◌, ◌≢◌, ◌↔◌, ◌⊎◌, ◌<◌, ◌≤◌, Some, None, length};
+ghost use Rattle.std.specs.Prelude.{◌≡◌, ◌≢◌, ◌↔◌, ◌⊎◌, Some, None};
 ghost use Rattle.edfvd_c.specs.Growth as spec;
 ghost use Rattle.edfvd_c.specs.Refused.{IsRefused};
 ghost use Rattle.study.specs.Acceptance.{accept_table};
+ghost use Rattle.edfvd_c.specs.Status.{OK, NO_PERCENTAGE, ARGUMENT};
 
 use crate::given::CTask;
 use crate::loaded::set_and_loads;
@@ -19,12 +20,11 @@ pub extern "C" fn edfvd_raw_stretch(
     percent: &mut u32,
     task: &mut u32,
 ) -> u32
-    ensures some { result ≡ 0 → spec.IsStretched given.now (Some percent.new) }
-    ensures none { result ≡ 28 → spec.IsStretched given.now None }
-    ensures many { 128 < length given.now → (result ≡ 2) × (task.new ≡ 0) }
-    ensures refused { length given.now ≤ 128 → result ≢ 0 → result ≢ 9 → result ≢ 28 → IsRefused given.now result task.new }
-    ensures zero { result ≢ 0 → percent.new ≡ 0 }
-    ensures task { (result ≡ 0) ⊎ (result ≡ 9) ⊎ (result ≡ 28) → task.new ≡ 0 }
+    ensures some { result ≡ OK → spec.IsStretched given.now (Some percent.new) }
+    ensures none { result ≡ NO_PERCENTAGE → spec.IsStretched given.now None }
+    ensures refused { result ≢ OK → result ≢ NO_PERCENTAGE → IsRefused given.now result task.new }
+    ensures zero { result ≢ OK → percent.new ≡ 0 }
+    ensures task { (result ≡ OK) ⊎ (result ≡ NO_PERCENTAGE) → task.new ≡ 0 }
 {
     *percent = 0;
     *task = 0;
@@ -52,9 +52,9 @@ pub extern "C" fn edfvd_raw_accept(
     tasks: u32,
     counts: &mut [u32; 11],
 ) -> u32
-    ensures counts { result ≡ 0 → counts.new ≡ accept_table number sets tasks }
-    ensures accepted { (result ≡ 0) ↔ spec.AreAccepted number sets tasks }
-    ensures argument { result ≢ 0 → (result ≡ 43) × (counts.new ≡ counts.old) }
+    ensures counts { result ≡ OK → counts.new ≡ accept_table number sets tasks }
+    ensures accepted { (result ≡ OK) ↔ spec.AreAccepted number sets tasks }
+    ensures argument { result ≢ OK → (result ≡ ARGUMENT) × (counts.new ≡ counts.old) }
 {
     if !(1..=10_000).contains(&sets)
         || !(2..=32).contains(&tasks)

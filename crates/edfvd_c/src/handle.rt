@@ -1,4 +1,4 @@
-//! What a caller in C keeps of a scheduler or a monitor.
+//! The struct by which a caller in C holds a scheduler or a monitor: a mark, and a block with the pointer to it.
 ghost use Rattle.std.specs.Borrow.{sem};
 ghost use Rattle.std.specs.Prelude.{◌≡◌, Some, None, IfSome, IfNone, is_some};
 ghost use Rattle.edfvd_c.specs.Handle.{IsMarked};
@@ -9,9 +9,12 @@ use crate::parts::Parts;
 use std::alloc::Global;
 use std::mem::replace;
 
+// The mark of an open handle: the letters `edfvd_op` in ASCII, the first of them in the highest byte. A handle with any other
+// mark, for example 0, is closed.
 const OPEN_MARK: u64 = 0x6564_6676_645f_6f70;
 
-/// A scheduler, a monitor, or none: all of it 0 is none. C never writes in it. Clauses read what it holds as `block.held`.
+/// An open handle holds a scheduler or a monitor, a closed one nothing. A caller in C makes it of zeros, so that it is closed,
+/// and does not write in it after that. Clauses read what it holds as `block.held`.
 #[repr(C)]
 #[derive(Drop)]
 pub struct Handle {
@@ -23,14 +26,14 @@ pub struct Handle {
 impl Handle {
     ghost use Rattle.edfvd_c.specs.Lending.{HandleLends};
 
-    /// Whether it holds a scheduler or a monitor.
+    /// Whether the handle holds a scheduler or a monitor.
     pub fn is_open(&self) -> bool
         ensures { result ≡ is_some self.now.block.held }
     {
         self.mark == OPEN_MARK
     }
 
-    /// Lends what it holds.
+    /// Lends the scheduler or the monitor in the handle to the caller, who may change it there; `None` if the handle is closed.
     pub fn held(&mut self) -> Option<&mut Held>
         ensures* writes_back { sem 𝓛 (HandleLends self.entry result) }
         ensures some { IfSome result (λ held. self.old.block.held ≡ Some held.now) }
@@ -43,7 +46,7 @@ impl Handle {
         }
     }
 
-    /// Takes out what it holds, and leaves none.
+    /// Takes the scheduler or the monitor out of the handle, which is closed after; `None` if it was closed before.
     pub fn take(&mut self, alloc: Global) -> Option<Box<Held>>
         ensures some { IfSome result (λ held. self.old.block.held ≡ Some held.value) }
         ensures none { IfNone result (self.old.block.held ≡ None) }
@@ -60,7 +63,8 @@ impl Handle {
         Some(old.block.into_parts().into_box())
     }
 
-    /// Puts this in.
+    /// Opens a closed handle, with this scheduler or monitor in it. In an open one the memory of what it held would stay taken,
+    /// since dropping a block frees nothing.
     pub fn put(&mut self, held: Box<Held>)
         ensures { self.new.block.held ≡ Some held.value }
     {

@@ -1,4 +1,4 @@
-//! What C keeps behind a pointer.
+//! What an open handle holds in its box: a scheduler or a monitor, which C never sees.
 use crate::latest::LatestRows;
 use restart::Restartable;
 use trace_judge::Monitor;

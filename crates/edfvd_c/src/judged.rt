@@ -1,18 +1,18 @@
 //! Rows of a caller's own, judged.
-ghost use Rattle.std.specs.Prelude.{◌≡◌, ◌≢◌, ◌↔◌, ◌⊎◌, ◌<◌, ◌≤◌, ◌^◌, All, IfOk, IfErr, IfSome, IsTrue, map, length, reverse};
+ghost use Rattle.std.specs.Prelude.{◌≡◌, ◌≢◌, ◌⊎◌, ◌<◌, ◌≤◌, All, IfOk, IfErr, IfSome, map, length, reverse};
 ghost use Rattle.mc_model.specs.Holds.{Fits};
 ghost use Rattle.mc_model.specs.Legal.{IsOfSet};
 ghost use Rattle.mc_model.specs.Verdict.{verdict};
 ghost use Rattle.edfvd_c.specs.Judged as spec;
 ghost use Rattle.edfvd_c.specs.Look.{row_in, row_numbers};
-ghost use Rattle.edfvd_c.specs.Refused.{AreNotAdmitted, IsRefused};
+ghost use Rattle.edfvd_c.specs.Status.{OK, EMPTY, MEMORY, NO_TASK, FULL, ARGUMENT};
 
 use crate::given::{CTask, NoSet, set_of};
 use crate::loaded::loads_of;
 use crate::look::{CRow, count_number, task_number};
 use crate::status;
 use admission::admit;
-use mc_model::{How, Row, Verdict, Why};
+use mc_model::{How, Row, Verdict, Why, are_of_set};
 use mc_task::{JobId, Memory, Rule, TaskNo, TaskSet};
 use std::alloc::Global;
 use trace_format::pack;
@@ -49,13 +49,9 @@ pub extern "C" fn edfvd_raw_judge(
     q: u64,
     judged: &mut CVerdict,
 ) -> u32
-    ensures judged { result ≡ 0 → spec.IsJudged given.now rows.now p q judged.new }
-    ensures many { 128 < length given.now → (result ≡ 2) × (judged.new ≡ spec.refused_at 0) }
-    ensures refused { length given.now ≤ 128 → result ≢ 0 → result ≢ 8 → result ≢ 9 → result ≢ 10 → result ≢ 22 → result ≢ 43 → IsRefused given.now result judged.new.task }
-    ensures unjudged { spec.IsUnjudged given.now rows.now p q result }
-    ensures zeros { result ≢ 0 → judged.new ≡ spec.refused_at judged.new.task }
-    ensures task { 8 ≤ result → judged.new.task ≡ 0 }
-    ensures only { (result ≤ 10) ⊎ (result ≡ 22) ⊎ (result ≡ 43) }
+    ensures judged { result ≡ OK → spec.IsJudged given.now rows.now p q judged.new }
+    ensures unjudged { result ≢ OK → spec.IsUnjudged given.now rows.now p q result judged.new.task }
+    ensures zeros { result ≢ OK → judged.new ≡ spec.refused_at judged.new.task }
 {
     match judge_given(alloc, given, rows, p, q) {
         Ok(found) => {
@@ -80,11 +76,8 @@ fn judge_given(
     q: u64,
 ) -> Result<CVerdict, NoSet>
     ensures judged { IfOk result (spec.IsJudged given.now rows.now p q) }
-    ensures many { IfErr result (λ no. 128 < length given.now → (no.status ≡ 2) × (no.task ≡ 0)) }
-    ensures refused { IfErr result (λ no. length given.now ≤ 128 → no.status ≢ 8 → no.status ≢ 9 → no.status ≢ 10 → no.status ≢ 22 → no.status ≢ 43 → IsRefused given.now no.status no.task) }
-    ensures unjudged { IfErr result (λ no. spec.IsUnjudged given.now rows.now p q no.status) }
-    ensures task { IfErr result (λ no. 8 ≤ no.status → no.task ≡ 0) }
-    ensures status { IfErr result (λ no. ((1 ≤ no.status) × (no.status ≤ 10)) ⊎ (no.status ≡ 22) ⊎ (no.status ≡ 43)) }
+    ensures unjudged { IfErr result (λ no. spec.IsUnjudged given.now rows.now p q no.status no.task) }
+    ensures status { IfErr result (λ no. no.status ≢ OK) }
 {
     let (set, rule) = set_under_rule(alloc, given, p, q)?;
     let rows = match rows_of(alloc, rows) {
@@ -113,14 +106,8 @@ pub fn set_under_rule(
 ) -> Result<(TaskSet, Rule), NoSet>
     ensures under { IfOk result (λ found. spec.AreUnderRule given.now p q found.0.tasks found.1) }
     ensures fits { IfOk result (λ found. Fits found.1) }
-    ensures many { IfErr result (λ no. 128 < length given.now → (no.status ≡ 2) × (no.task ≡ 0)) }
-    ensures few { IfOk result (λ found. length given.now ≤ 128) }
-    ensures refused { IfErr result (λ no. length given.now ≤ 128 → no.status ≢ 8 → no.status ≢ 9 → no.status ≢ 43 → IsRefused given.now no.status no.task) }
-    ensures range { IfErr result (λ no. no.status ≡ 7 → (p ≡ 0) × (q ≡ 0)) }
-    ensures not_admitted { IfErr result (λ no. no.status ≡ 8 → (p ≡ 0) × (q ≡ 0) × AreNotAdmitted given.now) }
-    ensures no_scale { IfErr result (λ no. no.status ≡ 43 → spec.HaveNoScale given.now p q) }
-    ensures task { IfErr result (λ no. 8 ≤ no.status → no.task ≡ 0) }
-    ensures status { IfErr result (λ no. ((1 ≤ no.status) × (no.status ≤ 9)) ⊎ (no.status ≡ 43)) }
+    ensures no_rule { IfErr result (λ no. spec.HaveNoRule given.now p q no.status no.task) }
+    ensures status { IfErr result (λ no. ((EMPTY ≤ no.status) × (no.status ≤ MEMORY)) ⊎ (no.status ≡ ARGUMENT)) }
 {
     let set = set_of(alloc, given)?;
     if p == 0 && q == 0 {
@@ -143,9 +130,9 @@ pub fn set_under_rule(
 fn rows_of(alloc: Global, given: &[CRow]) -> Result<Vec<Row>, u32>
     ensures rows { IfOk result (λ rows. map row_numbers rows.items ≡ given.now) }
     ensures few { IfOk result (λ rows. length given.now ≤ 2000000) }
-    ensures full { IfErr result (λ status. status ≡ 22 → 2000000 < length given.now) }
-    ensures no_row { IfErr result (λ status. status ≡ 43 → (length given.now ≤ 2000000) × spec.HaveNoRow given.now) }
-    ensures status { IfErr result (λ status. (status ≡ 9) ⊎ (status ≡ 22) ⊎ (status ≡ 43)) }
+    ensures full { IfErr result (λ status. status ≡ FULL → 2000000 < length given.now) }
+    ensures no_row { IfErr result (λ status. status ≡ ARGUMENT → (length given.now ≤ 2000000) × spec.HaveNoRow given.now) }
+    ensures status { IfErr result (λ status. (status ≡ MEMORY) ⊎ (status ≡ FULL) ⊎ (status ≡ ARGUMENT)) }
 {
     if given.len() > 2_000_000 {
         return Err(status::FULL);
@@ -200,8 +187,8 @@ fn verdict_on(alloc: Global, set: &TaskSet, rule: Rule, rows: &[Row]) -> Result<
     requires few { length rows.now ≤ 2000000 }
     ensures exact { IfOk result (λ v. v ≡ verdict set.now.tasks rule (reverse rows.now)) }
     ensures of_set { IfOk result (λ v. All (IsOfSet set.now.tasks) rows.now) }
-    ensures no_task { IfErr result (λ status. status ≡ 10 → ¬ All (IsOfSet set.now.tasks) rows.now) }
-    ensures status { IfErr result (λ status. (status ≡ 9) ⊎ (status ≡ 10)) }
+    ensures no_task { IfErr result (λ status. status ≡ NO_TASK → ¬ All (IsOfSet set.now.tasks) rows.now) }
+    ensures status { IfErr result (λ status. (status ≡ MEMORY) ⊎ (status ≡ NO_TASK)) }
 {
     if !are_of_set(set, rows) {
         return Err(status::NO_TASK);
@@ -212,23 +199,6 @@ fn verdict_on(alloc: Global, set: &TaskSet, rule: Rule, rows: &[Row]) -> Result<
     match judge(alloc, set, rule, &runs) {
         Ok(verdict) => Ok(verdict),
         Err(Memory) => Err(status::MEMORY),
-    }
-}
-
-// Whether each row is idle or of a task of the set.
-fn are_of_set(set: &TaskSet, rows: &[Row]) -> bool
-    ensures { IsTrue result ↔ All (IsOfSet set.now.tasks) rows.now }
-{
-    rows.iter().all(|row| is_of_set(set, *row))
-}
-
-fn is_of_set(set: &TaskSet, row: Row) -> bool
-    ensures { IsTrue result ↔ IsOfSet set.now.tasks row }
-{
-    match row {
-        Row::Release { job, .. } => set.get(job.task).is_some(),
-        Row::Tick { job, .. } => set.get(job.task).is_some(),
-        Row::Idle => true,
     }
 }
 

@@ -34,7 +34,9 @@ pub struct LatestRows {
     rows: RowCount,
     // The newest row, once there is one. Each row is compared with it, and no slot is looked up for that.
     newest: Row,
+    // How many runs of equal rows there were, those included that are no longer kept.
     runs: usize,
+    // The beginning of run n, counted from 0, is in slot n % 256, until run n + 256 takes that slot.
     slots: Vec<RunBegin>,
 }
 
@@ -91,6 +93,7 @@ impl LatestRows {
             }
             end = begin.number;
         }
+        // The oldest run that is kept begins with row `first_kept()`, which is not after this row, so the loop has found the run.
         unreachable!()
     }
 

@@ -1,8 +1,9 @@
 //! A task set from numbers in memory, with its loads.
-ghost use Rattle.std.specs.Prelude.{◌≡◌, ◌≢◌, ◌<◌, ◌≤◌, Some, None, IfOk, IfErr, length};
+ghost use Rattle.std.specs.Prelude.{◌≡◌, ◌≤◌, Some, None, IfOk, IfErr, length};
 ghost use Rattle.load_sum.specs.Belong.{BelongTo, fault_task};
 ghost use Rattle.mc_model.specs.Loads.{range_fault};
 ghost use Rattle.edfvd_c.specs.Refused.{AreInRange, IsRefused};
+ghost use Rattle.edfvd_c.specs.Status.{PERIODS};
 
 use crate::given::{CTask, NoSet, set_of};
 use crate::status;
@@ -22,10 +23,7 @@ pub fn set_and_loads(alloc: Global, given: &[CTask]) -> Result<SetAndLoads, NoSe
     ensures tasks { IfOk result (λ loaded. AreInRange given.now loaded.set.tasks) }
     ensures loads { IfOk result (λ loaded. BelongTo loaded.set.tasks loaded.loads) }
     ensures few { IfOk result (λ loaded. length given.now ≤ 128) }
-    ensures many { IfErr result (λ no. 128 < length given.now → (no.status ≡ 2) × (no.task ≡ 0)) }
-    ensures refused { IfErr result (λ no. length given.now ≤ 128 → no.status ≢ 9 → IsRefused given.now no.status no.task) }
-    ensures status { IfErr result (λ no. (1 ≤ no.status) × (no.status ≤ 9) × (no.status ≢ 8)) }
-    ensures memory { IfErr result (λ no. 8 ≤ no.status → no.task ≡ 0) }
+    ensures refused { IfErr result (λ no. IsRefused given.now no.status no.task) }
 {
     let set = set_of(alloc, given)?;
     match loads_of(&set) {
@@ -38,7 +36,7 @@ pub fn set_and_loads(alloc: Global, given: &[CTask]) -> Result<SetAndLoads, NoSe
 pub fn loads_of(set: &TaskSet) -> Result<Loads, NoSet>
     ensures loads { IfOk result (BelongTo set.now.tasks) }
     ensures range { IfOk result (λ loads. range_fault set.now.tasks ≡ None) }
-    ensures fault { IfErr result (λ no. (no.status ≡ 7) × (range_fault set.now.tasks ≡ Some no.task)) }
+    ensures fault { IfErr result (λ no. (no.status ≡ PERIODS) × (range_fault set.now.tasks ≡ Some no.task)) }
 {
     match sum_loads(set) {
         Ok(loads) => Ok(loads),

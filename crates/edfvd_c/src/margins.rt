@@ -1,9 +1,10 @@
 //! What may change in a set with the published test still admitting it: the budgets, the scale, and the speed of the processor.
-ghost use Rattle.std.specs.Prelude.{◌≡◌, ◌≢◌, ◌<◌, ◌≤◌, ◌^◌, length};
+ghost use Rattle.std.specs.Prelude.{◌≡◌, ◌≢◌, ◌⊎◌, ◌≤◌, ◌^◌, length};
 ghost use Rattle.tick_frac.specs.Fraction.{IsLowest};
 ghost use Rattle.load_sum.specs.Belong.{BelongTo};
 ghost use Rattle.edfvd_c.specs.Margins as spec;
 ghost use Rattle.edfvd_c.specs.Refused.{AreInRange, IsRefused};
+ghost use Rattle.edfvd_c.specs.Status.{OK, NOT_ADMITTED, ARGUMENT};
 
 use crate::given::CTask;
 use crate::loaded::{SetAndLoads, set_and_loads};
@@ -45,13 +46,11 @@ pub extern "C" fn edfvd_raw_sensitivity(
     budgets: &mut [CBudgets],
     task: &mut u32,
 ) -> u32
-    ensures greatest { result ≡ 0 → spec.AreGreatest given.now budgets.new }
-    ensures many { 128 < length given.now → (result ≡ 2) × (task.new ≡ 0) }
-    ensures refused { length given.now ≤ 128 → result ≢ 0 → result ≢ 9 → result ≢ 43 → IsRefused given.now result task.new }
-    ensures argument { result ≡ 43 → (length budgets.old ≢ length given.now) × (task.new ≡ 0) }
-    ensures untouched { result ≢ 0 → budgets.new ≡ budgets.old }
-    ensures memory { result ≡ 9 → task.new ≡ 0 }
-    ensures accepted { result ≡ 0 → task.new ≡ 0 }
+    ensures greatest { result ≡ OK → spec.AreGreatest given.now budgets.new }
+    ensures refused { result ≢ OK → result ≢ ARGUMENT → IsRefused given.now result task.new }
+    ensures argument { result ≡ ARGUMENT → (length given.now ≤ 128) × (length budgets.old ≢ length given.now) }
+    ensures untouched { result ≢ OK → budgets.new ≡ budgets.old }
+    ensures task { (result ≡ OK) ⊎ (result ≡ ARGUMENT) → task.new ≡ 0 }
 {
     *task = 0;
     match set_and_loads(alloc, given) {
@@ -66,8 +65,8 @@ pub extern "C" fn edfvd_raw_sensitivity(
 fn store_greatest(loaded: &SetAndLoads, given: &[CTask], budgets: &mut [CBudgets]) -> u32
     requires tasks { AreInRange given.now loaded.now.set.tasks }
     requires loads { BelongTo loaded.now.set.tasks loaded.now.loads }
-    ensures greatest { result ≡ 0 → spec.AreGreatest given.now budgets.new }
-    ensures argument { result ≢ 0 → (result ≡ 43) × (length budgets.old ≢ length given.now) × (budgets.new ≡ budgets.old) }
+    ensures greatest { result ≡ OK → spec.AreGreatest given.now budgets.new }
+    ensures argument { result ≢ OK → (result ≡ ARGUMENT) × (length budgets.old ≢ length given.now) × (budgets.new ≡ budgets.old) }
 {
     if budgets.len() != given.len() {
         return status::ARGUMENT;
@@ -101,13 +100,11 @@ pub extern "C" fn edfvd_raw_scales(
     stored: &mut CScaleRange,
     task: &mut u32,
 ) -> u32
-    ensures scales { result ≡ 0 → spec.AreScales given.now stored.new }
-    ensures none { result ≡ 8 → spec.HaveNoScale given.now × (task.new ≡ 0) }
-    ensures many { 128 < length given.now → (result ≡ 2) × (task.new ≡ 0) }
-    ensures refused { length given.now ≤ 128 → result ≢ 0 → result ≢ 8 → result ≢ 9 → IsRefused given.now result task.new }
-    ensures zeros { result ≢ 0 → stored.new ≡ spec.zeros }
-    ensures memory { result ≡ 9 → task.new ≡ 0 }
-    ensures accepted { result ≡ 0 → task.new ≡ 0 }
+    ensures scales { result ≡ OK → spec.AreScales given.now stored.new }
+    ensures none { result ≡ NOT_ADMITTED → spec.HaveNoScale given.now }
+    ensures refused { result ≢ OK → result ≢ NOT_ADMITTED → IsRefused given.now result task.new }
+    ensures zeros { result ≢ OK → stored.new ≡ spec.zeros }
+    ensures task { (result ≡ OK) ⊎ (result ≡ NOT_ADMITTED) → task.new ≡ 0 }
 {
     *task = 0;
     *stored = NO_SCALES;
@@ -150,12 +147,10 @@ pub extern "C" fn edfvd_raw_speed(
     millionths: &mut u64,
     task: &mut u32,
 ) -> u32
-    ensures least { result ≡ 0 → spec.IsSpeed given.now millionths.new }
-    ensures many { 128 < length given.now → (result ≡ 2) × (task.new ≡ 0) }
-    ensures refused { length given.now ≤ 128 → result ≢ 0 → result ≢ 9 → IsRefused given.now result task.new }
-    ensures zero { result ≢ 0 → millionths.new ≡ 0 }
-    ensures memory { result ≡ 9 → task.new ≡ 0 }
-    ensures accepted { result ≡ 0 → task.new ≡ 0 }
+    ensures least { result ≡ OK → spec.IsSpeed given.now millionths.new }
+    ensures refused { result ≢ OK → IsRefused given.now result task.new }
+    ensures zero { result ≢ OK → millionths.new ≡ 0 }
+    ensures task { result ≡ OK → task.new ≡ 0 }
 {
     *task = 0;
     *millionths = 0;

@@ -1,9 +1,10 @@
 //! A monitor that a caller in C feeds with rows.
-ghost use Rattle.std.specs.Prelude.{◌≡◌, ◌≢◌, ◌↔◌, ◌⊎◌, ◌<◌, ◌≤◌, Some, None, IsSome, IfOk, IfErr, MatchOption, length};
+ghost use Rattle.std.specs.Prelude.{◌≡◌, ◌≢◌, ◌⊎◌, Some, None, IsSome, IfOk, IfErr, MatchOption};
 ghost use Rattle.edfvd_c.specs.Handle.{monitor_of};
-ghost use Rattle.edfvd_c.specs.Judged.{HaveNoScale};
+ghost use Rattle.edfvd_c.specs.Judged.{HaveNoRule};
 ghost use Rattle.edfvd_c.specs.Monitor as spec;
-ghost use Rattle.edfvd_c.specs.Refused.{AreNotAdmitted, IsRefused};
+ghost use Rattle.edfvd_c.specs.Opening.{Opens};
+ghost use Rattle.edfvd_c.specs.Status.{OK, OPEN};
 
 use crate::given::{CTask, NoSet, OUT_OF_MEMORY};
 use crate::handle::Handle;
@@ -63,17 +64,9 @@ pub extern "C" fn edfvd_raw_monitor_open(
     q: u64,
     task: &mut u32,
 ) -> u32
-    // The handle holds a scheduler or a monitor already.
-    ensures open { (result ≡ 13) ↔ IsSome monitor.old.block.held }
-    ensures made { result ≡ 0 → spec.IsMonitorOpening given.now p q (monitor_of monitor.new.block.held) }
-    ensures many { monitor.old.block.held ≡ None → 128 < length given.now → (result ≡ 2) × (task.new ≡ 0) }
-    ensures refused { length given.now ≤ 128 → result ≢ 0 → result ≢ 8 → result ≢ 9 → result ≢ 13 → result ≢ 43 → IsRefused given.now result task.new }
-    ensures range { result ≡ 7 → (p ≡ 0) × (q ≡ 0) }
-    ensures not_admitted { result ≡ 8 → (p ≡ 0) × (q ≡ 0) × AreNotAdmitted given.now }
-    ensures no_scale { result ≡ 43 → HaveNoScale given.now p q }
-    ensures task { (result ≡ 0) ⊎ (8 ≤ result) → task.new ≡ 0 }
-    ensures only { (result ≤ 9) ⊎ (result ≡ 13) ⊎ (result ≡ 43) }
-    ensures same { result ≢ 0 → monitor.new.block.held ≡ monitor.old.block.held }
+    ensures opens { Opens monitor.old.block.held monitor.new.block.held result (spec.IsMonitorOpening given.now p q) }
+    ensures no_rule { result ≢ OK → result ≢ OPEN → HaveNoRule given.now p q result task.new }
+    ensures task { (result ≡ OK) ⊎ (result ≡ OPEN) → task.new ≡ 0 }
 {
     *task = 0;
     if monitor.is_open() {
@@ -92,16 +85,9 @@ pub extern "C" fn edfvd_raw_monitor_open(
 }
 
 fn opened(alloc: Global, given: &[CTask], p: u64, q: u64) -> Result<Box<Held>, NoSet>
-    ensures made { IfOk result (λ held. spec.IsMonitorOpening given.now p q (monitor_of (Some held.value))) }
-    ensures some { IfOk result (λ held. IsSome (monitor_of (Some held.value))) }
-    ensures many { IfErr result (λ no. 128 < length given.now → (no.status ≡ 2) × (no.task ≡ 0)) }
-    ensures few { IfOk result (λ held. length given.now ≤ 128) }
-    ensures refused { IfErr result (λ no. length given.now ≤ 128 → no.status ≢ 8 → no.status ≢ 9 → no.status ≢ 43 → IsRefused given.now no.status no.task) }
-    ensures range { IfErr result (λ no. no.status ≡ 7 → (p ≡ 0) × (q ≡ 0)) }
-    ensures not_admitted { IfErr result (λ no. no.status ≡ 8 → (p ≡ 0) × (q ≡ 0) × AreNotAdmitted given.now) }
-    ensures no_scale { IfErr result (λ no. no.status ≡ 43 → HaveNoScale given.now p q) }
-    ensures task { IfErr result (λ no. 8 ≤ no.status → no.task ≡ 0) }
-    ensures status { IfErr result (λ no. ((1 ≤ no.status) × (no.status ≤ 9)) ⊎ (no.status ≡ 43)) }
+    ensures made { IfOk result (λ made. spec.IsMonitorOpening given.now p q made.value) }
+    ensures no_rule { IfErr result (λ no. HaveNoRule given.now p q no.status no.task) }
+    ensures status { IfErr result (λ no. (no.status ≢ OK) × (no.status ≢ OPEN)) }
 {
     let (set, rule) = set_under_rule(alloc, given, p, q)?;
     let Ok(monitor) = Monitor::new(alloc, set, rule) else {

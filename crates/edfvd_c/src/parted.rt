@@ -1,7 +1,8 @@
 //! The tasks of a set on several processors.
-ghost use Rattle.std.specs.Prelude.{◌≡◌, ◌≢◌, ◌↔◌, ◌⊎◌, ◌<◌, ◌≤◌, IfOk, IfErr, length};
+ghost use Rattle.std.specs.Prelude.{◌≡◌, ◌≢◌, ◌↔◌, ◌⊎◌, ◌≤◌, IfOk, IfErr, length};
 ghost use Rattle.edfvd_c.specs.Parted as spec;
 ghost use Rattle.edfvd_c.specs.Refused.{IsRefused};
+ghost use Rattle.edfvd_c.specs.Status.{OK, PERIODS, NO_PROCESSOR, ARGUMENT};
 
 use crate::given::{CTask, NoSet, set_of};
 use crate::status;
@@ -19,14 +20,15 @@ pub extern "C" fn edfvd_raw_partition(
     on: &mut [u32],
     task: &mut u32,
 ) -> u32
-    ensures parted { result ≡ 0 → spec.AreParted given.now processors on.new }
-    ensures no_processor { result ≡ 29 → spec.FitsNowhere given.now processors task.new }
-    ensures argument { (result ≢ 43) ↔ spec.IsParting given.now processors on.old }
-    ensures many { result ≢ 43 → 128 < length given.now → (result ≡ 2) × (task.new ≡ 0) }
-    ensures refused { length given.now ≤ 128 → result ≢ 0 → result ≢ 9 → result ≢ 29 → result ≢ 43 → IsRefused given.now result task.new }
-    ensures untouched { result ≢ 0 → on.new ≡ on.old }
-    ensures task { (result ≡ 0) ⊎ (result ≡ 9) ⊎ (result ≡ 43) → task.new ≡ 0 }
-    ensures only { (result ≤ 6) ⊎ (result ≡ 9) ⊎ (result ≡ 29) ⊎ (result ≡ 43) }
+    ensures parted { result ≡ OK → spec.AreParted given.now processors on.new }
+    ensures no_processor { result ≡ NO_PROCESSOR → spec.FitsNowhere given.now processors task.new }
+    ensures argument { (result ≢ ARGUMENT) ↔ spec.IsParting given.now processors on.old }
+    ensures refused { result ≢ OK → result ≢ NO_PROCESSOR → result ≢ ARGUMENT → IsRefused given.now result task.new }
+    // The hyperperiod of all tasks is not tested. That of a processor's tasks is, and a task that takes it past 2^60 does not
+    // fit there.
+    ensures range { result ≢ PERIODS }
+    ensures untouched { result ≢ OK → on.new ≡ on.old }
+    ensures task { (result ≡ OK) ⊎ (result ≡ ARGUMENT) → task.new ≡ 0 }
 {
     *task = 0;
     if !(1..=16).contains(&processors) || on.len() != given.len() {
@@ -48,11 +50,9 @@ fn parted(alloc: Global, given: &[CTask], processors: u32) -> Result<Parts, NoSe
     requires { (1 ≤ processors) × (processors ≤ 16) }
     ensures parted { IfOk result (spec.AreParted given.now processors) }
     ensures long { IfOk result (λ parts. length parts ≡ length given.now) }
-    ensures no_processor { IfErr result (λ no. no.status ≡ 29 → spec.FitsNowhere given.now processors no.task) }
-    ensures many { IfErr result (λ no. 128 < length given.now → (no.status ≡ 2) × (no.task ≡ 0)) }
-    ensures refused { IfErr result (λ no. length given.now ≤ 128 → no.status ≢ 9 → no.status ≢ 29 → IsRefused given.now no.status no.task) }
-    ensures status { IfErr result (λ no. ((1 ≤ no.status) × (no.status ≤ 6)) ⊎ (no.status ≡ 9) ⊎ (no.status ≡ 29)) }
-    ensures memory { IfErr result (λ no. no.status ≡ 9 → no.task ≡ 0) }
+    ensures no_processor { IfErr result (λ no. no.status ≡ NO_PROCESSOR → spec.FitsNowhere given.now processors no.task) }
+    ensures refused { IfErr result (λ no. no.status ≢ NO_PROCESSOR → IsRefused given.now no.status no.task) }
+    ensures status { IfErr result (λ no. (no.status ≢ OK) × (no.status ≢ PERIODS) × (no.status ≢ ARGUMENT)) }
 {
     let set = set_of(alloc, given)?;
     match fit(alloc, &set, processors) {

@@ -1,4 +1,4 @@
-//! A `Box` as its pointer and its allocator.
+//! A box taken apart into its raw pointer and its allocator, so that a struct of C can hold it, and put together again.
 ghost use Rattle.std.specs.Prelude.{◌≡◌};
 ghost use Rattle.std.specs.Box.Ownership.{box_owns};
 
@@ -16,6 +16,7 @@ impl<T, A: Allocator> Model for Parts<T, A> {
 }
 
 impl<T, A: Allocator> Parts<T, A> {
+    /// The parts of the box. Its memory stays taken until they are a box again.
     pub fn of(b: Box<T, A>) -> Parts<T, A>
     where
         T: Drop,
@@ -25,6 +26,7 @@ impl<T, A: Allocator> Parts<T, A> {
         Parts { ptr, alloc }
     }
 
+    /// The box that these are the parts of.
     pub fn into_box(self) -> Box<T, A>
         ensures { result.value ≡ self.value }
     {

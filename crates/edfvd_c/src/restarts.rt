@@ -46,6 +46,7 @@ fn restart(alloc: Global, scheduler: &mut Restartable) -> (u32, CAnswer)
     let Ok(rows) = Vec::with_capacity(alloc, scheduler.core().places()) else {
         return (status::MEMORY, NOTHING);
     };
+    // `restart_fault` found no other reason, so an error is a failed allocation.
     match scheduler.restart(alloc, rows) {
         Ok(()) => (status::OK, NOTHING),
         Err(_) => (status::MEMORY, NOTHING),
@@ -58,10 +59,12 @@ fn restart_endless(alloc: Global, scheduler: &mut Restartable<LatestRows>) -> (u
     if let Some(fault) = scheduler.restart_fault() {
         return refused(fault);
     }
+    // The capacity is at most 2^62 rows, which is what the new recorder takes.
     let _places = scheduler.core().places();
     let Ok(rows) = LatestRows::new(alloc) else {
         return (status::MEMORY, NOTHING);
     };
+    // `restart_fault` found no other reason, so an error is a failed allocation.
     match scheduler.restart(alloc, rows) {
         Ok(()) => (status::OK, NOTHING),
         Err(_) => (status::MEMORY, NOTHING),

@@ -1,14 +1,15 @@
 //! A scheduler that a caller in C drives event by event.
-ghost use Rattle.std.specs.Prelude.{◌≡◌, ◌≢◌, ◌↔◌, ◌⊎◌, ◌<◌, ◌^◌, ℕ, true, false, Some, None, IsSome, IfSome, IfOk, IfErr, MatchOption, slice_get, reverse, length, ◌≤◌};
-ghost use Rattle.mc_model.specs.Core.{State};
+ghost use Rattle.std.specs.Prelude.{◌≡◌, ◌≢◌, ◌⊎◌, ◌^◌, Some, None, IsSome, IfOk, IfErr, MatchOption};
 ghost use Rattle.mc_model.specs.Test.{published};
 ghost use Rattle.mc_model.specs.Holds.{Fits, Holds};
 ghost use Rattle.mode_core.specs.Events.{empty_state, after_idle};
 ghost use Rattle.mode_core.specs.Timely.{IsTimely};
-ghost use Rattle.edfvd_c.specs.Refused.{AreInRange, AreNotAdmitted, IsRefused};
-ghost use Rattle.edfvd_c.specs.Handle.{scheduler_of, core_of, is_endless, Does, IsOpening};
+ghost use Rattle.edfvd_c.specs.Refused.{AreInRange, AreNotAdmitted};
+ghost use Rattle.edfvd_c.specs.Opening.{Opens, IsOpening, IsUnopened};
+ghost use Rattle.edfvd_c.specs.Handle.{scheduler_of, core_of, is_endless, Does};
 ghost use Rattle.edfvd_c.specs.Look as view;
 ghost use Rattle.edfvd_c.specs.Event as spec;
+ghost use Rattle.edfvd_c.specs.Status.{OK, OPEN};
 
 use crate::event::{self, CAnswer, NOTHING};
 use crate::given::{CTask, NoSet};
@@ -34,16 +35,9 @@ pub extern "C" fn edfvd_raw_scheduler_open(
     places: u32,
     task: &mut u32,
 ) -> u32
-    // The handle holds a scheduler or a monitor already.
-    ensures open { (result ≡ 13) ↔ IsSome scheduler.old.block.held }
-    ensures made { result ≡ 0 → IsOpening given.now places (scheduler_of scheduler.new.block.held) }
-    ensures kind { result ≡ 0 → is_endless scheduler.new.block.held ≡ false }
-    ensures many { scheduler.old.block.held ≡ None → 128 < length given.now → (result ≡ 2) × (task.new ≡ 0) }
-    ensures refused { length given.now ≤ 128 → result ≢ 0 → result ≢ 8 → result ≢ 9 → result ≢ 13 → IsRefused given.now result task.new }
-    ensures not_admitted { result ≡ 8 → AreNotAdmitted given.now }
-    ensures task { (result ≡ 0) ⊎ (8 ≤ result) → task.new ≡ 0 }
-    ensures only { (result ≤ 9) ⊎ (result ≡ 13) }
-    ensures same { result ≢ 0 → scheduler.new.block.held ≡ scheduler.old.block.held }
+    ensures opens { Opens scheduler.old.block.held scheduler.new.block.held result (IsOpening Held.Core given.now places) }
+    ensures unopened { result ≢ OK → result ≢ OPEN → IsUnopened given.now (AreNotAdmitted given.now) result task.new }
+    ensures task { (result ≡ OK) ⊎ (result ≡ OPEN) → task.new ≡ 0 }
 {
     *task = 0;
     if scheduler.is_open() {
@@ -62,15 +56,9 @@ pub extern "C" fn edfvd_raw_scheduler_open(
 }
 
 fn opened(alloc: Global, given: &[CTask], places: u32) -> Result<Box<Held>, NoSet>
-    ensures made { IfOk result (λ held. IsOpening given.now places (scheduler_of (Some held.value))) }
-    ensures some { IfOk result (λ held. IsSome (scheduler_of (Some held.value))) }
-    ensures kind { IfOk result (λ held. is_endless (Some held.value) ≡ false) }
-    ensures many { IfErr result (λ no. 128 < length given.now → (no.status ≡ 2) × (no.task ≡ 0)) }
-    ensures few { IfOk result (λ held. length given.now ≤ 128) }
-    ensures refused { IfErr result (λ no. length given.now ≤ 128 → no.status ≢ 8 → no.status ≢ 9 → IsRefused given.now no.status no.task) }
-    ensures not_admitted { IfErr result (λ no. no.status ≡ 8 → AreNotAdmitted given.now) }
-    ensures task { IfErr result (λ no. 8 ≤ no.status → no.task ≡ 0) }
-    ensures status { IfErr result (λ no. (1 ≤ no.status) × (no.status ≤ 9)) }
+    ensures made { IfOk result (λ made. IsOpening Held.Core given.now places made.value) }
+    ensures unopened { IfErr result (λ no. IsUnopened given.now (AreNotAdmitted given.now) no.status no.task) }
+    ensures status { IfErr result (λ no. (no.status ≢ OK) × (no.status ≢ OPEN)) }
 {
     let (set, rule) = admitted(alloc, given)?;
     with_places(alloc, set, rule, places)
@@ -82,12 +70,8 @@ fn admitted(alloc: Global, given: &[CTask]) -> Result<(TaskSet, Rule), NoSet>
     ensures published { IfOk result (λ found. published found.0.tasks ≡ Some found.1) }
     ensures fits { IfOk result (λ found. Fits found.1) }
     ensures holds { IfOk result (λ found. Holds found.0.tasks found.1) }
-    ensures many { IfErr result (λ no. 128 < length given.now → (no.status ≡ 2) × (no.task ≡ 0)) }
-    ensures few { IfOk result (λ found. length given.now ≤ 128) }
-    ensures refused { IfErr result (λ no. length given.now ≤ 128 → no.status ≢ 8 → no.status ≢ 9 → IsRefused given.now no.status no.task) }
-    ensures not_admitted { IfErr result (λ no. no.status ≡ 8 → AreNotAdmitted given.now) }
-    ensures task { IfErr result (λ no. 8 ≤ no.status → no.task ≡ 0) }
-    ensures status { IfErr result (λ no. (1 ≤ no.status) × (no.status ≤ 9)) }
+    ensures unopened { IfErr result (λ no. IsUnopened given.now (AreNotAdmitted given.now) no.status no.task) }
+    ensures status { IfErr result (λ no. (no.status ≢ OK) × (no.status ≢ OPEN)) }
 {
     let SetAndLoads { set, loads } = set_and_loads(alloc, given)?;
     match admit(&loads) {
@@ -108,16 +92,9 @@ pub extern "C" fn edfvd_raw_scheduler_open_endless(
     given: &[CTask],
     task: &mut u32,
 ) -> u32
-    // The handle holds a scheduler or a monitor already.
-    ensures open { (result ≡ 13) ↔ IsSome scheduler.old.block.held }
-    ensures made { result ≡ 0 → IsOpening given.now (2 ^ 62) (scheduler_of scheduler.new.block.held) }
-    ensures kind { result ≡ 0 → is_endless scheduler.new.block.held ≡ true }
-    ensures many { scheduler.old.block.held ≡ None → 128 < length given.now → (result ≡ 2) × (task.new ≡ 0) }
-    ensures refused { length given.now ≤ 128 → result ≢ 0 → result ≢ 8 → result ≢ 9 → result ≢ 13 → IsRefused given.now result task.new }
-    ensures not_admitted { result ≡ 8 → AreNotAdmitted given.now }
-    ensures task { (result ≡ 0) ⊎ (8 ≤ result) → task.new ≡ 0 }
-    ensures only { (result ≤ 9) ⊎ (result ≡ 13) }
-    ensures same { result ≢ 0 → scheduler.new.block.held ≡ scheduler.old.block.held }
+    ensures opens { Opens scheduler.old.block.held scheduler.new.block.held result (IsOpening Held.Endless given.now (2 ^ 62)) }
+    ensures unopened { result ≢ OK → result ≢ OPEN → IsUnopened given.now (AreNotAdmitted given.now) result task.new }
+    ensures task { (result ≡ OK) ⊎ (result ≡ OPEN) → task.new ≡ 0 }
 {
     *task = 0;
     if scheduler.is_open() {
@@ -136,15 +113,9 @@ pub extern "C" fn edfvd_raw_scheduler_open_endless(
 }
 
 fn opened_endless(alloc: Global, given: &[CTask]) -> Result<Box<Held>, NoSet>
-    ensures made { IfOk result (λ held. IsOpening given.now (2 ^ 62) (scheduler_of (Some held.value))) }
-    ensures some { IfOk result (λ held. IsSome (scheduler_of (Some held.value))) }
-    ensures kind { IfOk result (λ held. is_endless (Some held.value) ≡ true) }
-    ensures many { IfErr result (λ no. 128 < length given.now → (no.status ≡ 2) × (no.task ≡ 0)) }
-    ensures few { IfOk result (λ held. length given.now ≤ 128) }
-    ensures refused { IfErr result (λ no. length given.now ≤ 128 → no.status ≢ 8 → no.status ≢ 9 → IsRefused given.now no.status no.task) }
-    ensures not_admitted { IfErr result (λ no. no.status ≡ 8 → AreNotAdmitted given.now) }
-    ensures task { IfErr result (λ no. 8 ≤ no.status → no.task ≡ 0) }
-    ensures status { IfErr result (λ no. (1 ≤ no.status) × (no.status ≤ 9)) }
+    ensures made { IfOk result (λ made. IsOpening Held.Endless given.now (2 ^ 62) made.value) }
+    ensures unopened { IfErr result (λ no. IsUnopened given.now (AreNotAdmitted given.now) no.status no.task) }
+    ensures status { IfErr result (λ no. (no.status ≢ OK) × (no.status ≢ OPEN)) }
 {
     let (set, rule) = admitted(alloc, given)?;
     without_end(alloc, set, rule)

@@ -1,7 +1,8 @@
 //! A task set tested.
-ghost use Rattle.std.specs.Prelude.{◌≡◌, ◌≢◌, ◌<◌, ◌≤◌, ◌^◌, ◌/◌, ◌%◌, length};
+ghost use Rattle.std.specs.Prelude.{◌≡◌, ◌≢◌, ◌^◌, ◌/◌, ◌%◌};
 ghost use Rattle.edfvd_c.specs.Refused.{IsRefused};
 ghost use Rattle.edfvd_c.specs.Tested as spec;
+ghost use Rattle.edfvd_c.specs.Status.{OK};
 
 use crate::given::CTask;
 use crate::loaded::{SetAndLoads, set_and_loads};
@@ -47,13 +48,9 @@ const UNTESTED: CTest = CTest {
 /// `task` is the task that it is about, or 0.
 #[unsafe(no_mangle)]
 pub extern "C" fn edfvd_raw_check(alloc: Global, given: &[CTask], tested: &mut CTest) -> u32
-    ensures tested { result ≡ 0 → spec.IsTested given.now tested.new }
-    ensures many { 128 < length given.now → (result ≡ 2) × (tested.new ≡ spec.refused_at 0) }
-    ensures refused { length given.now ≤ 128 → result ≢ 0 → result ≢ 9 → IsRefused given.now result tested.new.task }
-    ensures zeros { result ≢ 0 → tested.new ≡ spec.refused_at tested.new.task }
-    ensures memory { result ≡ 9 → tested.new.task ≡ 0 }
-    // The set is tested, or its status is that of a refusal or of a failed allocation.
-    ensures only { (result ≤ 9) × (result ≢ 8) }
+    ensures tested { result ≡ OK → spec.IsTested given.now tested.new }
+    ensures refused { result ≢ OK → IsRefused given.now result tested.new.task }
+    ensures zeros { result ≢ OK → tested.new ≡ spec.refused_at tested.new.task }
 {
     match set_and_loads(alloc, given) {
         Ok(SetAndLoads { loads, .. }) => {

@@ -6,19 +6,21 @@ use Rattle.mc_task.specs.declared.task.Task.{Task}
 use Rattle.edfvd_c.specs.Given.{AreOf}
 use Rattle.edfvd_c.specs.Named.{names_of}
 use Rattle.edfvd_c.specs.Refused.{Level, NoSet}
+use Rattle.edfvd_c.proofs.Causes.{refused_for}
 use Rattle.edfvd_c.proofs.Numbered.{names_more, names_none}
 use Rattle.edfvd_c.proofs.Levels.{first-of-no-level, levels_more, numbers-level}
 use Rattle.edfvd_c.proofs.given.set_of.Goals as goal
 
 pub returns-in-None-clause-refused : goal.returns-in-None-clause-refused
-returns-in-None-clause-refused c = λ few other.
+returns-in-None-clause-refused c =
     let inside : c.loop-place.place < length c.args.given.now = omega arith in
-    record {
+    refused_for _ _ _ (omega arith) (omega arith) (omega arith)
+    (record {
       cause = Level (c.loop-place.place + 1);
       has = first-of-no-level c.args.given.now c.loop-place.place _ inside c.in-None.ensures.none c.loop-place.invariant.levels;
       status_is = refl;
       task_is = refl;
-    }
+    })
 
 pub loop-place-init : goal.loop-place-init
 loop-place-init c = record {
@@ -37,13 +39,15 @@ loop-place-preserved c =
     }
 
 pub returns-in-Err-clause-refused : goal.returns-in-Err-clause-refused
-returns-in-Err-clause-refused c = λ few other.
+returns-in-Err-clause-refused c =
     let past : length c.args.given.now ≤ c.loop-place.place = omega arith in
     let numbers : AreOf c.args.given.now c.loop-place.tasks.items = c.loop-place.invariant.numbers ∙ take_all c.loop-place.place c.args.given.now past in
     let named : map (λ (t : Task). t.name) c.loop-place.tasks.items ≡ names_of (length c.loop-place.tasks.items) = grind (arith, common_steps, c.loop-place.invariant.names, numbers) in
-    record {
+    let status = c.no_set.ensures.status in
+    refused_for _ _ _ (omega arith) status.1 (omega (arith, status.2))
+    (record {
       cause = NoSet c.in-Err.fault;
       has = (c.loop-place.tasks.items, (numbers, named), c.in-Err.ensures.fault);
-      status_is = c.no_set.ensures.status.0;
+      status_is = status.0;
       task_is = c.no_set.ensures.task;
-    }
+    })
