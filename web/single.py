@@ -14,7 +14,7 @@ sys.path.insert(0, str(pathlib.Path(__file__).resolve().parent.parent / 'tools')
 from usage import WrongWords, ends  # noqa: E402
 
 HERE = pathlib.Path(__file__).resolve().parent
-IMPORT = re.compile(r"^import \{[^}]*\} from '\./([a-z]+\.js)';\n", re.M)
+IMPORT = re.compile(r"^import \{[^}]*\} from '\./([a-z_]+\.js)';\n", re.M)
 NAMED = re.compile(r'^(?:export )?(?:async )?(?:const|let|class|function\*?) ([A-Za-z_$][\w$]*)', re.M)
 
 

@@ -1,6 +1,6 @@
 // Whether the page reads the same tasks from a task file as the proved code. The calls for sets of numbers are given what the page reads.
-import { tasksIn } from './toml.js';
 import { Fraction } from './fraction.js';
+import { tasksIn } from './task_file.js';
 
 export const MOST_NUMBER = 4294967295;
 export const MOST_TRIED_BYTES = 65536;
@@ -19,13 +19,13 @@ export function isReadAlike(text, loads, count) {
         }
         return sum.toString();
     });
-    return sums.every((sum, place) => sum === loads[place]);
+    return sums.every((sum, index) => sum === loads[index]);
 }
 
 const NO_SCALE = 8;
 
-// Why no other values are tried, if a call for sets of numbers refuses what the page read from the file; or nothing. That no scale holds is
-// an answer and no refusal.
+// Why no other values are tried, or nothing if they are: a call for sets of numbers may refuse what the page read from the file. That no
+// scale holds is an answer and no refusal.
 export function whyRefused({ budgets, scales, speed }) {
     const refused = [budgets.status, scales.status === NO_SCALE ? 0 : scales.status, speed.status].find((status) => status !== 0);
     return refused === undefined ? '' : `The proved code refuses the numbers that this page reads from the task file (status ${refused}), so it tries no other values.`;

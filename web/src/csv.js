@@ -4,24 +4,24 @@
 // Yields the fields of each record with the first and the last line that it is on, counted from 0. Empty lines and a byte order mark
 // are passed over. A quote opens a quoted field only at the start of a field.
 export function* recordsIn(text) {
-    let at = text.charCodeAt(0) === 0xfeff ? 1 : 0;
+    let position = text.charCodeAt(0) === 0xfeff ? 1 : 0;
     let line = 0;
-    let quote = text.indexOf('"', at);
-    while (at < text.length) {
-        if (quote >= 0 && quote < at) quote = text.indexOf('"', at);
-        let end = text.indexOf('\n', at);
+    let quote = text.indexOf('"', position);
+    while (position < text.length) {
+        if (quote >= 0 && quote < position) quote = text.indexOf('"', position);
+        let end = text.indexOf('\n', position);
         if (end < 0) end = text.length;
         if (quote >= 0 && quote < end) {
-            const quoted = quotedRecord(text, at);
+            const quoted = quotedRecord(text, position);
             yield { line, last: line + quoted.breaks, fields: quoted.fields };
             line += quoted.breaks + 1;
-            at = quoted.end;
+            position = quoted.end;
             continue;
         }
-        const cut = end > at && text.charCodeAt(end - 1) === 13 ? end - 1 : end;
-        if (cut > at) yield { line, last: line, fields: text.slice(at, cut).split(',') };
+        const cut = end > position && text.charCodeAt(end - 1) === 13 ? end - 1 : end;
+        if (cut > position) yield { line, last: line, fields: text.slice(position, cut).split(',') };
         line += 1;
-        at = end + 1;
+        position = end + 1;
     }
 }
 
@@ -30,14 +30,14 @@ function quotedRecord(text, begin) {
     let breaks = 0;
     let isQuoted = false;
     let isFresh = true;
-    let at = begin;
+    let position = begin;
     const add = (letters) => { fields[fields.length - 1] += letters; };
-    for (; at < text.length; at += 1) {
-        const letter = text[at];
+    for (; position < text.length; position += 1) {
+        const letter = text[position];
         if (isQuoted) {
             if (letter === '\n') breaks += 1;
             if (letter !== '"') add(letter);
-            else if (text[at + 1] === '"') add(text[(at += 1)]);
+            else if (text[position + 1] === '"') add(text[(position += 1)]);
             else isQuoted = false;
         } else if (letter === '"' && isFresh) {
             isQuoted = true;
@@ -47,12 +47,12 @@ function quotedRecord(text, begin) {
             isFresh = true;
         } else if (letter === '\n') {
             break;
-        } else if (letter !== '\r' || text[at + 1] !== '\n') {
+        } else if (letter !== '\r' || text[position + 1] !== '\n') {
             add(letter);
             isFresh = false;
         }
     }
-    return { fields, breaks, end: at + 1 };
+    return { fields, breaks, end: position + 1 };
 }
 
 // The line of the record with this number, where the header is record 1, or -1 if there is none.

@@ -19,12 +19,12 @@ export class Edfvd extends Instance {
     asked(words, first, second, taken) {
         const given = words.length > MOST_WORDS ? [] : words;
         const list = this.take(16 * MOST_WORDS, taken);
-        const places = given.map((word) => this.put(word, taken));
+        const blocks = given.map((word) => this.put(word, taken));
         const files = [first, second].flatMap((bytes) => [this.put(bytes, taken), BigInt(bytes.length)]);
         const numbers = this.take(16, taken);
         const seen = this.numbersAt(list, 16 * MOST_WORDS);
-        places.forEach((place, word) => {
-            seen.setBigUint64(16 * word, place, true);
+        blocks.forEach((block, word) => {
+            seen.setBigUint64(16 * word, block, true);
             seen.setBigUint64(16 * word + 8, BigInt(given[word].length), true);
         });
         return this.answered([list, BigInt(given.length), ...files], numbers, taken);

@@ -7,20 +7,20 @@ const PADDING = 8;
 const MOST_SHOWN = 1 << 20;
 
 export class Editor {
-    constructor(place, changed) {
-        this.place = place;
+    constructor(element, changed) {
+        this.element = element;
         this.changed = changed;
-        this.most = Number(place.dataset.most);
+        this.most = Number(element.dataset.most);
         this.file = null;
         this.marked = -1;
         this.numbers = made('pre', { ariaHidden: 'true' });
         this.mark = made('div', { className: 'mark', hidden: true });
-        this.area = made('textarea', { rows: Number(place.dataset.rows), spellcheck: false, autocapitalize: 'off', autocomplete: 'off' });
-        this.area.setAttribute('aria-labelledby', place.dataset.title);
+        this.area = made('textarea', { rows: Number(element.dataset.rows), spellcheck: false, autocapitalize: 'off', autocomplete: 'off' });
+        this.area.setAttribute('aria-labelledby', element.dataset.title);
         this.refusal = made('p', { className: 'bad line', hidden: true });
         this.refusal.setAttribute('role', 'alert');
-        place.append(this.numbers, this.mark, this.area);
-        place.after(this.tools(), this.refusal);
+        element.append(this.numbers, this.mark, this.area);
+        element.after(this.tools(), this.refusal);
         this.area.addEventListener('input', () => this.typed());
         this.area.addEventListener('scroll', () => this.scrolled());
         new ResizeObserver(() => this.scrolled()).observe(this.area);
@@ -34,21 +34,21 @@ export class Editor {
             if (chooser.files[0]) this.open(chooser.files[0]);
             chooser.value = '';
         });
-        const name = this.place.dataset.name;
+        const name = this.element.dataset.name;
         return made('div', { className: 'tools' }, chooser, button('Open…', () => chooser.click(), { ariaLabel: `Open a file in place of ${name}` }),
             button('Save', () => save(name, this.source()), { ariaLabel: `Save ${name}` }));
     }
 
     takesDrops() {
-        const { place } = this;
-        place.addEventListener('dragover', (event) => {
+        const { element } = this;
+        element.addEventListener('dragover', (event) => {
             event.preventDefault();
-            place.classList.add('over');
+            element.classList.add('over');
         });
-        place.addEventListener('dragleave', () => place.classList.remove('over'));
-        place.addEventListener('drop', (event) => {
+        element.addEventListener('dragleave', () => element.classList.remove('over'));
+        element.addEventListener('drop', (event) => {
             event.preventDefault();
-            place.classList.remove('over');
+            element.classList.remove('over');
             const [file] = event.dataTransfer.files;
             if (file) this.open(file);
         });
@@ -87,7 +87,7 @@ export class Editor {
         }
     }
 
-    // A text area changes line ends, and shows bytes that are no text in other letters; then the bytes are kept beside it.
+    // Shows bytes as a text. A text area changes line ends, and shows bytes that are no text in other letters, so such bytes are kept, too.
     takeBytes(bytes) {
         const text = new TextDecoder('utf-8', { ignoreBOM: true }).decode(bytes);
         this.show(text.includes('\r') || text.includes('\ufffd') ? bytes : null, text);
@@ -95,7 +95,7 @@ export class Editor {
 
     show(bytes, text) {
         this.unmark();
-        this.place.querySelector('.large')?.remove();
+        this.element.querySelector('.large')?.remove();
         this.file = bytes;
         this.area.value = text;
         this.shown();
@@ -104,8 +104,8 @@ export class Editor {
 
     hold(file) {
         this.show(file, '');
-        const words = `${file.name ?? this.place.dataset.name}: ${grouped(file.size)} bytes, too long to be shown here. It is used as it is.`;
-        this.place.append(made('div', { className: 'large' }, words, button('Remove it', () => this.set(''))));
+        const words = `${file.name ?? this.element.dataset.name}: ${grouped(file.size)} bytes, too long to be shown here. It is used as it is.`;
+        this.element.append(made('div', { className: 'large' }, words, button('Remove it', () => this.set(''))));
     }
 
     typed() {
@@ -133,13 +133,13 @@ export class Editor {
     unmark() {
         this.marked = -1;
         this.mark.hidden = true;
-        this.place.classList.remove('bad');
+        this.element.classList.remove('bad');
         this.area.removeAttribute('aria-invalid');
     }
 
     // Marks the file as wrong, and this line of it, counted from 0, if there is one.
     blame(line) {
-        this.place.classList.add('bad');
+        this.element.classList.add('bad');
         this.area.setAttribute('aria-invalid', 'true');
         this.marked = this.isLarge() ? -1 : line;
         this.mark.hidden = this.marked < 0;
@@ -153,7 +153,7 @@ export class Editor {
 
     shown() {
         this.lines = 1;
-        for (let at = this.area.value.indexOf('\n'); at >= 0; at = this.area.value.indexOf('\n', at + 1)) this.lines += 1;
+        for (let end = this.area.value.indexOf('\n'); end >= 0; end = this.area.value.indexOf('\n', end + 1)) this.lines += 1;
         this.numbers.style.minWidth = `${Math.max(3, String(this.lines).length) + 1.4}ch`;
         this.scrolled();
     }
@@ -163,7 +163,7 @@ export class Editor {
         const { scrollTop, offsetHeight } = this.area;
         const first = Math.floor(scrollTop / LINE);
         const last = Math.min(this.lines, first + Math.ceil(offsetHeight / LINE) + 1);
-        this.numbers.textContent = Array.from({ length: Math.max(last - first, 0) }, (_, place) => first + place + 1).join('\n');
+        this.numbers.textContent = Array.from({ length: Math.max(last - first, 0) }, (_, index) => first + index + 1).join('\n');
         this.numbers.style.height = `${offsetHeight}px`;
         this.numbers.scrollTop = scrollTop % LINE;
         const top = PADDING + this.marked * LINE - this.area.scrollTop;

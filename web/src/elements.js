@@ -1,6 +1,6 @@
-// How the page makes its elements. Words of files become text and never markup.
+// How the page finds and makes its elements. Words of files become text and never markup.
 
-export const at = (id) => document.getElementById(id);
+export const byId = (id) => document.getElementById(id);
 
 // An element with these properties and children; a child that is a string becomes a text.
 export function made(name, properties = {}, ...children) {

@@ -48,18 +48,14 @@ export class Fraction {
     }
 
     toNumber() {
-        const places = 10n ** 15n;
-        return Number(this.over * places / this.under) / 1e15;
+        const decimals = 10n ** 15n;
+        return Number(this.over * decimals / this.under) / 1e15;
     }
 }
 
 export const ONE = new Fraction(1n);
 
-// The two conditions of the published test with their numbers: what each sum is, and whether it is at most 1. The second is absent
-// where its scale is not defined.
-export function conditionsOf(lowLow, highLow, highHigh) {
-    const plain = lowLow.plus(highHigh);
-    if (!lowLow.isAtMost(ONE) || lowLow.toString() === '1/1') return { plain, scale: null, virtual: null };
-    const scale = highLow.by(ONE.minus(lowLow));
-    return { plain, scale, virtual: scale.times(lowLow).plus(highHigh) };
+// A fraction as a reader needs it: a whole number, or p/q with its decimal value.
+export function written(fraction) {
+    return fraction.under === 1n ? String(fraction.over) : `${fraction} (about ${fraction.toNumber().toFixed(2)})`;
 }

@@ -48,11 +48,12 @@ export class Instance {
         return block;
     }
 
-    // The bytes of a block, and the same as numbers: as the memory is now, which a call may move.
+    // The bytes of a block where the memory is now. A call may move the memory.
     bytesAt(block, length) {
         return new Uint8Array(this.calls.memory.buffer, Number(block), length);
     }
 
+    // The block as numbers, where the memory is now. A call may move the memory.
     numbersAt(block, length) {
         return new DataView(this.calls.memory.buffer, Number(block), length);
     }

@@ -1,17 +1,24 @@
 // The page: what is edited is asked of the proved code, and the answers are shown.
-import { showChart, showDemand, showSchedule, showVerdict, traceHint } from './answers.js';
 import { Asker, Stopped } from './asking.js';
-import { showChanges, showFit } from './changes.js';
-import { showCheck } from './checked.js';
+import { showChanges } from './changes.js';
+import { showCheck } from './check.js';
+import { showDemand } from './demand.js';
 import { Editor } from './editor.js';
-import { at, badLine, grouped, made } from './elements.js';
+import { badLine, byId, grouped, made } from './elements.js';
 import { EXAMPLES } from './examples.js';
-import { fragmentOf, MOST_LINK, stateOf } from './link.js';
+import { showFit } from './fit.js';
+import { traceHint } from './hints.js';
+import { stateOf } from './link.js';
+import { hideLink, showLink } from './linking.js';
 import { newWorker, openModules } from './opening.js';
-import { isRecording } from './recording.js';
-import { asking, asksOf, Outdated, page } from './shared.js';
-import { tasksIn } from './toml.js';
+import { isRecording } from './recorded_events.js';
+import { showSchedule } from './schedule.js';
+import { asksOf, handler, Outdated, page, showState } from './shared.js';
+import { focusTab, listenToTabs, showTab, tabNow } from './tabs.js';
+import { readTasks } from './task_file.js';
+import { showChart } from './texts.js';
 import { Unseen } from './unseen.js';
+import { showVerdict } from './verdict.js';
 import { View } from './view.js';
 import { MOST_JOBS, workOf } from './workload.js';
 
@@ -22,15 +29,13 @@ const EDITORS = ['tasks', 'work', 'trace', 'demands'];
 const NO_WORK = 'task,release,need\n';
 // What a file or a field holds if neither an example nor a link names it.
 const FIRST_VALUES = { tasks: EXAMPLES[0].tasks, trace: '', demands: EXAMPLES.find(({ demands }) => demands !== undefined).demands, ticks: '20', scale: '', processors: '2', tick: '1000' };
-// Where a failure is shown, by tab.
-const PLACES = { schedule: 'run', judge: 'verdict', fit: 'stretch', demand: 'demanded' };
+// The element of the answer of each tab, in which a failure is shown too.
+const ANSWER_IDS = { schedule: 'run', judge: 'verdict', fit: 'stretch', demand: 'demanded' };
 
 const views = {};
 const unseen = new Unseen();
 let timer = 0;
 let asked = 0;
-
-const tabNow = () => document.querySelector('main').dataset.tab;
 
 // ---- Rounds of answers ----
 
@@ -48,17 +53,17 @@ async function answer(turn) {
     if (page.asker.busyFor() > PATIENCE) page.asker.stop(new Outdated());
     const tab = tabNow();
     try {
-        await answers(tab, asksOf(round));
+        await showAnswers(tab, asksOf(round));
     } catch (error) {
         if (error instanceof Outdated || round !== page.round) return;
         if (error instanceof Stopped) views.run.clear();
-        at(PLACES[tab]).replaceChildren(badLine(error.message));
+        byId(ANSWER_IDS[tab]).replaceChildren(badLine(error.message));
     }
-    unseen.changed(at(tab === 'fit' ? 'check' : PLACES[tab]));
+    unseen.changed(byId(tab === 'fit' ? 'check' : ANSWER_IDS[tab]));
     document.body.dataset.answered = String(turn);
 }
 
-async function answers(tab, ask) {
+async function showAnswers(tab, ask) {
     if (tab === 'demand') {
         await showDemand(ask);
         return;
@@ -67,7 +72,7 @@ async function answers(tab, ask) {
     if (tab === 'schedule') await showSchedule(ask, check.isAdmitted, views.run);
     if (tab === 'judge') {
         const start = await startOf(page.editors.trace.source());
-        at('tick-part').hidden = !isRecording(start);
+        byId('tick-part').hidden = !isRecording(start);
         await showVerdict(ask, views.judge, isRecording(start));
     }
     if (tab === 'fit') {
@@ -84,99 +89,64 @@ async function startOf(source) {
 
 // ---- The parts of the page ----
 
-function show(tab) {
-    document.querySelector('main').dataset.tab = tab;
-    for (const section of document.querySelectorAll('[data-for]')) section.hidden = !section.dataset.for.split(' ').includes(tab);
-    for (const one of document.querySelectorAll('[role=tab]')) {
-        const isChosen = one.id === `tab-${tab}`;
-        one.setAttribute('aria-selected', String(isChosen));
-        one.tabIndex = isChosen ? 0 : -1;
-    }
-    for (const editor of Object.values(page.editors)) editor.shown();
-    unseen.forget();
-}
-
 function choose(tab) {
     show(tab);
     changed();
 }
 
-// The button that leads there is gone then, so the chosen tab gets the focus.
-function showWhatMayChange() {
-    choose('fit');
-    at('tab-fit').focus();
+function show(tab) {
+    showTab(tab);
+    for (const editor of Object.values(page.editors)) editor.shown();
+    unseen.forget();
 }
 
-// Puts files and fields into the page: those of an example or of a link. What these do not name is not left of what was there before: the
-// work file is one that is filled in for the tasks, and the rest is as in the example that shows it first.
+// Leads to the tab of what may change. The button that leads there is gone then, so the tab gets the focus.
+function showWhatMayChange() {
+    choose('fit');
+    focusTab('fit');
+}
+
+// Puts the files and fields of an example or of a link into the page. Nothing of what was there before is left: a work file that is not
+// named is filled in for the tasks, and the rest is as in the first example that shows it.
 function load(state) {
     const values = { ...FIRST_VALUES, ...state };
     const texts = { ...values, work: values.work ?? workOf(readTasks(values.tasks), Number(values.ticks), false) ?? NO_WORK };
     for (const name of EDITORS) page.editors[name].set(texts[name]);
-    for (const name of FIELDS) at(name).value = texts[name];
+    for (const name of FIELDS) byId(name).value = texts[name];
     for (const view of Object.values(views)) view.clear();
     choose(state.tab);
-}
-
-// The tasks that can be read, if all of them can.
-function readTasks(text) {
-    const tasks = tasksIn(text);
-    return tasks.every(({ period, low }) => period >= 1 && low >= 1) ? tasks : [];
 }
 
 // Fills in a work file for the tasks and the ticks that are here.
 function fill(hasOverruns) {
     const tasks = readTasks(page.editors.tasks.text());
     const isKnown = tasks.length > 0;
-    const text = isKnown ? workOf(tasks, Number(at('ticks').value) || 1, hasOverruns) : null;
+    const text = isKnown ? workOf(tasks, Number(byId('ticks').value) || 1, hasOverruns) : null;
     if (text !== null) page.editors.work.set(text);
     else page.editors.work.refuse(isKnown ? `That would be more than ${grouped(MOST_JOBS)} jobs: fill in fewer ticks.` : 'The task file has no tasks that can be read.');
-}
-
-function showLink() {
-    const state = { tab: tabNow() };
-    const parts = { schedule: ['tasks', 'work', 'ticks'], judge: ['tasks', 'trace', 'scale', 'tick'], fit: ['tasks', 'processors'], demand: ['demands'] }[state.tab];
-    const isLarge = parts.some((name) => page.editors[name]?.isLarge());
-    for (const name of parts) state[name] = page.editors[name]?.text() ?? at(name).value;
-    const fragment = isLarge ? null : fragmentOf(state);
-    at('link-part').hidden = false;
-    at('link-text').value = fragment === null ? `A link holds at most ${grouped(MOST_LINK)} bytes of files.` : `${location.href.split('#')[0]}${fragment}`;
-    at('link-text').focus();
-    at('link-text').select();
 }
 
 // Loads the files of the link by which the page was opened. A fragment that is no link of this page is reported.
 function loadLink() {
     if (location.hash === '') return false;
     const state = stateOf(location.hash);
-    at('state').className = 'state bad';
-    at('state').textContent = state === null ? 'The link that opened this page is damaged or too long, so an example is shown.' : '';
+    showState(state === null ? 'The link that opened this page is damaged or too long, so an example is shown.' : '');
     if (state !== null) load(state);
     return state !== null;
 }
 
 function listen() {
-    for (const name of FIELDS) at(name).addEventListener('input', changed);
-    const tabs = [...document.querySelectorAll('[role=tab]')];
-    tabs.forEach((one, place) => {
-        one.addEventListener('click', () => choose(one.id.slice(4)));
-        one.addEventListener('keydown', (event) => {
-            const next = { ArrowRight: place + 1, ArrowLeft: place - 1 + tabs.length, Home: 0, End: tabs.length - 1 }[event.key];
-            if (next === undefined) return;
-            event.preventDefault();
-            tabs[next % tabs.length].focus();
-            choose(tabs[next % tabs.length].id.slice(4));
-        });
-    });
-    EXAMPLES.forEach(({ name }, place) => at('example').append(made('option', { value: place }, name)));
-    at('example').addEventListener('change', () => load(EXAMPLES[at('example').value]));
-    at('cancel').addEventListener('click', () => page.asker.stop());
-    at('fill').addEventListener('click', () => fill(false));
-    at('fill-overrun').addEventListener('click', () => fill(true));
-    at('link').addEventListener('click', showLink);
-    at('link-close').addEventListener('click', () => { at('link-part').hidden = true; });
-    at('to-judge').addEventListener('click', asking(takeToJudge));
-    at('chart-part').addEventListener('toggle', () => at('chart-part').open && !at('chart').firstChild && showChart(asksOf(page.round)).catch(() => {}));
+    for (const name of FIELDS) byId(name).addEventListener('input', changed);
+    listenToTabs(choose);
+    EXAMPLES.forEach(({ name }, index) => byId('example').append(made('option', { value: index }, name)));
+    byId('example').addEventListener('change', () => load(EXAMPLES[byId('example').value]));
+    byId('cancel').addEventListener('click', () => page.asker.stop());
+    byId('fill').addEventListener('click', () => fill(false));
+    byId('fill-overrun').addEventListener('click', () => fill(true));
+    byId('link').addEventListener('click', showLink);
+    byId('link-close').addEventListener('click', hideLink);
+    byId('to-judge').addEventListener('click', handler(takeToJudge));
+    byId('chart-part').addEventListener('toggle', () => byId('chart-part').open && !byId('chart').firstChild && showChart(asksOf(page.round)).catch(() => {}));
     window.addEventListener('hashchange', loadLink);
     unseen.listen();
     // A file that is dropped beside the editors must not take the place of the page.
@@ -197,24 +167,23 @@ function watch() {
     }).observe(document.body);
     setInterval(() => {
         const time = page.asker.busyFor();
-        at('busy').hidden = time < PATIENCE;
-        at('busy-words').textContent = `Working, ${(time / 1000).toFixed(1)} s`;
+        byId('busy').hidden = time < PATIENCE;
+        byId('busy-words').textContent = `Working, ${(time / 1000).toFixed(1)} s`;
     }, 100);
 }
 
 async function begin() {
     try {
         page.asker = new Asker(await openModules(), newWorker);
-        at('state').textContent = '';
-        for (const name of EDITORS) page.editors[name] = new Editor(at(name), changed);
-        for (const name of ['run', 'judge']) views[name] = new View(name, at(`${name}-drawing`));
-        at('trace-hint').append(traceHint());
+        byId('state').textContent = '';
+        for (const name of EDITORS) page.editors[name] = new Editor(byId(name), changed);
+        for (const name of ['run', 'judge']) views[name] = new View(name, byId(`${name}-drawing`));
+        byId('trace-hint').append(traceHint());
         listen();
         watch();
         if (!loadLink()) load(EXAMPLES[0]);
     } catch (error) {
-        at('state').className = 'state bad';
-        at('state').textContent = `The proved code cannot run here: ${error.message}`;
+        showState(`The proved code cannot run here: ${error.message}`);
     }
 }
 

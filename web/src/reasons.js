@@ -6,7 +6,14 @@ import { OUTCOMES } from './timeline.js';
 
 const ENDS = ['done', 'stop'];
 
-// The state of a timeline in which a row is placed: the mode, the tasks and the pending jobs with their keys.
+// The last index below this length of which this is so, or -1.
+function lastIndex(length, isSo) {
+    let index = length - 1;
+    while (index >= 0 && !isSo(index)) index -= 1;
+    return index;
+}
+
+// What a timeline comes to before a row: the mode, the tasks and the pending jobs with their keys.
 class State {
     constructor(timeline, rule) {
         Object.assign(this, { timeline, rule });
@@ -20,8 +27,8 @@ class State {
     // A pending job: its key is its deadline, or the virtual deadline of a high job in low mode.
     job(lane, job) {
         const { level, period, low, high, releases } = this.timeline.lanes[lane];
-        const { place, used } = this.timeline.pending[lane].get(job);
-        const release = releases.tick.at(place);
+        const { index, used } = this.timeline.pending[lane].get(job);
+        const release = releases.tick.at(index);
         const virtual = this.isHigh ? null : virtualSpan(this.rule, { level, period });
         const key = new Fraction(BigInt(release)).plus(virtual ?? new Fraction(BigInt(period)));
         return { name: this.name(lane, job), lane, release, used, level, low, own: high ?? low, isVirtual: virtual !== null, key };
@@ -39,21 +46,19 @@ class State {
         return least;
     }
 
-    // Where a job is that is not pending.
+    // What became of a job that is not pending.
     whereabouts(lane, job) {
         const { releases } = this.timeline.lanes[lane];
+        const release = lastIndex(releases.tick.length, (index) => releases.job.at(index) === job);
+        if (release < 0) return { kind: 'never', count: releases.tick.length };
+        if (!releases.isKept.at(release)) return { kind: 'dropped', boundary: releases.tick.at(release) };
         const { slices, discards } = this.timeline;
-        let place = releases.tick.length - 1;
-        while (place >= 0 && releases.job.at(place) !== job) place -= 1;
-        if (place < 0) return { kind: 'never', count: releases.tick.length };
-        if (!releases.isKept.at(place)) return { kind: 'dropped', boundary: releases.tick.at(place) };
-        for (let at = discards.tick.length - 1; at >= 0; at -= 1) {
-            if (discards.lane.at(at) === lane && discards.job.at(at) === job) return { kind: 'discarded', boundary: discards.tick.at(at) };
-        }
-        let at = slices.end.length - 1;
-        while (at >= 0 && !(slices.lane.at(at) === lane && slices.job.at(at) === job && ENDS.includes(OUTCOMES[slices.outcome.at(at)]))) at -= 1;
-        if (at < 0) throw new RangeError('this job is pending');
-        return { kind: OUTCOMES[slices.outcome.at(at)], boundary: slices.end.at(at) };
+        const discard = lastIndex(discards.tick.length, (index) => discards.lane.at(index) === lane && discards.job.at(index) === job);
+        if (discard >= 0) return { kind: 'discarded', boundary: discards.tick.at(discard) };
+        const outcome = (index) => OUTCOMES[slices.outcome.at(index)];
+        const last = lastIndex(slices.end.length, (index) => slices.lane.at(index) === lane && slices.job.at(index) === job && ENDS.includes(outcome(index)));
+        if (last < 0) throw new RangeError('this job is pending');
+        return { kind: outcome(last), boundary: slices.end.at(last) };
     }
 }
 

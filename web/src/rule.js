@@ -3,7 +3,7 @@ import { Fraction } from './fraction.js';
 
 const PLAIN = { name: 'plain', scale: new Fraction(1n) };
 
-// The rule of a trace: that of the words p and q, or else that of the answer of `check`.
+// The rule of a trace: virtual deadlines under a scale of two words p and q, or else the rule that the answer of `check` says.
 export function ruleOf(scale, check) {
     if (scale.length === 2) return { name: 'virtual', scale: Fraction.of(scale.join('/')) };
     const found = /^rule virtual\nx (\S+)$/m.exec(check);

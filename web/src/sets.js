@@ -10,8 +10,8 @@ const LEVELS = { low: 0, high: 1 };
 // Tasks as the module reads them: level, period and two budgets, in four bytes each. A low task has its one budget twice.
 function coded(tasks) {
     const bytes = new DataView(new ArrayBuffer(TASK * tasks.length));
-    tasks.forEach(({ level, period, low, high }, place) => {
-        [LEVELS[level], period, low, level === 'high' ? high : low].forEach((number, part) => bytes.setUint32(TASK * place + 4 * part, number, true));
+    tasks.forEach(({ level, period, low, high }, index) => {
+        [LEVELS[level], period, low, level === 'high' ? high : low].forEach((number, part) => bytes.setUint32(TASK * index + 4 * part, number, true));
     });
     return new Uint8Array(bytes.buffer);
 }
@@ -27,12 +27,12 @@ export class Sets extends Instance {
         });
     }
 
-    // The greatest budgets of each task: 0 if the set is admitted with none, and for the high budget of a low task.
+    // The greatest budgets of each task. One is 0 if the set is admitted with no such budget, and the high budget of a low task is 0.
     budgets(tasks) {
         const { status, why, bytes } = this.stored('edfvd_raw_sensitivity', tasks, BUDGETS * tasks.length, BigInt(tasks.length));
         if (status !== 0) return { status, why };
         const numbers = new DataView(bytes.buffer);
-        return { status, most: tasks.map((_, place) => ({ low: numbers.getUint32(BUDGETS * place, true), high: numbers.getUint32(BUDGETS * place + 4, true) })) };
+        return { status, most: tasks.map((_, index) => ({ low: numbers.getUint32(BUDGETS * index, true), high: numbers.getUint32(BUDGETS * index + 4, true) })) };
     }
 
     // The least and the greatest scale that hold, with status 0. A least scale of 0 is no scale itself.
@@ -40,7 +40,7 @@ export class Sets extends Instance {
         const { status, why, bytes } = this.stored('edfvd_raw_scales', tasks, SCALES);
         if (status !== 0) return { status, why };
         const numbers = new DataView(bytes.buffer);
-        const [least, leastUnder, greatest, greatestUnder] = [0, 8, 16, 24].map((place) => numbers.getBigUint64(place, true));
+        const [least, leastUnder, greatest, greatestUnder] = [0, 8, 16, 24].map((offset) => numbers.getBigUint64(offset, true));
         return { status, least: new Fraction(least, leastUnder).toString(), greatest: new Fraction(greatest, greatestUnder).toString() };
     }
 

@@ -1,13 +1,13 @@
 // What the parts of the page share: the worker, the editors, and the number of the present round of answers.
 import { Stopped } from './asking.js';
-import { at } from './elements.js';
+import { byId } from './elements.js';
 
 export const page = { asker: null, editors: {}, round: 0 };
 
 // The files have changed since the question was asked, so its answer is not wanted any more.
 export class Outdated extends Error {}
 
-// A function that asks for the round of answers that begins now.
+// A function that asks the questions of this round of answers. It throws Outdated if another round has begun before the answer comes.
 export function asksOf(round) {
     return async (kind, given) => {
         const answer = await page.asker.ask(kind, given);
@@ -16,15 +16,20 @@ export function asksOf(round) {
     };
 }
 
-// A handler that asks a question outside the rounds of answers. If the question is cancelled, nothing comes of it.
-export function asking(action) {
+// Shows what went wrong outside the answers, above all of them.
+export function showState(words) {
+    byId('state').className = 'state bad';
+    byId('state').textContent = words;
+}
+
+// A handler of an event that asks a question outside the rounds of answers. If the question is cancelled, nothing comes of it.
+export function handler(action) {
     return async () => {
         try {
             await action();
         } catch (error) {
             if (error instanceof Outdated || error instanceof Stopped) return;
-            at('state').className = 'state bad';
-            at('state').textContent = error.message;
+            showState(error.message);
         }
     };
 }

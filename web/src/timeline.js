@@ -1,55 +1,18 @@
 // A trace as the drawing needs it: who has which ticks, the releases of each task, jobs that were discarded or late, and the stretches of
 // high mode. The verdict on the trace is the proved code's; what is kept here is the page's own reading.
+import { columns } from './columns.js';
 
 export const OUTCOMES = ['more', 'done', 'stop', 'over'];
 const [MORE, DONE, STOP, OVER] = OUTCOMES.keys();
 
-// A list of whole numbers below 2^32, in four bytes each.
-class Column {
-    constructor() {
-        this.length = 0;
-        this.numbers = new Uint32Array(256);
-    }
+// The outcome of a tick by its last word. A word that is none of them is read as `more`.
+const outcomeOf = (how) => Math.max(OUTCOMES.indexOf(how), MORE);
 
-    push(number) {
-        if (this.length === this.numbers.length) {
-            const more = new Uint32Array(2 * this.length);
-            more.set(this.numbers);
-            this.numbers = more;
-        }
-        this.numbers[this.length] = number;
-        this.length += 1;
-    }
-
-    at(place) {
-        return this.numbers[place];
-    }
-
-    set(place, number) {
-        this.numbers[place] = number;
-    }
-
-    // The place of the first number that is at least this one, in a list that never falls.
-    placeOf(least) {
-        let [low, high] = [0, this.length];
-        while (low < high) {
-            const middle = (low + high) >>> 1;
-            if (this.numbers[middle] < least) low = middle + 1;
-            else high = middle;
-        }
-        return low;
-    }
-}
-
-export function columns(...names) {
-    return Object.fromEntries(names.map((name) => [name, new Column()]));
-}
-
-const SIGNS = new Set(OUTCOMES);
 const newReleases = () => columns('tick', 'job', 'isKept', 'isLate', 'isInHighMode');
 
 class Timeline {
-    // The tasks are those of the task file if it names each task of the trace; the others are added without level, period and budgets.
+    // A task of the trace that is none of these tasks of the task file gets a lane without level, period and budgets. `pending` has the
+    // pending jobs of each lane by number: the index of their release, and how many ticks they have used.
     constructor(tasks) {
         this.lanes = tasks.map((task) => ({ ...task, releases: newReleases() }));
         this.laneOf = new Map(tasks.map(({ name }, lane) => [name, lane]));
@@ -73,7 +36,7 @@ class Timeline {
 
     release(tick, lane, job, isKept) {
         const { releases } = this.lanes[lane];
-        if (isKept) this.pending[lane].set(job, { place: releases.tick.length, used: 0 });
+        if (isKept) this.pending[lane].set(job, { index: releases.tick.length, used: 0 });
         releases.tick.push(tick);
         releases.job.push(job);
         releases.isKept.push(Number(isKept));
@@ -123,7 +86,7 @@ class Timeline {
         const { period, releases } = this.lanes[lane];
         const waiting = this.pending[lane].get(job);
         if (!waiting) return;
-        if (releases.tick.at(waiting.place) + period < boundary) releases.isLate.set(waiting.place, 1);
+        if (releases.tick.at(waiting.index) + period < boundary) releases.isLate.set(waiting.index, 1);
         this.pending[lane].delete(job);
     }
 
@@ -132,15 +95,14 @@ class Timeline {
         this.endOfHighMode(this.ticks, false);
         this.pending.forEach((jobs, lane) => {
             const { period, releases } = this.lanes[lane];
-            for (const { place } of jobs.values()) if (releases.tick.at(place) + period <= this.ticks) releases.isLate.set(place, 1);
+            for (const { index } of jobs.values()) if (releases.tick.at(index) + period <= this.ticks) releases.isLate.set(index, 1);
         });
     }
 
-    // How many jobs are late, and how many did not get all their ticks: by the word for why.
+    // How many jobs are late, and for each reason how many did not get all their ticks.
     counts() {
-        const sum = (column, wanted) => column.numbers.subarray(0, column.length).reduce((count, one) => count + Number(one === wanted), 0);
-        const ofLanes = (name, wanted) => this.lanes.reduce((count, { releases }) => count + sum(releases[name], wanted), 0);
-        return { late: ofLanes('isLate', 1), dropped: ofLanes('isKept', 0), discarded: this.discards.tick.length, stopped: sum(this.slices.outcome, STOP) };
+        const ofLanes = (name, wanted) => this.lanes.reduce((sum, { releases }) => sum + releases[name].count(wanted), 0);
+        return { late: ofLanes('isLate', 1), dropped: ofLanes('isKept', 0), discarded: this.discards.tick.length, stopped: this.slices.outcome.count(STOP) };
     }
 
     idle(begin, length) {
@@ -190,7 +152,7 @@ export function timelineOf(tasks, records, row, reasonOf = () => null) {
         timeline.records += 1;
         if (event === 'idle') timeline.idle(tick, length);
         else if (event === 'release') timeline.release(tick, lane, job, how === 'kept');
-        else timeline.tick(tick, length, lane, job, SIGNS.has(how) ? OUTCOMES.indexOf(how) : MORE);
+        else timeline.tick(tick, length, lane, job, outcomeOf(how));
     }
     timeline.finish();
     return { timeline, fault };

@@ -1,5 +1,5 @@
 // A bar at the foot of the window with the answer of the tab, from when the answer changes out of sight until it is seen.
-import { at } from './elements.js';
+import { byId } from './elements.js';
 
 const LEAST_SEEN = 24;
 
@@ -11,28 +11,28 @@ export function sideOf({ top, bottom }, height) {
 
 export class Unseen {
     constructor() {
-        this.place = null;
+        this.element = null;
     }
 
-    // The answer in this place is new, or another tab's.
-    changed(place) {
-        this.place = place;
+    // The answer in this element is new, or it is that of a tab that is shown now.
+    changed(element) {
+        this.element = element;
         this.look();
         const isCalm = matchMedia('(prefers-reduced-motion: reduce)').matches;
-        if (this.place && !isCalm) at('unseen').animate([{ boxShadow: '0 0 0 4px currentColor' }, {}], 600);
+        if (this.element && !isCalm) byId('unseen').animate([{ boxShadow: '0 0 0 4px currentColor' }, {}], 600);
     }
 
     // Another tab is shown, whose answer is still to come.
     forget() {
-        this.place = null;
-        at('unseen').hidden = true;
+        this.element = null;
+        byId('unseen').hidden = true;
     }
 
     // Shows where the answer is, or forgets it if it is seen.
     look() {
-        const bar = at('unseen');
-        const answer = this.place?.firstElementChild;
-        const side = answer ? sideOf(this.place.getBoundingClientRect(), innerHeight - (bar.hidden ? 0 : bar.offsetHeight)) : '';
+        const bar = byId('unseen');
+        const answer = this.element?.firstElementChild;
+        const side = answer ? sideOf(this.element.getBoundingClientRect(), innerHeight - (bar.hidden ? 0 : bar.offsetHeight)) : '';
         if (side === '') {
             this.forget();
             return;
@@ -42,18 +42,18 @@ export class Unseen {
         bar.textContent = `Answer ${side}: ${(answer.querySelector('strong') ?? answer).textContent}`;
     }
 
-    // Goes there, with the focus, which would be lost with the bar. After `scrollIntoView` Firefox goes back there once more when the answer
-    // changes, even if the page was scrolled away meanwhile.
+    // Scrolls to the answer, which gets the focus: it would be lost with the bar. After `scrollIntoView` Firefox would scroll there again
+    // when the answer changes, even if the page was scrolled away meanwhile.
     go() {
-        const { place } = this;
-        place.tabIndex = -1;
-        place.focus({ preventScroll: true });
-        scrollTo(0, scrollY + place.getBoundingClientRect().top);
+        const { element } = this;
+        element.tabIndex = -1;
+        element.focus({ preventScroll: true });
+        scrollTo(0, scrollY + element.getBoundingClientRect().top);
         this.look();
     }
 
     listen() {
-        at('unseen').addEventListener('click', () => this.go());
-        for (const kind of ['scroll', 'resize']) window.addEventListener(kind, () => this.place && this.look(), { passive: true });
+        byId('unseen').addEventListener('click', () => this.go());
+        for (const kind of ['scroll', 'resize']) window.addEventListener(kind, () => this.element && this.look(), { passive: true });
     }
 }

@@ -1,23 +1,24 @@
 // A drawing with its controls: which ticks of a kept trace are seen, and moving among them by buttons, fields and keys.
 import { button, made, save } from './elements.js';
+import { legend } from './legend.js';
 import { page } from './shared.js';
-import { legend, svgFile, svgOf } from './svg.js';
+import { svgFile, svgOf } from './svg.js';
 
 const LEAST_WIDTH = 280;
 const WIDE_TICK = 12;
 const LEAST_TICKS = 20;
 
 export class View {
-    constructor(name, place) {
+    constructor(name, element) {
         this.name = name;
-        this.place = place;
+        this.element = element;
         this.clear();
     }
 
     clear() {
         this.trace = null;
         this.painted = 0;
-        this.place.replaceChildren();
+        this.element.replaceChildren();
     }
 
     // Shows a trace that the worker keeps. The window stays where it was if the trace is as long as before and no fault must be seen.
@@ -25,7 +26,7 @@ export class View {
         const stays = this.trace !== null && this.trace.ticks === Math.max(ticks, 1) && !fault;
         const old = this.trace;
         this.trace = { ticks: Math.max(ticks, 1), fault, begin: 0, end: 0 };
-        const wide = Math.max(LEAST_TICKS, this.place.clientWidth / WIDE_TICK);
+        const wide = Math.max(LEAST_TICKS, this.element.clientWidth / WIDE_TICK);
         const span = ticks <= 4 * wide ? this.trace.ticks : Math.min(first, this.trace.ticks);
         if (stays) Object.assign(this.trace, { begin: old.begin, end: old.end });
         else this.trace.end = span;
@@ -36,7 +37,7 @@ export class View {
         }
         if (!this.canvas?.isConnected) {
             this.canvas = this.newCanvas();
-            this.place.replaceChildren(this.controls(), this.canvas, legend());
+            this.element.replaceChildren(this.controls(), this.canvas, legend());
         }
         return this.paint();
     }
@@ -50,7 +51,7 @@ export class View {
         if (picture === null || turn !== this.painted || this.trace === null) return;
         this.canvas.replaceChildren(svgOf(picture, this.name));
         if (!picture.isAllShown) this.canvas.append(made('p', { className: 'hint' }, 'Signs that would hide each other are not drawn: show fewer ticks to see them.'));
-        const part = (name) => this.place.querySelector(`[name=${name}]`);
+        const part = (name) => this.element.querySelector(`[name=${name}]`);
         part('begin').value = begin;
         part('end').value = end;
         part('back').disabled = begin === 0;
@@ -78,7 +79,7 @@ export class View {
         this.move(begin + by, end + by);
     }
 
-    // Shows more or fewer ticks about the same middle, or from the first tick on if that one is seen.
+    // Shows this many times as many ticks about the middle of the window, or from the first tick on if the first one is seen.
     zoom(factor) {
         const { begin, end } = this.trace;
         const span = (end - begin) * factor;
@@ -103,7 +104,7 @@ export class View {
     controls() {
         const field = (name) => {
             const input = made('input', { name, type: 'number', min: 0 });
-            input.addEventListener('change', () => this.move(...['begin', 'end'].map((one) => Number(this.place.querySelector(`[name=${one}]`).value))));
+            input.addEventListener('change', () => this.move(...['begin', 'end'].map((one) => Number(this.element.querySelector(`[name=${one}]`).value))));
             return input;
         };
         const push = (name, sign, label, action) => button(sign, action, { name, title: label, ariaLabel: label });

@@ -1,16 +1,16 @@
 // Answers the page's questions in a thread of its own: asks the proved code, and reads, draws and marks traces. The first message has the
 // modules; each other message is a question, and the questions are answered one after the other.
-import { Edfvd } from './edfvd.js';
-import { OUT_OF_MEMORY, STOPPED } from './instance.js';
 import { lineAt, recordsIn } from './csv.js';
 import { pictureOf } from './drawing.js';
+import { Edfvd } from './edfvd.js';
+import { OUT_OF_MEMORY, STOPPED } from './instance.js';
 import { reasonOf } from './reasons.js';
-import { isRecording, Refused } from './recording.js';
-import { traceOf } from './recorded.js';
+import { isRecording, Refused } from './recorded_events.js';
+import { traceOf } from './recorded_trace.js';
 import { ruleOf } from './rule.js';
-import { timelineOf } from './timeline.js';
 import { Sets } from './sets.js';
-import { tasksIn } from './toml.js';
+import { tasksIn } from './task_file.js';
+import { timelineOf } from './timeline.js';
 
 const FIRST_WINDOW = 240;
 const MOST_LINE = 120;
@@ -47,7 +47,7 @@ function texted({ exit, bytes, took }) {
 function keep(name, tasks, trace, { row, why }, scale = []) {
     const text = decoded(trace);
     const rule = ruleOf(scale, scale.length > 0 ? '' : texted(answered(['check', '1'], tasks)).text);
-    const { timeline, fault } = timelineOf(tasksIn(decoded(tasks)), recordsIn(text), row, (before, placed) => reasonOf(before, rule, why, placed));
+    const { timeline, fault } = timelineOf(tasksIn(decoded(tasks)), recordsIn(text), row, (before, fields) => reasonOf(before, rule, why, fields));
     kept.set(name, { tasks, trace, timeline, rule });
     const { ticks, records } = timeline;
     const first = timeline.slices.begin.length > FIRST_WINDOW ? timeline.slices.begin.at(FIRST_WINDOW) : ticks;
@@ -60,6 +60,20 @@ function keptOf(name) {
     return kept.get(name);
 }
 
+// The trace of a recording, and a line on how far its events were moved; or `refusal`, the answer that says why there is none.
+function ofRecording(tasks, recording, tickLength) {
+    const rule = texted(answered(['check', '1'], tasks));
+    if (rule.exit > 1) return { refusal: { ...rule, exit: 3 } };
+    try {
+        const { trace, moved } = traceOf(tasksIn(decoded(tasks)), /^rule virtual$/m.test(rule.text), decoded(recording), tickLength);
+        return { trace: new TextEncoder().encode(trace), moved };
+    } catch (error) {
+        if (!(error instanceof Refused)) throw error;
+        return { refusal: { exit: 5, refused: error.message } };
+    }
+}
+
+// The answer to each kind of question.
 const ANSWERS = {
     check: ({ tasks }) => texted(answered(['check', '1'], tasks)),
 
@@ -73,25 +87,16 @@ const ANSWERS = {
         return { exit: 0, took: run.took, verdict, report, ...keep('run', tasks, run.bytes, LEGAL) };
     },
 
-    // The verdict on a trace, or on the trace that a recording makes, whose tick is `tick` nanoseconds.
-    judge({ tasks, trace, scale, tick }) {
+    // The verdict on a trace, or on the trace of a recording with ticks of this many nanoseconds.
+    judge({ tasks, trace, scale, tickLength }) {
         kept.delete('judge');
-        let [given, moved] = [trace, ''];
-        if (isRecording(decoded(trace.subarray(0, 64)))) {
-            const rule = texted(answered(['check', '1'], tasks));
-            if (rule.exit > 1) return { ...rule, exit: 3 };
-            try {
-                const made = traceOf(tasksIn(decoded(tasks)), /^rule virtual$/m.test(rule.text), decoded(trace), tick);
-                [given, moved] = [new TextEncoder().encode(made.trace), made.moved];
-            } catch (error) {
-                if (error instanceof Refused) return { exit: 5, refused: error.message };
-                throw error;
-            }
-        }
-        const answer = { ...texted(answered(['judge', '1', '2', ...scale], tasks, given)), moved };
+        const isRecorded = isRecording(decoded(trace.subarray(0, 64)));
+        const given = isRecorded ? ofRecording(tasks, trace, tickLength) : { trace, moved: '' };
+        if (given.refusal) return given.refusal;
+        const answer = { ...texted(answered(['judge', '1', '2', ...scale], tasks, given.trace)), moved: given.moved };
         if (answer.exit !== 0 && answer.exit !== 6) return answer;
         const illegal = /^illegal row (\d+) (\w+)$/.exec(answer.text);
-        return { ...answer, ...keep('judge', tasks, given, illegal ? { row: Number(illegal[1]), why: illegal[2] } : LEGAL, scale) };
+        return { ...answer, ...keep('judge', tasks, given.trace, illegal ? { row: Number(illegal[1]), why: illegal[2] } : LEGAL, scale) };
     },
 
     fit({ tasks, processors }) {

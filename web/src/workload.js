@@ -7,9 +7,9 @@ export const MOST_JOBS = 50000;
 export function workOf(tasks, ticks, hasOverruns) {
     const count = tasks.reduce((sum, { period }) => sum + Math.ceil(ticks / period), 0);
     if (!(count <= MOST_JOBS)) return null;
-    const jobs = tasks.flatMap(({ name, level, period, low, high }, place) => Array.from({ length: Math.ceil(ticks / period) }, (_, job) => ({
-        name, place, release: job * period, need: hasOverruns && job === 0 && level === 'high' ? high : low,
+    const jobs = tasks.flatMap(({ name, level, period, low, high }, index) => Array.from({ length: Math.ceil(ticks / period) }, (_, job) => ({
+        name, index, release: job * period, need: hasOverruns && job === 0 && level === 'high' ? high : low,
     })));
-    jobs.sort((one, other) => one.release - other.release || one.place - other.place);
+    jobs.sort((one, other) => one.release - other.release || one.index - other.index);
     return `task,release,need\n${jobs.map(({ name, release, need }) => `${name},${release},${need}\n`).join('')}`;
 }

@@ -108,7 +108,7 @@ def refused_numbers(page):
     })''')
     page.click('#cancel')
     page.type('tasks', BOTH_FULL)
-    for place in 'margins', 'scales':
-        page.sees(f'a sentence in place of the {place}', place, 'The proved code refuses the numbers that this page reads from the task file (status 4), so it tries no other values.')
+    for ident in 'margins', 'scales':
+        page.sees(f'a sentence in place of the {ident}', ident, 'The proved code refuses the numbers that this page reads from the task file (status 4), so it tries no other values.')
     page.sees('the rest is there', 'stretch', 'The test admits the set')
     page.open(page.address)

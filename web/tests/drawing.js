@@ -1,7 +1,9 @@
 // Tries the timeline and the drawing of a trace without a browser: what is drawn where, of a trace that was worked out by hand.
 import { recordsIn } from '../src/csv.js';
-import { LEGEND, PATHS, pictureOf } from '../src/drawing.js';
+import { pictureOf } from '../src/drawing.js';
+import { LEGEND } from '../src/legend.js';
 import { ruleOf } from '../src/rule.js';
+import { PATHS } from '../src/signs.js';
 import { timelineOf } from '../src/timeline.js';
 import { ends, equals, holds } from './expect.js';
 
@@ -143,8 +145,8 @@ equals('a deadline that is missed, and the end of its job', ['late', 'deadline',
     [[sign('deadline', 200, 118), 0, 'log 1, deadline 10']], [[sign('stop', 300, 66), 0, 'ctl 1, stop at 11']]]);
 equals('signs of one boundary do not touch', (() => {
     const { shapes } = drawn(0, 12, width, undefined, read('event,tick,task,job,how\nrelease,0,log,1,kept\nidle,0,,,\nrelease,10,log,2,kept\n').timeline);
-    const places = shapes.filter(({ attributes }) => ['release', 'deadline'].includes(attributes.class)).map(({ attributes: { d } }) => Number(/^M([\d.]+)/.exec(d)[1]));
-    return places.map((place) => Math.round(place - LEFT) + 0);
+    const positions = shapes.filter(({ attributes }) => ['release', 'deadline'].includes(attributes.class)).map(({ attributes: { d } }) => Number(/^M([\d.]+)/.exec(d)[1]));
+    return positions.map((position) => Math.round(position - LEFT) + 0);
 })(), [0, 106, 94]);
 const dropping = drawn(0, 12, width, undefined, read('event,tick,task,job,how\nrelease,0,ctl,1,kept\ntick,0,ctl,1,more\ntick,1,ctl,1,over\nrelease,2,log,1,dropped\n').timeline);
 equals('a release that is dropped stands at its boundary', ['release', 'dropped'].map((kind) => of(dropping, kind).at(-1)[0]), [sign('release', 20, 118), sign('dropped', 20, 118)]);
@@ -236,7 +238,7 @@ equals('so are virtual deadlines', [16, 17].map((count) => virtual(twos(count)).
 const covered = of(picture, 'low').reduce((sum, [, wide]) => sum + wide, 0);
 holds('narrow ticks stay visible', covered > 400 && covered < 1000);
 equals('a window in the middle of many ticks', of(drawn(50000, 50020, 1000, undefined, long), 'release').length, 3);
-holds('no place outside the picture', picture.shapes.every(({ attributes: { x, width: wide } }) => x === undefined || (x >= 0 && x + (wide ?? 0) <= 1000.1)));
+holds('nothing is outside the picture', picture.shapes.every(({ attributes: { x, width: wide } }) => x === undefined || (x >= 0 && x + (wide ?? 0) <= 1000.1)));
 
 // ---- Words of others ----
 

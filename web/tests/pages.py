@@ -18,6 +18,7 @@ from usage import WrongWords, ends  # noqa: E402
 from uses import USES  # noqa: E402
 from visitor import Page  # noqa: E402
 
+# The element that each example is seen by, and words of it.
 SEEN = {
     'An overrun': ('run', '12 ticks, no job is late. Not every job got all its ticks: 1 discarded'),
     'A flight computer': ('run', '20,000 ticks, no job is late'),
@@ -41,9 +42,9 @@ HOSTILE = '<img src=x onerror=window.broken=1>'
 
 def examples(page):
     page.wants('each example is tried', page.value('[...document.querySelectorAll("#example option")].map((one) => one.text)') == list(SEEN))
-    for name, (place, words) in SEEN.items():
+    for name, (ident, words) in SEEN.items():
         page.choose(name)
-        page.sees(name, place, words)
+        page.sees(name, ident, words)
         page.picture(''.join(letter if letter.isalnum() else '_' for letter in name.lower()))
 
 
@@ -118,8 +119,8 @@ def long_questions(page):
     page.settle()
     page.value('''(() => {
         const tasks = [...Array(128).keys()];
-        const set = (place, text) => {
-            const it = document.querySelector(place);
+        const set = (selector, text) => {
+            const it = document.querySelector(selector);
             it.value = text;
             it.dispatchEvent(new Event("input", { bubbles: true }));
         };

@@ -2,11 +2,11 @@
 // is right. The file with them is the word of the call.
 import { readFileSync } from 'node:fs';
 import { recordsIn } from '../src/csv.js';
-import { sentencesOf } from '../src/explained.js';
+import { sentencesOf } from '../src/sentences.js';
 import { reasonOf } from '../src/reasons.js';
 import { ruleOf } from '../src/rule.js';
 import { timelineOf } from '../src/timeline.js';
-import { tasksIn } from '../src/toml.js';
+import { tasksIn } from '../src/task_file.js';
 import { ends, equals, holds } from './expect.js';
 
 const keyed = ({ name, key, isVirtual }) => [name, key.toString(), isVirtual];
@@ -21,13 +21,13 @@ const FACTS = {
 };
 
 function lateOf({ lanes }) {
-    return lanes.flatMap(({ name, releases }) => Array.from({ length: releases.tick.length }, (_, place) => place)
-        .filter((place) => releases.isLate.at(place)).map((place) => `${name} ${releases.job.at(place)}`)).sort();
+    return lanes.flatMap(({ name, releases }) => Array.from({ length: releases.tick.length }, (_, index) => index)
+        .filter((index) => releases.isLate.at(index)).map((index) => `${name} ${releases.job.at(index)}`)).sort();
 }
 
 function beyondOf({ lanes, slices }) {
     const ticks = lanes.map(() => 0);
-    for (let place = 0; place < slices.begin.length; place += 1) if (slices.isBeyond.at(place)) ticks[slices.lane.at(place)] += slices.end.at(place) - slices.begin.at(place);
+    for (let index = 0; index < slices.begin.length; index += 1) if (slices.isBeyond.at(index)) ticks[slices.lane.at(index)] += slices.end.at(index) - slices.begin.at(index);
     return ticks;
 }
 

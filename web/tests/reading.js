@@ -2,11 +2,14 @@
 // out by hand.
 import { adviceOn } from '../src/advice.js';
 import { isReadAlike, whyRefused } from '../src/alike.js';
+import { conditionsOf } from '../src/conditions.js';
 import { lineAt, lineOfRecord, recordsIn } from '../src/csv.js';
-import { conditionsOf, Fraction, ONE } from '../src/fraction.js';
+import { Fraction, ONE } from '../src/fraction.js';
 import { fragmentOf, MOST_LINK, stateOf } from '../src/link.js';
-import { noScaleWords, rangeWords, scaleWords } from '../src/scales.js';
-import { documentIn, lineOfTaskError, tasksIn, withNumber, withoutScale, withScale } from '../src/toml.js';
+import { noScaleWords, rangeWords, scaleWords } from '../src/scale_words.js';
+import { withNumber, withoutScale, withScale } from '../src/task_edits.js';
+import { lineOfTaskError, tasksIn } from '../src/task_file.js';
+import { documentIn } from '../src/toml.js';
 import { sideOf } from '../src/unseen.js';
 import { MOST_JOBS, workOf } from '../src/workload.js';
 import { ends, equals, holds } from './expect.js';

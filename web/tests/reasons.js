@@ -1,6 +1,6 @@
 // Tries the explanation of illegal rows on traces that were worked out by hand: for each word of a verdict its facts in words.
 import { recordsIn } from '../src/csv.js';
-import { movedWords, placeOf, sentencesOf } from '../src/explained.js';
+import { movedWords, rowWords, sentencesOf } from '../src/sentences.js';
 import { reasonOf } from '../src/reasons.js';
 import { ruleOf, virtualSpan } from '../src/rule.js';
 import { timelineOf } from '../src/timeline.js';
@@ -14,7 +14,7 @@ const BOTH = 'release,0,ctl,1,kept\nrelease,0,log,1,kept\n';
 const OVERRUN = `${BOTH}tick,0,ctl,1,more\ntick,1,ctl,1,over\n`;
 
 function faultOf(text, row, why, rule = VIRTUAL, tasks = TASKS) {
-    return timelineOf(tasks, recordsIn(text), row, (before, placed) => reasonOf(before, rule, why, placed)).fault;
+    return timelineOf(tasks, recordsIn(text), row, (before, fields) => reasonOf(before, rule, why, fields)).fault;
 }
 
 // What is said of the last row of these records of version 1.
@@ -96,14 +96,14 @@ const RUNS = 'event,tick,length,task,job,how\n\nrelease,0,,ctl,1,kept\ntick,0,6,
 const inside = faultOf(RUNS, 3, 'wrong_how');
 equals('the tick that uses the low budget up', sentencesOf(inside.reason)[0],
     'This is tick 2 of ctl 1, which has the budgets 2 and 6: with this tick its low budget is used up, in low mode.');
-equals('its place', placeOf(inside, 3), 'Row 3 is in line 4, which stands for the rows 2 to 7: the header in line 1 is not a row.');
-equals('the place of a row', placeOf(faultOf(`event,tick,task,job,how\n${OVERRUN}tick,2,log,1,more`, 5, 'not_pending'), 5), 'Row 5 is line 6: the header in line 1 is not a row.');
-equals('a row of the trace that a recording makes', [placeOf(inside, 3, true), placeOf(faultOf(`event,tick,task,job,how\n${OVERRUN}tick,2,log,1,more`, 5, 'not_pending'), 5, true)],
+equals('where it is', rowWords(inside, 3), 'Row 3 is in line 4, which stands for the rows 2 to 7: the header in line 1 is not a row.');
+equals('where a row is', rowWords(faultOf(`event,tick,task,job,how\n${OVERRUN}tick,2,log,1,more`, 5, 'not_pending'), 5), 'Row 5 is line 6: the header in line 1 is not a row.');
+equals('a row of the trace that a recording makes', [rowWords(inside, 3, true), rowWords(faultOf(`event,tick,task,job,how\n${OVERRUN}tick,2,log,1,more`, 5, 'not_pending'), 5, true)],
     ['Row 3 is in line 4 of the trace that the recording makes, which stands for the rows 2 to 7: the header in line 1 is not a row.',
         'Row 5 is line 6 of the trace that the recording makes: the header in line 1 is not a row.']);
 equals('lines of the recording itself', movedWords('moved: 3 of 4 events, by 110 us at most, the first in line 5; moved back: 1 of 2 ends, by 9 us at most, the first in line 12'),
     'moved: 3 of 4 events, by 110 us at most, the first in line 5 of the recording; moved back: 1 of 2 ends, by 9 us at most, the first in line 12 of the recording');
-equals('a header below an empty line', placeOf(faultOf('\nevent,tick,task,job,how\nidle,0,,,\n', 1, 'idle_pending'), 1), 'Row 1 is line 3: the header in line 2 is not a row.');
+equals('a header below an empty line', rowWords(faultOf('\nevent,tick,task,job,how\nidle,0,,,\n', 1, 'idle_pending'), 1), 'Row 1 is line 3: the header in line 2 is not a row.');
 equals('a row that is not as the word says', faultOf('event,tick,task,job,how\nidle,0,,,\n', 1, 'idle_pending').reason?.first ?? null, null);
 equals('a word that there is not', faultOf('event,tick,task,job,how\nidle,0,,,\n', 1, 'other').reason, null);
 ends('reasons');

@@ -1,9 +1,9 @@
 // Tries the traces that the page makes of recordings: a few by hand, and the random ones of recordings.py, which must come out as from
 // tools/record/sched.py, byte for byte, refusals too. The file with these cases is the word of the call.
 import { readFileSync } from 'node:fs';
-import { traceOf } from '../src/recorded.js';
-import { isRecording, microseconds, nanoseconds, Refused } from '../src/recording.js';
-import { tasksIn } from '../src/toml.js';
+import { isRecording, microseconds, nanoseconds, Refused } from '../src/recorded_events.js';
+import { traceOf } from '../src/recorded_trace.js';
+import { tasksIn } from '../src/task_file.js';
 import { ends, equals, holds } from './expect.js';
 
 const CONTROL = [{ name: 'ctl', level: 'high', period: 10, low: 2, high: 6 }, { name: 'log', level: 'low', period: 10, low: 5 }];

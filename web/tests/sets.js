@@ -16,7 +16,7 @@ for (const [numbers, budgets, scales, speed] of JSON.parse(readFileSync(file, 'u
     const tasks = numbers.map(task);
     const found = [sets.stored('edfvd_raw_sensitivity', tasks, 8 * tasks.length, BigInt(tasks.length)), sets.stored('edfvd_raw_scales', tasks, 32),
         sets.stored('edfvd_raw_speed', tasks, 8)].map(hex);
-    for (const [place, [status]] of found.entries()) statuses.set(`${place} ${status}`, (statuses.get(`${place} ${status}`) ?? 0) + 1);
+    for (const [call, [status]] of found.entries()) statuses.set(`${call} ${status}`, (statuses.get(`${call} ${status}`) ?? 0) + 1);
     equals(`the set ${JSON.stringify(numbers)}`, found, [budgets, scales, speed]);
 }
 // By call: a set that is answered, no set, too many tasks, a number that is 0, budgets in the wrong order, periods out of range; and no scale.

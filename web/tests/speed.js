@@ -6,7 +6,7 @@ import { pictureOf } from '../src/drawing.js';
 import { Edfvd } from '../src/edfvd.js';
 import { ruleOf } from '../src/rule.js';
 import { timelineOf } from '../src/timeline.js';
-import { tasksIn } from '../src/toml.js';
+import { tasksIn } from '../src/task_file.js';
 import { workOf } from '../src/workload.js';
 import { ends, equals, holds } from './expect.js';
 

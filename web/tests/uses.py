@@ -18,14 +18,14 @@ OVERRUN = 'event,tick,length,task,job,how\nrelease,0,,ctl,1,kept\nrelease,0,,log
 DESCRIBED = 'document.getElementById(document.querySelector("#run-drawing svg").getAttribute("aria-describedby")).textContent'
 
 
-def said(page, place, kind):
-    """The words of the first element of this kind."""
-    return page.value(f'document.querySelector("#{place}-drawing .canvas {kind} title")?.textContent')
+def said(page, name, kind):
+    """The words of the first element of this kind in the drawing of this name."""
+    return page.value(f'document.querySelector("#{name}-drawing .canvas {kind} title")?.textContent')
 
 
-def drawn(page, place, *kinds):
-    """How many elements of each kind the drawing has."""
-    return [page.value(f'document.querySelectorAll("#{place}-drawing .canvas {kind}").length') for kind in kinds]
+def drawn(page, name, *kinds):
+    """How many elements of each kind the drawing of this name has."""
+    return [page.value(f'document.querySelectorAll("#{name}-drawing .canvas {kind}").length') for kind in kinds]
 
 
 def schedules(page):

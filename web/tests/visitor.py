@@ -45,8 +45,8 @@ class Page:
             time.sleep(0.1)
         self.wants(what, is_so, expression)
 
-    def text(self, place):
-        return self.value(f'document.getElementById("{place}").innerText.replaceAll("\\u00a0", " ")')
+    def text(self, ident):
+        return self.value(f'document.getElementById("{ident}").innerText.replaceAll("\\u00a0", " ")')
 
     def file(self, name):
         return self.value(f'document.querySelector("#{name} textarea").value')
@@ -57,8 +57,8 @@ class Page:
             self.bad += 1
             print(f'FAILED: {what}: {found!r}', flush=True)
 
-    def sees(self, what, place, words):
-        found = self.text(place)
+    def sees(self, what, ident, words):
+        found = self.text(ident)
         self.wants(what, words in found, found)
 
     def choose(self, name):
@@ -67,8 +67,8 @@ class Page:
             list.dispatchEvent(new Event("change")); }})()''')
         self.settle()
 
-    def type(self, place, text):
-        self.value(f'''(() => {{ const it = document.querySelector("#{place} textarea") ?? document.getElementById("{place}");
+    def type(self, ident, text):
+        self.value(f'''(() => {{ const it = document.querySelector("#{ident} textarea") ?? document.getElementById("{ident}");
             it.value = {json.dumps(text)}; it.dispatchEvent(new Event("input", {{ bubbles: true }})); }})()''')
         self.settle()
 
@@ -76,10 +76,10 @@ class Page:
         self.value(f'document.querySelector({json.dumps(where)}).click()')
         self.settle()
 
-    def drop(self, place, content, name='dropped.csv'):
+    def drop(self, ident, content, name='dropped.csv'):
         asked = self.value('document.body.dataset.asked')
         self.value(f'''(() => {{ const data = new DataTransfer(); data.items.add(new File([{content}], {json.dumps(name)}));
-            document.getElementById("{place}").dispatchEvent(new DragEvent("drop", {{ dataTransfer: data, bubbles: true, cancelable: true }})); }})()''')
+            document.getElementById("{ident}").dispatchEvent(new DragEvent("drop", {{ dataTransfer: data, bubbles: true, cancelable: true }})); }})()''')
         self.until('a dropped file is taken or refused', f'document.body.dataset.asked !== "{asked}" || !!document.querySelector("[role=alert]:not([hidden])")')
         self.settle()
 

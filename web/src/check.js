@@ -1,9 +1,10 @@
 // The answer of `check`, and why a set is not admitted.
-import { adviceOn } from './advice.js';
-import { at, bad, badLine, button, good, made, note, took } from './elements.js';
-import { conditionsOf, Fraction, ONE } from './fraction.js';
+import { conditionsOf } from './conditions.js';
+import { bad, badLine, button, byId, good, made, took } from './elements.js';
+import { Fraction, ONE } from './fraction.js';
+import { showError } from './refusal.js';
 import { page } from './shared.js';
-import { lineOfTaskError } from './toml.js';
+import { lineOfTaskError } from './task_file.js';
 
 function percent(fraction) {
     return `${(100 * Fraction.of(fraction).toNumber()).toFixed(1)} %`;
@@ -41,8 +42,8 @@ function admitted(answer, lines) {
     return { cards, result: { isAdmitted: true, count: Number(count), loads: rest.slice(0, 3).map(([, load]) => load), rule, scale } };
 }
 
-// The two sums of the published test, each of which is above 1.
-function reasons(loads) {
+// Why neither condition of the published test holds: two sentences with their numbers.
+function failedConditions(loads) {
     const { plain, scale, virtual } = conditionsOf(...loads.map((load) => Fraction.of(load)));
     const list = made('ul', {}, made('li', {}, `Plain EDF needs U_LL + U_HH ≤ 1, and this sum is ${plain}.`));
     if (scale === null) list.append(made('li', {}, 'EDF-VD needs U_LL below 1.'));
@@ -53,27 +54,26 @@ function reasons(loads) {
 
 function notAdmitted(answer, showChanges) {
     const words = answer.text.replace('not admitted: ', '').split(' ');
-    const pairs = [0, 2, 4].map((place) => words.slice(place, place + 2));
+    const pairs = [0, 2, 4].map((begin) => words.slice(begin, begin + 2));
     const loads = pairs.map(([, load]) => load);
-    const card = bad(made('strong', {}, 'Not admitted by the test'), took(answer), loadsOf(pairs), loadHint(''), reasons(loads));
+    const card = bad(made('strong', {}, 'Not admitted by the test'), took(answer), loadsOf(pairs), loadHint(''), failedConditions(loads));
     if (showChanges) card.append(made('p', {}, button('What would have to change?', showChanges)));
     return { cards: [card], result: { isAdmitted: false, loads } };
 }
 
-// Shows the answer of `check`, and returns what it says of the set: `loads` unless the file is refused, and `count`, the number of tasks, if
-// the set is admitted. `showChanges` is the action of a button, or null where what would have to change is shown already.
+// Shows the answer of `check`, and returns what it says of the set: `loads` unless the file is refused, and `count`, the number of tasks,
+// if the set is admitted. `showChanges` is the action of a button, or null where what would have to change is shown already.
 export async function showCheck(ask, showChanges) {
     const { tasks } = page.editors;
     const answer = await ask('check', { tasks: tasks.source() });
     tasks.unmark();
     if (answer.exit > 1) {
         tasks.blame(lineOfTaskError(answer.text, tasks.text()));
-        const advice = adviceOn(answer.text);
-        at('check').replaceChildren(badLine(answer.text), ...(advice ? [note(advice)] : []));
+        showError('check', answer.text);
         return { isAdmitted: false };
     }
     const lines = answer.text.split('\n').map((line) => line.split(' '));
     const { cards, result } = answer.exit === 0 ? admitted(answer, lines) : notAdmitted(answer, showChanges);
-    at('check').replaceChildren(...cards);
+    byId('check').replaceChildren(...cards);
     return result;
 }

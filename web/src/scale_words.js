@@ -14,7 +14,7 @@ export function rangeWords({ least, greatest }, isPlain) {
     return `${which[0].toUpperCase()}${which.slice(1)} ${isOne || least === '0/1' ? 'holds' : 'hold'}; ${mark}.`;
 }
 
-// What is said at the slider of a scale; null is none.
+// What is said at the slider on a scale, or on null, which is no scale.
 export function scaleWords(range, scale) {
     if (scale === null) return 'No scale is in use: plain EDF has no x.';
     return `x = ${scale} = ${scale.toNumber().toFixed(4)} ${holds(range, scale) ? 'holds' : 'does not hold'}`;

@@ -3,38 +3,40 @@ import { Recording } from './recording.js';
 
 const NO_TASK = 0;
 
-// The jobs of a recording as it goes on: what each has had, and the mode.
+// The jobs of a recording as it goes on: how many each task has had, how many ticks its latest job has used, and the mode. `ends` has the
+// last ticks of the ended jobs by the number of their task, and which of them comes next.
 class Jobs {
     constructor(tasks, switches, ends) {
-        Object.assign(this, { tasks, switches, highMode: false });
-        this.ends = new Map([...ends].map(([number, places]) => [number, { places, next: 0 }]));
+        Object.assign(this, { tasks, switches, isHigh: false });
+        this.ends = new Map([...ends].map(([number, ticks]) => [number, { ticks, next: 0 }]));
         this.counts = tasks.map(() => 0);
-        this.kept = tasks.map(() => null);
+        this.latest = tasks.map(() => null);
     }
 
-    release(number, isDropped, place) {
+    // The run of a release at this tick.
+    release(number, isDropped, tick) {
         this.counts[number - 1] += 1;
         const count = this.counts[number - 1];
-        if (!isDropped) this.kept[number - 1] = { number, count, used: 0 };
-        return { kind: isDropped ? 'dropped' : 'kept', tick: place, number, count, length: 0 };
+        if (!isDropped) this.latest[number - 1] = { number, count, used: 0 };
+        return { kind: isDropped ? 'dropped' : 'kept', tick, number, count, length: 0 };
     }
 
-    // The equal ticks of a task or of nobody that begin here, none of them from the boundary `until` on.
-    nextRun(number, place, until) {
+    // The run of equal ticks of a task or of nobody that begins with this tick. It ends at the boundary `until` at the latest.
+    nextRun(number, tick, until) {
         if (number === NO_TASK) {
-            this.highMode = false;
-            return { kind: 'idle', tick: place, number, count: 0, length: until - place };
+            this.isHigh = false;
+            return { kind: 'idle', tick, number, count: 0, length: until - tick };
         }
-        const job = this.kept[number - 1];
+        const job = this.latest[number - 1];
         const ends = this.ends.get(number);
-        const end = ends !== undefined && ends.next < ends.places.length ? ends.places[ends.next] - place : null;
-        const stops = this.kindsToCome(job, end);
-        const kind = stops.get(0) ?? 'more';
-        const length = stops.has(0) ? 1 : Math.min(until - place, ...stops.keys());
+        const end = ends !== undefined && ends.next < ends.ticks.length ? ends.ticks[ends.next] - tick : null;
+        const kinds = this.kindsToCome(job, end);
+        const kind = kinds.get(0) ?? 'more';
+        const length = kinds.has(0) ? 1 : Math.min(until - tick, ...kinds.keys());
         job.used += length;
         if (kind === 'done') ends.next += 1;
-        if (kind === 'over') this.highMode = true;
-        return { kind, tick: place, number, count: job.count, length };
+        if (kind === 'over') this.isHigh = true;
+        return { kind, tick, number, count: job.count, length };
     }
 
     // After how many more ticks of a job comes one of another kind: as recorded, or by the budgets.
@@ -43,7 +45,7 @@ class Jobs {
         const own = high ?? low;
         const kinds = new Map();
         if (used < own) kinds.set(own - used - 1, 'stop');
-        if (this.switches && !this.highMode && level === 'high' && used < low && low < own) kinds.set(low - used - 1, 'over');
+        if (this.switches && !this.isHigh && level === 'high' && used < low && low < own) kinds.set(low - used - 1, 'over');
         if (end !== null) kinds.set(end, 'done');
         return kinds;
     }
@@ -52,18 +54,18 @@ class Jobs {
 // The runs of the trace. Each stretch of equal ticks is cut at releases, and where a job ends or has had a budget.
 function* runsOf(tasks, switches, { owners, releases, ends, numbers }) {
     const jobs = new Jobs(tasks, switches, ends);
-    const boundaries = [...releases.keys()].filter((place) => place < owners.length).sort((one, other) => one - other);
+    const boundaries = [...releases.keys()].filter((boundary) => boundary < owners.length).sort((one, other) => one - other);
     let next = 0;
     for (let begin = 0; begin < owners.length;) {
         let end = begin + 1;
         while (end < owners.length && owners[end] === owners[begin]) end += 1;
-        for (let place = begin; place < end;) {
-            if (boundaries[next] === place) {
-                for (const { name, word } of releases.get(place)) yield jobs.release(numbers.get(name), word === 'drop', place);
+        for (let tick = begin; tick < end;) {
+            if (boundaries[next] === tick) {
+                for (const { name, word } of releases.get(tick)) yield jobs.release(numbers.get(name), word === 'drop', tick);
                 next += 1;
             }
-            const run = jobs.nextRun(owners[begin], place, Math.min(boundaries[next] ?? end, end));
-            place += run.length;
+            const run = jobs.nextRun(owners[begin], tick, Math.min(boundaries[next] ?? end, end));
+            tick += run.length;
             yield run;
         }
         begin = end;
@@ -82,8 +84,8 @@ function lineOf(tasks, { kind, tick, number, count, length }) {
 
 // The trace of a recording with ticks of this many nanoseconds, in version 2, and a line on how far its events were moved. `switches` says
 // that the rule of the set has two modes. It throws Refused for a recording that makes no trace.
-export function traceOf(tasks, switches, text, tick) {
-    const recording = new Recording(tasks, text, tick);
+export function traceOf(tasks, switches, text, tickLength) {
+    const recording = new Recording(tasks, text, tickLength);
     const lines = ['event,tick,length,task,job,how\n'];
     let last = null;
     for (const run of runsOf(tasks, switches, recording)) {

@@ -1,11 +1,7 @@
 // The explanation of an illegal row in words: sentences on the facts that reasons.js finds.
+import { written } from './fraction.js';
 
 const times = (count, word) => `${count} ${word}${count === 1 ? '' : 's'}`;
-
-// A fraction as a reader of the drawing needs it: a whole number, or one with its value beside it.
-export function written(fraction) {
-    return fraction.under === 1n ? String(fraction.over) : `${fraction} (about ${fraction.toNumber().toFixed(2)})`;
-}
 
 function keyOf({ name, isVirtual, key }) {
     return `the ${isVirtual ? 'virtual deadline' : 'deadline'} of ${name} is ${written(key)}`;
@@ -26,7 +22,7 @@ function budgetsOf({ level, low, own }) {
     return level === 'high' ? `budgets ${low} and ${own}` : `budget ${own}`;
 }
 
-// Why these last words fit.
+// Why the last word of a tick is the second of these words, if its job is not done.
 function whyWords({ job, words: [, word], isHigh }) {
     if (word === 'stop') return 'with this tick its last budget is used up';
     if (word === 'over') return 'with this tick its low budget is used up, in low mode';
@@ -56,9 +52,9 @@ export function sentencesOf(reason) {
 
 // Where the row of this number is in the file: its line, and the rows that the line stands for. A trace that a recording makes is named,
 // since the recording has lines of its own.
-export function placeOf({ line, header, rows: [first, last] }, row, isOfRecording) {
-    const place = `line ${line + 1}${isOfRecording ? ' of the trace that the recording makes' : ''}`;
-    const where = first === last ? `Row ${row} is ${place}` : `Row ${row} is in ${place}, which stands for the rows ${first} to ${last}`;
+export function rowWords({ line, header, rows: [first, last] }, row, isOfRecording) {
+    const itsLine = `line ${line + 1}${isOfRecording ? ' of the trace that the recording makes' : ''}`;
+    const where = first === last ? `Row ${row} is ${itsLine}` : `Row ${row} is in ${itsLine}, which stands for the rows ${first} to ${last}`;
     return `${where}: the header in line ${header + 1} is not a row.`;
 }
 
