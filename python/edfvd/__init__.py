@@ -50,7 +50,7 @@ from ._values import (
     Answer, Demand, DemandVerdict, Event, Job, Late, Look, Row, Rule, Task, Test, Unfit, Verdict, Watch, Why,
 )
 
-__version__ = "0.9.0"
+__version__ = "1.0.0"
 
 __all__ = [
     "Answer", "CommandRefused", "Demand", "DemandVerdict", "EdfvdError", "Event", "GreatestBudgets", "Job", "Late", "Look",

@@ -56,7 +56,8 @@ class Monitor(Handle):
     _free = library.monitor_close
     _hints = A_SCALE_HELPS
 
-    # The number of each task's name, and 0 for None.
+    # The number of each task's name, and 0 for None. `names.known` has no name until a number is asked for, so the opening asks
+    # for `names.numbers`. Each call of `observe` then finds the dict here, which is one attribute nearer.
     _numbers: Mapping[object, int] = UNKNOWN
 
     def __init__(self, tasks: Iterable[Task], scale: Optional[Fraction] = None) -> None:

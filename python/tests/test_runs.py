@@ -1,5 +1,6 @@
 """Runs of several ticks, what is read of a task, and schedulers under a scale: by hand, and beside the ticks one by one."""
 
+import os
 import random
 import subprocess
 import sys
@@ -8,6 +9,7 @@ from fractions import Fraction
 from pathlib import Path
 from typing import Callable, List, Optional
 
+import edfvd
 from edfvd import Answer, Event, Next, PendingJob, Row, Scheduler, Status, Task, Trace
 from support import CONTROL, TOO_MUCH, Case
 
@@ -248,7 +250,9 @@ class BesideTicks(Case):
 
 class Year(unittest.TestCase):
     def ran(self, *words: str) -> "subprocess.CompletedProcess[str]":
-        return subprocess.run([sys.executable, str(EXAMPLES / "year.py"), *words], capture_output=True, text=True)
+        # The example imports the package that this test imports, whether that one is installed or not.
+        env = {**os.environ, "PYTHONPATH": str(Path(edfvd.__file__).resolve().parents[1])}
+        return subprocess.run([sys.executable, str(EXAMPLES / "year.py"), *words], capture_output=True, text=True, env=env)
 
     def test_a_week(self) -> None:
         """A week has 10,080 minutes. Its first and its 1,001st job of the valve overrun, the first one with a log pending. Each
