@@ -38,6 +38,7 @@ CRATES = ROOT / 'crates'
 AT_ONCE = 3
 # What the prover says of an edit, and what is said of one that it had no time for, or of which it said nothing. A refusal only because
 # a proof cites a name that is gone, or only by a limit of the prover, shows little of the contract, so these are counted apart.
+# Their order matters: what is said counts as the first of these with which it begins, and the first two begin like the third.
 BY_NAME, BY_LIMIT, REFUSED, ACCEPTED, BAD, NOT_TRIED, NO_WORD = RESULTS = (
     'refused, as it must be (only because a proof file names', 'refused, as it must be (only by a limit', 'refused, as it must be',
     'NOT REFUSED', 'BAD EDIT', 'NOT TRIED', 'NO WORD OF IT')
