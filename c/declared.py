@@ -3,9 +3,10 @@
 
 No compiler sees both sides: where they differ, a call does what nobody proved. So this script reads the sources of
 crates/edfvd_c and crates/edfvd_ask_c, and edfvd.h, edfvd.c and edfvd_ask.c, and reports each difference, also of a limit that a
-sentence of edfvd.h states, which may come from a definition or a function of another crate. The statuses stand in edfvd.h: the
-contracts (specs/Status.antt), the proved sources, the words of edfvd_word and Python's Status must have them as they are there. With
-the word `offsets` it writes C text instead, which a compiler refuses unless each struct of edfvd.h is laid out as the library's.
+sentence of edfvd.h states, which may come from a definition or a function of another crate. The numbers of statuses and events
+stand in edfvd.h: the contracts (specs/Status.antt, specs/EventNumbers.antt) and the proved sources must have them as they are there,
+and the words of edfvd_word and Python's Status the statuses. With the word `offsets` it writes C text instead, which a compiler
+refuses unless each struct of edfvd.h is laid out as the library's.
 
 usage: declared.py [offsets]
 """
@@ -170,7 +171,7 @@ DEFINED = {
     "a stretched budget": ("study/specs/Stretch.antt", r"\* s / 100\) (\d+)\)", r"and at most (\d+)\. EDFVD_OK"),
     "releases of a task": ("mode_core/specs/Events.antt", r"nat_le \(2 \^ (\d+) - 1\) \(released_so_far",
                            r"(?:at most|release after) 2\^(\d+) - 1 (?:releases|of them)"),
-    "equal rows of edfvd_scheduler_rows": ("edfvd_c/specs/Latest.antt", r"times ≡ 2 \^ (\d+) - 1",
+    "equal rows of edfvd_scheduler_rows": ("edfvd_c/specs/Scheduler/Latest.antt", r"times ≡ 2 \^ (\d+) - 1",
                                            r"or 2\^(\d+) - 1 if there are more"),
     "rows of a monitor": ("trace_judge/src/monitor.rt", r"MOST_ROWS: u64 = 1 << (\d+);", r"EDFVD_FULL for more than 2\^(\d+) rows"),
     "pending jobs with memory": ("trace_judge/src/queue.rt", r"OPENED_FOR: usize = (\d+);", r"opened with memory for (two) pending jobs"),
@@ -221,11 +222,11 @@ def status_faults(header: str, guards: str, python: str) -> list[str]:
     return faults
 
 
-def contract_faults(of_code: dict[str, str]) -> list[str]:
-    """The statuses that the contracts of edfvd_c, or its code, lack or number otherwise."""
-    text = (CRATES[0].parent / "specs" / "Status.antt").read_text()
-    of_contracts = dict(re.findall(r"^(\w+) = (\d+)$", text, re.M))
-    return [f"status {name}: {of_contracts.get(name)} in the contracts, {of_code.get(name)} in the code"
+def contract_faults(kind: str, definitions: str, code: str) -> list[str]:
+    """The numbers of this kind that the contracts of edfvd_c, or its code, lack or have otherwise."""
+    of_code = numbers((CRATES[0] / code).read_text())[kind]
+    of_contracts = dict(re.findall(r"^(\w+) = (\d+)$", (CRATES[0].parent / "specs" / definitions).read_text(), re.M))
+    return [f"{kind} {name}: {of_contracts.get(name)} in the contracts, {of_code.get(name)} in the code"
             for name in sorted(of_contracts.keys() | of_code.keys()) if of_contracts.get(name) != of_code.get(name)]
 
 
@@ -233,7 +234,7 @@ def main() -> int:
     if sys.argv[1:] not in ([], ["offsets"]):
         print(__doc__.rsplit("\n\n", 1)[1], end="", file=sys.stderr)
         return 2
-    rattle = "".join(path.read_text() for crate in CRATES for path in sorted(crate.glob("*.rt")))
+    rattle = "".join(path.read_text() for crate in CRATES for path in sorted(crate.rglob("*.rt")))
     guards = "".join((HERE / name).read_text() for name in ("edfvd.c", "edfvd_ask.c"))
     header = (HERE / "edfvd.h").read_text()
     fields = rattle_structs(rattle)
@@ -259,7 +260,7 @@ def main() -> int:
     faults += [f"{kind} {name}: {number} in Rattle, {words.get(name)} in C"
                for kind, names in known.items() for name, number in names.items() if words.get(name) != number]
     faults += status_faults(header, guards, (HERE.parent / "python" / "edfvd" / "_errors.py").read_text())
-    faults += contract_faults(numbers((CRATES[0] / "status.rt").read_text())["status"])
+    faults += contract_faults("status", "Status.antt", "status.rt") + contract_faults("event", "EventNumbers.antt", "event_numbers.rt")
     faults += limit_faults(rattle + guards, re.sub(r"\s+\*? *", " ", header))
     if not ours or len(fields) != len(STRUCTS) or not all(known.values()):
         faults.append("an export, a struct or a number was not found")

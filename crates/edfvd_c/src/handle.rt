@@ -3,9 +3,14 @@ ghost use Rattle.std.specs.Borrow.{sem};
 ghost use Rattle.std.specs.Prelude.{◌≡◌, Some, None, IfSome, IfNone, is_some};
 ghost use Rattle.edfvd_c.specs.Handle.{IsMarked};
 
-use crate::block::Block;
-use crate::held::Held;
-use crate::parts::Parts;
+mod block;
+mod held;
+mod parts;
+
+use block::Block;
+pub use held::Held;
+pub(crate) use held::{on_scheduler, read_scheduler};
+use parts::Parts;
 use std::alloc::Global;
 use std::mem::replace;
 
@@ -24,7 +29,7 @@ pub struct Handle {
 }
 
 impl Handle {
-    ghost use Rattle.edfvd_c.specs.Lending.{HandleLends};
+    ghost use Rattle.edfvd_c.specs.Handle.Lending.{HandleLends};
 
     /// Whether the handle holds a scheduler or a monitor.
     pub fn is_open(&self) -> bool
@@ -63,9 +68,10 @@ impl Handle {
         Some(old.block.into_parts().into_box())
     }
 
-    /// Opens a closed handle, with this scheduler or monitor in it. In an open one the memory of what it held would stay taken,
-    /// since dropping a block frees nothing.
+    /// Opens a closed handle, with this scheduler or monitor in it. What an open one held would never be freed, since dropping a
+    /// block frees nothing.
     pub fn put(&mut self, held: Box<Held>)
+        requires { self.old.block.held ≡ None }
         ensures { self.new.block.held ≡ Some held.value }
     {
         *self = Handle {

@@ -2,29 +2,33 @@
 ghost use Rattle.std.specs.Prelude.{◌≡◌, ◌≢◌, ◌⊎◌, ◌^◌, Some, None, IsSome, IfOk, IfErr, MatchOption};
 ghost use Rattle.mc_model.specs.Test.{published};
 ghost use Rattle.mc_model.specs.Holds.{Fits, Holds};
-ghost use Rattle.mode_core.specs.Events.{empty_state, after_idle};
-ghost use Rattle.mode_core.specs.Timely.{IsTimely};
-ghost use Rattle.edfvd_c.specs.Refused.{AreInRange, AreNotAdmitted};
-ghost use Rattle.edfvd_c.specs.Opening.{Opens, IsOpening, IsUnopened};
-ghost use Rattle.edfvd_c.specs.Handle.{scheduler_of, core_of, is_endless, Does};
-ghost use Rattle.edfvd_c.specs.Look as view;
-ghost use Rattle.edfvd_c.specs.Event as spec;
-ghost use Rattle.edfvd_c.specs.Status.{OK, OPEN};
+ghost use Rattle.mode_core.specs.Events.{after_idle};
+ghost use Rattle.edfvd_c.specs.Sets.Refused.{AreInRange, AreNotAdmitted};
+ghost use Rattle.edfvd_c.specs.Scheduler.Opening.{IsOpening, IsUnopened};
+ghost use Rattle.edfvd_c.specs.Handle.{scheduler_of, core_of, is_endless, Opens, Does, Reads};
+ghost use Rattle.edfvd_c.specs.Scheduler.Look as view;
+ghost use Rattle.edfvd_c.specs.Scheduler.Event as spec;
+ghost use Rattle.edfvd_c.specs.Status.{OK, CLOSED, OPEN};
 
-use crate::event::{self, CAnswer, NOTHING};
-use crate::given::{CTask, NoSet};
-use crate::handle::Handle;
-use crate::held::{Held, on_scheduler};
-use crate::loaded::{SetAndLoads, set_and_loads};
-use crate::look::{CLook, NO_LOOK, look_at};
-use crate::opening::{with_places, without_end};
+mod certified;
+mod event;
+mod latest;
+mod look;
+mod opening;
+mod restarts;
+mod rows;
+mod runs;
+
+use crate::handle::{Handle, Held, on_scheduler, read_scheduler};
+use crate::sets::{CTask, NoSet, SetAndLoads, set_and_loads};
 use crate::status;
 use admission::admit;
+use event::{CAnswer, NOTHING};
+pub use latest::LatestRows;
+use look::{CLook, NO_LOOK, look_at};
 use mc_task::{Rule, TaskSet};
+use opening::{with_places, without_end};
 use std::alloc::Global;
-
-// What an event of no scheduler returns.
-const NO_SCHEDULER: (u32, CAnswer) = (status::CLOSED, NOTHING);
 
 /// Opens a scheduler of the tasks under the rule of the published test, with this capacity in rows.
 #[unsafe(no_mangle)]
@@ -127,7 +131,7 @@ pub extern "C" fn edfvd_raw_scheduler_close(alloc: Global, scheduler: &mut Handl
     ensures closed { core_of scheduler.new.block.held ≡ None }
     ensures emptied { IsSome (core_of scheduler.old.block.held) → scheduler.new.block.held ≡ None }
     ensures other { core_of scheduler.old.block.held ≡ None → scheduler.new.block.held ≡ scheduler.old.block.held }
-    ensures status { MatchOption (core_of scheduler.old.block.held) (result ≡ 12) (λ s. result ≡ 0) }
+    ensures status { MatchOption (core_of scheduler.old.block.held) (result ≡ CLOSED) (λ s. result ≡ OK) }
 {
     let Some(held) = scheduler.take(alloc) else {
         return status::CLOSED;
@@ -150,13 +154,7 @@ pub extern "C" fn edfvd_raw_scheduler_release(
     ensures kind { is_endless scheduler.new.block.held ≡ is_endless scheduler.old.block.held }
     ensures other { core_of scheduler.old.block.held ≡ None → scheduler.new.block.held ≡ scheduler.old.block.held }
 {
-    let Some(held) = scheduler.held() else {
-        *answer = NOTHING;
-        return status::CLOSED;
-    };
-    let (ended, found) = on_scheduler!(held, open => event::release(open, task), NO_SCHEDULER);
-    *answer = found;
-    ended
+    on_scheduler!(scheduler, open => event::release(open, task), answer, NOTHING)
 }
 
 /// Grants the next tick to the task, whose job must be the chosen one.
@@ -170,13 +168,7 @@ pub extern "C" fn edfvd_raw_scheduler_grant(
     ensures kind { is_endless scheduler.new.block.held ≡ is_endless scheduler.old.block.held }
     ensures other { core_of scheduler.old.block.held ≡ None → scheduler.new.block.held ≡ scheduler.old.block.held }
 {
-    let Some(held) = scheduler.held() else {
-        *answer = NOTHING;
-        return status::CLOSED;
-    };
-    let (ended, found) = on_scheduler!(held, open => event::grant(open, task), NO_SCHEDULER);
-    *answer = found;
-    ended
+    on_scheduler!(scheduler, open => event::grant(open, task), answer, NOTHING)
 }
 
 /// Reports how the tick in progress ended for its job: whether the job is done.
@@ -192,14 +184,7 @@ pub extern "C" fn edfvd_raw_scheduler_outcome(
     ensures kind { is_endless scheduler.new.block.held ≡ is_endless scheduler.old.block.held }
     ensures other { core_of scheduler.old.block.held ≡ None → scheduler.new.block.held ≡ scheduler.old.block.held }
 {
-    let Some(held) = scheduler.held() else {
-        *answer = NOTHING;
-        return status::CLOSED;
-    };
-    let (ended, found) =
-        on_scheduler!(held, open => event::outcome(open, task, count, done), NO_SCHEDULER);
-    *answer = found;
-    ended
+    on_scheduler!(scheduler, open => event::outcome(open, task, count, done), answer, NOTHING)
 }
 
 /// Reports that the next tick is idle, which it may be only if no job is pending.
@@ -209,27 +194,14 @@ pub extern "C" fn edfvd_raw_scheduler_idle(scheduler: &mut Handle, answer: &mut 
     ensures kind { is_endless scheduler.new.block.held ≡ is_endless scheduler.old.block.held }
     ensures other { core_of scheduler.old.block.held ≡ None → scheduler.new.block.held ≡ scheduler.old.block.held }
 {
-    let Some(held) = scheduler.held() else {
-        *answer = NOTHING;
-        return status::CLOSED;
-    };
-    let (ended, found) = on_scheduler!(held, open => event::idle(open), NO_SCHEDULER);
-    *answer = found;
-    ended
+    on_scheduler!(scheduler, open => event::idle(open), answer, NOTHING)
 }
 
 /// Stores the scheduler's clock, mode and jobs.
 #[unsafe(no_mangle)]
 pub extern "C" fn edfvd_raw_scheduler_look(scheduler: &mut Handle, look: &mut CLook) -> u32
     ensures same { scheduler.new.block.held ≡ scheduler.old.block.held }
-    ensures look { MatchOption (core_of scheduler.old.block.held) ((result ≡ 12) × (look.new ≡ view.no_look)) (λ s. (result ≡ 0) × (look.new ≡ view.look s)) }
+    ensures reads { Reads (core_of scheduler.old.block.held) result look.new view.no_look (λ s. (OK, view.look s)) }
 {
-    let Some(held) = scheduler.held() else {
-        *look = NO_LOOK;
-        return status::CLOSED;
-    };
-    let (ended, found) =
-        on_scheduler!(&*held, open => (status::OK, look_at(open.core())), (status::CLOSED, NO_LOOK));
-    *look = found;
-    ended
+    read_scheduler!(scheduler, open => (status::OK, look_at(open.core())), look, NO_LOOK)
 }

@@ -1,4 +1,4 @@
-use Rattle.edfvd_c.proofs.Marked.{lends_open}
+use Rattle.edfvd_c.proofs.handle.Marked.{lends_open}
 use Rattle.edfvd_c.proofs.handle.Handle.held.Goals as goal
 
 pub returns-then-self-eq-OPEN_MARK : goal.returns-then-self-eq-OPEN_MARK
