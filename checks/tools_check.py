@@ -1,6 +1,6 @@
 """Tests of the scripts that users call, with values worked out by hand: what explain.py says fits, the divisors of divisors.py, the
-jobs of jobs.py, what svg.py draws, the traces of record/sched.py, how files are read, which case night.py keeps, and what costs.py
-finds wrong with a page.
+jobs of jobs.py, what svg.py draws, the traces of record/sched.py, how files are read, which case night.py keeps, what costs.py finds
+wrong with a page, and what wrong_bodies.py takes the prover's words for.
 
 usage: tools_check.py
 """
@@ -26,6 +26,7 @@ import rules
 import sched
 import svg
 import walk
+import wrong_bodies
 from cases import Dice
 from rules import DONE, HIGH, IDLE, KEPT, LOW, MORE, OVER, STOP, Job, Run, Scale, Task, TaskSet
 from usage import WrongWords, ends
@@ -354,6 +355,23 @@ class Nights(unittest.TestCase):
                 kind.one(Dice(1))
             length = sum(map(len, found.exception.call.contents))
             self.assertTrue(str(found.exception).startswith(f"status 0, b'{length}'"), (kind.name, length, str(found.exception)))
+
+
+class WrongBodies(unittest.TestCase):
+    """What came of an edit, by what the prover says of it."""
+
+    def test_a_refusal_counts_as_one_only_where_no_reason_that_shows_little_is_said(self):
+        said = {
+            'refused, as it must be (only because a proof file names what the edit took away): count': wrong_bodies.Result.BY_NAME,
+            'refused, as it must be (only by a limit of the prover, which gave no verdict): steps': wrong_bodies.Result.BY_LIMIT,
+            'refused, as it must be: the goal does not follow': wrong_bodies.Result.REFUSED,
+            'refused, as it must be': wrong_bodies.Result.REFUSED,
+            'NOT REFUSED: the crate is still proved with this edit': wrong_bodies.Result.ACCEPTED,
+            'BAD EDIT: the prover cannot read the edited text': wrong_bodies.Result.BAD,
+            'NOT TRIED: no memory': wrong_bodies.Result.NOT_TRIED,
+            'something else': wrong_bodies.Result.NO_WORD,
+        }
+        self.assertEqual({words: wrong_bodies.result_of(words) for words in said}, said)
 
 
 def main(words):

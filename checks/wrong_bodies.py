@@ -19,6 +19,7 @@ usage: wrong_bodies.py [CRATE..]
 
 import collections
 import contextlib
+import enum
 import os
 import pathlib
 import random
@@ -36,18 +37,31 @@ ROOT = pathlib.Path(__file__).resolve().parent.parent
 CRATES = ROOT / 'crates'
 # How many edits of a crate are tried before the next crate: the first of a crate costs its proof besides.
 AT_ONCE = 3
-# What the prover says of an edit, and what is said of one that it had no time for, or of which it said nothing. A refusal only because
-# a proof cites a name that is gone, or only by a limit of the prover, shows little of the contract, so these are counted apart.
-# Their order matters: what is said counts as the first of these with which it begins, and the first two begin like the third.
-BY_NAME, BY_LIMIT, REFUSED, ACCEPTED, BAD, NOT_TRIED, NO_WORD = RESULTS = (
-    'refused, as it must be (only because a proof file names', 'refused, as it must be (only by a limit', 'refused, as it must be',
-    'NOT REFUSED', 'BAD EDIT', 'NOT TRIED', 'NO WORD OF IT')
 # Prints the crate and those below it, if rt ci has proved those in this tree (c/machine.sh). Without out/ nothing was proved here.
 ON_GATE = '''
     here=$1 crates=$1/crates
     . "$here/sources.sh" && . "$here/c/machine.sh" || exit
     if [ -d "$crates/$2/out" ] && on_gate "$2"; then crate_lines "$2" | sed 's/:.*//'; fi
 '''
+
+
+class Result(enum.Enum):
+    """What came of an edit, by the words with which `rt` begins to say it. NOT_TRIED is said here of an edit for which there was no time,
+    and NO_WORD of one of which `rt` said nothing. The refusals BY_NAME, where a proof cites a name that is gone, and BY_LIMIT, where the
+    prover came to a limit, show little of the contract, so they are counted apart."""
+    BY_NAME = 'refused, as it must be (only because a proof file names'
+    BY_LIMIT = 'refused, as it must be (only by a limit'
+    REFUSED = 'refused, as it must be'
+    ACCEPTED = 'NOT REFUSED'
+    BAD = 'BAD EDIT'
+    NOT_TRIED = 'NOT TRIED'
+    NO_WORD = 'NO WORD OF IT'
+
+
+def result_of(said):
+    """What came of an edit of which this is said. If it begins with the words of several results, the longest count."""
+    results = [result for result in Result if said.startswith(result.value)]
+    return max(results, key=lambda result: len(result.value), default=Result.NO_WORD)
 
 
 def fault_of(edit):
@@ -136,7 +150,7 @@ def said_by_prover(place, words, seconds):
 
 
 def tried(copy, edits, seconds=None):
-    """Has the prover try these edits of one crate, and returns what came of each, in the words of RESULTS."""
+    """Has the prover try these edits of one crate, and returns what came of each."""
     crate = edits[0].parent.parent.name
     with place_of(copy, crate) as (place, words):
         folder = place / 'crates' / crate / 'must-fail'
@@ -152,10 +166,11 @@ def tried(copy, edits, seconds=None):
     results = []
     for edit in edits:
         label = f'rt: must-fail {crate}/{edit.name}: '
-        line = next((line for line in lines if line.startswith(label)), label + (NO_WORD if ended else NOT_TRIED))
-        print(line, flush=True)
-        results.append(next((result for result in RESULTS if line.startswith(label + result)), NO_WORD))
-    if NO_WORD in results:
+        unsaid = Result.NO_WORD if ended else Result.NOT_TRIED
+        said = next((line.removeprefix(label) for line in lines if line.startswith(label)), unsaid.value)
+        print(label + said, flush=True)
+        results.append(result_of(said))
+    if Result.NO_WORD in results:
         print(*lines[-8:], sep='\n', flush=True)
     return results
 
@@ -163,9 +178,9 @@ def tried(copy, edits, seconds=None):
 def counted(results):
     """Prints how many edits came to each result, and returns the numbers."""
     counts = collections.Counter(results)
-    little = f'{counts[BY_NAME]} only by a name in a proof, {counts[BY_LIMIT]} only by a limit'
-    failed = f'{counts[ACCEPTED]} accepted, {counts[BAD]} bad, {counts[NO_WORD]} of which rt said nothing'
-    print(f'wrong_bodies: {counts[REFUSED]} refused, {little}, {failed}, {counts[NOT_TRIED]} not tried')
+    little = f'{counts[Result.BY_NAME]} only by a name in a proof, {counts[Result.BY_LIMIT]} only by a limit'
+    failed = f'{counts[Result.ACCEPTED]} accepted, {counts[Result.BAD]} bad, {counts[Result.NO_WORD]} of which rt said nothing'
+    print(f'wrong_bodies: {counts[Result.REFUSED]} refused, {little}, {failed}, {counts[Result.NOT_TRIED]} not tried')
     return counts
 
 
@@ -174,7 +189,7 @@ def try_all(crates):
     with copied() as copy:
         results = [result for crate in crates for result in tried(copy, edits_of(crate))]
     counts = counted(results)
-    return 0 if counts[REFUSED] + counts[BY_LIMIT] == len(results) else 1
+    return 0 if counts[Result.REFUSED] + counts[Result.BY_LIMIT] == len(results) else 1
 
 
 def try_some(minutes, seed, crates):
@@ -188,7 +203,7 @@ def try_some(minutes, seed, crates):
             if time.monotonic() < end:
                 results += tried(copy, picked, end - time.monotonic())
     counts = counted(results)
-    return 1 if counts[ACCEPTED] or counts[BAD] or counts[NO_WORD] else 0
+    return 1 if counts[Result.ACCEPTED] or counts[Result.BAD] or counts[Result.NO_WORD] else 0
 
 
 def edits_of(crate):
