@@ -14,7 +14,7 @@ use Rattle.command.proofs.Written.{wrote_whole, one_more-rose}
 use Rattle.promises.specs.Reply.{IsReply}
 use Rattle.edfvd_program.specs.Outcome.{Ends, WritesAnswer}
 use Rattle.promises.specs.Promises.{Promises}
-use Rattle.promises.proofs.Headlines.{of_reply, gave_up}
+use Rattle.promises.proofs.Promises.{answer_keeps, no_memory_keeps}
 
 -- if the shelf exposes its files and has no fault, the reply is the answer, and if it was written whole, the
 -- answer was written
@@ -34,10 +34,10 @@ promises : (form : Option Form) → IfSome form IsInRange → (files : Files) (o
     → Promises form files old ended new
 promises form range files old ended new h =
     elim h [
-      | inl none ↦ subst (λ n. Promises form files old n new) (sym none.0) (gave_up form files old new)
+      | inl none ↦ subst (λ n. Promises form files old n new) (sym none.0) (no_memory_keeps form files old new)
       | inr r ↦
           subst (λ n. Promises form files old n new) (sym r.2)
-          (subst (λ o. Promises form files old r.0.status o) (sym r.3) (of_reply form range files old r.0 r.1))
+          (subst (λ o. Promises form files old r.0.status o) (sym r.3) (answer_keeps form range files old r.0 r.1))
     ]
 
 -- a call whose reply was written keeps all that the program promises

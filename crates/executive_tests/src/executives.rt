@@ -6,7 +6,7 @@ ghost use Rattle.executive.specs.Watching.{IsWatcherOf};
 
 use crate::floors::{floor, free};
 use executive::{Answer, Count, Executive, Taken, TaskPass, Unclosed};
-use mc_model::How;
+use mc_model::{How, Row};
 use mc_task::TaskNo;
 use mode_core::{GrantFault, Granted, IdleFault, ReleaseFault, Released};
 use status_board::{Shown, Watcher};
@@ -66,7 +66,6 @@ fn opened<R: Wait + Abort>(
     }
     match Executive::new(rt, alloc, floor) {
         Ok((executive, mut passes)) => {
-            assert!(rt; passes.len() == 2);
             let (first, second) = two_of(&executive, &mut passes);
             Ok((executive, passes, first, second))
         }
@@ -170,8 +169,18 @@ fn ticked<R: Wait>(
     }
 }
 
+// Whether these are the rows of the floor that is left.
+fn leaves(floor: Floor, rows: &[Row]) -> bool {
+    floor.core().rows() == rows
+}
+
+// How many rows the floor that is left has.
+fn rows_left(floor: Floor) -> usize {
+    floor.core().rows().len()
+}
+
 // What a call of a pass or a watcher returns.
-#[derive(Clone, Copy, Debug, PartialEq, Eq)]
+#[derive(Clone, Copy, PartialEq)]
 enum Seen {
     Released(Result<Released, ActFault<ReleaseFault>>),
     IsReleased(bool),
@@ -194,15 +203,15 @@ fn close_wants_a_pass_of_each_task(rt: HostRuntime) -> Result<(), Fail> {
     let are_new = is_new(&first, TaskNo(1)) && is_new(&second, TaskNo(2));
     let (second, fault) = ticked(&rt, &executive, second);
     let (missing, floor) = closed_twice(&rt, executive, passes, first, second);
-    assert!(rt; are_new);
+    let rows = rows_left(floor);
     let due = ActFault::Plan(PlanFault::Due { task: TaskNo(1) });
-    assert_eq!(rt; (fault, missing), (Err(due), TaskNo(2)));
-    assert!(rt; floor.core().rows().is_empty());
+    assert!(rt; are_new && fault == Err(due));
+    assert!(rt; missing == TaskNo(2) && rows == 0);
     Ok(())
 }
 
 // What the calls of `a_planned_tick` return.
-const PLANNED_TICK: [Seen; 6] = [
+static PLANNED_TICK: [Seen; 6] = [
     Seen::Released(Ok(Released::Kept {
         job: job!(1, 1),
         at: 0,
@@ -259,15 +268,14 @@ fn a_planned_tick_is_taken_and_ended(rt: HostRuntime) -> Result<(), Fail> {
     let (first, second, seen) = a_planned_tick(&rt, &executive, first, second);
     let counts = (first.count(), second.count());
     let floor = closed(&rt, executive, passes, first, second);
-    assert_eq!(rt; seen.as_slice(), PLANNED_TICK.as_slice());
-    assert_eq!(rt; counts, (count(1, 1, 0, 0), count(0, 0, 0, 0)));
-    let rows = [kept!(1, 1), tick!(1, 1, How::More)];
-    assert!(rt; floor.core().rows() == rows.as_slice());
+    let is_left = leaves(floor, &[kept!(1, 1), tick!(1, 1, How::More)]);
+    assert!(rt; seen.as_slice() == PLANNED_TICK.as_slice());
+    assert!(rt; counts == (count(1, 1, 0, 0), count(0, 0, 0, 0)) && is_left);
     Ok(())
 }
 
 // What the calls of `beside_a_tick` return.
-const BESIDE_A_TICK: [Seen; 9] = [
+static BESIDE_A_TICK: [Seen; 9] = [
     Seen::Idle(Ok(0)),
     Seen::IsReleased(true),
     Seen::Released(Err(ActFault::Core(ReleaseFault::TooSoon { next: 11 }))),
@@ -329,9 +337,9 @@ fn other_tasks_are_answered_while_a_tick_is_out(rt: HostRuntime) -> Result<(), F
     let (first, second, seen) = beside_a_tick(&rt, &executive, first, second);
     let counts = (first.count(), second.count());
     let floor = closed(&rt, executive, passes, first, second);
-    assert_eq!(rt; seen.as_slice(), BESIDE_A_TICK.as_slice());
-    assert_eq!(rt; counts, (count(1, 1, 0, 1), count(1, 0, 0, 0)));
-    assert!(rt; floor.core().rows().len() == 4);
+    let rows = rows_left(floor);
+    assert!(rt; seen.as_slice() == BESIDE_A_TICK.as_slice());
+    assert!(rt; counts == (count(1, 1, 0, 1), count(1, 0, 0, 0)) && rows == 4);
     Ok(())
 }
 
@@ -344,6 +352,16 @@ fn finished(floor: &mut Floor) -> bool {
     true
 }
 
+static ROWS: [Row; 15] = OVERRUN_ROWS;
+
+// Whether the floor has the first four of the worked rows, and all of them once its plan is finished.
+fn is_finished_as_worked(floor: Floor) -> bool {
+    let mut floor = floor;
+    let is_begun = floor.core().rows() == &ROWS[..4];
+    let is_finished = finished(&mut floor);
+    is_begun && is_finished && leaves(floor, &ROWS)
+}
+
 #[test]
 fn a_plan_whose_executive_was_closed_is_finished(rt: HostRuntime) -> Result<(), Fail> {
     let floor = floor(rt.alloc(), &CONTROL, &OVERRUN_WORK, 12)?;
@@ -352,12 +370,10 @@ fn a_plan_whose_executive_was_closed_is_finished(rt: HostRuntime) -> Result<(), 
     let second_is_released = executive.release(&rt, &mut second).is_ok();
     let (first, more) = ticked(&rt, &executive, first);
     let (first, over) = ticked(&rt, &executive, first);
-    let mut floor = closed(&rt, executive, passes, first, second);
+    let floor = closed(&rt, executive, passes, first, second);
+    let is_finished = is_finished_as_worked(floor);
     assert!(rt; first_is_released && second_is_released);
-    assert_eq!(rt; (more, over), (Ok(How::More), Ok(How::Over)));
-    assert!(rt; floor.core().rows() == &OVERRUN_ROWS[..4]);
-    let is_finished = finished(&mut floor);
-    assert!(rt; is_finished && floor.core().rows() == OVERRUN_ROWS.as_slice());
+    assert!(rt; more == Ok(How::More) && over == Ok(How::Over) && is_finished);
     Ok(())
 }
 
@@ -373,11 +389,9 @@ fn a_watcher_sees_the_idle_tick_after_a_tell(rt: HostRuntime) -> Result<(), Fail
     let after = executive.watch(&mut watcher);
     let counted = first.count();
     let floor = closed(&rt, executive, passes, first, second);
-    assert_eq!(rt; (idle, after), (Ok(0), shown(1, false)));
-    assert_eq!(rt;
-        (counted, floor.core().rows().len()),
-        (count(0, 0, 0, 1), 1)
-    );
+    let rows = rows_left(floor);
+    assert!(rt; idle == Ok(0) && after == shown(1, false));
+    assert!(rt; counted == count(0, 0, 0, 1) && rows == 1);
     Ok(())
 }
 
@@ -388,16 +402,14 @@ fn a_watcher_sees_the_idle_tick_without_a_tell_too(rt: HostRuntime) -> Result<()
     let idle = executive.idle(&rt, &mut first);
     let after = executive.watch(&mut watcher);
     let floor = closed(&rt, executive, passes, first, second);
-    assert_eq!(rt;
-        (before, idle, after),
-        (shown(0, false), Ok(0), shown(1, false))
-    );
-    assert!(rt; floor.core().rows().len() == 1);
+    let rows = rows_left(floor);
+    assert!(rt; before == shown(0, false) && after == shown(1, false));
+    assert!(rt; idle == Ok(0) && rows == 1);
     Ok(())
 }
 
 // What a run with an overrun shows, from its release on.
-const OVERRUN: [Seen; 6] = [
+static OVERRUN: [Seen; 6] = [
     Seen::IsReleased(true),
     Seen::Shown(Shown {
         ticks: 0,
@@ -433,7 +445,7 @@ fn an_overrun_is_seen_with_its_mode(rt: HostRuntime) -> Result<(), Fail> {
         Seen::Ticked(over),
         Seen::Shown(at_overrun),
     ];
-    assert_eq!(rt; seen.as_slice(), OVERRUN.as_slice());
-    assert!(rt; floor.core().rows().len() == 3);
+    let rows = rows_left(floor);
+    assert!(rt; seen.as_slice() == OVERRUN.as_slice() && rows == 3);
     Ok(())
 }

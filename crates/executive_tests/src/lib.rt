@@ -1,6 +1,8 @@
-//! Tests of an executive, of a turnstile and of plans in threads, on one thread and on several.
+//! Tests of an executive, of a turnstile, of a status board and of plans in threads, on one thread and on several.
 #![tactic(auto)]
 
+#[cfg(test)]
+mod boards;
 #[cfg(test)]
 mod executives;
 #[cfg(test)]

@@ -26,7 +26,7 @@ macro_rules! past {
 
 // Sets of tasks with a name, a period, a deadline and a budget. The expected lengths, and what is asked for in them,
 // were added up by hand and by model.py.
-const SETS: [(&str, Fit); 18] = [
+static SETS: [(&str, Fit); 18] = [
     ("a,4,2,1\nb,6,3,2\n", Within { length: 12 }),
     ("a,4,2,1\nb,6,3,3\n", past!(3, 4)),
     // Buttazzo, Hard Real-Time Computing Systems, on EDF with deadlines below periods: 16 ticks ask for 16.
@@ -114,7 +114,7 @@ fn is_many_full(alloc: Global, usual: &str, last: &str, expected: Fit) -> Result
 }
 
 // The records of the first 127 tasks, that of the last one, and the result of the test.
-const LIMITS: [(&str, &str, Fit); 4] = [
+static LIMITS: [(&str, &str, Fit); 4] = [
     (
         "500000,500000,3906",
         "500000,500000,3938",
@@ -168,7 +168,7 @@ fn is_task(task: Option<Demand>, name: &[u8], numbers: (u32, u32, u32)) -> bool 
 }
 
 // Sets that are past, each with its counterexample.
-const COUNTEREXAMPLES: [(&str, &str); 5] = [
+static COUNTEREXAMPLES: [(&str, &str); 5] = [
     (
         "a,4,2,1\nb,6,3,3\n",
         "release a 1 at 0\nrelease b 1 at 0\ntick 0 a 1\ntick 1 b 1\ntick 2 b 1\nlate b 1\n",
@@ -242,7 +242,7 @@ fn a_counterexample_of_the_greatest_length_is_shown(rt: HostRuntime) -> Result<(
 }
 
 // Files, each with its tasks as `name period deadline budget;`, or with its first refusal.
-const FILES: [(&str, &str); 14] = [
+static FILES: [(&str, &str); 14] = [
     ("", "line 1: Header"),
     ("\n\n", "line 1: Header"),
     ("task,period,deadline\n", "line 1: Header"),
@@ -272,7 +272,7 @@ const FILES: [(&str, &str); 14] = [
 ];
 
 // Records after the header, separated by spaces, each list with its tasks or its first refusal.
-const RECORDS: [(&str, &str); 34] = [
+static RECORDS: [(&str, &str); 34] = [
     ("a,4,2", "line 2: BadRecord"),
     ("a,4,2,1,", "line 2: BadRecord"),
     ("a,4,2,1,1", "line 2: BadRecord"),
@@ -420,7 +420,7 @@ fn is_listed(alloc: Global, listed: &[Listed], expected: &str) -> Result<bool, F
 }
 
 // Lists of tasks, each with its tasks or its first refusal.
-const LISTS: [(&[Listed], &str); 17] = [
+static LISTS: [(&[Listed], &str); 17] = [
     (&[], "task 0: Empty"),
     (&[("a", 4, 2, 1)], "a 4 2 1;"),
     (

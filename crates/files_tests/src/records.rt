@@ -131,7 +131,7 @@ fn is_read_as(alloc: Global, text: &str, expected: &str) -> Result<bool, AllocEr
     Ok(got.as_str() == expected)
 }
 
-const TEXTS: [(&str, &str); 7] = [
+static TEXTS: [(&str, &str); 7] = [
     ("", "line 1: 9"),
     ("a,b\nc\n", "line 1: 9"),
     ("h", "[]"),

@@ -45,7 +45,7 @@ fn is_answered(alloc: Global, bytes: &[u8], expected: &str) -> Result<bool, Allo
 }
 
 // Files, each with its first fault.
-const DOCUMENTS: [(&str, &str); 36] = [
+static DOCUMENTS: [(&str, &str); 36] = [
     ("", "no tasks"),
     ("task", "not TOML"),
     ("version = 9223372036854775808", "not TOML"),

@@ -1,11 +1,13 @@
 //! Tests of traces as text.
 use mc_model::How::{Done, More, Over, Stop};
-use mc_model::{Row, Run};
+use mc_model::{Row, Run, are_of_set};
 use mc_task::TaskSet;
 use std::alloc::{AllocError, Global};
 use std::test::Fail;
-use trace_format::{TraceFault, how_word, kept_word, merge, pack, read_trace, write_trace};
-use worked_sets::{CONTROL, OVERRUN_RUNS, kept, release, set_of, tick, ticks};
+use trace_format::{
+    TraceFault, how_word, kept_word, merge, pack, read_trace, write_rows, write_trace,
+};
+use worked_sets::{CONTROL, OVERRUN_RUNS, dropped, kept, release, set_of, tick, ticks};
 
 const HEADER: &str = "event,tick,task,job,how\n";
 
@@ -122,6 +124,60 @@ fn equal_rows_that_stand_together_are_packed(rt: HostRuntime) -> Result<(), Fail
     Ok(())
 }
 
+// The trace of `ROWS`, whose ticks and lengths are counted by hand.
+const ROWS_TEXT: &str = "\
+event,tick,length,task,job,how
+idle,0,1,,,
+release,1,,ctl,1,kept
+idle,1,2,,,
+tick,3,2,ctl,1,more
+tick,5,1,ctl,2,more
+tick,6,1,ctl,2,done
+idle,7,1,,,
+";
+
+// Rows that repeat each other although they are no run, and jobs of two tasks that have the same number.
+const APART: [Row; 9] = [
+    dropped!(2, 1),
+    dropped!(2, 1),
+    tick!(1, 1, Stop),
+    tick!(1, 1, Stop),
+    tick!(1, 1, More),
+    tick!(2, 1, More),
+    tick!(2, 1, More),
+    tick!(2, 1, More),
+    tick!(2, 1, Over),
+];
+
+const APART_TEXT: &str = "\
+event,tick,length,task,job,how
+release,0,,log,1,dropped
+release,0,,log,1,dropped
+tick,0,1,ctl,1,stop
+tick,1,1,ctl,1,stop
+tick,2,1,ctl,1,more
+tick,3,3,log,1,more
+tick,6,1,log,1,over
+";
+
+// Whether these rows are written as this text.
+fn are_written(alloc: Global, rows: &[Row], text: &str) -> Result<bool, Fail> {
+    let set = set_of(alloc, &CONTROL)?;
+    if rows.len() > 2_000_000 || !are_of_set(&set, rows) {
+        return Ok(false);
+    }
+    Ok(write_rows(alloc, &set, rows)?.as_slice() == text.as_bytes())
+}
+
+#[test]
+fn rows_are_written_as_the_text_of_their_runs(rt: HostRuntime) -> Result<(), Fail> {
+    let alloc = rt.alloc();
+    assert!(rt; are_written(alloc, &[], SECOND_HEADER)?);
+    assert!(rt; are_written(alloc, &ROWS, ROWS_TEXT)?);
+    assert!(rt; are_written(alloc, &APART, APART_TEXT)?);
+    Ok(())
+}
+
 // The text of the refusal, or the number of runs.
 fn outcome(alloc: Global, set: &TaskSet, text: &str) -> Result<String, AllocError> {
     match read_trace(alloc, set, text.as_bytes()) {
@@ -148,7 +204,7 @@ fn is_line_answered(alloc: Global, header: &str, line: &str) -> Result<bool, Fai
 }
 
 // Texts without a header, or with a wrong one, each with the expected result.
-const HEADERS: [(&str, &str); 10] = [
+static HEADERS: [(&str, &str); 10] = [
     ("", "line 1: Header"),
     ("\n\n", "line 1: Header"),
     ("event,tick,task,job,how\n", "0 runs"),
@@ -273,7 +329,7 @@ const QUOTED: &str = "\"release\",0,,\"ctl\",\"1\",kept\n";
 // A header, a text that is repeated this many times after it, the last text, and the expected result.
 type LongText = (&'static str, u32, &'static str, &'static str, &'static str);
 
-const LONG_TEXTS: [LongText; 9] = [
+static LONG_TEXTS: [LongText; 9] = [
     ("", 200_000, ",", "\n", "line 1: Header"),
     (HEADER, 200_000, ",", "", "line 2: BadRecord"),
     (SECOND_HEADER, 200_000, ",", "", "line 2: NotSix"),

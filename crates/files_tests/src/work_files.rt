@@ -44,7 +44,7 @@ fn are_answered(alloc: Global, records: &str, expected: &str) -> Result<bool, Fa
 }
 
 // Files, each with its rows or its first refusal.
-const FILES: [(&str, &str); 16] = [
+static FILES: [(&str, &str); 16] = [
     ("", "line 1: Header"),
     ("\n\n", "line 1: Header"),
     ("task,release", "line 1: Header"),
@@ -79,7 +79,7 @@ const FILES: [(&str, &str); 16] = [
 ];
 
 // Records after the header, separated by spaces, each list with its rows or its first refusal.
-const RECORDS: [(&str, &str); 27] = [
+static RECORDS: [(&str, &str); 27] = [
     ("ctl,0,6 ctl,9,1", "line 3: TooSoon { next: 10 }"),
     ("ctl,0,6 log,2,1 ctl,9,1", "line 4: TooSoon { next: 10 }"),
     (
@@ -128,7 +128,7 @@ fn a_file_gives_its_rows_or_its_first_refusal(rt: HostRuntime) -> Result<(), Fai
 }
 
 // Lists of rows, each row a task, a release and a need, with the first refusal of each list.
-const LISTS: [(&[Job], Option<(usize, WorkCause)>); 11] = [
+static LISTS: [(&[Job], Option<(usize, WorkCause)>); 11] = [
     (&[], None),
     (&[(1, 0, 6), (2, 0, 5), (1, 10, 1)], None),
     (&[(0, 0, 1)], Some((0, WorkCause::UnknownTask))),

@@ -21,7 +21,7 @@ enum Call {
 }
 
 // What a call returns, and `Other` if it is refused otherwise.
-#[derive(Clone, Copy, Debug, PartialEq)]
+#[derive(Clone, Copy, PartialEq)]
 enum Answer {
     Kept(JobId, u64),
     TooSoon(u64),
@@ -108,7 +108,7 @@ fn earliest(scheduler: &Restartable, task: u32) -> Option<u64> {
 type Step = (Call, Answer, u64, usize, bool, u64, u64);
 
 // The control set has ctl (high, 10; 2, 6) and log (low, 10; 5).
-const STEPS: [Step; 18] = [
+static STEPS: [Step; 18] = [
     (
         Call::Release(1),
         Answer::Kept(job!(1, 1), 0),

@@ -15,7 +15,7 @@ use worked_sets::{
 };
 
 // An event of a tickless dispatcher.
-#[derive(Clone, Copy, Debug)]
+#[derive(Clone, Copy)]
 enum Event {
     Release(u32),
     Run(JobId, u32, bool),
@@ -23,7 +23,7 @@ enum Event {
 }
 
 // What an event returns; `None` for a task or a number that no call takes.
-#[derive(Clone, Copy, Debug, PartialEq)]
+#[derive(Clone, Copy, PartialEq)]
 enum Answer {
     Released(Result<Released, ReleaseFault>),
     Ran(Result<How, RunFault>),
@@ -81,7 +81,7 @@ type Step = (
 
 // The control set has ctl (high, 10; 2, 6) and log (low, 10; 5), and its scale is 2/5. A key counts fifths of a tick: for
 // ctl released at r, 5 r + 2 * 10 in low mode and 5 (r + 10) in high mode, and for log 5 (r + 10).
-const WORKED: [Step; 14] = [
+static WORKED: [Step; 14] = [
     (
         Event::Release(1),
         Answer::Released(Ok(Released::Kept {
@@ -194,7 +194,7 @@ const WORKED: [Step; 14] = [
 ];
 
 // The rows that the worked schedule leaves.
-const WORKED_ROWS: [Row; 20] = [
+static WORKED_ROWS: [Row; 20] = [
     kept!(1, 1),
     kept!(2, 1),
     tick!(1, 1, More),
@@ -408,7 +408,7 @@ fn any_event(core: &Core, seed: &mut u32) -> Event {
     }
 }
 
-const SETS: [(&[Line], Rule); 5] = [
+static SETS: [(&[Line], Rule); 5] = [
     (&CONTROL, Rule::Virtual { p: 2, q: 5 }),
     (&PLAIN_PAIR, Rule::Plain),
     (&QUARTER_SCALE, Rule::Virtual { p: 1, q: 4 }),
@@ -446,24 +446,29 @@ fn is_its_ticks(alloc: Global, seed: &mut u32) -> Result<bool, Fail> {
     let places = 4 + next(seed, 60) as usize;
     let mut runs = core(alloc, lines, rule, places)?;
     let mut ticks = core(alloc, lines, rule, places)?;
+    Ok(go_alike(&mut runs, &mut ticks, seed))
+}
+
+// Whether forty random events, or those up to a refusal for its length, go alike in both cores.
+fn go_alike(runs: &mut Core, ticks: &mut Core, seed: &mut u32) -> bool {
     let mut discarded = [None; 3];
     for _ in 0..40 {
-        let event = any_event(&runs, seed);
-        let low = low_jobs(&ticks);
-        let Some(answer) = goes_alike(&mut runs, &mut ticks, event) else {
-            return Ok(false);
+        let event = any_event(runs, seed);
+        let low = low_jobs(ticks);
+        let Some(answer) = goes_alike(runs, ticks, event) else {
+            return false;
         };
         if ends_the_schedule(answer) {
-            return Ok(true);
+            return true;
         }
         if answer == Answer::Ran(Ok(Over)) {
             discarded = low;
         }
-        if !stand_alike(&runs, &ticks, &discarded) {
-            return Ok(false);
+        if !stand_alike(runs, ticks, &discarded) {
+            return false;
         }
     }
-    Ok(true)
+    true
 }
 
 // How many random schedules are tried.

@@ -5,6 +5,7 @@ ghost use Rattle.budget_ledger.specs.Ledger.{budget};
 use budget_ledger::{Spent, Used};
 use mc_task::Level::{High, Low};
 use mc_task::{TaskNo, TaskSet};
+use std::alloc::Global;
 use std::test::Fail;
 use worked_sets::{Line, set_of};
 
@@ -64,23 +65,50 @@ const AT_LOW: Option<Spent> = Some(Spent::AtLow);
 
 const AT_OWN: Option<Spent> = Some(Spent::AtOwn);
 
-#[test]
-fn a_job_comes_to_its_low_budget_and_then_to_its_own(rt: HostRuntime) -> Result<(), Fail> {
-    let set = set_of(rt.alloc(), &THREE_TASKS)?;
-    let mut used = Used::new(rt.alloc(), &set)?;
+// The results of five ticks of each task, and of a task that is not there.
+type Ticks = (
+    [Option<Spent>; 5],
+    [Option<Spent>; 5],
+    [Option<Spent>; 5],
+    [Option<Spent>; 5],
+);
+
+const TICKS: Ticks = (
+    [BELOW, AT_LOW, BELOW, AT_OWN, None],
+    [BELOW, AT_OWN, None, None, None],
+    [BELOW, AT_OWN, None, None, None],
+    [None, None, None, None, None],
+);
+
+// How many ticks the jobs had had before new ones of their tasks began, and the result of a tick of the first new one.
+fn next_jobs(used: &mut Used, set: &TaskSet) -> ([Option<u32>; 4], Option<Spent>)
+    requires budgets { used.old.budgets ≡ map budget set.now.tasks }
+    requires ticks { length used.old.ticks ≡ length set.now.tasks }
+{
+    let wide = start(used, set, 1);
+    let tick = spend(used, set, 1);
+    let wide_again = start(used, set, 1);
+    let low = start(used, set, 2);
+    let low_again = start(used, set, 2);
+    ([wide, wide_again, low, low_again], tick)
+}
+
+// What the jobs of three tasks show.
+fn counted(alloc: Global) -> Result<(Ticks, ([Option<u32>; 4], Option<Spent>)), Fail> {
+    let set = set_of(alloc, &THREE_TASKS)?;
+    let mut used = Used::new(alloc, &set)?;
     let wide = five_ticks(&mut used, &set, 1);
     let low = five_ticks(&mut used, &set, 2);
     let even = five_ticks(&mut used, &set, 3);
     let nobody = five_ticks(&mut used, &set, 4);
-    assert_eq!(rt; wide, [BELOW, AT_LOW, BELOW, AT_OWN, None]);
-    assert_eq!(rt; low, [BELOW, AT_OWN, None, None, None]);
-    assert_eq!(rt; even, [BELOW, AT_OWN, None, None, None]);
-    assert_eq!(rt; nobody, [None, None, None, None, None]);
+    Ok(((wide, low, even, nobody), next_jobs(&mut used, &set)))
+}
+
+#[test]
+fn a_job_comes_to_its_low_budget_and_then_to_its_own(rt: HostRuntime) -> Result<(), Fail> {
+    let (ticks, later) = counted(rt.alloc())?;
+    assert!(rt; ticks == TICKS);
     // The task's next job begins at 0, and the other tasks keep their ticks.
-    assert_eq!(rt; start(&mut used, &set, 1), Some(4));
-    assert_eq!(rt; spend(&mut used, &set, 1), BELOW);
-    assert_eq!(rt; start(&mut used, &set, 1), Some(1));
-    assert_eq!(rt; start(&mut used, &set, 2), Some(2));
-    assert_eq!(rt; start(&mut used, &set, 2), Some(0));
+    assert!(rt; later == ([Some(4), Some(1), Some(2), Some(0)], BELOW));
     Ok(())
 }

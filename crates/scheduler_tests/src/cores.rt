@@ -68,7 +68,7 @@ const CTL: JobId = job!(1, 1);
 const LOG: JobId = job!(2, 1);
 
 // The calls of a core with a capacity of four rows, and what they return.
-const FOUR_PLACES: [(Call, Answer); 13] = [
+static FOUR_PLACES: [(Call, Answer); 13] = [
     (Call::Idle, Answer::Idle(Ok(0))),
     (
         Call::Release(1),
@@ -122,7 +122,7 @@ const FOUR_PLACES: [(Call, Answer); 13] = [
 ];
 
 // The calls of a core with a capacity of one row, and what they return.
-const ONE_PLACE: [(Call, Answer); 3] = [
+static ONE_PLACE: [(Call, Answer); 3] = [
     (Call::Idle, Answer::Idle(Ok(0))),
     (
         Call::Release(1),
@@ -158,7 +158,7 @@ const SECOND_TICK: Granted = Granted {
 };
 
 // A release in the tick that switches, before the tick's outcome.
-const EARLY_RELEASE: [(Call, Answer); 6] = [
+static EARLY_RELEASE: [(Call, Answer); 6] = [
     (
         Call::Release(1),
         Answer::Released(Some(Ok(Released::Kept { job: CTL, at: 0 }))),
@@ -174,7 +174,7 @@ const EARLY_RELEASE: [(Call, Answer); 6] = [
 ];
 
 // A release in that tick, after its outcome.
-const LATE_RELEASE: [(Call, Answer); 6] = [
+static LATE_RELEASE: [(Call, Answer); 6] = [
     (
         Call::Release(1),
         Answer::Released(Some(Ok(Released::Kept { job: CTL, at: 0 }))),

@@ -97,7 +97,7 @@ fn follow<R: Recorder>(core: &mut Core<R>, rows: &[Row]) -> bool {
 // A set, the rule of the test for it, and rows that its scheduler makes.
 type Made = (&'static [Line], Rule, &'static [Row]);
 
-const MADE: [Made; 4] = [
+static MADE: [Made; 4] = [
     (&CONTROL, Rule::Virtual { p: 2, q: 5 }, &OVERRUN_ROWS),
     (&PLAIN_PAIR, Rule::Plain, &PLAIN_PAIR_ROWS),
     (

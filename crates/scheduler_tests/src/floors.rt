@@ -52,6 +52,8 @@ fn grant(floor: &mut Floor, task: u32) -> Option<Result<Granted, ActFault<GrantF
     Some(floor.grant(TaskNo(task)))
 }
 
+static WORKED: [WorkedPlan; 6] = PLANS;
+
 // Whether the floor has ended as the plan says.
 fn ended_as(floor: &Floor, plan: &WorkedPlan) -> bool {
     let core = floor.core();
@@ -67,7 +69,7 @@ fn runs_as(alloc: Global, plan: &WorkedPlan) -> Result<bool, Fail> {
 
 // What the first plan shows whose run gives other rows.
 fn first_other_run(alloc: Global) -> Result<Option<&'static str>, Fail> {
-    for plan in &PLANS {
+    for plan in &WORKED {
         if !runs_as(alloc, plan)? {
             return Ok(Some(plan.shows));
         }
@@ -129,7 +131,7 @@ const DUE_CTL: PlanFault = PlanFault::Due { task: TaskNo(1) };
 const DUE_LOG: PlanFault = PlanFault::Due { task: TaskNo(2) };
 
 // The calls of the plan with a release that is held, and what they return.
-const HELD_RELEASE: [(Call, Answer); 18] = [
+static HELD_RELEASE: [(Call, Answer); 18] = [
     (Call::Next, Answer::Next(Act::Release(TaskNo(1)))),
     (
         Call::Grant(1),
@@ -217,7 +219,7 @@ const LOG_CHOSEN: GrantFault = GrantFault::NotChosen {
 };
 
 // The calls of a floor with a free plan, and what they return.
-const FREE_CALLS: [(Call, Answer); 10] = [
+static FREE_CALLS: [(Call, Answer); 10] = [
     (Call::Next, Answer::Next(Act::Idle)),
     (Call::Idle, Answer::Idle(Ok(0))),
     (

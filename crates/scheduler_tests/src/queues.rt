@@ -28,35 +28,97 @@ fn replace(queue: &mut ReadyQueue, item: Item) -> bool
     there
 }
 
-// The first of the tasks that has an item, and whose item is removed.
-fn first_removed(queue: &mut ReadyQueue, tasks: &[u32]) -> Option<u32> {
-    for task in tasks {
-        if queue.remove(TaskNo(*task)) {
-            return Some(*task);
-        }
-    }
-    None
+// What a call shows: whether the task had an item, and the task that is first after the call.
+type Seen = (bool, Option<TaskNo>);
+
+fn after_a_replacement(queue: &mut ReadyQueue, item: Item) -> Seen
+    requires some { 1 ≤ item.task.0 }
+    requires place { item.task.0 ≤ queue.old.places }
+    ensures { queue.new.places ≡ queue.old.places }
+{
+    let there = replace(queue, item);
+    (there, queue.least())
+}
+
+fn after_a_removal(queue: &mut ReadyQueue, task: u32) -> Seen
+    ensures { queue.new.places ≡ queue.old.places }
+{
+    let there = queue.remove(TaskNo(task));
+    (there, queue.least())
+}
+
+const FIRST: Option<TaskNo> = Some(TaskNo(1));
+
+const SECOND: Option<TaskNo> = Some(TaskNo(2));
+
+const THIRD: Option<TaskNo> = Some(TaskNo(3));
+
+const FOURTH: Option<TaskNo> = Some(TaskNo(4));
+
+// What a queue of three tasks shows.
+fn ordered(queue: &mut ReadyQueue) -> [Seen; 10]
+    requires { queue.old.places ≡ 3 }
+{
+    let empty = queue.least();
+    // A high job with deadline 12 and virtual deadline 4.5, and a low one with deadline 5, in quarters of a tick.
+    let low = after_a_replacement(queue, item(1, false, 20, 20));
+    let high = after_a_replacement(queue, item(3, true, 18, 48));
+    // Of two items with key 18 the one with the lower number comes first.
+    let equal = after_a_replacement(queue, item(2, true, 18, 99));
+    let greater = after_a_replacement(queue, item(2, true, 19, 99));
+    [
+        (false, empty),
+        low,
+        high,
+        equal,
+        greater,
+        after_a_removal(queue, 3),
+        after_a_removal(queue, 0),
+        after_a_removal(queue, 3),
+        after_a_removal(queue, 4),
+        after_a_removal(queue, 4294967295),
+    ]
 }
 
 #[test]
 fn the_least_key_comes_first_and_then_the_lowest_number(rt: HostRuntime) -> Result<(), Fail> {
     let mut queue = ReadyQueue::new(rt.alloc(), 3)?;
-    assert_eq!(rt; queue.least(), None);
-    // A high job with deadline 12 and virtual deadline 4.5, and a low one with deadline 5, in quarters of a tick.
-    assert!(rt; !replace(&mut queue, item(1, false, 20, 20)));
-    assert_eq!(rt; queue.least(), Some(TaskNo(1)));
-    assert!(rt; !replace(&mut queue, item(3, true, 18, 48)));
-    assert_eq!(rt; queue.least(), Some(TaskNo(3)));
-    // Of two items with key 18 the one with the lower number comes first.
-    assert!(rt; !replace(&mut queue, item(2, true, 18, 99)));
-    assert_eq!(rt; queue.least(), Some(TaskNo(2)));
-    assert!(rt; replace(&mut queue, item(2, true, 19, 99)));
-    assert_eq!(rt; queue.least(), Some(TaskNo(3)));
-    assert!(rt; queue.remove(TaskNo(3)));
-    assert_eq!(rt; queue.least(), Some(TaskNo(2)));
-    assert_eq!(rt; first_removed(&mut queue, &[0, 3, 4, 4294967295]), None);
-    assert_eq!(rt; queue.least(), Some(TaskNo(2)));
+    let seen = ordered(&mut queue);
+    let expected = [
+        (false, None),
+        (false, FIRST),
+        (false, THIRD),
+        (false, SECOND),
+        (true, THIRD),
+        (true, SECOND),
+        (false, SECOND),
+        (false, SECOND),
+        (false, SECOND),
+        (false, SECOND),
+    ];
+    assert!(rt; seen == expected);
     Ok(())
+}
+
+// What a queue of four tasks shows before and after the change to high mode.
+fn rekeyed(queue: &mut ReadyQueue) -> [Seen; 7]
+    requires { queue.old.places ≡ 4 }
+{
+    // By virtual deadlines task 1 comes before task 4; by real deadlines task 4 comes first.
+    let first = after_a_replacement(queue, item(1, true, 10, 40));
+    let low = after_a_replacement(queue, item(2, false, 5, 5));
+    let fourth = after_a_replacement(queue, item(4, true, 20, 30));
+    queue.rekey_high();
+    let high = queue.least();
+    [
+        first,
+        low,
+        fourth,
+        (true, high),
+        after_a_removal(queue, 2),
+        after_a_removal(queue, 4),
+        after_a_removal(queue, 1),
+    ]
 }
 
 #[test]
@@ -64,18 +126,17 @@ fn in_high_mode_low_items_are_gone_and_high_ones_go_by_real_deadlines(
     rt: HostRuntime,
 ) -> Result<(), Fail> {
     let mut queue = ReadyQueue::new(rt.alloc(), 4)?;
-    // By virtual deadlines task 1 comes before task 4; by real deadlines task 4 comes first.
-    assert!(rt; !replace(&mut queue, item(1, true, 10, 40)));
-    assert!(rt; !replace(&mut queue, item(2, false, 5, 5)));
-    assert!(rt; !replace(&mut queue, item(4, true, 20, 30)));
-    assert_eq!(rt; queue.least(), Some(TaskNo(2)));
-    queue.rekey_high();
-    assert_eq!(rt; queue.least(), Some(TaskNo(4)));
-    assert!(rt; !queue.remove(TaskNo(2)));
-    assert!(rt; queue.remove(TaskNo(4)));
-    assert_eq!(rt; queue.least(), Some(TaskNo(1)));
-    assert!(rt; queue.remove(TaskNo(1)));
-    assert_eq!(rt; queue.least(), None);
+    let seen = rekeyed(&mut queue);
+    let expected = [
+        (false, FIRST),
+        (false, SECOND),
+        (false, SECOND),
+        (true, FOURTH),
+        (false, FOURTH),
+        (true, FIRST),
+        (true, None),
+    ];
+    assert!(rt; seen == expected);
     Ok(())
 }
 

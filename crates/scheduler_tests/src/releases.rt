@@ -37,21 +37,44 @@ fn note(arrivals: &mut Arrivals, left: u32, task: u32, at: u64) -> Result<u32, T
     arrivals.note(TaskNo(task), at)
 }
 
+// From when each task may be released again, as asked after some of the releases, and what each release returned.
+fn releases(arrivals: &mut Arrivals) -> ([u64; 5], [Result<u32, TooSoon>; 7])
+    requires two { length arrivals.old ≡ 2 }
+    requires fresh { (j : ℕ) → count_of arrivals.old j ≡ 0 }
+{
+    let before = arrivals.next_allowed(TaskNo(1));
+    let first = note(arrivals, 9, 1, 3);
+    let after = arrivals.next_allowed(TaskNo(1));
+    let other_before = arrivals.next_allowed(TaskNo(2));
+    let early = note(arrivals, 8, 1, 12);
+    let other = note(arrivals, 7, 2, 0);
+    let other_after = arrivals.next_allowed(TaskNo(2));
+    let second = note(arrivals, 6, 1, 13);
+    // A release that comes late delays the next one.
+    let late = note(arrivals, 5, 1, 30);
+    let early_again = note(arrivals, 4, 1, 33);
+    let last = note(arrivals, 3, 2, 4611686018427387904);
+    let other_last = arrivals.next_allowed(TaskNo(2));
+    (
+        [before, after, other_before, other_after, other_last],
+        [first, early, other, second, late, early_again, last],
+    )
+}
+
 #[test]
 fn two_releases_are_a_period_apart(rt: HostRuntime) -> Result<(), Fail> {
     let mut arrivals = two_tasks(rt.alloc())?;
-    assert_eq!(rt; arrivals.next_allowed(TaskNo(1)), 0);
-    assert_eq!(rt; note(&mut arrivals, 9, 1, 3), Ok(1));
-    assert_eq!(rt; arrivals.next_allowed(TaskNo(1)), 13);
-    assert_eq!(rt; arrivals.next_allowed(TaskNo(2)), 0);
-    assert_eq!(rt; note(&mut arrivals, 8, 1, 12), Err(TooSoon { next: 13 }));
-    assert_eq!(rt; note(&mut arrivals, 7, 2, 0), Ok(1));
-    assert_eq!(rt; arrivals.next_allowed(TaskNo(2)), 4294967295);
-    assert_eq!(rt; note(&mut arrivals, 6, 1, 13), Ok(2));
-    // A release that comes late delays the next one.
-    assert_eq!(rt; note(&mut arrivals, 5, 1, 30), Ok(3));
-    assert_eq!(rt; note(&mut arrivals, 4, 1, 33), Err(TooSoon { next: 40 }));
-    assert_eq!(rt; note(&mut arrivals, 3, 2, 4611686018427387904), Ok(2));
-    assert_eq!(rt; arrivals.next_allowed(TaskNo(2)), 4611686022722355199);
+    let (allowed, noted) = releases(&mut arrivals);
+    assert!(rt; allowed == [0, 13, 0, 4294967295, 4611686022722355199]);
+    let expected = [
+        Ok(1),
+        Err(TooSoon { next: 13 }),
+        Ok(1),
+        Ok(2),
+        Ok(3),
+        Err(TooSoon { next: 40 }),
+        Ok(2),
+    ];
+    assert!(rt; noted == expected);
     Ok(())
 }

@@ -7,8 +7,6 @@ mod change;
 mod passing;
 mod scale_range;
 mod speed;
-#[cfg(test)]
-mod worked;
 
 pub use budget::{
     Budget, GreatestBudgets, greatest_budgets, greatest_high, greatest_low, greatest_of,

@@ -29,57 +29,59 @@ fn loads_of(alloc: Global, lines: &[Line]) -> Result<Loads, Fail>
     Ok(sum_loads(&set)?)
 }
 
+// Sets, each with what it shows, and its rule.
+static ADMITTED: [(&str, &[Line], Option<Rule>); 9] = [
+    ("control", &CONTROL, Some(Rule::Virtual { p: 2, q: 5 })),
+    (
+        "the scaled load is exactly 1",
+        &TAP_AND_ARM,
+        Some(Rule::Virtual { p: 1, q: 2 }),
+    ),
+    (
+        "the scaled load is above 1",
+        &[("tap", Low, 2, 1, 1), ("arm", High, 4, 1, 4)],
+        None,
+    ),
+    (
+        "low tasks take all time",
+        &[("tap", Low, 2, 2, 2), ("arm", High, 4, 1, 1)],
+        None,
+    ),
+    (
+        "one low task takes all time",
+        &[("tap", Low, 2, 2, 2)],
+        Some(Rule::Plain),
+    ),
+    (
+        "a small scale",
+        &QUARTER_SCALE,
+        Some(Rule::Virtual { p: 1, q: 4 }),
+    ),
+    (
+        "two high tasks",
+        &TWO_HIGH_TASKS,
+        Some(Rule::Virtual { p: 1, q: 2 }),
+    ),
+    (
+        "the load of EDF is exactly 1",
+        &PLAIN_PAIR,
+        Some(Rule::Plain),
+    ),
+    (
+        "avionics",
+        &AVIONICS,
+        Some(Rule::Virtual {
+            p: 916685,
+            q: 2133386,
+        }),
+    ),
+];
+
 #[test]
 fn admits_by_the_published_test(rt: HostRuntime) -> Result<(), Fail> {
-    let cases: [(&str, &[Line], Option<Rule>); 9] = [
-        ("control", &CONTROL, Some(Rule::Virtual { p: 2, q: 5 })),
-        (
-            "the scaled load is exactly 1",
-            &TAP_AND_ARM,
-            Some(Rule::Virtual { p: 1, q: 2 }),
-        ),
-        (
-            "the scaled load is above 1",
-            &[("tap", Low, 2, 1, 1), ("arm", High, 4, 1, 4)],
-            None,
-        ),
-        (
-            "low tasks take all time",
-            &[("tap", Low, 2, 2, 2), ("arm", High, 4, 1, 1)],
-            None,
-        ),
-        (
-            "one low task takes all time",
-            &[("tap", Low, 2, 2, 2)],
-            Some(Rule::Plain),
-        ),
-        (
-            "a small scale",
-            &QUARTER_SCALE,
-            Some(Rule::Virtual { p: 1, q: 4 }),
-        ),
-        (
-            "two high tasks",
-            &TWO_HIGH_TASKS,
-            Some(Rule::Virtual { p: 1, q: 2 }),
-        ),
-        (
-            "the load of EDF is exactly 1",
-            &PLAIN_PAIR,
-            Some(Rule::Plain),
-        ),
-        (
-            "avionics",
-            &AVIONICS,
-            Some(Rule::Virtual {
-                p: 916685,
-                q: 2133386,
-            }),
-        ),
-    ];
-    for (name, lines, want) in cases {
+    for (name, lines, want) in &ADMITTED {
         let loads = loads_of(rt.alloc(), lines)?;
-        assert_eq!(rt; admit(&loads), want, "{name}");
+        assert!(rt; admit(&loads) == *want, "{name}");
     }
     Ok(())
 }
@@ -133,25 +135,27 @@ fn a_scale_holds_within_its_two_bounds(rt: HostRuntime) -> Result<(), Fail> {
     Ok(())
 }
 
+// Sets, each with what it shows, and whether it is within three quarters.
+static WITHIN: [(&str, &[Line], bool); 4] = [
+    ("both are exactly 3/4", &TAP_AND_ARM, true),
+    (
+        "U_HH is above 3/4",
+        &[("tap", Low, 2, 1, 1), ("arm", High, 100, 25, 76)],
+        false,
+    ),
+    (
+        "U_LL + U_HL is above 3/4",
+        &[("tap", Low, 2, 1, 1), ("arm", High, 100, 26, 75)],
+        false,
+    ),
+    ("avionics", &AVIONICS, true),
+];
+
 #[test]
 fn three_quarters_is_within(rt: HostRuntime) -> Result<(), Fail> {
-    let cases: [(&str, &[Line], bool); 4] = [
-        ("both are exactly 3/4", &TAP_AND_ARM, true),
-        (
-            "U_HH is above 3/4",
-            &[("tap", Low, 2, 1, 1), ("arm", High, 100, 25, 76)],
-            false,
-        ),
-        (
-            "U_LL + U_HL is above 3/4",
-            &[("tap", Low, 2, 1, 1), ("arm", High, 100, 26, 75)],
-            false,
-        ),
-        ("avionics", &AVIONICS, true),
-    ];
-    for (name, lines, want) in cases {
+    for (name, lines, want) in &WITHIN {
         let loads = loads_of(rt.alloc(), lines)?;
-        assert_eq!(rt; three_quarters(&loads), want, "{name}");
+        assert!(rt; three_quarters(&loads) == *want, "{name}");
     }
     Ok(())
 }

@@ -1,8 +1,11 @@
 //! Tests of first fit. Expected values come from worked examples, and from an independent program over fractions.
+ghost use Rattle.std.specs.Prelude.{◌≡◌, ◌≤◌, length};
+ghost use Rattle.mc_model.specs.Work.{IsWork};
+
 use mc_model::WorkRow;
 use mc_task::Level::{High, Low};
 use mc_task::{TaskNo, TaskSet};
-use part_fit::{FitFault, fit, part, part_work};
+use part_fit::{FitFault, Parts, fit, part, part_work};
 use std::alloc::Global;
 use std::test::Fail;
 use work_file::Work;
@@ -24,76 +27,91 @@ fn equal_tasks(alloc: Global, count: u32, period: u32, budget: u32) -> Result<Ta
     Ok(TaskSet::new(tasks)?)
 }
 
+// Sets, each with what it shows, the number of processors, and the processor of each task.
+static FITTED: [(&str, u32, &[Line], &[u32]); 5] = [
+    // The first two tasks have a load of 5/4 by their greatest budgets, and fit together only with virtual
+    // deadlines.
+    ("plant", 2, &PLANT, &[1, 1, 2]),
+    ("the first two on one", 1, &TAP_AND_ARM, &[1, 1]),
+    (
+        // The third task would fill the second processor, and goes to the first; the last task then fits on the
+        // second.
+        "first and not best or next",
+        2,
+        &[
+            ("a", Low, 10, 5, 5),
+            ("b", Low, 10, 8, 8),
+            ("c", Low, 10, 2, 2),
+            ("d", Low, 10, 3, 3),
+            ("e", Low, 10, 2, 2),
+        ],
+        &[1, 2, 1, 1, 2],
+    ),
+    (
+        "a task that fills a processor",
+        16,
+        &[
+            ("a", Low, 3, 3, 3),
+            ("b", Low, 7, 1, 1),
+            ("c", High, 7, 1, 7),
+        ],
+        &[1, 2, 3],
+    ),
+    (
+        // The periods of both tasks together are out of range.
+        "periods that do not go together",
+        2,
+        &[
+            ("a", Low, 4294967295, 1, 1),
+            ("b", Low, 4294967294, 1, 1),
+            ("c", Low, 4294967294, 1, 1),
+        ],
+        &[1, 2, 2],
+    ),
+];
+
 #[test]
 fn each_task_goes_to_the_least_processor_that_takes_it(rt: HostRuntime) -> Result<(), Fail> {
-    let alloc = rt.alloc();
-    let cases: [(&str, u32, &[Line], &[u32]); 5] = [
-        // The first two tasks have a load of 5/4 by their greatest budgets, and fit together only with virtual
-        // deadlines.
-        ("plant", 2, &PLANT, &[1, 1, 2]),
-        ("the first two on one", 1, &TAP_AND_ARM, &[1, 1]),
-        (
-            // The third task would fill the second processor, and goes to the first; the last task then fits on the
-            // second.
-            "first and not best or next",
-            2,
-            &[
-                ("a", Low, 10, 5, 5),
-                ("b", Low, 10, 8, 8),
-                ("c", Low, 10, 2, 2),
-                ("d", Low, 10, 3, 3),
-                ("e", Low, 10, 2, 2),
-            ],
-            &[1, 2, 1, 1, 2],
-        ),
-        (
-            "a task that fills a processor",
-            16,
-            &[
-                ("a", Low, 3, 3, 3),
-                ("b", Low, 7, 1, 1),
-                ("c", High, 7, 1, 7),
-            ],
-            &[1, 2, 3],
-        ),
-        (
-            // The periods of both tasks together are out of range.
-            "periods that do not go together",
-            2,
-            &[
-                ("a", Low, 4294967295, 1, 1),
-                ("b", Low, 4294967294, 1, 1),
-                ("c", Low, 4294967294, 1, 1),
-            ],
-            &[1, 2, 2],
-        ),
-    ];
-    for (name, processors, lines, expected) in cases {
-        let set = set_of(alloc, lines)?;
-        match fit(alloc, &set, processors) {
-            Ok(parts) => {
-                assert!(rt; parts.of.as_slice() == expected, "{name}");
-            }
-            Err(_) => return Err("no parts".into()),
-        }
+    for (name, processors, lines, expected) in &FITTED {
+        let fits = fits_as(rt.alloc(), lines, *processors, expected)?;
+        assert!(rt; fits, "{name}");
     }
     Ok(())
+}
+
+// Whether the tasks go to these processors.
+fn fits_as(alloc: Global, lines: &[Line], processors: u32, expected: &[u32]) -> Result<bool, Fail> {
+    if processors < 1 || processors > 16 {
+        return Err("processors".into());
+    }
+    match fit(alloc, &set_of(alloc, lines)?, processors) {
+        Ok(parts) => Ok(parts.of.as_slice() == expected),
+        Err(_) => Err("no parts".into()),
+    }
+}
+
+// The first task without a processor.
+fn first_without(alloc: Global, set: &TaskSet, processors: u32) -> Option<TaskNo>
+    requires some { 1 ≤ processors }
+    requires few { processors ≤ 16 }
+{
+    match fit(alloc, set, processors) {
+        Err(FitFault::NoRoom { task }) => Some(task),
+        Ok(_) | Err(_) => None,
+    }
 }
 
 #[test]
 fn the_first_task_without_a_processor_is_reported(rt: HostRuntime) -> Result<(), Fail> {
     let alloc = rt.alloc();
-    let set = set_of(alloc, &PLANT)?;
-    let fault = fit(alloc, &set, 1).err();
-    assert!(rt; fault == Some(FitFault::NoRoom { task: TaskNo(3) }));
+    let third = first_without(alloc, &set_of(alloc, &PLANT)?, 1);
     // Sixteen processors that are full.
-    let set = equal_tasks(alloc, 18, 5, 5)?;
-    let fault = fit(alloc, &set, 16).err();
-    assert!(rt; fault == Some(FitFault::NoRoom { task: TaskNo(17) }));
+    let seventeenth = first_without(alloc, &equal_tasks(alloc, 18, 5, 5)?, 16);
     // Both tasks together are out of range on any processor, though the second one has hardly any load.
     let lines = [("a", Low, 4294967295, 1, 1), ("b", Low, 4294967294, 1, 1)];
-    let fault = fit(alloc, &set_of(alloc, &lines)?, 1).err();
-    assert!(rt; fault == Some(FitFault::NoRoom { task: TaskNo(2) }));
+    let second = first_without(alloc, &set_of(alloc, &lines)?, 1);
+    let expected = [Some(TaskNo(3)), Some(TaskNo(17)), Some(TaskNo(2))];
+    assert!(rt; [third, seventeenth, second] == expected);
     Ok(())
 }
 
@@ -101,30 +119,53 @@ fn the_first_task_without_a_processor_is_reported(rt: HostRuntime) -> Result<(),
 fn as_many_tasks_as_a_set_may_have(rt: HostRuntime) -> Result<(), Fail> {
     let alloc = rt.alloc();
     // Eight of these tasks fill a processor, so all of them fill sixteen.
-    let set = equal_tasks(alloc, 128, 8, 1)?;
-    let Ok(parts) = fit(alloc, &set, 16) else {
-        return Err("no parts".into());
-    };
-    assert!(rt; parts.of.len() == 128);
-    for (index, processor) in parts.of.iter().enumerate() {
-        assert!(rt; *processor as usize == index / 8 + 1, "{index}");
-    }
+    let eighths = equal_tasks(alloc, 128, 8, 1)?;
+    assert!(rt; eight_on_each(alloc, &eighths));
     // All of these tasks go on the first processor, and the others have none.
-    let set = equal_tasks(alloc, 128, 128, 1)?;
-    let Ok(parts) = fit(alloc, &set, 16) else {
-        return Err("no parts".into());
-    };
-    let Some(tasks) = part(alloc, &set, &parts, 1)? else {
-        return Err("no part".into());
-    };
-    assert!(rt; tasks.len() == 128);
-    for processor in 2..17 {
-        assert!(rt;
-            part(alloc, &set, &parts, processor)?.is_none(),
-            "{processor}"
-        );
-    }
+    let all = equal_tasks(alloc, 128, 128, 1)?;
+    assert!(rt; are_on_the_first(alloc, &all)?);
     Ok(())
+}
+
+// Whether sixteen processors have eight tasks each, in the order of the tasks.
+fn eight_on_each(alloc: Global, set: &TaskSet) -> bool {
+    match fit(alloc, set, 16) {
+        Ok(parts) => parts.of.len() == 128 && are_in_eights(&parts.of),
+        Err(_) => false,
+    }
+}
+
+fn are_in_eights(processors: &[u32]) -> bool {
+    for (index, processor) in processors.iter().enumerate() {
+        if *processor as usize != index / 8 + 1 {
+            return false;
+        }
+    }
+    true
+}
+
+// Whether all tasks are on the first of sixteen processors.
+fn are_on_the_first(alloc: Global, set: &TaskSet) -> Result<bool, Fail> {
+    let Ok(parts) = fit(alloc, set, 16) else {
+        return Ok(false);
+    };
+    for processor in 1..17 {
+        let expected = if processor == 1 { 128 } else { 0 };
+        if tasks_on(alloc, set, &parts, processor)? != expected {
+            return Ok(false);
+        }
+    }
+    Ok(true)
+}
+
+// The number of tasks on the processor.
+fn tasks_on(alloc: Global, set: &TaskSet, parts: &Parts, processor: u32) -> Result<u32, Fail>
+    requires { length parts.now ≡ length set.now.tasks }
+{
+    match part(alloc, set, parts, processor)? {
+        Some(tasks) => Ok(tasks.len()),
+        None => Ok(0),
+    }
 }
 
 #[test]
@@ -153,15 +194,31 @@ fn a_part_has_its_tasks_and_their_work(rt: HostRuntime) -> Result<(), Fail> {
         (2, "log ", &[work_row(1, 0, 5)]),
     ];
     for (n, names, expected) in cases {
-        let Some(tasks) = part(alloc, &set, &parts, n)? else {
-            return Err("no part".into());
-        };
-        assert!(rt; names_of(alloc, &tasks)?.as_str() == names, "processor {n}");
-        let own = part_work(alloc, &set, &parts, n, &work)?;
-        assert!(rt; own.rows() == expected, "processor {n}");
+        let is_placed = is_part(alloc, &set, &parts, &work, n, names, expected)?;
+        assert!(rt; is_placed, "processor {n}");
     }
-    assert!(rt; part(alloc, &set, &parts, 3)?.is_none());
+    assert!(rt; tasks_on(alloc, &set, &parts, 3)? == 0);
     Ok(())
+}
+
+// Whether the tasks on the processor have these names and this work.
+fn is_part(
+    alloc: Global,
+    set: &TaskSet,
+    parts: &Parts,
+    work: &Work,
+    processor: u32,
+    names: &str,
+    expected: &[WorkRow],
+) -> Result<bool, Fail>
+    requires parts { length parts.now ≡ length set.now.tasks }
+    requires work { IsWork set.now.tasks work.now }
+{
+    let Some(tasks) = part(alloc, set, parts, processor)? else {
+        return Ok(false);
+    };
+    let own = part_work(alloc, set, parts, processor, work)?;
+    Ok(names_of(alloc, &tasks)?.as_str() == names && own.rows() == expected)
 }
 
 fn names_of(alloc: Global, set: &TaskSet) -> Result<String, Fail> {

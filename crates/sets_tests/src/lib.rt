@@ -1,9 +1,11 @@
-//! Tests of the crates on sets of tasks: fractions, sets, the tests of admission, several processors, random sets,
-//! studies.
+//! Tests of the crates on sets of tasks: fractions, sets, the tests of admission, what may change in a set, several
+//! processors, random sets, studies.
 #![tactic(auto)]
 
 #[cfg(test)]
 mod admitting;
+#[cfg(test)]
+mod changes;
 #[cfg(test)]
 mod fitting;
 #[cfg(test)]

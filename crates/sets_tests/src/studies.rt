@@ -1,4 +1,6 @@
 //! Tests of studies. Expected values come from worked examples, and from an independent program over fractions.
+ghost use Rattle.std.specs.Prelude.{◌≤◌};
+
 use admission::admit;
 use load_sum::sum_loads;
 use mc_task::Level::{High, Low};
@@ -6,6 +8,7 @@ use mc_task::{TaskNo, TaskSet};
 use set_gen::make;
 use std::alloc::Global;
 use std::test::Fail;
+use std::thread::Threads;
 use study::{high_at, stretch, table};
 use tick_frac::Ratio;
 use worked_sets::{CONTROL, Line, TAP_AND_ARM, set_of};
@@ -15,7 +18,7 @@ const MOST: u32 = u32::MAX;
 const PERCENTAGES: [u32; 11] = [100, 110, 120, 130, 140, 150, 160, 170, 180, 190, 200];
 
 // Sets, each with a description and its stretch.
-const SETS: [(&str, &[Line], Option<u32>); 8] = [
+static SETS: [(&str, &[Line], Option<u32>); 8] = [
     ("control", &CONTROL, Some(149)),
     ("the scaled load reaches 1", &TAP_AND_ARM, Some(133)),
     (
@@ -78,12 +81,12 @@ fn last_admitted(alloc: Global, set: &TaskSet) -> Result<Option<u32>, Fail> {
 
 #[test]
 fn a_stretch_is_the_last_percentage_admitted(rt: HostRuntime) -> Result<(), Fail> {
-    for (name, lines, expected) in SETS {
+    for (name, lines, expected) in &SETS {
         let set = set_of(rt.alloc(), lines)?;
         let loads = sum_loads(&set)?;
-        assert!(rt; stretch(&set, &loads) == expected, "{name}");
+        assert!(rt; stretch(&set, &loads) == *expected, "{name}");
         assert!(rt;
-            last_admitted(rt.alloc(), &set)? == expected,
+            last_admitted(rt.alloc(), &set)? == *expected,
             "{name}, one by one"
         );
     }
@@ -112,23 +115,33 @@ fn the_load_of_high_tasks_follows_the_percentage(rt: HostRuntime) -> Result<(), 
     Ok(())
 }
 
+// Whether one set is counted at the percentages up to its stretch.
+fn are_up_to(counts: &[u32], stretch: Option<u32>) -> bool {
+    for (count, s) in counts.iter().zip(PERCENTAGES.iter()) {
+        if *count != u32::from(stretch >= Some(*s)) {
+            return false;
+        }
+    }
+    counts.len() == PERCENTAGES.len()
+}
+
+// Whether the generated set with this number is counted up to its stretch, which is the last percentage admitted.
+fn is_counted<R: Threads + Sync>(rt: &R, alloc: Global, number: u32) -> Result<bool, Fail>
+    requires some { 1 ≤ number }
+    requires few { number ≤ 31 }
+{
+    let tasks = 1 + number;
+    let made = make(alloc, u64::from(number), tasks, 1)?;
+    let loads = sum_loads(&made.set)?;
+    let stretch = stretch(&made.set, &loads);
+    let counts = table(rt, alloc, u64::from(number), 1, tasks)?;
+    Ok(are_up_to(&counts, stretch) && stretch == last_admitted(alloc, &made.set)?)
+}
+
 #[test]
 fn a_generated_set_is_counted_up_to_its_stretch(rt: HostRuntime) -> Result<(), Fail> {
-    let alloc = rt.alloc();
     for number in 1..25u32 {
-        let tasks = 1 + number;
-        let made = make(alloc, u64::from(number), tasks, 1)?;
-        let loads = sum_loads(&made.set)?;
-        let stretch = stretch(&made.set, &loads);
-        assert!(rt;
-            stretch == last_admitted(alloc, &made.set)?,
-            "{number}, one by one"
-        );
-        let counts = table(&rt, alloc, u64::from(number), 1, tasks)?;
-        assert!(rt; counts.len() == PERCENTAGES.len(), "{number}");
-        for (count, s) in counts.iter().zip(PERCENTAGES.iter()) {
-            assert!(rt; *count == u32::from(stretch >= Some(*s)), "{number} at {s}");
-        }
+        assert!(rt; is_counted(&rt, rt.alloc(), number)?, "{number}");
     }
     Ok(())
 }
@@ -138,23 +151,34 @@ fn generated_sets_are_counted_by_their_stretch(rt: HostRuntime) -> Result<(), Fa
     let alloc = rt.alloc();
     let cases: [(u64, u32, u32, [u32; 3]); 2] = [(1, 50, 8, [50, 49, 16]), (7, 20, 5, [20, 17, 5])];
     for (number, sets, tasks, expected) in cases {
-        if number > 1000 || sets < 1 || sets > 10000 || tasks < 2 || tasks > 32 {
-            continue;
-        }
-        let counts = table(&rt, alloc, number, sets, tasks)?;
-        assert!(rt; counts.len() == 11, "sets of {tasks}");
-        assert!(rt;
-            counts.iter().take(3).eq(expected.iter()),
-            "sets of {tasks}"
-        );
-        assert!(rt;
-            counts.iter().skip(3).all(|count| *count == 0),
-            "sets of {tasks}"
-        );
-        let again = table(&rt, alloc, number, sets, tasks)?;
-        assert!(rt; counts == again, "sets of {tasks}");
+        let is_counted = are_counted(&rt, alloc, number, sets, tasks, &expected)?;
+        assert!(rt; is_counted, "sets of {tasks}");
     }
     Ok(())
+}
+
+// Whether the table of these sets begins with these counts and goes on with zeros, at each of two calls.
+fn are_counted<R: Threads + Sync>(
+    rt: &R,
+    alloc: Global,
+    number: u64,
+    sets: u32,
+    tasks: u32,
+    expected: &[u32],
+) -> Result<bool, Fail> {
+    if number > 1000 || sets < 1 || sets > 10000 || tasks < 2 || tasks > 32 {
+        return Ok(false);
+    }
+    let counts = table(rt, alloc, number, sets, tasks)?;
+    let again = table(rt, alloc, number, sets, tasks)?;
+    Ok(counts == again && begin_with(&counts, expected))
+}
+
+// Whether the eleven counts begin with these three and go on with zeros.
+fn begin_with(counts: &[u32], expected: &[u32]) -> bool {
+    counts.len() == 11
+        && counts.iter().take(3).eq(expected.iter())
+        && counts.iter().skip(3).all(|count| *count == 0)
 }
 
 // A call for one set starts no thread; a call for 10,000 sets starts some.

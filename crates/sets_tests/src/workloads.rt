@@ -77,6 +77,11 @@ struct Seen {
     digest: u64,
 }
 
+// Whether the rule and the first jobs are these.
+fn begins_with(seen: &Seen, rule: &str, jobs: &str) -> bool {
+    seen.rule.as_str() == rule && seen.jobs.as_str() == jobs
+}
+
 fn workload(alloc: Global, number: u64, tasks: u32, ticks: u64) -> Result<Seen, Fail>
     requires some { 2 ≤ tasks }
     requires few { tasks ≤ 32 }
@@ -105,12 +110,10 @@ fn a_workload_is_the_one_that_its_number_says(rt: HostRuntime) -> Result<(), Fai
     let seen = workload(rt.alloc(), 7, 8, 20000)?;
     let set =
         "t1 high 2000 79 375\nt2 low 400 50 50\nt3 high 2000 82 375\nt4 low 2000 250 250\nt5 high 200 3 37\nt6 low 1250 156 156\nt7 high 1000 2 187\nt8 low 1250 156 156\n";
-    assert_eq!(rt; seen.set.as_str(), set);
-    assert_eq!(rt; seen.rule.as_str(), "325/1668");
     let jobs =
         "1@0+46 2@0+21 3@0+53 4@0+47 5@0+2 6@0+78 7@0+2 8@0+108 5@214+2 2@408+9 5@428+1 5@642+3 2@816+6 5@856+1 7@1010+1 5@1070+2 2@1224+11 6@1256+20 8@1259+30 5@1284+1 5@1498+3 2@1632+34 5@1712+2 5@1926+1 ";
-    assert_eq!(rt; seen.jobs.as_str(), jobs);
-    assert_eq!(rt; (seen.count, seen.digest), (226, 467_134_338));
+    let is_begun = seen.set.as_str() == set && begins_with(&seen, "325/1668", jobs);
+    assert!(rt; is_begun && seen.count == 226 && seen.digest == 467_134_338);
     Ok(())
 }
 
@@ -118,21 +121,18 @@ fn a_workload_is_the_one_that_its_number_says(rt: HostRuntime) -> Result<(), Fai
 fn a_high_task_rarely_needs_its_high_budget(rt: HostRuntime) -> Result<(), Fail> {
     let seen = workload(rt.alloc(), 2, 3, 700)?;
     let set = "t1 high 200 19 75\nt2 low 10000 5000 5000\nt3 high 200 22 75\n";
-    assert_eq!(rt; seen.set.as_str(), set);
-    assert_eq!(rt; seen.rule.as_str(), "41/100");
     // The jobs of task 3 with the need 75 need the high budget.
     let jobs = "1@0+12 2@0+712 3@0+22 1@204+17 3@213+17 1@408+8 3@426+75 1@612+3 3@639+75 ";
-    assert_eq!(rt; seen.jobs.as_str(), jobs);
+    assert!(rt; seen.set.as_str() == set && begins_with(&seen, "41/100", jobs));
     Ok(())
 }
 
 #[test]
 fn the_limits_are_within(rt: HostRuntime) -> Result<(), Fail> {
     let least = workload(rt.alloc(), 0, 2, 1)?;
-    assert_eq!(rt; least.rule.as_str(), "321/1250");
-    assert_eq!(rt; least.jobs.as_str(), "1@0+770 2@0+2263 ");
+    assert!(rt; begins_with(&least, "321/1250", "1@0+770 2@0+2263 "));
     let most = workload(rt.alloc(), u64::MAX, 32, 1_000_000)?;
-    assert_eq!(rt; most.rule.as_str(), "3160/10067");
-    assert_eq!(rt; (most.count, most.digest), (30191, 854_208_913));
+    let is_counted = most.count == 30191 && most.digest == 854_208_913;
+    assert!(rt; most.rule.as_str() == "3160/10067" && is_counted);
     Ok(())
 }

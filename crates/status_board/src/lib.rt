@@ -5,8 +5,6 @@ mod board;
 mod opening;
 mod plays;
 mod shown;
-#[cfg(test)]
-mod tests;
 mod tokens;
 
 pub use board::Board;

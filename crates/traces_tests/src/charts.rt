@@ -17,7 +17,7 @@ fn has_chart(alloc: Global, set: &TaskSet, runs: &[Run], text: &str) -> Result<b
 }
 
 // Runs of these lines, and their charts.
-const CHARTS: [(&[Line], &[Run], &str); 3] = [
+static CHARTS: [(&[Line], &[Run], &str); 3] = [
     // A job of ctl overruns its low budget and runs to its end; log's job is discarded, and log's next job runs.
     (
         &CONTROL,
@@ -48,7 +48,7 @@ log_of_thirty-two_bytes_12345678 ####S.
 
 #[test]
 fn each_trace_has_its_chart(rt: HostRuntime) -> Result<(), Fail> {
-    for (lines, runs, text) in CHARTS {
+    for (lines, runs, text) in &CHARTS {
         let set = set_of(rt.alloc(), lines)?;
         assert!(rt; has_chart(rt.alloc(), &set, runs, text)?, "{text}");
     }

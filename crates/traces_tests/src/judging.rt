@@ -443,7 +443,7 @@ const LONG_RUNS: [(&str, Verdict); 2] = [
 ];
 
 // Runs of these lines, and the verdicts on them under this rule.
-const VERDICTS: [(&[Line], Rule, &[(&str, Verdict)]); 10] = [
+static VERDICTS: [(&[Line], Rule, &[(&str, Verdict)]); 10] = [
     (&CONTROL, SCALED, &FIRST_MISFITS),
     (&CONTROL, UNSCALED, &BY_A_TICK),
     (&CONTROL, SCALED, &LOG_WAITS),
@@ -458,9 +458,9 @@ const VERDICTS: [(&[Line], Rule, &[(&str, Verdict)]); 10] = [
 
 #[test]
 fn each_trace_has_its_verdict(rt: HostRuntime) -> Result<(), Fail> {
-    for (lines, rule, table) in VERDICTS {
+    for (lines, rule, table) in &VERDICTS {
         let set = set_of(rt.alloc(), lines)?;
-        assert_eq!(rt; first_wrong(rt.alloc(), &set, rule, table)?, None);
+        assert_eq!(rt; first_wrong(rt.alloc(), &set, *rule, table)?, None);
     }
     Ok(())
 }

@@ -94,7 +94,7 @@ ticks 0 idle 0 switches 0
 );
 
 // Runs of these lines, legal under this rule, and their texts.
-const REPORTS: [(&[Line], Rule, &[Run], Texts); 4] = [
+static REPORTS: [(&[Line], Rule, &[Run], Texts); 4] = [
     (&CONTROL, SCALED, &OVERRUN_RUNS, AN_OVERRUN),
     (
         &TAP_AND_ARM,
@@ -108,10 +108,10 @@ const REPORTS: [(&[Line], Rule, &[Run], Texts); 4] = [
 
 #[test]
 fn each_trace_has_its_report_and_summary(rt: HostRuntime) -> Result<(), Fail> {
-    for (lines, rule, runs, texts) in REPORTS {
+    for (lines, rule, runs, texts) in &REPORTS {
         let set = set_of(rt.alloc(), lines)?;
         assert!(rt;
-            has_texts(rt.alloc(), &set, rule, runs, texts)?,
+            has_texts(rt.alloc(), &set, *rule, runs, *texts)?,
             "{}",
             texts.0
         );

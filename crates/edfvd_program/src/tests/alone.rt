@@ -4,7 +4,7 @@ use super::{CHECK, CONTROL, CONTROL_TEXT, JUDGE, LOW_FIRST, OVERRUN_RUNS, OVERRU
 
 const TWELVE_TICKS: &[&str] = &["run", "tasks.toml", "second.csv", "12"];
 
-const CASES: &[Case] = &[
+static CASES: &[Case] = &[
     (CHECK, CONTROL, "", 0, CONTROL_TEXT),
     (TWELVE_TICKS, CONTROL, OVERRUN_WORK, 0, OVERRUN_RUNS),
     (

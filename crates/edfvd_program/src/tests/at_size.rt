@@ -73,7 +73,7 @@ const JUDGED: &[Part] = &[Once("legal late 0\n")];
 
 const DEMANDED: &[Part] = &[Once("schedulable, demand checked to 1280\n")];
 
-const CASES: &[LongCase] = &[
+static CASES: &[LongCase] = &[
     (CHECK, TASKS, WORK, 0, CHECKED),
     (STRETCH, TASKS, WORK, 0, STRETCHED),
     (

@@ -2,7 +2,7 @@
 use super::outside::{Case, first_wrong};
 use super::{CHART, CONTROL, HEADER, LOW_FIRST, OVERRUN, REPORT};
 
-const CASES: &[Case] = &[
+static CASES: &[Case] = &[
     (
         CHART,
         CONTROL,

@@ -2,7 +2,7 @@
 use super::outside::{Case, first_wrong};
 use super::{AVIONICS, CHECK, CONTROL, CONTROL_TEXT, QUARTER_SCALE, TWO_HIGH_TASKS};
 
-const CASES: &[Case] = &[
+static CASES: &[Case] = &[
     (CHECK, CONTROL, "", 0, CONTROL_TEXT),
     (
         CHECK,

@@ -11,7 +11,7 @@ tick 2 b 1
 late b 1
 ";
 
-const CASES: &[Case] = &[
+static CASES: &[Case] = &[
     (
         DEMAND,
         "task,period,deadline,budget\na,4,2,1\nb,6,3,2\n",

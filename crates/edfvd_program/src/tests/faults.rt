@@ -40,7 +40,7 @@ type FaultCase = (
     &'static str,
 );
 
-const CASES: &[FaultCase] = &[
+static CASES: &[FaultCase] = &[
     (CHECK, CONTROL, "", NO_FIRST, 7, "read fault on file 1\n"),
     (
         &["check", "absent.toml"],
@@ -243,7 +243,7 @@ fn a_sink_of_single_bytes_keeps_those_before_the_fault(rt: HostRuntime) {
 }
 
 // A name that the shelf lacks holds no bytes: as a task file it has no tasks, as a list of work no header.
-const CALM_CASES: &[(&[&str], u8)] = &[
+static CALM_CASES: &[(&[&str], u8)] = &[
     (CHECK, 0),
     (RUN, 0),
     (&["check", "absent.toml"], 3),

@@ -7,7 +7,7 @@ const EQUAL_NAMES: &str = "task = [
     {name='ctl', level='low', period=10, low=5},
 ]";
 
-const CASES: &[Case] = &[
+static CASES: &[Case] = &[
     (
         JUDGE,
         CONTROL,

@@ -2,7 +2,7 @@
 use super::outside::{Case, first_wrong};
 use super::{CONTROL, HEADER, JUDGE, LONG_PERIODS, LOW_FIRST, OVERLOADED, UNDER_HALF, UNDER_ONE};
 
-const CASES: &[Case] = &[
+static CASES: &[Case] = &[
     (
         UNDER_ONE,
         CONTROL,

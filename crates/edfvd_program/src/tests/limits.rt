@@ -23,7 +23,7 @@ const COMMENTED: &[Part] = &[
     Each("#", 0, 5),
 ];
 
-const BYTE_CASES: &[LongCase] = &[
+static BYTE_CASES: &[LongCase] = &[
     (CHECK, COMMENTED, &[], 0, &[Once(CONTROL_TEXT)]),
     (
         CHECK,
@@ -55,7 +55,7 @@ fn a_file_of_16777216_bytes_is_read_and_a_longer_one_is_not(rt: HostRuntime) -> 
     Ok(())
 }
 
-const ROW_CASES: &[LongCase] = &[
+static ROW_CASES: &[LongCase] = &[
     (
         CHECK,
         &[Each(

@@ -28,7 +28,7 @@ release,2,,a,3,kept
 tick,2,1,a,3,done
 ";
 
-const CASES: &[Case] = &[
+static CASES: &[Case] = &[
     (TEN_TICKS, CONTROL, "", 0, FIRST_TICKS),
     (&["live", "tasks.toml", "3"], ONE_TASK, "", 0, EACH_TICK),
 ];

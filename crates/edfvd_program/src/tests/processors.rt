@@ -41,7 +41,7 @@ const TOO_LARGE_A_TASK: &str = "task = [
     {name='c', level='low', period=3, low=4},
 ]";
 
-const CASES: &[Case] = &[
+static CASES: &[Case] = &[
     (
         &["partition", "tasks.toml", "2"],
         PLANT,

@@ -17,7 +17,7 @@ const TABLE: &str = "100 50
 200 0
 ";
 
-const CASES: &[Case] = &[
+static CASES: &[Case] = &[
     (
         STRETCH,
         CONTROL,

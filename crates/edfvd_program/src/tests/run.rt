@@ -8,7 +8,7 @@ const TEN_TICKS: &[&str] = &["run", "tasks.toml", "second.csv", "10"];
 
 const NO_WORK: &str = "task,release,need\n";
 
-const CASES: &[Case] = &[
+static CASES: &[Case] = &[
     (
         &["run", "tasks.toml", "second.csv", "12"],
         CONTROL,

@@ -2,7 +2,7 @@
 use super::outside::{Case, first_wrong};
 use super::{CHART, CONTROL, JUDGE, LOW_FIRST, MIGRATE, OVERRUN, OVERRUN_RUNS, REPORT};
 
-const CASES: &[Case] = &[
+static CASES: &[Case] = &[
     (MIGRATE, CONTROL, OVERRUN, 0, OVERRUN_RUNS),
     (MIGRATE, CONTROL, OVERRUN_RUNS, 0, OVERRUN_RUNS),
     (

@@ -7,7 +7,7 @@ const SOAK_7: &[&str] = &["soak", "7", "8", "20000"];
 const SOAKED_7: &str =
     "soak 7 8 20000\nrule virtual x 325/1668\nreleased 226 kept 226 dropped 0 discarded 0 done 225 stopped 0\nticks 6302 idle 13698 switches 0\nlegal late 0\n";
 
-const CASES: &[Case] = &[
+static CASES: &[Case] = &[
     (SOAK_7, "", "", 0, SOAKED_7),
     (
         &["soak", "1", "16", "20000"],

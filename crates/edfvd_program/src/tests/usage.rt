@@ -7,7 +7,7 @@ use std::alloc::Global;
 use std::sync::Wait;
 use std::thread::Threads;
 
-const CASES: &[&[&str]] = &[
+static CASES: &[&[&str]] = &[
     &[],
     &["check"],
     &["check", "tasks.toml", "tasks.toml"],

@@ -162,7 +162,7 @@ fn rows_that_fit(alloc: Global, lines: &[Line], rule: Rule) -> Result<usize, Fai
     Ok(if agree { rows.len() } else { 0 })
 }
 
-const DRAWN: [(&[Line], Rule); 4] = [
+static DRAWN: [(&[Line], Rule); 4] = [
     (&CONTROL, SCALED),
     (&CONTROL, UNSCALED),
     (&OVERLOAD, UNSCALED),

@@ -56,7 +56,7 @@ fn flood(alloc: Global, tasks: u32, rounds: u32) -> Result<Vec<Run>, Fail>
 }
 
 // 3,000 rounds of two tasks: each job except the first is late, and half of the jobs are pending.
-const OF_TWO: [(Run, Verdict); 8] = [
+static OF_TWO: [(Run, Verdict); 8] = [
     (ticks!(1, 1501, How::Stop, 1), late!(5999, 2, 1)),
     (ticks!(2, 1501, How::Done, 1), late!(5999, 2, 1)),
     (ticks!(1, 1502, How::Stop, 1), illegal!(9001, Why::NotLeast)),
@@ -96,7 +96,7 @@ fn floods(alloc: Global, names: &[&str]) -> Result<TaskSet, Fail> {
 }
 
 // 400 rounds of 13 tasks: the jobs of the first 30 rounds have run, and 10 of those of the 31st.
-const OF_THIRTEEN: [(Run, Verdict); 5] = [
+static OF_THIRTEEN: [(Run, Verdict); 5] = [
     (ticks!(11, 31, How::Done, 1), late!(5199, 2, 1)),
     (ticks!(13, 31, How::Done, 1), late!(5199, 2, 1)),
     (ticks!(10, 32, How::Done, 1), illegal!(5601, Why::NotLeast)),
@@ -134,7 +134,7 @@ fn overrun(alloc: Global) -> Result<Vec<Run>, Fail> {
 }
 
 // The jobs of the low task were discarded by then, all except the last of them after their deadlines.
-const AFTER_OVERRUN: [(Run, Verdict); 3] = [
+static AFTER_OVERRUN: [(Run, Verdict); 3] = [
     (ticks!(1, 1, How::Stop, 1), late!(2999, 2, 1)),
     (
         ticks!(2, 3000, How::Stop, 1),

@@ -31,7 +31,7 @@ const LONG: Turned = turned!(1, 1, 10, 0);
 const SHORT: Turned = turned!(2, 1, 11, 2);
 
 // Runs of `TWO_OF_TEN`, each with the jobs that become late with it.
-const BY_A_TICK: [(Run, &[Turned]); 7] = [
+static BY_A_TICK: [(Run, &[Turned]); 7] = [
     (release!(1, 1, true), &[]),
     (ticks!(1, 1, How::More, 1), &[]),
     (release!(2, 1, true), &[]),
@@ -80,7 +80,7 @@ const SEVERAL: [Line; 4] = [
 ];
 
 // Runs of `SEVERAL`. Four deadlines come with the last one, two of them at one boundary.
-const AT_ONCE: [(Run, &[Turned]); 6] = [
+static AT_ONCE: [(Run, &[Turned]); 6] = [
     (release!(1, 1, true), &[]),
     (release!(3, 1, true), &[]),
     (release!(4, 1, true), &[]),

@@ -55,7 +55,7 @@ fn agree_on(
     Ok(true)
 }
 
-const WATCHED: [(&[Line], Rule, &str); 5] = [
+static WATCHED: [(&[Line], Rule, &str); 5] = [
     (
         &CONTROL,
         SCALED,
@@ -148,16 +148,16 @@ fn agree_in_two(alloc: Global, lines: &[Line], rule: Rule, text: &str) -> Result
 fn a_monitor_that_is_given_many_runs_says_what_it_says_of_each(
     rt: HostRuntime,
 ) -> Result<(), Fail> {
-    for (lines, rule, text) in WATCHED {
-        assert!(rt; agree_in_two(rt.alloc(), lines, rule, text)?, "{text}");
+    for (lines, rule, text) in &WATCHED {
+        assert!(rt; agree_in_two(rt.alloc(), lines, *rule, text)?, "{text}");
     }
     Ok(())
 }
 
 #[test]
 fn a_monitor_says_what_the_judge_says_of_the_rows_so_far(rt: HostRuntime) -> Result<(), Fail> {
-    for (lines, rule, text) in WATCHED {
-        assert!(rt; agree(rt.alloc(), lines, rule, text)?, "{text}");
+    for (lines, rule, text) in &WATCHED {
+        assert!(rt; agree(rt.alloc(), lines, *rule, text)?, "{text}");
     }
     Ok(())
 }
@@ -168,7 +168,7 @@ const MISFIT: Unfit = Unfit {
 };
 
 // Runs that are given to a monitor of `CONTROL`, each with its result.
-const OBSERVED: [(Run, Result<Option<Unfit>, ObserveFault>); 10] = [
+static OBSERVED: [(Run, Result<Option<Unfit>, ObserveFault>); 10] = [
     (ticks!(0, 1, How::More, 1), Err(ObserveFault::UnknownTask)),
     (ticks!(3, 1, How::More, 1), Err(ObserveFault::UnknownTask)),
     (ticks!(1, 1, How::Done, 2), Err(ObserveFault::NotARun)),
@@ -183,9 +183,9 @@ const OBSERVED: [(Run, Result<Option<Unfit>, ObserveFault>); 10] = [
 
 // The first of the runs whose result differs from the one beside it.
 fn first_wrong_result(alloc: Global, monitor: &mut Monitor) -> Option<Run> {
-    for (run, expected) in OBSERVED {
-        if monitor.observe(alloc, run) != expected {
-            return Some(run);
+    for (run, expected) in &OBSERVED {
+        if monitor.observe(alloc, *run) != *expected {
+            return Some(*run);
         }
     }
     None
@@ -259,7 +259,7 @@ const AFTER_A_MISFIT: [Asked; 3] = [
 ];
 
 // Runs of `CONTROL` that a monitor takes one after the other, and what it then returns for runs that it does not take.
-const ASKED: [(&str, &[Asked]); 4] = [
+static ASKED: [(&str, &[Asked]); 4] = [
     (
         "release log 1 kept, release ctl 1 kept, tick ctl 1 more",
         &BEFORE_AN_OVERRUN,
@@ -292,7 +292,7 @@ fn a_monitor_says_whether_a_run_would_fit(rt: HostRuntime) -> Result<(), Fail> {
     let alloc = rt.alloc();
     let set = set_of(alloc, &CONTROL)?;
     let mut monitor = monitor(alloc, &CONTROL, SCALED)?;
-    for (text, asked) in ASKED {
+    for (text, asked) in &ASKED {
         take(alloc, &set, &mut monitor, text)?;
         let wrong = first_misjudged(&monitor, asked);
         assert!(rt; wrong.is_none(), "after {text}: {wrong:?}");
@@ -315,7 +315,7 @@ fn fitted(monitor: &Monitor) -> Fitted {
 
 // Runs of `CONTROL`, the last of which breaks a rule, in its middle or with its first row; the row that does not fit; and the
 // rows that fitted.
-const BROKEN: [(&str, Unfit, Fitted); 5] = [
+static BROKEN: [(&str, Unfit, Fitted); 5] = [
     (
         "release ctl 1 kept, tick ctl 1 more 5",
         Unfit {
@@ -369,10 +369,10 @@ fn stands_at(alloc: Global, monitor: &mut Monitor, unfit: Unfit, before: Fitted)
 fn the_rows_of_a_run_before_the_one_that_does_not_fit_count(rt: HostRuntime) -> Result<(), Fail> {
     let alloc = rt.alloc();
     let set = set_of(alloc, &CONTROL)?;
-    for (text, unfit, before) in BROKEN {
+    for (text, unfit, before) in &BROKEN {
         let mut monitor = monitor(alloc, &CONTROL, SCALED)?;
         take(alloc, &set, &mut monitor, text)?;
-        assert!(rt; stands_at(alloc, &mut monitor, unfit, before), "{text}");
+        assert!(rt; stands_at(alloc, &mut monitor, *unfit, *before), "{text}");
     }
     Ok(())
 }
@@ -392,9 +392,9 @@ fn given_at_once(alloc: Global, set: &TaskSet, text: &str) -> Result<Monitor, Fa
 fn they_count_also_if_many_runs_are_given_at_once(rt: HostRuntime) -> Result<(), Fail> {
     let alloc = rt.alloc();
     let set = set_of(alloc, &CONTROL)?;
-    for (text, unfit, before) in BROKEN {
+    for (text, unfit, before) in &BROKEN {
         let mut monitor = given_at_once(alloc, &set, text)?;
-        assert!(rt; stands_at(alloc, &mut monitor, unfit, before), "{text}");
+        assert!(rt; stands_at(alloc, &mut monitor, *unfit, *before), "{text}");
     }
     Ok(())
 }

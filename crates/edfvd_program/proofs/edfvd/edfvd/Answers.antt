@@ -1,7 +1,7 @@
 use Rattle.std.proofs.Common.{rules}
 use Rattle.command_line.specs.Form.{form_in}
 use Rattle.edfvd_program.proofs.Outcomes.{answers, kept, calm_outcome}
-use Rattle.promises.proofs.Headlines.{gave_up}
+use Rattle.promises.proofs.Promises.{no_memory_keeps}
 use Rattle.edfvd_program.proofs.edfvd.edfvd.Goals as goal
 
 pub returns-in-Ok-clause-outcome : goal.returns-in-Ok-clause-outcome
@@ -30,13 +30,13 @@ pub returns-in-Ok-clause-calm_shelf : goal.returns-in-Ok-clause-calm_shelf
 returns-in-Ok-clause-calm_shelf g c = calm_outcome c.in-Ok.ensures.reply c.deliver.ensures
 
 pub returns-in-Err-clause-headline : goal.returns-in-Err-clause-headline
-returns-in-Err-clause-headline g c files old exposes written calm = (gave_up (form_in c.args.call.now.words.now) files old (g.K.Sink.state c.args.call.now.out).written).0
+returns-in-Err-clause-headline g c files old exposes written calm = (no_memory_keeps (form_in c.args.call.now.words.now) files old (g.K.Sink.state c.args.call.now.out).written).0
 
 pub returns-in-Err-clause-right_text : goal.returns-in-Err-clause-right_text
-returns-in-Err-clause-right_text g c files old exposes written calm = (gave_up (form_in c.args.call.now.words.now) files old (g.K.Sink.state c.args.call.now.out).written).1
+returns-in-Err-clause-right_text g c files old exposes written calm = (no_memory_keeps (form_in c.args.call.now.words.now) files old (g.K.Sink.state c.args.call.now.out).written).1
 
 pub returns-in-Err-clause-complete : goal.returns-in-Err-clause-complete
-returns-in-Err-clause-complete g c files old exposes written calm = (gave_up (form_in c.args.call.now.words.now) files old (g.K.Sink.state c.args.call.now.out).written).2
+returns-in-Err-clause-complete g c files old exposes written calm = (no_memory_keeps (form_in c.args.call.now.words.now) files old (g.K.Sink.state c.args.call.now.out).written).2
 
 pub returns-in-Err-clause-tested : goal.returns-in-Err-clause-tested
-returns-in-Err-clause-tested g c files old exposes written calm = (gave_up (form_in c.args.call.now.words.now) files old (g.K.Sink.state c.args.call.now.out).written).3
+returns-in-Err-clause-tested g c files old exposes written calm = (no_memory_keeps (form_in c.args.call.now.words.now) files old (g.K.Sink.state c.args.call.now.out).written).3

@@ -3,7 +3,7 @@ ghost use Rattle.std.specs.Prelude.{◌≡◌, ◌≤◌, ◌^◌, ◌∷◌, []
 ghost use Rattle.status_board.specs.Logs.{start};
 ghost use Rattle.status_board.specs.Tokens.{shown, IsWriterOf, IsWatcherOf};
 
-use crate::{Board, Shown, Watcher, Writer};
+use status_board::{Board, Shown, Watcher, Writer};
 use std::test::Fail;
 use std::thread::join;
 
@@ -14,7 +14,7 @@ fn pair(ticks: u64, high_mode: bool) -> Shown
 }
 
 // Shows the ticks from 1 on; every third one in high mode.
-#[tactic(auto, using(crate::proofs::Lists::last_more))]
+#[tactic(auto, using(status_board::proofs::Lists::last_more))]
 fn show_all(board: &Board, mut writer: Writer, ticks: u64)
     requires writer { IsWriterOf board.now writer × (shown writer ≡ start ∷ []) }
     requires few { ticks ≤ 1_000_000 }
@@ -46,14 +46,16 @@ fn a_watcher_reads_what_was_shown_last(rt: HostRuntime) -> Result<(), Fail> {
     };
     let mut second = watchers.pop().unwrap();
     let mut first = watchers.pop().unwrap();
-    assert_eq!(rt; board.read(&mut first), pair(0, false));
+    let before = board.read(&mut first);
     board.show(&mut writer, pair(1, false));
     board.show(&mut writer, pair(2, true));
-    assert_eq!(rt; board.read(&mut first), pair(2, true));
+    let switched = board.read(&mut first);
     board.show(&mut writer, pair(3, false));
     board.tell(&mut writer, &mut second);
-    assert_eq!(rt; board.read(&mut second), pair(3, false));
-    assert_eq!(rt; board.read(&mut first), pair(3, false));
+    let told = board.read(&mut second);
+    let last = board.read(&mut first);
+    assert!(rt; before == pair(0, false) && switched == pair(2, true));
+    assert!(rt; told == pair(3, false) && last == pair(3, false));
     Ok(())
 }
 
