@@ -6,7 +6,6 @@ mod admitted;
 mod delivery;
 mod fetching;
 mod file_name;
-mod traced;
 mod within;
 
 pub use admitted::{
@@ -16,5 +15,4 @@ pub use admitted::{
 pub use delivery::deliver;
 pub use fetching::fetch;
 pub use file_name::FileName;
-pub use traced::trace_text;
 pub use within::{TaskCount, Ticks, Within};

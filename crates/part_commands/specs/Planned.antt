@@ -1,6 +1,7 @@
 -- The job of `runall`, and the floors of the processors that have tasks before they run.
-use Rattle.std.specs.Prelude.{◌≡◌, ℕ, ◌≤◌, List, Some, filter}
+use Rattle.std.specs.Prelude.{◌≡◌, ℕ, ◌≤◌, List, Some, filter, length, map}
 use Rattle.std.specs.List.{range_with_len, AllZip}
+use Rattle.mc_task.specs.declared.task.TaskNo.{TaskNo}
 use Rattle.mc_model.specs.declared.work.WorkRow.{WorkRow}
 use Rattle.mc_model.specs.Test.{published}
 use Rattle.mc_model.specs.Work.{IsWork}
@@ -41,7 +42,8 @@ abbrev pub numbers_on : ℕ → List ℕ → ℕ → List ℕ
 numbers_on n of k = filter (is_on n of) (range_with_len 1 k)
 
 -- a floor of the tasks on processor n under the rule that the published test gives them, with no rows yet, a
--- capacity of at most 2,000,000 rows, and their part of the work for this many ticks as its plan
+-- capacity of at most 2,000,000 rows, and their part of the work for this many ticks as its plan; and the numbers of
+-- these tasks in the whole set
 pub record IsPlannedOn (ticks : ℕ) (parted : Parted) (work : List WorkRow) (n : ℕ) (side : Side)
     : Type 0 where
   pub tasks : side.floor.core.set ≡ tasks_on parted n
@@ -49,6 +51,7 @@ pub record IsPlannedOn (ticks : ℕ) (parted : Parted) (work : List WorkRow) (n 
   pub plan : side.floor.plan ≡ Rows (part_rows n parted.of work) ticks
   pub fresh : IsFresh side
   pub few : side.floor.core.places ≤ 2000000
+  pub numbers : map (λ (k : TaskNo). k.0) side.numbers.items ≡ numbers_on n parted.of (length parted.of)
 
 -- there is a floor for each processor that has tasks, with its plan
 abbrev pub ArePlanned : ℕ → Parted → List WorkRow → PartFloors → Type 0

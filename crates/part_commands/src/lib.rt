@@ -11,5 +11,5 @@ mod traces;
 
 pub use parted::{Parted, Processors};
 pub use partition::PartitionCommand;
-pub use run_parts::{RunAllCommand, RunAllJob, finish_run_all};
+pub use run_parts::RunAllCommand;
 pub use side_by_side::{Side, run_all};

@@ -49,8 +49,8 @@ impl<'a> RunAllCommand<'a> {
         finish_run_all(rt, alloc, job, &self.ticks, &self.processors, gate)
     }
 
-    /// The job to run, by both files. Without a runtime this cannot wait.
-    pub fn job<S: Shelf>(&self, alloc: Global, shelf: &mut S) -> Result<RunAllJob, Stop>
+    // The job to run, by both files. Without a runtime this cannot wait.
+    fn job<S: Shelf>(&self, alloc: Global, shelf: &mut S) -> Result<RunAllJob, Stop>
         ensures { Prepares 1 (run_all self.now.tasks self.now.work self.now.ticks self.now.processors)
             (IsRunAllJob self.now.processors) (RepliesToRunAll self.now.ticks self.now.processors) (S.state shelf.old) (S.state shelf.new) result }
     {
@@ -62,8 +62,8 @@ impl<'a> RunAllCommand<'a> {
     }
 }
 
-/// The reply of a `runall` of this many ticks on this many processors, as [`RunAllCommand::reply`] gives it once the files are read.
-pub fn finish_run_all<R: Threads + Wait + Sync, G: Gate + Sync>(
+// The reply of a `runall` of this many ticks on this many processors, as `RunAllCommand::reply` gives it once the files are read.
+fn finish_run_all<R: Threads + Wait + Sync, G: Gate + Sync>(
     rt: &R,
     alloc: Global,
     job: RunAllJob,

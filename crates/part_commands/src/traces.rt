@@ -2,10 +2,10 @@
 ghost use Rattle.std.specs.Prelude.{◌≡◌, IfOk, length, flat_map, zip, All};
 ghost use Rattle.part_commands.specs.Traced.{HasSmallCapacity, floor_lines};
 
-use command::trace_text;
 use mc_task::Memory;
 use std::alloc::Global;
 use timetable::Floor;
+use trace_format::write_rows;
 
 /// The traces of these processors' floors, each after a line with its processor.
 pub fn traces_text(alloc: Global, processors: &[u32], floors: &[Floor]) -> Result<Vec<u8>, Memory>
@@ -28,7 +28,7 @@ fn floor_lines(alloc: Global, processor: u32, floor: &Floor) -> Result<Vec<u8>, 
     let core = floor.core();
     // The floor has no more rows than its capacity.
     let _places = core.places();
-    let trace = trace_text(alloc, core.set(), core.rows())?;
+    let trace = write_rows(alloc, core.set(), core.rows())?;
     let mut lines = format!(in alloc; "processor {processor}\n")?.into_bytes();
     lines.extend_from_slice(&trace)?;
     Ok(lines)

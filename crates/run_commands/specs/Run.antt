@@ -1,5 +1,5 @@
 -- The command `run TASKS WORK TICKS`.
-use Rattle.std.specs.Prelude.{◌≡◌, ℕ, ◌≤◌, List, length, reverse}
+use Rattle.std.specs.Prelude.{◌≡◌, ℕ, ◌+◌, ◌*◌, ◌≤◌, List, length, reverse}
 use Rattle.mc_task.specs.declared.task.Task.{Task}
 use Rattle.mc_task.specs.declared.task.Rule.{Rule}
 use Rattle.mc_model.specs.declared.row.Row.{Row}
@@ -17,6 +17,12 @@ traced set h = reply_of 0 (trace_text set (reverse h))
 -- the reply's text has at most this many bytes
 abbrev pub IsShort : ℕ → Reply → Type 0
 IsShort bytes reply = length reply.text ≤ bytes
+
+-- the most bytes of a trace that `run` writes: what 2,000,000 rows would take in version 1, as it is written, which is
+-- 24 bytes of a header and at most 64 a row. The text is of version 2, and shorter: at most 31 bytes for its header, 66
+-- for each of 1,000,000 releases, and 61 for each of 1,000,000 ticks. `judge` reads a trace of at most 2 ^ 27 bytes.
+abbrev pub most_run_bytes : ℕ
+most_run_bytes = 24 + 64 * 2000000
 
 -- the reply is the text of the one trace of this many ticks that follows from the set, the rule and the work
 abbrev pub IsTraceReply : ℕ → List Task → Rule → List WorkRow → Reply → Type 0

@@ -6,6 +6,6 @@ mod planned;
 mod run;
 mod soak;
 
-pub use live::{LiveCommand, LiveTicks, finish_live};
-pub use run::{RunCommand, RunJob, finish_run};
+pub use live::{LiveCommand, LiveTicks};
+pub use run::RunCommand;
 pub use soak::SoakCommand;

@@ -8,9 +8,7 @@ ghost use Rattle.run_commands.specs.Live.{IsLiveReply, live};
 ghost use Rattle.run_commands.specs.Run.{IsShort};
 ghost use Rattle.run_commands.specs.Jobs.{IsLiveJob};
 
-use command::{
-    Admitted, FileName, MOST_TABLE_BYTES, SetWithRule, Within, fetch, read_admitted, trace_text,
-};
+use command::{Admitted, FileName, MOST_TABLE_BYTES, SetWithRule, Within, fetch, read_admitted};
 use executive::Gate;
 use mc_model::Row;
 use mc_world::Shelf;
@@ -21,6 +19,7 @@ use std::sync::Wait;
 use std::thread::Threads;
 use task_threads::{live_capacity, run_live};
 use timetable::{Floor, Plan};
+use trace_format::write_rows;
 
 /// How many ticks a live run has, 1 to 100,000.
 pub type LiveTicks = Within<1, 100_000>;
@@ -50,8 +49,8 @@ impl<'a> LiveCommand<'a> {
         finish_live(rt, alloc, job, &self.ticks, gate)
     }
 
-    /// The job to run, by the file. Without a runtime this cannot wait.
-    pub fn job<S: Shelf>(&self, alloc: Global, shelf: &mut S) -> Result<SetWithRule, Stop>
+    // The job to run, by the file. Without a runtime this cannot wait.
+    fn job<S: Shelf>(&self, alloc: Global, shelf: &mut S) -> Result<SetWithRule, Stop>
         ensures { Prepares 1 (live self.now.tasks self.now.ticks) IsLiveJob (IsLiveReply self.now.ticks) (S.state shelf.old) (S.state shelf.new) result }
     {
         let bytes = fetch(alloc, shelf, 1, &self.tasks, MOST_TABLE_BYTES)?;
@@ -60,8 +59,8 @@ impl<'a> LiveCommand<'a> {
     }
 }
 
-/// The reply of a `live` of this many ticks, as [`LiveCommand::reply`] gives it once the file is read.
-pub fn finish_live<R: Threads + Wait + Sync, G: Gate + Sync>(
+// The reply of a `live` of this many ticks, as `LiveCommand::reply` gives it once the file is read.
+fn finish_live<R: Threads + Wait + Sync, G: Gate + Sync>(
     rt: &R,
     alloc: Global,
     job: SetWithRule,
@@ -82,7 +81,7 @@ pub fn finish_live<R: Threads + Wait + Sync, G: Gate + Sync>(
     let floor = Floor::new(core, Plan::Free);
     let floor = run_live(rt, alloc, floor, ticks, gate)?;
     let done = floor.core();
-    let text = trace_text(alloc, done.set(), live_rows(done, ticks))?;
+    let text = write_rows(alloc, done.set(), live_rows(done, ticks))?;
     Ok(Reply::new(0, text))
 }
 

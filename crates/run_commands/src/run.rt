@@ -3,14 +3,12 @@ ghost use Rattle.std.specs.Prelude.{◌≤◌, ℕ, IfOk, length};
 ghost use Rattle.replies.specs.Stop.{Replies};
 ghost use Rattle.command.specs.Serves.{Serves, IsOwn, Prepares};
 ghost use Rattle.run_commands.specs.declared.run.RunJob.{RunJob as Job};
-ghost use Rattle.run_commands.specs.Run.{IsShort, run};
+ghost use Rattle.run_commands.specs.Run.{IsShort, most_run_bytes, run};
 ghost use Rattle.run_commands.specs.Jobs.{IsRunJob, RepliesToRun};
 ghost use Rattle.run_commands.specs.Planned.{IsPlanned};
 
 use crate::planned::{planned, planned_alone};
-use command::{
-    Admitted, FileName, MOST_TABLE_BYTES, Ticks, fetch, read_admitted, read_work_of, trace_text,
-};
+use command::{Admitted, FileName, MOST_TABLE_BYTES, Ticks, fetch, read_admitted, read_work_of};
 use executive::Gate;
 use mc_task::{Rule, TaskSet};
 use mc_world::Shelf;
@@ -19,6 +17,7 @@ use std::alloc::Global;
 use std::sync::Wait;
 use std::thread::Threads;
 use timetable::Floor;
+use trace_format::write_rows;
 use work_file::Work;
 
 /// `run TASKS WORK TICKS`.
@@ -47,10 +46,7 @@ impl<'a> RunCommand<'a> {
         gate: &G,
     ) -> Result<Reply, Stop>
         ensures serves { Serves 1 (run self.now.tasks self.now.work self.now.ticks) (S.state shelf.old) (S.state shelf.new) result }
-        // What a trace of 2,000,000 rows would take in version 1, as it is written: 24 bytes of a header, and at most 64 a row.
-        // The text is of version 2, and shorter: at most 31 bytes for its header, 66 for each of 1,000,000 releases, and 61 for
-        // each of 1,000,000 ticks. `judge` reads a trace of at most 2 ^ 27 bytes.
-        ensures short { IfOk result (IsShort 128000024) }
+        ensures short { IfOk result (IsShort most_run_bytes) }
     {
         let job = self.job(alloc, shelf)?;
         finish_run(rt, alloc, job, &self.ticks, gate)
@@ -59,15 +55,15 @@ impl<'a> RunCommand<'a> {
     /// The reply that [`RunCommand::reply`] gives, by the caller's thread alone: there is one trace, and this thread makes it.
     pub fn reply_alone<S: Shelf>(&self, alloc: Global, shelf: &mut S) -> Result<Reply, Stop>
         ensures serves { Serves 1 (run self.now.tasks self.now.work self.now.ticks) (S.state shelf.old) (S.state shelf.new) result }
-        ensures short { IfOk result (IsShort 128000024) }
+        ensures short { IfOk result (IsShort most_run_bytes) }
     {
         let job = self.job(alloc, shelf)?;
         let floor = planned_alone(alloc, job, &self.ticks)?;
         trace_reply(alloc, &floor)
     }
 
-    /// The job to run, by both files. Without a runtime this cannot wait.
-    pub fn job<S: Shelf>(&self, alloc: Global, shelf: &mut S) -> Result<RunJob, Stop>
+    // The job to run, by both files. Without a runtime this cannot wait.
+    fn job<S: Shelf>(&self, alloc: Global, shelf: &mut S) -> Result<RunJob, Stop>
         ensures { Prepares 1 (run self.now.tasks self.now.work self.now.ticks) IsRunJob (RepliesToRun self.now.ticks) (S.state shelf.old) (S.state shelf.new) result }
     {
         let bytes = fetch(alloc, shelf, 1, &self.tasks, MOST_TABLE_BYTES)?;
@@ -78,8 +74,8 @@ impl<'a> RunCommand<'a> {
     }
 }
 
-/// The reply of a `run` of this many ticks, as [`RunCommand::reply`] gives it once the files are read.
-pub fn finish_run<R: Threads + Wait + Sync, G: Gate + Sync>(
+// The reply of a `run` of this many ticks, as `RunCommand::reply` gives it once the files are read.
+fn finish_run<R: Threads + Wait + Sync, G: Gate + Sync>(
     rt: &R,
     alloc: Global,
     job: RunJob,
@@ -88,7 +84,7 @@ pub fn finish_run<R: Threads + Wait + Sync, G: Gate + Sync>(
 ) -> Result<Reply, Stop>
     requires { IsRunJob job }
     ensures trace { Replies (RepliesToRun ticks.now job) result }
-    ensures short { IfOk result (IsShort 128000024) }
+    ensures short { IfOk result (IsShort most_run_bytes) }
     ensures own { Replies IsOwn result }
 {
     let floor = planned(rt, alloc, job, ticks, gate)?;
@@ -99,13 +95,13 @@ pub fn finish_run<R: Threads + Wait + Sync, G: Gate + Sync>(
 fn trace_reply(alloc: Global, floor: &Floor) -> Result<Reply, Stop>
     requires { length floor.now.core.rows ≤ 2000000 }
     ensures trace { (job : Job) (ticks : ℕ) → IsPlanned job ticks floor.now → Replies (RepliesToRun ticks job) result }
-    ensures short { (job : Job) (ticks : ℕ) → IsPlanned job ticks floor.now → IfOk result (IsShort 128000024) }
+    ensures short { (job : Job) (ticks : ℕ) → IsPlanned job ticks floor.now → IfOk result (IsShort most_run_bytes) }
     ensures own { Replies IsOwn result }
 {
     let core = floor.core();
     let set = core.set();
     // The names of a set are short.
     let _is_set = set.len();
-    let text = trace_text(alloc, set, core.rows())?;
+    let text = write_rows(alloc, set, core.rows())?;
     Ok(Reply::new(0, text))
 }

@@ -80,7 +80,7 @@ struct TaskSpot {
     next_release: AtomicU64,
 }
 
-/// The tasks' spots, the caller's spot, and how many acts were done.
+/// The tasks' spots, the caller's spot, and a count by which a resting thread sees whether others act.
 #[derive(Drop)]
 pub struct ParkingSpots {
     spots: Vec<TaskSpot>,
@@ -181,15 +181,11 @@ impl ParkingSpots {
         is_awaited
     }
 
-    // Counts an act, so that no thread that rests has to look.
-    pub fn count_act(&self) {
-        self.acts.fetch_add(1, SeqCst);
-    }
-
-    // Counts a tick, by its number: every 64th counts, which is enough to show that a thread acts.
+    // Counts a tick, by its number, so that no thread that rests has to look. Every 64th counts, which is enough to show
+    // that a thread acts.
     pub fn count_tick(&self, number: u64) {
         if number % 64 == 0 {
-            self.count_act();
+            self.acts.fetch_add(1, SeqCst);
         }
     }
 

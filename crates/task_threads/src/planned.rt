@@ -85,7 +85,6 @@ fn release<R: Wait, G: Gate>(
     ensures { IsPassFor serving.now.executive.now task.0 pass.new }
 {
     if serving.executive.release(serving.rt, pass).is_ok() {
-        serving.spots.count_act();
         serving.gate.released(task.0, pass);
         Progress::Acted
     } else {

@@ -5,3 +5,4 @@ pub mod LineLemmas
 pub mod WrittenLemmas
 pub mod RunsOfSet
 pub mod TenDigits
+pub mod FirstRun

@@ -1,5 +1,5 @@
 -- A run added at the end of packed runs.
-use Rattle.std.proofs.Common.{suc, zero, All, ◌≡◌, ℕ, ◌+◌, ◌-◌, ◌≤◌, ◌<◌, false, List, [], ◌∷◌, ◌++◌, Some, None, length, take, get_or, length-take, slice_set, length-set, replicate, inl, inr, refl, sym, ap, ◌∙◌, subst, arith, append_assoc}
+use Rattle.std.proofs.Common.{suc, zero, All, ◌≡◌, ℕ, ◌+◌, ◌-◌, ◌≤◌, ◌<◌, false, List, [], ◌∷◌, ◌++◌, Some, None, length, take, get_or, slice_set, length-set, replicate, inl, inr, refl, sym, ap, ◌∙◌, subst, arith, append_assoc}
 use Rattle.std.proofs.lemmas.Bool.{cases_Bool}
 use Rattle.std.proofs.lemmas.List.{append-nil, take_all, take_more, take_more_set, replicate-append-replicate}
 use Rattle.std.proofs.lemmas.List.Elements.{All-from_recursion, recursion_from_All}
@@ -8,15 +8,14 @@ use Rattle.std.specs.List.{AllByRecursion}
 use Rattle.std.specs.Prelude.{slice_get, option_and_then}
 use Rattle.mc_task.specs.declared.task.JobId.{JobId}
 use Rattle.mc_model.specs.declared.row.How.TheVariants.{More, Done, Stop, Over}
-use Rattle.mc_model.specs.declared.row.Row.TheVariants.{Release, Tick, Idle}
+use Rattle.mc_model.specs.declared.row.Row.TheVariants.{Tick, Idle}
 use Rattle.mc_model.specs.declared.run.Run.{Run}
 use Rattle.mc_model.specs.declared.run.Run.TheVariants as run
 use Rattle.mc_model.specs.declared.row.Row.{Row}
 use Rattle.mc_model.specs.Rows.{same_job, ticks}
 use Rattle.mc_model.specs.Sums.{total}
-use Rattle.mc_model.specs.Runs.{row_of, size, rows_of, expand, length_of, joins, run_of, IsRun, AreRuns}
+use Rattle.mc_model.specs.Runs.{row_of, size, rows_of, expand, length_of, joins, IsRun, AreRuns}
 use Rattle.mc_model.proofs.Jobs.{job_eq}
-use Rattle.mc_model.proofs.Ticks.{ticks-le}
 use Rattle.mc_model.proofs.Runs.{some_rows, all_expand, expand-more, ticks-expand}
 use Rattle.trace_format.specs.Packing.{ArePacked, joined, with_last}
 use Rattle.trace_format.proofs.TickLemmas.{total-one, ticks-fit}
@@ -28,7 +27,7 @@ record JoinedAs (r s both : Run) : Type 0 where
   same : (q : Run) → joins q both ≡ joins q r
 
 -- whether a run joins another does not depend on that one's length
-any_length : (q : Run) (m n : ℕ) → ((j : JobId) → joins q (run.Ticks j More m) ≡ joins q (run.Ticks j More n)) × (joins q (run.Idles m) ≡ joins q (run.Idles n))
+pub any_length : (q : Run) (m n : ℕ) → ((j : JobId) → joins q (run.Ticks j More m) ≡ joins q (run.Ticks j More n)) × (joins q (run.Idles m) ≡ joins q (run.Idles n))
 any_length (run.Release i kept) m n = ((λ j. refl), refl)
 any_length (run.Ticks i More k) m n = ((λ j. refl), refl)
 any_length (run.Ticks i Done k) m n = ((λ j. refl), refl)
@@ -115,22 +114,6 @@ pub last_short : (rs : List Run) (l : Run) → slice_get rs (length rs - 1) ≡ 
 last_short rs l at =
     let all = ap (total length_of) (split_last rs l at) ∙ total-one (take (length rs - 1) rs) l in
     omega (arith, all)
-
--- the runs of the first rows have at most as many ticks as there are rows
-pub short_rows : (runs : List Run) (rows : List Row) (i : ℕ) → expand runs ≡ take i rows → total length_of runs ≤ length rows
-short_rows runs rows i e =
-    let t : total length_of runs ≡ ticks (take i rows) = sym (ticks-expand runs) ∙ ap ticks e in
-    omega (arith, t, ticks-le (take i rows), length-take i rows)
-
--- the run of a row has at most one tick
-pub one_short : (row : Row) (r : Run) → r ≡ run_of row → length_of r ≤ 1
-one_short (Release j kept) r e = rw e (omega arith)
-one_short (Tick j how) r e = rw e (omega arith)
-one_short Idle r e = rw e (omega arith)
-
--- at the end of the loop the runs are those of all rows
-pub all_rows : (runs : List Run) (rows : List Row) (i : ℕ) → length rows ≤ i → expand runs ≡ take i rows → expand runs ≡ rows
-all_rows runs rows i h e = e ∙ take_all i rows h
 
 pub short_runs : (merged runs : List Run) (i : ℕ) (d : Run) → i < length runs → AreRuns runs → expand merged ≡ expand (take i runs) → total length_of merged + length_of (get_or runs i d) ≤ 100000000
 short_runs merged runs i d h v e =

@@ -16,4 +16,4 @@ pub use fault::{TraceCause, TraceFault};
 pub use packing::{merge, pack};
 pub use read::{read_runs, read_trace};
 pub use takes_runs::TakesRuns;
-pub use write::{how_word, kept_word, write_trace};
+pub use write::{how_word, kept_word, write_rows, write_trace};

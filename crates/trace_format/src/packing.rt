@@ -1,12 +1,12 @@
 //! Rows, and runs, packed into the fewest runs.
-ghost use Rattle.std.specs.Prelude.{◌≡◌, ◌+◌, ◌++◌, ◌≤◌, All, IfOk, OnOk, List, length};
+ghost use Rattle.std.specs.Prelude.{◌≡◌, ◌+◌, ◌++◌, ◌≤◌, All, IfOk, MatchOption, OnOk, List, [], ◌∷◌, length, replicate};
 ghost use Rattle.mc_task.specs.declared.task.Task.{Task};
 ghost use Rattle.mc_model.specs.Legal.{IsOfSet};
 ghost use Rattle.mc_model.specs.Sums.{total};
 ghost use Rattle.mc_model.specs.Runs as model;
-ghost use Rattle.mc_model.specs.Runs.{rows_of, expand, length_of, IsRun, IsRunOfSet, AreRuns, IsPacked};
+ghost use Rattle.mc_model.specs.Runs.{rows_of, expand, length_of, joins, IsRun, IsRunOfSet, AreRuns, IsPacked};
 ghost use Rattle.mc_model.specs.Rows.{same_job};
-ghost use Rattle.trace_format.specs.Packing.{ArePacked, joined, with_last};
+ghost use Rattle.trace_format.specs.Packing.{ArePacked, StartsApart, joined, with_last};
 
 use mc_model::{How, Row, Run};
 use mc_task::{JobId, Memory};
@@ -25,8 +25,12 @@ pub fn pack(alloc: Global, rows: &[Row]) -> Result<Vec<Run>, Memory>
     ensures tasks { (set : List Task) → All (IsOfSet set) rows.now → IfOk result (λ runs. All (IsRunOfSet set) runs.items) }
 {
     let mut runs = Vec::new(alloc);
-    for row in rows {
-        add(&mut runs, run_of(*row))?;
+    let mut rest = rows;
+    while let Some((run, after)) = split_run(rest) {
+        if runs.push(run).is_err() {
+            return Err(Memory);
+        }
+        rest = after;
     }
     Ok(runs)
 }
@@ -49,18 +53,79 @@ pub fn merge(alloc: Global, runs: &[Run]) -> Result<Vec<Run>, Memory>
     Ok(merged)
 }
 
-// A row as a run of its own.
-fn run_of(row: Row) -> Run
-    ensures { result ≡ model.run_of row }
+// The first of the packed runs of the rows, and the rows after it. Inlined, so that the caller's code is compiled apart
+// for each kind of run.
+#[inline(always)]
+pub fn split_run(rows: &[Row]) -> Option<(Run, &[Row])>
+    requires few { length rows.now ≤ 2000000 }
+    ensures { MatchOption result (rows.now ≡ []) (λ split. model.pack rows.now ≡ split.0 ∷ model.pack split.1.now) }
 {
-    match row {
-        Row::Release { job, kept } => Run::Release { job, kept },
-        Row::Tick { job, how } => Run::Ticks {
-            job,
-            how,
-            length: 1,
+    let [first, after @ ..] = rows else {
+        return None;
+    };
+    match *first {
+        Row::Release { job, kept } => Some((Run::Release { job, kept }, after)),
+        Row::Tick { job, how } => match how {
+            How::More => {
+                let (more, rest) = split_repeats(Row::Tick { job, how }, after);
+                let length = 1 + more;
+                Some((Run::Ticks { job, how, length }, rest))
+            }
+            _ => Some((
+                Run::Ticks {
+                    job,
+                    how,
+                    length: 1,
+                },
+                after,
+            )),
         },
-        Row::Idle => Run::Idles { length: 1 },
+        Row::Idle => {
+            let (more, rest) = split_repeats(Row::Idle, after);
+            let length = 1 + more;
+            Some((Run::Idles { length }, rest))
+        }
+    }
+}
+
+// How many of the rows, from the first on, could stand in one run with this row, and the rows after them.
+#[inline(always)]
+fn split_repeats(row: Row, rows: &[Row]) -> (u32, &[Row])
+    requires few { length rows.now ≤ 2000000 }
+    ensures rows { rows.now ≡ replicate result.0 row ++ result.1.now }
+    ensures all { result.0 + length result.1.now ≡ length rows.now }
+    ensures apart { StartsApart row result.1.now }
+{
+    let mut count = 0u32;
+    let mut rest = rows;
+    while let [next, after @ ..] = rest {
+        if !repeats(row, *next) {
+            return (count, rest);
+        }
+        count += 1;
+        rest = after;
+    }
+    (count, rest)
+}
+
+// Whether the two rows could be one run.
+#[inline(always)]
+fn repeats(row: Row, next: Row) -> bool
+    ensures { result ≡ joins (model.run_of row) (model.run_of next) }
+{
+    match (row, next) {
+        (Row::Idle, Row::Idle) => true,
+        (
+            Row::Tick {
+                job,
+                how: How::More,
+            },
+            Row::Tick {
+                job: other,
+                how: How::More,
+            },
+        ) => same_job(job, other),
+        _ => false,
     }
 }
 

@@ -21,6 +21,7 @@ pub struct Columns {
 }
 
 impl Version {
+    /// Where the fields of its records are.
     #[inline(always)]
     pub fn columns(self) -> Columns
         ensures width { result.width ≡ length (header_words self) }

@@ -1,13 +1,15 @@
 //! Traces, written.
 ghost use Rattle.std.specs.Prelude.{◌≡◌, ◌+◌, ◌++◌, ◌≤◌, All, Ok, IfOk, OnOk, length, decimal, codes};
 ghost use Rattle.mc_task.specs.TaskSet.{IsIn, name_in, task_at};
-ghost use Rattle.mc_model.specs.Runs.{length_of, AreRuns, IsRunOfSet};
-ghost use Rattle.mc_model.specs.TraceText.{how_word, kept_word, run_line, runs_text};
+ghost use Rattle.mc_model.specs.Legal.{IsOfSet};
+ghost use Rattle.mc_model.specs.Runs.{length_of, AreRuns, IsRunOfSet, pack};
+ghost use Rattle.mc_model.specs.TraceText.{how_word, kept_word, run_line, runs_text, trace_text};
 ghost use Rattle.trace_format.specs.TraceFile.{trace_file};
 ghost use Rattle.trace_format.specs.Writable.{IsWritable};
 
 use crate::line_buffer::LineBuffer;
-use mc_model::{How, Run};
+use crate::packing::split_run;
+use mc_model::{How, Row, Run};
 use mc_task::{JobId, Memory, TaskSet};
 use std::alloc::{AllocError, Global};
 
@@ -21,8 +23,7 @@ pub fn write_trace(alloc: Global, set: &TaskSet, runs: &[Run]) -> Result<Vec<u8>
 {
     // The names are valid and differ, so what is written can be read again.
     let _is_set = set.len();
-    let mut out = Vec::new(alloc);
-    out.extend_from_slice(b"event,tick,length,task,job,how\n")?;
+    let mut out = header(alloc)?;
     let mut line = LineBuffer::new();
     let mut tick = 0u32;
     for run in runs {
@@ -30,6 +31,37 @@ pub fn write_trace(alloc: Global, set: &TaskSet, runs: &[Run]) -> Result<Vec<u8>
         tick = tick_after(tick, *run);
     }
     Ok(out)
+}
+
+/// The rows, the oldest first, as the text of a trace in version 2: the header, and a line for each packed run. The runs
+/// are written as they are found, without a list of them. Fails with `Memory` if an allocation fails.
+pub fn write_rows(alloc: Global, set: &TaskSet, rows: &[Row]) -> Result<Vec<u8>, Memory>
+    requires tasks { All (IsOfSet set.now.tasks) rows.now }
+    requires few { length rows.now ≤ 2000000 }
+    ensures text { IfOk result (λ text. text.items ≡ trace_text set.now.tasks rows.now) }
+    ensures reads_back { IfOk result (λ text. trace_file set.now.tasks text.items ≡ Ok (pack rows.now)) }
+{
+    // The names are valid and differ, so what is written can be read again.
+    let _is_set = set.len();
+    let mut out = header(alloc)?;
+    let mut line = LineBuffer::new();
+    let mut tick = 0u32;
+    let mut rest = rows;
+    while let Some((run, after)) = split_run(rest) {
+        push_run(&mut out, &mut line, set, tick, run)?;
+        tick = tick_after(tick, run);
+        rest = after;
+    }
+    Ok(out)
+}
+
+// The header alone.
+fn header(alloc: Global) -> Result<Vec<u8>, AllocError>
+    ensures { IfOk result (λ text. text.items ≡ codes "event,tick,length,task,job,how\n") }
+{
+    let mut text = Vec::new(alloc);
+    text.extend_from_slice(b"event,tick,length,task,job,how\n")?;
+    Ok(text)
 }
 
 // The number of the tick after this run.
@@ -104,7 +136,8 @@ fn put_job(line: &mut LineBuffer, set: &TaskSet, job: JobId)
     ensures text { line.new ≡ name_in (task_at set.now.tasks job.task.0) ++ (codes "," ++ (decimal job.count ++ line.old)) }
     ensures short { length line.new ≤ 43 + length line.old }
 {
-    let task = set.get(job.task).unwrap();
+    // The task is lent, not copied: a call for each line of a trace.
+    let task = &set.as_slice()[job.task.0 as usize - 1];
     line.put_number(job.count);
     line.put(b",");
     line.put(task.name.bytes());

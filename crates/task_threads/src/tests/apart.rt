@@ -16,6 +16,7 @@ use crate::refused::serve_refused;
 use crate::starts::{SpawnResult, in_threads, join_all, kept_here};
 use crate::worker::{Expected, Serving, Worker, work};
 use executive::{Executive, QuietGate, TaskPass};
+use mc_model::Row;
 use mc_task::Level::{High, Low};
 use mc_task::TaskNo;
 use status_board::Watcher;
@@ -27,6 +28,8 @@ use std::thread;
 use std::thread::{Threads, join};
 use timetable::Floor;
 use worked_sets::{CONTROL, Line, OVERRUN_ROWS, OVERRUN_WORK};
+
+static ROWS: [Row; 15] = OVERRUN_ROWS;
 
 // What the threads work with when no gate is called.
 fn quietly<'a, R: Wait>(
@@ -119,7 +122,7 @@ fn serve_both<R: Threads + Wait + Sync>(
 #[test]
 fn a_wake_up_that_never_comes_costs_time_alone(rt: HostRuntime) -> Result<(), Fail> {
     let floor = served_apart(&rt, rt.alloc(), None)?;
-    assert!(rt; floor.core().rows() == OVERRUN_ROWS.as_slice());
+    assert!(rt; floor.core().rows() == ROWS.as_slice());
     Ok(())
 }
 
@@ -131,7 +134,7 @@ fn a_thread_that_was_woken_for_another_act_than_the_next_makes_the_same_rows(
 ) -> Result<(), Fail> {
     for expected in ACTS.as_slice() {
         let floor = served_apart(&rt, rt.alloc(), Some(*expected))?;
-        assert!(rt; floor.core().rows() == OVERRUN_ROWS.as_slice());
+        assert!(rt; floor.core().rows() == ROWS.as_slice());
     }
     Ok(())
 }

@@ -18,7 +18,7 @@ use work_file::Work;
 use worked_sets::{Job, Line, kept, set_of, tick, work_rows};
 
 /// The rows of ten ticks of a live run of the control set.
-pub const LIVE_ROWS: [Row; 12] = [
+pub static LIVE_ROWS: [Row; 12] = [
     kept!(1, 1),
     kept!(2, 1),
     tick!(1, 1, More),

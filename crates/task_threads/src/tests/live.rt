@@ -43,7 +43,7 @@ fn a_live_run_of_the_control_set_gives_the_rows_that_were_worked_by_hand(
 
 const SHORT: [Line; 1] = [("a", Low, 1, 1, 1)];
 
-const SHORT_ROWS: [Row; 6] = [
+static SHORT_ROWS: [Row; 6] = [
     kept!(1, 1),
     tick!(1, 1, Done),
     kept!(1, 2),

@@ -18,8 +18,8 @@ live_of : (s t : State) (set : List Task) (rule : Rule) (n : ℕ) (h : List Row)
 live_of s t set rule n h same of_set of_rule live =
     subst (λ r. LiveTrace set r n h) of_rule (subst (λ x. LiveTrace x t.rule n h) of_set (subst (λ (u : State). LiveTrace u.set u.rule n h) same live))
 
-pub trace_text-requires : goal.trace_text-requires
-trace_text-requires g c =
+pub write_rows-requires : goal.write_rows-requires
+write_rows-requires g c =
     let set : c.in_ok-floor.floor.core.set ≡ c.args.job.set.tasks = search rules in
     let rule : c.in_ok-floor.floor.core.rule ≡ c.args.job.rule = search rules in
     let rows = c.live_rows.result.now in
@@ -39,7 +39,7 @@ returns-clause-live_reply g c =
     let live = live_of c.core-done.result.now c.in_ok-floor.floor.core c.args.job.set.tasks c.args.job.rule c.get-ticks.result (reverse rows) c.core-done.ensures.value set rule c.live_rows.ensures in
     let text : c.new-2.result ≡ reply_of 0 c.in_ok-text.text.items = search rules in
     let of_set = c.set.ensures ∙ (ap (λ (s : State). s.set) c.core-done.ensures.value ∙ set) in
-    let is : c.in_ok-text.text.items ≡ trace_text c.args.job.set.tasks rows = rw of_set at c.in_ok-text.ensures in
+    let is : c.in_ok-text.text.items ≡ trace_text c.args.job.set.tasks rows = rw of_set at c.in_ok-text.ensures.text in
     (reverse rows, rw (c.get-ticks.ensures.value) at live, text ∙ ap (reply_of 0) (is ∙ ap (trace_text c.args.job.set.tasks) (sym (reverse-reverse rows))))
 
 pub returns-clause-short : goal.returns-clause-short

@@ -1,4 +1,4 @@
-use Rattle.std.proofs.Common.{rules, ◌≡◌, ℕ, ◌+◌, ◌<◌, ◌≤◌, ◌^◌, length, drop, decimal, ap, arith}
+use Rattle.std.proofs.Common.{rules, ◌≡◌, ◌<◌, ◌≤◌, ◌^◌, length, drop, decimal, ap, arith}
 use Rattle.std.proofs.lemmas.List.{length-append, length-drop}
 use Rattle.trace_format.proofs.TenDigits.{ten_digits}
 use Rattle.trace_format.proofs.line_buffer.LineBuffer.put_number.Goals as goal

@@ -1,4 +1,0 @@
-use Rattle.command.proofs.traced.trace_text.Goals as goal
-
-pub write_trace-requires-clause-tasks : goal.write_trace-requires-clause-tasks
-write_trace-requires-clause-tasks c = rw c.deref.ensures.value (c.in_ok-runs.ensures.tasks c.args.set.now.tasks c.requires.tasks)
