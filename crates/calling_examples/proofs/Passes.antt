@@ -1,8 +1,9 @@
 -- The passes of two tasks.
 use Rattle.std.proofs.Common.{◌≡◌, ◌≢◌, ℕ, ◌≤◌, ◌==◌, ◌||◌, Bool, true, false, List, [], ◌∷◌, ◌++◌, refl, sym, ◌∙◌, arith}
+use Rattle.std.proofs.lemmas.Bool.{eqb-false}
 use mathlib.Core.Logic.{dite}
 use native.Mathlib.Decide.{ℕ_discrete}
-use Rattle.mc_model.proofs.Booleans.{or_left, or_right, eqb-false}
+use Rattle.mc_model.proofs.Booleans.{or_left, or_right}
 use Rattle.executive.specs.declared.pass.TaskPass.{TaskPass}
 use Rattle.executive.specs.Passes.{of_pass}
 use Rattle.executive.specs.Closing.{has_pass}

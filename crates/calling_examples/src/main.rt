@@ -1,6 +1,9 @@
 //! Callers of this repository's crates, each on the set of a controller and a logger.
 #![tactic(auto)]
 
+ghost use Rattle.std.specs.Prelude.{IfOk};
+ghost use Rattle.mc_model.specs.Holds.{Fits, Holds};
+
 mod admitted;
 mod demands;
 mod guarded;
@@ -44,9 +47,23 @@ fn main(rt: HostRuntime) -> anyhow::Result<()> {
     refute_a_set(&rt, rt.alloc())
 }
 
-fn admit_one(rt: &impl Print, alloc: Global) -> anyhow::Result<()> {
+// The set of a controller and a logger, and the rule of the test for it.
+fn control(alloc: Global) -> anyhow::Result<(TaskSet, Rule)>
+    ensures fits { IfOk result (λ r. Fits r.1) }
+    ensures holds { IfOk result (λ r. Holds r.0.tasks r.1) }
+{
     let set = control_set(alloc).context("no set")?;
-    match rule_for(&set)? {
+    let rule = rule_for(&set)?;
+    Ok((set, rule))
+}
+
+fn print_text(rt: &impl Print, text: &[u8]) -> anyhow::Result<()> {
+    print!(rt; "{}", str::from_utf8(text)?)?;
+    Ok(())
+}
+
+fn admit_one(rt: &impl Print, alloc: Global) -> anyhow::Result<()> {
+    match control(alloc)?.1 {
         Rule::Plain => println!(rt; "EDF")?,
         Rule::Virtual { p, q } => println!(rt; "EDF-VD, x = {p}/{q}")?,
     }
@@ -54,22 +71,24 @@ fn admit_one(rt: &impl Print, alloc: Global) -> anyhow::Result<()> {
 }
 
 fn drive_a_plant(rt: &impl Print, alloc: Global) -> anyhow::Result<Core> {
-    let set = control_set(alloc).context("no set")?;
-    let rule = rule_for(&set)?;
+    let (set, rule) = control(alloc)?;
     let mut plant = Plant::new();
     let core = schedule(alloc, set, rule, &mut plant, 12)
         .ok()
         .context("out of memory")?;
-    let text = trace_of(alloc, &core)?;
-    print!(rt; "{}", str::from_utf8(&text)?)?;
-    println!(rt; "ticks that the plant ran: {}", plant.ran)?;
+    print_a_trace(rt, alloc, &core, plant.ran)?;
     Ok(core)
 }
 
+fn print_a_trace(rt: &impl Print, alloc: Global, core: &Core, ran: u32) -> anyhow::Result<()> {
+    let text = trace_of(alloc, core)?;
+    print_text(rt, &text)?;
+    println!(rt; "ticks that the plant ran: {ran}")?;
+    Ok(())
+}
+
 fn judge_rows(rt: &impl Print, alloc: Global, core: &Core) -> anyhow::Result<()> {
-    let set = control_set(alloc).context("no set")?;
-    let rule = rule_for(&set)?;
-    println!(rt; "{:?}", verdict_on(alloc, &set, rule, core.rows())?)?;
+    let (set, rule) = control(alloc)?;
     let ctl = first_job(1);
     let log = first_job(2);
     // The overrun has discarded the logger's job, so that job may not run.
@@ -95,7 +114,21 @@ fn judge_rows(rt: &impl Print, alloc: Global, core: &Core) -> anyhow::Result<()>
             how: How::More,
         },
     ];
-    println!(rt; "{:?}", verdict_on(alloc, &set, rule, &recorded)?)?;
+    print_verdict(rt, alloc, &set, rule, core.rows())?;
+    print_verdict(rt, alloc, &set, rule, &recorded)
+}
+
+fn print_verdict(
+    rt: &impl Print,
+    alloc: Global,
+    set: &TaskSet,
+    rule: Rule,
+    rows: &[Row],
+) -> anyhow::Result<()>
+    requires fits { Fits rule }
+    requires holds { Holds set.now.tasks rule }
+{
+    println!(rt; "{:?}", verdict_on(alloc, set, rule, rows)?)?;
     Ok(())
 }
 
@@ -111,13 +144,15 @@ fn run_in_threads<R: Print + Threads + Wait + Sync>(
     alloc: Global,
     core: &Core,
 ) -> anyhow::Result<()> {
-    let set = control_set(alloc).context("no set")?;
-    let rule = rule_for(&set)?;
     let jobs = overrun(alloc).context("out of memory")?;
+    let (set, rule) = control(alloc)?;
     let counter = StepCounter::new();
     let floor = run_jobs(rt, alloc, set, rule, jobs, 12, &counter)?;
-    println!(rt; "steps in threads: {}", counter.steps())?;
-    println!(rt; "the same rows: {}", floor.core().rows() == core.rows())?;
+    let is_same = floor.core().rows() == core.rows();
+    println!(rt;
+        "steps in threads: {}\nthe same rows: {is_same}",
+        counter.steps()
+    )?;
     Ok(())
 }
 
@@ -126,25 +161,23 @@ fn watch_a_run<R: Print + Threads + Wait + Sync>(
     alloc: Global,
     core: &Core,
 ) -> anyhow::Result<()> {
-    let set = control_set(alloc).context("no set")?;
-    let rule = rule_for(&set)?;
     let jobs = overrun(alloc).context("out of memory")?;
+    let (set, rule) = control(alloc)?;
     let floor = planned(alloc, set, rule, jobs, 12).context("no floor")?;
     let (floor, ended) = run_watched(rt, alloc, floor, 12)
         .ok()
         .context("out of memory")?;
-    println!(rt; "ticks that a panel counted: {ended}")?;
-    println!(rt; "the same rows: {}", floor.core().rows() == core.rows())?;
+    let is_same = floor.core().rows() == core.rows();
+    println!(rt; "ticks that a panel counted: {ended}\nthe same rows: {is_same}")?;
     Ok(())
 }
 
 fn drive_without_an_end(rt: &impl Print, alloc: Global) -> anyhow::Result<()> {
-    let set = control_set(alloc).context("no set")?;
-    let rule = rule_for(&set)?;
+    let (set, rule) = control(alloc)?;
     let mut plant = Plant::new();
     let live = run_live(alloc, &set, rule, &mut plant, Vec::new(alloc))?;
     let verdict = live.monitor().verdict();
-    print!(rt; "{}", str::from_utf8(&live.into_lines())?)?;
+    print_text(rt, &live.into_lines())?;
     println!(rt; "{verdict:?}")?;
     Ok(())
 }
@@ -153,10 +186,12 @@ fn refute_a_set(rt: &impl Print, alloc: Global) -> anyhow::Result<()> {
     let file = "task,period,deadline,budget\na,4,2,1\nb,6,3,3\n";
     let set = read_demands(alloc, file.as_bytes())?;
     match counterexample(alloc, &set).ok().context("out of memory")? {
-        Some(text) => print!(rt; "{}", str::from_utf8(&text)?)?,
-        None => println!(rt; "schedulable")?,
+        Some(text) => print_text(rt, &text),
+        None => {
+            println!(rt; "schedulable")?;
+            Ok(())
+        }
     }
-    Ok(())
 }
 
 // The jobs that the plant releases.

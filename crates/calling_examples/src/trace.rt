@@ -5,7 +5,7 @@ ghost use Rattle.mc_model.specs.TraceText.{trace_text};
 use mode_core::Core;
 use std::alloc::Global;
 use thiserror::Error;
-use trace_format::{pack, write_trace};
+use trace_format::write_rows;
 
 /// Why a trace is not written.
 #[derive(Clone, Copy, Debug, PartialEq, Eq, Error)]
@@ -25,10 +25,7 @@ pub fn trace_of(alloc: Global, core: &Core) -> Result<Vec<u8>, NoText>
     if rows.len() > 2_000_000 {
         return Err(NoText::TooMany);
     }
-    let Ok(runs) = pack(alloc, rows) else {
-        return Err(NoText::Memory);
-    };
-    match write_trace(alloc, core.set(), &runs) {
+    match write_rows(alloc, core.set(), rows) {
         Ok(text) => Ok(text),
         Err(_) => Err(NoText::Memory),
     }

@@ -2,7 +2,7 @@
 -- goes on.
 use Rattle.std.proofs.Common.{◌≡◌, ℕ, ◌≤◌, ◌≢◌, ◌==◌, ◌-◌, List, [], ◌∷◌, ◌++◌, Bool, true, false, not, Option, Some, None, Ok, Err, cond, refl, ap, sym, ◌∙◌, subst, arith}
 use Rattle.std.proofs.Common.{ne_eqb}
-use Rattle.std.proofs.lemmas.Bool.{eq-eqb, eqb-true}
+use Rattle.std.proofs.lemmas.Bool.{eq-eqb, eqb-true, eqb-false}
 use Rattle.std.proofs.lemmas.Bool.Decides.{nat_tests}
 use Rattle.std.proofs.lemmas.List.Elements.{filter-append}
 use Rattle.mc_task.specs.declared.task.JobId.{JobId}
@@ -10,7 +10,7 @@ use Rattle.mc_task.specs.TaskSet.{IsIn}
 use Rattle.mc_model.specs.declared.row.Row.TheVariants as row
 use Rattle.mc_model.specs.Rows.{ticks}
 use Rattle.mc_model.specs.Core.{State, IsOut, settle, settled, next_job, outcome_of}
-use Rattle.mc_model.proofs.Booleans.{eqb-false, eqb-refl}
+use Rattle.mc_model.proofs.Booleans.{eqb-refl}
 use Rattle.mode_core.specs.declared.answers.GrantFault.{GrantFault}
 use Rattle.mode_core.specs.declared.answers.IdleFault.{IdleFault}
 use Rattle.mode_core.specs.declared.answers.NotOut.{NotOut}

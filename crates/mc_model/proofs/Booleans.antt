@@ -1,7 +1,6 @@
--- The parts of an `and`, an `or` or a `not`, from its value.
-use Rattle.std.proofs.Common.{◌≡◌, ℕ, Bool, true, false, not, ◌&&◌, ◌||◌, ◌==◌, ◌≢◌, refl}
+-- The parts of an `and` or an `or`, from its value; a number equals itself.
+use Rattle.std.proofs.Common.{◌≡◌, ℕ, Bool, true, false, ◌&&◌, ◌||◌, ◌==◌, refl, arith}
 use Rattle.std.proofs.lemmas.Bool.Decides.{nat_tests}
-use Rattle.std.proofs.Common.{arith}
 use Rattle.std.proofs.lemmas.Bool.{or_parts}
 
 -- if an `or` is false, its first part is false
@@ -22,15 +21,6 @@ pub not_both : (a b : Bool) → (a ≡ true → b ≡ true → ⊥) → (a && b)
 not_both true true h = absurd (h refl refl)
 not_both true false h = refl
 not_both false b h = refl
-
--- what is not true is false
-pub not_true : (b : Bool) → not b ≡ true → b ≡ false
-not_true true h = cc
-not_true false h = refl
-
--- numbers whose test of equality fails differ
-pub eqb-false : (a b : ℕ) → (a == b) ≡ false → a ≢ b
-eqb-false a b h = grind (arith, nat_tests)
 
 -- the test of equality is true of a number and itself
 pub eqb-refl : (n : ℕ) → (n == n) ≡ true

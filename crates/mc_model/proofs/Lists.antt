@@ -1,5 +1,5 @@
--- Properties of each element of a list, filters, and the first elements in reverse order.
-use Rattle.std.proofs.Common.{◌≡◌, Bool, true, false, ◌&&◌, ℕ, ◌+◌, ◌<◌, List, [], ◌∷◌, ◌++◌, cond, filter, take, get_or, length, reverse, refl, sym, ap, ◌∙◌, subst}
+-- Properties of each element of a list, filters, the first elements in reverse order, and what is read after a write.
+use Rattle.std.proofs.Common.{◌≡◌, ◌≢◌, Bool, true, false, ◌&&◌, ℕ, zero, suc, ◌+◌, ◌<◌, List, [], ◌∷◌, ◌++◌, Some, cond, filter, take, get_or, set, slice_get, length, reverse, refl, sym, ap, ◌∙◌, subst, arith}
 use Rattle.std.specs.List.{AllByRecursion}
 use Rattle.std.proofs.lemmas.List.{reverse-append, take_more}
 
@@ -70,3 +70,17 @@ Each-reverse P (x ∷ xs) h = subst (Each P) (sym (reverse-append (x ∷ []) xs)
 -- the first i + 1 elements in reverse order are element i, then the first i in reverse order
 pub reverse-take_more : {X : Type 0} (xs : List X) (i : ℕ) (d : X) → i < length xs → reverse (take (i + 1) xs) ≡ get_or xs i d ∷ reverse (take i xs)
 reverse-take_more xs i d h = ap reverse (take_more xs i d h) ∙ reverse-append (take i xs) (get_or xs i d ∷ [])
+
+-- what is written at an index is read there
+pub set_here : {X : Type 0} (xs : List X) (i : ℕ) (v : X) → i < length xs → slice_get (set xs i v) i ≡ Some v
+set_here [] i v h = absurd (omega arith)
+set_here (x ∷ xs) zero v h = refl
+set_here (x ∷ xs) (suc i) v h = set_here xs i v (omega arith)
+
+-- a write at one index leaves the elements at other indices as they were
+pub set_other : {X : Type 0} (xs : List X) (i k : ℕ) (v : X) → k ≢ i → slice_get (set xs i v) k ≡ slice_get xs k
+set_other [] i k v h = refl
+set_other (x ∷ xs) zero zero v h = absurd (h refl)
+set_other (x ∷ xs) zero (suc k) v h = refl
+set_other (x ∷ xs) (suc i) zero v h = refl
+set_other (x ∷ xs) (suc i) (suc k) v h = set_other xs i k v (λ e. h (ap (λ n. suc n) e))

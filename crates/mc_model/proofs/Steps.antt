@@ -15,9 +15,8 @@ use Rattle.mc_model.specs.Rows.{ticks, used, releases, next_release, is_too_soon
 use Rattle.mc_model.specs.Legal.{Legal, is_pending, is_least, is_empty, same_how, is_allowed_how, first_of_parts}
 use Rattle.mc_task.specs.Kinds.{is_virtual}
 use Rattle.mc_model.specs.Mode.{high_mode}
-use Rattle.mc_model.proofs.Booleans.{not_true, eqb-false}
 use Rattle.mc_model.proofs.Fold.{pending, fault}
-use Rattle.std.proofs.lemmas.Bool.{or_parts}
+use Rattle.std.proofs.lemmas.Bool.{or_parts, not-true, eqb-false}
 use Rattle.std.proofs.Math.Bool.{beq}
 
 -- the rows of a legal trace up to any of them are legal; the newest row stands first
@@ -58,7 +57,7 @@ soon_enough set now (Release j kept ∷ g) k h = here (j.task.0 == k) (or_parts 
 pub release_fits : (set : List Task) (rule : Rule) (j : JobId) (kept : Bool) (g : List Row) → fault set rule (Release j kept) g ≡ None → ReleaseFits set rule j kept g
 release_fits set rule j kept g h =
     let p = parts_three _ _ _ _ _ _ h in
-    record { soon = soon_enough set (ticks g) g j.task.0 (not_true _ p.0); count = eqb-true _ _ p.1; kept_so = p.2 }
+    record { soon = soon_enough set (ticks g) g j.task.0 (not-true _ p.0); count = eqb-true _ _ p.1; kept_so = p.2 }
 
 -- what follows from a tick that fits
 pub record TickFits (set : List Task) (rule : Rule) (j : JobId) (how : How) (g : List Row) : Type 0 where

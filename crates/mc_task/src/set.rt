@@ -70,7 +70,7 @@ impl TaskSet {
         }
     }
 
-    /// The set of these tasks with no scale, where it is known that they have no fault. They are not looked at.
+    /// The set of these tasks with no scale, where it is known that they have no fault. They are not tested.
     pub fn of_valid(tasks: Vec<Task>) -> TaskSet
         requires { AreTasks tasks.items }
         ensures { result ≡ unscaled tasks.items }

@@ -168,7 +168,7 @@ mod tests {
         written: &'static str,
     }
 
-    const CASES: [Case; 3] = [
+    static CASES: [Case; 3] = [
         Case {
             shows: "a failed second write leaves the first eight bytes",
             room: 100,

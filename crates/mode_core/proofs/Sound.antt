@@ -1,6 +1,6 @@
 -- Each event leaves a sound state, and what is noted of releases after it.
 use Rattle.std.proofs.Common.{◌≡◌, ℕ, ◌+◌, ◌-◌, ◌<◌, ◌≤◌, ◌^◌, Bool, true, false, not, List, [], ◌∷◌, Option, Some, None, length, refl, ap, ◌∙◌, subst, arith, ltb-false, leb-false}
-use Rattle.std.proofs.lemmas.Bool.{not-false, or_parts}
+use Rattle.std.proofs.lemmas.Bool.{not-false, or_parts, eqb-false}
 use Rattle.mc_task.specs.declared.task.JobId.{JobId}
 use Rattle.mc_model.specs.declared.row.Row.{Row}
 use Rattle.mc_model.specs.declared.row.Row.TheVariants.{Tick}
@@ -15,7 +15,6 @@ use Rattle.mc_task.specs.TaskSet.{IsIn}
 use Rattle.mode_core.proofs.Noted.{notes_settled}
 use Rattle.mc_model.specs.Legal.{Legal}
 use Rattle.mc_model.specs.Core.{State, Good, begun, next, next_job, places_used, tick_out, released_so_far, release_row, add_held, outcome_of, settle, settled, IsOut}
-use Rattle.mc_model.proofs.Booleans.{eqb-false}
 use Rattle.mc_model.proofs.Jobs.{job_eq}
 
 -- a sound state that is not full has capacity for one more row

@@ -1,2 +1,2 @@
 pub mod SameSet
-pub mod Kept
+pub mod FirstAllowed

@@ -11,29 +11,28 @@ use Rattle.mode_core.specs.Events.{empty_state, refused_if, answer, running, is_
 use Rattle.restart.specs.declared.restartable.RestartFault.{RestartFault}
 use Rattle.restart.specs.declared.restartable.RestartFault.TheVariants.{TickOut, Pending}
 
--- the core since the counts began, and for each task the boundary before which its first release since then is too
--- soon
+-- the core since the counts began, and for each task the boundary from which its first release since then is allowed
 pub record Restarted : Type 0 where
   pub core : State
-  pub kept : List ℕ
+  pub first_allowed : List ℕ
 
--- the boundary before which the first release of task number k since the counts began is too soon
-abbrev pub kept_for : Restarted → ℕ → ℕ
-kept_for s k = slice_index_or s.kept (k - 1) 0
+-- the boundary from which the first release of task number k since the counts began is allowed
+abbrev pub first_allowed_of : Restarted → ℕ → ℕ
+first_allowed_of s k = slice_index_or s.first_allowed (k - 1) 0
 
 -- an opened scheduler: the core has had no event, and no release is too soon
 abbrev pub opened : State → Restarted
-opened core = record { core = core; kept = replicate (length core.set) 0 }
+opened core = record { core = core; first_allowed = replicate (length core.set) 0 }
 
 -- the earliest next release of task number k: a period after its last release since the counts began, and not before
--- the boundary that was kept for it
+-- the boundary from which its first one is allowed
 abbrev pub earliest : Restarted → ℕ → ℕ
-earliest s k = max (next s.core k) (kept_for s k)
+earliest s k = max (next s.core k) (first_allowed_of s k)
 
 -- why a release of task number k is refused, whatever the capacity: the task has a granted tick, or the release is
 -- before its earliest next release
-abbrev pub early : Restarted → ℕ → Option ReleaseFault
-early s k =
+abbrev pub timing_refusal : Restarted → ℕ → Option ReleaseFault
+timing_refusal s k =
     option_or (option_map release_fault.Running (running s.core.out k))
     (refused_if (nat_lt (begun s.core) (earliest s k)) (release_fault.TooSoon (earliest s k)))
 
@@ -62,9 +61,10 @@ after_release s k = released_unless (release_refusal s k) s k
 abbrev pub restart_refusal : State → Option RestartFault
 restart_refusal s = option_or (option_map TickOut s.out) (option_map Pending (chosen_now s))
 
--- the boundary that is kept of task number k of a core, for which this one was kept: the later one, counted from now on
-abbrev pub kept_from_now : State → ℕ → ℕ → ℕ
-kept_from_now core kept k = max (next core k) kept - ticks core.rows
+-- the earliest next release of task number k of a core, counted from now on, where its first release was allowed from
+-- this boundary
+abbrev pub first_allowed_from_now : State → ℕ → ℕ → ℕ
+first_allowed_from_now core first k = max (next core k) first - ticks core.rows
 
 -- new is old with its counts started anew: the core is opened again, under its set, rule and capacity, and each task's
 -- earliest next release is kept, counted from now on

@@ -4,7 +4,7 @@ ghost use Rattle.mc_task.specs.TaskSet.{IsIn};
 ghost use Rattle.mc_model.specs.Core.{begun};
 ghost use Rattle.mode_core.specs.Events as event;
 ghost use Rattle.mode_core.specs.Runs.{run_answer, after_run, idles_answer, after_idle_for};
-ghost use Rattle.restart.specs.Restarted.{opened, earliest, early, kept_for, kept_from_now, release_answer, after_release, restart_refusal, IsRestarted};
+ghost use Rattle.restart.specs.Restarted.{opened, earliest, first_allowed_of, first_allowed_from_now, timing_refusal, release_answer, after_release, restart_refusal, IsRestarted};
 
 use mc_model::{How, Row};
 use mc_task::{JobId, Memory, TaskNo};
@@ -29,8 +29,8 @@ pub enum RestartFault {
 #[derive(Drop)]
 pub struct Restartable<R: Recorder = Vec<Row>> {
     core: Core<R>,
-    // For each task, the boundary before which its first release since the counts began is too soon; 0 before any restart.
-    kept: Vec<u64>,
+    // For each task, the boundary from which its first release since the counts began is allowed; 0 before any restart.
+    first_allowed: Vec<u64>,
 }
 
 impl<R: Recorder> Model for Restartable<R> {
@@ -39,18 +39,21 @@ impl<R: Recorder> Model for Restartable<R> {
 
     ghost Value = { Restarted };
 
-    ghost view = { λ a. record { core = a.core; kept = a.kept.items } };
+    ghost view = { λ a. record { core = a.core; first_allowed = a.first_allowed.items } };
 
-    ghost invariant = { λ a. length a.kept.items ≡ length a.core.set };
+    ghost invariant = { λ a. length a.first_allowed.items ≡ length a.core.set };
 }
 
 impl<R: Recorder> Restartable<R> {
-    /// The core, with nothing kept. If memory runs out, the core is dropped.
+    /// The core, with each task's first release allowed from 0 on. If memory runs out, the core is dropped.
     pub fn new(alloc: Global, core: Core<R>) -> Result<Restartable<R>, Memory>
         ensures { IfOk result (λ s. s ≡ opened core) }
     {
-        let kept = vec![in alloc; 0; core.set().len() as usize]?;
-        Ok(Restartable { core, kept })
+        let first_allowed = vec![in alloc; 0; core.set().len() as usize]?;
+        Ok(Restartable {
+            core,
+            first_allowed,
+        })
     }
 
     /// The core since the counts began: what can be read of it holds of that time.
@@ -65,9 +68,8 @@ impl<R: Recorder> Restartable<R> {
         requires { IsIn self.now.core.set task.0 }
         ensures { result ≡ earliest self.now task.0 }
     {
-        let kept = self.kept[task.0 as usize - 1];
         let next = self.core.next_allowed(task);
-        if next < kept { kept } else { next }
+        next.max(self.first_allowed[task.0 as usize - 1])
     }
 
     /// Releases the task's next job, as `Core::release`, but not before its earliest next release.
@@ -76,20 +78,20 @@ impl<R: Recorder> Restartable<R> {
         ensures answer { result ≡ release_answer self.old task.0 }
         ensures state { self.new ≡ after_release self.old task.0 }
     {
-        match self.early(task) {
+        match self.timing_fault(task) {
             Some(fault) => Err(fault),
             None => self.core.release(task),
         }
     }
 
-    // Before the boundary that is kept for the task, why it may not be released, whatever the capacity: it has a granted tick, or
-    // the release is too soon. From that boundary on there is no such reason, and the core alone decides.
-    fn early(&self, task: TaskNo) -> Option<ReleaseFault>
+    // Before the boundary from which the task's first release is allowed, why it may not be released, whatever the capacity: it has a
+    // granted tick, or the release is too soon. From that boundary on the core alone decides, and this is `None`.
+    fn timing_fault(&self, task: TaskNo) -> Option<ReleaseFault>
         requires { IsIn self.now.core.set task.0 }
-        ensures before { begun self.now.core < kept_for self.now task.0 → result ≡ early self.now task.0 }
-        ensures after { kept_for self.now task.0 ≤ begun self.now.core → result ≡ None }
+        ensures before { begun self.now.core < first_allowed_of self.now task.0 → result ≡ timing_refusal self.now task.0 }
+        ensures after { first_allowed_of self.now task.0 ≤ begun self.now.core → result ≡ None }
     {
-        if self.core.ticks_begun() >= self.kept[task.0 as usize - 1] {
+        if self.core.ticks_begun() >= self.first_allowed[task.0 as usize - 1] {
             return None;
         }
         if let Some(job) = self.core.out() {
@@ -168,7 +170,7 @@ impl<R: Recorder> Restartable<R> {
         let Ok(core) = opened_again(alloc, &self.core, recorder) else {
             return Err(RestartFault::Memory);
         };
-        note_earliest(&mut self.kept, &self.core);
+        note_earliest(&mut self.first_allowed, &self.core);
         self.core = core;
         Ok(())
     }
@@ -200,22 +202,13 @@ fn opened_again<R: Recorder>(alloc: Global, core: &Core<R>, recorder: R) -> Resu
 }
 
 // Keeps the earliest next release of each task, counted from now on.
-fn note_earliest<R: Recorder>(kept: &mut [u64], core: &Core<R>)
-    requires each { length kept.old ≡ length core.now.set }
-    ensures { (k : ℕ) → IsIn core.now.set k → slice_index_or kept.new (k - 1) 0 ≡ kept_from_now core.now (slice_index_or kept.old (k - 1) 0) k }
+fn note_earliest<R: Recorder>(first_allowed: &mut [u64], core: &Core<R>)
+    requires each { length first_allowed.old ≡ length core.now.set }
+    ensures { (k : ℕ) → IsIn core.now.set k → slice_index_or first_allowed.new (k - 1) 0 ≡ first_allowed_from_now core.now (slice_index_or first_allowed.old (k - 1) 0) k }
 {
     let now = core.ticks();
-    for index in 0..kept.len() {
-        kept[index] = later(
-            kept[index],
-            core.next_allowed(TaskNo(index as u32 + 1)),
-        ).saturating_sub(now);
+    for index in 0..first_allowed.len() {
+        let next = core.next_allowed(TaskNo(index as u32 + 1));
+        first_allowed[index] = next.max(first_allowed[index]).saturating_sub(now);
     }
-}
-
-// The later of two boundaries.
-fn later(first: u64, second: u64) -> u64
-    ensures { result ≡ max second first }
-{
-    if second < first { first } else { second }
 }

@@ -1,5 +1,5 @@
 -- What a count of rows stands for: the rows that it took, as contracts see them.
-use Rattle.std.specs.Prelude.{◌≡◌, ◌≤◌, ◌+◌, ◌^◌, List, [], ◌∷◌, ◌++◌, ℕ, length, map, replicate, reverse, vec_capacity}
+use Rattle.std.specs.Prelude.{◌≡◌, ◌≤◌, ◌+◌, ◌^◌, List, [], ◌∷◌, ◌++◌, length, map, replicate, reverse, vec_capacity}
 use Rattle.mc_model.specs.declared.row.Row.{Row}
 use Rattle.row_history.specs.declared.recorder.Taken.{Taken}
 use Rattle.row_history.specs.declared.recorder.RowCount.TheInside.{Inside}

@@ -16,9 +16,9 @@ use Rattle.mc_model.proofs.Steps.{release_fits}
 use Rattle.mc_model.proofs.Counts.{counted}
 use Rattle.mc_model.proofs.Bridge.{bridge, not_ended}
 use Rattle.sched_report.proofs.Released.{release_of, release_is, ticks_pending, at_pending}
-use Rattle.std.proofs.lemmas.Bool.{and_parts, or_parts}
+use Rattle.std.proofs.lemmas.Bool.{and_parts, or_parts, not-true}
 use Rattle.std.proofs.Math.Bool.{and-false}
-use Rattle.mc_model.proofs.Booleans.{not_true, or_true}
+use Rattle.mc_model.proofs.Booleans.{or_true}
 
 -- equal values, and tests that agree, pick the same values
 same_values : (f g : KeptRelease → ℕ) (p q : KeptRelease → Bool) (xs : List KeptRelease) → Each (λ x. (p x ≡ q x) × (q x ≡ true → f x ≡ g x)) xs → map f (filter p xs) ≡ map g (filter q xs)
@@ -115,7 +115,7 @@ responses-end set rule j how g k e o l =
     open_job =
         at_pending (λ i r. ended g i ≡ false) j (release_of g j) (pending set g) (ticks_pending set rule j how g l)
         (Each-filter (λ x. same_job j x.job ≡ true → x.release ≡ release_of g j) (is_still_pending set g) (released g) (release_is set rule g j l.2))
-        (Each-filter_if (λ x. ended g x.job ≡ false) (is_still_pending set g) (released g) (Each-all (λ x h. not_true (ended g x.job) (and_parts _ _ h).0) (released g)))
+        (Each-filter_if (λ x. ended g x.job ≡ false) (is_still_pending set g) (released g) (Each-all (λ x h. not-true (ended g x.job) (and_parts _ _ h).0) (released g)))
 
     other : (x : KeptRelease) → same_job j x.job ≡ false → ((is_of k x && ended (Tick j how ∷ g) x.job) ≡ (is_of k x && ended g x.job)) × (response (Tick j how ∷ g) x ≡ response g x)
     other x m = (rw (e, m) refl, rw (e, m) refl)

@@ -19,8 +19,8 @@ use Rattle.mc_model.specs.Mode.{is_over}
 use Rattle.mc_model.specs.Legal.{Legal, IsOfSet}
 use Rattle.mc_model.proofs.Repeats.{ticks_more, pending_more, ticks_idle, pending_idle}
 use Rattle.mc_model.proofs.Fold.{stays}
-use Rattle.std.proofs.lemmas.Bool.{and_parts}
-use Rattle.mc_model.proofs.Booleans.{eqb-refl, not_true}
+use Rattle.std.proofs.lemmas.Bool.{and_parts, not-true}
+use Rattle.mc_model.proofs.Booleans.{eqb-refl}
 use Rattle.mc_model.proofs.Lists.{Each, Each-map, Each-both, Each-filter, Each-filter_if}
 use Rattle.sched_report.specs.declared.task_tally.TaskTally.{TaskTally}
 use Rattle.sched_report.specs.declared.tally.Tally.{Tally}
@@ -111,7 +111,7 @@ end_step tasks rule j how g old new e v l t s = record {
     kept : Each (λ i. stays tasks j how i ≡ true → release_in new.waiting (level_in (task_at tasks i.job.task.0)) i.job ≡ Some i.release) (pending tasks g)
     kept =
         Each-map {P = λ i. release_in old.waiting (level_in (task_at tasks i.job.task.0)) i.job ≡ Some i.release}
-        (λ x p st. s.waiting.others _ x.job (not_true (same_job j x.job) (and_parts _ _ (rw e at st)).0) ∙ p) (pending tasks g) t.waiting
+        (λ x p st. s.waiting.others _ x.job (not-true (same_job j x.job) (and_parts _ _ (rw e at st)).0) ∙ p) (pending tasks g) t.waiting
 
 -- the tally after an overrun
 pub over_step : (tasks : List Task) (rule : Rule) (j : JobId) (g : List Row) (old new : Tally) → Legal tasks rule (Tick j Over ∷ g) → Tallies tasks g old

@@ -1,32 +1,21 @@
 -- The release times that are stored after a change of a task's slot or of the map.
-use Rattle.std.proofs.Common.{◌≡◌, ℕ, zero, suc, Bool, true, false, ◌==◌, cond, List, [], ◌∷◌, Option, Some, None, replicate, set, slice_get, refl, sym, ap, subst, ◌∙◌, arith, eqb-true}
+use Rattle.std.proofs.Common.{◌≡◌, ℕ, zero, suc, Bool, true, false, ◌==◌, cond, List, Option, Some, None, replicate, set, slice_get, refl, sym, ap, subst, ◌∙◌, arith, eqb-true}
 use Rattle.std.proofs.lemmas.Bool.Decides.{nat_tests}
+use Rattle.std.proofs.lemmas.Option.{slice_get_within}
 use Rattle.std.specs.BTreeMap.{get, is_at}
+use Rattle.std.proofs.lemmas.Bool.{eqb-false}
 use Rattle.mc_task.specs.declared.task.JobId.{JobId}
 use Rattle.mc_task.specs.declared.task.Level.{Level}
 use Rattle.mc_task.specs.declared.task.Level.TheVariants.{Low, High}
 use Rattle.mc_model.specs.Rows.{same_job}
 use Rattle.mc_model.proofs.Booleans.{eqb-refl}
+use Rattle.mc_model.proofs.Lists.{set_here, set_other}
 use Rattle.sched_report.specs.declared.release_times.Recent.{Recent}
 use Rattle.sched_report.specs.declared.release_times.ReleaseTimes.{ReleaseTimes}
 use Rattle.sched_report.specs.declared.pending_releases.PendingReleases.{PendingReleases}
 use Rattle.sched_report.specs.ReleaseTimes.{key_cmp, older, recent_or, SetsAside, StoresOnly}
 use Rattle.sched_report.specs.PendingReleases.{ChangesOnly, release_in}
 use Rattle.sched_report.proofs.Keys.{key-same}
-
--- the slot that is written holds what is written
-pub set_here : {A : Type 0} (xs : List A) (k : ℕ) (x v : A) → slice_get xs k ≡ Some x → slice_get (set xs k v) k ≡ Some v
-set_here [] k x v there = cc
-set_here (y ∷ xs) zero x v there = refl
-set_here (y ∷ xs) (suc k) x v there = set_here xs k x v there
-
--- a write to one slot leaves the other slots as they were
-pub set_elsewhere : {A : Type 0} (xs : List A) (k m : ℕ) (v : A) → (k == m) ≡ false → slice_get (set xs k v) m ≡ slice_get xs m
-set_elsewhere [] k m v apart = refl
-set_elsewhere (y ∷ xs) zero zero v apart = absurd (cc)
-set_elsewhere (y ∷ xs) zero (suc m) v apart = refl
-set_elsewhere (y ∷ xs) (suc k) zero v apart = refl
-set_elsewhere (y ∷ xs) (suc k) (suc m) v apart = set_elsewhere xs k m v (grind (arith, nat_tests, apart))
 
 -- empty slots hold no release time
 pub none_recent : (n k count : ℕ) → recent_or (slice_get (replicate n None) k) count None ≡ None
@@ -55,7 +44,7 @@ moved job recent old new here kept = record {
 pub placed_here : (slots : List (Option Recent)) (job : JobId) (was : Option Recent) (release : ℕ) (older : Option ℕ) → slice_get slots job.task.0 ≡ Some was
     → recent_or (slice_get (set slots job.task.0 (Some (record { count = job.count; release = release }))) job.task.0) job.count older ≡ Some release
 placed_here slots job was release older there =
-    rw (set_here slots job.task.0 was (Some (record { count = job.count; release = release })) there, eqb-refl job.count) refl
+    rw (set_here slots job.task.0 (Some (record { count = job.count; release = release })) (slice_get_within slots job.task.0 was there), eqb-refl job.count) refl
 
 -- after a job is put into its task's slot, the same is stored for each other job as before
 pub placed_others : (slots : List (Option Recent)) (job : JobId) (was : Option Recent) (release : ℕ) (old new : JobId → Option ℕ) → slice_get slots job.task.0 ≡ Some was → SetsAside job was old new
@@ -70,10 +59,10 @@ placed_others slots job was release old new there aside j apart = by (job.task.0
     by true t =
         let other : (job.count == j.count) ≡ false = rw t at apart in
         let new_is : new j ≡ recent_or (Some was) j.count (old j) = aside.same_task j apart t in
-        let here : slice_get (set slots job.task.0 now) j.task.0 ≡ Some now = subst (λ (k : ℕ). slice_get (set slots job.task.0 now) k ≡ Some now) (eqb-true job.task.0 j.task.0 t) (set_here slots job.task.0 was now there) in
+        let here : slice_get (set slots job.task.0 now) j.task.0 ≡ Some now = subst (λ (k : ℕ). slice_get (set slots job.task.0 now) k ≡ Some now) (eqb-true job.task.0 j.task.0 t) (set_here slots job.task.0 now (slice_get_within slots job.task.0 was there)) in
         let before : slice_get slots j.task.0 ≡ Some was = subst (λ (k : ℕ). slice_get slots k ≡ Some was) (eqb-true job.task.0 j.task.0 t) there in
         rw (here, before, other) new_is
-    by false t = rw (set_elsewhere slots job.task.0 j.task.0 now t) (ap (recent_or (slice_get slots j.task.0) j.count) (aside.other_tasks j t))
+    by false t = rw (set_other slots job.task.0 j.task.0 now (λ e. eqb-false job.task.0 j.task.0 t (sym e))) (ap (recent_or (slice_get slots j.task.0) j.count) (aside.other_tasks j t))
 
 -- where the task's slot gives a release time, the job stands in the slot
 pub in_slot : (slot : Option (Option Recent)) (count release : ℕ) → recent_or slot count None ≡ Some release → (recent : Recent) × (slot ≡ Some (Some recent)) × ((recent.count == count) ≡ true) × (recent.release ≡ release)
@@ -107,10 +96,10 @@ emptied_others slots job release older is j apart = by (job.task.0 == j.task.0) 
         let k : job.task.0 ≡ j.task.0 = eqb-true job.task.0 j.task.0 t in
         let other : (job.count == j.count) ≡ false = rw t at apart in
         let away : (there.0.count == j.count) ≡ false = grind (arith, nat_tests, other, there.2) in
-        let here : slice_get (set slots job.task.0 None) j.task.0 ≡ Some None = subst (λ (m : ℕ). slice_get (set slots job.task.0 None) m ≡ Some None) k (set_here slots job.task.0 (Some there.0) None there.1) in
+        let here : slice_get (set slots job.task.0 None) j.task.0 ≡ Some None = subst (λ (m : ℕ). slice_get (set slots job.task.0 None) m ≡ Some None) k (set_here slots job.task.0 None (slice_get_within slots job.task.0 (Some there.0) there.1)) in
         let before : slice_get slots j.task.0 ≡ Some (Some there.0) = subst (λ (m : ℕ). slice_get slots m ≡ Some (Some there.0)) k there.1 in
         rw (here, before, away) refl
-    by false t there = rw (set_elsewhere slots job.task.0 j.task.0 None t) refl
+    by false t there = rw (set_other slots job.task.0 j.task.0 None (λ e. eqb-false job.task.0 j.task.0 t (sym e))) refl
 
 -- a change among the jobs of low tasks
 pub low_changed : (old new : PendingReleases) (job : JobId) (r : Option ℕ) → StoresOnly old.low new.low job r → ((j : JobId) → release_in new High j ≡ release_in old High j) → ChangesOnly old new Low job r
@@ -161,7 +150,7 @@ pub stored_without : (old new : ReleaseTimes) (job : JobId) (release : ℕ) → 
 stored_without old new job release there items gone kept = record {
   here =
       let slot = in_slot (slice_get old.recent.items job.task.0) job.count release there in
-      let emptied : slice_get (set old.recent.items job.task.0 None) job.task.0 ≡ Some None = set_here old.recent.items job.task.0 (Some slot.0) None slot.1 in
+      let emptied : slice_get (set old.recent.items job.task.0 None) job.task.0 ≡ Some None = set_here old.recent.items job.task.0 None (slice_get_within old.recent.items job.task.0 (Some slot.0) slot.1) in
       ap (λ (xs : List (Option Recent)). recent_or (slice_get xs job.task.0) job.count (older new job)) items ∙ rw emptied gone;
   others = λ j apart.
       ap (λ (xs : List (Option Recent)). recent_or (slice_get xs j.task.0) j.count (older new j)) items

@@ -112,7 +112,7 @@ fn need(set: &TaskSet, task: TaskNo, word: u32) -> u32
     requires { IsIn set.now.tasks task.0 }
     ensures { result ≡ spec.need_in (task_at set.now.tasks task.0) word }
 {
-    // No budget is 0, as in each set.
+    // No budget is 0, as in every set.
     let _is_set = set.len();
     match set.get(task) {
         Some(task) => {

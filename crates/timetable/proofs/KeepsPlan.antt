@@ -1,14 +1,13 @@
 -- Each of the floor's calls keeps what the floor stores of its plan, and some refusals of the core never come
 -- under a plan.
 use Rattle.std.proofs.Common.{◌≡◌, ℕ, ◌+◌, ◌<◌, Bool, true, false, not, List, [], ◌∷◌, Option, Some, None, Ok, Err, cond, nat_lt, ◌==◌, slice_get, option_map, refl, sym, ap, ◌∙◌, subst, arith, eqb-true, le-ltb, lt-ltb, inl, inr}
-use Rattle.std.proofs.lemmas.Bool.{cases_Bool, not-false}
+use Rattle.std.proofs.lemmas.Bool.{cases_Bool, not-false, eqb-false}
 use Rattle.std.specs.Option.{option_or}
 use Rattle.mc_task.specs.declared.task.JobId.{JobId}
 use Rattle.mc_model.specs.declared.row.Row.TheVariants.{Idle}
 use Rattle.mc_model.specs.declared.work.WorkRow.{WorkRow}
 use Rattle.mc_model.specs.Rows.{used}
 use Rattle.mc_model.specs.Core.{State, begun, next, next_job}
-use Rattle.mc_model.proofs.Booleans.{eqb-false}
 use Rattle.mc_model.proofs.Jobs.{job_eq}
 use Rattle.mode_core.specs.declared.answers.Released.{Released}
 use Rattle.mode_core.specs.declared.answers.Granted.{Granted}

@@ -1,6 +1,7 @@
 -- With no granted tick, the next act of an unfinished plan adds a row; a finished plan has its trace.
 use Rattle.std.proofs.Common.{◌≡◌, ℕ, ◌<◌, ◌≤◌, Bool, true, false, List, [], ◌∷◌, Option, Some, None, Result, Ok, Err, length, cond, option_map, refl, sym, ap, ◌∙◌, subst, arith, eqb-true, le-ltb}
 use Rattle.std.proofs.lemmas.List.{length-reverse}
+use Rattle.std.proofs.lemmas.Bool.{eqb-false}
 use Rattle.mc_task.specs.declared.task.TaskNo.{TaskNo}
 use Rattle.mc_task.specs.declared.task.JobId.{JobId}
 use Rattle.mc_task.specs.TaskSet.{IsIn}
@@ -11,7 +12,7 @@ use Rattle.mc_model.specs.Rows.{ticks, next_release}
 use Rattle.mc_model.specs.Core.{State, begun, places_used, next, next_after, tick_out, release_row, outcome_of}
 use Rattle.mc_model.specs.Follows.{Arrival, arrivals, planned}
 use Rattle.mc_model.specs.Work.{IsNeed}
-use Rattle.mc_model.proofs.Booleans.{eqb-refl, eqb-false}
+use Rattle.mc_model.proofs.Booleans.{eqb-refl}
 use Rattle.mode_core.specs.declared.answers.Granted.{Granted}
 use Rattle.mode_core.specs.declared.answers.GrantFault.{GrantFault}
 use Rattle.mode_core.specs.Events as core_event

@@ -70,15 +70,15 @@ release_fault set rule g s j kept task t a b at =
 
 -- the job has an entry, and no entry has a lesser key
 abbrev pub least_in : List Entry → JobId → Bool
-least_in es j = list_any (λ e. is_of j e && list_all (λ o. nat_le e.0.0 o.0.0) es) es
+least_in es j = list_any (λ e. is_of j e && list_all (λ o. nat_le e.0.key o.0.key) es) es
 
 -- an entry that is found at a key with no lesser one has a least key
-pub found_least : (j : JobId) (e : Entry) (es : List Entry) → list_all (λ (o : Entry). nat_le e.0.0 o.0.0) es ≡ true → find (is_of j) es ≡ Some e → least_in es j ≡ true
-found_least j e es = found_both (is_of j) (λ (x : Entry). list_all (λ (o : Entry). nat_le x.0.0 o.0.0) es) e es
+pub found_least : (j : JobId) (e : Entry) (es : List Entry) → list_all (λ (o : Entry). nat_le e.0.key o.0.key) es ≡ true → find (is_of j) es ≡ Some e → least_in es j ≡ true
+found_least j e es = found_both (is_of j) (λ (x : Entry). list_all (λ (o : Entry). nat_le x.0.key o.0.key) es) e es
 
 -- the only entry of a job has no least key if some entry has a lesser one
-pub not_least : (j : JobId) (e : Entry) (es : List Entry) → total (when (is_of j) one) es ≤ 1 → list_all (λ (o : Entry). nat_le e.0.0 o.0.0) es ≡ false → find (is_of j) es ≡ Some e → least_in es j ≡ false
-not_least j e es = one_fails (is_of j) (λ (x : Entry). list_all (λ (o : Entry). nat_le x.0.0 o.0.0) es) e es
+pub not_least : (j : JobId) (e : Entry) (es : List Entry) → total (when (is_of j) one) es ≤ 1 → list_all (λ (o : Entry). nat_le e.0.key o.0.key) es ≡ false → find (is_of j) es ≡ Some e → least_in es j ≡ false
+not_least j e es = one_fails (is_of j) (λ (x : Entry). list_all (λ (o : Entry). nat_le x.0.key o.0.key) es) e es
 
 -- the tests of a tick's job among the pending jobs are those among the entries
 pub pending_same : (set : List Task) (rule : Rule) (g : List Row) (s : State) (j : JobId) → Tracks set rule g s → is_pending (map kept_of (waiting set g)) j ≡ pending_in s.waiting.entries j
@@ -93,11 +93,11 @@ least_same set rule g s j t =
     let ws : List Placed = waiting set g in
     let hi : Bool = high_mode rule g in
     list_any-map (λ i. same_job j i.job && none_below set rule hi (key set rule hi i) (map kept_of ws)) kept_of
-    (λ x. same_job j x.kept.job && list_all (λ (o : Entry). nat_le (key set rule hi x.kept) o.0.0) es)
+    (λ x. same_job j x.kept.job && list_all (λ (o : Entry). nat_le (key set rule hi x.kept) o.0.key) es)
     (λ x. ap (λ b. same_job j x.kept.job && b)
     (list_all-map (λ i. nat_le (key set rule hi x.kept) (key set rule hi i)) kept_of ws
-    ∙ sym (same_all es (entry_of set rule g) ws t.waiting (λ (o : Entry). nat_le (key set rule hi x.kept) o.0.0)))) ws
-    ∙ sym (same_any es (entry_of set rule g) ws t.waiting (λ (e : Entry). is_of j e && list_all (λ (o : Entry). nat_le e.0.0 o.0.0) es))
+    ∙ sym (same_all es (entry_of set rule g) ws t.waiting (λ (o : Entry). nat_le (key set rule hi x.kept) o.0.key)))) ws
+    ∙ sym (same_any es (entry_of set rule g) ws t.waiting (λ (e : Entry). is_of j e && list_all (λ (o : Entry). nat_le e.0.key o.0.key) es))
 
 -- the fault of a tick, by the tests among the entries
 pub tick_fault : (set : List Task) (rule : Rule) (g : List Row) (s : State) (j : JobId) (how : How) → Legal set rule g → Tracks set rule g s →
@@ -106,12 +106,12 @@ tick_fault set rule g s j how l t =
     rw (pending_is set rule g l, pending_same set rule g s j t, least_same set rule g s j t) refl
 
 -- the ticks that an entry's job has used
-pub found_used : (set : List Task) (rule : Rule) (g : List Row) (s : State) (j : JobId) (k : ℕ) (p : Pending) → Tracks set rule g s → find (is_of j) s.waiting.entries ≡ Some ((k, j.task.0, j.count), p) → p.used ≡ used g j
+pub found_used : (set : List Task) (rule : Rule) (g : List Row) (s : State) (j : JobId) (k : ℕ) (p : Pending) → Tracks set rule g s → find (is_of j) s.waiting.entries ≡ Some (record { key = k; job = j }, p) → p.used ≡ used g j
 found_used set rule g s j k p t h =
     let q : Entry → Bool = λ e. not (is_of j e) || (e.1.used == used g j) in
     let all : list_all q s.waiting.entries ≡ true = same_all s.waiting.entries (entry_of set rule g) (waiting set g) t.waiting q
     ∙ list_all-true (λ (x : Placed). q (entry_of set rule g x)) each (waiting set g) in
-    let r : (not (is_of j ((k, j.task.0, j.count), p)) || (p.used == used g j)) ≡ true = found_passes q (is_of j) ((k, j.task.0, j.count), p) s.waiting.entries all h in
+    let r : (not (is_of j (record { key = k; job = j }, p)) || (p.used == used g j)) ≡ true = found_passes q (is_of j) (record { key = k; job = j }, p) s.waiting.entries all h in
     grind (arith, nat_tests)
   where
     each : (x : Placed) → (not (is_of j (entry_of set rule g x)) || (used g x.kept.job == used g j)) ≡ true
@@ -132,7 +132,7 @@ stands_not_least set rule g s j how l t h =
 pub stands_least : (set : List Task) (rule : Rule) (g : List Row) (s : State) (j : JobId) (how : How) (p : Pending) → Legal set rule g → Tracks set rule g s → Stands s.waiting.entries j (standing.Least p) →
     fault set rule (Tick j how) g ≡ cond (allows rule s.high_mode (task_at set j.task.0) (p.used + 1) how) None (Some WrongHow)
 stands_least set rule g s j how p l t h =
-    let e : Entry = ((h.0, j.task.0, j.count), p) in
+    let e : Entry = (record { key = h.0; job = j }, p) in
     let a = found_any (is_of j) e s.waiting.entries h.1 in
     let b = found_least j e s.waiting.entries h.2 h.1 in
     tick_fault set rule g s j how l t ∙ rw (a, b, t.mode, found_used set rule g s j h.0 p t h.1) refl

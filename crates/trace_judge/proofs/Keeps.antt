@@ -1,6 +1,6 @@
 -- The state follows a release, a tick without an overrun, an overrun, and a run: n ticks of a job that
 -- continues after each, or n idle ticks.
-use Rattle.std.proofs.Common.{inl, inr, ne_eqb, [], ◌≡◌, ℕ, ◌+◌, Bool, true, false, List, ◌∷◌, refl, sym, ap, ◌∙◌, arith, zero, suc, ◌<◌, ◌≢◌, ◌==◌, Some, subst, slice_get, length, ◌-◌, slice_set, length-set, ◌≤◌, not, ◌&&◌, cond, filter, map, nat_le, ◌^◌, min, Option, None, ◌++◌, replicate}
+use Rattle.std.proofs.Common.{inl, inr, ne_eqb, [], ◌≡◌, ℕ, ◌+◌, Bool, true, false, List, ◌∷◌, refl, sym, ap, ◌∙◌, arith, zero, suc, ◌<◌, ◌==◌, Some, subst, slice_get, length, ◌-◌, slice_set, length-set, ◌≤◌, not, ◌&&◌, cond, filter, map, nat_le, ◌^◌, min, Option, None, ◌++◌, replicate}
 use Rattle.std.specs.Prelude.{find}
 use Rattle.std.proofs.lemmas.Bool.{cases_eq}
 use Rattle.std.proofs.Math.Bool.{and-false}
@@ -21,7 +21,7 @@ use Rattle.mc_model.specs.Mode.{high_mode, is_over}
 use Rattle.mc_model.specs.Pending.{is_end}
 use Rattle.mc_model.specs.declared.row.How.TheVariants.{Over, More}
 use Rattle.mc_model.proofs.Booleans.{eqb-refl}
-use Rattle.mc_model.proofs.Lists.{Each, Each-all, filter_none}
+use Rattle.mc_model.proofs.Lists.{Each, Each-all, filter_none, set_here, set_other}
 use Rattle.mc_model.proofs.Sums.{one, total-append, total-map, total-filter, total-ext, total-same, total-mono}
 use Rattle.mc_model.proofs.Repeats.{ticks_more, releases_more, next_more, mode_more, used_more, ticks_idle, releases_idle, next_idle, mode_idle, length_copies}
 use Rattle.trace_judge.specs.declared.pending_queues.Pending.{Pending}
@@ -46,20 +46,6 @@ use Rattle.trace_judge.proofs.Faults.{apart}
 use Rattle.trace_judge.proofs.Same.{list_all-true, same_all}
 use Rattle.std.specs.List.{list_all}
 use Rattle.trace_judge.proofs.LateTotal.{filter_true}
-
--- what is written at an index is read there
-set_here : {X : Type 0} (xs : List X) (i : ℕ) (v : X) → i < length xs → slice_get (slice_set xs i v) i ≡ Some v
-set_here [] i v h = absurd (omega arith)
-set_here (x ∷ xs) zero v h = refl
-set_here (x ∷ xs) (suc i) v h = set_here xs i v (omega arith)
-
--- a write at one index leaves the elements at other indices as they were
-set_other : {X : Type 0} (xs : List X) (i k : ℕ) (v : X) → k ≢ i → slice_get (slice_set xs i v) k ≡ slice_get xs k
-set_other [] i k v h = refl
-set_other (x ∷ xs) zero zero v h = absurd (h refl)
-set_other (x ∷ xs) zero (suc k) v h = refl
-set_other (x ∷ xs) (suc i) zero v h = refl
-set_other (x ∷ xs) (suc i) (suc k) v h = set_other xs i k v (λ e. h (ap (λ n. suc n) e))
 
 -- a note from its parts
 abbrev pub a_note : ℕ → ℕ → TaskNote
@@ -92,8 +78,8 @@ abbrev pub a_pending : ℕ → ℕ → ℕ → Pending
 a_pending r u p = record { release = r; used = u; rows_before = p }
 
 -- an entry from its parts
-abbrev pub an_entry : ℕ → ℕ → ℕ → Pending → Entry
-an_entry k t c p = ((k, t, c), p)
+abbrev pub an_entry : ℕ → JobId → Pending → Entry
+an_entry k j p = (record { key = k; job = j }, p)
 
 -- what is kept follows a release
 pub keeps_release : (set : List Task) (rule : Rule) (g : List Row) (s s' : State) (j : JobId) (kept : Bool) (task : Task) → Legal set rule (Release j kept ∷ g) → Tracks set rule g s → task_at set j.task.0 ≡ Some task →
@@ -109,12 +95,12 @@ keeps_release set rule g s s' j kept task l t at r = record {
   late_jobs = rw r.late_jobs t.late_jobs;
 }
   where
-    added : (b : Bool) → Legal set rule (Release j b ∷ g) → Waits b ((key_of rule s.high_mode (Some task) s.ticks, j.task.0, j.count), a_pending s.ticks 0 s.rows) s.waiting.entries s'.waiting.entries →
+    added : (b : Bool) → Legal set rule (Release j b ∷ g) → Waits b (record { key = key_of rule s.high_mode (Some task) s.ticks; job = j }, a_pending s.ticks 0 s.rows) s.waiting.entries s'.waiting.entries →
         (f : Entry → ℕ) → total f s'.waiting.entries ≡ total (λ x. f (entry_of set rule (Release j b ∷ g) x)) (waiting set (Release j b ∷ g))
     added false l w f = ap (total f) w ∙ t.waiting f
     added true l w f =
         let u : used g j ≡ 0 = fresh_used set rule g j true l in
-        let e : f (an_entry (key_of rule s.high_mode (Some task) s.ticks) j.task.0 j.count (a_pending s.ticks 0 s.rows))
+        let e : f (an_entry (key_of rule s.high_mode (Some task) s.ticks) j (a_pending s.ticks 0 s.rows))
         ≡ f (entry_of set rule (Release j true ∷ g) (new_one j g)) = rw (t.mode, t.ticks, t.rows, at, u) refl in
         omega (arith, w f, e, t.waiting f)
 
@@ -168,7 +154,7 @@ lates_after set rule g s j how f v t h =
 
 -- what is kept follows the last tick of a job
 pub keeps_end : (set : List Task) (rule : Rule) (g : List Row) (s s' : State) (j : JobId) (how : How) (k : ℕ) (p : Pending) (task : Task) → Legal set rule g → Tracks set rule g s → is_end how ≡ true → is_over how ≡ false → task_at set j.task.0 ≡ Some task →
-    find (is_of j) s.waiting.entries ≡ Some ((k, j.task.0, j.count), p) → Ends (Some task) j p s s' → Tracks set rule (Tick j how ∷ g) s'
+    find (is_of j) s.waiting.entries ≡ Some (record { key = k; job = j }, p) → Ends (Some task) j p s s' → Tracks set rule (Tick j how ∷ g) s'
 keeps_end set rule g s s' j how k p task l t ends over at found m = record {
   ticks = omega (arith, t.ticks, m.moves.ticks);
   rows = omega (arith, m.moves.rows, t.rows);
@@ -189,24 +175,24 @@ keeps_end set rule g s s' j how k p task l t ends over at found m = record {
     each : (f : Entry → ℕ) (x : Placed) → taken_at j f (entry_of set rule g x) ≡ cond (stays set j how x) (f (entry_of set rule (Tick j how ∷ g) x)) 0
     each f x = rw (stays_is x, mode_same) (by_job (same_job j x.kept.job) (used g x.kept.job))
       where
-        by_job : (mine : Bool) (u : ℕ) → cond mine 0 (f (an_entry (key set rule (high_mode rule g) x.kept) x.kept.job.task.0 x.kept.job.count
+        by_job : (mine : Bool) (u : ℕ) → cond mine 0 (f (an_entry (key set rule (high_mode rule g) x.kept) x.kept.job
             (a_pending x.kept.release u x.rows_before)))
-            ≡ cond (not mine) (f (an_entry (key set rule (high_mode rule g) x.kept) x.kept.job.task.0 x.kept.job.count
+            ≡ cond (not mine) (f (an_entry (key set rule (high_mode rule g) x.kept) x.kept.job
             (a_pending x.kept.release (cond mine 1 0 + u) x.rows_before))) 0
         by_job true u = refl
         by_job false u = let e : 0 + u ≡ u = omega arith in rw e refl
 
     -- no entry but the job's has a weight, and that only if the job's deadline has come
     goes : (f : LateJob → ℕ) (x : Placed) →
-        when (is_of j) (λ e. cond (nat_le (e.1.release + period_in (task_at set e.0.1)) (ticks g)) (f (late_job_of e)) 0) (entry_of set rule g x)
+        when (is_of j) (λ e. cond (nat_le (e.1.release + period_in (task_at set e.0.job.task.0)) (ticks g)) (f (late_job_of e)) 0) (entry_of set rule g x)
         ≡ cond (not (stays set j how x) && is_due set (ticks g) x) (f (late_job_in x)) 0
     goes f x = rw (stays_is x) (grind arith)
 
     adds : (f : LateJob → ℕ) → cond (is_due_at (Some task) p.release s.ticks) (f (late_job j p)) 0 + late_sum_of set g f ≡ late_sum_of set (Tick j how ∷ g) f
     adds f =
-        let v : Entry → ℕ = λ e. cond (nat_le (e.1.release + period_in (task_at set e.0.1)) (ticks g)) (f (late_job_of e)) 0 in
-        let c : v ((k, j.task.0, j.count), p) ≡ cond (is_due_at (Some task) p.release s.ticks) (f (late_job j p)) 0 = rw (at, ← t.ticks) refl in
-        let found_weight = total_found (is_of j) v ((k, j.task.0, j.count), p) s.waiting.entries (apart set rule g s l t j) found in
+        let v : Entry → ℕ = λ e. cond (nat_le (e.1.release + period_in (task_at set e.0.job.task.0)) (ticks g)) (f (late_job_of e)) 0 in
+        let c : v (record { key = k; job = j }, p) ≡ cond (is_due_at (Some task) p.release s.ticks) (f (late_job j p)) 0 = rw (at, ← t.ticks) refl in
+        let found_weight = total_found (is_of j) v (record { key = k; job = j }, p) s.waiting.entries (apart set rule g s l t j) found in
         omega (arith, lates_after set rule g s j how f (when (is_of j) v) t (Each-all (λ x. goes f x) (waiting set g)), found_weight, c)
 
     noted_so : (b : Bool) → is_due_at (Some task) p.release s.ticks ≡ b → CountsLateJobs (cond b (noted s.late_jobs (late_job j p)) s.late_jobs) (late_sum_of set (Tick j how ∷ g))
@@ -219,7 +205,7 @@ keeps_end set rule g s s' j how k p task l t ends over at found m = record {
 -- each job has one entry after a switch, as it had before
 still_apart : (set : List Task) (rule : Rule) (i : JobId) (old new : List Entry) → Switches set rule old new → total (when (is_of i) one) old ≤ 1 → total (when (is_of i) one) new ≤ 1
 still_apart set rule i old new switches u =
-    omega (arith, switches (when (is_of i) one), total-mono (when (is_of i) one) (moved set rule (when (is_of i) one)) old (Each-all (λ e. no_more (task_at set e.0.1) e) old), u)
+    omega (arith, switches (when (is_of i) one), total-mono (when (is_of i) one) (moved set rule (when (is_of i) one)) old (Each-all (λ e. no_more (task_at set e.0.job.task.0) e) old), u)
   where
     no_more : (o : Option Task) (e : Entry) → cond (is_high_in o) (when (is_of i) one (rekeyed rule o e.0 e.1, e.1)) 0 ≤ when (is_of i) one e
     no_more None e = omega arith
@@ -248,17 +234,17 @@ keeps_over set rule g s s' j l t room virtual m = record {
     mode_high = rw virtual refl
 
     -- the weight of an entry at its new key, with one more tick if the entry is the job's
-    entry_moved : (f : Entry → ℕ) (n k c r u rows_before : ℕ) (o : Option Task) (h : Bool) → h ≡ true → u + 1 ≤ 2 ^ 64 - 1 →
-        cond (is_high_in o) (ticked_at 1 j f (rekeyed rule o (n, k, c) (a_pending r u rows_before), a_pending r u rows_before)) 0
-        ≡ cond (is_high_in o) (f (an_entry (key_of rule h o r) k c (a_pending r (cond ((j.task.0 == k) && (j.count == c)) 1 0 + u) rows_before))) 0
-    entry_moved f n k c r u rows_before None h high room = refl
-    entry_moved f n k c r u rows_before (Some task) h high room =
+    entry_moved : (f : Entry → ℕ) (n : ℕ) (i : JobId) (r u rows_before : ℕ) (o : Option Task) (h : Bool) → h ≡ true → u + 1 ≤ 2 ^ 64 - 1 →
+        cond (is_high_in o) (ticked_at 1 j f (rekeyed rule o (record { key = n; job = i }) (a_pending r u rows_before), a_pending r u rows_before)) 0
+        ≡ cond (is_high_in o) (f (an_entry (key_of rule h o r) i (a_pending r (cond ((j.task.0 == i.task.0) && (j.count == i.count)) 1 0 + u) rows_before))) 0
+    entry_moved f n i r u rows_before None h high room = refl
+    entry_moved f n i r u rows_before (Some task) h high room =
         rw high (ap (λ (v : ℕ). cond (is_high_in (Some task)) v 0)
-        (spent_same (λ u. f (an_entry (key_of rule true (Some task) r) k c (a_pending r u rows_before))) ((j.task.0 == k) && (j.count == c)) 1 u room))
+        (spent_same (λ u. f (an_entry (key_of rule true (Some task) r) i (a_pending r u rows_before))) ((j.task.0 == i.task.0) && (j.count == i.count)) 1 u room))
 
     each : (f : Entry → ℕ) (x : Placed) → moved set rule (ticked_at 1 j f) (entry_of set rule g x) ≡ cond (stays set j Over x) (f (entry_of set rule (Tick j Over ∷ g) x)) 0
     each f x =
-        entry_moved f (key set rule (high_mode rule g) x.kept) x.kept.job.task.0 x.kept.job.count x.kept.release (used g x.kept.job) x.rows_before
+        entry_moved f (key set rule (high_mode rule g) x.kept) x.kept.job x.kept.release (used g x.kept.job) x.rows_before
         (task_at set x.kept.job.task.0) (high_mode rule (Tick j Over ∷ g)) mode_high (omega (arith, room, t.ticks, used_le g x.kept.job))
 
     gone : (f : LateJob → ℕ) (x : Placed) → when (is_discarded_late set s.ticks) (λ e. f (late_job_of e)) (entry_of set rule g x) ≡ cond (not (stays set j Over x) && is_due set (ticks g) x) (f (late_job_in x)) 0
@@ -295,7 +281,7 @@ keeps_more set rule g s s' j n l t room m = record {
     each : (f : Entry → ℕ) (x : Placed) → ticked_at n j f (entry_of set rule g x) ≡ f (entry_of set rule (replicate n (Tick j More) ++ g) x)
     each f x =
         rw (used_more j n g x.kept.job, mode_more rule j n g)
-        (spent_same (λ u. f (an_entry (key set rule (high_mode rule g) x.kept) x.kept.job.task.0 x.kept.job.count (a_pending x.kept.release u x.rows_before)))
+        (spent_same (λ u. f (an_entry (key set rule (high_mode rule g) x.kept) x.kept.job (a_pending x.kept.release u x.rows_before)))
         (same_job j x.kept.job) n (used g x.kept.job) (omega (arith, t.ticks, used_le g x.kept.job, room)))
 
 -- idle ticks change neither the pending jobs nor those that ended or were discarded late
@@ -335,7 +321,7 @@ count_of k (x ∷ xs) = grind (arith, count_of k xs)
 entries_pending : (set : List Task) (rule : Rule) (g : List Row) (s : State) (k : ℕ) → Legal set rule g → Tracks set rule g s →
     entries_of k s.waiting.entries ≡ length (filter (λ (i : KeptRelease). i.job.task.0 == k) (pending set g))
 entries_pending set rule g s k l t =
-    t.waiting (λ (e : Entry). cond (e.0.1 == k) 1 0)
+    t.waiting (λ (e : Entry). cond (e.0.job.task.0 == k) 1 0)
     ∙ sym (ap (λ (xs : List KeptRelease). length (filter (λ (i : KeptRelease). i.job.task.0 == k) xs)) (pending_is set rule g l)
     ∙ (count_of k (map kept_of (waiting set g)) ∙ total-map (λ (i : KeptRelease). cond (i.job.task.0 == k) 1 0) kept_of (waiting set g)))
 

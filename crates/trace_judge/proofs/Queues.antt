@@ -106,27 +106,27 @@ edited_own j k l same qs i d e h =
 
 -- what is below the keys of the heads is below all keys
 
-below_queue : (least k : ℕ) (q : List Queued) → AllFrom least q → list_all (λ (o : Entry). nat_le least o.0.0) (map (entry_in k) q) ≡ true
+below_queue : (least k : ℕ) (q : List Queued) → AllFrom least q → list_all (λ (o : Entry). nat_le least o.0.key) (map (entry_in k) q) ≡ true
 below_queue least k [] a = refl
 below_queue least k (x ∷ q) a = grind (arith, nat_tests, a.0, below_queue least k q a.1)
 
-pub below_all : (least k : ℕ) (qs : List (List Queued)) → AllByRecursion IsQueue qs → All (λ key. least ≤ key) (map head_key qs) → list_all (λ (o : Entry). nat_le least o.0.0) (entries_from k qs) ≡ true
+pub below_all : (least k : ℕ) (qs : List (List Queued)) → AllByRecursion IsQueue qs → All (λ key. least ≤ key) (map head_key qs) → list_all (λ (o : Entry). nat_le least o.0.key) (entries_from k qs) ≡ true
 below_all least k [] each below = refl
 below_all least k (q ∷ qs) each below =
     let here : least ≤ head_key q = below 0 no_key (omega arith) in
     let first = below_queue least k q (all_lower least (head_key q) here q (head_least q each.0)) in
-    rw (list_all-append (λ (o : Entry). nat_le least o.0.0) (map (entry_in k) q), first) (below_all least (k + 1) qs each.1 (λ i d h. below (suc i) d (omega (arith, h))))
+    rw (list_all-append (λ (o : Entry). nat_le least o.0.key) (map (entry_in k) q), first) (below_all least (k + 1) qs each.1 (λ i d h. below (suc i) d (omega (arith, h))))
 
 -- a key that some head has and that is not that of an empty queue is that of an entry
 
-there_at : (key k : ℕ) (qs : List (List Queued)) (i : ℕ) → key ≢ no_key → i < length qs → get_or (map head_key qs) i key ≡ key → list_any (λ (o : Entry). o.0.0 == key) (entries_from k qs) ≡ true
+there_at : (key k : ℕ) (qs : List (List Queued)) (i : ℕ) → key ≢ no_key → i < length qs → get_or (map head_key qs) i key ≡ key → list_any (λ (o : Entry). o.0.key == key) (entries_from k qs) ≡ true
 there_at key k [] i some h e = absurd (omega arith)
 there_at key k ([] ∷ qs) zero some h e = absurd (some (sym e))
 there_at key k ((x ∷ q) ∷ qs) zero some h e = rw (e, eqb-refl key) refl
 there_at key k (q ∷ qs) (suc i) some h e =
-    rw (list_any-append (λ (o : Entry). o.0.0 == key) (map (entry_in k) q)) (or_true _ _ (there_at key (k + 1) qs i some (omega arith) e))
+    rw (list_any-append (λ (o : Entry). o.0.key == key) (map (entry_in k) q)) (or_true _ _ (there_at key (k + 1) qs i some (omega arith) e))
 
-pub head_entry : (key : ℕ) (qs : List (List Queued)) → key ≢ no_key → Contains (map head_key qs) key → list_any (λ (o : Entry). o.0.0 == key) (entries_from 1 qs) ≡ true
+pub head_entry : (key : ℕ) (qs : List (List Queued)) → key ≢ no_key → Contains (map head_key qs) key → list_any (λ (o : Entry). o.0.key == key) (entries_from 1 qs) ≡ true
 head_entry key qs some there = there_at key 1 qs there.0 some (omega (arith, there.1, length-map qs head_key)) there.2
 
 -- where no head has a key there is no entry

@@ -1,5 +1,5 @@
 -- The queues after an overrun: each stays a queue, and their entries are those of the high jobs at their new keys.
-use Rattle.std.proofs.Common.{◌≡◌, ℕ, zero, suc, ◌+◌, ◌<◌, ◌≤◌, ◌==◌, Bool, true, false, cond, List, [], ◌∷◌, ◌++◌, Option, Some, None, length, map, take, drop, get_or, set, refl, sym, ap, ◌∙◌, subst, arith}
+use Rattle.std.proofs.Common.{◌≡◌, ℕ, zero, suc, ◌+◌, ◌<◌, ◌≤◌, ◌==◌, Bool, true, false, cond, List, [], ◌∷◌, ◌++◌, Option, Some, None, length, map, take, drop, get_or, set, refl, ap, ◌∙◌, subst, arith}
 use Rattle.std.specs.List.{AllByRecursion, list_all}
 use Rattle.std.proofs.lemmas.Bool.Decides.{nat_tests}
 use Rattle.std.proofs.lemmas.List.Folds.{list_all-append}
@@ -142,7 +142,7 @@ all_step P (s ∷ ss) zero d h a p = (p, tt)
 all_step P (s ∷ ss) (suc i) d h a p = (a.0, all_step P ss i d (omega (arith, h)) a.1 p)
 
 -- a queue of task number n has as many entries of that task as jobs
-own_entries : (n : ℕ) (q : List Queued) → total (λ (e : Entry). cond (e.0.1 == n) 1 0) (map (entry_in n) q) ≡ length q
+own_entries : (n : ℕ) (q : List Queued) → total (λ (e : Entry). cond (e.0.job.task.0 == n) 1 0) (map (entry_in n) q) ≡ length q
 own_entries n [] = refl
 own_entries n (x ∷ q) = rw (eqb-refl n) (omega (arith, own_entries n q))
 
@@ -152,6 +152,6 @@ has_entries n k [] i d e h = absurd (omega arith)
 has_entries n k (q ∷ qs) zero d e h =
     let same : k ≡ n = omega arith in
     let own = own_entries n q in
-    rw same (omega (arith, own, total-append (λ (e : Entry). cond (e.0.1 == n) 1 0) (map (entry_in n) q) (entries_from (n + 1) qs)))
+    rw same (omega (arith, own, total-append (λ (e : Entry). cond (e.0.job.task.0 == n) 1 0) (map (entry_in n) q) (entries_from (n + 1) qs)))
 has_entries n k (q ∷ qs) (suc i) d e h =
-    omega (arith, has_entries n (k + 1) qs i d (omega arith) (omega (arith, h)), total-append (λ (e : Entry). cond (e.0.1 == n) 1 0) (map (entry_in k) q) (entries_from (k + 1) qs))
+    omega (arith, has_entries n (k + 1) qs i d (omega arith) (omega (arith, h)), total-append (λ (e : Entry). cond (e.0.job.task.0 == n) 1 0) (map (entry_in k) q) (entries_from (k + 1) qs))

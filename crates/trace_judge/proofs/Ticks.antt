@@ -110,7 +110,7 @@ pub record IsTicking (set : List Task) (rule : Rule) (g : List Row) (s : State) 
   pub legal : Legal set rule g
   pub tracks : Tracks set rule g s
   pub room : s.ticks + n ≤ 2 ^ 62
-  pub least : (find (is_of j) s.waiting.entries ≡ Some ((k, j.task.0, j.count), p)) × (list_all (λ (o : Entry). nat_le k o.0.0) s.waiting.entries ≡ true)
+  pub least : (find (is_of j) s.waiting.entries ≡ Some (record { key = k; job = j }, p)) × (list_all (λ (o : Entry). nat_le k o.0.key) s.waiting.entries ≡ true)
   pub at : task_at set j.task.0 ≡ Some task
   pub inside : IsIn set j.task.0
   pub is_run : IsRun (run.Ticks j how n)
@@ -120,13 +120,13 @@ pub record IsTicking (set : List Task) (rule : Rule) (g : List Row) (s : State) 
 is_there : (set : List Task) (rule : Rule) (g : List Row) (s : State) (j : JobId) (how : How) (n k : ℕ) (p : Pending) (task : Task) → IsTicking set rule g s j how n k p task → is_pending (pending set g) j ≡ true
 is_there set rule g s j how n k p task i =
     ap (λ xs. is_pending xs j) (pending_is set rule g i.legal)
-    ∙ (pending_same set rule g s j i.tracks ∙ found_any (is_of j) ((k, j.task.0, j.count), p) s.waiting.entries i.least.0)
+    ∙ (pending_same set rule g s j i.tracks ∙ found_any (is_of j) (record { key = k; job = j }, p) s.waiting.entries i.least.0)
 
 -- the job of a run of ticks is at a least key
 is_first : (set : List Task) (rule : Rule) (g : List Row) (s : State) (j : JobId) (how : How) (n k : ℕ) (p : Pending) (task : Task) → IsTicking set rule g s j how n k p task → is_least set rule (high_mode rule g) (pending set g) j ≡ true
 is_first set rule g s j how n k p task i =
     ap (λ xs. is_least set rule (high_mode rule g) xs j) (pending_is set rule g i.legal)
-    ∙ (least_same set rule g s j i.tracks ∙ found_least j ((k, j.task.0, j.count), p) s.waiting.entries i.least.1 i.least.0)
+    ∙ (least_same set rule g s j i.tracks ∙ found_least j (record { key = k; job = j }, p) s.waiting.entries i.least.1 i.least.0)
 
 -- the budget of the job of a run of ticks, of which at least one tick is left
 budget_is : (set : List Task) (rule : Rule) (g : List Row) (s : State) (j : JobId) (how : How) (n k : ℕ) (p : Pending) (task : Task) → IsTicking set rule g s j how n k p task →

@@ -6,12 +6,9 @@ use Rattle.mc_task.specs.declared.task.Task.{Task}
 use Rattle.mc_model.specs.Sums.{total}
 use Rattle.trace_judge.specs.declared.late_jobs.LateJob.{LateJob}
 use Rattle.trace_judge.specs.declared.pending_queues.Pending.{Pending}
+use Rattle.trace_judge.specs.declared.pending_queues.Rank.{Rank}
 use Rattle.trace_judge.specs.declared.pending_queues.Standing.{Standing}
 use Rattle.trace_judge.specs.declared.pending_queues.Standing.TheVariants.{NotPending, NotLeast, Least}
-
--- a key, a task's number and a job's count
-abbrev pub Rank : Type 0
-Rank = ℕ × ℕ × ℕ
 
 -- a pending job with its rank
 abbrev pub Entry : Type 0
@@ -32,11 +29,11 @@ HasQueues h set = h.tasks ≡ length set
 
 -- the entry is the job's
 abbrev pub is_of : JobId → Entry → Bool
-is_of j e = (j.task.0 == e.0.1) && (j.count == e.0.2)
+is_of j e = (j.task.0 == e.0.job.task.0) && (j.count == e.0.job.count)
 
 -- how many entries are of task number k
 abbrev pub entries_of : ℕ → List Entry → ℕ
-entries_of k es = total (λ e. cond (e.0.1 == k) 1 0) es
+entries_of k es = total (λ e. cond (e.0.job.task.0 == k) 1 0) es
 
 -- `more` has the entries of es and e
 abbrev pub IsMore : List Entry → Entry → List Entry → Type 0
@@ -48,7 +45,7 @@ late_job j p = record { rows_before = p.rows_before; job = j }
 
 -- the job of the entry, as a late one
 abbrev pub late_job_of : Entry → LateJob
-late_job_of e = late_job (record { task = record { 0 = e.0.1 }; count = e.0.2 }) e.1
+late_job_of e = late_job e.0.job e.1
 
 -- a pending job with n more ticks used, at most 2^64 - 1 of them
 abbrev pub ticked : ℕ → Pending → Pending
@@ -66,7 +63,7 @@ pending_in es j = list_any (is_of j) es
 abbrev pub Stands : List Entry → JobId → Standing → Type 0
 Stands es j NotPending = pending_in es j ≡ false
 Stands es j NotLeast =
-    (e : Entry) × (find (is_of j) es ≡ Some e) × (list_all (λ o. nat_le e.0.0 o.0.0) es ≡ false)
+    (e : Entry) × (find (is_of j) es ≡ Some e) × (list_all (λ o. nat_le e.0.key o.0.key) es ≡ false)
 Stands es j (Least pending) =
-    (key : ℕ) × (find (is_of j) es ≡ Some ((key, j.task.0, j.count), pending))
-    × (list_all (λ o. nat_le key o.0.0) es ≡ true)
+    (key : ℕ) × (find (is_of j) es ≡ Some (record { key = key; job = j }, pending))
+    × (list_all (λ o. nat_le key o.0.key) es ≡ true)

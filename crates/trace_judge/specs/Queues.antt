@@ -36,7 +36,7 @@ pub record IsPositionFor (qs : List Queued) (key position : ℕ) : Type 0 where
 
 -- the entry of a job in the queue of task number k
 abbrev pub entry_in : ℕ → Queued → Entry
-entry_in k q = ((q.key, k, q.count), q.pending)
+entry_in k q = (record { key = q.key; job = record { task = record { 0 = k }; count = q.count } }, q.pending)
 
 -- the entries of these queues, the first of which belongs to task number k
 abbrev pub entries_from : ℕ → List (List Queued) → List Entry

@@ -16,7 +16,7 @@ is_outside after until d = nat_le d after || nat_le until d
 
 -- the deadline of the entry's job
 abbrev pub deadline_at : List Task → Entry → ℕ
-deadline_at set e = e.1.release + period_in (task_at set e.0.1)
+deadline_at set e = e.1.release + period_in (task_at set e.0.job.task.0)
 
 -- no entry's job has its deadline after the first boundary and before the second
 abbrev pub are_quiet : List Task → ℕ → ℕ → List Entry → Bool

@@ -62,7 +62,7 @@ pub record Releases (rule : Rule) (t : Option Task) (j : JobId) (kept : Bool) (o
       (record { releases = j.count; next = old.ticks + period_in t })
   pub queues : new.waiting.tasks ≡ old.waiting.tasks
   pub waiting : Waits kept
-      ((key_of rule old.high_mode t old.ticks, j.task.0, j.count), record { release = old.ticks; used = 0; rows_before = old.rows })
+      (record { key = key_of rule old.high_mode t old.ticks; job = j }, record { release = old.ticks; used = 0; rows_before = old.rows })
       old.waiting.entries new.waiting.entries
   pub late_jobs : new.late_jobs ≡ old.late_jobs
 

@@ -7,22 +7,28 @@ use Rattle.mc_task.specs.TaskSet.{task_at}
 use Rattle.mc_model.specs.TaskNumbers.{is_high_in}
 use Rattle.mc_model.specs.Key.{key_of}
 use Rattle.trace_judge.specs.declared.pending_queues.Pending.{Pending}
+use Rattle.trace_judge.specs.declared.pending_queues.Rank.{Rank}
 use Rattle.trace_judge.specs.declared.late_jobs.LateJobs.{LateJobs}
 use Rattle.trace_judge.specs.declared.state.State.{State}
 use Rattle.trace_judge.specs.LateJobs.{noted}
 use Rattle.mc_model.specs.Sums.{total}
 use Rattle.trace_judge.specs.Firsts.{change_first}
-use Rattle.trace_judge.specs.Entries.{Rank, Entry, is_of, spent_entry, late_job_of}
+use Rattle.trace_judge.specs.Entries.{Entry, is_of, spent_entry, late_job_of}
 use Rattle.trace_judge.specs.Rules.{is_due_at}
 use Rattle.trace_judge.specs.Steps.{Moves}
 
 -- the deadline of the entry's job has come at boundary now
 abbrev pub is_due_entry : List Task → ℕ → Entry → Bool
-is_due_entry set now e = is_due_at (task_at set e.0.1) e.1.release now
+is_due_entry set now e = is_due_at (task_at set e.0.job.task.0) e.1.release now
 
 -- the entry is of a low task, whose jobs an overrun discards, and the job's deadline has come
 abbrev pub is_discarded_late : List Task → ℕ → Entry → Bool
-is_discarded_late set now e = not (is_high_in (task_at set e.0.1)) && is_due_entry set now e
+is_discarded_late set now e = not (is_high_in (task_at set e.0.job.task.0)) && is_due_entry set now e
+
+-- the entry's job is one of those that count, all of them or those of low tasks alone, and its deadline has come
+abbrev pub is_due_among : Bool → List Task → ℕ → Entry → Bool
+is_due_among low_alone set now e =
+    not (low_alone && is_high_in (task_at set e.0.job.task.0)) && is_due_entry set now e
 
 -- the late jobs, to which each entry that passes the test is added, one after the other
 abbrev pub noted_each : (Entry → Bool) → LateJobs → List Entry → LateJobs
@@ -31,17 +37,17 @@ noted_each p s (e ∷ es) = noted_each p (cond (p e) (noted s (late_job_of e)) s
 
 -- the entry has the key that its task and its release give it in this mode
 abbrev pub is_keyed : List Task → Rule → Bool → Entry → Bool
-is_keyed set rule high e = e.0.0 == key_of rule high (task_at set e.0.1) e.1.release
+is_keyed set rule high e = e.0.key == key_of rule high (task_at set e.0.job.task.0) e.1.release
 
 -- the rank of a job of the task in high mode
 abbrev pub rekeyed : Rule → Option Task → Rank → Pending → Rank
-rekeyed rule None at p = at
-rekeyed rule (Some t) at p = (key_of rule true (Some t) p.release, at.1, at.2)
+rekeyed rule None rank p = rank
+rekeyed rule (Some t) rank p = record { key = key_of rule true (Some t) p.release; job = rank.job }
 
 -- the weight of an entry of a high job at its new rank; an entry of a low job weighs nothing
 abbrev pub moved : List Task → Rule → (Entry → ℕ) → Entry → ℕ
 moved set rule f e =
-    cond (is_high_in (task_at set e.0.1)) (f (rekeyed rule (task_at set e.0.1) e.0 e.1, e.1)) 0
+    cond (is_high_in (task_at set e.0.job.task.0)) (f (rekeyed rule (task_at set e.0.job.task.0) e.0 e.1, e.1)) 0
 
 -- the new entries are those of the high jobs, at their new ranks
 abbrev pub Switches : List Task → Rule → List Entry → List Entry → Type 0

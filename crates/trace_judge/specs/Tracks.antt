@@ -20,7 +20,7 @@ use Rattle.trace_judge.specs.Entries.{Entry, HasQueues}
 -- the entry of a pending job after these rows
 abbrev pub entry_of : List Task → Rule → List Row → Placed → Entry
 entry_of set rule g x = (
-  (key set rule (high_mode rule g) x.kept, x.kept.job.task.0, x.kept.job.count),
+  record { key = key set rule (high_mode rule g) x.kept; job = x.kept.job },
   record { release = x.kept.release; used = used g x.kept.job; rows_before = x.rows_before },
 )
 

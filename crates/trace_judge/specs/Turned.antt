@@ -55,7 +55,7 @@ is_turned_entry set since now e = is_due_entry set now e && not (is_due_entry se
 -- the job of the entry, with its deadline
 abbrev pub turned_entry : List Task → Entry → Turned
 turned_entry set e = record {
-  job = record { task = record { 0 = e.0.1 }; count = e.0.2 };
+  job = e.0.job;
   deadline = deadline_at set e;
   rows_before = e.1.rows_before;
 }

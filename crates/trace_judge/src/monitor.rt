@@ -19,7 +19,7 @@ use crate::state::State;
 use crate::step::{look, step};
 use crate::turned::{Quiet, Turned, turned_late};
 use crate::unfit::{Unfit, unfit_after};
-use mc_model::{How, Run, Verdict};
+use mc_model::{Run, Verdict};
 use mc_task::{Memory, Rule, TaskSet};
 use std::alloc::Global;
 use std::marker::Model;
@@ -201,7 +201,7 @@ impl Monitor {
         if !is_of_set(&self.set, run) {
             return Err(ObserveFault::UnknownTask);
         }
-        if !is_run(run) {
+        if !run.is_valid() {
             return Err(ObserveFault::NotARun);
         }
         if !self.has_room(run) {
@@ -253,7 +253,7 @@ impl Monitor {
     pub fn pending(&self) -> u64
         ensures { (h : List Row) → Watches h self.now → result ≡ length (pending self.now.set.tasks (fitted self.now.set.tasks self.now.rule h)) }
     {
-        // The number of rows is one of 64 bits.
+        // The number of rows has 64 bits.
         let _rows = self.state.rows;
         self.state.waiting.count()
     }
@@ -287,7 +287,7 @@ impl Monitor {
         // Under a rule that holds for the set no job of a legal schedule is late.
         ensures no_late { (h : List Row) → Watches h self.now → Holds self.now.set.tasks self.now.rule → HasNoLate result }
     {
-        // The number of rows is one of 64 bits.
+        // The number of rows has 64 bits.
         let _rows = self.state.rows;
         let _is_set = self.set.len();
         match self.unfit {
@@ -323,21 +323,6 @@ fn is_of_set(set: &TaskSet, run: Run) -> bool
         Run::Release { job, .. } => job.task.0 >= 1 && job.task.0 <= set.len(),
         Run::Ticks { job, .. } => job.task.0 >= 1 && job.task.0 <= set.len(),
         Run::Idles { .. } => true,
-    }
-}
-
-// Whether the run has a row, and several ticks of a job only if the job goes on after each.
-fn is_run(run: Run) -> bool
-    ensures yes { result ≡ true → IsRun run }
-    ensures no { result ≡ false → ¬ IsRun run }
-{
-    match run {
-        Run::Release { .. } => true,
-        Run::Ticks { how, length, .. } => match how {
-            How::More => length >= 1,
-            How::Done | How::Stop | How::Over => length == 1,
-        },
-        Run::Idles { length } => length >= 1,
     }
 }
 

@@ -24,8 +24,12 @@ pub struct Pending {
     pub rows_before: u64,
 }
 
-/// A job's key, its task's number and its count.
-pub type Rank = (u128, u32, u32);
+/// A job with its key.
+#[derive(Clone, Copy, Debug, PartialEq, Eq)]
+pub struct Rank {
+    pub key: u128,
+    pub job: JobId,
+}
 
 /// Where a job stands among the pending ones.
 #[derive(Clone, Copy, Debug, PartialEq, Eq)]
@@ -107,25 +111,25 @@ impl PendingQueues {
     /// Adds a pending job.
     // Inlined: the call would cost about as much as the body.
     #[inline(always)]
-    pub fn put(&mut self, at: Rank, pending: Pending) -> Result<(), Memory>
-        requires task { HasQueue self.old at.1 }
-        requires key { at.0 < no_key }
+    pub fn put(&mut self, rank: Rank, pending: Pending) -> Result<(), Memory>
+        requires task { HasQueue self.old rank.job.task.0 }
+        requires key { rank.key < no_key }
         ensures tasks { OnOk result (self.new.tasks ≡ self.old.tasks) }
-        ensures entries { OnOk result (IsMore self.new.entries (at, pending) self.old.entries) }
+        ensures entries { OnOk result (IsMore self.new.entries (rank, pending) self.old.entries) }
         ensures unchanged { OnErr result (self.new ≡ self.old) }
-        ensures memory { OnErr result (2 ≤ entries_of at.1 self.old.entries) }
+        ensures memory { OnErr result (2 ≤ entries_of rank.job.task.0 self.old.entries) }
     {
-        let index = at.1 as usize - 1;
+        let index = rank.job.task.0 as usize - 1;
         let queue = &mut self.queues[index];
         let is_first = queue.push(Queued {
-            key: at.0,
-            count: at.2,
+            key: rank.key,
+            count: rank.job.count,
             pending,
         })?;
         if !is_first {
             return Ok(());
         }
-        self.heads.lower(index, at.0);
+        self.heads.lower(index, rank.key);
         Ok(())
     }
 
@@ -229,10 +233,17 @@ impl<'a> Remaining<'a> {
         while self.next < self.queues.len() {
             let queue = &self.queues[self.next];
             if self.at < queue.len() {
-                let job = queue.at(self.at);
-                let task = self.next as u32 + 1;
+                let queued = queue.at(self.at);
+                let job = JobId {
+                    task: TaskNo(self.next as u32 + 1),
+                    count: queued.count,
+                };
                 self.at += 1;
-                return Some(((job.key, task, job.count), job.pending));
+                let rank = Rank {
+                    key: queued.key,
+                    job,
+                };
+                return Some((rank, queued.pending));
             }
             self.next += 1;
             self.at = 0;

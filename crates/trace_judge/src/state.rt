@@ -7,13 +7,13 @@ ghost use Rattle.mc_model.specs.TaskNumbers.{is_high_in};
 ghost use Rattle.trace_judge.specs.Rules.{is_due_at};
 ghost use Rattle.trace_judge.specs.Entries.{HasQueue, HasQueues, late_job, entries_of};
 ghost use Rattle.trace_judge.specs.Steps.{IsNew, note_at, release_why, Releases, GoesOn, Ends, Rests};
-ghost use Rattle.trace_judge.specs.Switch.{Overruns, is_keyed, noted_each, is_due_entry, is_discarded_late};
+ghost use Rattle.trace_judge.specs.Switch.{Overruns, is_keyed, noted_each, is_due_entry, is_discarded_late, is_due_among};
 
 use crate::late_jobs::{LateJob, LateJobs};
 use crate::pending_queues::{Pending, PendingQueues, Rank};
 use crate::rules::{is_due, key_at};
 use mc_model::Why;
-use mc_task::{JobId, Memory, Rule, Task, TaskNo, TaskSet};
+use mc_task::{JobId, Memory, Rule, Task, TaskSet};
 use std::alloc::Global;
 
 /// What is kept of a task: how many releases there were, and the first boundary at which the next may come.
@@ -99,7 +99,7 @@ impl State {
                 used: 0,
                 rows_before: self.rows,
             };
-            self.waiting.put((key, job.task.0, job.count), pending)?;
+            self.waiting.put(Rank { key, job }, pending)?;
         }
         self.tasks[job.task.0 as usize - 1] = TaskNote {
             releases: job.count,
@@ -171,40 +171,32 @@ impl State {
     fn late_after_overrun(&self, set: &TaskSet) -> LateJobs
         ensures { result ≡ noted_each (is_discarded_late set.now.tasks self.now.ticks) self.now.late_jobs self.now.waiting.entries }
     {
-        let mut late_jobs = self.late_jobs;
-        let mut remaining = self.waiting.remaining();
-        while let Some((at, pending)) = remaining.pop() {
-            let task = set.get(TaskNo(at.1));
-            if !is_high_task(&task) && is_due_task(&task, pending.release, self.ticks) {
-                late_jobs.note(late_job(job_at(at), pending));
-            }
-        }
-        late_jobs
+        self.late_jobs_with_due(set, true)
     }
 
     /// The late jobs so far: those that ended or were discarded late, and the pending ones whose deadlines have come.
     pub fn all_late_jobs(&self, set: &TaskSet) -> LateJobs
         ensures { result ≡ noted_each (is_due_entry set.now.tasks self.now.ticks) self.now.late_jobs self.now.waiting.entries }
     {
+        self.late_jobs_with_due(set, false)
+    }
+
+    // The late jobs so far, with the pending ones whose deadlines have come: those of low tasks alone, or all.
+    // Inlined: each caller then has a loop without the test of `low_alone`.
+    #[inline(always)]
+    fn late_jobs_with_due(&self, set: &TaskSet, low_alone: bool) -> LateJobs
+        ensures { result ≡ noted_each (is_due_among low_alone set.now.tasks self.now.ticks) self.now.late_jobs self.now.waiting.entries }
+    {
         let mut late_jobs = self.late_jobs;
         let mut remaining = self.waiting.remaining();
-        while let Some((at, pending)) = remaining.pop() {
-            let task = set.get(TaskNo(at.1));
-            if is_due_task(&task, pending.release, self.ticks) {
-                late_jobs.note(late_job(job_at(at), pending));
+        while let Some((rank, pending)) = remaining.pop() {
+            let task = set.get(rank.job.task);
+            let is_left_out = low_alone && is_high_task(&task);
+            if !is_left_out && is_due_task(&task, pending.release, self.ticks) {
+                late_jobs.note(late_job(rank.job, pending));
             }
         }
         late_jobs
-    }
-}
-
-/// The job of this rank.
-pub fn job_at(at: Rank) -> JobId
-    ensures { result ≡ record { task = record { 0 = at.1 }; count = at.2 } }
-{
-    JobId {
-        task: TaskNo(at.1),
-        count: at.2,
     }
 }
 

@@ -10,9 +10,9 @@ ghost use Rattle.mc_model.specs.TaskNumbers.{period_in};
 ghost use Rattle.trace_judge.specs.Turned.{turned_of, IsInOrder};
 ghost use Rattle.trace_judge.specs.Quiet.{are_quiet, IsQuiet};
 
-use crate::state::{State, is_due_task, job_at};
+use crate::state::{State, is_due_task};
 use mc_model::Run;
-use mc_task::{JobId, Memory, Task, TaskNo, TaskSet};
+use mc_task::{JobId, Memory, Task, TaskSet};
 use std::alloc::{AllocError, Global};
 
 /// A job that became late: it was pending at its deadline.
@@ -105,14 +105,14 @@ fn gathered(
     let mut turned = Vec::new(alloc);
     let mut until = u64::MAX;
     let mut remaining = state.waiting.remaining();
-    while let Some((at, pending)) = remaining.pop() {
-        let task = set.get(TaskNo(at.1));
+    while let Some((rank, pending)) = remaining.pop() {
+        let task = set.get(rank.job.task);
         let deadline = deadline_of(&task, pending.release);
         if !is_due_task(&task, pending.release, state.ticks) {
             until = until.min(deadline);
         } else if !is_due_task(&task, pending.release, since) {
             turned.push(Turned {
-                job: job_at(at),
+                job: rank.job,
                 deadline,
                 rows_before: pending.rows_before,
             })?;

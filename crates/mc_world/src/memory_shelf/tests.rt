@@ -12,7 +12,7 @@ struct Case {
     faults: u64,
 }
 
-const CASES: [Case; 3] = [
+static CASES: [Case; 3] = [
     Case {
         shows: "it fails at its second fetch alone",
         bytes: "abc",

@@ -1,4 +1,4 @@
 use Rattle.calling_examples.proofs.trace.trace_of.Goals as goal
 
-pub write_trace-requires-clause-tasks : goal.write_trace-requires-clause-tasks
-write_trace-requires-clause-tasks c = rw (c.set.ensures, c.deref.ensures.value) (c.in-Ok.ensures.tasks c.args.core.now.set c.rows-rows.ensures.of_set)
+pub write_rows-requires-clause-tasks : goal.write_rows-requires-clause-tasks
+write_rows-requires-clause-tasks c = rw c.set.ensures c.rows-rows.ensures.of_set

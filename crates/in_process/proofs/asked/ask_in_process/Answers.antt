@@ -5,7 +5,7 @@ use Rattle.mc_world.specs.CalmShelfState.{CalmShelfState, calm_files}
 use Rattle.command_line.specs.Form.{IsInRange, form_of, command}
 use Rattle.command.proofs.Outcomes.{is_answer, never_rose}
 use Rattle.promises.specs.Reply.{IsReply}
-use Rattle.promises.proofs.Headlines.{of_reply}
+use Rattle.promises.proofs.Promises.{answer_keeps}
 use Rattle.in_process.specs.Asked.{two_files, IsAnswered}
 use Rattle.in_process.proofs.asked.ask_in_process.Goals as goal
 
@@ -17,7 +17,7 @@ answered (Ok reply) words given first second before after same holds calm range 
     subst (λ ws. IsAnswered ws first second reply) same
     (let files = two_files first second in
     let answer = is_answer files 1 (command (form_of words)) before after reply r.is (record { exposed = holds; calm = never_rose before.faults after.faults calm }) in
-    record { answer = answer; promises = of_reply (form_of words) range files [] reply answer })
+    record { answer = answer; promises = answer_keeps (form_of words) range files [] reply answer })
 answered (Err e) words given first second before after same holds calm range r = tt
 
 pub returns-clause-reply : goal.returns-clause-reply

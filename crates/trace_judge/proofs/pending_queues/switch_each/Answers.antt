@@ -5,7 +5,7 @@ use Rattle.mc_task.specs.declared.task.Rule.{Rule}
 use Rattle.mc_task.specs.declared.task.Task.{Task}
 use Rattle.mc_task.specs.TaskSet.{task_at}
 use Rattle.trace_judge.specs.declared.queue.Queued.{Queued}
-use Rattle.trace_judge.specs.Queues.{AreKeyed, AreQueues, head_key, switched_queue, switched_from}
+use Rattle.trace_judge.specs.Queues.{AreKeyed, head_key, switched_queue, switched_from}
 use Rattle.trace_judge.proofs.Queues.{queues_set}
 use Rattle.trace_judge.proofs.Switched.{half_step, half_at, half_length, set_at, switched_length, switched_at, keyed_at}
 use Rattle.trace_judge.proofs.pending_queues.switch_each.Goals as goal

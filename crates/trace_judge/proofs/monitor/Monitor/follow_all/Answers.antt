@@ -1,4 +1,4 @@
-use Rattle.std.proofs.Common.{◌≡◌, ◌++◌, Bool, true, None, Result, Ok, Err, OnErr, Option, List, sym, ◌∙◌, ap, subst, reverse, take, arith}
+use Rattle.std.proofs.Common.{◌≡◌, ◌++◌, Bool, true, None, Option, List, sym, ◌∙◌, ap, subst, reverse, take, arith}
 use Rattle.std.proofs.lemmas.List.{length-append, length-reverse}
 use Rattle.mc_model.specs.declared.row.Row.{Row}
 use Rattle.mc_model.specs.Runs.{expand}

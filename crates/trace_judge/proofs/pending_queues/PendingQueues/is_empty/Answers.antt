@@ -23,7 +23,7 @@ says qs heads least a below there =
           let none = none_there 1 qs a.each (subst (λ (ks : List ℕ). All (λ (key : ℕ). no_key ≤ key) ks) a.heads_are all) in
           grind (arith, nat_tests, ap length none, great.1)
       | inr small ↦
-          let some = some_length (λ (o : Entry). o.0.0 == least) (entries_from 1 qs)
+          let some = some_length (λ (o : Entry). o.0.key == least) (entries_from 1 qs)
           (head_entry least qs (λ e. (omega (arith, e, small.1))) (subst (λ (ks : List ℕ). Contains ks least) a.heads_are there)) in
           grind (arith, nat_tests, some, small.1)
     ]

@@ -3,7 +3,8 @@ use Rattle.std.proofs.lemmas.List.{set-get_or}
 use Rattle.mc_model.specs.Sums.{total}
 use Rattle.trace_judge.specs.declared.queue.Queued.{Queued}
 use Rattle.trace_judge.specs.declared.pending_queues.Pending.{Pending}
-use Rattle.trace_judge.specs.Entries.{Rank, PendingEntries, HasQueue, IsMore, entries_of}
+use Rattle.trace_judge.specs.declared.pending_queues.Rank.{Rank}
+use Rattle.trace_judge.specs.Entries.{PendingEntries, HasQueue, IsMore, entries_of}
 use Rattle.trace_judge.specs.Queues.{AreQueues, head_key, entries_from, pending_entries}
 use Rattle.trace_judge.proofs.Queues.{place_inside, queues_set, queues_same, more_set, on_err}
 use Rattle.trace_judge.proofs.Switched.{has_entries}
@@ -11,19 +12,19 @@ use Rattle.trace_judge.proofs.pending_queues.PendingQueues.put.Goals as goal
 
 -- a job of this rank
 abbrev a_job : Rank → Pending → Queued
-a_job at p = record { key = at.0; count = at.2; pending = p }
+a_job rank p = record { key = rank.key; count = rank.job.count; pending = p }
 
 -- with one more job in its queue there is one more entry
-one_more : (h : PendingEntries) (qs : List (List Queued)) (at : Rank) (p : Pending) (queue new : List Queued) → pending_entries qs ≡ h → HasQueue h at.1 → queue ≡ get_or qs (at.1 - 1) queue →
-    ((f : Queued → ℕ) → total f new ≡ f (a_job at p) + total f queue) → IsMore (entries_from 1 (set qs (at.1 - 1) new)) (at, p) h.entries
-one_more h qs at p queue new view has here jobs f =
-    more_set at.1 qs (at.1 - 1) new queue (a_job at p) (omega (arith, has.0)) (place_inside h qs at.1 view has)
-    (λ g. jobs g ∙ ap (λ (q : List Queued). g (a_job at p) + total g q) here) f
-    ∙ ap (λ (x : PendingEntries). f (at, p) + total f x.entries) view
+one_more : (h : PendingEntries) (qs : List (List Queued)) (rank : Rank) (p : Pending) (queue new : List Queued) → pending_entries qs ≡ h → HasQueue h rank.job.task.0 → queue ≡ get_or qs (rank.job.task.0 - 1) queue →
+    ((f : Queued → ℕ) → total f new ≡ f (a_job rank p) + total f queue) → IsMore (entries_from 1 (set qs (rank.job.task.0 - 1) new)) (rank, p) h.entries
+one_more h qs rank p queue new view has here jobs f =
+    more_set rank.job.task.0 qs (rank.job.task.0 - 1) new queue (a_job rank p) (omega (arith, has.0)) (place_inside h qs rank.job.task.0 view has)
+    (λ g. jobs g ∙ ap (λ (q : List Queued). g (a_job rank p) + total g q) here) f
+    ∙ ap (λ (x : PendingEntries). f (rank, p) + total f x.entries) view
 
 pub invariant_of-self : goal.invariant_of-self
 invariant_of-self c =
-    let i : ℕ = c.args.at.1 - 1 in
+    let i : ℕ = c.args.rank.job.task.0 - 1 in
     let same : set c.self.inside.queues.items i c.push.new.self ≡ c.self.inside.queues.items =
     ap (λ (q : List Queued). set c.self.inside.queues.items i q) (c.in_err-is_first.ensures.unchanged ∙ c.index_mut-queue.ensures.value) ∙ set-get_or c.self.inside.queues.items i _ in
     subst (λ (qs : List (List Queued)). AreQueues qs c.self.inside.heads) (sym same) c.self.invariant
@@ -31,26 +32,26 @@ invariant_of-self c =
 pub invariant_of-self-then-not-is_first : goal.invariant_of-self-then-not-is_first
 invariant_of-self-then-not-is_first c =
     let queue : List Queued = c.index_mut-queue.result.now in
-    queues_same c.self.inside.queues.items c.self.inside.heads (c.args.at.1 - 1) c.push.new.self queue c.self.invariant c.in_ok-is_first.ensures.ordered
-    (c.in_ok-is_first.ensures.head ∙ (ap (λ (b : Bool). cond b c.args.at.0 (head_key queue)) c.if-not-is_first.true ∙ ap head_key c.index_mut-queue.ensures.value))
+    queues_same c.self.inside.queues.items c.self.inside.heads (c.args.rank.job.task.0 - 1) c.push.new.self queue c.self.invariant c.in_ok-is_first.ensures.ordered
+    (c.in_ok-is_first.ensures.head ∙ (ap (λ (b : Bool). cond b c.args.rank.key (head_key queue)) c.if-not-is_first.true ∙ ap head_key c.index_mut-queue.ensures.value))
 
 pub returns-then-not-is_first-clause-entries : goal.returns-then-not-is_first-clause-entries
 returns-then-not-is_first-clause-entries c =
-    one_more c.args.self.now c.self.inside.queues.items c.args.at c.args.pending c.index_mut-queue.result.now c.push.new.self c.self.view_is c.requires.task c.index_mut-queue.ensures.value c.in_ok-is_first.ensures.jobs
+    one_more c.args.self.now c.self.inside.queues.items c.args.rank c.args.pending c.index_mut-queue.result.now c.push.new.self c.self.view_is c.requires.task c.index_mut-queue.ensures.value c.in_ok-is_first.ensures.jobs
 
 pub invariant_of-self-2 : goal.invariant_of-self-2
 invariant_of-self-2 c =
-    let head = c.in_ok-is_first.ensures.head ∙ ap (λ (b : Bool). cond b c.args.at.0 (head_key c.index_mut-queue.result.now)) c.if-not-is_first.false in
+    let head = c.in_ok-is_first.ensures.head ∙ ap (λ (b : Bool). cond b c.args.rank.key (head_key c.index_mut-queue.result.now)) c.if-not-is_first.false in
     queues_set c.self.inside.queues.items c.self.inside.heads c.lower.new.self
-    (c.args.at.1 - 1) c.args.at.0 c.push.new.self c.self.invariant c.in_ok-is_first.ensures.ordered c.lower.ensures (sym head)
+    (c.args.rank.job.task.0 - 1) c.args.rank.key c.push.new.self c.self.invariant c.in_ok-is_first.ensures.ordered c.lower.ensures (sym head)
 
 pub returns-clause-entries : goal.returns-clause-entries
 returns-clause-entries c =
-    one_more c.args.self.now c.self.inside.queues.items c.args.at c.args.pending c.index_mut-queue.result.now c.push.new.self c.self.view_is c.requires.task c.index_mut-queue.ensures.value c.in_ok-is_first.ensures.jobs
+    one_more c.args.self.now c.self.inside.queues.items c.args.rank c.args.pending c.index_mut-queue.result.now c.push.new.self c.self.view_is c.requires.task c.index_mut-queue.ensures.value c.in_ok-is_first.ensures.jobs
 
 pub returns-in_err-is_first-clause-memory : goal.returns-in_err-is_first-clause-memory
 returns-in_err-is_first-clause-memory c =
-    let n : ℕ = c.args.at.1 in
+    let n : ℕ = c.args.rank.job.task.0 in
     let qs : List (List Queued) = c.self.inside.queues.items in
     let queue : List Queued = c.index_mut-queue.result.now in
     let inside = place_inside c.args.self.now qs n c.self.view_is c.requires.task in

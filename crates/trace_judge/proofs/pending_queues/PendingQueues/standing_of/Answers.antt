@@ -15,13 +15,13 @@ use Rattle.trace_judge.proofs.Queues.{place_inside, found_own, none_own, below_a
 use Rattle.trace_judge.proofs.pending_queues.PendingQueues.standing_of.Goals as goal
 
 -- a key that some entry is below is not below all
-some_below : (least key : ℕ) (es : List Entry) → least < key → list_any (λ (o : Entry). o.0.0 == least) es ≡ true → list_all (λ (o : Entry). nat_le key o.0.0) es ≡ false
+some_below : (least key : ℕ) (es : List Entry) → least < key → list_any (λ (o : Entry). o.0.key == least) es ≡ true → list_all (λ (o : Entry). nat_le key o.0.key) es ≡ false
 some_below least key [] h s = cc
 some_below least key (e ∷ es) h s = grind (arith, nat_tests, some_below least key es)
 
 -- an entry from its parts
 abbrev an_entry : ℕ → ℕ → ℕ → Pending → Entry
-an_entry k t c p = ((k, t, c), p)
+an_entry k t c p = (record { key = k; job = record { task = record { 0 = t }; count = c } }, p)
 
 -- the queues and the keys of their heads, the queue of the job's task, and the least key
 record IsLooked (qs : List (List Queued)) (heads : List ℕ) (j : JobId) (queue : List Queued) (least : ℕ) : Type 0 where
@@ -35,7 +35,7 @@ record IsLooked (qs : List (List Queued)) (heads : List ℕ) (j : JobId) (queue 
 -- the entry of a job that is found
 found_entry : (qs : List (List Queued)) (heads : List ℕ) (j : JobId) (queue : List Queued) (least : ℕ) (q : Queued) → IsLooked qs heads j queue least →
     find (has_count j.count) queue ≡ Some q →
-    find (is_of j) (entries_from 1 qs) ≡ Some ((q.key, j.task.0, j.count), q.pending)
+    find (is_of j) (entries_from 1 qs) ≡ Some (record { key = q.key; job = j }, q.pending)
 found_entry qs heads j queue least q l h =
     let count : q.count ≡ j.count = sym (eqb-true j.count q.count (found_is (has_count j.count) q queue h)) in
     found_own j qs (j.task.0 - 1) queue q l.number l.inside (ap (find (has_count j.count)) (sym l.at) ∙ h)
@@ -43,7 +43,7 @@ found_entry qs heads j queue least q l h =
 
 -- no entry is below the least key
 all_above : (qs : List (List Queued)) (heads : List ℕ) (j : JobId) (queue : List Queued) (least : ℕ) → IsLooked qs heads j queue least →
-    list_all (λ (o : Entry). nat_le least o.0.0) (entries_from 1 qs) ≡ true
+    list_all (λ (o : Entry). nat_le least o.0.key) (entries_from 1 qs) ≡ true
 all_above qs heads j queue least l = below_all least 1 qs l.queues.each (subst (λ (ks : List ℕ). All (λ (key : ℕ). least ≤ key) ks) l.queues.heads_are l.below)
 
 -- if the job is found at the least key, no entry has a lesser key than the job's
@@ -58,8 +58,8 @@ stands_after : (qs : List (List Queued)) (heads : List ℕ) (j : JobId) (queue :
     q.key ≢ least → Stands (entries_from 1 qs) j NotLeast
 stands_after qs heads j queue least q l h ne =
     let f = found_entry qs heads j queue least q l h in
-    let e : Entry = ((q.key, j.task.0, j.count), q.pending) in
-    let low : nat_le least q.key ≡ true = found_passes (λ (o : Entry). nat_le least o.0.0) (is_of j) e (entries_from 1 qs) (all_above qs heads j queue least l) f in
+    let e : Entry = (record { key = q.key; job = j }, q.pending) in
+    let low : nat_le least q.key ≡ true = found_passes (λ (o : Entry). nat_le least o.0.key) (is_of j) e (entries_from 1 qs) (all_above qs heads j queue least l) f in
     let less : least < q.key = grind (arith, nat_tests) in
     let key : q.key < no_key = found_key (has_count j.count) q queue (subst IsQueue (sym l.at) (each_at IsQueue qs (j.task.0 - 1) queue l.inside l.queues.each)) h in
     let there = head_entry least qs (λ m. omega (arith, less, key, m)) (subst (λ (ks : List ℕ). Contains ks least) l.queues.heads_are l.there) in

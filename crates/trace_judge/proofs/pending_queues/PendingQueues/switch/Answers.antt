@@ -1,4 +1,4 @@
-use Rattle.std.proofs.Common.{◌≡◌, length, ap, sym, subst, ◌∙◌}
+use Rattle.std.proofs.Common.{length, ap, ◌∙◌}
 use Rattle.std.specs.List.{list_all}
 use Rattle.mc_model.specs.Sums.{total}
 use Rattle.trace_judge.specs.Entries.{PendingEntries}

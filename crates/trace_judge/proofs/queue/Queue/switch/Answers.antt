@@ -1,4 +1,4 @@
-use Rattle.std.proofs.Common.{◌≡◌, ◌<◌, List, Option, Some, sym, subst, arith}
+use Rattle.std.proofs.Common.{◌<◌, List, Option, Some, sym, subst, arith}
 use Rattle.std.specs.List.{AllByRecursion}
 use Rattle.mc_task.specs.declared.task.Task.{Task}
 use Rattle.trace_judge.specs.declared.queue.Queued.{Queued}

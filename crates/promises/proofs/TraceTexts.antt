@@ -40,37 +40,37 @@ writable_runs set rule h legal few =
     λ k d lt. writable_run set (get_or (pack rows) k d) (of k d lt) (counts k d lt)
 
 -- the text of a legal trace is read as its packed runs, where these are valid
-reads_back : (set : List Task) (rule : Rule) (h : List Row) → AreTasks set → Legal set rule h → length h < 2 ^ 32 → AreRuns (pack (reverse h))
+text_is_read : (set : List Task) (rule : Rule) (h : List Row) → AreTasks set → Legal set rule h → length h < 2 ^ 32 → AreRuns (pack (reverse h))
     → trace_file set (trace_text set (reverse h)) ≡ Ok (pack (reverse h))
-reads_back set rule h is legal few valid =
+text_is_read set rule h is legal few valid =
     read_back set (pack (reverse h)) (trace_text set (reverse h)) is valid (writable_runs set rule h legal few) refl
 
 -- a trace is that of its packed runs
-packed : (h : List Row) → trace_of (pack (reverse h)) ≡ h
-packed h = ap reverse (expand-pack (reverse h)) ∙ reverse-reverse h
+trace_of-pack : (h : List Row) → trace_of (pack (reverse h)) ≡ h
+trace_of-pack h = ap reverse (expand-pack (reverse h)) ∙ reverse-reverse h
 
 -- the text of a trace of at most 2,000,000 rows is a trace file, and says the trace's packed runs
-says_trace : (set : List Task) (rule : Rule) (h : List Row) → AreTasks set → Legal set rule h → length h ≤ 2000000 → SaysTrace (trace_text set (reverse h)) set (pack (reverse h))
-says_trace set rule h is legal few =
+text_says_trace : (set : List Task) (rule : Rule) (h : List Row) → AreTasks set → Legal set rule h → length h ≤ 2000000 → SaysTrace (trace_text set (reverse h)) set (pack (reverse h))
+text_says_trace set rule h is legal few =
     let bytes = trace_le set rule h is legal (omega (arith, few)) in
     let valid = pack-valid (reverse h) (omega (arith, few, length-reverse h)) in
-    (omega (arith, few, bytes), reads_back set rule h is legal (omega (arith, few)) valid)
+    (omega (arith, few, bytes), text_is_read set rule h is legal (omega (arith, few)) valid)
 
 -- where the trace has n ticks and keeps the deadlines, its text says so
-pub says_timely : (n : ℕ) (set : List Task) (rule : Rule) (h : List Row) → AreTasks set → length h ≤ 2000000 → ticks h ≡ n → IsTimely set rule h
+pub text_says_timely : (n : ℕ) (set : List Task) (rule : Rule) (h : List Row) → AreTasks set → length h ≤ 2000000 → ticks h ≡ n → IsTimely set rule h
     → SaysTimely n (trace_text set (reverse h)) set rule
-says_timely n set rule h is few has timely =
-    (pack (reverse h), says_trace set rule h is timely.0 few, ap ticks (packed h) ∙ has, subst (λ rows. IsTimely set rule rows) (sym (packed h)) timely)
+text_says_timely n set rule h is few has timely =
+    (pack (reverse h), text_says_trace set rule h is timely.0 few, ap ticks (trace_of-pack h) ∙ has, subst (λ rows. IsTimely set rule rows) (sym (trace_of-pack h)) timely)
 
 -- the text of a legal trace that was read from a file is read as runs with the same rows
-pub again_read : (set : List Task) (rule : Rule) (bytes : List ℕ) (runs : List Run) → AreTasks set → trace_file set bytes ≡ Ok runs → Legal set rule (trace_of runs)
+pub rewritten_text_is_read : (set : List Task) (rule : Rule) (bytes : List ℕ) (runs : List Run) → AreTasks set → trace_file set bytes ≡ Ok runs → Legal set rule (trace_of runs)
     → (trace_file set (trace_text set (reverse (trace_of runs))) ≡ Ok (pack (reverse (trace_of runs)))) × (expand (pack (reverse (trace_of runs))) ≡ expand runs)
-again_read set rule bytes runs is read legal =
+rewritten_text_is_read set rule bytes runs is read legal =
     let valid = valid_runs set bytes runs read in
     let few = valid.few in
     let short = valid.short in
     let rows : length (trace_of runs) ≡ length (expand runs) = length-reverse (expand runs) in
     let packed_valid = subst (λ rows. AreRuns (pack rows)) (sym (reverse-reverse (expand runs))) (repack-valid runs valid) in (
-      reads_back set rule (trace_of runs) is legal (omega (arith, few, short, rows, length-expand-le runs)) packed_valid,
+      text_is_read set rule (trace_of runs) is legal (omega (arith, few, short, rows, length-expand-le runs)) packed_valid,
       expand-pack (reverse (trace_of runs)) ∙ reverse-reverse (expand runs),
     )
