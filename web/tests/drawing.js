@@ -121,6 +121,8 @@ equals('ticks of the low task', of(whole, 'low'), [[near(100), 20, 'log 3, tick 
 equals('high mode', of(whole, 'mode'), [[near(20), 50, 'high mode, from the overrun at 2 to the end of the idle tick 6']]);
 const sign = (kind, pixels, ground) => `M${Math.round((LEFT + pixels + PATHS[kind][0]) * 10) / 10} ${ground - PATHS[kind][1]}${PATHS[kind][2]}`;
 equals('the overrun is at the boundary after the last tick of the low budget', of(whole, 'over'), [[sign('over', 20, 66), 0, 'ctl 1, over at 2']]);
+// The ground of ctl is at 66. A sign of a release is 36 pixels high, and the overrun stands above it.
+equals('the overrun stands above a release', of(whole, 'over').map(([path]) => path), [`M${near(20)} 29l5-5l-5-5l-5 5z`]);
 equals('releases', of(whole, 'release'), [[sign('release', 0, 66), 0, 'ctl 1, released at 0'], [sign('release', 0, 118), 0, 'log 1, released at 0'],
     [sign('release', 26, 118), 0, 'log 2, released at 2'], [sign('release', 106, 118), 0, 'log 3, released at 10']]);
 equals('deadlines, none of a dropped job, and beside a release', of(whole, 'deadline'), [[sign('deadline', 100, 66), 0, 'ctl 1, deadline 10'], [sign('deadline', 94, 118), 0, 'log 1, deadline 10']]);
@@ -237,6 +239,11 @@ const twos = (count) => drawn(0, 2 * count, LEFT + 120 + 30, undefined, read(`ev
 equals('so are virtual deadlines', [16, 17].map((count) => virtual(twos(count)).length), [16, 0]);
 const covered = of(picture, 'low').reduce((sum, [, wide]) => sum + wide, 0);
 holds('narrow ticks stay visible', covered > 400 && covered < 1000);
+// The picture has 939 pixels for ticks and 62 for a number, so a window has at most 15 steps of 1, 2, 5, 10, 20, .. ticks.
+const numbered = (begin, end) => drawn(begin, end, 1000, undefined, long).shapes.filter(({ attributes }) => attributes.class === 'middle').map(({ text }) => Number(text));
+const by = (step, from, to) => Array.from({ length: (to - from) / step + 1 }, (_, index) => from + step * index);
+equals('the boundaries that have a number', [[0, 15], [0, 16], [0, 31], [7, 47], [0, 75], [0, 76], [0, 200]].map(([begin, end]) => numbered(begin, end)), [by(1, 0, 15), by(2, 0, 16), by(5, 0, 30), by(5, 10, 45),
+    by(5, 0, 75), by(10, 0, 70), by(20, 0, 200)]);
 equals('a window in the middle of many ticks', of(drawn(50000, 50020, 1000, undefined, long), 'release').length, 3);
 holds('nothing is outside the picture', picture.shapes.every(({ attributes: { x, width: wide } }) => x === undefined || (x >= 0 && x + (wide ?? 0) <= 1000.1)));
 
@@ -247,5 +254,25 @@ const shapes = drawn(0, 1, 400, undefined, hostile).shapes;
 holds('a hostile name is a text and a title, and no attribute', shapes.some(({ title }) => title.startsWith('<img')) && shapes.every(({ attributes }) => !JSON.stringify(attributes).includes('<')));
 equals('each sign of the legend has its path or is an area', LEGEND.map(([kind, , path]) => [kind in PATHS, path !== undefined]).map(([one, other]) => one === other && one),
     [true, true, true, true, false, false, false, true, false, true, true, true, false]);
+// The corners of a path of the legend: those that the pen moves to (M), and those that a line leads to (L).
+const corners = (path) => {
+    let pen = [0, 0];
+    return [...path.matchAll(/([Mmlhv])([^Mmlhvz]*)/g)].map(([, letter, numbers]) => {
+        const by = (numbers.match(/-?\d+/g) ?? []).map(Number);
+        const [x, y] = { h: [by[0], 0], v: [0, by[0]] }[letter] ?? by;
+        pen = letter === 'M' ? [x, y] : [pen[0] + x, pen[1] + y];
+        return `${/m/i.test(letter) ? 'M' : 'L'}${pen}`;
+    }).join(' ');
+};
+equals('the signs of the legend, corner by corner', LEGEND.filter(([, , path]) => path).map(([kind, , path]) => [kind, corners(path)]), [
+    ['release', 'M11,21 L11,1 M7,7 L11,1 L15,7'],
+    ['deadline', 'M11,1 L11,21 M7,15 L11,21 L15,15'],
+    ['late', 'M11,1 L11,21 M7,15 L11,21 L15,15 M6,3 L16,13 M16,3 L6,13'],
+    ['virtual', 'M11,21 L11,17 M11,14 L11,10 M11,7 L7,1 L15,1 L11,7'],
+    ['over', 'M11,16 L16,11 L11,6 L6,11'],
+    ['done', 'M11,21 L11,1'],
+    ['stop', 'M11,21 L11,2 M6,2 L16,2'],
+    ['dropped', 'M6,6 L16,16 M16,6 L6,16'],
+]);
 equals('what the legend says of high mode', LEGEND.find(([kind]) => kind === 'mode')[1], 'high mode: from an overrun to the end of the first idle tick');
 ends('drawing');

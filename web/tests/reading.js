@@ -3,12 +3,14 @@
 import { adviceOn } from '../src/advice.js';
 import { isReadAlike, whyRefused } from '../src/alike.js';
 import { conditionsOf } from '../src/conditions.js';
+import { countsOf, unfinished } from '../src/counts.js';
 import { lineAt, lineOfRecord, recordsIn } from '../src/csv.js';
 import { Fraction, ONE } from '../src/fraction.js';
 import { fragmentOf, MOST_LINK, stateOf } from '../src/link.js';
+import { ticksOf } from '../src/recorded_ticks.js';
 import { noScaleWords, rangeWords, scaleWords } from '../src/scale_words.js';
 import { withNumber, withoutScale, withScale } from '../src/task_edits.js';
-import { lineOfTaskError, tasksIn } from '../src/task_file.js';
+import { lineOfTaskError, readTasks, tasksIn } from '../src/task_file.js';
 import { documentIn } from '../src/toml.js';
 import { sideOf } from '../src/unseen.js';
 import { MOST_JOBS, workOf } from '../src/workload.js';
@@ -55,6 +57,8 @@ equals('inline tables', tasksIn('task = [{ name = "a", level = "low", period = 7
     { name: 'a', level: 'low', period: 7, low: 1, high: undefined }, { name: 'b', level: undefined, period: undefined, low: 2, high: undefined }]);
 equals('names with escapes', tasksIn('[[task]]\nname = "a\\u0062\\x63\\n\\U0001F600\\UFFFFFFFF"\n')[0].name, 'abcn😀UFFFFFFFF');
 equals('a letter that there is not', tasksIn('[[task]]\nname = "a\\U00110000b"\n')[0].name, 'ab');
+const readable = (period, low) => readTasks(`[[task]]\nname = "a"\nperiod = ${period}\nlow = ${low}\n`).length;
+equals('tasks whose numbers can be read', [readable(1, 1), readable(0, 1), readable(1, 0), readable('"x"', 1)], [1, 0, 0, 0]);
 equals('no task', tasksIn('[other]\nname = "x"\n'), []);
 equals('a hostile key', tasksIn('[[task]]\n__proto__ = 1\nconstructor = 2\nname = "a"\n')[0].name, 'a');
 equals('another low budget', withNumber(FILE, 0, 'low', 3), FILE.replace('0x10', '3'));
@@ -163,6 +167,29 @@ equals('a work file', workOf([ctl, { ...log, period: 6 }], 12, false), 'task,rel
 equals('a work file with overruns', workOf([ctl, { ...log, period: 6 }], 11, true), 'task,release,need\nctl,0,6\nlog,0,5\nlog,6,5\nctl,10,2\n');
 equals('no more than these jobs', [workOf([{ ...log, period: 1 }], MOST_JOBS + 1, false), workOf([{ ...log, period: 1 }], NaN, false)], [null, null]);
 equals('these jobs', workOf([{ ...log, period: 1 }], MOST_JOBS, false).split('\n').length, MOST_JOBS + 2);
+
+// ---- Who has a tick of a recording: most of it, or as much as any and the later name ----
+
+const NUMBERS = new Map([['a', 1], ['b', 2]]);
+const owned = (...runs) => {
+    const { owners, mostLost } = ticksOf(NUMBERS, runs.map(([time, name]) => ({ time, name })), 0, 10, 10);
+    return [...owners, mostLost];
+};
+equals('ticks of 10 ns', [owned([0, 'a'], [6, 'b']), owned([0, 'a'], [4, 'b']), owned([0, 'a'], [5, 'b']), owned([0, 'b'], [5, 'a']), owned([0, 'a'], [5, null]), owned([0, null], [5, 'a'])], [
+    [1, 4], [2, 4], [2, 5], [2, 5], [1, 5], [1, 5]]);
+
+// ---- Counts of a report ----
+
+const REPORT = `task ctl released 1 kept 1 dropped 0 discarded 0 done 1 stopped 0 ticks 6 response 6
+task log released 9 kept 7 dropped 2 discarded 1 done 5 stopped 1 ticks 2 response -
+idle 4
+switches 1
+`;
+const counts = countsOf(REPORT);
+equals('the sums over the tasks', ['released', 'kept', 'dropped', 'discarded', 'done', 'stopped', 'ticks'].map((name) => counts[name]), [10, 8, 2, 1, 6, 1, 8]);
+equals('one job is enough to be named', unfinished(counts), '. Not every job got all its ticks: 1 discarded, 2 dropped, 1 stopped');
+equals('many jobs of one kind', unfinished({ discarded: 0, dropped: 0, stopped: 1234567 }), '. Not every job got all its ticks: 1,234,567 stopped');
+equals('each job got all its ticks', unfinished({ discarded: 0, dropped: 0, stopped: 0 }), '');
 
 // ---- Answers out of sight ----
 
